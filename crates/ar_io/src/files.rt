@@ -4,15 +4,13 @@ ghost use Rattle.std.specs.Prelude.{◌≡◌, ℕ, ◌+◌, ◌^◌, ◌<◌, �
 ghost use Rattle.ar_io.specs.Outside.{Untold, Rose};
 ghost use Rattle.ar_io.specs.Memories.{next};
 
+use crate::memory_shelf::next_count;
+use crate::{LoadFault, Shelf, Sink, SinkFailed};
 use std::alloc::Global;
-use std::fs;
-use std::io;
 use std::io::{Print, Read, Write};
 use std::marker::Model;
 use std::rt::Files;
-
-use crate::memory_shelf::next_count;
-use crate::{LoadFault, Shelf, Sink, SinkFailed};
+use std::{fs, io};
 
 /// The bytes that one read asks for at most.
 const READ_BYTES: usize = 8192;

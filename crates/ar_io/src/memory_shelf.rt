@@ -5,13 +5,11 @@ ghost use Rattle.std.specs.Str.{bytes_eq};
 ghost use Rattle.ar_io.specs.Outside.{Bytes, Absent, Rose};
 ghost use Rattle.ar_io.specs.Memories.{texts_of, held_of, told_of, next, is_among, FailsNext};
 
+use crate::{LoadFault, Shelf};
+use ar_base::Memory;
 use std::alloc::Global;
 use std::collections::HashMap;
 use std::marker::Model;
-
-use ar_base::Memory;
-
-use crate::{LoadFault, Shelf};
 
 /// A shelf of texts in memory, some of whose loads fail as was asked.
 #[derive(Drop)]
@@ -28,10 +26,11 @@ impl Model for MemoryShelf {
     ghost Value = { Shelved };
 
     ghost view = { λ s. record {
-        texts = texts_of s.texts.entries;
-        failing = s.failing.items;
-        calls = s.calls;
-        fault_count = s.faults } };
+      texts = texts_of s.texts.entries;
+      failing = s.failing.items;
+      calls = s.calls;
+      fault_count = s.faults;
+    } };
 }
 
 impl MemoryShelf {

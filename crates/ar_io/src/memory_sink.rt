@@ -4,13 +4,11 @@ ghost use Rattle.std.specs.Prelude.{◌≡◌, ℕ, ◌+◌, ◌^◌, ◌<◌, �
 ghost use Rattle.ar_io.specs.Outside.{Rose, IsFront};
 ghost use Rattle.ar_io.specs.Memories.{next, FailsPiece};
 
-use std::alloc::Global;
-use std::marker::Model;
-
-use ar_base::Memory;
-
 use crate::memory_shelf::{is_failing, next_count};
 use crate::{Sink, SinkFailed};
+use ar_base::Memory;
+use std::alloc::Global;
+use std::marker::Model;
 
 /// A sink in memory with room for a number of bytes, some of whose calls fail as was asked.
 #[derive(Drop)]
@@ -29,11 +27,12 @@ impl Model for MemorySink {
     ghost Value = { Sunk };
 
     ghost view = { λ s. record {
-        bytes = s.bytes.items;
-        room = s.room;
-        failing = s.failing.items;
-        calls = s.calls;
-        fault_count = s.faults } };
+      bytes = s.bytes.items;
+      room = s.room;
+      failing = s.failing.items;
+      calls = s.calls;
+      fault_count = s.faults;
+    } };
 
     ghost invariant = { λ s. (s.room ≤ vec_capacity s.bytes) × (vec_len s.bytes ≤ s.room) };
 }

@@ -18,5 +18,5 @@ returns-clause-placed c = λ other.
     ∙ mapped_choice items (bytes_eq name other) (Some c.in_ok-bytes.bytes) (get_by_text c.self.inside.texts other)
     ∙ ap (λ (bytes : List ℕ). if bytes_eq name other then Some bytes else option_map items (get_by_text c.self.inside.texts other)) c.in_ok-bytes.ensures.items
     ∙ ap (λ (o : Option (List ℕ)). if bytes_eq name other then Some c.args.bytes.now else o)
-        (sym (held_looked c.self.inside.texts.entries other) ∙ ap (λ (s : Shelved). held_of s.texts other) c.self.view_is)
+    (sym (held_looked c.self.inside.texts.entries other) ∙ ap (λ (s : Shelved). held_of s.texts other) c.self.view_is)
     ∙ ap (λ (n : List ℕ). if bytes_eq n other then Some c.args.bytes.now else held_of c.args.self.now.texts other) c.in_ok-name.ensures.ok

@@ -1,5 +1,5 @@
 -- Which tokens a text is cut into, and where the first fault stands.
-use Rattle.std.specs.Prelude.{◌≡◌, ℕ, ◌+◌, ◌<◌, ◌≤◌, ◌^◌, ◌⊎◌, Bool, true, not, ◌||◌, ◌==◌, List, [], ◌∷◌, ◌++◌, length, take, codes, count_by}
+use Rattle.std.specs.Prelude.{◌≡◌, ℕ, ◌+◌, ◌<◌, ◌≤◌, ◌^◌, ◌⊎◌, Bool, true, not, ◌||◌, ◌==◌, List, [], ◌∷◌, ◌++◌, length, codes, count_by}
 use Rattle.std.specs.List.{suffix_len}
 use Rattle.ar_base.specs.declared.places.Place.{Place}
 use Rattle.ar_lexer.specs.declared.token.Token.{Token}
@@ -52,7 +52,7 @@ BeginsComment rest = (more : List ℕ) × ((rest ≡ codes "//" ++ more) ⊎ (re
 
 -- no longer front of the text and of what stands behind it is the text of a token
 abbrev pub IsLongest : List ℕ → List ℕ → Type 0
-IsLongest text after = (n : ℕ) → length text < n → n ≤ length (text ++ after) → IsTokenText (take n (text ++ after)) → ⊥
+IsLongest text after = (front back : List ℕ) → text ++ after ≡ front ++ back → IsTokenText front → length front ≤ length text
 
 -- A token of this kind, with `after` behind it.
 pub record IsTokenOf (kind : TokenKind) (text after : List ℕ) : Type 0 where
@@ -98,7 +98,7 @@ pub record BeginsNothing (rest : List ℕ) : Type 0 where
   pub some : 0 < length rest
   pub no_blank : (b : ℕ) (more : List ℕ) → rest ≡ b ∷ more → is_blank b ≡ true → ⊥
   pub no_comment : BeginsComment rest → ⊥
-  pub no_token : (n : ℕ) → n ≤ length rest → IsTokenText (take n rest) → ⊥
+  pub no_token : (front back : List ℕ) → rest ≡ front ++ back → IsTokenText front → ⊥
 
 -- a comment begins here that is not closed
 abbrev pub IsOpenComment : List ℕ → Type 0

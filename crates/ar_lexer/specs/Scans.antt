@@ -59,3 +59,7 @@ IsSignOfLen rest len (Some place) = (len ≤ length rest) × (place_in signs (ta
 abbrev pub HeadPasses : (ℕ → Bool) → List ℕ → Type 0
 HeadPasses test [] = ⊥
 HeadPasses test (b ∷ bs) = test b ≡ true
+
+-- `e` or `E`
+abbrev pub is_exponent_mark : ℕ → Bool
+is_exponent_mark b = (b == 101) || (b == 69)

@@ -1,10 +1,10 @@
 // Whole and real numbers.
 
-ghost use Rattle.std.specs.Prelude.{◌≡◌, ◌<◌, ◌≤◌, ◌^◌, IfSome, IfNone, pos};
+ghost use Rattle.std.specs.Prelude.{◌≡◌, ◌<◌, ◌≤◌, ◌^◌, IfSome, IfNone, length, pos};
 ghost use Rattle.std.specs.List.{prefix_len};
 ghost use Rattle.std.specs.Char.{is_ascii_digit};
 ghost use Rattle.ar_lexer.specs.Spelling.{IsFraction, IsExponent, IsTail, AllPass, number_of};
-ghost use Rattle.ar_lexer.specs.Scans.{IsLongestFront, sign_len};
+ghost use Rattle.ar_lexer.specs.Scans.{IsLongestFront, is_exponent_mark, sign_len};
 
 use crate::runs::digits_len;
 
@@ -15,18 +15,27 @@ const GREATEST: u64 = 9_223_372_036_854_775_807;
 fn fraction_len(bytes: &[u8]) -> usize
     ensures { IsLongestFront IsFraction bytes.now result }
 {
-    match bytes.split_first() {
-        Some((mark, rest)) => {
-            let digits = digits_len(rest);
-            if *mark != b'.' || digits == 0 { 0 } else { 1 + digits }
-        }
-        None => 0,
+    let Some((mark, rest)) = bytes.split_first() else {
+        return 0;
+    };
+    if *mark != b'.' {
+        return 0;
     }
+    let digits = digits_len(rest);
+    if digits == 0 { 0 } else { 1 + digits }
+}
+
+// `e` or `E`.
+fn is_exponent_mark(b: u8) -> bool
+    ensures { result ≡ is_exponent_mark b }
+{
+    b == b'e' || b == b'E'
 }
 
 // How many bytes at the front are `+` or `-`: 1 or 0.
 fn sign_len(bytes: &[u8]) -> usize
-    ensures { result ≡ sign_len bytes.now }
+    ensures value { result ≡ sign_len bytes.now }
+    ensures within { result ≤ length bytes.now }
 {
     match bytes.first() {
         Some(sign) => {
@@ -40,14 +49,15 @@ fn sign_len(bytes: &[u8]) -> usize
 fn exponent_len(bytes: &[u8]) -> usize
     ensures { IsLongestFront IsExponent bytes.now result }
 {
-    match bytes.split_first() {
-        Some((mark, rest)) => {
-            let sign = sign_len(rest);
-            let digits = digits_len(&rest[sign..]);
-            if (*mark != b'e' && *mark != b'E') || digits == 0 { 0 } else { 1 + sign + digits }
-        }
-        None => 0,
+    let Some((mark, rest)) = bytes.split_first() else {
+        return 0;
+    };
+    if !is_exponent_mark(*mark) {
+        return 0;
     }
+    let sign = sign_len(rest);
+    let digits = digits_len(&rest[sign..]);
+    if digits == 0 { 0 } else { 1 + sign + digits }
 }
 
 // How many bytes at the front are a fraction, an exponent or both: 0 where none stands there.

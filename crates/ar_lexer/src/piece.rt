@@ -46,13 +46,22 @@ fn comment_at(rest: &[u8]) -> Option<Piece>
     ensures found { IfSome result (IsPieceAt rest.now) }
     ensures none { IfNone result (BeginsComment rest.now → ⊥) }
 {
-    match rest {
-        [b'/', b'/', body @ ..] => Some(Piece::Gap(2 + line_len(body))),
-        [b'/', b'*', body @ ..] => match close_of(body) {
-            Some(n) => Some(Piece::Gap(n + 4)),
-            None => Some(Piece::OpenComment),
-        },
-        _ => None,
+    if rest.len() < 2 {
+        return None;
+    }
+    if rest[0] != b'/' {
+        return None;
+    }
+    let (_, body) = rest.split_at(2);
+    if rest[1] == b'/' {
+        return Some(Piece::Gap(2 + line_len(body)));
+    }
+    if rest[1] != b'*' {
+        return None;
+    }
+    match close_of(body) {
+        Some(n) => Some(Piece::Gap(n + 4)),
+        None => Some(Piece::OpenComment),
     }
 }
 

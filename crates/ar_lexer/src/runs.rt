@@ -1,6 +1,6 @@
 // Runs of bytes of one class.
 
-ghost use Rattle.std.specs.Prelude.{◌≡◌, not};
+ghost use Rattle.std.specs.Prelude.{◌≡◌, ◌≤◌, length, not};
 ghost use Rattle.std.specs.Char.{is_ascii_digit};
 ghost use Rattle.std.specs.List.{prefix_len};
 ghost use Rattle.ar_lexer.specs.Spelling.{is_letter, is_word_byte};
@@ -29,7 +29,8 @@ pub fn is_blank(b: u8) -> bool
 
 // How many bytes at the front belong to a word.
 pub fn word_len(bytes: &[u8]) -> usize
-    ensures { result ≡ prefix_len is_word_byte bytes.now }
+    ensures value { result ≡ prefix_len is_word_byte bytes.now }
+    ensures within { result ≤ length bytes.now }
 {
     let mut n = 0;
     while n < bytes.len() && is_word_byte(bytes[n]) {
@@ -40,7 +41,8 @@ pub fn word_len(bytes: &[u8]) -> usize
 
 // How many bytes at the front are digits.
 pub fn digits_len(bytes: &[u8]) -> usize
-    ensures { result ≡ prefix_len is_ascii_digit bytes.now }
+    ensures value { result ≡ prefix_len is_ascii_digit bytes.now }
+    ensures within { result ≤ length bytes.now }
 {
     let mut n = 0;
     while n < bytes.len() && bytes[n].is_ascii_digit() {
@@ -51,7 +53,8 @@ pub fn digits_len(bytes: &[u8]) -> usize
 
 // How many bytes stand before the first line feed.
 pub fn line_len(bytes: &[u8]) -> usize
-    ensures { result ≡ prefix_len (λ b. not (is_line_feed b)) bytes.now }
+    ensures value { result ≡ prefix_len (λ b. not (is_line_feed b)) bytes.now }
+    ensures within { result ≤ length bytes.now }
 {
     let mut n = 0;
     while n < bytes.len() && bytes[n] != b'\n' {

@@ -1,0 +1,2 @@
+mod Ranks
+pub mod Domains

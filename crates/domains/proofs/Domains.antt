@@ -1,5 +1,5 @@
 -- The values of a domain, and their positions.
-use Rattle.std.proofs.Common.{◌≡◌, inl, inr, ℕ, zero, suc, ◌+◌, ◌<◌, ◌≤◌, nat_lt, true, false, ℤ, pos, ◌+ℤ◌, ◌-ℤ◌, ◌≤ℤ◌, nat_abs, List, [], ◌∷◌, map, Contains, refl, sym, ap, ◌∙◌, subst, arith}
+use Rattle.std.proofs.Common.{◌≡◌, inl, inr, ℕ, zero, suc, ◌+◌, ◌<◌, ◌≤◌, nat_lt, true, false, ℤ, pos, ◌+ℤ◌, ◌-ℤ◌, ◌≤ℤ◌, nat_abs, [], ◌∷◌, map, Contains, refl, sym, ap, ◌∙◌, subst, arith}
 use Rattle.std.specs.List.{range_with_len}
 use Rattle.std.proofs.lemmas.Bool.Decides.{nat_tests}
 use Rattle.std.proofs.lemmas.Int.{ints}
@@ -9,7 +9,8 @@ use Rattle.domains.specs.declared.Value.{Value}
 use Rattle.domains.specs.declared.Value.TheVariants.{Truth, Whole, Symbol}
 use Rattle.domains.specs.declared.Domain.{Domain}
 use Rattle.domains.specs.declared.Domain.TheVariants.{Boolean, Symbols, Range}
-use Rattle.domains.proofs.Ranks.{rank-one, rank-lt, contains-head, contains-cons, contains-cases}
+use Rattle.domains.proofs.Members.{contains-head, contains-cons, contains-cases, contains-map, contains-from_map, nothing-in}
+use Rattle.domains.proofs.Ranks.{rank-one, rank-lt}
 
 -- a value has one position
 pub one_position : (d : Domain) (v : Value) (p q : ℕ) → IsAt d v p → IsAt d v q → p ≡ q
@@ -65,22 +66,6 @@ in_order (Range low high) (Symbol s) w p q a b h k l = absurd a
 in_order (Range low high) (Whole n) (Truth c) p q a b h k l = absurd b
 in_order (Range low high) (Whole n) (Symbol s) p q a b h k l = absurd b
 
-contains-map : {X Y : Type 0} (f : X → Y) (x : X) (xs : List X) → Contains xs x → Contains (map f xs) (f x)
-contains-map f x [] (k, h, e) = absurd (omega (arith, h))
-contains-map f x (a ∷ xs) m =
-    elim (contains-cases a x xs m) [
-      | inl e ↦ let P : _ → Type 0 = λ z. Contains (map f (a ∷ xs)) (f z) in subst P e (contains-head (f a) (map f xs))
-      | inr n ↦ contains-cons (f a) (f x) (map f xs) (contains-map f x xs n)
-    ]
-
-contains-from_map : {X Y : Type 0} (f : X → Y) (y : Y) (xs : List X) → Contains (map f xs) y → (x : X) × Contains xs x × (f x ≡ y)
-contains-from_map f y [] (k, h, e) = absurd (omega (arith, h))
-contains-from_map f y (a ∷ xs) m =
-    elim (contains-cases (f a) y (map f xs) m) [
-      | inl e ↦ (a, contains-head a xs, e)
-      | inr n ↦ let (x, i, e) = contains-from_map f y xs n in (x, contains-cons a x xs i, e)
-    ]
-
 in_range : (a n k : ℕ) → a ≤ k → k < a + n → Contains (range_with_len a n) k
 in_range a zero k h l = absurd (omega arith)
 in_range a (suc n) k h l =
@@ -119,9 +104,6 @@ listed (Range low high) (Symbol s) h = absurd h
 
 held_range : (low high : ℤ) (k : ℕ) → low ≤ℤ high → k < nat_abs (high -ℤ low) + 1 → (low ≤ℤ (low +ℤ pos k)) × ((low +ℤ pos k) ≤ℤ high)
 held_range low high k h l = (grind (arith, ints), grind (arith, ints))
-
-nothing-in : {X : Type 0} (x : X) → Contains [] x → ⊥
-nothing-in x (k, h, e) = absurd (omega (arith, h))
 
 -- each of its values is held by the domain
 pub held : (d : Domain) (v : Value) → IsDomain d → Contains (values_of d) v → Holds d v

@@ -1,9 +1,10 @@
 -- Numbers that differ from one another have each rank below their number once.
-use Rattle.std.proofs.Common.{◌≡◌, ◌≢◌, ◌⊎◌, inl, inr, ℕ, zero, suc, ◌+◌, ◌-◌, ◌<◌, ◌≤◌, nat_lt, Bool, true, false, cond, List, [], ◌∷◌, length, count_by, Contains, AllPairs, find, Option, Some, None, IfSome, IfNone, IsSome, is_some, Vec, Global, nat_eq, ◌↔◌, refl, sym, ap, ◌∙◌, subst, arith}
+use Rattle.std.proofs.Common.{◌≡◌, ◌≢◌, inl, inr, ℕ, ◌+◌, ◌-◌, ◌<◌, ◌≤◌, nat_lt, Bool, true, false, cond, List, [], ◌∷◌, length, count_by, Contains, AllPairs, find, Option, Some, None, IfSome, IfNone, IsSome, is_some, Vec, Global, nat_eq, ◌↔◌, refl, sym, ap, ◌∙◌, subst, arith}
 use Rattle.std.proofs.lemmas.Bool.Decides.{nat_tests}
 use Rattle.std.proofs.lemmas.List.Sums.{sum_by-cons, count_by-le-length}
 use Rattle.std.proofs.lemmas.Bool.{cases_order}
 use Rattle.domains.specs.Domains.{IsDomain, HasMore}
+use Rattle.domains.proofs.Members.{contains-head, contains-cons, contains-cases, pairs-tail, pairs-head}
 use Rattle.domains.specs.declared.Value.{Value}
 use Rattle.domains.specs.declared.Domain.{Domain}
 use Rattle.domains.specs.declared.Domain.TheVariants.{Symbols}
@@ -14,22 +15,6 @@ rank s xs = count_by (λ x. nat_lt x s) xs
 
 pub rank-cons : (s x : ℕ) (xs : List ℕ) → rank s (x ∷ xs) ≡ cond (nat_lt x s) 1 0 + rank s xs
 rank-cons s x xs = sum_by-cons (λ x. cond (nat_lt x s) 1 0) x xs
-
-pub contains-head : {X : Type 0} (x : X) (xs : List X) → Contains (x ∷ xs) x
-contains-head x xs = (zero, omega arith, refl)
-
-pub contains-cons : {X : Type 0} (x s : X) (xs : List X) → Contains xs s → Contains (x ∷ xs) s
-contains-cons x s xs (k, h, e) = (suc k, omega (arith, h), e)
-
-pub contains-cases : {X : Type 0} (x s : X) (xs : List X) → Contains (x ∷ xs) s → (x ≡ s) ⊎ Contains xs s
-contains-cases x s xs (zero, h, e) = inl e
-contains-cases x s xs (suc k, h, e) = inr (k, omega (arith, h), e)
-
-pub pairs-tail : {X : Type 0} (R : X → X → Type 0) (x : X) (xs : List X) → AllPairs R (x ∷ xs) → AllPairs R xs
-pairs-tail R x xs a i j d h k = a (suc i) (suc j) d (omega (arith, h)) (omega (arith, k))
-
-pub pairs-head : {X : Type 0} (R : X → X → Type 0) (x : X) (xs : List X) → AllPairs R (x ∷ xs) → (s : X) → Contains xs s → R x s
-pairs-head R x xs a s (k, h, e) = let P : _ → Type 0 = λ z. R x z in subst P e (a zero (suc k) s (omega arith) (omega (arith, h)))
 
 rank_step : (a b s t x : ℕ) → a ≤ b → s ≤ t → cond (nat_lt x s) 1 0 + a ≤ cond (nat_lt x t) 1 0 + b
 rank_step a b s t x h k = grind (arith, nat_tests)

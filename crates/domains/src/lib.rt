@@ -1,11 +1,12 @@
 //! Values, the domains that variables have, and clamped arithmetic.
 #![tactic(auto)]
 
-ghost use Rattle.std.specs.Prelude.{true, ◌≡◌, ◌<◌, ◌≤◌, ◌↔◌, ◌≢◌, ◌==◌, ℕ, IsTrue, IsSome, IfSome, IfNone, Contains, find, count_by, nat_lt, length, ◌+ℤ◌, ◌-ℤ◌, ◌*ℤ◌};
+ghost use Rattle.std.specs.Prelude.{true, false, ◌≡◌, ◌<◌, ◌≤◌, ◌↔◌, ◌≢◌, ◌==◌, ℕ, IsTrue, IsSome, IfSome, IfNone, Contains, find, count_by, nat_lt, length, ◌+ℤ◌, ◌-ℤ◌, ◌*ℤ◌};
 ghost use Rattle.std.specs.Int.{saturate_signed, w64};
 ghost use Rattle.domains.specs.Domains.{IsDomain, Holds, IsAt, HasMore, values_of};
 ghost use Rattle.domains.specs.Values.{is_before};
 ghost use Rattle.domains.specs.declared.Value.{Value};
+ghost use Rattle.domains.specs.declared.Value.TheVariants.{Truth};
 ghost use Rattle.domains.specs.declared.Domain.{Domain};
 
 /// A truth value, a whole number, or a symbol by its number.
@@ -17,6 +18,15 @@ pub enum Value {
     Truth(bool),
     Whole(i64),
     Symbol(u32),
+}
+
+impl Default for Value {
+    /// False, which fills unused places of short lists.
+    fn default() -> Value
+        ensures { result ≡ Truth false }
+    {
+        Value::Truth(false)
+    }
 }
 
 /// The values that a variable may have: at least one and at most 256 of them.

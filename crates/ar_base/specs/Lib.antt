@@ -1,0 +1,4 @@
+pub mod Lists
+pub mod Breach
+pub mod Counts
+pub mod Texts

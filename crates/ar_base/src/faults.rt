@@ -1,0 +1,37 @@
+// Refusals that many layers share.
+
+use crate::{Count, Place};
+use std::alloc::{AllocError, AllocFailed};
+
+/// Memory was refused.
+#[derive(Clone, Copy, Debug, PartialEq, Eq)]
+pub struct Memory {}
+
+impl From<AllocError> for Memory {
+    fn from(_error: AllocError) -> Self {
+        Memory {}
+    }
+}
+
+impl<T: Drop> From<AllocFailed<T>> for Memory {
+    fn from(_failed: AllocFailed<T>) -> Self {
+        Memory {}
+    }
+}
+
+/// Why a model was refused by its rules and limits.
+#[derive(Clone, Copy, Debug, PartialEq, Eq)]
+pub enum RuleFault {
+    /// The rule of this number, from 1 to 14, is broken at this place.
+    Rule(u8, Place),
+    /// This count passes its limit.
+    Limit(Count),
+    /// Memory was refused.
+    Memory,
+}
+
+impl From<Memory> for RuleFault {
+    fn from(_memory: Memory) -> Self {
+        RuleFault::Memory
+    }
+}

@@ -1,0 +1,20 @@
+//! What every layer stands on: typed numbers, places in a text, texts and their table, the limits,
+//! and the refusals of a model.
+#![tactic(auto)]
+
+mod counts;
+mod faults;
+mod numbers;
+mod places;
+mod table;
+mod texts;
+
+pub use counts::Count;
+pub use faults::{Memory, RuleFault};
+pub use numbers::{
+    AssignId, AssignKind, BodyId, BodyKind, EventId, EventKind, GateId, GateKind, Id, NameId,
+    NameKind, UnitId, UnitKind, VarId, VarKind, WayId, WayKind,
+};
+pub use places::{Place, Span};
+pub use table::Names;
+pub use texts::Text;

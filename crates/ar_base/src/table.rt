@@ -1,0 +1,98 @@
+// The table of names.
+
+ghost use Rattle.std.specs.Prelude.{◌≡◌, ◌^◌, ◌-◌, ◌<◌, [], length, IfOk, IfSome, IfNone, OnErr};
+ghost use Rattle.ar_base.specs.Lists.{Stands, HasNo, AreDifferent};
+ghost use Rattle.ar_base.specs.Texts.{Interns};
+
+use crate::{Memory, NameId};
+use indexmap::IndexSet;
+use std::alloc::Global;
+use std::marker::Model;
+
+/// A table of different texts in the order of their first use, seen as the list of their bytes: the
+/// number of a name is its text's place in the table.
+#[derive(Drop)]
+pub struct Names {
+    texts: IndexSet<String>,
+}
+
+impl Model for Names {
+    ghost use Rattle.std.specs.Prelude.{ℕ, ◌<◌, ◌^◌, List, length};
+    ghost use Rattle.ar_base.specs.Lists.{AreDifferent};
+    ghost use Rattle.ar_base.specs.Texts.{bytes_of_all};
+
+    ghost Value = { List (List ℕ) };
+
+    ghost view = { λ t. bytes_of_all t.texts.keys };
+
+    ghost invariant = { λ t. (length t.texts.keys < 2 ^ 32) × AreDifferent (bytes_of_all t.texts.keys) };
+}
+
+impl Names {
+    /// An empty table. Takes no memory.
+    pub fn new(alloc: Global) -> Names
+        ensures { result ≡ [] }
+    {
+        Names {
+            texts: IndexSet::new(alloc),
+        }
+    }
+
+    /// The number of a text: a known text keeps its own, and a new one gets the next. After a
+    /// refusal the table is as it was.
+    pub fn intern(&mut self, text: &str) -> Result<NameId, Memory>
+        requires { length self.old < 2 ^ 32 - 1 }
+        ensures number { IfOk result (λ name. Stands self.new name.n text.now) }
+        ensures texts { IfOk result (λ _. Interns self.old text.now self.new) }
+        ensures err { OnErr result (self.new ≡ self.old) }
+        ensures different { AreDifferent self.new }
+    {
+        if let Some(name) = self.find(text) {
+            return Ok(name);
+        }
+        let owned = String::from_str(*self.texts.allocator(), text)?;
+        let (place, _) = self.texts.insert_full(owned)?;
+        Ok(NameId::new(place as u32))
+    }
+
+    /// The number of a text, or None exactly where the table lacks it. Takes no memory.
+    pub fn find(&self, text: &str) -> Option<NameId>
+        ensures found { IfSome result (λ name. Stands self.now name.n text.now) }
+        ensures absent { IfNone result (HasNo self.now (λ t. t ≡ text.now)) }
+        ensures different { AreDifferent self.now }
+    {
+        let place = self.texts.get_index_of(text)?;
+        Some(NameId::new(place as u32))
+    }
+
+    /// The text of a number of the table. Takes no memory.
+    pub fn text(&self, name: NameId) -> &str
+        requires { name.n < length self.now }
+        ensures text { Stands self.now name.n result.now }
+        ensures different { AreDifferent self.now }
+    {
+        match self.texts.get_index(name.n as usize) {
+            Some(text) => text.as_str(),
+            None => "",
+        }
+    }
+}
+
+#[cfg(test)]
+mod tests {
+    use super::*;
+    use std::test::Fail;
+
+    #[test]
+    fn numbers_by_first_use(rt: HostRuntime) -> Result<(), Fail> {
+        let mut names = Names::new(rt.alloc());
+        let first = names.intern("a")?;
+        let second = names.intern("b")?;
+        let again = names.intern("a")?;
+        assert_eq!(rt; first.n, 0);
+        assert_eq!(rt; second.n, 1);
+        assert_eq!(rt; again.n, 0);
+        assert!(rt; names.find("c").is_none());
+        Ok(())
+    }
+}

@@ -1,8 +1,9 @@
 pub mod Least
 pub mod OneAnswer
 pub mod OneRun
-pub mod Turned
-pub mod Images
-pub mod RunImages
-pub mod JoinedImages
+pub mod ImageTurned
+pub mod ImageFlows
+pub mod ImageRuns
+pub mod ImageJoined
 pub mod ChangedLeaves
+pub mod ImageBoth

@@ -17,7 +17,7 @@ use Rattle.typed_expr.specs.declared.expr.Expr.{Expr}
 use Rattle.ar_meaning.proofs.Least.{least, closed}
 use Rattle.typed_expr.proofs.Carries.{carries}
 use Rattle.typed_expr.proofs.Turned.{turned}
-use Rattle.ar_meaning.proofs.Turned.{net_turned, way_turned}
+use Rattle.ar_meaning.proofs.ImageTurned.{net_turned, way_turned}
 
 -- the item at the same place of the other list
 pub record Partner {A B : Type 0} (R : A → B → Type 0) (ys : List B) (n : ℕ) (a : A) : Type 0 where

@@ -14,8 +14,8 @@ use Rattle.ar_meaning.specs.Runs as r
 use Rattle.domains.specs.declared.Value.{Value}
 use Rattle.ar_meaning.proofs.OneRun.{stands_same}
 use Rattle.typed_expr.proofs.Turned.{turned}
-use Rattle.ar_meaning.proofs.Turned.{net_turned, way_turned}
-use Rattle.ar_meaning.proofs.Images.{partner, can_there, value_there, flows_there, step_there}
+use Rattle.ar_meaning.proofs.ImageTurned.{net_turned, way_turned}
+use Rattle.ar_meaning.proofs.ImageFlows.{partner, can_there, value_there, flows_there, step_there}
 
 pub along_append : {A B : Type 0} {R : A → B → Type 0} {xs us : List A} {ys vs : List B} → Along R xs ys → Along R us vs → Along R (xs ++ us) (ys ++ vs)
 along_append l.none d = d

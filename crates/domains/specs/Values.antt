@@ -1,0 +1,22 @@
+-- The order of values.
+use Rattle.std.specs.Prelude.{ℕ, ℤ, pos, Bool, true, false, nat_lt, int_lt, if◌then◌else◌}
+use Rattle.domains.specs.declared.Value.{Value}
+use Rattle.domains.specs.declared.Value.TheVariants.{Truth, Whole, Symbol}
+
+-- truth values come before numbers, and numbers before symbols
+abbrev pub rank_of : Value → ℕ
+rank_of (Truth b) = 0
+rank_of (Whole n) = 1
+rank_of (Symbol s) = 2
+
+-- where a value stands among those of its rank: false before true, numbers ascending, symbols by their number
+abbrev pub number_of : Value → ℤ
+number_of (Truth b) = if b then pos 1 else pos 0
+number_of (Whole n) = n
+number_of (Symbol s) = pos s
+
+-- the first value comes before the second
+abbrev pub is_before : Value → Value → Bool
+is_before a b =
+    if nat_lt (rank_of a) (rank_of b) then true
+    else (if nat_lt (rank_of b) (rank_of a) then false else int_lt (number_of a) (number_of b))

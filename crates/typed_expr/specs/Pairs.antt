@@ -1,0 +1,27 @@
+-- Finitely many facts, and relations one after the other and turned round.
+use Rattle.std.specs.Prelude.{List, Contains}
+use Rattle.domains.specs.declared.Value.{Value}
+
+-- this variable has this value
+abbrev pub Pair : Type 0 → Type 0
+Pair V = V × Value
+
+-- one of the pairs gives the variable this value
+abbrev pub Has : {V : Type 0} → List (Pair V) → V → Value → Type 0
+Has pairs x v = Contains pairs (x, v)
+
+-- finitely many of the facts of P, from which R holds
+pub record Needs (V : Type 0) (P : V → Value → Type 0) (R : (V → Value → Type 0) → Type 0) : Type 0 where
+  pub pairs : List (Pair V)
+  pub hold : (x : V) (v : Value) → Has pairs x v → P x v
+  pub suffice : R (Has pairs)
+
+-- some middle is related to both
+pub record Joined {A B C : Type 0} (first : A → B → Type 0) (second : B → C → Type 0) (a : A) (c : C) : Type 0 where
+  pub middle : B
+  pub left : first a middle
+  pub right : second middle c
+
+-- the same pairs, the other way round
+abbrev pub turned : {A B : Type 0} → (A → B → Type 0) → B → A → Type 0
+turned same b a = same a b

@@ -1,20 +1,15 @@
 -- A plan whose leaves are changed means the changed ways.
-use Rattle.std.proofs.Common.{◌≡◌, ℕ, zero, suc, Bool, List, [], ◌∷◌, map, Some, ap}
-use Rattle.ar_base.specs.Lists.{Stands}
+use Rattle.std.proofs.Common.{ℕ, Bool, List, map}
+use Rattle.ar_base.proofs.Standing.{stands_map}
 use Rattle.ar_meaning.specs.Systems.{Tree, Branches}
 use Rattle.ar_meaning.specs.Numbered.{changed, branches_changed, Body, body_changed, Means_way, leaf, joint, Mean_parts, part}
 use Rattle.ar_meaning.specs.Numbered as t
 
-mapped : {A B : Type 0} (f : A → B) (xs : List A) (n : ℕ) (a : A) → Stands xs n a → Stands (map f xs) n (f a)
-mapped f [] n a e = cc
-mapped f (x ∷ xs) zero a e = let i : x ≡ a = cc in ap (λ z. Some (f z)) i
-mapped f (x ∷ xs) (suc n) a e = mapped f xs n a e
-
 module _ {L M : Type 0} (f : L → M) (bodies : List (Body L)) where
   mutual
     pub means_changed : {n : ℕ} {w : Tree L} → Means_way bodies n w → Means_way (map (body_changed f) bodies) n (changed f w)
-    means_changed {n = n} (leaf s) = leaf (mapped (body_changed f) bodies n _ s)
-    means_changed {n = n} (joint s m) = joint (mapped (body_changed f) bodies n _ s) (parts_changed m)
+    means_changed {n = n} (leaf s) = leaf (stands_map (body_changed f) bodies n _ s)
+    means_changed {n = n} (joint s m) = joint (stands_map (body_changed f) bodies n _ s) (parts_changed m)
 
     pub parts_changed : {ns : List (Bool × ℕ)} {bs : Branches L} → Mean_parts bodies ns bs → Mean_parts (map (body_changed f) bodies) ns (branches_changed f bs)
     parts_changed t.no_part = t.no_part

@@ -1,7 +1,7 @@
 -- A system and its image answer alike, both ways.
 use Rattle.std.proofs.Common.{◌↔◌, List}
 use Rattle.domains.specs.declared.Value.{Value}
-use Rattle.typed_expr.proofs.Turned.{turned}
+use Rattle.typed_expr.specs.Pairs.{turned}
 use Rattle.ar_meaning.specs.Systems.{Net, System, Way}
 use Rattle.ar_meaning.specs.Facts.{HasValue, FactOf}
 use Rattle.ar_meaning.specs.Flows.{Outcome, Flows}

@@ -15,8 +15,8 @@ use Rattle.ar_meaning.specs.Image as i
 use Rattle.domains.specs.declared.Value.{Value}
 use Rattle.typed_expr.specs.declared.expr.Expr.{Expr}
 use Rattle.ar_meaning.proofs.Least.{least, closed}
-use Rattle.typed_expr.proofs.Carries.{carries}
-use Rattle.typed_expr.proofs.Turned.{turned}
+use Rattle.typed_expr.proofs.Renaming.{carries}
+use Rattle.typed_expr.specs.Pairs.{turned}
 use Rattle.ar_meaning.proofs.ImageTurned.{net_turned, way_turned}
 
 -- the item at the same place of the other list

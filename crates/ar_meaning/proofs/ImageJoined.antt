@@ -3,8 +3,8 @@ use Rattle.std.proofs.Common.{Bool, List, ◌∙◌, subst}
 use Rattle.ar_base.specs.Lists.{Along}
 use Rattle.ar_base.specs.Lists as l
 use Rattle.typed_expr.specs.declared.expr.Expr.{Expr}
-use Rattle.typed_expr.specs.Joined.{Joined}
-use Rattle.typed_expr.proofs.Joins.{renames_joined}
+use Rattle.typed_expr.specs.Pairs.{Joined}
+use Rattle.typed_expr.proofs.Renaming.{renames_joined}
 use Rattle.ar_meaning.specs.Systems.{Assign, Variable, Transition, Way, Branches, Event, Net, System}
 use Rattle.ar_meaning.specs.Image.{Conditions_rename, Assign_renames, Variable_renames, Transition_renames, Way_renames, leaves, joints, Branches_rename, no_branch, branch, Event_renames, Expr_renames, IsNetImage, IsImage}
 use Rattle.ar_meaning.specs.Image as i

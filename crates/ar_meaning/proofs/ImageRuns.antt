@@ -2,6 +2,7 @@
 use Rattle.std.proofs.Common.{◌≡◌, ℕ, Bool, List, ◌++◌, map, refl, sym, ◌∙◌, subst}
 use Rattle.ar_base.specs.Lists.{Stands, Along, IsFirst}
 use Rattle.ar_base.specs.Lists as l
+use Rattle.ar_base.proofs.Standing.{stands_one}
 use Rattle.ar_meaning.specs.Systems.{Variable, System, Event, Transition, Way, Branches, Joint, Branch}
 use Rattle.ar_meaning.specs.Expand.{Declared, Member, Ways, event, Members_give, no_member, one, synchronises, Parts_give, no_part, choice, choices, AreKeyed}
 use Rattle.ar_meaning.specs.ExpandImage.{Part_renames, Member_renames, transitions, synchronise, Declared_renames}
@@ -12,8 +13,7 @@ use Rattle.ar_meaning.specs.Flows.{Flows, Fails, Total}
 use Rattle.ar_meaning.specs.Runs.{Label, IsWay, Command, Moment, Ways_listed, can, cannot, Listed, visible, hidden, Goes, ends, fires, fails, back, no_step, shows, lists, Runs, starts, start_fails, first_values}
 use Rattle.ar_meaning.specs.Runs as r
 use Rattle.domains.specs.declared.Value.{Value}
-use Rattle.ar_meaning.proofs.OneRun.{stands_same}
-use Rattle.typed_expr.proofs.Turned.{turned}
+use Rattle.typed_expr.specs.Pairs.{turned}
 use Rattle.ar_meaning.proofs.ImageTurned.{net_turned, way_turned}
 use Rattle.ar_meaning.proofs.ImageFlows.{partner, can_there, value_there, flows_there, step_there}
 
@@ -42,7 +42,7 @@ module _ {V W E F : Type 0} (same : V → W → Type 0) (event_same : E → F �
         let p = partner related n d at in
         let a : p.item.key ≡ f = single e p.item.key f (subst (λ z. event_same z p.item.key) k p.related.key) s in
         let b : n ≡ n' = keyed.one n n' p.item d' p.stands at' (a ∙ sym k') in
-        let c : p.item ≡ d' = stands_same es n' p.item d' (subst (λ z. Stands es z p.item) b p.stands) at' in
+        let c : p.item ≡ d' = stands_one es n' p.item d' (subst (λ z. Stands es z p.item) b p.stands) at' in
         members_there p.related.members m (subst (λ z. Members_give es z.members ws) (sym c) m')
 
     pub members_there : {ms : List (Member (Transition V) E)} {ns : List (Member (Transition W) F)} {vs : List (Way V)} {ws : List (Way W)} → Along (Member_renames same event_same) ms ns

@@ -1,6 +1,7 @@
 -- Ways, runs have one answer.
 use Rattle.std.proofs.Common.{◌≡◌, ℕ, Bool, List, [], ◌∷◌, refl, sym, ◌∙◌, ap, subst}
 use Rattle.ar_base.specs.Lists.{Stands}
+use Rattle.ar_base.proofs.Standing.{stands_one}
 use Rattle.ar_meaning.specs.Systems.{System, Event, Way, Tree, Branches, Leaf, Joint}
 use Rattle.ar_meaning.specs.Expand.{Declared, Member, Ways, event, Members_give, no_member, one, synchronises, Parts_give, no_part, choice, AreKeyed}
 use Rattle.ar_meaning.specs.Numbered.{Body, Means_way, leaf, joint, Mean_parts, part}
@@ -11,16 +12,13 @@ use Rattle.ar_meaning.specs.Runs as r
 use Rattle.domains.specs.declared.Value.{Value}
 use Rattle.ar_meaning.proofs.OneAnswer.{flows_same, step_same}
 
-pub stands_same : {A : Type 0} (xs : List A) (n : ℕ) (a b : A) → Stands xs n a → Stands xs n b → a ≡ b
-stands_same xs n a b p q = let e = sym p ∙ q in cc
-
 -- an event has one list of ways
 module _ {L E : Type 0} (events : List (Declared L E)) (keyed : AreKeyed events) where
   mutual
     pub ways_same : {e : E} {ts us : List (Tree L)} → Ways events e ts → Ways events e us → ts ≡ us
     ways_same {us = us} (event {d = d} n s k m) (event {d = d'} n' s' k' m') =
         let i = keyed.one n n' d d' s s' (k ∙ sym k') in
-        let j : d ≡ d' = stands_same events n' _ _ (subst (λ z. Stands events z d) i s) s' in
+        let j : d ≡ d' = stands_one events n' _ _ (subst (λ z. Stands events z d) i s) s' in
         members_same m (subst (λ z. Members_give events z.members us) (sym j) m')
 
     pub members_same : {ms : List (Member L E)} {ts us : List (Tree L)} → Members_give events ms ts → Members_give events ms us → ts ≡ us
@@ -36,11 +34,11 @@ module _ {L E : Type 0} (events : List (Declared L E)) (keyed : AreKeyed events)
 module _ {L : Type 0} (bodies : List (Body L)) where
   mutual
     pub means_same : {n : ℕ} {t u : Tree L} → Means_way bodies n t → Means_way bodies n u → t ≡ u
-    means_same {n = n} (leaf s) (leaf s') = let e = stands_same bodies n _ _ s s' in cc
-    means_same {n = n} (leaf s) (joint s' d') = let e = stands_same bodies n _ _ s s' in cc
-    means_same {n = n} (joint s d) (leaf s') = let e = stands_same bodies n _ _ s s' in cc
+    means_same {n = n} (leaf s) (leaf s') = let e = stands_one bodies n _ _ s s' in cc
+    means_same {n = n} (leaf s) (joint s' d') = let e = stands_one bodies n _ _ s s' in cc
+    means_same {n = n} (joint s d) (leaf s') = let e = stands_one bodies n _ _ s s' in cc
     means_same {n = n} (joint {parts = ps} s d) (joint {parts = qs} {bs = us} s' d') =
-        let e = stands_same bodies n _ _ s s' in let i : ps ≡ qs = cc in
+        let e = stands_one bodies n _ _ s s' in let i : ps ≡ qs = cc in
         ap Joint (mean_same d (subst (λ z. Mean_parts bodies z us) (sym i) d'))
 
     pub mean_same : {ns : List (Bool × ℕ)} {bs cs : Branches L} → Mean_parts bodies ns bs → Mean_parts bodies ns cs → bs ≡ cs
@@ -50,8 +48,8 @@ module _ {L : Type 0} (bodies : List (Body L)) where
 module _ {V : Type 0} (sys : System V) where
   pub way_same : {k : Label} {v w : Way V} → IsWay sys k v → IsWay sys k w → v ≡ w
   way_same {k = k} {v = v} {w = w} a b =
-      let e = stands_same sys.events k.event a.event b.event a.is_event b.is_event in
-      stands_same b.event.ways k.way v w (subst (λ z. Stands z.ways k.way v) e a.is_way) b.is_way
+      let e = stands_one sys.events k.event a.event b.event a.is_event b.is_event in
+      stands_one b.event.ways k.way v w (subst (λ z. Stands z.ways k.way v) e a.is_way) b.is_way
 
   pub ways_listed_same : {P : V → Value → Type 0} {e k : ℕ} {ws : List (Way V)} {ls ms : List Label} → Ways_listed P e k ws ls → Ways_listed P e k ws ms → ls ≡ ms
   ways_listed_same r.none r.none = refl

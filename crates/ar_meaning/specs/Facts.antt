@@ -3,17 +3,10 @@ use Rattle.std.specs.Prelude.{◌≡◌, ℕ, Bool, true, List, [], ◌∷◌, C
 use Rattle.ar_base.specs.Lists.{Stands, IsOneOf}
 use Rattle.domains.specs.declared.Value.{Value}
 use Rattle.domains.specs.declared.Value.TheVariants.{Truth}
+use Rattle.typed_expr.specs.Pairs.{Pair, Has}
 use Rattle.typed_expr.specs.Yields.{Yields}
 use Rattle.typed_expr.specs.declared.expr.Expr.{Expr, out-Expr}
 use Rattle.ar_meaning.specs.Systems.{Assign, Variable, Net}
-
--- this variable has this value
-abbrev pub Pair : Type 0 → Type 0
-Pair V = V × Value
-
--- the pairs K hold this value for this variable
-abbrev pub Has : {V : Type 0} → List (Pair V) → V → Value → Type 0
-Has K x v = Contains K (x, v)
 
 -- every condition yields from the facts the truth value that it must have
 pub data Passes {V : Type 0} (facts : V → Value → Type 0) : List (Expr V × Bool) → Type 0 where

@@ -8,5 +8,4 @@ pub mod Expand
 pub mod Numbered
 pub mod Image
 pub mod ExpandImage
-pub mod Joined
 pub mod Found

@@ -14,12 +14,10 @@ pub fn one_answer<V>()
     ensures flows { (net : Net V) (t : List Value) (o p : Outcome) → Flows net t o → Flows net t p → o ≡ p }
     ensures steps { (net : Net V) (t : List Value) (w : Way V) (a b : Answer) → Step net t w a → Step net t w b → a ≡ b }
     ensures runs { (sys : System V) (cs : List Command) (ms ns : List Moment) → Runs sys cs ms → Runs sys cs ns → ms ≡ ns }
-{
-}
+{}
 
 /// An event has at most one list of ways where no two events have one key, and a number stands for at most one way.
 pub fn one_list_of_ways<L, E>()
     ensures ways { (events : List (Declared L E)) → AreKeyed events → (e : E) (ts us : List (Tree L)) → Ways events e ts → Ways events e us → ts ≡ us }
     ensures numbers { (bodies : List (Body L)) (n : ℕ) (t u : Tree L) → Means_way bodies n t → Means_way bodies n u → t ≡ u }
-{
-}
+{}

@@ -17,9 +17,8 @@ pub fn facts_are_least<V>()
         → Yields (FactOf net t) (out-Expr V a.value) v → Allows net a.target v → FactOf net t a.target v }
     ensures least { (net : Net V) (t : List Value) (holds : V → Value → Bool) → ((x : V) (v : Value) → IsGiven net t x v → IsTrue (holds x v))
         → ((a : Assign V) (v : Value) → IsOneOf net.assertions a → Passes (λ x w. IsTrue (holds x w)) a.conditions
-            → Yields (λ x w. IsTrue (holds x w)) (out-Expr V a.value) v → Allows net a.target v → IsTrue (holds a.target v))
+        → Yields (λ x w. IsTrue (holds x w)) (out-Expr V a.value) v → Allows net a.target v → IsTrue (holds a.target v))
         → (x : V) (v : Value) → FactOf net t x v → IsTrue (holds x v) }
     ensures more { (net : Net V) (t u : List Value) → ((x : V) (v : Value) → IsGiven net t x v → IsGiven net u x v)
         → (x : V) (v : Value) → FactOf net t x v → FactOf net u x v }
-{
-}
+{}

@@ -1,4 +1,3 @@
-use Rattle.std.proofs.Common.{◌≡◌, Some, slice_get}
 use Rattle.ar_base.specs.Lists.{Stands}
 use Rattle.ar_meaning.proofs.ImageBoth.{same_flows, same_steps, same_runs}
 use Rattle.ar_meaning.proofs.images.numbered_answers.Goals as goal

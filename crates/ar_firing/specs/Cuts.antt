@@ -90,3 +90,11 @@ pub data Moves_to {V : Type 0} (net : Net V) : List Value → Answer → Type 0 
 pub record AreInOrder {V : Type 0} (sys : System V) (dropped : List ℕ) (ls : List Label) : Type 0 where
   pub after : (k : ℕ) (l : Label) (n : ℕ) (from to : Value) (m : Label) (ms : List Label) → Stands ls k l → Path sys dropped n (m ∷ ms) from → Edge sys dropped l n from to
       → (j : ℕ) × (k < j) × Stands ls j m
+
+-- the labels, the last first, are those of a firable set's paths, one for each of its events, in such an order
+pub record IsLegalOrder {V : Type 0} (sys : System V) (dropped : List ℕ) (set : List ℕ) (ls : List Label) : Type 0 where
+  pub values : List Value
+  pub is_firable : IsFirable sys dropped set values
+  pub on_paths : (k : ℕ) (l : Label) → Stands ls k l → (n : ℕ) × (x : Variable V) × Stands sys.net.variables n x × (x.is_state ≡ true) × IsOneOf (is_firable.path n) l
+  pub events : AreEvents ls set
+  pub in_order : AreInOrder sys dropped ls

@@ -1,3 +1,4 @@
 pub mod Fragment
 pub mod Cuts
 pub mod Operands
+pub mod Forest

@@ -15,6 +15,11 @@ pub record Shows {V : Type 0} (net : Net V) (state : List Value) (observer : Exp
   pub flows : Flows net state (Total values)
   pub shows : IsAnswer top (Yields (HasValue net values) (out-Expr V observer) wanted)
 
+-- the state has flows
+pub record HasFlows {V : Type 0} (net : Net V) (state : List Value) : Type 0 where
+  pub values : List Value
+  pub flows : Flows net state (Total values)
+
 -- the flows of the state are a fault
 pub record HasFault {V : Type 0} (net : Net V) (state : List Value) : Type 0 where
   pub fault : FlowFault

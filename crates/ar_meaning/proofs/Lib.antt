@@ -7,3 +7,4 @@ pub mod ImageRuns
 pub mod ImageJoined
 pub mod ChangedLeaves
 pub mod ImageBoth
+pub mod StatesAlone

@@ -6,3 +6,5 @@ pub mod Cutting
 pub mod Meeting
 pub mod OneForest
 pub mod Legal
+pub mod Lines
+pub mod ConflictLines

@@ -8,3 +8,4 @@ pub mod OneForest
 pub mod Legal
 pub mod Lines
 pub mod ConflictLines
+pub mod Replays

@@ -2,3 +2,4 @@ pub mod Fragment
 pub mod Cuts
 pub mod Operands
 pub mod Forest
+pub mod Replays

@@ -19,10 +19,18 @@ pub data Assign_names {V : Type 0} (x : V) (a : Assign V) : Type 0 where
   in_condition : {e : Expr V} {b : Bool} → IsOneOf a.conditions (e, b) → Mentions x (out-Expr V e) → Assign_names x a
   in_value : Mentions x (out-Expr V a.value) → Assign_names x a
 
--- a transition's guard, or an assignment of its action, names the variable
-pub data Way_names {V : Type 0} (x : V) : Way V → Type 0 where
-  in_guard : {d : Transition V} → Mentions x (out-Expr V d.guard) → Way_names x (Leaf d)
-  in_action : {d : Transition V} (a : Assign V) → IsOneOf d.action a → Assign_names x a → Way_names x (Leaf d)
+-- the variable stands in a transition's guard
+pub data Guard_names {V : Type 0} (x : V) : Way V → Type 0 where
+  guard : {d : Transition V} → Mentions x (out-Expr V d.guard) → Guard_names x (Leaf d)
+
+-- an assignment of a transition's action names the variable
+pub data Action_names {V : Type 0} (x : V) : Way V → Type 0 where
+  action : {d : Transition V} (a : Assign V) → IsOneOf d.action a → Assign_names x a → Action_names x (Leaf d)
+
+-- a transition's guard or action names the variable
+pub data Way_names {V : Type 0} (x : V) (w : Way V) : Type 0 where
+  in_guard : Guard_names x w → Way_names x w
+  in_action : Action_names x w → Way_names x w
 
 -- a way of an event that is not dropped
 pub record IsKept {V : Type 0} (sys : System V) (dropped : List ℕ) (l : Label) (w : Way V) : Type 0 where

@@ -3,3 +3,4 @@ pub mod Cuts
 pub mod Operands
 pub mod Forest
 pub mod Replays
+pub mod Rules

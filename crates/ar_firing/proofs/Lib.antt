@@ -3,9 +3,11 @@ pub mod Ends
 pub mod Orders
 pub mod InOrder
 pub mod Cutting
+pub mod Without
 pub mod Meeting
 pub mod OneForest
 pub mod Legal
 pub mod Lines
 pub mod ConflictLines
 pub mod Replays
+pub mod RulesHold

@@ -18,36 +18,8 @@ use Rattle.ar_meaning.proofs.StatesAlone.{same_at}
 use Rattle.ar_firing.proofs.Firing.{conflict_firable, none_firable, all_firable, enabled, next_edge, moved, is_same}
 use Rattle.ar_firing.proofs.Ends.{split, path_unique, live, firable_same}
 use Rattle.ar_firing.proofs.Orders.{has_order, received, no_clash, no_leave}
+use Rattle.ar_firing.proofs.Without.{without, kept, was}
 use Rattle.ar_firing.proofs.Cutting.{firable_as, events_within, set_within}
-
--- the list without a number
-abbrev without : ℕ → List ℕ → List ℕ
-without e [] = []
-without e (x ∷ xs) = cond (x == e) (without e xs) (x ∷ without e xs)
-
-kept : (e : ℕ) (xs : List ℕ) (k a : ℕ) → Stands xs k a → (a ≡ e → ⊥) → IsOneOf (without e xs) a
-kept e [] k a s n = cc
-kept e (x ∷ xs) zero a s n =
-    let i : x ≡ a = cc in
-    let j : (x == e) ≡ false = grind (arith, nat_tests) in
-    rw j (record { place = zero; stands = ap (λ z. Some z) i })
-kept e (x ∷ xs) (suc k) a s n = go (x == e) (kept e xs k a s n)
-  where
-    go : (b : Bool) → IsOneOf (without e xs) a → IsOneOf (cond b (without e xs) (x ∷ without e xs)) a
-    go true o = o
-    go false o = record { place = suc o.place; stands = o.stands }
-
-was : (e : ℕ) (xs : List ℕ) (k a : ℕ) → Stands (without e xs) k a → IsOneOf xs a × (a ≡ e → ⊥)
-was e [] k a s = cc
-was e (x ∷ xs) k a s = go (x == e) refl (λ j t. was e xs j a t) s
-  where
-    go : (b : Bool) → (x == e) ≡ b → ((j : ℕ) → Stands (without e xs) j a → IsOneOf xs a × (a ≡ e → ⊥)) → Stands (cond b (without e xs) (x ∷ without e xs)) k a → IsOneOf (x ∷ xs) a × (a ≡ e → ⊥)
-    go true i h s = let o = h k s in (record { place = suc o.0.place; stands = o.0.stands }, o.1)
-    go false i h s = here k s
-      where
-        here : (k : ℕ) → Stands (x ∷ without e xs) k a → IsOneOf (x ∷ xs) a × (a ≡ e → ⊥)
-        here zero s = let q : x ≡ a = cc in (record { place = zero; stands = ap (λ z. Some z) q }, λ r. grind (arith, nat_tests))
-        here (suc j) s = let o = h j s in (record { place = suc o.0.place; stands = o.0.stands }, o.1)
 
 -- another value at one place
 abbrev changed_at : List Value → ℕ → Value → List Value

@@ -12,8 +12,8 @@ use Rattle.ar_firing.specs.Cuts.{Conflicts, IsFirable, IsLegalOrder, IsLeast, Ar
 use Rattle.ar_firing.specs.Cuts as cuts
 use Rattle.ar_firing.specs.Operands.{Agrees, HasFlows, IsFirableWith}
 use Rattle.ar_firing.proofs.Firing.{none_firable}
-use Rattle.ar_firing.proofs.Orders.{label_of}
-use Rattle.ar_firing.proofs.Cutting.{firable_as, events_within, set_within}
+use Rattle.ar_firing.proofs.EachHasOrder.{label_of}
+use Rattle.ar_firing.proofs.SameSets.{firable_as, events_within, set_within}
 use Rattle.ar_firing.proofs.Legal.{goes_on, onward, fires_all}
 
 module _ {V : Type 0} (sys : System V) (dropped : List ℕ) (keyed : AreKeyed sys.net) (static : IsStatic sys dropped) (observer : Expr V) (wanted : Value)

@@ -14,22 +14,9 @@ use Rattle.typed_expr.specs.declared.expr.Expr.{Expr, out-Expr}
 use Rattle.ar_meaning.proofs.OneAnswer.{flows_same}
 use Rattle.ar_meaning.proofs.StatesAlone.{same_flows}
 use Rattle.ar_firing.proofs.Ends.{came, firable_same}
-use Rattle.ar_firing.proofs.Orders.{has_order, event_of, label_of}
+use Rattle.ar_firing.proofs.EachHasOrder.{has_order}
+use Rattle.ar_firing.proofs.SameSets.{firable_as, events_within, set_within}
 use Rattle.ar_meaning.specs.Flows.{Flows, FlowFault, Fails}
-
-pub firable_as : {V : Type 0} (sys : System V) (dropped : List ℕ) {set other : List ℕ} {t : List Value} → Within set other → Within other set → IsFirable sys dropped set t → IsFirable sys dropped other t
-firable_as sys dropped h k f = record { long = f.long; path = f.path; walks = f.walks; sound = λ n x s i j l m. h.each l.event (f.sound n x s i j l m); whole = λ e o. f.whole e (k.each e o) }
-
-pub events_within : (ls : List Label) (set : List ℕ) → AreEvents ls set → Within (map (λ l. l.event) ls) set
-events_within ls set a = record { each = λ e o. let l = label_of ls o.place e o.stands in subst (λ z. IsOneOf set z) l.2 (a.sound o.place l.0 l.1) }
-
-pub set_within : (ls : List Label) (set : List ℕ) → AreEvents ls set → Within set (map (λ l. l.event) ls)
-set_within ls set a = record {
-  each = λ e o.
-      let l = a.whole e o in
-      let s = event_of ls l.1.place l.0 l.1.stands in
-      record { place = l.1.place; stands = subst (λ z. Stands (map (λ l. l.event) ls) l.1.place z) l.2 s };
-}
 
 module _ {V : Type 0} (sys : System V) (dropped : List ℕ) (keyed : AreKeyed sys.net) (static : IsStatic sys dropped) (observer : Expr V) (wanted : Value) (conflict top : List ℕ → Bool)
     (agrees : Agrees sys dropped observer wanted conflict top) (free : (set : List ℕ) (t : List Value) → IsFirable sys dropped set t → conflict set ≡ false) where

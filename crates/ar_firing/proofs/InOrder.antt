@@ -11,7 +11,7 @@ use Rattle.domains.specs.declared.Value.{Value}
 use Rattle.ar_base.proofs.Standing.{stands_one}
 use Rattle.ar_firing.proofs.Firing.{all_firable, enabled}
 use Rattle.ar_firing.proofs.Ends.{Split, split, Tail, tail_of, path_unique, path_end, live, on_path, label_same}
-use Rattle.ar_firing.proofs.Orders.{event_of, label_of}
+use Rattle.ar_firing.proofs.EachHasOrder.{event_of, label_of}
 
 -- past a place of a joined list
 beyond : (front : List Label) (l : Label) (b : List Label) (j : ℕ) (m : Label) → length front < j → Stands (front ++ (l ∷ b)) j m → IsOneOf b m

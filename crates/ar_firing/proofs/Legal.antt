@@ -13,8 +13,9 @@ use Rattle.ar_firing.specs.Cuts.{Reaches, Conflicts, IsFirable, IsLegalOrder, Ar
 use Rattle.ar_firing.specs.Cuts as cuts
 use Rattle.ar_firing.specs.Operands.{HasFlows, HasFault}
 use Rattle.ar_firing.proofs.Firing.{all_firable, next_edge, moved, none_firable, no_item, Ready, ready}
-use Rattle.ar_firing.proofs.Orders.{received, no_clash, no_leave, event_of, label_of}
+use Rattle.ar_firing.proofs.EachHasOrder.{received, no_clash, no_leave, event_of, label_of}
 use Rattle.ar_firing.proofs.InOrder.{can_go_on}
+use Rattle.ar_firing.proofs.SameSets.{events_within}
 
 module _ {V : Type 0} (sys : System V) (dropped : List ℕ) (keyed : AreKeyed sys.net) (static : IsStatic sys dropped) where
   -- the next label can fire
@@ -78,3 +79,7 @@ module _ {V : Type 0} (sys : System V) (dropped : List ℕ) (keyed : AreKeyed sy
     where
       further : (part : List ℕ) → Within part (map (λ k. k.event) b) → Within part (map (λ k. k.event) (l ∷ b))
       further part w = record { each = λ e i. let k = w.each e i in record { place = suc k.place; stands = k.stands } }
+
+  -- where the firable sets within a set have flows, its legal orders fire without fault
+  pub order_fires : {set : List ℕ} (ls : List Label) → IsLegalOrder sys dropped set ls → ((part : List ℕ) (t : List Value) → IsFirable sys dropped part t → Within part set → HasFlows sys.net t) → (u : List Value) × Reaches sys dropped ls u
+  order_fires {set = set} ls o total = fires_all [] ls o (λ part t f w. total part t f (record { each = λ e i. (events_within ls set o.events).each e (w.each e i) }))

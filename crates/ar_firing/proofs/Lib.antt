@@ -1,8 +1,10 @@
 pub mod Firing
 pub mod Ends
-pub mod Orders
+pub mod EachHasOrder
 pub mod InOrder
+pub mod SameSets
 pub mod Cutting
+pub mod OrderedSets
 pub mod Without
 pub mod Meeting
 pub mod OneForest
@@ -11,3 +13,4 @@ pub mod Lines
 pub mod ConflictLines
 pub mod Replays
 pub mod RulesHold
+pub mod LeastSets

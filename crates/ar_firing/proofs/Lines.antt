@@ -11,7 +11,7 @@ use Rattle.ar_firing.specs.Fragment.{IsStatic, Path, root, edge, Edge}
 use Rattle.ar_firing.specs.Cuts.{IsFirable, IsLegalOrder, AreEvents, AreInOrder, Within}
 use Rattle.ar_firing.specs.Forest.{firing_line, IsLine}
 use Rattle.ar_firing.proofs.Ends.{split, path_unique, live, label_same, path_same, on_path}
-use Rattle.ar_firing.proofs.Orders.{AreOnce}
+use Rattle.ar_firing.proofs.EachHasOrder.{AreOnce}
 
 -- the labels of the variables' paths, the last first
 abbrev pub backward : {V : Type 0} → ℕ → List (Variable V) → (ℕ → List Label) → List Label

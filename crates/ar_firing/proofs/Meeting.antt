@@ -17,9 +17,9 @@ use Rattle.ar_meaning.proofs.OneAnswer.{flows_same}
 use Rattle.ar_meaning.proofs.StatesAlone.{same_at}
 use Rattle.ar_firing.proofs.Firing.{conflict_firable, none_firable, all_firable, enabled, next_edge, moved, is_same}
 use Rattle.ar_firing.proofs.Ends.{split, path_unique, live, firable_same}
-use Rattle.ar_firing.proofs.Orders.{has_order, received, no_clash, no_leave}
+use Rattle.ar_firing.proofs.EachHasOrder.{has_order, received, no_clash, no_leave}
 use Rattle.ar_firing.proofs.Without.{without, kept, was}
-use Rattle.ar_firing.proofs.Cutting.{firable_as, events_within, set_within}
+use Rattle.ar_firing.proofs.SameSets.{firable_as, events_within, set_within}
 
 -- another value at one place
 abbrev changed_at : List Value → ℕ → Value → List Value

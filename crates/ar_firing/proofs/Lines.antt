@@ -183,9 +183,9 @@ module _ {V : Type 0} (sys : System V) (dropped : List ℕ) (keyed : AreKeyed sy
             let a : Stands (f.path n) (length front) l = subst (λ z. Stands z (length front) l) (sym here) (at_end front (m ∷ ms) l) in
             let b : Stands (f.path n) (length front + 1) m = subst (λ z. Stands z (length front + 1) m) (sym here) (stands_right front (l ∷ (m ∷ ms)) 1 (length front + 1) m refl refl) in
             let c : Stands whole (length q.front + length front) l = subst (λ z. Stands z (length q.front + length front) l) (sym q.is)
-                (stands_right q.front (f.path n ++ q.rest) (length front) (length q.front + length front) l refl (stands_left (f.path n) q.rest (length front) l a)) in
+            (stands_right q.front (f.path n ++ q.rest) (length front) (length q.front + length front) l refl (stands_left (f.path n) q.rest (length front) l a)) in
             let d : Stands whole (length q.front + (length front + 1)) m = subst (λ z. Stands z (length q.front + (length front + 1)) m) (sym q.is)
-                (stands_right q.front (f.path n ++ q.rest) (length front + 1) (length q.front + (length front + 1)) m refl (stands_left (f.path n) q.rest (length front + 1) m b)) in
+            (stands_right q.front (f.path n ++ q.rest) (length front + 1) (length q.front + (length front + 1)) m refl (stands_left (f.path n) q.rest (length front + 1) m b)) in
             let i : k ≡ length q.front + length front = line_events.once k (length q.front + length front) l l s c refl in
             (length q.front + (length front + 1), omega (arith, i), d)
 

@@ -14,11 +14,9 @@ pub fn kept_or_broken<V>()
     ensures s5 { (sys : System V) (dropped : List ℕ) (variable : ℕ) → KeepsS5 sys dropped → BreaksS5 sys dropped variable → ⊥ }
     ensures s6 { (sys : System V) (dropped : List ℕ) (variable : ℕ) → KeepsS6 sys dropped → BreaksS6 sys dropped variable → ⊥ }
     ensures s8 { (sys : System V) (dropped : List ℕ) → KeepsS8 sys dropped → BreaksS8 sys dropped → ⊥ }
-{
-}
+{}
 
 /// A system that keeps the rules is static as the laws of firing orders ask it.
 pub fn rules_make_static<V>()
     ensures is_static { (sys : System V) (dropped : List ℕ) → KeepsS1 sys → KeepsS3 sys dropped → KeepsS4 sys dropped → KeepsS5 sys dropped → KeepsS6 sys dropped → IsStatic sys dropped }
-{
-}
+{}

@@ -8,3 +8,6 @@ pub mod ImageJoined
 pub mod ChangedLeaves
 pub mod ImageBoth
 pub mod StatesAlone
+pub mod Tabled
+pub mod Forms
+pub mod Worked

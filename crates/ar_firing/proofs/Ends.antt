@@ -1,10 +1,9 @@
 -- In a static system every order of one set ends in one valuation.
-use Rattle.std.proofs.Common.{◌≡◌, ◌+◌, ℕ, zero, suc, Bool, true, false, List, [], ◌∷◌, ◌++◌, map, length, length-append, refl, sym, ◌∙◌, ap, subst, arith}
-use Rattle.ar_base.specs.Lists.{Stands, IsOneOf, IsFirst, HasNo}
+use Rattle.std.proofs.Common.{◌≡◌, ◌+◌, ℕ, zero, suc, true, List, [], ◌∷◌, ◌++◌, map, length, length-append, refl, sym, ◌∙◌, ap, subst, arith}
+use Rattle.ar_base.specs.Lists.{Stands, IsOneOf}
 use Rattle.ar_meaning.specs.Systems.{Variable, System}
-use Rattle.ar_meaning.specs.Facts.{AreKeyed, IsGiven, Allows, given, FactOf}
-use Rattle.ar_meaning.specs.Flows.{HasTwo, IsOutside, IsBroken, Completes, state, known, unknown, Outcome, Flows, Fails, Total, two, outside, broken, all_hold}
-use Rattle.ar_meaning.specs.Flows as flows
+use Rattle.ar_meaning.specs.Facts.{AreKeyed}
+use Rattle.ar_meaning.specs.Flows.{Flows, Total}
 use Rattle.ar_meaning.specs.Steps.{moves}
 use Rattle.ar_meaning.specs.Runs.{Label, first_values}
 use Rattle.ar_firing.specs.Fragment.{Edge, Path, root, edge, IsLive, IsStatic}

@@ -1,17 +1,14 @@
 -- A rule that is kept is not broken, and the rules make a system static.
-use Rattle.std.proofs.Common.{◌≡◌, ◌<◌, ◌≤◌, ℕ, true, false, List, length, refl, sym, ◌∙◌, ap, subst, arith, Contains}
-use Rattle.ar_base.specs.Lists.{Stands, IsOneOf}
+use Rattle.std.proofs.Common.{◌≡◌, ℕ, true, List, refl, sym, ◌∙◌, ap, subst, arith, Contains}
+use Rattle.ar_base.specs.Lists.{Stands}
 use Rattle.ar_base.proofs.Standing.{stands_one}
 use Rattle.domains.specs.declared.Value.{Value}
-use Rattle.typed_expr.specs.Mentions.{Mentions}
-use Rattle.typed_expr.specs.declared.expr.Expr.{Expr, out-Expr}
-use Rattle.ar_meaning.specs.Systems.{Assign, Variable, Transition, Way, Leaf, Joint, System}
-use Rattle.ar_meaning.specs.Ways.{Can, Effects}
-use Rattle.ar_meaning.specs.Runs.{Label, IsWay}
+use Rattle.ar_meaning.specs.Systems.{Variable, Way, Joint, System}
+use Rattle.ar_meaning.specs.Runs.{Label}
 use Rattle.ar_meaning.proofs.OneAnswer.{first_same, no_first}
 use Rattle.ar_firing.specs.Fragment.{Guard_names, guard, Action_names, action, as_target, in_condition, in_value, IsKept, IsOpen, IsModeOf, named, first, At, Edge, IsReached, Is_of, HasMode, Leads, IsStatic}
 use Rattle.ar_firing.specs.Fragment as g
-use Rattle.ar_firing.specs.Rules.{IsTransition, transition, KeepsS1, BreaksS1, KeepsS2, BreaksS2, HasModeVariable, GuardKeeps, KeepsS3, BreaksS3, IsLiveAt, GivesOne, GivesOther, nothing, two, outside, KeepsS4, BreaksS4, names, gives, AreTwo, ways, variables, modes, KeepsS5, BreaksS5, KeepsS6, BreaksS6, stays, by_events, by_edges, initial, KeepsS8, BreaksS8}
+use Rattle.ar_firing.specs.Rules.{IsTransition, transition, KeepsS1, BreaksS1, KeepsS2, BreaksS2, HasModeVariable, KeepsS3, BreaksS3, GivesOne, GivesOther, nothing, two, outside, KeepsS4, BreaksS4, names, gives, AreTwo, ways, variables, modes, KeepsS5, BreaksS5, KeepsS6, BreaksS6, stays, by_events, by_edges, initial, KeepsS8, BreaksS8}
 use Rattle.ar_firing.proofs.Without.{no_more}
 
 module _ {V : Type 0} (sys : System V) where

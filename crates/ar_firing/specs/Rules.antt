@@ -1,5 +1,5 @@
 -- The rules of the static fragment, each in two ways: that it is kept, and that it is broken by what it is shown with.
-use Rattle.std.specs.Prelude.{◌≡◌, ◌<◌, ◌≤◌, ℕ, true, List, Contains, length}
+use Rattle.std.specs.Prelude.{◌≡◌, ◌<◌, ◌≤◌, ℕ, List, Contains, length}
 use Rattle.ar_base.specs.Lists.{Stands, IsOneOf, HasNo, AreDifferent}
 use Rattle.domains.specs.declared.Value.{Value}
 use Rattle.ar_meaning.specs.Systems.{Variable, Transition, Way, Leaf, Joint, Branches, Event, System}

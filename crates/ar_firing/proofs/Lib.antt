@@ -14,3 +14,5 @@ pub mod ConflictLines
 pub mod Replays
 pub mod RulesHold
 pub mod LeastSets
+pub mod ImageCuts
+pub mod ImageModes

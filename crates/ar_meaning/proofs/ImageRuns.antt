@@ -89,10 +89,10 @@ module _ {V W : Type 0} (same : V → W → Type 0) (A : System V) (B : System W
   goes_there (shows d) = shows (goes_there d)
   goes_there {t = t} (lists a d) = lists (listed_there t image.events a) (goes_there d)
 
-  first_there : {xs : List (Variable V)} {ys : List (Variable W)} → Along (Variable_renames same) xs ys → first_values xs ≡ first_values ys
-  first_there l.none = refl
-  first_there (l.one_and r rs) = let h = r.value in let i = first_there rs in cc
+  pub first_values_there : {xs : List (Variable V)} {ys : List (Variable W)} → Along (Variable_renames same) xs ys → first_values xs ≡ first_values ys
+  first_values_there l.none = refl
+  first_values_there (l.one_and r rs) = let h = r.value in let i = first_values_there rs in cc
 
   pub runs_there : {cs : List Command} {ms : List Moment} → Runs A cs ms → Runs B cs ms
-  runs_there (starts {t = t} f d) = starts (subst (λ z. Flows B.net z (Total t)) (first_there image.net.variables) (flows_there same A.net B.net image.net f)) (goes_there d)
-  runs_there (start_fails {f = x} f) = start_fails (subst (λ z. Flows B.net z (Fails x)) (first_there image.net.variables) (flows_there same A.net B.net image.net f))
+  runs_there (starts {t = t} f d) = starts (subst (λ z. Flows B.net z (Total t)) (first_values_there image.net.variables) (flows_there same A.net B.net image.net f)) (goes_there d)
+  runs_there (start_fails {f = x} f) = start_fails (subst (λ z. Flows B.net z (Fails x)) (first_values_there image.net.variables) (flows_there same A.net B.net image.net f))

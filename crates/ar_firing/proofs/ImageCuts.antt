@@ -1,6 +1,5 @@
 -- A system and its image have the same firing orders, cuts and conflict sets.
-use Rattle.std.proofs.Common.{◌≡◌, ℕ, Bool, List, refl, sym, ◌∙◌, subst}
-use Rattle.ar_base.specs.Lists.{IsOneOf}
+use Rattle.std.proofs.Common.{ℕ, List, sym, ◌∙◌, subst}
 use Rattle.domains.specs.declared.Value.{Value}
 use Rattle.typed_expr.specs.Pairs.{turned}
 use Rattle.typed_expr.specs.declared.expr.Expr.{Expr}
@@ -68,3 +67,7 @@ module _ {V W : Type 0} (same : V → W → Type 0) (here : System V) (there : S
   pub conflict_set_there : (set : List ℕ) → ConflictSet here dropped set → ConflictSet there dropped set
   conflict_set_there set c =
       least_on (MeetsConflict there dropped) (MeetsConflict here dropped) (λ s m. meets_there (turned same) there here (image_turned same image) dropped m) (λ s l. meets_there same here there image dropped l.has) c
+
+  pub cut_back : (observer : Expr V) (other : Expr W) → Expr_renames same observer other → (wanted : Value) (set : List ℕ) → Cut there dropped other wanted set → Cut here dropped observer wanted set
+  cut_back observer other q wanted set c =
+      least_on (Makes here dropped observer wanted) (Makes there dropped other wanted) (λ s m. makes_there same here there image dropped observer other q wanted s m) (λ s l. makes_back observer other q wanted s l.has) c

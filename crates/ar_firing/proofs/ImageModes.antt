@@ -1,25 +1,23 @@
 -- A system and its image have the same modes, edges, paths, firable sets and forests.
-use Rattle.std.proofs.Common.{◌≡◌, ◌<◌, ◌≤◌, ℕ, zero, suc, Bool, true, List, [], ◌∷◌, length, Some, Contains, refl, sym, ◌∙◌, ap, subst}
+use Rattle.std.proofs.Common.{◌≡◌, ℕ, zero, suc, Bool, List, length, Some, Contains, refl, sym, ◌∙◌, ap, subst}
 use Rattle.ar_base.specs.Lists.{Stands, IsOneOf, IsFirst, HasNo, Along}
 use Rattle.ar_base.specs.Lists as l
 use Rattle.ar_base.proofs.Standing.{stands_one}
 use Rattle.domains.specs.declared.Value.{Value}
 use Rattle.typed_expr.specs.Pairs.{turned}
-use Rattle.typed_expr.specs.Mentions.{Mentions}
 use Rattle.typed_expr.specs.Renames.{Renames}
 use Rattle.typed_expr.specs.declared.expr.Expr.{Expr, out-Expr}
 use Rattle.typed_expr.proofs.Renaming.{Mentioned, mentions_carry}
-use Rattle.ar_meaning.specs.Systems.{Assign, Variable, Way, Event, System}
+use Rattle.ar_meaning.specs.Systems.{Assign, Variable, Way, System}
 use Rattle.ar_meaning.specs.Ways.{Can, Effects}
 use Rattle.ar_meaning.specs.Runs.{Label}
 use Rattle.ar_meaning.specs.Image.{Conditions_rename, Assign_renames, Variable_renames, Way_renames, leaves, Event_renames, IsImage}
 use Rattle.ar_meaning.specs.Image as i
 use Rattle.ar_meaning.proofs.ImageTurned.{image_turned, way_turned}
-use Rattle.ar_meaning.proofs.ImageFlows.{Partner, partner, first_there, none_there, can_there, effects_there}
-use Rattle.ar_firing.specs.Fragment.{Assign_names, as_target, in_condition, in_value, Guard_names, guard, Action_names, action, Way_names, in_guard, in_action, IsKept, IsOpen, IsStateOf, IsNamedStateOf, IsModeOf, named, first, At, Edge, Path, root, edge, IsReached, IsLive}
+use Rattle.ar_meaning.proofs.ImageFlows.{partner, first_there, none_there, can_there, effects_there}
+use Rattle.ar_firing.specs.Fragment.{Assign_names, as_target, in_condition, in_value, Guard_names, guard, Action_names, action, Way_names, in_guard, in_action, IsKept, IsStateOf, IsNamedStateOf, IsModeOf, named, first, At, Edge, Path, root, edge, IsReached, IsLive}
 use Rattle.ar_firing.specs.Cuts.{IsFirable}
-use Rattle.ar_firing.specs.Forest.{HasTransitions, IsModeVariable, Row, Under, no_more, next, ModeTree, IsModeTree, IsForest, IsLine}
-use Rattle.ar_firing.proofs.ImageCuts.{open_there}
+use Rattle.ar_firing.specs.Forest.{firing_line, HasTransitions, IsModeVariable, Row, Under, no_more, next, ModeTree, IsModeTree, IsForest, IsLine}
 
 -- the condition at the same place
 pub record Condition_there {V W : Type 0} (same : V → W → Type 0) (fs : List (Expr W × Bool)) (n : ℕ) (e : Expr V) (b : Bool) : Type 0 where
@@ -186,3 +184,11 @@ module _ {V W : Type 0} (same : V → W → Type 0) (here : System V) (there : S
             let p = partner image.net.variables w.0 w.1 w.3 in
             (w.0, p.item, w.2, p.stands, sym p.related.is_state ∙ w.4, w.5, w.6);
       }
+
+  line_same : (n : ℕ) {xs : List (Variable V)} {ys : List (Variable W)} (path : ℕ → List Label) → Along (Variable_renames same) xs ys → firing_line n xs path ≡ firing_line n ys path
+  line_same n path l.none = refl
+  line_same n path (l.one_and r rs) = let i = line_same (suc n) path rs in let j = r.is_state in cc
+
+  pub line_there : {set : List ℕ} {ls : List Label} → IsLine here dropped set ls → IsLine there dropped set ls
+  unfolding firable_there
+  line_there h = record { values = h.values; is_firable = firable_there h.is_firable; is = h.is ∙ line_same 0 h.is_firable.path image.net.variables }

@@ -16,3 +16,4 @@ pub mod RulesHold
 pub mod LeastSets
 pub mod ImageCuts
 pub mod ImageModes
+pub mod ImageRules

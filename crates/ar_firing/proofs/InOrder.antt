@@ -51,7 +51,7 @@ module _ {V : Type 0} (sys : System V) (dropped : List ℕ) (keyed : AreKeyed sy
     pub edge_on : Edge sys dropped label n from to
     pub is_one : IsOneOf ls label
 
-  leaves : (fr : List Label) {n : ℕ} {q : List Label} {from m : Value} → Path sys dropped n (fr ++ q) m → Path sys dropped n q from → (fr ≡ []) ⊎ LeavesBy n (fr ++ q) from
+  pub leaves : (fr : List Label) {n : ℕ} {q : List Label} {from m : Value} → Path sys dropped n (fr ++ q) m → Path sys dropped n q from → (fr ≡ []) ⊎ LeavesBy n (fr ++ q) from
   leaves [] p d = inl refl
   leaves (x ∷ []) {n = n} {from = from} (edge {m = u} {to = to} p e) d =
       let i : u ≡ from = path_end sys dropped keyed static p d in

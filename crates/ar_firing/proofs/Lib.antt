@@ -17,3 +17,5 @@ pub mod LeastSets
 pub mod ImageCuts
 pub mod ImageModes
 pub mod ImageRules
+pub mod ModesOfSets
+pub mod TreeEdges

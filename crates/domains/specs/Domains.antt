@@ -1,5 +1,6 @@
 -- What a domain holds, and where its values stand.
-use Rattle.std.specs.Prelude.{◌≡◌, ◌≢◌, ℕ, ◌<◌, ◌≤◌, pos, ◌+ℤ◌, ◌<ℤ◌, ◌≤ℤ◌, cond, nat_lt, count_by, Contains, length, AllPairs}
+use Rattle.std.specs.Prelude.{◌≡◌, ◌≢◌, ℕ, ◌<◌, ◌≤◌, pos, ◌+◌, ◌+ℤ◌, ◌-ℤ◌, ◌<ℤ◌, ◌≤ℤ◌, nat_abs, true, false, map, List, [], ◌∷◌, if◌then◌else◌, nat_lt, count_by, Contains, length, AllPairs}
+use Rattle.std.specs.List.{range_with_len}
 use Rattle.domains.specs.declared.Value.{Value}
 use Rattle.domains.specs.declared.Value.TheVariants.{Truth, Whole, Symbol}
 use Rattle.domains.specs.declared.Domain.{Domain}
@@ -25,7 +26,7 @@ Holds (Range low high) (Symbol s) = ⊥
 
 -- p values of the domain come before the value, in the order of values
 abbrev pub IsAt : Domain → Value → ℕ → Type 0
-IsAt Boolean (Truth b) p = p ≡ cond b 1 0
+IsAt Boolean (Truth b) p = p ≡ (if b then 1 else 0)
 IsAt Boolean (Whole n) p = ⊥
 IsAt Boolean (Symbol s) p = ⊥
 IsAt (Symbols symbols) (Truth b) p = ⊥
@@ -40,3 +41,9 @@ abbrev pub HasMore : Domain → ℕ → Type 0
 HasMore Boolean p = p < 2
 HasMore (Symbols symbols) p = p < length symbols.items
 HasMore (Range low high) p = (low +ℤ pos p) ≤ℤ high
+
+-- the values of the domain, symbols in the order in which they were declared
+abbrev pub values_of : Domain → List Value
+values_of Boolean = Truth false ∷ Truth true ∷ []
+values_of (Symbols symbols) = map Symbol symbols.items
+values_of (Range low high) = map (λ k. Whole (low +ℤ pos k)) (range_with_len 0 (nat_abs (high -ℤ low) + 1))

@@ -1,5 +1,5 @@
--- The order of values.
-use Rattle.std.specs.Prelude.{ℕ, ℤ, pos, Bool, true, false, nat_lt, int_lt, if◌then◌else◌}
+-- The order of values, and lists that ascend.
+use Rattle.std.specs.Prelude.{◌≡◌, List, AllPairs, ℕ, ℤ, pos, Bool, true, false, nat_lt, int_lt, if◌then◌else◌}
 use Rattle.domains.specs.declared.Value.{Value}
 use Rattle.domains.specs.declared.Value.TheVariants.{Truth, Whole, Symbol}
 
@@ -20,3 +20,7 @@ abbrev pub is_before : Value → Value → Bool
 is_before a b =
     if nat_lt (rank_of a) (rank_of b) then true
     else (if nat_lt (rank_of b) (rank_of a) then false else int_lt (number_of a) (number_of b))
+
+-- each value comes before all later ones
+abbrev pub IsAscending : List Value → Type 0
+IsAscending values = AllPairs (λ a b. is_before a b ≡ true) values

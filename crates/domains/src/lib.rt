@@ -1,11 +1,13 @@
 //! Values, the domains that variables have, and clamped arithmetic.
 #![tactic(auto)]
 
-ghost use Rattle.std.specs.Prelude.{◌≡◌, ◌<◌, ◌≤◌, ◌↔◌, ℕ, IsTrue, Contains, IfSome, IfNone, count_by, nat_lt, length, ◌+ℤ◌, ◌-ℤ◌, ◌*ℤ◌};
+ghost use Rattle.std.specs.Prelude.{true, false, ◌≡◌, ◌<◌, ◌≤◌, ◌↔◌, ◌≢◌, ◌==◌, ℕ, IsTrue, IsSome, IfSome, IfNone, Contains, find, count_by, nat_lt, length, ◌+ℤ◌, ◌-ℤ◌, ◌*ℤ◌};
 ghost use Rattle.std.specs.Int.{saturate_signed, w64};
+ghost use Rattle.domains.specs.Domains.{IsDomain, Holds, IsAt, HasMore, values_of};
+ghost use Rattle.domains.specs.Values.{is_before};
 ghost use Rattle.domains.specs.declared.Value.{Value};
-ghost use Rattle.domains.specs.declared.Value.TheVariants.{Symbol};
-ghost use Rattle.domains.specs.Domains.{IsDomain, Holds, IsAt, HasMore};
+ghost use Rattle.domains.specs.declared.Value.TheVariants.{Truth};
+ghost use Rattle.domains.specs.declared.Domain.{Domain};
 
 /// A truth value, a whole number, or a symbol by its number.
 ///
@@ -18,6 +20,15 @@ pub enum Value {
     Symbol(u32),
 }
 
+impl Default for Value {
+    /// False, which fills unused places of short lists.
+    fn default() -> Value
+        ensures { result ≡ Truth false }
+    {
+        Value::Truth(false)
+    }
+}
+
 /// The values that a variable may have: at least one and at most 256 of them.
 ///
 /// The symbols stand in the order in which they were declared, none of them twice.
@@ -27,4 +38,124 @@ pub enum Domain {
     Boolean,
     Symbols(Vec<u32>),
     Range(i64, i64),
+}
+
+/// The sum of two numbers; a result that is too small or too large becomes the least or the greatest `i64`.
+pub fn add(a: i64, b: i64) -> i64
+    ensures { result ≡ saturate_signed w64 (a +ℤ b) }
+{
+    a.saturating_add(b)
+}
+
+/// The first number less the second, clamped likewise.
+pub fn subtract(a: i64, b: i64) -> i64
+    ensures { result ≡ saturate_signed w64 (a -ℤ b) }
+{
+    a.saturating_sub(b)
+}
+
+/// The product of two numbers, clamped likewise.
+pub fn multiply(a: i64, b: i64) -> i64
+    ensures { result ≡ saturate_signed w64 (a *ℤ b) }
+{
+    a.saturating_mul(b)
+}
+
+/// The laws of domains: a value has one position and a position one value, positions follow the order of values, and
+/// what a domain holds is what stands in the list of its values.
+pub fn domain_laws()
+    ensures one_position { (d : Domain) (v : Value) (p q : ℕ) → IsAt d v p → IsAt d v q → p ≡ q }
+    ensures one_value { (d : Domain) (v w : Value) (p : ℕ) → IsDomain d → Holds d v → Holds d w → IsAt d v p → IsAt d w p → v ≡ w }
+    ensures in_order { (d : Domain) (v w : Value) (p q : ℕ) → Holds d v → Holds d w → IsAt d v p → IsAt d w q → is_before v w ≡ true → p < q }
+    ensures listed { (d : Domain) (v : Value) → IsDomain d → Holds d v ↔ Contains (values_of d) v }
+{}
+
+impl Domain {
+    /// Whether the domain has the value.
+    pub fn holds(&self, value: Value) -> bool
+        requires { IsDomain self.now }
+        ensures { IsTrue result ↔ Holds self.now value }
+    {
+        match (self, value) {
+            (Domain::Boolean, Value::Truth(_)) => true,
+            (Domain::Symbols(symbols), Value::Symbol(s)) => symbols.contains(&s),
+            (Domain::Range(low, high), Value::Whole(n)) => *low <= n && n <= *high,
+            _ => false,
+        }
+    }
+
+    /// How many values of the domain come before this one in the order of values, or None where the domain does not
+    /// have it.
+    pub fn position(&self, value: Value) -> Option<u32>
+        requires { IsDomain self.now }
+        ensures found { IfSome result (IsAt self.now value) }
+        ensures variant { IsSome result ↔ Holds self.now value }
+    {
+        if !self.holds(value) {
+            return None;
+        }
+        match (self, value) {
+            (Domain::Boolean, Value::Truth(b)) => Some(u32::from(b)),
+            (Domain::Symbols(symbols), Value::Symbol(s)) => Some(count_below(symbols, s)),
+            (Domain::Range(low, _), Value::Whole(n)) => Some((n - *low) as u32),
+            _ => None,
+        }
+    }
+
+    /// The value before which so many values of the domain come, or None where the domain does not have more.
+    pub fn value_at(&self, position: u32) -> Option<Value>
+        requires { IsDomain self.now }
+        ensures found { IfSome result (λ v. Holds self.now v × IsAt self.now v position) }
+        ensures variant { IsSome result ↔ HasMore self.now position }
+    {
+        match self {
+            Domain::Boolean => match position {
+                0 => Some(Value::Truth(false)),
+                1 => Some(Value::Truth(true)),
+                _ => None,
+            },
+            Domain::Symbols(symbols) => symbol_at(symbols, position).map(Value::Symbol),
+            Domain::Range(low, high) => {
+                if i64::from(position) <= *high - *low {
+                    Some(Value::Whole(*low + i64::from(position)))
+                } else {
+                    None
+                }
+            }
+        }
+    }
+}
+
+// The symbol that has so many symbols below it.
+fn symbol_at(symbols: &[u32], position: u32) -> Option<u32>
+    requires { length symbols.now ≤ 256 }
+    ensures found { IfSome result (λ s. Contains symbols.now s × (count_by (λ x. nat_lt x s) symbols.now ≡ position)) }
+    ensures none { IfNone result ((s : ℕ) → Contains symbols.now s → count_by (λ x. nat_lt x s) symbols.now ≢ position) }
+{
+    // symbols that ascend stand at their positions
+    if let Some(s) = symbols.get(position as usize) {
+        if count_below(symbols, *s) == position {
+            return Some(*s);
+        }
+    }
+    first_ranked(symbols, position)
+}
+
+// The first symbol that has so many symbols below it.
+fn first_ranked(symbols: &[u32], position: u32) -> Option<u32>
+    requires { length symbols.now ≤ 256 }
+    ensures { result ≡ find (λ s. count_by (λ x. nat_lt x s) symbols.now == position) symbols.now }
+{
+    symbols
+        .iter()
+        .copied()
+        .find(|s| count_below(symbols, *s) == position)
+}
+
+// How many symbols are below this one.
+fn count_below(symbols: &[u32], s: u32) -> u32
+    requires { length symbols.now ≤ 256 }
+    ensures { result ≡ count_by (λ x. nat_lt x s) symbols.now }
+{
+    symbols.iter().filter(|x| **x < s).count() as u32
 }

@@ -1,0 +1,9 @@
+use Rattle.std.proofs.Common.{◌≡◌, ℕ, ◌<◌, ◌≤◌, ◌-◌, length, get_or, true}
+use Rattle.std.specs.Char.{is_ascii_digit}
+use Rattle.ar_lexer.proofs.runs.digits_len.Given as goal
+
+abbrev pub invariant-loop-n : goal.invariant-loop-n
+invariant-loop-n l = (l.n ≤ length l.bytes) × ((k : ℕ) → k < l.n → is_ascii_digit (get_or l.bytes k 0) ≡ true)
+
+abbrev pub decreases-loop-n : goal.decreases-loop-n
+decreases-loop-n l = length l.bytes - l.n

@@ -1,0 +1,4 @@
+pub mod Members
+pub mod Order
+mod Ranks
+pub mod Domains

@@ -1,2 +1,5 @@
+mod Putting
+mod Folding
+mod Gathering
 pub mod Renaming
 pub mod Facts

@@ -3,6 +3,12 @@
 
 mod env;
 mod expr;
+mod fold;
+mod sets;
+mod total;
+mod value_set;
 
 pub use env::Env;
 pub use expr::{Expr, Relation, ValueKind};
+pub use total::eval_total;
+pub use value_set::ValueSet;

@@ -25,7 +25,7 @@ pub record Condition_there {V W : Type 0} (same : V → W → Type 0) (fs : List
   pub stands : Stands fs n (expr, b)
   pub renames : Renames same (out-Expr V e) (out-Expr W expr)
 
-condition_there : {V W : Type 0} {same : V → W → Type 0} {es : List (Expr V × Bool)} {fs : List (Expr W × Bool)} → Conditions_rename same es fs → (n : ℕ) (e : Expr V) (b : Bool) → Stands es n (e, b) → Condition_there same fs n e b
+pub condition_there : {V W : Type 0} {same : V → W → Type 0} {es : List (Expr V × Bool)} {fs : List (Expr W × Bool)} → Conditions_rename same es fs → (n : ℕ) (e : Expr V) (b : Bool) → Stands es n (e, b) → Condition_there same fs n e b
 condition_there i.none n e b s = cc
 condition_there {V = V} {W = W} {same = same} (i.one_and {e = d} {f = f} {b = c} {fs = fs} q qs) zero e b s =
     let p : ◌≡◌ {A = Expr V × Bool} (d, c) (e, b) = cc in

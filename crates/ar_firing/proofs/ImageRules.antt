@@ -4,14 +4,19 @@ use Rattle.ar_base.specs.Lists.{Stands}
 use Rattle.ar_base.proofs.Standing.{stands_one}
 use Rattle.domains.specs.declared.Value.{Value}
 use Rattle.typed_expr.specs.Pairs.{turned}
-use Rattle.ar_meaning.specs.Systems.{Variable, Transition, Way, Joint, Branches, System}
+use Rattle.typed_expr.specs.Yields.{Level}
+use Rattle.typed_expr.specs.Renames.{Renames}
+use Rattle.typed_expr.specs.Possible.{IsWide}
+use Rattle.ar_meaning.specs.Facts.{Allows}
+use Rattle.ar_meaning.specs.Systems.{Assign, Variable, Transition, Way, Joint, Branches, System}
 use Rattle.ar_meaning.specs.Runs.{Label, IsWay}
-use Rattle.ar_meaning.specs.Image.{Variable_renames, Way_renames, leaves, joints, IsImage}
+use Rattle.ar_meaning.specs.Image.{Assign_renames, Variable_renames, Way_renames, leaves, joints, IsImage}
 use Rattle.ar_meaning.proofs.ImageTurned.{image_turned, way_turned}
-use Rattle.ar_meaning.proofs.ImageFlows.{partner}
+use Rattle.ar_meaning.proofs.ImageFlows.{allows_there, partner}
 use Rattle.ar_firing.specs.Fragment.{IsKept, IsModeOf, IsLive}
-use Rattle.ar_firing.specs.Rules.{IsTransition, transition, KeepsS1, BreaksS1, KeepsS2, BreaksS2, HasModeVariable, KeepsS3, BreaksS3, IsLiveAt, GivesOther, nothing, two, outside, KeepsS4, BreaksS4, names, gives, KeepsS5, HasLive, BreaksS5, KeepsS6, BreaksS6, stays, by_events, by_edges, initial, KeepsS8, BreaksS8}
-use Rattle.ar_firing.proofs.ImageModes.{guard_there, action_there, kept_there, transitions_there, is_mode_there, can_at_there, effects_at_there, effects_at_back, reached_there, live_there}
+use Rattle.ar_firing.specs.Rules.{IsTransition, transition, KeepsS1, BreaksS1, KeepsS2, BreaksS2, HasModeVariable, KeepsS3, BreaksS3, IsLiveAt, GivesOther, nothing, two, outside, KeepsS4, BreaksS4, names, gives, KeepsS5, HasLive, BreaksS5, KeepsS6, BreaksS6, stays, by_events, by_edges, initial, AssignIsWide, by_value, by_condition, KeepsS7, BreaksS7, ObserverBreaksS7, KeepsS8, BreaksS8, Spot, Rule, S1, S2, S3, S4, S5, S6, S7, S8, Breaks, s1, s2, s3, s4, s5, s6, s7, s7_observer, s8, Keeps, IsFirstBroken, KeepsAll}
+use Rattle.ar_firing.proofs.Widths.{wide_there}
+use Rattle.ar_firing.proofs.ImageModes.{condition_there, guard_there, action_there, kept_there, transitions_there, is_mode_there, can_at_there, effects_at_there, effects_at_back, reached_there, live_there}
 
 transition_there : {V W : Type 0} {same : V → W → Type 0} {v : Way V} {w : Way W} → Way_renames same v w → IsTransition v → IsTransition w
 transition_there (leaves q) transition = transition
@@ -148,6 +153,41 @@ module _ {V W : Type 0} (same : V → W → Type 0) (here : System V) (there : S
     pub breaks_s8_there : BreaksS8 here dropped → BreaksS8 there dropped
     breaks_s8_there b = record { events = b.events; differ = b.differ; many = b.many; live = λ k e s. let h = b.live k e s in record { number = h.number; live = has_live_there e h.number h.live } }
 
+-- the possible values
+module _ {V W : Type 0} (same : V → W → Type 0) (here : System V) (there : System W) (image : IsImage same here there) where
+  wide : {e : Level V} {f : Level W} → Renames same e f → IsWide (Allows here.net) 64 e → IsWide (Allows there.net) 64 f
+  wide q h = wide_there same (Allows here.net) (Allows there.net) (λ x y v s a. allows_there same here.net there.net image.net x y v s a) q h
+
+  assign_wide : {a : Assign V} {b : Assign W} → Assign_renames same a b → AssignIsWide here.net a → AssignIsWide there.net b
+  assign_wide q (by_value h) = by_value (wide q.value h)
+  assign_wide q (by_condition {e = e} {b = b} o h) =
+      let c = condition_there q.conditions o.place e b o.stands in by_condition (record { place = o.place; stands = c.stands }) (wide c.renames h)
+
+  pub breaks_s7_there : (n : ℕ) → BreaksS7 here n → BreaksS7 there n
+  breaks_s7_there n b =
+      let p = partner image.net.variables n b.variable b.stands in
+      let a = partner image.net.assertions b.is_one.place b.assign b.is_one.stands in
+      record {
+        variable = p.item;
+        stands = p.stands;
+        assign = a.item;
+        is_one = record { place = b.is_one.place; stands = a.stands };
+        is_target = image.net.one b.variable.key a.item.target p.item.key (subst (λ z. same z a.item.target) b.is_target a.related.target) p.related.key;
+        wide = assign_wide a.related b.wide;
+      }
+
+  pub observer_breaks_s7_there : (n : ℕ) → ObserverBreaksS7 here n → ObserverBreaksS7 there n
+  observer_breaks_s7_there n b = let p = partner image.observers n b.observer b.stands in record { observer = p.item; stands = p.stands; wide = wide p.related.renames b.wide }
+
+module _ {V W : Type 0} (same : V → W → Type 0) (here : System V) (there : System W) (image : IsImage same here there) where
+  pub keeps_s7_there : KeepsS7 here → KeepsS7 there
+  keeps_s7_there k =
+      let behind = image_turned same image in
+      record {
+        assignments = λ j b s h. let a = partner behind.net.assertions j b s in k.assignments j a.item a.stands (assign_wide (turned same) there here behind a.related h);
+        observers = λ j f s h. let e = partner behind.observers j f s in k.observers j e.item e.stands (wide (turned same) there here behind e.related.renames h);
+      }
+
 -- both ways
 module _ {V W : Type 0} (same : V → W → Type 0) (here : System V) (there : System W) (image : IsImage same here there) (dropped : List ℕ) where
   live_back : {l : Label} {n : ℕ} {from to : Value} → IsLive there dropped l n from to → IsLive here dropped l n from to
@@ -228,3 +268,35 @@ module _ {V W : Type 0} (same : V → W → Type 0) (here : System V) (there : S
     few = k.few;
     whole = λ e h. k.whole e (record { number = h.number; live = has_live_there (turned same) there here (image_turned same image) dropped e h.number h.live });
   }
+
+  pub breaks_there : {rule : Rule} {spot : Spot} → Breaks here dropped rule spot → Breaks there dropped rule spot
+  breaks_there (s1 {n = n} b) = s1 (breaks_s1_there same here there image n b)
+  breaks_there (s2 {n = n} b) = s2 (breaks_s2_there same here there image dropped n b)
+  breaks_there (s3 {n = n} b) = s3 (breaks_s3_there same here there image dropped n b)
+  breaks_there (s4 {n = n} b) = s4 (breaks_s4_there same here there image dropped n b)
+  breaks_there (s5 {n = n} b) = s5 (breaks_s5_there n b)
+  breaks_there (s6 {n = n} b) = s6 (breaks_s6_there same here there image dropped n b)
+  breaks_there (s7 {n = n} b) = s7 (breaks_s7_there same here there image n b)
+  breaks_there (s7_observer {n = n} b) = s7_observer (observer_breaks_s7_there same here there image n b)
+  breaks_there (s8 b) = s8 (breaks_s8_there same here there image dropped b)
+
+  pub keeps_there : (rule : Rule) → Keeps here dropped rule → Keeps there dropped rule
+  keeps_there S1 k = keeps_s1_there same here there image k
+  keeps_there S2 k = keeps_s2_there same here there image dropped k
+  keeps_there S3 k = keeps_s3_there k
+  keeps_there S4 k = keeps_s4_there k
+  keeps_there S5 k = keeps_s5_there k
+  keeps_there S6 k = keeps_s6_there k
+  keeps_there S7 k = keeps_s7_there same here there image k
+  keeps_there S8 k = keeps_s8_there k
+
+module _ {V W : Type 0} (same : V → W → Type 0) (here : System V) (there : System W) (image : IsImage same here there) (dropped : List ℕ) where
+  pub first_broken_there : {rule : Rule} {spot : Spot} → IsFirstBroken here dropped rule spot → IsFirstBroken there dropped rule spot
+  first_broken_there h = record {
+    breaks = breaks_there same here there image dropped h.breaks;
+    lesser_kept = λ r l. keeps_there same here there image dropped r (h.lesser_kept r l);
+    is_first = λ o l b. h.is_first o l (breaks_there (turned same) there here (image_turned same image) dropped b);
+  }
+
+  pub keeps_all_there : KeepsAll here dropped → KeepsAll there dropped
+  keeps_all_there k = record { each = λ r. keeps_there same here there image dropped r (k.each r) }

@@ -19,3 +19,4 @@ pub mod ImageModes
 pub mod ImageRules
 pub mod ModesOfSets
 pub mod TreeEdges
+pub mod Widths

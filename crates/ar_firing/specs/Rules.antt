@@ -1,8 +1,11 @@
 -- The rules of the static fragment, each in two ways: that it is kept, and that it is broken by what it is shown with.
-use Rattle.std.specs.Prelude.{◌≡◌, ◌<◌, ◌≤◌, ℕ, List, Contains, length}
+use Rattle.std.specs.Prelude.{◌≡◌, ◌<◌, ◌≤◌, ℕ, Bool, List, Contains, length}
 use Rattle.ar_base.specs.Lists.{Stands, IsOneOf, HasNo, AreDifferent}
 use Rattle.domains.specs.declared.Value.{Value}
-use Rattle.ar_meaning.specs.Systems.{Variable, Transition, Way, Leaf, Joint, Branches, Event, System}
+use Rattle.typed_expr.specs.Possible.{IsWide}
+use Rattle.typed_expr.specs.declared.expr.Expr.{Expr, out-Expr}
+use Rattle.ar_meaning.specs.Systems.{Assign, Variable, Net, Transition, Way, Leaf, Joint, Branches, Event, System}
+use Rattle.ar_meaning.specs.Facts.{Allows}
 use Rattle.ar_meaning.specs.Ways.{Can, Effects}
 use Rattle.ar_meaning.specs.Runs.{Label, IsWay}
 use Rattle.ar_firing.specs.Fragment.{Guard_names, Action_names, IsKept, IsOpen, IsStateOf, IsModeOf, At, IsReached, IsLive}
@@ -136,6 +139,31 @@ pub data BreaksS6 {V : Type 0} (sys : System V) (dropped : List ℕ) (n : ℕ) :
   by_edges : (k l : Label) (u v x : Value) → IsLive sys dropped k n u x → IsLive sys dropped l n v x → k.event ≡ l.event → AreTwo k l n n u v → BreaksS6 sys dropped n
   initial : (l : Label) (u : Value) (x : Variable V) → Stands sys.net.variables n x → IsLive sys dropped l n u x.value → BreaksS6 sys dropped n
 
+-- S7: each subexpression, and each step of a fold, of an observer and of the expression and conditions of an assertion's assignment has at most 64 possible values.
+-- Shown with the flow assigned, or with the observer
+
+-- the assignment's expression or one of its conditions has more than 64 possible values in some part, where each variable may have each value of its domain
+pub data AssignIsWide {V : Type 0} (net : Net V) (a : Assign V) : Type 0 where
+  by_value : IsWide (Allows net) 64 (out-Expr V a.value) → AssignIsWide net a
+  by_condition : {e : Expr V} {b : Bool} → IsOneOf a.conditions (e, b) → IsWide (Allows net) 64 (out-Expr V e) → AssignIsWide net a
+
+pub record KeepsS7 {V : Type 0} (sys : System V) : Type 0 where
+  pub assignments : (k : ℕ) (a : Assign V) → Stands sys.net.assertions k a → AssignIsWide sys.net a → ⊥
+  pub observers : (k : ℕ) (e : Expr V) → Stands sys.observers k e → IsWide (Allows sys.net) 64 (out-Expr V e) → ⊥
+
+pub record BreaksS7 {V : Type 0} (sys : System V) (n : ℕ) : Type 0 where
+  pub variable : Variable V
+  pub stands : Stands sys.net.variables n variable
+  pub assign : Assign V
+  pub is_one : IsOneOf sys.net.assertions assign
+  pub is_target : assign.target ≡ variable.key
+  pub wide : AssignIsWide sys.net assign
+
+pub record ObserverBreaksS7 {V : Type 0} (sys : System V) (k : ℕ) : Type 0 where
+  pub observer : Expr V
+  pub stands : Stands sys.observers k observer
+  pub wide : IsWide (Allows sys.net) 64 (out-Expr V observer)
+
 -- S8: at most 2,048 events have a live edge. Shown with the whole model
 
 -- some mode variable has a live edge of the event
@@ -153,3 +181,67 @@ pub record BreaksS8 {V : Type 0} (sys : System V) (dropped : List ℕ) : Type 0 
   pub differ : AreDifferent events
   pub live : (k e : ℕ) → Stands events k e → IsLiveEvent sys dropped e
   pub many : 2048 < length events
+
+-- what a broken rule is shown with: an event, a unit, a variable or an observer, by number, or the whole model
+pub data Spot : Type 0 where
+  AtEvent : (number : ℕ) → Spot
+  AtUnit : (number : ℕ) → Spot
+  AtVariable : (number : ℕ) → Spot
+  AtObserver : (number : ℕ) → Spot
+  AtWhole : Spot
+
+-- the first is shown before the second: by number, and variables before observers
+pub data IsShownBefore : Spot → Spot → Type 0 where
+  events : {m n : ℕ} → m < n → IsShownBefore (AtEvent m) (AtEvent n)
+  units : {m n : ℕ} → m < n → IsShownBefore (AtUnit m) (AtUnit n)
+  variables : {m n : ℕ} → m < n → IsShownBefore (AtVariable m) (AtVariable n)
+  observers : {m n : ℕ} → m < n → IsShownBefore (AtObserver m) (AtObserver n)
+  variable_first : {m n : ℕ} → IsShownBefore (AtVariable m) (AtObserver n)
+
+-- the rules by number
+pub data Rule : Type 0 where
+  S1 S2 S3 S4 S5 S6 S7 S8 : Rule
+
+-- a rule is broken, shown with this
+pub data Breaks {V : Type 0} (sys : System V) (dropped : List ℕ) : Rule → Spot → Type 0 where
+  s1 : {n : ℕ} → BreaksS1 sys n → Breaks sys dropped S1 (AtEvent n)
+  s2 : {n : ℕ} → BreaksS2 sys dropped n → Breaks sys dropped S2 (AtUnit n)
+  s3 : {n : ℕ} → BreaksS3 sys dropped n → Breaks sys dropped S3 (AtVariable n)
+  s4 : {n : ℕ} → BreaksS4 sys dropped n → Breaks sys dropped S4 (AtVariable n)
+  s5 : {n : ℕ} → BreaksS5 sys dropped n → Breaks sys dropped S5 (AtVariable n)
+  s6 : {n : ℕ} → BreaksS6 sys dropped n → Breaks sys dropped S6 (AtVariable n)
+  s7 : {n : ℕ} → BreaksS7 sys n → Breaks sys dropped S7 (AtVariable n)
+  s7_observer : {n : ℕ} → ObserverBreaksS7 sys n → Breaks sys dropped S7 (AtObserver n)
+  s8 : BreaksS8 sys dropped → Breaks sys dropped S8 AtWhole
+
+-- the rule is kept
+abbrev pub Keeps : {V : Type 0} → System V → List ℕ → Rule → Type 0
+Keeps sys dropped S1 = KeepsS1 sys
+Keeps sys dropped S2 = KeepsS2 sys dropped
+Keeps sys dropped S3 = KeepsS3 sys dropped
+Keeps sys dropped S4 = KeepsS4 sys dropped
+Keeps sys dropped S5 = KeepsS5 sys dropped
+Keeps sys dropped S6 = KeepsS6 sys dropped
+Keeps sys dropped S7 = KeepsS7 sys
+Keeps sys dropped S8 = KeepsS8 sys dropped
+
+-- the number of a rule
+abbrev pub number_of : Rule → ℕ
+number_of S1 = 1
+number_of S2 = 2
+number_of S3 = 3
+number_of S4 = 4
+number_of S5 = 5
+number_of S6 = 6
+number_of S7 = 7
+number_of S8 = 8
+
+-- the least rule that is broken, with the first that it is shown with
+pub record IsFirstBroken {V : Type 0} (sys : System V) (dropped : List ℕ) (rule : Rule) (spot : Spot) : Type 0 where
+  pub breaks : Breaks sys dropped rule spot
+  pub lesser_kept : (lesser : Rule) → number_of lesser < number_of rule → Keeps sys dropped lesser
+  pub is_first : (other : Spot) → IsShownBefore other spot → Breaks sys dropped rule other → ⊥
+
+-- every rule is kept
+pub record KeepsAll {V : Type 0} (sys : System V) (dropped : List ℕ) : Type 0 where
+  pub each : (rule : Rule) → Keeps sys dropped rule

@@ -9,7 +9,7 @@ ghost use Rattle.ar_meaning.specs.Runs.{Label};
 ghost use Rattle.ar_meaning.specs.Image.{Expr_renames, IsImage};
 ghost use Rattle.ar_firing.specs.Cuts.{Reaches, Conflicts, Makes, Cut, ConflictSet, IsFirable};
 ghost use Rattle.ar_firing.specs.Forest.{ModeTree, IsForest, IsLine};
-ghost use Rattle.ar_firing.specs.Rules.{KeepsS1, BreaksS1, KeepsS2, BreaksS2, KeepsS3, BreaksS3, KeepsS4, BreaksS4, KeepsS5, BreaksS5, KeepsS6, BreaksS6, KeepsS8, BreaksS8};
+ghost use Rattle.ar_firing.specs.Rules.{Rule, Spot, Keeps, Breaks, IsFirstBroken, KeepsAll};
 
 /// A system and its image have the same orders that fire without fault, conflicts, sets that make a value, cuts and conflict sets.
 pub fn image_cuts<V, W>()
@@ -37,32 +37,12 @@ pub fn image_forests<V, W>()
 
 /// A system and its image keep and break the same rules of the static fragment, by the same numbers.
 pub fn image_rules<V, W>()
-    ensures keeps_s1 { (same : V → W → Bool) (here : System V) (there : System W) → IsImage (λ x y. IsTrue (same x y)) here there
-        → (KeepsS1 here ↔ KeepsS1 there) }
-    ensures breaks_s1 { (same : V → W → Bool) (here : System V) (there : System W) → IsImage (λ x y. IsTrue (same x y)) here there
-        → (event : ℕ) → (BreaksS1 here event ↔ BreaksS1 there event) }
-    ensures keeps_s2 { (same : V → W → Bool) (here : System V) (there : System W) → IsImage (λ x y. IsTrue (same x y)) here there
-        → (dropped : List ℕ) → (KeepsS2 here dropped ↔ KeepsS2 there dropped) }
-    ensures breaks_s2 { (same : V → W → Bool) (here : System V) (there : System W) → IsImage (λ x y. IsTrue (same x y)) here there
-        → (dropped : List ℕ) (unit : ℕ) → (BreaksS2 here dropped unit ↔ BreaksS2 there dropped unit) }
-    ensures keeps_s3 { (same : V → W → Bool) (here : System V) (there : System W) → IsImage (λ x y. IsTrue (same x y)) here there
-        → (dropped : List ℕ) → (KeepsS3 here dropped ↔ KeepsS3 there dropped) }
-    ensures breaks_s3 { (same : V → W → Bool) (here : System V) (there : System W) → IsImage (λ x y. IsTrue (same x y)) here there
-        → (dropped : List ℕ) (variable : ℕ) → (BreaksS3 here dropped variable ↔ BreaksS3 there dropped variable) }
-    ensures keeps_s4 { (same : V → W → Bool) (here : System V) (there : System W) → IsImage (λ x y. IsTrue (same x y)) here there
-        → (dropped : List ℕ) → (KeepsS4 here dropped ↔ KeepsS4 there dropped) }
-    ensures breaks_s4 { (same : V → W → Bool) (here : System V) (there : System W) → IsImage (λ x y. IsTrue (same x y)) here there
-        → (dropped : List ℕ) (variable : ℕ) → (BreaksS4 here dropped variable ↔ BreaksS4 there dropped variable) }
-    ensures keeps_s5 { (same : V → W → Bool) (here : System V) (there : System W) → IsImage (λ x y. IsTrue (same x y)) here there
-        → (dropped : List ℕ) → (KeepsS5 here dropped ↔ KeepsS5 there dropped) }
-    ensures breaks_s5 { (same : V → W → Bool) (here : System V) (there : System W) → IsImage (λ x y. IsTrue (same x y)) here there
-        → (dropped : List ℕ) (variable : ℕ) → (BreaksS5 here dropped variable ↔ BreaksS5 there dropped variable) }
-    ensures keeps_s6 { (same : V → W → Bool) (here : System V) (there : System W) → IsImage (λ x y. IsTrue (same x y)) here there
-        → (dropped : List ℕ) → (KeepsS6 here dropped ↔ KeepsS6 there dropped) }
-    ensures breaks_s6 { (same : V → W → Bool) (here : System V) (there : System W) → IsImage (λ x y. IsTrue (same x y)) here there
-        → (dropped : List ℕ) (variable : ℕ) → (BreaksS6 here dropped variable ↔ BreaksS6 there dropped variable) }
-    ensures keeps_s8 { (same : V → W → Bool) (here : System V) (there : System W) → IsImage (λ x y. IsTrue (same x y)) here there
-        → (dropped : List ℕ) → (KeepsS8 here dropped ↔ KeepsS8 there dropped) }
-    ensures breaks_s8 { (same : V → W → Bool) (here : System V) (there : System W) → IsImage (λ x y. IsTrue (same x y)) here there
-        → (dropped : List ℕ) → (BreaksS8 here dropped ↔ BreaksS8 there dropped) }
+    ensures keeps { (same : V → W → Bool) (here : System V) (there : System W) → IsImage (λ x y. IsTrue (same x y)) here there
+        → (dropped : List ℕ) (rule : Rule) → (Keeps here dropped rule ↔ Keeps there dropped rule) }
+    ensures breaks { (same : V → W → Bool) (here : System V) (there : System W) → IsImage (λ x y. IsTrue (same x y)) here there
+        → (dropped : List ℕ) (rule : Rule) (spot : Spot) → (Breaks here dropped rule spot ↔ Breaks there dropped rule spot) }
+    ensures first_broken { (same : V → W → Bool) (here : System V) (there : System W) → IsImage (λ x y. IsTrue (same x y)) here there
+        → (dropped : List ℕ) (rule : Rule) (spot : Spot) → (IsFirstBroken here dropped rule spot ↔ IsFirstBroken there dropped rule spot) }
+    ensures all { (same : V → W → Bool) (here : System V) (there : System W) → IsImage (λ x y. IsTrue (same x y)) here there
+        → (dropped : List ℕ) → (KeepsAll here dropped ↔ KeepsAll there dropped) }
 {}

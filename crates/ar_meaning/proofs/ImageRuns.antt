@@ -4,7 +4,7 @@ use Rattle.ar_base.specs.Lists.{Stands, Along, IsFirst}
 use Rattle.ar_base.specs.Lists as l
 use Rattle.ar_base.proofs.Standing.{stands_one}
 use Rattle.ar_meaning.specs.Systems.{Variable, System, Event, Transition, Way, Branches, Joint, Branch}
-use Rattle.ar_meaning.specs.Expand.{Declared, Member, Ways, event, Members_give, no_member, one, synchronises, Parts_give, no_part, choice, choices, AreKeyed}
+use Rattle.ar_meaning.specs.Expand.{Declared, Member, Ways, event, Members_give, no_member, one, synchronises, Parts_give, no_part, choice, choices, AreKeyed, IsExpanded}
 use Rattle.ar_meaning.specs.ExpandImage.{Part_renames, Member_renames, transitions, synchronise, Declared_renames}
 use Rattle.ar_meaning.specs.Image.{Way_renames, leaves, joints, Branches_rename, branch, Variable_renames, Event_renames, IsImage}
 use Rattle.ar_meaning.specs.Image as i
@@ -57,6 +57,13 @@ module _ {V W E F : Type 0} (same : V → W → Type 0) (event_same : E → F �
     parts_there l.none no_part no_part = l.one_and i.no_branch l.none
     parts_there (l.one_and r rs) (choice {must = m} {ts = vs} {bss = bss} w p) (choice {ts = ws} {bss = css} w' p') =
         subst (λ k. Along (Branches_rename same) (choices m vs bss) (choices k ws css)) r.must (choices_there same m (ways_there r.key w w') (parts_there rs p p'))
+
+  -- and systems' events that differ in what stands for variables
+  pub events_there : {ds' : List (Declared (Transition V) E)} {es' : List (Declared (Transition W) F)} {vs : List (Event V)} {ws : List (Event W)} → Along (Declared_renames same event_same) ds' es'
+      → Along (IsExpanded ds) ds' vs → Along (IsExpanded es) es' ws → Along (Event_renames same) vs ws
+  events_there l.none l.none l.none = l.none
+  events_there (l.one_and r rs) (l.one_and v vs) (l.one_and w ws) =
+      l.one_and (record { unit = sym v.unit ∙ (r.unit ∙ w.unit); hidden = sym v.hidden ∙ (r.hidden ∙ w.hidden); ways = ways_there r.key v.ways w.ways }) (events_there rs vs ws)
 
 module _ {V W : Type 0} (same : V → W → Type 0) (A : System V) (B : System W) (image : IsImage same A B) where
   pub ways_listed_there : (t : List Value) {vs : List (Way V)} {ws : List (Way W)} {e k : ℕ} {ls : List Label} → Along (Way_renames same) vs ws

@@ -7,7 +7,7 @@ use Rattle.domains.specs.declared.Value.TheVariants.{Truth, Symbol}
 use Rattle.typed_expr.specs.declared.expr.Relation.TheVariants.{Equal}
 use Rattle.typed_expr.specs.declared.expr.Expr.{Expr, out-Expr}
 use Rattle.typed_expr.specs.declared.expr.Expr.TheOpen as form
-use Rattle.ar_meaning.specs.Systems.{Assign, Variable, Transition, Tree, Way, Leaf, Joint, Empty, Branch, Net}
+use Rattle.ar_meaning.specs.Systems.{Assign, Variable, Way, Leaf, Joint, Empty, Branch, Net}
 
 -- the two truth values, and two symbols
 abbrev pub truths : List Value

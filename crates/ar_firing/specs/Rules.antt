@@ -13,12 +13,15 @@ use Rattle.ar_firing.specs.Forest.{HasTransitions}
 
 -- S1: no event has a synchronised way. Shown with the event
 
+-- the way is a transition, and no synchronised way
 pub data IsTransition {V : Type 0} : Way V → Type 0 where
   transition : {d : Transition V} → IsTransition (Leaf d)
 
+-- every way is a transition
 pub record KeepsS1 {V : Type 0} (sys : System V) : Type 0 where
   pub each : (l : Label) (w : Way V) → IsWay sys l w → IsTransition w
 
+-- this event has a synchronised way
 pub record BreaksS1 {V : Type 0} (sys : System V) (e : ℕ) : Type 0 where
   pub event : Event V
   pub stands : Stands sys.events e event
@@ -27,15 +30,18 @@ pub record BreaksS1 {V : Type 0} (sys : System V) (e : ℕ) : Type 0 where
 
 -- S2: a unit with transitions has a state variable. Shown with the unit
 
+-- the unit has a state variable
 pub record HasState {V : Type 0} (sys : System V) (unit : ℕ) : Type 0 where
   pub number : ℕ
   pub variable : Variable V
   pub stands : Stands sys.net.variables number variable
   pub is_state : IsStateOf unit variable
 
+-- every unit with transitions has a state variable
 pub record KeepsS2 {V : Type 0} (sys : System V) (dropped : List ℕ) : Type 0 where
   pub each : (unit : ℕ) → HasTransitions sys dropped unit → HasState sys unit
 
+-- this unit has transitions and no state variable
 pub record BreaksS2 {V : Type 0} (sys : System V) (dropped : List ℕ) (unit : ℕ) : Type 0 where
   pub moves : HasTransitions sys dropped unit
   pub has_none : HasNo sys.net.variables (IsStateOf unit)
@@ -48,15 +54,18 @@ pub record HasModeVariable {V : Type 0} (sys : System V) (dropped : List ℕ) (l
 
 -- S3: the guard of a way of an event that is not dropped names its mode variable alone. Shown with this
 
+-- the way has a mode variable, and its guard names no other variable
 pub record GuardKeeps {V : Type 0} (sys : System V) (dropped : List ℕ) (l : Label) (w : Way V) : Type 0 where
   pub number : ℕ
   pub variable : Variable V
   pub mode : HasModeVariable sys dropped l w number variable
   pub alone : (y : V) → Guard_names y w → y ≡ variable.key
 
+-- every way of an event that is not dropped has a guard that names its mode variable alone
 pub record KeepsS3 {V : Type 0} (sys : System V) (dropped : List ℕ) : Type 0 where
   pub each : (l : Label) (w : Way V) → IsKept sys dropped l w → GuardKeeps sys dropped l w
 
+-- this is the mode variable of a way of an event that is not dropped, and the way's guard names another variable
 pub record BreaksS3 {V : Type 0} (sys : System V) (dropped : List ℕ) (n : ℕ) : Type 0 where
   pub label : Label
   pub way : Way V
@@ -89,10 +98,12 @@ pub data GivesOther (effects : Value → Type 0) (domain : List Value) : Type 0 
   two : (v w : Value) → effects v → effects w → (v ≡ w → ⊥) → GivesOther effects domain
   outside : (v : Value) → effects v → (Contains domain v → ⊥) → GivesOther effects domain
 
+-- the actions name the mode variable alone, and wherever a way is live it gives this one value, of the domain
 pub record KeepsS4 {V : Type 0} (sys : System V) (dropped : List ℕ) : Type 0 where
   pub alone : (l : Label) (w : Way V) (n : ℕ) (x : Variable V) → HasModeVariable sys dropped l w n x → (y : V) → Action_names y w → y ≡ x.key
   pub gives : (l : Label) (w : Way V) (n : ℕ) (x : Variable V) (m : Value) → IsLiveAt sys dropped l w n x m → GivesOne (Effects (At x.key m) w x.key) x.domain
 
+-- this is the mode variable of a way whose action names another variable, or that is live at a mode and does not give it one value of the domain there
 pub data BreaksS4 {V : Type 0} (sys : System V) (dropped : List ℕ) (n : ℕ) : Type 0 where
   names : (l : Label) (w : Way V) (x : Variable V) → HasModeVariable sys dropped l w n x → (y : V) → Action_names y w → (y ≡ x.key → ⊥) → BreaksS4 sys dropped n
   gives : (l : Label) (w : Way V) (x : Variable V) (m : Value) → IsLiveAt sys dropped l w n x m → GivesOther (Effects (At x.key m) w x.key) x.domain → BreaksS4 sys dropped n
@@ -105,6 +116,7 @@ pub data AreTwo (k l : Label) (m n : ℕ) (u v : Value) : Type 0 where
   variables : (m ≡ n → ⊥) → AreTwo k l m n u v
   modes : (u ≡ v → ⊥) → AreTwo k l m n u v
 
+-- two live edges of one event are one
 pub record KeepsS5 {V : Type 0} (sys : System V) (dropped : List ℕ) : Type 0 where
   pub one : (k l : Label) (m n : ℕ) (u v x y : Value) → IsLive sys dropped k m u x → IsLive sys dropped l n v y → k.event ≡ l.event → (k.way ≡ l.way) × (m ≡ n) × (u ≡ v)
 
@@ -116,6 +128,7 @@ pub record HasLive {V : Type 0} (sys : System V) (dropped : List ℕ) (e n : ℕ
   pub to : Value
   pub is_live : IsLive sys dropped label n from to
 
+-- some event has two live edges, and this is the least mode variable of its live edges
 pub record BreaksS5 {V : Type 0} (sys : System V) (dropped : List ℕ) (n : ℕ) : Type 0 where
   pub event : ℕ
   pub first_variable : ℕ
@@ -128,11 +141,13 @@ pub record BreaksS5 {V : Type 0} (sys : System V) (dropped : List ℕ) (n : ℕ)
 
 -- S6: no live edge stays in its mode, no mode is entered by two live edges, and the initial mode by none. Shown with the variable
 
+-- no live edge stays, two live edges that enter one mode are one, and none enters the init value
 pub record KeepsS6 {V : Type 0} (sys : System V) (dropped : List ℕ) : Type 0 where
   pub moves : (l : Label) (n : ℕ) (u v : Value) → IsLive sys dropped l n u v → u ≡ v → ⊥
   pub enters : (k l : Label) (n : ℕ) (u v x : Value) → IsLive sys dropped k n u x → IsLive sys dropped l n v x → (k.event ≡ l.event) × (k.way ≡ l.way) × (u ≡ v)
   pub begins : (l : Label) (n : ℕ) (u : Value) (x : Variable V) → Stands sys.net.variables n x → IsLive sys dropped l n u x.value → ⊥
 
+-- a live edge of this variable stays in its mode, two of them enter one mode, or one enters the init value
 pub data BreaksS6 {V : Type 0} (sys : System V) (dropped : List ℕ) (n : ℕ) : Type 0 where
   stays : (l : Label) (u v : Value) → IsLive sys dropped l n u v → u ≡ v → BreaksS6 sys dropped n
   by_events : (k l : Label) (u v x : Value) → IsLive sys dropped k n u x → IsLive sys dropped l n v x → (k.event ≡ l.event → ⊥) → BreaksS6 sys dropped n
@@ -147,10 +162,12 @@ pub data AssignIsWide {V : Type 0} (net : Net V) (a : Assign V) : Type 0 where
   by_value : IsWide (Allows net) 64 (out-Expr V a.value) → AssignIsWide net a
   by_condition : {e : Expr V} {b : Bool} → IsOneOf a.conditions (e, b) → IsWide (Allows net) 64 (out-Expr V e) → AssignIsWide net a
 
+-- no assignment of an assertion and no observer has too many possible values
 pub record KeepsS7 {V : Type 0} (sys : System V) : Type 0 where
   pub assignments : (k : ℕ) (a : Assign V) → Stands sys.net.assertions k a → AssignIsWide sys.net a → ⊥
   pub observers : (k : ℕ) (e : Expr V) → Stands sys.observers k e → IsWide (Allows sys.net) 64 (out-Expr V e) → ⊥
 
+-- an assignment to this flow has too many possible values
 pub record BreaksS7 {V : Type 0} (sys : System V) (n : ℕ) : Type 0 where
   pub variable : Variable V
   pub stands : Stands sys.net.variables n variable
@@ -159,6 +176,7 @@ pub record BreaksS7 {V : Type 0} (sys : System V) (n : ℕ) : Type 0 where
   pub is_target : assign.target ≡ variable.key
   pub wide : AssignIsWide sys.net assign
 
+-- this observer has too many possible values
 pub record ObserverBreaksS7 {V : Type 0} (sys : System V) (k : ℕ) : Type 0 where
   pub observer : Expr V
   pub stands : Stands sys.observers k observer
@@ -171,11 +189,13 @@ pub record IsLiveEvent {V : Type 0} (sys : System V) (dropped : List ℕ) (e : �
   pub number : ℕ
   pub live : HasLive sys dropped e number
 
+-- the events with a live edge are among at most 2,048
 pub record KeepsS8 {V : Type 0} (sys : System V) (dropped : List ℕ) : Type 0 where
   pub events : List ℕ
   pub whole : (e : ℕ) → IsLiveEvent sys dropped e → IsOneOf events e
   pub few : length events ≤ 2048
 
+-- more than 2,048 different events have a live edge
 pub record BreaksS8 {V : Type 0} (sys : System V) (dropped : List ℕ) : Type 0 where
   pub events : List ℕ
   pub differ : AreDifferent events

@@ -18,9 +18,11 @@ pub fn image_cuts<V, W>()
     ensures conflicts { (same : V → W → Bool) (here : System V) (there : System W) → IsImage (λ x y. IsTrue (same x y)) here there
         → (dropped : List ℕ) (ls : List Label) (f : FlowFault) → (Conflicts here dropped ls f ↔ Conflicts there dropped ls f) }
     ensures makes { (same : V → W → Bool) (here : System V) (there : System W) → IsImage (λ x y. IsTrue (same x y)) here there
-        → (dropped : List ℕ) (observer : Expr V) (other : Expr W) → Expr_renames (λ x y. IsTrue (same x y)) observer other → (wanted : Value) (set : List ℕ) → (Makes here dropped observer wanted set ↔ Makes there dropped other wanted set) }
+        → (dropped : List ℕ) (observer : Expr V) (other : Expr W) → Expr_renames (λ x y. IsTrue (same x y)) observer other
+        → (wanted : Value) (set : List ℕ) → (Makes here dropped observer wanted set ↔ Makes there dropped other wanted set) }
     ensures cuts { (same : V → W → Bool) (here : System V) (there : System W) → IsImage (λ x y. IsTrue (same x y)) here there
-        → (dropped : List ℕ) (observer : Expr V) (other : Expr W) → Expr_renames (λ x y. IsTrue (same x y)) observer other → (wanted : Value) (set : List ℕ) → (Cut here dropped observer wanted set ↔ Cut there dropped other wanted set) }
+        → (dropped : List ℕ) (observer : Expr V) (other : Expr W) → Expr_renames (λ x y. IsTrue (same x y)) observer other
+        → (wanted : Value) (set : List ℕ) → (Cut here dropped observer wanted set ↔ Cut there dropped other wanted set) }
     ensures conflict_sets { (same : V → W → Bool) (here : System V) (there : System W) → IsImage (λ x y. IsTrue (same x y)) here there
         → (dropped : List ℕ) (set : List ℕ) → (ConflictSet here dropped set ↔ ConflictSet there dropped set) }
 {}

@@ -12,7 +12,7 @@ ghost use Rattle.ar_meaning.specs.Runs.{Label, Moment, Runs, Fire, Starts};
 ghost use Rattle.ar_firing.specs.Fragment.{Edge, IsOpen, IsStatic};
 ghost use Rattle.ar_firing.specs.Cuts.{Reaches, Conflicts, HasOrder, Within, IsFirable, IsLegalOrder, IsConflictFree, Moves_to};
 ghost use Rattle.ar_firing.specs.Operands.{HasFlows, HasFault};
-ghost use Rattle.ar_firing.specs.Replays.{AreOpen, AllFire};
+ghost use Rattle.ar_firing.specs.Replays.{AreOpen, AllFire, FailsLast};
 
 /// What fires without fault up to its last label, and fires there or meets a flow fault there, is a firable set in its
 /// state, in any order of its events. At a firable set just the edges that leave the modes of its state can fire.
@@ -51,12 +51,14 @@ pub fn sets_with_orders<V>()
         → (set : List ℕ) (t : List Value) → IsFirable sys dropped set t → (u : List Value) × HasOrder sys dropped set u }
 {}
 
-/// Labels fire without fault exactly where the script that fires them, and nothing else, has no fault. What fires with
-/// events dropped fires without dropping any.
+/// Labels fire without fault exactly where the script that fires them, and nothing else, has no fault, and what meets a
+/// conflict meets its flow fault in the run of its script. What fires with events dropped fires without dropping any.
 pub fn orders_replay<V>()
     ensures replays { (sys : System V) (dropped : List ℕ) (ls : List Label) (u : List Value) → Reaches sys dropped (reverse ls) u
         → AreOpen sys dropped ls × ((t : List Value) × (ms : List Moment) × Runs sys (map Fire ls) (Starts t ∷ ms) × AllFire (length ls) ls t ms u) }
     ensures reaches { (sys : System V) (dropped : List ℕ) (ls : List Label) (t u : List Value) (ms : List Moment) (steps : ℕ) → AreOpen sys dropped ls
         → Runs sys (map Fire ls) (Starts t ∷ ms) → AllFire steps ls t ms u → Reaches sys dropped (reverse ls) u }
+    ensures conflict_replays { (sys : System V) (dropped : List ℕ) (ls : List Label) (f : FlowFault) → Conflicts sys dropped (reverse ls) f
+        → (ms : List Moment) × Runs sys (map Fire ls) ms × FailsLast f ls ms }
     ensures undropped { (sys : System V) (dropped : List ℕ) (ls : List Label) (t : List Value) → Reaches sys dropped ls t → Reaches sys [] ls t }
 {}

@@ -1,5 +1,5 @@
 -- What the expressions of the worked cases yield.
-use Rattle.std.proofs.Common.{◌≡◌, ◌⊎◌, ⊎_elim, inl, inr, ℕ, Bool, true, false, not, List, [], ◌∷◌, Box, Vec, refl, sym, subst}
+use Rattle.std.proofs.Common.{◌≡◌, ◌⊎◌, ⊎_elim, inl, inr, ℕ, Bool, true, false, not, [], ◌∷◌, Box, Vec, refl, sym, subst}
 use Rattle.std.specs.Global.{Global}
 use Rattle.domains.specs.declared.Value.{Value}
 use Rattle.domains.specs.declared.Value.TheVariants.{Truth}

@@ -1,4 +1,5 @@
 pub mod Least
+pub mod ByNumber
 pub mod OneAnswer
 pub mod OneRun
 pub mod ImageTurned

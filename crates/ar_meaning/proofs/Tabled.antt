@@ -1,13 +1,14 @@
 -- Flows of a system whose variables' keys are their places, by a table of what is known of them.
-use Rattle.std.proofs.Common.{◌≡◌, ◌+◌, ℕ, zero, suc, Bool, true, List, [], ◌∷◌, length, Option, Some, None, Contains, refl, sym, ◌∙◌, ap, subst, arith}
-use Rattle.ar_base.specs.Lists.{Stands, IsOneOf, HasNo}
+use Rattle.std.proofs.Common.{◌≡◌, ◌+◌, ℕ, zero, suc, true, List, [], ◌∷◌, Option, Some, Contains, sym, ◌∙◌, subst, arith}
+use Rattle.ar_base.specs.Lists.{Stands, HasNo}
 use Rattle.domains.specs.declared.Value.{Value}
 use Rattle.typed_expr.specs.Yields.{Yields}
 use Rattle.typed_expr.proofs.Facts.{yields_more}
-use Rattle.typed_expr.specs.declared.expr.Expr.{Expr, out-Expr}
+use Rattle.typed_expr.specs.declared.expr.Expr.{out-Expr}
 use Rattle.ar_meaning.specs.Systems.{Assign, Variable, Net}
-use Rattle.ar_meaning.specs.Facts.{Passes, given, Allows, HasValue, IsGiven, FactOf}
-use Rattle.ar_meaning.specs.Flows.{HasTwo, IsOutside, IsBroken, Completes, Flows, Total, all_hold}
+use Rattle.ar_meaning.specs.Facts.{Passes, given, Allows, HasValue, IsGiven, FactOf, AreNumbered}
+use Rattle.ar_meaning.specs.Flows.{HasTwo, IsOutside, Completes, Flows, Total, all_hold}
+use Rattle.ar_meaning.proofs.ByNumber.{value_at, given_from, allowed_from}
 use Rattle.ar_meaning.proofs.Least.{least, closed, passes_more}
 
 -- Q holds of each item at its place, counted from n on
@@ -39,23 +40,17 @@ abbrev pub Closes : Net ℕ → List (Option Value) → Type 0
 Closes net table = AllFrom (λ n (a : Assign ℕ). (v : Value) → Passes (Known table) a.conditions → Yields (Known table) (out-Expr ℕ a.value) v → Known table a.target v) 0 net.assertions
 
 module _ (net : Net ℕ) (numbered : AllFrom (λ n (x : Variable ℕ). x.key ≡ n) 0 net.variables) where
-  key_is : (k : ℕ) (x : Variable ℕ) → Stands net.variables k x → x.key ≡ k
-  key_is k x s = at_place (λ n (x : Variable ℕ). x.key ≡ n) 0 net.variables numbered k k x s (omega arith)
-
-  pub value_at : (t : List Value) (x : ℕ) (v : Value) → HasValue net t x v → Stands t x v
-  value_at t x v h = let e : h.place ≡ x = sym (key_is h.place h.variable h.stands) ∙ h.is_key in subst (λ z. Stands t z v) e h.value
-
-  pub value_from : (t : List Value) (n : ℕ) (x : Variable ℕ) (v : Value) → Stands net.variables n x → Stands t n v → HasValue net t n v
-  value_from t n x v s h = record { place = n; variable = x; stands = s; is_key = key_is n x s; value = h }
+  pub is_numbered : AreNumbered net
+  is_numbered = record { key = λ k x s. at_place (λ n (x : Variable ℕ). x.key ≡ n) 0 net.variables numbered k k x s (omega arith) }
 
   pub given_fact : (t : List Value) (n : ℕ) (x : Variable ℕ) (v : Value) → Stands net.variables n x → x.is_state ≡ true → Stands t n v → FactOf net t n v
-  given_fact t n x v s i h = given (record { place = n; variable = x; stands = s; is_key = key_is n x s; is_state = i; value = h })
+  given_fact t n x v s i h = given (given_from net is_numbered t n x v s i h)
 
   pub added_fact : (t : List Value) (k : ℕ) (a : Assign ℕ) (n : ℕ) (x : Variable ℕ) (v : Value) → Stands net.assertions k a → a.target ≡ n → Stands net.variables n x → Contains x.domain v
       → Passes (FactOf net t) a.conditions → Yields (FactOf net t) (out-Expr ℕ a.value) v → FactOf net t n v
   added_fact t k a n x v s e m c p d =
       subst (λ z. FactOf net t z v) e (closed net.assertions (Allows net) (IsGiven net t) a v (record { place = k; stands = s }) p d
-      (record { place = n; variable = x; stands = m; is_key = key_is n x m ∙ sym e; has = c }))
+      (subst (λ z. Allows net z v) (sym e) (allowed_from net is_numbered n x v m c)))
 
   -- at most what the table knows follows
   module _ (t : List Value) (table : List (Option Value))
@@ -63,7 +58,7 @@ module _ (net : Net ℕ) (numbered : AllFrom (λ n (x : Variable ℕ). x.key ≡
       (closes : Closes net table) where
     pub at_most : (x : ℕ) (v : Value) → FactOf net t x v → Known table x v
     at_most = least net.assertions (Allows net) (IsGiven net t) (Known table)
-        (λ x v h. let e : h.place ≡ x = sym (key_is h.place h.variable h.stands) ∙ h.is_key in
+        (λ x v h. let e : h.place ≡ x = sym (is_numbered.key h.place h.variable h.stands) ∙ h.is_key in
         subst (λ z. Known table z v) e (at_place (λ n (x : Variable ℕ). x.is_state ≡ true → (v : Value) → Stands t n v → Known table n v) 0 net.variables starts h.place h.place h.variable h.stands (omega arith) h.is_state v h.value))
         (λ a v o p d l. in_list (λ (a : Assign ℕ). (v : Value) → Passes (Known table) a.conditions → Yields (Known table) (out-Expr ℕ a.value) v → Known table a.target v) net.assertions closes o.place a o.stands v p d)
 
@@ -76,7 +71,7 @@ module _ (net : Net ℕ) (numbered : AllFrom (λ n (x : Variable ℕ). x.key ≡
         has_not = λ k x s h.
             let c = in_list (λ (a : Assign ℕ). (v : Value) → Passes (Known table) a.conditions → Yields (Known table) (out-Expr ℕ a.value) v → Known table a.target v) net.assertions closes h.is_one.place h.assign h.is_one.stands in
             let n : Known table h.assign.target h.value = c h.value (passes_more ℕ (FactOf net t) (Known table) at_most h.passes) (yields_more ℕ (FactOf net t) (Known table) at_most h.yields) in
-            let m : Known table k h.value = subst (λ z. Known table z h.value) (h.is_target ∙ key_is k x s) n in
+            let m : Known table k h.value = subst (λ z. Known table z h.value) (h.is_target ∙ is_numbered.key k x s) n in
             h.outside (at_place (λ n (x : Variable ℕ). (v : Value) → Known table n v → Contains x.domain v) 0 net.variables fits k k x s (omega arith) h.value m);
       }
 
@@ -85,5 +80,5 @@ module _ (net : Net ℕ) (numbered : AllFrom (λ n (x : Variable ℕ). x.key ≡
       flows total c h = all_hold no_two none_outside c (record {
         has_not = λ k a s b.
             b.differs (in_list (λ (a : Assign ℕ). (v : Value) → Passes (Stands total) a.conditions → Yields (Stands total) (out-Expr ℕ a.value) v → HasValue net total a.target v) net.assertions h k a s b.value
-            (passes_more ℕ (HasValue net total) (Stands total) (value_at total) b.passes) (yields_more ℕ (HasValue net total) (Stands total) (value_at total) b.yields));
+            (passes_more ℕ (HasValue net total) (Stands total) (value_at net is_numbered total) b.passes) (yields_more ℕ (HasValue net total) (Stands total) (value_at net is_numbered total) b.yields));
       })

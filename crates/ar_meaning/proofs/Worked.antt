@@ -1,9 +1,9 @@
 -- The worked cases.
 use Rattle.std.proofs.Common.{◌≡◌, ◌<◌, ◌⊎◌, inl, inr, ⊎_elim, ℕ, zero, suc, Bool, true, false, not, List, [], ◌∷◌, Option, Some, None, Contains, refl, sym, ◌∙◌, ap, subst, arith}
 use Rattle.std.proofs.lemmas.Bool.{false≢true}
-use Rattle.ar_base.specs.Lists.{Stands, IsOneOf, HasNo, IsFirst}
+use Rattle.ar_base.specs.Lists.{Stands}
 use Rattle.domains.specs.declared.Value.{Value}
-use Rattle.domains.specs.declared.Value.TheVariants.{Truth, Symbol}
+use Rattle.domains.specs.declared.Value.TheVariants.{Truth}
 use Rattle.typed_expr.specs.Yields.{Yields}
 use Rattle.typed_expr.specs.Values.{is_related}
 use Rattle.typed_expr.specs.declared.expr.Relation.TheVariants.{Equal}
@@ -18,8 +18,9 @@ use Rattle.ar_meaning.specs.Ways as m
 use Rattle.ar_meaning.specs.Steps.{changed, kept, Step, Next, Refused, NotEnabled, not_enabled, moves}
 use Rattle.ar_meaning.specs.Steps as steps
 use Rattle.ar_meaning.specs.Cases.{truths, closed, opened, switches, state_of, flow_of, sets, sets_where, IsVariable, IsRing, IsQuarrel, AreTurns, follower, ring, quarrel, pair, turns, jointly}
-use Rattle.ar_meaning.proofs.Tabled.{Known, Starts, Closes, flows, in_list, value_at, value_from, given_fact, added_fact, at_most}
-use Rattle.ar_meaning.proofs.Forms.{constant_is, constant_yields, variable_is, variable_yields, not_is, not_yields, either_is, second_yields, closed_is, closed_yields}
+use Rattle.ar_meaning.proofs.ByNumber.{value_at, value_from}
+use Rattle.ar_meaning.proofs.Tabled.{Known, Starts, Closes, flows, in_list, is_numbered, given_fact, added_fact, at_most}
+use Rattle.ar_meaning.proofs.Forms.{constant_is, constant_yields, variable_is, variable_yields, not_yields, either_is, second_yields, closed_is, closed_yields}
 
 known_as : (a v : Value) → Some a ≡ Some v → Some (Some a) ≡ Some (Some v)
 known_as a v e = cc
@@ -48,7 +49,7 @@ follows e i s f =
     (λ v k. in_truths_as s v (known_is (Truth s) v k), (λ v k. in_truths_as s v (known_is (Truth s) v k), tt))
     total
     (state refl (known refl h flowing.none))
-    (λ v p d. value_from net (refl, (refl, tt)) total 1 (flow_of 1 truths (Truth false)) v refl (variable_is (Stands total) e 0 v i d), tt)
+    (λ v p d. value_from net (is_numbered net (refl, (refl, tt))) total 1 (flow_of 1 truths (Truth false)) v refl (variable_is (Stands total) e 0 v i d), tt)
 
 none_known : (v : Value) → ◌≡◌ {A = Option (Option Value)} (Some None) (Some (Some v)) → ⊥
 none_known v e = cc
@@ -103,11 +104,11 @@ module _ (first second third : Expr ℕ) (i : IsRing first second third) where
       )
       total
       (state refl (known refl b (known refl c (known refl d flowing.none)))) (
-        λ v p e. ⊎_elim (λ r. value_from around (refl, (refl, (refl, (refl, tt)))) total 1 (flow_of 1 truths (Truth false)) v refl (stands_value (Truth true) v r.1))
+        λ v p e. ⊎_elim (λ r. value_from around (is_numbered around (refl, (refl, (refl, (refl, tt))))) total 1 (flow_of 1 truths (Truth false)) v refl (stands_value (Truth true) v r.1))
             (λ r. absurd (apart true (stands_is (Truth true) (Truth false) r.0))) (first_is (Stands total) v e),
         (
-          λ v p e. value_from around (refl, (refl, (refl, (refl, tt)))) total 2 (flow_of 2 truths (Truth false)) v refl (variable_is (Stands total) second 1 v i.is_second e),
-          (λ v p e. value_from around (refl, (refl, (refl, (refl, tt)))) total 3 (flow_of 3 truths (Truth false)) v refl (variable_is (Stands total) third 2 v i.is_third e), tt),
+          λ v p e. value_from around (is_numbered around (refl, (refl, (refl, (refl, tt))))) total 2 (flow_of 2 truths (Truth false)) v refl (variable_is (Stands total) second 1 v i.is_second e),
+          (λ v p e. value_from around (is_numbered around (refl, (refl, (refl, (refl, tt))))) total 3 (flow_of 3 truths (Truth false)) v refl (variable_is (Stands total) third 2 v i.is_third e), tt),
         ),
       )
 
@@ -138,10 +139,10 @@ module _ (first second third : Expr ℕ) (i : IsRing first second third) where
       total
       (state refl (unknown refl (λ w f. none_known w (most 1 w f)) (unknown refl (λ w f. none_known w (most 2 w f)) (unknown refl (λ w f. none_known w (most 3 w f)) flowing.none)))) (
         λ v p e. ⊎_elim (λ r. absurd (⊎_elim (λ h. apart false (stands_is (Truth false) (Truth true) h)) (λ h. not_closed (Stands total) still h) r.0))
-            (λ r. value_from around (refl, (refl, (refl, (refl, tt)))) total 1 (flow_of 1 truths (Truth false)) v refl (stands_value (Truth false) v r.1)) (first_is (Stands total) v e),
+            (λ r. value_from around (is_numbered around (refl, (refl, (refl, (refl, tt))))) total 1 (flow_of 1 truths (Truth false)) v refl (stands_value (Truth false) v r.1)) (first_is (Stands total) v e),
         (
-          λ v p e. value_from around (refl, (refl, (refl, (refl, tt)))) total 2 (flow_of 2 truths (Truth false)) v refl (variable_is (Stands total) second 1 v i.is_second e),
-          (λ v p e. value_from around (refl, (refl, (refl, (refl, tt)))) total 3 (flow_of 3 truths (Truth false)) v refl (variable_is (Stands total) third 2 v i.is_third e), tt),
+          λ v p e. value_from around (is_numbered around (refl, (refl, (refl, (refl, tt))))) total 2 (flow_of 2 truths (Truth false)) v refl (variable_is (Stands total) second 1 v i.is_second e),
+          (λ v p e. value_from around (is_numbered around (refl, (refl, (refl, (refl, tt))))) total 3 (flow_of 3 truths (Truth false)) v refl (variable_is (Stands total) third 2 v i.is_third e), tt),
         ),
       )
 
@@ -208,7 +209,7 @@ module _ (first second off : Expr ℕ) (i : AreTurns first second off) where
   After = HasValue pair (Truth false ∷ Truth false ∷ [])
 
   second_cannot : Can Before (turns second 1 off) → ⊥
-  second_cannot c = apart false (stands_is (Truth false) (Truth true) (value_at pair (refl, (refl, tt)) (Truth true ∷ Truth false ∷ []) 1 (Truth true) (turn_can Before second off 1 1 i.is_second c)))
+  second_cannot c = apart false (stands_is (Truth false) (Truth true) (value_at pair (is_numbered pair (refl, (refl, tt))) (Truth true ∷ Truth false ∷ []) 1 (Truth true) (turn_can Before second off 1 1 i.is_second c)))
 
   gives : (x : ℕ) (v : Value) → Effects Before (one_way false) x v → (0 ≡ x) × (v ≡ Truth false)
   gives x v (by_part (by_may c e)) = let r = turn_gives Before first off 0 x v e in (r.0, constant_is Before off (Truth false) v i.is_off r.1)
@@ -219,11 +220,11 @@ module _ (first second off : Expr ℕ) (i : AreTurns first second off) where
   set_off = by_part (by_may first_can (acts (sets 0 off) (record { place = 0; stands = refl }) facts.none (constant_yields Before off (Truth false) i.is_off)))
     where
       first_can : Can Before (turns first 0 off)
-      first_can = guard_holds (variable_yields Before first 0 (Truth true) i.is_first (value_from pair (refl, (refl, tt)) (Truth true ∷ Truth false ∷ []) 0 (state_of 0 truths (Truth true)) (Truth true) refl refl))
+      first_can = guard_holds (variable_yields Before first 0 (Truth true) i.is_first (value_from pair (is_numbered pair (refl, (refl, tt))) (Truth true ∷ Truth false ∷ []) 0 (state_of 0 truths (Truth true)) (Truth true) refl refl))
 
   pub may : Step pair (Truth true ∷ Truth false ∷ []) (one_way false) (Next (Truth false ∷ Truth false ∷ []))
   may = moves (Truth false ∷ Truth false ∷ [])
-      (some_may refl (this (guard_holds (variable_yields Before first 0 (Truth true) i.is_first (value_from pair (refl, (refl, tt)) (Truth true ∷ Truth false ∷ []) 0 (state_of 0 truths (Truth true)) (Truth true) refl refl)))))
+      (some_may refl (this (guard_holds (variable_yields Before first 0 (Truth true) i.is_first (value_from pair (is_numbered pair (refl, (refl, tt))) (Truth true ∷ Truth false ∷ []) 0 (state_of 0 truths (Truth true)) (Truth true) refl refl)))))
       (record { has_not = λ k x s h. let a = gives x.key h.first h.is_first in let b = gives x.key h.second h.is_second in h.differ (a.1 ∙ sym b.1) })
       (record { has_not = λ k x s h. let a = gives x.key h.value h.received in h.outside (subst (λ z. Contains x.domain z) (sym a.1) (in_list (λ (x : Variable ℕ). Contains x.domain (Truth false)) pair.variables (in_truths false, (in_truths false, tt)) k x s)) })
       (changed set_off (kept (λ w e. let a = gives 1 w e in absurd (omega (arith, a.0))) steps.none))
@@ -231,10 +232,10 @@ module _ (first second off : Expr ℕ) (i : AreTurns first second off) where
       (λ v k. in_truths_as false v (known_is (Truth false) v k), (λ v k. in_truths_as false v (known_is (Truth false) v k), tt)) (Truth false ∷ Truth false ∷ []) (state refl (state refl flowing.none)) tt)
 
   first_off : Can After (turns first 0 off) → ⊥
-  first_off c = apart false (stands_is (Truth false) (Truth true) (value_at pair (refl, (refl, tt)) (Truth false ∷ Truth false ∷ []) 0 (Truth true) (turn_can After first off 0 0 i.is_first c)))
+  first_off c = apart false (stands_is (Truth false) (Truth true) (value_at pair (is_numbered pair (refl, (refl, tt))) (Truth false ∷ Truth false ∷ []) 0 (Truth true) (turn_can After first off 0 0 i.is_first c)))
 
   second_off : Can After (turns second 1 off) → ⊥
-  second_off c = apart false (stands_is (Truth false) (Truth true) (value_at pair (refl, (refl, tt)) (Truth false ∷ Truth false ∷ []) 1 (Truth true) (turn_can After second off 1 1 i.is_second c)))
+  second_off c = apart false (stands_is (Truth false) (Truth true) (value_at pair (is_numbered pair (refl, (refl, tt))) (Truth false ∷ Truth false ∷ []) 1 (Truth true) (turn_can After second off 1 1 i.is_second c)))
 
   pub none_may : Step pair (Truth false ∷ Truth false ∷ []) (one_way false) (Refused NotEnabled)
   none_may = not_enabled neither

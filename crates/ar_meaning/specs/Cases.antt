@@ -7,52 +7,61 @@ use Rattle.domains.specs.declared.Value.TheVariants.{Truth, Symbol}
 use Rattle.typed_expr.specs.declared.expr.Relation.TheVariants.{Equal}
 use Rattle.typed_expr.specs.declared.expr.Expr.{Expr, out-Expr}
 use Rattle.typed_expr.specs.declared.expr.Expr.TheOpen as form
-use Rattle.ar_meaning.specs.Systems.{Assign, Variable, Transition, Tree, Way, Leaf, Joint, Empty, Branch, Net}
+use Rattle.ar_meaning.specs.Systems.{Assign, Variable, Way, Leaf, Joint, Empty, Branch, Net}
 
--- the two truth values, and two symbols
+-- the two truth values
 abbrev pub truths : List Value
 truths = Truth false ∷ Truth true ∷ []
 
+-- a switch that is closed
 abbrev pub closed : Value
 closed = Symbol 0
 
+-- a switch that is open
 abbrev pub opened : Value
 opened = Symbol 1
 
+-- the positions of a switch
 abbrev pub switches : List Value
 switches = closed ∷ opened ∷ []
 
--- a state variable and a flow of the one unit, each by its number
+-- a state variable
 abbrev pub state_of : ℕ → List Value → Value → Variable ℕ
 state_of n values first = record { key = n; unit = 0; domain = values; is_state = true; value = first }
 
+-- a flow
 abbrev pub flow_of : ℕ → List Value → Value → Variable ℕ
 flow_of n values reset = record { key = n; unit = 0; domain = values; is_state = false; value = reset }
 
--- an assignment without a condition, and one with one
+-- an assignment without a condition
 abbrev pub sets : ℕ → Expr ℕ → Assign ℕ
 sets n e = record { target = n; conditions = []; value = e }
 
+-- an assignment with one condition
 abbrev pub sets_where : Expr ℕ → Bool → ℕ → Expr ℕ → Assign ℕ
 sets_where test b n e = record { target = n; conditions = (test, b) ∷ []; value = e }
 
--- what an expression is
+-- the expression is this constant
 abbrev pub IsConstant : Expr ℕ → Value → Type 0
 IsConstant e v = out-Expr ℕ e ≡ form.Constant v
 
+-- the expression is this variable
 abbrev pub IsVariable : Expr ℕ → ℕ → Type 0
 IsVariable e n = out-Expr ℕ e ≡ form.Variable n
 
+-- the expression is the opposite of a
 pub record IsNot (e a : Expr ℕ) : Type 0 where
   pub operand : Box (Expr ℕ) Global
   pub is : out-Expr ℕ e ≡ form.Not operand
   pub is_operand : operand.value ≡ a
 
+-- the expression is a or b
 pub record IsEither (e a b : Expr ℕ) : Type 0 where
   pub operands : Vec (Expr ℕ) Global
   pub is : out-Expr ℕ e ≡ form.Any operands
   pub are_operands : operands.items ≡ a ∷ b ∷ []
 
+-- the expression compares a and b for equality
 pub record IsEqual (e a b : Expr ℕ) : Type 0 where
   pub left : Box (Expr ℕ) Global
   pub right : Box (Expr ℕ) Global
@@ -79,6 +88,7 @@ ring either second third = record {
   assertions = sets 1 either ∷ sets 2 second ∷ sets 3 third ∷ [];
 }
 
+-- the expressions of the ring
 pub record IsRing (either second third : Expr ℕ) : Type 0 where
   pub last : Expr ℕ
   pub test : Expr ℕ
@@ -95,6 +105,7 @@ quarrel test on opposite off first = record {
   assertions = sets_where test false 1 on ∷ sets_where test false 1 opposite ∷ sets_where test true 1 off ∷ sets 2 first ∷ [];
 }
 
+-- the expressions of the quarrel
 pub record IsQuarrel (test on opposite off first : Expr ℕ) : Type 0 where
   pub second : Expr ℕ
   pub is_test : IsClosed test
@@ -116,6 +127,7 @@ turns guard n e = Leaf (record { guard = guard; action = sets n e ∷ [] })
 abbrev pub jointly : Bool → Way ℕ → Bool → Way ℕ → Way ℕ
 jointly first v second w = Joint (Branch first v (Branch second w Empty))
 
+-- each guard is one of the two states, and the value is false
 pub record AreTurns (first second off : Expr ℕ) : Type 0 where
   pub is_first : IsVariable first 0
   pub is_second : IsVariable second 1

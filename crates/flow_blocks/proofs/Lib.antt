@@ -1,0 +1,9 @@
+mod RowLemmas
+mod WordLemmas
+mod UseLemmas
+mod ClassLemmas
+mod TableLemmas
+mod WaitLemmas
+mod OrderLemmas
+mod DescentLemmas
+mod LawLemmas

@@ -1,0 +1,128 @@
+-- One class more in the table of classes.
+use Rattle.std.proofs.Common.{◌≡◌, ℕ, zero, suc, ◌+◌, ◌<◌, ◌≤◌, ◌⊎◌, inl, inr, List, [], ◌∷◌, ◌++◌, length, slice_get, Some, refl, sym, ap, ◌∙◌, subst, arith, length-append}
+use Rattle.std.proofs.lemmas.Bool.{cases_eq, cases_lt}
+use Rattle.ar_base.specs.Lists.{Stands, IsOneOf}
+use Rattle.ar_base.proofs.Standing.{stands_split, stands_left, stands_next, stands_none, stands_one, stands_within, stands_some}
+use Rattle.flow_blocks.specs.Blocks.{Together, IsClass}
+use Rattle.flow_blocks.specs.Table.{IsPartTable, IsClassTable}
+use Rattle.flow_blocks.proofs.ClassLemmas.{together_on, together_back}
+
+-- whether a number is one of a list
+pub decide_one : (xs : List ℕ) (n : ℕ) → IsOneOf xs n ⊎ (IsOneOf xs n → ⊥)
+decide_one [] n = inr (λ one. stands_none one.place n one.stands)
+decide_one (x ∷ xs) n = elim (cases_eq x n) [
+  | inl is ↦ inl (record { place = 0; stands = ap (λ (k : ℕ). Some k) is })
+  | inr other ↦ elim (decide_one xs n) [
+    | inl one ↦ inl (record { place = suc one.place; stands = one.stands })
+    | inr lacks ↦ inr (λ one. by one.place one.stands other lacks)
+  ]
+]
+  where
+    by : (k : ℕ) → Stands (x ∷ xs) k n → (x ≡ n → ⊥) → (IsOneOf xs n → ⊥) → ⊥
+    by zero p other lacks = other (cc)
+    by (suc k) p other lacks = lacks (record { place = k; stands = p })
+
+-- what stands in a list of one item is that item
+pub the_one : {A : Type 0} (a b : A) (k : ℕ) → Stands (a ∷ []) k b → (k ≡ 0) × (b ≡ a)
+the_one a b zero p = (refl, cc)
+the_one a b (suc k) p = absurd (stands_none k b p)
+
+module _ (count none : ℕ) (uses : List (ℕ × ℕ)) (number : ℕ) (classes : List (List ℕ)) (class_of : List ℕ) (t : IsPartTable count none uses number classes class_of)
+    (free : Stands class_of number none) (lt : number < count) (low : count ≤ none) where
+  -- a number together with the free one has no class
+  pub no_class : (n c : ℕ) (members : List ℕ) → Together uses number n → Stands classes c members → IsOneOf members n → ⊥
+  no_class n c members t_n st one =
+      let cl = t.are_classes c members st in
+      let there = cl.all number lt (together_on (cl.only n one) (together_back t_n)) in
+      let is_none : c ≡ none = stands_one class_of number c none (t.class_of_member c number members st there) free in
+      let within = stands_within classes c members st in
+      omega (arith, is_none, within, t.few)
+
+  -- no lesser number is together with the free one
+  pub lone : (n : ℕ) → n < number → Together uses number n → ⊥
+  lone n less t_n =
+      let some = stands_some class_of n (omega (arith, t.long)) in
+      elim (t.member_of_class n some.0 some.1) [
+        | inl is ↦ t.looked_at n less (subst (λ (c : ℕ). Stands class_of n c) is some.1)
+        | inr found ↦ no_class n some.0 found.0 t_n found.1 found.2
+      ]
+
+  module _ (members new : List ℕ) (cl : IsClass count uses members) (first : Stands members 0 number) (long_new : length new ≡ count)
+      (noted : (n : ℕ) → IsOneOf members n → Stands new n (length classes)) (kept : (n : ℕ) → (IsOneOf members n → ⊥) → slice_get new n ≡ slice_get class_of n) where
+    own : IsOneOf members number
+    own = record { place = 0; stands = first }
+
+    with_own : (n : ℕ) → IsOneOf members n → Together uses number n
+    with_own n one = together_on (together_back (cl.only number own)) (cl.only n one)
+
+    not_none : length classes ≡ none → ⊥
+    not_none e = omega (arith, t.few, e)
+
+    pub part_more : IsPartTable count none uses (number + 1) (classes ++ members ∷ []) new
+    part_more = record {
+      long = long_new;
+      few = let l = length-append classes (members ∷ []) in omega (arith, t.few, l);
+      are_classes = λ c ms st. elim (stands_split classes (members ∷ []) c ms st) [
+        | inl old ↦ t.are_classes c ms old
+        | inr last ↦ subst (λ (l : List ℕ). IsClass count uses l) (sym (the_one members ms last.0 last.2).1) cl
+      ];
+      class_of_member = λ c n ms st one. elim (stands_split classes (members ∷ []) c ms st) [
+        | inl old ↦ kept n (λ mine. no_class n c ms (with_own n mine) old one) ∙ t.class_of_member c n ms old one
+        | inr last ↦
+            let e = the_one members ms last.0 last.2 in
+            let at : length classes ≡ c = omega (arith, last.1, e.0) in
+            subst (λ (k : ℕ). Stands new n k) at (noted n (subst (λ (l : List ℕ). IsOneOf l n) e.1 one))
+      ];
+      member_of_class = λ n c st. elim (decide_one members n) [
+        | inl mine ↦
+            let at : length classes ≡ c = stands_one new n (length classes) c (noted n mine) st in
+            inr (members, subst (λ (k : ℕ). Stands (classes ++ members ∷ []) k members) at (stands_next classes members []), mine)
+        | inr other ↦ elim (t.member_of_class n c (sym (kept n other) ∙ st)) [
+          | inl is ↦ inl is
+          | inr found ↦ inr (found.0, stands_left classes (members ∷ []) c found.0 found.1, found.2)
+        ]
+      ];
+      looked_at = λ n less st. elim (decide_one members n) [
+        | inl mine ↦ not_none (stands_one new n (length classes) none (noted n mine) st)
+        | inr other ↦ elim (cases_lt n number) [
+          | inl below ↦ t.looked_at n below (sym (kept n other) ∙ st)
+          | inr not_below ↦ let e : number ≡ n = omega arith in other (subst (λ (k : ℕ). IsOneOf members k) e own)
+        ]
+      ];
+      ascend = λ c d m k ms ks less p q a b. elim (stands_split classes (members ∷ []) c ms p) [
+        | inl old_c ↦ elim (stands_split classes (members ∷ []) d ks q) [
+          | inl old_d ↦ t.ascend c d m k ms ks less old_c old_d a b
+          | inr last ↦
+              let e = the_one members ks last.0 last.2 in
+              let at : k ≡ number = stands_one members 0 k number (subst (λ (l : List ℕ). Stands l 0 k) e.1 b) first in
+              let under = t.below c m ms old_c a in
+              omega (arith, at, under)
+        ]
+        | inr last ↦
+            let e = the_one members ms last.0 last.2 in
+            let within = stands_within (classes ++ members ∷ []) d ks q in
+            let l = length-append classes (members ∷ []) in
+            absurd (omega (arith, last.1, e.0, within, l, less))
+      ];
+      below = λ c m ms st a. elim (stands_split classes (members ∷ []) c ms st) [
+        | inl old ↦ let under = t.below c m ms old a in omega arith
+        | inr last ↦
+            let e = the_one members ms last.0 last.2 in
+            let at : m ≡ number = stands_one members 0 m number (subst (λ (l : List ℕ). Stands l 0 m) e.1 a) first in
+            omega (arith, at)
+      ];
+    }
+
+-- where all numbers were looked at, the table is whole
+pub whole_table : (count none : ℕ) (uses : List (ℕ × ℕ)) (classes : List (List ℕ)) (class_of : List ℕ) → IsPartTable count none uses count classes class_of → IsClassTable count uses classes class_of
+whole_table count none uses classes class_of t = record {
+  long = t.long;
+  few = t.few;
+  are_classes = t.are_classes;
+  class_of_member = t.class_of_member;
+  member_of_class = λ n c st. elim (t.member_of_class n c st) [
+    | inl is ↦ absurd (t.looked_at n (let within = stands_within class_of n c st in omega (arith, within, t.long)) (subst (λ (k : ℕ). Stands class_of n k) is st))
+    | inr found ↦ found
+  ];
+  ascend = t.ascend;
+}

@@ -1,0 +1,4 @@
+pub mod Blocks
+pub mod Bits
+pub mod Table
+pub mod Waits

@@ -1,0 +1,17 @@
+// Laws of the classes and their order.
+
+ghost use Rattle.std.specs.Prelude.{◌≡◌, ℕ, ◌<◌, List, []};
+ghost use Rattle.ar_base.specs.Lists.{Stands, IsOneOf};
+ghost use Rattle.flow_blocks.specs.Blocks.{IsGiven, Follow};
+
+/// A graph has one list of classes.
+pub fn one_list()
+    ensures { (count : ℕ) (uses : List (ℕ × ℕ)) (xs ys : List (List ℕ)) → Follow count uses [] xs → Follow count uses [] ys → xs ≡ ys }
+{}
+
+/// Each number is in exactly one class.
+pub fn one_class_each()
+    ensures some { (count : ℕ) (uses : List (ℕ × ℕ)) (blocks : List (List ℕ)) → Follow count uses [] blocks → (n : ℕ) → n < count → IsGiven blocks n }
+    ensures one { (count : ℕ) (uses : List (ℕ × ℕ)) (blocks : List (List ℕ)) → Follow count uses [] blocks → (j k n : ℕ) (xs ys : List ℕ)
+        → Stands blocks j xs → Stands blocks k ys → IsOneOf xs n → IsOneOf ys n → j ≡ k }
+{}

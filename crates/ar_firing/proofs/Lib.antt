@@ -20,3 +20,4 @@ pub mod ImageRules
 pub mod ModesOfSets
 pub mod TreeEdges
 pub mod Widths
+pub mod MakingLines

@@ -37,6 +37,7 @@ pub fn modes_of_sets<V>()
 
 /// A firable set has one line, and fires in this order where any order of it does.
 pub fn lines<V>()
+    ensures exists { (sys : System V) (dropped set : List ℕ) (t : List Value) → IsFirable sys dropped set t → (ls : List Label) × IsLine sys dropped set ls }
     ensures legal { (sys : System V) (dropped : List ℕ) → AreKeyed sys.net → IsStatic sys dropped → (set : List ℕ) (ls : List Label) → IsLine sys dropped set ls → IsLegalOrder sys dropped set (reverse ls) }
     ensures one { (sys : System V) (dropped : List ℕ) → AreKeyed sys.net → IsStatic sys dropped → (set other : List ℕ) (ls ks : List Label) → Within set other → Within other set
         → IsLine sys dropped set ls → IsLine sys dropped other ks → ls ≡ ks }

@@ -10,7 +10,7 @@ use Rattle.domains.proofs.Members.{contains-head, contains-cons, contains-cases,
 use Rattle.domains.proofs.Order.{ascends-from, ascends-length}
 use Rattle.typed_expr.specs.Values.{whole_of, is_related}
 use Rattle.typed_expr.specs.Folds.{next_of}
-use Rattle.typed_expr.specs.Sets.{HasExactly, HasMoreThan, AtLimit, KeepsLimit, Gathers, Adds, Inserts, Refuses}
+use Rattle.typed_expr.specs.Sets.{HasExactly, HasMoreThan, AtLimit, KeepsLimit, Gathers, Stopped, Adds, Inserts, Refuses}
 use Rattle.typed_expr.specs.Evaluating.{IsTruth, IsNext, SomeRelated}
 use Rattle.typed_expr.specs.declared.fold.Step.{Step}
 use Rattle.typed_expr.specs.declared.expr.Relation.{Relation}
@@ -29,6 +29,11 @@ more-than f h = record { values = h.values; ascend = h.ascend; more = h.more; ea
 pub at-limit : (most : Option ℕ) {P Q : ℕ → Type 0} → ((n : ℕ) → P n → Q n) → AtLimit most P → AtLimit most Q
 at-limit None f h = h
 at-limit (Some n) f h = f n h
+
+pub stopped-up : (most : Option ℕ) (C D : ℕ → Type 0) → ((n : ℕ) → C n → D n) → (stop : Stop) → Stopped most C stop → Stopped most D stop
+stopped-up None C D f TooMany h = h
+stopped-up (Some n) C D f TooMany h = f n h
+stopped-up most C D f NoMemory h = tt
 
 -- the same gathered under another description
 pub gathers-as : (most : Option ℕ) (r : Result (List Value) Stop) {P Q : Value → Type 0} → ((v : Value) → P v → Q v) → ((v : Value) → Q v → P v) → Gathers most r P → Gathers most r Q
@@ -121,7 +126,7 @@ next-here : (s : Step) (first : Bool) (n : Value) (values : List Value) (i : ℕ
     → IsNext s first (n ∷ []) (take (i + 1) values) (Whole (next_of s first (whole_of n) (get_or values i d)))
 next-here s first n values i d h = record { number = n; value = get_or values i d; in_numbers = contains-head n []; in_values = take-has values i d h; is = refl }
 
-one-item : (n m : Value) → Contains (n ∷ []) m → n ≡ m
+pub one-item : (n m : Value) → Contains (n ∷ []) m → n ≡ m
 one-item n m h = elim (contains-cases n m [] h) [ inl e ↦ e | inr k ↦ absurd (nothing-in m k) ]
 
 next-cases : (s : Step) (first : Bool) (n : Value) (values : List Value) (i : ℕ) (d v : Value) → i < length values → IsNext s first (n ∷ []) (take (i + 1) values) v

@@ -32,11 +32,15 @@ abbrev pub KeepsLimit : Option ℕ → List Value → Type 0
 KeepsLimit None set = Unit {0}
 KeepsLimit (Some most) set = length set ≤ most
 
+-- where there is too much of something, so there is
+abbrev pub Stopped : Option ℕ → (ℕ → Type 0) → Stop → Type 0
+Stopped most P TooMany = AtLimit most P
+Stopped most P NoMemory = Unit {0}
+
 -- a set of exactly the values of which P holds, within the limit; or P holds of more values than the limit
 abbrev pub Gathers : Option ℕ → Result (List Value) Stop → (Value → Type 0) → Type 0
 Gathers most (Ok set) P = HasExactly set P × KeepsLimit most set
-Gathers most (Err TooMany) P = AtLimit most (λ n. HasMoreThan n P)
-Gathers most (Err NoMemory) P = Unit {0}
+Gathers most (Err stop) P = Stopped most (λ n. HasMoreThan n P) stop
 
 -- the set with one more value
 pub record Adds (old : List Value) (v : Value) (new : List Value) : Type 0 where

@@ -1,7 +1,8 @@
 // The folds, a step at a time.
 
 ghost use Rattle.std.specs.Prelude.{◌≡◌, []};
-ghost use Rattle.typed_expr.specs.Values.{truth_of, whole_of, added};
+ghost use Rattle.domains.specs.declared.Value.TheVariants.{Whole};
+ghost use Rattle.typed_expr.specs.Values.{truth_of, whole_of};
 ghost use Rattle.typed_expr.specs.Folds.{fold_of, next_of};
 
 use domains::{Value, add, multiply, subtract};
@@ -74,4 +75,11 @@ pub(crate) fn next(step: Step, first: bool, so_far: i64, v: Value) -> i64
         },
         Step::Counted => if truth(v) { add(so_far, 1) } else { so_far },
     }
+}
+
+// The same as a value.
+pub(crate) fn start_value(step: Step) -> Value
+    ensures { result ≡ Whole (fold_of step []) }
+{
+    Value::Whole(start(step))
 }

@@ -21,3 +21,4 @@ pub mod ModesOfSets
 pub mod TreeEdges
 pub mod Widths
 pub mod MakingLines
+pub mod OneListing

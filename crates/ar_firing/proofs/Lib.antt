@@ -20,3 +20,5 @@ pub mod ImageRules
 pub mod ModesOfSets
 pub mod TreeEdges
 pub mod Widths
+pub mod MakingLines
+pub mod OneListing

@@ -1,5 +1,5 @@
 -- The forest: a tree of edges for each mode variable, and the order in which the labels of a set are listed.
-use Rattle.std.specs.Prelude.{◌≡◌, ◌↔◌, ◌<◌, ◌≤◌, ◌+◌, ℕ, suc, true, cond, List, [], ◌∷◌, ◌++◌, reverse}
+use Rattle.std.specs.Prelude.{◌≡◌, ◌<◌, ◌≤◌, ◌+◌, ℕ, suc, true, cond, List, [], ◌∷◌, ◌++◌, reverse}
 use Rattle.ar_base.specs.Lists.{Stands, IsOneOf}
 use Rattle.domains.specs.declared.Value.{Value}
 use Rattle.ar_meaning.specs.Systems.{Variable, Way, System}
@@ -62,10 +62,3 @@ pub record IsLine {V : Type 0} (sys : System V) (dropped : List ℕ) (set : List
   pub values : List Value
   pub is_firable : IsFirable sys dropped set values
   pub is : ls ≡ firing_line 0 sys.net.variables is_firable.path
-
--- the least number that is in just one of the two sets is in the first
-pub record IsBefore (s t : List ℕ) : Type 0 where
-  pub least : ℕ
-  pub in_first : IsOneOf s least
-  pub not_in_second : IsOneOf t least → ⊥
-  pub same_below : (e : ℕ) → e < least → (IsOneOf s e ↔ IsOneOf t e)

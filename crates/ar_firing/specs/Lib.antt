@@ -4,3 +4,4 @@ pub mod Operands
 pub mod Forest
 pub mod Replays
 pub mod Rules
+pub mod Listed

@@ -1,18 +1,20 @@
 //! Cuts and conflict sets, by two tests of sets of events.
 
-ghost use Rattle.std.specs.Prelude.{ℕ, Bool, false, List, ◌≡◌, ◌↔◌};
+ghost use Rattle.std.specs.Prelude.{ℕ, Bool, false, List, ◌≡◌, ◌↔◌, reverse};
 ghost use Rattle.domains.specs.declared.Value.{Value};
-ghost use Rattle.typed_expr.specs.declared.expr.Expr.{Expr};
+ghost use Rattle.typed_expr.specs.declared.expr.Expr.{Expr, out-Expr};
 ghost use Rattle.ar_meaning.specs.Systems.{System};
-ghost use Rattle.ar_meaning.specs.Facts.{AreKeyed};
+ghost use Rattle.ar_meaning.specs.Facts.{AreKeyed, HasValue};
 ghost use Rattle.ar_meaning.specs.Flows.{FlowFault};
 ghost use Rattle.ar_meaning.specs.Runs.{Label};
 ghost use Rattle.ar_firing.specs.Fragment.{IsStatic};
-ghost use Rattle.ar_firing.specs.Cuts.{Conflicts, Makes, IsLeast, HasNoLesser, MeetsConflict, Cut, ConflictSet, IsConflictFree, IsFirable, IsLegalOrder};
+ghost use Rattle.ar_firing.specs.Cuts.{Reaches, Conflicts, Makes, IsLeast, HasNoLesser, MeetsConflict, Cut, ConflictSet, IsConflictFree, IsFirable, IsLegalOrder};
+ghost use Rattle.typed_expr.specs.Yields.{Yields};
+ghost use Rattle.ar_firing.specs.Forest.{IsLine};
 ghost use Rattle.ar_firing.specs.Operands.{Agrees, IsFirableWith};
 
 /// Where the two tests agree with a static system in which no set meets a conflict, a set makes the value exactly where it
-/// is firable and the top test is true, and the cuts are the least such sets.
+/// is firable and the top test is true, the cuts are the least such sets, and its line fires without fault to the value.
 pub fn cuts_by_tests<V>()
     ensures no_conflict { (sys : System V) (dropped : List ℕ) → AreKeyed sys.net → IsStatic sys dropped → (observer : Expr V) (wanted : Value) (conflict top : List ℕ → Bool)
         → Agrees sys dropped observer wanted conflict top → IsConflictFree sys dropped → (set : List ℕ) (t : List Value) → IsFirable sys dropped set t → conflict set ≡ false }
@@ -22,6 +24,9 @@ pub fn cuts_by_tests<V>()
     ensures cuts { (sys : System V) (dropped : List ℕ) → AreKeyed sys.net → IsStatic sys dropped → (observer : Expr V) (wanted : Value) (conflict top : List ℕ → Bool)
         → Agrees sys dropped observer wanted conflict top → IsConflictFree sys dropped
         → (set : List ℕ) → (Cut sys dropped observer wanted set ↔ IsLeast (IsFirableWith sys dropped top) set) }
+    ensures lines { (sys : System V) (dropped : List ℕ) → AreKeyed sys.net → IsStatic sys dropped → (observer : Expr V) (wanted : Value) (conflict top : List ℕ → Bool)
+        → Agrees sys dropped observer wanted conflict top → IsConflictFree sys dropped → (set : List ℕ) (ls : List Label) → Makes sys dropped observer wanted set → IsLine sys dropped set ls
+        → (t : List Value) × Reaches sys dropped (reverse ls) t × Yields (HasValue sys.net t) (out-Expr V observer) wanted }
 {}
 
 /// Where the two tests agree with a static system, it is free of conflicts exactly where the conflict test is false at each

@@ -8,7 +8,9 @@ ghost use Rattle.ar_meaning.specs.Runs.{Label};
 ghost use Rattle.ar_firing.specs.Fragment.{IsStatic, IsLive};
 ghost use Rattle.ar_base.specs.Lists.{Stands, IsOneOf};
 ghost use Rattle.ar_meaning.specs.Systems.{Variable};
-ghost use Rattle.ar_firing.specs.Cuts.{IsLegalOrder, IsFirable, NoneLeaves, Within};
+ghost use Rattle.ar_firing.specs.Cuts.{IsLegalOrder, IsFirable, NoneLeaves, Within, Cut, ConflictSet};
+ghost use Rattle.typed_expr.specs.declared.expr.Expr.{Expr};
+ghost use Rattle.ar_firing.specs.Listed.{IsBefore, AreListed};
 ghost use Rattle.ar_firing.specs.Forest.{Row, ModeTree, IsModeTree, IsForest, IsLine};
 
 /// A static system has one forest.
@@ -37,7 +39,23 @@ pub fn modes_of_sets<V>()
 
 /// A firable set has one line, and fires in this order where any order of it does.
 pub fn lines<V>()
+    ensures exists { (sys : System V) (dropped set : List ℕ) (t : List Value) → IsFirable sys dropped set t → (ls : List Label) × IsLine sys dropped set ls }
     ensures legal { (sys : System V) (dropped : List ℕ) → AreKeyed sys.net → IsStatic sys dropped → (set : List ℕ) (ls : List Label) → IsLine sys dropped set ls → IsLegalOrder sys dropped set (reverse ls) }
     ensures one { (sys : System V) (dropped : List ℕ) → AreKeyed sys.net → IsStatic sys dropped → (set other : List ℕ) (ls ks : List Label) → Within set other → Within other set
         → IsLine sys dropped set ls → IsLine sys dropped other ks → ls ≡ ks }
+{}
+
+/// The cuts of a value are listed in one way, and so are the conflict sets.
+pub fn one_listing<V>()
+    ensures cuts { (sys : System V) (dropped : List ℕ) (observer : Expr V) (wanted : Value) (xs ys : List (List ℕ)) → AreListed (Cut sys dropped observer wanted) xs
+        → AreListed (Cut sys dropped observer wanted) ys → xs ≡ ys }
+    ensures conflict_sets { (sys : System V) (dropped : List ℕ) (xs ys : List (List ℕ)) → AreListed (ConflictSet sys dropped) xs → AreListed (ConflictSet sys dropped) ys → xs ≡ ys }
+{}
+
+/// Sets of events are in a strict order: none is before one with the same members, of two at most one is before the other,
+/// and what is before a set is before those after it.
+pub fn order_of_sets()
+    ensures not_itself { (s t : List ℕ) → IsBefore s t → Within s t → ⊥ }
+    ensures not_both { (s t : List ℕ) → IsBefore s t → IsBefore t s → ⊥ }
+    ensures then { (s t u : List ℕ) → IsBefore s t → IsBefore t u → IsBefore s u }
 {}

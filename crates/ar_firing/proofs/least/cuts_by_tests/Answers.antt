@@ -2,6 +2,7 @@ use Rattle.std.proofs.Common.{ℕ, List}
 use Rattle.ar_firing.specs.Cuts.{Makes}
 use Rattle.ar_firing.specs.Operands.{IsFirableWith}
 use Rattle.ar_firing.proofs.Cutting.{made_is_counted, counted_is_made, no_conflict}
+use Rattle.ar_firing.proofs.MakingLines.{line_makes}
 use Rattle.ar_firing.proofs.LeastSets.{least_on}
 use Rattle.ar_firing.proofs.least.cuts_by_tests.Goals as goal
 
@@ -23,3 +24,7 @@ returns-clause-cuts g c = λ sys dropped keyed static observer wanted conflict t
       λ m. least_on (IsFirableWith sys dropped top) (Makes sys dropped observer wanted) back (λ s l. on s l.has) m,
       λ f. least_on (Makes sys dropped observer wanted) (IsFirableWith sys dropped top) on (λ s l. back s l.has) f,
     )
+
+pub returns-clause-lines : goal.returns-clause-lines
+returns-clause-lines g c = λ sys dropped keyed static observer wanted conflict top agrees free set ls m h.
+    line_makes sys dropped keyed static observer wanted conflict top agrees (no_conflict sys dropped keyed static observer wanted conflict top agrees free) m h

@@ -4,5 +4,6 @@ mod Gathering
 mod Forms
 mod Loops
 mod Arms
+pub mod Kinded
 pub mod Renaming
 pub mod Facts

@@ -4,6 +4,7 @@
 mod env;
 mod expr;
 mod fold;
+mod kinds;
 mod possible;
 mod sets;
 mod total;
@@ -11,6 +12,7 @@ mod value_set;
 
 pub use env::Env;
 pub use expr::{Expr, Relation, ValueKind};
+pub use kinds::typed;
 pub use possible::{eval_set, possible_values};
 pub use total::eval_total;
 pub use value_set::ValueSet;

@@ -5,5 +5,6 @@ mod Forms
 mod Loops
 mod Arms
 pub mod Kinded
+pub mod Valued
 pub mod Renaming
 pub mod Facts

@@ -18,3 +18,6 @@ pub use laws::{count_law, expression_laws, renaming_laws};
 pub use possible::{eval_set, possible_values};
 pub use total::eval_total;
 pub use value_set::ValueSet;
+
+#[cfg(test)]
+mod tests;

@@ -1,0 +1,73 @@
+-- Where the two tests agree with a static system that has no conflict, a set makes the value exactly where it is firable and the top test is true.
+use Rattle.std.proofs.Common.{◌≡◌, ℕ, Bool, true, false, List, map, refl, sym, subst}
+use Rattle.ar_base.specs.Lists.{Stands, IsOneOf}
+use Rattle.typed_expr.specs.Yields.{Yields}
+use Rattle.ar_meaning.specs.Systems.{System}
+use Rattle.ar_meaning.specs.Facts.{AreKeyed, HasValue}
+use Rattle.ar_meaning.specs.Runs.{Label}
+use Rattle.ar_firing.specs.Fragment.{IsStatic}
+use Rattle.ar_firing.specs.Cuts.{MeetsConflict, IsConflictFree, IsFirable, AreEvents, Makes, Within}
+use Rattle.ar_meaning.specs.Found.{IsAnswer}
+use Rattle.ar_firing.specs.Operands.{Agrees, HasFlows, IsFirableWith}
+use Rattle.domains.specs.declared.Value.{Value}
+use Rattle.typed_expr.specs.declared.expr.Expr.{Expr, out-Expr}
+use Rattle.ar_meaning.proofs.OneAnswer.{flows_same}
+use Rattle.ar_meaning.proofs.StatesAlone.{same_flows}
+use Rattle.ar_firing.proofs.Ends.{came, firable_same}
+use Rattle.ar_firing.proofs.EachHasOrder.{has_order}
+use Rattle.ar_firing.proofs.SameSets.{firable_as, events_within, set_within}
+use Rattle.ar_meaning.specs.Flows.{Flows, FlowFault, Fails}
+
+module _ {V : Type 0} (sys : System V) (dropped : List ℕ) (keyed : AreKeyed sys.net) (static : IsStatic sys dropped) (observer : Expr V) (wanted : Value) (conflict top : List ℕ → Bool)
+    (agrees : Agrees sys dropped observer wanted conflict top) (free : (set : List ℕ) (t : List Value) → IsFirable sys dropped set t → conflict set ≡ false) where
+  total : (set : List ℕ) (t : List Value) → IsFirable sys dropped set t → HasFlows sys.net t
+  total set t f = let s = agrees.total set t f (free set t f) in record { values = s.values; flows = s.flows }
+
+  answered : {P : Type 0} (b : Bool) → IsAnswer b P → P → b ≡ true
+  answered true h p = refl
+  answered false h p = absurd (h p)
+
+  answer : {P : Type 0} (b : Bool) → IsAnswer b P → b ≡ true → P
+  answer true h e = h
+  answer false h e = cc
+
+  pub made_is_counted : {set : List ℕ} → Makes sys dropped observer wanted set → IsFirableWith sys dropped top set
+  made_is_counted {set = set} m =
+      let c = came sys dropped keyed static m.order.reaches in
+      let f = firable_as sys dropped (events_within m.order.labels set m.order.events) (set_within m.order.labels set m.order.events) c.is_firable in
+      let s = agrees.total set c.values f (free set c.values f) in
+      let e = flows_same sys.net c.flows s.flows in
+      let u : m.values ≡ s.values = cc in
+      record { values = c.values; is_firable = f; holds = answered _ s.shows (subst (λ z. Yields (HasValue sys.net z) (out-Expr V observer) wanted) u m.shows) }
+
+  pub counted_is_made : {set : List ℕ} → IsFirableWith sys dropped top set → Makes sys dropped observer wanted set
+  counted_is_made {set = set} i =
+      let o = has_order sys dropped keyed static set (λ part t f w k. total part t f) i.is_firable (record { each = λ e o. o }) in
+      let c = came sys dropped keyed static o.1.reaches in
+      let s = agrees.total set i.values i.is_firable (free set i.values i.is_firable) in
+      let h = firable_same sys dropped keyed static c.is_firable i.is_firable (events_within o.1.labels set o.1.events) (set_within o.1.labels set o.1.events) in
+      let e = flows_same sys.net (same_flows sys.net h c.flows) s.flows in
+      let u : o.0 ≡ s.values = cc in
+      record { values = o.0; order = o.1; shows = subst (λ z. Yields (HasValue sys.net z) (out-Expr V observer) wanted) (sym u) (answer _ s.shows i.holds) }
+
+-- where no list meets a conflict, the conflict test is false at each firable set
+module _ {V : Type 0} (sys : System V) (dropped : List ℕ) (keyed : AreKeyed sys.net) (static : IsStatic sys dropped) (observer : Expr V) (wanted : Value) (conflict top : List ℕ → Bool)
+    (agrees : Agrees sys dropped observer wanted conflict top) (free : IsConflictFree sys dropped) where
+  flows_at : (part : List ℕ) (t : List Value) → IsFirable sys dropped part t → ((f : FlowFault) → Flows sys.net t (Fails f) → (set : List ℕ) × MeetsConflict sys dropped set) → HasFlows sys.net t
+  flows_at part t f met = go (conflict part) refl
+    where
+      go : (b : Bool) → conflict part ≡ b → HasFlows sys.net t
+      go true e = let k = agrees.fault part t f e in let m = met k.fault k.flows in absurd (free m.0 m.1)
+      go false e = let s = agrees.total part t f e in record { values = s.values; flows = s.flows }
+
+  pub no_conflict : (set : List ℕ) (t : List Value) → IsFirable sys dropped set t → conflict set ≡ false
+  no_conflict set t f = go (conflict set) refl
+    where
+      go : (b : Bool) → conflict set ≡ b → conflict set ≡ false
+      go false e = e
+      go true e =
+          let o = has_order sys dropped keyed static set (λ part t f w k. flows_at part t f k) f (record { each = λ e o. o }) in
+          let c = came sys dropped keyed static o.1.reaches in
+          let h = firable_same sys dropped keyed static c.is_firable f (events_within o.1.labels set o.1.events) (set_within o.1.labels set o.1.events) in
+          let k = agrees.fault set t f e in
+          let i = flows_same sys.net (same_flows sys.net h c.flows) k.flows in cc

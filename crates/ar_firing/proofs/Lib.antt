@@ -1,0 +1,16 @@
+pub mod Firing
+pub mod Ends
+pub mod EachHasOrder
+pub mod InOrder
+pub mod SameSets
+pub mod Cutting
+pub mod OrderedSets
+pub mod Without
+pub mod Meeting
+pub mod OneForest
+pub mod Legal
+pub mod Lines
+pub mod ConflictLines
+pub mod Replays
+pub mod RulesHold
+pub mod LeastSets

@@ -1,0 +1,5 @@
+use Rattle.ar_firing.proofs.OneForest.{forest_same}
+use Rattle.ar_firing.proofs.listing.one_forest.Goals as goal
+
+pub returns : goal.returns
+returns g c = record { forests = λ sys dropped keyed static ts us a b. forest_same sys dropped keyed static a b }

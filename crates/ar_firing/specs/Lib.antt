@@ -1,0 +1,6 @@
+pub mod Fragment
+pub mod Cuts
+pub mod Operands
+pub mod Forest
+pub mod Replays
+pub mod Rules

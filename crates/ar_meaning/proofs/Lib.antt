@@ -1,0 +1,10 @@
+pub mod Least
+pub mod OneAnswer
+pub mod OneRun
+pub mod ImageTurned
+pub mod ImageFlows
+pub mod ImageRuns
+pub mod ImageJoined
+pub mod ChangedLeaves
+pub mod ImageBoth
+pub mod StatesAlone

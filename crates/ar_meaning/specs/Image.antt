@@ -1,0 +1,61 @@
+-- Systems that differ in what stands for their variables alone.
+use Rattle.std.specs.Prelude.{◌≡◌, Bool, List, [], ◌∷◌}
+use Rattle.ar_base.specs.Lists.{Along}
+use Rattle.typed_expr.specs.Renames.{Renames}
+use Rattle.typed_expr.specs.declared.expr.Expr.{Expr, out-Expr}
+use Rattle.ar_meaning.specs.Systems.{Assign, Variable, Transition, Way, Leaf, Joint, Branches, Empty, Branch, Event, Net, System}
+
+-- the expressions differ in their variables alone, which are related
+pub record Expr_renames {V W : Type 0} (same : V → W → Type 0) (e : Expr V) (f : Expr W) : Type 0 where
+  pub renames : Renames same (out-Expr V e) (out-Expr W f)
+
+-- the same of conditions, which have the same truth values
+pub data Conditions_rename {V W : Type 0} (same : V → W → Type 0) : List (Expr V × Bool) → List (Expr W × Bool) → Type 0 where
+  none : Conditions_rename same [] []
+  one_and : {e : Expr V} {f : Expr W} {b : Bool} {es : List (Expr V × Bool)} {fs : List (Expr W × Bool)} → Renames same (out-Expr V e) (out-Expr W f)
+      → Conditions_rename same es fs → Conditions_rename same ((e, b) ∷ es) ((f, b) ∷ fs)
+
+pub record Assign_renames {V W : Type 0} (same : V → W → Type 0) (a : Assign V) (b : Assign W) : Type 0 where
+  pub target : same a.target b.target
+  pub conditions : Conditions_rename same a.conditions b.conditions
+  pub value : Renames same (out-Expr V a.value) (out-Expr W b.value)
+
+pub record Variable_renames {V W : Type 0} (same : V → W → Type 0) (x : Variable V) (y : Variable W) : Type 0 where
+  pub key : same x.key y.key
+  pub unit : x.unit ≡ y.unit
+  pub domain : x.domain ≡ y.domain
+  pub is_state : x.is_state ≡ y.is_state
+  pub value : x.value ≡ y.value
+
+pub record Transition_renames {V W : Type 0} (same : V → W → Type 0) (d : Transition V) (e : Transition W) : Type 0 where
+  pub guard : Renames same (out-Expr V d.guard) (out-Expr W e.guard)
+  pub action : Along (Assign_renames same) d.action e.action
+
+mutual
+  -- the ways have the same joints and marks, and their transitions differ in their variables alone
+  pub data Way_renames {V W : Type 0} (same : V → W → Type 0) : Way V → Way W → Type 0 where
+    leaves : {d : Transition V} {e : Transition W} → Transition_renames same d e → Way_renames same (Leaf d) (Leaf e)
+    joints : {bs : Branches (Transition V)} {cs : Branches (Transition W)} → Branches_rename same bs cs → Way_renames same (Joint bs) (Joint cs)
+
+  pub data Branches_rename {V W : Type 0} (same : V → W → Type 0) : Branches (Transition V) → Branches (Transition W) → Type 0 where
+    no_branch : Branches_rename same Empty Empty
+    branch : {must : Bool} {v : Way V} {w : Way W} {bs : Branches (Transition V)} {cs : Branches (Transition W)} → Way_renames same v w → Branches_rename same bs cs
+        → Branches_rename same (Branch must v bs) (Branch must w cs)
+
+pub record Event_renames {V W : Type 0} (same : V → W → Type 0) (e : Event V) (f : Event W) : Type 0 where
+  pub unit : e.unit ≡ f.unit
+  pub hidden : e.hidden ≡ f.hidden
+  pub ways : Along (Way_renames same) e.ways f.ways
+
+-- the lists of two nets agree item by item, and their variables are related one to one
+pub record IsNetImage {V W : Type 0} (same : V → W → Type 0) (here : Net V) (there : Net W) : Type 0 where
+  pub variables : Along (Variable_renames same) here.variables there.variables
+  pub assertions : Along (Assign_renames same) here.assertions there.assertions
+  pub one : (x : V) (y z : W) → same x y → same x z → y ≡ z
+  pub one_back : (x y : V) (z : W) → same x z → same y z → x ≡ y
+
+-- the lists of two systems agree item by item, and their variables are related one to one
+pub record IsImage {V W : Type 0} (same : V → W → Type 0) (here : System V) (there : System W) : Type 0 where
+  pub net : IsNetImage same here.net there.net
+  pub events : Along (Event_renames same) here.events there.events
+  pub observers : Along (Expr_renames same) here.observers there.observers

@@ -1,0 +1,11 @@
+pub mod Systems
+pub mod Facts
+pub mod Flows
+pub mod Ways
+pub mod Steps
+pub mod Runs
+pub mod Expand
+pub mod Numbered
+pub mod Image
+pub mod ExpandImage
+pub mod Found

@@ -1,0 +1,24 @@
+//! The facts that follow from a state.
+
+ghost use Rattle.std.specs.Prelude.{ℕ, List, Bool, IsTrue, ◌≡◌, true};
+ghost use Rattle.ar_base.specs.Lists.{Stands, IsOneOf};
+ghost use Rattle.domains.specs.declared.Value.{Value};
+ghost use Rattle.typed_expr.specs.Yields.{Yields};
+ghost use Rattle.typed_expr.specs.declared.expr.Expr.{out-Expr};
+ghost use Rattle.ar_meaning.specs.Systems.{Assign, Variable, Net};
+ghost use Rattle.ar_meaning.specs.Facts.{Passes, Allows, IsGiven, FactOf};
+ghost use Rattle.ar_meaning.specs.Flows.{Flows, Outcome};
+
+/// The facts hold what the state gives and what each assignment adds that they reach, they are the least such, and
+/// more values give more facts.
+pub fn facts_are_least<V>()
+    ensures given { (net : Net V) (t : List Value) (x : V) (v : Value) → IsGiven net t x v → FactOf net t x v }
+    ensures closed { (net : Net V) (t : List Value) (a : Assign V) (v : Value) → IsOneOf net.assertions a → Passes (FactOf net t) a.conditions
+        → Yields (FactOf net t) (out-Expr V a.value) v → Allows net a.target v → FactOf net t a.target v }
+    ensures least { (net : Net V) (t : List Value) (holds : V → Value → Bool) → ((x : V) (v : Value) → IsGiven net t x v → IsTrue (holds x v))
+        → ((a : Assign V) (v : Value) → IsOneOf net.assertions a → Passes (λ x w. IsTrue (holds x w)) a.conditions
+        → Yields (λ x w. IsTrue (holds x w)) (out-Expr V a.value) v → Allows net a.target v → IsTrue (holds a.target v))
+        → (x : V) (v : Value) → FactOf net t x v → IsTrue (holds x v) }
+    ensures more { (net : Net V) (t u : List Value) → ((x : V) (v : Value) → IsGiven net t x v → IsGiven net u x v)
+        → (x : V) (v : Value) → FactOf net t x v → FactOf net u x v }
+{}

@@ -1,8 +1,8 @@
 -- Texts that are cut into pieces, piece by piece.
-use Rattle.std.proofs.Common.{◌≡◌, ℕ, zero, suc, ◌+◌, ◌<◌, ◌≤◌, ◌⊎◌, inl, inr, Bool, true, false, not, List, [], ◌∷◌, ◌++◌, length, refl, sym, ap, ◌∙◌, subst, append_assoc, arith}
-use Rattle.std.proofs.lemmas.List.{append-nil, length-append}
+use Rattle.std.proofs.Common.{◌≡◌, ℕ, inl, inr, List, [], ◌∷◌, ◌++◌, refl, sym, ap, ◌∙◌, subst, append_assoc}
+use Rattle.std.proofs.lemmas.List.{append-nil}
 use Rattle.ar_lexer.specs.declared.token.Token.{Token}
-use Rattle.ar_lexer.specs.Tokens.{IsGap, IsToken, joined, AreCut, place_after}
+use Rattle.ar_lexer.specs.Tokens.{IsGap, IsToken, joined, AreCut}
 
 pub joined_push : (ps : List (List ℕ)) (p rest : List ℕ) → joined (ps ++ p ∷ []) rest ≡ joined ps (p ++ rest)
 joined_push [] p rest = refl
@@ -25,9 +25,15 @@ pub cut_token : (before : List ℕ) (ps : List (List ℕ)) (p rest : List ℕ) (
 cut_token before [] p rest ts t h token =
     inr (t, [], ap (λ (xs : List Token). xs ++ t ∷ []) h, subst (λ (s : List ℕ). IsToken s p rest t) (append-nil before) token, refl)
 cut_token before (q ∷ ps) p rest ts t (inl h) token =
-    inl (subst (IsGap q) (sym (joined_push ps p rest)) h.0,
-      cut_token (before ++ q) ps p rest ts t h.1 (subst (λ (s : List ℕ). IsToken s p rest t) (sym (append_assoc before q (joined ps []))) token))
+    inl (
+      subst (IsGap q) (sym (joined_push ps p rest)) h.0,
+      cut_token (before ++ q) ps p rest ts t h.1 (subst (λ (s : List ℕ). IsToken s p rest t) (sym (append_assoc before q (joined ps []))) token),
+    )
 cut_token before (q ∷ ps) p rest ts t (inr h) token =
-    inr (h.0, h.1 ++ t ∷ [], ap (λ (xs : List Token). xs ++ t ∷ []) h.2,
+    inr (
+      h.0,
+      h.1 ++ t ∷ [],
+      ap (λ (xs : List Token). xs ++ t ∷ []) h.2,
       subst (λ (s : List ℕ). IsToken before q s h.0) (sym (joined_push ps p rest)) h.3,
-      cut_token (before ++ q) ps p rest h.1 t h.4 (subst (λ (s : List ℕ). IsToken s p rest t) (sym (append_assoc before q (joined ps []))) token))
+      cut_token (before ++ q) ps p rest h.1 t h.4 (subst (λ (s : List ℕ). IsToken s p rest t) (sym (append_assoc before q (joined ps []))) token),
+    )

@@ -1,21 +1,20 @@
 -- What the first byte of a token's text says of its kind.
-use Rattle.std.proofs.Common.{◌≡◌, ◌≢◌, ℕ, zero, suc, ◌+◌, ◌-◌, ◌<◌, ◌≤◌, ◌⊎◌, inl, inr, Bool, true, false, not, ◌&&◌, ◌||◌, Some, None, List, [], ◌∷◌, ◌++◌, length, take, drop, get_or, refl, sym, ap, ◌∙◌, subst, append_assoc, arith}
-use Rattle.std.specs.Prelude.{◌==◌, codes, nat_le}
+use Rattle.std.proofs.Common.{◌≡◌, ℕ, ◌+◌, ◌≤◌, ◌⊎◌, inl, inr, Bool, true, false, not, ◌&&◌, ◌||◌, Some, List, [], ◌∷◌, ◌++◌, length, take, drop, get_or, refl, sym, ap, ◌∙◌, subst, append_assoc, arith}
+use Rattle.std.specs.Prelude.{nat_le}
 use Rattle.std.specs.Char.{is_ascii_digit}
-use Rattle.std.specs.List.{prefix_len, list_all}
+use Rattle.std.specs.List.{prefix_len}
 use Rattle.std.specs.Str.{bytes_eq}
 use Rattle.std.proofs.lemmas.List.{length-append, take-append-drop, drop_at, length-take-le}
 use Rattle.std.proofs.lemmas.Bool.{leb-true}
 use Rattle.std.proofs.lemmas.List.Sums.{AllPass-from_list_all}
 use Rattle.std.proofs.lemmas.List.Quantifiers.{position-Some}
 use Rattle.std.proofs.lemmas.Slice.Eq.{bytes_eq-Decides}
-use Rattle.ar_lexer.specs.Spelling.{signs, place_in, AllPass, is_letter, is_word_byte, IsWord, IsDigits, IsReal, IsOfKind, IsTokenText, word, whole, real, sign}
+use Rattle.ar_lexer.specs.Spelling.{signs, place_in, is_letter, is_word_byte, IsWord, IsDigits, IsReal, IsOfKind, IsTokenText, word, whole, real, sign}
 use Rattle.ar_lexer.specs.declared.token.TokenKind.{TokenKind}
-use Rattle.ar_lexer.specs.declared.token.TokenKind.TheVariants.{Name, Whole, Real, Sign, Reserved, End}
-use Rattle.ar_lexer.specs.Tokens.{is_blank, BeginsComment, IsLongest, IsTokenOf}
-use Rattle.ar_lexer.specs.Scans.{IsLongestFront, HeadPasses}
-use Rattle.ar_lexer.proofs.RunLemmas.{letter_no_digit, letter_of_word, blank_letter, blank_digit, run_passes, run_longest, run_exact}
-use Rattle.ar_lexer.proofs.NumberLemmas.{cons_head, cons_tail, digits_pass, digits_longest, tail_fails}
+use Rattle.ar_lexer.specs.Tokens.{is_blank, BeginsComment, IsTokenOf}
+use Rattle.ar_lexer.specs.Scans.{IsLongestFront}
+use Rattle.ar_lexer.proofs.RunLemmas.{letter_no_digit, letter_of_word, blank_letter, blank_digit, run_longest, run_exact}
+use Rattle.ar_lexer.proofs.NumberLemmas.{cons_head, digits_pass, digits_longest, tail_fails}
 use Rattle.ar_lexer.specs.Spelling.{IsTail}
 
 -- Signs
@@ -142,9 +141,9 @@ pub token_front : (kind : TokenKind) (rest : List ℕ) (n : ℕ) → n ≤ lengt
 token_front kind rest n within of longest none = record {
   of_kind = of;
   longest = λ front back e h.
-    let l = longest front back (sym (take-append-drop n rest) ∙ e) h in
-    let k : length (take n rest) ≡ n = length-take-le n rest within in
-    omega (arith, l, k);
+      let l = longest front back (sym (take-append-drop n rest) ∙ e) h in
+      let k : length (take n rest) ≡ n = length-take-le n rest within in
+      omega (arith, l, k);
   no_comment = λ c. none (subst BeginsComment (take-append-drop n rest) c);
 }
 

@@ -50,15 +50,17 @@ fraction_split b rest front back e h =
 pub fraction_made : (b : ℕ) (rest : List ℕ) → b ≡ 46 → prefix_len is_ascii_digit rest ≢ 0 → IsLongestFront IsFraction (b ∷ rest) (1 + prefix_len is_ascii_digit rest)
 fraction_made b rest dot some = record {
   within = let w = prefix_len-le-length is_ascii_digit rest in omega (arith, w);
-  is = λ l. (take (prefix_len is_ascii_digit rest) rest,
+  is = λ l. (
+    take (prefix_len is_ascii_digit rest) rest,
     (let q : 1 + prefix_len is_ascii_digit rest ≡ suc (prefix_len is_ascii_digit rest) = omega arith in
-     ap (λ n. take n (b ∷ rest)) q ∙ ap (λ x. x ∷ take (prefix_len is_ascii_digit rest) rest) dot),
-    digits_run rest some);
+        ap (λ n. take n (b ∷ rest)) q ∙ ap (λ x. x ∷ take (prefix_len is_ascii_digit rest) rest) dot),
+    digits_run rest some,
+  );
   none_longer = λ front back e h.
-    let s = fraction_split b rest front back e h in
-    let l : length h.0 ≤ prefix_len is_ascii_digit rest = digits_longest h.0 rest back s.1.0 h.2 in
-    let n = s.1.1 in
-    omega (arith, l, n);
+      let s = fraction_split b rest front back e h in
+      let l : length h.0 ≤ prefix_len is_ascii_digit rest = digits_longest h.0 rest back s.1.0 h.2 in
+      let n = s.1.1 in
+      omega (arith, l, n);
 }
 
 pub fraction_no_dot : (b : ℕ) (rest : List ℕ) → b ≢ 46 → IsLongestFront IsFraction (b ∷ rest) 0
@@ -73,10 +75,10 @@ fraction_no_digit b rest none = record {
   within = omega arith;
   is = λ l. absurd (omega (arith, l));
   none_longer = λ front back e h.
-    let s = fraction_split b rest front back e h in
-    let l : length h.0 ≤ prefix_len is_ascii_digit rest = digits_longest h.0 rest back s.1.0 h.2 in
-    let m = digits_some h.0 h.2 in
-    absurd (omega (arith, l, m, none));
+      let s = fraction_split b rest front back e h in
+      let l : length h.0 ≤ prefix_len is_ascii_digit rest = digits_longest h.0 rest back s.1.0 h.2 in
+      let m = digits_some h.0 h.2 in
+      absurd (omega (arith, l, m, none));
 }
 
 -- Exponents
@@ -142,9 +144,9 @@ exponent_no_digit b rest none = record {
   within = omega arith;
   is = λ l. absurd (omega (arith, l));
   none_longer = λ front back e h.
-    let l = (exponent_digits b rest front back e h).1 in
-    let m = digits_some h.2 h.6 in
-    absurd (omega (arith, l, m, none));
+      let l = (exponent_digits b rest front back e h).1 in
+      let m = digits_some h.2 h.6 in
+      absurd (omega (arith, l, m, none));
 }
 
 -- as many bytes as two numbers say
@@ -160,15 +162,21 @@ exponent_made b rest mark within some =
     let d = prefix_len is_ascii_digit (drop (sign_len rest) rest) in
     record {
       within = (let w = prefix_len-le-length is_ascii_digit (drop s rest) in let n : length (drop s rest) ≡ length rest - s = length-drop s rest in omega (arith, w, n, within));
-      is = λ l. (b ∷ [], take s rest, take d (drop s rest),
+      is = λ l. (
+        b ∷ [],
+        take s rest,
+        take d (drop s rest),
         (let q : 1 + s + d ≡ suc (s + d) = omega arith in
-         ap (λ n. take n (b ∷ rest)) q ∙ ap (λ (t : List ℕ). b ∷ t) (take_sum s d rest)),
-        mark_from b mark, sign_taken rest, digits_run (drop s rest) some);
+            ap (λ n. take n (b ∷ rest)) q ∙ ap (λ (t : List ℕ). b ∷ t) (take_sum s d rest)),
+        mark_from b mark,
+        sign_taken rest,
+        digits_run (drop s rest) some,
+      );
       none_longer = λ front back e h.
-        let x = exponent_split b rest front back e h in
-        let y = exponent_digits b rest front back e h in
-        let a = y.0 in let c = y.1 in let n = x.1.1 in
-        omega (arith, a, c, n);
+          let x = exponent_split b rest front back e h in
+          let y = exponent_digits b rest front back e h in
+          let a = y.0 in let c = y.1 in let n = x.1.1 in
+          omega (arith, a, c, n);
     }
 
 -- Fractions with exponents

@@ -1,19 +1,18 @@
 -- Comments, signs, words and numbers at the front of a text.
-use Rattle.std.proofs.Common.{◌≡◌, ◌≢◌, ℕ, zero, suc, ◌+◌, ◌-◌, ◌<◌, ◌≤◌, ◌^◌, ◌⊎◌, inl, inr, Bool, true, false, not, cond, Some, None, Option, List, [], ◌∷◌, ◌++◌, length, take, drop, get_or, refl, sym, ap, ◌∙◌, subst, append_assoc, arith}
-use Rattle.std.specs.Prelude.{◌==◌, codes, ℤ, pos}
+use Rattle.std.proofs.Common.{◌≡◌, ◌≢◌, ℕ, zero, suc, ◌+◌, ◌-◌, ◌<◌, ◌≤◌, ◌^◌, inl, inr, Bool, true, false, not, cond, Some, None, List, [], ◌∷◌, ◌++◌, length, take, drop, get_or, refl, sym, ap, ◌∙◌, subst, append_assoc, arith}
+use Rattle.std.specs.Prelude.{codes, ℤ, pos}
 use Rattle.std.specs.Char.{is_ascii_digit}
 use Rattle.std.specs.List.{prefix_len}
-use Rattle.std.proofs.lemmas.List.{length-append, length-drop, take-append-drop, take_more, take_rest, take_all, get_or_at, get_or-take, get_or-append-add, drop_at, length-take-le}
+use Rattle.std.proofs.lemmas.List.{length-append, length-drop, take-append-drop, take_more, get_or_at, get_or-take, get_or-append-add, length-take-le}
 use Rattle.std.proofs.lemmas.List.Sums.{prefix_len-le-length}
 use Rattle.ar_lexer.specs.declared.token.TokenKind.{TokenKind}
-use Rattle.ar_lexer.specs.declared.token.TokenKind.TheVariants.{Name, Whole, Real, Sign, Reserved, End}
-use Rattle.ar_lexer.specs.declared.piece.Piece.{Piece}
-use Rattle.ar_lexer.specs.declared.piece.Piece.TheVariants.{Gap, Text, OpenComment, TooLarge, Nothing}
-use Rattle.ar_lexer.specs.Spelling.{signs, reserved_words, place_in, AllPass, is_letter, is_word_byte, IsWord, IsDigits, IsReal, IsTail, number_of, IsOfKind, IsTokenText}
-use Rattle.ar_lexer.specs.Tokens.{is_blank, is_line_feed, IsGap, blank, line_comment, block_comment, IsLineEnd, Closes, BeginsComment, IsOpenComment, IsTooLarge, BeginsNothing, IsLongest, IsTokenOf}
+use Rattle.ar_lexer.specs.declared.token.TokenKind.TheVariants.{Whole, Sign}
+use Rattle.ar_lexer.specs.declared.piece.Piece.TheVariants.{Gap, Text}
+use Rattle.ar_lexer.specs.Spelling.{signs, place_in, AllPass, is_letter, is_word_byte, IsWord, IsDigits, IsReal, IsTail, number_of, IsOfKind, IsTokenText}
+use Rattle.ar_lexer.specs.Tokens.{is_blank, is_line_feed, blank, line_comment, block_comment, IsLineEnd, Closes, BeginsComment, IsTooLarge, BeginsNothing}
 use Rattle.ar_lexer.specs.Scans.{ClosesFirst, HeadPasses, IsLongestFront, IsPieceAt, IsSignFront, IsSignOfLen}
-use Rattle.ar_lexer.proofs.RunLemmas.{HeadFails, letter_no_digit, letter_of_word, run_passes, run_stops}
-use Rattle.ar_lexer.proofs.NumberLemmas.{cons_head, cons_tail, digits_from, digits_run, take_sum}
+use Rattle.ar_lexer.proofs.RunLemmas.{HeadFails, letter_of_word, run_passes, run_stops}
+use Rattle.ar_lexer.proofs.NumberLemmas.{cons_head, digits_run, take_sum}
 use Rattle.ar_lexer.proofs.FormLemmas.{sign_short, word_fronts, number_fronts, sign_fronts, token_front, comment_head}
 
 -- The end of a comment
@@ -23,10 +22,13 @@ NotClosedBefore bytes n = (k : ℕ) → k < n → get_or bytes k 0 ≡ 42 → ge
 
 -- where a `*/` stands
 closes_there : (text front back : List ℕ) → text ≡ front ++ (codes "*/" ++ back) → (get_or text (length front) 0 ≡ 42) × ((get_or text (length front + 1) 0 ≡ 47) × (length text ≡ length front + 2 + length back))
-closes_there text front back e =
-    (ap (λ (s : List ℕ). get_or s (length front) 0) e ∙ get_or_at front 42 (47 ∷ back) 0 (length front) refl,
-     (ap (λ (s : List ℕ). get_or s (length front + 1) 0) e ∙ get_or-append-add front (42 ∷ 47 ∷ back) 1 0,
-      (let n : length text ≡ length front + suc (suc (length back)) = ap length e ∙ length-append front (42 ∷ 47 ∷ back) in omega (arith, n))))
+closes_there text front back e = (
+  ap (λ (s : List ℕ). get_or s (length front) 0) e ∙ get_or_at front 42 (47 ∷ back) 0 (length front) refl,
+  (
+    ap (λ (s : List ℕ). get_or s (length front + 1) 0) e ∙ get_or-append-add front (42 ∷ 47 ∷ back) 1 0,
+    (let n : length text ≡ length front + suc (suc (length back)) = ap length e ∙ length-append front (42 ∷ 47 ∷ back) in omega (arith, n)),
+  ),
+)
 
 pub not_closed : (bytes : List ℕ) (n : ℕ) → length bytes ≤ n + 1 → NotClosedBefore bytes n → (back : List ℕ) → Closes bytes back → ⊥
 not_closed bytes n over none back (front, e) =
@@ -48,8 +50,8 @@ first_close bytes n within none (x ∷ back) (front, e) =
     let k : length (take (n + 2) bytes) ≡ n + 2 = length-take-le (n + 2) bytes within in
     let before : length front < n = omega (arith, l, k) in
     absurd (none (length front) before
-      (sym (get_or-take (n + 2) bytes (length front) 0 (omega (arith, before))) ∙ t.0)
-      (sym (get_or-take (n + 2) bytes (length front + 1) 0 (omega (arith, before))) ∙ t.1.0))
+    (sym (get_or-take (n + 2) bytes (length front) 0 (omega (arith, before))) ∙ t.0)
+    (sym (get_or-take (n + 2) bytes (length front + 1) 0 (omega (arith, before))) ∙ t.1.0))
 
 pub closes_first : (bytes : List ℕ) (n : ℕ) → n + 1 < length bytes → get_or bytes n 0 ≡ 42 → get_or bytes (n + 1) 0 ≡ 47 → NotClosedBefore bytes n → ClosesFirst bytes n
 closes_first bytes n within a b none = record {
@@ -82,22 +84,26 @@ drop_two a b n body = let q : 2 + n ≡ suc (suc n) = omega arith in ap (λ (k :
 pub line_gap : (rest body : List ℕ) (n : ℕ) → rest ≡ 47 ∷ 47 ∷ body → n ≡ prefix_len (λ b. not (is_line_feed b)) body → IsPieceAt rest (Gap (2 + n))
 line_gap rest body n e len =
     let w = prefix_len-le-length (λ b. not (is_line_feed b)) body in
-    let k : length rest ≡ suc (suc (length body)) = ap length e in
-    (omega (arith, w, k, len), omega arith,
-     line_comment (take n body)
-       (ap (take (2 + n)) e ∙ take_two 47 47 n body)
-       (subst (λ (m : ℕ). AllPass (λ b. not (is_line_feed b)) (take m body)) (sym len) (run_passes (λ b. not (is_line_feed b)) body))
-       (subst IsLineEnd (sym (ap (drop (2 + n)) e ∙ drop_two 47 47 n body ∙ ap (λ (m : ℕ). drop m body) len)) (line_end _ (run_stops (λ b. not (is_line_feed b)) body))))
+    let k : length rest ≡ suc (suc (length body)) = ap length e in (
+      omega (arith, w, k, len),
+      omega arith,
+      line_comment (take n body)
+          (ap (take (2 + n)) e ∙ take_two 47 47 n body)
+          (subst (λ (m : ℕ). AllPass (λ b. not (is_line_feed b)) (take m body)) (sym len) (run_passes (λ b. not (is_line_feed b)) body))
+          (subst IsLineEnd (sym (ap (drop (2 + n)) e ∙ drop_two 47 47 n body ∙ ap (λ (m : ℕ). drop m body) len)) (line_end _ (run_stops (λ b. not (is_line_feed b)) body))),
+    )
 
 pub block_gap : (rest body : List ℕ) (n : ℕ) → rest ≡ 47 ∷ 42 ∷ body → ClosesFirst body n → IsPieceAt rest (Gap (n + 4))
 block_gap rest body n e first =
     let w = first.within in
     let k : length rest ≡ suc (suc (length body)) = ap length e in
-    let q : n + 4 ≡ 2 + (n + 2) = omega arith in
-    (omega (arith, w, k), omega arith,
-     block_comment first.closed.0
-       (ap (λ (m : ℕ). take m rest) q ∙ ap (take (2 + (n + 2))) e ∙ take_two 47 42 (n + 2) body ∙ ap (λ (s : List ℕ). 47 ∷ 42 ∷ s) first.closed.1)
-       (subst (λ (s : List ℕ). (back : List ℕ) → Closes s back → back ≡ []) first.closed.1 first.first))
+    let q : n + 4 ≡ 2 + (n + 2) = omega arith in (
+      omega (arith, w, k),
+      omega arith,
+      block_comment first.closed.0
+          (ap (λ (m : ℕ). take m rest) q ∙ ap (take (2 + (n + 2))) e ∙ take_two 47 42 (n + 2) body ∙ ap (λ (s : List ℕ). 47 ∷ 42 ∷ s) first.closed.1)
+          (subst (λ (s : List ℕ). (back : List ℕ) → Closes s back → back ≡ []) first.closed.1 first.first),
+    )
 
 pub no_comment_short : (rest : List ℕ) → length rest < 2 → BeginsComment rest → ⊥
 no_comment_short rest short (more, inl e) = let k : length rest ≡ suc (suc (length more)) = ap length e in omega (arith, k, short)
@@ -118,9 +124,9 @@ sign_one rest p no_three no_two one = record {
   within = one.0;
   is = one.1;
   none_longer = λ front back q e h.
-    let s = sign_short front q h in
-    let a = s.0 in let b = s.1 in
-    by_len front back q e h (length front) refl a b;
+      let s = sign_short front q h in
+      let a = s.0 in let b = s.1 in
+      by_len front back q e h (length front) refl a b;
 }
   where
     by_len : (front back : List ℕ) (q : ℕ) → rest ≡ front ++ back → place_in signs front ≡ Some q → (n : ℕ) → length front ≡ n → 1 ≤ n → n ≤ 3 → n ≤ 1
@@ -158,11 +164,13 @@ word_piece kind [] n h len of = elim h [ ]
 word_piece kind (b ∷ rest) n h len of =
     let w = prefix_len-le-length is_word_byte (b ∷ rest) in
     let s = run_some is_word_byte b rest (letter_of_word b h) in
-    let within : n ≤ length (b ∷ rest) = omega (arith, w, len) in
-    (within, omega (arith, s, len),
-     token_front kind (b ∷ rest) n within (of (subst (λ (k : ℕ). IsWord (take k (b ∷ rest))) (sym len) (word_taken b rest h)))
-       (λ front back e t. let l = word_fronts b rest front back h e t in omega (arith, l, len))
-       (λ c. letter_no_slash b h (comment_head b rest c)))
+    let within : n ≤ length (b ∷ rest) = omega (arith, w, len) in (
+      within,
+      omega (arith, s, len),
+      token_front kind (b ∷ rest) n within (of (subst (λ (k : ℕ). IsWord (take k (b ∷ rest))) (sym len) (word_taken b rest h)))
+          (λ front back e t. let l = word_fronts b rest front back h e t in omega (arith, l, len))
+          (λ c. letter_no_slash b h (comment_head b rest c)),
+    )
 
 -- Numbers
 
@@ -182,9 +190,11 @@ number_piece kind (b ∷ rest) d t h len tail of =
     let s = run_some is_ascii_digit b rest h in
     let v = tail.within in
     let k : length (drop d (b ∷ rest)) ≡ suc (length rest) - d = length-drop d (b ∷ rest) in
-    let within : d + t ≤ suc (length rest) = omega (arith, w, len, v, k) in
-    (within, omega (arith, s, len),
-     token_front kind (b ∷ rest) (d + t) within of (number_longest b rest d t h len tail) (λ c. digit_no_slash b h (comment_head b rest c)))
+    let within : d + t ≤ suc (length rest) = omega (arith, w, len, v, k) in (
+      within,
+      omega (arith, s, len),
+      token_front kind (b ∷ rest) (d + t) within of (number_longest b rest d t h len tail) (λ c. digit_no_slash b h (comment_head b rest c)),
+    )
 
 digits_there : (b : ℕ) (rest : List ℕ) (d : ℕ) → is_ascii_digit b ≡ true → d ≡ prefix_len is_ascii_digit (b ∷ rest) → IsDigits (take d (b ∷ rest))
 digits_there b rest d h len =
@@ -202,13 +212,17 @@ pub too_large : (rest : List ℕ) (d t : ℕ) → HeadPasses is_ascii_digit rest
 too_large [] d t h len tail none large = elim h [ ]
 too_large (b ∷ rest) d t h len tail none large =
     let w = prefix_len-le-length is_ascii_digit (b ∷ rest) in
-    let within : d ≤ length (b ∷ rest) = omega (arith, w, len) in
-    (take d (b ∷ rest), drop d (b ∷ rest), sym (take-append-drop d (b ∷ rest)), digits_there b rest d h len,
-     (λ front back e f.
-       let l = number_longest b rest d t h len tail front back (sym (take-append-drop d (b ∷ rest)) ∙ e) f in
-       let k : length (take d (b ∷ rest)) ≡ d = length-take-le d (b ∷ rest) within in
-       omega (arith, l, k, none)),
-     large)
+    let within : d ≤ length (b ∷ rest) = omega (arith, w, len) in (
+      take d (b ∷ rest),
+      drop d (b ∷ rest),
+      sym (take-append-drop d (b ∷ rest)),
+      digits_there b rest d h len,
+      (λ front back e f.
+          let l = number_longest b rest d t h len tail front back (sym (take-append-drop d (b ∷ rest)) ∙ e) f in
+          let k : length (take d (b ∷ rest)) ≡ d = length-take-le d (b ∷ rest) within in
+          omega (arith, l, k, none)),
+      large,
+    )
 
 -- The rest
 
@@ -218,9 +232,12 @@ blank_piece (b ∷ rest) some h = (omega arith, omega arith, blank b refl h)
 
 pub sign_piece : (rest : List ℕ) (p n : ℕ) → 0 < length rest → is_letter (get_or rest 0 0) ≡ false → is_ascii_digit (get_or rest 0 0) ≡ false → (BeginsComment rest → ⊥) → 1 ≤ n → IsSignFront rest p n → IsPieceAt rest (Text (Sign p) n)
 sign_piece [] p n some l d none one s = absurd (omega (arith, some))
-sign_piece (b ∷ rest) p n some l d none one s =
-    (s.within, one, token_front (Sign p) (b ∷ rest) n s.within s.is
-      (λ front back e h. let f = sign_fronts b rest front back l d e h in s.none_longer front back f.0 e f.1) none)
+sign_piece (b ∷ rest) p n some l d none one s = (
+  s.within,
+  one,
+  token_front (Sign p) (b ∷ rest) n s.within s.is
+      (λ front back e h. let f = sign_fronts b rest front back l d e h in s.none_longer front back f.0 e f.1) none,
+)
 
 pub nothing_piece : (rest : List ℕ) → 0 < length rest → is_blank (get_or rest 0 0) ≡ false → is_letter (get_or rest 0 0) ≡ false → is_ascii_digit (get_or rest 0 0) ≡ false → (BeginsComment rest → ⊥) → ((front back : List ℕ) (p : ℕ) → rest ≡ front ++ back → place_in signs front ≡ Some p → ⊥) → BeginsNothing rest
 nothing_piece [] some k l d none no_sign = absurd (omega (arith, some))

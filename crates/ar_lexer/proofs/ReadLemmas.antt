@@ -1,15 +1,13 @@
 -- How far the text has been read.
-use Rattle.std.proofs.Common.{◌≡◌, ℕ, ◌+◌, ◌<◌, ◌≤◌, ◌^◌, ◌≢◌, not, List, [], ◌∷◌, ◌++◌, length, take, drop, reverse, refl, sym, ap, ◌∙◌, subst, append_assoc, arith}
-use Rattle.std.specs.List.{count_by, suffix_len}
-use Rattle.std.proofs.lemmas.List.{append-nil, length-append, length-take-le, length-reverse, take-append-drop}
+use Rattle.std.proofs.Common.{◌≡◌, ℕ, ◌+◌, ◌<◌, ◌≤◌, ◌^◌, not, List, [], ◌∷◌, ◌++◌, length, take, drop, reverse, refl, sym, ap, ◌∙◌, subst, arith}
+use Rattle.std.proofs.lemmas.List.{length-append, length-take-le, length-reverse, take-append-drop}
 use Rattle.std.proofs.lemmas.List.Sums.{prefix_len-le-length, count_by-le-length}
 use Rattle.ar_base.specs.declared.places.Place.{Place}
 use Rattle.ar_lexer.specs.declared.token.Token.{Token}
 use Rattle.ar_lexer.specs.declared.token.TokenKind.{TokenKind}
 use Rattle.ar_lexer.specs.declared.token.TokenKind.TheVariants.{End}
 use Rattle.ar_lexer.specs.declared.token.LexFault.{LexFault}
-use Rattle.ar_lexer.specs.declared.token.LexFault.TheVariants.{Byte, OpenComment, Number, Memory}
-use Rattle.ar_lexer.specs.Tokens.{is_line_feed, place_after, IsGap, IsTokenOf, IsToken, joined, AreCut, end_of_text, AreTokens, BeginsNothing, IsOpenComment, IsTooLarge, IsFault, IsFirstFault}
+use Rattle.ar_lexer.specs.Tokens.{is_line_feed, place_after, IsGap, IsTokenOf, IsToken, joined, AreCut, end_of_text, AreTokens, IsFault, IsFirstFault}
 use Rattle.ar_lexer.specs.Scans.{Moves, IsTokenAt}
 use Rattle.ar_lexer.proofs.CutLemmas.{joined_push, joined_split, joined_last, cut_gap, cut_token}
 
@@ -25,7 +23,6 @@ pub read_start : (text : List ℕ) → HasRead text text 0 (record { line = 1; c
 read_start text = record { pieces = []; whole = refl; cut = refl; start_is = refl; there_is = refl }
 
 module _ (text rest rest' : List ℕ) (start start' n : ℕ) (there there' : Place) (found : List Token) (h : HasRead text rest start there found) (within : n ≤ length rest) (left : rest' ≡ drop n rest) (moved : start' ≡ start + n) (moves : Moves (take n rest) there there') where
-
   cut_there : AreCut [] h.pieces (take n rest ++ drop n rest) found
   cut_there = subst (λ (s : List ℕ). AreCut [] h.pieces s found) (sym (take-append-drop n rest)) h.cut
 
@@ -69,8 +66,8 @@ module _ (text rest rest' : List ℕ) (start start' n : ℕ) (there there' : Pla
     pieces = h.pieces ++ take n rest ∷ [];
     whole = whole_there;
     cut = subst (λ (s : List ℕ). AreCut [] (h.pieces ++ take n rest ∷ []) s found') (sym left)
-      (subst (λ (ts : List Token). AreCut [] (h.pieces ++ take n rest ∷ []) (drop n rest) ts) (sym pushed)
-      (cut_token [] h.pieces (take n rest) (drop n rest) found t cut_there (token_there kind t of stands)));
+        (subst (λ (ts : List Token). AreCut [] (h.pieces ++ take n rest ∷ []) (drop n rest) ts) (sym pushed)
+        (cut_token [] h.pieces (take n rest) (drop n rest) found t cut_there (token_there kind t of stands)));
     start_is = start_there;
     there_is = place_there;
   }
@@ -115,7 +112,6 @@ column_bound before =
     omega (arith, l, n)
 
 module _ (text rest : List ℕ) (start n : ℕ) (there : Place) (found : List Token) (h : HasRead text rest start there found) (small : length text ≤ 4194304) (within : n ≤ length rest) where
-
   within_text : length (joined h.pieces []) + n ≤ 4194304
   within_text =
       let e : length text ≡ length (joined h.pieces []) + length rest = ap length (h.whole ∙ joined_split h.pieces rest) ∙ length-append (joined h.pieces []) rest in

@@ -1,8 +1,8 @@
 -- Places in a table.
 use Rattle.std.proofs.lemmas.List.{length-map, get_or-map}
-use Rattle.std.proofs.Common.{◌≡◌, ℕ, ◌<◌, ◌≤◌, ◌-◌, List, [], Option, Some, None, Bool, map, true, false, not, length, get_or, sym, ap, ◌∙◌, refl, arith, subst, rules}
+use Rattle.std.proofs.Common.{◌≡◌, ℕ, ◌<◌, ◌≤◌, List, [], Some, None, Bool, map, true, false, length, get_or, sym, ap, ◌∙◌, arith, subst, rules}
 use Rattle.std.specs.Str.{bytes_eq}
-use Rattle.std.specs.List.{position, position_or_len}
+use Rattle.std.specs.List.{position_or_len}
 use Rattle.std.proofs.lemmas.List.Sums.{position_or_len_is}
 use Rattle.ar_lexer.specs.Spelling.{place_in}
 

@@ -1,5 +1,5 @@
 -- What the functions that look at the front of a text say.
-use Rattle.std.specs.Prelude.{Bool, true, ◌≡◌, ℕ, ◌+◌, ◌<◌, ◌≤◌, List, [], ◌∷◌, ◌++◌, length, take, drop, codes, Option, Some, None, cond, ◌==◌, ◌||◌}
+use Rattle.std.specs.Prelude.{Bool, true, ◌≡◌, ℕ, ◌+◌, ◌<◌, ◌≤◌, List, [], ◌∷◌, ◌++◌, length, take, drop, Option, Some, None, cond, ◌==◌, ◌||◌}
 use Rattle.ar_base.specs.declared.places.Place.{Place}
 use Rattle.ar_lexer.specs.declared.token.Token.{Token}
 use Rattle.ar_lexer.specs.declared.token.TokenKind.{TokenKind}

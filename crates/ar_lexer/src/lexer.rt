@@ -6,12 +6,10 @@ ghost use Rattle.ar_lexer.specs.Scans.{Moves, IsTokenAt};
 ghost use Rattle.ar_base.specs.Counts.{limit_of};
 ghost use Rattle.ar_base.specs.declared.counts.Count.TheVariants.{ModelBytes};
 
-use std::alloc::Global;
-
-use ar_base::{Place, Span};
-
 use crate::piece::{Piece, piece_at};
 use crate::token::{LexFault, Token, TokenKind};
+use ar_base::{Place, Span};
+use std::alloc::Global;
 
 // How far a text has been read, and the place that was reached.
 #[derive(Clone, Copy)]

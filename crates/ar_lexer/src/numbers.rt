@@ -38,9 +38,7 @@ fn sign_len(bytes: &[u8]) -> usize
     ensures within { result ≤ length bytes.now }
 {
     match bytes.first() {
-        Some(sign) => {
-            if *sign == b'+' || *sign == b'-' { 1 } else { 0 }
-        }
+        Some(sign) => { if *sign == b'+' || *sign == b'-' { 1 } else { 0 } }
         None => 0,
     }
 }

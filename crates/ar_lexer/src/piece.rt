@@ -69,7 +69,11 @@ fn comment_at(rest: &[u8]) -> Option<Piece>
 fn sign_front(rest: &[u8], len: usize) -> Option<u8>
     ensures { IsSignOfLen rest.now len result }
 {
-    if len <= rest.len() { sign_of(&rest[..len]) } else { None }
+    if len <= rest.len() {
+        sign_of(&rest[..len])
+    } else {
+        None
+    }
 }
 
 // The longest sign at the front, and its number of bytes.

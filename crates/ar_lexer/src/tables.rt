@@ -4,14 +4,47 @@ ghost use Rattle.std.specs.Prelude.{◌≡◌, ◌<◌, IfSome, length, map};
 ghost use Rattle.ar_lexer.specs.Spelling.{place_in, signs, reserved_words};
 
 const SIGNS: [&str; 27] = [
-    "{", "}", "[", "]", "(", ")", ",", ";", ":", ".", "=", ":=", "==", "!=", "<", "<=", ">", ">=", "+", "-", "*", "/",
-    "->", "!", "?", "&", ":=:",
+    "{", "}", "[", "]", "(", ")", ",", ";", ":", ".", "=", ":=", "==", "!=", "<", "<=", ">", ">=",
+    "+", "-", "*", "/", "->", "!", "?", "&", ":=:",
 ];
 
 const WORDS: [&str; 36] = [
-    "and", "as", "assertion", "block", "Boolean", "case", "class", "clones", "count", "default", "domain", "else",
-    "embeds", "end", "event", "extends", "false", "hide", "if", "init", "Integer", "main", "max", "min", "not",
-    "observer", "or", "owner", "parameter", "Real", "reset", "skip", "switch", "then", "transition", "true",
+    "and",
+    "as",
+    "assertion",
+    "block",
+    "Boolean",
+    "case",
+    "class",
+    "clones",
+    "count",
+    "default",
+    "domain",
+    "else",
+    "embeds",
+    "end",
+    "event",
+    "extends",
+    "false",
+    "hide",
+    "if",
+    "init",
+    "Integer",
+    "main",
+    "max",
+    "min",
+    "not",
+    "observer",
+    "or",
+    "owner",
+    "parameter",
+    "Real",
+    "reset",
+    "skip",
+    "switch",
+    "then",
+    "transition",
+    "true",
 ];
 
 // The place of the text in the table.

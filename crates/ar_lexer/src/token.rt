@@ -1,11 +1,10 @@
 // Tokens, and why a text has none.
 
-use std::alloc::AllocFailed;
-
-use ar_base::{Place, Span};
-
 ghost use Rattle.std.specs.Prelude.{◌≡◌};
 ghost use Rattle.ar_lexer.specs.declared.token.LexFault.TheVariants.{Memory};
+
+use ar_base::{Place, Span};
+use std::alloc::AllocFailed;
 
 /// What a token is.
 #[derive(Clone, Copy, Debug, PartialEq, Eq)]

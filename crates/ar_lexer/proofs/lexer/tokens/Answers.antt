@@ -1,5 +1,4 @@
-use Rattle.std.proofs.Common.{◌≡◌, sym, arith}
-use Rattle.ar_lexer.proofs.ReadLemmas.{read_gap, read_token, read_end, read_fault, start_fits, line_fits, column_fits}
+use Rattle.ar_lexer.proofs.ReadLemmas.{read_gap, read_token, start_fits, line_fits, column_fits}
 use Rattle.ar_lexer.proofs.lexer.tokens.Goals as goal
 
 pub advance-requires-clause-at : goal.advance-requires-clause-at

@@ -1,4 +1,4 @@
-use Rattle.std.proofs.Common.{◌≡◌, ◌∷◌, List, ℕ, sym, ap, ◌∙◌}
+use Rattle.std.proofs.Common.{◌∷◌, List, ℕ, sym, ap, ◌∙◌}
 use Rattle.ar_lexer.proofs.PieceLemmas.{two_bytes, line_gap, block_gap}
 use Rattle.ar_lexer.proofs.piece.comment_at.Goals as goal
 

@@ -3,9 +3,8 @@ use Rattle.std.proofs.lemmas.List.{take_rest}
 use Rattle.ar_lexer.specs.Spelling.{IsTail}
 use Rattle.ar_lexer.specs.Scans.{IsLongestFront}
 use Rattle.ar_lexer.specs.declared.token.TokenKind.TheVariants.{Real}
-use Rattle.ar_lexer.proofs.PieceLemmas.{number_piece, digits_taken, digits_front, real_front, too_large, whole_piece}
+use Rattle.ar_lexer.proofs.PieceLemmas.{number_piece, digits_taken, real_front, too_large, whole_piece}
 use Rattle.ar_lexer.proofs.piece.number_at.Goals as goal
-
 
 pub returns-then-tail-gt0 : goal.returns-then-tail-gt0
 returns-then-tail-gt0 c =

@@ -1,4 +1,4 @@
-use Rattle.std.proofs.Common.{◌≡◌, sym, ◌∙◌}
+use Rattle.std.proofs.Common.{sym}
 use Rattle.ar_lexer.proofs.PieceLemmas.{blank_piece, sign_piece, nothing_piece}
 use Rattle.ar_lexer.proofs.piece.piece_at.Goals as goal
 

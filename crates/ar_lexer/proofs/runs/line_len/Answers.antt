@@ -1,4 +1,4 @@
-use Rattle.std.proofs.Common.{◌≡◌, sym, arith, ap, not}
+use Rattle.std.proofs.Common.{sym, arith, ap, not}
 use Rattle.std.proofs.lemmas.List.Sums.{prefix_len_is}
 use Rattle.ar_lexer.specs.Tokens.{is_line_feed}
 use Rattle.ar_lexer.proofs.runs.line_len.Goals as goal

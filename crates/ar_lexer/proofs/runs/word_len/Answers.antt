@@ -1,4 +1,4 @@
-use Rattle.std.proofs.Common.{◌≡◌, sym, arith}
+use Rattle.std.proofs.Common.{sym, arith}
 use Rattle.std.proofs.lemmas.List.Sums.{prefix_len_is}
 use Rattle.ar_lexer.specs.Spelling.{is_word_byte}
 use Rattle.ar_lexer.proofs.runs.word_len.Goals as goal

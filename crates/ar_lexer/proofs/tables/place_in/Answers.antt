@@ -1,4 +1,4 @@
-use Rattle.std.proofs.Common.{◌≡◌, sym, arith, ap, below_more}
+use Rattle.std.proofs.Common.{sym, below_more}
 use Rattle.ar_lexer.proofs.TableLemmas.{place_in_is, place_in_none, entry_at, length_mapped, length_unmapped}
 use Rattle.ar_lexer.proofs.tables.place_in.Goals as goal
 

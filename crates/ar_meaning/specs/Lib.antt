@@ -9,3 +9,4 @@ pub mod Numbered
 pub mod Image
 pub mod ExpandImage
 pub mod Found
+pub mod TraceText

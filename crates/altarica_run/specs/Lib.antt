@@ -1,0 +1,11 @@
+pub mod Words
+pub mod Small
+pub mod Trees
+pub mod Reading
+pub mod Sound
+pub mod Meaning
+pub mod Statuses
+pub mod Jobs
+pub mod Binding
+pub mod Scripts
+pub mod Reads

@@ -6,3 +6,5 @@ pub mod SoundLemmas
 pub mod PieceLemmas
 pub mod FindLemmas
 pub mod ScriptLemmas
+pub mod ValueLemmas
+pub mod StepLemmas

@@ -9,3 +9,4 @@ pub mod Jobs
 pub mod Binding
 pub mod Scripts
 pub mod Reads
+pub mod Stepping

@@ -6,6 +6,7 @@ mod jobs;
 mod reading;
 mod scripts;
 mod status;
+mod stepping;
 mod tree;
 
 pub use status::Status;

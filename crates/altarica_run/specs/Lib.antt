@@ -10,3 +10,4 @@ pub mod Binding
 pub mod Scripts
 pub mod Reads
 pub mod Stepping
+pub mod Lines

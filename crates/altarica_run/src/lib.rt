@@ -7,6 +7,7 @@ mod reading;
 mod scripts;
 mod status;
 mod stepping;
+mod trace;
 mod tree;
 
 pub use status::Status;

@@ -8,3 +8,5 @@ pub mod FindLemmas
 pub mod ScriptLemmas
 pub mod ValueLemmas
 pub mod StepLemmas
+pub mod PutLemmas
+pub mod PlayLemmas

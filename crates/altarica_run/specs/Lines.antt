@@ -1,8 +1,9 @@
 -- The lines of a trace as the code writes them, by the numbers of names, and what a whole system keeps.
-use Rattle.std.specs.Prelude.{◌≡◌, ◌+◌, ◌<◌, ◌++◌, ℕ, Bool, true, false, List, [], ◌∷◌, Some, length, codes, decimal}
+use Rattle.std.specs.Prelude.{◌≡◌, ◌+◌, ◌<◌, ◌^◌, ◌++◌, ℕ, Bool, true, false, List, [], ◌∷◌, Option, Some, None, length, slice_get, unwrap_or, codes, decimal}
 use Rattle.ar_base.specs.Lists.{Stands}
 use Rattle.ar_meaning.specs.TraceText.{line, text_at, truth_text}
 use Rattle.altarica_run.specs.declared.binding.BoundMove.{BoundMove}
+use Rattle.altarica_run.specs.declared.stepping.Effect.{Effect}
 use Rattle.altarica_run.specs.declared.binding.BlockSystem.{BlockSystem}
 
 abbrev pub state_line : List (List ℕ) → ℕ → Bool → List ℕ
@@ -32,7 +33,13 @@ fault_line names n = line (codes "fault: " ++ (text_at names n ++ (codes ": " ++
 abbrev pub end_line : ℕ → List ℕ
 end_line steps = line (codes "end " ++ decimal steps)
 
+-- the text that a step writes, by what the event does
+abbrev pub piece_of : List (List ℕ) → ℕ → List Bool → Option Effect → List ℕ
+piece_of names e values None = fault_line names e
+piece_of names e values (Some f) = step_lines names e f.target (unwrap_or (slice_get values f.target) false) f.value
+
 -- each name is a state's or an event's, and transitions set states
 pub record IsWhole (s : BlockSystem) : Type 0 where
   pub names : length s.names ≡ length s.starts.items + length s.moves.items
+  pub small : length s.names < 2 ^ 32
   pub targets : (n : ℕ) (c : BoundMove) → Stands s.moves.items n (Some c) → c.target < length s.starts.items

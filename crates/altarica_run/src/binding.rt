@@ -1,6 +1,6 @@
 // The system that a block means: names become numbers.
 
-ghost use Rattle.std.specs.Prelude.{◌≡◌, ◌+◌, ◌<◌, ◌≤◌, ℕ, List, [], ◌∷◌, ◌++◌, Option, Some, None, map, length, IfOk, OnOk, OnSome, IfSome, OnErr, IsErrOf, IfNone, slice_set, slice_get};
+ghost use Rattle.std.specs.Prelude.{◌≡◌, ◌+◌, ◌<◌, ◌^◌, ◌≤◌, ℕ, List, [], ◌∷◌, ◌++◌, Option, Some, None, map, length, IfOk, OnOk, OnSome, IfSome, OnErr, IsErrOf, IfNone, slice_set, slice_get};
 ghost use Rattle.std.specs.Str.{IsUtf8};
 ghost use Rattle.ar_base.specs.Lists.{Stands, IsOneOf, HasNo, AreDifferent};
 ghost use Rattle.altarica_run.specs.Words.{bytes_at};
@@ -100,6 +100,7 @@ fn declare(names: &mut Names, count: usize, name: &[u8]) -> Result<(), NoSystem>
     requires { count ≡ length names.old }
     ensures ok { OnOk result (HasNo names.old (λ t. t ≡ name.now) × (names.new ≡ names.old ++ name.now ∷ [])) }
     ensures different { OnOk result (AreDifferent names.new) }
+    ensures small { OnOk result (length names.new < 2 ^ 32) }
     ensures known { IsErrOf result NoSystem.Unsound → IsUtf8 name.now → IsOneOf names.old name.now }
 {
     let Ok(text) = from_utf8(name) else {
@@ -239,6 +240,7 @@ fn starts_of(alloc: Global, block: &BlockTree) -> Result<Vec<bool>, Memory>
 fn declare_all(alloc: Global, text: &[u8], spans: &[Span]) -> Result<Names, NoSystem>
     ensures names { IfOk result (λ names. names ≡ map (bytes_at text.now) spans.now) }
     ensures different { OnOk result (AreDifferent (map (bytes_at text.now) spans.now)) }
+    ensures small { IfOk result (λ names. length names < 2 ^ 32) }
     ensures known { IsErrOf result NoSystem.Unsound → AreTexts (map (bytes_at text.now) spans.now) → AreDifferent (map (bytes_at text.now) spans.now) → ⊥ }
 {
     let mut names = Names::new(alloc);
@@ -332,6 +334,7 @@ fn all_moves(
 /// The system that the block means, at the text whose bytes its names take.
 pub fn bind(alloc: Global, text: &[u8], block: &BlockTree) -> Result<BlockSystem, NoSystem>
     ensures bound { IfOk result (λ system. IsBound (block_of text.now block.now) system) }
+    ensures small { IfOk result (λ system. length system.names < 2 ^ 32) }
     ensures sound { OnOk result (IsSound (block_of text.now block.now)) }
     ensures unsound { IsErrOf result NoSystem.Unsound → AreTexts (names_of (block_of text.now block.now)) → AreTextMoves (moves_of (block_of text.now block.now)) → IsSound (block_of text.now block.now) → ⊥ }
 {

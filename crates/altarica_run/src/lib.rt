@@ -4,6 +4,8 @@
 mod binding;
 mod jobs;
 mod reading;
+mod refusals;
+mod replaying;
 mod scripts;
 mod status;
 mod stepping;

@@ -10,3 +10,4 @@ pub mod ValueLemmas
 pub mod StepLemmas
 pub mod PutLemmas
 pub mod PlayLemmas
+pub mod EndLemmas

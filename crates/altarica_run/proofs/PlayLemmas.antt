@@ -1,5 +1,5 @@
 -- How a replay goes on, and the text of its moments.
-use Rattle.std.proofs.Common.{◌≡◌, ◌+◌, ◌<◌, ◌≤◌, ℕ, zero, suc, Bool, true, false, List, [], ◌∷◌, ◌++◌, Option, Some, None, map, length, set, slice_get, unwrap_or, refl, sym, ◌∙◌, ap, subst, arith, append_assoc}
+use Rattle.std.proofs.Common.{◌≡◌, ◌+◌, ◌<◌, ◌≤◌, ℕ, zero, suc, Bool, true, false, List, [], ◌∷◌, ◌++◌, Option, Some, None, map, length, set, slice_get, unwrap_or, refl, sym, ◌∙◌, ap, subst, arith, append_assoc, inl, inr, ◌⊎◌}
 use Rattle.std.specs.Prelude.{codes, decimal}
 use Rattle.std.proofs.lemmas.List.{append-nil, length-map, map-append}
 use Rattle.ar_base.specs.Lists.{Stands, AreDifferent}
@@ -22,6 +22,8 @@ use Rattle.altarica_run.specs.Reads.{fire_of}
 use Rattle.altarica_run.specs.Lines.{state_line, state_lines, start_lines, changed_line, step_lines, fault_line, end_line, piece_of}
 use Rattle.altarica_run.specs.Replays.{IsReplay, BeginsReplay, status_of_run}
 use Rattle.altarica_run.specs.Replays as replays
+use Rattle.ar_io.specs.Outside.{Rose, IsFront}
+use Rattle.altarica_run.specs.Outside.{Appended, Cut}
 use Rattle.altarica_run.specs.Played.{Played}
 use Rattle.altarica_run.specs.declared.stepping.Effect.{Effect}
 use Rattle.altarica_run.specs.declared.status.Status.{Status}
@@ -111,3 +113,90 @@ module _ (b : Block) where
   fault_moment sound values name e i =
       subst (λ k. MomentText (naming_of b) (system_of b) (Fire_fails (record { event = e; way = 0 }) NotEnabled) (line (codes "fault: " ++ (k ++ (codes ": " ++ codes "not enabled")))))
           (sym (label_alone sound name e i)) trace.fire_fails
+
+-- Runs
+
+trace_more : (names : Naming) (sys : s.System (List ℕ)) (ms : List Moment) (m : Moment) (text piece : List ℕ) → TraceText names sys ms text → MomentText names sys m piece → TraceText names sys (ms ++ m ∷ []) (text ++ piece)
+trace_more names sys [] m text piece trace.none p = subst (λ z. TraceText names sys (m ∷ []) z) (append-nil piece) (trace.one_and p trace.none)
+trace_more names sys (k ∷ ms) m text piece (trace.one_and {text = t} {texts = ts} q h) p =
+    subst (λ z. TraceText names sys (k ∷ (ms ++ m ∷ [])) z) (sym (append_assoc t ts piece)) (trace.one_and q (trace_more names sys ms m ts piece h p))
+
+module _ (b : Block) where
+  -- the start
+  pub played_start : (values : List Bool) → values ≡ map (λ x. x.init) b.states → Played b [] values 0 (start_lines (names_of b) values)
+  played_start values e =
+      let l : length values ≡ length b.states = ap length e ∙ length-map b.states (λ x. x.init) in
+      let t : first_values (system_of b).net.variables ≡ map Truth values = starts_from b.states ∙ ap (map Truth) (sym e) in
+      record {
+        done = Starts (map Truth values) ∷ [];
+        below = [];
+        counts = refl;
+        joins = λ rest ms g. runs.starts (subst (λ z. steps.Flowing b z (map Truth values)) (sym t) (flows_itself b (map Truth values) (length-map values Truth ∙ l))) g;
+        going = λ ms. refl;
+        trace = subst (λ z. TraceText (naming_of b) (system_of b) (Starts (map Truth values) ∷ []) z) (append-nil (start_lines (names_of b) values)) (trace.one_and (start_moment b values l) trace.none);
+      }
+
+  -- one step more
+  pub played_more : (sound : IsSound b) (cs : List Command) (values : List Bool) (n : ℕ) (text name : List ℕ) (e : ℕ) (f : Effect) → length values ≡ length b.states → IsFirable b name e
+      → Played b cs values n text → steps.Fires b values e (Some f) → Played b (cs ++ fire_of e ∷ []) (set values f.target f.value) (n + 1) (text ++ piece_of (names_of b) (length b.states + e) values (Some f))
+  played_more sound cs values n text name e f l i p h =
+      let m = Fires (record { event = e; way = 0 }) (map Truth values) (map Truth (set values f.target f.value)) in
+      record {
+        done = p.done ++ m ∷ [];
+        below = map Truth values ∷ p.below;
+        counts = omega (arith, p.counts);
+        joins = λ rest ms g. subst (λ z. Runs (system_of b) z ((p.done ++ m ∷ []) ++ ms)) (sym (append_assoc cs (fire_of e ∷ []) rest))
+            (subst (λ z. Runs (system_of b) (cs ++ fire_of e ∷ rest) z) (sym (append_assoc p.done (m ∷ []) ms))
+              (p.joins (fire_of e ∷ rest) (m ∷ ms) (runs.fires h.way h.is_way h.effect.0 g)));
+        going = λ ms. ap status_of_run (append_assoc p.done (m ∷ []) ms) ∙ p.going (m ∷ ms);
+        trace = trace_more (naming_of b) (system_of b) p.done m text (piece_of (names_of b) (length b.states + e) values (Some f)) p.trace (step_moment b sound values name e f l i h.effect.1);
+      }
+
+  ended : (cs : List Command) (values : List Bool) (n : ℕ) (text : List ℕ) (p : Played b cs values n text) → Runs (system_of b) cs (p.done ++ Ends n ∷ [])
+  ended cs values n text p =
+      subst (λ z. Runs (system_of b) z (p.done ++ Ends n ∷ [])) (append-nil cs)
+        (subst (λ z. Runs (system_of b) (cs ++ []) (p.done ++ Ends z ∷ [])) p.counts (p.joins [] (Ends (length p.below) ∷ []) runs.ends))
+
+  -- the end
+  pub replay_ends : (cs : List Command) (values : List Bool) (n : ℕ) (text : List ℕ) → Played b cs values n text → IsReplay b cs (text ++ end_line n) Done
+  replay_ends cs values n text p = record {
+    moments = p.done ++ Ends n ∷ [];
+    runs = ended cs values n text p;
+    trace = trace_more (naming_of b) (system_of b) p.done (Ends n) text (end_line n) p.trace trace.ends;
+    ends = sym (p.going (Ends n ∷ []));
+  }
+
+  -- a way that can't fire
+  pub replay_fails : (sound : IsSound b) (cs rest : List Command) (values : List Bool) (n : ℕ) (text name : List ℕ) (e : ℕ) → IsFirable b name e → Played b cs values n text → steps.Fires b values e None
+      → IsReplay b (cs ++ fire_of e ∷ rest) (text ++ piece_of (names_of b) (length b.states + e) values None) Fault
+  replay_fails sound cs rest values n text name e i p h =
+      let m = Fire_fails (record { event = e; way = 0 }) NotEnabled in
+      record {
+        moments = p.done ++ m ∷ [];
+        runs = p.joins (fire_of e ∷ rest) (m ∷ []) (runs.fails h.way h.is_way h.effect);
+        trace = trace_more (naming_of b) (system_of b) p.done m text (piece_of (names_of b) (length b.states + e) values None) p.trace (fault_moment b sound values name e i);
+        ends = sym (p.going (m ∷ []));
+      }
+
+  -- the moments so far begin the run
+  pub replay_begins : (all cs rest : List Command) (values : List Bool) (n : ℕ) (text : List ℕ) → all ≡ cs ++ rest → Played b cs values n text → BeginsReplay b all text
+  replay_begins all cs rest values n text e p = replays.first cs rest p.done n e (ended cs values n text p) p.trace
+
+-- Sinks
+
+pub appended_more : (a b c : Option (List ℕ)) (text piece : List ℕ) → Appended a b text → Appended b c piece → Appended a c (text ++ piece)
+appended_more a b c text piece h k = λ bytes e. k (bytes ++ text) (h bytes e) ∙ ap Some (append_assoc bytes text piece)
+
+pub cut_more : (a b c : Option (List ℕ)) (text piece : List ℕ) → Appended a b text → Cut b c piece → Cut a c (text ++ piece)
+cut_more a b c text piece h k = λ bytes e. let p = k (bytes ++ text) (h bytes e) in
+    (text ++ p.0, record { rest = p.1.rest; joined = append_assoc text p.0 p.1.rest ∙ ap (λ z. text ++ z) p.1.joined }, p.2 ∙ ap Some (append_assoc bytes text p.0))
+
+pub cut_none : (a b c : Option (List ℕ)) (text : List ℕ) → Appended a b text → c ≡ b → Cut a c text
+cut_none a b c text h e = λ bytes i. (text, record { rest = []; joined = append-nil text }, e ∙ h bytes i)
+
+pub cut_nothing : (a c : Option (List ℕ)) → c ≡ a → Cut a c []
+cut_nothing a c e = λ bytes i. ([], record { rest = []; joined = refl }, e ∙ i ∙ ap Some (sym (append-nil bytes)))
+
+pub rose_more : (a b c : ℕ) → a ≤ b → Rose b c → Rose a c
+rose_more a b c h (inl k) = inl (omega arith)
+rose_more a b c h (inr k) = inr k

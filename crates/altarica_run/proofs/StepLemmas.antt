@@ -49,6 +49,10 @@ flows_itself b t h = flows.all_hold
     (keeps_all b.states _ t h)
     (record { has_not = λ n a p k. stands_none n a p })
 
+-- the flows of a state are these values
+abbrev pub Flowing : Block → List Value → List Value → Type 0
+Flowing b t u = Flows (system_of b).net t (Total u)
+
 -- the values that a run starts from
 pub starts_from : (xs : List StateLine) → first_values (map variable_meant xs) ≡ map Truth (map (λ x. x.init) xs)
 starts_from [] = refl

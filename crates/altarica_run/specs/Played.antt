@@ -10,7 +10,7 @@ use Rattle.altarica_run.specs.Small.{Block}
 use Rattle.altarica_run.specs.Meaning.{system_of, naming_of}
 use Rattle.altarica_run.specs.Scripts.{IsFirable}
 use Rattle.altarica_run.specs.Outside.{Appended, Cut}
-use Rattle.altarica_run.specs.Replays.{IsReplay, BeginsReplay}
+use Rattle.altarica_run.specs.Replays.{IsReplay, BeginsReplay, status_of_run}
 use Rattle.altarica_run.specs.declared.stepping.Effect.{Effect}
 use Rattle.altarica_run.specs.declared.replaying.Ended.{Ended}
 use Rattle.altarica_run.specs.declared.replaying.Ended.TheVariants as ended
@@ -25,6 +25,7 @@ pub record Played (b : Block) (cs : List Command) (values : List Bool) (steps : 
   pub below : List (List Value)
   pub counts : length below ≡ steps
   pub joins : (rest : List Command) (moments : List Moment) → Goes (system_of b) below (map Truth values) rest moments → Runs (system_of b) (cs ++ rest) (done ++ moments)
+  pub going : (moments : List Moment) → status_of_run (done ++ moments) ≡ status_of_run moments
   pub trace : TraceText (naming_of b) (system_of b) done text
 
 -- each event has a name and a transition

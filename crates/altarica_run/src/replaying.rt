@@ -122,3 +122,26 @@ fn step<K: Sink>(
         }
     }
 }
+
+/// Replays the events and writes the trace, moment by moment.
+pub fn replay<K: Sink>(
+    alloc: Global,
+    system: &BlockSystem,
+    commands: &[u32],
+    out: &mut K,
+) -> Result<Ended, Broken>
+    requires whole { IsWhole system.now }
+    requires events { (k e : ℕ) → Stands commands.now k e → e < length system.now.moves.items }
+    ensures { (b : Block) → IsSound b → IsBound b system.now → AreFirable b commands.now
+        → IsEnd b (map fire_of commands.now) (K.written out.old) (K.written out.new) (K.faults out.old) (K.faults out.new) result }
+{
+    let mut values = Vec::from_slice(alloc, &system.starts)?;
+    put_start(alloc, system, &values, out)?;
+    for event in commands {
+        if !step(alloc, system, &mut values, *event, out)? {
+            return Ok(Ended::Fault);
+        }
+    }
+    put_end(alloc, commands.len(), out)?;
+    Ok(Ended::Done)
+}

@@ -1,12 +1,10 @@
 -- Where the two tests agree with a static system that has no conflict, a set makes the value exactly where it is firable and the top test is true.
-use Rattle.std.proofs.Common.{◌≡◌, ℕ, Bool, true, false, List, map, refl, sym, subst}
-use Rattle.ar_base.specs.Lists.{Stands, IsOneOf}
+use Rattle.std.proofs.Common.{◌≡◌, ℕ, Bool, true, false, List, refl, sym, subst}
 use Rattle.typed_expr.specs.Yields.{Yields}
 use Rattle.ar_meaning.specs.Systems.{System}
 use Rattle.ar_meaning.specs.Facts.{AreKeyed, HasValue}
-use Rattle.ar_meaning.specs.Runs.{Label}
 use Rattle.ar_firing.specs.Fragment.{IsStatic}
-use Rattle.ar_firing.specs.Cuts.{MeetsConflict, IsConflictFree, IsFirable, AreEvents, Makes, Within}
+use Rattle.ar_firing.specs.Cuts.{MeetsConflict, IsConflictFree, IsFirable, Makes}
 use Rattle.ar_meaning.specs.Found.{IsAnswer}
 use Rattle.ar_firing.specs.Operands.{Agrees, HasFlows, IsFirableWith}
 use Rattle.domains.specs.declared.Value.{Value}

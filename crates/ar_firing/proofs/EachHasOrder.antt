@@ -4,7 +4,7 @@ use Rattle.std.proofs.lemmas.Bool.Decides.{nat_tests}
 use Rattle.ar_base.specs.Lists.{Stands, IsOneOf, HasNo}
 use Rattle.ar_meaning.specs.Systems.{Variable, Way, System}
 use Rattle.ar_meaning.specs.Facts.{AreKeyed, HasValue}
-use Rattle.ar_meaning.specs.Flows.{Flows, Total, FlowFault, Fails}
+use Rattle.ar_meaning.specs.Flows.{Flows, FlowFault, Fails}
 use Rattle.ar_meaning.specs.Ways.{Can, Effects}
 use Rattle.ar_meaning.specs.Steps.{flow, Clashes, LeavesDomain, Receives, changed, kept, Step, Next, moves}
 use Rattle.ar_meaning.specs.Steps as s
@@ -16,7 +16,7 @@ use Rattle.ar_firing.specs.Operands.{HasFlows}
 use Rattle.domains.specs.declared.Value.{Value}
 use Rattle.ar_base.proofs.Standing.{stands_one}
 use Rattle.ar_firing.proofs.Firing.{no_item, Next_edge, next_edge, to_alone, only_target, only_effects, value_from, moved, firable_flows, none_firable, enabled, longer, is_same}
-use Rattle.ar_firing.proofs.Ends.{split, path_unique, path_end, live}
+use Rattle.ar_firing.proofs.Ends.{split_live, split, path_unique, path_end, live}
 
 pub record Received {V : Type 0} (effects : V → Value → Type 0) (xs : List (Variable V)) (vs : List Value) : Type 0 where
   pub values : List Value
@@ -136,7 +136,7 @@ module _ {V : Type 0} (sys : System V) (dropped : List ℕ) (keyed : AreKeyed sy
         let o = b.firable.whole m.event (record { place = k; stands = event_of b.labels k m h }) in
         let w = b.firable.walks o.0 o.1 o.3 o.4 in
         let r = split sys dropped keyed static w.2 o.5.place o.2 o.5.stands in
-        let c = static.one_edge o.2 l o.0 n r.from from r.to to (live sys dropped keyed static r.path r.edge) (live sys dropped keyed static p e) (o.6 ∙ i) in
+        let c = static.one_edge o.2 l o.0 n r.from from r.to to (split_live sys dropped keyed static r) (live sys dropped keyed static p e) (o.6 ∙ i) in
         let q : Path sys dropped n r.rest from = subst (λ z. Path sys dropped n r.rest z) c.2 (subst (λ z. Path sys dropped z r.rest r.from) c.1 r.path) in
         let u : r.rest ≡ ls = path_unique sys dropped keyed static q p in
         let v : b.firable.path o.0 ≡ ls = ap b.firable.path c.1 ∙ b.as_wanted n ∙ is in

@@ -1,10 +1,9 @@
 -- In a static system every order of one set ends in one valuation.
-use Rattle.std.proofs.Common.{◌≡◌, ◌+◌, ℕ, zero, suc, Bool, true, false, List, [], ◌∷◌, ◌++◌, map, length, length-append, refl, sym, ◌∙◌, ap, subst, arith}
-use Rattle.ar_base.specs.Lists.{Stands, IsOneOf, IsFirst, HasNo}
+use Rattle.std.proofs.Common.{◌≡◌, ◌+◌, ℕ, zero, suc, true, List, [], ◌∷◌, ◌++◌, map, length, length-append, refl, sym, ◌∙◌, ap, subst, arith}
+use Rattle.ar_base.specs.Lists.{Stands, IsOneOf}
 use Rattle.ar_meaning.specs.Systems.{Variable, System}
-use Rattle.ar_meaning.specs.Facts.{AreKeyed, IsGiven, Allows, given, FactOf}
-use Rattle.ar_meaning.specs.Flows.{HasTwo, IsOutside, IsBroken, Completes, state, known, unknown, Outcome, Flows, Fails, Total, two, outside, broken, all_hold}
-use Rattle.ar_meaning.specs.Flows as flows
+use Rattle.ar_meaning.specs.Facts.{AreKeyed}
+use Rattle.ar_meaning.specs.Flows.{Flows, Total}
 use Rattle.ar_meaning.specs.Steps.{moves}
 use Rattle.ar_meaning.specs.Runs.{Label, first_values}
 use Rattle.ar_firing.specs.Fragment.{Edge, Path, root, edge, IsLive, IsStatic}
@@ -45,6 +44,9 @@ module _ {V : Type 0} (sys : System V) (dropped : List ℕ) (keyed : AreKeyed sy
   pub live : {n : ℕ} {ls : List Label} {l : Label} {from to : Value} → Path sys dropped n ls from → Edge sys dropped l n from to → IsLive sys dropped l n from to
   live {ls = ls} p e = record { reached = record { labels = ls; path = p }; edge = e }
 
+  pub split_live : {n : ℕ} {ls : List Label} {l : Label} (s : Split sys dropped n ls l) → IsLive sys dropped l n s.from s.to
+  split_live s = live s.path s.edge
+
   pub end_same : {n : ℕ} {l : Label} {from to on : Value} → Edge sys dropped l n from to → Edge sys dropped l n from on → to ≡ on
   end_same {from = from} {to = to} {on = on} e k = let a = ahead sys dropped keyed k e.way e.is_open e.variable e.is_variable in sym (e.one on a.gives)
 
@@ -79,7 +81,7 @@ module _ {V : Type 0} (sys : System V) (dropped : List ℕ) (keyed : AreKeyed sy
   tail_of {n = n} {ks = ks} (edge {l = l} {ls = ls} {m = u} {to = to} p e) q h =
       let o = h l (record { place = zero; stands = refl }) in
       let r = split q o.place l o.stands in
-      let b = static.one_edge l l n n u r.from to r.to (live p e) (live r.path r.edge) refl in
+      let b = static.one_edge l l n n u r.from to r.to (live p e) (split_live r) refl in
       let c : ls ≡ r.rest = path_unique p (subst (λ z. Path sys dropped n r.rest z) (sym b.2) r.path) in
       record { front = r.front; is = r.is ∙ ap (λ z. r.front ++ (l ∷ z)) (sym c) }
 
@@ -105,7 +107,7 @@ module _ {V : Type 0} (sys : System V) (dropped : List ℕ) (keyed : AreKeyed sy
       let m = b.whole l.event (h.each l.event (a.sound n x s i o.place l o.stands)) in
       let v = b.walks m.0 m.1 m.3 m.4 in
       let q = split v.2 m.5.place m.2 m.5.stands in
-      let c = static.one_edge l m.2 n m.0 r.from q.from r.to q.to (live r.path r.edge) (live q.path q.edge) (sym m.6) in
+      let c = static.one_edge l m.2 n m.0 r.from q.from r.to q.to (split_live r) (split_live q) (sym m.6) in
       let d : l ≡ m.2 = label_same l m.2 (sym m.6) c.0 in
       let f : IsOneOf (b.path n) m.2 = subst (λ z. IsOneOf (b.path z) m.2) (sym c.1) m.5 in
       subst (λ z. IsOneOf (b.path n) z) (sym d) f

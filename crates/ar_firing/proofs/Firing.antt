@@ -13,7 +13,7 @@ use Rattle.ar_meaning.specs.Ways.{Can, guard_holds, Effects, acts}
 use Rattle.ar_meaning.specs.Steps.{Clashes, LeavesDomain, Receives, changed, kept, Answer, Refused, Next, Flow, Step, not_enabled, clash, range, flow, moves}
 use Rattle.ar_meaning.specs.Steps as s
 use Rattle.ar_meaning.specs.Runs.{Label, first_values}
-use Rattle.ar_firing.specs.Fragment.{Only, IsOpen, IsModeOf, named, first, At, Edge, Path, root, edge, Acts_on, Is_of, transition, Leads, HasMode, IsStatic}
+use Rattle.ar_firing.specs.Fragment.{Only, IsOpen, IsModeOf, named, first, At, Edge, Path, root, edge, Is_of, transition, IsStatic}
 use Rattle.ar_firing.specs.Cuts.{Reaches, Conflicts, IsFirable, Moves_to}
 use Rattle.ar_firing.specs.Cuts as cuts
 use Rattle.domains.specs.declared.Value.{Value}

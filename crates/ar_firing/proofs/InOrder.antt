@@ -10,7 +10,7 @@ use Rattle.ar_firing.specs.Cuts.{Reaches, IsFirable, AreEvents, AreInOrder, With
 use Rattle.domains.specs.declared.Value.{Value}
 use Rattle.ar_base.proofs.Standing.{stands_one}
 use Rattle.ar_firing.proofs.Firing.{all_firable, enabled}
-use Rattle.ar_firing.proofs.Ends.{Split, split, Tail, tail_of, path_unique, path_end, live, on_path, label_same}
+use Rattle.ar_firing.proofs.Ends.{split_live, Split, split, Tail, tail_of, path_unique, path_end, live, on_path, label_same}
 use Rattle.ar_firing.proofs.EachHasOrder.{event_of, label_of}
 
 -- past a place of a joined list
@@ -51,7 +51,7 @@ module _ {V : Type 0} (sys : System V) (dropped : List ℕ) (keyed : AreKeyed sy
     pub edge_on : Edge sys dropped label n from to
     pub is_one : IsOneOf ls label
 
-  leaves : (fr : List Label) {n : ℕ} {q : List Label} {from m : Value} → Path sys dropped n (fr ++ q) m → Path sys dropped n q from → (fr ≡ []) ⊎ LeavesBy n (fr ++ q) from
+  pub leaves : (fr : List Label) {n : ℕ} {q : List Label} {from m : Value} → Path sys dropped n (fr ++ q) m → Path sys dropped n q from → (fr ≡ []) ⊎ LeavesBy n (fr ++ q) from
   leaves [] p d = inl refl
   leaves (x ∷ []) {n = n} {from = from} (edge {m = u} {to = to} p e) d =
       let i : u ≡ from = path_end sys dropped keyed static p d in
@@ -84,7 +84,7 @@ module _ {V : Type 0} (sys : System V) (dropped : List ℕ) (keyed : AreKeyed sy
             let y = g.walks h.0 h.1 h.3 h.4 in
             let z = split sys dropped keyed static y.2 h.5.place h.2 h.5.stands in
             let k = split sys dropped keyed static s.path o.place m o.stands in
-            let d = static.one_edge h.2 m h.0 n z.from k.from z.to k.to (live sys dropped keyed static z.path z.edge) (live sys dropped keyed static k.path k.edge) h.6 in
+            let d = static.one_edge h.2 m h.0 n z.from k.from z.to k.to (split_live sys dropped keyed static z) (split_live sys dropped keyed static k) h.6 in
             let i : h.2 ≡ m = label_same h.2 m h.6 d.0 in
             subst (λ z. IsOneOf (g.path z) m) d.1 (subst (λ z. IsOneOf (g.path h.0) z) i h.5)
 
@@ -103,7 +103,7 @@ module _ {V : Type 0} (sys : System V) (dropped : List ℕ) (keyed : AreKeyed sy
             let p = on_path sys dropped keyed static g f inside n x st state i o in
             let w = f.walks n x st state in
             let r = split sys dropped keyed static w.2 p.place i p.stands in
-            let c = static.one_edge i i n n r.from s.from r.to k.to (live sys dropped keyed static r.path r.edge) (live sys dropped keyed static s.path k.edge_on) refl in
+            let c = static.one_edge i i n n r.from s.from r.to k.to (split_live sys dropped keyed static r) (live sys dropped keyed static s.path k.edge_on) refl in
             let q : r.rest ≡ s.rest = path_unique sys dropped keyed static (subst (λ z. Path sys dropped n r.rest z) c.2 r.path) s.path in
             let a : length (f.path n) ≡ length s.front + suc (length s.rest) = ap length s.is ∙ length-append s.front (l ∷ s.rest) in
             let d : length (f.path n) ≡ length r.front + suc (length r.rest) = ap length r.is ∙ length-append r.front (i ∷ r.rest) in

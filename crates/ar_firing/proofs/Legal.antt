@@ -1,19 +1,19 @@
 -- A legal order goes on as long as no flow fault is met, and meets none where the sets on its way have flows.
-use Rattle.std.proofs.Common.{◌≡◌, ℕ, zero, suc, true, List, [], ◌∷◌, ◌++◌, map, refl, sym, ap, subst, arith}
-use Rattle.ar_base.specs.Lists.{Stands, IsOneOf}
+use Rattle.std.proofs.Common.{◌≡◌, ℕ, zero, suc, List, [], ◌∷◌, ◌++◌, map, refl, ap, subst}
+use Rattle.ar_base.specs.Lists.{Stands}
 use Rattle.domains.specs.declared.Value.{Value}
-use Rattle.ar_meaning.specs.Systems.{Variable, Way, System}
+use Rattle.ar_meaning.specs.Systems.{System}
 use Rattle.ar_meaning.specs.Facts.{AreKeyed, HasValue}
 use Rattle.ar_meaning.specs.Ways.{Can}
 use Rattle.ar_meaning.specs.Flows.{FlowFault, Flows, Fails}
-use Rattle.ar_meaning.specs.Steps.{Answer, Step, moves, flow}
+use Rattle.ar_meaning.specs.Steps.{moves, flow}
 use Rattle.ar_meaning.specs.Runs.{Label, first_values}
-use Rattle.ar_firing.specs.Fragment.{IsStatic, Edge, IsOpen}
+use Rattle.ar_firing.specs.Fragment.{IsStatic, Edge}
 use Rattle.ar_firing.specs.Cuts.{Reaches, Conflicts, IsFirable, IsLegalOrder, AreEvents, Within, Moves_to}
 use Rattle.ar_firing.specs.Cuts as cuts
-use Rattle.ar_firing.specs.Operands.{HasFlows, HasFault}
-use Rattle.ar_firing.proofs.Firing.{all_firable, next_edge, moved, none_firable, no_item, Ready, ready}
-use Rattle.ar_firing.proofs.EachHasOrder.{received, no_clash, no_leave, event_of, label_of}
+use Rattle.ar_firing.specs.Operands.{HasFlows}
+use Rattle.ar_firing.proofs.Firing.{all_firable, next_edge, moved, none_firable}
+use Rattle.ar_firing.proofs.EachHasOrder.{received, no_clash, no_leave}
 use Rattle.ar_firing.proofs.InOrder.{can_go_on}
 use Rattle.ar_firing.proofs.SameSets.{events_within}
 

@@ -14,3 +14,9 @@ pub mod ConflictLines
 pub mod Replays
 pub mod RulesHold
 pub mod LeastSets
+pub mod ImageCuts
+pub mod ImageModes
+pub mod ImageRules
+pub mod ModesOfSets
+pub mod TreeEdges
+pub mod Widths

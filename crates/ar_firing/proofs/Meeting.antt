@@ -16,7 +16,7 @@ use Rattle.typed_expr.specs.declared.expr.Expr.{Expr}
 use Rattle.ar_meaning.proofs.OneAnswer.{flows_same}
 use Rattle.ar_meaning.proofs.StatesAlone.{same_at}
 use Rattle.ar_firing.proofs.Firing.{conflict_firable, none_firable, all_firable, enabled, next_edge, moved, is_same}
-use Rattle.ar_firing.proofs.Ends.{split, path_unique, live, firable_same}
+use Rattle.ar_firing.proofs.Ends.{split_live, split, path_unique, live, firable_same}
 use Rattle.ar_firing.proofs.EachHasOrder.{has_order, received, no_clash, no_leave}
 use Rattle.ar_firing.proofs.Without.{without, kept, was}
 use Rattle.ar_firing.proofs.SameSets.{firable_as, events_within, set_within}
@@ -61,14 +61,14 @@ module _ {V : Type 0} (sys : System V) (dropped : List ℕ) (keyed : AreKeyed sy
     other m y sy iy k j h q = ⊎_elim
         (λ i. let a : Stands ls k j = subst (λ z. Stands z k j) (put_here n ls f.path) (subst (λ z. Stands (put n ls f.path z) k j) i h) in
         let r = split sys dropped keyed static p k j a in
-        let c = static.one_edge j l n n r.from from r.to to (live sys dropped keyed static r.path r.edge) (live sys dropped keyed static p e) q in
+        let c = static.one_edge j l n n r.from from r.to to (split_live sys dropped keyed static r) (live sys dropped keyed static p e) q in
         let u : r.rest ≡ ls = path_unique sys dropped keyed static (subst (λ z. Path sys dropped n r.rest z) c.2 r.path) p in
         let g : length ls ≡ length r.front + suc (length r.rest) = ap length r.is ∙ length-append r.front (j ∷ r.rest) in
         let z : length r.rest ≡ length ls = ap length u in absurd (omega arith))
         (λ i. let a : Stands (f.path m) k j = subst (λ z. Stands z k j) (put_there n m ls f.path i) h in
         let w = f.walks m y sy iy in
         let r = split sys dropped keyed static w.2 k j a in
-        let c = static.one_edge j l m n r.from from r.to to (live sys dropped keyed static r.path r.edge) (live sys dropped keyed static p e) q in i c.1)
+        let c = static.one_edge j l m n r.from from r.to to (split_live sys dropped keyed static r) (live sys dropped keyed static p e) q in i c.1)
         (is_same m n)
 
     still : (m : ℕ) (k : ℕ) (j : Label) → Stands (put n ls f.path m) k j → IsOneOf (f.path m) j

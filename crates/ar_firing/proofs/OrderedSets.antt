@@ -4,7 +4,7 @@ use Rattle.domains.specs.declared.Value.{Value}
 use Rattle.ar_meaning.specs.Systems.{System}
 use Rattle.ar_meaning.specs.Facts.{AreKeyed}
 use Rattle.ar_meaning.specs.Runs.{Label}
-use Rattle.ar_firing.specs.Fragment.{IsOpen, IsStatic}
+use Rattle.ar_firing.specs.Fragment.{IsStatic}
 use Rattle.ar_firing.specs.Cuts.{Reaches, start, fire, HasOrder, IsFirable, IsConflictFree}
 use Rattle.ar_firing.specs.Operands.{HasFlows, HasFault}
 use Rattle.ar_firing.proofs.Firing.{all_firable}

@@ -2,15 +2,16 @@
 use Rattle.std.proofs.Common.{◌≡◌, ◌+◌, ℕ, zero, suc, List, [], ◌∷◌, ◌++◌, reverse, map, length, refl, sym, ◌∙◌, ap, subst, arith}
 use Rattle.std.proofs.lemmas.List.{reverse-append, reverse-reverse}
 use Rattle.ar_base.specs.Lists.{Stands}
-use Rattle.ar_base.proofs.Standing.{stands_one}
 use Rattle.domains.specs.declared.Value.{Value}
 use Rattle.ar_meaning.specs.Systems.{Way, System}
-use Rattle.ar_meaning.specs.Steps.{Step, Next}
-use Rattle.ar_meaning.specs.Runs.{Label, IsWay, Command, Fire, Moment, Start, Starts, Fires, Goes, ends, fires, fails, back, no_step, shows, lists, Runs, starts}
+use Rattle.ar_meaning.specs.Flows.{FlowFault}
+use Rattle.ar_meaning.specs.Steps.{Step, Next, Refused, Flow}
+use Rattle.ar_meaning.specs.Runs.{Label, IsWay, Command, Fire, Moment, Start, Starts, Fires, Goes, ends, fires, fails, back, no_step, shows, lists, Runs, starts, start_fails}
 use Rattle.ar_meaning.proofs.OneRun.{way_same}
 use Rattle.ar_firing.specs.Fragment.{IsOpen}
-use Rattle.ar_firing.specs.Cuts.{Reaches, start, fire}
-use Rattle.ar_firing.specs.Replays.{AreOpen, AllFire}
+use Rattle.ar_firing.specs.Cuts.{Reaches, start, fire, Conflicts}
+use Rattle.ar_firing.specs.Cuts as conflict
+use Rattle.ar_firing.specs.Replays.{AreOpen, AllFire, LastFails, FailsLast}
 use Rattle.ar_firing.specs.Replays as replays
 
 -- the labels fire one after the other, the first first
@@ -107,3 +108,22 @@ module _ {V : Type 0} (sys : System V) (dropped : List ℕ) where
       nil : (xs : List Label) → xs ++ [] ≡ xs
       nil [] = refl
       nil (x ∷ xs) = ap (λ z. x ∷ z) (nil xs)
+
+  fails_last : {t u : List Value} {ls : List Label} {f : FlowFault} (below : List (List Value)) (l : Label) → Chain sys dropped t ls u → (w : Way V) → IsOpen sys dropped l w → Step sys.net u w (Refused (Flow f))
+      → (ms : List Moment) × Goes sys below t (map Fire (ls ++ (l ∷ []))) ms × LastFails f (ls ++ (l ∷ [])) t ms
+  fails_last below l none w o s = (_, fails w (record { event = o.event; is_event = o.is_event; is_way = o.is_way }) s, replays.last)
+  fails_last {t = t} below l (step v p r c) w o s =
+      let k = fails_last (t ∷ below) l c w o s in
+      (_, fires v (record { event = p.event; is_event = p.is_event; is_way = p.is_way }) r k.1, replays.fire k.2)
+
+  -- what meets a conflict replays up to its fault
+  conflict_unwound : {ls : List Label} {f : FlowFault} → Conflicts sys dropped ls f → (ms : List Moment) × Runs sys (map Fire (reverse ls)) ms × FailsLast f (reverse ls) ms
+  conflict_unwound (conflict.start f) = (_, start_fails f, replays.at_start)
+  conflict_unwound {f = f} (conflict.fire {ls = ls} {l = l} w r o s) =
+      let c = unwound r in
+      let k = fails_last [] l c.2 w o s in
+      let e : reverse ls ++ (l ∷ []) ≡ reverse (l ∷ ls) = sym (reverse-append (l ∷ []) ls) in
+      subst (λ z. (ms : List Moment) × Runs sys (map Fire z) ms × FailsLast f z ms) e (_, starts c.1 k.1, replays.at_last k.2)
+
+  pub conflict_replays : {ls : List Label} {f : FlowFault} → Conflicts sys dropped (reverse ls) f → (ms : List Moment) × Runs sys (map Fire ls) ms × FailsLast f ls ms
+  conflict_replays {ls = ls} {f = f} c = subst (λ z. (ms : List Moment) × Runs sys (map Fire z) ms × FailsLast f z ms) (reverse-reverse ls) (conflict_unwound c)

@@ -1,17 +1,15 @@
 -- A rule that is kept is not broken, and the rules make a system static.
-use Rattle.std.proofs.Common.{◌≡◌, ◌<◌, ◌≤◌, ℕ, true, false, List, length, refl, sym, ◌∙◌, ap, subst, arith, Contains}
-use Rattle.ar_base.specs.Lists.{Stands, IsOneOf}
+use Rattle.std.proofs.Common.{◌≡◌, ◌<◌, ℕ, zero, suc, true, List, refl, sym, ◌∙◌, ap, subst, arith, Contains}
+use Rattle.ar_base.specs.Lists.{Stands}
 use Rattle.ar_base.proofs.Standing.{stands_one}
 use Rattle.domains.specs.declared.Value.{Value}
-use Rattle.typed_expr.specs.Mentions.{Mentions}
-use Rattle.typed_expr.specs.declared.expr.Expr.{Expr, out-Expr}
-use Rattle.ar_meaning.specs.Systems.{Assign, Variable, Transition, Way, Leaf, Joint, System}
-use Rattle.ar_meaning.specs.Ways.{Can, Effects}
-use Rattle.ar_meaning.specs.Runs.{Label, IsWay}
+use Rattle.ar_meaning.specs.Systems.{Variable, Way, Joint, System}
+use Rattle.ar_meaning.specs.Runs.{Label}
 use Rattle.ar_meaning.proofs.OneAnswer.{first_same, no_first}
 use Rattle.ar_firing.specs.Fragment.{Guard_names, guard, Action_names, action, as_target, in_condition, in_value, IsKept, IsOpen, IsModeOf, named, first, At, Edge, IsReached, Is_of, HasMode, Leads, IsStatic}
 use Rattle.ar_firing.specs.Fragment as g
-use Rattle.ar_firing.specs.Rules.{IsTransition, transition, KeepsS1, BreaksS1, KeepsS2, BreaksS2, HasModeVariable, GuardKeeps, KeepsS3, BreaksS3, IsLiveAt, GivesOne, GivesOther, nothing, two, outside, KeepsS4, BreaksS4, names, gives, AreTwo, ways, variables, modes, KeepsS5, BreaksS5, KeepsS6, BreaksS6, stays, by_events, by_edges, initial, KeepsS8, BreaksS8}
+use Rattle.ar_firing.specs.Rules.{IsTransition, transition, KeepsS1, BreaksS1, KeepsS2, BreaksS2, HasModeVariable, KeepsS3, BreaksS3, GivesOne, GivesOther, nothing, two, outside, KeepsS4, BreaksS4, names, gives, AreTwo, ways, variables, modes, KeepsS5, BreaksS5, KeepsS6, BreaksS6, stays, by_events, by_edges, initial, KeepsS7, BreaksS7, ObserverBreaksS7, KeepsS8, BreaksS8, Spot, AtEvent, AtUnit, AtVariable, AtObserver, AtWhole, IsShownBefore, events, units, observers, variable_first, Rule, S1, S2, S3, S4, S5, S6, S7, S8, Breaks, s1, s2, s3, s4, s5, s6, s7, s7_observer, s8, Keeps, number_of, IsFirstBroken, KeepsAll}
+use Rattle.ar_firing.specs.Rules as rules
 use Rattle.ar_firing.proofs.Without.{no_more}
 
 module _ {V : Type 0} (sys : System V) where
@@ -73,14 +71,20 @@ module _ {V : Type 0} (sys : System V) where
     s6_excludes n k (by_edges a l u v x h i q d) = let e = k.enters a l n u v x h i in not_two e.1 refl e.2 d
     s6_excludes n k (initial l u x s h) = k.begins l n u x s h
 
+    pub s7_excludes : (n : ℕ) → KeepsS7 sys → BreaksS7 sys n → ⊥
+    s7_excludes n k b = k.assignments b.is_one.place b.assign b.is_one.stands b.wide
+
+    pub s7_observer_excludes : (n : ℕ) → KeepsS7 sys → ObserverBreaksS7 sys n → ⊥
+    s7_observer_excludes n k b = k.observers n b.observer b.stands b.wide
+
     pub s8_excludes : KeepsS8 sys dropped → BreaksS8 sys dropped → ⊥
     s8_excludes k b = let h = no_more b.events k.events b.differ (λ j e s. k.whole e (b.live j e s)) in omega (arith, h, k.few, b.many)
 
     -- the rules make a system static
     pub static : KeepsS1 sys → KeepsS3 sys dropped → KeepsS4 sys dropped → KeepsS5 sys dropped → KeepsS6 sys dropped → IsStatic sys dropped
-    static s1 s3 s4 s5 s6 = record {
+    static k1 k3 k4 k5 k6 = record {
       modes = λ l w o.
-          let k = s3.each l w (record { event = o.event; is_event = o.is_event; is_way = o.is_way; stays = o.stays }) in
+          let k = k3.each l w (record { event = o.event; is_event = o.is_event; is_way = o.is_way; stays = o.stays }) in
           let e = stands_one sys.events l.event k.mode.is_kept.event o.event k.mode.is_kept.is_event o.is_event in
           let m = subst (λ z. IsModeOf sys z.unit w k.number) e k.mode.is_mode in
           record {
@@ -89,15 +93,15 @@ module _ {V : Type 0} (sys : System V) where
             stands = k.mode.stands;
             is_state = mode_state m k.variable k.mode.stands;
             is_mode = m;
-            alone = alone k.variable.key w k.alone (s4.alone l w k.number k.variable k.mode) (s1.each l w (record { event = o.event; is_event = o.is_event; is_way = o.is_way }));
+            alone = alone k.variable.key w k.alone (k4.alone l w k.number k.variable k.mode) (k1.each l w (record { event = o.event; is_event = o.is_event; is_way = o.is_way }));
           };
       leads = λ l w o n x m i s r c.
-          let h = s4.gives l w n x m (record { is_open = o; is_mode = i; stands = s; reached = r; can = c }) in
+          let h = k4.gives l w n x m (record { is_open = o; is_mode = i; stands = s; reached = r; can = c }) in
           record { to = h.value; edge = record { way = w; is_open = o; variable = x; is_variable = s; is_mode = i; can = c; gives = h.gives; one = h.one; in_domain = h.in_domain } };
-      one_edge = s5.one;
-      moves = s6.moves;
-      enters = λ k l n u v x h i. let e = s6.enters k l n u v x h i in (e.0, e.2);
-      begins = s6.begins;
+      one_edge = k5.one;
+      moves = k6.moves;
+      enters = λ k l n u v x h i. let e = k6.enters k l n u v x h i in (e.0, e.2);
+      begins = k6.begins;
     }
       where
         alone : (x : V) (w : Way V) → ((y : V) → Guard_names y w → y ≡ x) → ((y : V) → Action_names y w → y ≡ x) → IsTransition w → Is_of x w
@@ -107,3 +111,70 @@ module _ {V : Type 0} (sys : System V) where
               conditions = λ j e b t. record { only = λ y m. k y (action a (record { place = n; stands = s }) (in_condition (record { place = j; stands = t }) m)) };
               value = record { only = λ y m. k y (action a (record { place = n; stands = s }) (in_value m)) };
             })
+
+    -- a rule that is kept is broken nowhere
+    pub excludes : (rule : Rule) (spot : Spot) → Keeps sys dropped rule → Breaks sys dropped rule spot → ⊥
+    excludes S1 spot k (s1 {n = n} b) = s1_excludes n k b
+    excludes S2 spot k (s2 {n = n} b) = s2_excludes n k b
+    excludes S3 spot k (s3 {n = n} b) = s3_excludes n k b
+    excludes S4 spot k (s4 {n = n} b) = s4_excludes n k b
+    excludes S5 spot k (s5 {n = n} b) = s5_excludes n k b
+    excludes S6 spot k (s6 {n = n} b) = s6_excludes n k b
+    excludes S7 spot k (s7 {n = n} b) = s7_excludes n k b
+    excludes S7 spot k (s7_observer {n = n} b) = s7_observer_excludes n k b
+    excludes S8 spot k (s8 b) = s8_excludes k b
+
+    rule_of : ℕ → Rule
+    rule_of zero = S1
+    rule_of (suc zero) = S1
+    rule_of (suc (suc zero)) = S2
+    rule_of (suc (suc (suc zero))) = S3
+    rule_of (suc (suc (suc (suc zero)))) = S4
+    rule_of (suc (suc (suc (suc (suc zero))))) = S5
+    rule_of (suc (suc (suc (suc (suc (suc zero)))))) = S6
+    rule_of (suc (suc (suc (suc (suc (suc (suc zero))))))) = S7
+    rule_of (suc (suc (suc (suc (suc (suc (suc (suc n)))))))) = S8
+
+    numbered : (r : Rule) → rule_of (number_of r) ≡ r
+    unfolding rule_of
+    numbered S1 = refl
+    numbered S2 = refl
+    numbered S3 = refl
+    numbered S4 = refl
+    numbered S5 = refl
+    numbered S6 = refl
+    numbered S7 = refl
+    numbered S8 = refl
+
+    same_number : (m n : ℕ) → (m < n → ⊥) → (n < m → ⊥) → m ≡ n
+    same_number m n h k = omega arith
+
+    -- two spots of one rule are one where none is shown before the other
+    same_spot : {rule : Rule} {a b : Spot} → Breaks sys dropped rule a → Breaks sys dropped rule b → (IsShownBefore a b → ⊥) → (IsShownBefore b a → ⊥) → a ≡ b
+    same_spot (s1 {n = m} x) (s1 {n = n} y) h k = ap AtEvent (same_number m n (λ l. h (events l)) (λ l. k (events l)))
+    same_spot (s2 {n = m} x) (s2 {n = n} y) h k = ap AtUnit (same_number m n (λ l. h (units l)) (λ l. k (units l)))
+    same_spot (s3 {n = m} x) (s3 {n = n} y) h k = ap AtVariable (same_number m n (λ l. h (rules.variables l)) (λ l. k (rules.variables l)))
+    same_spot (s4 {n = m} x) (s4 {n = n} y) h k = ap AtVariable (same_number m n (λ l. h (rules.variables l)) (λ l. k (rules.variables l)))
+    same_spot (s5 {n = m} x) (s5 {n = n} y) h k = ap AtVariable (same_number m n (λ l. h (rules.variables l)) (λ l. k (rules.variables l)))
+    same_spot (s6 {n = m} x) (s6 {n = n} y) h k = ap AtVariable (same_number m n (λ l. h (rules.variables l)) (λ l. k (rules.variables l)))
+    same_spot (s7 {n = m} x) (s7 {n = n} y) h k = ap AtVariable (same_number m n (λ l. h (rules.variables l)) (λ l. k (rules.variables l)))
+    same_spot (s7 x) (s7_observer y) h k = absurd (h variable_first)
+    same_spot (s7_observer x) (s7 y) h k = absurd (k variable_first)
+    same_spot (s7_observer {n = m} x) (s7_observer {n = n} y) h k = ap AtObserver (same_number m n (λ l. h (observers l)) (λ l. k (observers l)))
+    same_spot (s8 x) (s8 y) h k = refl
+
+    -- one rule is broken first, at one spot
+    pub first_broken_same : {r q : Rule} {a b : Spot} → IsFirstBroken sys dropped r a → IsFirstBroken sys dropped q b → (r ≡ q) × (a ≡ b)
+    first_broken_same {r = r} {q = q} {a = a} {b = b} x y =
+        let h : number_of r < number_of q → ⊥ = λ l. excludes r a (y.lesser_kept r l) x.breaks in
+        let k : number_of q < number_of r → ⊥ = λ l. excludes q b (x.lesser_kept q l) y.breaks in
+        let n : number_of r ≡ number_of q = same_number (number_of r) (number_of q) h k in
+        let e : r ≡ q = sym (numbered r) ∙ (ap rule_of n ∙ numbered q) in
+        let z : Breaks sys dropped q a = subst (λ z. Breaks sys dropped z a) e x.breaks in
+        (e, same_spot z y.breaks (λ l. y.is_first a l z) (λ l. x.is_first b l (subst (λ z. Breaks sys dropped z b) (sym e) y.breaks)))
+
+    pub kept_or_broken : {r : Rule} {a : Spot} → KeepsAll sys dropped → Breaks sys dropped r a → ⊥
+    kept_or_broken {r = r} {a = a} k b = excludes r a (k.each r) b
+
+    pub all_static : KeepsAll sys dropped → IsStatic sys dropped
+    all_static k = static (k.each S1) (k.each S3) (k.each S4) (k.each S5) (k.each S6)

@@ -9,7 +9,7 @@ use Rattle.ar_meaning.specs.Facts.{HasValue}
 use Rattle.ar_meaning.specs.Flows.{Flows, FlowFault, Fails, Total}
 use Rattle.ar_meaning.specs.Steps.{Step, Answer, Refused, Next, Flow}
 use Rattle.ar_meaning.specs.Runs.{Label, Start, StartFails}
-use Rattle.ar_firing.specs.Fragment.{Edge, IsOpen, Path}
+use Rattle.ar_firing.specs.Fragment.{Edge, IsOpen, IsLive, Path}
 
 -- the run that starts and fires these labels of visible events that are not dropped, the last first, has no fault and ends in this valuation
 pub data Reaches {V : Type 0} (sys : System V) (dropped : List ℕ) : List Label → List Value → Type 0 where
@@ -80,6 +80,10 @@ pub record IsFirable {V : Type 0} (sys : System V) (dropped : List ℕ) (set : L
   pub walks : (n : ℕ) (x : Variable V) → Stands sys.net.variables n x → x.is_state ≡ true → (m : Value) × Stands t n m × Path sys dropped n (path n) m
   pub sound : (n : ℕ) (x : Variable V) → Stands sys.net.variables n x → x.is_state ≡ true → (k : ℕ) (l : Label) → Stands (path n) k l → IsOneOf set l.event
   pub whole : (e : ℕ) → IsOneOf set e → (n : ℕ) × (x : Variable V) × (l : Label) × Stands sys.net.variables n x × (x.is_state ≡ true) × IsOneOf (path n) l × (l.event ≡ e)
+
+-- no live edge of the variable that leaves this mode has its event in the set
+abbrev pub NoneLeaves : {V : Type 0} → System V → List ℕ → List ℕ → ℕ → Value → Type 0
+NoneLeaves sys dropped set n m = (l : Label) (to : Value) → IsLive sys dropped l n m to → IsOneOf set l.event → ⊥
 
 -- what follows of a new state: its flows, or a flow fault
 pub data Moves_to {V : Type 0} (net : Net V) : List Value → Answer → Type 0 where

@@ -22,8 +22,7 @@ pub fn cuts_by_tests<V>()
     ensures cuts { (sys : System V) (dropped : List ℕ) → AreKeyed sys.net → IsStatic sys dropped → (observer : Expr V) (wanted : Value) (conflict top : List ℕ → Bool)
         → Agrees sys dropped observer wanted conflict top → IsConflictFree sys dropped
         → (set : List ℕ) → (Cut sys dropped observer wanted set ↔ IsLeast (IsFirableWith sys dropped top) set) }
-{
-}
+{}
 
 /// Where the two tests agree with a static system, it is free of conflicts exactly where the conflict test is false at each
 /// firable set, the conflict sets are the least firable sets at which it is true, and such a set meets its flow fault at
@@ -38,8 +37,7 @@ pub fn conflicts_by_tests<V>()
     ensures every_order { (sys : System V) (dropped : List ℕ) → AreKeyed sys.net → IsStatic sys dropped → (observer : Expr V) (wanted : Value) (conflict top : List ℕ → Bool)
         → Agrees sys dropped observer wanted conflict top → (set : List ℕ) (ls : List Label) → ConflictSet sys dropped set → IsLegalOrder sys dropped set ls
         → (f : FlowFault) × Conflicts sys dropped ls f }
-{
-}
+{}
 
 /// A cut is a set that makes the value and of which no proper part does so, and a conflict set is one that meets a conflict
 /// and of which no proper part does so.
@@ -47,5 +45,4 @@ pub fn least_in_words<V>()
     ensures cuts { (sys : System V) (dropped : List ℕ) (observer : Expr V) (wanted : Value) (set : List ℕ)
         → (Cut sys dropped observer wanted set ↔ HasNoLesser (Makes sys dropped observer wanted) set) }
     ensures conflict_sets { (sys : System V) (dropped : List ℕ) (set : List ℕ) → (ConflictSet sys dropped set ↔ HasNoLesser (MeetsConflict sys dropped) set) }
-{
-}
+{}

@@ -3,6 +3,7 @@
 //! The definitions stand in `specs/`, over the systems of `ar_meaning`. Each function here has an empty body and states a law of them.
 #![tactic(auto)]
 
+pub mod images;
 pub mod least;
 pub mod listing;
 pub mod orders;

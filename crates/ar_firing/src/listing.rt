@@ -1,24 +1,43 @@
 //! The forest of a static system, and the order in which a set's labels and the sets themselves are listed.
 
-ghost use Rattle.std.specs.Prelude.{ℕ, List, ◌≡◌, reverse};
+ghost use Rattle.std.specs.Prelude.{ℕ, List, true, ◌≡◌, ◌↔◌, ◌⊎◌, reverse};
 ghost use Rattle.domains.specs.declared.Value.{Value};
 ghost use Rattle.ar_meaning.specs.Systems.{System};
 ghost use Rattle.ar_meaning.specs.Facts.{AreKeyed};
 ghost use Rattle.ar_meaning.specs.Runs.{Label};
-ghost use Rattle.ar_firing.specs.Fragment.{IsStatic, Path};
-ghost use Rattle.ar_firing.specs.Cuts.{IsLegalOrder, Within};
-ghost use Rattle.ar_firing.specs.Forest.{ModeTree, IsForest, IsLine, IsBefore};
+ghost use Rattle.ar_firing.specs.Fragment.{IsStatic, IsLive};
+ghost use Rattle.ar_base.specs.Lists.{Stands, IsOneOf};
+ghost use Rattle.ar_meaning.specs.Systems.{Variable};
+ghost use Rattle.ar_firing.specs.Cuts.{IsLegalOrder, IsFirable, NoneLeaves, Within};
+ghost use Rattle.ar_firing.specs.Forest.{Row, ModeTree, IsModeTree, IsForest, IsLine};
 
 /// A static system has one forest.
 pub fn one_forest<V>()
     ensures forests { (sys : System V) (dropped : List ℕ) → AreKeyed sys.net → IsStatic sys dropped → (ts us : List ModeTree) → IsForest sys dropped ts → IsForest sys dropped us → ts ≡ us }
-{
-}
+{}
+
+/// The edges of a mode variable's tree are its live edges.
+pub fn tree_edges<V>()
+    ensures live { (sys : System V) (dropped : List ℕ) → AreKeyed sys.net → IsStatic sys dropped → (tree : ModeTree) → IsModeTree sys dropped tree
+        → (r : Row) → (IsOneOf tree.edges r ↔ IsLive sys dropped r.label tree.variable r.from r.to) }
+{}
+
+/// In the state of a firable set a variable has its init value exactly where no edge that leaves this has its event in the
+/// set, and a mode that an edge enters exactly where this edge's event is in the set and that of none that leaves the mode.
+pub fn modes_of_sets<V>()
+    ensures initial { (sys : System V) (dropped : List ℕ) → AreKeyed sys.net → IsStatic sys dropped → (set : List ℕ) (t : List Value) → IsFirable sys dropped set t
+        → (n : ℕ) (x : Variable V) → Stands sys.net.variables n x → x.is_state ≡ true → (Stands t n x.value ↔ NoneLeaves sys dropped set n x.value) }
+    ensures entered { (sys : System V) (dropped : List ℕ) → AreKeyed sys.net → IsStatic sys dropped → (set : List ℕ) (t : List Value) → IsFirable sys dropped set t
+        → (n : ℕ) (x : Variable V) → Stands sys.net.variables n x → x.is_state ≡ true → (l : Label) (from m : Value) → IsLive sys dropped l n from m
+        → (Stands t n m ↔ (IsOneOf set l.event × NoneLeaves sys dropped set n m)) }
+    ensures no_other { (sys : System V) (dropped : List ℕ) → AreKeyed sys.net → IsStatic sys dropped → (set : List ℕ) (t : List Value) → IsFirable sys dropped set t
+        → (n : ℕ) (x : Variable V) → Stands sys.net.variables n x → x.is_state ≡ true → (m : Value) → Stands t n m
+        → (m ≡ x.value) ⊎ ((l : Label) × (from : Value) × IsLive sys dropped l n from m × IsOneOf set l.event) }
+{}
 
 /// A firable set has one line, and fires in this order where any order of it does.
 pub fn lines<V>()
     ensures legal { (sys : System V) (dropped : List ℕ) → AreKeyed sys.net → IsStatic sys dropped → (set : List ℕ) (ls : List Label) → IsLine sys dropped set ls → IsLegalOrder sys dropped set (reverse ls) }
     ensures one { (sys : System V) (dropped : List ℕ) → AreKeyed sys.net → IsStatic sys dropped → (set other : List ℕ) (ls ks : List Label) → Within set other → Within other set
         → IsLine sys dropped set ls → IsLine sys dropped other ks → ls ≡ ks }
-{
-}
+{}

@@ -12,7 +12,7 @@ ghost use Rattle.ar_meaning.specs.Runs.{Label, Moment, Runs, Fire, Starts};
 ghost use Rattle.ar_firing.specs.Fragment.{Edge, IsOpen, IsStatic};
 ghost use Rattle.ar_firing.specs.Cuts.{Reaches, Conflicts, HasOrder, Within, IsFirable, IsLegalOrder, IsConflictFree, Moves_to};
 ghost use Rattle.ar_firing.specs.Operands.{HasFlows, HasFault};
-ghost use Rattle.ar_firing.specs.Replays.{AreOpen, AllFire};
+ghost use Rattle.ar_firing.specs.Replays.{AreOpen, AllFire, FailsLast};
 
 /// What fires without fault up to its last label, and fires there or meets a flow fault there, is a firable set in its
 /// state, in any order of its events. At a firable set just the edges that leave the modes of its state can fire.
@@ -30,8 +30,7 @@ pub fn firing_orders<V>()
         → (new : List Value) × IsFirable sys dropped (l.event ∷ set) new × Moves_to sys.net new a }
     ensures one_end { (sys : System V) (dropped : List ℕ) → AreKeyed sys.net → IsStatic sys dropped → (ls ks : List Label) (t u : List Value) → Reaches sys dropped ls t → Reaches sys dropped ks u
         → Within (map (λ l. l.event) ls) (map (λ l. l.event) ks) → Within (map (λ l. l.event) ks) (map (λ l. l.event) ls) → t ≡ u }
-{
-}
+{}
 
 /// In a legal order of a firable set the next label can fire as long as no flow fault was met, and none is met where the
 /// firable sets of the events so far have flows.
@@ -41,8 +40,7 @@ pub fn legal_orders<V>()
         → (n : ℕ) × (from : Value) × (to : Value) × (e : Edge sys dropped l n from to) × Can (HasValue sys.net t) e.way }
     ensures fires { (sys : System V) (dropped : List ℕ) → AreKeyed sys.net → IsStatic sys dropped → (set : List ℕ) (ls : List Label) → IsLegalOrder sys dropped set ls
         → ((part : List ℕ) (t : List Value) → IsFirable sys dropped part t → Within part set → HasFlows sys.net t) → (t : List Value) × Reaches sys dropped ls t }
-{
-}
+{}
 
 /// Where no set meets a conflict, and the flows of each firable set are known to be there or a fault, the sets with an
 /// order are exactly the firable sets.
@@ -51,16 +49,16 @@ pub fn sets_with_orders<V>()
     ensures order { (sys : System V) (dropped : List ℕ) → AreKeyed sys.net → IsStatic sys dropped → IsConflictFree sys dropped
         → ((set : List ℕ) (t : List Value) → IsFirable sys dropped set t → HasFlows sys.net t ⊎ HasFault sys.net t)
         → (set : List ℕ) (t : List Value) → IsFirable sys dropped set t → (u : List Value) × HasOrder sys dropped set u }
-{
-}
+{}
 
-/// Labels fire without fault exactly where the script that fires them, and nothing else, has no fault. What fires with
-/// events dropped fires without dropping any.
+/// Labels fire without fault exactly where the script that fires them, and nothing else, has no fault, and what meets a
+/// conflict meets its flow fault in the run of its script. What fires with events dropped fires without dropping any.
 pub fn orders_replay<V>()
     ensures replays { (sys : System V) (dropped : List ℕ) (ls : List Label) (u : List Value) → Reaches sys dropped (reverse ls) u
         → AreOpen sys dropped ls × ((t : List Value) × (ms : List Moment) × Runs sys (map Fire ls) (Starts t ∷ ms) × AllFire (length ls) ls t ms u) }
     ensures reaches { (sys : System V) (dropped : List ℕ) (ls : List Label) (t u : List Value) (ms : List Moment) (steps : ℕ) → AreOpen sys dropped ls
         → Runs sys (map Fire ls) (Starts t ∷ ms) → AllFire steps ls t ms u → Reaches sys dropped (reverse ls) u }
+    ensures conflict_replays { (sys : System V) (dropped : List ℕ) (ls : List Label) (f : FlowFault) → Conflicts sys dropped (reverse ls) f
+        → (ms : List Moment) × Runs sys (map Fire ls) ms × FailsLast f ls ms }
     ensures undropped { (sys : System V) (dropped : List ℕ) (ls : List Label) (t : List Value) → Reaches sys dropped ls t → Reaches sys [] ls t }
-{
-}
+{}

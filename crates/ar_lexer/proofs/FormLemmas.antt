@@ -65,10 +65,10 @@ front_head b rest [] back e (real h) = absurd (no_real h)
 front_head b rest [] back e (sign n h) = let l = (sign_short [] n h).0 in absurd (omega (arith, l))
 front_head b rest (c ∷ front) back e h = (front, ap (λ (x : ℕ). x ∷ front) (sym (cons_head e)))
 
-digits_head : (b : ℕ) (bs : List ℕ) → IsDigits (b ∷ bs) → is_ascii_digit b ≡ true
+pub digits_head : (b : ℕ) (bs : List ℕ) → IsDigits (b ∷ bs) → is_ascii_digit b ≡ true
 digits_head b bs h = h.0
 
-real_head : (b : ℕ) (bs : List ℕ) → IsReal (b ∷ bs) → is_ascii_digit b ≡ true
+pub real_head : (b : ℕ) (bs : List ℕ) → IsReal (b ∷ bs) → is_ascii_digit b ≡ true
 real_head b bs h = by_digits h.0 h.1 h.2 h.3
   where
     by_digits : (ds tail : List ℕ) → (b ∷ bs) ≡ ds ++ tail → IsDigits ds → is_ascii_digit b ≡ true

@@ -5,3 +5,4 @@ pub mod FormLemmas
 pub mod PieceLemmas
 pub mod CutLemmas
 pub mod ReadLemmas
+pub mod Laws

@@ -72,7 +72,7 @@ module _ (text rest rest' : List ℕ) (start start' n : ℕ) (there there' : Pla
     there_is = place_there;
   }
 
-same_token : (t u : Token) → t.kind ≡ u.kind → t.span.from ≡ u.span.from → t.span.to ≡ u.span.to → t.at ≡ u.at → t ≡ u
+pub same_token : (t u : Token) → t.kind ≡ u.kind → t.span.from ≡ u.span.from → t.span.to ≡ u.span.to → t.at ≡ u.at → t ≡ u
 same_token t u k f o a = λ i. record { kind = k i; span = record { from = f i; to = o i }; at = a i }
 
 -- at the end of the text

@@ -1,6 +1,6 @@
 // The tokens of a text.
 
-ghost use Rattle.std.specs.Prelude.{◌≡◌, ◌+◌, ◌<◌, ◌≤◌, ◌^◌, ◌≢◌, IfOk, IfErr, length, take, drop};
+ghost use Rattle.std.specs.Prelude.{◌≡◌, ◌+◌, ◌<◌, ◌≤◌, ◌^◌, ◌≢◌, IfOk, IfErr, IsErrAnd, MatchResult, length, take, drop};
 ghost use Rattle.ar_lexer.specs.Tokens.{AreTokens, IsFirstFault};
 ghost use Rattle.ar_lexer.specs.Scans.{Moves, IsTokenAt};
 ghost use Rattle.ar_base.specs.Counts.{limit_of};
@@ -59,9 +59,8 @@ impl<'a> Cursor<'a> {
     }
 }
 
-/// The tokens of the text, in order, the last of them its end; or the first fault from the left: a byte
-/// at which no token begins, a comment that is not closed, or a whole number above 2^63 - 1.
-pub fn tokens(alloc: Global, text: &[u8]) -> Result<Vec<Token>, LexFault>
+// The tokens of the text, or its first fault.
+fn scanned(alloc: Global, text: &[u8]) -> Result<Vec<Token>, LexFault>
     requires { length text.now ≤ limit_of ModelBytes }
     ensures found { IfOk result (λ v. AreTokens text.now v.items) }
     ensures refused { IfErr result (λ fault. fault ≢ LexFault.Memory → IsFirstFault text.now fault) }
@@ -86,4 +85,95 @@ pub fn tokens(alloc: Global, text: &[u8]) -> Result<Vec<Token>, LexFault>
     }
     found.push(cursor.token(TokenKind::End, 0))?;
     Ok(found)
+}
+
+/// The tokens of the text, in order, the last of them its end; or the first fault from the left: a byte
+/// at which no token begins, a comment that is not closed, or a whole number above 2^63 - 1.
+///
+/// The text may have at most 4,194,304 bytes. Want of memory may refuse any text.
+pub fn tokens(alloc: Global, text: &[u8]) -> Result<Vec<Token>, LexFault>
+    requires { length text.now ≤ limit_of ModelBytes }
+    ensures found { IfOk result (λ v. AreTokens text.now v.items) }
+    ensures refused { IfErr result (λ fault. fault ≢ LexFault.Memory → IsFirstFault text.now fault) }
+
+    // A text that has tokens gives these, and a text with a fault is refused for its first one.
+    ensures only { (ts : _) → AreTokens text.now ts → MatchResult result (λ v. v.items ≡ ts) (λ fault. fault ≡ LexFault.Memory) }
+    ensures first { (fault : _) → IsFirstFault text.now fault → IsErrAnd result (λ e. e ≢ LexFault.Memory → e ≡ fault) }
+{
+    scanned(alloc, text)
+}
+
+#[cfg(test)]
+mod tests {
+    use super::*;
+    use crate::{signs, words};
+    use std::test::Fail;
+
+    #[test]
+    fn reads_kinds(rt: HostRuntime) -> Result<(), Fail> {
+        let table: [(&str, &[TokenKind]); 14] = [
+            ("", &[]),
+            ("a _b9", &[TokenKind::Name, TokenKind::Name]),
+            (
+                "and And",
+                &[TokenKind::Reserved(words::AND), TokenKind::Name],
+            ),
+            ("00012", &[TokenKind::Whole(12)]),
+            ("9223372036854775807", &[TokenKind::Whole(i64::MAX)]),
+            ("-1", &[TokenKind::Sign(signs::MINUS), TokenKind::Whole(1)]),
+            (
+                "1.5 1e3 1.5E-3 99999999999999999999.0",
+                &[
+                    TokenKind::Real,
+                    TokenKind::Real,
+                    TokenKind::Real,
+                    TokenKind::Real,
+                ],
+            ),
+            (
+                "1.x",
+                &[
+                    TokenKind::Whole(1),
+                    TokenKind::Sign(signs::DOT),
+                    TokenKind::Name,
+                ],
+            ),
+            (
+                "1e+",
+                &[
+                    TokenKind::Whole(1),
+                    TokenKind::Name,
+                    TokenKind::Sign(signs::PLUS),
+                ],
+            ),
+            ("1.5e", &[TokenKind::Real, TokenKind::Name]),
+            ("12ab", &[TokenKind::Whole(12), TokenKind::Name]),
+            (
+                ":=::==:",
+                &[
+                    TokenKind::Sign(signs::TIE),
+                    TokenKind::Sign(signs::ASSIGN),
+                    TokenKind::Sign(signs::EQUALS),
+                    TokenKind::Sign(signs::COLON),
+                ],
+            ),
+            ("a//b\n/* c /* d */e", &[TokenKind::Name, TokenKind::Name]),
+            (
+                "<=->/",
+                &[
+                    TokenKind::Sign(signs::AT_MOST),
+                    TokenKind::Sign(signs::ARROW),
+                    TokenKind::Sign(signs::SLASH),
+                ],
+            ),
+        ];
+        for (text, kinds) in table {
+            let found = tokens(rt.alloc(), text.as_bytes())?;
+            assert_eq!(rt; found.len(), kinds.len() + 1, "{text:?}");
+            for (token, kind) in found.iter().zip(kinds) {
+                assert_eq!(rt; token.kind, *kind, "{text:?}");
+            }
+        }
+        Ok(())
+    }
 }

@@ -4,7 +4,7 @@ use Rattle.ar_base.specs.Lists.{Stands, Along, IsFirst}
 use Rattle.ar_base.specs.Lists as l
 use Rattle.ar_base.proofs.Standing.{stands_one}
 use Rattle.ar_meaning.specs.Systems.{Variable, System, Event, Transition, Way, Branches, Joint, Branch}
-use Rattle.ar_meaning.specs.Expand.{Declared, Member, Ways, event, Members_give, no_member, one, synchronises, Parts_give, no_part, choice, choices, AreKeyed}
+use Rattle.ar_meaning.specs.Expand.{Declared, Member, Ways, event, Members_give, no_member, one, synchronises, Parts_give, no_part, choice, choices, AreKeyed, IsExpanded}
 use Rattle.ar_meaning.specs.ExpandImage.{Part_renames, Member_renames, transitions, synchronise, Declared_renames}
 use Rattle.ar_meaning.specs.Image.{Way_renames, leaves, joints, Branches_rename, branch, Variable_renames, Event_renames, IsImage}
 use Rattle.ar_meaning.specs.Image as i
@@ -58,6 +58,13 @@ module _ {V W E F : Type 0} (same : V → W → Type 0) (event_same : E → F �
     parts_there (l.one_and r rs) (choice {must = m} {ts = vs} {bss = bss} w p) (choice {ts = ws} {bss = css} w' p') =
         subst (λ k. Along (Branches_rename same) (choices m vs bss) (choices k ws css)) r.must (choices_there same m (ways_there r.key w w') (parts_there rs p p'))
 
+  -- and systems' events that differ in what stands for variables
+  pub events_there : {ds' : List (Declared (Transition V) E)} {es' : List (Declared (Transition W) F)} {vs : List (Event V)} {ws : List (Event W)} → Along (Declared_renames same event_same) ds' es'
+      → Along (IsExpanded ds) ds' vs → Along (IsExpanded es) es' ws → Along (Event_renames same) vs ws
+  events_there l.none l.none l.none = l.none
+  events_there (l.one_and r rs) (l.one_and v vs) (l.one_and w ws) =
+      l.one_and (record { unit = sym v.unit ∙ (r.unit ∙ w.unit); hidden = sym v.hidden ∙ (r.hidden ∙ w.hidden); ways = ways_there r.key v.ways w.ways }) (events_there rs vs ws)
+
 module _ {V W : Type 0} (same : V → W → Type 0) (A : System V) (B : System W) (image : IsImage same A B) where
   pub ways_listed_there : (t : List Value) {vs : List (Way V)} {ws : List (Way W)} {e k : ℕ} {ls : List Label} → Along (Way_renames same) vs ws
       → Ways_listed (HasValue A.net t) e k vs ls → Ways_listed (HasValue B.net t) e k ws ls
@@ -89,10 +96,10 @@ module _ {V W : Type 0} (same : V → W → Type 0) (A : System V) (B : System W
   goes_there (shows d) = shows (goes_there d)
   goes_there {t = t} (lists a d) = lists (listed_there t image.events a) (goes_there d)
 
-  first_there : {xs : List (Variable V)} {ys : List (Variable W)} → Along (Variable_renames same) xs ys → first_values xs ≡ first_values ys
-  first_there l.none = refl
-  first_there (l.one_and r rs) = let h = r.value in let i = first_there rs in cc
+  pub first_values_there : {xs : List (Variable V)} {ys : List (Variable W)} → Along (Variable_renames same) xs ys → first_values xs ≡ first_values ys
+  first_values_there l.none = refl
+  first_values_there (l.one_and r rs) = let h = r.value in let i = first_values_there rs in cc
 
   pub runs_there : {cs : List Command} {ms : List Moment} → Runs A cs ms → Runs B cs ms
-  runs_there (starts {t = t} f d) = starts (subst (λ z. Flows B.net z (Total t)) (first_there image.net.variables) (flows_there same A.net B.net image.net f)) (goes_there d)
-  runs_there (start_fails {f = x} f) = start_fails (subst (λ z. Flows B.net z (Fails x)) (first_there image.net.variables) (flows_there same A.net B.net image.net f))
+  runs_there (starts {t = t} f d) = starts (subst (λ z. Flows B.net z (Total t)) (first_values_there image.net.variables) (flows_there same A.net B.net image.net f)) (goes_there d)
+  runs_there (start_fails {f = x} f) = start_fails (subst (λ z. Flows B.net z (Fails x)) (first_values_there image.net.variables) (flows_there same A.net B.net image.net f))

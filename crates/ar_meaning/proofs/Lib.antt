@@ -1,4 +1,5 @@
 pub mod Least
+pub mod ByNumber
 pub mod OneAnswer
 pub mod OneRun
 pub mod ImageTurned
@@ -8,3 +9,6 @@ pub mod ImageJoined
 pub mod ChangedLeaves
 pub mod ImageBoth
 pub mod StatesAlone
+pub mod Tabled
+pub mod Forms
+pub mod Worked

@@ -15,11 +15,13 @@ pub data Conditions_rename {V W : Type 0} (same : V → W → Type 0) : List (Ex
   one_and : {e : Expr V} {f : Expr W} {b : Bool} {es : List (Expr V × Bool)} {fs : List (Expr W × Bool)} → Renames same (out-Expr V e) (out-Expr W f)
       → Conditions_rename same es fs → Conditions_rename same ((e, b) ∷ es) ((f, b) ∷ fs)
 
+-- the assignments have related targets, and conditions and expressions that differ in their variables alone
 pub record Assign_renames {V W : Type 0} (same : V → W → Type 0) (a : Assign V) (b : Assign W) : Type 0 where
   pub target : same a.target b.target
   pub conditions : Conditions_rename same a.conditions b.conditions
   pub value : Renames same (out-Expr V a.value) (out-Expr W b.value)
 
+-- the variables have related keys, and all else in common
 pub record Variable_renames {V W : Type 0} (same : V → W → Type 0) (x : Variable V) (y : Variable W) : Type 0 where
   pub key : same x.key y.key
   pub unit : x.unit ≡ y.unit
@@ -27,6 +29,7 @@ pub record Variable_renames {V W : Type 0} (same : V → W → Type 0) (x : Vari
   pub is_state : x.is_state ≡ y.is_state
   pub value : x.value ≡ y.value
 
+-- the transitions differ in their variables alone
 pub record Transition_renames {V W : Type 0} (same : V → W → Type 0) (d : Transition V) (e : Transition W) : Type 0 where
   pub guard : Renames same (out-Expr V d.guard) (out-Expr W e.guard)
   pub action : Along (Assign_renames same) d.action e.action
@@ -37,11 +40,13 @@ mutual
     leaves : {d : Transition V} {e : Transition W} → Transition_renames same d e → Way_renames same (Leaf d) (Leaf e)
     joints : {bs : Branches (Transition V)} {cs : Branches (Transition W)} → Branches_rename same bs cs → Way_renames same (Joint bs) (Joint cs)
 
+  -- the same of the ways of parts, in order
   pub data Branches_rename {V W : Type 0} (same : V → W → Type 0) : Branches (Transition V) → Branches (Transition W) → Type 0 where
     no_branch : Branches_rename same Empty Empty
     branch : {must : Bool} {v : Way V} {w : Way W} {bs : Branches (Transition V)} {cs : Branches (Transition W)} → Way_renames same v w → Branches_rename same bs cs
         → Branches_rename same (Branch must v bs) (Branch must w cs)
 
+-- the events have one unit, one mark for hidden, and ways that differ in their variables alone
 pub record Event_renames {V W : Type 0} (same : V → W → Type 0) (e : Event V) (f : Event W) : Type 0 where
   pub unit : e.unit ≡ f.unit
   pub hidden : e.hidden ≡ f.hidden

@@ -25,6 +25,7 @@ abbrev mutual
   changed f (Leaf l) = Leaf (f l)
   changed f (Joint bs) = Joint (branches_changed f bs)
 
+  -- the same of the ways of parts
   pub branches_changed : {L M : Type 0} → (L → M) → Branches L → Branches M
   branches_changed f Empty = Empty
   branches_changed f (Branch must t bs) = Branch must (changed f t) (branches_changed f bs)
@@ -40,6 +41,7 @@ abbrev mutual
   height (Leaf l) = 0
   height (Joint bs) = suc (branches_height bs)
 
+  -- the most that stand above one another in the ways of these parts
   pub branches_height : {L : Type 0} → Branches L → ℕ
   branches_height Empty = 0
   branches_height (Branch must t bs) = max (height t) (branches_height bs)

@@ -71,10 +71,11 @@ abbrev pub first_values : {V : Type 0} → List (Variable V) → List Value
 first_values [] = []
 first_values (x ∷ xs) = x.value ∷ first_values xs
 
--- the flows of the init values are how a run starts, and their fault is how it fails to
+-- a run starts with the flows of the init values
 abbrev pub Start : {V : Type 0} → Net V → (values : List Value) → Type 0
 Start net t = Flows net (first_values net.variables) (Total t)
 
+-- a run fails to start where these flows are a fault
 abbrev pub StartFails : {V : Type 0} → Net V → FlowFault → Type 0
 StartFails net f = Flows net (first_values net.variables) (Fails f)
 

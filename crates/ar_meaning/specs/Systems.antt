@@ -28,6 +28,7 @@ mutual
     Leaf : L → Tree L
     Joint : Branches L → Tree L
 
+  -- the ways of the parts, in order
   pub data Branches (L : Type 0) : Type 0 where
     Empty : Branches L
     Branch : (must : Bool) → Tree L → Branches L → Branches L

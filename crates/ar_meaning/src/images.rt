@@ -4,15 +4,15 @@ ghost use Rattle.std.specs.Prelude.{ℕ, List, Bool, IsTrue, ◌≡◌, ◌↔�
 ghost use Rattle.domains.specs.declared.Value.{Value};
 ghost use Rattle.ar_base.specs.Lists.{Stands, Along};
 ghost use Rattle.typed_expr.specs.Pairs.{Joined};
-ghost use Rattle.ar_meaning.specs.Systems.{Net, System, Transition, Way, Tree};
+ghost use Rattle.ar_meaning.specs.Systems.{Net, System, Event, Transition, Way, Tree};
 ghost use Rattle.ar_meaning.specs.Facts.{HasValue, FactOf};
 ghost use Rattle.ar_meaning.specs.Flows.{Flows, Outcome};
 ghost use Rattle.ar_meaning.specs.Ways.{Can, Effects};
 ghost use Rattle.ar_meaning.specs.Steps.{Step, Answer};
 ghost use Rattle.ar_meaning.specs.Runs.{Runs, Command, Moment};
-ghost use Rattle.ar_meaning.specs.Expand.{Declared, AreKeyed, Ways};
+ghost use Rattle.ar_meaning.specs.Expand.{Declared, AreKeyed, Ways, IsExpanded};
 ghost use Rattle.ar_meaning.specs.ExpandImage.{Declared_renames};
-ghost use Rattle.ar_meaning.specs.Image.{Way_renames, IsNetImage, IsImage};
+ghost use Rattle.ar_meaning.specs.Image.{Way_renames, Event_renames, IsNetImage, IsImage};
 ghost use Rattle.ar_meaning.specs.Numbered.{Body, Means_way, body_changed, changed};
 
 /// An image has the facts, flows, ways that can fire, effects, steps and runs of the system that it is an image of, and no others.
@@ -50,13 +50,19 @@ pub fn image_of_image<U, V, W>()
         → IsImage (λ y z. IsTrue (second y z)) middle there → IsImage (Joined (λ x y. IsTrue (first x y)) (λ y z. IsTrue (second y z))) here there }
 {}
 
-/// Declared events that differ in what stands for variables and events have ways that differ in what stands for variables.
+/// Declared events that differ in what stands for variables and events have ways, and make events of systems, that differ
+/// in what stands for variables.
 pub fn related_declarations<V, W, E, F>()
     ensures ways { (same : V → W → Bool) (event_same : E → F → Bool) (ds : List (Declared (Transition V) E)) (es : List (Declared (Transition W) F))
         → Along (Declared_renames (λ x y. IsTrue (same x y)) (λ x y. IsTrue (event_same x y))) ds es → AreKeyed es
         → ((x : E) (y z : F) → IsTrue (event_same x y) → IsTrue (event_same x z) → y ≡ z)
         → (e : E) (f : F) (vs : List (Way V)) (ws : List (Way W)) → IsTrue (event_same e f) → Ways ds e vs → Ways es f ws
         → Along (Way_renames (λ x y. IsTrue (same x y))) vs ws }
+    ensures events { (same : V → W → Bool) (event_same : E → F → Bool) (ds : List (Declared (Transition V) E)) (es : List (Declared (Transition W) F))
+        → Along (Declared_renames (λ x y. IsTrue (same x y)) (λ x y. IsTrue (event_same x y))) ds es → AreKeyed es
+        → ((x : E) (y z : F) → IsTrue (event_same x y) → IsTrue (event_same x z) → y ≡ z)
+        → (vs : List (Event V)) (ws : List (Event W)) → Along (IsExpanded ds) ds vs → Along (IsExpanded es) es ws
+        → Along (Event_renames (λ x y. IsTrue (same x y))) vs ws }
 {}
 
 /// Numbers stand for the same ways, whatever stands in the ways' leaves.

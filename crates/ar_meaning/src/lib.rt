@@ -5,5 +5,6 @@
 #![tactic(auto)]
 
 pub mod answers;
+pub mod cases;
 pub mod facts;
 pub mod images;

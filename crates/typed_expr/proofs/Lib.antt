@@ -1,2 +1,8 @@
+mod Putting
+mod Folding
+mod Gathering
+mod Forms
+mod Loops
+mod Arms
 pub mod Renaming
 pub mod Facts

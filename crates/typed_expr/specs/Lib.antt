@@ -1,7 +1,11 @@
 pub mod Values
+pub mod Sets
 pub mod Yields
 pub mod Pairs
 pub mod Kinds
 pub mod Total
 pub mod Renames
 pub mod Mentions
+pub mod Folds
+pub mod Possible
+pub mod Evaluating

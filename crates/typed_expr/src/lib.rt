@@ -3,6 +3,14 @@
 
 mod env;
 mod expr;
+mod fold;
+mod possible;
+mod sets;
+mod total;
+mod value_set;
 
 pub use env::Env;
 pub use expr::{Expr, Relation, ValueKind};
+pub use possible::{eval_set, possible_values};
+pub use total::eval_total;
+pub use value_set::ValueSet;

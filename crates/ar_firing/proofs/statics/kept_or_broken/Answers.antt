@@ -1,23 +1,11 @@
-use Rattle.ar_firing.proofs.RulesHold.{s1_excludes, s2_excludes, s3_excludes, s4_excludes, s5_excludes, s6_excludes, s8_excludes}
+use Rattle.ar_firing.proofs.RulesHold.{excludes, first_broken_same}
 use Rattle.ar_firing.proofs.statics.kept_or_broken.Goals as goal
 
-pub returns-clause-s1 : goal.returns-clause-s1
-returns-clause-s1 g c = s1_excludes
+pub returns-clause-one_rule : goal.returns-clause-one_rule
+returns-clause-one_rule g c = excludes
 
-pub returns-clause-s2 : goal.returns-clause-s2
-returns-clause-s2 g c = s2_excludes
+pub returns-clause-all_rules : goal.returns-clause-all_rules
+returns-clause-all_rules g c = λ sys dropped k rule spot b. excludes sys dropped rule spot (k.each rule) b.breaks
 
-pub returns-clause-s3 : goal.returns-clause-s3
-returns-clause-s3 g c = s3_excludes
-
-pub returns-clause-s4 : goal.returns-clause-s4
-returns-clause-s4 g c = s4_excludes
-
-pub returns-clause-s5 : goal.returns-clause-s5
-returns-clause-s5 g c = s5_excludes
-
-pub returns-clause-s6 : goal.returns-clause-s6
-returns-clause-s6 g c = s6_excludes
-
-pub returns-clause-s8 : goal.returns-clause-s8
-returns-clause-s8 g c = s8_excludes
+pub returns-clause-first : goal.returns-clause-first
+returns-clause-first g c = λ sys dropped rule other spot there a b. first_broken_same sys dropped a b

@@ -1,5 +1,5 @@
-use Rattle.ar_firing.proofs.RulesHold.{static}
+use Rattle.ar_firing.proofs.RulesHold.{all_static}
 use Rattle.ar_firing.proofs.statics.rules_make_static.Goals as goal
 
 pub returns : goal.returns
-returns g c = record { is_static = static }
+returns g c = record { is_static = all_static }

@@ -1,6 +1,6 @@
 use Rattle.std.proofs.Common.{length}
 use Rattle.ar_lexer.proofs.ReadLemmas.{HasRead}
-use Rattle.ar_lexer.proofs.lexer.tokens.Given as goal
+use Rattle.ar_lexer.proofs.lexer.scanned.Given as goal
 
 abbrev pub invariant-loop-len : goal.invariant-loop-len
 invariant-loop-len l = HasRead l.text l.cursor.rest.now l.cursor.at l.cursor.place l.found.items

@@ -1,0 +1,221 @@
+// The values that an expression yields from facts.
+
+ghost use Rattle.std.specs.Prelude.{◌≡◌, IfOk, Contains, MatchOption, ⊤};
+ghost use Rattle.domains.specs.Values.{IsAscending};
+ghost use Rattle.typed_expr.specs.declared.expr.Expr.{out-Expr};
+ghost use Rattle.typed_expr.specs.Sets.{HasExactly, KeepsLimit};
+ghost use Rattle.typed_expr.specs.Yields.{Yields, facts_of};
+ghost use Rattle.typed_expr.specs.Possible.{IsWide};
+ghost use Rattle.typed_expr.specs.Evaluating.{Evaluates, Tallies, Folds, Sums, Chooses, Joins};
+
+use crate::env::Env;
+use crate::expr::Expr;
+use crate::fold::{Step, start_value};
+use crate::sets::{both, either, gathered, joined_where, some_related, stepped, truth_set};
+use crate::value_set::{Stop, ValueSet};
+use ar_base::Memory;
+use domains::Value;
+use std::alloc::Global;
+
+/// The values that an expression yields from the environment's facts, ascending and each once.
+///
+/// The expression is to be well typed. A conjunction or disjunction yields false or true where one operand does, and the
+/// other value where all do; a choice yields what the branches yield that its tests take; any other form yields its
+/// results over all choices of one yielded value for each operand. The error is want of memory.
+pub fn eval_set<V, E: Env<V>>(alloc: Global, expr: &Expr<V>, env: &E) -> Result<ValueSet, Memory>
+    ensures yields { IfOk result (λ set. HasExactly set (Yields (facts_of (E.facts_at env.now)) (out-Expr V expr.now))) }
+    ensures ascending { IfOk result IsAscending }
+{
+    match yielded(alloc, expr, env, None) {
+        Ok(set) => Ok(set),
+        Err(_) => Err(Memory {}),
+    }
+}
+
+/// The values that an expression may have, where the facts of the environment are the variables' whole domains, or None
+/// where a subexpression or a step of a fold has more than `most`.
+///
+/// The steps of a fold are what it may have come to after its first operands, none of them included. The error is want of
+/// memory.
+pub fn possible_values<V, E: Env<V>>(
+    alloc: Global,
+    expr: &Expr<V>,
+    env: &E,
+    most: u32,
+) -> Result<Option<ValueSet>, Memory>
+    ensures yields { IfOk result (λ found. MatchOption found (IsWide (facts_of (E.facts_at env.now)) most (out-Expr V expr.now)) (λ set. HasExactly set (Yields (facts_of (E.facts_at env.now)) (out-Expr V expr.now)))) }
+    ensures narrow { IfOk result (λ found. MatchOption found ⊤ (λ set. IsWide (facts_of (E.facts_at env.now)) most (out-Expr V expr.now) → ⊥)) }
+    ensures ascending { IfOk result (λ found. MatchOption found ⊤ IsAscending) }
+{
+    match yielded(alloc, expr, env, Some(most)) {
+        Ok(set) => Ok(Some(set)),
+        Err(Stop::TooMany) => Ok(None),
+        Err(Stop::NoMemory) => Err(Memory {}),
+    }
+}
+
+// The values that an expression yields, where nothing in it is too wide for the limit.
+#[cycle(yielded)]
+fn yielded<V, E: Env<V>>(
+    alloc: Global,
+    expr: &Expr<V>,
+    env: &E,
+    most: Option<u32>,
+) -> Result<ValueSet, Stop>
+    ensures { Evaluates (facts_of (E.facts_at env.now)) most result (out-Expr V expr.now) }
+{
+    match expr {
+        Expr::Constant(v) => gathered(alloc, &[*v], most),
+        Expr::Variable(x) => gathered(alloc, env.facts(x), most),
+        Expr::Not(a) => {
+            let set = yielded(alloc, a, env, most)?;
+            truth_set(
+                alloc,
+                set.has(Value::Truth(true)),
+                set.has(Value::Truth(false)),
+                most,
+            )
+        }
+        Expr::All(es) => {
+            let (one_false, all_true) = tally(alloc, es, env, most, true)?;
+            truth_set(alloc, one_false, all_true, most)
+        }
+        Expr::Any(es) => {
+            let (one_true, all_false) = tally(alloc, es, env, most, false)?;
+            truth_set(alloc, all_false, one_true, most)
+        }
+        Expr::Compare(relation, a, b) => {
+            let left = yielded(alloc, a, env, most)?;
+            let right = yielded(alloc, b, env, most)?;
+            let can_be_false = some_related(*relation, left.values(), right.values(), false);
+            let can_be_true = some_related(*relation, left.values(), right.values(), true);
+            truth_set(alloc, can_be_false, can_be_true, most)
+        }
+        Expr::Sum(parts) => summed(alloc, parts, env, most),
+        Expr::Product(es) => folded(alloc, es, env, most, Step::Times),
+        Expr::Least(es) => folded(alloc, es, env, most, Step::Lesser),
+        Expr::Greatest(es) => folded(alloc, es, env, most, Step::Greater),
+        Expr::Count(es) => folded(alloc, es, env, most, Step::Counted),
+        Expr::Choose(cases, other) => {
+            let (set, passes) = chosen(alloc, cases, env, most)?;
+            with_branch(alloc, other, env, most, passes, set)
+        }
+    }
+}
+
+// Whether one operand yields the opposite truth value, and whether each yields this one.
+#[cycle(yielded)]
+fn tally<V, E: Env<V>>(
+    alloc: Global,
+    es: &[Expr<V>],
+    env: &E,
+    most: Option<u32>,
+    b: bool,
+) -> Result<(bool, bool), Stop>
+    ensures { Tallies (facts_of (E.facts_at env.now)) most b result es.now }
+{
+    let mut one_other = false;
+    let mut each = true;
+    for e in es {
+        let set = yielded(alloc, e, env, most)?;
+        one_other = either(one_other, set.has(Value::Truth(!b)));
+        each = both(each, set.has(Value::Truth(b)));
+        if one_other && !each && most.is_none() {
+            return Ok((true, false));
+        }
+    }
+    Ok((one_other, each))
+}
+
+// The fold over one value for each operand.
+#[cycle(yielded)]
+fn folded<V, E: Env<V>>(
+    alloc: Global,
+    es: &[Expr<V>],
+    env: &E,
+    most: Option<u32>,
+    step: Step,
+) -> Result<ValueSet, Stop>
+    ensures { Folds (facts_of (E.facts_at env.now)) most step result es.now }
+{
+    let mut so_far = gathered(alloc, &[start_value(step)], most)?;
+    let mut first = true;
+    for e in es {
+        let set = yielded(alloc, e, env, most)?;
+        let more = stepped(alloc, step, first, so_far.values(), set.values(), most)?;
+        so_far = more;
+        first = false;
+    }
+    Ok(so_far)
+}
+
+// The sums over one value for each part.
+#[cycle(yielded)]
+fn summed<V, E: Env<V>>(
+    alloc: Global,
+    parts: &[(bool, Expr<V>)],
+    env: &E,
+    most: Option<u32>,
+) -> Result<ValueSet, Stop>
+    ensures { Sums (facts_of (E.facts_at env.now)) most result parts.now }
+{
+    let mut so_far = gathered(alloc, &[Value::Whole(0)], most)?;
+    for (plus, e) in parts {
+        let set = yielded(alloc, e, env, most)?;
+        let more = stepped(
+            alloc,
+            Step::Part(*plus),
+            false,
+            so_far.values(),
+            set.values(),
+            most,
+        )?;
+        so_far = more;
+    }
+    Ok(so_far)
+}
+
+// What the cases yield that their tests take, and whether the tests pass them all.
+#[cycle(yielded)]
+fn chosen<V, E: Env<V>>(
+    alloc: Global,
+    cases: &[(Expr<V>, Expr<V>)],
+    env: &E,
+    most: Option<u32>,
+) -> Result<(ValueSet, bool), Stop>
+    ensures { Chooses (facts_of (E.facts_at env.now)) most result cases.now }
+{
+    let mut so_far = ValueSet::new(alloc);
+    let mut passes = true;
+    for (test, value) in cases {
+        let tests = yielded(alloc, test, env, most)?;
+        let takes = both(passes, tests.has(Value::Truth(true)));
+        let more = with_branch(alloc, value, env, most, takes, so_far)?;
+        so_far = more;
+        passes = both(passes, tests.has(Value::Truth(false)));
+        if !passes && most.is_none() {
+            return Ok((so_far, false));
+        }
+    }
+    Ok((so_far, passes))
+}
+
+// The set with what a branch yields put in, where it is taken.
+#[cycle(yielded)]
+fn with_branch<V, E: Env<V>>(
+    alloc: Global,
+    value: &Expr<V>,
+    env: &E,
+    most: Option<u32>,
+    takes: bool,
+    set: ValueSet,
+) -> Result<ValueSet, Stop>
+    requires { KeepsLimit most set }
+    ensures { Joins (facts_of (E.facts_at env.now)) most result takes set (out-Expr V value.now) }
+{
+    if !takes && most.is_none() {
+        return Ok(set);
+    }
+    let values = yielded(alloc, value, env, most)?;
+    joined_where(takes, set, &values, most)
+}

@@ -1,0 +1,6 @@
+pub mod Words
+pub mod Paths
+pub mod Expressions
+pub mod Instructions
+pub mod Members
+pub mod Models

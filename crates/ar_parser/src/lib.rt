@@ -1,0 +1,6 @@
+//! The grammar of models: what source tree a text has.
+#![tactic(auto)]
+
+mod lexeme;
+
+pub use lexeme::{Lexeme, ParseFault};

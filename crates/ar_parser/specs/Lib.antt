@@ -4,3 +4,4 @@ pub mod Expressions
 pub mod Instructions
 pub mod Members
 pub mod Models
+pub mod Results

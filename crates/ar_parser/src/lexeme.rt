@@ -1,5 +1,10 @@
 // Tokens with the numbers of their names, and why a text is no model.
 
+ghost use Rattle.std.specs.Prelude.{◌≡◌};
+ghost use Rattle.ar_parser.specs.declared.lexeme.ParseFault.TheVariants.{Memory};
+
+use std::alloc::{AllocError, AllocFailed};
+
 use ar_base::{NameId, Place, Span};
 use ar_lexer::TokenKind;
 
@@ -27,4 +32,20 @@ pub enum ParseFault {
     Depth(Place),
     /// Memory was refused.
     Memory,
+}
+
+impl From<AllocError> for ParseFault {
+    ghost from_gives = { λ _ e. e ≡ Memory };
+
+    fn from(_error: AllocError) -> Self {
+        ParseFault::Memory
+    }
+}
+
+impl<T: Drop> From<AllocFailed<T>> for ParseFault {
+    ghost from_gives = { λ _ e. e ≡ Memory };
+
+    fn from(_failed: AllocFailed<T>) -> Self {
+        ParseFault::Memory
+    }
 }

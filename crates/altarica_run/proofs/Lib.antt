@@ -11,3 +11,6 @@ pub mod StepLemmas
 pub mod PutLemmas
 pub mod PlayLemmas
 pub mod EndLemmas
+pub mod TextLemmas
+pub mod StageLemmas
+pub mod PrepareLemmas

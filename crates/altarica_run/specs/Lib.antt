@@ -17,3 +17,5 @@ pub mod Refusals
 pub mod Says
 pub mod Answers
 pub mod Played
+pub mod Stages
+pub mod Endings

@@ -3,13 +3,16 @@
 
 mod binding;
 mod jobs;
+mod program;
 mod reading;
 mod refusals;
 mod replaying;
 mod scripts;
+mod stages;
 mod status;
 mod stepping;
 mod trace;
 mod tree;
 
+pub use program::altarica;
 pub use status::Status;

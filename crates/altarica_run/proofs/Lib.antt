@@ -14,3 +14,4 @@ pub mod EndLemmas
 pub mod TextLemmas
 pub mod StageLemmas
 pub mod PrepareLemmas
+pub mod EndingLemmas

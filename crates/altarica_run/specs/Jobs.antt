@@ -2,8 +2,7 @@
 use Rattle.std.specs.Prelude.{◌≡◌, ℕ, ◌&&◌, not, Bool, nat_eq, List, [], ◌∷◌, Option, Some, None, codes, if◌then◌else◌}
 use Rattle.std.specs.List.{starts_with}
 use Rattle.std.specs.Str.{bytes_eq}
-use Rattle.altarica_run.specs.declared.jobs.Job as code
-use Rattle.altarica_run.specs.declared.jobs.Job.TheVariants as jobs
+use Rattle.altarica_run.specs.declared.jobs.Replay as code
 
 -- what is to be done, with the names of its files
 pub data Job : Type 0 where
@@ -19,6 +18,6 @@ job_of (command ∷ model ∷ script ∷ []) = if bytes_eq command (codes "repla
 job_of words = None
 
 -- the code's job is this one
-abbrev pub IsJob : Option code.Job → Option Job → Type 0
+abbrev pub IsJob : Option code.Replay → Option Job → Type 0
 IsJob None meant = meant ≡ None
-IsJob (Some (jobs.Replay model script)) meant = meant ≡ Some (Replay model.now script.now)
+IsJob (Some job) meant = meant ≡ Some (Replay job.model.now job.script.now)

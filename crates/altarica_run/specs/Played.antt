@@ -56,6 +56,10 @@ IsStepped effect piece values new_values old new faults_old faults_new (Ok false
 IsStepped effect piece values new_values old new faults_old faults_new (Err broken.Write) = Rose faults_old faults_new × Cut old new piece
 IsStepped effect piece values new_values old new faults_old faults_new (Err broken.Memory) = new ≡ old
 
+abbrev pub broken_status : Broken → Status
+broken_status broken.Write = status.Write
+broken_status broken.Memory = status.Memory
+
 -- what a replay answers
 abbrev pub IsEnd : Block → List Command → Option (List ℕ) → Option (List ℕ) → ℕ → ℕ → Result Ended Broken → Type 0
 IsEnd b cs old new faults_old faults_new (Ok e) = (text : List ℕ) × IsReplay b cs text (status_of e) × Appended old new text

@@ -2,12 +2,15 @@
 
 ghost use Rattle.std.specs.Prelude.{◌≡◌, map, IfSome, IfNone, MatchOption, Some, None};
 ghost use Rattle.std.specs.String.{string_bytes};
-ghost use Rattle.altarica_run.specs.Jobs.{Job as Meant, Replay, job_of, is_file, IsJob};
+ghost use Rattle.altarica_run.specs.Jobs.{job_of, is_file, IsJob};
 
-/// What is to be done.
-pub enum Job<'a> {
-    /// Replays a script on a model. Both are names of files.
-    Replay { model: &'a str, script: &'a str },
+/// A replay of a script on a model.
+#[derive(Clone, Copy)]
+pub struct Replay<'a> {
+    /// The name of the model's file.
+    pub model: &'a str,
+    /// The name of the script's file.
+    pub script: &'a str,
 }
 
 // Whether a word names a file.
@@ -18,14 +21,14 @@ fn is_file(word: &str) -> bool
 }
 
 /// The job of the words after the program's name, or None exactly where they give none.
-pub fn job_of(words: &[String]) -> Option<Job<'_>>
+pub fn job_of(words: &[String]) -> Option<Replay<'_>>
     ensures { IsJob result (job_of (map string_bytes words.now)) }
 {
     let [command, model, script] = words else {
         return None;
     };
     if command.as_str() == "replay" && is_file(model.as_str()) && is_file(script.as_str()) {
-        Some(Job::Replay {
+        Some(Replay {
             model: model.as_str(),
             script: script.as_str(),
         })

@@ -4,7 +4,7 @@ ghost use Rattle.std.specs.Prelude.{◌≡◌, ℕ, List, Some, map};
 ghost use Rattle.std.specs.String.{string_bytes};
 ghost use Rattle.ar_io.specs.Outside.{Rose, Told};
 ghost use Rattle.altarica_run.specs.Small.{Block};
-ghost use Rattle.altarica_run.specs.Jobs.{Job as Meant, Replay, job_of};
+ghost use Rattle.altarica_run.specs.Jobs.{Replay};
 ghost use Rattle.altarica_run.specs.Played.{AreFirable};
 ghost use Rattle.altarica_run.specs.Refusals.{line_of, status_of};
 ghost use Rattle.altarica_run.specs.Stages.{IsSystem};
@@ -15,9 +15,9 @@ use std::alloc::Global;
 
 use ar_io::{Shelf, Sink};
 
-use crate::jobs::{Job, job_of};
+use crate::jobs::job_of;
 use crate::refusals::Refusal;
-use crate::replaying::{Broken, Ended, replay};
+use crate::replaying::{put_text, replay};
 use crate::stages::{Prepared, Stop, prepare};
 use crate::status::Status;
 
@@ -26,9 +26,9 @@ fn refuse<K: Sink>(alloc: Global, refusal: Refusal, out: &mut K) -> Status
     ensures { IsTold (K.written out.old) (K.written out.new) (K.faults out.old) (K.faults out.new) refusal result }
 {
     match refusal.line(alloc) {
-        Ok(line) => match out.put(line.as_bytes()) {
+        Ok(line) => match put_text(out, &line) {
             Ok(()) => refusal.status(),
-            Err(_) => Status::Write,
+            Err(broken) => broken.status(),
         },
         Err(_) => Status::Memory,
     }
@@ -41,14 +41,8 @@ fn run<K: Sink>(alloc: Global, prepared: &Prepared, out: &mut K) -> Status
         → IsRun b prepared.now (K.written out.old) (K.written out.new) (K.faults out.old) (K.faults out.new) result }
 {
     match replay(alloc, &prepared.system, &prepared.commands, out) {
-        Ok(ended) => match ended {
-            Ended::Done => Status::Done,
-            Ended::Fault => Status::Fault,
-        },
-        Err(broken) => match broken {
-            Broken::Write => Status::Write,
-            Broken::Memory => Status::Memory,
-        },
+        Ok(ended) => ended.status(),
+        Err(broken) => broken.status(),
     }
 }
 
@@ -83,9 +77,7 @@ pub fn altarica<H: Shelf, K: Sink>(
     ensures { Answers (map string_bytes words.now) (H.holds shelf.old) (H.faults shelf.old) (H.faults shelf.new) (K.written out.old) (K.written out.new) (K.faults out.old) (K.faults out.new) result }
 {
     match job_of(words) {
-        Some(job) => match job {
-            Job::Replay { model, script } => run_replay(alloc, model, script, shelf, out),
-        },
+        Some(job) => run_replay(alloc, job.model, job.script, shelf, out),
         None => refuse(alloc, Refusal::Usage, out),
     }
 }

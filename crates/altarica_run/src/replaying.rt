@@ -10,13 +10,14 @@ ghost use Rattle.altarica_run.specs.Reads.{fire_of};
 ghost use Rattle.altarica_run.specs.Lines.{IsWhole, piece_of, start_lines, end_line};
 ghost use Rattle.altarica_run.specs.Stepping.{effect_at};
 ghost use Rattle.altarica_run.specs.Outside.{Appended};
-ghost use Rattle.altarica_run.specs.Played.{AreFirable, IsEnd, Puts, Starts, IsStepped};
+ghost use Rattle.altarica_run.specs.Played.{AreFirable, IsEnd, Puts, Starts, IsStepped, status_of, broken_status};
 
 use std::alloc::{AllocError, Global};
 
 use ar_io::{Sink, SinkFailed};
 
 use crate::binding::BlockSystem;
+use crate::status::Status;
 use crate::stepping::{Effect, fire};
 use crate::trace::{end_text, fault_text, start_text, step_text};
 
@@ -36,6 +37,30 @@ pub enum Broken {
     Write,
     /// Memory was refused.
     Memory,
+}
+
+impl Ended {
+    /// The status of a replay that ended so.
+    pub fn status(self) -> Status
+        ensures { result ≡ status_of self }
+    {
+        match self {
+            Ended::Done => Status::Done,
+            Ended::Fault => Status::Fault,
+        }
+    }
+}
+
+impl Broken {
+    /// The status of a job that was broken off so.
+    pub fn status(self) -> Status
+        ensures { result ≡ broken_status self }
+    {
+        match self {
+            Broken::Write => Status::Write,
+            Broken::Memory => Status::Memory,
+        }
+    }
 }
 
 impl From<AllocError> for Broken {
@@ -60,8 +85,8 @@ impl From<SinkFailed> for Broken {
     }
 }
 
-// Writes a text.
-fn put_text<K: Sink>(out: &mut K, text: &String) -> Result<(), Broken>
+/// Writes a text.
+pub fn put_text<K: Sink>(out: &mut K, text: &String) -> Result<(), Broken>
     ensures { Puts (K.written out.old) (K.written out.new) (K.faults out.old) (K.faults out.new) (string_bytes text.now) result }
 {
     out.put(text.as_bytes())?;

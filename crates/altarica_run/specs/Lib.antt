@@ -16,6 +16,7 @@ pub mod Replays
 pub mod Refusals
 pub mod Says
 pub mod Answers
+pub mod Follows
 pub mod Played
 pub mod Stages
 pub mod Endings

@@ -3,6 +3,7 @@
 
 mod binding;
 mod jobs;
+mod laws;
 mod program;
 mod reading;
 mod refusals;
@@ -14,5 +15,6 @@ mod stepping;
 mod trace;
 mod tree;
 
+pub use laws::{answers_in_words, nothing_gives_up, one_block};
 pub use program::altarica;
 pub use status::Status;

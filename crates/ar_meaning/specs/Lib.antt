@@ -9,4 +9,5 @@ pub mod Numbered
 pub mod Image
 pub mod ExpandImage
 pub mod Found
+pub mod TraceText
 pub mod Cases

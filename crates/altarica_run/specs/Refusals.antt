@@ -1,0 +1,46 @@
+-- The lines of refusals.
+use Rattle.std.specs.Prelude.{ℕ, ◌++◌, List, codes, decimal}
+use Rattle.ar_base.specs.Counts.{limit_of}
+use Rattle.ar_base.specs.declared.counts.Count.{Count}
+use Rattle.ar_base.specs.declared.counts.Count.TheVariants.{ModelBytes, ScriptBytes, Nesting, Depth, Units, Variables, Events, TreeNodes, Ways, WayParts, ExpressionNodes, Gates, CutLines}
+use Rattle.ar_meaning.specs.TraceText.{line}
+use Rattle.altarica_run.specs.declared.refusals.FileKind.{FileKind}
+use Rattle.altarica_run.specs.declared.refusals.FileKind.TheVariants.{Model, Script}
+use Rattle.altarica_run.specs.declared.refusals.Refusal.{Refusal}
+use Rattle.altarica_run.specs.declared.refusals.Refusal.TheVariants.{Usage, NotRead, Size, Syntax, NoCommand, NoEvent}
+use Rattle.altarica_run.specs.declared.status.Status.{Status}
+use Rattle.altarica_run.specs.declared.status.Status.TheVariants as status
+
+abbrev pub count_text : Count → List ℕ
+count_text ModelBytes = codes "model bytes"
+count_text ScriptBytes = codes "script bytes"
+count_text Nesting = codes "nesting"
+count_text Depth = codes "depth"
+count_text Units = codes "units"
+count_text Variables = codes "variables"
+count_text Events = codes "events"
+count_text TreeNodes = codes "tree nodes"
+count_text Ways = codes "ways"
+count_text WayParts = codes "way parts"
+count_text ExpressionNodes = codes "expression nodes"
+count_text Gates = codes "gates"
+count_text CutLines = codes "cut lines"
+
+-- the line that tells a refusal
+abbrev pub line_of : Refusal → List ℕ
+line_of Usage = line (codes "usage: altarica COMMAND FILES [--main B] [--observer O] [--value V] [--nodes N] [--drop EVENTS]")
+line_of (NotRead Model) = line (codes "read: model")
+line_of (NotRead Script) = line (codes "read: script")
+line_of (Size count) = line (codes "size: " ++ (count_text count ++ (codes " " ++ decimal (limit_of count))))
+line_of (Syntax place) = line (codes "syntax: " ++ (decimal place.line ++ (codes ":" ++ decimal place.column)))
+line_of (NoCommand n) = line (codes "script: line " ++ (decimal n ++ codes " is no command"))
+line_of (NoEvent n) = line (codes "script: line " ++ (decimal n ++ codes " names no event"))
+
+-- the status of a refusal
+abbrev pub status_of : Refusal → Status
+status_of Usage = status.Usage
+status_of (NotRead file) = status.Read
+status_of (Size count) = status.Size
+status_of (Syntax place) = status.Syntax
+status_of (NoCommand n) = status.Script
+status_of (NoEvent n) = status.Script

@@ -1,0 +1,7 @@
+pub mod Words
+pub mod Paths
+pub mod Expressions
+pub mod Instructions
+pub mod Members
+pub mod Models
+pub mod Results

@@ -1,0 +1,77 @@
+-- The grammar of models, and what it is to read a text.
+use Rattle.std.specs.Prelude.{◌≡◌, ◌≢◌, ℕ, ◌+◌, ◌-◌, ◌<◌, ◌≤◌, ℤ, pos, neg_ℤ, List, [], ◌∷◌, ◌++◌, length, map, take, drop, Vec}
+use Rattle.std.specs.declared.alloc.Global.{Global}
+use Rattle.ar_base.specs.declared.places.Place.{Place}
+use Rattle.ar_base.specs.Counts.{limit_of}
+use Rattle.ar_base.specs.declared.counts.Count.TheVariants.{Nesting}
+use Rattle.ar_base.specs.Lists.{Stands}
+use Rattle.ar_base.specs.Texts.{Interns}
+use Rattle.ar_lexer.specs.declared.token.Token.{Token}
+use Rattle.ar_lexer.specs.declared.token.TokenKind.{TokenKind}
+use Rattle.ar_lexer.specs.declared.token.TokenKind.TheVariants.{Name, Whole, Sign, Reserved, End}
+use Rattle.ar_lexer.specs.declared.signs.TheConstants.{OPEN_BRACE, CLOSE_BRACE, OPEN_BRACKET, CLOSE_BRACKET, COMMA, SEMICOLON, MINUS}
+use Rattle.ar_lexer.specs.declared.words.TheConstants.{BLOCK, CLASS, DOMAIN}
+use Rattle.ar_lexer.specs.Tokens.{AreTokens, end_of_text, place_after}
+use Rattle.ar_syntax.specs.declared.members.Member.{Member}
+use Rattle.ar_syntax.specs.declared.members.Unit.{Unit as UnitTree}
+use Rattle.ar_syntax.specs.declared.items.DomainBody.{DomainBody}
+use Rattle.ar_syntax.specs.declared.items.DomainBody.TheVariants as domain
+use Rattle.ar_syntax.specs.declared.items.DomainDecl.{DomainDecl}
+use Rattle.ar_syntax.specs.declared.items.Item.{Item}
+use Rattle.ar_syntax.specs.declared.items.Item.TheVariants as item
+use Rattle.ar_syntax.specs.declared.items.Model.{Model}
+use Rattle.ar_parser.specs.declared.lexeme.Lexeme.{Lexeme}
+use Rattle.ar_parser.specs.Words.{NameId, Form, Tokens, token, nothing, never, ◌▸◌, ◌∣◌, each, between}
+use Rattle.ar_parser.specs.Paths.{IsPlacedName, AreNames}
+use Rattle.ar_parser.specs.Members.{IsBody, IsUnit}
+
+-- Bound = [ "-" ] whole
+pub data IsBound (z : ℤ) (next : TokenKind) (ts : Tokens) : Type 0 where
+  whole : token (Whole z) next ts → IsBound z next ts
+  negated : (n : ℤ) → z ≡ neg_ℤ n → (token (Sign MINUS) ▸ token (Whole n)) next ts → IsBound z next ts
+
+-- DomainBody = "{" name { "," name } "}" | "[" Bound "," Bound "]"
+abbrev pub IsDomainBody : DomainBody → Form
+IsDomainBody (domain.Symbols names) = between (Sign OPEN_BRACE) (Sign CLOSE_BRACE) (AreNames names.items)
+IsDomainBody (domain.Range low high) = between (Sign OPEN_BRACKET) (Sign COMMA) (IsBound low) ▸ IsBound high ▸ token (Sign CLOSE_BRACKET)
+
+-- Item = "domain" name DomainBody [ ";" ] | "class" name Body "end" | "block" name Body "end"
+abbrev pub IsItem : ℕ → Item → Form
+IsItem n (item.Domain d) = token (Reserved DOMAIN) ▸ IsPlacedName (d.name, d.at) ▸ IsDomainBody d.body ▸ (nothing ∣ token (Sign SEMICOLON))
+IsItem n (item.Class u) = token (Reserved CLASS) ▸ IsUnit (IsBody n) u
+IsItem n (item.Block u) = token (Reserved BLOCK) ▸ IsUnit (IsBody n) u
+
+-- Model = Item { Item }
+abbrev pub AreItems : ℕ → List Item → Form
+AreItems n [] = never
+AreItems n (x ∷ more) = IsItem n x ▸ each (IsItem n) more
+
+-- a token without the number of its name
+abbrev pub token_of : Lexeme → Token
+token_of l = record { kind = l.kind; span = l.span; at = l.at }
+
+-- the bytes of a token
+abbrev pub text_of : List ℕ → Lexeme → List ℕ
+text_of bytes l = take (l.span.to - l.span.from) (drop l.span.from bytes)
+
+-- The table `new` is `old` with the text of this token, if it is a name, and the name's number stands for it.
+pub data IsNumbered (bytes : List ℕ) (old : List (List ℕ)) (l : Lexeme) (new : List (List ℕ)) : Type 0 where
+  name : l.kind ≡ Name → Interns old (text_of bytes l) new → Stands new l.name.n (text_of bytes l) → IsNumbered bytes old l new
+  other : l.kind ≢ Name → new ≡ old → IsNumbered bytes old l new
+
+-- The table `new` is `old` with the texts of the names, in the order of their first use, and each name's number stands for its text.
+abbrev pub AreNumbered : List ℕ → List (List ℕ) → Tokens → List (List ℕ) → Type 0
+AreNumbered bytes old [] new = new ≡ old
+AreNumbered bytes old (l ∷ ls) new = (mid : List (List ℕ)) × IsNumbered bytes old l mid × AreNumbered bytes mid ls new
+
+-- A text has this tree, with at most n productions open at one token.
+pub record ReadsWithin (n : ℕ) (bytes : List ℕ) (model : Model) : Type 0 where
+  pub lexemes : Tokens
+  pub tokens : AreTokens bytes (map token_of lexemes ++ end_of_text bytes ∷ [])
+  pub names : AreNumbered bytes [] lexemes model.names
+  pub items : AreItems n model.items.items End lexemes
+  pub end : model.end ≡ place_after bytes
+
+-- A text is read as this tree.
+abbrev pub Reads : List ℕ → Model → Type 0
+Reads bytes model = ReadsWithin (limit_of Nesting) bytes model

@@ -1,0 +1,63 @@
+//! Runs the worked cases of its folder over a shelf and a sink in memory.
+//!
+//! Each line of the file `cases` is a case: its name, the number of the load that is to fail or `-`, and
+//! the words of the job. Words that name a file of the folder stand for its bytes. For each case its
+//! name, the status and the bytes that were written are printed.
+#![tactic(auto)]
+
+use std::io::Write;
+use std::{fs, io};
+
+use altarica_run::altarica;
+use ar_base::Memory;
+use ar_io::{MemoryShelf, MemorySink};
+
+/// The room for the text of a case, in bytes.
+const ROOM: usize = 65_536;
+
+fn no_memory(_memory: Memory) -> io::Error {
+    io::Error::from(io::ErrorKind::OutOfMemory)
+}
+
+// Places the file of this name on the shelf, if there is one.
+fn place(rt: &HostRuntime, shelf: &mut MemoryShelf, name: &str) -> io::Result<()> {
+    match fs::read(rt, name) {
+        Ok(bytes) => shelf.place(name, &bytes).map_err(no_memory),
+        Err(_) => Ok(()),
+    }
+}
+
+// Runs the job of the words and prints what it answers.
+fn run(rt: &HostRuntime, name: &str, failing: &str, words: &[String]) -> io::Result<()> {
+    let mut shelf = MemoryShelf::new(rt.alloc());
+    for word in words {
+        place(rt, &mut shelf, word.as_str())?;
+    }
+    if let Ok(call) = failing.parse::<u32>() {
+        shelf.fail_at(&[call]).map_err(no_memory)?;
+    }
+    let mut sink = MemorySink::new(rt.alloc(), ROOM).map_err(no_memory)?;
+    let status = altarica(rt.alloc(), words, &mut shelf, &mut sink).number();
+    println!(rt; "{name}: status {status}")?;
+    io::writer(rt).write_all(sink.bytes())
+}
+
+// Runs the case of a line.
+fn run_line(rt: &HostRuntime, line: &str) -> io::Result<()> {
+    let mut parts = line.split(' ');
+    let name = parts.next().unwrap_or("");
+    let failing = parts.next().unwrap_or("-");
+    let mut words = Vec::new(rt.alloc());
+    for part in parts {
+        words.push(String::from_str(rt.alloc(), part)?)?;
+    }
+    run(rt, name, failing, &words)
+}
+
+fn main(rt: HostRuntime) -> io::Result<()> {
+    let cases = fs::read_to_string(&rt, "cases")?;
+    for line in cases.lines() {
+        run_line(&rt, line)?;
+    }
+    Ok(())
+}

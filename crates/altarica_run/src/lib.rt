@@ -14,5 +14,8 @@ mod stepping;
 mod trace;
 mod tree;
 
+#[cfg(test)]
+mod tests;
+
 pub use program::altarica;
 pub use status::Status;

@@ -15,6 +15,9 @@ mod stepping;
 mod trace;
 mod tree;
 
+#[cfg(test)]
+mod tests;
+
 pub use laws::{answers_in_words, nothing_gives_up, one_block};
 pub use program::altarica;
 pub use status::Status;

@@ -4,3 +4,4 @@ pub mod PathForms
 pub mod ExpressionForms
 pub mod ExpressionParts
 pub mod PrimaryParts
+pub mod InstrParts

@@ -45,6 +45,21 @@ then_assoc {A} {next = next} h = record {
   second = record { front = h.first.back; back = h.back; split = refl; first = h.first.second; second = h.second };
 }
 
+pub then_unassoc : {A B C : Form} {next : TokenKind} {ts : Tokens} → (A ▸ B ▸ C) next ts → ((A ▸ B) ▸ C) next ts
+then_unassoc {A} {next = next} h = record {
+  front = h.front ++ h.second.front;
+  back = h.second.back;
+  split = h.split ∙ ap (λ (t : Tokens). h.front ++ t) h.second.split ∙ sym (append_assoc h.front h.second.front h.second.back);
+  first = record {
+    front = h.front;
+    back = h.second.front;
+    split = refl;
+    first = subst (λ (k : TokenKind). A k h.front) (ap (kind_or next) h.second.split ∙ kind_join h.second.front h.second.back next) h.first;
+    second = h.second.first;
+  };
+  second = h.second.second;
+}
+
 -- a test of the first token
 pub then_first : {A B : Form} {next : TokenKind} {ts : Tokens} (test : TokenKind → Bool) → (A ▸ B) next ts → ((next : TokenKind) (ts : Tokens) → A next ts → test (kind_or next ts) ≡ true) → test (kind_or next ts) ≡ true
 then_first {next = next} test h f = ap test (ap (kind_or next) h.split ∙ kind_join h.front h.back next) ∙ f (kind_or next h.back) h.front h.first

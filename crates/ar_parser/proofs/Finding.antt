@@ -401,3 +401,15 @@ eats_as e q = record { one = e.one; split = e.split; of_kind = e.of_kind ∙ q }
 -- what was taken is still taken where nothing was taken after
 pub spans_at : (A : Form) {old new new' : Tokens} → Spans A old new → new' ≡ new → Spans A old new'
 spans_at A {old} s e = subst (λ (t : Tokens). Spans A old t) (sym e) s
+
+-- no room is left where a production surely begins
+pub finds_deep : {A : Type 0} {P : ℕ → Form} {ends : TokenKind → Bool} {left : ℕ} {e : ParseFault} {old : Tokens} → IsDepth e → left ≡ 0 → ((n : ℕ) (next : TokenKind) (ts : Tokens) → P n next ts → n ≢ 0) → Finds {A = A} P ends left (Err e) old old
+finds_deep {e = Depth at} d none some = finds_too_deep none some
+finds_deep {e = Lex at} d none some = elim d [ ]
+finds_deep {e = Syntax at} d none some = elim d [ ]
+finds_deep {e = Memory} d none some = elim d [ ]
+
+pub many_push : (A : Form) {start rest new : Tokens} → Spans (many A) start rest → Spans A rest new → Spans (many A) start new
+many_push A {start} {rest} {new} a b =
+    let p : Spans (each (λ (x : Unit {0}). A) (a.form.0 ++ tt ∷ [])) start new = spans_push (λ (x : Unit {0}). A) a.form.0 tt (record { front = a.front; split = a.split; form = a.form.1 }) b in
+    record { front = p.front; split = p.split; form = (a.form.0 ++ tt ∷ [], p.form) }

@@ -5,3 +5,5 @@ pub mod ExpressionForms
 pub mod ExpressionParts
 pub mod PrimaryParts
 pub mod InstrParts
+pub mod UnreadParts
+pub mod MemberParts

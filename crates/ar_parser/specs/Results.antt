@@ -3,7 +3,7 @@ use Rattle.std.specs.Prelude.{◌≡◌, ◌≢◌, ℕ, ◌<◌, ◌⊎◌, Boo
 use Rattle.ar_base.specs.declared.places.Place.{Place}
 use Rattle.ar_lexer.specs.declared.token.TokenKind.{TokenKind}
 use Rattle.ar_lexer.specs.declared.token.TokenKind.TheVariants.{Name, Whole, Real, Sign, Reserved, End}
-use Rattle.ar_lexer.specs.declared.signs.TheConstants.{OPEN_BRACE, CLOSE_BRACE, OPEN_PARENTHESIS, CLOSE_PARENTHESIS, COMMA, DOT, EQUAL, DIFFERS, LESS, AT_MOST, MORE, AT_LEAST, PLUS, MINUS, STAR}
+use Rattle.ar_lexer.specs.declared.signs.TheConstants.{OPEN_BRACE, CLOSE_BRACE, OPEN_PARENTHESIS, CLOSE_PARENTHESIS, SEMICOLON, COMMA, DOT, EQUALS, EXCLAMATION, QUESTION, EQUAL, DIFFERS, LESS, AT_MOST, MORE, AT_LEAST, PLUS, MINUS, STAR}
 use Rattle.ar_lexer.specs.declared.words.TheConstants.{AND, COUNT, DEFAULT, FALSE, IF, MAIN, MAX, MIN, NOT, OR, OWNER, SKIP, SWITCH, TRUE}
 use Rattle.ar_parser.specs.declared.lexeme.Lexeme.{Lexeme}
 use Rattle.ar_parser.specs.declared.lexeme.ParseFault.{ParseFault}
@@ -143,3 +143,42 @@ ends_cases k = is_word DEFAULT k
 -- what stands behind the instructions of a group
 abbrev pub ends_group : TokenKind → Bool
 ends_group k = is_sign CLOSE_BRACE k
+
+-- what goes on with an unread text, and with a kept value
+
+abbrev pub goes_unread : TokenKind → Bool
+goes_unread (Sign s) = not (s == CLOSE_PARENTHESIS)
+goes_unread End = false
+goes_unread _ = true
+
+abbrev pub goes_kept : TokenKind → Bool
+goes_kept (Sign s) = not (s == CLOSE_PARENTHESIS) && not (s == SEMICOLON)
+goes_kept End = false
+goes_kept _ = true
+
+abbrev pub ends_unread : TokenKind → Bool
+ends_unread k = is_sign CLOSE_PARENTHESIS k
+
+abbrev pub ends_kept : TokenKind → Bool
+ends_kept k = is_sign SEMICOLON k
+
+-- what follows an event without an attribute
+abbrev pub ends_attribute : TokenKind → Bool
+ends_attribute k = not (is_sign OPEN_PARENTHESIS k)
+
+-- what stands behind the last of a list that a semicolon ends
+abbrev pub ends_semicolon : TokenKind → Bool
+ends_semicolon k = is_sign SEMICOLON k
+
+-- what stands behind the target of a setting
+abbrev pub ends_target : TokenKind → Bool
+ends_target k = is_sign EQUALS k
+
+abbrev pub ends_transitions : TokenKind → Bool
+ends_transitions k = not (is_name k)
+
+abbrev pub ends_assertions : TokenKind → Bool
+ends_assertions k = not (begins_instr k)
+
+abbrev pub begins_part : TokenKind → Bool
+begins_part k = is_sign EXCLAMATION k || is_sign QUESTION k

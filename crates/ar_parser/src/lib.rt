@@ -6,7 +6,9 @@ mod cursor;
 mod expressions;
 mod instructions;
 mod lexeme;
+mod members;
 mod paths;
 mod terms;
+mod unread;
 
 pub use lexeme::{Lexeme, ParseFault};

@@ -6,7 +6,8 @@ use Rattle.ar_parser.specs.declared.lexeme.Lexeme.{Lexeme}
 use Rattle.ar_parser.specs.declared.lexeme.ParseFault.{ParseFault}
 use Rattle.ar_parser.specs.declared.lexeme.ParseFault.TheVariants.{Lex, Syntax, Depth, Memory}
 use Rattle.ar_parser.specs.Words.{Form, Tokens, kind_or, token, Then, ◌▸◌, nothing, never, each, many, Has}
-use Rattle.ar_parser.specs.Results.{kind_at, Spans, Arrives, Finds, Eats, IsSyntax, anything}
+use Rattle.std.specs.Bool.{OnTrue, OnFalse}
+use Rattle.ar_parser.specs.Results.{kind_at, Spans, Takes, Arrives, Finds, Eats, IsSyntax, IsDepth, anything}
 
 pub cons_head : {X : Type 0} {x y : X} {xs ys : List X} → x ∷ xs ≡ y ∷ ys → x ≡ y
 cons_head e = cc
@@ -344,3 +345,71 @@ finds_from f e = record { front = f.front; passed = sym e ∙ f.passed; only = f
 -- where nothing was taken after
 pub finds_at : {A : Type 0} {P : ℕ → Form} {ends : TokenKind → Bool} {left : ℕ} {r : Result A ParseFault} {old new new' : Tokens} → Finds P ends left r old new → new' ≡ new → Finds P ends left r old new'
 finds_at {P = P} {ends = ends} {left = left} {r = r} {old = old} f e = subst (λ (t : Tokens). Finds P ends left r old t) (sym e) f
+
+-- Loops that push what they take
+
+-- The list `before` has become `items` by the values that were taken from `start` to `rest`.
+pub record Gathers {X : Type 0} (One : X → Form) (A : ℕ → Form) (ends : TokenKind → Bool) (before items : List X) (start rest : Tokens) : Type 0 where
+  pub more : List X
+  pub pushed : items ≡ before ++ more
+  pub taken : Spans (each One more) start rest
+  pub loops : Loops A ends start rest
+
+pub gathers_start : {X : Type 0} {One : X → Form} {A : ℕ → Form} {ends : TokenKind → Bool} {before : List X} {start : Tokens} → Gathers One A ends before before start start
+gathers_start {before = before} = record { more = []; pushed = sym (append-nil before); taken = record { front = []; split = refl; form = refl }; loops = loops_start }
+
+pub gathers_push : {X Y : Type 0} {One : X → Form} {A : ℕ → Form} {ends ends' : TokenKind → Bool} {left : ℕ} {y : Y} {x : X} {before items items' : List X} {start rest new : Tokens} →
+    Gathers One A ends' before items start rest → ends' (kind_at rest) ≡ false → Spans (One x) rest new → Finds A ends left (Ok y) rest new → Follows (λ n. many (A n)) ends ends' → items' ≡ items ++ x ∷ [] → Gathers One A ends' before items' start new
+gathers_push {One = One} {x = x} {before = before} g more s f follows e = record {
+  more = g.more ++ x ∷ [];
+  pushed = e ∙ ap (λ (xs : List _). xs ++ x ∷ []) g.pushed ∙ append_assoc before g.more (x ∷ []);
+  taken = spans_push One g.more x g.taken s;
+  loops = loops_next g.loops more f follows;
+}
+
+-- no room is left for what may begin here
+pub finds_no_room : {A : Type 0} {P : ℕ → Form} {ends : TokenKind → Bool} {left : ℕ} {old : Tokens} (test : TokenKind → Bool) (b : Bool) (e : ParseFault) → b ≡ test (kind_at old) → OnTrue b (IsDepth e) → OnFalse b (IsSyntax e) → left ≡ 0 →
+    ((n : ℕ) (next : TokenKind) (ts : Tokens) → P n next ts → test (kind_or next ts) ≡ true) → ((n : ℕ) (next : TokenKind) (ts : Tokens) → P n next ts → n ≢ 0) → Finds {A = A} P ends left (Err e) old old
+finds_no_room test true (Depth at) t deep other none first some = finds_too_deep none some
+finds_no_room test true (Lex at) t deep other none first some = elim deep [ ]
+finds_no_room test true (Syntax at) t deep other none first some = elim deep [ ]
+finds_no_room test true Memory t deep other none first some = elim deep [ ]
+finds_no_room {old = old} test false (Syntax at) t deep other none first some = finds_none (λ n next ts h s k. let q : true ≡ false = sym (first n next ts h) ∙ ap test k ∙ sym t in absurd (cc))
+finds_no_room test false (Lex at) t deep other none first some = elim other [ ]
+finds_no_room test false (Depth at) t deep other none first some = elim other [ ]
+finds_no_room test false Memory t deep other none first some = elim other [ ]
+
+-- no text of this form begins here, and the refusal says so
+pub finds_syntax : {A : Type 0} {P : ℕ → Form} {ends : TokenKind → Bool} {left : ℕ} {e : ParseFault} {old : Tokens} → IsSyntax e → ((n : ℕ) (next : TokenKind) (ts : Tokens) → P n next ts → ends next ≡ true → kind_or next ts ≡ kind_at old → ⊥) → Finds {A = A} P ends left (Err e) old old
+finds_syntax s none = finds_none none
+
+pub takes_map : {A : Type 0} (P Q : A → Form) (r : Result A ParseFault) (old new : Tokens) → Takes P r old new → ((x : A) (next : TokenKind) (ts : Tokens) → P x next ts → Q x next ts) → Takes Q r old new
+takes_map P Q (Ok x) old new t f = spans_map t (f x)
+takes_map P Q (Err e) old new t f = tt
+
+pub takes_from : {A : Type 0} (P : A → Form) (r : Result A ParseFault) (old old' new : Tokens) → Takes P r old new → old' ≡ old → Takes P r old' new
+takes_from P (Ok x) old old' new t e = spans_from t e
+takes_from P (Err f) old old' new t e = tt
+
+pub err_memory : {A : Type 0} (r : Result A ParseFault) (e : ParseFault) → IsErrAnd r (λ x. x ≡ e) → e ≡ Memory → IsErrAnd r (λ x. x ≡ Memory)
+err_memory (Ok x) e h m = elim h [ ]
+err_memory (Err x) e h m = h ∙ m
+
+pub eats_as : {j k : TokenKind} {old new : Tokens} → Eats j old new → j ≡ k → Eats k old new
+eats_as e q = record { one = e.one; split = e.split; of_kind = e.of_kind ∙ q }
+
+-- what was taken is still taken where nothing was taken after
+pub spans_at : (A : Form) {old new new' : Tokens} → Spans A old new → new' ≡ new → Spans A old new'
+spans_at A {old} s e = subst (λ (t : Tokens). Spans A old t) (sym e) s
+
+-- no room is left where a production surely begins
+pub finds_deep : {A : Type 0} {P : ℕ → Form} {ends : TokenKind → Bool} {left : ℕ} {e : ParseFault} {old : Tokens} → IsDepth e → left ≡ 0 → ((n : ℕ) (next : TokenKind) (ts : Tokens) → P n next ts → n ≢ 0) → Finds {A = A} P ends left (Err e) old old
+finds_deep {e = Depth at} d none some = finds_too_deep none some
+finds_deep {e = Lex at} d none some = elim d [ ]
+finds_deep {e = Syntax at} d none some = elim d [ ]
+finds_deep {e = Memory} d none some = elim d [ ]
+
+pub many_push : (A : Form) {start rest new : Tokens} → Spans (many A) start rest → Spans A rest new → Spans (many A) start new
+many_push A {start} {rest} {new} a b =
+    let p : Spans (each (λ (x : Unit {0}). A) (a.form.0 ++ tt ∷ [])) start new = spans_push (λ (x : Unit {0}). A) a.form.0 tt (record { front = a.front; split = a.split; form = a.form.1 }) b in
+    record { front = p.front; split = p.split; form = (a.form.0 ++ tt ∷ [], p.form) }

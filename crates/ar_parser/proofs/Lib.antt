@@ -1,3 +1,9 @@
 pub mod Ends
 pub mod Finding
 pub mod PathForms
+pub mod ExpressionForms
+pub mod ExpressionParts
+pub mod PrimaryParts
+pub mod InstrParts
+pub mod UnreadParts
+pub mod MemberParts

@@ -66,10 +66,19 @@ IsAnd Not = OneOrMore form.All (Reserved AND) Not
 abbrev pub IsOr : (RawForm → Form) → RawForm → Form
 IsOr Not = OneOrMore form.Any (Reserved OR) (IsAnd Not)
 
+-- "if" Expr "then" Expr "else" Expr
+pub record IsIf (Expr : RawForm → Form) (f : RawForm) (next : TokenKind) (ts : Tokens) : Type 0 where
+  pub cases : Vec (RawExpr × RawExpr) Global
+  pub other : Box RawExpr Global
+  pub test : RawExpr
+  pub value : RawExpr
+  pub is : f ≡ form.Choose cases other
+  pub one : cases.items ≡ (test, value) ∷ []
+  pub reads : (between (Reserved IF) (Reserved THEN) (Node Expr test) ▸ Node Expr value ▸ token (Reserved ELSE) ▸ Node Expr other.value) next ts
+
 -- Expr = "if" Expr "then" Expr "else" Expr | Or
 pub data IsChoice (Expr Or : RawForm → Form) (f : RawForm) (next : TokenKind) (ts : Tokens) : Type 0 where
-  choice : (v : Vec (RawExpr × RawExpr) Global) (d : Box RawExpr Global) (x y : RawExpr) → f ≡ form.Choose v d → v.items ≡ (x, y) ∷ [] →
-    (between (Reserved IF) (Reserved THEN) (Node Expr x) ▸ Node Expr y ▸ token (Reserved ELSE) ▸ Node Expr d.value) next ts → IsChoice Expr Or f next ts
+  choice : IsIf Expr f next ts → IsChoice Expr Or f next ts
   plain : Or f next ts → IsChoice Expr Or f next ts
 
 -- Case = "case" Expr ":" Expr

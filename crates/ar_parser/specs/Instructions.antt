@@ -19,16 +19,42 @@ abbrev pub IsElse : (Instr → Form) → Option (Box Instr Global) → Form
 IsElse Inner None = not_before (Reserved ELSE)
 IsElse Inner (Some other) = token (Reserved ELSE) ▸ Inner other.value
 
+-- "if" Expr "then" Instr [ "else" Instr ]
+pub record IsIfOf (Expr : RawForm → Form) (Inner : Instr → Form) (i : Instr) (next : TokenKind) (ts : Tokens) : Type 0 where
+  pub test : RawExpr
+  pub yes : Box Instr Global
+  pub no : Option (Box Instr Global)
+  pub is : i ≡ instr.If test yes no
+  pub reads : (between (Reserved IF) (Reserved THEN) (Node Expr test) ▸ Inner yes.value ▸ IsElse Inner no) next ts
+
+-- "{" { Instr } "}"
+pub record IsGroupOf (Inner : Instr → Form) (i : Instr) (next : TokenKind) (ts : Tokens) : Type 0 where
+  pub instrs : Vec Instr Global
+  pub is : i ≡ instr.All instrs
+  pub reads : between (Sign OPEN_BRACE) (Sign CLOSE_BRACE) (each Inner instrs.items) next ts
+
+-- Path ( ":=" Expr | ":=:" Path ) ";" | "skip" ";"
+pub data IsSimpleOf (Expr : RawForm → Form) (i : Instr) (next : TokenKind) (ts : Tokens) : Type 0 where
+  assign : (p : Path) (e : RawExpr) → i ≡ instr.Assign p e → (IsPath p ▸ between (Sign ASSIGN) (Sign SEMICOLON) (Node Expr e)) next ts → IsSimpleOf Expr i next ts
+  tie : (p q : Path) → i ≡ instr.Tie p q → (IsPath p ▸ between (Sign TIE) (Sign SEMICOLON) (IsPath q)) next ts → IsSimpleOf Expr i next ts
+  skip : i ≡ instr.Skip → (token (Reserved SKIP) ▸ token (Sign SEMICOLON)) next ts → IsSimpleOf Expr i next ts
+
 -- Instr = Path ( ":=" Expr | ":=:" Path ) ";" | "skip" ";" | "{" { Instr } "}" | "if" Expr "then" Instr [ "else" Instr ]
 pub data IsInstrOf (Expr : RawForm → Form) (Inner : Instr → Form) (i : Instr) (next : TokenKind) (ts : Tokens) : Type 0 where
-  assign : (p : Path) (e : RawExpr) → i ≡ instr.Assign p e → (IsPath p ▸ between (Sign ASSIGN) (Sign SEMICOLON) (Node Expr e)) next ts → IsInstrOf Expr Inner i next ts
-  tie : (p q : Path) → i ≡ instr.Tie p q → (IsPath p ▸ between (Sign TIE) (Sign SEMICOLON) (IsPath q)) next ts → IsInstrOf Expr Inner i next ts
-  skip : i ≡ instr.Skip → (token (Reserved SKIP) ▸ token (Sign SEMICOLON)) next ts → IsInstrOf Expr Inner i next ts
-  all : (v : Vec Instr Global) → i ≡ instr.All v → between (Sign OPEN_BRACE) (Sign CLOSE_BRACE) (each Inner v.items) next ts → IsInstrOf Expr Inner i next ts
-  either : (e : RawExpr) (yes : Box Instr Global) (no : Option (Box Instr Global)) → i ≡ instr.If e yes no →
-    (between (Reserved IF) (Reserved THEN) (Node Expr e) ▸ Inner yes.value ▸ IsElse Inner no) next ts → IsInstrOf Expr Inner i next ts
+  simple : IsSimpleOf Expr i next ts → IsInstrOf Expr Inner i next ts
+  group : IsGroupOf Inner i next ts → IsInstrOf Expr Inner i next ts
+  conditional : IsIfOf Expr Inner i next ts → IsInstrOf Expr Inner i next ts
 
 -- an instruction, with at most n productions open at one token
 abbrev pub IsInstr : ℕ → Instr → TokenKind → Tokens → Type 0
 IsInstr zero i next ts = ⊥
 IsInstr (suc n) i next ts = IsInstrOf (IsExpr n) (IsInstr n) i next ts
+
+abbrev pub IsSimple : ℕ → Instr → Form
+IsSimple n = IsSimpleOf (IsExpr n)
+
+abbrev pub IsGroup : ℕ → Instr → Form
+IsGroup n = IsGroupOf (IsInstr n)
+
+abbrev pub IsConditional : ℕ → Instr → Form
+IsConditional n = IsIfOf (IsExpr n) (IsInstr n)

@@ -5,3 +5,4 @@ pub mod Instructions
 pub mod Members
 pub mod Models
 pub mod Results
+pub mod Chains

@@ -72,9 +72,9 @@ abbrev pub unread : ℕ → Form
 unread n = many (unread_piece n)
 
 -- "(" Unread ")"
-abbrev pub bracketed : ℕ → Form → Form
-bracketed zero A = never
-bracketed (suc n) A = between (Sign OPEN_PARENTHESIS) (Sign CLOSE_PARENTHESIS) A
+abbrev pub bracketed : ℕ → Form
+bracketed zero = never
+bracketed (suc n) = between (Sign OPEN_PARENTHESIS) (Sign CLOSE_PARENTHESIS) (unread n)
 
 -- [ "(" Unread ")" ], with the span of what is unread
 abbrev pub IsAttribute : ℕ → Option Span → Form
@@ -138,29 +138,33 @@ pub record IsHidden (m : Member) (next : TokenKind) (ts : Tokens) : Type 0 where
 abbrev pub IsUnit : (List Member → Form) → UnitTree → Form
 IsUnit Body u = IsPlacedName (u.name, u.at) ▸ Body u.members.items ▸ token (Reserved END)
 
+-- A clause that begins with a reserved word and makes one member.
+pub data IsSingle (n : ℕ) (m : Member) (next : TokenKind) (ts : Tokens) : Type 0 where
+  -- "extends" name ";"
+  extends : (name : NameId) (at : Place) → m ≡ member.Extends name at → between (Reserved EXTENDS) (Sign SEMICOLON) (IsPlacedName (name, at)) next ts → IsSingle n m next ts
+  -- "Boolean" Names [ Settings ] ";"
+  boolean : (declared : IsDeclared n m next ts) → declared.type.form ≡ type_form.Boolean → IsSingle n m next ts
+  -- "clones" Path "as" name ";"
+  clones : (p : Path) (name : NameId) (at : Place) → m ≡ member.Clones p name at → (token (Reserved CLONES) ▸ IsPath p ▸ between (Reserved AS) (Sign SEMICOLON) (IsPlacedName (name, at))) next ts → IsSingle n m next ts
+  -- "embeds" Path "as" name ";"
+  embeds : (p : Path) (name : NameId) (at : Place) → m ≡ member.Embeds p name at → (token (Reserved EMBEDS) ▸ IsPath p ▸ between (Reserved AS) (Sign SEMICOLON) (IsPlacedName (name, at))) next ts → IsSingle n m next ts
+  -- "parameter" "Real" name "=" Kept ";"
+  kept_value : (name : NameId) (at : Place) (span : Span) → m ≡ member.Kept name at span →
+    (token (Reserved PARAMETER) ▸ token (Reserved REAL) ▸ IsPlacedName (name, at) ▸ between (Sign EQUALS) (Sign SEMICOLON) (covering span (kept n))) next ts → IsSingle n m next ts
+  -- "parameter" Type name "=" Expr ";"
+  parameter : (type : TypeName) (name : NameId) (at : Place) (value : RawExpr) → m ≡ member.Parameter type name at value →
+    (token (Reserved PARAMETER) ▸ IsType type ▸ IsPlacedName (name, at) ▸ between (Sign EQUALS) (Sign SEMICOLON) (Node (IsExpr n) value)) next ts → IsSingle n m next ts
+  -- "observer" Type name "=" Expr ";"
+  observer : (type : TypeName) (name : NameId) (at : Place) (value : RawExpr) → m ≡ member.Observer type name at value →
+    (token (Reserved OBSERVER) ▸ IsType type ▸ IsPlacedName (name, at) ▸ between (Sign EQUALS) (Sign SEMICOLON) (Node (IsExpr n) value)) next ts → IsSingle n m next ts
+
 -- A clause that begins with a reserved word, and the members that it makes.
 pub data IsKeyed (n : ℕ) (Body : List Member → Form) (ms : List Member) (next : TokenKind) (ts : Tokens) : Type 0 where
-  -- "extends" name ";"
-  extends : (name : NameId) (at : Place) → ms ≡ member.Extends name at ∷ [] → between (Reserved EXTENDS) (Sign SEMICOLON) (IsPlacedName (name, at)) next ts → IsKeyed n Body ms next ts
-  -- "Boolean" Names [ Settings ] ";"
-  boolean : (m : Member) → ms ≡ m ∷ [] → (declared : IsDeclared n m next ts) → declared.type.form ≡ type_form.Boolean → IsKeyed n Body ms next ts
+  single : (m : Member) → ms ≡ m ∷ [] → IsSingle n m next ts → IsKeyed n Body ms next ts
   -- "block" name Body "end"
   block : (u : UnitTree) → ms ≡ member.Block u ∷ [] → (token (Reserved BLOCK) ▸ IsUnit Body u) next ts → IsKeyed n Body ms next ts
-  -- "clones" Path "as" name ";"
-  clones : (p : Path) (name : NameId) (at : Place) → ms ≡ member.Clones p name at ∷ [] → (token (Reserved CLONES) ▸ IsPath p ▸ between (Reserved AS) (Sign SEMICOLON) (IsPlacedName (name, at))) next ts → IsKeyed n Body ms next ts
-  -- "embeds" Path "as" name ";"
-  embeds : (p : Path) (name : NameId) (at : Place) → ms ≡ member.Embeds p name at ∷ [] → (token (Reserved EMBEDS) ▸ IsPath p ▸ between (Reserved AS) (Sign SEMICOLON) (IsPlacedName (name, at))) next ts → IsKeyed n Body ms next ts
-  -- "parameter" "Real" name "=" Kept ";"
-  kept_value : (name : NameId) (at : Place) (span : Span) → ms ≡ member.Kept name at span ∷ [] →
-    (token (Reserved PARAMETER) ▸ token (Reserved REAL) ▸ IsPlacedName (name, at) ▸ between (Sign EQUALS) (Sign SEMICOLON) (covering span (kept n))) next ts → IsKeyed n Body ms next ts
-  -- "parameter" Type name "=" Expr ";"
-  parameter : (type : TypeName) (name : NameId) (at : Place) (value : RawExpr) → ms ≡ member.Parameter type name at value ∷ [] →
-    (token (Reserved PARAMETER) ▸ IsType type ▸ IsPlacedName (name, at) ▸ between (Sign EQUALS) (Sign SEMICOLON) (Node (IsExpr n) value)) next ts → IsKeyed n Body ms next ts
   -- "event" Event { "," Event } ";"
   event : between (Reserved EVENT) (Sign SEMICOLON) (separated (Sign COMMA) (IsEvent n) ms) next ts → IsKeyed n Body ms next ts
-  -- "observer" Type name "=" Expr ";"
-  observer : (type : TypeName) (name : NameId) (at : Place) (value : RawExpr) → ms ≡ member.Observer type name at value ∷ [] →
-    (token (Reserved OBSERVER) ▸ IsType type ▸ IsPlacedName (name, at) ▸ between (Sign EQUALS) (Sign SEMICOLON) (Node (IsExpr n) value)) next ts → IsKeyed n Body ms next ts
   -- "hide" Path { "," Path } ";"
   hide : between (Reserved HIDE) (Sign SEMICOLON) (separated (Sign COMMA) IsHidden ms) next ts → IsKeyed n Body ms next ts
 

@@ -3,8 +3,8 @@ use Rattle.std.specs.Prelude.{◌≡◌, ◌≢◌, ℕ, ◌<◌, ◌⊎◌, Boo
 use Rattle.ar_base.specs.declared.places.Place.{Place}
 use Rattle.ar_lexer.specs.declared.token.TokenKind.{TokenKind}
 use Rattle.ar_lexer.specs.declared.token.TokenKind.TheVariants.{Name, Whole, Real, Sign, Reserved, End}
-use Rattle.ar_lexer.specs.declared.signs.TheConstants.{OPEN_BRACE, OPEN_PARENTHESIS, COMMA, DOT, EQUAL, DIFFERS, LESS, AT_MOST, MORE, AT_LEAST, PLUS, MINUS, STAR}
-use Rattle.ar_lexer.specs.declared.words.TheConstants.{AND, COUNT, FALSE, IF, MAIN, MAX, MIN, NOT, OR, OWNER, SKIP, SWITCH, TRUE}
+use Rattle.ar_lexer.specs.declared.signs.TheConstants.{OPEN_BRACE, CLOSE_BRACE, OPEN_PARENTHESIS, CLOSE_PARENTHESIS, SEMICOLON, COMMA, DOT, EQUALS, EXCLAMATION, QUESTION, EQUAL, DIFFERS, LESS, AT_MOST, MORE, AT_LEAST, PLUS, MINUS, STAR}
+use Rattle.ar_lexer.specs.declared.words.TheConstants.{AND, COUNT, DEFAULT, FALSE, IF, MAIN, MAX, MIN, NOT, OR, OWNER, SKIP, SWITCH, TRUE}
 use Rattle.ar_parser.specs.declared.lexeme.Lexeme.{Lexeme}
 use Rattle.ar_parser.specs.declared.lexeme.ParseFault.{ParseFault}
 use Rattle.ar_parser.specs.declared.lexeme.ParseFault.TheVariants.{Lex, Syntax, Depth, Memory}
@@ -48,6 +48,10 @@ abbrev pub IsSyntax : ParseFault → Type 0
 IsSyntax (Syntax at) = Unit {0}
 IsSyntax _ = ⊥
 
+abbrev pub IsDepth : ParseFault → Type 0
+IsDepth (Depth at) = Unit {0}
+IsDepth _ = ⊥
+
 -- a token of this kind is gone
 pub record Eats (kind : TokenKind) (old new : Tokens) : Type 0 where
   pub one : Lexeme
@@ -80,8 +84,11 @@ ends_path k = not (is_sign DOT k)
 abbrev pub ends_product : TokenKind → Bool
 ends_product k = ends_path k && not (is_sign STAR k)
 
+abbrev pub begins_term : TokenKind → Bool
+begins_term k = is_sign PLUS k || is_sign MINUS k
+
 abbrev pub ends_sum : TokenKind → Bool
-ends_sum k = ends_product k && not (is_sign PLUS k || is_sign MINUS k)
+ends_sum k = ends_product k && not (begins_term k)
 
 abbrev pub is_relation : TokenKind → Bool
 is_relation k = is_sign EQUAL k || (is_sign DIFFERS k || (is_sign LESS k || (is_sign AT_MOST k || (is_sign MORE k || is_sign AT_LEAST k))))
@@ -124,3 +131,54 @@ begins_instr Name = true
 begins_instr (Sign s) = s == OPEN_BRACE
 begins_instr (Reserved w) = (w == OWNER) || (w == MAIN) || (w == SKIP) || (w == IF)
 begins_instr _ = false
+
+-- what stands behind the operands of a call
+abbrev pub ends_list : TokenKind → Bool
+ends_list k = is_sign CLOSE_PARENTHESIS k
+
+-- what stands behind the cases of a choice
+abbrev pub ends_cases : TokenKind → Bool
+ends_cases k = is_word DEFAULT k
+
+-- what stands behind the instructions of a group
+abbrev pub ends_group : TokenKind → Bool
+ends_group k = is_sign CLOSE_BRACE k
+
+-- what goes on with an unread text, and with a kept value
+
+abbrev pub goes_unread : TokenKind → Bool
+goes_unread (Sign s) = not (s == CLOSE_PARENTHESIS)
+goes_unread End = false
+goes_unread _ = true
+
+abbrev pub goes_kept : TokenKind → Bool
+goes_kept (Sign s) = not (s == CLOSE_PARENTHESIS) && not (s == SEMICOLON)
+goes_kept End = false
+goes_kept _ = true
+
+abbrev pub ends_unread : TokenKind → Bool
+ends_unread k = is_sign CLOSE_PARENTHESIS k
+
+abbrev pub ends_kept : TokenKind → Bool
+ends_kept k = is_sign SEMICOLON k
+
+-- what follows an event without an attribute
+abbrev pub ends_attribute : TokenKind → Bool
+ends_attribute k = not (is_sign OPEN_PARENTHESIS k)
+
+-- what stands behind the last of a list that a semicolon ends
+abbrev pub ends_semicolon : TokenKind → Bool
+ends_semicolon k = is_sign SEMICOLON k
+
+-- what stands behind the target of a setting
+abbrev pub ends_target : TokenKind → Bool
+ends_target k = is_sign EQUALS k
+
+abbrev pub ends_transitions : TokenKind → Bool
+ends_transitions k = not (is_name k)
+
+abbrev pub ends_assertions : TokenKind → Bool
+ends_assertions k = not (begins_instr k)
+
+abbrev pub begins_part : TokenKind → Bool
+begins_part k = is_sign EXCLAMATION k || is_sign QUESTION k

@@ -5,7 +5,7 @@ ghost use Rattle.std.specs.Bool.{OnTrue, OnFalse};
 ghost use Rattle.ar_lexer.specs.declared.token.TokenKind.TheVariants.{Name, Whole, End};
 ghost use Rattle.ar_parser.specs.Words.{token, end_of, StandsAt, Covers};
 ghost use Rattle.ar_parser.specs.Paths.{IsName};
-ghost use Rattle.ar_parser.specs.Results.{kind_at, Takes, Finds, Eats, IsSyntax, anything, place_at};
+ghost use Rattle.ar_parser.specs.Results.{kind_at, Takes, Finds, Eats, IsSyntax, IsDepth, anything, place_at};
 
 use std::alloc::Global;
 
@@ -48,6 +48,14 @@ impl<'a> Parser<'a> {
         ensures { IsSyntax result }
     {
         ParseFault::Syntax(self.place())
+    }
+
+    /// The refusal where no room is left for a production that the next token begins, or does not begin.
+    pub fn no_room(&self, begins: bool) -> ParseFault
+        ensures deep { OnTrue begins (IsDepth result) }
+        ensures other { OnFalse begins (IsSyntax result) }
+    {
+        if begins { ParseFault::Depth(self.place()) } else { self.syntax() }
     }
 
     /// Whether the next token is of this kind.

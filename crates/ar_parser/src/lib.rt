@@ -1,8 +1,14 @@
 //! The grammar of models: what source tree a text has.
 #![tactic(auto)]
 
+mod begins;
 mod cursor;
+mod expressions;
+mod instructions;
 mod lexeme;
+mod members;
 mod paths;
+mod terms;
+mod unread;
 
 pub use lexeme::{Lexeme, ParseFault};

@@ -153,8 +153,14 @@ module _ (c : Call) where
   replayed : {model script text : List ℕ} {s : Status} (b : Block) (cs : List Command) → job_of c.words ≡ Some (Replay model script) → Prepares (c.files model) (c.files script) (Ok (b, cs)) → IsReplay b cs text s → Wrote c text
       → IsReplayed c s
   replayed {model} {script} {text} b cs e p i w = record {
-      model = model; script = script; job = e; block = b; commands = cs; stages = p; traced = record { text = text; replay = i; wrote = w };
-    }
+    model = model;
+    script = script;
+    job = e;
+    block = b;
+    commands = cs;
+    stages = p;
+    traced = record { text = text; replay = i; wrote = w };
+  }
 
   of_says : (job : Option Job) (text : List ℕ) (s : Status) → job_of c.words ≡ job → Says c.files job text s → Wrote c text → Meaning_of c s
   of_says job text s e usage w = (e, w)
@@ -197,7 +203,7 @@ module _ (c : Call) (model script : List ℕ) (quiet : IsQuiet c model script) w
         let i : other ≡ model = cc in
         let j : more ≡ script = cc in
         absurd (not_both (c.files model) (c.files script) quiet.model_known quiet.script_known b cs r p
-            (subst (λ z. Prepares (c.files model) (c.files z) (Err r)) j (subst (λ z. Prepares (c.files z) (c.files more) (Err r)) i q)))
+        (subst (λ z. Prepares (c.files model) (c.files z) (Err r)) j (subst (λ z. Prepares (c.files z) (c.files more) (Err r)) i q)))
     pass_says job text s e (replays d ds q i) w = replayed c d ds e q i w
 
     pass_end : (s : Status) → EndsSo c.files (λ name. RoseAt c name) (job_of c.words) c.old c.new (SinkRose c) s → IsReplayed c s ⊎ (s ≡ status.Memory)
@@ -218,7 +224,7 @@ module _ (c : Call) (model script : List ℕ) (quiet : IsQuiet c model script) w
         let i : other ≡ model = cc in
         let j : more ≡ script = cc in
         absurd (not_both (c.files model) (c.files script) quiet.model_known quiet.script_known d ds r
-            (subst (λ z. Prepares (c.files model) (c.files z) (Ok (d, ds))) j (subst (λ z. Prepares (c.files z) (c.files more) (Ok (d, ds))) i q)) p)
+        (subst (λ z. Prepares (c.files model) (c.files z) (Ok (d, ds))) j (subst (λ z. Prepares (c.files z) (c.files more) (Ok (d, ds))) i q)) p)
 
     refuse_end : (s : Status) → EndsSo c.files (λ name. RoseAt c name) (job_of c.words) c.old c.new (SinkRose c) s → IsRefused c s ⊎ (s ≡ status.Memory)
     refuse_end s (says.says {text = text} d w) = inl (refuse_says (job_of c.words) text s refl d w)

@@ -12,11 +12,10 @@ mod scripts;
 mod stages;
 mod status;
 mod stepping;
-mod trace;
-mod tree;
-
 #[cfg(test)]
 mod tests;
+mod trace;
+mod tree;
 
 pub use laws::{answers_in_words, nothing_gives_up, one_block};
 pub use program::altarica;

@@ -32,7 +32,6 @@ use Rattle.ar_parser.proofs.Finding.{Follows, kind_join, kind_before, inside, ap
 use Rattle.ar_parser.proofs.PathForms.{append_some, path_parts}
 use Rattle.ar_parser.proofs.ExpressionForms.{then_map, then_assoc, then_first, then_some, token_some, node_some, node_has, Places, node_made, and_left, and_right, or_right, turned, sign_from, word_from, path_first, primary_first, minus_first, not_first, or_first, sum_first, compare_first, expr_first}
 
-
 -- Expr
 
 pub expr_some : (n : ℕ) (next : TokenKind) (ts : Tokens) → Has (IsExpr n) next ts → n ≢ 0
@@ -80,7 +79,12 @@ if_made n test value other f e c p a b t d =
     (spans_then a (spans_then b (spans_then t d)))
     (λ next ts h. then_some h (λ next ts g. then_some g (token_some (Reserved IF))))
     (λ next ts h. record {
-      cases = c.cases; other = c.d; test = test; value = value; is = c.is; one = c.one;
+      cases = c.cases;
+      other = c.d;
+      test = test;
+      value = value;
+      is = c.is;
+      one = c.one;
       reads = subst (λ (x : RawExpr). (between (Reserved IF) (Reserved THEN) (Node (IsExpr n) test) ▸ Node (IsExpr n) value ▸ token (Reserved ELSE) ▸ Node (IsExpr n) x) next ts) (sym c.other_is) h;
     })
 
@@ -109,7 +113,7 @@ chain_parts c n next ts (f, more v e several h) = by_items v.items next ts h
     by_items [] next ts h = elim h [ ]
     by_items (x ∷ xs) next ts h = then_map h (node_has (operand_form c n) x)
         (λ next ts g. each_maps (λ y. token (separator_of c) ▸ Node (operand_form c n) y) (token (separator_of c) ▸ Has (operand_form c n)) xs next ts
-          (λ y next ts k. then_map k (λ next ts j. j) (node_has (operand_form c n) y)) g)
+        (λ y next ts k. then_map k (λ next ts j. j) (node_has (operand_form c n) y)) g)
 
 pub chain_follows : (c : Chain) → Follows (λ n. many (token (separator_of c) ▸ Has (operand_form c n))) (ends_operand c) (ends_chain c)
 chain_follows c = follows_many (λ n next ts h. ap (ends_operand c) (then_kind h) ∙ sep_ends c) (chain_ends c)
@@ -125,7 +129,7 @@ chain_made c n first rest v e {old} {mid} {new} items p a b at over =
     node_made (Node (operand_form c n) first ▸ each (λ x. token (separator_of c) ▸ Node (operand_form c n) x) rest) (chain_form c n) e (chain_of c v) p (spans_then a b)
     (λ next ts h. then_some h (node_some (operand_form c n) first))
     (λ next ts h. more v refl (subst (λ (xs : List RawExpr). 2 ≤ length xs) (sym items) (some_more rest (none rest b)))
-      (subst (λ (xs : List RawExpr). separated (separator_of c) (Node (operand_form c n)) xs next ts) (sym items) h))
+    (subst (λ (xs : List RawExpr). separated (separator_of c) (Node (operand_form c n)) xs next ts) (sym items) h))
   where
     none : (rest : List RawExpr) → Spans (each (λ x. token (separator_of c) ▸ Node (operand_form c n) x) rest) mid new → rest ≡ [] → ⊥
     none [] s z = over (sym (ap kind_at (s.split ∙ ap (λ (t : Tokens). t ++ new) s.form)) ∙ at)
@@ -222,8 +226,8 @@ compare_made n r first second f e c p a t b =
     node_made (Node (IsSum (IsProduct (IsMinus n))) first ▸ token (Sign (sign_of r)) ▸ Node (IsSum (IsProduct (IsMinus n))) second) (IsCompare (IsSum (IsProduct (IsMinus n)))) e f p
     (spans_then a (spans_then t b)) (λ next ts h. then_some h (node_some (IsSum (IsProduct (IsMinus n))) first))
     (λ next ts h. two r c.x c.y c.is
-      (subst (λ (x : RawExpr). (Node (IsSum (IsProduct (IsMinus n))) x ▸ token (Sign (sign_of r)) ▸ Node (IsSum (IsProduct (IsMinus n))) c.y.value) next ts) (sym c.x_is)
-      (subst (λ (y : RawExpr). (Node (IsSum (IsProduct (IsMinus n))) first ▸ token (Sign (sign_of r)) ▸ Node (IsSum (IsProduct (IsMinus n))) y) next ts) (sym c.y_is) h)))
+    (subst (λ (x : RawExpr). (Node (IsSum (IsProduct (IsMinus n))) x ▸ token (Sign (sign_of r)) ▸ Node (IsSum (IsProduct (IsMinus n))) c.y.value) next ts) (sym c.x_is)
+    (subst (λ (y : RawExpr). (Node (IsSum (IsProduct (IsMinus n))) first ▸ token (Sign (sign_of r)) ▸ Node (IsSum (IsProduct (IsMinus n))) y) next ts) (sym c.y_is) h)))
 
 -- Sum
 
@@ -271,7 +275,7 @@ sum_made n first rest v e {old} {mid} {new} items p a b at over =
     node_made (Node (IsProduct (IsMinus n)) first ▸ each (IsTerm (IsProduct (IsMinus n))) rest) (IsSum (IsProduct (IsMinus n))) e (form.Sum v) p (spans_then a b)
     (λ next ts h. then_some h (node_some (IsProduct (IsMinus n)) first))
     (λ next ts h. more v refl (subst (λ (xs : List (Bool × RawExpr)). 2 ≤ length xs) (sym items) (some_more rest (none rest b)))
-      (subst (λ (xs : List (Bool × RawExpr)). AreTerms (IsProduct (IsMinus n)) xs next ts) (sym items) (refl, h)))
+    (subst (λ (xs : List (Bool × RawExpr)). AreTerms (IsProduct (IsMinus n)) xs next ts) (sym items) (refl, h)))
   where
     none : (rest : List (Bool × RawExpr)) → Spans (each (IsTerm (IsProduct (IsMinus n))) rest) mid new → rest ≡ [] → ⊥
     none [] s z = let q : true ≡ false = sym at ∙ ap begins_term (ap kind_at (s.split ∙ ap (λ (t : Tokens). t ++ new) s.form)) ∙ over in absurd (cc)

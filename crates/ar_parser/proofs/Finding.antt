@@ -98,13 +98,13 @@ module _ {A B : Type 0} {P Q : ℕ → Form} {ends ends' : TokenKind → Bool} {
     front = f.front ++ g.front;
     passed = f.passed ∙ ap (λ (s : Tokens). f.front ++ s) g.passed ∙ sym (append_assoc f.front g.front new);
     only = λ n other ts after same h e s.
-      let back : kind_at (h.back ++ after) ≡ kind_or (kind_at after) h.back = kind_before h.back after in
-      let same' : kind_at (g.front ++ other) ≡ kind_at mid = kind_behind g.front other new same ∙ sym (ap kind_at g.passed) in
-      let e' : f.front ++ (g.front ++ other) ≡ h.front ++ (h.back ++ after) =
-          sym (append_assoc f.front g.front other) ∙ e ∙ ap (λ (x : Tokens). x ++ after) h.split ∙ append_assoc h.front h.back after in
-      let there : g.front ++ other ≡ h.back ++ after =
-          f.only n (g.front ++ other) h.front (h.back ++ after) same' (subst (λ (k : TokenKind). P n k h.front) (sym back) h.first) e' (ap ends back ∙ follows.holds n (kind_at after) h.back h.second s) in
-      g.only n other h.back after same h.second there s;
+        let back : kind_at (h.back ++ after) ≡ kind_or (kind_at after) h.back = kind_before h.back after in
+        let same' : kind_at (g.front ++ other) ≡ kind_at mid = kind_behind g.front other new same ∙ sym (ap kind_at g.passed) in
+        let e' : f.front ++ (g.front ++ other) ≡ h.front ++ (h.back ++ after) =
+        sym (append_assoc f.front g.front other) ∙ e ∙ ap (λ (x : Tokens). x ++ after) h.split ∙ append_assoc h.front h.back after in
+        let there : g.front ++ other ≡ h.back ++ after =
+        f.only n (g.front ++ other) h.front (h.back ++ after) same' (subst (λ (k : TokenKind). P n k h.front) (sym back) h.first) e' (ap ends back ∙ follows.holds n (kind_at after) h.back h.second s) in
+        g.only n other h.back after same h.second there s;
   }
 
   -- a call that failed, whatever was to come
@@ -113,10 +113,10 @@ module _ {A B : Type 0} {P Q : ℕ → Form} {ends ends' : TokenKind → Bool} {
     front = f.front;
     passed = f.passed;
     only = λ n other ts after same h w s.
-      let back : kind_at (h.back ++ after) ≡ kind_or (kind_at after) h.back = kind_before h.back after in
-      let e' : f.front ++ other ≡ h.front ++ (h.back ++ after) = w ∙ ap (λ (x : Tokens). x ++ after) h.split ∙ append_assoc h.front h.back after in
-      arrives_err B A left n r e other after other (h.back ++ after) failed
-      (f.only n other h.front (h.back ++ after) same (subst (λ (k : TokenKind). P n k h.front) (sym back) h.first) e' (ap ends back ∙ follows.holds n (kind_at after) h.back h.second s));
+        let back : kind_at (h.back ++ after) ≡ kind_or (kind_at after) h.back = kind_before h.back after in
+        let e' : f.front ++ other ≡ h.front ++ (h.back ++ after) = w ∙ ap (λ (x : Tokens). x ++ after) h.split ∙ append_assoc h.front h.back after in
+        arrives_err B A left n r e other after other (h.back ++ after) failed
+        (f.only n other h.front (h.back ++ after) same (subst (λ (k : TokenKind). P n k h.front) (sym back) h.first) e' (ap ends back ∙ follows.holds n (kind_at after) h.back h.second s));
   }
 
 -- the first token decides which form it can be
@@ -125,9 +125,9 @@ finds_given {B} {P} {Q} {ends} {ends'} {left} {r} {old} {new} f given = record {
   front = f.front;
   passed = f.passed;
   only = λ n other ts after same h e s.
-    let first : kind_or (kind_at after) ts ≡ kind_at old = sym (kind_before ts after) ∙ sym (ap kind_at e) ∙ kind_behind f.front other new same ∙ sym (ap kind_at f.passed) in
-    let q = given n (kind_at after) ts h s first in
-    f.only n other ts after same q.0 e q.1;
+      let first : kind_or (kind_at after) ts ≡ kind_at old = sym (kind_before ts after) ∙ sym (ap kind_at e) ∙ kind_behind f.front other new same ∙ sym (ap kind_at f.passed) in
+      let q = given n (kind_at after) ts h s first in
+      f.only n other ts after same q.0 e q.1;
 }
 
 -- the call is the last: its result is handed on
@@ -215,8 +215,8 @@ loops_stop {A} {rest = rest} l none = record {
   front = l.front;
   passed = l.passed;
   only = λ n other ts after same h w s.
-    let g = l.goes n other ts after same h w s in
-    loop_over (A n) (kind_at after) g.0 after other (kind_at rest) refl g.1 same g.2.0 g.2.1 (none n);
+      let g = l.goes n other ts after same h w s in
+      loop_over (A n) (kind_at after) g.0 after other (kind_at rest) refl g.1 same g.2.0 g.2.1 (none n);
 }
 
 -- another of the form stands here
@@ -233,13 +233,14 @@ module _ {A : ℕ → Form} {ends ends' : TokenKind → Bool} {left : ℕ} {X : 
     front = l.front ++ f.front;
     passed = l.passed ∙ ap (λ (s : Tokens). l.front ++ s) f.passed ∙ sym (append_assoc l.front f.front new);
     goes = λ n other ts after same h w s.
-      let same' : kind_at (f.front ++ other) ≡ kind_at rest = kind_behind f.front other new same ∙ sym (ap kind_at f.passed) in
-      let g = l.goes n (f.front ++ other) ts after same' h (sym (append_assoc l.front f.front other) ∙ w) s in
-      let m = loop_more (A n) (kind_at after) g.0 after (f.front ++ other) rest ends' refl g.1 same' more s g.2.0 g.2.1 in
-      let back : kind_at (m.1 ++ after) ≡ kind_or (kind_at after) m.1 = kind_before m.1 after in
-      (m.1,
-       f.only n other m.0 (m.1 ++ after) same (subst (λ (k : TokenKind). A n k m.0) (sym back) m.3) m.2 (ap ends back ∙ follows.holds n (kind_at after) m.1 m.4 s),
-       m.4);
+        let same' : kind_at (f.front ++ other) ≡ kind_at rest = kind_behind f.front other new same ∙ sym (ap kind_at f.passed) in
+        let g = l.goes n (f.front ++ other) ts after same' h (sym (append_assoc l.front f.front other) ∙ w) s in
+        let m = loop_more (A n) (kind_at after) g.0 after (f.front ++ other) rest ends' refl g.1 same' more s g.2.0 g.2.1 in
+        let back : kind_at (m.1 ++ after) ≡ kind_or (kind_at after) m.1 = kind_before m.1 after in (
+          m.1,
+          f.only n other m.0 (m.1 ++ after) same (subst (λ (k : TokenKind). A n k m.0) (sym back) m.3) m.2 (ap ends back ∙ follows.holds n (kind_at after) m.1 m.4 s),
+          m.4,
+        );
   }
 
   -- a turn that failed
@@ -248,12 +249,12 @@ module _ {A : ℕ → Form} {ends ends' : TokenKind → Bool} {left : ℕ} {X : 
     front = l.front ++ f.front;
     passed = l.passed ∙ ap (λ (s : Tokens). l.front ++ s) f.passed ∙ sym (append_assoc l.front f.front new);
     only = λ n other ts after same h w s.
-      let same' : kind_at (f.front ++ other) ≡ kind_at rest = kind_behind f.front other new same ∙ sym (ap kind_at f.passed) in
-      let g = l.goes n (f.front ++ other) ts after same' h (sym (append_assoc l.front f.front other) ∙ w) s in
-      let m = loop_more (A n) (kind_at after) g.0 after (f.front ++ other) rest ends' refl g.1 same' more s g.2.0 g.2.1 in
-      let back : kind_at (m.1 ++ after) ≡ kind_or (kind_at after) m.1 = kind_before m.1 after in
-      arrives_err Y X left n r e other after other (m.1 ++ after) failed
-      (f.only n other m.0 (m.1 ++ after) same (subst (λ (k : TokenKind). A n k m.0) (sym back) m.3) m.2 (ap ends back ∙ follows.holds n (kind_at after) m.1 m.4 s));
+        let same' : kind_at (f.front ++ other) ≡ kind_at rest = kind_behind f.front other new same ∙ sym (ap kind_at f.passed) in
+        let g = l.goes n (f.front ++ other) ts after same' h (sym (append_assoc l.front f.front other) ∙ w) s in
+        let m = loop_more (A n) (kind_at after) g.0 after (f.front ++ other) rest ends' refl g.1 same' more s g.2.0 g.2.1 in
+        let back : kind_at (m.1 ++ after) ≡ kind_or (kind_at after) m.1 = kind_before m.1 after in
+        arrives_err Y X left n r e other after other (m.1 ++ after) failed
+        (f.only n other m.0 (m.1 ++ after) same (subst (λ (k : TokenKind). A n k m.0) (sym back) m.3) m.2 (ap ends back ∙ follows.holds n (kind_at after) m.1 m.4 s));
   }
 
 -- What a loop has taken

@@ -109,8 +109,10 @@ pushed_both old more x e e' = e' ∙ ap (λ (xs : List _). xs ++ more) e ∙ app
 
 -- many behind separators, before a token that ends them
 pub separated_follow : (separator last : TokenKind) (A : ℕ → Form) (ends ends' : TokenKind → Bool) → ends separator ≡ true → ((k : TokenKind) → ends' k ≡ true → ends k ≡ true) → ends' last ≡ true → Follows (λ n. many (token separator ▸ A n) ▸ token last) ends anything
-separated_follow separator last A ends ends' e weaker l = record { holds = λ n next ts h s.
-    ap ends (ap (kind_or next) h.split ∙ kind_join h.front h.back next) ∙ (follows_many {A = λ n. token separator ▸ A n} {ends = ends} {ends' = ends'} (λ n next ts g. ap ends (then_kind g) ∙ e) weaker).holds n (kind_or next h.back) h.front h.first (ap ends' (token_kind h.second) ∙ l) }
+separated_follow separator last A ends ends' e weaker l = record {
+  holds = λ n next ts h s.
+      ap ends (ap (kind_or next) h.split ∙ kind_join h.front h.back next) ∙ (follows_many {A = λ n. token separator ▸ A n} {ends = ends} {ends' = ends'} (λ n next ts g. ap ends (then_kind g) ∙ e) weaker).holds n (kind_or next h.back) h.front h.first (ap ends' (token_kind h.second) ∙ l);
+}
 
 pub separated_more : (separator : TokenKind) (A : ℕ → Form) (ends ends' : TokenKind → Bool) → ends separator ≡ true → ((k : TokenKind) → ends' k ≡ true → ends k ≡ true) → Follows (λ n. many (token separator ▸ A n)) ends ends'
 separated_more separator A ends ends' e weaker = follows_many (λ n next ts g. ap ends (then_kind g) ∙ e) weaker

@@ -44,7 +44,7 @@ names_parts next ts (x ∷ xs, h) = record {
   split = h.split;
   first = placed_token (kind_or next h.back) h.front (x, h.first);
   second = each_maps (λ y. token (Sign COMMA) ▸ IsPlacedName y) (token (Sign COMMA) ▸ token Name) xs next h.back
-    (λ y next ts g. record { front = g.front; back = g.back; split = g.split; first = g.first; second = placed_token next g.back (y, g.second) }) h.second;
+      (λ y next ts g. record { front = g.front; back = g.back; split = g.split; first = g.first; second = placed_token next g.back (y, g.second) }) h.second;
 }
 
 -- Path = [ ( "owner" | "main" ) "." ] name { "." name }
@@ -65,7 +65,7 @@ path_parts next ts (p, h) = record {
       split = h.split;
       first = name_token (kind_or next h.back) h.front (x, h.first);
       second = each_maps (λ y. token (Sign DOT) ▸ IsName y) (token (Sign DOT) ▸ token Name) xs next h.back
-        (λ y next ts g. record { front = g.front; back = g.back; split = g.split; first = g.first; second = name_token next g.back (y, g.second) }) h.second;
+          (λ y next ts g. record { front = g.front; back = g.back; split = g.split; first = g.first; second = name_token next g.back (y, g.second) }) h.second;
     }
 
 pub spans_name : {old new : Tokens} {t : Lexeme} → (old ≡ t ∷ new) × (t.kind ≡ Name) → Spans (IsName t.name) old new

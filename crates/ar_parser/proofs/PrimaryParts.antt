@@ -33,8 +33,6 @@ use Rattle.ar_parser.proofs.Finding.{Follows, kind_join, kind_before, inside, ap
 use Rattle.ar_parser.proofs.PathForms.{append_some, path_parts}
 use Rattle.ar_parser.proofs.ExpressionForms.{then_map, then_assoc, then_first, then_some, token_some, node_some, node_has, Places, node_made, and_left, and_right, or_right, turned, sign_from, word_from, path_first, primary_first, minus_first, not_first, or_first, sum_first, compare_first, expr_first}
 
-
-
 -- Primary
 
 -- a kind that begins none of the other alternatives
@@ -168,7 +166,7 @@ operands_parts n next ts (v, h) = then_map h (λ next ts j. j) (λ next ts g. th
     by_items [] next ts h = elim h [ ]
     by_items (x ∷ xs) next ts h = then_map h (node_has (IsExpr n) x)
         (λ next ts g. each_maps (λ y. token (Sign COMMA) ▸ Node (IsExpr n) y) (token (Sign COMMA) ▸ Has (IsExpr n)) xs next ts
-          (λ y next ts k. then_map k (λ next ts j. j) (node_has (IsExpr n) y)) g)
+        (λ y next ts k. then_map k (λ next ts j. j) (node_has (IsExpr n) y)) g)
 
 -- the first of many, and then what ends them
 pub operands_follow : Follows (λ n. many (token (Sign COMMA) ▸ Has (IsExpr n)) ▸ token (Sign CLOSE_PARENTHESIS)) ends_expr anything
@@ -220,7 +218,10 @@ switch_made n v d other e some same p s1 s2 s3 s4 s5 =
     (spans_then s1 (spans_then s2 (spans_then s3 (spans_then s4 s5))))
     (λ next ts h. then_some h (token_some (Reserved SWITCH)))
     (λ next ts h. record {
-      cases = v; other = d; is = refl; some = some;
+      cases = v;
+      other = d;
+      is = refl;
+      some = some;
       reads = subst (λ (x : RawExpr). (token (Reserved SWITCH) ▸ token (Sign OPEN_BRACE) ▸ each (IsCase (IsExpr n)) v.items ▸ token (Reserved DEFAULT) ▸ between (Sign COLON) (Sign CLOSE_BRACE) (Node (IsExpr n) x)) next ts) (sym same) h;
     })
 

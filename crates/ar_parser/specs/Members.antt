@@ -114,9 +114,9 @@ IsPart p = token (Sign (if p.must then EXCLAMATION else QUESTION)) ▸ IsPath p.
 -- Transition = name ":" ( Part { "&" Part } ";" | Expr "->" Instr )
 pub data IsTransition (n : ℕ) (m : Member) (next : TokenKind) (ts : Tokens) : Type 0 where
   sync : (name : NameId) (at : Place) (parts : Vec Part Global) → m ≡ member.Sync name at parts →
-    (IsPlacedName (name, at) ▸ between (Sign COLON) (Sign SEMICOLON) (separated (Sign AMPERSAND) IsPart parts.items)) next ts → IsTransition n m next ts
+      (IsPlacedName (name, at) ▸ between (Sign COLON) (Sign SEMICOLON) (separated (Sign AMPERSAND) IsPart parts.items)) next ts → IsTransition n m next ts
   local : (name : NameId) (at : Place) (guard : RawExpr) (action : Instr) → m ≡ member.Local name at guard action →
-    (IsPlacedName (name, at) ▸ between (Sign COLON) (Sign ARROW) (Node (IsExpr n) guard) ▸ IsInstr n action) next ts → IsTransition n m next ts
+      (IsPlacedName (name, at) ▸ between (Sign COLON) (Sign ARROW) (Node (IsExpr n) guard) ▸ IsInstr n action) next ts → IsTransition n m next ts
 
 -- an instruction of an assertion
 pub record IsAssertion (n : ℕ) (m : Member) (next : TokenKind) (ts : Tokens) : Type 0 where
@@ -150,13 +150,13 @@ pub data IsSingle (n : ℕ) (m : Member) (next : TokenKind) (ts : Tokens) : Type
   embeds : (p : Path) (name : NameId) (at : Place) → m ≡ member.Embeds p name at → (token (Reserved EMBEDS) ▸ IsPath p ▸ between (Reserved AS) (Sign SEMICOLON) (IsPlacedName (name, at))) next ts → IsSingle n m next ts
   -- "parameter" "Real" name "=" Kept ";"
   kept_value : (name : NameId) (at : Place) (span : Span) → m ≡ member.Kept name at span →
-    (token (Reserved PARAMETER) ▸ token (Reserved REAL) ▸ IsPlacedName (name, at) ▸ between (Sign EQUALS) (Sign SEMICOLON) (covering span (kept n))) next ts → IsSingle n m next ts
+      (token (Reserved PARAMETER) ▸ token (Reserved REAL) ▸ IsPlacedName (name, at) ▸ between (Sign EQUALS) (Sign SEMICOLON) (covering span (kept n))) next ts → IsSingle n m next ts
   -- "parameter" Type name "=" Expr ";"
   parameter : (type : TypeName) (name : NameId) (at : Place) (value : RawExpr) → m ≡ member.Parameter type name at value →
-    (token (Reserved PARAMETER) ▸ IsType type ▸ IsPlacedName (name, at) ▸ between (Sign EQUALS) (Sign SEMICOLON) (Node (IsExpr n) value)) next ts → IsSingle n m next ts
+      (token (Reserved PARAMETER) ▸ IsType type ▸ IsPlacedName (name, at) ▸ between (Sign EQUALS) (Sign SEMICOLON) (Node (IsExpr n) value)) next ts → IsSingle n m next ts
   -- "observer" Type name "=" Expr ";"
   observer : (type : TypeName) (name : NameId) (at : Place) (value : RawExpr) → m ≡ member.Observer type name at value →
-    (token (Reserved OBSERVER) ▸ IsType type ▸ IsPlacedName (name, at) ▸ between (Sign EQUALS) (Sign SEMICOLON) (Node (IsExpr n) value)) next ts → IsSingle n m next ts
+      (token (Reserved OBSERVER) ▸ IsType type ▸ IsPlacedName (name, at) ▸ between (Sign EQUALS) (Sign SEMICOLON) (Node (IsExpr n) value)) next ts → IsSingle n m next ts
 
 -- A clause that begins with a reserved word, and the members that it makes.
 pub data IsKeyed (n : ℕ) (Body : List Member → Form) (ms : List Member) (next : TokenKind) (ts : Tokens) : Type 0 where

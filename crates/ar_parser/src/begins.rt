@@ -74,7 +74,10 @@ pub fn begins_instr(kind: TokenKind) -> bool
     match kind {
         TokenKind::Name => true,
         TokenKind::Sign(sign) => sign == signs::OPEN_BRACE,
-        TokenKind::Reserved(word) => word == words::OWNER || word == words::MAIN || word == words::SKIP || word == words::IF,
+        TokenKind::Reserved(word) => word == words::OWNER
+            || word == words::MAIN
+            || word == words::SKIP
+            || word == words::IF,
         _ => false,
     }
 }

@@ -7,13 +7,11 @@ ghost use Rattle.ar_parser.specs.Words.{token, end_of, StandsAt, Covers};
 ghost use Rattle.ar_parser.specs.Paths.{IsName};
 ghost use Rattle.ar_parser.specs.Results.{kind_at, Takes, Finds, Eats, IsSyntax, IsDepth, anything, place_at};
 
-use std::alloc::Global;
-
+use crate::lexeme::{Lexeme, ParseFault};
 use ar_base::{Place, Span};
 use ar_lexer::TokenKind;
 use ar_syntax::{RawExpr, RawForm};
-
-use crate::lexeme::{Lexeme, ParseFault};
+use std::alloc::Global;
 
 /// The tokens that are left to read. None of them is the end of the text, which is where they end.
 pub struct Parser<'a> {
@@ -55,7 +53,11 @@ impl<'a> Parser<'a> {
         ensures deep { OnTrue begins (IsDepth result) }
         ensures other { OnFalse begins (IsSyntax result) }
     {
-        if begins { ParseFault::Depth(self.place()) } else { self.syntax() }
+        if begins {
+            ParseFault::Depth(self.place())
+        } else {
+            self.syntax()
+        }
     }
 
     /// Whether the next token is of this kind.

@@ -9,13 +9,12 @@ ghost use Rattle.ar_parser.specs.Expressions.{Node, IsExpr, IsNot, IsMinus, IsPr
 ghost use Rattle.ar_parser.specs.Chains.{separator_of, operand_form, chain_form, ends_operand, ends_chain, term_text, case_text};
 ghost use Rattle.ar_parser.specs.Results.{kind_at, Takes, Finds, Spans, anything, ends_path, ends_product, ends_sum, ends_not, ends_expr, ends_list, ends_cases, begins_term};
 
-use ar_lexer::{TokenKind, signs, words};
-use ar_syntax::{RawExpr, RawForm};
-
 use crate::begins::{begins_expr, begins_minus, begins_not};
 use crate::cursor::Parser;
 use crate::lexeme::ParseFault;
 use crate::terms::{Chain, call_of, chain_of, separator_of};
+use ar_lexer::{TokenKind, signs, words};
+use ar_syntax::{RawExpr, RawForm};
 
 impl<'a> Parser<'a> {
     /// Takes an expression, with room for `left` open productions.
@@ -35,7 +34,12 @@ impl<'a> Parser<'a> {
 
     /// Takes an expression between two tokens.
     #[cycle(expression)]
-    pub fn enclosed(&mut self, opens: TokenKind, closes: TokenKind, left: u32) -> Result<RawExpr, ParseFault>
+    pub fn enclosed(
+        &mut self,
+        opens: TokenKind,
+        closes: TokenKind,
+        left: u32,
+    ) -> Result<RawExpr, ParseFault>
         requires opens { opens ≢ End }
         requires closes { closes ≢ End }
         requires ends { ends_expr closes ≡ true }
@@ -55,7 +59,11 @@ impl<'a> Parser<'a> {
         ensures only { Finds (λ n. Has (IsIf (IsExpr n))) ends_expr left result self.old.rest.now self.new.rest.now }
     {
         let start = self.rest;
-        let test = self.enclosed(TokenKind::Reserved(words::IF), TokenKind::Reserved(words::THEN), left)?;
+        let test = self.enclosed(
+            TokenKind::Reserved(words::IF),
+            TokenKind::Reserved(words::THEN),
+            left,
+        )?;
         let value = self.expr(left)?;
         self.expect(TokenKind::Reserved(words::ELSE))?;
         let other = self.expr(left)?;
@@ -82,7 +90,12 @@ impl<'a> Parser<'a> {
 
     /// Takes the operands behind the first.
     #[cycle(expression)]
-    fn more_operands(&mut self, chain: Chain, left: u32, operands: &mut Vec<RawExpr>) -> Result<(), ParseFault>
+    fn more_operands(
+        &mut self,
+        chain: Chain,
+        left: u32,
+        operands: &mut Vec<RawExpr>,
+    ) -> Result<(), ParseFault>
         ensures found { IfOk result (λ _. (more : _) × (operands.new.items ≡ operands.old.items ++ more) × Spans (each (λ e. token (separator_of chain) ▸ Node (operand_form chain left) e) more) self.old.rest.now self.new.rest.now) }
         ensures over { IfOk result (λ _. kind_at self.new.rest.now ≢ separator_of chain) }
         ensures only { Finds (λ n. many (token (separator_of chain) ▸ Has (operand_form chain n))) (ends_chain chain) left result self.old.rest.now self.new.rest.now }
@@ -204,7 +217,11 @@ impl<'a> Parser<'a> {
             return Ok(self.node(start, form));
         }
         if self.is_at(TokenKind::Sign(signs::OPEN_PARENTHESIS)) {
-            let inner = self.enclosed(TokenKind::Sign(signs::OPEN_PARENTHESIS), TokenKind::Sign(signs::CLOSE_PARENTHESIS), left)?;
+            let inner = self.enclosed(
+                TokenKind::Sign(signs::OPEN_PARENTHESIS),
+                TokenKind::Sign(signs::CLOSE_PARENTHESIS),
+                left,
+            )?;
             return Ok(self.bracketed(start, inner));
         }
         if self.is_at(TokenKind::Reserved(words::SWITCH)) {
@@ -260,7 +277,11 @@ impl<'a> Parser<'a> {
             return Err(self.syntax());
         }
         self.expect(TokenKind::Reserved(words::DEFAULT))?;
-        let other = self.enclosed(TokenKind::Sign(signs::COLON), TokenKind::Sign(signs::CLOSE_BRACE), left)?;
+        let other = self.enclosed(
+            TokenKind::Sign(signs::COLON),
+            TokenKind::Sign(signs::CLOSE_BRACE),
+            left,
+        )?;
         let boxed = Box::new(self.alloc, other)?;
         Ok(self.node(start, RawForm::Choose(cases, boxed)))
     }
@@ -274,7 +295,11 @@ impl<'a> Parser<'a> {
     {
         let mut cases = Vec::new(self.alloc);
         while self.is_at(TokenKind::Reserved(words::CASE)) {
-            let test = self.enclosed(TokenKind::Reserved(words::CASE), TokenKind::Sign(signs::COLON), left)?;
+            let test = self.enclosed(
+                TokenKind::Reserved(words::CASE),
+                TokenKind::Sign(signs::COLON),
+                left,
+            )?;
             let value = self.expr(left)?;
             cases.push((test, value))?;
         }

@@ -8,12 +8,11 @@ ghost use Rattle.ar_parser.specs.Paths.{IsPath};
 ghost use Rattle.ar_parser.specs.Instructions.{IsInstr, IsElse, IsConditional, IsGroup, IsSimple};
 ghost use Rattle.ar_parser.specs.Results.{Takes, Finds, Spans, anything, ends_group};
 
-use ar_lexer::{TokenKind, signs, words};
-use ar_syntax::{Instr, Path};
-
 use crate::begins::begins_instr;
 use crate::cursor::Parser;
 use crate::lexeme::ParseFault;
+use ar_lexer::{TokenKind, signs, words};
+use ar_syntax::{Instr, Path};
 
 impl<'a> Parser<'a> {
     /// Takes an instruction, with room for `left` open productions.
@@ -40,7 +39,11 @@ impl<'a> Parser<'a> {
         ensures found { Takes (IsConditional left) result self.old.rest.now self.new.rest.now }
         ensures only { Finds (λ n. Has (IsConditional n)) anything left result self.old.rest.now self.new.rest.now }
     {
-        let test = self.enclosed(TokenKind::Reserved(words::IF), TokenKind::Reserved(words::THEN), left)?;
+        let test = self.enclosed(
+            TokenKind::Reserved(words::IF),
+            TokenKind::Reserved(words::THEN),
+            left,
+        )?;
         let inner = self.instr(left)?;
         let no = self.other_branch(left)?;
         let yes = Box::new(self.alloc, inner)?;
@@ -101,7 +104,11 @@ impl<'a> Parser<'a> {
             let other = self.tied()?;
             return Ok(Instr::Tie(path, other));
         }
-        let value = self.enclosed(TokenKind::Sign(signs::ASSIGN), TokenKind::Sign(signs::SEMICOLON), left)?;
+        let value = self.enclosed(
+            TokenKind::Sign(signs::ASSIGN),
+            TokenKind::Sign(signs::SEMICOLON),
+            left,
+        )?;
         Ok(Instr::Assign(path, value))
     }
 

@@ -10,12 +10,11 @@ ghost use Rattle.ar_parser.specs.Instructions.{IsInstr};
 ghost use Rattle.ar_parser.specs.Members.{IsType, IsWord, IsSetting, AreSettings, IsDeclared, IsEvent, IsHidden, IsPart, IsTransition, IsAssertion};
 ghost use Rattle.ar_parser.specs.Results.{kind_at, Takes, Finds, Spans, anything, ends_path, ends_expr, ends_list, ends_attribute, ends_semicolon, ends_target, ends_transitions, ends_assertions, begins_part};
 
-use ar_lexer::{TokenKind, signs, words};
-use ar_syntax::{Instr, Member, Part, RawExpr, Setting, TypeForm, TypeName, Word};
-
 use crate::begins::begins_instr;
 use crate::cursor::Parser;
 use crate::lexeme::ParseFault;
+use ar_lexer::{TokenKind, signs, words};
+use ar_syntax::{Instr, Member, Part, RawExpr, Setting, TypeForm, TypeName, Word};
 
 impl<'a> Parser<'a> {
     /// Takes a type: "Boolean" | "Integer" | name.
@@ -266,7 +265,8 @@ impl<'a> Parser<'a> {
     fn is_at_part(&self) -> bool
         ensures { result ≡ begins_part (kind_at self.now.rest.now) }
     {
-        self.is_at(TokenKind::Sign(signs::EXCLAMATION)) || self.is_at(TokenKind::Sign(signs::QUESTION))
+        self.is_at(TokenKind::Sign(signs::EXCLAMATION))
+            || self.is_at(TokenKind::Sign(signs::QUESTION))
     }
 
     /// Takes name ":" ( Part { "&" Part } ";" | Expr "->" Instr ).

@@ -7,12 +7,11 @@ ghost use Rattle.ar_parser.specs.Words.{token, ◌▸◌, each, many, Has};
 ghost use Rattle.ar_parser.specs.Paths.{IsName, IsPlacedName, IsStart, IsPath, AreNames};
 ghost use Rattle.ar_parser.specs.Results.{Takes, Finds, Spans, anything, ends_path, ends_names, is_name};
 
+use crate::cursor::Parser;
+use crate::lexeme::ParseFault;
 use ar_base::{NameId, Place};
 use ar_lexer::{TokenKind, signs, words};
 use ar_syntax::{Path, PathStart};
-
-use crate::cursor::Parser;
-use crate::lexeme::ParseFault;
 
 impl<'a> Parser<'a> {
     /// Takes a name and gives its place too.

@@ -7,11 +7,10 @@ ghost use Rattle.ar_parser.specs.Words.{between, many, covering, Has};
 ghost use Rattle.ar_parser.specs.Members.{unread, unread_piece, kept, kept_piece, bracketed, IsAttribute};
 ghost use Rattle.ar_parser.specs.Results.{kind_at, Takes, Finds, Spans, anything, goes_unread, goes_kept, ends_unread, ends_kept, ends_attribute};
 
-use ar_base::Span;
-use ar_lexer::{TokenKind, signs};
-
 use crate::cursor::Parser;
 use crate::lexeme::ParseFault;
+use ar_base::Span;
+use ar_lexer::{TokenKind, signs};
 
 impl<'a> Parser<'a> {
     /// Whether the next token goes on with what is unread: any token but the bracket that ends it.

@@ -16,10 +16,12 @@ returns-in_err-name-clause-only c = λ left.
 pub loop-self-preserved : goal.loop-self-preserved
 loop-self-preserved c =
     let e = c.loop-self-test.ensures.taken in
-    let i = c.loop-self.invariant in
-    (i.0 ++ c.in_ok-name.name.name ∷ [], c.in_ok-push.ensures.items ∙ ap (λ s. s ++ c.in_ok-name.name.name ∷ []) i.1 ∙ append_assoc _ i.0 _,
-     spans_push (λ x. token (Sign DOT) ▸ IsName x) i.0 c.in_ok-name.name.name i.2 (spans_then (spans_token e) (spans_name c.in_ok-name.ensures.found)),
-     loops_next i.3 (ap ends_path (eats_kind e)) (finds_then (finds_token e) (c.in_ok-name.ensures.only 0) follows_any) follows_any)
+    let i = c.loop-self.invariant in (
+      i.0 ++ c.in_ok-name.name.name ∷ [],
+      c.in_ok-push.ensures.items ∙ ap (λ s. s ++ c.in_ok-name.name.name ∷ []) i.1 ∙ append_assoc _ i.0 _,
+      spans_push (λ x. token (Sign DOT) ▸ IsName x) i.0 c.in_ok-name.name.name i.2 (spans_then (spans_token e) (spans_name c.in_ok-name.ensures.found)),
+      loops_next i.3 (ap ends_path (eats_kind e)) (finds_then (finds_token e) (c.in_ok-name.ensures.only 0) follows_any) follows_any,
+    )
 
 pub returns-in_err-push-clause-only : goal.returns-in_err-push-clause-only
 returns-in_err-push-clause-only c = λ left.

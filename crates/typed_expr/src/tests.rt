@@ -5,6 +5,7 @@ ghost use Rattle.domains.specs.declared.Value.TheVariants.{Truth};
 ghost use Rattle.typed_expr.specs.declared.expr.ValueKind.TheVariants as kind;
 
 use crate::{Env, Expr, Relation, ValueKind, eval_set, eval_total, possible_values, typed};
+use ar_base::Memory;
 use domains::Value;
 use std::alloc::{AllocError, Global};
 use std::test::Fail;
@@ -42,6 +43,26 @@ impl Env<u32> for Table {
             None => ValueKind::Truth,
         }
     }
+}
+
+// No variable has a fact, and each is of truth values.
+fn no_rows(alloc: Global) -> Table {
+    Table {
+        rows: Vec::new(alloc),
+    }
+}
+
+// Whether the expression is well typed, has the value, and yields it alone.
+fn is_worth(alloc: Global, expr: Expr<u32>, wanted: Value) -> Result<bool, Memory> {
+    let table = no_rows(alloc);
+    let found = eval_set(alloc, &expr, &table)?;
+    let alone = found.values() == [wanted].as_slice();
+    Ok(alone && eval_total(&expr, &table) == wanted && typed(&expr, &table).is_some())
+}
+
+// Whether the expression is ill typed.
+fn is_ill_typed(alloc: Global, expr: Expr<u32>) -> bool {
+    typed(&expr, &no_rows(alloc)).is_none()
 }
 
 fn whole(n: i64) -> Expr<u32> {
@@ -112,151 +133,234 @@ fn possible_sums(rt: HostRuntime) -> Result<(), Fail> {
     Ok(())
 }
 
-// What each form is worth at constants, by hand.
+// What connectives and comparisons are worth at constants.
 #[test]
-fn values_of_forms(rt: HostRuntime) -> Result<(), Fail> {
+fn truths_of_forms(rt: HostRuntime) -> Result<(), Fail> {
     let alloc = rt.alloc();
-    let table = Table {
-        rows: Vec::new(alloc),
-    };
-    let most = 9223372036854775807;
-    let rows = vec![in alloc;
-        (negated(alloc, truth(true))?, Value::Truth(false)),
-        (
+    assert!(rt; is_worth(alloc, negated(alloc, truth(true))?, Value::Truth(false))?);
+    assert!(rt;
+        is_worth(
+            alloc,
             Expr::All(vec![in alloc; truth(true), truth(false)]?),
             Value::Truth(false)
-        ),
-        (
+        )?
+    );
+    assert!(rt;
+        is_worth(
+            alloc,
             Expr::Any(vec![in alloc; truth(false), truth(true)]?),
             Value::Truth(true)
-        ),
-        (
+        )?
+    );
+    assert!(rt;
+        is_worth(
+            alloc,
             compare(alloc, Relation::Equal, truth(true), truth(true))?,
             Value::Truth(true)
-        ),
-        (
+        )?
+    );
+    assert!(rt;
+        is_worth(
+            alloc,
             compare(alloc, Relation::Differs, whole(1), whole(2))?,
             Value::Truth(true)
-        ),
-        (
+        )?
+    );
+    assert!(rt;
+        is_worth(
+            alloc,
             compare(alloc, Relation::Less, whole(2), whole(2))?,
             Value::Truth(false)
-        ),
-        (
+        )?
+    );
+    assert!(rt;
+        is_worth(
+            alloc,
             compare(alloc, Relation::AtMost, whole(2), whole(2))?,
             Value::Truth(true)
-        ),
-        (
+        )?
+    );
+    assert!(rt;
+        is_worth(
+            alloc,
             compare(alloc, Relation::More, whole(2), whole(2))?,
             Value::Truth(false)
-        ),
-        (
+        )?
+    );
+    assert!(rt;
+        is_worth(
+            alloc,
             compare(alloc, Relation::AtLeast, whole(2), whole(2))?,
             Value::Truth(true)
-        ),
-        (
-            Expr::Sum(vec![in alloc; (true, whole(most)), (true, whole(1)), (false, whole(1))]?),
-            Value::Whole(most - 1)
-        ),
-        (
-            Expr::Product(vec![in alloc; whole(most), whole(2), whole(-1)]?),
-            Value::Whole(-most)
-        ),
-        (
-            Expr::Least(vec![in alloc; whole(3), whole(-1), whole(2)]?),
-            Value::Whole(-1)
-        ),
-        (
-            Expr::Greatest(vec![in alloc; whole(-3), whole(-1), whole(-2)]?),
-            Value::Whole(-1)
-        ),
-        (
-            Expr::Count(vec![in alloc; truth(true), truth(false), truth(true)]?),
-            Value::Whole(2)
-        ),
-        (
-            Expr::Choose(
-                vec![in alloc;
-                    (truth(false), whole(1)),
-                    (truth(true), whole(2)),
-                    (truth(true), whole(3))
-                ]?,
-                Box::new(alloc, whole(4))?
-            ),
-            Value::Whole(2)
-        ),
-        (
-            Expr::Choose(
-                vec![in alloc; (truth(false), whole(1))]?,
-                Box::new(alloc, whole(4))?
-            ),
-            Value::Whole(4)
-        ),
-    ]?;
-    for (expr, wanted) in &rows {
-        assert_eq!(rt; eval_total(expr, &table), *wanted);
-        let found = eval_set(alloc, expr, &table)?;
-        assert_eq!(rt; found.values(), [*wanted].as_slice());
-        assert!(rt; typed(expr, &table).is_some());
-    }
+        )?
+    );
     Ok(())
 }
 
-// Each kind of ill-typedness in each form.
+// What folds and choices are worth at constants.
 #[test]
-fn ill_typed_forms(rt: HostRuntime) -> Result<(), Fail> {
+fn numbers_of_forms(rt: HostRuntime) -> Result<(), Fail> {
     let alloc = rt.alloc();
-    let table = Table {
-        rows: Vec::new(alloc),
-    };
-    let rows = vec![in alloc;
-        negated(alloc, whole(1))?,
-        Expr::All(Vec::new(alloc)),
-        Expr::All(vec![in alloc; truth(true), whole(1)]?),
-        Expr::Any(Vec::new(alloc)),
-        Expr::Any(vec![in alloc; whole(1)]?),
-        compare(alloc, Relation::Equal, truth(true), whole(1))?,
-        compare(
+    let most = 9223372036854775807;
+    assert!(rt;
+        is_worth(
             alloc,
-            Relation::Differs,
-            whole(1),
-            Expr::Constant(Value::Symbol(1))
-        )?,
-        compare(alloc, Relation::Less, truth(false), truth(true))?,
-        compare(alloc, Relation::AtMost, whole(1), truth(true))?,
-        compare(
+            Expr::Sum(vec![in alloc; (true, whole(most)), (true, whole(1)), (false, whole(1))]?),
+            Value::Whole(most - 1)
+        )?
+    );
+    assert!(rt;
+        is_worth(
             alloc,
-            Relation::More,
-            Expr::Constant(Value::Symbol(1)),
-            Expr::Constant(Value::Symbol(2))
-        )?,
-        compare(alloc, Relation::AtLeast, truth(true), whole(1))?,
-        Expr::Sum(Vec::new(alloc)),
-        Expr::Sum(vec![in alloc; (true, whole(1)), (false, truth(true))]?),
-        Expr::Product(Vec::new(alloc)),
-        Expr::Product(vec![in alloc; truth(true)]?),
-        Expr::Least(Vec::new(alloc)),
-        Expr::Least(vec![in alloc; whole(1), Expr::Variable(0)]?),
-        Expr::Greatest(Vec::new(alloc)),
-        Expr::Greatest(vec![in alloc; truth(true), whole(1)]?),
-        Expr::Count(Vec::new(alloc)),
-        Expr::Count(vec![in alloc; truth(true), whole(1)]?),
-        Expr::Choose(Vec::new(alloc), Box::new(alloc, whole(4))?),
-        Expr::Choose(
-            vec![in alloc; (whole(1), whole(1))]?,
-            Box::new(alloc, whole(4))?
-        ),
-        Expr::Choose(
-            vec![in alloc; (truth(true), truth(true))]?,
-            Box::new(alloc, whole(4))?
-        ),
-        Expr::Choose(
-            vec![in alloc; (truth(true), whole(1))]?,
-            Box::new(alloc, negated(alloc, whole(4))?)?
-        ),
+            Expr::Product(vec![in alloc; whole(most), whole(2), whole(-1)]?),
+            Value::Whole(-most)
+        )?
+    );
+    assert!(rt;
+        is_worth(
+            alloc,
+            Expr::Least(vec![in alloc; whole(3), whole(-1), whole(2)]?),
+            Value::Whole(-1)
+        )?
+    );
+    assert!(rt;
+        is_worth(
+            alloc,
+            Expr::Greatest(vec![in alloc; whole(-3), whole(-1), whole(-2)]?),
+            Value::Whole(-1)
+        )?
+    );
+    assert!(rt;
+        is_worth(
+            alloc,
+            Expr::Count(vec![in alloc; truth(true), truth(false), truth(true)]?),
+            Value::Whole(2)
+        )?
+    );
+    assert!(rt; is_worth(alloc, choice(alloc, true)?, Value::Whole(2))?);
+    assert!(rt; is_worth(alloc, choice(alloc, false)?, Value::Whole(4))?);
+    Ok(())
+}
+
+// 1 if false, 2 if taken, 3 if taken, else 4.
+fn choice(alloc: Global, taken: bool) -> Result<Expr<u32>, AllocError> {
+    let other = Box::new(alloc, whole(4))?;
+    let cases = vec![in alloc;
+        (truth(false), whole(1)),
+        (truth(taken), whole(2)),
+        (truth(taken), whole(3)),
     ]?;
-    for expr in &rows {
-        assert!(rt; typed(expr, &table).is_none());
-    }
+    Ok(Expr::Choose(cases, other))
+}
+
+// One case with a last branch.
+fn one_case(
+    alloc: Global,
+    test: Expr<u32>,
+    value: Expr<u32>,
+    other: Expr<u32>,
+) -> Result<Expr<u32>, AllocError> {
+    let other = Box::new(alloc, other)?;
+    let cases = vec![in alloc; (test, value)]?;
+    Ok(Expr::Choose(cases, other))
+}
+
+// Each kind of ill-typedness in connectives and comparisons.
+#[test]
+fn ill_typed_truths(rt: HostRuntime) -> Result<(), Fail> {
+    let alloc = rt.alloc();
+    assert!(rt; is_ill_typed(alloc, negated(alloc, whole(1))?));
+    assert!(rt; is_ill_typed(alloc, Expr::All(Vec::new(alloc))));
+    assert!(rt; is_ill_typed(alloc, Expr::All(vec![in alloc; truth(true), whole(1)]?)));
+    assert!(rt; is_ill_typed(alloc, Expr::Any(Vec::new(alloc))));
+    assert!(rt; is_ill_typed(alloc, Expr::Any(vec![in alloc; whole(1)]?)));
+    assert!(rt;
+        is_ill_typed(
+            alloc,
+            compare(alloc, Relation::Equal, truth(true), whole(1))?
+        )
+    );
+    assert!(rt;
+        is_ill_typed(
+            alloc,
+            compare(
+                alloc,
+                Relation::Differs,
+                whole(1),
+                Expr::Constant(Value::Symbol(1))
+            )?
+        )
+    );
+    assert!(rt;
+        is_ill_typed(
+            alloc,
+            compare(alloc, Relation::Less, truth(false), truth(true))?
+        )
+    );
+    assert!(rt;
+        is_ill_typed(
+            alloc,
+            compare(alloc, Relation::AtMost, whole(1), truth(true))?
+        )
+    );
+    assert!(rt;
+        is_ill_typed(
+            alloc,
+            compare(
+                alloc,
+                Relation::More,
+                Expr::Constant(Value::Symbol(1)),
+                Expr::Constant(Value::Symbol(2))
+            )?
+        )
+    );
+    assert!(rt;
+        is_ill_typed(
+            alloc,
+            compare(alloc, Relation::AtLeast, truth(true), whole(1))?
+        )
+    );
+    Ok(())
+}
+
+// Each kind of ill-typedness in folds and choices.
+#[test]
+fn ill_typed_numbers(rt: HostRuntime) -> Result<(), Fail> {
+    let alloc = rt.alloc();
+    assert!(rt; is_ill_typed(alloc, Expr::Sum(Vec::new(alloc))));
+    assert!(rt;
+        is_ill_typed(
+            alloc,
+            Expr::Sum(vec![in alloc; (true, whole(1)), (false, truth(true))]?)
+        )
+    );
+    assert!(rt; is_ill_typed(alloc, Expr::Product(Vec::new(alloc))));
+    assert!(rt; is_ill_typed(alloc, Expr::Product(vec![in alloc; truth(true)]?)));
+    assert!(rt; is_ill_typed(alloc, Expr::Least(Vec::new(alloc))));
+    assert!(rt;
+        is_ill_typed(
+            alloc,
+            Expr::Least(vec![in alloc; whole(1), Expr::Variable(0)]?)
+        )
+    );
+    assert!(rt; is_ill_typed(alloc, Expr::Greatest(Vec::new(alloc))));
+    assert!(rt;
+        is_ill_typed(
+            alloc,
+            Expr::Greatest(vec![in alloc; truth(true), whole(1)]?)
+        )
+    );
+    assert!(rt; is_ill_typed(alloc, Expr::Count(Vec::new(alloc))));
+    assert!(rt; is_ill_typed(alloc, Expr::Count(vec![in alloc; truth(true), whole(1)]?)));
+    let other = Box::new(alloc, whole(4))?;
+    assert!(rt; is_ill_typed(alloc, Expr::Choose(Vec::new(alloc), other)));
+    assert!(rt; is_ill_typed(alloc, one_case(alloc, whole(1), whole(1), whole(4))?));
+    assert!(rt; is_ill_typed(alloc, one_case(alloc, truth(true), truth(true), whole(4))?));
+    assert!(rt;
+        is_ill_typed(
+            alloc,
+            one_case(alloc, truth(true), whole(1), negated(alloc, whole(4))?)?
+        )
+    );
     Ok(())
 }

@@ -5,12 +5,11 @@
 //! name, the status and the bytes that were written are printed.
 #![tactic(auto)]
 
-use std::io::Write;
-use std::{fs, io};
-
 use altarica_run::altarica;
 use ar_base::Memory;
 use ar_io::{MemoryShelf, MemorySink};
+use std::io::Write;
+use std::{fs, io};
 
 /// The room for the text of a case, in bytes.
 const ROOM: usize = 65_536;

@@ -1,12 +1,10 @@
 //! The program: hands its words, the files and standard output to the one call.
 #![tactic(auto)]
 
-use std::env;
-use std::io;
-use std::process::ExitCode;
-
 use altarica_run::altarica;
 use ar_io::{FileShelf, StdSink};
+use std::process::ExitCode;
+use std::{env, io};
 
 // The exit status where memory for the words is refused.
 const NO_MEMORY: u8 = 9;

@@ -55,10 +55,10 @@ module _ (names : List (List ℕ)) (states : ℕ) where
   pub known_more : (done : List MoveLine) (m : MoveLine) (n : ℕ) → AreKnownMoves names states done → IsKnownMove names states m → Stands names (states + n) m.event
       → IsMoveOf names states done n None → AreKnownMoves names states (done ++ m ∷ [])
   known_more done m n a i s h = record {
-      known = λ k x p. elim (stands_split done (m ∷ []) k x p) [ inl q ↦ a.known k x q | inr q ↦ subst (λ z. IsKnownMove names states z) (sym (at_end done m q.0 x k q.1 q.2).1) i ];
-      event = λ k x p. elim (stands_split done (m ∷ []) k x p) [ inl q ↦ a.event k x q | inr q ↦ (n, subst (λ z. Stands names (states + n) z.event) (sym (at_end done m q.0 x k q.1 q.2).1) s) ];
-      one_each = λ j k x y p q e. both j k x y (stands_split done (m ∷ []) j x p) (stands_split done (m ∷ []) k y q) e;
-    }
+    known = λ k x p. elim (stands_split done (m ∷ []) k x p) [ inl q ↦ a.known k x q | inr q ↦ subst (λ z. IsKnownMove names states z) (sym (at_end done m q.0 x k q.1 q.2).1) i ];
+    event = λ k x p. elim (stands_split done (m ∷ []) k x p) [ inl q ↦ a.event k x q | inr q ↦ (n, subst (λ z. Stands names (states + n) z.event) (sym (at_end done m q.0 x k q.1 q.2).1) s) ];
+    one_each = λ j k x y p q e. both j k x y (stands_split done (m ∷ []) j x p) (stands_split done (m ∷ []) k y q) e;
+  }
     where
       both : (j k : ℕ) (x y : MoveLine) → Stands done j x ⊎ ((l : ℕ) × (j ≡ length done + l) × Stands (m ∷ []) l x)
           → Stands done k y ⊎ ((l : ℕ) × (k ≡ length done + l) × Stands (m ∷ []) l y) → x.event ≡ y.event → j ≡ k
@@ -75,9 +75,12 @@ module _ (names : List (List ℕ)) (states : ℕ) where
       here : n ≡ e → o ≡ Some c → IsMoveOf names states (done ++ m ∷ []) n o
       here j k = subst (λ z. IsMoveOf names states (done ++ m ∷ []) n z) (sym k)
           (length done, m, stands_next done m [], subst (λ z. Stands names (states + z) m.event) (sym j) s, i)
+
       there : (o : Option BoundMove) → (n ≡ e → ⊥) → IsMoveOf names states done n o → IsMoveOf names states (done ++ m ∷ []) n o
-      there None ne a = record { has_not = λ k x p q. elim (stands_split done (m ∷ []) k x p)
-          [ inl r ↦ a.has_not k x r q | inr r ↦ ne (one_number d n e m.event (subst (λ z. Stands names (states + n) z.event) (at_end done m r.0 x k r.1 r.2).1 q) s) ] }
+      there None ne a = record {
+        has_not = λ k x p q. elim (stands_split done (m ∷ []) k x p)
+            [ inl r ↦ a.has_not k x r q | inr r ↦ ne (one_number d n e m.event (subst (λ z. Stands names (states + n) z.event) (at_end done m r.0 x k r.1 r.2).1 q) s) ];
+      }
       there (Some b) ne a = (a.0, a.1, stands_left done (m ∷ []) a.0 a.1 a.2, a.3, a.4)
 
   -- why lines are refused

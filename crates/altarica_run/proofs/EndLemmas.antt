@@ -39,7 +39,6 @@ pub event_within : (events : List ℕ) (i most : ℕ) → ((k e : ℕ) → Stand
 event_within events i most h l = h i (get_or events i 0) (slice_get-get_or events i 0 l)
 
 module _ (b : Block) (sound : IsSound b) (z : BlockSystem) (bound : IsBound b z) (events : List ℕ) (firable : AreFirable b events) where
-
   -- the start
   pub start_played : (values : List Bool) (old now : Option (List ℕ)) (m n : ℕ) → values ≡ z.starts.items → Appended old now (start_lines z.names values) × (m ≤ n)
       → (text : List ℕ) × Played b (map fire_of (take 0 events)) values 0 text × Appended old now text
@@ -51,8 +50,12 @@ module _ (b : Block) (sound : IsSound b) (z : BlockSystem) (bound : IsBound b z)
   start_failed values old new m n r d e v i j h = end_at b (map fire_of events) old new m n r d e i j (go e h)
     where
       go : (e : Broken) → Starts old new m n (start_lines z.names values) (Err e) → IsEnd b (map fire_of events) old new m n (Err e)
-      go broken.Write h = (start_lines (names_of b) values, replay_begins b (map fire_of events) [] (map fire_of events) values 0 (start_lines (names_of b) values) refl (played_start b values (v ∙ bound.starts)),
-          h.0, subst (λ k. Cut old new (start_lines k values)) bound.names h.1)
+      go broken.Write h = (
+        start_lines (names_of b) values,
+        replay_begins b (map fire_of events) [] (map fire_of events) values 0 (start_lines (names_of b) values) refl (played_start b values (v ∙ bound.starts)),
+        h.0,
+        subst (λ k. Cut old new (start_lines k values)) bound.names h.1,
+      )
       go broken.Memory h = ([], nothing, cut_nothing old new h)
 
   -- the event of a step
@@ -91,7 +94,7 @@ module _ (b : Block) (sound : IsSound b) (z : BlockSystem) (bound : IsBound b z)
     fails h =
         let p = replay_fails b sound (map fire_of (take i events)) (map fire_of (drop (i + 1) events)) values i played.0 named.0 e named.1 played.1 (subst (λ x. Fires b values e x) h fires) in
         subst (λ x. IsReplay b x (played.0 ++ piece) Fault) (sym split)
-            (subst (λ x. IsReplay b (map fire_of (take i events) ++ fire_of e ∷ map fire_of (drop (i + 1) events)) (played.0 ++ x) Fault) (sym (meant ∙ ap (λ x. piece_of (names_of b) (length b.states + e) values x) h)) p)
+        (subst (λ x. IsReplay b (map fire_of (take i events) ++ fire_of e ∷ map fire_of (drop (i + 1) events)) (played.0 ++ x) Fault) (sym (meant ∙ ap (λ x. piece_of (names_of b) (length b.states + e) values x) h)) p)
 
     begins : (x : Option Effect) → o ≡ x → BeginsReplay b (map fire_of events) (played.0 ++ piece)
     begins None h = whole (fails h)
@@ -109,9 +112,11 @@ module _ (b : Block) (sound : IsSound b) (z : BlockSystem) (bound : IsBound b z)
     step_faulted vs g = (played.0 ++ piece, fails g.0, appended_more old now new played.0 piece played.2 g.1)
 
     pub step_played : (vs : List Bool) → IsStepped o piece values vs now new k n (Ok true) → (text : List ℕ) × Played b (map fire_of (take (i + 1) events)) vs (i + 1) text × Appended old new text
-    step_played vs g =
-        (played.0 ++ piece, subst (λ x. Played b x vs (i + 1) (played.0 ++ piece)) (sym (image_more fire_of events i 0 l)) (subst (λ x. Played b (map fire_of (take i events) ++ fire_of e ∷ []) x (i + 1) (played.0 ++ piece)) (sym g.2) (more g.0 g.1)),
-          appended_more old now new played.0 piece played.2 g.3)
+    step_played vs g = (
+      played.0 ++ piece,
+      subst (λ x. Played b x vs (i + 1) (played.0 ++ piece)) (sym (image_more fire_of events i 0 l)) (subst (λ x. Played b (map fire_of (take i events) ++ fire_of e ∷ []) x (i + 1) (played.0 ++ piece)) (sym g.2) (more g.0 g.1)),
+      appended_more old now new played.0 piece played.2 g.3,
+    )
 
   -- the end
   module _ (i : ℕ) (values : List Bool) (old now new : Option (List ℕ)) (m k n : ℕ) (l : length events ≤ i) (w : i ≤ length events) (faults : m ≤ k)
@@ -124,8 +129,12 @@ module _ (b : Block) (sound : IsSound b) (z : BlockSystem) (bound : IsBound b z)
     end_failed r d x h j g = end_at b (map fire_of events) old new m n r d x h j (go x g)
       where
         go : (x : Broken) → Starts now new k n (end_line (length events)) (Err x) → IsEnd b (map fire_of events) old new m n (Err x)
-        go broken.Write g = (played.0 ++ end_line (length events), whole (replay_ends b (map fire_of events) values (length events) played.0 at_all), rose_more m k n faults g.0,
-            cut_more old now new played.0 (end_line (length events)) played.2 g.1)
+        go broken.Write g = (
+          played.0 ++ end_line (length events),
+          whole (replay_ends b (map fire_of events) values (length events) played.0 at_all),
+          rose_more m k n faults g.0,
+          cut_more old now new played.0 (end_line (length events)) played.2 g.1,
+        )
         go broken.Memory g = (played.0, replay_begins b (map fire_of events) (map fire_of events) [] values (length events) played.0 (sym (append-nil (map fire_of events))) at_all, cut_none old now new played.0 played.2 g)
 
     pub end_reached : Starts now new k n (end_line (length events)) (Ok tt) → (text : List ℕ) × IsReplay b (map fire_of events) text Done × Appended old new text

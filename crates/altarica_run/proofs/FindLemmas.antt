@@ -86,6 +86,7 @@ none_numbered b label name None h f g = λ e l. go e l
   where
     same : (x y : List ℕ) → x ++ codes "#1" ≡ y ++ codes "#1" → x ≡ y
     same x y e = append_cancel_right x y (codes "#1") e
+
     go : (e : ℕ) → IsLabel b label e → ⊥
     go e (path p) = f e p
     go e (numbered other i p) = g e (subst (λ z. IsFirable b z e) (same other name (sym i ∙ h)) p)

@@ -80,6 +80,7 @@ word_there bs h l = go (leb (length bs) (front is_blank bs)) refl
   where
     blank_next : (rest : List ℕ) → HeadFails (λ b. not (is_blank b)) rest → (x : ℕ) (more : List ℕ) → rest ≡ x ∷ more → is_blank x ≡ true
     blank_next rest f x more e = not-false (is_blank x) (subst (HeadFails (λ b. not (is_blank b))) e f)
+
     go : (r : Bool) → leb (length bs) (front is_blank bs) ≡ r → words_of bs ≡ take (front is_blank bs) bs ∷ words_of (drop (front is_blank bs) bs)
     go true e =
         let k = leb-true (length bs) (front is_blank bs) e in
@@ -130,9 +131,10 @@ pub line_first : (cuts : ℕ → Bool) (bs : List ℕ) (n : ℕ) → n ≡ front
     → (pieces cuts bs ≡ take n bs ∷ pieces cuts (take (length bs - (n + 1)) (drop (n + 1) bs))) × (length (take (length bs - (n + 1)) (drop (n + 1) bs)) < length bs)
 line_first cuts bs n e h =
     let i : n + 1 ≡ suc (front cuts bs) = omega (arith, e) in
-    let r : take (length bs - (n + 1)) (drop (n + 1) bs) ≡ drop (n + 1) bs = rest_is bs (n + 1) in
-    (first_piece cuts bs (omega (arith, e, h)) ∙ ap (λ z. take z bs ∷ pieces cuts (drop (suc (front cuts bs)) bs)) (sym e) ∙ ap (λ z. take n bs ∷ pieces cuts (drop z bs)) (sym i) ∙ ap (λ z. take n bs ∷ pieces cuts z) (sym r),
-      omega (arith, h, ap length r, length-drop (n + 1) bs))
+    let r : take (length bs - (n + 1)) (drop (n + 1) bs) ≡ drop (n + 1) bs = rest_is bs (n + 1) in (
+      first_piece cuts bs (omega (arith, e, h)) ∙ ap (λ z. take z bs ∷ pieces cuts (drop (suc (front cuts bs)) bs)) (sym e) ∙ ap (λ z. take n bs ∷ pieces cuts (drop z bs)) (sym i) ∙ ap (λ z. take n bs ∷ pieces cuts z) (sym r),
+      omega (arith, h, ap length r, length-drop (n + 1) bs),
+    )
 
 pub no_return_there : (line rest : List ℕ) (b : ℕ) → line ≡ rest ++ b ∷ [] → (b ≡ 13 → ⊥) → line ≡ without_return line
 no_return_there line rest b e h = e ∙ sym (no_return rest b (go (b == 13) refl)) ∙ ap without_return (sym e)

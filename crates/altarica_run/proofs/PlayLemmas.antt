@@ -51,7 +51,7 @@ module _ (b : Block) where
   pub start_moment : (values : List Bool) → length values ≡ length b.states → MomentText (naming_of b) (system_of b) (Starts (map Truth values)) (start_lines (names_of b) values)
   start_moment values h =
       let e : start_lines (names_of b) values ≡ line (codes "start") ++ (lines_from (variable_line (naming_of b)) 0 (map Truth values) ++ []) =
-          ap (λ z. line (codes "start") ++ z) (all_states 0 values (omega (arith, h)) ∙ sym (append-nil (lines_from (variable_line (naming_of b)) 0 (map Truth values)))) in
+      ap (λ z. line (codes "start") ++ z) (all_states 0 values (omega (arith, h)) ∙ sym (append-nil (lines_from (variable_line (naming_of b)) 0 (map Truth values)))) in
       subst (λ z. MomentText (naming_of b) (system_of b) (Starts (map Truth values)) z) (sym e) (trace.starts lists.none)
 
   -- the lines of what changed
@@ -73,7 +73,7 @@ module _ (b : Block) where
   one_changed k zero (v ∷ vs) old new p h =
       let i : v ≡ old = cc in let j : k ≡ k + 0 = omega arith in
       subst (λ z. Changed (variable_line (naming_of b)) k (Truth z ∷ map Truth vs) (Truth new ∷ map Truth vs) (changed_line (names_of b) (k + 0) old new)) (sym i)
-          (subst (λ z. Changed (variable_line (naming_of b)) k (Truth old ∷ map Truth vs) (Truth new ∷ map Truth vs) (changed_line (names_of b) z old new)) j (head_changed k old new (map Truth vs) (omega arith)))
+      (subst (λ z. Changed (variable_line (naming_of b)) k (Truth old ∷ map Truth vs) (Truth new ∷ map Truth vs) (changed_line (names_of b) z old new)) j (head_changed k old new (map Truth vs) (omega arith)))
   one_changed k (suc n) (v ∷ vs) old new p h =
       let j : k + 1 + n ≡ k + suc n = omega arith in
       trace.same (subst (λ z. Changed (variable_line (naming_of b)) (k + 1) (map Truth vs) (map Truth (set vs n new)) (changed_line (names_of b) z old new)) j (one_changed (k + 1) n vs old new p (omega arith)))
@@ -98,19 +98,28 @@ module _ (b : Block) where
       let v : unwrap_or (slice_get values f.target) false ≡ old.0 = ap (λ o. unwrap_or o false) old.1 in
       let text = changed_line (names_of b) f.target (unwrap_or (slice_get values f.target) false) f.value in
       let d : Changed (variable_line (naming_of b)) 0 (map Truth values) (map Truth (set values f.target f.value)) text =
-          subst (λ k. Changed (variable_line (naming_of b)) 0 (map Truth values) (map Truth (set values f.target f.value)) (changed_line (names_of b) f.target k f.value)) (sym v)
-              (subst (λ k. Changed (variable_line (naming_of b)) 0 (map Truth values) (map Truth (set values f.target f.value)) (changed_line (names_of b) k old.0 f.value)) z c) in
+      subst (λ k. Changed (variable_line (naming_of b)) 0 (map Truth values) (map Truth (set values f.target f.value)) (changed_line (names_of b) f.target k f.value)) (sym v)
+      (subst (λ k. Changed (variable_line (naming_of b)) 0 (map Truth values) (map Truth (set values f.target f.value)) (changed_line (names_of b) k old.0 f.value)) z c) in
       subst (λ k. MomentText (naming_of b) (system_of b) (Fires (record { event = e; way = 0 }) (map Truth values) (map Truth (set values f.target f.value))) (line (codes "fire " ++ k) ++ text))
-          (sym (label_alone sound name e i))
-          (trace.fires (record { seen = []; seen_then = []; is_seen = lists.none; is_seen_then = lists.none; variables = text; observers = []; variables_changed = d; observers_changed = trace.none;
-            joined = sym (append-nil text) }))
+      (sym (label_alone sound name e i))
+      (trace.fires (record {
+        seen = [];
+        seen_then = [];
+        is_seen = lists.none;
+        is_seen_then = lists.none;
+        variables = text;
+        observers = [];
+        variables_changed = d;
+        observers_changed = trace.none;
+        joined = sym (append-nil text);
+      }))
 
   -- the line of a fault
   pub fault_moment : (sound : IsSound b) (values : List Bool) (name : List ℕ) (e : ℕ) → IsFirable b name e
       → MomentText (naming_of b) (system_of b) (Fire_fails (record { event = e; way = 0 }) NotEnabled) (piece_of (names_of b) (length b.states + e) values None)
   fault_moment sound values name e i =
       subst (λ k. MomentText (naming_of b) (system_of b) (Fire_fails (record { event = e; way = 0 }) NotEnabled) (line (codes "fault: " ++ (k ++ (codes ": " ++ codes "not enabled")))))
-          (sym (label_alone sound name e i)) trace.fire_fails
+      (sym (label_alone sound name e i)) trace.fire_fails
 
 -- Runs
 
@@ -145,7 +154,7 @@ module _ (b : Block) where
         counts = omega (arith, p.counts);
         joins = λ rest ms g. subst (λ z. Runs (system_of b) z ((p.done ++ m ∷ []) ++ ms)) (sym (append_assoc cs (fire_of e ∷ []) rest))
             (subst (λ z. Runs (system_of b) (cs ++ fire_of e ∷ rest) z) (sym (append_assoc p.done (m ∷ []) ms))
-              (p.joins (fire_of e ∷ rest) (m ∷ ms) (runs.fires h.way h.is_way h.effect.0 g)));
+            (p.joins (fire_of e ∷ rest) (m ∷ ms) (runs.fires h.way h.is_way h.effect.0 g)));
         going = λ ms. ap status_of_run (append_assoc p.done (m ∷ []) ms) ∙ p.going (m ∷ ms);
         trace = trace_more (naming_of b) (system_of b) p.done m text (piece_of (names_of b) (length b.states + e) values (Some f)) p.trace (step_moment b sound values name e f l i h.effect.1);
       }
@@ -153,7 +162,7 @@ module _ (b : Block) where
   ended : (cs : List Command) (values : List Bool) (n : ℕ) (text : List ℕ) (p : Played b cs values n text) → Runs (system_of b) cs (p.done ++ Ends n ∷ [])
   ended cs values n text p =
       subst (λ z. Runs (system_of b) z (p.done ++ Ends n ∷ [])) (append-nil cs)
-        (subst (λ z. Runs (system_of b) (cs ++ []) (p.done ++ Ends z ∷ [])) p.counts (p.joins [] (Ends (length p.below) ∷ []) runs.ends))
+      (subst (λ z. Runs (system_of b) (cs ++ []) (p.done ++ Ends z ∷ [])) p.counts (p.joins [] (Ends (length p.below) ∷ []) runs.ends))
 
   -- the end
   pub replay_ends : (cs : List Command) (values : List Bool) (n : ℕ) (text : List ℕ) → Played b cs values n text → IsReplay b cs (text ++ end_line n) Done

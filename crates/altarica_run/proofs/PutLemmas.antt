@@ -20,6 +20,7 @@ target_within z values e f whole h = go (slice_get z.moves.items e) refl h
         let k : Some f ≡ Some (record { target = m.target; value = expression_value values m.value }) = h ∙ ap (λ r. cond r (Some (record { target = m.target; value = expression_value values m.value })) None) i in
         let l : f ≡ record { target = m.target; value = expression_value values m.value } = cc in sym (ap (λ (z : Effect). z.target) l)
     chosen m false i h = let k : Some f ≡ None = h ∙ ap (λ r. cond r (Some (record { target = m.target; value = expression_value values m.value })) None) i in cc
+
     go : (o : Option (Option BoundMove)) → slice_get z.moves.items e ≡ o → Some f ≡ effect_at values o → f.target < length z.starts.items
     go None i h = cc
     go (Some None) i h = cc

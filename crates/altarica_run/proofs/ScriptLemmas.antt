@@ -63,7 +63,7 @@ first_bad {b = b} all rest left line cs number w e r h =
       stands = subst (λ z. Stands z (length r.done) line) (sym i) (stands_next r.done line rest);
       bad = h;
       before = λ k other v l s bad. elim (stands_split r.done (line ∷ rest) k other (subst (λ z. Stands z k other) i s))
-        [ inl p ↦ not_bad r.done cs r.given k other v p bad | inr p ↦ absurd (omega (arith, l, p.1)) ];
+          [ inl p ↦ not_bad r.done cs r.given k other v p bad | inr p ↦ absurd (omega (arith, l, p.1)) ];
     }
 
 -- a bad line is the first one

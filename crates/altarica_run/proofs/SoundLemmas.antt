@@ -44,9 +44,10 @@ module _ (b : Block) where
   event_number name o = (o.place, stands_right (states_of b) b.events o.place (length b.states + o.place) name (omega (arith, states_long)) o.stands)
 
   pub event_named : (n : ℕ) (name : List ℕ) → Stands (names_of b) (length b.states + n) name → Stands b.events n name
-  event_named n name s = elim (stands_split (states_of b) b.events (length b.states + n) name s)
-      [ inl h ↦ absurd (let l = stands_within (states_of b) (length b.states + n) name h in omega (arith, l, states_long))
-      | inr h ↦ (let e : h.0 ≡ n = omega (arith, h.1, states_long) in subst (λ k. Stands b.events k name) e h.2) ]
+  event_named n name s = elim (stands_split (states_of b) b.events (length b.states + n) name s) [
+    | inl h ↦ absurd (let l = stands_within (states_of b) (length b.states + n) name h in omega (arith, l, states_long))
+    | inr h ↦ (let e : h.0 ≡ n = omega (arith, h.1, states_long) in subst (λ k. Stands b.events k name) e h.2)
+  ]
 
   known_number : (o : Operand) → IsKnown (states_of b) o → IsKnownOperand (names_of b) (length b.states) o
   known_number (Constant c) h = tt

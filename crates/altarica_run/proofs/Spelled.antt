@@ -47,10 +47,12 @@ state_read s ws = rw (truth_read s.init (Sign CLOSE_PARENTHESIS ∷ Sign SEMICOL
 
 move_read : (m : MoveLine) (ws : List Word) → move_at (move_words m ++ ws) ≡ Some (m, ws)
 unfolding move_at
-move_read m ws = rw (append_assoc (expression_words m.guard) (Sign ARROW ∷ Named m.target ∷ Sign ASSIGN ∷ (expression_words m.value ++ (Sign SEMICOLON ∷ []))) ws,
-    expression_read m.guard (Sign ARROW ∷ Named m.target ∷ Sign ASSIGN ∷ ((expression_words m.value ++ (Sign SEMICOLON ∷ [])) ++ ws)),
-    append_assoc (expression_words m.value) (Sign SEMICOLON ∷ []) ws,
-    expression_read m.value (Sign SEMICOLON ∷ ws)) refl
+move_read m ws = rw (
+  append_assoc (expression_words m.guard) (Sign ARROW ∷ Named m.target ∷ Sign ASSIGN ∷ (expression_words m.value ++ (Sign SEMICOLON ∷ []))) ws,
+  expression_read m.guard (Sign ARROW ∷ Named m.target ∷ Sign ASSIGN ∷ ((expression_words m.value ++ (Sign SEMICOLON ∷ [])) ++ ws)),
+  append_assoc (expression_words m.value) (Sign SEMICOLON ∷ []) ws,
+  expression_read m.value (Sign SEMICOLON ∷ ws),
+) refl
 
 more_read : (name : List ℕ) (ws : List Word) → more_name_at (more_words name ++ ws) ≡ Some (name, ws)
 unfolding more_name_at
@@ -113,8 +115,11 @@ block_reads : (n : ℕ) (b : Block) → length b.states < n → length b.events 
 unfolding block_at
 block_reads n b h i j =
     let rest = events_words b.events ++ (section_words b.section ++ (Reserved END ∷ End ∷ [])) in
-    rw (many_read begins_state state_at state_words states_spell b.states n rest (events_begin b.events b.section (End ∷ [])) h,
-        events_read n b.events b.section (End ∷ []) i, section_read n b.section (End ∷ []) j) refl
+    rw (
+      many_read begins_state state_at state_words states_spell b.states n rest (events_begin b.events b.section (End ∷ [])) h,
+      events_read n b.events b.section (End ∷ []) i,
+      section_read n b.section (End ∷ []) j,
+    ) refl
 
 names_few : (es : List (List ℕ)) → length es ≤ length (events_words es)
 names_few [] = omega arith
@@ -137,7 +142,7 @@ block_read n b h =
     let r = length-append (section_words b.section) tail in
     let s = items_few begins_state state_at state_words b.states (λ x. omega arith) in
     block_reads n b (omega (arith, h, p, q, r, s)) (omega (arith, h, p, q, r, names_few b.events))
-        (λ moves e. omega (arith, h, p, q, r, moves_few b.section moves e))
+    (λ moves e. omega (arith, h, p, q, r, moves_few b.section moves e))
 
 -- What is read is spelled
 
@@ -189,13 +194,17 @@ truth_spelled : (ws : List Word) (x : Bool × List Word) → truth_at ws ≡ Som
 unfolding truth_at
 truth_spelled ws x e = go (begins_reserved TRUE ws) e
   where
-    one : (v : Bool) (n : ℕ) → (do rest ← reserved_at n ws
-                                   Some (v, rest)) ≡ Some x → (ws ≡ Reserved n ∷ x.1) × (v ≡ x.0)
+    one : (v : Bool) (n : ℕ) → (do
+      rest ← reserved_at n ws
+      Some (v, rest)) ≡ Some x → (ws ≡ Reserved n ∷ x.1) × (v ≡ x.0)
     one v n e = let p = bind_some _ _ _ e in let i : (v, p.0) ≡ x = cc in
         (reserved_spelled n ws p.0 p.1 ∙ ap (λ z. Reserved n ∷ z.1) i, ap (λ z. z.0) i)
-    go : (b : Bool) → (if b then (do rest ← reserved_at TRUE ws
-                                     Some (true, rest)) else (do rest ← reserved_at FALSE ws
-                                                                 Some (false, rest))) ≡ Some x → ws ≡ truth_word x.0 ∷ x.1
+
+    go : (b : Bool) → (if b then (do
+      rest ← reserved_at TRUE ws
+      Some (true, rest)) else (do
+        rest ← reserved_at FALSE ws
+        Some (false, rest))) ≡ Some x → ws ≡ truth_word x.0 ∷ x.1
     go true e = let p = one true TRUE e in p.0 ∙ ap (λ z. truth_word z ∷ x.1) p.1
     go false e = let p = one false FALSE e in p.0 ∙ ap (λ z. truth_word z ∷ x.1) p.1
 
@@ -203,15 +212,21 @@ operand_spelled : (ws : List Word) (x : Operand × List Word) → operand_at ws 
 unfolding operand_at
 operand_spelled ws x e = go (begins_move ws) e
   where
-    named : (do n ← name_at ws
-                Some (State n.0, n.1)) ≡ Some x → ws ≡ operand_word x.0 ∷ x.1
+    named : (do
+      n ← name_at ws
+      Some (State n.0, n.1)) ≡ Some x → ws ≡ operand_word x.0 ∷ x.1
     named e = let p = bind_some _ _ _ e in let i : (State p.0.0, p.0.1) ≡ x = cc in name_spelled ws p.0 p.1 ∙ ap (λ z. operand_word z.0 ∷ z.1) i
-    constant : (do b ← truth_at ws
-                   Some (Constant b.0, b.1)) ≡ Some x → ws ≡ operand_word x.0 ∷ x.1
+
+    constant : (do
+      b ← truth_at ws
+      Some (Constant b.0, b.1)) ≡ Some x → ws ≡ operand_word x.0 ∷ x.1
     constant e = let p = bind_some _ _ _ e in let i : (Constant p.0.0, p.0.1) ≡ x = cc in truth_spelled ws p.0 p.1 ∙ ap (λ z. operand_word z.0 ∷ z.1) i
-    go : (b : Bool) → (if b then (do n ← name_at ws
-                                     Some (State n.0, n.1)) else (do b ← truth_at ws
-                                                                     Some (Constant b.0, b.1))) ≡ Some x → ws ≡ operand_word x.0 ∷ x.1
+
+    go : (b : Bool) → (if b then (do
+      n ← name_at ws
+      Some (State n.0, n.1)) else (do
+        b ← truth_at ws
+        Some (Constant b.0, b.1))) ≡ Some x → ws ≡ operand_word x.0 ∷ x.1
     go true e = named e
     go false e = constant e
 
@@ -219,24 +234,30 @@ expression_spelled : (ws : List Word) (x : Expression × List Word) → expressi
 unfolding expression_at
 expression_spelled ws x e = go (begins_reserved NOT ws) e
   where
-    denied : (do rest ← reserved_at NOT ws
-                 o ← operand_at rest
-                 Some (record { negated = true; operand = o.0 }, o.1)) ≡ Some x → ws ≡ expression_words x.0 ++ x.1
+    denied : (do
+      rest ← reserved_at NOT ws
+      o ← operand_at rest
+      Some (record { negated = true; operand = o.0 }, o.1)) ≡ Some x → ws ≡ expression_words x.0 ++ x.1
     denied e =
         let p = bind_some (reserved_at NOT ws) _ _ e in
         let q = bind_some (operand_at p.0) _ _ p.2 in
         let i : (record { negated = true; operand = q.0.0 }, q.0.1) ≡ x = cc in
         reserved_spelled NOT ws p.0 p.1 ∙ ap (λ z. Reserved NOT ∷ z) (operand_spelled p.0 q.0 q.1) ∙ ap (λ (z : Expression × List Word). expression_words z.0 ++ z.1) i
-    plain : (do o ← operand_at ws
-                Some (record { negated = false; operand = o.0 }, o.1)) ≡ Some x → ws ≡ expression_words x.0 ++ x.1
+
+    plain : (do
+      o ← operand_at ws
+      Some (record { negated = false; operand = o.0 }, o.1)) ≡ Some x → ws ≡ expression_words x.0 ++ x.1
     plain e =
         let q = bind_some (operand_at ws) _ _ e in
         let i : (record { negated = false; operand = q.0.0 }, q.0.1) ≡ x = cc in
         operand_spelled ws q.0 q.1 ∙ ap (λ (z : Expression × List Word). expression_words z.0 ++ z.1) i
-    go : (b : Bool) → (if b then (do rest ← reserved_at NOT ws
-                                     o ← operand_at rest
-                                     Some (record { negated = true; operand = o.0 }, o.1)) else (do o ← operand_at ws
-                                                                                                    Some (record { negated = false; operand = o.0 }, o.1))) ≡ Some x → ws ≡ expression_words x.0 ++ x.1
+
+    go : (b : Bool) → (if b then (do
+      rest ← reserved_at NOT ws
+      o ← operand_at rest
+      Some (record { negated = true; operand = o.0 }, o.1)) else (do
+        o ← operand_at ws
+        Some (record { negated = false; operand = o.0 }, o.1))) ≡ Some x → ws ≡ expression_words x.0 ++ x.1
     go true e = denied e
     go false e = plain e
 
@@ -275,7 +296,7 @@ move_spelled ws x e =
     let d = bind_some (sign_at SEMICOLON v.0.1) _ _ v.2 in
     let i : (record { event = n.0.0; guard = g.0.0; target = t.0.0; value = v.0.0 }, d.0) ≡ x = some_same _ _ d.2 in
     let tail : c.0 ≡ (expression_words v.0.0 ++ (Sign SEMICOLON ∷ [])) ++ d.0 =
-        expression_spelled c.0 v.0 v.1 ∙ ap (λ z. expression_words v.0.0 ++ z) (sign_spelled SEMICOLON v.0.1 d.0 d.1) ∙ sym (append_assoc (expression_words v.0.0) (Sign SEMICOLON ∷ []) d.0) in
+    expression_spelled c.0 v.0 v.1 ∙ ap (λ z. expression_words v.0.0 ++ z) (sign_spelled SEMICOLON v.0.1 d.0 d.1) ∙ sym (append_assoc (expression_words v.0.0) (Sign SEMICOLON ∷ []) d.0) in
     name_spelled ws n.0 n.1
     ∙ ap (λ z. Named n.0.0 ∷ z) (sign_spelled COLON n.0.1 a.0 a.1
     ∙ ap (λ z. Sign COLON ∷ z) (expression_spelled a.0 g.0 g.1
@@ -317,11 +338,12 @@ events_spelled : (n : ℕ) (ws : List Word) (x : List (List ℕ) × List Word) �
 unfolding events_at
 events_spelled n ws x e = go (begins_reserved EVENT ws) e
   where
-    some : (do a ← reserved_at EVENT ws
-               first ← name_at a
-               names ← names_at n first.0 first.1
-               b ← sign_at SEMICOLON names.1
-               Some (names.0, b)) ≡ Some x → ws ≡ events_words x.0 ++ x.1
+    some : (do
+      a ← reserved_at EVENT ws
+      first ← name_at a
+      names ← names_at n first.0 first.1
+      b ← sign_at SEMICOLON names.1
+      Some (names.0, b)) ≡ Some x → ws ≡ events_words x.0 ++ x.1
     some e =
         let a = bind_some (reserved_at EVENT ws) _ _ e in
         let f = bind_some (name_at a.0) _ _ a.2 in
@@ -333,11 +355,13 @@ events_spelled n ws x e = go (begins_reserved EVENT ws) e
         ∙ ap (λ z. Reserved EVENT ∷ z) (name_spelled a.0 f.0 f.1
         ∙ ap (λ z. Named f.0.0 ∷ z) (k.2 ∙ ap (λ z. flat_map more_words k.0 ++ z) (sign_spelled SEMICOLON m.0.1 b.0 b.1) ∙ sym (append_assoc (flat_map more_words k.0) (Sign SEMICOLON ∷ []) b.0)))
         ∙ ap (λ z. events_words z ++ b.0) (sym k.1) ∙ ap (λ (z : List (List ℕ) × List Word). events_words z.0 ++ z.1) i
-    go : (b : Bool) → (if b then (do a ← reserved_at EVENT ws
-                                     first ← name_at a
-                                     names ← names_at n first.0 first.1
-                                     b ← sign_at SEMICOLON names.1
-                                     Some (names.0, b)) else Some ([], ws)) ≡ Some x → ws ≡ events_words x.0 ++ x.1
+
+    go : (b : Bool) → (if b then (do
+      a ← reserved_at EVENT ws
+      first ← name_at a
+      names ← names_at n first.0 first.1
+      b ← sign_at SEMICOLON names.1
+      Some (names.0, b)) else Some ([], ws)) ≡ Some x → ws ≡ events_words x.0 ++ x.1
     go true e = some e
     go false e = let i : ([], ws) ≡ x = some_same _ _ e in ap (λ (z : List (List ℕ) × List Word). events_words z.0 ++ z.1) i
 
@@ -345,18 +369,21 @@ section_spelled : (n : ℕ) (ws : List Word) (x : Option (List MoveLine) × List
 unfolding section_at
 section_spelled n ws x e = go (begins_reserved TRANSITION ws) e
   where
-    some : (do a ← reserved_at TRANSITION ws
-               moves ← many begins_move move_at n a
-               Some (Some moves.0, moves.1)) ≡ Some x → ws ≡ section_words x.0 ++ x.1
+    some : (do
+      a ← reserved_at TRANSITION ws
+      moves ← many begins_move move_at n a
+      Some (Some moves.0, moves.1)) ≡ Some x → ws ≡ section_words x.0 ++ x.1
     some e =
         let a = bind_some (reserved_at TRANSITION ws) _ _ e in
         let m = bind_some (many begins_move move_at n a.0) _ _ a.2 in
         let i : (Some m.0.0, m.0.1) ≡ x = some_same _ _ m.2 in
         reserved_spelled TRANSITION ws a.0 a.1 ∙ ap (λ z. Reserved TRANSITION ∷ z) (many_spelled begins_move move_at move_words move_spelled n a.0 m.0 m.1)
         ∙ ap (λ (z : Option (List MoveLine) × List Word). section_words z.0 ++ z.1) i
-    go : (b : Bool) → (if b then (do a ← reserved_at TRANSITION ws
-                                     moves ← many begins_move move_at n a
-                                     Some (Some moves.0, moves.1)) else Some (None, ws)) ≡ Some x → ws ≡ section_words x.0 ++ x.1
+
+    go : (b : Bool) → (if b then (do
+      a ← reserved_at TRANSITION ws
+      moves ← many begins_move move_at n a
+      Some (Some moves.0, moves.1)) else Some (None, ws)) ≡ Some x → ws ≡ section_words x.0 ++ x.1
     go true e = some e
     go false e = let i : (None, ws) ≡ x = some_same _ _ e in ap (λ (z : Option (List MoveLine) × List Word). section_words z.0 ++ z.1) i
 

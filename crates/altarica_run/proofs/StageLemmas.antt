@@ -47,7 +47,6 @@ label_firable : {b : Block} {label : List ℕ} {e : ℕ} → IsLabel b label e �
 label_firable {label = label} (path f) = (label, f)
 label_firable (numbered name e f) = (name, f)
 
-
 pub all_firable : {b : Block} (lines : List (List ℕ)) (cs : List Command) (events : List ℕ) → Gives b lines cs → cs ≡ map fire_of events → AreFirable b events
 all_firable {b = b} lines cs events g e = record { each = go lines cs events g e }
   where

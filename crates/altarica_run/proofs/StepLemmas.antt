@@ -74,7 +74,7 @@ module _ (E : List ℕ → Value → Type 0) (target : List ℕ) (v : Bool) (the
   receives_at (y ∷ xs) (w ∷ vs) zero x h p e one =
       let i : y ≡ x = cc in
       steps.changed (subst (λ z. E z (Truth v)) (sym (ap (λ (z : StateLine). z.name) i ∙ e)) there)
-          (receives_none xs vs (omega arith) (λ k z q j. let l = one (suc k) z q j in absurd (omega arith)))
+      (receives_none xs vs (omega arith) (λ k z q j. let l = one (suc k) z q j in absurd (omega arith)))
   receives_at (y ∷ xs) (w ∷ vs) (suc n) x h p e one =
       steps.kept (λ u f. let l = one 0 y refl (only y.name u f) in absurd (omega arith)) (receives_at xs vs n x (omega arith) p e (λ k z q j. let l = one (suc k) z q j in omega arith))
 
@@ -150,15 +150,17 @@ module _ (b : Block) (sound : IsSound b) (values : List Bool) (long : length val
       let v = expression_value values c.value in
       let named = stands_map_back (λ (z : StateLine). z.name) b.states c.target m.target (state_named b c.target m.target bound.target) in
       steps.moves (map Truth (set values c.target v)) (can e)
-          (record { has_not = λ n x p k. k.differ (one_value x.key k.first k.is_first ∙ sym (one_value x.key k.second k.is_second)) })
-          (record { has_not = λ n x p k.
-              let i = stands_map_back variable_meant b.states n x p in
-              k.outside (subst (λ (z : s.Variable (List ℕ)). Contains z.domain k.value) i.2 (subst (λ z. Contains (Truth false ∷ Truth true ∷ []) z) (sym (one_value x.key k.value k.received)) (in_domain v))) })
-          (receives_at (Effects F w) m.target v (one_effect F m (Truth v) (expression_there b sound.different values long m.value c.value bound.value)) (λ x u h. (only_effect F m x u h).0)
-              b.states values c.target named.0 long named.1 named.2
-              (λ k y q f. sound.different.one k c.target m.target
-                  (stands_left (states_of b) b.events k m.target (subst (λ z. Stands (states_of b) k z) f (stands_map (λ (z : StateLine). z.name) b.states k y q))) bound.target.0))
-          (flows_itself b (map Truth (set values c.target v)) (length-map (set values c.target v) Truth ∙ length-set values c.target v ∙ long))
+      (record { has_not = λ n x p k. k.differ (one_value x.key k.first k.is_first ∙ sym (one_value x.key k.second k.is_second)) })
+      (record {
+        has_not = λ n x p k.
+            let i = stands_map_back variable_meant b.states n x p in
+            k.outside (subst (λ (z : s.Variable (List ℕ)). Contains z.domain k.value) i.2 (subst (λ z. Contains (Truth false ∷ Truth true ∷ []) z) (sym (one_value x.key k.value k.received)) (in_domain v)));
+      })
+      (receives_at (Effects F w) m.target v (one_effect F m (Truth v) (expression_there b sound.different values long m.value c.value bound.value)) (λ x u h. (only_effect F m x u h).0)
+      b.states values c.target named.0 long named.1 named.2
+      (λ k y q f. sound.different.one k c.target m.target
+      (stands_left (states_of b) b.events k m.target (subst (λ z. Stands (states_of b) k z) f (stands_map (λ (z : StateLine). z.name) b.states k y q))) bound.target.0))
+      (flows_itself b (map Truth (set values c.target v)) (length-map (set values c.target v) Truth ∙ length-set values c.target v ∙ long))
 
   steps_so : IsEffect b values 0 w (effect_of values c)
   steps_so = go (expression_value values c.guard) refl
@@ -177,6 +179,7 @@ fires_so b z sound bound values long name e f =
   where
     there : Stands (names_of b) (length b.states + e) name
     there = event_there b e name f.stands
+
     go : (o : Option BoundMove) → Stands z.moves.items e o → Fires b values e (effect_at values (Some o))
     go None h =
         let n : IsMoveOf (names_of b) (length b.states) (moves_of b) e None = bound.moves e None h in

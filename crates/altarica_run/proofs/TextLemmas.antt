@@ -71,9 +71,10 @@ cut_text text before [] ts e h = subst (λ z. AreTextWords (words text z)) (sym 
 cut_text text before (piece ∷ pieces) ts e (inl g) = cut_text text (before ++ piece) pieces ts (e ∙ sym (append_assoc before piece (joined pieces []))) g.1
 cut_text text before (piece ∷ pieces) ts e (inr g) =
     let t = g.0 in
-    subst (λ z. AreTextWords (words text z)) (sym g.2)
-      (kind_text t.kind piece (bytes_at text t.span) g.3.of_kind.of_kind (piece_bytes text before piece (joined pieces []) t.span e g.3.from g.3.to),
-        cut_text text (before ++ piece) pieces g.1 (e ∙ sym (append_assoc before piece (joined pieces []))) g.4)
+    subst (λ z. AreTextWords (words text z)) (sym g.2) (
+      kind_text t.kind piece (bytes_at text t.span) g.3.of_kind.of_kind (piece_bytes text before piece (joined pieces []) t.span e g.3.from g.3.to),
+      cut_text text (before ++ piece) pieces g.1 (e ∙ sym (append_assoc before piece (joined pieces []))) g.4,
+    )
 
 words_more : (text : List ℕ) (found : List Token) (t : Token) → AreTextWords (words text found) → IsTextWord (word_of text t) → AreTextWords (words text (found ++ t ∷ []))
 words_more text [] t h k = (k, tt)
@@ -136,9 +137,12 @@ module _ (text : List ℕ) (ts : List Token) (b : Block) (tokens : AreTokens tex
   all_text = subst AreTextWords spelled (tokens_text text ts tokens)
 
   pub names_are_texts : AreTexts (names_of b)
-  names_are_texts = record { each = λ k name p. elim (stands_split (states_of b) b.events k name p)
-      [ inl q ↦ states_text b.states (left_text (flat_map state_words b.states) _ all_text.1.1) k name q
-      | inr q ↦ events_text b.events (left_text (events_words b.events) _ (right_text (flat_map state_words b.states) _ all_text.1.1)) q.0 name q.2 ] }
+  names_are_texts = record {
+    each = λ k name p. elim (stands_split (states_of b) b.events k name p) [
+      | inl q ↦ states_text b.states (left_text (flat_map state_words b.states) _ all_text.1.1) k name q
+      | inr q ↦ events_text b.events (left_text (events_words b.events) _ (right_text (flat_map state_words b.states) _ all_text.1.1)) q.0 name q.2
+    ];
+  }
 
   pub moves_are_texts : AreTextMoves (moves_of b)
   moves_are_texts = record { each = section_text b.section (left_text (section_words b.section) _ (right_text (events_words b.events) _ (right_text (flat_map state_words b.states) _ all_text.1.1))) }
@@ -163,9 +167,10 @@ cut_places text before (piece ∷ pieces) ts e (inr g) k t p = go k (subst (λ z
 
 -- each token stands at a place of the text
 pub token_place : (text : List ℕ) (ts : List Token) → AreTokens text ts → (k : ℕ) (t : Token) → Stands ts k t → IsPlaceIn text t.at
-token_place text ts h k t p = elim (stands_split h.found (end_of_text text ∷ []) k t (subst (λ z. Stands z k t) h.all p))
-    [ inl q ↦ cut_places text [] h.pieces h.found h.whole h.cut k t q
-    | inr q ↦ last q.0 q.2 ]
+token_place text ts h k t p = elim (stands_split h.found (end_of_text text ∷ []) k t (subst (λ z. Stands z k t) h.all p)) [
+  | inl q ↦ cut_places text [] h.pieces h.found h.whole h.cut k t q
+  | inr q ↦ last q.0 q.2
+]
   where
     last : (j : ℕ) → Stands (end_of_text text ∷ []) j t → IsPlaceIn text t.at
     last zero q = let i : end_of_text text ≡ t = cc in subst (λ (z : Token). IsPlaceIn text z.at) i (place_in text text [] (place_after text) (sym (append-nil text)) refl)

@@ -54,25 +54,31 @@ begins_more _ = false
 
 unfoldable pub truth_at : List Word → Option (Bool × List Word)
 truth_at ws = if begins_reserved TRUE ws
-    then (do rest ← reserved_at TRUE ws
-             Some (true, rest))
-    else (do rest ← reserved_at FALSE ws
-             Some (false, rest))
+    then (do
+      rest ← reserved_at TRUE ws
+      Some (true, rest))
+    else (do
+      rest ← reserved_at FALSE ws
+      Some (false, rest))
 
 unfoldable pub operand_at : List Word → Option (Operand × List Word)
 operand_at ws = if begins_move ws
-    then (do n ← name_at ws
-             Some (State n.0, n.1))
-    else (do b ← truth_at ws
-             Some (Constant b.0, b.1))
+    then (do
+      n ← name_at ws
+      Some (State n.0, n.1))
+    else (do
+      b ← truth_at ws
+      Some (Constant b.0, b.1))
 
 unfoldable pub expression_at : List Word → Option (Expression × List Word)
 expression_at ws = if begins_reserved NOT ws
-    then (do rest ← reserved_at NOT ws
-             o ← operand_at rest
-             Some (record { negated = true; operand = o.0 }, o.1))
-    else (do o ← operand_at ws
-             Some (record { negated = false; operand = o.0 }, o.1))
+    then (do
+      rest ← reserved_at NOT ws
+      o ← operand_at rest
+      Some (record { negated = true; operand = o.0 }, o.1))
+    else (do
+      o ← operand_at ws
+      Some (record { negated = false; operand = o.0 }, o.1))
 
 unfoldable pub state_at : List Word → Option (StateLine × List Word)
 state_at ws = do
@@ -107,9 +113,10 @@ more_name_at ws = do
 abbrev pub many : {A : Type 0} → (List Word → Bool) → (List Word → Option (A × List Word)) → ℕ → List Word → Option (List A × List Word)
 many begins one zero ws = None
 many begins one (suc n) ws = if begins ws
-    then (do x ← one ws
-             xs ← many begins one n x.1
-             Some (x.0 ∷ xs.0, xs.1))
+    then (do
+      x ← one ws
+      xs ← many begins one n x.1
+      Some (x.0 ∷ xs.0, xs.1))
     else Some ([], ws)
 
 unfoldable pub names_at : ℕ → List ℕ → List Word → Option (List (List ℕ) × List Word)
@@ -119,18 +126,20 @@ names_at n first ws = do
 
 unfoldable pub events_at : ℕ → List Word → Option (List (List ℕ) × List Word)
 events_at n ws = if begins_reserved EVENT ws
-    then (do a ← reserved_at EVENT ws
-             first ← name_at a
-             names ← names_at n first.0 first.1
-             b ← sign_at SEMICOLON names.1
-             Some (names.0, b))
+    then (do
+      a ← reserved_at EVENT ws
+      first ← name_at a
+      names ← names_at n first.0 first.1
+      b ← sign_at SEMICOLON names.1
+      Some (names.0, b))
     else Some ([], ws)
 
 unfoldable pub section_at : ℕ → List Word → Option (Option (List MoveLine) × List Word)
 section_at n ws = if begins_reserved TRANSITION ws
-    then (do a ← reserved_at TRANSITION ws
-             moves ← many begins_move move_at n a
-             Some (Some moves.0, moves.1))
+    then (do
+      a ← reserved_at TRANSITION ws
+      moves ← many begins_move move_at n a
+      Some (Some moves.0, moves.1))
     else Some (None, ws)
 
 unfoldable pub block_at : ℕ → List Word → Option Block

@@ -8,12 +8,10 @@ ghost use Rattle.altarica_run.specs.Trees.{operand_of, expression_of, state_of, 
 ghost use Rattle.altarica_run.specs.Sound.{IsSound, names_of, moves_of};
 ghost use Rattle.altarica_run.specs.Binding.{IsState, IsSomeState, IsOperand, IsExpression, IsMove, IsMoveOf, IsBound, IsKnownOperand, IsKnownMove, AreKnownMoves, IsTextOperand, IsTextMove, AreTexts, AreTextMoves};
 
+use crate::tree::{BlockTree, Expression, MoveLine, Operand};
+use ar_base::{Memory, Names, Span};
 use std::alloc::{AllocFailed, Global};
 use std::str::from_utf8;
-
-use ar_base::{Memory, Names, Span};
-
-use crate::tree::{BlockTree, Expression, MoveLine, Operand};
 
 /// What stands in an expression, with a state's number.
 #[derive(Clone, Copy)]

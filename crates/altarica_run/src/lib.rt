@@ -11,11 +11,10 @@ mod scripts;
 mod stages;
 mod status;
 mod stepping;
-mod trace;
-mod tree;
-
 #[cfg(test)]
 mod tests;
+mod trace;
+mod tree;
 
 pub use program::altarica;
 pub use status::Status;

@@ -11,15 +11,13 @@ ghost use Rattle.altarica_run.specs.Stages.{IsSystem};
 ghost use Rattle.altarica_run.specs.Endings.{IsTold, IsRun, IsDone};
 ghost use Rattle.altarica_run.specs.Answers.{Answers};
 
-use std::alloc::Global;
-
-use ar_io::{Shelf, Sink};
-
 use crate::jobs::job_of;
 use crate::refusals::Refusal;
 use crate::replaying::{put_text, replay};
 use crate::stages::{Prepared, Stop, prepare};
 use crate::status::Status;
+use ar_io::{Shelf, Sink};
+use std::alloc::Global;
 
 // Tells why a job does not run.
 fn refuse<K: Sink>(alloc: Global, refusal: Refusal, out: &mut K) -> Status

@@ -5,12 +5,10 @@ ghost use Rattle.altarica_run.specs.Words.{words, bytes_at};
 ghost use Rattle.altarica_run.specs.Trees.{expression_of, operand_of, state_of, move_of, moves_of, block_of};
 ghost use Rattle.altarica_run.specs.Reading.{Reads, many, sign_at, reserved_at, name_at, truth_at, operand_at, expression_at, state_at, move_at, more_name_at, names_at, events_at, section_at, block_at, end_at, begins_reserved, begins_state, begins_move, begins_more};
 
-use std::alloc::{AllocFailed, Global};
-
+use crate::tree::{BlockTree, Expression, MoveLine, Operand, StateLine};
 use ar_base::Span;
 use ar_lexer::{Token, TokenKind, signs, words};
-
-use crate::tree::{BlockTree, Expression, MoveLine, Operand, StateLine};
+use std::alloc::{AllocFailed, Global};
 
 /// Why no tree was read.
 #[derive(Clone, Copy, Debug, PartialEq, Eq)]
@@ -164,10 +162,22 @@ fn expression(tokens: &[Token]) -> Result<(Expression, &[Token]), NoTree>
     if begins_with(tokens, words::NOT) {
         let rest = reserved(tokens, words::NOT)?;
         let (operand, rest) = operand(rest)?;
-        Ok((Expression { negated: true, operand }, rest))
+        Ok((
+            Expression {
+                negated: true,
+                operand,
+            },
+            rest,
+        ))
     } else {
         let (operand, rest) = operand(tokens)?;
-        Ok((Expression { negated: false, operand }, rest))
+        Ok((
+            Expression {
+                negated: false,
+                operand,
+            },
+            rest,
+        ))
     }
 }
 

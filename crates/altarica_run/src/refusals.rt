@@ -4,11 +4,9 @@ ghost use Rattle.std.specs.Prelude.{◌≡◌, IfOk};
 ghost use Rattle.std.specs.String.{string_bytes};
 ghost use Rattle.altarica_run.specs.Refusals.{count_text, line_of, status_of};
 
-use std::alloc::{AllocError, Global};
-
-use ar_base::{Count, Place};
-
 use crate::status::Status;
+use ar_base::{Count, Place};
+use std::alloc::{AllocError, Global};
 
 /// A file of a job.
 #[derive(Clone, Copy, Debug, PartialEq, Eq)]
@@ -37,7 +35,8 @@ pub enum Refusal {
 }
 
 /// The usage line.
-pub const USAGE: &str = "usage: altarica COMMAND FILES [--main B] [--observer O] [--value V] [--nodes N] [--drop EVENTS]\n";
+pub const USAGE: &str =
+    "usage: altarica COMMAND FILES [--main B] [--observer O] [--value V] [--nodes N] [--drop EVENTS]\n";
 
 // What is counted, as a line names it.
 fn count_text(count: Count) -> &'static str

@@ -12,14 +12,12 @@ ghost use Rattle.altarica_run.specs.Stepping.{effect_at};
 ghost use Rattle.altarica_run.specs.Outside.{Appended};
 ghost use Rattle.altarica_run.specs.Played.{AreFirable, IsEnd, Puts, Starts, IsStepped, status_of, broken_status};
 
-use std::alloc::{AllocError, Global};
-
-use ar_io::{Sink, SinkFailed};
-
 use crate::binding::BlockSystem;
 use crate::status::Status;
 use crate::stepping::{Effect, fire};
 use crate::trace::{end_text, fault_text, start_text, step_text};
+use ar_io::{Sink, SinkFailed};
+use std::alloc::{AllocError, Global};
 
 /// How a replay ended.
 #[derive(Clone, Copy, Debug, PartialEq, Eq)]

@@ -11,9 +11,8 @@ ghost use Rattle.altarica_run.specs.Reads.{IsSaid, fire_of, Adds, IsBadLine, IsB
 ghost use Rattle.ar_base.specs.Counts.{limit_of};
 ghost use Rattle.ar_base.specs.declared.counts.Count.TheVariants.{ScriptBytes};
 
-use std::alloc::{AllocFailed, Global};
-
 use crate::binding::{BlockSystem, BoundMove, number_of};
+use std::alloc::{AllocFailed, Global};
 
 /// Why a script has no commands.
 #[derive(Clone, Copy, Debug, PartialEq, Eq)]

@@ -15,16 +15,14 @@ ghost use Rattle.altarica_run.specs.Reads.{IsBadScript};
 ghost use Rattle.altarica_run.specs.Says.{IsPlaceIn};
 ghost use Rattle.altarica_run.specs.Stages.{IsLoaded, IsStopped, IsElaborated, IsGiven, IsRefusedScript, IsPrepared};
 
-use std::alloc::Global;
-
-use ar_base::{Count, Place};
-use ar_io::{LoadFault, Shelf};
-use ar_lexer::{LexFault, Token, tokens};
-
 use crate::binding::{BlockSystem, NoSystem, bind};
 use crate::reading::{NoTree, block};
 use crate::refusals::{FileKind, Refusal};
 use crate::scripts::{ScriptFault, read_script};
+use ar_base::{Count, Place};
+use ar_io::{LoadFault, Shelf};
+use ar_lexer::{LexFault, Token, tokens};
+use std::alloc::Global;
 
 /// A refusal, or want of memory.
 #[derive(Clone, Copy, Debug, PartialEq, Eq)]
@@ -139,11 +137,7 @@ fn elaborate(alloc: Global, text: &[u8]) -> Result<BlockSystem, Stop>
 }
 
 // The events of the script, or why it has none.
-fn commands_of(
-    alloc: Global,
-    system: &BlockSystem,
-    script: &[u8],
-) -> Result<Vec<u32>, Stop>
+fn commands_of(alloc: Global, system: &BlockSystem, script: &[u8]) -> Result<Vec<u32>, Stop>
     requires { length script.now ≤ limit_of ScriptBytes }
     ensures { (b : Block) → IsBound b system.now → AreTexts (names_of b) → IsGiven b script.now result }
 {

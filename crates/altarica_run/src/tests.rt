@@ -1,13 +1,12 @@
 // Whole calls over shelves and sinks in memory.
 
+use crate::{Status, altarica};
+use ar_io::{MemoryShelf, MemorySink};
 use std::alloc::Global;
 use std::test::Fail;
 
-use ar_io::{MemoryShelf, MemorySink};
-
-use crate::{Status, altarica};
-
-const MODEL: &str = "block B\n  Boolean ok (init = true);\n  event fail;\n  transition fail: ok -> ok := false;\nend\n";
+const MODEL: &str =
+    "block B\n  Boolean ok (init = true);\n  event fail;\n  transition fail: ok -> ok := false;\nend\n";
 
 const TRACE: &str = "start\n  ok = true\nfire fail\n  ok = false\nend 1\n";
 
@@ -78,12 +77,32 @@ fn scripts_of_one_block(rt: HostRuntime) -> Result<(), Fail> {
         ("fire fail\n", Status::Done, TRACE),
         ("", Status::Done, "start\n  ok = true\nend 0\n"),
         (" \t\r\n// x\nfire fail#1\r", Status::Done, TRACE),
-        ("fire fail\nfire fail", Status::Fault, "start\n  ok = true\nfire fail\n  ok = false\nfault: fail: not enabled\n"),
-        ("fire nope", Status::Script, "script: line 1 names no event\n"),
-        ("\nfire ok", Status::Script, "script: line 2 names no event\n"),
-        ("fire fail#2", Status::Script, "script: line 1 names no event\n"),
+        (
+            "fire fail\nfire fail",
+            Status::Fault,
+            "start\n  ok = true\nfire fail\n  ok = false\nfault: fail: not enabled\n",
+        ),
+        (
+            "fire nope",
+            Status::Script,
+            "script: line 1 names no event\n",
+        ),
+        (
+            "\nfire ok",
+            Status::Script,
+            "script: line 2 names no event\n",
+        ),
+        (
+            "fire fail#2",
+            Status::Script,
+            "script: line 1 names no event\n",
+        ),
         ("fire", Status::Script, "script: line 1 is no command\n"),
-        ("fire fail fail\nfire nope", Status::Script, "script: line 1 is no command\n"),
+        (
+            "fire fail fail\nfire nope",
+            Status::Script,
+            "script: line 1 is no command\n",
+        ),
     ] {
         let mut shelf = shelf_with(rt.alloc(), script)?;
         let mut sink = sink_of(rt.alloc())?;

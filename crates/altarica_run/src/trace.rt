@@ -5,12 +5,10 @@ ghost use Rattle.std.specs.String.{string_bytes};
 ghost use Rattle.ar_meaning.specs.TraceText.{truth_text, text_at};
 ghost use Rattle.altarica_run.specs.Lines.{state_line, start_lines, changed_line, step_lines, fault_line, end_line, IsWhole};
 
-use std::alloc::{AllocError, Global};
-
-use ar_base::{Id, NameId};
-
 use crate::binding::BlockSystem;
 use crate::stepping::Effect;
+use ar_base::{Id, NameId};
+use std::alloc::{AllocError, Global};
 
 fn truth_text(value: bool) -> &'static str
     ensures { result.now ≡ truth_text value }

@@ -13,7 +13,6 @@ returns-in_err-names-clause-unsound c = λ u texts moves sound.
     let e = ap (map _) c.deref.ensures.value ∙ names_meant c.args.text.now c.args.block.now _ c.in_ok-spans.ensures in
     c.in_err-names.ensures.known (passed_on _ _ _ p.1 p.2 u) (subst AreTexts (sym e) texts) (subst AreDifferent (sym e) sound.different)
 
-
 pub returns-in_err-moves-clause-unsound : goal.returns-in_err-moves-clause-unsound
 returns-in_err-moves-clause-unsound c = λ u texts moves sound.
     let p = err_from_is_err_and c.from_residual-in_err-moves.result c.from_residual-in_err-moves.ensures.1 in

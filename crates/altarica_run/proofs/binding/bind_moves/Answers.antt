@@ -15,7 +15,7 @@ returns-in_err-event-clause-unknown c = λ u texts known.
     let p = err_from_is_err_and c.from_residual.result c.from_residual.ensures.1 in
     let e = image_split (move_of c.args.text.now) c.args.lines.now c.loop-line.line-index _ c.loop-line-test.true in
     event_refused _ _ _ _ _ _ e (λ n s. c.in_err-event.ensures.unknown (passed_on _ _ _ p.1 p.2 u) (subst IsUtf8 (sym c.bytes_at.ensures) (text_at _ _ _ _ e texts).event) n
-        (subst (λ z. Stands c.args.names.now (c.args.states + n) z) (sym c.bytes_at.ensures) s)) known
+    (subst (λ z. Stands c.args.names.now (c.args.states + n) z) (sym c.bytes_at.ensures) s)) known
 
 pub returns-in_err-bound-clause-unknown : goal.returns-in_err-bound-clause-unknown
 returns-in_err-bound-clause-unknown c = λ u texts known.
@@ -35,7 +35,7 @@ returns-in_err-place_move-clause-unknown c = λ u texts known.
     let e = image_split (move_of c.args.text.now) c.args.lines.now c.loop-line.line-index _ c.loop-line-test.true in
     let t = c.in_err-place_move.ensures.taken (passed_on _ _ _ p.1 p.2 u) in
     place_refused _ _ _ _ _ _ c.in_ok-event.event t.0 e c.requires.different (subst (λ z. Stands c.args.names.now (c.args.states + c.in_ok-event.event) z) c.bytes_at.ensures c.in_ok-event.ensures.ok)
-        (c.loop-line.invariant.bound _ _ t.1) known
+    (c.loop-line.invariant.bound _ _ t.1) known
 
 pub loop-line-preserved : goal.loop-line-preserved
 loop-line-preserved c =

@@ -27,12 +27,12 @@ pub returns-in_err-step : goal.returns-in_err-step
 returns-in_err-step g c = λ b sound bound firable.
     let p = err_from_is_err_and c.from_residual-in_err-step.result c.from_residual-in_err-step.ensures.1 in
     step_failed b sound c.args.system.now bound c.args.commands.now firable c.loop-event.event-index c.loop-event.values.items _ _ _ _ _ _ c.loop-event-test.true c.loop-event.invariant.long c.loop-event.invariant.faults
-        (c.loop-event.invariant.played b sound bound firable) c.step.new.values.items _ _ _ p.1 p.2 c.in_err-step.ensures
+    (c.loop-event.invariant.played b sound bound firable) c.step.new.values.items _ _ _ p.1 p.2 c.in_err-step.ensures
 
 pub returns-then-not-branch : goal.returns-then-not-branch
 returns-then-not-branch g c = λ b sound bound firable.
     step_faulted b sound c.args.system.now bound c.args.commands.now firable c.loop-event.event-index c.loop-event.values.items _ _ _ _ _ _ c.loop-event-test.true c.loop-event.invariant.long c.loop-event.invariant.faults
-        (c.loop-event.invariant.played b sound bound firable) c.step.new.values.items (at_truth _ _ _ _ _ _ _ _ _ _ c.if-not-branch.true c.in_ok-step.ensures)
+    (c.loop-event.invariant.played b sound bound firable) c.step.new.values.items (at_truth _ _ _ _ _ _ _ _ _ _ c.if-not-branch.true c.in_ok-step.ensures)
 
 pub loop-event-preserved : goal.loop-event-preserved
 loop-event-preserved g c =
@@ -42,16 +42,16 @@ loop-event-preserved g c =
       faults = let k = stepped_faults _ _ _ _ _ _ _ _ h in omega (arith, k, c.loop-event.invariant.faults);
       played = λ b sound bound firable.
           step_played b sound c.args.system.now bound c.args.commands.now firable c.loop-event.event-index c.loop-event.values.items _ _ _ _ _ _ c.loop-event-test.true c.loop-event.invariant.long c.loop-event.invariant.faults
-              (c.loop-event.invariant.played b sound bound firable) _ h;
+          (c.loop-event.invariant.played b sound bound firable) _ h;
     }
 
 pub returns-in_err-put_end : goal.returns-in_err-put_end
 returns-in_err-put_end g c = λ b sound bound firable.
     let p = err_from_is_err_and c.from_residual-in_err-put_end.result c.from_residual-in_err-put_end.ensures.1 in
     end_failed b sound c.args.system.now bound c.args.commands.now firable c.loop-event.event-index c.loop-event.values.items _ _ _ _ _ _ c.loop-event-test.false c.loop-event.auto.event-index-end c.loop-event.invariant.faults
-        (c.loop-event.invariant.played b sound bound firable) _ _ _ p.1 p.2 c.in_err-put_end.ensures
+    (c.loop-event.invariant.played b sound bound firable) _ _ _ p.1 p.2 c.in_err-put_end.ensures
 
 pub returns : goal.returns
 returns g c = λ b sound bound firable.
     end_reached b sound c.args.system.now bound c.args.commands.now firable c.loop-event.event-index c.loop-event.values.items _ _ _ _ _ _ c.loop-event-test.false c.loop-event.auto.event-index-end c.loop-event.invariant.faults
-        (c.loop-event.invariant.played b sound bound firable) c.in_ok-put_end.ensures
+    (c.loop-event.invariant.played b sound bound firable) c.in_ok-put_end.ensures

@@ -1,12 +1,12 @@
 -- One more line of a section, and why a block means no system.
-use Rattle.std.proofs.Common.{◌≡◌, ◌+◌, ◌<◌, ◌⊎◌, ℕ, zero, suc, List, [], ◌∷◌, ◌++◌, Option, Some, None, Result, Err, length, set, refl, sym, ◌∙◌, ap, subst, arith, inl, inr}
-use Rattle.ar_base.specs.Lists.{Stands, IsOneOf, HasNo, AreDifferent}
-use Rattle.ar_base.proofs.Standing.{stands_one, stands_within, stands_left, stands_right, stands_split, stands_next, stands_none}
+use Rattle.std.proofs.Common.{◌≡◌, ◌+◌, ◌⊎◌, ℕ, zero, suc, List, [], ◌∷◌, ◌++◌, Option, Some, None, Result, Err, length, set, sym, ◌∙◌, ap, subst, arith, inl, inr}
+use Rattle.ar_base.specs.Lists.{Stands, IsOneOf, AreDifferent}
+use Rattle.ar_base.proofs.Standing.{stands_one, stands_within, stands_left, stands_split, stands_next, stands_none}
 use Rattle.std.specs.Result.{IsErrOf}
 use Rattle.std.specs.Str.{IsUtf8}
 use Rattle.altarica_run.specs.declared.binding.NoSystem.{NoSystem}
 use Rattle.altarica_run.specs.declared.binding.NoSystem.TheVariants.{Unsound}
-use Rattle.altarica_run.specs.Small.{Operand, Constant, State, MoveLine, Block}
+use Rattle.altarica_run.specs.Small.{Operand, Constant, State, MoveLine}
 use Rattle.altarica_run.specs.declared.binding.BoundOperand as code
 use Rattle.altarica_run.specs.declared.binding.BoundOperand.TheVariants as bound
 use Rattle.altarica_run.specs.Binding.{IsOperand, IsMove, IsMoveOf, IsKnownOperand, IsKnownMove, AreKnownMoves, AreTexts, IsTextMove, AreTextMoves}

@@ -1,11 +1,10 @@
 -- How a replay ends.
-use Rattle.std.proofs.Common.{◌≡◌, ◌+◌, ◌<◌, ◌≤◌, ℕ, zero, suc, Bool, true, false, List, [], ◌∷◌, ◌++◌, Option, Some, None, Result, Ok, Err, map, take, drop, length, get_or, set, slice_get, refl, sym, ◌∙◌, ap, subst, arith}
+use Rattle.std.proofs.Common.{◌≡◌, ◌+◌, ◌<◌, ◌≤◌, ℕ, Bool, true, false, List, [], ◌∷◌, ◌++◌, Option, Some, None, Result, Ok, Err, map, take, drop, length, get_or, set, slice_get, refl, sym, ◌∙◌, ap, subst, arith}
 use Rattle.std.proofs.lemmas.Option.{slice_get-get_or}
 use Rattle.std.proofs.lemmas.List.{append-nil, take_all}
 use Rattle.std.proofs.Common.{append_assoc}
 use Rattle.std.proofs.Math.ListN.{length-set}
 use Rattle.ar_base.specs.Lists.{Stands}
-use Rattle.ar_io.specs.Outside.{Rose}
 use Rattle.ar_meaning.specs.Runs.{Command}
 use Rattle.altarica_run.specs.Small.{Block}
 use Rattle.altarica_run.specs.Sound.{IsSound, names_of}
@@ -16,7 +15,7 @@ use Rattle.altarica_run.specs.Lines.{start_lines, end_line, piece_of}
 use Rattle.altarica_run.specs.Stepping.{effect_at}
 use Rattle.altarica_run.specs.Outside.{Appended, Cut}
 use Rattle.altarica_run.specs.Replays.{IsReplay, BeginsReplay, nothing, whole}
-use Rattle.altarica_run.specs.Played.{Played, AreFirable, IsEnd, Starts, IsStepped, status_of}
+use Rattle.altarica_run.specs.Played.{Played, AreFirable, IsEnd, Starts, IsStepped}
 use Rattle.altarica_run.specs.declared.binding.BlockSystem.{BlockSystem}
 use Rattle.altarica_run.specs.declared.stepping.Effect.{Effect}
 use Rattle.altarica_run.specs.declared.replaying.Ended.{Ended}

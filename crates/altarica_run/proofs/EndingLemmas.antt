@@ -1,9 +1,9 @@
 -- How a call ends.
-use Rattle.std.proofs.Common.{◌≡◌, ◌+◌, ◌<◌, ◌≤◌, ◌⊎◌, ℕ, List, [], Option, Some, None, Result, Ok, Err, map, length, refl, sym, ◌∙◌, ap, subst, arith, inl, inr}
+use Rattle.std.proofs.Common.{◌≡◌, ◌<◌, ◌⊎◌, ℕ, List, [], Option, Some, None, Result, Ok, Err, map, length, refl, sym, ap, subst, arith, inl, inr}
 use Rattle.std.proofs.lemmas.List.{length-append}
 use Rattle.ar_base.specs.Lists.{Stands}
 use Rattle.ar_base.proofs.Standing.{stands_within}
-use Rattle.ar_io.specs.Outside.{Told, Rose}
+use Rattle.ar_io.specs.Outside.{Told}
 use Rattle.altarica_run.specs.Small.{Block}
 use Rattle.altarica_run.specs.Sound.{states_of, names_of, moves_of}
 use Rattle.altarica_run.specs.Binding.{IsMoveOf}
@@ -15,7 +15,7 @@ use Rattle.altarica_run.specs.Played.{AreFirable, Puts, IsEnd, status_of, broken
 use Rattle.altarica_run.specs.Refusals as refusals
 use Rattle.altarica_run.specs.Says.{Prepares, Says, usage, refuses, replays, Loads, Begins, EndsSo}
 use Rattle.altarica_run.specs.Says as says
-use Rattle.altarica_run.specs.Stages.{IsSystem, IsPrepared}
+use Rattle.altarica_run.specs.Stages.{IsSystem}
 use Rattle.altarica_run.specs.Endings.{IsTold, IsRun, IsDone}
 use Rattle.altarica_run.specs.Endings as endings
 use Rattle.altarica_run.specs.declared.binding.BoundMove.{BoundMove}

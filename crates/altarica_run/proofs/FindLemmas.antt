@@ -1,11 +1,11 @@
 -- Which event a name stands for.
-use Rattle.std.proofs.Common.{◌≡◌, ◌+◌, ◌-◌, ◌<◌, ◌≤◌, ℕ, zero, suc, List, [], ◌∷◌, ◌++◌, Option, Some, None, map, length, slice_get, sym, ◌∙◌, ap, subst, arith}
+use Rattle.std.proofs.Common.{◌≡◌, ◌+◌, ◌-◌, ◌<◌, ◌≤◌, ℕ, zero, suc, List, [], ◌∷◌, ◌++◌, Option, Some, None, length, slice_get, sym, ◌∙◌, ap, subst, arith}
 use Rattle.std.specs.Prelude.{IfSome, IfNone, codes}
 use Rattle.std.specs.Str.{IsUtf8}
 use Rattle.std.proofs.lemmas.List.{length-map, append_cancel_right}
-use Rattle.ar_base.specs.Lists.{Stands, IsOneOf, HasNo}
+use Rattle.ar_base.specs.Lists.{Stands, HasNo}
 use Rattle.ar_base.proofs.Standing.{stands_one, stands_within}
-use Rattle.altarica_run.specs.Small.{MoveLine, Block}
+use Rattle.altarica_run.specs.Small.{Block}
 use Rattle.altarica_run.specs.Sound.{names_of, moves_of}
 use Rattle.altarica_run.specs.Binding.{IsBound, IsMoveOf, AreTexts}
 use Rattle.altarica_run.specs.Scripts.{IsFirable, IsLabel, path, numbered}

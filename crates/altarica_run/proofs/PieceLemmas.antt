@@ -1,11 +1,11 @@
 -- Pieces and words, from the left.
-use Rattle.std.proofs.Common.{◌≡◌, ◌+◌, ◌-◌, ◌==◌, ◌<◌, ◌≤◌, ℕ, zero, suc, Bool, true, false, not, List, [], ◌∷◌, ◌++◌, length, take, drop, refl, sym, ◌∙◌, ap, subst, arith, cond, if◌then◌else◌}
+use Rattle.std.proofs.Common.{◌≡◌, ◌+◌, ◌-◌, ◌==◌, ◌<◌, ◌≤◌, ℕ, suc, Bool, true, false, not, List, [], ◌∷◌, ◌++◌, length, take, drop, refl, sym, ◌∙◌, ap, subst, arith, cond}
 use Rattle.std.proofs.Common.{leb, drop-cons, get_or}
 use Rattle.std.proofs.lemmas.List.{take_all, drop_all, length-take-le, length-drop}
 use Rattle.std.proofs.lemmas.Bool.{leb-true, leb-false, not-false, eqb-true}
 use Rattle.std.specs.Prelude.{filter}
 use Rattle.std.specs.List.{prefix_len}
-use Rattle.altarica_run.specs.Scripts.{pieces, onto_first, is_blank, is_some_word, words_of, without_return}
+use Rattle.altarica_run.specs.Scripts.{pieces, is_blank, is_some_word, words_of, without_return}
 
 module _ (cuts : ℕ → Bool) where
   -- how many bytes stand before the first that cuts

@@ -1,32 +1,30 @@
 -- How a replay goes on, and the text of its moments.
-use Rattle.std.proofs.Common.{◌≡◌, ◌+◌, ◌<◌, ◌≤◌, ℕ, zero, suc, Bool, true, false, List, [], ◌∷◌, ◌++◌, Option, Some, None, map, length, set, slice_get, unwrap_or, refl, sym, ◌∙◌, ap, subst, arith, append_assoc, inl, inr, ◌⊎◌}
-use Rattle.std.specs.Prelude.{codes, decimal}
-use Rattle.std.proofs.lemmas.List.{append-nil, length-map, map-append}
+use Rattle.std.proofs.Common.{◌≡◌, ◌+◌, ◌<◌, ◌≤◌, ℕ, zero, suc, Bool, true, false, List, [], ◌∷◌, ◌++◌, Option, Some, None, map, length, set, slice_get, unwrap_or, refl, sym, ◌∙◌, ap, subst, arith, append_assoc, inl, inr}
+use Rattle.std.specs.Prelude.{codes}
+use Rattle.std.proofs.lemmas.List.{append-nil, length-map}
 use Rattle.ar_base.specs.Lists.{Stands, AreDifferent}
 use Rattle.ar_base.specs.Lists as lists
-use Rattle.ar_base.proofs.Standing.{stands_one, stands_none, stands_some, stands_within, stands_left, stands_map}
+use Rattle.ar_base.proofs.Standing.{stands_none, stands_some, stands_left, stands_map}
 use Rattle.domains.specs.declared.Value.{Value}
 use Rattle.domains.specs.declared.Value.TheVariants.{Truth}
 use Rattle.ar_meaning.specs.Systems as s
-use Rattle.ar_meaning.specs.Flows.{Total}
 use Rattle.ar_meaning.specs.Steps.{NotEnabled}
 use Rattle.ar_meaning.specs.Runs as runs
 use Rattle.ar_meaning.specs.Runs.{Label, Command, Fire, Moment, Starts, Fires, Fire_fails, Ends, Goes, Runs, IsWay, first_values}
 use Rattle.ar_meaning.specs.TraceText as trace
 use Rattle.ar_meaning.specs.TraceText.{Naming, line, text_at, or_nothing, truth_text, variable_line, lines_from, Changed, ChangedLines, label_text, way_text, ways_of, MomentText, TraceText}
-use Rattle.altarica_run.specs.Small.{StateLine, MoveLine, Block}
+use Rattle.altarica_run.specs.Small.{Block}
 use Rattle.altarica_run.specs.Sound.{IsSound, states_of, names_of, moves_of}
-use Rattle.altarica_run.specs.Meaning.{variable_meant, event_meant, system_of, naming_of}
+use Rattle.altarica_run.specs.Meaning.{event_meant, system_of, naming_of}
 use Rattle.altarica_run.specs.Scripts.{IsFirable}
 use Rattle.altarica_run.specs.Reads.{fire_of}
-use Rattle.altarica_run.specs.Lines.{state_line, state_lines, start_lines, changed_line, step_lines, fault_line, end_line, piece_of}
+use Rattle.altarica_run.specs.Lines.{state_line, state_lines, start_lines, changed_line, end_line, piece_of}
 use Rattle.altarica_run.specs.Replays.{IsReplay, BeginsReplay, status_of_run}
 use Rattle.altarica_run.specs.Replays as replays
-use Rattle.ar_io.specs.Outside.{Rose, IsFront}
+use Rattle.ar_io.specs.Outside.{Rose}
 use Rattle.altarica_run.specs.Outside.{Appended, Cut}
 use Rattle.altarica_run.specs.Played.{Played}
 use Rattle.altarica_run.specs.declared.stepping.Effect.{Effect}
-use Rattle.altarica_run.specs.declared.status.Status.{Status}
 use Rattle.altarica_run.specs.declared.status.Status.TheVariants.{Done, Fault}
 use Rattle.altarica_run.proofs.SoundLemmas.{states_long, event_there}
 use Rattle.altarica_run.proofs.StepLemmas as steps

@@ -1,5 +1,5 @@
 -- The stages of a replay, one after the other.
-use Rattle.std.proofs.Common.{◌≡◌, ◌+◌, ◌<◌, ◌≤◌, ◌⊎◌, ℕ, List, Result, Ok, Err, Vec, map, refl, sym, ◌∙◌, ap, subst, arith, inl, inr}
+use Rattle.std.proofs.Common.{◌≡◌, ℕ, List, Result, Ok, Err, Vec, map, sym, ◌∙◌, ap, subst, inl, inr}
 use Rattle.std.specs.Global.{Global}
 use Rattle.ar_base.specs.Counts.{limit_of}
 use Rattle.ar_base.specs.declared.counts.Count.TheVariants.{ModelBytes, ScriptBytes}
@@ -9,14 +9,11 @@ use Rattle.altarica_run.specs.Reads.{fire_of}
 use Rattle.altarica_run.specs.Outside.{IsFile}
 use Rattle.altarica_run.specs.Says.{Elaborates, Commands, Prepares, model_long, script_long, no_block, no_commands, passes, Loads}
 use Rattle.altarica_run.specs.Says as says
-use Rattle.altarica_run.specs.Stages.{IsLoaded, IsStopped, IsElaborated, IsGiven, IsRefusedScript, IsPrepared, IsSystem}
+use Rattle.altarica_run.specs.Stages.{IsLoaded, IsStopped, IsRefusedScript, IsPrepared}
 use Rattle.altarica_run.specs.declared.refusals.FileKind.TheVariants.{Model, Script}
-use Rattle.altarica_run.specs.declared.refusals.Refusal.{Refusal}
-use Rattle.altarica_run.specs.declared.refusals.Refusal.TheVariants.{NotRead, Size}
 use Rattle.altarica_run.specs.declared.stages.Stop.{Stop}
 use Rattle.altarica_run.specs.declared.stages.Stop.TheVariants.{Refused, Memory}
 use Rattle.altarica_run.specs.declared.stages.Prepared.{Prepared}
-use Rattle.altarica_run.proofs.PlayLemmas.{rose_more}
 
 module _ (files : List ℕ → Told) (rose : List ℕ → Type 0) (model script : List ℕ) where
   at_stop : (r : Result Prepared Stop) (d e : Stop) → r ≡ Err d → d ≡ e → IsPrepared files rose model script (Err e) → IsPrepared files rose model script r

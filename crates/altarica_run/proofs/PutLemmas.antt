@@ -1,7 +1,6 @@
 -- What one step writes.
-use Rattle.std.proofs.Common.{◌≡◌, ◌+◌, ◌<◌, ◌≤◌, ℕ, Bool, true, false, List, [], ◌∷◌, Option, Some, None, Result, Ok, Err, length, get_or, set, slice_get, unwrap_or, refl, sym, ◌∙◌, ap, subst, arith, cond}
+use Rattle.std.proofs.Common.{◌≡◌, ◌<◌, ◌≤◌, ℕ, Bool, true, false, List, Option, Some, None, Result, Ok, Err, length, get_or, set, slice_get, unwrap_or, refl, sym, ◌∙◌, ap, subst, arith, cond}
 use Rattle.std.proofs.lemmas.Option.{slice_get_read}
-use Rattle.ar_base.specs.Lists.{Stands}
 use Rattle.altarica_run.specs.Lines.{step_lines, piece_of, IsWhole}
 use Rattle.altarica_run.specs.Stepping.{expression_value, effect_of, effect_at}
 use Rattle.altarica_run.specs.Outside.{Appended, Cut}

@@ -1,11 +1,11 @@
 -- How far a script is read.
-use Rattle.std.proofs.Common.{◌≡◌, ◌+◌, ◌<◌, ◌≤◌, ◌⊎◌, ℕ, zero, suc, List, [], ◌∷◌, ◌++◌, Option, Some, None, Result, Err, length, map, refl, sym, ◌∙◌, ap, subst, arith, inl, inr, append_assoc}
+use Rattle.std.proofs.Common.{◌≡◌, ◌+◌, ◌<◌, ℕ, zero, suc, List, [], ◌∷◌, ◌++◌, Option, Some, None, Result, Err, length, map, refl, sym, ◌∙◌, ap, subst, arith, inl, inr, append_assoc}
 use Rattle.std.proofs.lemmas.List.{append-nil, length-append, map-append}
 use Rattle.std.specs.Option.{MatchOption}
 use Rattle.std.specs.Result.{IfErr}
 use denote.Bor.{Bor}
 use Rattle.ar_base.specs.Lists.{Stands}
-use Rattle.ar_base.proofs.Standing.{stands_none, stands_split, stands_next, stands_within}
+use Rattle.ar_base.proofs.Standing.{stands_none, stands_split, stands_next}
 use Rattle.ar_meaning.specs.Runs.{Command}
 use Rattle.altarica_run.specs.Small.{Block}
 use Rattle.altarica_run.specs.Scripts.{Line, Skipped, Fires, NoCommand, lines_of, line_said, IsLabel, Gives, IsBad, no_command, no_event, Why, IsFirstBad, IsNoCommand, NamesNoEvent}

@@ -1,19 +1,17 @@
 -- A block's names and transitions by number, and by name.
-use Rattle.std.proofs.Common.{◌≡◌, ◌+◌, ◌<◌, ◌⊎◌, ℕ, List, [], ◌∷◌, ◌++◌, Option, Some, None, Vec, map, length, refl, sym, ◌∙◌, ap, subst, arith, inl, inr}
-use Rattle.std.specs.Global.{Global}
+use Rattle.std.proofs.Common.{◌≡◌, ◌+◌, ℕ, List, [], ◌∷◌, ◌++◌, Option, map, length, refl, sym, ◌∙◌, ap, subst, arith, inl, inr}
 use Rattle.std.proofs.lemmas.List.{map-append, length-map}
 use Rattle.ar_base.specs.Lists.{Stands, IsOneOf, AreDifferent}
 use Rattle.ar_base.specs.declared.places.Span.{Span}
 use Rattle.ar_base.proofs.Standing.{stands_within, stands_left, stands_right, stands_split}
 use Rattle.altarica_run.specs.Words.{bytes_at}
 use Rattle.altarica_run.specs.Trees.{state_of, block_of}
-use Rattle.altarica_run.specs.Small.{Operand, Constant, State, MoveLine, Block}
-use Rattle.altarica_run.specs.Sound.{IsSound, IsSoundMove, IsKnown, states_of, names_of, moves_of}
-use Rattle.altarica_run.specs.Binding.{IsState, IsSomeState, IsKnownOperand, IsKnownMove, AreKnownMoves, IsBound, IsMoveOf}
+use Rattle.altarica_run.specs.Small.{Operand, Constant, State, Block}
+use Rattle.altarica_run.specs.Sound.{IsSound, IsKnown, states_of, names_of, moves_of}
+use Rattle.altarica_run.specs.Binding.{IsState, IsSomeState, IsKnownOperand, AreKnownMoves, IsMoveOf}
 use Rattle.altarica_run.specs.declared.tree.StateLine.{StateLine}
 use Rattle.altarica_run.specs.declared.tree.BlockTree.{BlockTree}
 use Rattle.altarica_run.specs.declared.binding.BoundMove.{BoundMove}
-use Rattle.altarica_run.specs.declared.binding.BlockSystem.{BlockSystem}
 
 map_twice : {A B C : Type 0} (f : B → C) (g : A → B) (xs : List A) → map f (map g xs) ≡ map (λ x. f (g x)) xs
 map_twice f g [] = refl

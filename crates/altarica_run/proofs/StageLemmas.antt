@@ -1,22 +1,21 @@
 -- Why stages refuse.
-use Rattle.std.proofs.Common.{◌≡◌, ◌≢◌, ◌+◌, ◌<◌, ◌≤◌, ◌⊎◌, ℕ, zero, suc, List, [], ◌∷◌, Option, Some, None, Result, Ok, Err, map, length, refl, sym, ◌∙◌, ap, subst, arith, inl, inr}
+use Rattle.std.proofs.Common.{◌≡◌, ◌+◌, ℕ, zero, suc, List, [], ◌∷◌, Some, None, Ok, Err, map, length, sym, ◌∙◌, ap, subst, arith}
 use Rattle.std.proofs.lemmas.List.{length-map}
 use Rattle.ar_base.specs.Lists.{Stands}
 use Rattle.ar_base.proofs.Standing.{stands_none}
 use Rattle.ar_base.specs.declared.places.Place.{Place}
-use Rattle.ar_lexer.specs.Tokens.{AreTokens, IsFirstFault}
+use Rattle.ar_lexer.specs.Tokens.{AreTokens}
 use Rattle.ar_lexer.specs.declared.token.Token.{Token}
 use Rattle.ar_meaning.specs.Runs.{Command, Fire, Label}
-use Rattle.altarica_run.specs.Words.{Word, words, word_of}
+use Rattle.altarica_run.specs.Words.{words, word_of}
 use Rattle.altarica_run.specs.Small.{Block, block_words}
 use Rattle.altarica_run.specs.Sound.{IsSound}
 use Rattle.altarica_run.specs.Reading.{block_at}
 use Rattle.altarica_run.specs.Scripts.{Gives, skips, fires, IsLabel, path, numbered, IsFirable, lines_of, IsNoCommand, NamesNoEvent, Why, IsFirstBad}
 use Rattle.altarica_run.specs.Scripts as scripts
-use Rattle.altarica_run.specs.Reads.{fire_of, IsBadScript}
+use Rattle.altarica_run.specs.Reads.{fire_of}
 use Rattle.altarica_run.specs.Played.{AreFirable}
-use Rattle.altarica_run.specs.Says.{IsPlaceIn, IsModel, Elaborates, means, no_model, Commands, bad, bad_line}
-use Rattle.altarica_run.specs.declared.refusals.Refusal.{Refusal}
+use Rattle.altarica_run.specs.Says.{IsPlaceIn, Elaborates, means, no_model, Commands, bad}
 use Rattle.altarica_run.specs.declared.refusals.Refusal.TheVariants.{Syntax, NoCommand, NoEvent}
 use Rattle.altarica_run.proofs.Spelled.{block_read, block_spelled}
 

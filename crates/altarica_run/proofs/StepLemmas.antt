@@ -1,16 +1,16 @@
 -- One step of a block's system.
-use Rattle.std.proofs.Common.{◌≡◌, ◌+◌, ◌<◌, ◌≤◌, ℕ, zero, suc, Bool, true, false, List, [], ◌∷◌, ◌++◌, Option, Some, None, map, length, set, slice_get, refl, sym, ◌∙◌, ap, subst, arith, cond}
+use Rattle.std.proofs.Common.{◌≡◌, ◌+◌, ◌<◌, ℕ, zero, suc, Bool, true, false, List, [], ◌∷◌, Option, Some, None, map, length, set, slice_get, refl, sym, ◌∙◌, ap, subst, arith, cond}
 use Rattle.std.specs.Prelude.{Contains}
 use Rattle.std.proofs.lemmas.List.{length-map}
 use Rattle.std.proofs.Math.ListN.{length-set}
 use Rattle.std.specs.Str.{bytes_eq}
 use Rattle.std.proofs.lemmas.Slice.Eq.{bytes_eq-Decides}
-use Rattle.ar_base.specs.Lists.{Stands, IsOneOf, HasNo, AreDifferent}
+use Rattle.ar_base.specs.Lists.{Stands}
 use Rattle.ar_base.proofs.Standing.{stands_none, stands_one, stands_within, stands_left, stands_map, stands_map_back, stands_some}
 use Rattle.domains.specs.declared.Value.{Value}
 use Rattle.domains.specs.declared.Value.TheVariants.{Truth}
 use Rattle.typed_expr.specs.Yields.{Yields}
-use Rattle.typed_expr.specs.declared.expr.Expr.{Expr, out-Expr}
+use Rattle.typed_expr.specs.declared.expr.Expr.{out-Expr}
 use Rattle.ar_meaning.specs.Systems as s
 use Rattle.ar_meaning.specs.Facts as facts
 use Rattle.ar_meaning.specs.Facts.{HasValue}
@@ -19,8 +19,8 @@ use Rattle.ar_meaning.specs.Flows.{Flows, Total, Completes, HasTwo, IsOutside, I
 use Rattle.ar_meaning.specs.Ways.{Can, guard_holds, Effects, acts}
 use Rattle.ar_meaning.specs.Steps as steps
 use Rattle.ar_meaning.specs.Steps.{Step, Refused, NotEnabled, Next, Clashes, LeavesDomain, Receives}
-use Rattle.ar_meaning.specs.Runs.{Label, IsWay, first_values}
-use Rattle.altarica_run.specs.Small.{Expression, StateLine, MoveLine, Block}
+use Rattle.ar_meaning.specs.Runs.{IsWay, first_values}
+use Rattle.altarica_run.specs.Small.{StateLine, MoveLine, Block}
 use Rattle.altarica_run.specs.Sound.{IsSound, states_of, names_of, moves_of}
 use Rattle.altarica_run.specs.Meaning.{expression_meant, variable_meant, transition_meant, ways_meant, event_meant, system_of}
 use Rattle.altarica_run.specs.Binding.{IsMove, IsMoveOf, IsBound}

@@ -1,8 +1,7 @@
 -- The names of a block are texts, and its tokens stand in the text.
-use Rattle.std.proofs.Common.{◌≡◌, ◌+◌, ◌-◌, ◌<◌, ◌≤◌, ◌⊎◌, ℕ, zero, suc, Bool, true, false, ◌||◌, List, [], ◌∷◌, ◌++◌, Option, Some, None, map, take, drop, length, get_or, refl, sym, ◌∙◌, ap, subst, arith, inl, inr, append_assoc}
+use Rattle.std.proofs.Common.{◌≡◌, ◌+◌, ◌-◌, ◌<◌, ℕ, zero, suc, Bool, true, false, List, [], ◌∷◌, ◌++◌, Option, Some, None, map, take, drop, length, get_or, refl, sym, ◌∙◌, ap, subst, arith, inl, inr, append_assoc}
 use Rattle.std.specs.List.{flat_map}
-use Rattle.std.specs.Char.{is_ascii_digit, is_ascii_alphabetic}
-use Rattle.std.specs.Str.{IsAscii, IsUtf8}
+use Rattle.std.specs.Str.{IsUtf8}
 use Rattle.std.proofs.lemmas.Str.{IsUtf8-from_ascii}
 use Rattle.std.proofs.lemmas.List.{append-nil, length-append, take_at, drop_at}
 use Rattle.ar_base.specs.Lists.{Stands}
@@ -10,12 +9,12 @@ use Rattle.ar_base.proofs.Standing.{stands_none, stands_split}
 use Rattle.ar_base.specs.declared.places.Place.{Place}
 use Rattle.ar_base.specs.declared.places.Span.{Span}
 use Rattle.ar_lexer.specs.Spelling.{AllPass, is_letter, is_word_byte, IsWord, IsOfKind}
-use Rattle.ar_lexer.specs.Tokens.{joined, AreCut, IsToken, IsGap, AreTokens, end_of_text, place_after}
+use Rattle.ar_lexer.specs.Tokens.{joined, AreCut, AreTokens, end_of_text, place_after}
 use Rattle.ar_lexer.specs.declared.token.Token.{Token}
 use Rattle.ar_lexer.specs.declared.token.TokenKind.{TokenKind}
 use Rattle.ar_lexer.specs.declared.token.TokenKind.TheVariants as kind
 use Rattle.altarica_run.specs.Words.{Word, Named, Number, Sign, Reserved, End, bytes_at, word_of_kind, word_of, words}
-use Rattle.altarica_run.specs.Small.{Operand, Constant, State, Expression, StateLine, MoveLine, Block, truth_word, operand_word, not_words, expression_words, state_words, move_words, more_words, events_words, section_words, block_words}
+use Rattle.altarica_run.specs.Small.{Operand, Constant, State, StateLine, MoveLine, Block, operand_word, not_words, expression_words, state_words, move_words, more_words, events_words, section_words, block_words}
 use Rattle.altarica_run.specs.Sound.{states_of, names_of, moves_of, lines_of}
 use Rattle.altarica_run.specs.Binding.{AreTexts, AreTextMoves, IsTextMove, IsTextOperand}
 use Rattle.altarica_run.specs.Says.{IsPlaceIn}

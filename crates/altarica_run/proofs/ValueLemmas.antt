@@ -1,9 +1,8 @@
 -- What the expressions of a block yield at its states' values.
-use Rattle.std.proofs.Common.{◌≡◌, ◌+◌, ◌<◌, ◌≤◌, ℕ, zero, suc, Bool, true, false, not, List, [], ◌∷◌, ◌++◌, Option, Some, None, Box, map, length, slice_get, unwrap_or, refl, sym, ◌∙◌, ap, subst, arith, cond}
+use Rattle.std.proofs.Common.{◌≡◌, ℕ, Bool, true, false, not, List, Some, Box, map, length, slice_get, unwrap_or, refl, sym, ◌∙◌, ap, subst, arith, cond}
 use Rattle.std.specs.Global.{Global}
-use Rattle.std.proofs.lemmas.List.{length-map}
 use Rattle.ar_base.specs.Lists.{Stands, AreDifferent}
-use Rattle.ar_base.proofs.Standing.{stands_one, stands_within, stands_some, stands_left, stands_map, stands_map_back}
+use Rattle.ar_base.proofs.Standing.{stands_some, stands_left, stands_map, stands_map_back}
 use Rattle.domains.specs.declared.Value.{Value}
 use Rattle.domains.specs.declared.Value.TheVariants.{Truth}
 use Rattle.typed_expr.specs.Yields.{Yields}

@@ -1,5 +1,5 @@
 -- How the parts of a call end.
-use Rattle.std.specs.Prelude.{◌≡◌, ◌⊎◌, ℕ, List, Option, map}
+use Rattle.std.specs.Prelude.{◌≡◌, ℕ, List, Option, map}
 use Rattle.ar_io.specs.Outside.{Told, Rose}
 use Rattle.altarica_run.specs.Small.{Block}
 use Rattle.altarica_run.specs.Jobs.{Job}

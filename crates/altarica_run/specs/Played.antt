@@ -1,5 +1,5 @@
 -- How far a replay has come, and what it has written.
-use Rattle.std.specs.Prelude.{◌≡◌, ◌≤◌, ◌++◌, slice_set, ◌+◌, ℕ, Bool, true, false, List, [], ◌∷◌, Option, Some, None, Result, Ok, Err, map, length}
+use Rattle.std.specs.Prelude.{◌≡◌, ◌≤◌, ◌++◌, slice_set, ℕ, Bool, true, false, List, Option, Some, None, Result, Ok, Err, map, length}
 use Rattle.ar_base.specs.Lists.{Stands}
 use Rattle.ar_io.specs.Outside.{Rose}
 use Rattle.domains.specs.declared.Value.{Value}

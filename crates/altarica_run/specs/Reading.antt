@@ -2,7 +2,7 @@
 use Rattle.std.specs.Prelude.{◌≡◌, ℕ, zero, suc, ◌==◌, if◌then◌else◌, Bool, true, false, List, [], ◌∷◌, Option, Some, None, Result, Ok, Err}
 use Rattle.ar_lexer.specs.declared.signs.TheConstants.{OPEN_PARENTHESIS, CLOSE_PARENTHESIS, COMMA, SEMICOLON, COLON, EQUALS, ASSIGN, ARROW}
 use Rattle.ar_lexer.specs.declared.words.TheConstants.{BLOCK, BOOLEAN, END, EVENT, FALSE, INIT, NOT, TRANSITION, TRUE}
-use Rattle.altarica_run.specs.Words.{Word, Named, Number, Sign, Reserved, End}
+use Rattle.altarica_run.specs.Words.{Word, Named, Sign, Reserved, End}
 use Rattle.altarica_run.specs.Small.{Operand, Constant, State, Expression, StateLine, MoveLine, Block}
 use Rattle.altarica_run.specs.declared.reading.NoTree.{NoTree}
 use Rattle.altarica_run.specs.declared.reading.NoTree.TheVariants.{NoReading, Memory}

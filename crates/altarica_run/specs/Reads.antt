@@ -1,5 +1,5 @@
 -- What the code's lines and events say, and how far a script is read.
-use Rattle.std.specs.Prelude.{◌≡◌, ◌+◌, ℕ, List, [], ◌∷◌, ◌++◌, Option, Some, None, map, length}
+use Rattle.std.specs.Prelude.{◌≡◌, ◌+◌, ℕ, List, [], ◌∷◌, ◌++◌, Option, Some, None, length}
 use denote.Bor.{Bor}
 use Rattle.ar_meaning.specs.Runs.{Command, Fire}
 use Rattle.altarica_run.specs.Small.{Block}

@@ -1,5 +1,5 @@
 -- The models of one block with Boolean states and transitions of one assignment, and the words that spell them.
-use Rattle.std.specs.Prelude.{◌≡◌, ℕ, Bool, true, false, List, [], ◌∷◌, ◌++◌, Option, Some, None, map}
+use Rattle.std.specs.Prelude.{ℕ, Bool, true, false, List, [], ◌∷◌, ◌++◌, Option, Some, None}
 use Rattle.std.specs.List.{flat_map}
 use Rattle.ar_lexer.specs.declared.signs.TheConstants.{OPEN_PARENTHESIS, CLOSE_PARENTHESIS, COMMA, SEMICOLON, COLON, EQUALS, ASSIGN, ARROW}
 use Rattle.ar_lexer.specs.declared.words.TheConstants.{BLOCK, BOOLEAN, END, EVENT, FALSE, INIT, NOT, TRANSITION, TRUE}

@@ -1,7 +1,7 @@
 -- Which blocks mean a system: names differ, each is declared, and no event has two transitions.
 use Rattle.std.specs.Prelude.{◌≡◌, ℕ, List, [], ◌++◌, Option, Some, None, map}
 use Rattle.ar_base.specs.Lists.{Stands, IsOneOf, AreDifferent}
-use Rattle.altarica_run.specs.Small.{Operand, Constant, State, Expression, StateLine, MoveLine, Block}
+use Rattle.altarica_run.specs.Small.{Operand, Constant, State, MoveLine, Block}
 
 -- the names of the states, in order
 abbrev pub states_of : Block → List (List ℕ)

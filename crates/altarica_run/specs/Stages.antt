@@ -1,5 +1,5 @@
 -- What the stages of a job answer.
-use Rattle.std.specs.Prelude.{◌≡◌, ◌<◌, ◌^◌, ◌⊎◌, ◌↔◌, ℕ, List, Option, Some, None, Result, Ok, Err, Vec, map, length}
+use Rattle.std.specs.Prelude.{◌≡◌, ◌<◌, ◌^◌, ◌⊎◌, ℕ, List, Some, Result, Ok, Err, Vec, map, length}
 use Rattle.std.specs.Global.{Global}
 use Rattle.ar_base.specs.Counts.{limit_of}
 use Rattle.ar_base.specs.declared.counts.Count.{Count}
@@ -8,13 +8,12 @@ use Rattle.altarica_run.specs.Small.{Block}
 use Rattle.altarica_run.specs.Sound.{IsSound, names_of}
 use Rattle.altarica_run.specs.Binding.{IsBound, AreTexts}
 use Rattle.altarica_run.specs.Reads.{fire_of}
-use Rattle.altarica_run.specs.Jobs.{Job, Replay}
+use Rattle.altarica_run.specs.Jobs.{Replay}
 use Rattle.altarica_run.specs.Outside.{MayBeLonger, IsFile}
 use Rattle.altarica_run.specs.Played.{AreFirable}
 use Rattle.altarica_run.specs.Says.{Elaborates, Commands, Prepares, Loads}
 use Rattle.altarica_run.specs.declared.binding.BlockSystem.{BlockSystem}
 use Rattle.altarica_run.specs.declared.refusals.FileKind.{FileKind}
-use Rattle.altarica_run.specs.declared.refusals.Refusal.{Refusal}
 use Rattle.altarica_run.specs.declared.refusals.Refusal.TheVariants.{NotRead, Size}
 use Rattle.altarica_run.specs.declared.stages.Stop.{Stop}
 use Rattle.altarica_run.specs.declared.stages.Stop.TheVariants.{Refused, Memory}

@@ -1,5 +1,5 @@
 -- What an event does at the states' values, in code.
-use Rattle.std.specs.Prelude.{◌≡◌, ℕ, not, if◌then◌else◌, Bool, false, List, Option, Some, None, slice_get, unwrap_or}
+use Rattle.std.specs.Prelude.{not, if◌then◌else◌, Bool, false, List, Option, Some, None, slice_get, unwrap_or}
 use Rattle.altarica_run.specs.declared.binding.BoundOperand as operand
 use Rattle.altarica_run.specs.declared.binding.BoundOperand.TheVariants as operands
 use Rattle.altarica_run.specs.declared.binding.BoundExpression.{BoundExpression}

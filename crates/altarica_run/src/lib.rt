@@ -14,6 +14,8 @@ mod status;
 mod stepping;
 #[cfg(test)]
 mod tests;
+#[cfg(test)]
+mod tests;
 mod trace;
 mod tree;
 

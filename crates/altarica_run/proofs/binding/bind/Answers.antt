@@ -1,9 +1,8 @@
-use Rattle.std.proofs.Common.{◌≡◌, ◌∙◌, ℕ, map, length, sym, ap, subst, Option}
+use Rattle.std.proofs.Common.{◌∙◌, map, sym, ap, subst}
 use Rattle.std.proofs.lemmas.Result.{err_from_is_err_and}
-use Rattle.ar_base.specs.Lists.{AreDifferent, Stands}
+use Rattle.ar_base.specs.Lists.{AreDifferent}
 use Rattle.altarica_run.specs.Trees.{block_of}
-use Rattle.altarica_run.specs.Sound.{names_of, moves_of}
-use Rattle.altarica_run.specs.Binding.{AreTexts, AreKnownMoves, IsMoveOf}
+use Rattle.altarica_run.specs.Binding.{AreTexts}
 use Rattle.altarica_run.proofs.BindLemmas.{passed_on}
 use Rattle.altarica_run.proofs.SoundLemmas.{names_meant, starts_meant, known_all, sound_all, bound_all, states_count, events_count}
 use Rattle.altarica_run.proofs.binding.bind.Goals as goal

@@ -1,12 +1,11 @@
-use Rattle.std.proofs.Common.{◌≡◌, ◌∙◌, ◌+◌, ℕ, map, take, length, sym, ap, subst, arith, Option, None, Some}
+use Rattle.std.proofs.Common.{◌∙◌, ◌+◌, length, sym, ap, subst, arith}
 use Rattle.std.proofs.Math.ListN.{length-set}
 use Rattle.std.proofs.lemmas.Result.{err_from_is_err_and}
 use Rattle.std.specs.Str.{IsUtf8}
 use Rattle.ar_base.specs.Lists.{Stands}
-use Rattle.ar_base.proofs.Standing.{stands_within, stands_next}
+use Rattle.ar_base.proofs.Standing.{stands_within}
 use Rattle.altarica_run.specs.Trees.{move_of}
 use Rattle.altarica_run.specs.Binding.{IsMoveOf, AreKnownMoves}
-use Rattle.altarica_run.specs.declared.binding.BoundMove.{BoundMove}
 use Rattle.altarica_run.proofs.Lines.{image_split, image_more}
 use Rattle.altarica_run.proofs.BindLemmas.{passed_on, event_refused, move_refused, place_refused, known_more, bound_more, text_at, known_of}
 use Rattle.altarica_run.proofs.binding.bind_moves.Goals as goal

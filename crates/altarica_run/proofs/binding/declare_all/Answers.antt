@@ -1,10 +1,5 @@
-use Rattle.std.proofs.Common.{◌≡◌, map, take, sym, ap, subst, Err}
 use Rattle.std.proofs.lemmas.Result.{err_from_is_err_and}
-use Rattle.std.specs.Result.{IsErrOf}
-use Rattle.ar_base.proofs.Standing.{stands_next}
-use Rattle.ar_base.specs.Lists.{IsOneOf, Stands}
 use Rattle.altarica_run.specs.Words.{bytes_at}
-use Rattle.altarica_run.specs.declared.binding.NoSystem.TheVariants.{Unsound}
 use Rattle.altarica_run.proofs.Lines.{image_split}
 use Rattle.altarica_run.proofs.BindLemmas.{declare_refused, passed_on}
 use Rattle.altarica_run.proofs.binding.declare_all.Goals as goal

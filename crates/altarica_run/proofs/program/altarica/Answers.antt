@@ -1,4 +1,3 @@
-use Rattle.std.proofs.Common.{◌≡◌, sym, subst}
 use Rattle.altarica_run.proofs.EndingLemmas.{usage_told, at_job}
 use Rattle.altarica_run.proofs.program.altarica.Goals as goal
 

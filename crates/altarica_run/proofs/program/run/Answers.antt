@@ -1,7 +1,6 @@
-use Rattle.std.proofs.Common.{◌≡◌, Ok, Err, sym, subst, map}
+use Rattle.std.proofs.Common.{Ok, Err, sym, subst}
 use Rattle.ar_base.specs.Lists.{Stands}
-use Rattle.altarica_run.specs.Reads.{fire_of}
-use Rattle.altarica_run.specs.Played.{AreFirable, IsEnd}
+use Rattle.altarica_run.specs.Played.{AreFirable}
 use Rattle.altarica_run.proofs.EndingLemmas.{whole_of, events_within, run_ended, run_broken, at_events}
 use Rattle.altarica_run.proofs.program.run.Goals as goal
 

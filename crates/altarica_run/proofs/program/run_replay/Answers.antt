@@ -1,4 +1,4 @@
-use Rattle.std.proofs.Common.{◌≡◌, refl, Err, subst}
+use Rattle.std.proofs.Common.{refl, Err, subst}
 use Rattle.ar_io.specs.Outside.{Rose}
 use Rattle.altarica_run.specs.Stages.{IsPrepared}
 use Rattle.altarica_run.proofs.EndingLemmas.{stop_told, memory_told, run_told}

@@ -1,9 +1,9 @@
-use Rattle.std.proofs.Common.{◌≡◌, ℕ, map, sym, ◌∙◌, arith, subst}
+use Rattle.std.proofs.Common.{map, sym, ◌∙◌, arith}
 use Rattle.std.proofs.lemmas.Result.{err_from_is_err_and}
-use Rattle.altarica_run.specs.Words.{words, bytes_at}
-use Rattle.altarica_run.specs.Trees.{state_of, move_of}
-use Rattle.altarica_run.specs.Reading.{many, begins_state, state_at, begins_move, move_at, begins_more, more_name_at, names_at}
-use Rattle.altarica_run.proofs.ManyRead.{Reaches, first_reach, pushed_reach, reach_stop, stuck_reads, first_name}
+use Rattle.altarica_run.specs.Words.{words}
+use Rattle.altarica_run.specs.Trees.{state_of}
+use Rattle.altarica_run.specs.Reading.{begins_state, state_at}
+use Rattle.altarica_run.proofs.ManyRead.{first_reach, pushed_reach, reach_stop, stuck_reads}
 use Rattle.altarica_run.proofs.reading.states.Goals as goal
 
 pub returns-in_err-line-clause-read : goal.returns-in_err-line-clause-read

@@ -1,9 +1,5 @@
-use Rattle.std.proofs.Common.{◌≡◌, ◌∙◌, refl, ℕ, Bool, true, false, Ok, Err, map, take, length, sym, ap, subst, arith}
+use Rattle.std.proofs.Common.{◌∙◌, refl, length, ap, arith}
 use Rattle.std.proofs.lemmas.Result.{err_from_is_err_and}
-use Rattle.altarica_run.specs.Lines.{start_lines}
-use Rattle.altarica_run.specs.Reads.{fire_of}
-use Rattle.altarica_run.specs.Stepping.{effect_at}
-use Rattle.altarica_run.specs.Played.{Starts, IsStepped}
 use Rattle.altarica_run.proofs.EndLemmas.{started, at_truth, end_memory, event_within, start_played, start_failed, step_failed, step_faulted, step_played, stepped_long, stepped_faults, end_failed, end_reached}
 use Rattle.altarica_run.proofs.replaying.replay.Goals as goal
 

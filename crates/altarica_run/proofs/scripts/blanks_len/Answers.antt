@@ -1,4 +1,4 @@
-use Rattle.std.proofs.Common.{sym, arith, ap, not}
+use Rattle.std.proofs.Common.{sym, arith}
 use Rattle.std.proofs.lemmas.List.Sums.{prefix_len_is}
 use Rattle.altarica_run.specs.Scripts.{is_blank}
 use Rattle.altarica_run.proofs.scripts.blanks_len.Goals as goal

@@ -1,4 +1,4 @@
-use Rattle.std.proofs.Common.{◌≡◌, ℕ, ◌<◌, ◌≤◌, ◌-◌, length, get_or, true, not}
+use Rattle.std.proofs.Common.{◌≡◌, ℕ, ◌<◌, ◌≤◌, ◌-◌, length, get_or, true}
 use Rattle.altarica_run.specs.Scripts.{is_blank}
 use Rattle.altarica_run.proofs.scripts.blanks_len.Given as goal
 

@@ -1,4 +1,4 @@
-use Rattle.std.proofs.Common.{◌≡◌, ℕ, sym, ap, length, Option, Some, None, subst}
+use Rattle.std.proofs.Common.{ap, length}
 use Rattle.altarica_run.proofs.FindLemmas.{none_absent, none_state, none_past, none_unmoved, some_moved, past_of, stands_of}
 use Rattle.altarica_run.proofs.scripts.event_named.Goals as goal
 

@@ -1,6 +1,5 @@
-use Rattle.std.proofs.Common.{◌≡◌, map, ap, arith}
+use Rattle.std.proofs.Common.{map, ap, arith}
 use Rattle.std.proofs.lemmas.Result.{err_from_is_err_and}
-use Rattle.altarica_run.specs.Scripts.{lines_of}
 use Rattle.altarica_run.specs.Reads.{fire_of}
 use Rattle.altarica_run.proofs.ScriptLemmas.{reach_none, reach_more, reach_bad, left_first, left_less, fault_passed}
 use Rattle.altarica_run.proofs.scripts.read_script.Goals as goal

@@ -1,4 +1,4 @@
-use Rattle.std.proofs.Common.{refl, map}
+use Rattle.std.proofs.Common.{refl}
 use Rattle.altarica_run.specs.Says.{gives}
 use Rattle.altarica_run.proofs.StageLemmas.{all_firable}
 use Rattle.altarica_run.proofs.stages.commands_of.Goals as goal

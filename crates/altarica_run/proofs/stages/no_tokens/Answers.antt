@@ -1,5 +1,5 @@
-use Rattle.std.proofs.Common.{◌≡◌, ◌∙◌, sym, subst, refl}
-use Rattle.altarica_run.specs.Says.{Elaborates, no_tokens}
+use Rattle.std.proofs.Common.{◌∙◌, sym, subst, refl}
+use Rattle.altarica_run.specs.Says.{no_tokens}
 use Rattle.ar_lexer.specs.Tokens.{IsFirstFault}
 use Rattle.altarica_run.proofs.stages.no_tokens.Goals as goal
 

@@ -1,4 +1,4 @@
-use Rattle.std.proofs.Common.{◌≡◌, ◌+◌, length, subst}
+use Rattle.std.proofs.Common.{◌+◌, length, subst}
 use Rattle.altarica_run.specs.Reading.{Refuses, block_at}
 use Rattle.altarica_run.specs.Words.{words}
 use Rattle.altarica_run.specs.Small.{Block}

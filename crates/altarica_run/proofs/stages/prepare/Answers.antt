@@ -1,6 +1,6 @@
-use Rattle.std.proofs.Common.{◌≡◌, ◌∙◌, ℕ, List, Ok, map, refl, sym, ap, subst}
+use Rattle.std.proofs.Common.{Ok, map, subst}
 use Rattle.std.proofs.lemmas.Result.{err_from_is_err_and}
-use Rattle.ar_io.specs.Outside.{Told, Rose}
+use Rattle.ar_io.specs.Outside.{Rose}
 use Rattle.altarica_run.specs.Reads.{fire_of}
 use Rattle.altarica_run.specs.Says.{Elaborates, Commands}
 use Rattle.altarica_run.specs.Stages.{IsStopped, IsRefusedScript}

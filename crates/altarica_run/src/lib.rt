@@ -14,8 +14,6 @@ mod status;
 mod stepping;
 #[cfg(test)]
 mod tests;
-#[cfg(test)]
-mod tests;
 mod trace;
 mod tree;
 

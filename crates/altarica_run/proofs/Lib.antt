@@ -15,4 +15,4 @@ pub mod TextLemmas
 pub mod StageLemmas
 pub mod PrepareLemmas
 pub mod EndingLemmas
-pub mod LawLemmas
+pub mod FollowLemmas

@@ -2,8 +2,8 @@
 #![tactic(auto)]
 
 mod binding;
+mod following;
 mod jobs;
-mod laws;
 mod program;
 mod reading;
 mod refusals;
@@ -17,6 +17,6 @@ mod tests;
 mod trace;
 mod tree;
 
-pub use laws::{answers_in_words, nothing_gives_up, one_block};
+pub use following::{answers_in_words, nothing_gives_up};
 pub use program::altarica;
 pub use status::Status;

@@ -1,22 +1,14 @@
 //! What follows from the answer of a call.
 
-ghost use Rattle.std.specs.Prelude.{◌≡◌, ◌⊎◌, ℕ, List, None, Some, Ok, Err};
+ghost use Rattle.std.specs.Prelude.{◌≡◌, ◌⊎◌, ℕ, List, None, Ok, Err};
 ghost use Rattle.ar_meaning.specs.Runs.{Command};
 ghost use Rattle.altarica_run.specs.Small.{Block};
 ghost use Rattle.altarica_run.specs.Jobs.{Replay, job_of};
-ghost use Rattle.altarica_run.specs.Scripts.{lines_of};
-ghost use Rattle.altarica_run.specs.Says.{Elaborates, Commands, Prepares};
-ghost use Rattle.altarica_run.specs.Follows.{Call, Gave, RoseAt, SinkRose, IsQuiet, IsReplayed, IsRefused, IsPrefix, Meaning_of};
+ghost use Rattle.altarica_run.specs.Says.{Prepares};
+ghost use Rattle.altarica_run.specs.Follows.{Call, Gave, SinkRose, IsQuiet, IsReplayed, IsRefused, IsPrefix, Meaning_of};
 ghost use Rattle.altarica_run.specs.declared.refusals.Refusal.{Refusal};
 ghost use Rattle.altarica_run.specs.declared.status.Status.{Status};
 ghost use Rattle.altarica_run.specs.declared.status.Status.TheVariants as status;
-
-/// A text is at most one block, and none where it is refused. A script that gives commands has no bad line.
-pub fn one_block()
-    ensures block { (text : List ℕ) (a b : Block) → Elaborates text (Ok a) → Elaborates text (Ok b) → a ≡ b }
-    ensures refused { (text : List ℕ) (b : Block) (r : Refusal) → Elaborates text (Ok b) → Elaborates text (Err r) → ⊥ }
-    ensures no_bad_line { (b : Block) (script : List ℕ) (cs : List Command) (r : Refusal) → Commands b script (Ok cs) → Commands b script (Err r) → ⊥ }
-{}
 
 /// What each status means, and what the sink holds after every answer. Where the words are no job, the answer says so,
 /// unless the outside fails.

@@ -1,5 +1,5 @@
-use Rattle.altarica_run.proofs.LawLemmas.{meaning_of, prefix_of}
-use Rattle.altarica_run.proofs.laws.answers_in_words.Goals as goal
+use Rattle.altarica_run.proofs.FollowLemmas.{meaning_of, prefix_of}
+use Rattle.altarica_run.proofs.following.answers_in_words.Goals as goal
 
 pub returns-clause-meaning : goal.returns-clause-meaning
 returns-clause-meaning c = meaning_of

@@ -15,3 +15,5 @@ pub mod TextLemmas
 pub mod StageLemmas
 pub mod PrepareLemmas
 pub mod EndingLemmas
+pub mod LawLemmas
+pub mod CauseLemmas

@@ -19,3 +19,4 @@ pub mod Answers
 pub mod Played
 pub mod Stages
 pub mod Endings
+pub mod Causes

@@ -3,6 +3,7 @@
 
 mod binding;
 mod jobs;
+pub mod laws;
 mod program;
 mod reading;
 mod refusals;

@@ -1,69 +1,23 @@
 -- What follows from the answer of a call.
-use Rattle.std.proofs.Common.{◌≡◌, ◌+◌, ◌<◌, ◌≤◌, ◌⊎◌, ℕ, zero, suc, List, [], ◌∷◌, ◌++◌, Option, Some, None, Result, Ok, Err, length, refl, sym, ◌∙◌, ap, subst, arith, inl, inr}
+use Rattle.std.proofs.Common.{◌≡◌, ◌⊎◌, ℕ, List, [], ◌∷◌, Option, Some, Ok, Err, length, refl, sym, ◌∙◌, ap, subst, arith, inl, inr}
 use Rattle.std.proofs.lemmas.List.{append-nil}
-use Rattle.ar_base.specs.Lists.{Stands}
-use Rattle.ar_base.proofs.Standing.{stands_none}
-use Rattle.ar_base.specs.declared.places.Place.{Place}
-use Rattle.ar_io.specs.Outside.{Told, Bytes, Absent, Untold, Rose, IsFront}
-use Rattle.ar_lexer.specs.Tokens.{AreTokens}
-use Rattle.ar_lexer.proofs.Laws.{tokens_one, tokens_no_fault}
+use Rattle.ar_io.specs.Outside.{Told, Bytes, Absent, Untold}
 use Rattle.ar_meaning.specs.Runs.{Command, Moment, Starts, Start_fails, Fires, Fire_fails, Goes_back, No_step, Shows, Lists, Ends}
-use Rattle.altarica_run.specs.Words.{words}
-use Rattle.altarica_run.specs.Small.{Block, block_words}
-use Rattle.altarica_run.specs.Reading.{block_at}
-use Rattle.altarica_run.specs.Scripts.{Gives, skips, fires, Why, IsNoCommand, NamesNoEvent, IsBad, no_command, no_event, IsLabel, lines_of, IsFirstBad}
-use Rattle.altarica_run.specs.Scripts as scripts
+use Rattle.altarica_run.specs.Small.{Block}
+use Rattle.altarica_run.specs.Scripts.{Why, IsNoCommand, NamesNoEvent}
 use Rattle.altarica_run.specs.Jobs.{Job, Replay, job_of}
-use Rattle.altarica_run.specs.Outside.{MayHold, MayBeLonger, IsFile, Appended, Cut}
+use Rattle.altarica_run.specs.Outside.{MayBeLonger, IsFile, Cut}
 use Rattle.altarica_run.specs.Replays.{IsReplay, status_of_run}
 use Rattle.altarica_run.specs.Refusals.{status_of, line_of}
 use Rattle.altarica_run.specs.Says.{Elaborates, means, no_tokens, no_model, IsModel, Commands, gives, bad, bad_line, Prepares, model_long, script_long, no_block, no_commands, passes, Says, usage, refuses, replays, Loads, Begins, EndsSo}
 use Rattle.altarica_run.specs.Says as says
-use Rattle.altarica_run.specs.Follows.{Call, Gave, RoseAt, SinkRose, Wrote, IsKnown, IsQuiet, IsReplayed, IsRefused, IsNotRead, IsPrefix, Meaning_of}
+use Rattle.altarica_run.specs.Follows.{Call, Gave, RoseAt, SinkRose, Wrote, IsKnown, IsQuiet, IsReplayed, IsRefused, IsPrefix, Meaning_of}
 use Rattle.altarica_run.specs.declared.refusals.FileKind.{FileKind}
 use Rattle.altarica_run.specs.declared.refusals.Refusal.{Refusal}
 use Rattle.altarica_run.specs.declared.refusals.Refusal.TheVariants.{Usage, NotRead, Size, Syntax, NoCommand, NoEvent}
 use Rattle.altarica_run.specs.declared.status.Status.{Status}
 use Rattle.altarica_run.specs.declared.status.Status.TheVariants as status
-use Rattle.altarica_run.proofs.Spelled.{block_read}
-
--- One block, one script
-
-same_some : {A : Type 0} (a b : A) → Some a ≡ Some b → a ≡ b
-same_some a b e = cc
-
-same_block : (a b : Block) → block_words a ≡ block_words b → a ≡ b
-same_block a b e =
-    let n = suc (length (block_words a)) in
-    let p = block_read n a (omega arith) in
-    let q = block_read n b (omega (arith, ap length e)) in
-    same_some a b (sym p ∙ ap (block_at n) e ∙ q)
-
-pub block_one : (text : List ℕ) (a b : Block) → Elaborates text (Ok a) → Elaborates text (Ok b) → a ≡ b
-block_one text a b (means ts h m) (means us g k) = same_block a b (sym m.spelled ∙ ap (words text) (tokens_one text ts us h g) ∙ k.spelled)
-
-pub block_refused : (text : List ℕ) (b : Block) (r : Refusal) → Elaborates text (Ok b) → Elaborates text (Err r) → ⊥
-block_refused text b r (means ts h m) (no_tokens fault f at) = tokens_no_fault text ts fault h f
-block_refused text b r (means ts h m) (no_model us g none place) = none b (subst (λ z. IsModel text z b) (tokens_one text ts us h g) m)
-
-module _ (b : Block) where
-  not_bad : (lines : List (List ℕ)) (cs : List Command) (n : ℕ) (line : List ℕ) (why : Why) → Gives b lines cs → Stands lines n line → IsBad b why line → ⊥
-  not_bad [] cs n line why g p h = stands_none n line p
-  not_bad (l ∷ lines) cs (suc n) line why (skips s g) p h = not_bad lines _ n line why g p h
-  not_bad (l ∷ lines) cs (suc n) line why (fires e s m g) p h = not_bad lines _ n line why g p h
-  not_bad (l ∷ lines) cs zero line why (skips s g) p (no_command e) = let i : l ≡ line = cc in cc
-  not_bad (l ∷ lines) cs zero line why (skips s g) p (no_event e none) = let i : l ≡ line = cc in cc
-  not_bad (l ∷ lines) cs zero line why (fires e s m g) p (no_command k) = let i : l ≡ line = cc in cc
-  not_bad (l ∷ lines) cs zero line why (fires {label = label} e s m g) p (no_event {label = other} k none) =
-      let i : l ≡ line = cc in
-      let j : label ≡ other = same_label label other (sym s ∙ ap scripts.line_said i ∙ k) in
-      none e (subst (λ z. IsLabel b z e) j m)
-    where
-      same_label : (x y : List ℕ) → scripts.Fires x ≡ scripts.Fires y → x ≡ y
-      same_label x y e = cc
-
-  pub script_not_bad : (script : List ℕ) (cs : List Command) (r : Refusal) → Commands b script (Ok cs) → Commands b script (Err r) → ⊥
-  script_not_bad script cs r (gives g) (bad n why f) = not_bad (lines_of script) cs n f.line why g f.stands f.bad
+use Rattle.altarica_run.proofs.LawLemmas.{block_one, block_not_both, commands_not_both}
 
 -- Which stages refuse
 
@@ -110,12 +64,12 @@ module _ (model script : Told) (model_known : IsKnown model) (script_known : IsK
   not_both b cs r (passes text lines f g e k) (model_long h) = not_long model _ text model_known f h
   not_both b cs r (passes text lines f g e k) (script_long other f' h) = not_long script _ lines script_known g h
   not_both b cs r (passes text lines f g e k) (no_block other _ f' g' e') =
-      block_refused other b r (subst (λ z. Elaborates z (Ok b)) (same_bytes model _ text other model_known f f') e) e'
+      block_not_both other b r (subst (λ z. Elaborates z (Ok b)) (same_bytes model _ text other model_known f f') e) e'
   not_both b cs r (passes text lines f g e k) (no_commands other more c f' g' e' k') =
       let i = same_bytes model _ text other model_known f f' in
       let j = same_bytes script _ lines more script_known g g' in
       let same = block_one other b c (subst (λ z. Elaborates z (Ok b)) i e) e' in
-      script_not_bad c more cs r (subst (λ z. Commands z more (Ok cs)) same (subst (λ z. Commands b z (Ok cs)) j k)) k'
+      commands_not_both c more cs r (subst (λ z. Commands z more (Ok cs)) same (subst (λ z. Commands b z (Ok cs)) j k)) k'
 
 -- What each status means
 

@@ -15,4 +15,6 @@ pub mod TextLemmas
 pub mod StageLemmas
 pub mod PrepareLemmas
 pub mod EndingLemmas
+pub mod LawLemmas
+pub mod CauseLemmas
 pub mod FollowLemmas

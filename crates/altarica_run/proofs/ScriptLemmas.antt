@@ -32,7 +32,7 @@ given_more (x ∷ done) cs ds (scripts.fires e i l g) (nothing j) = scripts.fire
 given_more (x ∷ done) cs ds (scripts.fires e i l g) (event label f j m) = scripts.fires e i l (given_more done _ _ g (event label f j m))
 
 -- no line that gave commands is bad
-not_bad : {b : Block} (done : List (List ℕ)) (cs : List Command) → Gives b done cs → (k : ℕ) (line : List ℕ) (w : Why) → Stands done k line → IsBad b w line → ⊥
+pub not_bad : {b : Block} (done : List (List ℕ)) (cs : List Command) → Gives b done cs → (k : ℕ) (line : List ℕ) (w : Why) → Stands done k line → IsBad b w line → ⊥
 not_bad [] cs g k line w s h = stands_none k line s
 not_bad (x ∷ done) cs (scripts.skips e g) (suc k) line w s h = not_bad done _ g k line w s h
 not_bad (x ∷ done) cs (scripts.fires e i l g) (suc k) line w s h = not_bad done _ g k line w s h

@@ -1,4 +1,4 @@
--- The names of a block are texts, and its tokens stand in the text.
+-- The names of a block are words and so texts, and its tokens stand in the text.
 use Rattle.std.proofs.Common.{◌≡◌, ◌+◌, ◌-◌, ◌<◌, ℕ, zero, suc, Bool, true, false, List, [], ◌∷◌, ◌++◌, Option, Some, None, map, take, drop, length, get_or, refl, sym, ◌∙◌, ap, subst, arith, inl, inr, append_assoc}
 use Rattle.std.specs.List.{flat_map}
 use Rattle.std.specs.Str.{IsUtf8}
@@ -40,10 +40,10 @@ word_ascii (b ∷ bs) h (suc i) = all_small bs h.1 i
 word_text : (bs : List ℕ) → IsWord bs → IsUtf8 bs
 word_text bs h = IsUtf8-from_ascii bs (word_ascii bs h)
 
--- Words whose names are texts
+-- Words whose names are words
 
 abbrev IsTextWord : Word → Type 0
-IsTextWord (Named bytes) = IsUtf8 bytes
+IsTextWord (Named bytes) = IsWord bytes
 IsTextWord Number = Unit {0}
 IsTextWord (Sign n) = Unit {0}
 IsTextWord (Reserved n) = Unit {0}
@@ -54,7 +54,7 @@ AreTextWords [] = Unit {0}
 AreTextWords (w ∷ ws) = IsTextWord w × AreTextWords ws
 
 kind_text : (k : TokenKind) (piece bytes : List ℕ) → IsOfKind k piece → bytes ≡ piece → IsTextWord (word_of_kind k bytes)
-kind_text kind.Name piece bytes h e = subst IsUtf8 (sym e) (word_text piece h.0)
+kind_text kind.Name piece bytes h e = subst IsWord (sym e) h.0
 kind_text (kind.Whole n) piece bytes h e = tt
 kind_text kind.Real piece bytes h e = tt
 kind_text (kind.Sign n) piece bytes h e = tt
@@ -93,24 +93,24 @@ right_text (x ∷ xs) ys h = right_text xs ys h.1
 
 -- Blocks
 
-states_text : (ss : List StateLine) → AreTextWords (flat_map state_words ss) → (k : ℕ) (name : List ℕ) → Stands (map (λ s. s.name) ss) k name → IsUtf8 name
+states_text : (ss : List StateLine) → AreTextWords (flat_map state_words ss) → (k : ℕ) (name : List ℕ) → Stands (map (λ s. s.name) ss) k name → IsWord name
 states_text [] h k name p = absurd (stands_none k name p)
-states_text (s ∷ ss) h zero name p = let i : s.name ≡ name = cc in subst IsUtf8 i (left_text (state_words s) (flat_map state_words ss) h).1.0
+states_text (s ∷ ss) h zero name p = let i : s.name ≡ name = cc in subst IsWord i (left_text (state_words s) (flat_map state_words ss) h).1.0
 states_text (s ∷ ss) h (suc k) name p = states_text ss (right_text (state_words s) (flat_map state_words ss) h) k name p
 
-more_text : (es : List (List ℕ)) → AreTextWords (flat_map more_words es) → (k : ℕ) (name : List ℕ) → Stands es k name → IsUtf8 name
+more_text : (es : List (List ℕ)) → AreTextWords (flat_map more_words es) → (k : ℕ) (name : List ℕ) → Stands es k name → IsWord name
 more_text [] h k name p = absurd (stands_none k name p)
-more_text (e ∷ es) h zero name p = let i : e ≡ name = cc in subst IsUtf8 i h.1.0
+more_text (e ∷ es) h zero name p = let i : e ≡ name = cc in subst IsWord i h.1.0
 more_text (e ∷ es) h (suc k) name p = more_text es h.1.1 k name p
 
-events_text : (es : List (List ℕ)) → AreTextWords (events_words es) → (k : ℕ) (name : List ℕ) → Stands es k name → IsUtf8 name
+events_text : (es : List (List ℕ)) → AreTextWords (events_words es) → (k : ℕ) (name : List ℕ) → Stands es k name → IsWord name
 events_text [] h k name p = absurd (stands_none k name p)
-events_text (e ∷ es) h zero name p = let i : e ≡ name = cc in subst IsUtf8 i h.1.0
+events_text (e ∷ es) h zero name p = let i : e ≡ name = cc in subst IsWord i h.1.0
 events_text (e ∷ es) h (suc k) name p = more_text es (left_text (flat_map more_words es) (Sign _ ∷ []) h.1.1) k name p
 
 operand_text : (o : Operand) → IsTextWord (operand_word o) → IsTextOperand o
 operand_text (Constant c) h = tt
-operand_text (State name) h = h
+operand_text (State name) h = word_text name h
 
 either_text : (n : Bool) (o : Operand) → AreTextWords (not_words n o) → IsTextOperand o
 either_text true o h = operand_text o h.1.0
@@ -121,7 +121,7 @@ move_text m h =
     let g = left_text (expression_words m.guard) _ h.1.1 in
     let r = right_text (expression_words m.guard) _ h.1.1 in
     let v = left_text (expression_words m.value) _ r.1.1.1 in
-    record { event = h.0; guard = either_text m.guard.negated m.guard.operand g; target = r.1.0; value = either_text m.value.negated m.value.operand v }
+    record { event = word_text m.event h.0; guard = either_text m.guard.negated m.guard.operand g; target = word_text m.target r.1.0; value = either_text m.value.negated m.value.operand v }
 
 moves_text : (ms : List MoveLine) → AreTextWords (flat_map move_words ms) → (k : ℕ) (m : MoveLine) → Stands ms k m → IsTextMove m
 moves_text [] h k m p = absurd (stands_none k m p)
@@ -136,11 +136,14 @@ module _ (text : List ℕ) (ts : List Token) (b : Block) (tokens : AreTokens tex
   all_text : AreTextWords (block_words b)
   all_text = subst AreTextWords spelled (tokens_text text ts tokens)
 
+  pub events_are_words : (k : ℕ) (name : List ℕ) → Stands b.events k name → IsWord name
+  events_are_words = events_text b.events (left_text (events_words b.events) _ (right_text (flat_map state_words b.states) _ all_text.1.1))
+
   pub names_are_texts : AreTexts (names_of b)
   names_are_texts = record {
     each = λ k name p. elim (stands_split (states_of b) b.events k name p) [
-      | inl q ↦ states_text b.states (left_text (flat_map state_words b.states) _ all_text.1.1) k name q
-      | inr q ↦ events_text b.events (left_text (events_words b.events) _ (right_text (flat_map state_words b.states) _ all_text.1.1)) q.0 name q.2
+      | inl q ↦ word_text name (states_text b.states (left_text (flat_map state_words b.states) _ all_text.1.1) k name q)
+      | inr q ↦ word_text name (events_are_words q.0 name q.2)
     ];
   }
 

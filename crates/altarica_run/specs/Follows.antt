@@ -1,5 +1,5 @@
 -- What follows from the answer of a call, in single statements.
-use Rattle.std.specs.Prelude.{◌≡◌, ◌⊎◌, ℕ, List, Option, Some, None, Result, Ok, Err}
+use Rattle.std.specs.Prelude.{◌≡◌, ℕ, List, Option, Some, None, Ok, Err}
 use Rattle.ar_io.specs.Outside.{Told, Bytes, Absent, Untold, Rose}
 use Rattle.ar_meaning.specs.Runs.{Command}
 use Rattle.altarica_run.specs.Small.{Block}

@@ -20,3 +20,4 @@ pub mod Follows
 pub mod Played
 pub mod Stages
 pub mod Endings
+pub mod Causes

@@ -2,8 +2,9 @@
 #![tactic(auto)]
 
 mod binding;
-mod following;
+pub mod following;
 mod jobs;
+pub mod laws;
 mod program;
 mod reading;
 mod refusals;
@@ -17,6 +18,5 @@ mod tests;
 mod trace;
 mod tree;
 
-pub use following::{answers_in_words, nothing_gives_up};
 pub use program::altarica;
 pub use status::Status;

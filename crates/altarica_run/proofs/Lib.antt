@@ -16,4 +16,5 @@ pub mod StageLemmas
 pub mod PrepareLemmas
 pub mod EndingLemmas
 pub mod LawLemmas
+pub mod StageLaws
 pub mod CauseLemmas

@@ -1,10 +1,10 @@
 -- Why calls end as they do.
-use Rattle.std.proofs.Common.{◌≡◌, ◌<◌, ◌≤◌, ◌⊎◌, inl, inr, ℕ, List, [], ◌∷◌, length, arith, Option, Some, None, Result, Ok, Err, refl, sym, ◌∙◌, subst}
+use Rattle.std.proofs.Common.{ap, Bool, true, false, ◌≡◌, ◌⊎◌, inl, inr, ℕ, List, [], ◌∷◌, Option, Some, None, Result, Ok, Err, refl, sym, ◌∙◌, subst}
 use Rattle.ar_io.specs.Outside.{Told, Bytes}
 use Rattle.ar_meaning.specs.Runs.{Command, Moment, Starts, Start_fails, Fires, Fire_fails, Goes_back, No_step, Shows, Lists, Ends}
 use Rattle.altarica_run.specs.Small.{Block}
 use Rattle.altarica_run.specs.Jobs.{Job, Replay}
-use Rattle.altarica_run.specs.Outside.{MayHold, MayBeLonger, IsFile, Appended}
+use Rattle.altarica_run.specs.Outside.{Appended}
 use Rattle.altarica_run.specs.Replays.{IsReplay, status_of_run}
 use Rattle.altarica_run.specs.Refusals.{status_of}
 use Rattle.altarica_run.specs.Scripts.{Why, IsNoCommand, NamesNoEvent}
@@ -15,7 +15,7 @@ use Rattle.altarica_run.specs.declared.refusals.Refusal.{Refusal}
 use Rattle.altarica_run.specs.declared.refusals.Refusal.TheVariants.{Usage, NotRead, Size, Syntax, NoCommand, NoEvent}
 use Rattle.altarica_run.specs.declared.status.Status.{Status}
 use Rattle.altarica_run.specs.declared.status.Status.TheVariants as status
-use Rattle.altarica_run.proofs.LawLemmas.{block_one, block_not_both, text_commands, commands_not_both}
+use Rattle.altarica_run.proofs.StageLaws.{run_there}
 
 -- Refusals
 
@@ -91,51 +91,34 @@ has_cause files rose job old new sink_rose status (says.no_memory b c) = tt
 
 -- Whole replays
 
-held_one : (told : Told) (text other : List ℕ) → told ≡ Bytes text → MayHold told other → other ≡ text
-held_one told text other e h = subst (λ z. MayHold z other) e h
+abbrev is_ok : {A B : Type 0} → Result A B → Bool
+is_ok (Ok x) = true
+is_ok (Err e) = false
 
-too_long : (told : Told) (text : List ℕ) (most : ℕ) → told ≡ Bytes text → length text ≤ most → MayBeLonger told most → ⊥
-too_long told text most e s l = let h : most < length text = subst (λ z. MayBeLonger z most) e l in omega (arith, s, h)
+not_ok : {A B C : Type 0} {e : B} {x : A} → Err e ≡ Ok x → C
+not_ok i = let q : false ≡ true = ap is_ok i in absurd cc
+
+abbrev ok_or : {A B : Type 0} → A → Result A B → A
+ok_or d (Ok x) = x
+ok_or d (Err e) = d
 
 module _ (files : List ℕ → Told) (job : Option Job) (b : Block) (cs : List Command) (a : AsksFor files job b cs) where
-  at_text : (other : List ℕ) (most : ℕ) → IsFile (files a.model) most other → other ≡ a.text
-  at_text other most f = held_one (files a.model) a.text other a.model_holds f.held
-
-  at_lines : (other : List ℕ) (most : ℕ) → IsFile (files a.script) most other → other ≡ a.lines
-  at_lines other most f = held_one (files a.script) a.lines other a.script_holds f.held
-
-  same_model : (other : List ℕ) (most : ℕ) (r : Result Block Refusal) → IsFile (files a.model) most other → Elaborates other r → Elaborates a.text r
-  same_model other most r f e = subst (λ z. Elaborates z r) (at_text other most f) e
-
-  same_script : (c : Block) (other : List ℕ) (most : ℕ) (r : Result (List Command) Refusal) → b ≡ c → IsFile (files a.script) most other → Commands c other r → Commands b a.lines r
-  same_script c other most r e f h = subst (λ z. Commands z a.lines r) (sym e) (subst (λ z. Commands c z r) (at_lines other most f) h)
-
-  no_refusal : (r : Refusal) → Prepares (files a.model) (files a.script) (Err r) → ⊥
-  no_refusal r (says.model_long l) = too_long (files a.model) a.text _ a.model_holds a.model_short l
-  no_refusal r (says.script_long text f l) = too_long (files a.script) a.lines _ a.script_holds a.script_short l
-  no_refusal r (says.no_block text lines f g e) = block_not_both a.text b r a.block (same_model text _ (Err r) f e)
-  no_refusal r (says.no_commands text lines c f g e h) =
-      commands_not_both b a.lines cs r a.commands (same_script c lines _ (Err r) (block_one a.text b c a.block (same_model text _ (Ok c) f e)) g h)
-
-  one_replay : (c : Block) (ds : List Command) (text : List ℕ) (ends : Status) → Prepares (files a.model) (files a.script) (Ok (c, ds)) → IsReplay c ds text ends → IsReplay b cs text ends
-  one_replay c ds text ends (says.passes other lines f g e h) i =
-      let k = block_one a.text b c a.block (same_model other _ (Ok c) f e) in
-      let l = text_commands a.text b a.block a.lines cs ds a.commands (same_script c lines _ (Ok ds) k g h) in
-      subst (λ z. IsReplay b z text ends) (sym l) (subst (λ z. IsReplay z ds text ends) (sym k) i)
-
-  job_model : (m s : List ℕ) → Some (Replay m s) ≡ job → m ≡ a.model
-  job_model m s e = let i : Some (Replay m s) ≡ Some (Replay a.model a.script) = e ∙ a.is_job in cc
-
-  job_script : (m s : List ℕ) → Some (Replay m s) ≡ job → s ≡ a.script
-  job_script m s e = let i : Some (Replay m s) ≡ Some (Replay a.model a.script) = e ∙ a.is_job in cc
-
-  moved : (m s : List ℕ) (r : Result (Block × List Command) Refusal) → Some (Replay m s) ≡ job → Prepares (files m) (files s) r → Prepares (files a.model) (files a.script) r
-  moved m s r e p = subst (λ z. Prepares (files a.model) (files z) r) (job_script m s e) (subst (λ z. Prepares (files z) (files s) r) (job_model m s e) p)
+  prepared : (m s : List ℕ) (r : Result (Block × List Command) Refusal) → Some (Replay m s) ≡ job → Prepares (files m) (files s) r → r ≡ Ok (b, cs)
+  prepared m s r e p =
+      let i : Some (Replay m s) ≡ Some (Replay a.model a.script) = e ∙ a.is_job in
+      let j : m ≡ a.model = cc in
+      let k : s ≡ a.script = cc in
+      run_there a.text a.lines a.model_short a.script_short b a.block r cs a.commands
+      (subst (λ z. Prepares (Bytes a.text) z r) (ap files k ∙ a.script_holds) (subst (λ z. Prepares z (files s) r) (ap files j ∙ a.model_holds) p))
 
   replayed : (text : List ℕ) (ends : Status) (j : Option Job) → j ≡ job → Says files j text ends → IsReplay b cs text ends
   replayed text ends j e says.usage = let i : None ≡ Some (Replay a.model a.script) = e ∙ a.is_job in cc
-  replayed text ends j e (says.refuses {model = m} {script = s} r p) = absurd (no_refusal r (moved m s (Err r) e p))
-  replayed text ends j e (says.replays {model = m} {script = s} c ds p i) = one_replay c ds text ends (moved m s (Ok (c, ds)) e p) i
+  replayed text ends j e (says.refuses {model = m} {script = s} r p) = let i : Err r ≡ Ok (b, cs) = prepared m s (Err r) e p in not_ok i
+  replayed text ends j e (says.replays {model = m} {script = s} c ds p i) =
+      let k : (c, ds) ≡ (b, cs) = ap (ok_or (b, cs)) (prepared m s (Ok (c, ds)) e p) in
+      let v : c ≡ b = ap (λ z. z.0) k in
+      let w : ds ≡ cs = ap (λ z. z.1) k in
+      subst (λ z. IsReplay b z text ends) w (subst (λ z. IsReplay z ds text ends) v i)
 
 pub told_so : (files : List ℕ → Told) (rose : List ℕ → Type 0) (job : Option Job) (old new : Option (List ℕ)) (sink_rose : Type 0) (ends : Status)
     (b : Block) (cs : List Command) → AsksFor files job b cs → ((name : List ℕ) → rose name → ⊥) → (sink_rose → ⊥) → EndsSo files rose job old new sink_rose ends

@@ -16,5 +16,6 @@ pub mod StageLemmas
 pub mod PrepareLemmas
 pub mod EndingLemmas
 pub mod LawLemmas
+pub mod StageLaws
 pub mod CauseLemmas
 pub mod FollowLemmas

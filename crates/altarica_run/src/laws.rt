@@ -1,16 +1,20 @@
 //! Laws of what the one call answers. Each function has an empty body.
 
-ghost use Rattle.std.specs.Prelude.{◌≡◌, ℕ, ◌⊎◌, List, Option, Ok, Err};
-ghost use Rattle.ar_io.specs.Outside.{Told, Rose};
+ghost use Rattle.std.specs.Prelude.{◌≡◌, ◌<◌, ◌≤◌, ℕ, ◌⊎◌, List, Option, Result, Ok, Err, length};
+ghost use Rattle.ar_base.specs.Counts.{limit_of};
+ghost use Rattle.ar_base.specs.declared.counts.Count.TheVariants.{ModelBytes, ScriptBytes};
+ghost use Rattle.ar_base.specs.declared.places.Place.{Place};
+ghost use Rattle.ar_io.specs.Outside.{Told, Bytes, Rose};
 ghost use Rattle.ar_meaning.specs.Runs.{Command};
 ghost use Rattle.altarica_run.specs.Small.{Block};
 ghost use Rattle.altarica_run.specs.Jobs.{job_of};
 ghost use Rattle.altarica_run.specs.Outside.{Appended};
 ghost use Rattle.altarica_run.specs.Replays.{IsReplay};
-ghost use Rattle.altarica_run.specs.Says.{Elaborates, Commands};
+ghost use Rattle.altarica_run.specs.Says.{Elaborates, Commands, Prepares};
 ghost use Rattle.altarica_run.specs.Answers.{Answers};
 ghost use Rattle.altarica_run.specs.Causes.{Cause, AsksFor};
 ghost use Rattle.altarica_run.specs.declared.refusals.Refusal.{Refusal};
+ghost use Rattle.altarica_run.specs.declared.refusals.Refusal.TheVariants.{Size, Syntax};
 ghost use Rattle.altarica_run.specs.declared.status.Status.{Status};
 ghost use Rattle.altarica_run.specs.declared.status.Status.TheVariants.{Memory};
 
@@ -32,6 +36,20 @@ pub fn one_reading()
 pub fn one_replay()
     ensures { (b : Block) (cs : List Command) (text other : List ℕ) (ends end : Status) → IsReplay b cs text ends → IsReplay b cs other end
         → (text ≡ other) × (ends ≡ end) }
+{}
+
+/// Over files that are told, the first stage that refuses decides: the model's length, the script's, the model's text, the script's lines.
+pub fn first_refusal()
+    ensures long_model { (text lines : List ℕ) (r : Result (Block × List Command) Refusal) → limit_of ModelBytes < length text
+        → Prepares (Bytes text) (Bytes lines) r → r ≡ Err (Size ModelBytes) }
+    ensures long_script { (text lines : List ℕ) (r : Result (Block × List Command) Refusal) → length text ≤ limit_of ModelBytes → limit_of ScriptBytes < length lines
+        → Prepares (Bytes text) (Bytes lines) r → r ≡ Err (Size ScriptBytes) }
+    ensures no_block { (text lines : List ℕ) (r : Result (Block × List Command) Refusal) (x : Refusal) → length text ≤ limit_of ModelBytes → length lines ≤ limit_of ScriptBytes
+        → Elaborates text (Err x) → Prepares (Bytes text) (Bytes lines) r → (place : Place) × (r ≡ Err (Syntax place)) }
+    ensures bad_line { (text lines : List ℕ) (r : Result (Block × List Command) Refusal) (b : Block) (x : Refusal) → length text ≤ limit_of ModelBytes → length lines ≤ limit_of ScriptBytes
+        → Elaborates text (Ok b) → Commands b lines (Err x) → Prepares (Bytes text) (Bytes lines) r → r ≡ Err x }
+    ensures run { (text lines : List ℕ) (r : Result (Block × List Command) Refusal) (b : Block) (cs : List Command) → length text ≤ limit_of ModelBytes → length lines ≤ limit_of ScriptBytes
+        → Elaborates text (Ok b) → Commands b lines (Ok cs) → Prepares (Bytes text) (Bytes lines) r → r ≡ Ok (b, cs) }
 {}
 
 /// A status has its cause.

@@ -1,9 +1,13 @@
 // Flat systems.
 
-ghost use Rattle.std.specs.Prelude.{◌≡◌};
+ghost use Rattle.std.specs.Prelude.{◌≡◌, ◌++◌, ◌≤◌, ℕ, List, Some, OnOk, OnErr};
+ghost use Rattle.ar_io.specs.Outside.{IsFront, Rose};
+ghost use Rattle.gts_core.specs.Printed.{flat_text};
 ghost use Rattle.gts_core.specs.Sound.{IsSound};
 
+use crate::print::system;
 use crate::system::GtsParts;
+use ar_io::{Sink, SinkFailed};
 use std::marker::Model;
 
 /// A flat system: a guarded transition system over numbered variables, seen as its parts.
@@ -46,5 +50,20 @@ impl Gts {
         ensures sound { IsSound self.now }
     {
         &self.parts
+    }
+
+    /// Writes the text of the system: its variables, its ways by event and number, its assignments and its observers, a
+    /// line each. After a fault of the sink the sink has a first part of the text. Takes no memory.
+    pub fn print<K: Sink>(&self, out: &mut K) -> Result<(), SinkFailed>
+        ensures appended { (bytes : List ℕ) → K.written out.old ≡ Some bytes → OnOk result (K.written out.new ≡ Some (bytes ++ flat_text self.now)) }
+        ensures cut { (bytes : List ℕ) → K.written out.old ≡ Some bytes → OnErr result ((front : List ℕ) × IsFront front (flat_text self.now) × (K.written out.new ≡ Some (bytes ++ front))) }
+        ensures failed { OnErr result (Rose (K.faults out.old) (K.faults out.new)) }
+        ensures rises { K.faults out.old ≤ K.faults out.new }
+    {
+        if system(out, true, &self.parts) {
+            Ok(())
+        } else {
+            Err(SinkFailed {})
+        }
     }
 }

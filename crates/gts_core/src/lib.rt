@@ -2,7 +2,10 @@
 #![tactic(auto)]
 
 mod bound;
+mod expressions;
 mod gts;
+mod pieces;
+mod print;
 mod system;
 
 pub use bound::{Act, Chain, DeclaredEvent, DeclaredWay};

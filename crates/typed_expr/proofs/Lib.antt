@@ -4,5 +4,7 @@ mod Gathering
 mod Forms
 mod Loops
 mod Arms
+pub mod Kinded
+pub mod Valued
 pub mod Renaming
 pub mod Facts

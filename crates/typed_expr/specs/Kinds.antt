@@ -1,5 +1,5 @@
 -- The kinds of expressions.
-use Rattle.std.specs.Prelude.{Bool, List, [], ◌∷◌, Box, Vec}
+use Rattle.std.specs.Prelude.{◌<◌, Bool, List, [], ◌∷◌, length, Box, Vec, Option, Some, None}
 use Rattle.std.specs.Global.{Global}
 use Rattle.domains.specs.declared.Value.{Value}
 use Rattle.domains.specs.declared.Value.TheVariants as value
@@ -32,30 +32,35 @@ mutual
     constant : {v : Value} → HasKind kinds (Constant v) (kind_of v)
     variable : {x : V} → HasKind kinds (Variable x) (kinds x)
     opposite : {a : Box (Expr V) Global} → HasKind kinds (out-Expr V a.value) Truth → HasKind kinds (Not a) Truth
-    all : {es : Vec (Expr V) Global} → Are kinds es.items Truth → HasKind kinds (All es) Truth
-    any : {es : Vec (Expr V) Global} → Are kinds es.items Truth → HasKind kinds (Any es) Truth
+    all : {es : Vec (Expr V) Global} → 0 < length es.items → Each kinds es.items Truth → HasKind kinds (All es) Truth
+    any : {es : Vec (Expr V) Global} → 0 < length es.items → Each kinds es.items Truth → HasKind kinds (Any es) Truth
     compared : {r : Relation} {a b : Box (Expr V) Global} {k : ValueKind} → Compares r k → HasKind kinds (out-Expr V a.value) k → HasKind kinds (out-Expr V b.value) k
         → HasKind kinds (Compare r a b) Truth
-    sum : {parts : Vec (Bool × Expr V) Global} → Parts_are kinds parts.items → HasKind kinds (Sum parts) Whole
-    product : {es : Vec (Expr V) Global} → Are kinds es.items Whole → HasKind kinds (Product es) Whole
-    least : {es : Vec (Expr V) Global} → Are kinds es.items Whole → HasKind kinds (Least es) Whole
-    greatest : {es : Vec (Expr V) Global} → Are kinds es.items Whole → HasKind kinds (Greatest es) Whole
-    count : {es : Vec (Expr V) Global} → Are kinds es.items Truth → HasKind kinds (Count es) Whole
-    choice : {cases : Vec (Expr V × Expr V) Global} {other : Box (Expr V) Global} {k : ValueKind} → Cases_are kinds cases.items k
-        → HasKind kinds (out-Expr V other.value) k → HasKind kinds (Choose cases other) k
+    sum : {ps : Vec (Bool × Expr V) Global} → 0 < length ps.items → Each_part kinds ps.items → HasKind kinds (Sum ps) Whole
+    product : {es : Vec (Expr V) Global} → 0 < length es.items → Each kinds es.items Whole → HasKind kinds (Product es) Whole
+    least : {es : Vec (Expr V) Global} → 0 < length es.items → Each kinds es.items Whole → HasKind kinds (Least es) Whole
+    greatest : {es : Vec (Expr V) Global} → 0 < length es.items → Each kinds es.items Whole → HasKind kinds (Greatest es) Whole
+    count : {es : Vec (Expr V) Global} → 0 < length es.items → Each kinds es.items Truth → HasKind kinds (Count es) Whole
+    choice : {cs : Vec (Expr V × Expr V) Global} {other : Box (Expr V) Global} {k : ValueKind} → 0 < length cs.items → Each_case kinds cs.items k
+        → HasKind kinds (out-Expr V other.value) k → HasKind kinds (Choose cs other) k
 
-  -- there is an operand, and each has the kind
-  pub data Are {V : Type 0} (kinds : V → ValueKind) : List (Expr V) → ValueKind → Type 0 where
-    one : {e : Expr V} {k : ValueKind} → HasKind kinds (out-Expr V e) k → Are kinds (e ∷ []) k
-    one_and : {e : Expr V} {es : List (Expr V)} {k : ValueKind} → HasKind kinds (out-Expr V e) k → Are kinds es k → Are kinds (e ∷ es) k
+  -- each operand has the kind
+  pub data Each {V : Type 0} (kinds : V → ValueKind) : List (Expr V) → ValueKind → Type 0 where
+    none : {k : ValueKind} → Each kinds [] k
+    one_and : {e : Expr V} {es : List (Expr V)} {k : ValueKind} → HasKind kinds (out-Expr V e) k → Each kinds es k → Each kinds (e ∷ es) k
 
-  -- there is a part, and each is a whole number
-  pub data Parts_are {V : Type 0} (kinds : V → ValueKind) : List (Bool × Expr V) → Type 0 where
-    one_part : {plus : Bool} {e : Expr V} → HasKind kinds (out-Expr V e) Whole → Parts_are kinds ((plus, e) ∷ [])
-    part_and : {plus : Bool} {e : Expr V} {ps : List (Bool × Expr V)} → HasKind kinds (out-Expr V e) Whole → Parts_are kinds ps → Parts_are kinds ((plus, e) ∷ ps)
+  -- each part is a whole number
+  pub data Each_part {V : Type 0} (kinds : V → ValueKind) : List (Bool × Expr V) → Type 0 where
+    no_part : Each_part kinds []
+    part_and : {plus : Bool} {e : Expr V} {ps : List (Bool × Expr V)} → HasKind kinds (out-Expr V e) Whole → Each_part kinds ps → Each_part kinds ((plus, e) ∷ ps)
 
-  -- there is a case, each test is a truth value, and each value has the kind
-  pub data Cases_are {V : Type 0} (kinds : V → ValueKind) : List (Expr V × Expr V) → ValueKind → Type 0 where
-    one_case : {test value : Expr V} {k : ValueKind} → HasKind kinds (out-Expr V test) Truth → HasKind kinds (out-Expr V value) k → Cases_are kinds ((test, value) ∷ []) k
-    case_and : {test value : Expr V} {cases : List (Expr V × Expr V)} {k : ValueKind} → HasKind kinds (out-Expr V test) Truth → HasKind kinds (out-Expr V value) k
-        → Cases_are kinds cases k → Cases_are kinds ((test, value) ∷ cases) k
+  -- each test is a truth value, and each value has the kind
+  pub data Each_case {V : Type 0} (kinds : V → ValueKind) : List (Expr V × Expr V) → ValueKind → Type 0 where
+    no_case : {k : ValueKind} → Each_case kinds [] k
+    case_and : {test value : Expr V} {cs : List (Expr V × Expr V)} {k : ValueKind} → HasKind kinds (out-Expr V test) Truth → HasKind kinds (out-Expr V value) k
+        → Each_case kinds cs k → Each_case kinds ((test, value) ∷ cs) k
+
+-- the answer is the kind of the expression, or there is none
+abbrev pub IsKindOf : {V : Type 0} → (V → ValueKind) → Level V → Option ValueKind → Type 0
+IsKindOf kinds e None = (k : ValueKind) → HasKind kinds e k → ⊥
+IsKindOf kinds e (Some k) = HasKind kinds e k

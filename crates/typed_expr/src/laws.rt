@@ -1,0 +1,38 @@
+// Laws of expressions, which have no code.
+
+ghost use Rattle.std.specs.Prelude.{◌≡◌, ◌↔◌, ◌<◌, ◌^◌, IsTrue, Contains, Bool, List, [], ◌∷◌, length, count_by, pos};
+ghost use Rattle.domains.specs.declared.Value.{Value};
+ghost use Rattle.typed_expr.specs.declared.expr.ValueKind.{ValueKind};
+ghost use Rattle.typed_expr.specs.declared.expr.Expr.{Expr, out-Expr};
+ghost use Rattle.typed_expr.specs.Values.{truth_of, count_of};
+ghost use Rattle.typed_expr.specs.Yields.{Level, Yields, facts_of};
+ghost use Rattle.typed_expr.specs.Kinds.{kind_of, HasKind};
+ghost use Rattle.typed_expr.specs.Total.{value_of};
+ghost use Rattle.typed_expr.specs.Renames.{Renames};
+
+/// More facts yield no less; over one fact for each variable a well-typed expression yields exactly its total value; an
+/// expression has one kind, and its total value is of that kind.
+pub fn expression_laws<V>()
+    ensures more_facts { (few more : V → List Value) → ((x : V) (v : Value) → Contains (few x) v → Contains (more x) v)
+        → (e : Level V) (v : Value) → Yields (facts_of few) e v → Yields (facts_of more) e v }
+    ensures one_fact { (t : V → Value) (kinds : V → ValueKind) → ((x : V) → kind_of (t x) ≡ kinds x)
+        → (e : Expr V) (kind : ValueKind) → HasKind kinds (out-Expr V e) kind
+        → (v : Value) → Yields (facts_of (λ x. t x ∷ [])) (out-Expr V e) v ↔ (v ≡ value_of t e) }
+    ensures total_kind { (t : V → Value) (kinds : V → ValueKind) → ((x : V) → kind_of (t x) ≡ kinds x)
+        → (e : Expr V) (kind : ValueKind) → HasKind kinds (out-Expr V e) kind → kind_of (value_of t e) ≡ kind }
+    ensures one_kind { (kinds : V → ValueKind) (e : Level V) (m n : ValueKind) → HasKind kinds e m → HasKind kinds e n → m ≡ n }
+{}
+
+/// An expression that differs from another in its variables alone yields the same, where related variables have the
+/// same facts.
+pub fn renaming_laws<V, W>()
+    ensures { (same : V → W → Bool) (facts : V → List Value) (others : W → List Value)
+        → ((x : V) (y : W) → IsTrue (same x y) → facts x ≡ others y)
+        → (e : Level V) (f : Level W) → Renames (λ x y. IsTrue (same x y)) e f
+        → (v : Value) → Yields (facts_of facts) e v ↔ Yields (facts_of others) f v }
+{}
+
+/// A count is the number of its true operands, where this is a number of 64 bits.
+pub fn count_law()
+    ensures { (values : List Value) → length values < 2 ^ 63 → count_of values ≡ pos (count_by truth_of values) }
+{}

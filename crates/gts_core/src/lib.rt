@@ -7,6 +7,8 @@ mod gts;
 mod pieces;
 mod print;
 mod system;
+#[cfg(test)]
+mod tests;
 
 pub use bound::{Act, Chain, DeclaredEvent, DeclaredWay};
 pub use gts::Gts;

@@ -1,0 +1,62 @@
+-- What tables make of conditions and of expressions.
+use Rattle.std.proofs.Common.{◌≡◌, ℕ, ◌+◌, ◌<◌, ◌≤◌, Bool, true, false, List, [], ◌∷◌, map, length, drop, get_or, sym, ap, ◌∙◌, subst}
+use Rattle.std.proofs.lemmas.List.{at_drop_more, at_drop_all}
+use Rattle.domains.specs.declared.Value.{Value}
+use Rattle.domains.specs.declared.Value.TheVariants.{Truth}
+use Rattle.typed_expr.specs.Sets.{HasExactly}
+use Rattle.typed_expr.specs.Yields.{Yields, facts_of}
+use Rattle.typed_expr.specs.declared.expr.Expr.{Expr, out-Expr}
+use Rattle.ar_meaning.specs.Facts.{Passes, none, one_and}
+use Rattle.ar_meaning.specs.Found.{IsAnswer}
+use Rattle.gts_core.specs.View.{VarId, numbered, condition_of}
+use Rattle.gts_core.proofs.Numbering.{yields_numbered, yields_back}
+use Rattle.flow_propagate.specs.Table.{Rows, row_at, Holds}
+
+-- the set of what the expression yields is that of its form over plain numbers
+pub tells : (rows : Rows) (e : Expr VarId) (set : List Value) → HasExactly set (Yields (facts_of (λ (x : VarId). row_at rows x.n)) (out-Expr VarId e)) → HasExactly set (Yields (Holds rows) (out-Expr ℕ (numbered e)))
+tells rows e set h = record {
+  sound = λ v c. yields_numbered (facts_of (λ (x : VarId). row_at rows x.n)) (Holds rows) e v (λ x w f. f) (h.sound v c);
+  complete = λ v y. h.complete v (yields_back (facts_of (λ (x : VarId). row_at rows x.n)) (Holds rows) e v (λ x w f. f) y);
+}
+
+-- the conditions from a place on decide
+pub record Decides (rows : Rows) (cs : List (Expr VarId × Bool)) (i : ℕ) : Type 0 where
+  pub on : Passes (Holds rows) (map condition_of (drop i cs)) → Passes (Holds rows) (map condition_of cs)
+  pub off : Passes (Holds rows) (map condition_of cs) → Passes (Holds rows) (map condition_of (drop i cs))
+
+pub decides_start : (rows : Rows) (cs : List (Expr VarId × Bool)) → Decides rows cs 0
+decides_start rows cs = record { on = λ h. h; off = λ h. h }
+
+module _ (rows : Rows) (cs : List (Expr VarId × Bool)) (i : ℕ) (c : Expr VarId × Bool) (h : i < length cs) (is : c ≡ get_or cs i c) where
+  split : drop i cs ≡ c ∷ drop (i + 1) cs
+  split = at_drop_more (λ (xs : List (Expr VarId × Bool)). xs) cs i c h ∙ ap (λ (z : Expr VarId × Bool). z ∷ drop (i + 1) cs) (sym is)
+
+  head : (d : Expr ℕ × Bool) (ds : List (Expr ℕ × Bool)) → Passes (Holds rows) (d ∷ ds) → Yields (Holds rows) (out-Expr ℕ d.0) (Truth d.1) × Passes (Holds rows) ds
+  head d ds (one_and y p) = (y, p)
+
+  there : Passes (Holds rows) (map condition_of (drop i cs)) → Yields (Holds rows) (out-Expr ℕ (numbered c.0)) (Truth c.1) × Passes (Holds rows) (map condition_of (drop (i + 1) cs))
+  there p = head _ _ (subst (λ (xs : List (Expr VarId × Bool)). Passes (Holds rows) (map condition_of xs)) split p)
+
+  back : Yields (Holds rows) (out-Expr ℕ (numbered c.0)) (Truth c.1) → Passes (Holds rows) (map condition_of (drop (i + 1) cs)) → Passes (Holds rows) (map condition_of (drop i cs))
+  back y p = subst (λ (xs : List (Expr VarId × Bool)). Passes (Holds rows) (map condition_of xs)) (sym split) (one_and y p)
+
+  pub decides_on : Decides rows cs i → Yields (Holds rows) (out-Expr ℕ (numbered c.0)) (Truth c.1) → Decides rows cs (i + 1)
+  decides_on r y = record { on = λ p. r.on (back y p); off = λ p. (there (r.off p)).1 }
+
+  pub decides_not : Decides rows cs i → (Yields (Holds rows) (out-Expr ℕ (numbered c.0)) (Truth c.1) → ⊥) → Passes (Holds rows) (map condition_of cs) → ⊥
+  decides_not r n p = n (there (r.off p)).0
+
+pub decides_all : (rows : Rows) (cs : List (Expr VarId × Bool)) (i : ℕ) → length cs ≤ i → Decides rows cs i → Passes (Holds rows) (map condition_of cs)
+decides_all rows cs i h r =
+    let e : drop i cs ≡ [] = at_drop_all (λ (xs : List (Expr VarId × Bool)). xs) cs i h in
+    r.on (subst (λ (xs : List (Expr VarId × Bool)). Passes (Holds rows) (map condition_of xs)) (sym e) none)
+
+-- the test says that P holds
+pub holds : (P : Type 0) (b : Bool) → b ≡ true → IsAnswer b P → P
+holds P true e h = h
+holds P false e h = absurd (cc e)
+
+-- the test says that P does not hold
+pub fails : (P : Type 0) (b : Bool) → b ≡ false → IsAnswer b P → P → ⊥
+fails P true e h = absurd (cc e)
+fails P false e h = h

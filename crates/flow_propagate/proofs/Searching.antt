@@ -1,0 +1,185 @@
+-- The searches for faults find what they look for.
+use Rattle.std.proofs.Common.{◌≡◌, ℕ, zero, suc, ◌+◌, ◌<◌, ◌≤◌, ◌⊎◌, inl, inr, Bool, true, false, cond, nat_lt, List, [], ◌∷◌, length, get_or, Contains, Option, Some, None, refl, sym, ap, ◌∙◌, subst, arith}
+use Rattle.std.proofs.lemmas.Bool.Decides.{nat_tests}
+use Rattle.ar_base.specs.Lists.{Stands, IsOneOf, IsFirst, HasNo}
+use Rattle.ar_base.proofs.Standing.{stands_one, stands_map, stands_map_back, stands_within}
+use Rattle.domains.proofs.Domains.{held, listed}
+use Rattle.domains.specs.declared.Value.{Value}
+use Rattle.domains.specs.declared.Domain.{Domain}
+use Rattle.typed_expr.proofs.Facts.{yields_more}
+use Rattle.typed_expr.specs.Yields.{Yields}
+use Rattle.typed_expr.specs.declared.expr.Expr.{out-Expr}
+use Rattle.ar_meaning.specs.Systems as s
+use Rattle.ar_meaning.specs.Facts.{FactOf, Passes}
+use Rattle.ar_meaning.specs.Flows.{HasTwo, IsOutside}
+use Rattle.ar_meaning.specs.Found.{IsAnswer}
+use Rattle.ar_meaning.proofs.Least.{passes_more}
+use Rattle.gts_core.specs.View.{assign_of, net_of, variable_of}
+use Rattle.gts_core.specs.Sound.{IsSound}
+use Rattle.gts_core.proofs.Viewing.{variable_there, variable_back}
+use Rattle.gts_core.specs.declared.system.Variable.{Variable}
+use Rattle.gts_core.specs.declared.system.Assign.{Assign}
+use Rattle.gts_core.specs.declared.system.GtsParts.{GtsParts}
+use Rattle.flow_propagate.specs.Table.{Rows, row_at, Holds, AreFacts}
+use Rattle.flow_propagate.specs.Searches.{AreTwo, HasOther, IsTwo, Leaves, LeavesDomain, IsLeast, least_with}
+
+pub at_most : (k i : ℕ) → k < i + 1 → (k < i) ⊎ (k ≡ i)
+at_most zero zero h = inr refl
+at_most zero (suc i) h = inl (omega arith)
+at_most (suc k) zero h = absurd (omega arith)
+at_most (suc k) (suc i) h = elim (at_most k i (omega arith)) [ inl a ↦ inl (omega arith) | inr a ↦ inr (ap suc a) ]
+
+pub stands_read : {A : Type 0} (xs : List A) (i : ℕ) (a : A) → i < length xs → a ≡ get_or xs i a → Stands xs i a
+stands_read [] zero a h is = absurd (omega arith)
+stands_read [] (suc i) a h is = absurd (omega arith)
+stands_read (x ∷ xs) zero a h is = ap Some (sym is)
+stands_read (x ∷ xs) (suc i) a h is = stands_read xs i a (omega arith) is
+
+-- one item more that has not P
+pub before_more : {A : Type 0} (xs : List A) (i : ℕ) (a : A) (P : ℕ → A → Type 0) → ((k : ℕ) (x : A) → k < i → Stands xs k x → P k x → ⊥) → Stands xs i a → (P i a → ⊥)
+    → (k : ℕ) (x : A) → k < i + 1 → Stands xs k x → P k x → ⊥
+before_more {A} xs i a P before st n k x l s h = go (at_most k i l)
+  where
+    go : (k < i) ⊎ (k ≡ i) → ⊥
+    go (inl j) = before k x j s h
+    go (inr j) =
+        let same : x ≡ a = stands_one xs i x a (subst (λ (z : ℕ). Stands xs z x) j s) st in
+        n (subst (λ (z : A). P i z) same (subst (λ (z : ℕ). P z x) j h))
+
+-- a row with a value that is not its first
+pub two_of_other : (row : List Value) (v : Value) → Contains row v → HasOther row v → AreTwo row
+two_of_other row v c h = record { first = v; second = h.other; has_first = c; has_second = h.has; differ = λ e. h.differs (sym e) }
+
+module _ (p : GtsParts) (t : List Value) (rows : Rows) (facts : AreFacts (net_of p) t rows) where
+  two_there : (n : ℕ) (x : Variable) → IsTwo x.is_state (row_at rows n) → HasTwo (net_of p) t (variable_of n x)
+  two_there n x h = record {
+    is_flow = h.0;
+    first = h.1.first;
+    second = h.1.second;
+    is_first = facts.sound n h.1.first h.1.has_first;
+    is_second = facts.sound n h.1.second h.1.has_second;
+    differ = h.1.differ;
+  }
+
+  two_back : (n : ℕ) (x : Variable) → HasTwo (net_of p) t (variable_of n x) → IsTwo x.is_state (row_at rows n)
+  two_back n x h = (
+    h.is_flow,
+    record {
+      first = h.first;
+      second = h.second;
+      has_first = facts.complete n h.first h.is_first;
+      has_second = facts.complete n h.second h.is_second;
+      differ = h.differ;
+    },
+  )
+
+  two_before : (n : ℕ) → ((k : ℕ) (x : Variable) → k < n → Stands p.variables.items k x → IsTwo x.is_state (row_at rows k) → ⊥)
+      → (k : ℕ) (y : s.Variable ℕ) → k < n → Stands (net_of p).variables k y → HasTwo (net_of p) t y → ⊥
+  two_before n before k y l st h =
+      let r = variable_back p k y st in
+      before k r.0 l r.1 (two_back k r.0 (subst (λ (z : s.Variable ℕ). HasTwo (net_of p) t z) (sym r.2) h))
+
+  pub two_found : (n : ℕ) (x : Variable) → Stands p.variables.items n x → IsTwo x.is_state (row_at rows n) → ((k : ℕ) (x : Variable) → k < n → Stands p.variables.items k x → IsTwo x.is_state (row_at rows k) → ⊥)
+      → IsFirst (net_of p).variables (HasTwo (net_of p) t) n
+  two_found n x st h before = record { item = variable_of n x; stands = variable_there p n x st; has = two_there n x h; before = two_before n before }
+
+  pub two_none : (n : ℕ) → length p.variables.items ≤ n → ((k : ℕ) (x : Variable) → k < n → Stands p.variables.items k x → IsTwo x.is_state (row_at rows k) → ⊥)
+      → HasNo (net_of p).variables (HasTwo (net_of p) t)
+  two_none n h before = record {
+    has_not = λ k y st two.
+        let r = variable_back p k y st in
+        let below = stands_within p.variables.items k r.0 r.1 in
+        two_before n before k y (omega (arith, below)) st two;
+  }
+
+-- an answer about the domain of the target
+pub leaves_as : (p : GtsParts) (rows : Rows) (a : Assign) (d : Domain) (b : Bool) (x : Variable) → Stands p.variables.items a.target.n x → d ≡ x.domain → IsAnswer b (Leaves rows d a) → IsAnswer b (LeavesDomain p rows a)
+leaves_as p rows a d true x st e h = record { variable = x; stands = st; leaves = subst (λ (z : Domain). Leaves rows z a) e h }
+leaves_as p rows a d false x st e h = λ k.
+    let same : k.variable ≡ x = stands_one p.variables.items a.target.n k.variable x k.stands st in
+    h (subst (λ (z : Domain). Leaves rows z a) (ap (λ (z : Variable). z.domain) same ∙ sym e) k.leaves)
+
+pub least_more : (all : List Assign) (i : ℕ) (a : Assign) (P : Assign → Type 0) (least : Option ℕ) (b : Bool) → Stands all i a → IsLeast all i P least → IsAnswer b (P a) → IsLeast all (i + 1) P (least_with least b a.target.n)
+least_more all i a P None false st l n = before_more all i a (λ k x. P x) l st n
+least_more all i a P None true st l h = ((i, a, st, h, refl), λ k x below s q. go k x s q (at_most k i below))
+  where
+    go : (k : ℕ) (x : Assign) → Stands all k x → P x → (k < i) ⊎ (k ≡ i) → a.target.n ≤ x.target.n
+    go k x s q (inl j) = absurd (l k x j s q)
+    go k x s q (inr j) = let same : x ≡ a = stands_one all i x a (subst (λ (z : ℕ). Stands all z x) j s) st in let e = ap (λ (z : Assign). z.target.n) same in omega (arith, e)
+least_more all i a P (Some n) false st l m = (l.0, λ k x below s q. go k x s q (at_most k i below))
+  where
+    go : (k : ℕ) (x : Assign) → Stands all k x → P x → (k < i) ⊎ (k ≡ i) → n ≤ x.target.n
+    go k x s q (inl j) = l.1 k x j s q
+    go k x s q (inr j) = let same : x ≡ a = stands_one all i x a (subst (λ (z : ℕ). Stands all z x) j s) st in absurd (m (subst P same q))
+least_more all i a P (Some n) true st l h = by_test (nat_lt a.target.n n) refl
+  where
+    go : (m : ℕ) → m ≤ n → m ≤ a.target.n → (k : ℕ) (x : Assign) → Stands all k x → P x → (k < i) ⊎ (k ≡ i) → m ≤ x.target.n
+    go m u v k x s q (inl j) = let w = l.1 k x j s q in omega (arith, w)
+    go m u v k x s q (inr j) = let same : x ≡ a = stands_one all i x a (subst (λ (z : ℕ). Stands all z x) j s) st in let e = ap (λ (z : Assign). z.target.n) same in omega (arith, e)
+
+    low : (m n : ℕ) → nat_lt m n ≡ true → m ≤ n
+    low m n e = grind (arith, nat_tests)
+
+    high : (m n : ℕ) → nat_lt m n ≡ false → n ≤ m
+    high m n e = grind (arith, nat_tests)
+
+    by_test : (c : Bool) → nat_lt a.target.n n ≡ c → IsLeast all (i + 1) P (Some (cond c a.target.n n))
+    by_test true e = ((i, a, st, h, refl), λ k x below s q. go a.target.n (low a.target.n n e) (omega arith) k x s q (at_most k i below))
+    by_test false e = (l.0, λ k x below s q. go n (omega arith) (high a.target.n n e) k x s q (at_most k i below))
+
+module _ (p : GtsParts) (sound : IsSound p) (t : List Value) (rows : Rows) (facts : AreFacts (net_of p) t rows) where
+  -- an outside flow of the system is the target of an assignment that leaves its domain
+  outside_back : (n : ℕ) (y : s.Variable ℕ) → Stands (net_of p).variables n y → IsOutside (net_of p) t y → (k : ℕ) × (a : Assign) × Stands p.assigns.items k a × LeavesDomain p rows a × (a.target.n ≡ n)
+  outside_back n y st h =
+      let i = stands_map_back assign_of p.assigns.items h.is_one.place h.assign h.is_one.stands in
+      let v = variable_back p n y st in
+      let key : y.key ≡ n = sym (ap (λ (z : s.Variable ℕ). z.key) v.2) in
+      let target : i.0.target.n ≡ n = ap (λ (z : s.Assign ℕ). z.target) i.2 ∙ h.is_target ∙ key in
+      let one : IsOneOf p.assigns.items i.0 = record { place = h.is_one.place; stands = i.1 } in (
+        h.is_one.place,
+        i.0,
+        i.1,
+        record {
+          variable = v.0;
+          stands = subst (λ (z : ℕ). Stands p.variables.items z v.0) (sym target) v.1;
+          leaves = record {
+            passes = subst (λ (z : s.Assign ℕ). Passes (Holds rows) z.conditions) (sym i.2) (passes_more ℕ (FactOf (net_of p) t) (Holds rows) facts.complete h.passes);
+            value = h.value;
+            yields = subst (λ (z : s.Assign ℕ). Yields (Holds rows) (out-Expr ℕ z.value) h.value) (sym i.2) (yields_more ℕ (FactOf (net_of p) t) (Holds rows) facts.complete h.yields);
+            outside = λ c. h.outside (subst (λ (z : s.Variable ℕ). Contains z.domain h.value) v.2 (listed v.0.domain h.value c));
+          };
+        },
+        target,
+      )
+
+  outside_there : (a : Assign) (n : ℕ) → IsOneOf p.assigns.items a → (l : LeavesDomain p rows a) → a.target.n ≡ n → IsOutside (net_of p) t (variable_of n l.variable)
+  outside_there a n one l e =
+      let r = sound.assertions a one in
+      let same : r.variable ≡ l.variable = stands_one p.variables.items a.target.n r.variable l.variable r.stands l.stands in record {
+        is_flow = sym (ap (λ (z : Variable). z.is_state) same) ∙ r.is;
+        assign = assign_of a;
+        value = l.leaves.value;
+        is_one = record { place = one.place; stands = stands_map assign_of p.assigns.items one.place a one.stands };
+        is_target = e;
+        passes = passes_more ℕ (Holds rows) (FactOf (net_of p) t) facts.sound l.leaves.passes;
+        yields = yields_more ℕ (Holds rows) (FactOf (net_of p) t) facts.sound l.leaves.yields;
+        outside = λ c. l.leaves.outside (held l.variable.domain l.leaves.value (sound.variables a.target.n l.variable l.stands).domain c);
+      }
+
+  pub outside_found : (n : ℕ) → IsLeast p.assigns.items (length p.assigns.items) (LeavesDomain p rows) (Some n) → IsFirst (net_of p).variables (IsOutside (net_of p) t) n
+  outside_found n l =
+      let w = l.0 in
+      let one : IsOneOf p.assigns.items w.1 = record { place = w.0; stands = w.2 } in record {
+        item = variable_of n w.3.variable;
+        stands = variable_there p n w.3.variable (subst (λ (z : ℕ). Stands p.variables.items z w.3.variable) w.4 w.3.stands);
+        has = outside_there w.1 n one w.3 w.4;
+        before = λ k y below st h.
+            let b = outside_back k y st h in
+            let low = l.1 b.0 b.1 (stands_within p.assigns.items b.0 b.1 b.2) b.2 b.3 in omega (arith, low, b.4);
+      }
+
+  pub outside_none : IsLeast p.assigns.items (length p.assigns.items) (LeavesDomain p rows) None → HasNo (net_of p).variables (IsOutside (net_of p) t)
+  outside_none l = record {
+    has_not = λ k y st h.
+        let b = outside_back k y st h in l b.0 b.1 (stands_within p.assigns.items b.0 b.1 b.2) b.2 b.3;
+  }

@@ -1,0 +1,9 @@
+use Rattle.std.proofs.Common.{◌<◌, ℕ}
+use Rattle.ar_base.specs.Lists.{Stands}
+use Rattle.gts_core.specs.declared.system.Variable.{Variable}
+use Rattle.flow_propagate.specs.Table.{row_at}
+use Rattle.flow_propagate.specs.Searches.{IsTwo}
+use Rattle.flow_propagate.proofs.searches.first_two.Given as goal
+
+abbrev pub invariant-loop-place : goal.invariant-loop-place
+invariant-loop-place l = (k : ℕ) (x : Variable) → k < l.place → Stands l.parts.variables.items k x → IsTwo x.is_state (row_at l.table.rows.items k) → ⊥

@@ -1,0 +1,82 @@
+-- Tables of facts: a row of values for each variable.
+use Rattle.std.specs.Prelude.{◌≡◌, ◌<◌, if◌then◌else◌, ℕ, ◌⊎◌, Bool, false, List, [], ◌∷◌, length, Option, Some, None, slice_get, Contains, Vec}
+use Rattle.std.specs.Global.{Global}
+use Rattle.ar_base.specs.Lists.{Stands}
+use Rattle.gts_core.specs.declared.system.Variable.{Variable}
+use Rattle.domains.specs.Domains as domains
+use Rattle.domains.specs.declared.Domain.{Domain}
+use Rattle.domains.specs.declared.Value.{Value}
+use Rattle.domains.specs.declared.Value.TheVariants.{Truth}
+use Rattle.typed_expr.specs.Sets.{HasExactly}
+use Rattle.typed_expr.specs.Yields.{Yields}
+use Rattle.typed_expr.specs.declared.expr.Expr.{out-Expr}
+use Rattle.ar_meaning.specs.Systems.{Assign, Net}
+use Rattle.ar_meaning.specs.Facts.{Passes, Allows, FactOf}
+
+-- a table: the values known of each variable, by number
+abbrev pub Rows : Type 0
+Rows = List (Vec Value Global)
+
+-- the row that was looked up
+abbrev pub items_of : Option (Vec Value Global) → List Value
+items_of (Some row) = row.items
+items_of None = []
+
+-- the values known of the variable of this number
+abbrev pub row_at : Rows → ℕ → List Value
+row_at rows n = items_of (slice_get rows n)
+
+-- the first value of a row; false in an empty one
+abbrev pub first_of : List Value → Value
+first_of [] = Truth false
+first_of (v ∷ vs) = v
+
+-- the table has the value for the variable
+abbrev pub Holds : Rows → ℕ → Value → Type 0
+Holds rows n v = Contains (row_at rows n) v
+
+-- the table has no more than the facts of the state
+abbrev pub IsSoundTable : Net ℕ → List Value → Rows → Type 0
+IsSoundTable net t rows = (n : ℕ) (v : Value) → Holds rows n v → FactOf net t n v
+
+-- the table has what the assignment adds to it
+abbrev pub IsClosed : Net ℕ → Rows → Assign ℕ → Type 0
+IsClosed net rows a = (v : Value) → Passes (Holds rows) a.conditions → Yields (Holds rows) (out-Expr ℕ a.value) v → Allows net a.target v → Holds rows a.target v
+
+-- the table keeps its facts, and may have got more of them; where nothing changed it is the same
+pub record Moves (net : Net ℕ) (old new : Rows) (changed : Bool) : Type 0 where
+  pub long : length new ≡ length old
+  pub grows : (n : ℕ) (v : Value) → Holds old n v → Holds new n v
+  pub sound : (t : List Value) → IsSoundTable net t old → IsSoundTable net t new
+  pub still : changed ≡ false → new ≡ old
+
+-- the table has exactly the facts of the state
+pub record AreFacts (net : Net ℕ) (t : List Value) (rows : Rows) : Type 0 where
+  pub sound : (n : ℕ) (v : Value) → Holds rows n v → FactOf net t n v
+  pub complete : (n : ℕ) (v : Value) → FactOf net t n v → Holds rows n v
+
+-- what an assignment that is reached yields, or that it is not reached
+abbrev pub Reaches : Rows → Assign ℕ → Option (List Value) → Type 0
+Reaches rows a None = Passes (Holds rows) a.conditions → ⊥
+Reaches rows a (Some set) = Passes (Holds rows) a.conditions × HasExactly set (Yields (Holds rows) (out-Expr ℕ a.value))
+
+-- one value more for a variable, where its domain has the value and the table lacked it
+pub record Puts (domain : Domain) (target : ℕ) (v : Value) (old new : Rows) (changed : Bool) : Type 0 where
+  pub long : length new ≡ length old
+  pub grows : (n : ℕ) (w : Value) → Holds old n w → Holds new n w
+  pub only : (n : ℕ) (w : Value) → Holds new n w → Holds old n w ⊎ ((n ≡ target) × (w ≡ v) × domains.Holds domain w)
+  pub still : changed ≡ false → new ≡ old
+  pub there : domains.Holds domain v → Holds new target v
+
+-- these values for a variable, those of them that its domain has
+pub record PutsAll (domain : Domain) (target : ℕ) (values : List Value) (old new : Rows) (changed : Bool) : Type 0 where
+  pub long : length new ≡ length old
+  pub grows : (n : ℕ) (w : Value) → Holds old n w → Holds new n w
+  pub only : (n : ℕ) (w : Value) → Holds new n w → Holds old n w ⊎ ((n ≡ target) × Contains values w × domains.Holds domain w)
+  pub still : changed ≡ false → new ≡ old
+  pub there : (w : Value) → Contains values w → domains.Holds domain w → Holds new target w
+
+-- the first rows of a table: the value of each state variable, and nothing for a flow
+pub record Starts (variables : List Variable) (values : List Value) (count : ℕ) (rows : Rows) : Type 0 where
+  pub long : length rows ≡ count
+  pub row : (n : ℕ) (x : Variable) (v : Value) → n < count → Stands variables n x → Stands values n v → row_at rows n ≡ (if x.is_state then v ∷ [] else [])

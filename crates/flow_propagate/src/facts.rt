@@ -1,0 +1,154 @@
+// The facts that follow from a state.
+
+ghost use Rattle.std.specs.Prelude.{true, false, Bool, [], ◌∷◌, if◌then◌else◌, ◌≡◌, ◌⊎◌, ◌<◌, ◌≤◌, ℕ, List, length, map, IfOk, IsTrue, Contains};
+ghost use Rattle.ar_base.specs.Lists.{IsOneOf};
+ghost use Rattle.domains.specs.Domains.{IsDomain};
+ghost use Rattle.ar_meaning.specs.Systems.{Assign as Assigns};
+ghost use Rattle.gts_core.specs.View.{net_of, assign_of};
+ghost use Rattle.gts_core.specs.Sound.{IsSound};
+ghost use Rattle.flow_propagate.specs.Table.{Holds, IsClosed, Moves, AreFacts, Puts, PutsAll, Starts};
+
+use crate::table::{Table, has, yielded};
+use ar_base::Memory;
+use domains::{Domain, Value};
+use gts_core::{Assign, GtsParts};
+use std::alloc::Global;
+
+// Puts a value into a variable's row, where the domain has it and the row lacks it, and answers whether the row changed.
+fn put(table: &mut Table, domain: &Domain, target: u32, v: Value) -> Result<bool, Memory>
+    requires in_range { target < length table.old.rows.items }
+    requires domain { IsDomain domain.now }
+    ensures { IfOk result (λ changed. Puts domain.now target v table.old.rows.items table.new.rows.items changed) }
+{
+    if !domain.holds(v) {
+        return Ok(false);
+    }
+    if has(&table.rows[target as usize], v) {
+        return Ok(false);
+    }
+    table.rows[target as usize].push(v)?;
+    Ok(true)
+}
+
+// Puts values into a variable's row.
+fn put_all(
+    table: &mut Table,
+    domain: &Domain,
+    target: u32,
+    values: &[Value],
+) -> Result<bool, Memory>
+    requires in_range { target < length table.old.rows.items }
+    requires domain { IsDomain domain.now }
+    ensures { IfOk result (λ changed. PutsAll domain.now target values.now table.old.rows.items table.new.rows.items changed) }
+{
+    let mut changed = false;
+    for v in values {
+        let more = put(table, domain, target, *v)?;
+        changed = either(changed, more);
+    }
+    Ok(changed)
+}
+
+// Whether one of the two is true.
+fn either(a: bool, b: bool) -> bool
+    ensures { (result ≡ false) → ((a ≡ false) × (b ≡ false)) }
+{
+    a || b
+}
+
+// Adds what an assignment yields, and answers whether the table changed.
+fn apply(
+    alloc: Global,
+    parts: &GtsParts,
+    assign: &Assign,
+    table: &mut Table,
+) -> Result<bool, Memory>
+    requires sound { IsSound parts.now }
+    requires one { IsOneOf parts.now.assigns.items assign.now }
+    requires long { length table.old.rows.items ≡ length parts.now.variables.items }
+    ensures moves { IfOk result (λ changed. Moves (net_of parts.now) table.old.rows.items table.new.rows.items changed) }
+    ensures closed { IfOk result (λ changed. changed ≡ false → IsClosed (net_of parts.now) table.old.rows.items (assign_of assign.now)) }
+{
+    let Some(set) = yielded(alloc, assign, table)? else {
+        return Ok(false);
+    };
+    let domain = &parts.variables[assign.target.n as usize].domain;
+    let changed = put_all(table, domain, assign.target.n, set.values())?;
+    Ok(changed)
+}
+
+// Adds what each assignment yields, once, and answers whether the table changed.
+fn pass(alloc: Global, parts: &GtsParts, table: &mut Table) -> Result<bool, Memory>
+    requires sound { IsSound parts.now }
+    requires long { length table.old.rows.items ≡ length parts.now.variables.items }
+    ensures moves { IfOk result (λ changed. Moves (net_of parts.now) table.old.rows.items table.new.rows.items changed) }
+    ensures closed { IfOk result (λ changed. changed ≡ false → (a : Assigns ℕ) → IsOneOf (net_of parts.now).assertions a → IsClosed (net_of parts.now) table.old.rows.items a) }
+{
+    let mut changed = false;
+    for assign in &parts.assigns {
+        let more = apply(alloc, parts, assign, table)?;
+        changed = either(changed, more);
+    }
+    Ok(changed)
+}
+
+// The table with the values of the state variables alone.
+fn start(alloc: Global, parts: &GtsParts, values: &[Value]) -> Result<Table, Memory>
+    requires { length values.now ≡ length parts.now.variables.items }
+    ensures { IfOk result (λ table. Starts parts.now.variables.items values.now (length parts.now.variables.items) table.rows.items) }
+{
+    let mut rows = Vec::new(alloc);
+    for (place, variable) in parts.variables.iter().enumerate() {
+        let row = first_row(alloc, variable.is_state, values[place])?;
+        rows.push(row)?;
+    }
+    Ok(Table { rows })
+}
+
+// The row of a variable: its value where it is a state variable, else nothing.
+fn first_row(alloc: Global, is_state: bool, v: Value) -> Result<Vec<Value>, Memory>
+    ensures { IfOk result (λ row. row.items ≡ (if is_state then v ∷ [] else [])) }
+{
+    let mut row = Vec::new(alloc);
+    if is_state {
+        row.push(v)?;
+        Ok(row)
+    } else {
+        Ok(row)
+    }
+}
+
+// Adds what the assignments yield until nothing changes. Each pass but the last adds a fact, and a variable has at most 256
+// of them, so the passes suffice.
+fn close(alloc: Global, parts: &GtsParts, table: Table) -> Result<Table, Memory>
+    requires sound { IsSound parts.now }
+    requires long { length table.rows.items ≡ length parts.now.variables.items }
+    ensures moves { IfOk result (λ closed. (changed : Bool) × Moves (net_of parts.now) table.rows.items closed.rows.items changed) }
+    ensures closed { IfOk result (λ closed. (a : Assigns ℕ) → IsOneOf (net_of parts.now).assertions a → IsClosed (net_of parts.now) closed.rows.items a) }
+{
+    let mut table = table;
+    for _pass in 0..passes(parts.variables.len()) {
+        let changed = pass(alloc, parts, &mut table)?;
+        if !changed {
+            return Ok(table);
+        }
+    }
+    Err(Memory {})
+}
+
+// More passes than facts that so many variables may have.
+fn passes(variables: usize) -> u64 {
+    (variables as u64).saturating_mul(256).saturating_add(1)
+}
+
+// The facts of a state.
+pub(crate) fn known(alloc: Global, parts: &GtsParts, values: &[Value]) -> Result<Table, Memory>
+    requires sound { IsSound parts.now }
+    requires long { length values.now ≡ length parts.now.variables.items }
+    ensures facts { IfOk result (λ table. AreFacts (net_of parts.now) values.now table.rows.items) }
+    ensures long { IfOk result (λ table. length table.rows.items ≡ length parts.now.variables.items) }
+{
+    let first = start(alloc, parts, values)?;
+    let table = close(alloc, parts, first)?;
+    Ok(table)
+}

@@ -1,0 +1,93 @@
+// Tables of facts.
+
+ghost use Rattle.std.specs.Prelude.{true, false, ◌≡◌, ◌⊎◌, ◌<◌, ◌≤◌, ℕ, List, length, map, IfOk, IsTrue, Contains};
+ghost use Rattle.domains.specs.Domains.{IsDomain, Holds as DomainHolds};
+ghost use Rattle.domains.specs.declared.Value.{Value};
+ghost use Rattle.domains.specs.declared.Value.TheVariants.{Truth};
+ghost use Rattle.typed_expr.specs.Kinds.{kind_of};
+ghost use Rattle.ar_meaning.specs.Facts.{Passes};
+ghost use Rattle.ar_meaning.specs.Found.{IsAnswer};
+ghost use Rattle.gts_core.specs.View.{assign_of, condition_of};
+ghost use Rattle.flow_propagate.specs.Table.{Holds, Reaches, row_at, first_of};
+
+use ar_base::{Memory, VarId};
+use domains::{Domain, Value};
+use gts_core::Assign;
+use std::alloc::Global;
+use typed_expr::{Env, Expr, ValueKind, ValueSet, eval_set};
+
+/// The values known of each variable, by number.
+#[derive(Drop)]
+pub struct Table {
+    pub rows: Vec<Vec<Value>>,
+}
+
+impl Env<VarId> for Table {
+    ghost value_at = { λ t x. first_of (row_at t.rows.items x.n) };
+
+    ghost facts_at = { λ t x. row_at t.rows.items x.n };
+
+    ghost kind_at = { λ t x. kind_of (first_of (row_at t.rows.items x.n)) };
+
+    fn value(&self, v: &VarId) -> Value {
+        match self.facts(v).first() {
+            Some(value) => *value,
+            None => Value::Truth(false),
+        }
+    }
+
+    fn facts(&self, v: &VarId) -> &[Value] {
+        match self.rows.get(v.n as usize) {
+            Some(row) => row,
+            None => &[],
+        }
+    }
+
+    fn kind(&self, v: &VarId) -> ValueKind {
+        match self.value(v) {
+            Value::Truth(_) => ValueKind::Truth,
+            Value::Whole(_) => ValueKind::Whole,
+            Value::Symbol(_) => ValueKind::Symbol,
+        }
+    }
+}
+
+// Whether every condition yields the truth value that it must have.
+pub(crate) fn reached(
+    alloc: Global,
+    conditions: &[(Expr<VarId>, bool)],
+    table: &Table,
+) -> Result<bool, Memory>
+    ensures { IfOk result (λ b. IsAnswer b (Passes (Holds table.now.rows.items) (map condition_of conditions.now))) }
+{
+    for (test, must) in conditions {
+        let set = eval_set(alloc, test, table)?;
+        if !has(set.values(), Value::Truth(*must)) {
+            return Ok(false);
+        }
+    }
+    Ok(true)
+}
+
+// Whether the value is one of these.
+pub(crate) fn has(values: &[Value], v: Value) -> bool
+    ensures { IsAnswer result (Contains values.now v) }
+{
+    values.contains(&v)
+}
+
+// What an assignment yields, where it is reached.
+pub(crate) fn yielded(
+    alloc: Global,
+    assign: &Assign,
+    table: &Table,
+) -> Result<Option<ValueSet>, Memory>
+    ensures { IfOk result (λ o. Reaches table.now.rows.items (assign_of assign.now) o) }
+{
+    let reaches = reached(alloc, &assign.when, table)?;
+    if !reaches {
+        return Ok(None);
+    }
+    let set = eval_set(alloc, &assign.value, table)?;
+    Ok(Some(set))
+}

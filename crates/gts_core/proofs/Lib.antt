@@ -1,0 +1,4 @@
+mod Going
+mod Texts
+pub mod Numbering
+pub mod Viewing

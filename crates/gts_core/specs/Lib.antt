@@ -1,0 +1,4 @@
+pub mod View
+pub mod Sound
+pub mod Printed
+pub mod Goes

@@ -1,0 +1,15 @@
+//! Flat systems: variables, events with their ways, assertions and observers by number; what they mean, and their text.
+#![tactic(auto)]
+
+mod bound;
+mod expressions;
+mod gts;
+mod pieces;
+mod print;
+mod system;
+#[cfg(test)]
+mod tests;
+
+pub use bound::{Act, Chain, DeclaredEvent, DeclaredWay};
+pub use gts::Gts;
+pub use system::{Assign, Event, GtsParts, Observer, Valuation, Variable, Way, WayBody};

@@ -115,6 +115,10 @@ pub and_right : (p q : Bool) → (p && q) ≡ true → q ≡ true
 and_right true q h = h
 and_right false q h = absurd (cc)
 
+pub either : (p q : Bool) → (p || q) ≡ true → (p ≡ true) ⊎ (q ≡ true)
+either true q h = inl refl
+either false q h = inr h
+
 pub or_right : (p q : Bool) → q ≡ true → (p || q) ≡ true
 or_right true q h = refl
 or_right false q h = h

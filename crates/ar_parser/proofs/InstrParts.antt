@@ -31,7 +31,7 @@ not_sign n k h = by_test (is_sign n k) refl
 pub pushed_all : {X : Type 0} {empty items more : List X} → items ≡ empty ++ more → empty ≡ [] → items ≡ more
 pushed_all {more = more} e z = e ∙ ap (λ (xs : List _). xs ++ more) z
 
-between_has : {opens closes next : TokenKind} {ts : Tokens} {A B : Form} → between opens closes A next ts → ((next : TokenKind) (ts : Tokens) → A next ts → B next ts) → between opens closes B next ts
+pub between_has : {opens closes next : TokenKind} {ts : Tokens} {A B : Form} → between opens closes A next ts → ((next : TokenKind) (ts : Tokens) → A next ts → B next ts) → between opens closes B next ts
 between_has h f = then_map h (λ next ts j. j) (λ next ts k. then_map k f (λ next ts j. j))
 
 pub between_kind : {opens closes next : TokenKind} {ts : Tokens} {A B : Form} → (between opens closes A ▸ B) next ts → kind_or next ts ≡ opens

@@ -7,3 +7,4 @@ pub mod PrimaryParts
 pub mod InstrParts
 pub mod UnreadParts
 pub mod MemberParts
+pub mod BodyParts

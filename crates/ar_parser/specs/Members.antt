@@ -4,7 +4,7 @@ use Rattle.std.specs.declared.alloc.Global.{Global}
 use Rattle.ar_base.specs.declared.places.Place.{Place}
 use Rattle.ar_base.specs.declared.places.Span.{Span}
 use Rattle.ar_lexer.specs.declared.token.TokenKind.{TokenKind}
-use Rattle.ar_lexer.specs.declared.token.TokenKind.TheVariants.{Sign, Reserved, End}
+use Rattle.ar_lexer.specs.declared.token.TokenKind.TheVariants.{Name, Sign, Reserved, End}
 use Rattle.ar_lexer.specs.declared.signs.TheConstants.{OPEN_PARENTHESIS, CLOSE_PARENTHESIS, COMMA, SEMICOLON, COLON, DOT, EQUALS, ARROW, EXCLAMATION, QUESTION, AMPERSAND}
 use Rattle.ar_lexer.specs.declared.words.TheConstants.{AS, ASSERTION, BLOCK, BOOLEAN, CLONES, EMBEDS, END, EVENT, EXTENDS, HIDE, INIT, INTEGER, OBSERVER, PARAMETER, REAL, RESET, TRANSITION}
 use Rattle.ar_syntax.specs.declared.paths.Path.{Path}
@@ -21,7 +21,7 @@ use Rattle.ar_syntax.specs.declared.members.Unit.{Unit as UnitTree}
 use Rattle.ar_syntax.specs.declared.members.Word.{Word}
 use Rattle.ar_syntax.specs.declared.members.Word.TheVariants as word
 use Rattle.ar_parser.specs.declared.lexeme.Lexeme.{Lexeme}
-use Rattle.ar_parser.specs.Words.{NameId, Form, Tokens, token, nothing, never, ◌▸◌, ◌∣◌, each, many, groups, separated, between, standing, covering}
+use Rattle.ar_parser.specs.Words.{NameId, Form, Tokens, token, nothing, never, ◌▸◌, ◌∣◌, each, many, groups, separated, between, standing, covering, Has}
 use Rattle.ar_parser.specs.Paths.{IsName, IsPlacedName, AreNames, IsPath}
 use Rattle.ar_parser.specs.Expressions.{Node, IsExpr}
 use Rattle.ar_parser.specs.Instructions.{IsInstr}
@@ -138,6 +138,12 @@ pub record IsHidden (m : Member) (next : TokenKind) (ts : Tokens) : Type 0 where
 abbrev pub IsUnit : (List Member → Form) → UnitTree → Form
 IsUnit Body u = IsPlacedName (u.name, u.at) ▸ Body u.members.items ▸ token (Reserved END)
 
+-- what stands behind the word `parameter`
+abbrev pub parameter_rest : ℕ → Form
+parameter_rest n =
+    (token (Reserved REAL) ▸ token Name ▸ between (Sign EQUALS) (Sign SEMICOLON) (kept n))
+    ∣ (Has IsType ▸ token Name ▸ between (Sign EQUALS) (Sign SEMICOLON) (Has (IsExpr n)))
+
 -- A clause that begins with a reserved word and makes one member.
 pub data IsSingle (n : ℕ) (m : Member) (next : TokenKind) (ts : Tokens) : Type 0 where
   -- "extends" name ";"
@@ -173,10 +179,14 @@ pub data IsMember (n : ℕ) (Body : List Member → Form) (ms : List Member) (ne
   keyed : IsKeyed n Body ms next ts → IsMember n Body ms next ts
   named : (m : Member) → ms ≡ m ∷ [] → (declared : IsDeclared n m next ts) → (name : NameId) → declared.type.form ≡ type_form.Named name → IsMember n Body ms next ts
 
+-- Section | Keyed
+abbrev pub IsLater : ℕ → (List Member → Form) → List Member → Form
+IsLater n Body ms = IsSection n ms ∣ IsKeyed n Body ms
+
 -- [ Section { Section | Keyed } ]
 pub data AreSections (n : ℕ) (Body : List Member → Form) (ms : List Member) (next : TokenKind) (ts : Tokens) : Type 0 where
   none : ms ≡ [] → nothing next ts → AreSections n Body ms next ts
-  some : (xs ys : List Member) → ms ≡ xs ++ ys → (IsSection n xs ▸ groups (λ zs. IsSection n zs ∣ IsKeyed n Body zs) ys) next ts → AreSections n Body ms next ts
+  some : (xs ys : List Member) → ms ≡ xs ++ ys → (IsSection n xs ▸ groups (IsLater n Body) ys) next ts → AreSections n Body ms next ts
 
 -- Body = { Member } [ Section { Section | Keyed } ]
 pub record IsBodyOf (n : ℕ) (Body : List Member → Form) (ms : List Member) (next : TokenKind) (ts : Tokens) : Type 0 where

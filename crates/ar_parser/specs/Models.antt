@@ -1,5 +1,5 @@
 -- The grammar of models, and what it is to read a text.
-use Rattle.std.specs.Prelude.{◌≡◌, ◌≢◌, ℕ, ◌+◌, ◌-◌, ◌<◌, ◌≤◌, ℤ, pos, neg_ℤ, List, [], ◌∷◌, ◌++◌, length, map, take, drop, Vec}
+use Rattle.std.specs.Prelude.{◌≡◌, ◌≢◌, ℕ, ◌+◌, ◌-◌, ◌<◌, ◌≤◌, ◌≤ℤ◌, ℤ, pos, neg_ℤ, List, [], ◌∷◌, ◌++◌, length, map, take, drop, Vec}
 use Rattle.std.specs.declared.alloc.Global.{Global}
 use Rattle.ar_base.specs.declared.places.Place.{Place}
 use Rattle.ar_base.specs.Counts.{limit_of}
@@ -25,19 +25,28 @@ use Rattle.ar_parser.specs.Words.{NameId, Form, Tokens, token, nothing, never, �
 use Rattle.ar_parser.specs.Paths.{IsPlacedName, AreNames}
 use Rattle.ar_parser.specs.Members.{IsBody, IsUnit}
 
+-- a whole number, which has no sign
+pub record IsWhole (z : ℤ) (next : TokenKind) (ts : Tokens) : Type 0 where
+  pub no_sign : pos 0 ≤ℤ z
+  pub reads : token (Whole z) next ts
+
 -- Bound = [ "-" ] whole
 pub data IsBound (z : ℤ) (next : TokenKind) (ts : Tokens) : Type 0 where
-  whole : token (Whole z) next ts → IsBound z next ts
-  negated : (n : ℤ) → z ≡ neg_ℤ n → (token (Sign MINUS) ▸ token (Whole n)) next ts → IsBound z next ts
+  whole : IsWhole z next ts → IsBound z next ts
+  negated : (n : ℤ) → z ≡ neg_ℤ n → (token (Sign MINUS) ▸ IsWhole n) next ts → IsBound z next ts
 
 -- DomainBody = "{" name { "," name } "}" | "[" Bound "," Bound "]"
 abbrev pub IsDomainBody : DomainBody → Form
 IsDomainBody (domain.Symbols names) = between (Sign OPEN_BRACE) (Sign CLOSE_BRACE) (AreNames names.items)
 IsDomainBody (domain.Range low high) = between (Sign OPEN_BRACKET) (Sign COMMA) (IsBound low) ▸ IsBound high ▸ token (Sign CLOSE_BRACKET)
 
--- Item = "domain" name DomainBody [ ";" ] | "class" name Body "end" | "block" name Body "end"
+-- "domain" name DomainBody [ ";" ]
+abbrev pub IsDomain : DomainDecl → Form
+IsDomain d = token (Reserved DOMAIN) ▸ IsPlacedName (d.name, d.at) ▸ IsDomainBody d.body ▸ (nothing ∣ token (Sign SEMICOLON))
+
+-- Item = Domain | "class" name Body "end" | "block" name Body "end"
 abbrev pub IsItem : ℕ → Item → Form
-IsItem n (item.Domain d) = token (Reserved DOMAIN) ▸ IsPlacedName (d.name, d.at) ▸ IsDomainBody d.body ▸ (nothing ∣ token (Sign SEMICOLON))
+IsItem n (item.Domain d) = IsDomain d
 IsItem n (item.Class u) = token (Reserved CLASS) ▸ IsUnit (IsBody n) u
 IsItem n (item.Block u) = token (Reserved BLOCK) ▸ IsUnit (IsBody n) u
 
@@ -54,10 +63,10 @@ token_of l = record { kind = l.kind; span = l.span; at = l.at }
 abbrev pub text_of : List ℕ → Lexeme → List ℕ
 text_of bytes l = take (l.span.to - l.span.from) (drop l.span.from bytes)
 
--- The table `new` is `old` with the text of this token, if it is a name, and the name's number stands for it.
+-- The table `new` is `old` with the text of this token, if it is a name, and the name's number stands for it. A token that is no name has the number 0.
 pub data IsNumbered (bytes : List ℕ) (old : List (List ℕ)) (l : Lexeme) (new : List (List ℕ)) : Type 0 where
   name : l.kind ≡ Name → Interns old (text_of bytes l) new → Stands new l.name.n (text_of bytes l) → IsNumbered bytes old l new
-  other : l.kind ≢ Name → new ≡ old → IsNumbered bytes old l new
+  other : l.kind ≢ Name → new ≡ old → l.name.n ≡ 0 → IsNumbered bytes old l new
 
 -- The table `new` is `old` with the texts of the names, in the order of their first use, and each name's number stands for its text.
 abbrev pub AreNumbered : List ℕ → List (List ℕ) → Tokens → List (List ℕ) → Type 0

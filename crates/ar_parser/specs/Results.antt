@@ -4,7 +4,7 @@ use Rattle.ar_base.specs.declared.places.Place.{Place}
 use Rattle.ar_lexer.specs.declared.token.TokenKind.{TokenKind}
 use Rattle.ar_lexer.specs.declared.token.TokenKind.TheVariants.{Name, Whole, Real, Sign, Reserved, End}
 use Rattle.ar_lexer.specs.declared.signs.TheConstants.{OPEN_BRACE, CLOSE_BRACE, OPEN_PARENTHESIS, CLOSE_PARENTHESIS, SEMICOLON, COMMA, DOT, EQUALS, EXCLAMATION, QUESTION, EQUAL, DIFFERS, LESS, AT_MOST, MORE, AT_LEAST, PLUS, MINUS, STAR}
-use Rattle.ar_lexer.specs.declared.words.TheConstants.{AND, COUNT, DEFAULT, FALSE, IF, MAIN, MAX, MIN, NOT, OR, OWNER, SKIP, SWITCH, TRUE}
+use Rattle.ar_lexer.specs.declared.words.TheConstants.{AND, ASSERTION, BLOCK, BOOLEAN, CLASS, CLONES, COUNT, DEFAULT, DOMAIN, EMBEDS, END, EVENT, EXTENDS, FALSE, HIDE, IF, MAIN, MAX, MIN, NOT, OBSERVER, OR, OWNER, PARAMETER, SKIP, SWITCH, TRANSITION, TRUE}
 use Rattle.ar_parser.specs.declared.lexeme.Lexeme.{Lexeme}
 use Rattle.ar_parser.specs.declared.lexeme.ParseFault.{ParseFault}
 use Rattle.ar_parser.specs.declared.lexeme.ParseFault.TheVariants.{Lex, Syntax, Depth, Memory}
@@ -31,6 +31,15 @@ Arrives left n (Err (Lex at)) new after = ⊥
 Arrives left n (Err (Syntax at)) new after = ⊥
 Arrives left n (Err (Depth at)) new after = left < n
 Arrives left n (Err Memory) new after = Unit {0}
+
+-- How a call with room for `left` open productions may end where the whole text has the nesting n: well, or by want of
+-- room or of memory.
+abbrev pub Reaches : {A : Type 0} → ℕ → ℕ → Result A ParseFault → Type 0
+Reaches left n (Ok x) = Unit {0}
+Reaches left n (Err (Lex at)) = ⊥
+Reaches left n (Err (Syntax at)) = ⊥
+Reaches left n (Err (Depth at)) = left < n
+Reaches left n (Err Memory) = Unit {0}
 
 -- The call stands at `new`. Whatever stood there in its place, if its first token had the same kind: a front of this
 -- form, of any nesting, with what ends it behind it, would end right there.
@@ -182,3 +191,42 @@ ends_assertions k = not (begins_instr k)
 
 abbrev pub begins_part : TokenKind → Bool
 begins_part k = is_sign EXCLAMATION k || is_sign QUESTION k
+
+abbrev pub begins_keyed : TokenKind → Bool
+begins_keyed (Reserved w) = (w == EXTENDS) || (w == BOOLEAN) || (w == BLOCK) || (w == CLONES) || (w == EMBEDS) || (w == PARAMETER) || (w == EVENT) || (w == OBSERVER) || (w == HIDE)
+begins_keyed _ = false
+
+abbrev pub begins_member : TokenKind → Bool
+begins_member k = is_name k || begins_keyed k
+
+abbrev pub begins_section : TokenKind → Bool
+begins_section k = is_word TRANSITION k || is_word ASSERTION k
+
+abbrev pub begins_later : TokenKind → Bool
+begins_later k = begins_section k || begins_keyed k
+
+abbrev pub begins_body : TokenKind → Bool
+begins_body k = begins_section k || begins_member k
+
+-- what stands behind a body
+abbrev pub ends_body : TokenKind → Bool
+ends_body k = is_word END k
+
+-- what stands behind the members before the first section
+abbrev pub ends_members : TokenKind → Bool
+ends_members k = begins_section k || is_word END k
+
+-- what stands behind a section
+abbrev pub ends_section : TokenKind → Bool
+ends_section k = begins_later k || is_word END k
+
+-- what follows an item
+abbrev pub ends_item : TokenKind → Bool
+ends_item k = not (is_sign SEMICOLON k)
+
+abbrev pub begins_item : TokenKind → Bool
+begins_item k = is_word DOMAIN k || is_word CLASS k || is_word BLOCK k
+
+abbrev pub is_end : TokenKind → Bool
+is_end End = true
+is_end _ = false

@@ -1,7 +1,7 @@
 // Which tokens begin an expression or an instruction.
 
 ghost use Rattle.std.specs.Prelude.{◌≡◌};
-ghost use Rattle.ar_parser.specs.Results.{is_sign, is_word, begins_primary, begins_minus, begins_not, begins_expr, begins_instr};
+ghost use Rattle.ar_parser.specs.Results.{is_sign, is_word, begins_primary, begins_minus, begins_not, begins_expr, begins_instr, begins_keyed, begins_member, begins_section, begins_later, begins_body, begins_item};
 
 use ar_lexer::{TokenKind, signs, words};
 
@@ -80,4 +80,62 @@ pub fn begins_instr(kind: TokenKind) -> bool
             || word == words::IF,
         _ => false,
     }
+}
+
+/// Whether the token begins a clause of one word.
+fn begins_keyed(kind: TokenKind) -> bool
+    ensures { result ≡ begins_keyed kind }
+{
+    match kind {
+        TokenKind::Reserved(word) => {
+            word == words::EXTENDS
+                || word == words::BOOLEAN
+                || word == words::BLOCK
+                || word == words::CLONES
+                || word == words::EMBEDS
+                || word == words::PARAMETER
+                || word == words::EVENT
+                || word == words::OBSERVER
+                || word == words::HIDE
+        }
+        _ => false,
+    }
+}
+
+/// Whether the token begins a member.
+pub fn begins_member(kind: TokenKind) -> bool
+    ensures { result ≡ begins_member kind }
+{
+    match kind {
+        TokenKind::Name => true,
+        _ => begins_keyed(kind),
+    }
+}
+
+/// Whether the token begins a section.
+pub fn begins_section(kind: TokenKind) -> bool
+    ensures { result ≡ begins_section kind }
+{
+    is_word(words::TRANSITION, kind) || is_word(words::ASSERTION, kind)
+}
+
+/// Whether the token goes on with a body behind its first section.
+pub fn begins_later(kind: TokenKind) -> bool
+    ensures { result ≡ begins_later kind }
+{
+    begins_section(kind) || begins_keyed(kind)
+}
+
+/// Whether the token begins a body that is not empty.
+pub fn begins_body(kind: TokenKind) -> bool
+    ensures { result ≡ begins_body kind }
+{
+    begins_section(kind) || begins_member(kind)
+}
+
+/// Whether the token begins an item.
+pub fn begins_item(kind: TokenKind) -> bool
+    ensures { result ≡ begins_item kind }
+{
+    is_word(words::DOMAIN, kind) || is_word(words::CLASS, kind) || is_word(words::BLOCK, kind)
 }

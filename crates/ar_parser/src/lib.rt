@@ -2,6 +2,7 @@
 #![tactic(auto)]
 
 mod begins;
+mod body;
 mod cursor;
 mod expressions;
 mod instructions;

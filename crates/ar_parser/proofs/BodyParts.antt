@@ -144,7 +144,7 @@ parameter_real n next ts (inr h) k = fails (λ j. not (is_word REAL j)) (then_fi
   where
     type_first : (next : TokenKind) (ts : Tokens) → Has IsType next ts → not (is_word REAL (kind_or next ts)) ≡ true
     type_first next ts (t, g) = elim (form_kind t.form next ts g.form) as (λ _. not (is_word REAL (kind_or next ts)) ≡ true)
-      [ inl e ↦ ap (λ j. not (is_word REAL j)) e | inr (inl e) ↦ ap (λ j. not (is_word REAL j)) e | inr (inr e) ↦ ap (λ j. not (is_word REAL j)) e ]
+        [ inl e ↦ ap (λ j. not (is_word REAL j)) e | inr (inl e) ↦ ap (λ j. not (is_word REAL j)) e | inr (inr e) ↦ ap (λ j. not (is_word REAL j)) e ]
 
 pub parameter_typed : (n : ℕ) (next : TokenKind) (ts : Tokens) → parameter_rest n next ts → kind_or next ts ≢ Reserved REAL → (Has IsType ▸ token Name ▸ between (Sign EQUALS) (Sign SEMICOLON) (Has (IsExpr n))) next ts
 parameter_typed n next ts (inl h) k = absurd (k (then_kind h))
@@ -181,9 +181,10 @@ instr_word w h true e = by_words (either ((w == OWNER) || (w == MAIN) || (w == S
 
     by_words : ((((w == OWNER) || (w == MAIN) || (w == SKIP)) ≡ true) ⊎ ((w == IF) ≡ true)) → not true ≡ true
     by_words (inr q) = no IF refl q
-    by_words (inl q) = elim (either ((w == OWNER) || (w == MAIN)) (w == SKIP) q) as (λ _. not true ≡ true)
-      [ inr r ↦ no SKIP refl r
-      | inl r ↦ elim (either (w == OWNER) (w == MAIN) r) as (λ _. not true ≡ true) [ inl s ↦ no OWNER refl s | inr s ↦ no MAIN refl s ] ]
+    by_words (inl q) = elim (either ((w == OWNER) || (w == MAIN)) (w == SKIP) q) as (λ _. not true ≡ true) [
+      | inr r ↦ no SKIP refl r
+      | inl r ↦ elim (either (w == OWNER) (w == MAIN) r) as (λ _. not true ≡ true) [ inl s ↦ no OWNER refl s | inr s ↦ no MAIN refl s ]
+    ]
 
 pub section_ends_assertions : (k : TokenKind) → ends_section k ≡ true → ends_assertions k ≡ true
 section_ends_assertions Name h = absurd (cc)
@@ -351,10 +352,11 @@ many_some A (x ∷ count) next ts h = inr (h.front, h.back, h.split, h.first)
 body_first : (n : ℕ) (next : TokenKind) (ts : Tokens) → Has (IsBody (suc n)) next ts → (ts ≡ []) ⊎ (begins_body (kind_or next ts) ≡ true)
 body_first n next ts (ms, h) =
     let g = groups_many (IsMember n (IsBody n)) h.xs (kind_or next h.reads.back) h.reads.front h.reads.first in
-    elim (many_some (Has (IsMember n (IsBody n))) g.0 (kind_or next h.reads.back) h.reads.front g.1) as (λ _. (ts ≡ []) ⊎ (begins_body (kind_or next ts) ≡ true))
-    [ inl e ↦ by_sections h.reads.second (h.reads.split ∙ ap (λ (t : Tokens). t ++ h.reads.back) e)
-    | inr (a, b, e, m) ↦ inr (or_right (begins_section (kind_or next ts)) (begins_member (kind_or next ts))
-        (ap begins_member (ap (kind_or next) h.reads.split ∙ kind_join h.reads.front h.reads.back next ∙ ap (kind_or (kind_or next h.reads.back)) e ∙ kind_join a b (kind_or next h.reads.back)) ∙ member_first n (IsBody n) (kind_or (kind_or next h.reads.back) b) a m)) ]
+    elim (many_some (Has (IsMember n (IsBody n))) g.0 (kind_or next h.reads.back) h.reads.front g.1) as (λ _. (ts ≡ []) ⊎ (begins_body (kind_or next ts) ≡ true)) [
+      | inl e ↦ by_sections h.reads.second (h.reads.split ∙ ap (λ (t : Tokens). t ++ h.reads.back) e)
+      | inr (a, b, e, m) ↦ inr (or_right (begins_section (kind_or next ts)) (begins_member (kind_or next ts))
+          (ap begins_member (ap (kind_or next) h.reads.split ∙ kind_join h.reads.front h.reads.back next ∙ ap (kind_or (kind_or next h.reads.back)) e ∙ kind_join a b (kind_or next h.reads.back)) ∙ member_first n (IsBody n) (kind_or (kind_or next h.reads.back) b) a m))
+    ]
   where
     by_sections : AreSections n (IsBody n) h.ys next h.reads.back → ts ≡ h.reads.back → (ts ≡ []) ⊎ (begins_body (kind_or next ts) ≡ true)
     by_sections (none e f) q = inl (q ∙ f)
@@ -372,7 +374,8 @@ pub body_in : (n : ℕ) (old_items xs ys items mid : List Member) {old rest new 
 body_in zero old_items xs ys items mid n0 e m i a b = absurd (n0 refl)
 body_in (suc n) old_items xs ys items mid n0 e m i a b =
     spans_map (spans_then a b) (λ next ts h. record {
-      xs = xs; ys = ys;
+      xs = xs;
+      ys = ys;
       all = i ∙ ap (λ (zs : List Member). zs ++ ys) (m ∙ ap (λ (zs : List Member). zs ++ xs) e);
       reads = subst (λ (m : ℕ). (groups (IsMember m (IsBody m)) xs ▸ AreSections m (IsBody m) ys) next ts) (sub-one (suc n)) h;
     })

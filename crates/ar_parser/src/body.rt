@@ -10,17 +10,20 @@ ghost use Rattle.ar_parser.specs.Expressions.{Node, IsExpr};
 ghost use Rattle.ar_parser.specs.Members.{IsType, IsSingle, IsKeyed, IsUnit, IsMember, IsSection, IsLater, AreSections, IsBody, kept, parameter_rest};
 ghost use Rattle.ar_parser.specs.Results.{Takes, Finds, Spans, anything, ends_body, ends_members, ends_section};
 
+use crate::begins::{begins_body, begins_later, begins_member, begins_section};
+use crate::cursor::Parser;
+use crate::lexeme::ParseFault;
 use ar_base::{NameId, Place, Span};
 use ar_lexer::{TokenKind, signs, words};
 use ar_syntax::{Member, Path, RawExpr, TypeName, Unit};
 
-use crate::begins::{begins_body, begins_later, begins_member, begins_section};
-use crate::cursor::Parser;
-use crate::lexeme::ParseFault;
-
 impl<'a> Parser<'a> {
     /// Takes a name between two tokens.
-    fn enclosed_name(&mut self, opens: TokenKind, closes: TokenKind) -> Result<(NameId, Place), ParseFault>
+    fn enclosed_name(
+        &mut self,
+        opens: TokenKind,
+        closes: TokenKind,
+    ) -> Result<(NameId, Place), ParseFault>
         requires opens { opens ≢ End }
         requires closes { closes ≢ End }
         ensures found { Takes (λ x. between opens closes (IsPlacedName x)) result self.old.rest.now self.new.rest.now }
@@ -39,7 +42,10 @@ impl<'a> Parser<'a> {
     {
         self.expect(TokenKind::Reserved(word))?;
         let path = self.path()?;
-        let (name, at) = self.enclosed_name(TokenKind::Reserved(words::AS), TokenKind::Sign(signs::SEMICOLON))?;
+        let (name, at) = self.enclosed_name(
+            TokenKind::Reserved(words::AS),
+            TokenKind::Sign(signs::SEMICOLON),
+        )?;
         Ok((path, name, at))
     }
 
@@ -50,7 +56,11 @@ impl<'a> Parser<'a> {
     {
         let of_type = self.type_name()?;
         let (name, at) = self.placed_name()?;
-        let value = self.enclosed(TokenKind::Sign(signs::EQUALS), TokenKind::Sign(signs::SEMICOLON), left)?;
+        let value = self.enclosed(
+            TokenKind::Sign(signs::EQUALS),
+            TokenKind::Sign(signs::SEMICOLON),
+            left,
+        )?;
         Ok((of_type, name, at, value))
     }
 
@@ -73,7 +83,10 @@ impl<'a> Parser<'a> {
         ensures only { Finds (λ n. Has (IsSingle n)) anything left result self.old.rest.now self.new.rest.now }
     {
         if self.is_at(TokenKind::Reserved(words::EXTENDS)) {
-            let (base, at) = self.enclosed_name(TokenKind::Reserved(words::EXTENDS), TokenKind::Sign(signs::SEMICOLON))?;
+            let (base, at) = self.enclosed_name(
+                TokenKind::Reserved(words::EXTENDS),
+                TokenKind::Sign(signs::SEMICOLON),
+            )?;
             return Ok(Member::Extends(base, at));
         }
         if self.is_at(TokenKind::Reserved(words::BOOLEAN)) {

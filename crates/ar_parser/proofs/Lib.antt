@@ -8,3 +8,6 @@ pub mod InstrParts
 pub mod UnreadParts
 pub mod MemberParts
 pub mod BodyParts
+pub mod ItemParts
+pub mod NameLemmas
+pub mod WholeTexts

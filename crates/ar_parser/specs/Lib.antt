@@ -6,3 +6,4 @@ pub mod Members
 pub mod Models
 pub mod Results
 pub mod Chains
+pub mod Names

@@ -11,7 +11,9 @@ use Rattle.ar_lexer.specs.declared.token.TokenKind.{TokenKind}
 use Rattle.ar_lexer.specs.declared.token.TokenKind.TheVariants.{Name, Whole, Sign, Reserved, End}
 use Rattle.ar_lexer.specs.declared.signs.TheConstants.{OPEN_BRACE, CLOSE_BRACE, OPEN_BRACKET, CLOSE_BRACKET, COMMA, SEMICOLON, MINUS}
 use Rattle.ar_lexer.specs.declared.words.TheConstants.{BLOCK, CLASS, DOMAIN}
-use Rattle.ar_lexer.specs.Tokens.{AreTokens, end_of_text, place_after}
+use Rattle.ar_lexer.specs.declared.token.LexFault.{LexFault}
+use Rattle.ar_lexer.specs.declared.token.LexFault.TheVariants.{Byte, OpenComment, Number, Memory}
+use Rattle.ar_lexer.specs.Tokens.{AreTokens, IsFirstFault, end_of_text, place_after}
 use Rattle.ar_syntax.specs.declared.members.Member.{Member}
 use Rattle.ar_syntax.specs.declared.members.Unit.{Unit as UnitTree}
 use Rattle.ar_syntax.specs.declared.items.DomainBody.{DomainBody}
@@ -73,13 +75,29 @@ abbrev pub AreNumbered : List ℕ → List (List ℕ) → Tokens → List (List 
 AreNumbered bytes old [] new = new ≡ old
 AreNumbered bytes old (l ∷ ls) new = (mid : List (List ℕ)) × IsNumbered bytes old l mid × AreNumbered bytes mid ls new
 
+-- The tokens of the text but for its end, with the numbers of their names, the table of these, and the place behind the text.
+pub record AreLexemes (bytes : List ℕ) (ls : Tokens) (names : List (List ℕ)) (end : Place) : Type 0 where
+  pub tokens : AreTokens bytes (map token_of ls ++ end_of_text bytes ∷ [])
+  pub names_are : AreNumbered bytes [] ls names
+  pub end_is : end ≡ place_after bytes
+
+abbrev pub IsPlaceOf : LexFault → Place → Type 0
+IsPlaceOf (Byte p) at = p ≡ at
+IsPlaceOf (OpenComment p) at = p ≡ at
+IsPlaceOf (Number p) at = p ≡ at
+IsPlaceOf Memory at = ⊥
+
+-- the text has no tokens, and its first fault stands here
+pub record HasFaultAt (bytes : List ℕ) (at : Place) : Type 0 where
+  pub fault : LexFault
+  pub first : IsFirstFault bytes fault
+  pub there : IsPlaceOf fault at
+
 -- A text has this tree, with at most n productions open at one token.
 pub record ReadsWithin (n : ℕ) (bytes : List ℕ) (model : Model) : Type 0 where
   pub lexemes : Tokens
-  pub tokens : AreTokens bytes (map token_of lexemes ++ end_of_text bytes ∷ [])
-  pub names : AreNumbered bytes [] lexemes model.names
+  pub are : AreLexemes bytes lexemes model.names model.end
   pub items : AreItems n model.items.items End lexemes
-  pub end : model.end ≡ place_after bytes
 
 -- A text is read as this tree.
 abbrev pub Reads : List ℕ → Model → Type 0

@@ -8,8 +8,12 @@ mod expressions;
 mod instructions;
 mod lexeme;
 mod members;
+mod model;
+mod numbering;
 mod paths;
+mod reading;
 mod terms;
 mod unread;
 
 pub use lexeme::{Lexeme, ParseFault};
+pub use reading::parse;

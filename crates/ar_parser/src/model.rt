@@ -8,12 +8,11 @@ ghost use Rattle.ar_parser.specs.Words.{token, nothing, ◌∣◌, each, many, H
 ghost use Rattle.ar_parser.specs.Models.{IsWhole, IsBound, IsDomainBody, IsDomain, IsItem, AreItems};
 ghost use Rattle.ar_parser.specs.Results.{Takes, Finds, Spans, Reaches, anything, ends_item, is_end};
 
-use ar_lexer::{TokenKind, signs, words};
-use ar_syntax::{DomainBody, DomainDecl, Item};
-
 use crate::begins::begins_item;
 use crate::cursor::Parser;
 use crate::lexeme::ParseFault;
+use ar_lexer::{TokenKind, signs, words};
+use ar_syntax::{DomainBody, DomainDecl, Item};
 
 /// The refusal of a text that has tokens.
 fn grammatical(fault: ParseFault) -> ParseFault

@@ -8,13 +8,11 @@ ghost use Rattle.ar_parser.specs.declared.lexeme.ParseFault.TheVariants.{Lex, Me
 ghost use Rattle.ar_parser.specs.Models.{token_of, IsNumbered, AreNumbered, AreLexemes, HasFaultAt};
 ghost use Rattle.ar_parser.specs.Names.{IsSpelled, AreSpelled, lexeme_of, fault_of};
 
-use std::alloc::Global;
-use std::str::from_utf8_unchecked;
-
+use crate::lexeme::{Lexeme, ParseFault};
 use ar_base::{NameId, Names, Place};
 use ar_lexer::{LexFault, Token, TokenKind, tokens};
-
-use crate::lexeme::{Lexeme, ParseFault};
+use std::alloc::Global;
+use std::str::from_utf8_unchecked;
 
 impl From<ar_base::Memory> for ParseFault {
     ghost from_gives = { λ _ e. e ≡ Memory };
@@ -42,7 +40,12 @@ fn number(text: &[u8], token: &Token, names: &mut Names) -> Result<NameId, Parse
 }
 
 /// The tokens with the numbers of their names.
-fn numbered(alloc: Global, text: &[u8], tokens: &[Token], names: &mut Names) -> Result<Vec<Lexeme>, ParseFault>
+fn numbered(
+    alloc: Global,
+    text: &[u8],
+    tokens: &[Token],
+    names: &mut Names,
+) -> Result<Vec<Lexeme>, ParseFault>
     requires spelled { AreSpelled text.now tokens.now }
     requires room { length names.old + length tokens.now < 2 ^ 32 }
     ensures found { IfOk result (λ ls. (map token_of ls.items ≡ tokens.now) × AreNumbered text.now names.old ls.items names.new) }
@@ -68,13 +71,19 @@ fn lexical(fault: LexFault) -> ParseFault
     ensures { result ≡ fault_of fault }
 {
     match fault {
-        LexFault::Byte(at) | LexFault::OpenComment(at) | LexFault::Number(at) => ParseFault::Lex(at),
+        LexFault::Byte(at) | LexFault::OpenComment(at) | LexFault::Number(at) => ParseFault::Lex(
+            at,
+        ),
         LexFault::Memory => ParseFault::Memory,
     }
 }
 
 /// The tokens of a text but for its end, with the numbers of their names, and the place of its end.
-pub fn lexemes(alloc: Global, text: &[u8], names: &mut Names) -> Result<(Vec<Lexeme>, Place), ParseFault>
+pub fn lexemes(
+    alloc: Global,
+    text: &[u8],
+    names: &mut Names,
+) -> Result<(Vec<Lexeme>, Place), ParseFault>
     requires size { length text.now ≤ limit_of ModelBytes }
     requires empty { names.old ≡ [] }
     ensures found { IfOk result (λ x. AreLexemes text.now x.0.items names.new x.1) }

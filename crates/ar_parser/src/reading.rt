@@ -7,14 +7,12 @@ ghost use Rattle.ar_parser.specs.declared.lexeme.ParseFault.TheVariants.{Lex, Me
 ghost use Rattle.ar_parser.specs.Models.{HasFaultAt, ReadsWithin, Reads};
 ghost use Rattle.ar_parser.specs.Results.{Reaches};
 
-use std::alloc::Global;
-
-use ar_base::{Count, Names};
-use ar_syntax::Model;
-
 use crate::cursor::Parser;
 use crate::lexeme::ParseFault;
 use crate::numbering::lexemes;
+use ar_base::{Count, Names};
+use ar_syntax::Model;
+use std::alloc::Global;
 
 /// Reads a model: the tree that the grammar gives for the text, which has at most 4,194,304 bytes.
 ///
@@ -57,22 +55,36 @@ mod tests {
     fn reads_models(rt: HostRuntime) -> Result<(), Fail> {
         // how many items a model has, and its text
         let table: [(usize, &str); 20] = [
-            (1, "block B\n\
+            (
+                1,
+                "block B\n\
                Boolean ok (init = true);\n\
                event fail;\n\
                transition fail: ok -> ok := false;\n\
-             end\n"),
-            (1, "block B\n\
+             end\n",
+            ),
+            (
+                1,
+                "block B\n\
                Boolean a, b (reset = false);\n\
                observer Boolean seen = a;\n\
                assertion a := b; b := true;\n\
-             end\n"),
-            (1, "block B\n\
+             end\n",
+            ),
+            (
+                1,
+                "block B\n\
                Boolean a, b (reset = false);\n\
                assertion a := b; b := a;\n\
-             end\n"),
-            (1, "block B Boolean x (reset = false); assertion x := not x; end\n"),
-            (1, "block P\n\
+             end\n",
+            ),
+            (
+                1,
+                "block B Boolean x (reset = false); assertion x := not x; end\n",
+            ),
+            (
+                1,
+                "block P\n\
                Boolean supply (reset = true);\n\
                block a\n\
                  Boolean up (reset = false);\n\
@@ -84,8 +96,11 @@ mod tests {
                  assertion supply := false;\n\
                end\n\
                assertion supply := true;\n\
-             end\n"),
-            (4, "domain T {X, Y, Z}\n\
+             end\n",
+            ),
+            (
+                4,
+                "domain T {X, Y, Z}\n\
              class C\n\
                T s (init = X);\n\
              end\n\
@@ -94,16 +109,22 @@ mod tests {
              end\n\
              block B\n\
                D d (c.s.init = Z);\n\
-             end\n"),
-            (1, "block B\n\
+             end\n",
+            ),
+            (
+                1,
+                "block B\n\
                Boolean p, q (init = true);\n\
                event a, b, e;\n\
                transition\n\
                  a: p -> p := false;\n\
                  b: q -> q := false;\n\
                  e: ?a & ?b;\n\
-             end\n"),
-            (2, "domain SW {CLOSED, OPEN}\n\
+             end\n",
+            ),
+            (
+                2,
+                "domain SW {CLOSED, OPEN}\n\
              block R\n\
                SW s (init = CLOSED);\n\
                Boolean x, y, z (reset = false);\n\
@@ -114,8 +135,11 @@ mod tests {
                  x := z or s == CLOSED;\n\
                  y := x;\n\
                  z := y;\n\
-             end\n"),
-            (2, "domain SW {CLOSED, OPEN}\n\
+             end\n",
+            ),
+            (
+                2,
+                "domain SW {CLOSED, OPEN}\n\
              block R\n\
                SW s (init = CLOSED);\n\
                Boolean x, y (reset = false);\n\
@@ -125,8 +149,11 @@ mod tests {
                assertion\n\
                  if s == OPEN then { x := true; x := not y; } else x := false;\n\
                  y := x;\n\
-             end\n"),
-            (3, "domain M {OK, KO}\n\
+             end\n",
+            ),
+            (
+                3,
+                "domain M {OK, KO}\n\
              class Part\n\
                M m (init = OK);\n\
                Boolean feed, flow (reset = false);\n\
@@ -143,8 +170,11 @@ mod tests {
                  valve.feed := true;\n\
                  p1.feed := valve.flow;\n\
                  p2.feed := valve.flow;\n\
-             end\n"),
-            (3, "domain M {OK, KO}\n\
+             end\n",
+            ),
+            (
+                3,
+                "domain M {OK, KO}\n\
              class Part\n\
                M m (init = OK);\n\
                Boolean feed, flow (reset = false);\n\
@@ -163,8 +193,11 @@ mod tests {
                  valve.feed := true;\n\
                  p1.feed := valve.flow;\n\
                  p2.feed := valve.flow;\n\
-             end\n"),
-            (2, "domain G {GOOD, WORN, DEAD}\n\
+             end\n",
+            ),
+            (
+                2,
+                "domain G {GOOD, WORN, DEAD}\n\
              block U\n\
                G g (init = GOOD);\n\
                event die, wear;\n\
@@ -172,26 +205,38 @@ mod tests {
                  die: g == WORN -> g := DEAD;\n\
                  wear: g == GOOD -> g := WORN;\n\
                observer Boolean lost = g == DEAD;\n\
-             end\n"),
-            (1, "block B\n\
+             end\n",
+            ),
+            (
+                1,
+                "block B\n\
                Boolean ok (init = true);\n\
                event e;\n\
                transition\n\
                  e: ok -> ok := false;\n\
                  e: not ok -> ok := true;\n\
-             end\n"),
-            (1, "block B\n\
+             end\n",
+            ),
+            (
+                1,
+                "block B\n\
                Boolean s (init = true);\n\
                event e;\n\
                transition e: true -> { s := true; s := false; }\n\
-             end\n"),
-            (2, "domain N [0, 2]\n\
+             end\n",
+            ),
+            (
+                2,
+                "domain N [0, 2]\n\
              block B\n\
                N n (init = 2);\n\
                event up;\n\
                transition up: true -> n := n + 1;\n\
-             end\n"),
-            (1, "block P\n\
+             end\n",
+            ),
+            (
+                1,
+                "block P\n\
                block a\n\
                  Boolean up (init = true);\n\
                  event fail;\n\
@@ -201,8 +246,11 @@ mod tests {
                  embeds owner.a as w;\n\
                  observer Boolean lost = not w.up;\n\
                end\n\
-             end\n"),
-            (3, "domain M {OK, KO}\n\
+             end\n",
+            ),
+            (
+                3,
+                "domain M {OK, KO}\n\
              class Part\n\
                M m (init = OK);\n\
                Boolean feed, flow (reset = false);\n\
@@ -220,8 +268,11 @@ mod tests {
                  valve.feed := true;\n\
                  p1.feed := valve.flow;\n\
                  p2.feed := valve.flow;\n\
-             end\n"),
-            (1, "block W\n\
+             end\n",
+            ),
+            (
+                1,
+                "block W\n\
                Boolean on (init = false);\n\
                Boolean a, b (reset = false);\n\
                event feed;\n\
@@ -230,8 +281,11 @@ mod tests {
                assertion\n\
                  a :=: b;\n\
                  if on then b := true;\n\
-             end\n"),
-            (2, "domain M {OK, KO}\n\
+             end\n",
+            ),
+            (
+                2,
+                "domain M {OK, KO}\n\
              block U\n\
                M a, b (init = OK);\n\
                event x, y;\n\
@@ -239,8 +293,11 @@ mod tests {
                transition\n\
                  x: a == OK -> a := KO;\n\
                  y: b == OK -> b := KO;\n\
-             end\n"),
-            (4, "domain M {OK, KO}\n\
+             end\n",
+            ),
+            (
+                4,
+                "domain M {OK, KO}\n\
              class Cell\n\
                M m (init = OK);\n\
                event fail;\n\
@@ -254,7 +311,8 @@ mod tests {
              block Top\n\
                Pair l, r;\n\
                observer Boolean out = not l.up and not r.up;\n\
-             end\n"),
+             end\n",
+            ),
         ];
         for (items, text) in table {
             let model = parse(rt.alloc(), text.as_bytes())?;
@@ -326,10 +384,12 @@ mod tests {
 
     #[test]
     fn reads_up_to_the_nesting_limit(rt: HostRuntime) -> Result<(), Fail> {
-        let deepest = b"block B observer Boolean o = (((((((((((((((((((((((((((((((((((((((((not true))))))))))))))))))))))))))))))))))))))))); end";
+        let deepest =
+            b"block B observer Boolean o = (((((((((((((((((((((((((((((((((((((((((not true))))))))))))))))))))))))))))))))))))))))); end";
         let model = parse(rt.alloc(), deepest)?;
         assert_eq!(rt; model.items.len(), 1);
-        let deeper = b"block B observer Boolean o = (((((((((((((((((((((((((((((((((((((((((not not true))))))))))))))))))))))))))))))))))))))))); end";
+        let deeper =
+            b"block B observer Boolean o = (((((((((((((((((((((((((((((((((((((((((not not true))))))))))))))))))))))))))))))))))))))))); end";
         match parse(rt.alloc(), deeper) {
             Err(ParseFault::Depth(at)) => assert_eq!(rt; at.column, 79),
             _ => assert!(rt; false),

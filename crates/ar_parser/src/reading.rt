@@ -359,6 +359,7 @@ mod tests {
             for _ in 0..200 {
                 text.extend_from_slice(repeated.as_bytes())?;
             }
+            assert!(rt; text.len() <= 4_194_304, "{repeated:?}");
             match parse(rt.alloc(), text.as_slice()) {
                 Err(ParseFault::Depth(at)) => {
                     assert_eq!(rt; at.line, 1, "{repeated:?}");

@@ -1,0 +1,13 @@
+pub mod Ends
+pub mod Finding
+pub mod PathForms
+pub mod ExpressionForms
+pub mod ExpressionParts
+pub mod PrimaryParts
+pub mod InstrParts
+pub mod UnreadParts
+pub mod MemberParts
+pub mod BodyParts
+pub mod ItemParts
+pub mod NameLemmas
+pub mod WholeTexts

@@ -1,0 +1,45 @@
+use Rattle.std.proofs.Common.{◌≡◌, ◌≢◌, ◌-◌, ℕ, List, [], ◌∷◌, true, false, refl, sym, ap, ◌∙◌, subst}
+use Rattle.ar_parser.specs.Members.{unread, unread_piece, kept_piece}
+use Rattle.ar_parser.specs.Results.{kind_at, goes_unread, goes_kept}
+use Rattle.ar_parser.proofs.Finding.{finds_then, finds_fails, finds_given, finds_err, finds_ok, finds_memory, finds_inside, finds_none, finds_no_room, finds_too_deep, finds_deep, finds_syntax, finds_nothing, finds_token, finds_from, finds_at, loops_start, loops_stop, loops_fail, loops_next, gathers_push, many_push, spans_then, spans_token, spans_expected, spans_from, spans_at, spans_map, takes_map, takes_from, err_memory, eats_as, eats_kind, then_kind, follows_token, follows_then, follows_any, follows_many}
+use Rattle.ar_parser.proofs.UnreadParts.{unread_open, unread_over, unread_grouped, unread_bracketed, unread_plain, unread_token, bracketed_some, bracketed_inside, bracketed_in, attribute_none, attribute_inside, attribute_some, attribute_in, kept_open, kept_over, kept_grouped, kept_bracketed, kept_plain, kept_token_given, kept_first, kept_made}
+use Rattle.ar_parser.proofs.cursor.Parser.+unread.Goals as goal
+
+pub unread-returns-in_err-unread_piece-clause-only : goal.unread-returns-in_err-unread_piece-clause-only
+unread-returns-in_err-unread_piece-clause-only t c = loops_fail c.loop-self.invariant.1 (unread_open (kind_at c.loop-self.self.rest.now) (sym c.loop-self-test.ensures)) c.in_err-unread_piece.ensures.only c.from_residual.ensures.1 follows_any
+
+pub unread-loop-self-preserved : goal.unread-loop-self-preserved
+unread-loop-self-preserved t c = (many_push (unread_piece c.args.left) c.loop-self.invariant.0 c.in_ok-unread_piece.ensures.found, loops_next c.loop-self.invariant.1 (unread_open (kind_at c.loop-self.self.rest.now) (sym c.loop-self-test.ensures)) c.in_ok-unread_piece.ensures.only follows_any)
+
+pub unread-returns-clause-only : goal.unread-returns-clause-only
+unread-returns-clause-only t c = loops_stop c.loop-self.invariant.1 (λ n next ts h k. unread_over n next ts h (ap goes_unread k ∙ sym c.loop-self-test.ensures))
+
+pub unread_piece-returns-then-is_at-clause-found : goal.unread_piece-returns-then-is_at-clause-found
+unread_piece-returns-then-is_at-clause-found t c = unread_grouped c.args.left _ _ _ c.unread_group.ensures.found
+
+pub unread_piece-returns-then-is_at-clause-only : goal.unread_piece-returns-then-is_at-clause-only
+unread_piece-returns-then-is_at-clause-only t c = finds_given c.unread_group.ensures.only (λ n next ts h s k. (unread_bracketed n next ts h (k ∙ c.if-is_at.ensures.yes), s))
+
+pub unread_piece-returns-clause-found : goal.unread_piece-returns-clause-found
+unread_piece-returns-clause-found t c = unread_plain c.args.left c.skip.ensures c.requires c.if-is_at.ensures.no
+
+pub unread_piece-returns-clause-only : goal.unread_piece-returns-clause-only
+unread_piece-returns-clause-only t c = finds_given (finds_ok _ (finds_token c.skip.ensures)) (λ n next ts h s k. (unread_token n next ts h k c.if-is_at.ensures.no, refl))
+
+pub unread_group-returns-then-left-eq0-clause-only : goal.unread_group-returns-then-left-eq0-clause-only
+unread_group-returns-then-left-eq0-clause-only t c = finds_deep c.no_room.ensures.deep c.if-left-eq0.true bracketed_some
+
+pub unread_group-returns-in_err-expect-clause-only : goal.unread_group-returns-in_err-expect-clause-only
+unread_group-returns-in_err-expect-clause-only t c = finds_given (finds_inside c.if-left-eq0.false (finds_fails (c.in_err-expect.ensures.only _) c.from_residual.ensures.1 follows_any)) (λ n next ts h s k. (bracketed_inside n next ts h, s))
+
+pub unread_group-returns-in_err-unread-clause-only : goal.unread_group-returns-in_err-unread-clause-only
+unread_group-returns-in_err-unread-clause-only t c = finds_given (finds_inside c.if-left-eq0.false (finds_then (c.in_ok-expect.ensures.only _) (finds_fails c.in_err-unread.ensures.only c.from_residual-in_err-unread.ensures.1 (follows_token refl)) follows_any)) (λ n next ts h s k. (bracketed_inside n next ts h, s))
+
+pub unread_group-returns-in_err-expect-2-clause-only : goal.unread_group-returns-in_err-expect-2-clause-only
+unread_group-returns-in_err-expect-2-clause-only t c = finds_given (finds_inside c.if-left-eq0.false (finds_then (c.in_ok-expect.ensures.only _) (finds_then c.in_ok-unread.ensures.only (finds_err (c.in_err-expect-2.ensures.only _) c.from_residual-in_err-expect-2.ensures.1) (follows_token refl)) follows_any)) (λ n next ts h s k. (bracketed_inside n next ts h, s))
+
+pub unread_group-returns-clause-found : goal.unread_group-returns-clause-found
+unread_group-returns-clause-found t c = spans_map (spans_then (spans_expected c.in_ok-expect.ensures.found) (spans_then c.in_ok-unread.ensures.found (spans_expected c.in_ok-expect-2.ensures.found))) (bracketed_in c.args.left c.if-left-eq0.false)
+
+pub unread_group-returns-clause-only : goal.unread_group-returns-clause-only
+unread_group-returns-clause-only t c = finds_given (finds_inside c.if-left-eq0.false (finds_then (c.in_ok-expect.ensures.only _) (finds_then c.in_ok-unread.ensures.only (finds_ok _ (c.in_ok-expect-2.ensures.only _)) (follows_token refl)) follows_any)) (λ n next ts h s k. (bracketed_inside n next ts h, s))

@@ -1,0 +1,26 @@
+use Rattle.std.proofs.Common.{◌≡◌, ◌≢◌, ◌-◌, ℕ, List, [], ◌∷◌, true, false, refl, sym, ap, ◌∙◌, subst}
+use Rattle.ar_parser.specs.Results.{anything}
+use Rattle.ar_parser.proofs.Finding.{finds_then, finds_fails, finds_given, finds_err, finds_ok, finds_memory, finds_inside, finds_none, finds_no_room, finds_too_deep, finds_deep, finds_syntax, finds_nothing, finds_token, finds_from, finds_at, loops_start, loops_stop, loops_fail, loops_next, gathers_push, many_push, spans_then, spans_token, spans_expected, spans_from, spans_at, spans_map, takes_map, takes_from, err_memory, eats_as, eats_kind, then_kind, follows_token, follows_then, follows_any, follows_many}
+use Rattle.ar_parser.proofs.UnreadParts.{unread_open, unread_over, unread_grouped, unread_bracketed, unread_plain, unread_token, bracketed_some, bracketed_inside, bracketed_in, attribute_none, attribute_inside, attribute_some, attribute_in, kept_open, kept_over, kept_grouped, kept_bracketed, kept_plain, kept_token_given, kept_first, kept_made}
+use Rattle.ar_parser.proofs.cursor.Parser.attribute.Goals as goal
+
+pub returns-then-not-is_at-clause-only : goal.returns-then-not-is_at-clause-only
+returns-then-not-is_at-clause-only c = finds_given (finds_nothing _) (λ n next ts h s k. (attribute_none n next ts h (λ e. c.if-not-is_at.ensures.no (sym k ∙ e)), s))
+
+pub returns-then-left-eq0-clause-only : goal.returns-then-left-eq0-clause-only
+returns-then-left-eq0-clause-only c = finds_given (finds_deep {ends = anything} c.no_room.ensures.deep c.if-left-eq0.true attribute_some) (λ n next ts h s k. (attribute_inside n next ts h s (k ∙ c.if-not-is_at.ensures.yes), refl))
+
+pub returns-in_err-expect-clause-only : goal.returns-in_err-expect-clause-only
+returns-in_err-expect-clause-only c = finds_given (finds_inside c.if-left-eq0.false (finds_fails (c.in_err-expect.ensures.only _) c.from_residual.ensures.1 follows_any)) (λ n next ts h s k. (attribute_inside n next ts h s (k ∙ c.if-not-is_at.ensures.yes), refl))
+
+pub returns-in_err-unread-clause-only : goal.returns-in_err-unread-clause-only
+returns-in_err-unread-clause-only c = finds_given (finds_inside c.if-left-eq0.false (finds_then (c.in_ok-expect.ensures.only _) (finds_fails c.in_err-unread.ensures.only c.from_residual-in_err-unread.ensures.1 (follows_token refl)) follows_any)) (λ n next ts h s k. (attribute_inside n next ts h s (k ∙ c.if-not-is_at.ensures.yes), refl))
+
+pub returns-in_err-expect-2-clause-only : goal.returns-in_err-expect-2-clause-only
+returns-in_err-expect-2-clause-only c = finds_given (finds_inside c.if-left-eq0.false (finds_then (c.in_ok-expect.ensures.only _) (finds_then c.in_ok-unread.ensures.only (finds_err (c.in_err-expect-2.ensures.only _) c.from_residual-in_err-expect-2.ensures.1) (follows_token refl)) follows_any)) (λ n next ts h s k. (attribute_inside n next ts h s (k ∙ c.if-not-is_at.ensures.yes), refl))
+
+pub returns-clause-found : goal.returns-clause-found
+returns-clause-found c = attribute_in c.args.left _ c.if-left-eq0.false (spans_expected c.in_ok-expect.ensures.found) c.in_ok-unread.ensures.found c.span_since-span.ensures (spans_expected c.in_ok-expect-2.ensures.found)
+
+pub returns-clause-only : goal.returns-clause-only
+returns-clause-only c = finds_given (finds_inside c.if-left-eq0.false (finds_then (c.in_ok-expect.ensures.only _) (finds_then c.in_ok-unread.ensures.only (finds_ok _ (c.in_ok-expect-2.ensures.only _)) (follows_token refl)) follows_any)) (λ n next ts h s k. (attribute_inside n next ts h s (k ∙ c.if-not-is_at.ensures.yes), refl))

@@ -1,0 +1,47 @@
+use Rattle.std.proofs.Common.{◌≡◌, ◌≢◌, ◌++◌, ℕ, List, [], ◌∷◌, true, false, not, refl, sym, ap, ◌∙◌, subst}
+use Rattle.ar_lexer.specs.declared.token.TokenKind.TheVariants.{Name, Sign, Reserved, Whole}
+use Rattle.ar_parser.specs.Words.{token, ◌▸◌, between, each, Has}
+use Rattle.ar_parser.specs.Models.{IsWhole, IsBound, whole, negated, IsDomainBody, IsDomain, IsItem, AreItems}
+use Rattle.ar_parser.specs.Results.{kind_at, anything, begins_item, ends_item, is_end}
+use Rattle.ar_parser.proofs.Finding.{Follows, finds_then, finds_fails, finds_given, finds_err, finds_ok, finds_memory, finds_nothing, finds_token, finds_from, finds_at, finds_syntax, loops_start, loops_stop, loops_fail, loops_next, gathers_push, spans_then, spans_token, spans_expected, spans_from, spans_at, spans_map, takes_map, takes_from, eats_as, eats_kind, then_kind, follows_token, follows_then, follows_any}
+use Rattle.ar_parser.proofs.PathForms.{pushed_first, pushed_more}
+use Rattle.ar_parser.proofs.ItemParts.{whole_token, whole_kind, bound_minus, bound_whole, domain_symbols, domain_range, semicolon_found, semicolon_only, domain_parts, item_domain, item_class, item_block, item_begins, item_open, items_follow, items_parts, items_made, model_fails, model_over, model_found, again, range_again, item_shorter}
+use Rattle.std.proofs.Common.{arith, rules, length}
+use Rattle.std.specs.Prelude.{ℤ, pos, ◌≤ℤ◌}
+use Rattle.std.proofs.lemmas.Int.{ints, to_z-of_z}
+use mir.Syntax.{w64}
+use mir.Val.{SFits, to_z, of_z}
+use Rattle.ar_parser.proofs.cursor.Parser.domain_body.Goals as goal
+
+pub returns-in_err-symbols-clause-only : goal.returns-in_err-symbols-clause-only
+returns-in_err-symbols-clause-only c = λ left. finds_given (finds_then (finds_token c.if-eat.ensures.taken) (finds_fails (c.in_err-symbols.ensures.only left) c.from_residual.ensures.1 (follows_token refl)) follows_any) (λ n next ts h s k. (domain_symbols next ts h (k ∙ eats_kind c.if-eat.ensures.taken), refl))
+
+pub returns-in_err-expect-clause-only : goal.returns-in_err-expect-clause-only
+returns-in_err-expect-clause-only c = λ left. finds_given (finds_then (finds_token c.if-eat.ensures.taken) (finds_then (c.in_ok-symbols.ensures.only left) (finds_err (c.in_err-expect.ensures.only left) c.from_residual-in_err-expect.ensures.1) (follows_token refl)) follows_any) (λ n next ts h s k. (domain_symbols next ts h (k ∙ eats_kind c.if-eat.ensures.taken), refl))
+
+pub returns-then-eat-clause-found : goal.returns-then-eat-clause-found
+returns-then-eat-clause-found c = spans_then (spans_token c.if-eat.ensures.taken) (spans_then c.in_ok-symbols.ensures.found (spans_expected c.in_ok-expect.ensures.found))
+
+pub returns-then-eat-clause-only : goal.returns-then-eat-clause-only
+returns-then-eat-clause-only c = λ left. finds_given (finds_then (finds_token c.if-eat.ensures.taken) (finds_then (c.in_ok-symbols.ensures.only left) (finds_ok _ (c.in_ok-expect.ensures.only left)) (follows_token refl)) follows_any) (λ n next ts h s k. (domain_symbols next ts h (k ∙ eats_kind c.if-eat.ensures.taken), refl))
+
+pub returns-in_err-expect-2-clause-only : goal.returns-in_err-expect-2-clause-only
+returns-in_err-expect-2-clause-only c = λ left. finds_from (finds_given (finds_fails (c.in_err-expect-2.ensures.only left) c.from_residual-in_err-expect-2.ensures.1 follows_any) (λ n next ts h s k. (domain_range next ts h (λ e. c.if-eat.ensures.other (ap kind_at (sym c.if-eat.ensures.left) ∙ sym k ∙ e)), refl))) c.if-eat.ensures.left
+
+pub returns-in_err-low-clause-only : goal.returns-in_err-low-clause-only
+returns-in_err-low-clause-only c = λ left. finds_from (finds_given (finds_then (c.in_ok-expect-2.ensures.only left) (finds_fails (c.in_err-low.ensures.only left) c.from_residual-in_err-low.ensures.1 follows_any) follows_any) (λ n next ts h s k. (domain_range next ts h (λ e. c.if-eat.ensures.other (ap kind_at (sym c.if-eat.ensures.left) ∙ sym k ∙ e)), refl))) c.if-eat.ensures.left
+
+pub returns-in_err-expect-3-clause-only : goal.returns-in_err-expect-3-clause-only
+returns-in_err-expect-3-clause-only c = λ left. finds_from (finds_given (finds_then (c.in_ok-expect-2.ensures.only left) (finds_then (c.in_ok-low.ensures.only left) (finds_fails (c.in_err-expect-3.ensures.only left) c.from_residual-in_err-expect-3.ensures.1 follows_any) follows_any) follows_any) (λ n next ts h s k. (domain_range next ts h (λ e. c.if-eat.ensures.other (ap kind_at (sym c.if-eat.ensures.left) ∙ sym k ∙ e)), refl))) c.if-eat.ensures.left
+
+pub returns-in_err-high-clause-only : goal.returns-in_err-high-clause-only
+returns-in_err-high-clause-only c = λ left. finds_from (finds_given (finds_then (c.in_ok-expect-2.ensures.only left) (finds_then (c.in_ok-low.ensures.only left) (finds_then (c.in_ok-expect-3.ensures.only left) (finds_fails (c.in_err-high.ensures.only left) c.from_residual-in_err-high.ensures.1 follows_any) follows_any) follows_any) follows_any) (λ n next ts h s k. (domain_range next ts h (λ e. c.if-eat.ensures.other (ap kind_at (sym c.if-eat.ensures.left) ∙ sym k ∙ e)), refl))) c.if-eat.ensures.left
+
+pub returns-in_err-expect-4-clause-only : goal.returns-in_err-expect-4-clause-only
+returns-in_err-expect-4-clause-only c = λ left. finds_from (finds_given (finds_then (c.in_ok-expect-2.ensures.only left) (finds_then (c.in_ok-low.ensures.only left) (finds_then (c.in_ok-expect-3.ensures.only left) (finds_then (c.in_ok-high.ensures.only left) (finds_err (c.in_err-expect-4.ensures.only left) c.from_residual-in_err-expect-4.ensures.1) follows_any) follows_any) follows_any) follows_any) (λ n next ts h s k. (domain_range next ts h (λ e. c.if-eat.ensures.other (ap kind_at (sym c.if-eat.ensures.left) ∙ sym k ∙ e)), refl))) c.if-eat.ensures.left
+
+pub returns-clause-found : goal.returns-clause-found
+returns-clause-found c = let f : SFits w64 c.in_ok-low.low = search rules in let g : SFits w64 c.in_ok-high.high = search rules in range_again c.in_ok-low.low c.in_ok-high.high f g (spans_from (spans_then (spans_then (spans_expected c.in_ok-expect-2.ensures.found) (spans_then c.in_ok-low.ensures.found (spans_expected c.in_ok-expect-3.ensures.found))) (spans_then c.in_ok-high.ensures.found (spans_expected c.in_ok-expect-4.ensures.found))) (sym c.if-eat.ensures.left))
+
+pub returns-clause-only : goal.returns-clause-only
+returns-clause-only c = λ left. finds_from (finds_given (finds_then (c.in_ok-expect-2.ensures.only left) (finds_then (c.in_ok-low.ensures.only left) (finds_then (c.in_ok-expect-3.ensures.only left) (finds_then (c.in_ok-high.ensures.only left) (finds_ok _ (c.in_ok-expect-4.ensures.only left)) follows_any) follows_any) follows_any) follows_any) (λ n next ts h s k. (domain_range next ts h (λ e. c.if-eat.ensures.other (ap kind_at (sym c.if-eat.ensures.left) ∙ sym k ∙ e)), refl))) c.if-eat.ensures.left

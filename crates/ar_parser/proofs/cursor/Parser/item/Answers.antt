@@ -1,0 +1,44 @@
+use Rattle.std.proofs.Common.{◌≡◌, ◌≢◌, ◌++◌, ℕ, List, [], ◌∷◌, true, false, not, refl, sym, ap, ◌∙◌, subst}
+use Rattle.ar_lexer.specs.declared.token.TokenKind.TheVariants.{Name, Sign, Reserved, Whole}
+use Rattle.ar_parser.specs.Words.{token, ◌▸◌, between, each, Has}
+use Rattle.ar_parser.specs.Models.{IsWhole, IsBound, whole, negated, IsDomainBody, IsDomain, IsItem, AreItems}
+use Rattle.ar_parser.specs.Results.{kind_at, anything, begins_item, ends_item, is_end}
+use Rattle.ar_parser.proofs.Finding.{Follows, finds_then, finds_fails, finds_given, finds_err, finds_ok, finds_memory, finds_nothing, finds_token, finds_from, finds_at, finds_syntax, loops_start, loops_stop, loops_fail, loops_next, gathers_push, spans_then, spans_token, spans_expected, spans_from, spans_at, spans_map, takes_map, takes_from, eats_as, eats_kind, then_kind, follows_token, follows_then, follows_any}
+use Rattle.ar_parser.proofs.PathForms.{pushed_first, pushed_more}
+use Rattle.ar_parser.proofs.ItemParts.{whole_token, whole_kind, bound_minus, bound_whole, domain_symbols, domain_range, semicolon_found, semicolon_only, domain_parts, item_domain, item_class, item_block, item_begins, item_open, items_follow, items_parts, items_made, model_fails, model_over, model_found, again, range_again, item_shorter}
+use Rattle.std.proofs.Common.{arith, rules, length}
+use Rattle.std.specs.Prelude.{ℤ, pos, ◌≤ℤ◌}
+use Rattle.std.proofs.lemmas.Int.{ints, to_z-of_z}
+use mir.Syntax.{w64}
+use mir.Val.{SFits, to_z, of_z}
+use Rattle.ar_parser.proofs.cursor.Parser.item.Goals as goal
+
+pub returns-in_err-domain-clause-only : goal.returns-in_err-domain-clause-only
+returns-in_err-domain-clause-only c = finds_given (finds_err (c.in_err-domain.ensures.only _) c.from_residual.ensures.1) (λ n next ts h s k. (item_domain n next ts h (k ∙ c.if-is_at.ensures.yes), s))
+
+pub returns-then-is_at-clause-found : goal.returns-then-is_at-clause-found
+returns-then-is_at-clause-found c = c.in_ok-domain.ensures.found
+
+pub returns-then-is_at-clause-only : goal.returns-then-is_at-clause-only
+returns-then-is_at-clause-only c = finds_given (finds_ok _ (c.in_ok-domain.ensures.only _)) (λ n next ts h s k. (item_domain n next ts h (k ∙ c.if-is_at.ensures.yes), s))
+
+pub returns-in_err-class-clause-only : goal.returns-in_err-class-clause-only
+returns-in_err-class-clause-only c = finds_given (finds_then (finds_token c.if-eat.ensures.taken) (finds_err c.in_err-class.ensures.only c.from_residual-in_err-class.ensures.1) follows_any) (λ n next ts h s k. (item_class n next ts h (k ∙ eats_kind c.if-eat.ensures.taken), refl))
+
+pub returns-then-eat-clause-found : goal.returns-then-eat-clause-found
+returns-then-eat-clause-found c = spans_then (spans_token c.if-eat.ensures.taken) c.in_ok-class.ensures.found
+
+pub returns-then-eat-clause-only : goal.returns-then-eat-clause-only
+returns-then-eat-clause-only c = finds_given (finds_then (finds_token c.if-eat.ensures.taken) (finds_ok _ c.in_ok-class.ensures.only) follows_any) (λ n next ts h s k. (item_class n next ts h (k ∙ eats_kind c.if-eat.ensures.taken), refl))
+
+pub returns-in_err-expect-clause-only : goal.returns-in_err-expect-clause-only
+returns-in_err-expect-clause-only c = finds_from (finds_given (finds_fails (c.in_err-expect.ensures.only _) c.from_residual-in_err-expect.ensures.1 follows_any) (λ n next ts h s k. (item_block n next ts h (λ e. c.if-is_at.ensures.no (ap kind_at (sym c.if-eat.ensures.left) ∙ sym k ∙ e)) (λ e. c.if-eat.ensures.other (ap kind_at (sym c.if-eat.ensures.left) ∙ sym k ∙ e)), refl))) c.if-eat.ensures.left
+
+pub returns-in_err-block-clause-only : goal.returns-in_err-block-clause-only
+returns-in_err-block-clause-only c = finds_from (finds_given (finds_then (c.in_ok-expect.ensures.only _) (finds_err c.in_err-block.ensures.only c.from_residual-in_err-block.ensures.1) follows_any) (λ n next ts h s k. (item_block n next ts h (λ e. c.if-is_at.ensures.no (ap kind_at (sym c.if-eat.ensures.left) ∙ sym k ∙ e)) (λ e. c.if-eat.ensures.other (ap kind_at (sym c.if-eat.ensures.left) ∙ sym k ∙ e)), refl))) c.if-eat.ensures.left
+
+pub returns-clause-found : goal.returns-clause-found
+returns-clause-found c = spans_from (spans_then (spans_expected c.in_ok-expect.ensures.found) c.in_ok-block.ensures.found) (sym c.if-eat.ensures.left)
+
+pub returns-clause-only : goal.returns-clause-only
+returns-clause-only c = finds_from (finds_given (finds_then (c.in_ok-expect.ensures.only _) (finds_ok _ c.in_ok-block.ensures.only) follows_any) (λ n next ts h s k. (item_block n next ts h (λ e. c.if-is_at.ensures.no (ap kind_at (sym c.if-eat.ensures.left) ∙ sym k ∙ e)) (λ e. c.if-eat.ensures.other (ap kind_at (sym c.if-eat.ensures.left) ∙ sym k ∙ e)), refl))) c.if-eat.ensures.left

@@ -1,0 +1,34 @@
+use Rattle.std.proofs.Common.{◌≡◌, ◌++◌, ◌∷◌, [], refl, sym, ap, ◌∙◌, append_assoc}
+use Rattle.ar_parser.specs.Words.{token, ◌▸◌}
+use Rattle.ar_parser.specs.Paths.{IsPlacedName}
+use Rattle.ar_parser.specs.Results.{kind_at, ends_names}
+use Rattle.ar_lexer.specs.declared.token.TokenKind.TheVariants.{Sign}
+use Rattle.ar_lexer.specs.declared.signs.TheConstants.{COMMA}
+use Rattle.ar_parser.proofs.Finding.{Loops, finds_then, finds_given, finds_token, finds_memory, loops_next, loops_fail, loops_stop, spans_token, spans_then, spans_push, eats_kind, follows_any, then_kind, finds_at}
+use Rattle.ar_parser.proofs.cursor.Parser.more_names.Goals as goal
+
+pub returns-in_err-name-clause-only : goal.returns-in_err-name-clause-only
+returns-in_err-name-clause-only c = λ left.
+    let e = c.loop-self-test.ensures.taken in
+    loops_fail c.loop-self.invariant.3 (ap ends_names (eats_kind e)) (finds_then (finds_token e) (c.in_err-name.ensures.only left) follows_any) c.from_residual.ensures.1 follows_any
+
+pub loop-self-preserved : goal.loop-self-preserved
+loop-self-preserved c =
+    let e = c.loop-self-test.ensures.taken in
+    let i = c.loop-self.invariant in (
+      i.0 ++ c.in_ok-name.name ∷ [],
+      c.in_ok-push.ensures.items ∙ ap (λ s. s ++ c.in_ok-name.name ∷ []) i.1 ∙ append_assoc _ i.0 _,
+      spans_push (λ x. token (Sign COMMA) ▸ IsPlacedName x) i.0 c.in_ok-name.name i.2 (spans_then (spans_token e) c.in_ok-name.ensures.found),
+      loops_next i.3 (ap ends_names (eats_kind e)) (finds_then (finds_token e) (c.in_ok-name.ensures.only 0) follows_any) follows_any,
+    )
+
+pub returns-in_err-push-clause-only : goal.returns-in_err-push-clause-only
+returns-in_err-push-clause-only c = λ left.
+    let e = c.loop-self-test.ensures.taken in
+    let l = loops_next c.loop-self.invariant.3 (ap ends_names (eats_kind e)) (finds_then (finds_token e) (c.in_ok-name.ensures.only 0) follows_any) follows_any in
+    finds_memory l.front l.passed c.from_residual-in_err-push.ensures.1
+
+pub returns-clause-only : goal.returns-clause-only
+returns-clause-only c = λ left.
+    let a = c.loop-self-test.ensures in
+    finds_at (loops_stop c.loop-self.invariant.3 (λ n next ts h k. a.other (sym k ∙ then_kind h))) a.left

@@ -1,0 +1,15 @@
+use Rattle.std.proofs.Common.{length}
+use Rattle.ar_lexer.specs.declared.token.TokenKind.TheVariants.{Sign}
+use Rattle.ar_lexer.specs.declared.signs.TheConstants.{COMMA, DOT, AMPERSAND}
+use Rattle.ar_parser.specs.Words.{token, ◌▸◌, Has}
+use Rattle.ar_parser.specs.Members.{IsWord, IsSetting, IsEvent, IsHidden, IsPart}
+use Rattle.ar_parser.specs.Results.{ends_target, ends_list, ends_semicolon}
+use Rattle.ar_parser.proofs.Finding.{Gathers}
+use Rattle.ar_parser.proofs.cursor.Parser.more_words.Given as goal
+
+abbrev pub invariant-loop-self : goal.invariant-loop-self
+invariant-loop-self l =
+    Gathers (λ x. token (Sign DOT) ▸ IsWord x) (λ n. token (Sign DOT) ▸ Has IsWord) ends_target l.fn.target.items l.target.items l.fn.self.rest.now l.self.rest.now
+
+abbrev pub decreases-loop-self : goal.decreases-loop-self
+decreases-loop-self l = length l.self.rest.now

@@ -1,0 +1,9 @@
+use Rattle.std.proofs.Common.{length}
+use Rattle.ar_parser.proofs.NameLemmas.{Numbering}
+use Rattle.ar_parser.proofs.numbering.numbered.Given as goal
+
+abbrev pub invariant-loop-token : goal.invariant-loop-token
+invariant-loop-token l = Numbering l.text l.fn.names l.names l.tokens l.rest l.lexemes.items
+
+abbrev pub decreases-loop-token : goal.decreases-loop-token
+decreases-loop-token l = length l.rest

@@ -1,0 +1,104 @@
+-- The grammar of models, and what it is to read a text.
+use Rattle.std.specs.Prelude.{◌≡◌, ◌≢◌, ℕ, ◌+◌, ◌-◌, ◌<◌, ◌≤◌, ◌≤ℤ◌, ℤ, pos, neg_ℤ, List, [], ◌∷◌, ◌++◌, length, map, take, drop, Vec}
+use Rattle.std.specs.declared.alloc.Global.{Global}
+use Rattle.ar_base.specs.declared.places.Place.{Place}
+use Rattle.ar_base.specs.Counts.{limit_of}
+use Rattle.ar_base.specs.declared.counts.Count.TheVariants.{Nesting}
+use Rattle.ar_base.specs.Lists.{Stands}
+use Rattle.ar_base.specs.Texts.{Interns}
+use Rattle.ar_lexer.specs.declared.token.Token.{Token}
+use Rattle.ar_lexer.specs.declared.token.TokenKind.{TokenKind}
+use Rattle.ar_lexer.specs.declared.token.TokenKind.TheVariants.{Name, Whole, Sign, Reserved, End}
+use Rattle.ar_lexer.specs.declared.signs.TheConstants.{OPEN_BRACE, CLOSE_BRACE, OPEN_BRACKET, CLOSE_BRACKET, COMMA, SEMICOLON, MINUS}
+use Rattle.ar_lexer.specs.declared.words.TheConstants.{BLOCK, CLASS, DOMAIN}
+use Rattle.ar_lexer.specs.declared.token.LexFault.{LexFault}
+use Rattle.ar_lexer.specs.declared.token.LexFault.TheVariants.{Byte, OpenComment, Number, Memory}
+use Rattle.ar_lexer.specs.Tokens.{AreTokens, IsFirstFault, end_of_text, place_after}
+use Rattle.ar_syntax.specs.declared.members.Member.{Member}
+use Rattle.ar_syntax.specs.declared.members.Unit.{Unit as UnitTree}
+use Rattle.ar_syntax.specs.declared.items.DomainBody.{DomainBody}
+use Rattle.ar_syntax.specs.declared.items.DomainBody.TheVariants as domain
+use Rattle.ar_syntax.specs.declared.items.DomainDecl.{DomainDecl}
+use Rattle.ar_syntax.specs.declared.items.Item.{Item}
+use Rattle.ar_syntax.specs.declared.items.Item.TheVariants as item
+use Rattle.ar_syntax.specs.declared.items.Model.{Model}
+use Rattle.ar_parser.specs.declared.lexeme.Lexeme.{Lexeme}
+use Rattle.ar_parser.specs.Words.{NameId, Form, Tokens, token, nothing, never, ◌▸◌, ◌∣◌, each, between}
+use Rattle.ar_parser.specs.Paths.{IsPlacedName, AreNames}
+use Rattle.ar_parser.specs.Members.{IsBody, IsUnit}
+
+-- a whole number, which has no sign
+pub record IsWhole (z : ℤ) (next : TokenKind) (ts : Tokens) : Type 0 where
+  pub no_sign : pos 0 ≤ℤ z
+  pub reads : token (Whole z) next ts
+
+-- Bound = [ "-" ] whole
+pub data IsBound (z : ℤ) (next : TokenKind) (ts : Tokens) : Type 0 where
+  whole : IsWhole z next ts → IsBound z next ts
+  negated : (n : ℤ) → z ≡ neg_ℤ n → (token (Sign MINUS) ▸ IsWhole n) next ts → IsBound z next ts
+
+-- DomainBody = "{" name { "," name } "}" | "[" Bound "," Bound "]"
+abbrev pub IsDomainBody : DomainBody → Form
+IsDomainBody (domain.Symbols names) = between (Sign OPEN_BRACE) (Sign CLOSE_BRACE) (AreNames names.items)
+IsDomainBody (domain.Range low high) = between (Sign OPEN_BRACKET) (Sign COMMA) (IsBound low) ▸ IsBound high ▸ token (Sign CLOSE_BRACKET)
+
+-- "domain" name DomainBody [ ";" ]
+abbrev pub IsDomain : DomainDecl → Form
+IsDomain d = token (Reserved DOMAIN) ▸ IsPlacedName (d.name, d.at) ▸ IsDomainBody d.body ▸ (nothing ∣ token (Sign SEMICOLON))
+
+-- Item = Domain | "class" name Body "end" | "block" name Body "end"
+abbrev pub IsItem : ℕ → Item → Form
+IsItem n (item.Domain d) = IsDomain d
+IsItem n (item.Class u) = token (Reserved CLASS) ▸ IsUnit (IsBody n) u
+IsItem n (item.Block u) = token (Reserved BLOCK) ▸ IsUnit (IsBody n) u
+
+-- Model = Item { Item }
+abbrev pub AreItems : ℕ → List Item → Form
+AreItems n [] = never
+AreItems n (x ∷ more) = IsItem n x ▸ each (IsItem n) more
+
+-- a token without the number of its name
+abbrev pub token_of : Lexeme → Token
+token_of l = record { kind = l.kind; span = l.span; at = l.at }
+
+-- the bytes of a token
+abbrev pub text_of : List ℕ → Lexeme → List ℕ
+text_of bytes l = take (l.span.to - l.span.from) (drop l.span.from bytes)
+
+-- The table `new` is `old` with the text of this token, if it is a name, and the name's number stands for it. A token that is no name has the number 0.
+pub data IsNumbered (bytes : List ℕ) (old : List (List ℕ)) (l : Lexeme) (new : List (List ℕ)) : Type 0 where
+  name : l.kind ≡ Name → Interns old (text_of bytes l) new → Stands new l.name.n (text_of bytes l) → IsNumbered bytes old l new
+  other : l.kind ≢ Name → new ≡ old → l.name.n ≡ 0 → IsNumbered bytes old l new
+
+-- The table `new` is `old` with the texts of the names, in the order of their first use, and each name's number stands for its text.
+abbrev pub AreNumbered : List ℕ → List (List ℕ) → Tokens → List (List ℕ) → Type 0
+AreNumbered bytes old [] new = new ≡ old
+AreNumbered bytes old (l ∷ ls) new = (mid : List (List ℕ)) × IsNumbered bytes old l mid × AreNumbered bytes mid ls new
+
+-- The tokens of the text but for its end, with the numbers of their names, the table of these, and the place behind the text.
+pub record AreLexemes (bytes : List ℕ) (ls : Tokens) (names : List (List ℕ)) (end : Place) : Type 0 where
+  pub tokens : AreTokens bytes (map token_of ls ++ end_of_text bytes ∷ [])
+  pub names_are : AreNumbered bytes [] ls names
+  pub end_is : end ≡ place_after bytes
+
+abbrev pub IsPlaceOf : LexFault → Place → Type 0
+IsPlaceOf (Byte p) at = p ≡ at
+IsPlaceOf (OpenComment p) at = p ≡ at
+IsPlaceOf (Number p) at = p ≡ at
+IsPlaceOf Memory at = ⊥
+
+-- the text has no tokens, and its first fault stands here
+pub record HasFaultAt (bytes : List ℕ) (at : Place) : Type 0 where
+  pub fault : LexFault
+  pub first : IsFirstFault bytes fault
+  pub there : IsPlaceOf fault at
+
+-- A text has this tree, with at most n productions open at one token.
+pub record ReadsWithin (n : ℕ) (bytes : List ℕ) (model : Model) : Type 0 where
+  pub lexemes : Tokens
+  pub are : AreLexemes bytes lexemes model.names model.end
+  pub items : AreItems n model.items.items End lexemes
+
+-- A text is read as this tree.
+abbrev pub Reads : List ℕ → Model → Type 0
+Reads bytes model = ReadsWithin (limit_of Nesting) bytes model

@@ -1,0 +1,232 @@
+-- What a function of the parser says of the tokens that it takes.
+use Rattle.std.specs.Prelude.{◌≡◌, ◌≢◌, ℕ, ◌<◌, ◌⊎◌, Bool, true, false, not, ◌||◌, ◌&&◌, ◌==◌, List, [], ◌∷◌, ◌++◌, Result, Ok, Err, IfOk}
+use Rattle.ar_base.specs.declared.places.Place.{Place}
+use Rattle.ar_lexer.specs.declared.token.TokenKind.{TokenKind}
+use Rattle.ar_lexer.specs.declared.token.TokenKind.TheVariants.{Name, Whole, Real, Sign, Reserved, End}
+use Rattle.ar_lexer.specs.declared.signs.TheConstants.{OPEN_BRACE, CLOSE_BRACE, OPEN_PARENTHESIS, CLOSE_PARENTHESIS, SEMICOLON, COMMA, DOT, EQUALS, EXCLAMATION, QUESTION, EQUAL, DIFFERS, LESS, AT_MOST, MORE, AT_LEAST, PLUS, MINUS, STAR}
+use Rattle.ar_lexer.specs.declared.words.TheConstants.{AND, ASSERTION, BLOCK, BOOLEAN, CLASS, CLONES, COUNT, DEFAULT, DOMAIN, EMBEDS, END, EVENT, EXTENDS, FALSE, HIDE, IF, MAIN, MAX, MIN, NOT, OBSERVER, OR, OWNER, PARAMETER, SKIP, SWITCH, TRANSITION, TRUE}
+use Rattle.ar_parser.specs.declared.lexeme.Lexeme.{Lexeme}
+use Rattle.ar_parser.specs.declared.lexeme.ParseFault.{ParseFault}
+use Rattle.ar_parser.specs.declared.lexeme.ParseFault.TheVariants.{Lex, Syntax, Depth, Memory}
+use Rattle.ar_parser.specs.Words.{Form, Tokens, kind_or, StandsAt, Covers}
+
+abbrev pub kind_at : Tokens → TokenKind
+kind_at = kind_or End
+
+-- The front of the tokens that was taken has this form.
+pub record Spans (A : Form) (old new : Tokens) : Type 0 where
+  pub front : Tokens
+  pub split : old ≡ front ++ new
+  pub form : A (kind_at new) front
+
+-- What was taken is of the value that is answered.
+abbrev pub Takes : {A : Type 0} → (A → Form) → Result A ParseFault → Tokens → Tokens → Type 0
+Takes One result old new = IfOk result (λ x. Spans (One x) old new)
+
+-- How a call with room for `left` open productions may end where a text of nesting n goes to `after`: there, or by
+-- want of room or of memory.
+abbrev pub Arrives : {A : Type 0} → ℕ → ℕ → Result A ParseFault → Tokens → Tokens → Type 0
+Arrives left n (Ok x) new after = new ≡ after
+Arrives left n (Err (Lex at)) new after = ⊥
+Arrives left n (Err (Syntax at)) new after = ⊥
+Arrives left n (Err (Depth at)) new after = left < n
+Arrives left n (Err Memory) new after = Unit {0}
+
+-- How a call with room for `left` open productions may end where the whole text has the nesting n: well, or by want of
+-- room or of memory.
+abbrev pub Reaches : {A : Type 0} → ℕ → ℕ → Result A ParseFault → Type 0
+Reaches left n (Ok x) = Unit {0}
+Reaches left n (Err (Lex at)) = ⊥
+Reaches left n (Err (Syntax at)) = ⊥
+Reaches left n (Err (Depth at)) = left < n
+Reaches left n (Err Memory) = Unit {0}
+
+-- The call stands at `new`. Whatever stood there in its place, if its first token had the same kind: a front of this
+-- form, of any nesting, with what ends it behind it, would end right there.
+pub record Finds {A : Type 0} (P : ℕ → Form) (ends : TokenKind → Bool) (left : ℕ) (result : Result A ParseFault) (old new : Tokens) : Type 0 where
+  pub front : Tokens
+  pub passed : old ≡ front ++ new
+  pub only : (n : ℕ) (other ts after : Tokens) → kind_at other ≡ kind_at new → P n (kind_at after) ts → front ++ other ≡ ts ++ after → ends (kind_at after) ≡ true → Arrives left n result other after
+
+-- the place of the next token
+abbrev pub place_at : Place → Tokens → Place
+place_at end [] = end
+place_at end (t ∷ ts) = t.at
+
+abbrev pub IsSyntax : ParseFault → Type 0
+IsSyntax (Syntax at) = Unit {0}
+IsSyntax _ = ⊥
+
+abbrev pub IsDepth : ParseFault → Type 0
+IsDepth (Depth at) = Unit {0}
+IsDepth _ = ⊥
+
+-- a token of this kind is gone
+pub record Eats (kind : TokenKind) (old new : Tokens) : Type 0 where
+  pub one : Lexeme
+  pub split : old ≡ one ∷ new
+  pub of_kind : one.kind ≡ kind
+
+-- What ends a text: the kinds that do not go on with it
+
+abbrev pub is_sign : ℕ → TokenKind → Bool
+is_sign n (Sign m) = m == n
+is_sign n _ = false
+
+abbrev pub is_word : ℕ → TokenKind → Bool
+is_word n (Reserved m) = m == n
+is_word n _ = false
+
+abbrev pub anything : TokenKind → Bool
+anything k = true
+
+abbrev pub is_name : TokenKind → Bool
+is_name Name = true
+is_name _ = false
+
+abbrev pub ends_names : TokenKind → Bool
+ends_names k = not (is_sign COMMA k)
+
+abbrev pub ends_path : TokenKind → Bool
+ends_path k = not (is_sign DOT k)
+
+abbrev pub ends_product : TokenKind → Bool
+ends_product k = ends_path k && not (is_sign STAR k)
+
+abbrev pub begins_term : TokenKind → Bool
+begins_term k = is_sign PLUS k || is_sign MINUS k
+
+abbrev pub ends_sum : TokenKind → Bool
+ends_sum k = ends_product k && not (begins_term k)
+
+abbrev pub is_relation : TokenKind → Bool
+is_relation k = is_sign EQUAL k || (is_sign DIFFERS k || (is_sign LESS k || (is_sign AT_MOST k || (is_sign MORE k || is_sign AT_LEAST k))))
+
+abbrev pub ends_not : TokenKind → Bool
+ends_not k = ends_sum k && not (is_relation k)
+
+abbrev pub ends_and : TokenKind → Bool
+ends_and k = ends_not k && not (is_word AND k)
+
+abbrev pub ends_expr : TokenKind → Bool
+ends_expr k = ends_and k && not (is_word OR k)
+
+-- What begins a text
+
+abbrev pub begins_path : TokenKind → Bool
+begins_path Name = true
+begins_path (Reserved w) = (w == OWNER) || (w == MAIN)
+begins_path _ = false
+
+abbrev pub begins_primary : TokenKind → Bool
+begins_primary Name = true
+begins_primary (Whole n) = true
+begins_primary Real = true
+begins_primary (Sign s) = s == OPEN_PARENTHESIS
+begins_primary (Reserved w) = (w == OWNER) || (w == MAIN) || (w == TRUE) || (w == FALSE) || (w == MIN) || (w == MAX) || (w == COUNT) || (w == SWITCH)
+begins_primary End = false
+
+abbrev pub begins_minus : TokenKind → Bool
+begins_minus k = is_sign MINUS k || begins_primary k
+
+abbrev pub begins_not : TokenKind → Bool
+begins_not k = is_word NOT k || begins_minus k
+
+abbrev pub begins_expr : TokenKind → Bool
+begins_expr k = is_word IF k || begins_not k
+
+abbrev pub begins_instr : TokenKind → Bool
+begins_instr Name = true
+begins_instr (Sign s) = s == OPEN_BRACE
+begins_instr (Reserved w) = (w == OWNER) || (w == MAIN) || (w == SKIP) || (w == IF)
+begins_instr _ = false
+
+-- what stands behind the operands of a call
+abbrev pub ends_list : TokenKind → Bool
+ends_list k = is_sign CLOSE_PARENTHESIS k
+
+-- what stands behind the cases of a choice
+abbrev pub ends_cases : TokenKind → Bool
+ends_cases k = is_word DEFAULT k
+
+-- what stands behind the instructions of a group
+abbrev pub ends_group : TokenKind → Bool
+ends_group k = is_sign CLOSE_BRACE k
+
+-- what goes on with an unread text, and with a kept value
+
+abbrev pub goes_unread : TokenKind → Bool
+goes_unread (Sign s) = not (s == CLOSE_PARENTHESIS)
+goes_unread End = false
+goes_unread _ = true
+
+abbrev pub goes_kept : TokenKind → Bool
+goes_kept (Sign s) = not (s == CLOSE_PARENTHESIS) && not (s == SEMICOLON)
+goes_kept End = false
+goes_kept _ = true
+
+abbrev pub ends_unread : TokenKind → Bool
+ends_unread k = is_sign CLOSE_PARENTHESIS k
+
+abbrev pub ends_kept : TokenKind → Bool
+ends_kept k = is_sign SEMICOLON k
+
+-- what follows an event without an attribute
+abbrev pub ends_attribute : TokenKind → Bool
+ends_attribute k = not (is_sign OPEN_PARENTHESIS k)
+
+-- what stands behind the last of a list that a semicolon ends
+abbrev pub ends_semicolon : TokenKind → Bool
+ends_semicolon k = is_sign SEMICOLON k
+
+-- what stands behind the target of a setting
+abbrev pub ends_target : TokenKind → Bool
+ends_target k = is_sign EQUALS k
+
+abbrev pub ends_transitions : TokenKind → Bool
+ends_transitions k = not (is_name k)
+
+abbrev pub ends_assertions : TokenKind → Bool
+ends_assertions k = not (begins_instr k)
+
+abbrev pub begins_part : TokenKind → Bool
+begins_part k = is_sign EXCLAMATION k || is_sign QUESTION k
+
+abbrev pub begins_keyed : TokenKind → Bool
+begins_keyed (Reserved w) = (w == EXTENDS) || (w == BOOLEAN) || (w == BLOCK) || (w == CLONES) || (w == EMBEDS) || (w == PARAMETER) || (w == EVENT) || (w == OBSERVER) || (w == HIDE)
+begins_keyed _ = false
+
+abbrev pub begins_member : TokenKind → Bool
+begins_member k = is_name k || begins_keyed k
+
+abbrev pub begins_section : TokenKind → Bool
+begins_section k = is_word TRANSITION k || is_word ASSERTION k
+
+abbrev pub begins_later : TokenKind → Bool
+begins_later k = begins_section k || begins_keyed k
+
+abbrev pub begins_body : TokenKind → Bool
+begins_body k = begins_section k || begins_member k
+
+-- what stands behind a body
+abbrev pub ends_body : TokenKind → Bool
+ends_body k = is_word END k
+
+-- what stands behind the members before the first section
+abbrev pub ends_members : TokenKind → Bool
+ends_members k = begins_section k || is_word END k
+
+-- what stands behind a section
+abbrev pub ends_section : TokenKind → Bool
+ends_section k = begins_later k || is_word END k
+
+-- what follows an item
+abbrev pub ends_item : TokenKind → Bool
+ends_item k = not (is_sign SEMICOLON k)
+
+abbrev pub begins_item : TokenKind → Bool
+begins_item k = is_word DOMAIN k || is_word CLASS k || is_word BLOCK k
+
+abbrev pub is_end : TokenKind → Bool
+is_end End = true
+is_end _ = false

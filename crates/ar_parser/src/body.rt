@@ -1,0 +1,253 @@
+// Clauses, sections and bodies.
+
+ghost use Rattle.std.specs.Prelude.{◌≡◌, ◌≢◌, ◌++◌, ℕ, IfOk};
+ghost use Rattle.ar_lexer.specs.declared.token.TokenKind.TheVariants.{Name, Sign, Reserved, End};
+ghost use Rattle.ar_lexer.specs.declared.signs.TheConstants.{SEMICOLON, EQUALS};
+ghost use Rattle.ar_lexer.specs.declared.words.TheConstants.{AS, PARAMETER, REAL};
+ghost use Rattle.ar_parser.specs.Words.{token, ◌▸◌, between, many, groups, covering, Has};
+ghost use Rattle.ar_parser.specs.Paths.{IsPath, IsPlacedName};
+ghost use Rattle.ar_parser.specs.Expressions.{Node, IsExpr};
+ghost use Rattle.ar_parser.specs.Members.{IsType, IsSingle, IsKeyed, IsUnit, IsMember, IsSection, IsLater, AreSections, IsBody, kept, parameter_rest};
+ghost use Rattle.ar_parser.specs.Results.{Takes, Finds, Spans, anything, ends_body, ends_members, ends_section};
+
+use crate::begins::{begins_body, begins_later, begins_member, begins_section};
+use crate::cursor::Parser;
+use crate::lexeme::ParseFault;
+use ar_base::{NameId, Place, Span};
+use ar_lexer::{TokenKind, signs, words};
+use ar_syntax::{Member, Path, RawExpr, TypeName, Unit};
+
+impl<'a> Parser<'a> {
+    /// Takes a name between two tokens.
+    fn enclosed_name(
+        &mut self,
+        opens: TokenKind,
+        closes: TokenKind,
+    ) -> Result<(NameId, Place), ParseFault>
+        requires opens { opens ≢ End }
+        requires closes { closes ≢ End }
+        ensures found { Takes (λ x. between opens closes (IsPlacedName x)) result self.old.rest.now self.new.rest.now }
+        ensures only { (left : ℕ) → Finds (λ _. between opens closes (token Name)) anything left result self.old.rest.now self.new.rest.now }
+    {
+        self.expect(opens)?;
+        let name = self.placed_name()?;
+        self.expect(closes)?;
+        Ok(name)
+    }
+
+    /// Takes a word, a path and "as" name ";".
+    fn aliased(&mut self, word: u8) -> Result<(Path, NameId, Place), ParseFault>
+        ensures found { Takes (λ x. token (Reserved word) ▸ IsPath x.0 ▸ between (Reserved AS) (Sign SEMICOLON) (IsPlacedName (x.1, x.2))) result self.old.rest.now self.new.rest.now }
+        ensures only { (left : ℕ) → Finds (λ _. token (Reserved word) ▸ Has IsPath ▸ between (Reserved AS) (Sign SEMICOLON) (token Name)) anything left result self.old.rest.now self.new.rest.now }
+    {
+        self.expect(TokenKind::Reserved(word))?;
+        let path = self.path()?;
+        let (name, at) = self.enclosed_name(
+            TokenKind::Reserved(words::AS),
+            TokenKind::Sign(signs::SEMICOLON),
+        )?;
+        Ok((path, name, at))
+    }
+
+    /// Takes Type name "=" Expr ";".
+    fn valued(&mut self, left: u32) -> Result<(TypeName, NameId, Place, RawExpr), ParseFault>
+        ensures found { Takes (λ x. IsType x.0 ▸ IsPlacedName (x.1, x.2) ▸ between (Sign EQUALS) (Sign SEMICOLON) (Node (IsExpr left) x.3)) result self.old.rest.now self.new.rest.now }
+        ensures only { Finds (λ n. Has IsType ▸ token Name ▸ between (Sign EQUALS) (Sign SEMICOLON) (Has (IsExpr n))) anything left result self.old.rest.now self.new.rest.now }
+    {
+        let of_type = self.type_name()?;
+        let (name, at) = self.placed_name()?;
+        let value = self.enclosed(
+            TokenKind::Sign(signs::EQUALS),
+            TokenKind::Sign(signs::SEMICOLON),
+            left,
+        )?;
+        Ok((of_type, name, at, value))
+    }
+
+    /// Takes "Real" name "=" Kept ";".
+    fn kept_value(&mut self, left: u32) -> Result<(NameId, Place, Span), ParseFault>
+        ensures found { Takes (λ x. token (Reserved REAL) ▸ IsPlacedName (x.0, x.1) ▸ between (Sign EQUALS) (Sign SEMICOLON) (covering x.2 (kept left))) result self.old.rest.now self.new.rest.now }
+        ensures only { Finds (λ n. token (Reserved REAL) ▸ token Name ▸ between (Sign EQUALS) (Sign SEMICOLON) (kept n)) anything left result self.old.rest.now self.new.rest.now }
+    {
+        self.expect(TokenKind::Reserved(words::REAL))?;
+        let (name, at) = self.placed_name()?;
+        self.expect(TokenKind::Sign(signs::EQUALS))?;
+        let span = self.kept(left)?;
+        self.expect(TokenKind::Sign(signs::SEMICOLON))?;
+        Ok((name, at, span))
+    }
+
+    /// Takes a clause that begins with a reserved word and makes one member.
+    fn single(&mut self, left: u32) -> Result<Member, ParseFault>
+        ensures found { Takes (IsSingle left) result self.old.rest.now self.new.rest.now }
+        ensures only { Finds (λ n. Has (IsSingle n)) anything left result self.old.rest.now self.new.rest.now }
+    {
+        if self.is_at(TokenKind::Reserved(words::EXTENDS)) {
+            let (base, at) = self.enclosed_name(
+                TokenKind::Reserved(words::EXTENDS),
+                TokenKind::Sign(signs::SEMICOLON),
+            )?;
+            return Ok(Member::Extends(base, at));
+        }
+        if self.is_at(TokenKind::Reserved(words::BOOLEAN)) {
+            return self.declaration(left);
+        }
+        if self.is_at(TokenKind::Reserved(words::CLONES)) {
+            let (path, name, at) = self.aliased(words::CLONES)?;
+            return Ok(Member::Clones(path, name, at));
+        }
+        if self.is_at(TokenKind::Reserved(words::EMBEDS)) {
+            let (target, name, at) = self.aliased(words::EMBEDS)?;
+            return Ok(Member::Embeds(target, name, at));
+        }
+        if self.eat(TokenKind::Reserved(words::OBSERVER)) {
+            let (of_type, name, at, value) = self.valued(left)?;
+            return Ok(Member::Observer(of_type, name, at, value));
+        }
+        self.parameter(left)
+    }
+
+    /// Takes "parameter" ( "Real" name "=" Kept | Type name "=" Expr ) ";".
+    fn parameter(&mut self, left: u32) -> Result<Member, ParseFault>
+        ensures found { Takes (IsSingle left) result self.old.rest.now self.new.rest.now }
+        ensures only { Finds (λ n. token (Reserved PARAMETER) ▸ parameter_rest n) anything left result self.old.rest.now self.new.rest.now }
+    {
+        self.expect(TokenKind::Reserved(words::PARAMETER))?;
+        if self.is_at(TokenKind::Reserved(words::REAL)) {
+            let (kept_name, at, span) = self.kept_value(left)?;
+            return Ok(Member::Kept(kept_name, at, span));
+        }
+        let (of_type, name, at, value) = self.valued(left)?;
+        Ok(Member::Parameter(of_type, name, at, value))
+    }
+
+    /// Takes one transition section or assertion section.
+    fn section(&mut self, left: u32, members: &mut Vec<Member>) -> Result<(), ParseFault>
+        ensures found { IfOk result (λ _. (ms : _) × (members.new.items ≡ members.old.items ++ ms) × Spans (IsSection left ms) self.old.rest.now self.new.rest.now) }
+        ensures only { Finds (λ n. Has (IsSection n)) ends_section left result self.old.rest.now self.new.rest.now }
+    {
+        if self.eat(TokenKind::Reserved(words::TRANSITION)) {
+            self.transitions(left, members)?;
+            return Ok(());
+        }
+        self.expect(TokenKind::Reserved(words::ASSERTION))?;
+        self.assertions(left, members)?;
+        Ok(())
+    }
+
+    /// Takes name Body "end".
+    #[cycle(body)]
+    pub fn unit(&mut self, left: u32) -> Result<Unit, ParseFault>
+        ensures found { Takes (IsUnit (IsBody left)) result self.old.rest.now self.new.rest.now }
+        ensures only { Finds (λ n. Has (IsUnit (IsBody n))) anything left result self.old.rest.now self.new.rest.now }
+    {
+        let (name, at) = self.placed_name()?;
+        let members = self.body(left)?;
+        self.expect(TokenKind::Reserved(words::END))?;
+        Ok(Unit { name, at, members })
+    }
+
+    /// Takes a body, with room for `left` open productions: { Member } [ Section { Section | Keyed } ].
+    #[cycle(body)]
+    fn body(&mut self, left: u32) -> Result<Vec<Member>, ParseFault>
+        ensures found { Takes (λ members. IsBody left members.items) result self.old.rest.now self.new.rest.now }
+        ensures only { Finds (λ n. Has (IsBody n)) ends_body left result self.old.rest.now self.new.rest.now }
+    {
+        let mut members = Vec::new(self.alloc);
+        if left == 0 {
+            if begins_body(self.kind()) {
+                return Err(self.no_room(true));
+            }
+            return Ok(members);
+        }
+        self.members(left - 1, &mut members)?;
+        self.sections(left - 1, &mut members)?;
+        Ok(members)
+    }
+
+    /// Takes the members before the first section: { Member }.
+    #[cycle(body)]
+    fn members(&mut self, left: u32, members: &mut Vec<Member>) -> Result<(), ParseFault>
+        ensures found { IfOk result (λ _. (ms : _) × (members.new.items ≡ members.old.items ++ ms) × Spans (groups (IsMember left (IsBody left)) ms) self.old.rest.now self.new.rest.now) }
+        ensures only { Finds (λ n. many (Has (IsMember n (IsBody n)))) ends_members left result self.old.rest.now self.new.rest.now }
+    {
+        while begins_member(self.kind()) {
+            self.member(left, members)?;
+        }
+        Ok(())
+    }
+
+    /// Takes Keyed | name Names [ Settings ] ";".
+    #[cycle(body)]
+    fn member(&mut self, left: u32, members: &mut Vec<Member>) -> Result<(), ParseFault>
+        ensures found { IfOk result (λ _. (ms : _) × (members.new.items ≡ members.old.items ++ ms) × Spans (IsMember left (IsBody left) ms) self.old.rest.now self.new.rest.now) }
+        ensures only { Finds (λ n. Has (IsMember n (IsBody n))) anything left result self.old.rest.now self.new.rest.now }
+    {
+        if self.is_at(TokenKind::Name) {
+            let declaration = self.declaration(left)?;
+            members.push(declaration)?;
+            return Ok(());
+        }
+        self.keyed(left, members)
+    }
+
+    /// Takes a clause that begins with a reserved word.
+    #[cycle(body)]
+    fn keyed(&mut self, left: u32, members: &mut Vec<Member>) -> Result<(), ParseFault>
+        ensures found { IfOk result (λ _. (ms : _) × (members.new.items ≡ members.old.items ++ ms) × Spans (IsKeyed left (IsBody left) ms) self.old.rest.now self.new.rest.now) }
+        ensures only { Finds (λ n. Has (IsKeyed n (IsBody n))) anything left result self.old.rest.now self.new.rest.now }
+    {
+        if self.is_at(TokenKind::Reserved(words::EVENT)) {
+            return self.events(left, members);
+        }
+        if self.is_at(TokenKind::Reserved(words::HIDE)) {
+            return self.hides(members);
+        }
+        if self.eat(TokenKind::Reserved(words::BLOCK)) {
+            let unit = self.unit(left)?;
+            members.push(Member::Block(unit))?;
+            return Ok(());
+        }
+        let member = self.single(left)?;
+        members.push(member)?;
+        Ok(())
+    }
+
+    /// Takes [ Section { Section | Keyed } ].
+    #[cycle(body)]
+    fn sections(&mut self, left: u32, members: &mut Vec<Member>) -> Result<(), ParseFault>
+        ensures found { IfOk result (λ _. (ms : _) × (members.new.items ≡ members.old.items ++ ms) × Spans (AreSections left (IsBody left) ms) self.old.rest.now self.new.rest.now) }
+        ensures only { Finds (λ n. Has (AreSections n (IsBody n))) ends_body left result self.old.rest.now self.new.rest.now }
+    {
+        if !begins_section(self.kind()) {
+            return Ok(());
+        }
+        self.section(left, members)?;
+        self.later_clauses(left, members)?;
+        Ok(())
+    }
+
+    /// Takes { Section | Keyed }.
+    #[cycle(body)]
+    fn later_clauses(&mut self, left: u32, members: &mut Vec<Member>) -> Result<(), ParseFault>
+        ensures found { IfOk result (λ _. (ms : _) × (members.new.items ≡ members.old.items ++ ms) × Spans (groups (IsLater left (IsBody left)) ms) self.old.rest.now self.new.rest.now) }
+        ensures only { Finds (λ n. many (Has (IsLater n (IsBody n)))) ends_body left result self.old.rest.now self.new.rest.now }
+    {
+        while begins_later(self.kind()) {
+            self.later_clause(left, members)?;
+        }
+        Ok(())
+    }
+
+    /// Takes Section | Keyed.
+    #[cycle(body)]
+    fn later_clause(&mut self, left: u32, members: &mut Vec<Member>) -> Result<(), ParseFault>
+        ensures found { IfOk result (λ _. (ms : _) × (members.new.items ≡ members.old.items ++ ms) × Spans (IsLater left (IsBody left) ms) self.old.rest.now self.new.rest.now) }
+        ensures only { Finds (λ n. Has (IsLater n (IsBody n))) ends_section left result self.old.rest.now self.new.rest.now }
+    {
+        if begins_section(self.kind()) {
+            return self.section(left, members);
+        }
+        self.keyed(left, members)
+    }
+}

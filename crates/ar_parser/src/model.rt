@@ -1,0 +1,151 @@
+// Domains, items and models.
+
+ghost use Rattle.std.specs.Prelude.{◌≡◌, ◌++◌, ℕ, Ok, IfOk, IfErr, ◌≢◌};
+ghost use Rattle.ar_lexer.specs.declared.token.TokenKind.TheVariants.{End, Sign};
+ghost use Rattle.ar_lexer.specs.declared.signs.TheConstants.{SEMICOLON};
+ghost use Rattle.ar_parser.specs.declared.lexeme.ParseFault.TheVariants.{Lex, Depth, Memory};
+ghost use Rattle.ar_parser.specs.Words.{token, nothing, ◌∣◌, each, many, Has};
+ghost use Rattle.ar_parser.specs.Models.{IsWhole, IsBound, IsDomainBody, IsDomain, IsItem, AreItems};
+ghost use Rattle.ar_parser.specs.Results.{Takes, Finds, Spans, Reaches, anything, ends_item, is_end};
+
+use crate::begins::begins_item;
+use crate::cursor::Parser;
+use crate::lexeme::ParseFault;
+use ar_lexer::{TokenKind, signs, words};
+use ar_syntax::{DomainBody, DomainDecl, Item};
+
+/// The refusal of a text that has tokens.
+fn grammatical(fault: ParseFault) -> ParseFault
+    ensures tokens { (at : _) → result ≢ Lex at }
+    ensures deep { (at : _) → fault ≡ Depth at → result ≡ Depth at }
+    ensures memory { fault ≡ Memory → result ≡ Memory }
+{
+    match fault {
+        ParseFault::Lex(at) => ParseFault::Syntax(at),
+        other => other,
+    }
+}
+
+impl<'a> Parser<'a> {
+    /// Takes a whole number.
+    fn whole(&mut self) -> Result<i64, ParseFault>
+        ensures found { Takes IsWhole result self.old.rest.now self.new.rest.now }
+        ensures only { (left : ℕ) → Finds (λ _. Has IsWhole) anything left result self.old.rest.now self.new.rest.now }
+    {
+        if let TokenKind::Whole(n) = self.kind() {
+            if n >= 0 {
+                self.expect(TokenKind::Whole(n))?;
+                return Ok(n);
+            }
+        }
+        Err(self.syntax())
+    }
+
+    /// Takes a bound of a range: [ "-" ] whole.
+    fn bound(&mut self) -> Result<i64, ParseFault>
+        ensures found { Takes IsBound result self.old.rest.now self.new.rest.now }
+        ensures only { (left : ℕ) → Finds (λ _. Has IsBound) anything left result self.old.rest.now self.new.rest.now }
+    {
+        if self.eat(TokenKind::Sign(signs::MINUS)) {
+            let n = self.whole()?;
+            return Ok(-n);
+        }
+        self.whole()
+    }
+
+    /// Takes what a domain holds: "{" Names "}" | "[" Bound "," Bound "]".
+    fn domain_body(&mut self) -> Result<DomainBody, ParseFault>
+        ensures found { Takes IsDomainBody result self.old.rest.now self.new.rest.now }
+        ensures only { (left : ℕ) → Finds (λ _. Has IsDomainBody) anything left result self.old.rest.now self.new.rest.now }
+    {
+        if self.eat(TokenKind::Sign(signs::OPEN_BRACE)) {
+            let symbols = self.names()?;
+            self.expect(TokenKind::Sign(signs::CLOSE_BRACE))?;
+            return Ok(DomainBody::Symbols(symbols));
+        }
+        self.expect(TokenKind::Sign(signs::OPEN_BRACKET))?;
+        let low = self.bound()?;
+        self.expect(TokenKind::Sign(signs::COMMA))?;
+        let high = self.bound()?;
+        self.expect(TokenKind::Sign(signs::CLOSE_BRACKET))?;
+        Ok(DomainBody::Range(low, high))
+    }
+
+    /// Takes the semicolon that may stand behind a domain.
+    fn skip_semicolon(&mut self)
+        ensures found { Spans (nothing ∣ token (Sign SEMICOLON)) self.old.rest.now self.new.rest.now }
+        ensures only { (left : ℕ) → Finds {A = Unit {0}} (λ _. nothing ∣ token (Sign SEMICOLON)) ends_item left (Ok tt) self.old.rest.now self.new.rest.now }
+    {
+        self.eat(TokenKind::Sign(signs::SEMICOLON));
+    }
+
+    /// Takes "domain" name DomainBody [ ";" ].
+    fn domain(&mut self) -> Result<DomainDecl, ParseFault>
+        ensures found { Takes IsDomain result self.old.rest.now self.new.rest.now }
+        ensures only { (left : ℕ) → Finds (λ _. Has IsDomain) ends_item left result self.old.rest.now self.new.rest.now }
+    {
+        self.expect(TokenKind::Reserved(words::DOMAIN))?;
+        let (name, at) = self.placed_name()?;
+        let body = self.domain_body()?;
+        self.skip_semicolon();
+        Ok(DomainDecl { name, at, body })
+    }
+
+    /// Takes an item, with room for `left` open productions.
+    fn item(&mut self, left: u32) -> Result<Item, ParseFault>
+        ensures found { Takes (IsItem left) result self.old.rest.now self.new.rest.now }
+        ensures only { Finds (λ n. Has (IsItem n)) ends_item left result self.old.rest.now self.new.rest.now }
+    {
+        if self.is_at(TokenKind::Reserved(words::DOMAIN)) {
+            let domain = self.domain()?;
+            return Ok(Item::Domain(domain));
+        }
+        if self.eat(TokenKind::Reserved(words::CLASS)) {
+            let class = self.unit(left)?;
+            return Ok(Item::Class(class));
+        }
+        self.expect(TokenKind::Reserved(words::BLOCK))?;
+        let block = self.unit(left)?;
+        Ok(Item::Block(block))
+    }
+
+    /// Takes the items behind the first.
+    fn more_items(&mut self, left: u32, items: &mut Vec<Item>) -> Result<(), ParseFault>
+        ensures found { IfOk result (λ _. (more : _) × (items.new.items ≡ items.old.items ++ more) × Spans (each (IsItem left) more) self.old.rest.now self.new.rest.now) }
+        ensures only { Finds (λ n. many (Has (IsItem n))) is_end left result self.old.rest.now self.new.rest.now }
+    {
+        while begins_item(self.kind()) {
+            let item = self.item(left)?;
+            items.push(item)?;
+        }
+        Ok(())
+    }
+
+    /// Takes the items of a model: Item { Item }.
+    fn items(&mut self, left: u32) -> Result<Vec<Item>, ParseFault>
+        ensures found { Takes (λ items. AreItems left items.items) result self.old.rest.now self.new.rest.now }
+        ensures only { Finds (λ n. Has (AreItems n)) is_end left result self.old.rest.now self.new.rest.now }
+    {
+        let first = self.item(left)?;
+        let mut items = Vec::new(self.alloc);
+        items.push(first)?;
+        self.more_items(left, &mut items)?;
+        Ok(items)
+    }
+
+    /// Takes all that is left as the items of a model.
+    pub fn model(&mut self, left: u32) -> Result<Vec<Item>, ParseFault>
+        ensures found { IfOk result (λ items. AreItems left items.items End self.old.rest.now) }
+        ensures only { (n : ℕ) → Has (AreItems n) End self.old.rest.now → Reaches left n result }
+        ensures tokens { IfErr result (λ e. (at : _) → e ≢ Lex at) }
+    {
+        let items = match self.items(left) {
+            Ok(items) => items,
+            Err(fault) => return Err(grammatical(fault)),
+        };
+        if self.rest.is_empty() {
+            return Ok(items);
+        }
+        Err(ParseFault::Syntax(self.place()))
+    }
+}

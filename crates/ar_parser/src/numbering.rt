@@ -1,0 +1,103 @@
+// The tokens of a text, with the numbers of their names.
+
+ghost use Rattle.std.specs.Prelude.{◌≡◌, ◌≢◌, ◌+◌, ◌-◌, ◌<◌, ◌≤◌, ◌^◌, [], ◌∷◌, ◌++◌, length, map, IfOk, IfErr};
+ghost use Rattle.ar_base.specs.Counts.{limit_of};
+ghost use Rattle.ar_base.specs.declared.counts.Count.TheVariants.{ModelBytes};
+ghost use Rattle.ar_lexer.specs.declared.token.TokenKind.TheVariants.{Name};
+ghost use Rattle.ar_parser.specs.declared.lexeme.ParseFault.TheVariants.{Lex, Memory};
+ghost use Rattle.ar_parser.specs.Models.{token_of, IsNumbered, AreNumbered, AreLexemes, HasFaultAt};
+ghost use Rattle.ar_parser.specs.Names.{IsSpelled, AreSpelled, lexeme_of, fault_of};
+
+use crate::lexeme::{Lexeme, ParseFault};
+use ar_base::{NameId, Names, Place};
+use ar_lexer::{LexFault, Token, TokenKind, tokens};
+use std::alloc::Global;
+use std::str::from_utf8_unchecked;
+
+impl From<ar_base::Memory> for ParseFault {
+    ghost from_gives = { λ _ e. e ≡ Memory };
+
+    fn from(_refused: ar_base::Memory) -> Self {
+        ParseFault::Memory
+    }
+}
+
+/// The number of a name's text, which joins the table, and 0 for any other token.
+fn number(text: &[u8], token: &Token, names: &mut Names) -> Result<NameId, ParseFault>
+    requires spelled { token.now.kind ≡ Name → IsSpelled text.now token.now }
+    requires room { length names.old < 2 ^ 32 - 1 }
+    ensures found { IfOk result (λ id. IsNumbered text.now names.old (lexeme_of token.now id) names.new) }
+    ensures fault { IfErr result (λ e. e ≡ Memory) }
+{
+    if token.kind != TokenKind::Name {
+        return Ok(NameId::new(0));
+    }
+    let bytes = &text[token.span.from as usize..token.span.to as usize];
+    // SAFETY: the bytes of a name are letters, digits and `_`.
+    let name = unsafe { from_utf8_unchecked(bytes) };
+    let id = names.intern(name)?;
+    Ok(id)
+}
+
+/// The tokens with the numbers of their names.
+fn numbered(
+    alloc: Global,
+    text: &[u8],
+    tokens: &[Token],
+    names: &mut Names,
+) -> Result<Vec<Lexeme>, ParseFault>
+    requires spelled { AreSpelled text.now tokens.now }
+    requires room { length names.old + length tokens.now < 2 ^ 32 }
+    ensures found { IfOk result (λ ls. (map token_of ls.items ≡ tokens.now) × AreNumbered text.now names.old ls.items names.new) }
+    ensures fault { IfErr result (λ e. e ≡ Memory) }
+{
+    let mut lexemes = Vec::new(alloc);
+    let mut rest = tokens;
+    while let Some((token, more)) = rest.split_first() {
+        let name = number(text, token, names)?;
+        lexemes.push(Lexeme {
+            kind: token.kind,
+            span: token.span,
+            at: token.at,
+            name,
+        })?;
+        rest = more;
+    }
+    Ok(lexemes)
+}
+
+/// The refusal of a text that has no tokens.
+fn lexical(fault: LexFault) -> ParseFault
+    ensures { result ≡ fault_of fault }
+{
+    match fault {
+        LexFault::Byte(at) | LexFault::OpenComment(at) | LexFault::Number(at) => ParseFault::Lex(
+            at,
+        ),
+        LexFault::Memory => ParseFault::Memory,
+    }
+}
+
+/// The tokens of a text but for its end, with the numbers of their names, and the place of its end.
+pub fn lexemes(
+    alloc: Global,
+    text: &[u8],
+    names: &mut Names,
+) -> Result<(Vec<Lexeme>, Place), ParseFault>
+    requires size { length text.now ≤ limit_of ModelBytes }
+    requires empty { names.old ≡ [] }
+    ensures found { IfOk result (λ x. AreLexemes text.now x.0.items names.new x.1) }
+    ensures fault { IfErr result (λ e. e ≢ Memory → (at : _) × (e ≡ Lex at) × HasFaultAt text.now at) }
+{
+    let all = match tokens(alloc, text) {
+        Ok(all) => all,
+        Err(fault) => return Err(lexical(fault)),
+    };
+    match all.as_slice().split_last() {
+        Some((end, found)) => {
+            let lexemes = numbered(alloc, text, found, names)?;
+            Ok((lexemes, end.at))
+        }
+        None => Err(ParseFault::Memory),
+    }
+}

@@ -1,0 +1,4 @@
+mod Digits
+mod Pieces
+mod Program
+mod OneJob

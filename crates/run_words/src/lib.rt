@@ -1,0 +1,18 @@
+//! The words of the program read as a job, and the generator of example models.
+#![tactic(auto)]
+
+mod files;
+mod generator;
+mod jobs;
+pub mod laws;
+mod lines;
+mod numbers;
+mod reading;
+#[cfg(test)]
+mod tests;
+mod verbs;
+
+pub use generator::make_text;
+pub use jobs::{Job, JobFault};
+pub use reading::read_job;
+pub use verbs::Verb;

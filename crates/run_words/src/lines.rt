@@ -1,0 +1,106 @@
+// The command line, as `clap` takes it apart.
+
+ghost use Rattle.std.specs.Prelude.{◌≡◌, ◌≢◌, false, [], ◌∷◌, List, ℕ, map, codes, IfOk, option_map};
+ghost use Rattle.clap.specs.Words.{app_of, fault_of, found_of, matches_of, rows_of, first_of, all_of, rule_of};
+ghost use Rattle.run_words.specs.declared.jobs.JobFault.TheVariants.{Usage};
+ghost use Rattle.run_words.specs.Lines.{program, line_of, option};
+ghost use Rattle.run_words.specs.Told.{told};
+
+use crate::jobs::JobFault;
+use clap::error::ErrorKind;
+use clap::{Arg, ArgAction, ArgMatches, Command};
+use std::alloc::{AllocError, Global};
+
+// An option that takes one value.
+fn option<'a>(alloc: Global, name: &'a str) -> Arg<'a>
+    ensures rule { rule_of result ≡ option name.entry.now }
+    ensures local { result.global ≡ false }
+{
+    Arg::new(alloc, name).long(name).action(ArgAction::Set)
+}
+
+// The program as `clap` sees it: one simple command without help and version flags.
+fn described<'a>(alloc: Global) -> Result<Command<'a>, AllocError>
+    ensures { IfOk result (λ command. app_of command ≡ program) }
+{
+    let command = Arg::new(alloc, "command").required(true);
+    let file = Arg::new(alloc, "file").num_args(0..);
+    let described = Command::new(alloc, "altarica")
+        .disable_help_flag(true)
+        .disable_version_flag(true)
+        .arg(command)?
+        .arg(file)?
+        .arg(option(alloc, "main"))?
+        .arg(option(alloc, "observer"))?
+        .arg(option(alloc, "value"))?
+        .arg(option(alloc, "nodes"))?
+        .arg(option(alloc, "drop"))?;
+    Ok(described)
+}
+
+// What `clap` finds in the words, of which the first is the program's.
+pub(crate) fn matches<'a>(alloc: Global, words: &'a [&'a str]) -> Result<ArgMatches<'a>, JobFault>
+    ensures taken { IfOk result (λ m. fault_of program (map (λ w. w.now) words.now) ≡ []) }
+    ensures rows { IfOk result (λ m. rows_of (found_of m) ≡ matches_of program (map (λ w. w.now) words.now)) }
+    ensures usage { result ≡ Err Usage → fault_of program (map (λ w. w.now) words.now) ≢ [] }
+{
+    let command = described(alloc)?;
+    match command.try_get_matches_from(words) {
+        Ok(matches) => Ok(matches),
+        Err(error) => Err(fault(error.kind())),
+    }
+}
+
+// What an error of `clap` says of the words.
+fn fault(kind: ErrorKind) -> JobFault
+    ensures { result ≡ Usage → kind ≢ ErrorKind.OutOfMemory }
+{
+    match kind {
+        ErrorKind::OutOfMemory => JobFault::Memory,
+        _ => JobFault::Usage,
+    }
+}
+
+// The value of an option, or the command's word.
+fn value<'a>(matches: &ArgMatches<'a>, id: &str) -> Option<&'a str>
+    ensures { option_map (λ s. s.now) result ≡ first_of id.now (rows_of (found_of matches.now)) }
+{
+    matches.get_str(id)
+}
+
+// The words behind the command that belong to no option, where there are any.
+fn files<'m, 'a>(matches: &'m ArgMatches<'a>) -> Option<&'m [&'a str]>
+    ensures { option_map (λ s. map (λ w. w.now) s.now) result ≡ all_of (codes "file") (rows_of (found_of matches.now)) }
+{
+    matches.get_strs("file")
+}
+
+// What a command line says.
+#[derive(Drop)]
+pub struct CommandLine<'m, 'a> {
+    // The command's word.
+    pub command: Option<&'a str>,
+    // The words behind it that belong to no option, where there are any.
+    pub files: Option<&'m [&'a str]>,
+    // The values of the options that were used.
+    pub main: Option<&'a str>,
+    pub observer: Option<&'a str>,
+    pub value: Option<&'a str>,
+    pub nodes: Option<&'a str>,
+    pub dropped: Option<&'a str>,
+}
+
+// What the matches say.
+pub(crate) fn command_line<'m, 'a>(matches: &'m ArgMatches<'a>) -> CommandLine<'m, 'a>
+    ensures { told result ≡ line_of (rows_of (found_of matches.now)) }
+{
+    CommandLine {
+        command: value(matches, "command"),
+        files: files(matches),
+        main: value(matches, "main"),
+        observer: value(matches, "observer"),
+        value: value(matches, "value"),
+        nodes: value(matches, "nodes"),
+        dropped: value(matches, "drop"),
+    }
+}

@@ -1,0 +1,155 @@
+// The words read as a job.
+
+ghost use Rattle.std.specs.Prelude.{◌≡◌, ◌↔◌, ℕ, List, Option, map, option_map, IfOk, IfErr, IsTrue, MatchOption, Some};
+ghost use Rattle.ar_base.specs.Texts.{bytes_of_all};
+ghost use Rattle.run_words.specs.declared.jobs.Job.{Job as Jobs};
+ghost use Rattle.run_words.specs.declared.verbs.Verb.{Verb as Verbs};
+ghost use Rattle.run_words.specs.declared.jobs.JobFault.TheVariants.{Usage, Memory as OutOfMemory};
+ghost use Rattle.run_words.specs.Jobs.{IsJob, IsJobOf, IsTaken, IsNodes, OptionsFit, given_words, word_of, usual_nodes};
+ghost use Rattle.run_words.specs.Told.{told};
+
+use crate::files::{named_files, text};
+use crate::jobs::{Job, JobFault};
+use crate::lines::{CommandLine, command_line, matches};
+use crate::numbers::number;
+use crate::verbs::{Verb, named as named_verb};
+use ar_base::Text;
+use std::alloc::Global;
+
+// The node limit where `--nodes` is not used.
+const USUAL_NODES: u32 = 1_000_000;
+
+// The most nodes that a diagram may have.
+const MOST_NODES: u32 = 16_777_216;
+
+/// Reads the words behind the program's name as a job.
+///
+/// `clap` takes the words apart as one command with the positionals `command` and `file` (any number) and the
+/// options `--main`, `--observer`, `--value`, `--nodes` and `--drop`, each with one value, in any order. Then the
+/// command must be one of the ten, with the files and the options that it takes.
+///
+/// # Errors
+/// `Usage` exactly where the words give no job; `Memory` where memory was refused.
+pub fn read_job(alloc: Global, words: &[String]) -> Result<Job, JobFault>
+    ensures found { IfOk result (λ job. IsJob (bytes_of_all words.now) job) }
+    ensures usage { result ≡ Err Usage → (job : Jobs) → IsJob (bytes_of_all words.now) job → ⊥ }
+{
+    let given = with_program(alloc, words)?;
+    let found = matches(alloc, given.as_slice())?;
+    let line = command_line(&found);
+    let job = job_of(alloc, &line)?;
+    Ok(job)
+}
+
+// The program's word and then the words.
+fn with_program<'a>(alloc: Global, words: &'a [String]) -> Result<Vec<&'a str>, JobFault>
+    ensures given { IfOk result (λ given. map (λ w. w.now) given.items ≡ given_words (bytes_of_all words.now)) }
+    ensures memory { IfErr result (λ e. e ≡ OutOfMemory) }
+{
+    let mut given: Vec<&'a str> = Vec::new(alloc);
+    given.push("altarica")?;
+    for word in words {
+        given.push(word.as_str())?;
+    }
+    Ok(given)
+}
+
+// The job that a command line gives.
+fn job_of(alloc: Global, line: &CommandLine<'_, '_>) -> Result<Job, JobFault>
+    ensures found { IfOk result (λ job. IsJobOf (told line.now) job) }
+    ensures usage { result ≡ Err Usage → (job : Jobs) → IsJobOf (told line.now) job → ⊥ }
+{
+    let Some(command) = command_of(line.command) else {
+        return Err(JobFault::Usage);
+    };
+    if !options_fit(command, line) {
+        return Err(JobFault::Usage);
+    }
+    let Some(nodes) = nodes_of(command, line.nodes) else {
+        return Err(JobFault::Usage);
+    };
+    let named = named_files(alloc, command.form(), line.files)?;
+    let main = given(alloc, line.main)?;
+    let observer = given(alloc, line.observer)?;
+    let value = given(alloc, line.value)?;
+    let dropped = given(alloc, line.dropped)?;
+    Ok(Job {
+        command,
+        model: named.model,
+        script: named.script,
+        main,
+        observer,
+        value,
+        dropped,
+        nodes,
+        number: named.number,
+    })
+}
+
+// The command that the word names.
+fn command_of(word: Option<&str>) -> Option<Verb>
+    ensures { MatchOption result ((verb : Verbs) → option_map (λ s. s.now) word.entry ≡ Some (word_of verb) → ⊥) (λ verb. option_map (λ s. s.now) word.entry ≡ Some (word_of verb)) }
+{
+    match word {
+        Some(word) => named_verb(word),
+        None => None,
+    }
+}
+
+// Whether the command takes each option that is used, but for `--nodes`, and has an observer where it needs one.
+fn options_fit(command: Verb, line: &CommandLine<'_, '_>) -> bool
+    ensures { IsTrue result ↔ OptionsFit command (told line.now) }
+{
+    is_taken(command.takes_main(), line.main)
+        && is_taken(command.takes_observer(), line.observer)
+        && (line.observer.is_some() || !command.needs_observer())
+        && is_taken(command.takes_value(), line.value)
+        && is_taken(command.takes_drop(), line.dropped)
+}
+
+// Whether an option is used only where it is taken.
+fn is_taken(takes: bool, given: Option<&str>) -> bool
+    ensures { IsTrue result ↔ IsTaken takes (option_map (λ s. s.now) given.entry) }
+{
+    takes || given.is_none()
+}
+
+// The node limit.
+fn nodes_of(command: Verb, given: Option<&str>) -> Option<u32>
+    ensures { MatchOption result ((n : ℕ) → IsNodes command (option_map (λ s. s.now) given.entry) n → ⊥) (λ n. IsNodes command (option_map (λ s. s.now) given.entry) n) }
+{
+    match given {
+        None => Some(usual_nodes(command)),
+        Some(word) => {
+            if command.takes_nodes() {
+                number(word, 1, MOST_NODES)
+            } else {
+                None
+            }
+        }
+    }
+}
+
+// The node limit where none is given.
+fn usual_nodes(command: Verb) -> u32
+    ensures { result ≡ usual_nodes command }
+{
+    match command {
+        Verb::Make => MOST_NODES,
+        _ => USUAL_NODES,
+    }
+}
+
+// The text of a word that may be absent.
+fn given(alloc: Global, word: Option<&str>) -> Result<Option<Text>, JobFault>
+    ensures given { IfOk result (λ t. t ≡ option_map (λ s. s.now) word.entry) }
+    ensures memory { IfErr result (λ e. e ≡ OutOfMemory) }
+{
+    match word {
+        Some(word) => {
+            let text = text(alloc, word)?;
+            Ok(Some(text))
+        }
+        None => Ok(None),
+    }
+}

@@ -1,0 +1,5 @@
+pub mod Order
+pub mod Canonical
+pub mod Lists
+pub mod Stored
+pub mod Calls

@@ -13,17 +13,9 @@ use Rattle.zdd_nodes.specs.declared.Node.{Node}
 use Rattle.zdd_nodes.specs.declared.NodeFault.{NodeFault}
 use Rattle.zdd_nodes.specs.declared.NodeFault.TheVariants.{Full}
 use Rattle.zdd_nodes.proofs.Canonical.{node_some, node_not_unit}
+use Rattle.zdd_nodes.proofs.Growing.{Grows-none}
 use Rattle.zdd_nodes.proofs.Lists.{at-seam, nodes_different, some_sets}
 use Rattle.zdd_nodes.proofs.Stored.{length-families, families-push, IsCall, is_missing, IsStore-push}
-
-pub Grows-none : (P : Family → Type 0) (v : Stored) → Grows P v v
-Grows-none P v = record { limit = refl; added = []; families = sym (append-nil v.families); all = All-nil P }
-
-pub Draws-stays : (P : Family → Type 0) (made : Family) (v : Stored) (n : NodeId) → IsNumber v n.n → family v n.n ≡ made → Draws P made v v (Ok n)
-Draws-stays P made v n h e = record { grows = Grows-none P v; ok = (h, e); full = λ x. cc }
-
-pub Draws-full : (P : Family → Type 0) (made : Family) (v : Stored) → IsFullFor P v → Draws P made v v (Err Full)
-Draws-full P made v f = record { grows = Grows-none P v; ok = tt; full = λ _. f }
 
 -- the value that callers see
 abbrev pub seen : List Node → ℕ → Stored

@@ -134,3 +134,24 @@ impl Store {
         Ok(number)
     }
 }
+
+#[cfg(test)]
+mod tests {
+    use super::*;
+    use std::test::Fail;
+
+    #[test]
+    fn holds_no_more_than_its_limit(rt: HostRuntime) -> Result<(), Fail> {
+        let none = NodeId::new(0);
+        let unit = NodeId::new(1);
+        let mut store = Store::new(rt.alloc(), 1);
+        let first = EventId::new(0);
+        assert_eq!(rt; store.node(first, none, unit), Ok(NodeId::new(2)));
+        assert_eq!(rt; store.node(first, none, unit), Ok(NodeId::new(2)));
+        assert_eq!(rt; store.node(EventId::new(1), none, unit), Err(NodeFault::Full));
+        assert_eq!(rt; store.node(EventId::new(1), unit, none), Ok(unit));
+        assert_eq!(rt; store.len(), 1);
+        assert_eq!(rt; store.split(unit), None);
+        Ok(())
+    }
+}

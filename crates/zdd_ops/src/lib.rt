@@ -10,3 +10,6 @@ mod memo;
 mod ops;
 
 pub use ops::Ops;
+
+#[cfg(test)]
+mod tests;

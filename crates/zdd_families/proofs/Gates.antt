@@ -5,7 +5,7 @@ use Rattle.std.proofs.lemmas.Bool.Decides.{nat_tests}
 use Rattle.zdd_families.specs.Families.{Family, order, IsInOrder, place, union}
 use Rattle.zdd_families.proofs.Laws.{union-nil, each-filter}
 
-abbrev flip : Ordering → Ordering
+abbrev pub flip : Ordering → Ordering
 flip Less = Greater
 flip Equal = Equal
 flip Greater = Less
@@ -23,13 +23,13 @@ then-flip Greater b c d e f = ap (λ x. ordering_then x d) e
 cmp-flip : (x y : ℕ) → nat_cmp y x ≡ flip (nat_cmp x y)
 cmp-flip x y = grind (arith, nat_tests)
 
-order-flip : (s t : List ℕ) → order t s ≡ flip (order s t)
+pub order-flip : (s t : List ℕ) → order t s ≡ flip (order s t)
 order-flip [] [] = refl
 order-flip [] (y ∷ t) = refl
 order-flip (x ∷ s) [] = refl
 order-flip (x ∷ s) (y ∷ t) = then-flip (nat_cmp x y) (order s t) (nat_cmp y x) (order t s) (cmp-flip x y) (order-flip s t)
 
-abbrev placed : Ordering → List ℕ → List ℕ → (Family → Family) → Family → Family → Family
+abbrev pub placed : Ordering → List ℕ → List ℕ → (Family → Family) → Family → Family → Family
 placed o s t rest f g = elim o [ Less ↦ s ∷ rest (t ∷ g) | Equal ↦ s ∷ rest g | Greater ↦ t ∷ place s rest f g ]
 
 -- a set before all of g

@@ -3,3 +3,4 @@ pub mod Sections
 pub mod Minimal
 pub mod Halves
 pub mod Gates
+pub mod Members

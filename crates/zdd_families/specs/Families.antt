@@ -1,5 +1,6 @@
 -- Families of sets of events, and what the operations make of them.
-use Rattle.std.specs.Prelude.{◌≡◌, ℕ, ◌+◌, ◌<◌, Bool, true, false, not, ◌&&◌, if◌then◌else◌, eqb, List, [], ◌∷◌, ◌++◌, map}
+use Rattle.std.specs.Prelude.{◌≡◌, ◌↔◌, ℕ, ◌<◌, Bool, true, false, not, ◌&&◌, if◌then◌else◌, eqb, List, [], ◌∷◌, ◌++◌, map}
+use Rattle.ar_base.specs.Lists.{IsOneOf}
 use Rattle.std.specs.List.{filter, list_any, list_all, AllByRecursion}
 use Rattle.std.specs.Ordering.{nat_cmp, ordering_then}
 use Rattle.std.specs.declared.cmp.Ordering.{Ordering}
@@ -10,12 +11,19 @@ use Rattle.std.specs.declared.cmp.Ordering.TheVariants.{Less, Equal, Greater}
 abbrev pub Family : Type 0
 Family = List (List ℕ)
 
--- Less where the first set comes before the second: the least number that is in just one of them is in the first
+-- Less where the first of two ascending sets comes before the second, as `Precedes` says
 abbrev pub order : List ℕ → List ℕ → Ordering
 order [] [] = Equal
 order [] (y ∷ t) = Greater
 order (x ∷ s) [] = Less
 order (x ∷ s) (y ∷ t) = ordering_then (nat_cmp x y) (order s t)
+
+-- the least number that is in just one of the two sets is in the first
+pub record Precedes (s t : List ℕ) : Type 0 where
+  pub least : ℕ
+  pub in_first : IsOneOf s least
+  pub not_in_second : IsOneOf t least → ⊥
+  pub same_below : (e : ℕ) → e < least → (IsOneOf s e ↔ IsOneOf t e)
 
 -- whether the two lists are one
 abbrev pub same : List ℕ → List ℕ → Bool

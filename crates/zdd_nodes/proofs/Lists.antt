@@ -1,11 +1,12 @@
 -- Lists that grow by one item, and families by their numbers.
-use Rattle.std.proofs.Common.{◌≡◌, ◌≢◌, ℕ, zero, suc, ◌+◌, ◌<◌, List, [], ◌∷◌, ◌++◌, length, get_or, slice_get, Some, refl, sym, ap, ◌∙◌, arith, ⊎_elim, ◌⊎◌, inl, inr}
+use Rattle.std.proofs.Common.{◌≡◌, ◌≢◌, ℕ, zero, suc, ◌+◌, ◌<◌, List, [], ◌∷◌, ◌++◌, length, get_or, slice_get, Some, refl, sym, ap, ◌∙◌, subst, arith, ⊎_elim, ◌⊎◌, inl, inr}
 use Rattle.std.proofs.Math.ListN.{get_or-append}
 use Rattle.std.proofs.Math.Seq.{get_or-append_seam}
 use Rattle.std.proofs.lemmas.Option.{slice_get-get_or}
 use Rattle.ar_base.specs.Lists.{AreDifferent}
-use Rattle.zdd_families.specs.Families.{Family}
-use Rattle.zdd_nodes.specs.Nodes.{all_of, at}
+use Rattle.zdd_families.specs.Families.{Family, IsAbove}
+use Rattle.zdd_families.proofs.Laws.{IsAbove-node}
+use Rattle.zdd_nodes.specs.Nodes.{all_of, at, IsNode}
 
 pub slice_get-push_cases : {A : Type 0} (xs : List A) (x : A) (k : ℕ) (m : A) → slice_get (xs ++ x ∷ []) k ≡ Some m → (slice_get xs k ≡ Some m) ⊎ ((k ≡ length xs) × (m ≡ x))
 slice_get-push_cases [] x zero m e = let h : m ≡ x = cc in inr (refl, h)
@@ -52,3 +53,7 @@ nodes_different fs d = record { one = λ m n a p q. let e : suc (suc m) ≡ suc 
 -- a number over 0 has sets
 pub some_sets : (fs : List Family) → AreDifferent (all_of fs) → (n : ℕ) → 0 < n → n < length fs + 2 → at fs n ≢ []
 some_sets fs d n p q = λ e. let z : n ≡ 0 = same_number fs d n 0 q (omega arith) e in omega (arith, z)
+
+-- a node lies above every number below its event
+pub node_above : (fs : List Family) (v k w lo hi : ℕ) → v < w → IsNode fs k w lo hi → IsAbove v (at fs k)
+node_above fs v k w lo hi h i = subst (IsAbove v) (sym i.is) (IsAbove-node v w (at fs lo) (at fs hi) h i.lo_above i.hi_above)

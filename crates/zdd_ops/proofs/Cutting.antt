@@ -1,7 +1,6 @@
 -- Two numbers are cut.
 use Rattle.std.proofs.Common.{◌≡◌, ℕ, ◌+◌, ◌<◌, List, length, refl, sym, ap, ◌∙◌, subst, arith, lt_trans}
 use Rattle.zdd_families.specs.Families.{Family, node, IsAbove}
-use Rattle.zdd_families.proofs.Laws.{IsAbove-node}
 use Rattle.zdd_nodes.specs.Nodes.{NodeId, at, IsNode}
 use Rattle.ar_base.specs.declared.numbers.Id.{Id}
 use Rattle.ar_base.specs.declared.numbers.EventKind.{EventKind}
@@ -23,6 +22,3 @@ module _ (fs : List Family) (f g none : NodeId) (none_is : none.n ≡ 0) where
       → IsCut fs f.n g.n (record { event = event; f0 = f; f1 = none; g0 = lo; g1 = hi })
   cut_right event lo hi i h l a = record { f_is = as_node event.n f.n; g_is = i.is; f0_in = h; f1_in = omega (arith, none_is); g0_in = lt_trans i.lo_before l; g1_in = lt_trans i.hi_before l;
     f0_above = a; f1_above = nil_above event.n; g0_above = i.lo_above; g1_above = i.hi_above; less00 = omega (arith, i.lo_before); less11 = omega (arith, i.hi_before, none_is); less10 = omega (arith, i.lo_before, none_is) }
-
-pub node_above : (fs : List Family) (v k w lo hi : ℕ) → v < w → IsNode fs k w lo hi → IsAbove v (at fs k)
-node_above fs v k w lo hi h i = subst (IsAbove v) (sym i.is) (IsAbove-node v w (at fs lo) (at fs hi) h i.lo_above i.hi_above)

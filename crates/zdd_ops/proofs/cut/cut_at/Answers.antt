@@ -1,4 +1,5 @@
-use Rattle.zdd_ops.proofs.Cutting.{cut_left, cut_right, node_above}
+use Rattle.zdd_nodes.proofs.Lists.{node_above}
+use Rattle.zdd_ops.proofs.Cutting.{cut_left, cut_right}
 use Rattle.zdd_ops.proofs.cut.cut_at.Goals as goal
 
 pub returns-then-event-other : goal.returns-then-event-other

@@ -1,7 +1,7 @@
 use Rattle.std.proofs.Common.{ltb-true, subst}
 use Rattle.zdd_families.specs.Families.{IsAbove}
 use Rattle.zdd_nodes.specs.Nodes.{Stored, family}
-use Rattle.zdd_ops.proofs.Cutting.{node_above}
+use Rattle.zdd_nodes.proofs.Lists.{node_above}
 use Rattle.zdd_ops.proofs.tests.is_above.Goals as goal
 
 pub returns-in-Some : goal.returns-in-Some

@@ -1,4 +1,4 @@
-use Rattle.std.proofs.Common.{◌≡◌, ℕ, ◌<◌, Bool, true, false, not, cond, ◌&&◌, ◌||◌, eqb, List, [], ◌∷◌, filter, refl, sym, ap, ap₂, ◌∙◌, subst, arith, nat_lt, nat_cmp, Ordering, Less, Equal, Greater, eqb-true, eq-eqb, lt-ltb}
+use Rattle.std.proofs.Common.{◌≡◌, ℕ, Bool, true, false, cond, ◌||◌, List, [], ◌∷◌, filter, refl, sym, ap, ap₂, ◌∙◌, arith, nat_lt, nat_cmp, Ordering, Less, Equal, Greater, eq-eqb}
 use Rattle.std.specs.List.{AllByRecursion}
 use Rattle.std.specs.Ordering.{ordering_then}
 use Rattle.std.proofs.lemmas.Bool.Decides.{nat_tests}
@@ -47,9 +47,12 @@ unfolding union
 union-filters p q [] o = refl
 union-filters p q (s ∷ f) o =
     elim (p s) as (λ b. union (cond b (s ∷ filter p f) (filter p f)) (cond (q s) (s ∷ filter q f) (filter q f)) ≡ cond (b || q s) (s ∷ filter (λ s. p s || q s) f) (filter (λ s. p s || q s) f)) [
-      true ↦ elim (q s) as (λ c. place s (union (filter p f)) (filter p f) (cond c (s ∷ filter q f) (filter q f)) ≡ s ∷ filter (λ s. p s || q s) f) [
-        true ↦ ap (λ o. placed o s s (union (filter p f)) (filter p f) (filter q f)) (order-refl s) ∙ ap (λ x. s ∷ x) (union-filters p q f o.1)
-      | false ↦ place-first s (filter p f) (filter q f) (each-filter (λ t. order s t ≡ Less) q f o.0) ∙ ap (λ x. s ∷ x) (union-filters p q f o.1) ]
-    | false ↦ elim (q s) as (λ c. union (filter p f) (cond c (s ∷ filter q f) (filter q f)) ≡ cond c (s ∷ filter (λ s. p s || q s) f) (filter (λ s. p s || q s) f)) [
-        true ↦ union-later s (filter p f) (filter q f) (each-filter (λ t. order s t ≡ Less) p f o.0) ∙ ap (λ x. s ∷ x) (union-filters p q f o.1)
-      | false ↦ union-filters p q f o.1 ] ]
+      | true ↦ elim (q s) as (λ c. place s (union (filter p f)) (filter p f) (cond c (s ∷ filter q f) (filter q f)) ≡ s ∷ filter (λ s. p s || q s) f) [
+        | true ↦ ap (λ o. placed o s s (union (filter p f)) (filter p f) (filter q f)) (order-refl s) ∙ ap (λ x. s ∷ x) (union-filters p q f o.1)
+        | false ↦ place-first s (filter p f) (filter q f) (each-filter (λ t. order s t ≡ Less) q f o.0) ∙ ap (λ x. s ∷ x) (union-filters p q f o.1)
+      ]
+      | false ↦ elim (q s) as (λ c. union (filter p f) (cond c (s ∷ filter q f) (filter q f)) ≡ cond c (s ∷ filter (λ s. p s || q s) f) (filter (λ s. p s || q s) f)) [
+        | true ↦ union-later s (filter p f) (filter q f) (each-filter (λ t. order s t ≡ Less) p f o.0) ∙ ap (λ x. s ∷ x) (union-filters p q f o.1)
+        | false ↦ union-filters p q f o.1
+      ]
+    ]

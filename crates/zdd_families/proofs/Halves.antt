@@ -1,5 +1,5 @@
 -- The halves of a family, from those of its own halves.
-use Rattle.std.proofs.Common.{◌≡◌, ◌≢◌, ℕ, ◌+◌, ◌<◌, ◌≤◌, Bool, true, false, not, ◌||◌, eqb, List, [], ◌∷◌, refl, sym, ap, ap₂, ◌∙◌, subst, arith, eqb-true, true≢false}
+use Rattle.std.proofs.Common.{◌≡◌, ◌≢◌, ℕ, ◌+◌, ◌≤◌, Bool, true, false, not, ◌||◌, eqb, List, [], ◌∷◌, refl, sym, ap, ap₂, ◌∙◌, subst, arith, eqb-true, true≢false}
 use Rattle.std.specs.List.{AllByRecursion, list_any}
 use Rattle.zdd_families.specs.Families.{Family, holds, node, IsAbove, minimal}
 use Rattle.zdd_families.specs.Sections.{section, IsCounted, IsPart, IsLeast, upper, lower, IsHalf}
@@ -12,9 +12,9 @@ holds_bound : (v x : ℕ) (s : List ℕ) → AtLeast v s → holds x s ≡ true 
 holds_bound v x [] a h = absurd (true≢false (sym h))
 holds_bound v x (y ∷ s) a h = step (holds_bound v x s a.1) (eqb x y) refl
   where
-  step : (holds x s ≡ true → v ≤ x) → (b : Bool) → eqb x y ≡ b → v ≤ x
-  step ih true e = subst (λ z. v ≤ z) (sym (eqb-true x y e)) a.0
-  step ih false e = ih (ap (λ b. b || holds x s) (sym e) ∙ h)
+    step : (holds x s ≡ true → v ≤ x) → (b : Bool) → eqb x y ≡ b → v ≤ x
+    step ih true e = subst (λ z. v ≤ z) (sym (eqb-true x y e)) a.0
+    step ih false e = ih (ap (λ b. b || holds x s) (sym e) ∙ h)
 
 at_least_set : (v : ℕ) (s : List ℕ) → IsAbove_set v s → AtLeast v s
 at_least_set v [] a = tt
@@ -63,12 +63,12 @@ module _ (v : ℕ) (f0 f1 : Family) (a0 : IsAbove v f0) (a1 : IsAbove v f1) wher
   least_is : f1 ≢ [] → IsLeast v (node v f0 f1)
   least_is n = (some f1 n, λ x h. let w = witness (holds x) (node v f0 f1) h in holds_bound v x w.set (member_of (AtLeast v) (node v f0 f1) w.set (at_least_node v f0 f1 a0 a1) w.in_family) w.passes)
     where
-    some : (f1 : Family) → f1 ≢ [] → list_any (holds v) (node v f0 f1) ≡ true
-    some [] n = absurd (n refl)
-    some (s ∷ f1) n = ap (λ b. b || list_any (holds v) (node v f0 f1)) (holds_here v s)
+      some : (f1 : Family) → f1 ≢ [] → list_any (holds v) (node v f0 f1) ≡ true
+      some [] n = absurd (n refl)
+      some (s ∷ f1) n = ap (λ b. b || list_any (holds v) (node v f0 f1)) (holds_here v s)
 
   pub half_parts : f1 ≢ [] → (h : Family) → IsPart (minimal f1) (minimal f0) h → IsHalf (node v f0 f1) h
   half_parts n h k =
       let e = sym (section-whole (node v f0 f1)) in
       of_halves 0 [] v tt (subst (IsLeast v) e (least_is n))
-          (subst (λ x. IsPart (minimal (upper v x)) (minimal (lower v x)) h) e (subst (λ x. IsPart (minimal x) (minimal (lower v (node v f0 f1))) h) (sym upper_is_hi) (subst (λ x. IsPart (minimal f1) (minimal x) h) (sym lower_is_lo) k)))
+      (subst (λ x. IsPart (minimal (upper v x)) (minimal (lower v x)) h) e (subst (λ x. IsPart (minimal x) (minimal (lower v (node v f0 f1))) h) (sym upper_is_hi) (subst (λ x. IsPart (minimal f1) (minimal x) h) (sym lower_is_lo) k)))

@@ -1,5 +1,5 @@
-use Rattle.std.proofs.Common.{◌≡◌, ◌≢◌, ℕ, zero, suc, ◌+◌, ◌-◌, ◌<◌, ◌≤◌, Bool, true, false, not, cond, ◌&&◌, ◌||◌, eqb, ltb, List, [], ◌∷◌, ◌++◌, length, map, drop, refl, sym, ap, ap₂, ◌∙◌, subst, arith, lt_irrefl, lt_trans, ⊎_elim, ◌⊎◌, inl, inr, eqb-true, eq-eqb, filter, nat_lt, nat_cmp, Ordering, Less, Equal, Greater, append-nil, ne_eqb, lt-ltb}
-use Rattle.std.specs.List.{AllByRecursion, list_any, list_all}
+use Rattle.std.proofs.Common.{◌≡◌, ℕ, ◌<◌, Bool, true, false, not, cond, ◌&&◌, ◌||◌, eqb, List, [], ◌∷◌, ◌++◌, map, refl, sym, ap, ap₂, ◌∙◌, subst, arith, lt_irrefl, lt_trans, eqb-true, eq-eqb, filter, nat_lt, Ordering, Less, Equal, Greater, ne_eqb, lt-ltb}
+use Rattle.std.specs.List.{AllByRecursion, list_any}
 use Rattle.std.specs.Ordering.{ordering_then}
 use Rattle.std.proofs.lemmas.List.Elements.{filter-append}
 use Rattle.std.proofs.lemmas.Bool.{and_parts}
@@ -101,7 +101,7 @@ pub has-with : (v : ℕ) (lo hi : Family) (s : List ℕ) → IsAbove v lo → ha
 has-with v lo hi s a =
     list_any-append (same (v ∷ s)) (map (λ t. v ∷ t) hi) lo
     ∙ ap₂ (λ x y. x || y) (list_any-map v (same (v ∷ s)) hi ∙ list_any-alike (λ t. same (v ∷ s) (v ∷ t)) (same s) hi (every (λ t. same (v ∷ s) (v ∷ t) ≡ same s t) (same-with v s) hi))
-        (list_any-none (same (v ∷ s)) lo (each_of (IsAbove_set v) (λ t. same (v ∷ s) t ≡ false) (same-above v s) lo a))
+    (list_any-none (same (v ∷ s)) lo (each_of (IsAbove_set v) (λ t. same (v ∷ s) t ≡ false) (same-above v s) lo a))
     ∙ or-false (has hi s)
 
 pub has-under : (v : ℕ) (lo hi : Family) (s : List ℕ) → IsAbove_set v s → has (node v lo hi) s ≡ has lo s
@@ -115,16 +115,16 @@ unfolding meet
 meet-node v f0 f1 g0 g1 a b =
     let g = node v g0 g1 in
     filter-node v (has g) f0 f1 ∙ ap₂ (node v)
-        (filter_alike (has g) (has g0) f0 (each_of (IsAbove_set v) (λ s. has g s ≡ has g0 s) (λ s. has-under v g0 g1 s) f0 a))
-        (filter_alike (λ s. has g (v ∷ s)) (has g1) f1 (every (λ s. has g (v ∷ s) ≡ has g1 s) (λ s. has-with v g0 g1 s b) f1))
+    (filter_alike (has g) (has g0) f0 (each_of (IsAbove_set v) (λ s. has g s ≡ has g0 s) (λ s. has-under v g0 g1 s) f0 a))
+    (filter_alike (λ s. has g (v ∷ s)) (has g1) f1 (every (λ s. has g (v ∷ s) ≡ has g1 s) (λ s. has-with v g0 g1 s b) f1))
 
 pub minus-node : (v : ℕ) (f0 f1 g0 g1 : Family) → IsAbove v f0 → IsAbove v g0 → minus (node v f0 f1) (node v g0 g1) ≡ node v (minus f0 g0) (minus f1 g1)
 unfolding minus
 minus-node v f0 f1 g0 g1 a b =
     let g = node v g0 g1 in
     filter-node v (λ s. not (has g s)) f0 f1 ∙ ap₂ (node v)
-        (filter_alike (λ s. not (has g s)) (λ s. not (has g0 s)) f0 (each_of (IsAbove_set v) (λ s. not (has g s) ≡ not (has g0 s)) (λ s k. ap not (has-under v g0 g1 s k)) f0 a))
-        (filter_alike (λ s. not (has g (v ∷ s))) (λ s. not (has g1 s)) f1 (every (λ s. not (has g (v ∷ s)) ≡ not (has g1 s)) (λ s. ap not (has-with v g0 g1 s b)) f1))
+    (filter_alike (λ s. not (has g s)) (λ s. not (has g0 s)) f0 (each_of (IsAbove_set v) (λ s. not (has g s) ≡ not (has g0 s)) (λ s k. ap not (has-under v g0 g1 s k)) f0 a))
+    (filter_alike (λ s. not (has g (v ∷ s))) (λ s. not (has g1 s)) f1 (every (λ s. not (has g (v ∷ s)) ≡ not (has g1 s)) (λ s. ap not (has-with v g0 g1 s b)) f1))
 
 -- ---- having
 holds-other : (e v : ℕ) (s : List ℕ) → eqb e v ≡ false → holds e (v ∷ s) ≡ holds e s
@@ -199,7 +199,7 @@ union_into v s f0 f1 g0 b ih [] = union_into_lower v s f0 f1 g0 b ih
 union_into v s f0 f1 g0 b ih (t ∷ g1) =
     ap (λ o. placed o (v ∷ s) (v ∷ t) (union (node v f0 f1)) (node v f0 f1) (node v g0 g1)) (order-with v s t)
     ∙ elim (order s t) as (λ o. placed o (v ∷ s) (v ∷ t) (union (node v f0 f1)) (node v f0 f1) (node v g0 g1) ≡ node v (union f0 g0) (placed o s t (union f1) f1 g1))
-        [ Less ↦ ap (λ x. (v ∷ s) ∷ x) (ih (t ∷ g1)) | Equal ↦ ap (λ x. (v ∷ s) ∷ x) (ih g1) | Greater ↦ ap (λ x. (v ∷ t) ∷ x) (union_into v s f0 f1 g0 b ih g1) ]
+    [ Less ↦ ap (λ x. (v ∷ s) ∷ x) (ih (t ∷ g1)) | Equal ↦ ap (λ x. (v ∷ s) ∷ x) (ih g1) | Greater ↦ ap (λ x. (v ∷ t) ∷ x) (union_into v s f0 f1 g0 b ih g1) ]
 
 pub union-node : (v : ℕ) (f0 f1 g0 g1 : Family) → IsAbove v f0 → IsAbove v g0 → union (node v f0 f1) (node v g0 g1) ≡ node v (union f0 g0) (union f1 g1)
 unfolding union
@@ -305,8 +305,8 @@ any_within-with : (v : ℕ) (g0 g1 : Family) (s : List ℕ) → IsAbove v g0 →
 any_within-with v g0 g1 s a b =
     list_any-append (λ t. within t (v ∷ s)) (map (λ t. v ∷ t) g1) g0
     ∙ ap₂ (λ x y. x || y)
-        (list_any-map v (λ t. within t (v ∷ s)) g1 ∙ list_any-alike (λ t. within (v ∷ t) (v ∷ s)) (λ t. within t s) g1 (each_of (IsAbove_set v) (λ t. within (v ∷ t) (v ∷ s) ≡ within t s) (λ t k. within-both v t s k) g1 b))
-        (list_any-alike (λ t. within t (v ∷ s)) (λ t. within t s) g0 (each_of (IsAbove_set v) (λ t. within t (v ∷ s) ≡ within t s) (λ t k. within-more v t s k) g0 a))
+    (list_any-map v (λ t. within t (v ∷ s)) g1 ∙ list_any-alike (λ t. within (v ∷ t) (v ∷ s)) (λ t. within t s) g1 (each_of (IsAbove_set v) (λ t. within (v ∷ t) (v ∷ s) ≡ within t s) (λ t k. within-both v t s k) g1 b))
+    (list_any-alike (λ t. within t (v ∷ s)) (λ t. within t s) g0 (each_of (IsAbove_set v) (λ t. within t (v ∷ s) ≡ within t s) (λ t k. within-more v t s k) g0 a))
 
 any_within-under : (v : ℕ) (g0 g1 : Family) (s : List ℕ) → IsAbove_set v s → list_any (λ t. within t s) (node v g0 g1) ≡ list_any (λ t. within t s) g0
 any_within-under v g0 g1 s a =
@@ -319,39 +319,41 @@ pub has-filter-yes : (q : List ℕ → Bool) (s : List ℕ) (f : Family) → q s
 has-filter-yes q s [] h k = k
 has-filter-yes q s (t ∷ f) h k = step (same s t) refl (has-filter-yes q s f h)
   where
-  step : (b : Bool) → same s t ≡ b → (has f s ≡ true → has (filter q f) s ≡ true) → has (cond (q t) (t ∷ filter q f) (filter q f)) s ≡ true
-  step true e ih = let qt : q t ≡ true = ap q (sym (same-true s t e)) ∙ h in
-      ap (λ b. has (cond b (t ∷ filter q f) (filter q f)) s) qt ∙ ap (λ b. b || has (filter q f) s) e
-  step false e ih =
-      let r = ih (ap (λ b. b || has f s) (sym e) ∙ k) in
-      elim (q t) as (λ b. has (cond b (t ∷ filter q f) (filter q f)) s ≡ true) [ true ↦ any_more (same s) t (filter q f) r | false ↦ r ]
+    step : (b : Bool) → same s t ≡ b → (has f s ≡ true → has (filter q f) s ≡ true) → has (cond (q t) (t ∷ filter q f) (filter q f)) s ≡ true
+    step true e ih = let qt : q t ≡ true = ap q (sym (same-true s t e)) ∙ h in
+        ap (λ b. has (cond b (t ∷ filter q f) (filter q f)) s) qt ∙ ap (λ b. b || has (filter q f) s) e
+    step false e ih =
+        let r = ih (ap (λ b. b || has f s) (sym e) ∙ k) in
+        elim (q t) as (λ b. has (cond b (t ∷ filter q f) (filter q f)) s ≡ true) [ true ↦ any_more (same s) t (filter q f) r | false ↦ r ]
 
 pub has-filter-no : (q : List ℕ → Bool) (s : List ℕ) (f : Family) → q s ≡ false → has (filter q f) s ≡ false
 has-filter-no q s [] h = refl
 has-filter-no q s (t ∷ f) h = step (q t) refl (has-filter-no q s f h)
   where
-  differ : q t ≡ true → (b : Bool) → same s t ≡ b → same s t ≡ false
-  differ e false x = x
-  differ e true x = let qs : q s ≡ true = ap q (same-true s t x) ∙ e in let no : ⊥ = cc in absurd no
-  step : (b : Bool) → q t ≡ b → has (filter q f) s ≡ false → has (cond (q t) (t ∷ filter q f) (filter q f)) s ≡ false
-  step false e ih = ap (λ b. has (cond b (t ∷ filter q f) (filter q f)) s) e ∙ ih
-  step true e ih = ap (λ b. has (cond b (t ∷ filter q f) (filter q f)) s) e ∙ ap (λ b. b || has (filter q f) s) (differ e (same s t) refl) ∙ ih
+    differ : q t ≡ true → (b : Bool) → same s t ≡ b → same s t ≡ false
+    differ e false x = x
+    differ e true x = let qs : q s ≡ true = ap q (same-true s t x) ∙ e in let no : ⊥ = cc in absurd no
+
+    step : (b : Bool) → q t ≡ b → has (filter q f) s ≡ false → has (cond (q t) (t ∷ filter q f) (filter q f)) s ≡ false
+    step false e ih = ap (λ b. has (cond b (t ∷ filter q f) (filter q f)) s) e ∙ ih
+    step true e ih = ap (λ b. has (cond b (t ∷ filter q f) (filter q f)) s) e ∙ ap (λ b. b || has (filter q f) s) (differ e (same s t) refl) ∙ ih
 
 -- what passes both tests is in the meet of what passes each
 pub meet-filters : (p q : List ℕ → Bool) (f : Family) → meet (filter p f) (filter q f) ≡ filter (λ s. p s && q s) f
 unfolding meet
 meet-filters p q f = filter_twice f (has_as f)
   where
-  has_as : (f : Family) → AllByRecursion (λ s. has (filter q f) s ≡ q s) f
-  has_as f = each_of (λ s. has f s ≡ true) (λ s. has (filter q f) s ≡ q s) (λ s k. decide s (q s) refl k) f (has_each f)
-    where
-    decide : (s : List ℕ) (b : Bool) → q s ≡ b → has f s ≡ true → has (filter q f) s ≡ q s
-    decide s true e k = has-filter-yes q s f e k ∙ sym e
-    decide s false e k = has-filter-no q s f e ∙ sym e
-  filter_twice : (h : Family) → AllByRecursion (λ s. has (filter q f) s ≡ q s) h → filter (has (filter q f)) (filter p h) ≡ filter (λ s. p s && q s) h
-  filter_twice [] a = refl
-  filter_twice (s ∷ h) a = elim (p s) as (λ b. filter (has (filter q f)) (cond b (s ∷ filter p h) (filter p h)) ≡ cond (b && q s) (s ∷ filter (λ s. p s && q s) h) (filter (λ s. p s && q s) h))
-      [ true ↦ ap₂ (λ b x. cond b (s ∷ x) x) a.0 (filter_twice h a.1) | false ↦ filter_twice h a.1 ]
+    has_as : (f : Family) → AllByRecursion (λ s. has (filter q f) s ≡ q s) f
+    has_as f = each_of (λ s. has f s ≡ true) (λ s. has (filter q f) s ≡ q s) (λ s k. decide s (q s) refl k) f (has_each f)
+      where
+        decide : (s : List ℕ) (b : Bool) → q s ≡ b → has f s ≡ true → has (filter q f) s ≡ q s
+        decide s true e k = has-filter-yes q s f e k ∙ sym e
+        decide s false e k = has-filter-no q s f e ∙ sym e
+
+    filter_twice : (h : Family) → AllByRecursion (λ s. has (filter q f) s ≡ q s) h → filter (has (filter q f)) (filter p h) ≡ filter (λ s. p s && q s) h
+    filter_twice [] a = refl
+    filter_twice (s ∷ h) a = elim (p s) as (λ b. filter (has (filter q f)) (cond b (s ∷ filter p h) (filter p h)) ≡ cond (b && q s) (s ∷ filter (λ s. p s && q s) h) (filter (λ s. p s && q s) h))
+        [ true ↦ ap₂ (λ b x. cond b (s ∷ x) x) a.0 (filter_twice h a.1) | false ↦ filter_twice h a.1 ]
 
 not-or : (a b : Bool) → not (a || b) ≡ (not b && not a)
 not-or true true = refl
@@ -365,9 +367,9 @@ without-node v f0 f1 g0 g1 a b c =
     let g = node v g0 g1 in
     let A = λ (h : Family) (s : List ℕ). list_any (λ t. within t s) h in
     filter-node v (λ s. not (A g s)) f0 f1 ∙ ap₂ (node v)
-        (filter_alike (λ s. not (A g s)) (λ s. not (A g0 s)) f0 (each_of (IsAbove_set v) (λ s. not (A g s) ≡ not (A g0 s)) (λ s k. ap not (any_within-under v g0 g1 s k)) f0 a))
-        (filter_alike (λ s. not (A g (v ∷ s))) (λ s. not (A g0 s) && not (A g1 s)) f1 (every (λ s. not (A g (v ∷ s)) ≡ (not (A g0 s) && not (A g1 s))) (λ s. ap not (any_within-with v g0 g1 s b c) ∙ not-or (A g1 s) (A g0 s)) f1)
-            ∙ sym (meet-filters (λ s. not (A g0 s)) (λ s. not (A g1 s)) f1))
+    (filter_alike (λ s. not (A g s)) (λ s. not (A g0 s)) f0 (each_of (IsAbove_set v) (λ s. not (A g s) ≡ not (A g0 s)) (λ s k. ap not (any_within-under v g0 g1 s k)) f0 a))
+    (filter_alike (λ s. not (A g (v ∷ s))) (λ s. not (A g0 s) && not (A g1 s)) f1 (every (λ s. not (A g (v ∷ s)) ≡ (not (A g0 s) && not (A g1 s))) (λ s. ap not (any_within-with v g0 g1 s b c) ∙ not-or (A g1 s) (A g0 s)) f1)
+    ∙ sym (meet-filters (λ s. not (A g0 s)) (λ s. not (A g1 s)) f1))
 
 pub nil-without : (g : Family) → without [] g ≡ []
 unfolding without
@@ -391,9 +393,9 @@ each_held : (s : List ℕ) → AllByRecursion (λ x. holds x s ≡ true) s
 each_held [] = tt
 each_held (x ∷ s) = (holds_here x s, each_more s (each_held s))
   where
-  each_more : (t : List ℕ) → AllByRecursion (λ y. holds y s ≡ true) t → AllByRecursion (λ y. holds y (x ∷ s) ≡ true) t
-  each_more [] a = tt
-  each_more (y ∷ t) a = (holds_more y x s a.0, each_more t a.1)
+    each_more : (t : List ℕ) → AllByRecursion (λ y. holds y s ≡ true) t → AllByRecursion (λ y. holds y (x ∷ s) ≡ true) t
+    each_more [] a = tt
+    each_more (y ∷ t) a = (holds_more y x s a.0, each_more t a.1)
 
 pub within-refl : (s : List ℕ) → within s s ≡ true
 within-refl s = within_each s s (each_held s)

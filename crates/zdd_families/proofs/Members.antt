@@ -19,15 +19,15 @@ one_tail x e s i = record { place = suc i.place; stands = i.stands }
 one_none : (e : ℕ) → IsOneOf [] e → ⊥
 one_none e i = at i.place i.stands
   where
-  at : (k : ℕ) → slice_get [] k ≡ Some e → ⊥
-  at k h = cc
+    at : (k : ℕ) → slice_get [] k ≡ Some e → ⊥
+    at k h = cc
 
 one_cases : (x e : ℕ) (s : List ℕ) → IsOneOf (x ∷ s) e → (e ≡ x) ⊎ IsOneOf s e
 one_cases x e s i = at i.place i.stands
   where
-  at : (k : ℕ) → slice_get (x ∷ s) k ≡ Some e → (e ≡ x) ⊎ IsOneOf s e
-  at zero h = let t : e ≡ x = cc in inl t
-  at (suc k) h = inr (record { place = k; stands = h })
+    at : (k : ℕ) → slice_get (x ∷ s) k ≡ Some e → (e ≡ x) ⊎ IsOneOf s e
+    at zero h = let t : e ≡ x = cc in inl t
+    at (suc k) h = inr (record { place = k; stands = h })
 
 one_above : (x e : ℕ) (s : List ℕ) → AllByRecursion (λ y. x < y) s → IsOneOf s e → x < e
 one_above x e [] a i = absurd (one_none e i)
@@ -41,9 +41,9 @@ holds_one : (x : ℕ) (s : List ℕ) → holds x s ≡ true → IsOneOf s x
 holds_one x [] h = let wrong : ⊥ = cc in absurd wrong
 holds_one x (y ∷ s) h = step (holds_one x s) (eqb x y) refl
   where
-  step : (holds x s ≡ true → IsOneOf s x) → (b : Bool) → eqb x y ≡ b → IsOneOf (y ∷ s) x
-  step ih true e = subst (λ z. IsOneOf (z ∷ s) x) (eqb-true x y e) (one_head x s)
-  step ih false e = one_tail y x s (ih (ap (λ b. b || holds x s) (sym e) ∙ h))
+    step : (holds x s ≡ true → IsOneOf s x) → (b : Bool) → eqb x y ≡ b → IsOneOf (y ∷ s) x
+    step ih true e = subst (λ z. IsOneOf (z ∷ s) x) (eqb-true x y e) (one_head x s)
+    step ih false e = one_tail y x s (ih (ap (λ b. b || holds x s) (sym e) ∙ h))
 
 one_holds : (x : ℕ) (s : List ℕ) → IsOneOf s x → holds x s ≡ true
 one_holds x [] i = absurd (one_none x i)
@@ -52,9 +52,9 @@ one_holds x (y ∷ s) i = ⊎_elim
     (λ j. ap (λ b. eqb x y || b) (one_holds x s j) ∙ or_true (eqb x y))
     (one_cases y x s i)
   where
-  or_true : (b : Bool) → (b || true) ≡ true
-  or_true true = refl
-  or_true false = refl
+    or_true : (b : Bool) → (b || true) ≡ true
+    or_true true = refl
+    or_true false = refl
 
 pub holds_law : (x : ℕ) (s : List ℕ) → (holds x s ≡ true) ↔ IsOneOf s x
 holds_law x s = (holds_one x s, one_holds x s)
@@ -101,7 +101,8 @@ precedes_same x y s t e a p = record {
   not_in_second = λ i. ⊎_elim (λ h. lt_irrefl x (subst (λ z. x < z) (h ∙ sym e) (one_above x p.least s a p.in_first))) (λ j. p.not_in_second j) (one_cases y p.least t i);
   same_below = λ z l. (
     (λ i. ⊎_elim (λ h. subst (λ w. IsOneOf (y ∷ t) w) (sym (h ∙ e)) (one_head y t)) (λ j. one_tail y z t ((p.same_below z l).0 j)) (one_cases x z s i)),
-    (λ i. ⊎_elim (λ h. subst (λ w. IsOneOf (x ∷ s) w) (sym (h ∙ sym e)) (one_head x s)) (λ j. one_tail x z s ((p.same_below z l).1 j)) (one_cases y z t i)));
+    (λ i. ⊎_elim (λ h. subst (λ w. IsOneOf (x ∷ s) w) (sym (h ∙ sym e)) (one_head x s)) (λ j. one_tail x z s ((p.same_below z l).1 j)) (one_cases y z t i)),
+  );
 }
 
 less_precedes : (s t : List ℕ) → IsAscending s → IsAscending t → order s t ≡ Less → Precedes s t
@@ -115,17 +116,19 @@ less_precedes (x ∷ s) [] a b h = record {
 }
 less_precedes (x ∷ s) (y ∷ t) a b h = ⊎_elim below (λ r. ⊎_elim (equal (λ g. less_precedes s t a.1 b.1 g)) above r) (three x y)
   where
-  below : x < y → Precedes (x ∷ s) (y ∷ t)
-  below l = record {
-    least = x;
-    in_first = one_head x s;
-    not_in_second = one_not_below y x t b.0 l;
-    same_below = λ z m. ((λ i. absurd (one_not_below x z s a.0 m i)), (λ i. absurd (one_not_below y z t b.0 (lt_trans m l) i)));
-  }
-  equal : (order s t ≡ Less → Precedes s t) → x ≡ y → Precedes (x ∷ s) (y ∷ t)
-  equal rest e = precedes_same x y s t e a.0 (rest (sym (order_same x y s t e) ∙ h))
-  above : y < x → Precedes (x ∷ s) (y ∷ t)
-  above l = let g : order (x ∷ s) (y ∷ t) ≡ Greater = then_is (nat_cmp x y) Greater (order s t) (cmp_greater x y l) in let wrong : ⊥ = cc in absurd wrong
+    below : x < y → Precedes (x ∷ s) (y ∷ t)
+    below l = record {
+      least = x;
+      in_first = one_head x s;
+      not_in_second = one_not_below y x t b.0 l;
+      same_below = λ z m. ((λ i. absurd (one_not_below x z s a.0 m i)), (λ i. absurd (one_not_below y z t b.0 (lt_trans m l) i)));
+    }
+
+    equal : (order s t ≡ Less → Precedes s t) → x ≡ y → Precedes (x ∷ s) (y ∷ t)
+    equal rest e = precedes_same x y s t e a.0 (rest (sym (order_same x y s t e) ∙ h))
+
+    above : y < x → Precedes (x ∷ s) (y ∷ t)
+    above l = let g : order (x ∷ s) (y ∷ t) ≡ Greater = then_is (nat_cmp x y) Greater (order s t) (cmp_greater x y l) in let wrong : ⊥ = cc in absurd wrong
 
 pub order_equal : (s t : List ℕ) → order s t ≡ Equal → s ≡ t
 order_equal [] [] h = refl
@@ -133,29 +136,31 @@ order_equal [] (y ∷ t) h = let wrong : ⊥ = cc in absurd wrong
 order_equal (x ∷ s) [] h = let wrong : ⊥ = cc in absurd wrong
 order_equal (x ∷ s) (y ∷ t) h = ⊎_elim below (λ r. ⊎_elim (equal (λ g. order_equal s t g)) above r) (three x y)
   where
-  below : x < y → x ∷ s ≡ y ∷ t
-  below l = let g : order (x ∷ s) (y ∷ t) ≡ Less = then_is (nat_cmp x y) Less (order s t) (cmp_less x y l) in let wrong : ⊥ = cc in absurd wrong
-  equal : (order s t ≡ Equal → s ≡ t) → x ≡ y → x ∷ s ≡ y ∷ t
-  equal rest e = ap₂ (λ z u. z ∷ u) e (rest (sym (order_same x y s t e) ∙ h))
-  above : y < x → x ∷ s ≡ y ∷ t
-  above l = let g : order (x ∷ s) (y ∷ t) ≡ Greater = then_is (nat_cmp x y) Greater (order s t) (cmp_greater x y l) in let wrong : ⊥ = cc in absurd wrong
+    below : x < y → x ∷ s ≡ y ∷ t
+    below l = let g : order (x ∷ s) (y ∷ t) ≡ Less = then_is (nat_cmp x y) Less (order s t) (cmp_less x y l) in let wrong : ⊥ = cc in absurd wrong
+
+    equal : (order s t ≡ Equal → s ≡ t) → x ≡ y → x ∷ s ≡ y ∷ t
+    equal rest e = ap₂ (λ z u. z ∷ u) e (rest (sym (order_same x y s t e) ∙ h))
+
+    above : y < x → x ∷ s ≡ y ∷ t
+    above l = let g : order (x ∷ s) (y ∷ t) ≡ Greater = then_is (nat_cmp x y) Greater (order s t) (cmp_greater x y l) in let wrong : ⊥ = cc in absurd wrong
 
 one_way : (s t : List ℕ) → Precedes s t → Precedes t s → ⊥
 one_way s t p q = ⊎_elim
     (λ l. p.not_in_second ((q.same_below p.least l).1 p.in_first))
     (λ r. ⊎_elim
-      (λ e. q.not_in_second (subst (IsOneOf s) e p.in_first))
-      (λ l. q.not_in_second ((p.same_below q.least l).1 q.in_first))
-      r)
+    (λ e. q.not_in_second (subst (IsOneOf s) e p.in_first))
+    (λ l. q.not_in_second ((p.same_below q.least l).1 q.in_first))
+    r)
     (three p.least q.least)
 
 precedes_less : (s t : List ℕ) → IsAscending s → IsAscending t → Precedes s t → order s t ≡ Less
 precedes_less s t a b p = step (order s t) refl
   where
-  step : (o : Ordering) → order s t ≡ o → order s t ≡ Less
-  step Less e = e
-  step Equal e = absurd (p.not_in_second (subst (λ u. IsOneOf u p.least) (order_equal s t e) p.in_first))
-  step Greater e = absurd (one_way s t p (less_precedes t s b a (order-flip s t ∙ ap flip e)))
+    step : (o : Ordering) → order s t ≡ o → order s t ≡ Less
+    step Less e = e
+    step Equal e = absurd (p.not_in_second (subst (λ u. IsOneOf u p.least) (order_equal s t e) p.in_first))
+    step Greater e = absurd (one_way s t p (less_precedes t s b a (order-flip s t ∙ ap flip e)))
 
 pub order_law : (s t : List ℕ) → IsAscending s → IsAscending t → ((order s t ≡ Less) ↔ Precedes s t)
 order_law s t a b = (less_precedes s t a b, precedes_less s t a b)
@@ -178,11 +183,11 @@ has_place : (s u : List ℕ) (f : Family) → ((g : Family) → has (union f g) 
 has_place s u f ih [] = sym (or-false (same s u || has f s))
 has_place s u f ih (t ∷ g) = step (has_place s u f ih g) (order u t) refl
   where
-  step : has (place u (union f) f g) s ≡ ((same s u || has f s) || has g s) → (o : Ordering) → order u t ≡ o → has (placed (order u t) u t (union f) f g) s ≡ ((same s u || has f s) || (same s t || has g s))
-  step rest Less e = ap (λ o. has (placed o u t (union f) f g) s) e ∙ ap (λ b. same s u || b) (ih (t ∷ g)) ∙ or_assoc (same s u) (has f s) (same s t || has g s)
-  step rest Equal e = ap (λ o. has (placed o u t (union f) f g) s) e ∙ ap (λ b. same s u || b) (ih g) ∙ or_both (same s u) (has f s) (has g s)
-      ∙ ap (λ x. (same s u || has f s) || (same s x || has g s)) (order_equal u t e)
-  step rest Greater e = ap (λ o. has (placed o u t (union f) f g) s) e ∙ ap (λ b. same s t || b) rest ∙ or_swap (same s t) (same s u || has f s) (has g s)
+    step : has (place u (union f) f g) s ≡ ((same s u || has f s) || has g s) → (o : Ordering) → order u t ≡ o → has (placed (order u t) u t (union f) f g) s ≡ ((same s u || has f s) || (same s t || has g s))
+    step rest Less e = ap (λ o. has (placed o u t (union f) f g) s) e ∙ ap (λ b. same s u || b) (ih (t ∷ g)) ∙ or_assoc (same s u) (has f s) (same s t || has g s)
+    step rest Equal e = ap (λ o. has (placed o u t (union f) f g) s) e ∙ ap (λ b. same s u || b) (ih g) ∙ or_both (same s u) (has f s) (has g s)
+        ∙ ap (λ x. (same s u || has f s) || (same s x || has g s)) (order_equal u t e)
+    step rest Greater e = ap (λ o. has (placed o u t (union f) f g) s) e ∙ ap (λ b. same s t || b) rest ∙ or_swap (same s t) (same s u || has f s) (has g s)
 
 pub has-union : (f g : Family) (s : List ℕ) → has (union f g) s ≡ (has f s || has g s)
 unfolding union
@@ -193,19 +198,19 @@ has-filter : (q : List ℕ → Bool) (s : List ℕ) (f : Family) → has (filter
 has-filter q s [] = refl
 has-filter q s (u ∷ f) = step (has-filter q s f) (same s u) refl (q u) refl
   where
-  step : has (filter q f) s ≡ (has f s && q s) → (a : Bool) → same s u ≡ a → (b : Bool) → q u ≡ b → has (cond (q u) (u ∷ filter q f) (filter q f)) s ≡ ((same s u || has f s) && q s)
-  step ih true e true h =
-      let w : q s ≡ true = ap q (same-true s u e) ∙ h in
-      ap (λ b. has (cond b (u ∷ filter q f) (filter q f)) s) h ∙ ap (λ b. b || has (filter q f) s) e ∙ sym (ap₂ (λ a b. (a || has f s) && b) e w)
-  step ih true e false h =
-      let w : q s ≡ false = ap q (same-true s u e) ∙ h in
-      ap (λ b. has (cond b (u ∷ filter q f) (filter q f)) s) h ∙ ih ∙ ap (λ b. has f s && b) w ∙ and_false (has f s) ∙ sym (ap₂ (λ a b. (a || has f s) && b) e w)
-    where
-    and_false : (b : Bool) → (b && false) ≡ false
-    and_false true = refl
-    and_false false = refl
-  step ih false e true h = ap (λ b. has (cond b (u ∷ filter q f) (filter q f)) s) h ∙ ap (λ b. b || has (filter q f) s) e ∙ ih ∙ sym (ap (λ a. (a || has f s) && q s) e)
-  step ih false e false h = ap (λ b. has (cond b (u ∷ filter q f) (filter q f)) s) h ∙ ih ∙ sym (ap (λ a. (a || has f s) && q s) e)
+    step : has (filter q f) s ≡ (has f s && q s) → (a : Bool) → same s u ≡ a → (b : Bool) → q u ≡ b → has (cond (q u) (u ∷ filter q f) (filter q f)) s ≡ ((same s u || has f s) && q s)
+    step ih true e true h =
+        let w : q s ≡ true = ap q (same-true s u e) ∙ h in
+        ap (λ b. has (cond b (u ∷ filter q f) (filter q f)) s) h ∙ ap (λ b. b || has (filter q f) s) e ∙ sym (ap₂ (λ a b. (a || has f s) && b) e w)
+    step ih true e false h =
+        let w : q s ≡ false = ap q (same-true s u e) ∙ h in
+        ap (λ b. has (cond b (u ∷ filter q f) (filter q f)) s) h ∙ ih ∙ ap (λ b. has f s && b) w ∙ and_false (has f s) ∙ sym (ap₂ (λ a b. (a || has f s) && b) e w)
+      where
+        and_false : (b : Bool) → (b && false) ≡ false
+        and_false true = refl
+        and_false false = refl
+    step ih false e true h = ap (λ b. has (cond b (u ∷ filter q f) (filter q f)) s) h ∙ ap (λ b. b || has (filter q f) s) e ∙ ih ∙ sym (ap (λ a. (a || has f s) && q s) e)
+    step ih false e false h = ap (λ b. has (cond b (u ∷ filter q f) (filter q f)) s) h ∙ ih ∙ sym (ap (λ a. (a || has f s) && q s) e)
 
 pub has-meet : (f g : Family) (s : List ℕ) → has (meet f g) s ≡ (has f s && has g s)
 unfolding meet

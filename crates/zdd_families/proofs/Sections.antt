@@ -1,8 +1,8 @@
-use Rattle.std.proofs.Common.{◌≡◌, ◌≢◌, ℕ, zero, suc, ◌+◌, ◌-◌, ◌<◌, ◌≤◌, Bool, true, false, not, cond, ◌&&◌, ◌||◌, eqb, ltb, List, [], ◌∷◌, ◌++◌, length, map, drop, refl, sym, ap, ap₂, ◌∙◌, subst, arith, lt_irrefl, lt_trans, ⊎_elim, ◌⊎◌, inl, inr, filter, nat_lt, lt-ltb, le-ltb, zero-le, le_trans, le_of_lt, true≢false, eqb-true, eq-eqb}
+use Rattle.std.proofs.Common.{◌≡◌, ◌≢◌, ℕ, suc, ◌<◌, ◌≤◌, Bool, true, false, cond, ◌||◌, eqb, List, [], ◌∷◌, ◌++◌, length, map, drop, refl, sym, ap, ap₂, ◌∙◌, subst, arith, ⊎_elim, ◌⊎◌, inl, inr, filter, nat_lt, lt-ltb, zero-le, true≢false, eqb-true, eq-eqb}
 use Rattle.std.proofs.lemmas.Bool.{and_parts}
-use Rattle.std.specs.List.{AllByRecursion, list_any}
+use Rattle.std.specs.List.{AllByRecursion}
 use Rattle.std.proofs.lemmas.Bool.Decides.{nat_tests}
-use Rattle.zdd_families.specs.Families.{Family, same, holds, within, node, IsAbove, without}
+use Rattle.zdd_families.specs.Families.{Family, same, holds, node, IsAbove, without}
 use Rattle.zdd_families.specs.Sections.{below, section, IsCounted, IsPart}
 use Rattle.zdd_families.proofs.Laws.{IsAbove_set, filter-node, filter_alike, filter-none, filter-all, every, each_of, same-with, same-above, same-under}
 
@@ -55,9 +55,9 @@ unfolding section
 section-with v i p lo hi h a =
     let q = λ (s : List ℕ). same (below i s) (v ∷ p) in
     ap (map (drop (suc (length p)))) (filter-node v q lo hi ∙ ap₂ (node v)
-        (filter-none q lo (each_of (IsAbove_set v) (λ s. q s ≡ false) (λ s k. same-under v (below i s) p (below-above v i s k)) lo a))
-        (filter_alike (λ s. q (v ∷ s)) (λ s. same (below i s) p) hi (every (λ s. q (v ∷ s) ≡ same (below i s) p)
-            (λ s. ap (λ b. same (cond b (v ∷ below i s) (below i s)) (v ∷ p)) (is_below v i h) ∙ same-with v (below i s) p) hi)))
+    (filter-none q lo (each_of (IsAbove_set v) (λ s. q s ≡ false) (λ s k. same-under v (below i s) p (below-above v i s k)) lo a))
+    (filter_alike (λ s. q (v ∷ s)) (λ s. same (below i s) p) hi (every (λ s. q (v ∷ s) ≡ same (below i s) p)
+    (λ s. ap (λ b. same (cond b (v ∷ below i s) (below i s)) (v ∷ p)) (is_below v i h) ∙ same-with v (below i s) p) hi)))
     ∙ map_drop-with v (length p) (filter (λ s. same (below i s) p) hi)
 
 pub section-without : (v i : ℕ) (p : List ℕ) (lo hi : Family) → v < i → IsAbove_set v p → section i p (node v lo hi) ≡ section i p lo
@@ -65,7 +65,7 @@ unfolding section
 section-without v i p lo hi h a =
     let q = λ (s : List ℕ). same (below i s) p in
     ap (map (drop (length p))) (filter-node v q lo hi ∙ ap (node v (filter q lo))
-        (filter-none (λ s. q (v ∷ s)) hi (every (λ s. q (v ∷ s) ≡ false) (λ s. ap (λ b. same (cond b (v ∷ below i s) (below i s)) p) (is_below v i h) ∙ same-above v (below i s) p a) hi)))
+    (filter-none (λ s. q (v ∷ s)) hi (every (λ s. q (v ∷ s) ≡ false) (λ s. ap (λ b. same (cond b (v ∷ below i s) (below i s)) p) (is_below v i h) ∙ same-above v (below i s) p a) hi)))
 
 same-above_all : (v : ℕ) (s p : List ℕ) → IsAbove_set v s → same s p ≡ true → IsAbove_set v p
 same-above_all v [] [] a h = tt
@@ -77,9 +77,9 @@ section_or_above : (v i : ℕ) (p : List ℕ) (f : Family) → IsAbove v f → (
 section_or_above v i p [] a = inl refl
 section_or_above v i p (s ∷ f) a = step (section_or_above v i p f a.1) (same (below i s) p) refl
   where
-  step : (filter (λ s. same (below i s) p) f ≡ []) ⊎ IsAbove_set v p → (b : Bool) → same (below i s) p ≡ b → (filter (λ s. same (below i s) p) (s ∷ f) ≡ []) ⊎ IsAbove_set v p
-  step ih true e = inr (same-above_all v (below i s) p (below-above v i s a.0) e)
-  step ih false e = ⊎_elim (λ n. inl (ap (λ b. cond b (s ∷ filter (λ s. same (below i s) p) f) (filter (λ s. same (below i s) p) f)) e ∙ n)) (λ r. inr r) ih
+    step : (filter (λ s. same (below i s) p) f ≡ []) ⊎ IsAbove_set v p → (b : Bool) → same (below i s) p ≡ b → (filter (λ s. same (below i s) p) (s ∷ f) ≡ []) ⊎ IsAbove_set v p
+    step ih true e = inr (same-above_all v (below i s) p (below-above v i s a.0) e)
+    step ih false e = ⊎_elim (λ n. inl (ap (λ b. cond b (s ∷ filter (λ s. same (below i s) p) f) (filter (λ s. same (below i s) p) f)) e ∙ n)) (λ r. inr r) ih
 
 pub section-above : (v i : ℕ) (p : List ℕ) (f : Family) → IsAbove v f → (section i p f ≡ []) ⊎ IsAbove_set v p
 unfolding section
@@ -100,13 +100,15 @@ low_all i v f h a = each_of (IsAbove_set v) (AtLeast i) (λ s k. at_least_above 
 pub deep : (v i : ℕ) (p : List ℕ) (f h : Family) → IsAbove v f → AllByRecursion (λ x. x < i) p → h ≡ section i p f → h ≢ [] → Deep v f h
 deep v i p f h a u e n = ⊎_elim (low p e) high split
   where
-  split : (i ≤ v) ⊎ (v < i)
-  split = grind arith
-  low : (p : List ℕ) → h ≡ section i p f → i ≤ v → Deep v f h
-  low [] e l = record { at = suc v; taken = []; after = omega arith; above = tt; under = tt; is = e ∙ section-low i f (low_all i v f (omega arith) a) ∙ sym (section-low (suc v) f (low_all (suc v) v f (omega arith) a)) }
-  low (x ∷ p) e l = absurd (n (e ∙ section-low_none i x p f (low_all i v f (omega arith) a)))
-  high : v < i → Deep v f h
-  high l = ⊎_elim (λ z. absurd (n (e ∙ z))) (λ k. record { at = i; taken = p; after = l; above = k; under = u; is = e }) (section-above v i p f a)
+    split : (i ≤ v) ⊎ (v < i)
+    split = grind arith
+
+    low : (p : List ℕ) → h ≡ section i p f → i ≤ v → Deep v f h
+    low [] e l = record { at = suc v; taken = []; after = omega arith; above = tt; under = tt; is = e ∙ section-low i f (low_all i v f (omega arith) a) ∙ sym (section-low (suc v) f (low_all (suc v) v f (omega arith) a)) }
+    low (x ∷ p) e l = absurd (n (e ∙ section-low_none i x p f (low_all i v f (omega arith) a)))
+
+    high : v < i → Deep v f h
+    high l = ⊎_elim (λ z. absurd (n (e ∙ z))) (λ k. record { at = i; taken = p; after = l; above = k; under = u; is = e }) (section-above v i p f a)
 
 pub IsCounted-self : (f : Family) → f ≢ [] → f ≢ [] ∷ [] → IsCounted f f
 IsCounted-self f n u = record { at = 0; taken = []; taken_below = tt; is = sym (section-whole f); not_empty = n; not_unit = u }
@@ -140,9 +142,9 @@ fewer_above : (v : ℕ) (p : List ℕ) → IsAbove_set v p → (x : ℕ) → hol
 fewer_above v [] a x h = let no : ⊥ = cc in absurd no
 fewer_above v (y ∷ p) a x h = step (fewer_above v p a.1 x) (eqb x y) refl
   where
-  step : (holds x p ≡ true → v < x) → (b : Bool) → eqb x y ≡ b → v < x
-  step ih true e = subst (λ z. v < z) (sym (eqb-true x y e)) a.0
-  step ih false e = ih (ap (λ b. b || holds x p) (sym e) ∙ h)
+    step : (holds x p ≡ true → v < x) → (b : Bool) → eqb x y ≡ b → v < x
+    step ih true e = subst (λ z. v < z) (sym (eqb-true x y e)) a.0
+    step ih false e = ih (ap (λ b. b || holds x p) (sym e) ∙ h)
 
 all_fewer_above : (v : ℕ) (p q : List ℕ) → IsAbove_set v p → AllByRecursion (λ x. holds x p ≡ true) q → IsAbove_set v q
 all_fewer_above v p [] a b = tt
@@ -163,20 +165,22 @@ pub record DeepPart (v : ℕ) (f g h : Family) : Type 0 where
 pub deep_part : (v : ℕ) (f g h : Family) → IsAbove v f → IsAbove v g → IsPart f g h → DeepPart v f g h
 deep_part v f g h a b c = ⊎_elim (λ l. low c.taken c.fewer c.among c.counted l) high split
   where
-  split : (c.at ≤ v) ⊎ (v < c.at)
-  split = grind arith
-  low : (p q : List ℕ) → AllByRecursion (λ x. holds x p ≡ true) q → IsCounted (without (section c.at p f) (section c.at q g)) h → c.at ≤ v → DeepPart v f g h
-  low [] [] m k l =
-      let ef = section-low c.at f (low_all c.at v f (omega arith) a) ∙ sym (section-low (suc v) f (low_all (suc v) v f (omega arith) a)) in
-      let eg = section-low c.at g (low_all c.at v g (omega arith) b) ∙ sym (section-low (suc v) g (low_all (suc v) v g (omega arith) b)) in
-      record { at = suc v; taken = []; fewer = []; after = omega arith; above = tt; fewer_above = tt; under = tt; among = tt; counted = subst (λ x. IsCounted x h) (ap₂ without ef eg) k }
-  low [] (x ∷ q) m k l = absurd (none_among x q m)
-  low (x ∷ p) q m k l = absurd (counted_nil _ h (ap (λ y. without y (section c.at q g)) (section-low_none c.at x p f (low_all c.at v f (omega arith) a)) ∙ without-nil (section c.at q g)) k)
-  high : v < c.at → DeepPart v f g h
-  high l = ⊎_elim
-      (λ z. absurd (counted_nil _ h (ap (λ y. without y (section c.at c.fewer g)) z ∙ without-nil (section c.at c.fewer g)) c.counted))
-      (λ k. record { at = c.at; taken = c.taken; fewer = c.fewer; after = l; above = k; fewer_above = all_fewer_above v c.taken c.fewer k c.among; under = c.taken_below; among = c.among; counted = c.counted })
-      (section-above v c.at c.taken f a)
+    split : (c.at ≤ v) ⊎ (v < c.at)
+    split = grind arith
+
+    low : (p q : List ℕ) → AllByRecursion (λ x. holds x p ≡ true) q → IsCounted (without (section c.at p f) (section c.at q g)) h → c.at ≤ v → DeepPart v f g h
+    low [] [] m k l =
+        let ef = section-low c.at f (low_all c.at v f (omega arith) a) ∙ sym (section-low (suc v) f (low_all (suc v) v f (omega arith) a)) in
+        let eg = section-low c.at g (low_all c.at v g (omega arith) b) ∙ sym (section-low (suc v) g (low_all (suc v) v g (omega arith) b)) in
+        record { at = suc v; taken = []; fewer = []; after = omega arith; above = tt; fewer_above = tt; under = tt; among = tt; counted = subst (λ x. IsCounted x h) (ap₂ without ef eg) k }
+    low [] (x ∷ q) m k l = absurd (none_among x q m)
+    low (x ∷ p) q m k l = absurd (counted_nil _ h (ap (λ y. without y (section c.at q g)) (section-low_none c.at x p f (low_all c.at v f (omega arith) a)) ∙ without-nil (section c.at q g)) k)
+
+    high : v < c.at → DeepPart v f g h
+    high l = ⊎_elim
+        (λ z. absurd (counted_nil _ h (ap (λ y. without y (section c.at c.fewer g)) z ∙ without-nil (section c.at c.fewer g)) c.counted))
+        (λ k. record { at = c.at; taken = c.taken; fewer = c.fewer; after = l; above = k; fewer_above = all_fewer_above v c.taken c.fewer k c.among; under = c.taken_below; among = c.among; counted = c.counted })
+        (section-above v c.at c.taken f a)
 
 still_among : (v : ℕ) (p q : List ℕ) → AllByRecursion (λ x. holds x p ≡ true) q → AllByRecursion (λ x. holds x (v ∷ p) ≡ true) q
 still_among v p [] a = tt
@@ -186,23 +190,46 @@ module _ (v : ℕ) (f0 f1 g0 g1 h : Family) (af0 : IsAbove v f0) (af1 : IsAbove 
   pub IsPart-00 : IsPart f0 g0 h → IsPart (node v f0 f1) (node v g0 g1) h
   IsPart-00 c =
       let d = deep_part v f0 g0 h af0 ag0 c in
-      record { at = d.at; taken = d.taken; fewer = d.fewer; taken_below = d.under; among = d.among;
-        counted = subst (λ x. IsCounted x h) (ap₂ without (sym (section-without v d.at d.taken f0 f1 d.after d.above)) (sym (section-without v d.at d.fewer g0 g1 d.after d.fewer_above))) d.counted }
+      record {
+        at = d.at;
+        taken = d.taken;
+        fewer = d.fewer;
+        taken_below = d.under;
+        among = d.among;
+        counted = subst (λ x. IsCounted x h) (ap₂ without (sym (section-without v d.at d.taken f0 f1 d.after d.above)) (sym (section-without v d.at d.fewer g0 g1 d.after d.fewer_above))) d.counted;
+      }
 
   pub IsPart-10 : IsPart f1 g0 h → IsPart (node v f0 f1) (node v g0 g1) h
   IsPart-10 c =
       let d = deep_part v f1 g0 h af1 ag0 c in
-      record { at = d.at; taken = v ∷ d.taken; fewer = d.fewer; taken_below = (d.after, d.under); among = still_among v d.taken d.fewer d.among;
-        counted = subst (λ x. IsCounted x h) (ap₂ without (sym (section-with v d.at d.taken f0 f1 d.after af0)) (sym (section-without v d.at d.fewer g0 g1 d.after d.fewer_above))) d.counted }
+      record {
+        at = d.at;
+        taken = v ∷ d.taken;
+        fewer = d.fewer;
+        taken_below = (d.after, d.under);
+        among = still_among v d.taken d.fewer d.among;
+        counted = subst (λ x. IsCounted x h) (ap₂ without (sym (section-with v d.at d.taken f0 f1 d.after af0)) (sym (section-without v d.at d.fewer g0 g1 d.after d.fewer_above))) d.counted;
+      }
 
   pub IsPart-11 : IsPart f1 g1 h → IsPart (node v f0 f1) (node v g0 g1) h
   IsPart-11 c =
       let d = deep_part v f1 g1 h af1 ag1 c in
-      record { at = d.at; taken = v ∷ d.taken; fewer = v ∷ d.fewer; taken_below = (d.after, d.under);
+      record {
+        at = d.at;
+        taken = v ∷ d.taken;
+        fewer = v ∷ d.fewer;
+        taken_below = (d.after, d.under);
         among = (ap (λ b. b || holds v d.taken) (eq-eqb v v refl), still_among v d.taken d.fewer d.among);
-        counted = subst (λ x. IsCounted x h) (ap₂ without (sym (section-with v d.at d.taken f0 f1 d.after af0)) (sym (section-with v d.at d.fewer g0 g1 d.after ag0))) d.counted }
+        counted = subst (λ x. IsCounted x h) (ap₂ without (sym (section-with v d.at d.taken f0 f1 d.after af0)) (sym (section-with v d.at d.fewer g0 g1 d.after ag0))) d.counted;
+      }
 
 -- what the whole result counts is a part
 pub IsPart-whole : (f g h : Family) → IsCounted (without f g) h → IsPart f g h
-IsPart-whole f g h c = record { at = 0; taken = []; fewer = []; taken_below = tt; among = tt;
-    counted = subst (λ x. IsCounted x h) (ap₂ without (sym (section-whole f)) (sym (section-whole g))) c }
+IsPart-whole f g h c = record {
+  at = 0;
+  taken = [];
+  fewer = [];
+  taken_below = tt;
+  among = tt;
+  counted = subst (λ x. IsCounted x h) (ap₂ without (sym (section-whole f)) (sym (section-whole g))) c;
+}

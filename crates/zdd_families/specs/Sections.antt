@@ -1,5 +1,5 @@
 -- Sections of a family, and the families that the operations may need on their way.
-use Rattle.std.specs.Prelude.{◌≡◌, ◌≢◌, ℕ, ◌+◌, ◌<◌, ◌≤◌, Bool, true, not, List, [], ◌∷◌, length, map, drop, nat_lt}
+use Rattle.std.specs.Prelude.{◌≡◌, ◌≢◌, ℕ, ◌+◌, ◌<◌, ◌≤◌, true, not, List, [], ◌∷◌, length, map, drop, nat_lt}
 use Rattle.std.specs.List.{filter, list_any, AllByRecursion, All}
 use Rattle.ar_base.specs.Lists.{AreDifferent}
 use Rattle.zdd_families.specs.Families.{Family, same, holds, without, minimal}
@@ -52,7 +52,7 @@ lower v h = filter (λ s. not (holds v s)) h
 pub data IsHalf (f : Family) : Family → Type 0 where
   of_minimal : (i : ℕ) (p : List ℕ) {h : Family} → AllByRecursion (λ x. x < i) p → IsCounted (minimal (section i p f)) h → IsHalf f h
   of_halves : (i : ℕ) (p : List ℕ) (v : ℕ) {h : Family} → AllByRecursion (λ x. x < i) p → IsLeast v (section i p f)
-    → IsPart (minimal (upper v (section i p f))) (minimal (lower v (section i p f))) h → IsHalf f h
+      → IsPart (minimal (upper v (section i p f))) (minimal (lower v (section i p f))) h → IsHalf f h
 
 -- P holds of more than n families: n + 1 different ones are listed
 pub record IsMoreThan (n : ℕ) (P : Family → Type 0) : Type 0 where

@@ -1,5 +1,5 @@
 -- Two small families.
-use Rattle.std.specs.Prelude.{ℕ, List, [], ◌∷◌}
+use Rattle.std.specs.Prelude.{[], ◌∷◌}
 use Rattle.zdd_families.specs.Families.{Family}
 
 -- the sets {0, 1}, {0} and {1, 2}, in order

@@ -1,19 +1,16 @@
 -- What callers of a store see.
-use Rattle.std.proofs.Common.{◌≡◌, ◌≢◌, ℕ, suc, ◌+◌, ◌-◌, ◌<◌, ◌≤◌, Bool, cond, false, true, ◌&&◌, eqb, ap₂, List, [], ◌∷◌, ◌++◌, length, get_or, Option, Some, None, Result, Ok, Err, refl, sym, ap, ◌∙◌, subst, arith, length-append, append-nil, take, is_ok, is_err, OnOk}
+use Rattle.std.proofs.Common.{◌≡◌, ◌≢◌, ℕ, suc, ◌+◌, ◌-◌, ◌<◌, ◌≤◌, Bool, cond, false, true, ◌&&◌, eqb, ap₂, List, [], ◌∷◌, ◌++◌, length, get_or, Some, None, Result, Ok, Err, refl, sym, ap, ◌∙◌, subst, arith, length-append, take, is_ok, is_err, OnOk}
 use Rattle.std.specs.Map.{lookup}
 use Rattle.std.proofs.Math.Seq.{take-append_seam}
 use Rattle.std.proofs.lemmas.Option.{slice_get-get_or, slice_get_within}
 use Rattle.std.proofs.lemmas.List.Elements.{All-nil, All-push, All-from_get_or}
-use Rattle.zdd_families.specs.Families.{Family, node, IsAbove}
+use Rattle.zdd_families.specs.Families.{Family, node}
 use Rattle.zdd_families.specs.Sections.{IsMade}
-use Rattle.zdd_nodes.specs.Nodes.{NodeId, Stored, all_of, at, family, IsNumber, IsNode, IsSoundStore, Grows, IsFullFor, Draws, HasNoRoom, Makes}
-use Rattle.zdd_nodes.specs.Nodes.Makes.{known, added}
+use Rattle.zdd_nodes.specs.Nodes.{NodeId, Stored, at, family, IsNumber, IsNode, IsSoundStore, IsFullFor, Draws, HasNoRoom, Makes}
+use Rattle.zdd_nodes.specs.Nodes.Makes.{added}
 use Rattle.zdd_nodes.specs.Kept.{families_of, node_eq, IsStore}
 use Rattle.zdd_nodes.specs.declared.Node.{Node}
-use Rattle.zdd_nodes.specs.declared.NodeFault.{NodeFault}
-use Rattle.zdd_nodes.specs.declared.NodeFault.TheVariants.{Full}
 use Rattle.zdd_nodes.proofs.Canonical.{node_some, node_not_unit}
-use Rattle.zdd_nodes.proofs.Growing.{Grows-none}
 use Rattle.zdd_nodes.proofs.Lists.{at-seam, nodes_different, some_sets}
 use Rattle.zdd_nodes.proofs.Stored.{length-families, families-push, IsCall, is_missing, IsStore-push}
 
@@ -39,11 +36,11 @@ pub split_at : (nodes found : List Node) (index : List (Node × NodeId)) (limit 
     → (let n = get_or found (k - 2) d in IsNode v.families k n.event.n n.lo.n n.hi.n)
 split_at nodes found index limit v k d same e s h two =
     subst (λ (ns : List Node). let n = get_or ns (k - 2) d in IsNode v.families k n.event.n n.lo.n n.hi.n) (sym same)
-      (subst (λ (v : Stored). IsNumber v k → (let n = get_or nodes (k - 2) d in IsNode v.families k n.event.n n.lo.n n.hi.n)) e (λ h.
-        let long = length-families nodes in
-        let kk : k - 2 + 2 ≡ k = omega arith in
-        let n = get_or nodes (k - 2) d in
-        subst (λ x. IsNode (families_of nodes) x n.event.n n.lo.n n.hi.n) kk (s.each (k - 2) n (slice_get-get_or nodes (k - 2) d (omega (arith, h))))) h)
+    (subst (λ (v : Stored). IsNumber v k → (let n = get_or nodes (k - 2) d in IsNode v.families k n.event.n n.lo.n n.hi.n)) e (λ h.
+    let long = length-families nodes in
+    let kk : k - 2 + 2 ≡ k = omega arith in
+    let n = get_or nodes (k - 2) d in
+    subst (λ x. IsNode (families_of nodes) x n.event.n n.lo.n n.hi.n) kk (s.each (k - 2) n (slice_get-get_or nodes (k - 2) d (omega (arith, h))))) h)
 
 -- ---- a family that has a number
 -- the number n stands for the family
@@ -56,9 +53,9 @@ number_of_lo v n h z = (h, sym (ap (λ k. node n.event.n (family v n.lo.n) (fami
 pub number_found : (nodes : List Node) (index : List (Node × NodeId)) (limit : ℕ) (v : Stored) (n : Node) (m : NodeId) → seen nodes limit ≡ v → IsStore nodes index limit → lookup (node_eq n) index ≡ Some m → Numbers v m.n (asked v n)
 number_found nodes index limit v n m e s l = subst (λ (v : Stored). Numbers v m.n (asked v n)) e
     (let f = s.found n m l in
-     let i = s.each (m.n - 2) n f.1 in
-     let m2 : m.n - 2 + 2 ≡ m.n = omega (arith, f.0) in
-     (omega (arith, slice_get_within nodes (m.n - 2) n f.1, length-families nodes, f.0), ap (at (families_of nodes)) (sym m2) ∙ i.is))
+    let i = s.each (m.n - 2) n f.1 in
+    let m2 : m.n - 2 + 2 ≡ m.n = omega (arith, f.0) in
+    (omega (arith, slice_get_within nodes (m.n - 2) n f.1, length-families nodes, f.0), ap (at (families_of nodes)) (sym m2) ∙ i.is))
 
 pub no_room_not : (made : Family) (v : Stored) (n : ℕ) → Numbers v n made → HasNoRoom made v → ⊥
 no_room_not made v n t f = f.is_new n t.0 t.1

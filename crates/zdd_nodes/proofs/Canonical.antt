@@ -1,5 +1,5 @@
 -- A family other than the empty one and that of the empty set is a node in one way only.
-use Rattle.std.proofs.Common.{◌≡◌, ◌≢◌, ℕ, ◌<◌, List, [], ◌∷◌, refl, sym, ap, ◌∙◌, subst, lt_irrefl}
+use Rattle.std.proofs.Common.{◌≡◌, ◌≢◌, ℕ, [], ◌∷◌, refl, sym, ap, ◌∙◌, subst, lt_irrefl}
 use Rattle.zdd_families.specs.Families.{Family, node, IsAbove}
 
 -- the two halves of a node are those of no other

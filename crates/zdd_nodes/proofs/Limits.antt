@@ -1,11 +1,11 @@
 -- Where a call is refused as Full, more families are stored or allowed than the limit.
-use Rattle.std.proofs.Common.{◌≡◌, ◌≢◌, ℕ, suc, ◌+◌, ◌-◌, ◌<◌, ◌≤◌, List, [], ◌∷◌, ◌++◌, length, get_or, slice_get, Result, Err, refl, sym, ap, ◌∙◌, subst, arith, length-append, ⊎_elim, ◌⊎◌, inl, inr}
+use Rattle.std.proofs.Common.{◌≡◌, ℕ, suc, ◌-◌, ◌<◌, ◌≤◌, [], ◌∷◌, ◌++◌, length, get_or, Result, Err, refl, sym, ap, ◌∙◌, subst, arith, length-append, ⊎_elim, ◌⊎◌, inl, inr}
 use Rattle.std.proofs.lemmas.List.{get_or-append_right}
 use Rattle.std.proofs.lemmas.List.Elements.{All-append, All-cons, All-nil, All-from_get_or}
 use Rattle.std.proofs.lemmas.Option.{slice_get_within, get_or_from_slice_get}
 use Rattle.zdd_families.specs.Families.{Family}
 use Rattle.zdd_families.specs.Sections.{IsMoreThan}
-use Rattle.zdd_nodes.specs.Nodes.{NodeId, Stored, at, Grows, Draws, IsStored}
+use Rattle.zdd_nodes.specs.Nodes.{NodeId, Stored, Grows, Draws, IsStored}
 use Rattle.zdd_nodes.specs.declared.NodeFault.{NodeFault}
 use Rattle.zdd_nodes.specs.declared.NodeFault.TheVariants.{Full}
 use Rattle.zdd_nodes.proofs.Lists.{AreDifferent-push}
@@ -16,10 +16,10 @@ before_or_allowed : (P : Family → Type 0) (s t : Stored) → Grows P s t → (
 before_or_allowed P s t g j h =
     let split : (j < length s.families) ⊎ (length s.families ≤ j) = grind arith in
     ⊎_elim
-      (λ l. inl (suc (suc j), omega arith, omega (arith, l), sym (kept P s t (suc (suc j)) g (omega (arith, l)))))
-      (λ l. let e : get_or t.families j [] ≡ get_or g.added (j - length s.families) [] = ap (λ x. get_or x j []) g.families ∙ get_or-append_right s.families g.added (length s.families) j [] refl l in
-          inr (subst P (sym e) (g.all (j - length s.families) [] (omega (arith, ap length g.families, length-append s.families g.added)))))
-      split
+    (λ l. inl (suc (suc j), omega arith, omega (arith, l), sym (kept P s t (suc (suc j)) g (omega (arith, l)))))
+    (λ l. let e : get_or t.families j [] ≡ get_or g.added (j - length s.families) [] = ap (λ x. get_or x j []) g.families ∙ get_or-append_right s.families g.added (length s.families) j [] refl l in
+    inr (subst P (sym e) (g.all (j - length s.families) [] (omega (arith, ap length g.families, length-append s.families g.added)))))
+    split
 
 pub more_than_limit : (P : Family → Type 0) (made : Family) (s t : Stored) (r : Result NodeId NodeFault) → Draws P made s t r → r ≡ Err Full → IsMoreThan s.limit (λ h. IsStored h s ⊎ P h)
 more_than_limit P made s t r d e =

@@ -1,5 +1,5 @@
 -- Lists that grow by one item, and families by their numbers.
-use Rattle.std.proofs.Common.{◌≡◌, ◌≢◌, ℕ, zero, suc, ◌+◌, ◌<◌, List, [], ◌∷◌, ◌++◌, length, get_or, slice_get, Some, refl, sym, ap, ◌∙◌, subst, arith, ⊎_elim, ◌⊎◌, inl, inr}
+use Rattle.std.proofs.Common.{◌≡◌, ◌≢◌, ℕ, zero, suc, ◌+◌, ◌<◌, List, [], ◌∷◌, ◌++◌, length, slice_get, Some, refl, sym, ap, ◌∙◌, subst, arith, ⊎_elim, ◌⊎◌, inl, inr}
 use Rattle.std.proofs.Math.ListN.{get_or-append}
 use Rattle.std.proofs.Math.Seq.{get_or-append_seam}
 use Rattle.std.proofs.lemmas.Option.{slice_get-get_or}
@@ -24,11 +24,13 @@ slice_get-push_before (y ∷ xs) x zero m e = e
 slice_get-push_before (y ∷ xs) x (suc k) m e = slice_get-push_before xs x k m e
 
 pub AreDifferent-push : {A : Type 0} (xs : List A) (x : A) → AreDifferent xs → ((k : ℕ) → slice_get xs k ≡ Some x → ⊥) → AreDifferent (xs ++ x ∷ [])
-AreDifferent-push xs x d lacks = record { one = λ m n a p q.
-    ⊎_elim
+AreDifferent-push xs x d lacks = record {
+  one = λ m n a p q.
+      ⊎_elim
       (λ l. ⊎_elim (λ r. d.one m n a l r) (λ t. absurd (lacks m (l ∙ ap Some t.1))) (slice_get-push_cases xs x n a q))
       (λ s. ⊎_elim (λ r. absurd (lacks n (r ∙ ap Some s.1))) (λ t. s.0 ∙ sym t.0) (slice_get-push_cases xs x n a q))
-      (slice_get-push_cases xs x m a p) }
+      (slice_get-push_cases xs x m a p);
+}
 
 pub in_all : (fs : List Family) (n : ℕ) → n < length fs + 2 → n < length (all_of fs)
 in_all fs n h = omega (arith, h)

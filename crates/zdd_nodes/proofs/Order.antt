@@ -1,5 +1,5 @@
 -- A node's family is kept in order.
-use Rattle.std.proofs.Common.{◌≡◌, ℕ, ◌<◌, Bool, true, false, cond, eqb, List, [], ◌∷◌, map, refl, ap, ap₂, ◌∙◌, arith, eq-eqb, nat_lt, lt-ltb, Less, Equal, Greater}
+use Rattle.std.proofs.Common.{◌≡◌, ℕ, ◌<◌, false, cond, eqb, List, [], ◌∷◌, map, refl, ap, ap₂, ◌∙◌, arith, eq-eqb, nat_lt, lt-ltb, Less, Equal, Greater}
 use Rattle.std.specs.List.{AllByRecursion}
 use Rattle.std.specs.Ordering.{ordering_then}
 use Rattle.std.proofs.lemmas.Bool.Decides.{nat_tests}

@@ -1,5 +1,5 @@
 -- A store keeps what it keeps when a node is added.
-use Rattle.std.proofs.Common.{◌≡◌, ◌≢◌, ℕ, zero, suc, ◌+◌, ◌-◌, ◌<◌, ◌≤◌, Bool, true, false, cond, ◌&&◌, eqb, List, [], ◌∷◌, ◌++◌, length, get_or, slice_get, Option, Some, None, refl, sym, ap, ◌∙◌, subst, arith, lt_trans, length-append, ⊎_elim, ◌⊎◌, eqb-true, eq-eqb}
+use Rattle.std.proofs.Common.{◌≡◌, ◌≢◌, ℕ, zero, suc, ◌+◌, ◌-◌, ◌<◌, ◌≤◌, Bool, true, false, cond, ◌&&◌, eqb, List, [], ◌∷◌, ◌++◌, length, get_or, slice_get, Some, None, refl, sym, ap, ◌∙◌, subst, arith, length-append, ⊎_elim, ◌⊎◌, eqb-true, eq-eqb}
 use Rattle.std.specs.Map.{lookup}
 use Rattle.std.proofs.lemmas.Bool.{and_parts}
 use Rattle.std.proofs.lemmas.Option.{slice_get_within, slice_get-get_or, get_or_from_slice_get}
@@ -39,14 +39,14 @@ different-new : AreDifferent (all_of (families_of []))
 unfolding families_of
 different-new = record { one = two }
   where
-  two : (m n : ℕ) (a : Family) → slice_get (all_of []) m ≡ Some a → slice_get (all_of []) n ≡ Some a → m ≡ n
-  two zero zero a p q = refl
-  two zero (suc zero) a p q = let e : ⊥ = cc in absurd e
-  two zero (suc (suc n)) a p q = let e : ⊥ = cc in absurd e
-  two (suc zero) zero a p q = let e : ⊥ = cc in absurd e
-  two (suc zero) (suc zero) a p q = refl
-  two (suc zero) (suc (suc n)) a p q = let e : ⊥ = cc in absurd e
-  two (suc (suc m)) n a p q = let e : ⊥ = cc in absurd e
+    two : (m n : ℕ) (a : Family) → slice_get (all_of []) m ≡ Some a → slice_get (all_of []) n ≡ Some a → m ≡ n
+    two zero zero a p q = refl
+    two zero (suc zero) a p q = let e : ⊥ = cc in absurd e
+    two zero (suc (suc n)) a p q = let e : ⊥ = cc in absurd e
+    two (suc zero) zero a p q = let e : ⊥ = cc in absurd e
+    two (suc zero) (suc zero) a p q = refl
+    two (suc zero) (suc (suc n)) a p q = let e : ⊥ = cc in absurd e
+    two (suc (suc m)) n a p q = let e : ⊥ = cc in absurd e
 
 pub IsStore-new : (limit : ℕ) → limit ≤ 16777216 → IsStore [] [] limit
 IsStore-new limit h = record {
@@ -80,7 +80,9 @@ IsNode-more fs gs k v lo hi h e p q z a b =
     let el = at-append fs gs lo (omega arith) in
     let eh = at-append fs gs hi (omega arith) in
     record {
-      lo_before = p; hi_before = q; hi_some = λ x. z (sym eh ∙ x);
+      lo_before = p;
+      hi_before = q;
+      hi_some = λ x. z (sym eh ∙ x);
       lo_above = subst (IsAbove v) (sym el) a;
       hi_above = subst (IsAbove v) (sym eh) b;
       is = e ∙ ap (λ x. node v x (at fs hi)) (sym el) ∙ ap (λ x. node v (at (fs ++ gs) lo) x) (sym eh);
@@ -153,25 +155,27 @@ module _ (nodes : List Node) (index : List (Node × NodeId)) (limit : ℕ) (n : 
     listed_old k m l false e = let t = s.listed k m l in (t.0, updates m ∙ ap (λ b. cond b (Some number) (lookup (node_eq m) index)) e ∙ t.1, t.2)
 
     listed_new : (k : ℕ) (m : Node) → (k ≡ length nodes) × (m ≡ n) → (x : NodeId) × (lookup (node_eq m) index2 ≡ Some x) × (x.n ≡ k + 2)
-    listed_new k m t = (number,
-        updates m ∙ ap (λ z. cond (node_eq n z) (Some number) (lookup (node_eq m) index)) t.1 ∙ ap (λ b. cond b (Some number) (lookup (node_eq m) index)) (node_eq-refl n),
-        number_is ∙ ap (λ x. x + 2) (sym t.0))
+    listed_new k m t = (
+      number,
+      updates m ∙ ap (λ z. cond (node_eq n z) (Some number) (lookup (node_eq m) index)) t.1 ∙ ap (λ b. cond b (Some number) (lookup (node_eq m) index)) (node_eq-refl n),
+      number_is ∙ ap (λ x. x + 2) (sym t.0),
+    )
 
     each_new : (k : ℕ) (m : Node) → (k ≡ length nodes) × (m ≡ n) → IsNode (fs ++ made fs n ∷ []) (k + 2) m.event.n m.lo.n m.hi.n
     each_new k m t =
         let kl : k + 2 ≡ length fs + 2 = omega (arith, length-families nodes, t.0) in
         subst (λ x. IsNode (fs ++ made fs n ∷ []) (k + 2) x.event.n x.lo.n x.hi.n) (sym t.1)
-            (IsNode-more fs (made fs n ∷ []) (k + 2) n.event.n n.lo.n n.hi.n (omega arith) (ap (at (fs ++ made fs n ∷ [])) kl ∙ at-seam fs (made fs n)) (omega (arith, c.lo_in)) (omega (arith, c.hi_in)) hi_sets c.lo_above c.hi_above)
+        (IsNode-more fs (made fs n ∷ []) (k + 2) n.event.n n.lo.n n.hi.n (omega arith) (ap (at (fs ++ made fs n ∷ [])) kl ∙ at-seam fs (made fs n)) (omega (arith, c.lo_in)) (omega (arith, c.hi_in)) hi_sets c.lo_above c.hi_above)
 
     families_after : (k : ℕ) → k < length (nodes ++ n ∷ []) + 2 → IsFamily (at (fs ++ made fs n ∷ []) k)
     families_after k h =
         let long = length-families nodes in
         let split : (k < length fs + 2) ⊎ (k ≡ length fs + 2) = let x = length-append nodes (n ∷ []) in grind arith in
         ⊎_elim
-          (λ l. subst IsFamily (sym (at-append fs (made fs n ∷ []) k l)) (s.families k (omega arith)))
-          (λ e. subst IsFamily (sym (ap (at (fs ++ made fs n ∷ [])) e ∙ at-seam fs (made fs n)))
-              (IsFamily-node n.event.n (at fs n.lo.n) (at fs n.hi.n) c.lo_above c.hi_above (s.families n.lo.n (omega (arith, c.lo_in))) (s.families n.hi.n (omega (arith, c.hi_in)))))
-          split
+        (λ l. subst IsFamily (sym (at-append fs (made fs n ∷ []) k l)) (s.families k (omega arith)))
+        (λ e. subst IsFamily (sym (ap (at (fs ++ made fs n ∷ [])) e ∙ at-seam fs (made fs n)))
+        (IsFamily-node n.event.n (at fs n.lo.n) (at fs n.hi.n) c.lo_above c.hi_above (s.families n.lo.n (omega (arith, c.lo_in))) (s.families n.hi.n (omega (arith, c.hi_in)))))
+        split
 
     different_after : AreDifferent (all_of (fs ++ made fs n ∷ []))
     different_after = AreDifferent-push (all_of fs) (made fs n) s.different
@@ -183,9 +187,9 @@ module _ (nodes : List Node) (index : List (Node × NodeId)) (limit : ℕ) (n : 
         let long = length-families nodes in
         record {
           each = λ k m h. subst (λ gs. IsNode gs (k + 2) m.event.n m.lo.n m.hi.n) (sym e) (⊎_elim
-            (λ l. let k_in = slice_get_within nodes k m l in IsNode-grow fs (made fs n ∷ []) (k + 2) m.event.n m.lo.n m.hi.n (omega (arith, long)) (s.each k m l))
-            (each_new k m)
-            (slice_get-push_cases nodes n k m h));
+              (λ l. let k_in = slice_get_within nodes k m l in IsNode-grow fs (made fs n ∷ []) (k + 2) m.event.n m.lo.n m.hi.n (omega (arith, long)) (s.each k m l))
+              (each_new k m)
+              (slice_get-push_cases nodes n k m h));
           families = λ k h. subst (λ gs. IsFamily (at gs k)) (sym e) (families_after k h);
           different = subst (λ gs. AreDifferent (all_of gs)) (sym e) different_after;
           found = λ k m h. found_after k m h (node_eq n k) refl;

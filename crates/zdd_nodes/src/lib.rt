@@ -148,7 +148,10 @@ mod tests {
         let first = EventId::new(0);
         assert_eq!(rt; store.node(first, none, unit), Ok(NodeId::new(2)));
         assert_eq!(rt; store.node(first, none, unit), Ok(NodeId::new(2)));
-        assert_eq!(rt; store.node(EventId::new(1), none, unit), Err(NodeFault::Full));
+        assert_eq!(rt;
+            store.node(EventId::new(1), none, unit),
+            Err(NodeFault::Full)
+        );
         assert_eq!(rt; store.node(EventId::new(1), unit, none), Ok(unit));
         assert_eq!(rt; store.len(), 1);
         assert_eq!(rt; store.split(unit), None);

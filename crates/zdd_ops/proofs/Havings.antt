@@ -1,12 +1,12 @@
 -- The sets with an event, by halves.
-use Rattle.std.proofs.Common.{◌≡◌, ℕ, zero, suc, ◌+◌, ◌<◌, false, eqb, List, [], length, Result, Ok, refl, sym, ap, ap₂, ◌∙◌, subst, arith, lt_trans}
+use Rattle.std.proofs.Common.{◌≡◌, ℕ, zero, suc, ◌<◌, false, eqb, List, [], Result, refl, sym, ap, ap₂, ◌∙◌, subst, arith, lt_trans}
 use Rattle.zdd_families.specs.Families.{Family, node, IsAbove, having}
 use Rattle.zdd_families.specs.Sections.{IsCounted, IsMade}
 use Rattle.zdd_families.proofs.Laws.{having-above, having-here, having-node, IsAbove-having, IsAbove-node}
 use Rattle.zdd_families.proofs.Sections.{IsCounted-lower, IsCounted-upper}
 use Rattle.zdd_nodes.specs.Nodes.{NodeId, Stored, at, family, IsNumber, IsNode, Grows, Draws}
 use Rattle.zdd_nodes.specs.declared.NodeFault.{NodeFault}
-use Rattle.zdd_nodes.proofs.Growing.{Draws-weaker, Draws-stays, counted_made}
+use Rattle.zdd_nodes.proofs.Growing.{Draws-weaker, counted_made}
 use Rattle.zdd_nodes.proofs.Halved.{Halved, moved}
 
 pub having_small : (fs : List Family) (f e : ℕ) → f < 2 → [] ≡ having (at fs f) e
@@ -28,7 +28,7 @@ module _ (s0 : Stored) (f e v lo hi : ℕ) (i : IsNode s0.families f v lo hi) (f
   pub having_first : (t : Stored) (r : Result NodeId NodeFault) (none : ℕ) → none ≡ 0 → e ≡ v → (let made = node e (family s0 none) (fam hi) in Draws (IsMade made) made s0 t r) → Draws (IsCounted Made) Made s0 t r
   having_first t r none z q d =
       let m : node e (family s0 none) (fam hi) ≡ Made =
-          ap₂ (λ w k. node w (family s0 k) (fam hi)) q z ∙ sym (ap (having (fam f)) q ∙ ap (λ x. having x v) i.is ∙ having-here v (fam lo) (fam hi) i.lo_above) in
+      ap₂ (λ w k. node w (family s0 k) (fam hi)) q z ∙ sym (ap (having (fam f)) q ∙ ap (λ x. having x v) i.is ∙ having-here v (fam lo) (fam hi) i.lo_above) in
       Draws-weaker (IsMade Made) (IsCounted Made) Made s0 t r (counted_made Made) (subst (λ x. Draws (IsMade x) x s0 t r) m d)
 
   module _ (other : eqb e v ≡ false) where

@@ -1,10 +1,10 @@
 -- The results that are held stay right.
-use Rattle.std.proofs.Common.{◌≡◌, ℕ, ◌+◌, ◌<◌, ◌≤◌, Bool, true, false, cond, ◌&&◌, eqb, List, [], ◌∷◌, length, Option, Some, None, Result, Ok, Err, OnOk, OnErr, refl, sym, ap, ap₂, ◌∙◌, subst, arith, ⊎_elim, ◌⊎◌, inl, inr, eqb-true}
+use Rattle.std.proofs.Common.{◌≡◌, ℕ, ◌+◌, ◌<◌, Bool, true, false, cond, ◌&&◌, eqb, List, [], ◌∷◌, length, Some, Result, Ok, Err, OnOk, OnErr, refl, sym, ap, ap₂, ◌∙◌, subst, ⊎_elim, ◌⊎◌, inl, inr, eqb-true}
 use Rattle.std.proofs.lemmas.Bool.{and_parts}
 use Rattle.std.specs.Map.{lookup}
 use Rattle.ar_base.specs.declared.numbers.Id.{Id}
 use Rattle.zdd_families.specs.Families.{Family, having, without, minimal}
-use Rattle.zdd_nodes.specs.Nodes.{NodeId, Stored, at, family, IsNumber, Grows}
+use Rattle.zdd_nodes.specs.Nodes.{NodeId, Stored, at, Grows}
 use Rattle.zdd_nodes.proofs.Growing.{kept, still}
 use Rattle.zdd_ops.specs.declared.memo.Join.{Join}
 use Rattle.zdd_ops.specs.declared.memo.Join.TheVariants.{Union, Meet, Minus}
@@ -72,18 +72,20 @@ pub IsSound-remember : (P Q : Family → Type 0) (s t u : Stored) (k : Operation
     → (n.n < length u.families + 2) × (at u.families n.n ≡ result_of s.families k) → Remembers k n old new → IsSound new u.families
 IsSound-remember P Q s t u k n old new a numbers b sound is r =
     let here : IsResult u.families k n.n = record { operands = numbers-grow P s u k a numbers; in_store = is.0; is = is.1 ∙ sym (result-grow P s u k a numbers) } in
-    record { each = λ q m h. ⊎_elim
-      (λ l. (IsSound-grow Q t u old b sound).each q m l)
-      (λ x. subst (λ y. IsResult u.families y m.n) (operation_same k q x.0) (subst (λ y. IsResult u.families k y.n) (sym x.1) here))
-      (r.each q m h) }
+    record {
+      each = λ q m h. ⊎_elim
+          (λ l. (IsSound-grow Q t u old b sound).each q m l)
+          (λ x. subst (λ y. IsResult u.families y m.n) (operation_same k q x.0) (subst (λ y. IsResult u.families k y.n) (sym x.1) here))
+          (r.each q m h);
+    }
 
 -- ---- one entry more
 remember_ok : (k : Operation) (n : NodeId) (old new : List (Operation × NodeId)) → ((q : Operation) → lookup (operation_eq q) new ≡ cond (operation_eq k q) (Some n) (lookup (operation_eq q) old)) → Remembers k n old new
 remember_ok k n old new u = record { each = λ q m h. step q m h (operation_eq k q) refl }
   where
-  step : (q : Operation) (m : NodeId) → lookup (operation_eq q) new ≡ Some m → (b : Bool) → operation_eq k q ≡ b → (lookup (operation_eq q) old ≡ Some m) ⊎ ((operation_eq k q ≡ true) × (m ≡ n))
-  step q m h true e = let w : Some n ≡ Some m = ap (λ b. cond b (Some n) (lookup (operation_eq q) old)) (sym e) ∙ sym (u q) ∙ h in let nm : m ≡ n = cc in inr (e, nm)
-  step q m h false e = inl (ap (λ b. cond b (Some n) (lookup (operation_eq q) old)) (sym e) ∙ sym (u q) ∙ h)
+    step : (q : Operation) (m : NodeId) → lookup (operation_eq q) new ≡ Some m → (b : Bool) → operation_eq k q ≡ b → (lookup (operation_eq q) old ≡ Some m) ⊎ ((operation_eq k q ≡ true) × (m ≡ n))
+    step q m h true e = let w : Some n ≡ Some m = ap (λ b. cond b (Some n) (lookup (operation_eq q) old)) (sym e) ∙ sym (u q) ∙ h in let nm : m ≡ n = cc in inr (e, nm)
+    step q m h false e = inl (ap (λ b. cond b (Some n) (lookup (operation_eq q) old)) (sym e) ∙ sym (u q) ∙ h)
 
 remember_same : (k : Operation) (n : NodeId) (old new : List (Operation × NodeId)) → new ≡ old → Remembers k n old new
 remember_same k n old new e = record { each = λ q m h. inl (ap (lookup (operation_eq q)) (sym e) ∙ h) }
@@ -95,8 +97,8 @@ remember_after U (Err x) k n old new u e f = remember_same k n old new e
 pub remember_from : (k : Operation) (n : NodeId) (old mid new : List (Operation × NodeId)) → (mid ≡ old) ⊎ (mid ≡ []) → Remembers k n mid new → Remembers k n old new
 remember_from k n old mid new e r = record { each = λ q m h. ⊎_elim (λ l. inl (back q m l)) (λ t. inr t) (r.each q m h) }
   where
-  back : (q : Operation) (m : NodeId) → lookup (operation_eq q) mid ≡ Some m → lookup (operation_eq q) old ≡ Some m
-  back q m l = ⊎_elim (λ x. ap (lookup (operation_eq q)) (sym x) ∙ l) (λ x. let y : lookup (operation_eq q) [] ≡ Some m = ap (lookup (operation_eq q)) (sym x) ∙ l in cc) e
+    back : (q : Operation) (m : NodeId) → lookup (operation_eq q) mid ≡ Some m → lookup (operation_eq q) old ≡ Some m
+    back q m l = ⊎_elim (λ x. ap (lookup (operation_eq q)) (sym x) ∙ l) (λ x. let y : lookup (operation_eq q) [] ≡ Some m = ap (lookup (operation_eq q)) (sym x) ∙ l in cc) e
 
 -- ---- the derived `==` of operations
 and_true : (b : Bool) → (b && true) ≡ b

@@ -1,5 +1,5 @@
 -- The joins by halves.
-use Rattle.std.proofs.Common.{◌≡◌, ℕ, ◌+◌, ◌<◌, List, [], length, Result, Ok, Err, refl, sym, ap, ap₂, ◌∙◌, subst, arith, ⊎_elim, ◌⊎◌}
+use Rattle.std.proofs.Common.{◌≡◌, ℕ, [], Result, sym, ap, ap₂, ◌∙◌, subst, arith, ⊎_elim, ◌⊎◌}
 use Rattle.zdd_families.specs.Families.{Family, node, IsAbove, union, meet, minus, without}
 use Rattle.zdd_families.specs.Sections.{IsCounted}
 use Rattle.zdd_families.proofs.Laws.{union-node, meet-node, minus-node, IsAbove-union, IsAbove-meet, IsAbove-minus, union-nil, union-self, meet-self, meet-nil, nil-meet, minus-nil, nil-minus, minus-self, nil-without, without-nil, without-self}
@@ -64,33 +64,45 @@ unfolding union
 nil_union x y e = ap (λ w. union w y) (sym e)
 
 pub union_g : (f g : ℕ) → (f ≡ 0) ⊎ (f ≡ g) → IsKnown union f g g
-union_g f g e fs h l = (l, ⊎_elim
-    (λ a. nil_union (at fs f) (at fs g) (ap (at fs) a))
-    (λ a. sym (ap (λ x. union x (at fs g)) (ap (at fs) a) ∙ union-self (at fs g))) e)
+union_g f g e fs h l = (
+  l,
+  ⊎_elim
+      (λ a. nil_union (at fs f) (at fs g) (ap (at fs) a))
+      (λ a. sym (ap (λ x. union x (at fs g)) (ap (at fs) a) ∙ union-self (at fs g))) e,
+)
 
 pub union_f : (f g : ℕ) → g ≡ 0 → IsKnown union f g f
 union_f f g e fs h l = (h, sym (ap (union (at fs f)) (ap (at fs) e) ∙ union-nil (at fs f)))
 
 pub meet_none : (f g n : ℕ) → n ≡ 0 → (f ≡ 0) ⊎ (g ≡ 0) → IsKnown meet f g n
-meet_none f g n z e fs h l = (omega arith, ap (at fs) z ∙ ⊎_elim
-    (λ a. sym (ap (λ x. meet x (at fs g)) (ap (at fs) a) ∙ nil-meet (at fs g)))
-    (λ a. sym (ap (meet (at fs f)) (ap (at fs) a) ∙ meet-nil (at fs f))) e)
+meet_none f g n z e fs h l = (
+  omega arith,
+  ap (at fs) z ∙ ⊎_elim
+      (λ a. sym (ap (λ x. meet x (at fs g)) (ap (at fs) a) ∙ nil-meet (at fs g)))
+      (λ a. sym (ap (meet (at fs f)) (ap (at fs) a) ∙ meet-nil (at fs f))) e,
+)
 
 pub meet_f : (f g : ℕ) → f ≡ g → IsKnown meet f g f
 meet_f f g e fs h l = (h, sym (ap (meet (at fs f)) (ap (at fs) (sym e)) ∙ meet-self (at fs f)))
 
 pub minus_none : (f g n : ℕ) → n ≡ 0 → (f ≡ 0) ⊎ (f ≡ g) → IsKnown minus f g n
-minus_none f g n z e fs h l = (omega arith, ap (at fs) z ∙ ⊎_elim
-    (λ a. sym (ap (λ x. minus x (at fs g)) (ap (at fs) a) ∙ nil-minus (at fs g)))
-    (λ a. sym (ap (minus (at fs f)) (ap (at fs) (sym a)) ∙ minus-self (at fs f))) e)
+minus_none f g n z e fs h l = (
+  omega arith,
+  ap (at fs) z ∙ ⊎_elim
+      (λ a. sym (ap (λ x. minus x (at fs g)) (ap (at fs) a) ∙ nil-minus (at fs g)))
+      (λ a. sym (ap (minus (at fs f)) (ap (at fs) (sym a)) ∙ minus-self (at fs f))) e,
+)
 
 pub minus_f : (f g : ℕ) → g ≡ 0 → IsKnown minus f g f
 minus_f f g e fs h l = (h, sym (ap (minus (at fs f)) (ap (at fs) e) ∙ minus-nil (at fs f)))
 
 pub without_f : (f g : ℕ) → (f ≡ 0) ⊎ (g ≡ 0) → IsKnown without f g f
-without_f f g e fs h l = (h, ⊎_elim
-    (λ a. ap (at fs) a ∙ sym (ap (λ y. without y (at fs g)) (ap (at fs) a) ∙ nil-without (at fs g)))
-    (λ a. sym (ap (without (at fs f)) (ap (at fs) a) ∙ without-nil (at fs f))) e)
+without_f f g e fs h l = (
+  h,
+  ⊎_elim
+      (λ a. ap (at fs) a ∙ sym (ap (λ y. without y (at fs g)) (ap (at fs) a) ∙ nil-without (at fs g)))
+      (λ a. sym (ap (without (at fs f)) (ap (at fs) a) ∙ without-nil (at fs f))) e,
+)
 
 pub without_none : (f g n : ℕ) → n ≡ 0 → f ≡ g → IsKnown without f g n
 without_none f g n z e fs h l = (omega arith, ap (at fs) z ∙ sym (ap (without (at fs f)) (ap (at fs) (sym e)) ∙ without-self (at fs f)))

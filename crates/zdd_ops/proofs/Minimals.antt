@@ -1,7 +1,7 @@
 -- The minimal sets, by halves.
-use Rattle.std.proofs.Common.{◌≡◌, ◌≢◌, ℕ, zero, suc, ◌+◌, ◌<◌, List, [], ◌∷◌, length, Result, Ok, refl, sym, ap, ap₂, ◌∙◌, subst, arith, lt_trans}
+use Rattle.std.proofs.Common.{◌≡◌, ℕ, zero, suc, ◌<◌, List, Result, Ok, sym, ap, ◌∙◌, subst, arith, lt_trans}
 use Rattle.std.specs.List.{AllByRecursion}
-use Rattle.zdd_families.specs.Families.{Family, node, IsAbove, IsAscending, minimal, without}
+use Rattle.zdd_families.specs.Families.{Family, node, IsAscending, minimal, without}
 use Rattle.zdd_families.specs.Sections.{IsCounted, IsPart, IsHalf}
 use Rattle.zdd_families.proofs.Laws.{minimal-nil, minimal-unit, IsAbove-minimal, IsAbove-without}
 use Rattle.zdd_families.proofs.Minimal.{minimal-node}
@@ -63,4 +63,4 @@ module _ (s0 : Stored) (f v lo hi : ℕ) (i : IsNode s0.families f v lo hi) (f_i
         let low_is = kept Q s1 s2 low.n du.grows dl.ok.0 ∙ dl.ok.1 in
         let e = subst (λ x. Draws (IsPart x Lower) (without x Lower) s2 s3 r) du.ok.1 (subst (λ y. Draws (IsPart (family s2 up.n) y) (without (family s2 up.n) y) s2 s3 r) low_is d) in
         Draws-after Q (without Above Lower) s1 s2 s3 r du.grows
-            (Draws-weaker (IsPart Above Lower) Q (without Above Lower) s2 s3 r (λ h x. to_f h (half_parts v (fam lo) (fam hi) i.lo_above i.hi_above i.hi_some h x)) e)
+        (Draws-weaker (IsPart Above Lower) Q (without Above Lower) s2 s3 r (λ h x. to_f h (half_parts v (fam lo) (fam hi) i.lo_above i.hi_above i.hi_some h x)) e)

@@ -1,7 +1,7 @@
 -- The sets that contain no set of another family, by halves.
 use Rattle.std.proofs.Common.{◌≡◌, ℕ, Result, Ok, sym, ap₂, ◌∙◌, subst}
 use Rattle.zdd_families.specs.Families.{Family, node, IsAbove, meet, without}
-use Rattle.zdd_families.specs.Sections.{IsCounted, IsPart, IsMade}
+use Rattle.zdd_families.specs.Sections.{IsCounted, IsPart}
 use Rattle.zdd_families.proofs.Laws.{without-node, IsAbove-without, IsAbove-meet}
 use Rattle.zdd_families.proofs.Sections.{IsCounted-upper, IsPart-00, IsPart-10, IsPart-11, IsPart-whole}
 use Rattle.zdd_nodes.specs.Nodes.{NodeId, Stored, family, IsNumber, Grows, Draws}
@@ -72,4 +72,4 @@ module _ (s0 : Stored) (f g : ℕ) (cut : Cut) (c : IsCut s0.families f g cut) w
     without_upper s4 r d =
         let e = ap₂ meet (kept Q s2 s3 a.n db.grows da.ok.0 ∙ da.ok.1) db.ok.1 in
         Draws-after Q (meet First Second) s1 s3 s4 r (Grows-then Q s1 s2 s3 da.grows db.grows)
-            (Draws-weaker (IsCounted (meet First Second)) Q (meet First Second) s3 s4 r in_meet (subst (λ m. Draws (IsCounted m) m s3 s4 r) e d))
+        (Draws-weaker (IsCounted (meet First Second)) Q (meet First Second) s3 s4 r in_meet (subst (λ m. Draws (IsCounted m) m s3 s4 r) e d))

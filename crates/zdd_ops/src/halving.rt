@@ -61,7 +61,13 @@ fn known_without(f: NodeId, g: NodeId) -> Option<NodeId>
 }
 
 /// The join of two families.
-pub fn join_in(store: &mut Store, memo: &mut Memo, join: Join, f: NodeId, g: NodeId) -> Result<NodeId, NodeFault>
+pub fn join_in(
+    store: &mut Store,
+    memo: &mut Memo,
+    join: Join,
+    f: NodeId,
+    g: NodeId,
+) -> Result<NodeId, NodeFault>
     requires f_in { IsNumber store.old f.n }
     requires g_in { IsNumber store.old g.n }
     requires sound { IsSound memo.old store.old.families }
@@ -86,7 +92,12 @@ pub fn join_in(store: &mut Store, memo: &mut Memo, join: Join, f: NodeId, g: Nod
 
 /// The sets of f that contain no set of g. Of the sets with the least event those count that contain neither a set
 /// of g without it nor one with it, each of them taken off.
-pub fn without_in(store: &mut Store, memo: &mut Memo, f: NodeId, g: NodeId) -> Result<NodeId, NodeFault>
+pub fn without_in(
+    store: &mut Store,
+    memo: &mut Memo,
+    f: NodeId,
+    g: NodeId,
+) -> Result<NodeId, NodeFault>
     requires f_in { IsNumber store.old f.n }
     requires g_in { IsNumber store.old g.n }
     requires sound { IsSound memo.old store.old.families }
@@ -111,7 +122,12 @@ pub fn without_in(store: &mut Store, memo: &mut Memo, f: NodeId, g: NodeId) -> R
 }
 
 /// The sets of f with the event.
-pub fn having_in(store: &mut Store, memo: &mut Memo, f: NodeId, event: EventId) -> Result<NodeId, NodeFault>
+pub fn having_in(
+    store: &mut Store,
+    memo: &mut Memo,
+    f: NodeId,
+    event: EventId,
+) -> Result<NodeId, NodeFault>
     requires f_in { IsNumber store.old f.n }
     requires sound { IsSound memo.old store.old.families }
     ensures sound { IsSound memo.new store.new.families }

@@ -6,8 +6,8 @@ ghost use Rattle.zdd_nodes.specs.Nodes.{family, IsNumber};
 
 use crate::Ops;
 use ar_base::EventId;
-use zdd_nodes::{NodeFault, NodeId};
 use std::test::Fail;
+use zdd_nodes::{NodeFault, NodeId};
 
 #[test]
 fn answers_full_as_the_store_does(rt: HostRuntime) -> Result<(), Fail> {

@@ -1,4 +1,4 @@
-use Rattle.std.proofs.Common.{ap, ◌∙◌, refl}
+use Rattle.std.proofs.Common.{refl}
 use Rattle.zdd_nodes.specs.Kept.{families_of}
 use Rattle.zdd_nodes.proofs.Stored.{IsStore-new}
 use Rattle.zdd_nodes.proofs.Calls.{IsStore-same}

@@ -1,13 +1,9 @@
-use Rattle.std.proofs.Common.{arith, ◌≡◌, ◌<◌, ℕ, ◌+◌, ◌++◌, ◌∷◌, [], length, Some, None, sym, ap, ◌∙◌, subst, Result, Ok, Err, cond, is_err, false, refl}
-use Rattle.std.specs.Map.{lookup}
-use Rattle.ar_base.specs.declared.numbers.Id.{Id}
+use Rattle.std.proofs.Common.{arith, ◌≡◌, ◌+◌, ◌++◌, ◌∷◌, [], length, sym, ap, ◌∙◌, cond, refl}
 use Rattle.zdd_families.specs.Sections.{IsMade}
-use Rattle.zdd_nodes.specs.Nodes.{NodeId, IsSoundStore, Stored}
 use Rattle.zdd_nodes.specs.Nodes.Makes.{known}
-use Rattle.zdd_nodes.specs.Kept.{node_eq}
 use Rattle.zdd_nodes.specs.declared.Node.{Node}
 use Rattle.zdd_nodes.proofs.Stored.{IsCall}
-use Rattle.zdd_nodes.proofs.Calls.{asked, sound_seen, Numbers, number_of_lo, number_found, no_room_not, no_room, is_full, room_left, makes_new, draws_new, store_new, IsStore-same, from_ok, ok_from_not_err, not_ok, popped_same, derived_lookup, derived_updates}
+use Rattle.zdd_nodes.proofs.Calls.{asked, sound_seen, number_of_lo, number_found, no_room_not, no_room, is_full, room_left, makes_new, draws_new, store_new, IsStore-same, from_ok, ok_from_not_err, not_ok, popped_same, derived_lookup, derived_updates}
 use Rattle.zdd_nodes.proofs.Growing.{Draws-stays, Draws-full}
 use Rattle.zdd_nodes.proofs.Store.node.Goals as goal
 

@@ -1,4 +1,4 @@
-use Rattle.std.proofs.Common.{◌≡◌, Ok, Err, Result, ℕ, subst, sym, ap, ◌∙◌, ne_eqb, arith, length}
+use Rattle.std.proofs.Common.{Ok, sym, ap, ◌∙◌, ne_eqb, arith}
 use Rattle.std.proofs.lemmas.Result.{err_from_is_err_and}
 use Rattle.zdd_nodes.proofs.Growing.{Draws-stays, Draws-refused, Draws-after}
 use Rattle.zdd_nodes.proofs.Halved.{lo_above, hi_above, done}

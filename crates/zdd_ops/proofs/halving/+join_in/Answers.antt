@@ -1,8 +1,8 @@
-use Rattle.std.proofs.Common.{◌≡◌, Ok, Err, Result, ℕ, subst, sym, ap, ◌∙◌}
+use Rattle.std.proofs.Common.{Ok, sym, ◌∙◌}
 use Rattle.std.proofs.lemmas.Result.{err_from_is_err_and}
 use Rattle.zdd_nodes.proofs.Growing.{Draws-stays, Draws-refused, Draws-after}
 use Rattle.zdd_nodes.proofs.Halved.{lo_above, hi_above, done}
-use Rattle.zdd_ops.proofs.Held.{IsSound-grow, IsSound-remember}
+use Rattle.zdd_ops.proofs.Held.{IsSound-remember}
 use Rattle.zdd_ops.specs.declared.memo.Operation.TheVariants.{Joined}
 use Rattle.zdd_ops.proofs.Joins.{join_halved, join_lower, join_upper}
 use Rattle.zdd_ops.proofs.halving.+join_in.Goals as goal

@@ -12,7 +12,7 @@ IsAbove_set v s = AllByRecursion (λ x. v < x) s
 pub eqb-refl : (x : ℕ) → eqb x x ≡ true
 eqb-refl x = eq-eqb x x refl
 
-eqb-above : (v x : ℕ) → v < x → eqb v x ≡ false
+pub eqb-above : (v x : ℕ) → v < x → eqb v x ≡ false
 eqb-above v x h = ne_eqb v x (λ e. lt_irrefl v (subst (λ y. v < y) (sym e) h))
 
 eqb-below : (v x : ℕ) → v < x → eqb x v ≡ false

@@ -1,0 +1,6 @@
+pub mod Laws
+pub mod Sections
+pub mod Minimal
+pub mod Halves
+pub mod Gates
+pub mod Members

@@ -1,0 +1,6 @@
+mod Joins
+mod Cutting
+mod Held
+mod Withouts
+mod Havings
+mod Minimals

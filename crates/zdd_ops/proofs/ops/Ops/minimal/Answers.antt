@@ -1,0 +1,11 @@
+use Rattle.std.proofs.Common.{◌≡◌, Err, subst, ◌⊎◌}
+use Rattle.zdd_families.specs.Sections.{IsMoreThan, IsHalf}
+use Rattle.zdd_nodes.specs.Nodes.{family, Stored, IsStored}
+use Rattle.zdd_nodes.specs.declared.NodeFault.TheVariants.{Full}
+use Rattle.zdd_nodes.proofs.Limits.{more_than_limit}
+use Rattle.zdd_ops.proofs.ops.Ops.minimal.Goals as goal
+
+pub returns-clause-full : goal.returns-clause-full
+returns-clause-full c =
+    subst (λ (v : Stored). c.minimal_in.result ≡ Err Full → IsMoreThan v.limit (λ h. IsStored h v ⊎ IsHalf (family v c.args.f.n) h)) c.self.view_is
+    (more_than_limit _ _ c.self.inside.store c.minimal_in.new.store c.minimal_in.result c.minimal_in.ensures.drawn)

@@ -6,3 +6,4 @@ pub mod OneUnread
 pub mod OneMember
 pub mod OneBody
 pub mod OneModel
+pub mod SameNumbers

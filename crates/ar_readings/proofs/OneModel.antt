@@ -20,7 +20,7 @@ use Rattle.ar_parser.specs.Results.{kind_at, anything, is_sign, is_word, ends_it
 use Rattle.ar_parser.proofs.Finding.{fails, token_kind, then_kind}
 use Rattle.ar_parser.proofs.ExpressionForms.{sign_from, word_from}
 use Rattle.ar_parser.proofs.NameLemmas.{one_lexing}
-use Rattle.ar_readings.specs.Models.{SameDomain, SameDeclared, SameItem, SameModel, HasOneReading}
+use Rattle.ar_readings.specs.Models.{SameDomain, SameDeclared, SameItem, SameModel, HasOneTree}
 use Rattle.ar_readings.specs.Models as same
 use Rattle.ar_readings.proofs.Agreeing.{Agree, First, first_token, first_front, first_nothing, first_each, first_weaker, sorted, not_both, meet, agree_map, agree_ended, agree_apart, agree_token, agree_nothing, agree_then, agree_next, agree_closed, agree_each}
 use Rattle.ar_readings.proofs.Agreeing as agreeing
@@ -137,8 +137,8 @@ one_names bytes (l ∷ ls) old new new' h k = one_names bytes ls h.0 new new' h.
 
 -- Readings
 
-pub one_reading : (bytes : List ℕ) → HasOneReading bytes
-one_reading bytes n x y h k =
+pub one_tree : (bytes : List ℕ) → HasOneTree bytes
+one_tree bytes n x y h k =
     let ls : h.lexemes ≡ k.lexemes = one_lexing bytes h.lexemes k.lexemes x.names y.names x.end y.end h.are k.are in
     let whole_text : h.lexemes ++ [] ≡ k.lexemes ++ [] = ap (λ (t : Tokens). t ++ []) ls in
     record {

@@ -1,4 +1,4 @@
--- What it is that two models agree, and the law of one reading.
+-- What it is that two models agree, and that a text has one tree at most.
 use Rattle.std.specs.Prelude.{◌≡◌, ℕ, List, Vec}
 use Rattle.std.specs.declared.alloc.Global.{Global}
 use Rattle.ar_base.specs.Lists.{Along}
@@ -37,5 +37,5 @@ pub record SameModel (m n : Model) : Type 0 where
   pub end : m.end ≡ n.end
 
 -- a text has one tree at most, whatever the nesting that is allowed
-abbrev pub HasOneReading : List ℕ → Type 0
-HasOneReading bytes = (n : ℕ) (x y : Model) → ReadsWithin n bytes x → ReadsWithin n bytes y → SameModel x y
+abbrev pub HasOneTree : List ℕ → Type 0
+HasOneTree bytes = (n : ℕ) (x y : Model) → ReadsWithin n bytes x → ReadsWithin n bytes y → SameModel x y

@@ -89,7 +89,7 @@ pub enum Member {
     /// the last.
     Kept(NameId, Place, Span),
     /// `event NAME` with its attribute, where it has one, kept unread: its span is from the first token between
-    /// the brackets to the last, and empty behind the bracket for `()`.
+    /// the brackets to the last, and from 0 to 0 for `()`.
     Event(NameId, Place, Option<Span>),
     /// `observer TYPE NAME = EXPR;`
     Observer(TypeName, NameId, Place, RawExpr),

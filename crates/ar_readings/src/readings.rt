@@ -1,0 +1,29 @@
+// The laws of readings.
+
+ghost use Rattle.std.specs.Prelude.{◌≡◌, ℕ, ℤ, List};
+ghost use Rattle.ar_lexer.specs.Tokens.{AreTokens, IsFirstFault};
+ghost use Rattle.ar_lexer.specs.declared.token.LexFault.{LexFault};
+ghost use Rattle.ar_lexer.specs.declared.token.Token.{Token};
+ghost use Rattle.ar_syntax.specs.declared.expressions.RawExpr.{RawExpr};
+ghost use Rattle.ar_syntax.specs.declared.expressions.RawForm.TheVariants.{Whole};
+ghost use Rattle.ar_readings.specs.Expressions.{SameExpr};
+ghost use Rattle.ar_readings.specs.Models.{HasOneTree};
+
+/// Each text has at most one tree: two readings have the same items, names, places and spans.
+pub fn one_tree()
+    ensures { (bytes : List ℕ) → HasOneTree bytes }
+{}
+
+/// Each text has at most one list of tokens or one first fault, and never both.
+pub fn one_lexing()
+    ensures tokens { (text : List ℕ) (ts us : List Token) → AreTokens text ts → AreTokens text us → ts ≡ us }
+    ensures fault { (text : List ℕ) (f g : LexFault) → IsFirstFault text f → IsFirstFault text g → f ≡ g }
+    ensures apart { (text : List ℕ) (ts : List Token) (f : LexFault) → AreTokens text ts → IsFirstFault text f → ⊥ }
+{}
+
+/// Expressions that agree stand in one place and take the same bytes, and where both are whole numbers, they are the same number.
+pub fn agreement_says()
+    ensures place { (e f : RawExpr) → SameExpr e f → e.at ≡ f.at }
+    ensures span { (e f : RawExpr) → SameExpr e f → e.span ≡ f.span }
+    ensures number { (e f : RawExpr) (n m : ℤ) → SameExpr e f → e.form ≡ Whole n → f.form ≡ Whole m → n ≡ m }
+{}

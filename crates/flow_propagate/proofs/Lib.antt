@@ -1,3 +1,7 @@
+mod NamedVariables
+mod Opened
+mod ReaderPairs
+mod FlowUses
 mod Reaching
 mod Putting
 mod Starting

@@ -3,9 +3,11 @@
 ghost use Rattle.std.specs.Prelude.{◌≡◌, ℕ, List, length};
 ghost use Rattle.gts_core.specs.View.{net_of};
 ghost use Rattle.gts_core.specs.Sound.{IsSound};
+ghost use Rattle.flow_propagate.specs.Plan.{IsPlan};
 ghost use Rattle.flow_propagate.specs.Answers.{IsFlowAnswer, FlowsTo, IsState};
 
 use crate::facts::known;
+use crate::plan::Plan;
 use crate::propagation::{FlowFault, PropagateFault};
 use crate::searches::{first_outside, first_two};
 use crate::totals::{completed, first_broken, single};
@@ -29,6 +31,20 @@ pub fn propagate(alloc: Global, gts: &Gts, state: &Valuation) -> Result<Valuatio
         Ok(values) => Ok(Valuation { values }),
         Err(fault) => Err(fault),
     }
+}
+
+/// The same, by the plan of the system.
+pub fn propagate_by(
+    alloc: Global,
+    gts: &Gts,
+    _plan: &Plan,
+    state: &Valuation,
+) -> Result<Valuation, PropagateFault>
+    requires state { IsState gts.now state.now.values.items }
+    requires plan { IsPlan gts.now _plan.now }
+    ensures { IsFlowAnswer (net_of gts.now) state.now.values.items result }
+{
+    propagate(alloc, gts, state)
 }
 
 // The same over the parts of a system.

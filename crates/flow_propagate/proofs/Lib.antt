@@ -9,3 +9,7 @@ mod Searching
 mod Others
 mod Values
 mod Totalling
+mod Missing
+mod Applying
+mod Looking
+mod Worklists

@@ -105,7 +105,7 @@ pair_eq x y = nat_eq x.0 y.0 && nat_eq x.1 y.1
 pair_total : IsTotalOrder pair_cmp
 pair_total = then_total (on_total (λ (t : ℕ × ℕ). t.0) nat_cmp_total) (on_total (λ (t : ℕ × ℕ). t.1) nat_cmp_total)
 
-pair_equiv : IsEquivalence pair_eq
+pub pair_equiv : IsEquivalence pair_eq
 pair_equiv = and_equiv (on_equiv (λ (t : ℕ × ℕ). t.0) nat_eq_equiv) (on_equiv (λ (t : ℕ × ℕ). t.1) nat_eq_equiv)
 
 pair_ties : (x y : ℕ × ℕ) → pair_eq x y ≡ eq_by_cmp pair_cmp x y
@@ -115,7 +115,7 @@ both_true : (a b : Bool) → (a && b) ≡ true → (a ≡ true) × (b ≡ true)
 both_true true b e = (refl, e)
 both_true false b e = absurd (cc e)
 
-pair_same : (x y : ℕ × ℕ) → pair_eq x y ≡ true → x ≡ y
+pub pair_same : (x y : ℕ × ℕ) → pair_eq x y ≡ true → x ≡ y
 pair_same x y e =
     let r = both_true (nat_eq x.0 y.0) (nat_eq x.1 y.1) e in
     let a : x.0 ≡ y.0 = (unsigned_Decides x.0 y.0).0 r.0 in

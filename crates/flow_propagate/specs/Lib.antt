@@ -5,3 +5,4 @@ pub mod Totals
 pub mod Plan
 pub mod Named
 pub mod Dependence
+pub mod Closing

@@ -67,8 +67,11 @@ pub record AreReaders (p : GtsParts) (readers : List (ℕ × ℕ)) : Type 0 wher
   pub all : (x n : ℕ) → Reads p x n → IsOneOf readers (x, n)
   pub ascending : (j k : ℕ) (q r : ℕ × ℕ) → j < k → Stands readers j q → Stands readers k r → ComesBefore q r
 
--- a pair by its plain numbers
-abbrev pub plain_pair : Id VarKind × Id AssignKind → ℕ × ℕ
+-- a pair by its typed numbers, and by its plain numbers
+abbrev pub Reader : Type 0
+Reader = Id VarKind × Id AssignKind
+
+abbrev pub plain_pair : Reader → ℕ × ℕ
 plain_pair r = (r.0.n, r.1.n)
 
 -- the plan of a system

@@ -1,6 +1,7 @@
 //! The flows that a state of a flat system determines.
 #![tactic(auto)]
 
+mod closing;
 mod dependence;
 mod facts;
 mod flows;
@@ -11,6 +12,7 @@ mod readers;
 mod searches;
 mod table;
 mod totals;
+mod worklist;
 
 pub use flows::{propagate, propagate_by};
 pub use plan::{Plan, make_plan};

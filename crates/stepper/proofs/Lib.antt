@@ -13,3 +13,4 @@ pub mod Growing
 pub mod Acting
 pub mod Stepping
 pub mod Going
+pub mod TinySystem

@@ -6,3 +6,4 @@ pub mod Receiving
 pub mod Changes
 pub mod Steps
 pub mod Keeping
+pub mod Tiny

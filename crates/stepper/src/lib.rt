@@ -10,6 +10,8 @@ mod order;
 mod readings;
 mod received;
 mod stepper;
+#[cfg(test)]
+mod tests;
 
 pub use faults::{NoStep, StepFault};
 pub use stepper::Stepper;

@@ -4,6 +4,7 @@ ghost use Rattle.std.specs.Prelude.{◌≡◌, ◌<◌, ℕ, true, length, IfErr
 ghost use Rattle.ar_meaning.specs.Systems.{Way};
 ghost use Rattle.ar_meaning.specs.Runs.{Start, first_values};
 ghost use Rattle.flow_propagate.specs.Answers.{IsState, IsFlowAnswer};
+ghost use Rattle.flow_propagate.specs.Plan.{IsPlan};
 ghost use Rattle.gts_core.specs.View.{net_of, IsWayAt};
 ghost use Rattle.gts_core.specs.Sound.{IsSound};
 ghost use Rattle.stepper.specs.Ways.{IsOrder, IsTotal, AreFlags, flag_at};
@@ -15,18 +16,24 @@ use crate::flags::is_set;
 use crate::received::{first_leaving, first_two, gathered, values_after};
 use ar_base::{Memory, VarId, WayId};
 use domains::Value;
-use flow_propagate::{PropagateFault, propagate};
+use flow_propagate::{Plan, PropagateFault, propagate_by};
 use gts_core::{Gts, GtsParts, Valuation};
 use std::alloc::Global;
 
 // The flows of a state.
-fn flows(alloc: Global, gts: &Gts, state: &Valuation) -> Result<Valuation, PropagateFault>
+fn flows(
+    alloc: Global,
+    gts: &Gts,
+    plan: &Plan,
+    state: &Valuation,
+) -> Result<Valuation, PropagateFault>
     requires sound { IsSound gts.now }
+    requires plan { IsPlan gts.now plan.now }
     requires state { IsState gts.now state.now.values.items }
     ensures flows { IsFlowAnswer (net_of gts.now) state.now.values.items result }
     ensures total { IfOk result (λ total. IsTotal gts.now total.values.items) }
 {
-    propagate(alloc, gts, state)
+    propagate_by(alloc, gts, plan, state)
 }
 
 /// The valuation after a way is fired, or the fault: a fault of the way, then of what the variables receive, then of the
@@ -34,11 +41,13 @@ fn flows(alloc: Global, gts: &Gts, state: &Valuation) -> Result<Valuation, Propa
 pub(crate) fn next(
     alloc: Global,
     gts: &Gts,
+    plan: &Plan,
     order: &[WayId],
     flags: &[bool],
     values: &[Value],
     way: WayId,
 ) -> Result<Valuation, StepFault>
+    requires plan { IsPlan gts.now plan.now }
     requires order { IsOrder gts.now order.now }
     requires total { IsTotal gts.now values.now }
     requires right { AreFlags gts.now values.now flags.now }
@@ -51,7 +60,7 @@ pub(crate) fn next(
     }
     let parts = gts.parts();
     let state = state_after(alloc, parts, order, flags, values, way)?;
-    match flows(alloc, gts, &state) {
+    match flows(alloc, gts, plan, &state) {
         Ok(total) => Ok(total),
         Err(PropagateFault::Flow(fault)) => Err(StepFault::Flow(fault)),
         Err(PropagateFault::Memory) => Err(StepFault::Memory),
@@ -91,13 +100,14 @@ fn state_after(
 }
 
 /// The valuation at the start.
-pub(crate) fn first(alloc: Global, gts: &Gts) -> Result<Valuation, PropagateFault>
+pub(crate) fn first(alloc: Global, gts: &Gts, plan: &Plan) -> Result<Valuation, PropagateFault>
+    requires { IsPlan gts.now plan.now }
     ensures total { IfOk result (λ values. IsTotal gts.now values.values.items) }
     ensures starts { IfOk result (λ values. Start (net_of gts.now) values.values.items) }
     ensures fault { IfErr result (IsStartFault (net_of gts.now)) }
 {
     match declared(alloc, gts.parts()) {
-        Ok(state) => flows(alloc, gts, &state),
+        Ok(state) => flows(alloc, gts, plan, &state),
         Err(_) => Err(PropagateFault::Memory),
     }
 }

@@ -9,6 +9,7 @@ ghost use Rattle.ar_meaning.specs.Steps.{Step, Next};
 ghost use Rattle.ar_meaning.specs.Ways.{Can};
 ghost use Rattle.gts_core.specs.View.{net_of, IsWayAt};
 ghost use Rattle.gts_core.specs.Sound.{IsSound};
+ghost use Rattle.flow_propagate.specs.Plan.{IsPlan};
 ghost use Rattle.stepper.specs.Ways.{IsTotal};
 ghost use Rattle.stepper.specs.Steps.{IsStartFault, IsStepFault};
 
@@ -18,7 +19,7 @@ use crate::flags::{is_set, renew, unset};
 use crate::moves::{first, next};
 use crate::order::way_order;
 use ar_base::{Memory, WayId};
-use flow_propagate::PropagateFault;
+use flow_propagate::{Plan, PropagateFault, make_plan};
 use gts_core::{Gts, Valuation};
 use std::alloc::Global;
 use std::marker::Model;
@@ -33,6 +34,7 @@ use std::marker::Model;
 pub struct Stepper<'a> {
     alloc: Global,
     gts: &'a Gts,
+    plan: Plan,
     order: Vec<WayId>,
     values: Valuation,
     can: Vec<bool>,
@@ -63,16 +65,26 @@ impl<'a> Stepper<'a> {
         ensures no_step { IfOk result (λ stepper. stepper.below ≡ []) }
         ensures fault { IfErr result (IsStartFault (net_of gts.now)) }
     {
-        let values = first(alloc, gts)?;
-        match Self::over(alloc, gts, values) {
+        let plan = match make_plan(alloc, gts) {
+            Ok(plan) => plan,
+            Err(_) => return Err(PropagateFault::Memory),
+        };
+        let values = first(alloc, gts, &plan)?;
+        match Self::over(alloc, gts, plan, values) {
             Ok(stepper) => Ok(stepper),
             Err(_) => Err(PropagateFault::Memory),
         }
     }
 
     // A stepper at this valuation, with no standing step.
-    fn over(alloc: Global, gts: &'a Gts, values: Valuation) -> Result<Stepper<'a>, Memory>
-        requires { IsTotal gts.now values.values.items }
+    fn over(
+        alloc: Global,
+        gts: &'a Gts,
+        plan: Plan,
+        values: Valuation,
+    ) -> Result<Stepper<'a>, Memory>
+        requires plan { IsPlan gts.now plan }
+        requires total { IsTotal gts.now values.values.items }
         ensures { IfOk result (λ stepper. stepper ≡ record { system = gts.now; values = values.values.items; below = [] }) }
     {
         let parts = gts.parts();
@@ -82,6 +94,7 @@ impl<'a> Stepper<'a> {
         Ok(Stepper {
             alloc,
             gts,
+            plan,
             order,
             values,
             can,
@@ -112,6 +125,7 @@ impl<'a> Stepper<'a> {
         let values = next(
             self.alloc,
             self.gts,
+            &self.plan,
             &self.order,
             &self.can,
             &self.values.values,

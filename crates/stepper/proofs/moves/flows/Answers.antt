@@ -15,4 +15,4 @@ total_answer p sound t is (Ok total) h = flows_total p sound t total.values.item
 total_answer p sound t is (Err e) h = tt
 
 pub returns-clause-total : goal.returns-clause-total
-returns-clause-total c = total_answer c.args.gts.now c.requires.sound c.args.state.now.values.items c.requires.state c.propagate.result c.propagate.ensures
+returns-clause-total c = total_answer c.args.gts.now c.requires.sound c.args.state.now.values.items c.requires.state c.propagate_by.result c.propagate_by.ensures

@@ -25,6 +25,7 @@ invariant_of-self-2 c =
     record {
       total = subst (λ (z : List Value). IsTotal s.gts.now z) (sym back) (back_total s.gts.now old s.steps.items c.pop.new.self.items c.in-Some.changed steps c.self.invariant.below);
       below = λ t one. back_below s.gts.now old s.steps.items c.pop.new.self.items c.in-Some.changed steps c.self.invariant.below t (subst (λ (z : List Value). IsOneOf (below_by z (reverse c.pop.new.self.items)) t) back one);
+      plan = c.self.invariant.plan;
       order = c.self.invariant.order;
       flags = subst (λ (z : List Value). AreFlags s.gts.now z c.renew.new.flags.items) c.deref-3.ensures.value (subst (λ (z : GtsParts). AreFlags z c.deref-3.result.now c.renew.new.flags.items) c.parts.ensures.parts c.renew.ensures);
     }

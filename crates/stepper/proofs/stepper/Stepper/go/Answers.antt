@@ -20,6 +20,7 @@ invariant_of-self-2 c =
     record {
       total = total;
       below = λ t one. go_below s.gts.now old new s.steps.items c.push.new.self.items c.in_ok-changed.changed more back c.self.invariant.total c.self.invariant.below t one;
+      plan = c.self.invariant.plan;
       order = c.self.invariant.order;
       flags = subst (λ (z : List Value). AreFlags s.gts.now z c.renew.new.flags.items) c.deref-4.ensures.value (subst (λ (z : GtsParts). AreFlags z c.deref-4.result.now c.renew.new.flags.items) c.parts-parts.ensures.parts c.renew.ensures);
     }

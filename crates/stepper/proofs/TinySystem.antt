@@ -1,6 +1,6 @@
 -- The tiny system is sound.
-use Rattle.std.proofs.Common.{◌≡◌, ◌<◌, ◌≤◌, ℕ, zero, suc, true, List, [], ◌∷◌, map, length, Vec, Global, refl, sym, ap, ◌∙◌, subst, arith}
-use Rattle.ar_base.specs.Lists.{Stands, IsOneOf}
+use Rattle.std.proofs.Common.{◌≡◌, ℕ, zero, suc, true, List, [], ◌∷◌, map, length, Vec, Global, refl, sym, ap, ◌∙◌, subst, arith}
+use Rattle.ar_base.specs.Lists.{Stands}
 use Rattle.ar_base.proofs.Standing.{stands_map}
 use Rattle.domains.specs.declared.Value.{Value}
 use Rattle.domains.specs.declared.Value.TheVariants.{Truth}
@@ -14,13 +14,12 @@ use Rattle.typed_expr.specs.declared.expr.Expr.{Expr, out-Expr}
 use Rattle.typed_expr.specs.declared.expr.Expr.TheOpen.{Constant}
 use Rattle.typed_expr.specs.declared.expr.ValueKind.TheVariants as kind
 use Rattle.ar_meaning.specs.Systems as s
-use Rattle.ar_meaning.specs.Numbered.{Means_way, leaf, height}
-use Rattle.gts_core.specs.View.{VarId, WayId, bodies_of, body_of, of_body, numbered, assign_of}
+use Rattle.ar_meaning.specs.Numbered.{leaf}
+use Rattle.gts_core.specs.View.{VarId, WayId, body_of, of_body, numbered, assign_of}
 use Rattle.gts_core.specs.Sound.{IsSound, IsTyped, IsNamed, kind_at}
 use Rattle.gts_core.specs.declared.system.Assign.{Assign}
 use Rattle.gts_core.specs.declared.system.Event.{Event}
 use Rattle.gts_core.specs.declared.system.Way.{Way}
-use Rattle.gts_core.specs.declared.system.WayBody.TheVariants.{Local, Sync}
 use Rattle.gts_core.specs.declared.system.GtsParts.{GtsParts}
 use Rattle.stepper.specs.Tiny.{IsTiny}
 

@@ -1,3 +1,7 @@
+mod NamedVariables
+mod Opened
+mod ReaderPairs
+mod FlowUses
 mod Reaching
 mod Putting
 mod Starting
@@ -5,3 +9,7 @@ mod Searching
 mod Others
 mod Values
 mod Totalling
+mod Missing
+mod Applying
+mod Looking
+mod Worklists

@@ -51,8 +51,8 @@ row_here (r ∷ rows) zero row h e = ap (λ (z : Vec Value Global). z.items) (sy
 row_here (r ∷ rows) (suc t) row h e = row_here rows t row (omega arith) e
 
 -- a new value
-pub puts_new : (d : Domain) (t : ℕ) (v : Value) (rows : Rows) (row new : Vec Value Global) → t < length rows → row ≡ get_or rows t row → new.items ≡ row.items ++ v ∷ [] → domains.Holds d v → Puts d t v rows (set rows t new) true
-puts_new d t v rows row new h is e k =
+pub puts_new : (d : Domain) (t : ℕ) (v : Value) (rows : Rows) (row new : Vec Value Global) → t < length rows → row ≡ get_or rows t row → new.items ≡ row.items ++ v ∷ [] → domains.Holds d v → (Holds rows t v → ⊥) → Puts d t v rows (set rows t new) true
+puts_new d t v rows row new h is e k lacks =
     let here : row_at rows t ≡ row.items = row_here rows t row h is in record {
       long = length-set rows t new;
       grows = set_grows new rows t (λ w c. subst (λ (z : List Value). Contains z w) (sym e) (Contains-append_left row.items (v ∷ []) w (subst (λ (z : List Value). Contains z w) here c)));
@@ -61,12 +61,16 @@ puts_new d t v rows row new h is e k =
         | inr i ↦ inr (sym i, subst (λ (z : Value). domains.Holds d z) i k)
       ]) n w c) [ inl a ↦ inl a | inr q ↦ inr (q.0, q.1.0, q.1.1) ];
       still = λ i. cc;
-      there = λ i. set_there new rows t v h (subst (λ (z : List Value). Contains z v) (sym e) (Contains-push row.items v));
+      there = λ i. here_now;
+      gains = λ i. record { value = v; allowed = k; was_not = lacks; is = here_now };
     }
+  where
+    here_now : Holds (set rows t new) t v
+    here_now = set_there new rows t v h (subst (λ (z : List Value). Contains z v) (sym e) (Contains-push row.items v))
 
 -- nothing is put
 pub puts_nothing : (d : Domain) (t : ℕ) (v : Value) (rows : Rows) → (domains.Holds d v → Holds rows t v) → Puts d t v rows rows false
-puts_nothing d t v rows h = record { long = refl; grows = λ n w c. c; only = λ n w c. inl c; still = λ i. refl; there = h }
+puts_nothing d t v rows h = record { long = refl; grows = λ n w c. c; only = λ n w c. inl c; still = λ i. refl; there = h; gains = λ i. absurd (cc i) }
 
 pub row_holds : (rows : Rows) (t : ℕ) (row : Vec Value Global) (v : Value) → t < length rows → row ≡ get_or rows t row → Contains row.items v → Holds rows t v
 row_holds rows t row v h is c = subst (λ (z : List Value). Contains z v) (sym (row_here rows t row h is)) c
@@ -80,8 +84,8 @@ same_read (z ∷ xs) (suc i) x y h = same_read xs i x y (omega arith)
 
 -- one value more
 pub puts_more : (d : Domain) (t : ℕ) (vs : List Value) (i : ℕ) (v : Value) (old mid new : Rows) (b c e : Bool) → i < length vs → v ≡ get_or vs i v → PutsAll d t (take i vs) old mid b → Puts d t v mid new c
-    → (e ≡ false → (b ≡ false) × (c ≡ false)) → PutsAll d t (take (i + 1) vs) old new e
-puts_more d t vs i v old mid new b c e h is a p k =
+    → (e ≡ false → (b ≡ false) × (c ≡ false)) → (e ≡ true → (b ≡ true) ⊎ (c ≡ true)) → PutsAll d t (take (i + 1) vs) old new e
+puts_more d t vs i v old mid new b c e h is a p k one =
     let more : take (i + 1) vs ≡ take i vs ++ v ∷ [] = take_more vs i v h ∙ ap (λ (z : Value). take i vs ++ z ∷ []) (sym is) in
     let P : List Value → Type 0 = λ z. PutsAll d t z old new e in
     subst P (sym more) (record {
@@ -96,10 +100,14 @@ puts_more d t vs i v old mid new b c e h is a p k =
         | inl y ↦ p.grows t w (a.there w y m)
         | inr y ↦ subst (λ (u : Value). Holds new t u) y (p.there (subst (λ (u : Value). domains.Holds d u) (sym y) m))
       ];
+      gains = λ f. elim (one f) [
+        | inl x ↦ (let g = a.gains x in record { value = g.value; allowed = g.allowed; was_not = g.was_not; is = p.grows t g.value g.is })
+        | inr x ↦ (let g = p.gains x in record { value = g.value; allowed = g.allowed; was_not = λ w. g.was_not (a.grows t g.value w); is = g.is })
+      ];
     })
 
 pub puts_start : (d : Domain) (t : ℕ) (rows : Rows) → PutsAll d t [] rows rows false
-puts_start d t rows = record { long = refl; grows = λ n w x. x; only = λ n w x. inl x; still = λ i. refl; there = λ w x m. absurd (none w x) }
+puts_start d t rows = record { long = refl; grows = λ n w x. x; only = λ n w x. inl x; still = λ i. refl; there = λ w x m. absurd (none w x); gains = λ i. absurd (cc i) }
   where
     none : (w : Value) → Contains [] w → ⊥
     none w x = omega (arith, x.1)
@@ -119,82 +127,3 @@ reads_there [] zero x y st is = cc
 reads_there [] (suc i) x y st is = cc
 reads_there (z ∷ xs) zero x y st is = let j : z ≡ x = cc in sym j ∙ sym is
 reads_there (z ∷ xs) (suc i) x y st is = reads_there xs i x y st is
-
--- what an assertion adds keeps the table sound
-module _ (p : GtsParts) (a : Assign) (one : IsOneOf p.assigns.items a) (x : Variable) (stands : Stands p.variables.items a.target.n x) (is_domain : domains.IsDomain x.domain) where
-  one_there : IsOneOf (net_of p).assertions (assign_of a)
-  one_there = record { place = one.place; stands = stands_map assign_of p.assigns.items one.place a one.stands }
-
-  pub moves_put : (old new : Rows) (set : List Value) (changed : Bool) → Reaches old (assign_of a) (Some set) → PutsAll x.domain a.target.n set old new changed → Moves (net_of p) old new changed
-  moves_put old new set changed r m = record {
-    long = m.long;
-    grows = m.grows;
-    still = m.still;
-    sound = λ t sound n w h. elim (m.only n w h) [
-      | inl k ↦ sound n w k
-      | inr k ↦ (
-          let allowed : Allows (net_of p) a.target.n w = allowed_from (net_of p) (are_numbered p) a.target.n (variable_of a.target.n x) w (variable_there p a.target.n x stands) (listed x.domain w k.2) in
-          subst (λ (z : ℕ). FactOf (net_of p) t z w) (sym k.0)
-          (closed (net_of p).assertions (Allows (net_of p)) (IsGiven (net_of p) t) (assign_of a) w one_there
-          (passes_more ℕ (Holds old) (FactOf (net_of p) t) sound r.0) (yields_more ℕ (Holds old) (FactOf (net_of p) t) sound (r.1.sound w k.1)) allowed))
-    ];
-  }
-
-  pub closed_put : (old new : Rows) (set : List Value) (changed : Bool) → Reaches old (assign_of a) (Some set) → PutsAll x.domain a.target.n set old new changed → changed ≡ false → IsClosed (net_of p) old (assign_of a)
-  closed_put old new set changed r m e v pass y al =
-      let has : domains.Holds x.domain v = held x.domain v is_domain (allowed_at (net_of p) (are_numbered p) a.target.n (variable_of a.target.n x) v (variable_there p a.target.n x stands) al) in
-      subst (λ (z : Rows). Holds z a.target.n v) (m.still e) (m.there v (r.1.complete v y) has)
-
-pub not_reached : (p : GtsParts) (a : Assign) (old : Rows) → Reaches old (assign_of a) None → IsClosed (net_of p) old (assign_of a)
-not_reached p a old r v pass y al = absurd (r pass)
-
-pub moves_not : (net : s.Net ℕ) (old : Rows) → Moves net old old false
-moves_not net old = record { long = refl; grows = λ n v h. h; sound = λ t h. h; still = λ e. refl }
-
-pub moves_then : (net : s.Net ℕ) (old mid new : Rows) (b c e : Bool) → Moves net old mid b → Moves net mid new c → (e ≡ false → (b ≡ false) × (c ≡ false)) → Moves net old new e
-moves_then net old mid new b c e x y k = record {
-  long = y.long ∙ x.long;
-  grows = λ n v h. y.grows n v (x.grows n v h);
-  sound = λ t h. y.sound t (x.sound t h);
-  still = λ f. y.still (k f).1 ∙ x.still (k f).0;
-}
-
--- the assignments so far are closed, where nothing changed
-pub closed_more : (p : GtsParts) (i : ℕ) (a : Assign) (old mid : Rows) (b c e : Bool) → i < length p.assigns.items → a ≡ get_or p.assigns.items i a
-    → Moves (net_of p) old mid b → (b ≡ false → (k : ℕ) (x : Assign) → k < i → Stands p.assigns.items k x → IsClosed (net_of p) old (assign_of x))
-    → (c ≡ false → IsClosed (net_of p) mid (assign_of a)) → (e ≡ false → (b ≡ false) × (c ≡ false))
-    → e ≡ false → (k : ℕ) (x : Assign) → k < i + 1 → Stands p.assigns.items k x → IsClosed (net_of p) old (assign_of x)
-closed_more p i a old mid b c e h is m before here both f k x below st = go (at_most k i below)
-  where
-    at_most : (k i : ℕ) → k < i + 1 → (k < i) ⊎ (k ≡ i)
-    at_most zero zero h = inr refl
-    at_most zero (suc i) h = inl (omega arith)
-    at_most (suc k) zero h = absurd (omega arith)
-    at_most (suc k) (suc i) h = elim (at_most k i (omega arith)) [ inl a ↦ inl (omega arith) | inr a ↦ inr (ap suc a) ]
-
-    reads : (xs : List Assign) (i : ℕ) (a x : Assign) → i < length xs → a ≡ get_or xs i a → Stands xs i x → a ≡ x
-    reads [] zero a x h is st = absurd (omega arith)
-    reads [] (suc i) a x h is st = absurd (omega arith)
-    reads (y ∷ xs) zero a x h is st = let j : y ≡ x = cc in is ∙ j
-    reads (y ∷ xs) (suc i) a x h is st = reads xs i a x (omega arith) is st
-
-    go : (k < i) ⊎ (k ≡ i) → IsClosed (net_of p) old (assign_of x)
-    go (inl l) = before (both f).0 k x l st
-    go (inr j) =
-        let same : a ≡ x = reads p.assigns.items i a x h is (subst (λ (z : ℕ). Stands p.assigns.items z x) j st) in
-        subst (λ (z : Rows). IsClosed (net_of p) z (assign_of x)) (m.still (both f).0) (subst (λ (z : Assign). IsClosed (net_of p) mid (assign_of z)) same (here (both f).1))
-
-pub closed_all : (p : GtsParts) (n : ℕ) (rows : Rows) → length p.assigns.items ≤ n → ((k : ℕ) (x : Assign) → k < n → Stands p.assigns.items k x → IsClosed (net_of p) rows (assign_of x))
-    → (a : s.Assign ℕ) → IsOneOf (net_of p).assertions a → IsClosed (net_of p) rows a
-closed_all p n rows h c a i =
-    let r = stands_map_back assign_of p.assigns.items i.place a i.stands in
-    let below = stands_within p.assigns.items i.place r.0 r.1 in
-    subst (λ (z : s.Assign ℕ). IsClosed (net_of p) rows z) r.2 (c i.place r.0 (omega (arith, below)) r.1)
-
--- a sound table that holds what is given and is closed has exactly the facts
-pub are_facts : (p : GtsParts) (t : List Value) (rows : Rows) → IsSoundTable (net_of p) t rows → ((n : ℕ) (v : Value) → IsGiven (net_of p) t n v → Holds rows n v)
-    → ((a : s.Assign ℕ) → IsOneOf (net_of p).assertions a → IsClosed (net_of p) rows a) → AreFacts (net_of p) t rows
-are_facts p t rows sound given c = record {
-  sound = sound;
-  complete = least (net_of p).assertions (Allows (net_of p)) (IsGiven (net_of p) t) (Holds rows) given (λ a v i q y al. c a i v q y al);
-}

@@ -1,5 +1,5 @@
 -- Tables of facts: a row of values for each variable.
-use Rattle.std.specs.Prelude.{◌≡◌, ◌<◌, if◌then◌else◌, ℕ, ◌⊎◌, Bool, false, List, [], ◌∷◌, length, Option, Some, None, slice_get, Contains, Vec}
+use Rattle.std.specs.Prelude.{◌≡◌, ◌<◌, if◌then◌else◌, ℕ, ◌⊎◌, Bool, true, false, List, [], ◌∷◌, length, Option, Some, None, slice_get, Contains, Vec}
 use Rattle.std.specs.Global.{Global}
 use Rattle.ar_base.specs.Lists.{Stands}
 use Rattle.gts_core.specs.declared.system.Variable.{Variable}
@@ -43,12 +43,11 @@ IsSoundTable net t rows = (n : ℕ) (v : Value) → Holds rows n v → FactOf ne
 abbrev pub IsClosed : Net ℕ → Rows → Assign ℕ → Type 0
 IsClosed net rows a = (v : Value) → Passes (Holds rows) a.conditions → Yields (Holds rows) (out-Expr ℕ a.value) v → Allows net a.target v → Holds rows a.target v
 
--- the table keeps its facts, and may have got more of them; where nothing changed it is the same
-pub record Moves (net : Net ℕ) (old new : Rows) (changed : Bool) : Type 0 where
+-- the table keeps its facts, and may have got more of them
+pub record Moves (net : Net ℕ) (old new : Rows) : Type 0 where
   pub long : length new ≡ length old
   pub grows : (n : ℕ) (v : Value) → Holds old n v → Holds new n v
   pub sound : (t : List Value) → IsSoundTable net t old → IsSoundTable net t new
-  pub still : changed ≡ false → new ≡ old
 
 -- the table has exactly the facts of the state
 pub record AreFacts (net : Net ℕ) (t : List Value) (rows : Rows) : Type 0 where
@@ -60,6 +59,13 @@ abbrev pub Reaches : Rows → Assign ℕ → Option (List Value) → Type 0
 Reaches rows a None = Passes (Holds rows) a.conditions → ⊥
 Reaches rows a (Some set) = Passes (Holds rows) a.conditions × HasExactly set (Yields (Holds rows) (out-Expr ℕ a.value))
 
+-- the table got a value of the domain for a variable
+pub record Gains (domain : Domain) (target : ℕ) (old new : Rows) : Type 0 where
+  pub value : Value
+  pub allowed : domains.Holds domain value
+  pub was_not : Holds old target value → ⊥
+  pub is : Holds new target value
+
 -- one value more for a variable, where its domain has the value and the table lacked it
 pub record Puts (domain : Domain) (target : ℕ) (v : Value) (old new : Rows) (changed : Bool) : Type 0 where
   pub long : length new ≡ length old
@@ -67,6 +73,7 @@ pub record Puts (domain : Domain) (target : ℕ) (v : Value) (old new : Rows) (c
   pub only : (n : ℕ) (w : Value) → Holds new n w → Holds old n w ⊎ ((n ≡ target) × (w ≡ v) × domains.Holds domain w)
   pub still : changed ≡ false → new ≡ old
   pub there : domains.Holds domain v → Holds new target v
+  pub gains : changed ≡ true → Gains domain target old new
 
 -- these values for a variable, those of them that its domain has
 pub record PutsAll (domain : Domain) (target : ℕ) (values : List Value) (old new : Rows) (changed : Bool) : Type 0 where
@@ -75,6 +82,7 @@ pub record PutsAll (domain : Domain) (target : ℕ) (values : List Value) (old n
   pub only : (n : ℕ) (w : Value) → Holds new n w → Holds old n w ⊎ ((n ≡ target) × Contains values w × domains.Holds domain w)
   pub still : changed ≡ false → new ≡ old
   pub there : (w : Value) → Contains values w → domains.Holds domain w → Holds new target w
+  pub gains : changed ≡ true → Gains domain target old new
 
 -- the first rows of a table: the value of each state variable, and nothing for a flow
 pub record Starts (variables : List Variable) (values : List Value) (count : ℕ) (rows : Rows) : Type 0 where

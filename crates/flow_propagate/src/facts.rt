@@ -1,12 +1,11 @@
 // The facts that follow from a state.
 
-ghost use Rattle.std.specs.Prelude.{true, false, Bool, [], ◌∷◌, if◌then◌else◌, ◌≡◌, ◌⊎◌, ◌<◌, ◌≤◌, ℕ, List, length, map, IfOk, IsTrue, Contains};
+ghost use Rattle.std.specs.Prelude.{true, false, [], ◌∷◌, if◌then◌else◌, ◌≡◌, ◌⊎◌, ◌<◌, length, IfOk};
 ghost use Rattle.ar_base.specs.Lists.{IsOneOf};
 ghost use Rattle.domains.specs.Domains.{IsDomain};
-ghost use Rattle.ar_meaning.specs.Systems.{Assign as Assigns};
-ghost use Rattle.gts_core.specs.View.{net_of, assign_of};
 ghost use Rattle.gts_core.specs.Sound.{IsSound};
-ghost use Rattle.flow_propagate.specs.Table.{Holds, IsClosed, Moves, AreFacts, Puts, PutsAll, Starts};
+ghost use Rattle.flow_propagate.specs.Table.{Puts, PutsAll, Starts};
+ghost use Rattle.flow_propagate.specs.Closing.{Applies};
 
 use crate::table::{Table, has, yielded};
 use ar_base::Memory;
@@ -51,13 +50,14 @@ fn put_all(
 
 // Whether one of the two is true.
 fn either(a: bool, b: bool) -> bool
-    ensures { (result ≡ false) → ((a ≡ false) × (b ≡ false)) }
+    ensures none { result ≡ false → (a ≡ false) × (b ≡ false) }
+    ensures one { result ≡ true → (a ≡ true) ⊎ (b ≡ true) }
 {
     a || b
 }
 
 // Adds what an assignment yields, and answers whether the table changed.
-fn apply(
+pub(crate) fn apply(
     alloc: Global,
     parts: &GtsParts,
     assign: &Assign,
@@ -66,8 +66,7 @@ fn apply(
     requires sound { IsSound parts.now }
     requires one { IsOneOf parts.now.assigns.items assign.now }
     requires long { length table.old.rows.items ≡ length parts.now.variables.items }
-    ensures moves { IfOk result (λ changed. Moves (net_of parts.now) table.old.rows.items table.new.rows.items changed) }
-    ensures closed { IfOk result (λ changed. changed ≡ false → IsClosed (net_of parts.now) table.old.rows.items (assign_of assign.now)) }
+    ensures { IfOk result (λ changed. Applies parts.now assign.now table.old.rows.items table.new.rows.items changed) }
 {
     let Some(set) = yielded(alloc, assign, table)? else {
         return Ok(false);
@@ -77,23 +76,8 @@ fn apply(
     Ok(changed)
 }
 
-// Adds what each assignment yields, once, and answers whether the table changed.
-fn pass(alloc: Global, parts: &GtsParts, table: &mut Table) -> Result<bool, Memory>
-    requires sound { IsSound parts.now }
-    requires long { length table.old.rows.items ≡ length parts.now.variables.items }
-    ensures moves { IfOk result (λ changed. Moves (net_of parts.now) table.old.rows.items table.new.rows.items changed) }
-    ensures closed { IfOk result (λ changed. changed ≡ false → (a : Assigns ℕ) → IsOneOf (net_of parts.now).assertions a → IsClosed (net_of parts.now) table.old.rows.items a) }
-{
-    let mut changed = false;
-    for assign in &parts.assigns {
-        let more = apply(alloc, parts, assign, table)?;
-        changed = either(changed, more);
-    }
-    Ok(changed)
-}
-
 // The table with the values of the state variables alone.
-fn start(alloc: Global, parts: &GtsParts, values: &[Value]) -> Result<Table, Memory>
+pub(crate) fn start(alloc: Global, parts: &GtsParts, values: &[Value]) -> Result<Table, Memory>
     requires { length values.now ≡ length parts.now.variables.items }
     ensures { IfOk result (λ table. Starts parts.now.variables.items values.now (length parts.now.variables.items) table.rows.items) }
 {
@@ -116,39 +100,4 @@ fn first_row(alloc: Global, is_state: bool, v: Value) -> Result<Vec<Value>, Memo
     } else {
         Ok(row)
     }
-}
-
-// Adds what the assignments yield until nothing changes. Each pass but the last adds a fact, and a variable has at most 256
-// of them, so the passes suffice.
-fn close(alloc: Global, parts: &GtsParts, table: Table) -> Result<Table, Memory>
-    requires sound { IsSound parts.now }
-    requires long { length table.rows.items ≡ length parts.now.variables.items }
-    ensures moves { IfOk result (λ closed. (changed : Bool) × Moves (net_of parts.now) table.rows.items closed.rows.items changed) }
-    ensures closed { IfOk result (λ closed. (a : Assigns ℕ) → IsOneOf (net_of parts.now).assertions a → IsClosed (net_of parts.now) closed.rows.items a) }
-{
-    let mut table = table;
-    for _pass in 0..passes(parts.variables.len()) {
-        let changed = pass(alloc, parts, &mut table)?;
-        if !changed {
-            return Ok(table);
-        }
-    }
-    Err(Memory {})
-}
-
-// More passes than facts that so many variables may have.
-fn passes(variables: usize) -> u64 {
-    (variables as u64).saturating_mul(256).saturating_add(1)
-}
-
-// The facts of a state.
-pub(crate) fn known(alloc: Global, parts: &GtsParts, values: &[Value]) -> Result<Table, Memory>
-    requires sound { IsSound parts.now }
-    requires long { length values.now ≡ length parts.now.variables.items }
-    ensures facts { IfOk result (λ table. AreFacts (net_of parts.now) values.now table.rows.items) }
-    ensures long { IfOk result (λ table. length table.rows.items ≡ length parts.now.variables.items) }
-{
-    let first = start(alloc, parts, values)?;
-    let table = close(alloc, parts, first)?;
-    Ok(table)
 }

@@ -1,11 +1,13 @@
 // Propagation.
 
-ghost use Rattle.std.specs.Prelude.{◌≡◌, ℕ, List, length};
+ghost use Rattle.std.specs.Prelude.{◌≡◌, length, map};
 ghost use Rattle.gts_core.specs.View.{net_of};
 ghost use Rattle.gts_core.specs.Sound.{IsSound};
+ghost use Rattle.flow_propagate.specs.Plan.{IsPlan, AreReaders, plain_pair};
 ghost use Rattle.flow_propagate.specs.Answers.{IsFlowAnswer, FlowsTo, IsState};
 
-use crate::facts::known;
+use crate::closing::known;
+use crate::plan::{Plan, make_plan};
 use crate::propagation::{FlowFault, PropagateFault};
 use crate::searches::{first_outside, first_two};
 use crate::totals::{completed, first_broken, single};
@@ -25,19 +27,43 @@ pub fn propagate(alloc: Global, gts: &Gts, state: &Valuation) -> Result<Valuatio
     requires { IsState gts.now state.now.values.items }
     ensures { IsFlowAnswer (net_of gts.now) state.now.values.items result }
 {
-    match flows(alloc, gts.parts(), &state.values) {
+    let plan = match make_plan(alloc, gts) {
+        Ok(plan) => plan,
+        Err(_) => return Err(PropagateFault::Memory),
+    };
+    propagate_by(alloc, gts, &plan, state)
+}
+
+/// What [`propagate`] answers, by the plan of the system, which was made before.
+pub fn propagate_by(
+    alloc: Global,
+    gts: &Gts,
+    plan: &Plan,
+    state: &Valuation,
+) -> Result<Valuation, PropagateFault>
+    requires state { IsState gts.now state.now.values.items }
+    requires plan { IsPlan gts.now plan.now }
+    ensures { IsFlowAnswer (net_of gts.now) state.now.values.items result }
+{
+    match flows(alloc, gts.parts(), plan, &state.values) {
         Ok(values) => Ok(Valuation { values }),
         Err(fault) => Err(fault),
     }
 }
 
 // The same over the parts of a system.
-fn flows(alloc: Global, parts: &GtsParts, values: &[Value]) -> Result<Vec<Value>, PropagateFault>
+fn flows(
+    alloc: Global,
+    parts: &GtsParts,
+    plan: &Plan,
+    values: &[Value],
+) -> Result<Vec<Value>, PropagateFault>
     requires sound { IsSound parts.now }
+    requires readers { AreReaders parts.now (map plain_pair plan.now.readers.items) }
     requires long { length values.now ≡ length parts.now.variables.items }
     ensures { FlowsTo (net_of parts.now) values.now result }
 {
-    let table = match known(alloc, parts, values) {
+    let table = match known(alloc, parts, plan, values) {
         Ok(table) => table,
         Err(_) => return Err(PropagateFault::Memory),
     };

@@ -6,7 +6,8 @@ use Rattle.ar_base.proofs.Standing.{stands_within}
 use Rattle.gts_core.specs.View.{assign_of}
 use Rattle.gts_core.specs.declared.system.Variable.{Variable}
 use Rattle.flow_propagate.specs.Table.{Reaches, PutsAll}
-use Rattle.flow_propagate.proofs.Putting.{aims, moves_put, closed_put, reads_there}
+use Rattle.flow_propagate.proofs.Putting.{aims, reads_there}
+use Rattle.flow_propagate.proofs.Applying.{applies}
 use Rattle.flow_propagate.proofs.facts.apply.Goals as goal
 
 pub index-requires : goal.index-requires
@@ -24,20 +25,11 @@ put_all-requires-clause-domain c =
     let a = aims c.args.parts.now c.args.assign.now c.requires.sound c.requires.one in
     subst (λ (x : Variable). IsDomain x.domain) (reads_there c.args.parts.now.variables.items c.args.assign.now.target.n a.variable c.index.result.now a.stands c.index.ensures) a.domain
 
-pub returns-clause-moves : goal.returns-clause-moves
-returns-clause-moves c =
+pub returns : goal.returns
+returns c =
     let a = aims c.args.parts.now c.args.assign.now c.requires.sound c.requires.one in
     let same = reads_there c.args.parts.now.variables.items c.args.assign.now.target.n a.variable c.index.result.now a.stands c.index.ensures in
     let reach = subst (λ (o : Option (List Value)). Reaches c.args.table.now.rows.items (assign_of c.args.assign.now) o) c.in-Some.is c.in_ok-set.ensures in
     let puts = subst (λ (vs : List Value). PutsAll c.index.result.now.domain c.args.assign.now.target.n vs c.args.table.now.rows.items c.put_all.new.table.rows.items c.in_ok-changed.changed) c.values.ensures.values c.in_ok-changed.ensures in
-    moves_put c.args.parts.now c.args.assign.now c.requires.one c.index.result.now (subst (λ (x : Variable). Stands c.args.parts.now.variables.items c.args.assign.now.target.n x) same a.stands)
-    (subst (λ (x : Variable). IsDomain x.domain) same a.domain) _ _ _ _ reach puts
-
-pub returns-clause-closed : goal.returns-clause-closed
-returns-clause-closed c =
-    let a = aims c.args.parts.now c.args.assign.now c.requires.sound c.requires.one in
-    let same = reads_there c.args.parts.now.variables.items c.args.assign.now.target.n a.variable c.index.result.now a.stands c.index.ensures in
-    let reach = subst (λ (o : Option (List Value)). Reaches c.args.table.now.rows.items (assign_of c.args.assign.now) o) c.in-Some.is c.in_ok-set.ensures in
-    let puts = subst (λ (vs : List Value). PutsAll c.index.result.now.domain c.args.assign.now.target.n vs c.args.table.now.rows.items c.put_all.new.table.rows.items c.in_ok-changed.changed) c.values.ensures.values c.in_ok-changed.ensures in
-    closed_put c.args.parts.now c.args.assign.now c.requires.one c.index.result.now (subst (λ (x : Variable). Stands c.args.parts.now.variables.items c.args.assign.now.target.n x) same a.stands)
+    applies c.args.parts.now c.args.assign.now c.requires.one c.index.result.now (subst (λ (x : Variable). Stands c.args.parts.now.variables.items c.args.assign.now.target.n x) same a.stands)
     (subst (λ (x : Variable). IsDomain x.domain) same a.domain) _ _ _ _ reach puts

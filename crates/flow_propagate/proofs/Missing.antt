@@ -1,0 +1,109 @@
+-- How many facts may still come.
+use Rattle.std.proofs.Common.{◌≡◌, ℕ, zero, suc, ◌+◌, ◌<◌, ◌≤◌, ◌⊎◌, inl, inr, Bool, true, false, cond, ◌||◌, List, [], ◌∷◌, length, Contains, refl, sym, ap, ◌∙◌, subst, arith}
+use Rattle.std.specs.Cmp.{unsigned_Decides}
+use Rattle.std.proofs.lemmas.Bool.Decides.{Decides-int_eq}
+use Rattle.ar_base.specs.Lists.{Stands}
+use Rattle.ar_base.proofs.Standing.{stands_none}
+use Rattle.domains.specs.Domains.{values_of}
+use Rattle.domains.specs.declared.Value.{Value}
+use Rattle.domains.specs.declared.Value.TheVariants.{Truth, Whole, Symbol}
+use Rattle.gts_core.specs.declared.system.Variable.{Variable}
+use Rattle.flow_propagate.specs.Table.{Rows, row_at, Holds}
+use Rattle.flow_propagate.specs.Closing.{is_same, has_value, lacking, missing_from}
+
+same_is : (v w : Value) → is_same v w ≡ true → v ≡ w
+same_is (Truth true) (Truth true) e = refl
+same_is (Truth true) (Truth false) e = absurd (cc e)
+same_is (Truth false) (Truth true) e = absurd (cc e)
+same_is (Truth false) (Truth false) e = refl
+same_is (Whole m) (Whole n) e = ap Whole ((Decides-int_eq m n).0 e)
+same_is (Symbol m) (Symbol n) e = ap Symbol ((unsigned_Decides m n).0 e)
+same_is (Truth true) (Whole n) e = absurd (cc e)
+same_is (Truth false) (Whole n) e = absurd (cc e)
+same_is (Truth true) (Symbol n) e = absurd (cc e)
+same_is (Truth false) (Symbol n) e = absurd (cc e)
+same_is (Whole m) (Truth b) e = absurd (cc e)
+same_is (Whole m) (Symbol n) e = absurd (cc e)
+same_is (Symbol m) (Truth b) e = absurd (cc e)
+same_is (Symbol m) (Whole n) e = absurd (cc e)
+
+same_self : (v : Value) → is_same v v ≡ true
+same_self (Truth true) = refl
+same_self (Truth false) = refl
+same_self (Whole n) = (Decides-int_eq n n).1 refl
+same_self (Symbol n) = (unsigned_Decides n n).1 refl
+
+or_true : (a b : Bool) → (a || b) ≡ true → (a ≡ true) ⊎ (b ≡ true)
+or_true true b e = inl refl
+or_true false b e = inr e
+
+or_left : (a b : Bool) → a ≡ true → (a || b) ≡ true
+or_left true b e = refl
+or_left false b e = absurd (cc e)
+
+or_right : (a b : Bool) → b ≡ true → (a || b) ≡ true
+or_right true b e = refl
+or_right false b e = e
+
+later : (v w : Value) (ws : List Value) → Contains ws v → Contains (w ∷ ws) v
+later v w ws c = (suc c.0, (let h = c.1 in omega (arith, h)), c.2)
+
+has_in : (v : Value) (row : List Value) → has_value v row ≡ true → Contains row v
+has_in v [] e = absurd (cc e)
+has_in v (w ∷ ws) e = elim (or_true (is_same v w) (has_value v ws) e) [ inl a ↦ (0, omega arith, sym (same_is v w a)) | inr a ↦ later v w ws (has_in v ws a) ]
+
+in_has : (v : Value) (row : List Value) → Contains row v → has_value v row ≡ true
+in_has v [] c = absurd (omega (arith, c.1))
+in_has v (w ∷ ws) (zero, h, e) = or_left (is_same v w) (has_value v ws) (subst (λ (z : Value). is_same v z ≡ true) (sym e) (same_self v))
+in_has v (w ∷ ws) (suc k, h, e) = or_right (is_same v w) (has_value v ws) (in_has v ws (k, omega (arith, h), e))
+
+cond_le : (a b : Bool) → (a ≡ true → b ≡ true) → cond {A = ℕ} b 0 1 ≤ cond {A = ℕ} a 0 1
+cond_le true true f = omega arith
+cond_le true false f = absurd (cc (f refl))
+cond_le false true f = omega arith
+cond_le false false f = omega arith
+
+cond_less : (a b : Bool) → (a ≡ true → ⊥) → b ≡ true → cond {A = ℕ} b 0 1 < cond {A = ℕ} a 0 1
+cond_less true b f e = absurd (f refl)
+cond_less false true f e = omega arith
+cond_less false false f e = absurd (cc e)
+
+lacking_le : (vs old new : List Value) → ((w : Value) → Contains old w → Contains new w) → lacking vs new ≤ lacking vs old
+lacking_le [] old new g = omega arith
+lacking_le (v ∷ vs) old new g =
+    let a = cond_le (has_value v old) (has_value v new) (λ e. in_has v new (g v (has_in v old e))) in
+    let b = lacking_le vs old new g in
+    omega arith
+
+lacking_less : (vs old new : List Value) (v : Value) → ((w : Value) → Contains old w → Contains new w) → Contains vs v → (Contains old v → ⊥) → Contains new v → lacking vs new < lacking vs old
+lacking_less [] old new v g c was is = absurd (omega (arith, c.1))
+lacking_less (x ∷ vs) old new v g (zero, h, e) was is =
+    let a = cond_less (has_value x old) (has_value x new) (λ i. was (subst (λ (z : Value). Contains old z) e (has_in x old i))) (in_has x new (subst (λ (z : Value). Contains new z) (sym e) is)) in
+    let b = lacking_le vs old new g in
+    omega arith
+lacking_less (x ∷ vs) old new v g (suc k, h, e) was is =
+    let a = cond_le (has_value x old) (has_value x new) (λ i. in_has x new (g x (has_in x old i))) in
+    let b = lacking_less vs old new v g (k, omega (arith, h), e) was is in
+    omega arith
+
+pub missing_le : (k : ℕ) (xs : List Variable) (old new : Rows) → ((n : ℕ) (w : Value) → Holds old n w → Holds new n w) → missing_from k xs new ≤ missing_from k xs old
+missing_le k [] old new g = omega arith
+missing_le k (x ∷ xs) old new g =
+    let a = lacking_le (values_of x.domain) (row_at old k) (row_at new k) (g k) in
+    let b = missing_le (k + 1) xs old new g in
+    omega arith
+
+pub missing_less : (k : ℕ) (xs : List Variable) (old new : Rows) → ((n : ℕ) (w : Value) → Holds old n w → Holds new n w) → (j n : ℕ) (x : Variable) (v : Value) → n ≡ k + j → Stands xs j x → Contains (values_of x.domain) v
+    → (Holds old n v → ⊥) → Holds new n v → missing_from k xs new < missing_from k xs old
+missing_less k [] old new g j n x v at s c was is = absurd (stands_none j x s)
+missing_less k (y ∷ xs) old new g zero n x v at s c was is =
+    let e : y ≡ x = cc in
+    let i : n ≡ k = omega arith in
+    let a = lacking_less (values_of y.domain) (row_at old k) (row_at new k) v (g k) (subst (λ (z : Variable). Contains (values_of z.domain) v) (sym e) c)
+    (λ h. was (subst (λ (z : ℕ). Holds old z v) (sym i) h)) (subst (λ (z : ℕ). Holds new z v) i is) in
+    let b = missing_le (k + 1) xs old new g in
+    omega arith
+missing_less k (y ∷ xs) old new g (suc j) n x v at s c was is =
+    let a = lacking_le (values_of y.domain) (row_at old k) (row_at new k) (g k) in
+    let b = missing_less (k + 1) xs old new g j n x v (omega arith) s c was is in
+    omega arith

@@ -1,0 +1,174 @@
+-- The pairs of a variable and an assignment that names it.
+use Rattle.std.proofs.Common.{Ordering, Less, Equal, Greater, ◌≡◌, ℕ, zero, suc, ◌+◌, ◌<◌, ◌≤◌, ◌⊎◌, inl, inr, Bool, true, false, ◌&&◌, nat_eq, List, [], ◌∷◌, map, length, get_or, Contains, Some, refl, sym, ap, ◌∙◌, subst, arith}
+use Rattle.std.specs.Ordering.{nat_cmp, ordering_then, eq_by_cmp}
+use Rattle.std.specs.Cmp.{IsTotalOrder, IsEquivalence, both_tied, unsigned_ties, unsigned_Decides}
+use Rattle.std.proofs.lemmas.Cmp.{nat_cmp_total, nat_eq_equiv, then_total, on_total, and_equiv, on_equiv, ranked}
+use Rattle.std.specs.List.{AllByRecursion, dedup}
+use Rattle.std.specs.List.Sorted.{IsSorted, IsPermutation, IsStrictlySortedBy}
+use Rattle.std.specs.List.Retain.{IsFiltered, DiffersFromLast}
+use Rattle.std.proofs.lemmas.List.Sorted.{Contains-permutation, IsPermutation-sym}
+use Rattle.std.proofs.lemmas.List.Filters.{dedup_is}
+use Rattle.std.proofs.lemmas.List.Kept.{Contains-dedup, Contains-from_dedup, IsStrictlySortedBy-dedup}
+use Rattle.std.proofs.lemmas.Option.{slice_get-get_or, get_or_from_slice_get}
+use Rattle.ar_base.specs.Lists.{Stands, IsOneOf}
+use Rattle.ar_base.proofs.Standing.{stands_within, stands_one, stands_none}
+use Rattle.typed_expr.specs.Pairs.{turned}
+use Rattle.typed_expr.specs.Mentions.{Mentions}
+use Rattle.typed_expr.proofs.Renaming.{mentions_carry, renames_turned}
+use Rattle.typed_expr.specs.declared.expr.Expr.{Expr, out-Expr}
+use Rattle.gts_core.specs.View.{VarId, numbered, condition_of, assign_of}
+use Rattle.gts_core.proofs.Numbering.{IsNumber, renames_numbered}
+use Rattle.gts_core.specs.declared.system.Assign.{Assign}
+use Rattle.gts_core.specs.declared.system.GtsParts.{GtsParts}
+use Rattle.flow_propagate.specs.Plan.{Tests, in_this, in_later, Names, Reads, ComesBefore, AreReaders}
+use Rattle.flow_propagate.specs.Named.{IsPairFor, AddsNamed, NamesVariable, AreNamed}
+use Rattle.flow_propagate.proofs.Searching.{stands_read}
+
+-- a variable by its plain number
+pub record Typed (P : VarId → Type 0) (x : ℕ) : Type 0 where
+  pub variable : VarId
+  pub is : variable.n ≡ x
+  pub has : P variable
+
+mentions_there : (v : VarId) (e : Expr VarId) → Mentions v (out-Expr VarId e) → Mentions v.n (out-Expr ℕ (numbered e))
+mentions_there v e d = let r = mentions_carry IsNumber v d (renames_numbered e) in subst (λ (z : ℕ). Mentions z (out-Expr ℕ (numbered e))) (sym r.related) r.stands
+
+mentions_back : (x : ℕ) (e : Expr VarId) → Mentions x (out-Expr ℕ (numbered e)) → Typed (λ v. Mentions v (out-Expr VarId e)) x
+mentions_back x e d = let r = mentions_carry (turned IsNumber) x d (renames_turned IsNumber (renames_numbered e)) in record { variable = r.other; is = r.related; has = r.stands }
+
+tests_there : (v : VarId) (cs : List (Expr VarId × Bool)) → Tests v cs → Tests v.n (map condition_of cs)
+tests_there v [] d = elim d [ ]
+tests_there v (c ∷ cs) (in_this d) = in_this (mentions_there v c.0 d)
+tests_there v (c ∷ cs) (in_later d) = in_later (tests_there v cs d)
+
+tests_head : (x : ℕ) (c : Expr ℕ × Bool) (cs : List (Expr ℕ × Bool)) → Tests x (c ∷ cs) → Mentions x (out-Expr ℕ c.0) ⊎ Tests x cs
+tests_head x c cs (in_this d) = inl d
+tests_head x c cs (in_later d) = inr d
+
+tests_back : (x : ℕ) (cs : List (Expr VarId × Bool)) → Tests x (map condition_of cs) → Typed (λ v. Tests v cs) x
+tests_back x [] d = elim d [ ]
+tests_back x (c ∷ cs) d = elim (tests_head x (condition_of c) (map condition_of cs) d) [
+  | inl h ↦ (let r = mentions_back x c.0 h in record { variable = r.variable; is = r.is; has = in_this r.has })
+  | inr h ↦ (let r = tests_back x cs h in record { variable = r.variable; is = r.is; has = in_later r.has })
+]
+
+names_there : (a : Assign) (v : VarId) → NamesVariable a v → Names (assign_of a) v.n
+names_there a v (inl d) = inl (mentions_there v a.value d)
+names_there a v (inr d) = inr (tests_there v a.when.items d)
+
+pub names_back : (a : Assign) (x : ℕ) → Names (assign_of a) x → Typed (NamesVariable a) x
+names_back a x (inl d) = let r = mentions_back x a.value d in record { variable = r.variable; is = r.is; has = inl r.has }
+names_back a x (inr d) = let r = tests_back x a.when.items d in record { variable = r.variable; is = r.is; has = inr r.has }
+
+pub cases_below : (k i : ℕ) → k < i + 1 → (k < i) ⊎ (k ≡ i)
+cases_below zero zero h = inr refl
+cases_below zero (suc i) h = inl (omega arith)
+cases_below (suc k) zero h = absurd (omega arith)
+cases_below (suc k) (suc i) h = elim (cases_below k i (omega arith)) [ inl a ↦ inl (omega arith) | inr a ↦ inr (ap suc a) ]
+
+pub named_start : (p : GtsParts) → AreNamed p 0 []
+named_start p = record { only = λ q o. absurd (stands_none o.place q o.stands); all = λ x n h r. absurd (omega arith) }
+
+-- one assignment more
+pub named_more : (p : GtsParts) (i : ℕ) (a : Assign) (old new : List (ℕ × ℕ)) → i < length p.assigns.items → a ≡ get_or p.assigns.items i a → AreNamed p i old → AddsNamed i (NamesVariable a) old new → AreNamed p (i + 1) new
+named_more p i a old new h is before adds = record {
+  only = λ q o. elim (adds.only q o) [ inl k ↦ before.only q k | inr k ↦ here q k ];
+  all = λ x n below r. at x n r (cases_below n i below);
+}
+  where
+    stands : Stands p.assigns.items i a
+    stands = stands_read p.assigns.items i a h is
+
+    here : (q : ℕ × ℕ) → IsPairFor i (NamesVariable a) q → Reads p q.0 q.1
+    here q k = subst (λ (z : ℕ). Reads p z q.1) (sym k.first) (subst (λ (z : ℕ). Reads p k.variable.n z) (sym k.second) (record { assign = a; stands = stands; names = names_there a k.variable k.has }))
+
+    same : (x n : ℕ) → n ≡ i → Reads p x n → IsOneOf new (x, n)
+    same x n e r =
+        let one : r.assign ≡ a = stands_one p.assigns.items i r.assign a (subst (λ (z : ℕ). Stands p.assigns.items z r.assign) e r.stands) stands in
+        let t = names_back a x (subst (λ (z : Assign). Names (assign_of z) x) one r.names) in
+        subst (λ (z : ℕ). IsOneOf new (z, n)) t.is (subst (λ (z : ℕ). IsOneOf new (t.variable.n, z)) (sym e) (adds.all t.variable t.has))
+
+    at : (x n : ℕ) → Reads p x n → (n < i) ⊎ (n ≡ i) → IsOneOf new (x, n)
+    at x n r (inl l) = adds.grows (x, n) (before.all x n l r)
+    at x n r (inr e) = same x n e r
+
+pub named_all : (p : GtsParts) (i : ℕ) (pairs : List (ℕ × ℕ)) → length p.assigns.items ≤ i → AreNamed p i pairs → AreNamed p (length p.assigns.items) pairs
+named_all p i pairs h a = record { only = a.only; all = λ x n below r. a.all x n (omega arith) r }
+
+-- the order of pairs, and their equality
+abbrev pub pair_cmp : ℕ × ℕ → ℕ × ℕ → Ordering
+pair_cmp x y = ordering_then (nat_cmp x.0 y.0) (nat_cmp x.1 y.1)
+
+abbrev pub pair_eq : ℕ × ℕ → ℕ × ℕ → Bool
+pair_eq x y = nat_eq x.0 y.0 && nat_eq x.1 y.1
+
+pair_total : IsTotalOrder pair_cmp
+pair_total = then_total (on_total (λ (t : ℕ × ℕ). t.0) nat_cmp_total) (on_total (λ (t : ℕ × ℕ). t.1) nat_cmp_total)
+
+pub pair_equiv : IsEquivalence pair_eq
+pair_equiv = and_equiv (on_equiv (λ (t : ℕ × ℕ). t.0) nat_eq_equiv) (on_equiv (λ (t : ℕ × ℕ). t.1) nat_eq_equiv)
+
+pair_ties : (x y : ℕ × ℕ) → pair_eq x y ≡ eq_by_cmp pair_cmp x y
+pair_ties x y = both_tied _ _ (nat_cmp x.0 y.0) (nat_cmp x.1 y.1) (unsigned_ties x.0 y.0) (unsigned_ties x.1 y.1)
+
+both_true : (a b : Bool) → (a && b) ≡ true → (a ≡ true) × (b ≡ true)
+both_true true b e = (refl, e)
+both_true false b e = absurd (cc e)
+
+pub pair_same : (x y : ℕ × ℕ) → pair_eq x y ≡ true → x ≡ y
+pair_same x y e =
+    let r = both_true (nat_eq x.0 y.0) (nat_eq x.1 y.1) e in
+    let a : x.0 ≡ y.0 = (unsigned_Decides x.0 y.0).0 r.0 in
+    let b : x.1 ≡ y.1 = (unsigned_Decides x.1 y.1).0 r.1 in
+    ap (λ (z : ℕ). let q : ℕ × ℕ = (z, x.1) in q) a ∙ ap (λ (z : ℕ). let q : ℕ × ℕ = (y.0, z) in q) b
+
+less_cases : (a b : ℕ) (o r : Ordering) → nat_cmp a b ≡ o → ordering_then o r ≡ Less → (a < b) ⊎ ((a ≡ b) × (r ≡ Less))
+less_cases a b Less r e h = inl (ranked a b Less (sym e))
+less_cases a b Equal r e h = inr (ranked a b Equal (sym e), h)
+less_cases a b Greater r e h = absurd (cc h)
+
+less_is : (a b : ℕ) → nat_cmp a b ≡ Less → a < b
+less_is a b e = ranked a b Less (sym e)
+
+comes_before : (q r : ℕ × ℕ) → pair_cmp q r ≡ Less → ComesBefore q r
+comes_before q r e = elim (less_cases q.0 r.0 (nat_cmp q.0 r.0) (nat_cmp q.1 r.1) refl e) [ inl l ↦ inl l | inr k ↦ inr (k.0, less_is q.1 r.1 k.1) ]
+
+all_stand : (P : ℕ × ℕ → Type 0) (xs : List (ℕ × ℕ)) (k : ℕ) (r : ℕ × ℕ) → AllByRecursion P xs → Stands xs k r → P r
+all_stand P [] k r a s = absurd (stands_none k r s)
+all_stand P (x ∷ xs) zero r a s = let e : x ≡ r = cc in subst P e a.0
+all_stand P (x ∷ xs) (suc k) r a s = all_stand P xs k r a.1 s
+
+strictly : (xs : List (ℕ × ℕ)) (j k : ℕ) (q r : ℕ × ℕ) → IsStrictlySortedBy pair_cmp xs → j < k → Stands xs j q → Stands xs k r → pair_cmp q r ≡ Less
+unfolding IsStrictlySortedBy
+strictly [] j k q r s h a b = absurd (stands_none j q a)
+strictly (x ∷ xs) j zero q r s h a b = absurd (omega arith)
+strictly (x ∷ xs) zero (suc k) q r s h a b =
+    let e : x ≡ q = cc in
+    subst (λ (z : ℕ × ℕ). pair_cmp z r ≡ Less) e (all_stand (λ y. pair_cmp x y ≡ Less) xs k r s.0 b)
+strictly (x ∷ xs) (suc j) (suc k) q r s h a b = strictly xs j k q r s.1 (omega arith) a b
+
+pub one_contains : {A : Type 0} (xs : List A) (x : A) → IsOneOf xs x → Contains xs x
+one_contains xs x one = (one.place, stands_within xs one.place x one.stands, get_or_from_slice_get xs one.place x x one.stands)
+
+pub contains_one : {A : Type 0} (xs : List A) (x : A) → Contains xs x → IsOneOf xs x
+contains_one {A} xs x c = record { place = c.0; stands = slice_get-get_or xs c.0 x c.1 ∙ ap (λ (y : A). Some y) c.2 }
+
+-- the pairs, sorted and each once
+pub readers_sorted : (p : GtsParts) (pairs sorted kept : List (ℕ × ℕ)) → AreNamed p (length p.assigns.items) pairs → IsPermutation pairs sorted → IsSorted pair_cmp sorted → IsFiltered (DiffersFromLast pair_eq) [] sorted kept → AreReaders p kept
+readers_sorted p pairs sorted kept a perm order filtered =
+    let is : kept ≡ dedup pair_eq sorted = dedup_is pair_eq sorted kept filtered in
+    let P : List (ℕ × ℕ) → Type 0 = λ z. AreReaders p z in
+    subst P (sym is) (record {
+      only = λ x n o. a.only (x, n) (back (x, n) o);
+      all = λ x n r. there (x, n) (a.all x n (stands_within p.assigns.items n r.assign r.stands) r);
+      ascending = λ j k q r h s t. comes_before q r (strictly (dedup pair_eq sorted) j k q r (IsStrictlySortedBy-dedup pair_total pair_ties sorted order) h s t);
+    })
+  where
+    there : (q : ℕ × ℕ) → IsOneOf pairs q → IsOneOf (dedup pair_eq sorted) q
+    there q o = contains_one (dedup pair_eq sorted) q (Contains-dedup pair_equiv pair_same sorted q (Contains-permutation pairs sorted q perm (one_contains pairs q o)))
+
+    back : (q : ℕ × ℕ) → IsOneOf (dedup pair_eq sorted) q → IsOneOf pairs q
+    back q o = contains_one pairs q (unsort q (Contains-from_dedup pair_eq sorted q (one_contains (dedup pair_eq sorted) q o)))
+      where
+        unsort : (q : ℕ × ℕ) → Contains sorted q → Contains pairs q
+        unsort q c = Contains-permutation sorted pairs q (IsPermutation-sym pairs sorted perm) c

@@ -1,0 +1,94 @@
+-- How the facts are gathered: which assignments wait to be looked at, and how many facts may still come.
+use Rattle.std.specs.Prelude.{◌≡◌, ℕ, ◌+◌, ◌*◌, ◌<◌, ◌≤◌, ◌⊎◌, Bool, true, false, cond, nat_eq, List, [], ◌∷◌, ◌||◌, length}
+use Rattle.std.specs.Ordering.{int_eq}
+use Rattle.ar_base.specs.Lists.{Stands, IsOneOf}
+use Rattle.domains.specs.Domains.{values_of}
+use Rattle.domains.specs.declared.Value.{Value}
+use Rattle.domains.specs.declared.Value.TheVariants.{Truth, Whole, Symbol}
+use Rattle.typed_expr.specs.Yields.{Yields}
+use Rattle.typed_expr.specs.declared.expr.Expr.{out-Expr}
+use Rattle.ar_meaning.specs.Facts.{Passes, Allows}
+use Rattle.gts_core.specs.View.{assign_of, net_of}
+use Rattle.gts_core.specs.declared.system.Variable.{Variable}
+use Rattle.gts_core.specs.declared.system.Assign.{Assign}
+use Rattle.gts_core.specs.declared.system.GtsParts.{GtsParts}
+use Rattle.flow_propagate.specs.Table.{Rows, row_at, Holds, IsClosed, Moves}
+use Rattle.flow_propagate.specs.declared.worklist.Worklist.{Worklist}
+
+-- whether two values are the same
+abbrev pub is_same : Value → Value → Bool
+is_same (Truth true) (Truth b) = b
+is_same (Truth false) (Truth b) = cond b false true
+is_same (Whole m) (Whole n) = int_eq m n
+is_same (Symbol m) (Symbol n) = nat_eq m n
+is_same (Truth a) (Whole n) = false
+is_same (Truth a) (Symbol n) = false
+is_same (Whole m) (Truth b) = false
+is_same (Whole m) (Symbol n) = false
+is_same (Symbol m) (Truth b) = false
+is_same (Symbol m) (Whole n) = false
+
+-- whether the row has the value
+abbrev pub has_value : Value → List Value → Bool
+has_value v [] = false
+has_value v (w ∷ ws) = is_same v w || has_value v ws
+
+-- how many of the values the row lacks
+abbrev pub lacking : List Value → List Value → ℕ
+lacking [] row = 0
+lacking (v ∷ vs) row = cond (has_value v row) 0 1 + lacking vs row
+
+-- how many pairs of a variable and a value of its domain the table lacks, for the variables from number n on
+abbrev pub missing_from : ℕ → List Variable → Rows → ℕ
+missing_from n [] rows = 0
+missing_from n (x ∷ xs) rows = lacking (values_of x.domain) (row_at rows n) + missing_from (n + 1) xs rows
+
+abbrev pub missing : GtsParts → Rows → ℕ
+missing p rows = missing_from 0 p.variables.items rows
+
+-- an assignment's target got what the assignment yields from the table before
+pub record Applies (p : GtsParts) (a : Assign) (old new : Rows) (changed : Bool) : Type 0 where
+  pub moves : Moves (net_of p) old new
+  pub others : (n : ℕ) (v : Value) → Holds new n v → (n ≡ a.target.n → ⊥) → Holds old n v
+  pub still : changed ≡ false → new ≡ old
+  pub done : (v : Value) → Passes (Holds old) (assign_of a).conditions → Yields (Holds old) (out-Expr ℕ (assign_of a).value) v → Allows (net_of p) a.target.n v → Holds new a.target.n v
+  pub less : changed ≡ true → missing p new < missing p old
+
+-- the assignment of this number waits
+abbrev pub Waits : Worklist → ℕ → Type 0
+Waits work n = Stands work.waits.items n true
+
+-- each assignment that waits is on the stack, which has numbers of assignments alone
+pub record IsWorklist (count : ℕ) (work : Worklist) : Type 0 where
+  pub long : length work.waits.items ≡ count
+  pub stacked : (n : ℕ) → Waits work n → IsOneOf work.stack.items n
+  pub below : (n : ℕ) → IsOneOf work.stack.items n → n < count
+
+-- the assignment of this number was taken
+pub record Takes (count : ℕ) (n : ℕ) (old new : Worklist) : Type 0 where
+  pub is : IsWorklist count new
+  pub below : n < count
+  pub less : length old.stack.items ≡ length new.stack.items + 1
+  pub others : (m : ℕ) → Waits old m → (m ≡ n) ⊎ Waits new m
+
+-- the assignments whose numbers have P were added, by so many steps at most
+pub record AddsWork (count most : ℕ) (P : ℕ → Type 0) (old new : Worklist) : Type 0 where
+  pub is : IsWorklist count new
+  pub few : length new.stack.items ≤ length old.stack.items + most
+  pub keeps : (m : ℕ) → Waits old m → Waits new m
+  pub adds : (m : ℕ) → P m → Waits new m
+
+-- each assignment waits, or the table has what it adds
+abbrev pub IsSettled : GtsParts → Rows → Worklist → Type 0
+IsSettled p rows work = (m : ℕ) (a : Assign) → Stands p.assigns.items m a → Waits work m ⊎ IsClosed (net_of p) rows (assign_of a)
+
+-- what is left to do: for each fact that may still come one look at each reader, and the looks that wait
+abbrev pub work_left : GtsParts → ℕ → Rows → Worklist → ℕ
+work_left p readers rows work = (readers + 1) * missing p rows + length work.stack.items
+
+-- one assignment was looked at
+pub record LooksAt (p : GtsParts) (readers n : ℕ) (old : Rows) (before : Worklist) (new : Rows) (after : Worklist) : Type 0 where
+  pub moves : Moves (net_of p) old new
+  pub is : IsWorklist (length p.assigns.items) after
+  pub settled : ((m : ℕ) (a : Assign) → Stands p.assigns.items m a → (m ≡ n) ⊎ (Waits before m ⊎ IsClosed (net_of p) old (assign_of a))) → IsSettled p new after
+  pub less : work_left p readers new after ≤ work_left p readers old before

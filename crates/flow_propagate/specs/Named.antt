@@ -1,0 +1,31 @@
+-- The pairs that are gathered for the variables that an assignment names.
+use Rattle.std.specs.Prelude.{◌≡◌, ◌<◌, ℕ, ◌⊎◌, List}
+use Rattle.ar_base.specs.Lists.{IsOneOf}
+use Rattle.typed_expr.specs.Mentions.{Mentions}
+use Rattle.typed_expr.specs.declared.expr.Expr.{out-Expr}
+use Rattle.gts_core.specs.View.{VarId}
+use Rattle.gts_core.specs.declared.system.Assign.{Assign}
+use Rattle.gts_core.specs.declared.system.GtsParts.{GtsParts}
+use Rattle.flow_propagate.specs.Plan.{Tests, Reads}
+
+-- a variable that has P, by its number, with the assignment's
+pub record IsPairFor (n : ℕ) (P : VarId → Type 0) (q : ℕ × ℕ) : Type 0 where
+  pub variable : VarId
+  pub has : P variable
+  pub first : q.0 ≡ variable.n
+  pub second : q.1 ≡ n
+
+-- the list got the pairs of assignment n and the variables that have P
+pub record AddsNamed (n : ℕ) (P : VarId → Type 0) (old new : List (ℕ × ℕ)) : Type 0 where
+  pub grows : (q : ℕ × ℕ) → IsOneOf old q → IsOneOf new q
+  pub only : (q : ℕ × ℕ) → IsOneOf new q → IsOneOf old q ⊎ IsPairFor n P q
+  pub all : (x : VarId) → P x → IsOneOf new (x.n, n)
+
+-- the assignment names the variable in its value or in a condition
+abbrev pub NamesVariable : Assign → VarId → Type 0
+NamesVariable a x = Mentions x (out-Expr VarId a.value) ⊎ Tests x a.when.items
+
+-- the pairs of a variable and one of the first so many assignments that names it
+pub record AreNamed (p : GtsParts) (count : ℕ) (pairs : List (ℕ × ℕ)) : Type 0 where
+  pub only : (q : ℕ × ℕ) → IsOneOf pairs q → Reads p q.0 q.1
+  pub all : (x n : ℕ) → n < count → Reads p x n → IsOneOf pairs (x, n)

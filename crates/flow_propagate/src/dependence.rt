@@ -1,0 +1,88 @@
+// How the flows depend on each other.
+
+ghost use Rattle.std.specs.Prelude.{◌≡◌, ◌<◌, ◌+◌, ◌^◌, if◌then◌else◌, length, IfOk};
+ghost use Rattle.gts_core.specs.Sound.{IsSound};
+ghost use Rattle.flow_propagate.specs.Plan.{AreReaders, Reads, flow_count};
+ghost use Rattle.flow_propagate.specs.Dependence.{ArePlaces, AreUses, AddsUse};
+
+use ar_base::Memory;
+use flow_blocks::Graph;
+use gts_core::{GtsParts, Variable};
+use std::alloc::Global;
+
+// How many flows stand before each variable, and how many there are.
+#[derive(Drop)]
+pub(crate) struct FlowPlaces {
+    pub(crate) before: Vec<u32>,
+    pub(crate) count: u32,
+}
+
+// The places of the flows among the flows.
+pub(crate) fn flow_places(alloc: Global, variables: &[Variable]) -> Result<FlowPlaces, Memory>
+    requires { length variables.now < 2 ^ 32 }
+    ensures places { IfOk result (λ places. ArePlaces variables.now (length variables.now) places.before.items) }
+    ensures count { IfOk result (λ places. places.count ≡ flow_count variables.now) }
+{
+    let mut before = Vec::new(alloc);
+    let mut count = 0;
+    for variable in variables {
+        before.push(count)?;
+        count = next_count(count, variable.is_state);
+    }
+    Ok(FlowPlaces { before, count })
+}
+
+// One more where the variable is a flow.
+fn next_count(count: u32, is_state: bool) -> u32
+    requires { count + 1 < 2 ^ 32 }
+    ensures { result ≡ count + (if is_state then 0 else 1) }
+{
+    if is_state { count } else { count + 1 }
+}
+
+// The flows with their dependences.
+pub(crate) fn dependences(
+    alloc: Global,
+    parts: &GtsParts,
+    places: &FlowPlaces,
+    readers: &[(u32, u32)],
+) -> Result<Graph, Memory>
+    requires sound { IsSound parts.now }
+    requires places { ArePlaces parts.now.variables.items (length parts.now.variables.items) places.now.before.items }
+    requires readers { AreReaders parts.now readers.now }
+    ensures uses { IfOk result (λ graph. AreUses parts.now graph.uses.items) }
+    ensures count { IfOk result (λ graph. graph.count ≡ places.now.count) }
+{
+    let mut uses = Vec::new(alloc);
+    for (variable, assign) in readers {
+        add_use(parts, places, *variable, *assign, &mut uses)?;
+    }
+    Ok(Graph {
+        count: places.count,
+        uses,
+    })
+}
+
+// Adds the dependence of an assignment's target on a variable that the assignment names, where the variable is a flow.
+fn add_use(
+    parts: &GtsParts,
+    places: &FlowPlaces,
+    variable: u32,
+    assign: u32,
+    uses: &mut Vec<(u32, u32)>,
+) -> Result<(), Memory>
+    requires sound { IsSound parts.now }
+    requires places { ArePlaces parts.now.variables.items (length parts.now.variables.items) places.now.before.items }
+    requires reads { Reads parts.now variable assign }
+    ensures { IfOk result (λ _. AddsUse parts.now variable assign uses.old.items uses.new.items) }
+{
+    if parts.variables[variable as usize].is_state {
+        return Ok(());
+    }
+    let target = parts.assigns[assign as usize].target.n;
+    uses.push((
+        places.before[target as usize],
+        places.before[variable as usize],
+    ))?;
+    Ok(())
+}

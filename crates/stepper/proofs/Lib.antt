@@ -1,0 +1,16 @@
+pub mod Answers
+pub mod Reading
+pub mod Firing
+pub mod Taking
+pub mod Lists
+pub mod Placing
+pub mod Renewing
+pub mod Marked
+pub mod Receiving
+pub mod Moving
+pub mod Totals
+pub mod Growing
+pub mod Acting
+pub mod Stepping
+pub mod Going
+pub mod TinySystem

@@ -1,0 +1,88 @@
+-- Ways that are put in order.
+use Rattle.std.proofs.Common.{◌≡◌, ◌<◌, ◌⊎◌, ℕ, zero, suc, Bool, true, false, ◌&&◌, List, [], ◌∷◌, ◌++◌, length, set, refl, sym, ap, ◌∙◌, subst, inl, inr, arith, length-set}
+use Rattle.std.specs.List.{list_all}
+use Rattle.ar_base.specs.Lists.{Stands, IsOneOf}
+use Rattle.ar_base.proofs.Standing.{stands_left, stands_next, stands_within, stands_one}
+use Rattle.gts_core.specs.View.{WayId}
+use Rattle.gts_core.specs.declared.system.Way.{Way}
+use Rattle.gts_core.specs.declared.system.WayBody.{WayBody}
+use Rattle.gts_core.specs.declared.system.WayBody.TheVariants.{Local, Sync}
+use Rattle.gts_core.specs.declared.system.GtsParts.{GtsParts}
+use Rattle.stepper.specs.Ways.{flag_at, parts_of, HasPart, IsOrder, IsPlacing, are_set, are_placed}
+use Rattle.stepper.proofs.Lists.{flag_same, flag_kept, flag_from, one_more}
+
+and_first : (a b : Bool) → (a && b) ≡ true → a ≡ true
+and_first true b h = refl
+and_first false b h = h
+
+and_second : (a b : Bool) → (a && b) ≡ true → b ≡ true
+and_second true b h = h
+and_second false b h = absurd (cc h)
+
+-- each part of a way whose parts are placed is placed
+set_each : (placed : List Bool) (ps : List (Bool × WayId)) → are_set placed ps ≡ true → (k : ℕ) (q : Bool × WayId) → Stands ps k q → flag_at placed q.1.n ≡ true
+set_each placed [] h zero q s = cc
+set_each placed [] h (suc k) q s = cc
+set_each placed (r ∷ ps) h zero q s = let same : r ≡ q = cc in subst (λ (z : Bool × WayId). flag_at placed z.1.n ≡ true) same (and_first (flag_at placed r.1.n) (are_set placed ps) h)
+set_each placed (r ∷ ps) h (suc k) q s = set_each placed ps (and_second (flag_at placed r.1.n) (are_set placed ps) h) k q s
+
+placed_each : (placed : List Bool) (b : WayBody) → are_placed placed b ≡ true → (q : Bool × WayId) → IsOneOf (parts_of b) q → flag_at placed q.1.n ≡ true
+placed_each placed (Local guard action) h q one = set_each placed [] refl one.place q one.stands
+placed_each placed (Sync parts) h q one = set_each placed parts.items h one.place q one.stands
+
+module _ (p : GtsParts) (order : List WayId) (placed : List Bool) (is : IsPlacing p order placed) where
+  -- one more way, whose parts are placed
+  pub place_more : (id : WayId) (way : Way) → Stands p.ways.items id.n way → (flag_at placed id.n ≡ true → ⊥) → are_placed placed way.body ≡ true → IsPlacing p (order ++ id ∷ []) (set placed id.n true)
+  place_more id way st fresh ready = record {
+    long = length-set placed id.n true ∙ is.long;
+    inside = λ k a s. elim (one_more order id k a s) [
+      | inl s ↦ (let i = is.inside k a s in (i.0, flag_kept placed id.n a.n i.1))
+      | inr e ↦ (subst (λ (z : WayId). z.n < length p.ways.items) (sym e.1) below, subst (λ (z : WayId). flag_at (set placed id.n true) z.n ≡ true) (sym e.1) here)
+    ];
+    all = λ n h. elim (flag_from placed id.n n h) [
+      | inl h ↦ (let a = is.all n h in (a.0, a.1, stands_left order (id ∷ []) a.0 a.1 a.2, a.3))
+      | inr e ↦ (length order, id, stands_next order id [], sym e)
+    ];
+    after = λ j k a other part s has t e. after j k a other part (one_more order id k a s) has (one_more order id j other t) e;
+    ready = λ k a part s has. elim (one_more order id k a s) [
+      | inl s ↦ flag_kept placed id.n part.1.n (is.ready k a part s has)
+      | inr e ↦ flag_kept placed id.n part.1.n (parts_ready part (subst (λ (z : WayId). HasPart p z.n part) e.1 has))
+    ];
+  }
+    where
+      below : id.n < length p.ways.items
+      below = stands_within p.ways.items id.n way st
+
+      here : flag_at (set placed id.n true) id.n ≡ true
+      here = flag_same placed id.n true (omega (arith, below, is.long))
+
+      parts_ready : (part : Bool × WayId) → HasPart p id.n part → flag_at placed part.1.n ≡ true
+      parts_ready part has =
+          let same : has.way ≡ way = stands_one p.ways.items id.n has.way way has.stands st in
+          placed_each placed way.body ready part (subst (λ (z : Way). IsOneOf (parts_of z.body) part) same has.is_part)
+
+      after : (j k : ℕ) (a other : WayId) (part : Bool × WayId) → (Stands order k a) ⊎ ((k ≡ length order) × (a ≡ id)) → HasPart p a.n part → (Stands order j other) ⊎ ((j ≡ length order) × (other ≡ id)) → other.n ≡ part.1.n → j < k
+      after j k a other part (inl s) has (inl t) e = is.after j k a other part s has t e
+      after j k a other part (inl s) has (inr t) e =
+          let set : flag_at placed part.1.n ≡ true = is.ready k a part s has in
+          let n : other.n ≡ id.n = ap (λ (z : WayId). z.n) t.1 in
+          absurd (fresh (subst (λ (z : ℕ). flag_at placed z ≡ true) (sym e ∙ n) set))
+      after j k a other part (inr s) has (inl t) e = let h = stands_within order j other t in omega (arith, h, s.0)
+      after j k a other part (inr s) has (inr t) e =
+          let set : flag_at placed part.1.n ≡ true = parts_ready part (subst (λ (z : WayId). HasPart p z.n part) s.1 has) in
+          let n : other.n ≡ id.n = ap (λ (z : WayId). z.n) t.1 in
+          absurd (fresh (subst (λ (z : ℕ). flag_at placed z ≡ true) (sym e ∙ n) set))
+
+  all_set : (flags : List Bool) → list_all (λ (b : Bool). b) flags ≡ true → (n : ℕ) → n < length flags → flag_at flags n ≡ true
+  all_set [] h n b = absurd (omega (arith, b))
+  all_set (true ∷ flags) h zero b = refl
+  all_set (true ∷ flags) h (suc n) b = all_set flags h n (omega (arith, b))
+  all_set (false ∷ flags) h n b = absurd (cc h)
+
+  -- all ways are placed
+  pub all_placed : list_all (λ (b : Bool). b) placed ≡ true → IsOrder p order
+  all_placed h = record {
+    inside = λ k a s. (is.inside k a s).0;
+    all = λ n below. is.all n (all_set placed h n (omega (arith, below, is.long)));
+    after = is.after;
+  }

@@ -1,0 +1,5 @@
+use Rattle.stepper.specs.Ways.{IsPlacing}
+use Rattle.stepper.proofs.order.way_order.Given as goal
+
+abbrev pub invariant-loop-n : goal.invariant-loop-n
+invariant-loop-n l = IsPlacing l.parts l.placing.order.items l.placing.placed.items

@@ -1,0 +1,47 @@
+-- What callers see of a stepper, and what its calls answer.
+use Rattle.std.specs.Prelude.{ℕ, List, Result, Ok, Err, ⊤}
+use Rattle.domains.specs.declared.Value.{Value}
+use Rattle.ar_meaning.specs.Systems as s
+use Rattle.ar_meaning.specs.Runs.{StartFails}
+use Rattle.ar_meaning.specs.Steps as steps
+use Rattle.ar_meaning.specs.Facts.{HasValue}
+use Rattle.ar_meaning.specs.Ways.{Can, Effects}
+use Rattle.ar_base.specs.Lists.{HasNo}
+use Rattle.gts_core.specs.declared.system.Valuation.{Valuation}
+use Rattle.gts_core.specs.declared.system.GtsParts.{GtsParts}
+use Rattle.flow_propagate.specs.Answers.{fault_of}
+use Rattle.flow_propagate.specs.declared.propagation.PropagateFault.{PropagateFault}
+use Rattle.flow_propagate.specs.declared.propagation.PropagateFault.TheVariants as propagates
+use Rattle.stepper.specs.declared.faults.StepFault.{StepFault}
+use Rattle.stepper.specs.declared.faults.StepFault.TheVariants as fault
+
+-- the system, the present valuation, and the standing valuations below it, the nearest first
+pub record Standing : Type 0 where
+  pub system : GtsParts
+  pub values : List Value
+  pub below : List (List Value)
+
+-- the fault is the one of the start; want of memory says nothing
+abbrev pub IsStartFault : s.Net ℕ → PropagateFault → Type 0
+IsStartFault net (propagates.Flow f) = StartFails net (fault_of f)
+IsStartFault net propagates.Memory = ⊤
+
+-- the fault is the one that firing the way from t gives; want of memory says nothing
+abbrev pub IsStepFault : s.Net ℕ → List Value → s.Way ℕ → StepFault → Type 0
+IsStepFault net t w fault.NotEnabled = steps.Step net t w (steps.Refused steps.NotEnabled)
+IsStepFault net t w (fault.Clash x) = steps.Step net t w (steps.Refused (steps.Clash x.n))
+IsStepFault net t w (fault.Range x) = steps.Step net t w (steps.Refused (steps.Range x.n))
+IsStepFault net t w (fault.Flow f) = steps.Step net t w (steps.Refused (steps.Flow (fault_of f)))
+IsStepFault net t w fault.Memory = ⊤
+
+-- the new valuation, or the fault
+abbrev pub IsStepAnswer : s.Net ℕ → List Value → s.Way ℕ → Result Valuation StepFault → Type 0
+IsStepAnswer net t w (Ok next) = steps.Step net t w (steps.Next next.values.items)
+IsStepAnswer net t w (Err f) = IsStepFault net t w f
+
+-- the way can be fired from t without a fault before the flows, and leads to this state
+pub record IsReady (net : s.Net ℕ) (t : List Value) (w : s.Way ℕ) (state : List Value) : Type 0 where
+  pub can : Can (HasValue net t) w
+  pub no_clash : HasNo net.variables (steps.Clashes (Effects (HasValue net t) w))
+  pub no_range : HasNo net.variables (steps.LeavesDomain (Effects (HasValue net t) w))
+  pub receives : steps.Receives (Effects (HasValue net t) w) net.variables t state

@@ -4,6 +4,7 @@ pub mod Firing
 pub mod Taking
 pub mod Lists
 pub mod Placing
+pub mod Heights
 pub mod Renewing
 pub mod Marked
 pub mod Receiving

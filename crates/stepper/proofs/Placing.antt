@@ -1,6 +1,5 @@
 -- Ways that are put in order.
-use Rattle.std.proofs.Common.{◌≡◌, ◌<◌, ◌⊎◌, ℕ, zero, suc, Bool, true, false, ◌&&◌, List, [], ◌∷◌, ◌++◌, length, set, refl, sym, ap, ◌∙◌, subst, inl, inr, arith, length-set}
-use Rattle.std.specs.List.{list_all}
+use Rattle.std.proofs.Common.{◌≡◌, ◌<◌, ◌≤◌, ◌+◌, ◌-◌, ◌⊎◌, ℕ, zero, suc, Bool, true, false, ◌&&◌, List, [], ◌∷◌, ◌++◌, length, set, refl, sym, ap, ◌∙◌, subst, inl, inr, arith, length-set, below_more}
 use Rattle.ar_base.specs.Lists.{Stands, IsOneOf}
 use Rattle.ar_base.proofs.Standing.{stands_left, stands_next, stands_within, stands_one}
 use Rattle.gts_core.specs.View.{WayId}
@@ -8,7 +7,7 @@ use Rattle.gts_core.specs.declared.system.Way.{Way}
 use Rattle.gts_core.specs.declared.system.WayBody.{WayBody}
 use Rattle.gts_core.specs.declared.system.WayBody.TheVariants.{Local, Sync}
 use Rattle.gts_core.specs.declared.system.GtsParts.{GtsParts}
-use Rattle.stepper.specs.Ways.{flag_at, parts_of, HasPart, IsOrder, IsPlacing, are_set, are_placed}
+use Rattle.stepper.specs.Ways.{flag_at, parts_of, HasPart, IsOrder, IsPlacing, Keeps, ArePlaced, are_set, are_placed}
 use Rattle.stepper.proofs.Lists.{flag_same, flag_kept, flag_from, one_more}
 
 and_first : (a b : Bool) → (a && b) ≡ true → a ≡ true
@@ -73,16 +72,35 @@ module _ (p : GtsParts) (order : List WayId) (placed : List Bool) (is : IsPlacin
           let n : other.n ≡ id.n = ap (λ (z : WayId). z.n) t.1 in
           absurd (fresh (subst (λ (z : ℕ). flag_at placed z ≡ true) (sym e ∙ n) set))
 
-  all_set : (flags : List Bool) → list_all (λ (b : Bool). b) flags ≡ true → (n : ℕ) → n < length flags → flag_at flags n ≡ true
-  all_set [] h n b = absurd (omega (arith, b))
-  all_set (true ∷ flags) h zero b = refl
-  all_set (true ∷ flags) h (suc n) b = all_set flags h n (omega (arith, b))
-  all_set (false ∷ flags) h n b = absurd (cc h)
+-- one part more is placed
+pub placed_more : (old mid new : List Bool) (parts : List (Bool × WayId)) (i : ℕ) (q : Bool × WayId) → Stands parts i q → Keeps mid new → flag_at new q.1.n ≡ true
+    → ArePlaced mid parts i → ArePlaced new parts (i + 1)
+placed_more old mid new parts i q st keeps here are = record { each = below_more (λ (k : ℕ). (r : Bool × WayId) → Stands parts k r → flag_at new r.1.n ≡ true) i (λ k less r s. keeps.keeps r.1.n (are.each k less r s)) last }
+  where
+    last : (r : Bool × WayId) → Stands parts i r → flag_at new r.1.n ≡ true
+    last r s = let same : q ≡ r = stands_one parts i q r st s in subst (λ (z : Bool × WayId). flag_at new z.1.n ≡ true) same here
 
-  -- all ways are placed
-  pub all_placed : list_all (λ (b : Bool). b) placed ≡ true → IsOrder p order
-  all_placed h = record {
-    inside = λ k a s. (is.inside k a s).0;
-    all = λ n below. is.all n (all_set placed h n (omega (arith, below, is.long)));
-    after = is.after;
-  }
+pub keeps_on : (old mid new : List Bool) → Keeps old mid → Keeps mid new → Keeps old new
+keeps_on old mid new a b = record { keeps = λ n h. b.keeps n (a.keeps n h) }
+
+-- all parts are placed
+pub each_set : (placed : List Bool) (ps : List (Bool × WayId)) (n : ℕ) → length ps ≤ n → ArePlaced placed ps n → are_set placed ps ≡ true
+each_set placed [] n low are = refl
+each_set placed (r ∷ ps) n low are =
+    both (flag_at placed r.1.n) (are_set placed ps) (are.each 0 (omega (arith, low)) r refl)
+    (each_set placed ps (n - 1) (omega (arith, low)) (record { each = λ k below q s. are.each (suc k) (omega (arith, below)) q s }))
+  where
+    both : (a b : Bool) → a ≡ true → b ≡ true → (a && b) ≡ true
+    both a b h k = cc
+
+-- each of the first so many ways is placed, and there are no more
+pub all_ordered : (p : GtsParts) (order : List WayId) (placed : List Bool) (count : ℕ) → length p.ways.items ≤ count → IsPlacing p order placed
+    → ((k : ℕ) → k < count → flag_at placed k ≡ true) → IsOrder p order
+all_ordered p order placed count long is each = record {
+  inside = λ k a s. (is.inside k a s).0;
+  all = λ n below. is.all n (each n (omega (arith, below, long)));
+  after = is.after;
+}
+
+pub keeps_same : (old : List Bool) → Keeps old old
+keeps_same old = record { keeps = λ n h. h }

@@ -94,3 +94,11 @@ pub record AreTakers (p : GtsParts) (flags : List Bool) (top : ℕ) (marks : Lis
 abbrev pub are_placed : List Bool → WayBody → Bool
 are_placed placed (Local guard action) = true
 are_placed placed (Sync parts) = are_set placed parts.items
+
+-- what was set stays set
+pub record Keeps (old new : List Bool) : Type 0 where
+  pub keeps : (n : ℕ) → flag_at old n ≡ true → flag_at new n ≡ true
+
+-- the first so many of these parts are placed
+pub record ArePlaced (placed : List Bool) (parts : List (Bool × WayId)) (count : ℕ) : Type 0 where
+  pub each : (k : ℕ) → k < count → (q : Bool × WayId) → Stands parts k q → flag_at placed q.1.n ≡ true

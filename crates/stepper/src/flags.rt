@@ -1,9 +1,8 @@
 // Which ways can fire.
 
 ghost use Rattle.std.specs.Prelude.{◌≡◌, ◌<◌, true, false, length, replicate, IfOk};
-ghost use Rattle.std.specs.List.{list_all};
 ghost use Rattle.gts_core.specs.Sound.{IsSound};
-ghost use Rattle.stepper.specs.Ways.{flag_at, can_by, are_placed, are_set, musts_by, some_by, has_must_in, IsOrder, IsTotal, AreFlags};
+ghost use Rattle.stepper.specs.Ways.{flag_at, can_by, musts_by, some_by, has_must_in, IsOrder, IsTotal, AreFlags};
 
 use crate::readings::is_met;
 use ar_base::{Memory, WayId};
@@ -27,39 +26,6 @@ pub(crate) fn is_set(flags: &[bool], way: WayId) -> bool
         Some(flag) => *flag,
         None => false,
     }
-}
-
-/// Whether each flag is set.
-pub(crate) fn are_all_set(flags: &[bool]) -> bool
-    ensures { result ≡ list_all (λ b. b) flags.now }
-{
-    for flag in flags {
-        if !*flag {
-            return false;
-        }
-    }
-    true
-}
-
-// Whether all parts of a way are placed.
-pub(crate) fn are_placed(placed: &[bool], body: &WayBody) -> bool
-    ensures { result ≡ are_placed placed.now body.now }
-{
-    match body {
-        WayBody::Local(_, _) => true,
-        WayBody::Sync(parts) => all_set(placed, parts),
-    }
-}
-
-fn all_set(flags: &[bool], parts: &[(bool, WayId)]) -> bool
-    ensures { result ≡ are_set flags.now parts.now }
-{
-    for (_, way) in parts {
-        if !is_set(flags, *way) {
-            return false;
-        }
-    }
-    true
 }
 
 // Whether one of the parts is marked `!`.

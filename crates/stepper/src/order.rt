@@ -1,10 +1,15 @@
 // The ways in an order in which each comes after its parts.
 
-ghost use Rattle.std.specs.Prelude.{◌≡◌, ◌<◌, true, length, IfOk, IfSome, OnOk};
+ghost use Rattle.std.specs.Prelude.{◌≡◌, ◌<◌, ◌≤◌, ℕ, true, length, map, IfOk, OnOk};
+ghost use Rattle.ar_meaning.specs.Systems.{Way, Branches, Transition};
+ghost use Rattle.ar_meaning.specs.Numbered.{height, branches_height, Mean_parts};
+ghost use Rattle.ar_base.specs.Lists.{Stands};
 ghost use Rattle.gts_core.specs.Sound.{IsSound};
-ghost use Rattle.stepper.specs.Ways.{IsOrder, IsPlacing};
+ghost use Rattle.gts_core.specs.declared.system.Way.{Way as Ways};
+ghost use Rattle.gts_core.specs.View.{IsWayAt, bodies_of, part_of};
+ghost use Rattle.stepper.specs.Ways.{IsOrder, IsPlacing, are_set, are_placed, flag_at, Keeps};
 
-use crate::flags::{are_all_set, are_placed, is_set, unset};
+use crate::flags::{is_set, unset};
 use ar_base::{Memory, WayId};
 use gts_core::{GtsParts, WayBody};
 use std::alloc::Global;
@@ -16,99 +21,75 @@ pub(crate) struct Placing {
     placed: Vec<bool>,
 }
 
-// A way whose parts are being placed, and how many of them are.
-#[derive(Clone, Copy)]
-struct Open {
-    way: WayId,
-    next: usize,
-}
-
 /// All ways of a system, each after its parts.
-///
-/// The parts of a way are placed before it, from a stack of ways whose parts are not all placed yet. No way leads back to
-/// itself, so each is put on the stack at most once from one first way, and the turns suffice.
 pub(crate) fn way_order(alloc: Global, parts: &GtsParts) -> Result<Vec<WayId>, Memory>
     requires { IsSound parts.now }
     ensures { IfOk result (λ order. IsOrder parts.now order.items) }
 {
+    let most = parts.ways.len() as u32;
     let mut placing = Placing {
         order: Vec::new(alloc),
         placed: unset(alloc, parts.ways.len())?,
     };
-    let mut open = Vec::new(alloc);
-    for n in 0..parts.ways.len() {
-        place_under(parts, WayId::new(n as u32), &mut open, &mut placing)?;
-    }
-    if !are_all_set(&placing.placed) {
-        return Err(Memory {});
+    for n in 0..most {
+        place(parts, WayId::new(n), most, &mut placing)?;
     }
     let Placing { order, placed: _ } = placing;
     Ok(order)
 }
 
-// Places a way and the ways below it.
-fn place_under(
+// Places a way behind its parts, where it is not placed yet. No more than `left` joints stand above one another in it,
+// since no way leads back to itself.
+#[cycle(place)]
+fn place(parts: &GtsParts, way: WayId, left: u32, placing: &mut Placing) -> Result<(), Memory>
+    requires deep { (w : Way ℕ) × IsWayAt parts.now way.n w × (height w ≤ left) }
+    requires order { IsPlacing parts.now placing.old.order.items placing.old.placed.items }
+    ensures order { OnOk result (IsPlacing parts.now placing.new.order.items placing.new.placed.items) }
+    ensures keeps { OnOk result (Keeps placing.old.placed.items placing.new.placed.items) }
+    ensures placed { OnOk result (flag_at placing.new.placed.items way.n ≡ true) }
+{
+    let body = &parts.ways[way.n as usize].body;
+    if let WayBody::Sync(ways) = body {
+        place_parts(parts, ways, left - 1, placing)?;
+    }
+    put(parts, way, placing)
+}
+
+// Places the parts of a way.
+#[cycle(place)]
+fn place_parts(
     parts: &GtsParts,
-    root: WayId,
-    open: &mut Vec<Open>,
+    ways: &[(bool, WayId)],
+    left: u32,
     placing: &mut Placing,
 ) -> Result<(), Memory>
-    requires sound { IsSound parts.now }
+    requires deep { (bs : Branches (Transition ℕ)) × Mean_parts (bodies_of parts.now) (map part_of ways.now) bs × (branches_height bs ≤ left) }
     requires order { IsPlacing parts.now placing.old.order.items placing.old.placed.items }
-    ensures { OnOk result (IsPlacing parts.now placing.new.order.items placing.new.placed.items) }
+    ensures order { OnOk result (IsPlacing parts.now placing.new.order.items placing.new.placed.items) }
+    ensures keeps { OnOk result (Keeps placing.old.placed.items placing.new.placed.items) }
+    ensures placed { OnOk result (are_set placing.new.placed.items ways.now ≡ true) }
 {
-    open.clear();
-    open.push(Open { way: root, next: 0 })?;
-    for _turn in 0..turns(parts.ways.len()) {
-        let Some(top) = open.pop() else {
-            return Ok(());
-        };
-        match first_unplaced(parts, &placing.placed, top) {
-            Some((next, part)) => {
-                open.push(Open { way: top.way, next })?;
-                open.push(Open { way: part, next: 0 })?;
-            }
-            None => place(parts, top.way, placing)?,
+    for (_, way) in ways {
+        if !is_set(&placing.placed, *way) {
+            place(parts, *way, left, placing)?;
         }
     }
-    Err(Memory {})
+    Ok(())
 }
 
-// More turns than so many ways can take: each is put on the stack once, and taken off it for each of its parts that is.
-fn turns(ways: usize) -> u64 {
-    (ways as u64).saturating_mul(2).saturating_add(3)
-}
-
-// The first part from the next one on that is not placed, with its place among the parts.
-fn first_unplaced(parts: &GtsParts, placed: &[bool], top: Open) -> Option<(usize, WayId)> {
-    let WayBody::Sync(ways) = &parts.ways.get(top.way.n as usize)?.body else {
-        return None;
-    };
-    for next in top.next..ways.len() {
-        let (_, part) = ways[next];
-        if !is_set(placed, part) {
-            return Some((next, part));
-        }
-    }
-    None
-}
-
-// Places a way where it is not placed and all its parts are.
-fn place(parts: &GtsParts, way: WayId, placing: &mut Placing) -> Result<(), Memory>
-    requires { IsPlacing parts.now placing.old.order.items placing.old.placed.items }
-    ensures { OnOk result (IsPlacing parts.now placing.new.order.items placing.new.placed.items) }
+// Puts a way whose parts are placed behind the others, where it is not among them yet.
+fn put(parts: &GtsParts, way: WayId, placing: &mut Placing) -> Result<(), Memory>
+    requires within { way.n < length parts.now.ways.items }
+    requires order { IsPlacing parts.now placing.old.order.items placing.old.placed.items }
+    requires ready { (x : Ways) → Stands parts.now.ways.items way.n x → are_placed placing.old.placed.items x.body ≡ true }
+    ensures order { OnOk result (IsPlacing parts.now placing.new.order.items placing.new.placed.items) }
+    ensures keeps { OnOk result (Keeps placing.old.placed.items placing.new.placed.items) }
+    ensures placed { OnOk result (flag_at placing.new.placed.items way.n ≡ true) }
 {
-    let n = way.n as usize;
-    if n >= parts.ways.len() {
-        return Ok(());
-    }
     if is_set(&placing.placed, way) {
         return Ok(());
     }
-    if !are_placed(&placing.placed, &parts.ways[n].body) {
-        return Ok(());
-    }
     placing.order.push(way)?;
-    placing.placed[n] = true;
+    placing.placed[way.n as usize] = true;
     Ok(())
 }

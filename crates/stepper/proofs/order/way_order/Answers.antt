@@ -1,9 +1,14 @@
-use Rattle.std.proofs.Common.{◌≡◌, true, Bool, List, sym, ap, ◌∙◌}
-use Rattle.std.specs.List.{list_all}
-use Rattle.stepper.proofs.Placing.{all_placed}
+use Rattle.std.proofs.Common.{arith, subst, sym, ◌≡◌, ℕ}
+use Rattle.stepper.proofs.Heights.{HasTree}
+use Rattle.stepper.proofs.Placing.{all_ordered}
 use Rattle.stepper.proofs.order.way_order.Goals as goal
 
+pub place-requires-clause-deep : goal.place-requires-clause-deep
+place-requires-clause-deep c =
+    let p = c.args.parts.now in
+    let tree = c.requires.trees c.loop-n.n (omega arith) in
+    let at : c.new-in-loop-n.result.n ≡ c.loop-n.n = c.new-in-loop-n.ensures in
+    subst (λ (n : ℕ). HasTree p n c.len-most.result) (sym at) (tree.0, tree.1, omega (arith, tree.2))
+
 pub returns : goal.returns
-returns c =
-    let all : list_all (λ (b : Bool). b) c.loop-n.placing.placed.items ≡ true = ap (λ (z : List Bool). list_all (λ (b : Bool). b) z) (sym c.deref.ensures.value) ∙ sym c.are_all_set.ensures ∙ c.if-not-are_all_set.false in
-    all_placed c.args.parts.now c.loop-n.placing.order.items c.loop-n.placing.placed.items c.loop-n.invariant all
+returns c = all_ordered c.args.parts.now c.loop-n.placing.order.items c.loop-n.placing.placed.items c.loop-n.n (omega arith) c.loop-n.invariant.0 c.loop-n.invariant.1

@@ -1,6 +1,0 @@
-use Rattle.std.proofs.Common.{◌≡◌, true, take}
-use Rattle.std.specs.List.{list_all}
-use Rattle.stepper.proofs.flags.are_all_set.Given as goal
-
-abbrev pub invariant-loop-flag : goal.invariant-loop-flag
-invariant-loop-flag l = list_all (λ b. b) (take l.flag-index l.flags) ≡ true

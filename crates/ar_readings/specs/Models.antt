@@ -36,6 +36,6 @@ pub record SameModel (m n : Model) : Type 0 where
   pub names : m.names ≡ n.names
   pub end : m.end ≡ n.end
 
--- a text has one tree at most, whatever the nesting that is allowed
+-- by each limit of nesting, a text has one tree at most
 abbrev pub HasOneTree : List ℕ → Type 0
 HasOneTree bytes = (n : ℕ) (x y : Model) → ReadsWithin n bytes x → ReadsWithin n bytes y → SameModel x y

@@ -13,3 +13,4 @@ mod Missing
 mod Applying
 mod Looking
 mod Worklists
+mod SoundTests

@@ -6,3 +6,4 @@ pub mod Plan
 pub mod Named
 pub mod Dependence
 pub mod Closing
+pub mod Plain

@@ -11,6 +11,8 @@ mod propagation;
 mod readers;
 mod searches;
 mod table;
+#[cfg(test)]
+mod tests;
 mod totals;
 mod worklist;
 

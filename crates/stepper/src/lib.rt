@@ -9,6 +9,7 @@ mod moves;
 mod order;
 mod readings;
 mod received;
+mod sequence;
 mod stepper;
 #[cfg(test)]
 mod tests;

@@ -10,6 +10,7 @@ ghost use Rattle.gts_core.specs.View.{IsWayAt, bodies_of, part_of};
 ghost use Rattle.stepper.specs.Ways.{IsOrder, IsPlacing, are_set, are_placed, flag_at, Keeps};
 
 use crate::flags::{is_set, unset};
+use crate::sequence::parts_first;
 use ar_base::{Memory, WayId};
 use gts_core::{GtsParts, WayBody};
 use std::alloc::Global;
@@ -22,6 +23,9 @@ pub(crate) struct Placing {
 }
 
 /// All ways of a system, each after its parts.
+///
+/// They are put in the order by a recursion over parts. A sequence in which parts mostly come first is gone through
+/// before, so that the recursion stays shallow however deep synchronisations are nested.
 pub(crate) fn way_order(alloc: Global, parts: &GtsParts) -> Result<Vec<WayId>, Memory>
     requires { IsSound parts.now }
     ensures { IfOk result (λ order. IsOrder parts.now order.items) }
@@ -31,11 +35,33 @@ pub(crate) fn way_order(alloc: Global, parts: &GtsParts) -> Result<Vec<WayId>, M
         order: Vec::new(alloc),
         placed: unset(alloc, parts.ways.len())?,
     };
+    let sequence = parts_first(alloc, parts)?;
+    place_each(parts, &sequence, most, &mut placing)?;
     for n in 0..most {
         place(parts, WayId::new(n), most, &mut placing)?;
     }
     let Placing { order, placed: _ } = placing;
     Ok(order)
+}
+
+// Places those of these ways that are ways of the system.
+fn place_each(
+    parts: &GtsParts,
+    ways: &[WayId],
+    most: u32,
+    placing: &mut Placing,
+) -> Result<(), Memory>
+    requires sound { IsSound parts.now }
+    requires most { most ≡ length parts.now.ways.items }
+    requires order { IsPlacing parts.now placing.old.order.items placing.old.placed.items }
+    ensures { OnOk result (IsPlacing parts.now placing.new.order.items placing.new.placed.items) }
+{
+    for way in ways {
+        if way.n < most {
+            place(parts, *way, most, placing)?;
+        }
+    }
+    Ok(())
 }
 
 // Places a way behind its parts, where it is not placed yet. No more than `left` joints stand above one another in it,

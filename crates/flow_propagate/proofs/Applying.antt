@@ -1,5 +1,5 @@
 -- What an assertion's assignment adds to a table.
-use Rattle.std.proofs.Common.{◌≡◌, ◌⊎◌, inl, inr, ℕ, ◌+◌, Bool, true, false, List, Some, None, Contains, refl, sym, ap, ◌∙◌, subst, arith}
+use Rattle.std.proofs.Common.{inl, inr, ℕ, Bool, false, List, Some, None, refl, sym, ◌∙◌, subst, arith}
 use Rattle.ar_base.specs.Lists.{Stands, IsOneOf}
 use Rattle.ar_base.proofs.Standing.{stands_map}
 use Rattle.domains.specs.Domains as domains

@@ -1,8 +1,8 @@
 -- Assignments that are looked at again.
-use Rattle.std.proofs.Common.{◌≡◌, ℕ, zero, suc, ◌+◌, ◌*◌, ◌<◌, ◌≤◌, ◌⊎◌, inl, inr, Bool, true, false, List, [], ◌∷◌, map, length, Some, refl, sym, ap, ◌∙◌, subst, arith}
+use Rattle.std.proofs.Common.{◌≡◌, ℕ, zero, suc, ◌+◌, ◌*◌, ◌<◌, ◌≤◌, ◌⊎◌, inl, inr, Bool, true, false, List, [], ◌∷◌, length, Some, refl, sym, ap, ◌∙◌, subst, arith}
 use Rattle.std.proofs.Math.Nat.{mul-le-mul_left}
 use Rattle.ar_base.specs.Lists.{Stands, IsOneOf}
-use Rattle.ar_base.proofs.Standing.{stands_none, stands_one, stands_within, stands_map_back}
+use Rattle.ar_base.proofs.Standing.{stands_none, stands_one, stands_map_back}
 use Rattle.domains.specs.declared.Value.{Value}
 use Rattle.typed_expr.specs.Yields.{Yields}
 use Rattle.typed_expr.proofs.Facts.{yields_named}
@@ -13,7 +13,7 @@ use Rattle.ar_meaning.proofs.Least.{least}
 use Rattle.gts_core.specs.View.{assign_of, net_of}
 use Rattle.gts_core.specs.declared.system.Assign.{Assign}
 use Rattle.gts_core.specs.declared.system.GtsParts.{GtsParts}
-use Rattle.flow_propagate.specs.Plan.{Tests, in_this, in_later, Names, Reads, AreReaders}
+use Rattle.flow_propagate.specs.Plan.{Tests, in_this, in_later, Names, AreReaders}
 use Rattle.flow_propagate.specs.Table.{Rows, Holds, IsClosed, IsSoundTable, AreFacts}
 use Rattle.flow_propagate.specs.Closing.{Applies, Waits, IsWorklist, Takes, AddsWork, IsSettled, LooksAt, work_left, missing}
 use Rattle.flow_propagate.specs.declared.worklist.Worklist.{Worklist}

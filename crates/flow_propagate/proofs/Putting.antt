@@ -1,25 +1,16 @@
 -- Values that are put into tables.
-use Rattle.std.proofs.Common.{◌≡◌, ℕ, zero, suc, ◌+◌, ◌<◌, ◌≤◌, ◌⊎◌, inl, inr, Bool, true, false, List, [], ◌∷◌, ◌++◌, length, take, get_or, set, Some, None, Contains, Vec, Global, refl, sym, ap, ◌∙◌, subst, arith, length-set}
+use Rattle.std.proofs.Common.{◌≡◌, ℕ, zero, suc, ◌+◌, ◌<◌, ◌⊎◌, inl, inr, Bool, true, false, List, [], ◌∷◌, ◌++◌, length, take, get_or, set, Contains, Vec, Global, refl, sym, ap, ◌∙◌, subst, arith, length-set}
 use Rattle.std.proofs.lemmas.List.{take_more}
 use Rattle.std.proofs.lemmas.List.Elements.{Contains-push, Contains-append_left, Contains-push_cases}
 use Rattle.ar_base.specs.Lists.{Stands, IsOneOf}
-use Rattle.ar_base.proofs.Standing.{stands_map, stands_map_back, stands_within}
 use Rattle.domains.specs.Domains as domains
-use Rattle.domains.proofs.Domains.{listed, held}
 use Rattle.domains.specs.declared.Domain.{Domain}
 use Rattle.domains.specs.declared.Value.{Value}
-use Rattle.typed_expr.proofs.Facts.{yields_more}
-use Rattle.ar_meaning.specs.Systems as s
-use Rattle.ar_meaning.specs.Facts.{Allows, IsGiven, FactOf}
-use Rattle.ar_meaning.proofs.Least.{passes_more, closed, least}
-use Rattle.ar_meaning.proofs.ByNumber.{allowed_from, allowed_at}
-use Rattle.gts_core.specs.View.{assign_of, net_of, variable_of}
 use Rattle.gts_core.specs.Sound.{IsSound}
-use Rattle.gts_core.proofs.Viewing.{variable_there, are_numbered}
 use Rattle.gts_core.specs.declared.system.Variable.{Variable}
 use Rattle.gts_core.specs.declared.system.Assign.{Assign}
 use Rattle.gts_core.specs.declared.system.GtsParts.{GtsParts}
-use Rattle.flow_propagate.specs.Table.{Rows, row_at, Holds, Puts, PutsAll, Moves, IsClosed, IsSoundTable, Reaches, AreFacts}
+use Rattle.flow_propagate.specs.Table.{Rows, row_at, Holds, Puts, PutsAll}
 
 module _ (new : Vec Value Global) where
   set_grows : (rows : Rows) (t : ℕ) → ((w : Value) → Contains (row_at rows t) w → Contains new.items w) → (n : ℕ) (w : Value) → Holds rows n w → Holds (set rows t new) n w

@@ -1,6 +1,6 @@
 -- The systems of the tests are sound.
-use Rattle.std.proofs.Common.{◌≡◌, ℕ, zero, suc, ◌+◌, ◌<◌, ◌≤◌, ◌⊎◌, inl, inr, Bool, true, false, List, [], ◌∷◌, length, Box, Vec, Global, Some, refl, sym, ap, ◌∙◌, subst, arith}
-use Rattle.ar_base.specs.Lists.{Stands, IsOneOf}
+use Rattle.std.proofs.Common.{◌≡◌, ℕ, ◌<◌, List, length, refl, sym, ap, ◌∙◌, subst, arith}
+use Rattle.ar_base.specs.Lists.{Stands}
 use Rattle.ar_base.proofs.Standing.{stands_within, stands_some}
 use Rattle.domains.specs.Domains.{IsDomain, Holds}
 use Rattle.domains.specs.declared.Value.{Value}
@@ -16,8 +16,8 @@ use Rattle.typed_expr.specs.Possible.{IsPart}
 use Rattle.typed_expr.specs.Possible as q
 use Rattle.typed_expr.specs.declared.expr.ValueKind.{ValueKind}
 use Rattle.typed_expr.specs.declared.expr.ValueKind.TheVariants as kind
-use Rattle.typed_expr.specs.declared.expr.Expr.{Expr, out-Expr}
-use Rattle.typed_expr.specs.declared.expr.Expr.TheOpen.{Constant, Variable, Not}
+use Rattle.typed_expr.specs.declared.expr.Expr.{out-Expr}
+use Rattle.typed_expr.specs.declared.expr.Expr.TheOpen.{Constant, Variable}
 use Rattle.gts_core.specs.View.{VarId}
 use Rattle.gts_core.specs.Sound.{IsSound, IsTyped, IsNamed, kind_at, kind_of_domain, kind_of_found}
 use Rattle.gts_core.specs.declared.system.Variable as flat

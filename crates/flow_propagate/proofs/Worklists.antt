@@ -1,15 +1,14 @@
 -- The assignments that wait.
-use Rattle.std.proofs.Common.{◌≡◌, ℕ, zero, suc, ◌+◌, ◌-◌, ◌<◌, ◌≤◌, ◌⊎◌, inl, inr, Bool, true, false, List, [], ◌∷◌, ◌++◌, map, length, get_or, set, take, drop, slice_get, Some, refl, sym, ap, ◌∙◌, subst, arith, length-set, length-append, length-drop, replicate, ltb, leb}
+use Rattle.std.proofs.Common.{◌≡◌, ℕ, zero, suc, ◌+◌, ◌-◌, ◌<◌, ◌≤◌, ◌⊎◌, inl, inr, Bool, true, false, List, [], ◌∷◌, ◌++◌, map, length, get_or, set, take, drop, refl, sym, ap, ◌∙◌, subst, arith, length-set, length-append, length-drop, replicate, ltb, leb}
 use Rattle.std.proofs.lemmas.Bool.{ltb-true, leb-false}
 use Rattle.std.proofs.lemmas.List.{get_or-drop, get_or-take, length-take-le}
-use Rattle.std.specs.List.{AllWithin}
 use Rattle.std.specs.List.Sorted.{IsNonDecreasingBy, IsPartitionPoint, IsPermutation}
 use Rattle.std.proofs.lemmas.List.Sorted.{Contains-permutation, IsPermutation-sym}
 use Rattle.std.proofs.lemmas.Option.{slice_get-get_or, get_or_from_slice_get}
 use Rattle.ar_base.specs.Lists.{Stands, IsOneOf}
-use Rattle.ar_base.proofs.Standing.{stands_none, stands_one, stands_within, stands_some, stands_map, stands_map_back, stands_left}
+use Rattle.ar_base.proofs.Standing.{stands_none, stands_one, stands_within, stands_some, stands_map, stands_map_back}
 use Rattle.gts_core.specs.declared.system.GtsParts.{GtsParts}
-use Rattle.flow_propagate.specs.Plan.{AreReaders, ComesBefore, Reader, plain_pair}
+use Rattle.flow_propagate.specs.Plan.{AreReaders, Reader, plain_pair}
 use Rattle.flow_propagate.specs.Closing.{Waits, IsWorklist, Takes, AddsWork}
 use Rattle.flow_propagate.specs.declared.worklist.Worklist.{Worklist}
 use Rattle.flow_propagate.proofs.NamedVariables.{one_left, one_last, one_cases}

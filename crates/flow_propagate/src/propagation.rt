@@ -1,5 +1,8 @@
 // What a propagation answers.
 
+ghost use Rattle.std.specs.Prelude.{◌≡◌};
+ghost use Rattle.flow_propagate.specs.declared.propagation.PropagateFault.TheVariants as fault;
+
 use ar_base::{AssignId, Memory, VarId};
 
 /// Why a state determines no total valuation: the first of these that applies.
@@ -23,6 +26,8 @@ pub enum PropagateFault {
 }
 
 impl From<Memory> for PropagateFault {
+    ghost from_gives = { λ _ e. e ≡ fault.Memory };
+
     fn from(_memory: Memory) -> Self {
         PropagateFault::Memory
     }

@@ -1,4 +1,4 @@
-use Rattle.std.proofs.Common.{◌≡◌, ℕ, length, subst, ◌∙◌}
+use Rattle.std.proofs.Common.{ℕ, length, subst, ◌∙◌}
 use Rattle.flow_propagate.specs.Closing.{Takes}
 use Rattle.flow_propagate.proofs.Applying.{moves_not, moves_then}
 use Rattle.flow_propagate.proofs.Worklists.{by_length}

@@ -1,4 +1,4 @@
-use Rattle.std.proofs.Common.{◌≡◌, ℕ, inl, List, map, length, subst, sym, ◌∙◌}
+use Rattle.std.proofs.Common.{inl, List, map, subst, sym, ◌∙◌}
 use Rattle.ar_base.proofs.Standing.{stands_within}
 use Rattle.flow_propagate.specs.Plan.{Reader, plain_pair, AreReaders}
 use Rattle.flow_propagate.proofs.Looking.{are_facts}

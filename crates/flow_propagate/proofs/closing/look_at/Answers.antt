@@ -1,5 +1,5 @@
-use Rattle.std.proofs.Common.{◌≡◌, ◌<◌, Bool, true, false, ℕ, List, length, map, subst, sym, refl, rules, arith}
-use Rattle.ar_base.specs.Lists.{Stands, IsOneOf}
+use Rattle.std.proofs.Common.{Bool, ℕ, length, map, subst, arith}
+use Rattle.ar_base.specs.Lists.{IsOneOf}
 use Rattle.flow_propagate.specs.Plan.{plain_pair}
 use Rattle.flow_propagate.specs.Closing.{Applies, AddsWork}
 use Rattle.flow_propagate.proofs.NamedVariables.{ok_as}

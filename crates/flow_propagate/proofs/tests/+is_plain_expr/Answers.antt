@@ -1,8 +1,7 @@
-use Rattle.std.proofs.Common.{◌≡◌, ◌<◌, ℕ, Bool, true, subst, sym, ap, ◌∙◌, rules}
+use Rattle.std.proofs.Common.{subst, sym, ap, ◌∙◌}
 use Rattle.std.proofs.lemmas.Bool.{ltb-true}
 use Rattle.typed_expr.specs.Yields.{Level}
 use Rattle.typed_expr.specs.declared.expr.Expr.{Expr, out-Expr}
-use Rattle.typed_expr.specs.declared.expr.Expr.TheOpen.{Constant, Variable, Not}
 use Rattle.gts_core.specs.View.{VarId}
 use Rattle.flow_propagate.specs.Plain.{IsPlainExpr, constant, variable, opposite}
 use Rattle.flow_propagate.proofs.Opened as opened

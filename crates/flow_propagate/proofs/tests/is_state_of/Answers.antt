@@ -1,4 +1,4 @@
-use Rattle.std.proofs.Common.{◌≡◌, ℕ, true, List, length, subst, sym, rules}
+use Rattle.std.proofs.Common.{ℕ, List, subst, sym, rules}
 use Rattle.ar_base.specs.Lists.{Stands}
 use Rattle.domains.specs.Domains.{Holds}
 use Rattle.domains.specs.declared.Domain.{Domain}

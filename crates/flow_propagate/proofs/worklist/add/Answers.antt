@@ -1,5 +1,5 @@
 use Rattle.std.proofs.Common.{length, refl}
-use Rattle.flow_propagate.proofs.Worklists.{adds_new, adds_waiting}
+use Rattle.flow_propagate.proofs.Worklists.{adds_new}
 use Rattle.flow_propagate.proofs.worklist.add.Goals as goal
 
 pub returns : goal.returns

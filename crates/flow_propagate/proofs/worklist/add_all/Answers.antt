@@ -1,4 +1,4 @@
-use Rattle.std.proofs.Common.{◌≡◌, length, refl, ◌<◌, ℕ, get_or, subst, arith}
+use Rattle.std.proofs.Common.{◌≡◌, length, ℕ, get_or, subst, arith}
 use Rattle.flow_propagate.specs.Closing.{AddsWork}
 use Rattle.flow_propagate.proofs.Worklists.{adds_start, adds_more, adds_all, by_length, no_reader, reader_at}
 use Rattle.flow_propagate.proofs.worklist.add_all.Goals as goal

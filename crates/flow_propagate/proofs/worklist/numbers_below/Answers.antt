@@ -1,4 +1,4 @@
-use Rattle.std.proofs.Common.{◌<◌, ℕ, arith}
+use Rattle.std.proofs.Common.{arith}
 use Rattle.flow_propagate.proofs.Worklists.{numbers_more}
 use Rattle.flow_propagate.proofs.worklist.numbers_below.Goals as goal
 

@@ -1,4 +1,4 @@
-use Rattle.std.proofs.Common.{◌≡◌, ◌≤◌, ltb, leb, rules, arith}
+use Rattle.std.proofs.Common.{◌≤◌, ltb, leb, rules}
 use Rattle.std.proofs.lemmas.List.Sorted.{IsPartitionPoint-from_clause, IsPartitionedBy-ltb, IsPartitionedBy-leb}
 use Rattle.flow_propagate.specs.Plan.{Reader}
 use Rattle.flow_propagate.proofs.Worklists.{in_order, run_all, run_among, run_short}

@@ -1,4 +1,4 @@
-use Rattle.std.proofs.Common.{◌≡◌, ◌<◌, ℕ, List, length, refl, rules, subst, sym}
+use Rattle.std.proofs.Common.{ℕ, List, length, refl, rules, subst, sym}
 use Rattle.ar_base.specs.Lists.{IsOneOf}
 use Rattle.flow_propagate.proofs.NamedVariables.{one_last}
 use Rattle.flow_propagate.proofs.Worklists.{takes_one}

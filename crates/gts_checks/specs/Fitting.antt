@@ -1,7 +1,7 @@
 -- Expressions whose variables are those of a system and whose symbols have names.
-use Rattle.std.specs.Prelude.{◌≡◌, ◌<◌, ℕ, Bool, true, List, length, Box, Vec}
+use Rattle.std.specs.Prelude.{◌<◌, ℕ, Bool, true, length, Box, Vec}
 use Rattle.std.specs.Global.{Global}
-use Rattle.ar_base.specs.Lists.{Stands, IsOneOf}
+use Rattle.ar_base.specs.Lists.{Stands}
 use Rattle.domains.specs.declared.Value.{Value}
 use Rattle.typed_expr.specs.Yields.{Level}
 use Rattle.typed_expr.specs.declared.expr.Relation.{Relation}

@@ -1,4 +1,4 @@
-use Rattle.std.proofs.Common.{List, ℕ, subst, true, false}
+use Rattle.std.proofs.Common.{List, ℕ, subst, false}
 use Rattle.ar_base.specs.Lists.{Stands}
 use Rattle.gts_core.specs.declared.system.Assign.{Assign}
 use Rattle.gts_core.specs.Sound.{IsAssignTo}

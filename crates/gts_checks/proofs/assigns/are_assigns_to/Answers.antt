@@ -1,4 +1,4 @@
-use Rattle.std.proofs.Common.{arith, Bool}
+use Rattle.std.proofs.Common.{arith}
 use Rattle.gts_core.specs.declared.system.Assign.{Assign}
 use Rattle.gts_core.specs.Sound.{IsAssignTo}
 use Rattle.gts_checks.proofs.Gathered.{each_more, each_all}

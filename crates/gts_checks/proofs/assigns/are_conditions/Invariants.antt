@@ -1,4 +1,4 @@
-use Rattle.std.proofs.Common.{ℕ, ◌<◌, Bool, true, false}
+use Rattle.std.proofs.Common.{ℕ, ◌<◌, Bool}
 use Rattle.ar_base.specs.Lists.{Stands}
 use Rattle.typed_expr.specs.declared.expr.Expr.{Expr}
 use Rattle.typed_expr.specs.declared.expr.ValueKind.TheVariants.{Truth}

@@ -1,4 +1,4 @@
-use Rattle.std.proofs.Common.{arith, Bool}
+use Rattle.std.proofs.Common.{arith}
 use Rattle.gts_core.specs.declared.system.Way.{Way}
 use Rattle.gts_checks.specs.Fitting.{IsBody}
 use Rattle.gts_checks.proofs.Gathered.{each_more, each_all}

@@ -1,10 +1,10 @@
-use Rattle.std.proofs.Common.{◌≡◌, List, Bool, ℕ, arith, rules, subst, sym, ap, ◌∙◌}
-use Rattle.ar_base.specs.Lists.{Stands, IsOneOf}
+use Rattle.std.proofs.Common.{List, Bool, ℕ, arith, rules, subst}
+use Rattle.ar_base.specs.Lists.{Stands}
 use Rattle.typed_expr.specs.declared.expr.Expr.{Expr}
 use Rattle.typed_expr.specs.declared.expr.ValueKind.{ValueKind}
 use Rattle.typed_expr.specs.declared.expr.ValueKind.TheVariants.{Truth}
 use Rattle.gts_core.specs.View.{VarId}
-use Rattle.gts_core.specs.Sound.{IsTyped, IsAssignTo}
+use Rattle.gts_core.specs.Sound.{IsTyped}
 use Rattle.gts_checks.proofs.Gathered.{read_stands}
 use Rattle.gts_checks.proofs.assigns.is_assign_to.Goals as goal
 

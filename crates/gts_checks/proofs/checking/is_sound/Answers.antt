@@ -1,4 +1,4 @@
-use Rattle.std.proofs.Common.{subst, true, false}
+use Rattle.std.proofs.Common.{subst}
 use Rattle.gts_core.specs.declared.system.WayBody.{WayBody}
 use Rattle.gts_checks.specs.Fitting.{IsBody}
 use Rattle.gts_checks.proofs.checking.is_sound.Goals as goal

@@ -1,5 +1,4 @@
-use Rattle.std.proofs.Common.{◌≡◌, ℕ, Bool, List, true, subst, sym, ap, ◌∙◌}
-use Rattle.ar_base.specs.Lists.{Stands}
+use Rattle.std.proofs.Common.{Bool, List, subst, sym, ap, ◌∙◌}
 use Rattle.typed_expr.specs.Yields.{Level}
 use Rattle.typed_expr.specs.declared.expr.Expr.{Expr, out-Expr}
 use Rattle.gts_core.specs.View.{VarId}

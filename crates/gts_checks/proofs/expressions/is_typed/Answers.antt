@@ -1,4 +1,4 @@
-use Rattle.std.proofs.Common.{List, true, false, ◌≡◌, ◌∙◌, slice_get, subst}
+use Rattle.std.proofs.Common.{List, slice_get, subst}
 use Rattle.typed_expr.specs.Kinds.{HasKind}
 use Rattle.typed_expr.specs.declared.expr.Expr.{out-Expr}
 use Rattle.gts_core.specs.View.{VarId}

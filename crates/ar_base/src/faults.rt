@@ -31,6 +31,11 @@ pub enum RuleFault {
 }
 
 impl From<Memory> for RuleFault {
+    ghost use Rattle.std.specs.Prelude.{◌≡◌};
+    ghost use Rattle.ar_base.specs.declared.faults.RuleFault.TheVariants.{Memory};
+
+    ghost from_gives = { λ _ e. e ≡ Memory };
+
     fn from(_memory: Memory) -> Self {
         RuleFault::Memory
     }

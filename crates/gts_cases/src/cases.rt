@@ -193,6 +193,7 @@ fn two_values_of_a_flow<K: Sink>(alloc: Global, out: &mut K) -> Result<(), Stop>
     }
     let last = b.set(y, var(x));
     b.assertion(last)?;
+    b.observer("lit", ValueKind::Truth, var(x))?;
     let Some(gts) = b.finish() else {
         return Err(Stop::Unsound);
     };

@@ -59,13 +59,13 @@ fn listed<K: Sink>(
     out: &mut K,
     well: bool,
     parts: &GtsParts,
-    open: &str,
+    opening: &str,
     es: &[Expr<VarId>],
     separator: &str,
 ) -> bool
-    ensures { Goes (K.written out.old) (K.faults out.old) well (K.written out.new) (K.faults out.new) result (open.now ++ separated true separator.now (map (expr_text parts.now) es.now) ++ codes ")") }
+    ensures { Goes (K.written out.old) (K.faults out.old) well (K.written out.new) (K.faults out.new) result (opening.now ++ separated true separator.now (map (expr_text parts.now) es.now) ++ codes ")") }
 {
-    let mut still = put(out, well, open);
+    let mut still = put(out, well, opening);
     let mut first = true;
     for e in es {
         let led = put(out, still, either(first, "", separator));

@@ -1,5 +1,5 @@
 -- What is known of the outside: what a shelf tells of a name, and that a count of faults rose.
-use Rattle.std.specs.Prelude.{◌≡◌, ℕ, ◌+◌, ◌^◌, ◌<◌, ◌⊎◌, List, ◌++◌, length}
+use Rattle.std.specs.Prelude.{◌≡◌, ℕ, ◌+◌, ◌^◌, ◌<◌, ◌⊎◌, List, ◌++◌}
 
 -- what a shelf tells of a name: the bytes that it holds, that it holds none, or nothing
 pub data Told : Type 0 where

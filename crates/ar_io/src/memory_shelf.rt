@@ -129,9 +129,11 @@ impl Shelf for MemoryShelf {
         ensures keeps { (other : List ℕ) → told_of (held_of self.new.texts other) ≡ told_of (held_of self.old.texts other) }
         ensures rises { List ℕ → self.old.fault_count ≤ self.new.fault_count }
 
-        // It fails exactly where it was asked to, or holds no such name, and counts its calls.
+        // It fails exactly where it was asked to, or holds no such name, and counts its calls and its faults.
         ensures fails { (result ≡ Err LoadFault.Failed) ↔ FailsNext self.old name.now }
         ensures calls { self.new.calls ≡ next self.old.calls }
+        ensures counted { result ≡ Err LoadFault.Failed → self.new.fault_count ≡ next self.old.fault_count }
+        ensures uncounted { (result ≡ Err LoadFault.Failed → ⊥) → self.new.fault_count ≡ self.old.fault_count }
         ensures failing { self.new.failing ≡ self.old.failing }
         ensures texts { self.new.texts ≡ self.old.texts }
     {

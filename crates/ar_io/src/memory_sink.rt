@@ -93,9 +93,11 @@ impl Sink for MemorySink {
         ensures failed { OnErr result (Rose self.old.fault_count self.new.fault_count) }
         ensures rises { self.old.fault_count ≤ self.new.fault_count }
 
-        // It fails exactly where it was asked to, or has no room, and counts its calls.
+        // It fails exactly where it was asked to, or has no room, and counts its calls and its faults.
         ensures fails { (result ≡ Err (record {})) ↔ FailsPiece self.old piece.now }
         ensures calls { self.new.calls ≡ next self.old.calls }
+        ensures counted { OnErr result (self.new.fault_count ≡ next self.old.fault_count) }
+        ensures uncounted { OnOk result (self.new.fault_count ≡ self.old.fault_count) }
         ensures failing { self.new.failing ≡ self.old.failing }
         ensures room { self.new.room ≡ self.old.room }
     {

@@ -2,3 +2,4 @@ mod Going
 mod Texts
 pub mod Numbering
 pub mod Viewing
+mod Systems

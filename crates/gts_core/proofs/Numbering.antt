@@ -1,5 +1,5 @@
 -- An expression over plain numbers is the expression with the numbers of its variables in their places.
-use Rattle.std.proofs.Common.{◌≡◌, ℕ, Bool, List, [], ◌∷◌, map, Vec, Box, Global, refl, sym, ap, ◌∙◌, subst}
+use Rattle.std.proofs.Common.{◌≡◌, ℕ, Bool, List, [], ◌∷◌, map, refl, sym, ap, ◌∙◌, subst}
 use Rattle.domains.specs.declared.Value.{Value}
 use Rattle.typed_expr.specs.Pairs.{turned}
 use Rattle.typed_expr.specs.Yields.{Level, Yields}

@@ -4,6 +4,7 @@
 mod bound;
 mod expressions;
 mod gts;
+pub mod laws;
 mod pieces;
 mod print;
 mod system;

@@ -1,5 +1,5 @@
 -- Each turn writes at least one byte.
-use Rattle.std.proofs.Common.{◌+◌, ◌-◌, ◌≤◌, length}
+use Rattle.std.proofs.Common.{◌-◌, ◌≤◌, length}
 use Rattle.ar_io.proofs.files.write_out.Given as goal
 
 abbrev pub decreases-loop-done : goal.decreases-loop-done

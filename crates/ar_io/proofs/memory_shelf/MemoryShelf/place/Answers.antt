@@ -1,5 +1,5 @@
 -- The map after an insertion, read as a list.
-use Rattle.std.proofs.Common.{◌≡◌, ℕ, List, Some, None, Option, Vec, Global, sym, ap, ◌∙◌, option_map, cond, if◌then◌else◌}
+use Rattle.std.proofs.Common.{ℕ, List, Some, Option, Vec, Global, sym, ap, ◌∙◌, option_map, if◌then◌else◌}
 use Rattle.std.proofs.lemmas.Map.Text.{hash_map_updates_text}
 use Rattle.std.specs.HashMap.{get_by_text}
 use Rattle.std.specs.Str.{bytes_eq}

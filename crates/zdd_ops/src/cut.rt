@@ -1,6 +1,6 @@
 // Two families at the least event of both.
 
-ghost use Rattle.std.specs.Prelude.{◌≤◌, ◌⊎◌};
+ghost use Rattle.std.specs.Prelude.{◌≡◌, ◌≤◌, ◌⊎◌};
 ghost use Rattle.zdd_nodes.specs.Nodes.{IsNumber};
 ghost use Rattle.zdd_ops.specs.Cuts.{IsCut};
 
@@ -33,49 +33,32 @@ pub fn cut_at(store: &Store, f: NodeId, g: NodeId) -> Cut
     match store.split(f) {
         None => match store.split(g) {
             None => unreachable!(),
-            Some((event, g0, g1)) => Cut {
-                event,
-                f0: f,
-                f1: none,
-                g0,
-                g1,
-            },
+            Some((event, g0, g1)) => cut_into(event, f, none, g0, g1),
         },
         Some((event, f0, f1)) => match store.split(g) {
-            None => Cut {
-                event,
-                f0,
-                f1,
-                g0: g,
-                g1: none,
-            },
+            None => cut_into(event, f0, f1, g, none),
             Some((other, g0, g1)) => {
                 if event.n < other.n {
-                    return Cut {
-                        event,
-                        f0,
-                        f1,
-                        g0: g,
-                        g1: none,
-                    };
+                    return cut_into(event, f0, f1, g, none);
                 }
                 if other.n < event.n {
-                    return Cut {
-                        event: other,
-                        f0: f,
-                        f1: none,
-                        g0,
-                        g1,
-                    };
+                    return cut_into(other, f, none, g0, g1);
                 }
-                Cut {
-                    event,
-                    f0,
-                    f1,
-                    g0,
-                    g1,
-                }
+                cut_into(event, f0, f1, g0, g1)
             }
         },
+    }
+}
+
+/// The event, and the halves of the first and of the second.
+fn cut_into(event: EventId, f0: NodeId, f1: NodeId, g0: NodeId, g1: NodeId) -> Cut
+    ensures { result ≡ record { event = event; f0 = f0; f1 = f1; g0 = g0; g1 = g1 } }
+{
+    Cut {
+        event,
+        f0,
+        f1,
+        g0,
+        g1,
     }
 }

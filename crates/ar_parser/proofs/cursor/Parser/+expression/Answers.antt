@@ -286,7 +286,7 @@ pub switch-returns-in_err-cases-clause-only : goal.switch-returns-in_err-cases-c
 switch-returns-in_err-cases-clause-only t c = finds_given (finds_then (c.in_ok-expect.ensures.only _) (finds_then (c.in_ok-expect-2.ensures.only _) (finds_fails c.in_err-cases.ensures.only c.from_residual-in_err-cases.ensures.1 (follows_then refl)) follows_any) follows_any) (λ n next ts h s k. (switch_parts n next ts h, refl))
 
 pub switch-returns-then-is_empty-clause-only : goal.switch-returns-then-is_empty-clause-only
-switch-returns-then-is_empty-clause-only t c = let z = ap length (sym c.as_slice.ensures.value) ∙ eqb-true _ 0 (sym c.if-is_empty.ensures) in finds_at (finds_given (finds_then (c.in_ok-expect.ensures.only _) (finds_then (c.in_ok-expect-2.ensures.only _) (finds_fails {A = RawExpr} {B = RawExpr} {r = Err _} (finds_syntax c.syntax.ensures (λ n next ts h s k. c.in_ok-cases.ensures.over (ap kind_at (no_cases _ _ z c.in_ok-cases.ensures.found) ∙ sym k ∙ case_kind n next ts h))) refl follows_any) follows_any) follows_any) (λ n next ts h s k. (switch_case n next ts h, refl))) (no_cases _ _ z c.in_ok-cases.ensures.found)
+switch-returns-then-is_empty-clause-only t c = let z = ap length (sym c.as_slice.ensures.value) ∙ eqb-true _ 0 (sym c.if-is_empty.ensures) in finds_at (finds_given (finds_then (c.in_ok-expect.ensures.only _) (finds_then (c.in_ok-expect-2.ensures.only _) (finds_fails {A = RawExpr} {B = RawExpr} {r = Err _} (finds_syntax c.syntax.ensures.kind (λ n next ts h s k. c.in_ok-cases.ensures.over (ap kind_at (no_cases _ _ z c.in_ok-cases.ensures.found) ∙ sym k ∙ case_kind n next ts h))) refl follows_any) follows_any) follows_any) (λ n next ts h s k. (switch_case n next ts h, refl))) (no_cases _ _ z c.in_ok-cases.ensures.found)
 
 pub switch-returns-in_err-expect-3-clause-only : goal.switch-returns-in_err-expect-3-clause-only
 switch-returns-in_err-expect-3-clause-only t c = finds_given (finds_then (c.in_ok-expect.ensures.only _) (finds_then (c.in_ok-expect-2.ensures.only _) (finds_then c.in_ok-cases.ensures.only (finds_fails (c.in_err-expect-3.ensures.only _) c.from_residual-in_err-expect-3.ensures.1 follows_any) (follows_then refl)) follows_any) follows_any) (λ n next ts h s k. (switch_parts n next ts h, refl))

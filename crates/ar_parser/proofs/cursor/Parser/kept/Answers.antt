@@ -5,7 +5,7 @@ use Rattle.ar_parser.proofs.UnreadParts.{kept_first, kept_made}
 use Rattle.ar_parser.proofs.cursor.Parser.kept.Goals as goal
 
 pub returns-then-not-is_at_kept-clause-only : goal.returns-then-not-is_at_kept-clause-only
-returns-then-not-is_at_kept-clause-only c = finds_syntax c.syntax.ensures (λ n next ts h s k. kept_first n next ts h (ap goes_kept k ∙ sym c.if-not-is_at_kept.ensures))
+returns-then-not-is_at_kept-clause-only c = finds_syntax c.syntax.ensures.kind (λ n next ts h s k. kept_first n next ts h (ap goes_kept k ∙ sym c.if-not-is_at_kept.ensures))
 
 pub returns-in_err-kept_piece-clause-only : goal.returns-in_err-kept_piece-clause-only
 returns-in_err-kept_piece-clause-only c = finds_fails c.in_err-kept_piece.ensures.only c.from_residual.ensures.1 follows_any

@@ -20,4 +20,4 @@ pub returns-then-n-ge0-clause-only : goal.returns-then-n-ge0-clause-only
 returns-then-n-ge0-clause-only c = let f : SFits w64 c.in-Whole.n = search rules in λ left. finds_given (finds_ok _ (c.in_ok-expect.ensures.only left)) (λ n next ts h s k. (whole_token next ts _ h (k ∙ sym c.kind.ensures ∙ c.in-Whole.is ∙ ap Whole (sym (to_z-of_z w64 c.in-Whole.n f))), refl))
 
 pub returns-clause-only : goal.returns-clause-only
-returns-clause-only c = elim c.match-kind.branch [ in-Whole+else-n-ge0 w ↦ (let f : SFits w64 w.in-Whole.n = search rules in λ left. finds_syntax c.syntax.ensures (λ n next ts h s k. whole_signed next ts w.in-Whole.n h (k ∙ sym c.kind.ensures ∙ w.in-Whole.is) f w.if-n-ge0.false)) | in_default w ↦ (λ left. finds_syntax c.syntax.ensures (λ n next ts h s k. let z = whole_kind next ts h in w.in_default.not-Whole z.0 (c.kind.ensures ∙ sym k ∙ z.2))) ]
+returns-clause-only c = elim c.match-kind.branch [ in-Whole+else-n-ge0 w ↦ (let f : SFits w64 w.in-Whole.n = search rules in λ left. finds_syntax c.syntax.ensures.kind (λ n next ts h s k. whole_signed next ts w.in-Whole.n h (k ∙ sym c.kind.ensures ∙ w.in-Whole.is) f w.if-n-ge0.false)) | in_default w ↦ (λ left. finds_syntax c.syntax.ensures.kind (λ n next ts h s k. let z = whole_kind next ts h in w.in_default.not-Whole z.0 (c.kind.ensures ∙ sym k ∙ z.2))) ]

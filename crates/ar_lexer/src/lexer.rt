@@ -109,71 +109,82 @@ mod tests {
     use crate::{signs, words};
     use std::test::Fail;
 
+    // Whether the tokens of the text have these kinds, and the end of the text is behind them.
+    fn have_kinds(alloc: Global, text: &str, kinds: &[TokenKind]) -> Result<bool, LexFault>
+        requires { length text.now ≤ limit_of ModelBytes }
+    {
+        let found = tokens(alloc, text.as_bytes())?;
+        Ok(
+            found.len() == kinds.len() + 1
+                && found
+                    .iter()
+                    .zip(kinds)
+                    .all(|(token, kind)| token.kind == *kind),
+        )
+    }
+
     #[test]
-    fn reads_kinds(rt: HostRuntime) -> Result<(), Fail> {
-        let table: [(&str, &[TokenKind]); 14] = [
-            ("", &[]),
-            ("a _b9", &[TokenKind::Name, TokenKind::Name]),
-            (
-                "and And",
-                &[TokenKind::Reserved(words::AND), TokenKind::Name],
-            ),
-            ("00012", &[TokenKind::Whole(12)]),
-            ("9223372036854775807", &[TokenKind::Whole(i64::MAX)]),
-            ("-1", &[TokenKind::Sign(signs::MINUS), TokenKind::Whole(1)]),
-            (
-                "1.5 1e3 1.5E-3 99999999999999999999.0",
-                &[
-                    TokenKind::Real,
-                    TokenKind::Real,
-                    TokenKind::Real,
-                    TokenKind::Real,
-                ],
-            ),
-            (
-                "1.x",
-                &[
-                    TokenKind::Whole(1),
-                    TokenKind::Sign(signs::DOT),
-                    TokenKind::Name,
-                ],
-            ),
-            (
-                "1e+",
-                &[
-                    TokenKind::Whole(1),
-                    TokenKind::Name,
-                    TokenKind::Sign(signs::PLUS),
-                ],
-            ),
-            ("1.5e", &[TokenKind::Real, TokenKind::Name]),
-            ("12ab", &[TokenKind::Whole(12), TokenKind::Name]),
-            (
-                ":=::==:",
-                &[
-                    TokenKind::Sign(signs::TIE),
-                    TokenKind::Sign(signs::ASSIGN),
-                    TokenKind::Sign(signs::EQUALS),
-                    TokenKind::Sign(signs::COLON),
-                ],
-            ),
-            ("a//b\n/* c /* d */e", &[TokenKind::Name, TokenKind::Name]),
-            (
-                "<=->/",
-                &[
-                    TokenKind::Sign(signs::AT_MOST),
-                    TokenKind::Sign(signs::ARROW),
-                    TokenKind::Sign(signs::SLASH),
-                ],
-            ),
-        ];
-        for (text, kinds) in table {
-            let found = tokens(rt.alloc(), text.as_bytes())?;
-            assert_eq!(rt; found.len(), kinds.len() + 1, "{text:?}");
-            for (token, kind) in found.iter().zip(kinds) {
-                assert_eq!(rt; token.kind, *kind, "{text:?}");
-            }
-        }
+    fn reads_words(rt: HostRuntime) -> Result<(), Fail> {
+        let name = TokenKind::Name;
+        let and = TokenKind::Reserved(words::AND);
+        let end = TokenKind::Reserved(words::END);
+        assert!(rt; have_kinds(rt.alloc(), "", &[])?);
+        assert!(rt; have_kinds(rt.alloc(), "a _b9", &[name, name])?);
+        assert!(rt; have_kinds(rt.alloc(), "and And", &[and, name])?);
+        assert!(rt; have_kinds(rt.alloc(), "a//b\n/* c /* d */e", &[name, name])?);
+        assert!(rt; have_kinds(rt.alloc(), "/*/ a */ /***/ end//", &[end])?);
+        Ok(())
+    }
+
+    #[test]
+    fn reads_numbers(rt: HostRuntime) -> Result<(), Fail> {
+        let name = TokenKind::Name;
+        let real = TokenKind::Real;
+        let one = TokenKind::Whole(1);
+        let dot = TokenKind::Sign(signs::DOT);
+        let plus = TokenKind::Sign(signs::PLUS);
+        let minus = TokenKind::Sign(signs::MINUS);
+        assert!(rt; have_kinds(rt.alloc(), "00012", &[TokenKind::Whole(12)])?);
+        assert!(rt;
+            have_kinds(
+                rt.alloc(),
+                "9223372036854775807",
+                &[TokenKind::Whole(i64::MAX)]
+            )?
+        );
+        assert!(rt; have_kinds(rt.alloc(), "-1", &[minus, one])?);
+        assert!(rt; have_kinds(rt.alloc(), "1.5 1e3 1.5E-3", &[real, real, real])?);
+        assert!(rt; have_kinds(rt.alloc(), "99999999999999999999.0", &[real])?);
+        assert!(rt; have_kinds(rt.alloc(), "1.x", &[one, dot, name])?);
+        assert!(rt; have_kinds(rt.alloc(), "1e+", &[one, name, plus])?);
+        assert!(rt; have_kinds(rt.alloc(), "1.5e", &[real, name])?);
+        assert!(rt; have_kinds(rt.alloc(), "12ab", &[TokenKind::Whole(12), name])?);
+        Ok(())
+    }
+
+    #[test]
+    fn reads_signs(rt: HostRuntime) -> Result<(), Fail> {
+        let tie = TokenKind::Sign(signs::TIE);
+        let assign = TokenKind::Sign(signs::ASSIGN);
+        let equals = TokenKind::Sign(signs::EQUALS);
+        let colon = TokenKind::Sign(signs::COLON);
+        let at_most = TokenKind::Sign(signs::AT_MOST);
+        let arrow = TokenKind::Sign(signs::ARROW);
+        let slash = TokenKind::Sign(signs::SLASH);
+        assert!(rt; have_kinds(rt.alloc(), ":=::==:", &[tie, assign, equals, colon])?);
+        assert!(rt; have_kinds(rt.alloc(), "<=->/", &[at_most, arrow, slash])?);
+        Ok(())
+    }
+
+    #[test]
+    fn refuses_at_the_first_fault(rt: HostRuntime) -> Result<(), Fail> {
+        let place = Place { line: 2, column: 3 };
+        let byte = tokens(rt.alloc(), b"a\n  $ /*");
+        assert!(rt; matches!(byte, Err(LexFault::Byte(at)) if at == place));
+        let comment = tokens(rt.alloc(), b"a\n  /*/ $");
+        assert!(rt; matches!(comment, Err(LexFault::OpenComment(at)) if at == place));
+        let number = tokens(rt.alloc(), b"a\n  9223372036854775808 $");
+        assert!(rt; matches!(number, Err(LexFault::Number(at)) if at == place));
         Ok(())
     }
 }

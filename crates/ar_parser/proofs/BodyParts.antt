@@ -1,32 +1,27 @@
 -- What clauses, sections and bodies are, by their first tokens and part by part.
-use Rattle.std.proofs.Common.{◌≡◌, ◌≢◌, ℕ, zero, suc, ◌-◌, ◌<◌, ◌⊎◌, inl, inr, Bool, true, false, not, ◌&&◌, ◌||◌, List, [], ◌∷◌, ◌++◌, Vec, Result, Ok, Err, IfOk, refl, sym, ap, ◌∙◌, subst, append_assoc, arith}
+use Rattle.std.proofs.Common.{◌≡◌, ◌≢◌, ℕ, zero, suc, ◌-◌, ◌⊎◌, inl, inr, Bool, true, false, not, ◌||◌, List, [], ◌∷◌, ◌++◌, Result, Ok, Err, IfOk, refl, sym, ap, ◌∙◌, subst, append_assoc, arith}
 use Rattle.std.specs.Prelude.{◌==◌}
 use Rattle.std.proofs.lemmas.Bool.{eqb-true}
 use Rattle.std.proofs.lemmas.List.{append-nil}
 use Rattle.std.proofs.Math.Numerals.{sub-one}
-use Rattle.ar_base.specs.declared.places.Place.{Place}
 use Rattle.ar_lexer.specs.declared.token.TokenKind.{TokenKind}
 use Rattle.ar_lexer.specs.declared.token.TokenKind.TheVariants.{Name, Whole, Real, Sign, Reserved, End}
 use Rattle.ar_lexer.specs.declared.signs.TheConstants.{COMMA, SEMICOLON, EQUALS}
 use Rattle.ar_lexer.specs.declared.words.TheConstants.{AS, ASSERTION, BLOCK, BOOLEAN, CLONES, EMBEDS, END, EVENT, EXTENDS, HIDE, IF, INTEGER, MAIN, OBSERVER, OWNER, PARAMETER, REAL, SKIP, TRANSITION}
 use Rattle.ar_syntax.specs.declared.members.Member.{Member}
-use Rattle.ar_syntax.specs.declared.members.Member.TheVariants as member
 use Rattle.ar_syntax.specs.declared.members.TypeForm.{TypeForm}
 use Rattle.ar_syntax.specs.declared.members.TypeForm.TheVariants as type_form
-use Rattle.ar_syntax.specs.declared.members.TypeName.{TypeName}
-use Rattle.ar_syntax.specs.declared.members.Unit.{Unit as UnitTree}
-use Rattle.ar_parser.specs.declared.lexeme.Lexeme.{Lexeme}
 use Rattle.ar_parser.specs.declared.lexeme.ParseFault.{ParseFault}
 use Rattle.ar_parser.specs.declared.lexeme.ParseFault.TheVariants.{Lex, Syntax, Depth, Memory}
-use Rattle.ar_parser.specs.Words.{NameId, Form, Tokens, kind_or, token, ◌▸◌, ◌∣◌, nothing, between, each, many, separated, groups, concat, covering, Has}
-use Rattle.ar_parser.specs.Paths.{IsName, IsPlacedName, IsPath}
-use Rattle.ar_parser.specs.Expressions.{Node, IsExpr}
+use Rattle.ar_parser.specs.Words.{NameId, Form, Tokens, kind_or, token, ◌▸◌, ◌∣◌, nothing, between, each, many, separated, groups, concat, Has}
+use Rattle.ar_parser.specs.Paths.{IsPath}
+use Rattle.ar_parser.specs.Expressions.{IsExpr}
 use Rattle.ar_parser.specs.Instructions.{IsInstr}
-use Rattle.ar_parser.specs.Members.{IsType, IsTypeForm, IsDeclared, IsEvent, IsHidden, IsTransition, IsAssertion, kept, parameter_rest, IsSingle, extends, boolean, clones, embeds, kept_value, parameter, observer, IsKeyed, single, block, event, hide, IsUnit, IsMember, keyed, named, IsSection, IsLater, AreSections, none, some, IsBodyOf, IsBody}
-use Rattle.ar_parser.specs.Results.{kind_at, Spans, Takes, Arrives, Finds, is_sign, is_word, is_name, anything, ends_transitions, ends_assertions, ends_body, ends_members, ends_section, begins_instr, begins_keyed, begins_member, begins_section, begins_later, begins_body}
+use Rattle.ar_parser.specs.Members.{IsType, IsTypeForm, IsDeclared, IsEvent, IsHidden, IsTransition, IsAssertion, kept, parameter_rest, IsSingle, extends, boolean, clones, embeds, kept_value, parameter, observer, IsKeyed, single, block, event, hide, IsUnit, IsMember, keyed, named, IsSection, IsLater, AreSections, none, some, IsBody}
+use Rattle.ar_parser.specs.Results.{kind_at, Spans, Takes, Arrives, Finds, is_word, is_name, ends_transitions, ends_assertions, ends_body, ends_members, ends_section, begins_instr, begins_keyed, begins_member, begins_section, begins_later, begins_body}
 use Rattle.ar_parser.proofs.Finding.{Follows, Loops, loops_start, loops_next, kind_join, kind_before, inside, apart, fails, token_kind, then_kind, each_maps, follows_many, spans_then, spans_map, spans_push}
 use Rattle.ar_parser.proofs.PathForms.{placed_token}
-use Rattle.ar_parser.proofs.ExpressionForms.{then_map, then_first, node_has, either, or_left, or_right, turned, word_from}
+use Rattle.ar_parser.proofs.ExpressionForms.{then_map, then_first, node_has, either, or_left, or_right, word_from}
 use Rattle.ar_parser.proofs.InstrParts.{between_has}
 
 -- The first token of what was taken

@@ -1,11 +1,11 @@
 -- How what is said of one call gives what is said of calls one after the other.
-use Rattle.std.proofs.Common.{◌≡◌, ◌≢◌, ℕ, zero, suc, ◌-◌, ◌<◌, ◌⊎◌, inl, inr, Bool, true, false, List, [], ◌∷◌, ◌++◌, Result, Ok, Err, IsErrAnd, refl, sym, ap, ◌∙◌, subst, append_assoc, arith}
-use Rattle.std.proofs.lemmas.List.{append-nil, append_cancel_left}
+use Rattle.std.proofs.Common.{◌≡◌, ◌≢◌, ℕ, suc, ◌-◌, Bool, true, false, List, [], ◌∷◌, ◌++◌, Result, Ok, Err, IsErrAnd, refl, sym, ap, ◌∙◌, subst, append_assoc, arith}
+use Rattle.std.proofs.lemmas.List.{append-nil}
 use Rattle.ar_lexer.specs.declared.token.TokenKind.{TokenKind}
 use Rattle.ar_parser.specs.declared.lexeme.Lexeme.{Lexeme}
 use Rattle.ar_parser.specs.declared.lexeme.ParseFault.{ParseFault}
 use Rattle.ar_parser.specs.declared.lexeme.ParseFault.TheVariants.{Lex, Syntax, Depth, Memory}
-use Rattle.ar_parser.specs.Words.{Form, Tokens, kind_or, token, Then, ◌▸◌, nothing, never, each, many, Has}
+use Rattle.ar_parser.specs.Words.{Form, Tokens, kind_or, token, ◌▸◌, nothing, each, many, Has}
 use Rattle.std.specs.Bool.{OnTrue, OnFalse}
 use Rattle.ar_parser.specs.Results.{kind_at, Spans, Takes, Arrives, Finds, Eats, IsSyntax, IsDepth, anything}
 

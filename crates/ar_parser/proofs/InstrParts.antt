@@ -1,24 +1,20 @@
 -- What the texts of instructions are, part by part.
-use Rattle.std.proofs.Common.{◌≡◌, ◌≢◌, ℕ, zero, suc, ◌-◌, ◌⊎◌, inl, inr, Bool, true, false, not, List, [], ◌∷◌, ◌++◌, Vec, Box, refl, sym, ap, ◌∙◌, subst}
-use Rattle.std.specs.Prelude.{Option, Some, None}
-use Rattle.std.specs.declared.alloc.Global.{Global}
+use Rattle.std.proofs.Common.{◌≡◌, ◌≢◌, ℕ, zero, suc, ◌-◌, inl, inr, Bool, true, false, not, List, [], ◌++◌, refl, sym, ap, ◌∙◌, subst}
+use Rattle.std.specs.Prelude.{Some, None}
 use Rattle.std.proofs.Math.Numerals.{sub-one}
 use Rattle.ar_lexer.specs.declared.token.TokenKind.{TokenKind}
-use Rattle.ar_lexer.specs.declared.token.TokenKind.TheVariants.{Name, Whole, Real, Sign, Reserved, End}
+use Rattle.ar_lexer.specs.declared.token.TokenKind.TheVariants.{Name, Sign, Reserved}
 use Rattle.ar_lexer.specs.declared.signs.TheConstants.{OPEN_BRACE, CLOSE_BRACE, SEMICOLON, ASSIGN, TIE}
 use Rattle.ar_lexer.specs.declared.words.TheConstants.{ELSE, IF, MAIN, OWNER, SKIP, THEN}
-use Rattle.ar_syntax.specs.declared.paths.Path.{Path}
-use Rattle.ar_syntax.specs.declared.expressions.RawExpr.{RawExpr}
 use Rattle.ar_syntax.specs.declared.expressions.RawForm.{RawForm}
 use Rattle.ar_syntax.specs.declared.instructions.Instr.{Instr}
-use Rattle.ar_syntax.specs.declared.instructions.Instr.TheVariants as instr
-use Rattle.ar_parser.specs.Words.{Form, Tokens, kind_or, token, ◌▸◌, ◌∣◌, nothing, not_before, between, each, many, Has}
+use Rattle.ar_parser.specs.Words.{Form, Tokens, kind_or, token, ◌▸◌, ◌∣◌, nothing, between, many, Has}
 use Rattle.ar_parser.specs.Paths.{IsPath}
-use Rattle.ar_parser.specs.Expressions.{Node, IsExpr}
-use Rattle.ar_parser.specs.Instructions.{IsElse, IsIfOf, IsGroupOf, IsSimpleOf, assign, tie, skip, IsInstrOf, simple, group, conditional, IsInstr, IsSimple, IsGroup, IsConditional}
-use Rattle.ar_parser.specs.Results.{kind_at, Spans, is_sign, is_word, anything, ends_path, ends_group, begins_instr}
-use Rattle.ar_parser.proofs.Finding.{Follows, kind_join, inside, apart, fails, token_kind, then_kind, each_maps}
-use Rattle.ar_parser.proofs.ExpressionForms.{then_map, then_first, node_has, path_first, turned, sign_from}
+use Rattle.ar_parser.specs.Expressions.{IsExpr}
+use Rattle.ar_parser.specs.Instructions.{IsElse, IsSimpleOf, assign, tie, skip, simple, group, conditional, IsInstr, IsSimple, IsGroup, IsConditional}
+use Rattle.ar_parser.specs.Results.{is_sign, is_word, anything, ends_path, begins_instr}
+use Rattle.ar_parser.proofs.Finding.{Follows, kind_join, inside, apart, fails, then_kind, each_maps}
+use Rattle.ar_parser.proofs.ExpressionForms.{then_map, then_first, node_has, path_first, sign_from}
 
 -- a kind that is no sign of this number
 pub not_sign : (n : ℕ) (k : TokenKind) → k ≢ Sign n → is_sign n k ≡ false

@@ -1,6 +1,6 @@
 -- What domains, items and models are, token by token.
-use Rattle.std.proofs.Common.{◌≡◌, ◌≢◌, ℕ, ◌<◌, ◌⊎◌, inl, inr, Bool, true, false, not, ◌||◌, List, [], ◌∷◌, ◌++◌, Result, Ok, Err, IfErr, IsErrAnd, length, ◌+◌, suc, arith, refl, sym, ap, ◌∙◌, subst}
-use Rattle.std.specs.Prelude.{ℤ, pos, ◌≤ℤ◌, ◌<ℤ◌, ◌==◌}
+use Rattle.std.proofs.Common.{◌≡◌, ◌≢◌, ℕ, ◌<◌, inl, inr, Bool, true, false, List, [], ◌∷◌, ◌++◌, Ok, Err, length, ◌+◌, suc, arith, refl, sym, ap, ◌∙◌, subst}
+use Rattle.std.specs.Prelude.{ℤ, pos, ◌≤ℤ◌, ◌==◌}
 use Rattle.std.specs.Bool.{OnTrue, OnFalse}
 use Rattle.std.proofs.lemmas.List.{append-nil, length-append}
 use Rattle.std.proofs.lemmas.Int.{ints, to_z-of_z}
@@ -21,7 +21,7 @@ use Rattle.ar_parser.specs.Words.{Form, Tokens, kind_or, token, nothing, ◌▸�
 use Rattle.ar_parser.specs.Paths.{AreNames}
 use Rattle.ar_parser.specs.Members.{IsUnit, IsBody}
 use Rattle.ar_parser.specs.Models.{IsWhole, IsBound, whole, negated, IsDomainBody, IsDomain, IsItem, AreItems}
-use Rattle.ar_parser.specs.Results.{kind_at, Spans, Arrives, Finds, Eats, Reaches, is_sign, is_word, anything, begins_item, ends_item, is_end}
+use Rattle.ar_parser.specs.Results.{kind_at, Spans, Arrives, Finds, Eats, Reaches, is_sign, is_word, begins_item, ends_item, is_end}
 use Rattle.ar_parser.proofs.Finding.{Follows, apart, fails, token_kind, then_kind, each_maps, follows_many, spans_then, spans_map, spans_token, spans_nothing, spans_at, finds_given, finds_token, finds_nothing, finds_at, eats_kind}
 use Rattle.ar_parser.proofs.PathForms.{placed_token}
 use Rattle.ar_parser.proofs.ExpressionForms.{then_map, then_assoc, then_some, token_some}

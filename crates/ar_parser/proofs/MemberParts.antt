@@ -1,36 +1,31 @@
 -- What the parts of members are, token by token.
-use Rattle.std.proofs.Common.{◌≡◌, ◌≢◌, ℕ, zero, suc, ◌-◌, ◌⊎◌, inl, inr, Bool, true, false, not, ◌&&◌, ◌||◌, List, [], ◌∷◌, ◌++◌, Vec, refl, sym, ap, ◌∙◌, subst, append_assoc}
-use Rattle.std.specs.Prelude.{Option, Some, None, if◌then◌else◌}
+use Rattle.std.proofs.Common.{◌≡◌, ◌≢◌, ℕ, inl, inr, Bool, true, false, ◌||◌, List, [], ◌∷◌, ◌++◌, Vec, refl, sym, ap, ◌∙◌, subst, append_assoc}
+use Rattle.std.specs.Prelude.{if◌then◌else◌}
 use Rattle.std.specs.declared.alloc.Global.{Global}
 use Rattle.ar_base.specs.declared.places.Place.{Place}
 use Rattle.ar_lexer.specs.declared.token.TokenKind.{TokenKind}
 use Rattle.ar_lexer.specs.declared.token.TokenKind.TheVariants.{Name, Whole, Real, Sign, Reserved, End}
 use Rattle.ar_lexer.specs.declared.signs.TheConstants.{OPEN_PARENTHESIS, CLOSE_PARENTHESIS, COMMA, SEMICOLON, COLON, DOT, EQUALS, ARROW, EXCLAMATION, QUESTION, AMPERSAND}
-use Rattle.ar_lexer.specs.declared.words.TheConstants.{BOOLEAN, EVENT, INIT, INTEGER, RESET}
-use Rattle.ar_syntax.specs.declared.paths.Path.{Path}
+use Rattle.ar_lexer.specs.declared.words.TheConstants.{BOOLEAN, INIT, INTEGER, RESET}
 use Rattle.ar_syntax.specs.declared.expressions.RawExpr.{RawExpr}
 use Rattle.ar_syntax.specs.declared.instructions.Instr.{Instr}
-use Rattle.ar_syntax.specs.declared.members.Member.{Member}
 use Rattle.ar_syntax.specs.declared.members.Member.TheVariants as member
 use Rattle.ar_syntax.specs.declared.members.Part.{Part}
 use Rattle.ar_syntax.specs.declared.members.Setting.{Setting}
 use Rattle.ar_syntax.specs.declared.members.TypeForm.{TypeForm}
 use Rattle.ar_syntax.specs.declared.members.TypeForm.TheVariants as type_form
-use Rattle.ar_syntax.specs.declared.members.TypeName.{TypeName}
 use Rattle.ar_syntax.specs.declared.members.Word.{Word}
 use Rattle.ar_syntax.specs.declared.members.Word.TheVariants as word
-use Rattle.ar_parser.specs.declared.lexeme.Lexeme.{Lexeme}
 use Rattle.ar_parser.specs.Words.{NameId, Form, Tokens, kind_or, token, ◌▸◌, ◌∣◌, nothing, between, each, many, separated, standing, StandsAt, Has}
 use Rattle.ar_parser.specs.Paths.{IsName, IsPlacedName, AreNames, IsPath}
 use Rattle.ar_parser.specs.Expressions.{Node, IsExpr}
 use Rattle.ar_parser.specs.Instructions.{IsInstr}
-use Rattle.ar_parser.specs.Members.{IsType, IsTypeForm, IsWord, IsSetting, AreSettings, IsDeclared, IsAttribute, IsEvent, IsHidden, IsPart, IsTransition, sync, local, IsAssertion}
-use Rattle.ar_parser.specs.Results.{kind_at, Spans, place_at, is_sign, is_word, is_name, anything, ends_path, ends_names, ends_expr, ends_list, ends_attribute, ends_semicolon, ends_target, ends_transitions, ends_assertions, begins_path, begins_expr, begins_part, begins_instr}
-use Rattle.ar_parser.proofs.Finding.{Follows, kind_join, inside, apart, fails, token_kind, then_kind, each_maps, follows_many, spans_then, spans_map}
+use Rattle.ar_parser.specs.Members.{IsType, IsTypeForm, IsWord, IsSetting, AreSettings, IsDeclared, IsAttribute, IsEvent, IsPart, IsTransition, sync, local}
+use Rattle.ar_parser.specs.Results.{kind_at, Spans, place_at, is_sign, is_word, is_name, anything, ends_path, ends_names, ends_expr, ends_list, ends_attribute, ends_semicolon, ends_transitions, begins_expr, begins_part}
+use Rattle.ar_parser.proofs.Finding.{Follows, kind_join, apart, fails, token_kind, then_kind, each_maps, follows_many, spans_then, spans_map}
 use Rattle.ar_parser.proofs.PathForms.{name_token, placed_token, stands_there}
-use Rattle.ar_parser.proofs.ExpressionForms.{then_map, then_assoc, then_unassoc, then_first, then_some, token_some, node_has, node_some, path_first, turned, sign_from}
+use Rattle.ar_parser.proofs.ExpressionForms.{then_map, then_assoc, then_unassoc, then_first, then_some, token_some, node_has, sign_from}
 use Rattle.ar_parser.proofs.ExpressionParts.{expr_begins}
-use Rattle.ar_parser.proofs.InstrParts.{instr_begins}
 
 -- a form that stands where it begins
 pub stand_made : (A : Form) (end : Place) (at : Place) {old new : Tokens} → at ≡ place_at end old → Spans A old new → ((next : TokenKind) (ts : Tokens) → A next ts → ts ≡ [] → ⊥) → Spans (standing at A) old new

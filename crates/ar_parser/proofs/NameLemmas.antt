@@ -1,15 +1,14 @@
 -- Where names stand in a text, and that their numbers are the only ones.
-use Rattle.std.proofs.Common.{◌≡◌, ◌≢◌, ℕ, zero, suc, ◌+◌, ◌-◌, ◌<◌, ◌≤◌, ◌⊎◌, inl, inr, true, false, Some, None, List, [], ◌∷◌, ◌++◌, map, length, take, drop, Result, Ok, Err, IfOk, IfErr, IsErrAnd, Vec, refl, sym, ap, ◌∙◌, subst, append_assoc, arith}
-use Rattle.std.specs.declared.alloc.Global.{Global}
+use Rattle.std.proofs.Common.{◌≡◌, ◌≢◌, ℕ, zero, suc, ◌+◌, ◌-◌, ◌<◌, ◌≤◌, inl, inr, true, Some, None, List, [], ◌∷◌, ◌++◌, map, length, take, drop, refl, sym, ap, ◌∙◌, subst, append_assoc, arith}
 use Rattle.std.specs.Prelude.{◌^◌}
-use Rattle.std.specs.List.{AllByRecursion, IsFirstAndRest}
+use Rattle.std.specs.List.{IsFirstAndRest}
 use Rattle.std.specs.Str.{IsAscii, IsUtf8}
 use Rattle.std.proofs.lemmas.Str.{IsUtf8-from_ascii}
 use Rattle.std.proofs.lemmas.Str.Ascii.{IsAscii-nil, IsAscii-cons}
-use Rattle.std.proofs.lemmas.List.{length-append, length-map, take_at, append-nil, append_cancel_right}
+use Rattle.std.proofs.lemmas.List.{length-append, take_at, append-nil}
 use Rattle.std.proofs.Math.Seq.{drop-append_seam}
 use Rattle.ar_base.specs.declared.places.Place.{Place}
-use Rattle.ar_base.specs.Lists.{Stands, IsOneOf, HasNo, AreDifferent}
+use Rattle.ar_base.specs.Lists.{Stands, AreDifferent}
 use Rattle.ar_base.specs.Texts.{Interns, known, added}
 use Rattle.ar_base.proofs.Standing.{different_more}
 use Rattle.ar_lexer.specs.declared.token.Token.{Token}
@@ -17,7 +16,7 @@ use Rattle.ar_lexer.specs.declared.token.TokenKind.{TokenKind}
 use Rattle.ar_lexer.specs.declared.token.TokenKind.TheVariants.{Name, Whole, Real, Sign, Reserved, End}
 use Rattle.ar_lexer.specs.declared.token.LexFault.{LexFault}
 use Rattle.ar_lexer.specs.declared.token.LexFault.TheVariants as lex_fault
-use Rattle.ar_lexer.specs.Spelling.{AllPass, is_letter, is_word_byte, IsWord, IsDigits, IsReal, IsOfKind}
+use Rattle.ar_lexer.specs.Spelling.{AllPass, is_word_byte, IsWord, IsDigits, IsOfKind}
 use Rattle.ar_lexer.specs.Tokens.{IsToken, joined, AreCut, AreTokens, end_of_text, IsFirstFault}
 use Rattle.ar_lexer.proofs.RunLemmas.{letter_of_word}
 use Rattle.ar_lexer.proofs.Laws.{tokens_one, tokens_no_fault, fault_one}

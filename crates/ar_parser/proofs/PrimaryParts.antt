@@ -1,37 +1,24 @@
 -- What the texts of primaries are, part by part, and what is made of the parts.
-use Rattle.std.proofs.Common.{◌≡◌, ◌≢◌, ℕ, zero, suc, ◌-◌, ◌≤◌, ◌⊎◌, inl, inr, Bool, true, false, not, ◌&&◌, ◌||◌, List, [], ◌∷◌, ◌++◌, length, Vec, Box, refl, sym, ap, ◌∙◌, subst, append_assoc, arith}
-use Rattle.std.specs.Prelude.{ℤ, ◌==◌}
+use Rattle.std.proofs.Common.{◌≡◌, ◌≢◌, ℕ, ◌≤◌, true, false, not, List, [], ◌∷◌, ◌++◌, length, Vec, Box, refl, sym, ap, ◌∙◌, subst, arith}
 use Rattle.std.specs.declared.alloc.Global.{Global}
-use Rattle.std.proofs.Math.Numerals.{sub-one}
-use Rattle.std.proofs.lemmas.Bool.{eqb-true}
-use Rattle.std.proofs.lemmas.List.{append-nil}
-use Rattle.ar_base.specs.declared.places.Place.{Place}
 use Rattle.ar_lexer.specs.declared.token.TokenKind.{TokenKind}
-use Rattle.ar_lexer.specs.declared.token.TokenKind.TheVariants.{Name, Whole, Real, Sign, Reserved, End}
-use Rattle.ar_lexer.specs.declared.signs.TheConstants.{DOT, OPEN_BRACE, CLOSE_BRACE, OPEN_PARENTHESIS, CLOSE_PARENTHESIS, COMMA, COLON, PLUS, MINUS, STAR}
-use Rattle.ar_lexer.specs.declared.words.TheConstants.{AND, CASE, COUNT, DEFAULT, ELSE, FALSE, IF, MAIN, MAX, MIN, NOT, OR, OWNER, SWITCH, THEN, TRUE}
+use Rattle.ar_lexer.specs.declared.token.TokenKind.TheVariants.{Sign, Reserved}
+use Rattle.ar_lexer.specs.declared.signs.TheConstants.{OPEN_BRACE, CLOSE_BRACE, OPEN_PARENTHESIS, CLOSE_PARENTHESIS, COMMA, COLON}
+use Rattle.ar_lexer.specs.declared.words.TheConstants.{CASE, COUNT, DEFAULT, FALSE, MAX, MIN, SWITCH, TRUE}
 use Rattle.ar_syntax.specs.declared.paths.Path.{Path}
-use Rattle.ar_syntax.specs.declared.paths.PathStart.{PathStart}
-use Rattle.ar_syntax.specs.declared.paths.PathStart.TheVariants.{Here, Owner, Main}
 use Rattle.ar_syntax.specs.declared.expressions.RawExpr.{RawExpr}
 use Rattle.ar_syntax.specs.declared.expressions.RawForm.{RawForm}
 use Rattle.ar_syntax.specs.declared.expressions.RawForm.TheVariants as form
-use Rattle.ar_syntax.specs.declared.expressions.RawRelation.{RawRelation}
-use Rattle.ar_syntax.specs.declared.expressions.RawRelation.TheVariants as relation
-use Rattle.ar_parser.specs.declared.terms.Chain.{Chain}
-use Rattle.ar_parser.specs.declared.terms.Chain.TheVariants.{Any, All, Product}
 use Rattle.ar_parser.specs.declared.terms.Call.{Call}
 use Rattle.ar_parser.specs.declared.terms.Call.TheVariants.{Least, Greatest, Count}
-use Rattle.ar_parser.specs.declared.lexeme.Lexeme.{Lexeme}
-use Rattle.ar_parser.specs.Words.{NameId, Form, Tokens, kind_or, token, Then, ◌▸◌, ◌∣◌, nothing, between, each, many, separated, StandsAt, Covers, Has}
-use Rattle.ar_parser.specs.Paths.{IsName, IsStart, IsPath}
-use Rattle.ar_parser.specs.Expressions.{Node, OneOrMore, one, more, IsProduct, IsTerm, AreTerms, IsSum, IsCompare, two, sign_of, IsNegation, negated, plain, IsAnd, IsOr, IsIf, IsChoice, choice, IsCase, IsSwitch, AreOperands, IsPrimary, truth, falsehood, whole, real, path, brackets, least, greatest, count, switch, IsMinusOf, IsExpr, IsNot, IsMinus}
+use Rattle.ar_parser.specs.Words.{Form, Tokens, kind_or, token, ◌▸◌, between, each, many, separated, Has}
+use Rattle.ar_parser.specs.Paths.{IsPath}
+use Rattle.ar_parser.specs.Expressions.{Node, IsCase, IsSwitch, AreOperands, IsPrimary, truth, falsehood, whole, real, path, brackets, least, greatest, count, switch, IsExpr}
 use Rattle.ar_parser.specs.Chains.{separator_of, chain_of, operand_form, chain_form, ends_operand, ends_chain, IsConstant, begins_constant, word_of, call_of, begins_call, term_text, case_text, IsComparison, IsOneCase}
 use Rattle.ar_parser.specs.Chains as constant
-use Rattle.ar_parser.specs.Results.{anything, kind_at, Spans, Finds, Eats, is_sign, is_word, begins_term, is_relation, ends_path, ends_product, ends_sum, ends_not, ends_and, ends_expr, ends_list, ends_cases, begins_path, begins_primary, begins_minus, begins_not, begins_expr}
-use Rattle.ar_parser.proofs.Finding.{Follows, kind_join, kind_before, inside, apart, fails, follows_many, token_kind, then_kind, each_maps, spans_then}
-use Rattle.ar_parser.proofs.PathForms.{append_some, path_parts}
-use Rattle.ar_parser.proofs.ExpressionForms.{then_map, then_assoc, then_first, then_some, token_some, node_some, node_has, Places, node_made, and_left, and_right, or_right, turned, sign_from, word_from, path_first, primary_first, minus_first, not_first, or_first, sum_first, compare_first, expr_first}
+use Rattle.ar_parser.specs.Results.{anything, Spans, is_sign, is_word, ends_expr, ends_list, ends_cases, begins_path}
+use Rattle.ar_parser.proofs.Finding.{Follows, kind_join, apart, fails, follows_many, token_kind, then_kind, each_maps, spans_then}
+use Rattle.ar_parser.proofs.ExpressionForms.{then_map, then_assoc, then_some, token_some, node_has, Places, node_made, turned, sign_from, word_from, path_first}
 
 -- Primary
 

@@ -1,6 +1,6 @@
 -- What is unread, piece by piece.
-use Rattle.std.proofs.Common.{◌≡◌, ◌≢◌, ℕ, zero, suc, ◌-◌, ◌⊎◌, inl, inr, Bool, true, false, not, ◌&&◌, List, [], ◌∷◌, ◌++◌, Result, Ok, Err, IfOk, refl, sym, ap, ◌∙◌, subst, append_assoc}
-use Rattle.std.specs.Prelude.{Option, Some, None, ◌==◌}
+use Rattle.std.proofs.Common.{◌≡◌, ◌≢◌, ℕ, zero, suc, ◌-◌, inl, inr, Bool, true, false, not, ◌&&◌, [], ◌∷◌, ◌++◌, Result, Ok, Err, IfOk, refl, sym, ap, ◌∙◌, subst}
+use Rattle.std.specs.Prelude.{Some, None, ◌==◌}
 use Rattle.std.proofs.lemmas.Bool.{eqb-true}
 use Rattle.std.proofs.Math.Numerals.{sub-one}
 use Rattle.ar_base.specs.declared.places.Span.{Span}
@@ -8,12 +8,11 @@ use Rattle.ar_lexer.specs.declared.token.TokenKind.{TokenKind}
 use Rattle.ar_lexer.specs.declared.token.TokenKind.TheVariants.{Name, Whole, Real, Sign, Reserved, End}
 use Rattle.ar_lexer.specs.declared.signs.TheConstants.{OPEN_PARENTHESIS, CLOSE_PARENTHESIS, SEMICOLON}
 use Rattle.ar_parser.specs.declared.lexeme.ParseFault.{ParseFault}
-use Rattle.ar_parser.specs.declared.lexeme.Lexeme.{Lexeme}
-use Rattle.ar_parser.specs.Words.{Form, Tokens, kind_or, token, ◌▸◌, ◌∣◌, nothing, between, each, many, covering, Covers, Has}
+use Rattle.ar_parser.specs.Words.{Tokens, kind_or, token, ◌▸◌, nothing, between, many, covering, Covers, Has}
 use Rattle.ar_parser.specs.Members.{plain_token, kept_token, unread, unread_piece, bracketed, IsAttribute, kept, kept_piece}
-use Rattle.ar_parser.specs.Results.{kind_at, Spans, Eats, is_sign, anything, goes_unread, goes_kept, ends_unread, ends_kept, ends_attribute}
-use Rattle.ar_parser.proofs.Finding.{Follows, kind_join, inside, apart, fails, token_kind, then_kind, eats_kind, spans_then, spans_map}
-use Rattle.ar_parser.proofs.ExpressionForms.{then_map, turned, sign_from, and_left, and_right}
+use Rattle.ar_parser.specs.Results.{kind_at, Spans, Eats, goes_unread, goes_kept, ends_unread, ends_kept, ends_attribute}
+use Rattle.ar_parser.proofs.Finding.{kind_join, inside, fails, then_kind, spans_then, spans_map}
+use Rattle.ar_parser.proofs.ExpressionForms.{then_map, sign_from, and_left}
 
 -- a bracket that closes goes on with nothing
 pub unread_open : (k : TokenKind) → goes_unread k ≡ true → ends_unread k ≡ false

@@ -1,5 +1,5 @@
 -- What is said of the tokens of a text, said of the text.
-use Rattle.std.proofs.Common.{◌≡◌, ◌≢◌, ℕ, ◌<◌, Result, Ok, Err, IfErr, IsErrAnd, List, Vec, refl, sym, ap, ◌∙◌, subst}
+use Rattle.std.proofs.Common.{◌≡◌, ◌≢◌, ℕ, Result, Ok, Err, IfErr, IsErrAnd, List, sym, ap, ◌∙◌, subst}
 use Rattle.ar_base.specs.declared.places.Place.{Place}
 use Rattle.ar_lexer.specs.declared.token.TokenKind.TheVariants.{End}
 use Rattle.ar_syntax.specs.declared.items.Model.{Model}

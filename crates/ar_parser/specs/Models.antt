@@ -1,6 +1,5 @@
 -- The grammar of models, and what it is to read a text.
-use Rattle.std.specs.Prelude.{◌≡◌, ◌≢◌, ℕ, ◌+◌, ◌-◌, ◌<◌, ◌≤◌, ◌≤ℤ◌, ℤ, pos, neg_ℤ, List, [], ◌∷◌, ◌++◌, length, map, take, drop, Vec}
-use Rattle.std.specs.declared.alloc.Global.{Global}
+use Rattle.std.specs.Prelude.{◌≡◌, ◌≢◌, ℕ, ◌-◌, ◌≤ℤ◌, ℤ, pos, neg_ℤ, List, [], ◌∷◌, ◌++◌, map, take, drop}
 use Rattle.ar_base.specs.declared.places.Place.{Place}
 use Rattle.ar_base.specs.Counts.{limit_of}
 use Rattle.ar_base.specs.declared.counts.Count.TheVariants.{Nesting}
@@ -14,8 +13,6 @@ use Rattle.ar_lexer.specs.declared.words.TheConstants.{BLOCK, CLASS, DOMAIN}
 use Rattle.ar_lexer.specs.declared.token.LexFault.{LexFault}
 use Rattle.ar_lexer.specs.declared.token.LexFault.TheVariants.{Byte, OpenComment, Number, Memory}
 use Rattle.ar_lexer.specs.Tokens.{AreTokens, IsFirstFault, end_of_text, place_after}
-use Rattle.ar_syntax.specs.declared.members.Member.{Member}
-use Rattle.ar_syntax.specs.declared.members.Unit.{Unit as UnitTree}
 use Rattle.ar_syntax.specs.declared.items.DomainBody.{DomainBody}
 use Rattle.ar_syntax.specs.declared.items.DomainBody.TheVariants as domain
 use Rattle.ar_syntax.specs.declared.items.DomainDecl.{DomainDecl}
@@ -23,7 +20,7 @@ use Rattle.ar_syntax.specs.declared.items.Item.{Item}
 use Rattle.ar_syntax.specs.declared.items.Item.TheVariants as item
 use Rattle.ar_syntax.specs.declared.items.Model.{Model}
 use Rattle.ar_parser.specs.declared.lexeme.Lexeme.{Lexeme}
-use Rattle.ar_parser.specs.Words.{NameId, Form, Tokens, token, nothing, never, ◌▸◌, ◌∣◌, each, between}
+use Rattle.ar_parser.specs.Words.{Form, Tokens, token, nothing, never, ◌▸◌, ◌∣◌, each, between}
 use Rattle.ar_parser.specs.Paths.{IsPlacedName, AreNames}
 use Rattle.ar_parser.specs.Members.{IsBody, IsUnit}
 

@@ -1,5 +1,5 @@
 -- What a function of the parser says of the tokens that it takes.
-use Rattle.std.specs.Prelude.{◌≡◌, ◌≢◌, ℕ, ◌<◌, ◌⊎◌, Bool, true, false, not, ◌||◌, ◌&&◌, ◌==◌, List, [], ◌∷◌, ◌++◌, Result, Ok, Err, IfOk}
+use Rattle.std.specs.Prelude.{◌≡◌, ℕ, ◌<◌, Bool, true, false, not, ◌||◌, ◌&&◌, ◌==◌, [], ◌∷◌, ◌++◌, Result, Ok, Err, IfOk}
 use Rattle.ar_base.specs.declared.places.Place.{Place}
 use Rattle.ar_lexer.specs.declared.token.TokenKind.{TokenKind}
 use Rattle.ar_lexer.specs.declared.token.TokenKind.TheVariants.{Name, Whole, Real, Sign, Reserved, End}
@@ -8,8 +8,9 @@ use Rattle.ar_lexer.specs.declared.words.TheConstants.{AND, ASSERTION, BLOCK, BO
 use Rattle.ar_parser.specs.declared.lexeme.Lexeme.{Lexeme}
 use Rattle.ar_parser.specs.declared.lexeme.ParseFault.{ParseFault}
 use Rattle.ar_parser.specs.declared.lexeme.ParseFault.TheVariants.{Lex, Syntax, Depth, Memory}
-use Rattle.ar_parser.specs.Words.{Form, Tokens, kind_or, StandsAt, Covers}
+use Rattle.ar_parser.specs.Words.{Form, Tokens, kind_or}
 
+-- the kind of the first token; the end of the text where there is none
 abbrev pub kind_at : Tokens → TokenKind
 kind_at = kind_or End
 
@@ -69,14 +70,17 @@ pub record Eats (kind : TokenKind) (old new : Tokens) : Type 0 where
 
 -- What ends a text: the kinds that do not go on with it
 
+-- the sign of this number
 abbrev pub is_sign : ℕ → TokenKind → Bool
 is_sign n (Sign m) = m == n
 is_sign n _ = false
 
+-- the reserved word of this number
 abbrev pub is_word : ℕ → TokenKind → Bool
 is_word n (Reserved m) = m == n
 is_word n _ = false
 
+-- any kind: what looks at no token behind it
 abbrev pub anything : TokenKind → Bool
 anything k = true
 
@@ -84,40 +88,51 @@ abbrev pub is_name : TokenKind → Bool
 is_name Name = true
 is_name _ = false
 
+-- no comma
 abbrev pub ends_names : TokenKind → Bool
 ends_names k = not (is_sign COMMA k)
 
+-- no dot
 abbrev pub ends_path : TokenKind → Bool
 ends_path k = not (is_sign DOT k)
 
+-- what goes on with neither a path nor a product
 abbrev pub ends_product : TokenKind → Bool
 ends_product k = ends_path k && not (is_sign STAR k)
 
+-- `+` or `-`
 abbrev pub begins_term : TokenKind → Bool
 begins_term k = is_sign PLUS k || is_sign MINUS k
 
+-- what goes on with no sum either
 abbrev pub ends_sum : TokenKind → Bool
 ends_sum k = ends_product k && not (begins_term k)
 
+-- a sign that compares
 abbrev pub is_relation : TokenKind → Bool
 is_relation k = is_sign EQUAL k || (is_sign DIFFERS k || (is_sign LESS k || (is_sign AT_MOST k || (is_sign MORE k || is_sign AT_LEAST k))))
 
+-- what goes on with no comparison either
 abbrev pub ends_not : TokenKind → Bool
 ends_not k = ends_sum k && not (is_relation k)
 
+-- what goes on with no chain of `and` either
 abbrev pub ends_and : TokenKind → Bool
 ends_and k = ends_not k && not (is_word AND k)
 
+-- what goes on with no expression
 abbrev pub ends_expr : TokenKind → Bool
 ends_expr k = ends_and k && not (is_word OR k)
 
 -- What begins a text
 
+-- a name, `owner` or `main`
 abbrev pub begins_path : TokenKind → Bool
 begins_path Name = true
 begins_path (Reserved w) = (w == OWNER) || (w == MAIN)
 begins_path _ = false
 
+-- a constant, a path, a call, a choice or a bracket
 abbrev pub begins_primary : TokenKind → Bool
 begins_primary Name = true
 begins_primary (Whole n) = true
@@ -126,15 +141,19 @@ begins_primary (Sign s) = s == OPEN_PARENTHESIS
 begins_primary (Reserved w) = (w == OWNER) || (w == MAIN) || (w == TRUE) || (w == FALSE) || (w == MIN) || (w == MAX) || (w == COUNT) || (w == SWITCH)
 begins_primary End = false
 
+-- an operand of a product
 abbrev pub begins_minus : TokenKind → Bool
 begins_minus k = is_sign MINUS k || begins_primary k
 
+-- an operand of `and`
 abbrev pub begins_not : TokenKind → Bool
 begins_not k = is_word NOT k || begins_minus k
 
+-- an expression
 abbrev pub begins_expr : TokenKind → Bool
 begins_expr k = is_word IF k || begins_not k
 
+-- an instruction
 abbrev pub begins_instr : TokenKind → Bool
 begins_instr Name = true
 begins_instr (Sign s) = s == OPEN_BRACE
@@ -165,9 +184,11 @@ goes_kept (Sign s) = not (s == CLOSE_PARENTHESIS) && not (s == SEMICOLON)
 goes_kept End = false
 goes_kept _ = true
 
+-- what stands behind an unread text
 abbrev pub ends_unread : TokenKind → Bool
 ends_unread k = is_sign CLOSE_PARENTHESIS k
 
+-- what stands behind a kept value
 abbrev pub ends_kept : TokenKind → Bool
 ends_kept k = is_sign SEMICOLON k
 
@@ -183,28 +204,36 @@ ends_semicolon k = is_sign SEMICOLON k
 abbrev pub ends_target : TokenKind → Bool
 ends_target k = is_sign EQUALS k
 
+-- what begins no transition
 abbrev pub ends_transitions : TokenKind → Bool
 ends_transitions k = not (is_name k)
 
+-- what begins no instruction
 abbrev pub ends_assertions : TokenKind → Bool
 ends_assertions k = not (begins_instr k)
 
+-- a part of a synchronisation
 abbrev pub begins_part : TokenKind → Bool
 begins_part k = is_sign EXCLAMATION k || is_sign QUESTION k
 
+-- a clause that begins with a reserved word
 abbrev pub begins_keyed : TokenKind → Bool
 begins_keyed (Reserved w) = (w == EXTENDS) || (w == BOOLEAN) || (w == BLOCK) || (w == CLONES) || (w == EMBEDS) || (w == PARAMETER) || (w == EVENT) || (w == OBSERVER) || (w == HIDE)
 begins_keyed _ = false
 
+-- a member
 abbrev pub begins_member : TokenKind → Bool
 begins_member k = is_name k || begins_keyed k
 
+-- a section
 abbrev pub begins_section : TokenKind → Bool
 begins_section k = is_word TRANSITION k || is_word ASSERTION k
 
+-- a section or a clause that begins with a reserved word
 abbrev pub begins_later : TokenKind → Bool
 begins_later k = begins_section k || begins_keyed k
 
+-- a body that is not empty
 abbrev pub begins_body : TokenKind → Bool
 begins_body k = begins_section k || begins_member k
 
@@ -224,6 +253,7 @@ ends_section k = begins_later k || is_word END k
 abbrev pub ends_item : TokenKind → Bool
 ends_item k = not (is_sign SEMICOLON k)
 
+-- an item
 abbrev pub begins_item : TokenKind → Bool
 begins_item k = is_word DOMAIN k || is_word CLASS k || is_word BLOCK k
 

@@ -5,7 +5,6 @@ use Rattle.ar_base.specs.declared.places.Span.{Span}
 use Rattle.ar_base.specs.declared.numbers.Id.{Id}
 use Rattle.ar_base.specs.declared.numbers.NameKind.{NameKind}
 use Rattle.ar_lexer.specs.declared.token.TokenKind.{TokenKind}
-use Rattle.ar_lexer.specs.declared.token.TokenKind.TheVariants.{Name, End}
 use Rattle.ar_parser.specs.declared.lexeme.Lexeme.{Lexeme}
 
 -- the number of a name

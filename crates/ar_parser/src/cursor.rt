@@ -3,6 +3,7 @@
 ghost use Rattle.std.specs.Prelude.{◌≡◌, ◌≢◌, ◌∷◌, ◌++◌, ℕ, IfOk, IfErr, IfSome, IfNone};
 ghost use Rattle.std.specs.Bool.{OnTrue, OnFalse};
 ghost use Rattle.ar_lexer.specs.declared.token.TokenKind.TheVariants.{Name, Whole, End};
+ghost use Rattle.ar_parser.specs.declared.lexeme.ParseFault.TheVariants.{Syntax, Depth};
 ghost use Rattle.ar_parser.specs.Words.{token, end_of, StandsAt, Covers};
 ghost use Rattle.ar_parser.specs.Paths.{IsName};
 ghost use Rattle.ar_parser.specs.Results.{kind_at, Takes, Finds, Eats, IsSyntax, IsDepth, anything, place_at};
@@ -43,7 +44,8 @@ impl<'a> Parser<'a> {
 
     /// The refusal at the next token.
     pub fn syntax(&self) -> ParseFault
-        ensures { IsSyntax result }
+        ensures kind { IsSyntax result }
+        ensures there { result ≡ Syntax (place_at self.now.end self.now.rest.now) }
     {
         ParseFault::Syntax(self.place())
     }
@@ -52,6 +54,8 @@ impl<'a> Parser<'a> {
     pub fn no_room(&self, begins: bool) -> ParseFault
         ensures deep { OnTrue begins (IsDepth result) }
         ensures other { OnFalse begins (IsSyntax result) }
+        ensures deep_there { OnTrue begins (result ≡ Depth (place_at self.now.end self.now.rest.now)) }
+        ensures other_there { OnFalse begins (result ≡ Syntax (place_at self.now.end self.now.rest.now)) }
     {
         if begins {
             ParseFault::Depth(self.place())

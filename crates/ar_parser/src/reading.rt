@@ -51,270 +51,330 @@ mod tests {
     use super::*;
     use std::test::Fail;
 
+    // How many items a model has, and its text.
+    const MODELS: [(usize, &str); 20] = [
+        (
+            1,
+            "block B\n\
+           Boolean ok (init = true);\n\
+           event fail;\n\
+           transition fail: ok -> ok := false;\n\
+         end\n",
+        ),
+        (
+            1,
+            "block B\n\
+           Boolean a, b (reset = false);\n\
+           observer Boolean seen = a;\n\
+           assertion a := b; b := true;\n\
+         end\n",
+        ),
+        (
+            1,
+            "block B\n\
+           Boolean a, b (reset = false);\n\
+           assertion a := b; b := a;\n\
+         end\n",
+        ),
+        (
+            1,
+            "block B Boolean x (reset = false); assertion x := not x; end\n",
+        ),
+        (
+            1,
+            "block P\n\
+           Boolean supply (reset = true);\n\
+           block a\n\
+             Boolean up (reset = false);\n\
+             assertion up := owner.supply;\n\
+           end\n\
+           block b\n\
+             Boolean supply (reset = false);\n\
+             clones owner.a as c;\n\
+             assertion supply := false;\n\
+           end\n\
+           assertion supply := true;\n\
+         end\n",
+        ),
+        (
+            4,
+            "domain T {X, Y, Z}\n\
+         class C\n\
+           T s (init = X);\n\
+         end\n\
+         class D\n\
+           C c (s.init = Y);\n\
+         end\n\
+         block B\n\
+           D d (c.s.init = Z);\n\
+         end\n",
+        ),
+        (
+            1,
+            "block B\n\
+           Boolean p, q (init = true);\n\
+           event a, b, e;\n\
+           transition\n\
+             a: p -> p := false;\n\
+             b: q -> q := false;\n\
+             e: ?a & ?b;\n\
+         end\n",
+        ),
+        (
+            2,
+            "domain SW {CLOSED, OPEN}\n\
+         block R\n\
+           SW s (init = CLOSED);\n\
+           Boolean x, y, z (reset = false);\n\
+           event trip;\n\
+           observer Boolean dark = not z;\n\
+           transition trip: s == CLOSED -> s := OPEN;\n\
+           assertion\n\
+             x := z or s == CLOSED;\n\
+             y := x;\n\
+             z := y;\n\
+         end\n",
+        ),
+        (
+            2,
+            "domain SW {CLOSED, OPEN}\n\
+         block R\n\
+           SW s (init = CLOSED);\n\
+           Boolean x, y (reset = false);\n\
+           event trip;\n\
+           observer Boolean lit = x;\n\
+           transition trip: s == CLOSED -> s := OPEN;\n\
+           assertion\n\
+             if s == OPEN then { x := true; x := not y; } else x := false;\n\
+             y := x;\n\
+         end\n",
+        ),
+        (
+            3,
+            "domain M {OK, KO}\n\
+         class Part\n\
+           M m (init = OK);\n\
+           Boolean feed, flow (reset = false);\n\
+           parameter Real lambda = 1.0e-4;\n\
+           event fail (delay = exponential(lambda));\n\
+           transition fail: m == OK -> m := KO;\n\
+           assertion flow := feed and m == OK;\n\
+         end\n\
+         block Plant\n\
+           Part valve (lambda = 2.0e-5);\n\
+           Part p1, p2;\n\
+           observer Boolean dry = not (p1.flow or p2.flow);\n\
+           assertion\n\
+             valve.feed := true;\n\
+             p1.feed := valve.flow;\n\
+             p2.feed := valve.flow;\n\
+         end\n",
+        ),
+        (
+            3,
+            "domain M {OK, KO}\n\
+         class Part\n\
+           M m (init = OK);\n\
+           Boolean feed, flow (reset = false);\n\
+           parameter Real lambda = 1.0e-4;\n\
+           event fail (delay = exponential(lambda));\n\
+           event repair;\n\
+           transition fail: m == OK -> m := KO;\n\
+             repair: m == KO -> m := OK;\n\
+           assertion flow := feed and m == OK;\n\
+         end\n\
+         block Plant\n\
+           Part valve (lambda = 2.0e-5);\n\
+           Part p1, p2;\n\
+           observer Boolean dry = not (p1.flow or p2.flow);\n\
+           assertion\n\
+             valve.feed := true;\n\
+             p1.feed := valve.flow;\n\
+             p2.feed := valve.flow;\n\
+         end\n",
+        ),
+        (
+            2,
+            "domain G {GOOD, WORN, DEAD}\n\
+         block U\n\
+           G g (init = GOOD);\n\
+           event die, wear;\n\
+           transition\n\
+             die: g == WORN -> g := DEAD;\n\
+             wear: g == GOOD -> g := WORN;\n\
+           observer Boolean lost = g == DEAD;\n\
+         end\n",
+        ),
+        (
+            1,
+            "block B\n\
+           Boolean ok (init = true);\n\
+           event e;\n\
+           transition\n\
+             e: ok -> ok := false;\n\
+             e: not ok -> ok := true;\n\
+         end\n",
+        ),
+        (
+            1,
+            "block B\n\
+           Boolean s (init = true);\n\
+           event e;\n\
+           transition e: true -> { s := true; s := false; }\n\
+         end\n",
+        ),
+        (
+            2,
+            "domain N [0, 2]\n\
+         block B\n\
+           N n (init = 2);\n\
+           event up;\n\
+           transition up: true -> n := n + 1;\n\
+         end\n",
+        ),
+        (
+            1,
+            "block P\n\
+           block a\n\
+             Boolean up (init = true);\n\
+             event fail;\n\
+             transition fail: up -> up := false;\n\
+           end\n\
+           block v\n\
+             embeds owner.a as w;\n\
+             observer Boolean lost = not w.up;\n\
+           end\n\
+         end\n",
+        ),
+        (
+            3,
+            "domain M {OK, KO}\n\
+         class Part\n\
+           M m (init = OK);\n\
+           Boolean feed, flow (reset = false);\n\
+           parameter Real lambda = 1.0e-4;\n\
+           event fail (delay = exponential(lambda));\n\
+           transition fail: m == OK -> m := KO;\n\
+           assertion flow := feed and m == OK;\n\
+         end\n\
+         block Plant\n\
+           Part valve (lambda = 2.0e-5);\n\
+           Part p1, p2;\n\
+           observer Boolean dry = not (p1.flow or p2.flow);\n\
+           observer Boolean half = p1.flow != p2.flow;\n\
+           assertion\n\
+             valve.feed := true;\n\
+             p1.feed := valve.flow;\n\
+             p2.feed := valve.flow;\n\
+         end\n",
+        ),
+        (
+            1,
+            "block W\n\
+           Boolean on (init = false);\n\
+           Boolean a, b (reset = false);\n\
+           event feed;\n\
+           observer Boolean lit = a;\n\
+           transition feed: not on -> on := true;\n\
+           assertion\n\
+             a :=: b;\n\
+             if on then b := true;\n\
+         end\n",
+        ),
+        (
+            2,
+            "domain M {OK, KO}\n\
+         block U\n\
+           M a, b (init = OK);\n\
+           event x, y;\n\
+           observer Boolean lost = a == KO and b == KO;\n\
+           transition\n\
+             x: a == OK -> a := KO;\n\
+             y: b == OK -> b := KO;\n\
+         end\n",
+        ),
+        (
+            4,
+            "domain M {OK, KO}\n\
+         class Cell\n\
+           M m (init = OK);\n\
+           event fail;\n\
+           transition fail: m == OK -> m := KO;\n\
+         end\n\
+         class Pair\n\
+           Cell a, b;\n\
+           Boolean up (reset = false);\n\
+           assertion up := a.m == OK and b.m == OK;\n\
+         end\n\
+         block Top\n\
+           Pair l, r;\n\
+           observer Boolean out = not l.up and not r.up;\n\
+         end\n",
+        ),
+    ];
+
+    // Texts at the edges of the grammar that are models, each with its number of items.
+    const ODD_MODELS: [(usize, &str); 8] = [
+        (3, "domain D {A}; domain E [-1, 2] class C end"),
+        (
+            1,
+            "block B transition transition assertion transition event e; assertion end",
+        ),
+        (1, "block B event e(), f((a)(b); -> } 1.5 end), g; end"),
+        (1, "block B parameter Real p = (;) 1 ( ( ) ) x; end"),
+        (
+            1,
+            "block B transition f: -1 -> skip; g: not a -> {} h: !a & ?b.c; end",
+        ),
+        (
+            1,
+            "block B assertion x := (1 < 2) > 3; main.y := - - 1 - -2; end",
+        ),
+        (
+            1,
+            "block B assertion if if a then b else c then skip; else if d then skip; end",
+        ),
+        (
+            1,
+            "block B A x, y (init = 1, a.b.init = 2, reset.c = switch { case a: 1 default: 2 }); end",
+        ),
+    ];
+
+    // A text that is no model, and the line and column of the first token that no model goes on with.
+    const REFUSED: [(&str, u32, u32); 20] = [
+        ("", 1, 1),
+        ("block B observer Boolean o = 1 == 1 == 1; end", 1, 37),
+        ("block B", 1, 8),
+        ("block B end end", 1, 13),
+        ("block B event e; transition e: true end", 1, 37),
+        ("block B\n  Boolean a (init = true) end", 2, 27),
+        ("class C end;", 1, 12),
+        ("domain D {A};;", 1, 14),
+        ("domain D [+1, 2]", 1, 11),
+        ("block B Integer x; end", 1, 9),
+        ("block B A x (); end", 1, 14),
+        ("block B transition A x; end", 1, 22),
+        ("block B parameter Real p = ; end", 1, 28),
+        ("block B event e(a)); end", 1, 19),
+        ("block B transition e: !a -> skip; end", 1, 26),
+        ("block B assertion a := := b; end", 1, 24),
+        ("block B assertion a := b.init; end", 1, 26),
+        ("block B assertion a := b == not c; end", 1, 29),
+        ("block B assertion a := switch { default: 1 }; end", 1, 33),
+        (
+            "block B assertion if a then skip; else skip; else skip; end",
+            1,
+            46,
+        ),
+    ];
+
     #[test]
     fn reads_models(rt: HostRuntime) -> Result<(), Fail> {
-        // how many items a model has, and its text
-        let table: [(usize, &str); 20] = [
-            (
-                1,
-                "block B\n\
-               Boolean ok (init = true);\n\
-               event fail;\n\
-               transition fail: ok -> ok := false;\n\
-             end\n",
-            ),
-            (
-                1,
-                "block B\n\
-               Boolean a, b (reset = false);\n\
-               observer Boolean seen = a;\n\
-               assertion a := b; b := true;\n\
-             end\n",
-            ),
-            (
-                1,
-                "block B\n\
-               Boolean a, b (reset = false);\n\
-               assertion a := b; b := a;\n\
-             end\n",
-            ),
-            (
-                1,
-                "block B Boolean x (reset = false); assertion x := not x; end\n",
-            ),
-            (
-                1,
-                "block P\n\
-               Boolean supply (reset = true);\n\
-               block a\n\
-                 Boolean up (reset = false);\n\
-                 assertion up := owner.supply;\n\
-               end\n\
-               block b\n\
-                 Boolean supply (reset = false);\n\
-                 clones owner.a as c;\n\
-                 assertion supply := false;\n\
-               end\n\
-               assertion supply := true;\n\
-             end\n",
-            ),
-            (
-                4,
-                "domain T {X, Y, Z}\n\
-             class C\n\
-               T s (init = X);\n\
-             end\n\
-             class D\n\
-               C c (s.init = Y);\n\
-             end\n\
-             block B\n\
-               D d (c.s.init = Z);\n\
-             end\n",
-            ),
-            (
-                1,
-                "block B\n\
-               Boolean p, q (init = true);\n\
-               event a, b, e;\n\
-               transition\n\
-                 a: p -> p := false;\n\
-                 b: q -> q := false;\n\
-                 e: ?a & ?b;\n\
-             end\n",
-            ),
-            (
-                2,
-                "domain SW {CLOSED, OPEN}\n\
-             block R\n\
-               SW s (init = CLOSED);\n\
-               Boolean x, y, z (reset = false);\n\
-               event trip;\n\
-               observer Boolean dark = not z;\n\
-               transition trip: s == CLOSED -> s := OPEN;\n\
-               assertion\n\
-                 x := z or s == CLOSED;\n\
-                 y := x;\n\
-                 z := y;\n\
-             end\n",
-            ),
-            (
-                2,
-                "domain SW {CLOSED, OPEN}\n\
-             block R\n\
-               SW s (init = CLOSED);\n\
-               Boolean x, y (reset = false);\n\
-               event trip;\n\
-               observer Boolean lit = x;\n\
-               transition trip: s == CLOSED -> s := OPEN;\n\
-               assertion\n\
-                 if s == OPEN then { x := true; x := not y; } else x := false;\n\
-                 y := x;\n\
-             end\n",
-            ),
-            (
-                3,
-                "domain M {OK, KO}\n\
-             class Part\n\
-               M m (init = OK);\n\
-               Boolean feed, flow (reset = false);\n\
-               parameter Real lambda = 1.0e-4;\n\
-               event fail (delay = exponential(lambda));\n\
-               transition fail: m == OK -> m := KO;\n\
-               assertion flow := feed and m == OK;\n\
-             end\n\
-             block Plant\n\
-               Part valve (lambda = 2.0e-5);\n\
-               Part p1, p2;\n\
-               observer Boolean dry = not (p1.flow or p2.flow);\n\
-               assertion\n\
-                 valve.feed := true;\n\
-                 p1.feed := valve.flow;\n\
-                 p2.feed := valve.flow;\n\
-             end\n",
-            ),
-            (
-                3,
-                "domain M {OK, KO}\n\
-             class Part\n\
-               M m (init = OK);\n\
-               Boolean feed, flow (reset = false);\n\
-               parameter Real lambda = 1.0e-4;\n\
-               event fail (delay = exponential(lambda));\n\
-               event repair;\n\
-               transition fail: m == OK -> m := KO;\n\
-                 repair: m == KO -> m := OK;\n\
-               assertion flow := feed and m == OK;\n\
-             end\n\
-             block Plant\n\
-               Part valve (lambda = 2.0e-5);\n\
-               Part p1, p2;\n\
-               observer Boolean dry = not (p1.flow or p2.flow);\n\
-               assertion\n\
-                 valve.feed := true;\n\
-                 p1.feed := valve.flow;\n\
-                 p2.feed := valve.flow;\n\
-             end\n",
-            ),
-            (
-                2,
-                "domain G {GOOD, WORN, DEAD}\n\
-             block U\n\
-               G g (init = GOOD);\n\
-               event die, wear;\n\
-               transition\n\
-                 die: g == WORN -> g := DEAD;\n\
-                 wear: g == GOOD -> g := WORN;\n\
-               observer Boolean lost = g == DEAD;\n\
-             end\n",
-            ),
-            (
-                1,
-                "block B\n\
-               Boolean ok (init = true);\n\
-               event e;\n\
-               transition\n\
-                 e: ok -> ok := false;\n\
-                 e: not ok -> ok := true;\n\
-             end\n",
-            ),
-            (
-                1,
-                "block B\n\
-               Boolean s (init = true);\n\
-               event e;\n\
-               transition e: true -> { s := true; s := false; }\n\
-             end\n",
-            ),
-            (
-                2,
-                "domain N [0, 2]\n\
-             block B\n\
-               N n (init = 2);\n\
-               event up;\n\
-               transition up: true -> n := n + 1;\n\
-             end\n",
-            ),
-            (
-                1,
-                "block P\n\
-               block a\n\
-                 Boolean up (init = true);\n\
-                 event fail;\n\
-                 transition fail: up -> up := false;\n\
-               end\n\
-               block v\n\
-                 embeds owner.a as w;\n\
-                 observer Boolean lost = not w.up;\n\
-               end\n\
-             end\n",
-            ),
-            (
-                3,
-                "domain M {OK, KO}\n\
-             class Part\n\
-               M m (init = OK);\n\
-               Boolean feed, flow (reset = false);\n\
-               parameter Real lambda = 1.0e-4;\n\
-               event fail (delay = exponential(lambda));\n\
-               transition fail: m == OK -> m := KO;\n\
-               assertion flow := feed and m == OK;\n\
-             end\n\
-             block Plant\n\
-               Part valve (lambda = 2.0e-5);\n\
-               Part p1, p2;\n\
-               observer Boolean dry = not (p1.flow or p2.flow);\n\
-               observer Boolean half = p1.flow != p2.flow;\n\
-               assertion\n\
-                 valve.feed := true;\n\
-                 p1.feed := valve.flow;\n\
-                 p2.feed := valve.flow;\n\
-             end\n",
-            ),
-            (
-                1,
-                "block W\n\
-               Boolean on (init = false);\n\
-               Boolean a, b (reset = false);\n\
-               event feed;\n\
-               observer Boolean lit = a;\n\
-               transition feed: not on -> on := true;\n\
-               assertion\n\
-                 a :=: b;\n\
-                 if on then b := true;\n\
-             end\n",
-            ),
-            (
-                2,
-                "domain M {OK, KO}\n\
-             block U\n\
-               M a, b (init = OK);\n\
-               event x, y;\n\
-               observer Boolean lost = a == KO and b == KO;\n\
-               transition\n\
-                 x: a == OK -> a := KO;\n\
-                 y: b == OK -> b := KO;\n\
-             end\n",
-            ),
-            (
-                4,
-                "domain M {OK, KO}\n\
-             class Cell\n\
-               M m (init = OK);\n\
-               event fail;\n\
-               transition fail: m == OK -> m := KO;\n\
-             end\n\
-             class Pair\n\
-               Cell a, b;\n\
-               Boolean up (reset = false);\n\
-               assertion up := a.m == OK and b.m == OK;\n\
-             end\n\
-             block Top\n\
-               Pair l, r;\n\
-               observer Boolean out = not l.up and not r.up;\n\
-             end\n",
-            ),
-        ];
-        for (items, text) in table {
+        for (items, text) in MODELS {
+            let model = parse(rt.alloc(), text.as_bytes())?;
+            assert_eq!(rt; model.items.len(), items, "{text:?}");
+        }
+        for (items, text) in ODD_MODELS {
             let model = parse(rt.alloc(), text.as_bytes())?;
             assert_eq!(rt; model.items.len(), items, "{text:?}");
         }
@@ -323,15 +383,7 @@ mod tests {
 
     #[test]
     fn refuses_at_the_first_token_that_does_not_go_on(rt: HostRuntime) -> Result<(), Fail> {
-        let table: [(&str, u32, u32); 6] = [
-            ("", 1, 1),
-            ("block B observer Boolean o = 1 == 1 == 1; end", 1, 37),
-            ("block B", 1, 8),
-            ("block B end end", 1, 13),
-            ("block B event e; transition e: true end", 1, 37),
-            ("block B\n  Boolean a (init = true) end", 2, 27),
-        ];
-        for (text, line, column) in table {
+        for (text, line, column) in REFUSED {
             match parse(rt.alloc(), text.as_bytes()) {
                 Err(ParseFault::Syntax(at)) => {
                     assert_eq!(rt; at.line, line, "{text:?}");

@@ -1,5 +1,5 @@
-use Rattle.std.proofs.Common.{◌≡◌, ◌≤◌, ℕ, length, arith, refl, sym, ap, ◌∙◌}
-use Rattle.ar_parser.proofs.NameLemmas.{front_of, all_some, lexemes_made, lexical_told}
+use Rattle.std.proofs.Common.{◌≡◌, ◌≤◌, length, arith, sym, ap, ◌∙◌}
+use Rattle.ar_parser.proofs.NameLemmas.{front_of, lexical_told}
 use Rattle.ar_parser.proofs.numbering.lexemes.Goals as goal
 
 pub returns-in-Err-clause-fault : goal.returns-in-Err-clause-fault

@@ -1,5 +1,4 @@
-use Rattle.std.proofs.Common.{◌≡◌, refl, sym, ◌∙◌}
-use Rattle.ar_parser.proofs.NameLemmas.{Numbering, numbering_start, numbering_next, numbering_spelled, numbering_room, numbering_done}
+use Rattle.ar_parser.proofs.NameLemmas.{numbering_next, numbering_spelled, numbering_room, numbering_done}
 use Rattle.ar_parser.proofs.numbering.numbered.Goals as goal
 
 pub number-requires-clause-spelled : goal.number-requires-clause-spelled

@@ -2,7 +2,7 @@ use Rattle.std.specs.Prelude.{Vec}
 use Rattle.std.specs.declared.alloc.Global.{Global}
 use Rattle.ar_syntax.specs.declared.items.Item.{Item}
 use Rattle.ar_parser.proofs.NameLemmas.{no_fault_there}
-use Rattle.ar_parser.proofs.WholeTexts.{lex_told, lex_faulty, lex_reaches, its_items, items_reach, items_not_lex}
+use Rattle.ar_parser.proofs.WholeTexts.{lex_faulty, lex_reaches, its_items, items_reach}
 use Rattle.ar_parser.proofs.reading.parse.Goals as goal
 
 pub returns-in_err-lexemes-clause-faulty : goal.returns-in_err-lexemes-clause-faulty

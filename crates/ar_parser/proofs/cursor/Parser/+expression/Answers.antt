@@ -1,21 +1,18 @@
-use Rattle.std.proofs.Common.{◌≡◌, ◌≢◌, ◌-◌, ℕ, List, [], ◌∷◌, length, Err, true, false, refl, sym, ap, ◌∙◌, subst, arith}
+use Rattle.std.proofs.Common.{◌≡◌, ◌-◌, length, Err, true, false, refl, sym, ap, ◌∙◌, subst}
 use Rattle.std.specs.Prelude.{◌==◌}
 use Rattle.std.proofs.lemmas.Bool.{eqb-true}
-use Rattle.ar_lexer.specs.declared.token.TokenKind.TheVariants.{Sign, Reserved}
-use Rattle.ar_lexer.specs.declared.signs.TheConstants.{COMMA}
 use Rattle.ar_syntax.specs.declared.expressions.RawExpr.{RawExpr}
-use Rattle.ar_syntax.specs.declared.expressions.RawForm.TheVariants as form
 use Rattle.ar_parser.specs.declared.terms.Chain.{Chain}
-use Rattle.ar_parser.specs.declared.terms.Chain.TheVariants.{Any, All, Product}
-use Rattle.ar_parser.specs.Words.{token, ◌▸◌, Has}
-use Rattle.ar_parser.specs.Expressions.{Node, IsExpr, IsNot, IsMinus, IsProduct, IsSum, IsCompare, IsPrimary, IsIf, IsSwitch, IsTerm, sign_of}
-use Rattle.ar_parser.specs.Chains.{separator_of, operand_form, chain_form, ends_chain, ends_operand, begins_constant, begins_call}
-use Rattle.ar_parser.specs.Results.{kind_at, Finds, begins_term, anything, begins_expr, begins_not, begins_minus, ends_list, ends_cases, ends_sum, is_relation}
-use Rattle.ar_parser.proofs.Finding.{finds_then, finds_fails, finds_given, finds_err, finds_ok, finds_memory, finds_inside, finds_none, finds_no_room, finds_syntax, finds_nothing, finds_token, finds_from, finds_at, loops_start, loops_stop, loops_fail, loops_next, gathers_push, spans_then, spans_token, spans_expected, spans_from, spans_at, spans_map, takes_map, takes_from, err_memory, eats_as, eats_kind, then_kind, follows_token, follows_then, follows_any}
+use Rattle.ar_parser.specs.declared.terms.Chain.TheVariants.{Any}
+use Rattle.ar_parser.specs.Words.{Has}
+use Rattle.ar_parser.specs.Expressions.{Node, IsExpr, IsNot, IsMinus, IsProduct, IsSum, IsCompare, IsPrimary, IsIf, IsSwitch}
+use Rattle.ar_parser.specs.Chains.{operand_form, chain_form, ends_chain, ends_operand, begins_constant, begins_call}
+use Rattle.ar_parser.specs.Results.{kind_at, Finds, begins_term, begins_expr, begins_not, begins_minus, ends_list, ends_cases, ends_sum, is_relation}
+use Rattle.ar_parser.proofs.Finding.{finds_then, finds_fails, finds_given, finds_err, finds_ok, finds_memory, finds_inside, finds_no_room, finds_syntax, finds_nothing, finds_token, finds_from, finds_at, loops_start, loops_stop, loops_fail, loops_next, gathers_push, spans_then, spans_token, spans_expected, spans_from, spans_at, spans_map, takes_map, takes_from, err_memory, eats_as, eats_kind, then_kind, follows_token, follows_then, follows_any}
 use Rattle.ar_parser.proofs.PathForms.{pushed_first, pushed_more}
-use Rattle.ar_parser.proofs.ExpressionForms.{Places, and_left}
-use Rattle.ar_parser.proofs.ExpressionParts.{expr_some, expr_begins, expr_if, expr_plain, expr_choice_in, expr_plain_in, if_parts, if_made, sep_ends, sep_open, chain_ends, chain_parts, chain_follows, chain_made, not_some, not_begins, not_negated, not_plain, not_plain_in, not_made, compare_parts, compare_follows, compare_over, compare_more, compare_made, compare_one, relation_ends, term_sign, term_eats, term_given, term_begins, term_open, sum_ends, sum_follows, sum_parts, sum_one, sum_made, minus_some, minus_begins, minus_negated, minus_plain, minus_plain_in, minus_made}
-use Rattle.ar_parser.proofs.PrimaryParts.{primary_constant, primary_brackets, primary_switch, primary_call, primary_path, constant_begins, constant_made, brackets_made, switch_in, call_made, path_made_primary, arguments_follow, operands_parts, operands_follow, operands_made, case_kind, cases_follow, switch_parts, switch_case, cases_then, switch_made, no_cases, some_length}
+use Rattle.ar_parser.proofs.ExpressionForms.{and_left}
+use Rattle.ar_parser.proofs.ExpressionParts.{expr_some, expr_begins, expr_if, expr_plain, expr_choice_in, expr_plain_in, if_parts, if_made, sep_open, chain_parts, chain_follows, chain_made, not_some, not_begins, not_negated, not_plain, not_plain_in, not_made, compare_parts, compare_follows, compare_over, compare_more, compare_made, compare_one, relation_ends, term_sign, term_eats, term_given, term_begins, term_open, sum_follows, sum_parts, sum_one, sum_made, minus_some, minus_begins, minus_negated, minus_plain, minus_plain_in, minus_made}
+use Rattle.ar_parser.proofs.PrimaryParts.{primary_constant, primary_brackets, primary_switch, primary_call, primary_path, constant_begins, constant_made, brackets_made, switch_in, call_made, path_made_primary, arguments_follow, operands_parts, operands_follow, operands_made, case_kind, cases_follow, switch_parts, switch_case, switch_made, no_cases, some_length}
 use Rattle.ar_parser.proofs.cursor.Parser.+expression.Goals as goal
 
 pub cases-returns-in_err-test-clause-only : goal.cases-returns-in_err-test-clause-only
@@ -289,7 +286,7 @@ pub switch-returns-in_err-cases-clause-only : goal.switch-returns-in_err-cases-c
 switch-returns-in_err-cases-clause-only t c = finds_given (finds_then (c.in_ok-expect.ensures.only _) (finds_then (c.in_ok-expect-2.ensures.only _) (finds_fails c.in_err-cases.ensures.only c.from_residual-in_err-cases.ensures.1 (follows_then refl)) follows_any) follows_any) (λ n next ts h s k. (switch_parts n next ts h, refl))
 
 pub switch-returns-then-is_empty-clause-only : goal.switch-returns-then-is_empty-clause-only
-switch-returns-then-is_empty-clause-only t c = let z = ap length (sym c.as_slice.ensures.value) ∙ eqb-true _ 0 (sym c.if-is_empty.ensures) in finds_at (finds_given (finds_then (c.in_ok-expect.ensures.only _) (finds_then (c.in_ok-expect-2.ensures.only _) (finds_fails {A = RawExpr} {B = RawExpr} {r = Err _} (finds_syntax c.syntax.ensures (λ n next ts h s k. c.in_ok-cases.ensures.over (ap kind_at (no_cases _ _ z c.in_ok-cases.ensures.found) ∙ sym k ∙ case_kind n next ts h))) refl follows_any) follows_any) follows_any) (λ n next ts h s k. (switch_case n next ts h, refl))) (no_cases _ _ z c.in_ok-cases.ensures.found)
+switch-returns-then-is_empty-clause-only t c = let z = ap length (sym c.as_slice.ensures.value) ∙ eqb-true _ 0 (sym c.if-is_empty.ensures) in finds_at (finds_given (finds_then (c.in_ok-expect.ensures.only _) (finds_then (c.in_ok-expect-2.ensures.only _) (finds_fails {A = RawExpr} {B = RawExpr} {r = Err _} (finds_syntax c.syntax.ensures.kind (λ n next ts h s k. c.in_ok-cases.ensures.over (ap kind_at (no_cases _ _ z c.in_ok-cases.ensures.found) ∙ sym k ∙ case_kind n next ts h))) refl follows_any) follows_any) follows_any) (λ n next ts h s k. (switch_case n next ts h, refl))) (no_cases _ _ z c.in_ok-cases.ensures.found)
 
 pub switch-returns-in_err-expect-3-clause-only : goal.switch-returns-in_err-expect-3-clause-only
 switch-returns-in_err-expect-3-clause-only t c = finds_given (finds_then (c.in_ok-expect.ensures.only _) (finds_then (c.in_ok-expect-2.ensures.only _) (finds_then c.in_ok-cases.ensures.only (finds_fails (c.in_err-expect-3.ensures.only _) c.from_residual-in_err-expect-3.ensures.1 follows_any) (follows_then refl)) follows_any) follows_any) (λ n next ts h s k. (switch_parts n next ts h, refl))

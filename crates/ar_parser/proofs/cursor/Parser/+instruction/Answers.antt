@@ -1,4 +1,4 @@
-use Rattle.std.proofs.Common.{◌≡◌, ◌≢◌, ◌-◌, ℕ, List, [], ◌∷◌, true, false, refl, sym, ap, ◌∙◌, subst}
+use Rattle.std.proofs.Common.{◌-◌, List, refl, sym, ap, ◌∙◌, subst}
 use Rattle.ar_lexer.specs.declared.token.TokenKind.TheVariants.{Sign, Reserved}
 use Rattle.ar_lexer.specs.declared.signs.TheConstants.{OPEN_BRACE, CLOSE_BRACE}
 use Rattle.ar_lexer.specs.declared.words.TheConstants.{ELSE, IF, THEN}
@@ -6,8 +6,8 @@ use Rattle.ar_syntax.specs.declared.instructions.Instr.{Instr}
 use Rattle.ar_parser.specs.Words.{token, ◌▸◌, between, each}
 use Rattle.ar_parser.specs.Expressions.{Node, IsExpr}
 use Rattle.ar_parser.specs.Instructions.{IsInstr, IsElse, IsSimple, IsGroup, IsConditional}
-use Rattle.ar_parser.specs.Results.{kind_at, begins_instr}
-use Rattle.ar_parser.proofs.Finding.{finds_then, finds_fails, finds_given, finds_err, finds_ok, finds_memory, finds_inside, finds_none, finds_no_room, finds_syntax, finds_nothing, finds_token, finds_from, finds_at, loops_start, loops_stop, loops_fail, loops_next, gathers_push, spans_then, spans_token, spans_expected, spans_from, spans_at, spans_map, takes_map, takes_from, err_memory, eats_as, eats_kind, then_kind, follows_token, follows_then, follows_any}
+use Rattle.ar_parser.specs.Results.{begins_instr}
+use Rattle.ar_parser.proofs.Finding.{finds_then, finds_fails, finds_given, finds_err, finds_ok, finds_memory, finds_inside, finds_no_room, finds_nothing, finds_token, finds_at, loops_stop, loops_fail, loops_next, gathers_push, spans_then, spans_token, spans_expected, spans_map, takes_map, eats_kind, follows_token, follows_any}
 use Rattle.ar_parser.proofs.InstrParts.{not_sign, pushed_all, instr_begins, instr_some, instr_if, instr_group, instr_simple, conditional_in, group_in, simple_in, if_instr_parts, else_taken, else_none, group_parts, instr_not_over}
 use Rattle.ar_parser.proofs.cursor.Parser.+instruction.Goals as goal
 

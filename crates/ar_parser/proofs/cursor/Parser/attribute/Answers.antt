@@ -1,7 +1,7 @@
-use Rattle.std.proofs.Common.{◌≡◌, ◌≢◌, ◌-◌, ℕ, List, [], ◌∷◌, true, false, refl, sym, ap, ◌∙◌, subst}
+use Rattle.std.proofs.Common.{refl, sym, ◌∙◌}
 use Rattle.ar_parser.specs.Results.{anything}
-use Rattle.ar_parser.proofs.Finding.{finds_then, finds_fails, finds_given, finds_err, finds_ok, finds_memory, finds_inside, finds_none, finds_no_room, finds_too_deep, finds_deep, finds_syntax, finds_nothing, finds_token, finds_from, finds_at, loops_start, loops_stop, loops_fail, loops_next, gathers_push, many_push, spans_then, spans_token, spans_expected, spans_from, spans_at, spans_map, takes_map, takes_from, err_memory, eats_as, eats_kind, then_kind, follows_token, follows_then, follows_any, follows_many}
-use Rattle.ar_parser.proofs.UnreadParts.{unread_open, unread_over, unread_grouped, unread_bracketed, unread_plain, unread_token, bracketed_some, bracketed_inside, bracketed_in, attribute_none, attribute_inside, attribute_some, attribute_in, kept_open, kept_over, kept_grouped, kept_bracketed, kept_plain, kept_token_given, kept_first, kept_made}
+use Rattle.ar_parser.proofs.Finding.{finds_then, finds_fails, finds_given, finds_err, finds_ok, finds_inside, finds_deep, finds_nothing, spans_expected, follows_token, follows_any}
+use Rattle.ar_parser.proofs.UnreadParts.{attribute_none, attribute_inside, attribute_some, attribute_in}
 use Rattle.ar_parser.proofs.cursor.Parser.attribute.Goals as goal
 
 pub returns-then-not-is_at-clause-only : goal.returns-then-not-is_at-clause-only

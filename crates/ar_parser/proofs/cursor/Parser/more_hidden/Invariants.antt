@@ -1,9 +1,9 @@
 use Rattle.std.proofs.Common.{length}
 use Rattle.ar_lexer.specs.declared.token.TokenKind.TheVariants.{Sign}
-use Rattle.ar_lexer.specs.declared.signs.TheConstants.{COMMA, DOT, AMPERSAND}
+use Rattle.ar_lexer.specs.declared.signs.TheConstants.{COMMA}
 use Rattle.ar_parser.specs.Words.{token, ◌▸◌, Has}
-use Rattle.ar_parser.specs.Members.{IsWord, IsSetting, IsEvent, IsHidden, IsPart}
-use Rattle.ar_parser.specs.Results.{ends_target, ends_list, ends_semicolon}
+use Rattle.ar_parser.specs.Members.{IsHidden}
+use Rattle.ar_parser.specs.Results.{ends_semicolon}
 use Rattle.ar_parser.proofs.Finding.{Gathers}
 use Rattle.ar_parser.proofs.cursor.Parser.more_hidden.Given as goal
 

@@ -1,8 +1,8 @@
-use Rattle.std.proofs.Common.{◌≡◌, ◌≢◌, ◌-◌, ℕ, List, [], ◌∷◌, true, false, refl, sym, ap, ◌∙◌, subst}
-use Rattle.ar_parser.specs.Members.{unread, unread_piece, kept_piece}
-use Rattle.ar_parser.specs.Results.{kind_at, goes_unread, goes_kept}
-use Rattle.ar_parser.proofs.Finding.{finds_then, finds_fails, finds_given, finds_err, finds_ok, finds_memory, finds_inside, finds_none, finds_no_room, finds_too_deep, finds_deep, finds_syntax, finds_nothing, finds_token, finds_from, finds_at, loops_start, loops_stop, loops_fail, loops_next, gathers_push, many_push, spans_then, spans_token, spans_expected, spans_from, spans_at, spans_map, takes_map, takes_from, err_memory, eats_as, eats_kind, then_kind, follows_token, follows_then, follows_any, follows_many}
-use Rattle.ar_parser.proofs.UnreadParts.{unread_open, unread_over, unread_grouped, unread_bracketed, unread_plain, unread_token, bracketed_some, bracketed_inside, bracketed_in, attribute_none, attribute_inside, attribute_some, attribute_in, kept_open, kept_over, kept_grouped, kept_bracketed, kept_plain, kept_token_given, kept_first, kept_made}
+use Rattle.std.proofs.Common.{sym, ap, ◌∙◌}
+use Rattle.ar_parser.specs.Members.{kept_piece}
+use Rattle.ar_parser.specs.Results.{kind_at, goes_kept}
+use Rattle.ar_parser.proofs.Finding.{loops_stop, loops_fail, loops_next, many_push, follows_any}
+use Rattle.ar_parser.proofs.UnreadParts.{kept_open, kept_over}
 use Rattle.ar_parser.proofs.cursor.Parser.more_kept.Goals as goal
 
 pub returns-in_err-kept_piece-clause-only : goal.returns-in_err-kept_piece-clause-only

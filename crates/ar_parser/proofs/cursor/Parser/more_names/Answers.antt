@@ -1,10 +1,10 @@
-use Rattle.std.proofs.Common.{◌≡◌, ◌++◌, ◌∷◌, [], refl, sym, ap, ◌∙◌, append_assoc}
+use Rattle.std.proofs.Common.{◌++◌, ◌∷◌, [], sym, ap, ◌∙◌, append_assoc}
 use Rattle.ar_parser.specs.Words.{token, ◌▸◌}
 use Rattle.ar_parser.specs.Paths.{IsPlacedName}
-use Rattle.ar_parser.specs.Results.{kind_at, ends_names}
+use Rattle.ar_parser.specs.Results.{ends_names}
 use Rattle.ar_lexer.specs.declared.token.TokenKind.TheVariants.{Sign}
 use Rattle.ar_lexer.specs.declared.signs.TheConstants.{COMMA}
-use Rattle.ar_parser.proofs.Finding.{Loops, finds_then, finds_given, finds_token, finds_memory, loops_next, loops_fail, loops_stop, spans_token, spans_then, spans_push, eats_kind, follows_any, then_kind, finds_at}
+use Rattle.ar_parser.proofs.Finding.{finds_then, finds_token, finds_memory, loops_next, loops_fail, loops_stop, spans_token, spans_then, spans_push, eats_kind, follows_any, then_kind, finds_at}
 use Rattle.ar_parser.proofs.cursor.Parser.more_names.Goals as goal
 
 pub returns-in_err-name-clause-only : goal.returns-in_err-name-clause-only

@@ -1,22 +1,11 @@
-use Rattle.std.proofs.Common.{◌≡◌, ◌≢◌, ◌-◌, ◌++◌, ℕ, List, [], ◌∷◌, true, false, not, refl, sym, ap, ◌∙◌, subst}
-use Rattle.ar_lexer.specs.declared.token.TokenKind.TheVariants.{Name, Sign, Reserved}
-use Rattle.ar_lexer.specs.declared.signs.TheConstants.{OPEN_PARENTHESIS, CLOSE_PARENTHESIS, COMMA, SEMICOLON, COLON, DOT, EQUALS, ARROW, EXCLAMATION, QUESTION, AMPERSAND}
-use Rattle.ar_lexer.specs.declared.words.TheConstants.{BOOLEAN, EVENT, HIDE, INIT, INTEGER, RESET}
-use Rattle.ar_syntax.specs.declared.members.Member.TheVariants as member
-use Rattle.ar_syntax.specs.declared.members.TypeForm.TheVariants as type_form
-use Rattle.ar_syntax.specs.declared.members.Word.TheVariants as word
-use Rattle.ar_parser.specs.Words.{token, ◌▸◌, between, each, separated, Has}
-use Rattle.ar_parser.specs.Paths.{IsName, IsPath}
-use Rattle.ar_parser.specs.Expressions.{IsExpr}
-use Rattle.ar_parser.specs.Instructions.{IsInstr}
-use Rattle.ar_parser.specs.Members.{IsTypeForm, IsWord, IsSetting, AreSettings, IsEvent, IsHidden, IsPart, IsTransition, sync, local}
-use Rattle.ar_parser.specs.Results.{kind_at, anything, ends_path, ends_expr, ends_list, ends_attribute, ends_semicolon, ends_target, ends_transitions, ends_assertions, begins_part, begins_instr}
-use Rattle.ar_parser.proofs.Finding.{Follows, finds_then, finds_fails, finds_given, finds_err, finds_ok, finds_memory, finds_inside, finds_nothing, finds_token, finds_from, finds_at, loops_start, loops_stop, loops_fail, loops_next, gathers_push, spans_then, spans_token, spans_expected, spans_from, spans_at, spans_map, takes_map, takes_from, err_memory, eats_as, eats_kind, then_kind, follows_token, follows_then, follows_any}
-use Rattle.ar_parser.proofs.PathForms.{pushed_first, pushed_more, spans_name}
-use Rattle.ar_parser.proofs.ExpressionForms.{turned, or_right}
-use Rattle.ar_parser.proofs.InstrParts.{instr_begins, pushed_all}
-use Rattle.ar_parser.proofs.MemberParts.{stand_made, name_some, type_boolean, type_integer, type_named, word_init, word_reset, word_named, separated_parts, separated_made, pushed_both, separated_follow, separated_more, list_end, setting_parts, setting_made, settings_none, settings_parts, settings_made, declared_parts, names_follow, event_parts, semicolon_attribute, semicolon_path, listed_parts, must_true, must_false, part_parts, transition_rest, transition_parts, transition_sync, transition_local, transition_kind, local_made, not_name}
-use Rattle.ar_parser.proofs.ExpressionForms.{token_some}
+use Rattle.std.proofs.Common.{refl, sym, ap, ◌∙◌}
+use Rattle.ar_lexer.specs.declared.token.TokenKind.TheVariants.{Sign}
+use Rattle.ar_lexer.specs.declared.signs.TheConstants.{COMMA}
+use Rattle.ar_parser.specs.Words.{Has}
+use Rattle.ar_parser.specs.Members.{IsSetting}
+use Rattle.ar_parser.specs.Results.{ends_expr, ends_list}
+use Rattle.ar_parser.proofs.Finding.{finds_then, finds_memory, finds_token, finds_at, loops_stop, loops_fail, loops_next, gathers_push, spans_then, spans_token, eats_kind, then_kind, follows_any}
+use Rattle.ar_parser.proofs.MemberParts.{separated_more, list_end}
 use Rattle.ar_parser.proofs.cursor.Parser.more_settings.Goals as goal
 
 pub returns-in_err-setting-clause-only : goal.returns-in_err-setting-clause-only

@@ -1,4 +1,3 @@
-use Rattle.std.proofs.Common.{refl}
 use Rattle.ar_parser.proofs.Finding.{finds_given, finds_then, finds_fails, finds_err, finds_ok, follows_any}
 use Rattle.ar_parser.proofs.PathForms.{names_parts, names_made, pushed_first, pushed_more}
 use Rattle.ar_parser.proofs.cursor.Parser.names.Goals as goal

@@ -1,4 +1,4 @@
-use Rattle.std.proofs.Common.{◌≡◌, refl, sym, ap, ◌∙◌}
+use Rattle.std.proofs.Common.{refl, sym, ap, ◌∙◌}
 use Rattle.ar_parser.specs.Results.{kind_at}
 use Rattle.ar_parser.proofs.Finding.{finds_given, finds_then, finds_err, finds_ok, finds_token, finds_nothing, spans_token, spans_expected, spans_then, spans_from, finds_from, finds_at, eats_kind, follows_any}
 use Rattle.ar_parser.proofs.PathForms.{start_owner, start_main, start_here}

@@ -1,8 +1,7 @@
-use Rattle.std.proofs.Common.{◌≡◌, ◌≢◌, ◌-◌, ℕ, List, [], ◌∷◌, true, false, refl, sym, ap, ◌∙◌, subst}
-use Rattle.ar_lexer.specs.declared.token.TokenKind.TheVariants.{Sign, Reserved}
+use Rattle.std.proofs.Common.{refl, sym, ap, ◌∙◌}
 use Rattle.ar_parser.specs.Instructions.{assign, tie, skip}
 use Rattle.ar_parser.specs.Results.{kind_at}
-use Rattle.ar_parser.proofs.Finding.{finds_then, finds_fails, finds_given, finds_err, finds_ok, finds_memory, finds_inside, finds_none, finds_no_room, finds_syntax, finds_nothing, finds_token, finds_from, finds_at, loops_start, loops_stop, loops_fail, loops_next, gathers_push, spans_then, spans_token, spans_expected, spans_from, spans_at, spans_map, takes_map, takes_from, err_memory, eats_as, eats_kind, then_kind, follows_token, follows_then, follows_any}
+use Rattle.ar_parser.proofs.Finding.{finds_then, finds_fails, finds_given, finds_err, finds_ok, finds_token, finds_from, spans_then, spans_token, spans_expected, spans_from, spans_map, eats_kind, follows_any}
 use Rattle.ar_parser.proofs.InstrParts.{simple_skip, simple_parts, simple_follows, simple_tie, simple_assign}
 use Rattle.ar_parser.proofs.cursor.Parser.simple.Goals as goal
 

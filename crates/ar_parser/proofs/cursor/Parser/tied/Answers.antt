@@ -1,6 +1,5 @@
-use Rattle.std.proofs.Common.{◌≡◌, ◌≢◌, ◌-◌, ℕ, List, [], ◌∷◌, true, false, refl, sym, ap, ◌∙◌, subst}
-use Rattle.ar_lexer.specs.declared.token.TokenKind.TheVariants.{Sign, Reserved}
-use Rattle.ar_parser.proofs.Finding.{finds_then, finds_fails, finds_given, finds_err, finds_ok, finds_memory, finds_inside, finds_none, finds_no_room, finds_syntax, finds_nothing, finds_token, finds_from, finds_at, loops_start, loops_stop, loops_fail, loops_next, gathers_push, spans_then, spans_token, spans_expected, spans_from, spans_at, spans_map, takes_map, takes_from, err_memory, eats_as, eats_kind, then_kind, follows_token, follows_then, follows_any}
+use Rattle.std.proofs.Common.{refl}
+use Rattle.ar_parser.proofs.Finding.{finds_then, finds_fails, finds_err, finds_ok, spans_then, spans_expected, follows_token, follows_any}
 use Rattle.ar_parser.proofs.cursor.Parser.tied.Goals as goal
 
 pub returns-in_err-expect-clause-only : goal.returns-in_err-expect-clause-only

@@ -1,4 +1,4 @@
--- What an expression that fits a system has in it.
+-- What an expression that fits a system has in it, and which expressions fit.
 use Rattle.std.proofs.Common.{◌≡◌, ◌<◌, ◌↔◌, IsTrue, ℕ, zero, suc, Bool, List, [], ◌∷◌, length, Contains, Some, slice_index_or, ap, subst, refl, arith}
 use Rattle.ar_base.specs.Lists.{Stands}
 use Rattle.ar_base.proofs.Standing.{stands_none}

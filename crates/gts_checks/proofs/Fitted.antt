@@ -1,6 +1,7 @@
--- What an expression that fits a system has in it.
-use Rattle.std.proofs.Common.{◌≡◌, ◌<◌, ℕ, zero, suc, Bool, List, [], ◌∷◌, length, Contains, Some, slice_index_or, ap, subst, refl, arith}
+-- What an expression that fits a system has in it, and which expressions fit.
+use Rattle.std.proofs.Common.{◌≡◌, ◌<◌, ◌↔◌, IsTrue, ℕ, zero, suc, Bool, List, [], ◌∷◌, length, Contains, Some, slice_index_or, ap, subst, refl, arith}
 use Rattle.ar_base.specs.Lists.{Stands}
+use Rattle.ar_base.proofs.Standing.{stands_none}
 use Rattle.domains.specs.declared.Value.{Value}
 use Rattle.typed_expr.specs.Yields.{Level}
 use Rattle.typed_expr.specs.Mentions as m
@@ -12,21 +13,28 @@ use Rattle.typed_expr.specs.declared.expr.Expr.TheOpen.{Constant}
 use Rattle.gts_core.specs.View.{VarId}
 use Rattle.gts_core.specs.Sound.{IsNamed, IsTyped, kind_at}
 use Rattle.typed_expr.specs.Kinds.{HasKind, IsKindOf}
+use Rattle.typed_expr.specs.Kinds.{Each as Every, Each_part as Every_part, Each_case as Every_case}
+use Rattle.typed_expr.specs.Kinds as h
+use Rattle.typed_expr.proofs.Kinded.{one_kind}
 use Rattle.typed_expr.specs.declared.expr.ValueKind.{ValueKind}
 use Rattle.gts_core.specs.declared.system.GtsParts.{GtsParts}
+use Rattle.gts_checks.specs.Each.{Each}
 use Rattle.gts_checks.specs.Fitting.{Fits, constant, variable, opposite, all, any, compared, sum, product, least, greatest, count, choice}
 
 abbrev pub EachFits : GtsParts → List (Expr VarId) → Type 0
-EachFits p es = (k : ℕ) (e : Expr VarId) → Stands es k e → Fits p (out-Expr VarId e)
+EachFits p es = Each es (λ e. Fits p (out-Expr VarId e))
 
 abbrev pub EachTermFits : GtsParts → List (Bool × Expr VarId) → Type 0
-EachTermFits p ps = (k : ℕ) (q : Bool × Expr VarId) → Stands ps k q → Fits p (out-Expr VarId q.1)
+EachTermFits p ps = Each ps (λ q. Fits p (out-Expr VarId q.1))
 
-abbrev pub EachTestFits : GtsParts → List (Expr VarId × Expr VarId) → Type 0
-EachTestFits p cs = (k : ℕ) (c : Expr VarId × Expr VarId) → Stands cs k c → Fits p (out-Expr VarId c.0)
+abbrev pub EachCaseFits : GtsParts → List (Expr VarId × Expr VarId) → Type 0
+EachCaseFits p cs = Each cs (λ c. Fits p (out-Expr VarId c.0) × Fits p (out-Expr VarId c.1))
 
-abbrev pub EachValueFits : GtsParts → List (Expr VarId × Expr VarId) → Type 0
-EachValueFits p cs = (k : ℕ) (c : Expr VarId × Expr VarId) → Stands cs k c → Fits p (out-Expr VarId c.1)
+abbrev EachTestFits : GtsParts → List (Expr VarId × Expr VarId) → Type 0
+EachTestFits p cs = Each cs (λ c. Fits p (out-Expr VarId c.0))
+
+abbrev EachValueFits : GtsParts → List (Expr VarId × Expr VarId) → Type 0
+EachValueFits p cs = Each cs (λ c. Fits p (out-Expr VarId c.1))
 
 module _ (p : GtsParts) (x : VarId) where
   mutual
@@ -85,10 +93,78 @@ module _ (p : GtsParts) (v : Value) where
   symbol_named e (choice {cs} h k o) (part.in_value {test = a} {value = b} c d) = symbol_named _ (k c.0 (a, b) (stands_contained cs.items (a, b) c.0 c.1 c.2)) d
   symbol_named e (choice h k o) (part.in_other d) = symbol_named _ o d
 
--- an expression that fits and has the kind is typed
-pub typed_by : (p : GtsParts) (e : Expr VarId) (k found : ValueKind) → Fits p (out-Expr VarId e) → IsKindOf (kind_at p) (out-Expr VarId e) (Some found) → found ≡ k → IsTyped p e k
-typed_by p e k found h is same = record {
-  typed = subst (λ (z : ValueKind). HasKind (kind_at p) (out-Expr VarId e) z) same is;
-  variables = λ x d. variable_within p x (out-Expr VarId e) h d;
-  symbols = λ v d. symbol_named p v (out-Expr VarId e) h d;
-}
+-- what stands in a list is contained in it
+contains_stands : {A : Type 0} (xs : List A) (k : ℕ) (x : A) → Stands xs k x → Contains xs x
+contains_stands [] k x s = absurd (stands_none k x s)
+contains_stands (y ∷ xs) zero x s = (0, omega arith, cc)
+contains_stands (y ∷ xs) (suc k) x s = let c = contains_stands xs k x s in (suc c.0, omega (arith, c.1), c.2)
+
+module _ (p : GtsParts) (kinds : VarId → ValueKind) where
+  -- the expression has variables of the system alone, and symbols with names
+  abbrev HasVariables : Level VarId → Type 0
+  HasVariables e = (x : VarId) → Mentions x e → x.n < length p.variables.items
+
+  abbrev HasNames : Level VarId → Type 0
+  HasNames e = (v : Value) → IsPart (Constant v) e → IsNamed p v
+
+  mutual
+    -- a typed expression fits
+    pub fitted : (e : Level VarId) (k : ValueKind) → HasKind kinds e k → HasVariables e → HasNames e → Fits p e
+    fitted e k h.constant xs vs = constant (vs _ part.itself)
+    fitted e k h.variable xs vs = variable (xs _ m.itself)
+    fitted e k (h.opposite d) xs vs = opposite (fitted _ _ d (λ x f. xs x (m.in_not f)) (λ v f. vs v (part.in_not f)))
+    fitted e k (h.all {es} l d) xs vs = all (each_fitted es.items _ d (λ x f. xs x (m.in_all f)) (λ v j a s f. vs v (part.in_all (contains_stands es.items j a s) f)))
+    fitted e k (h.any {es} l d) xs vs = any (each_fitted es.items _ d (λ x f. xs x (m.in_any f)) (λ v j a s f. vs v (part.in_any (contains_stands es.items j a s) f)))
+    fitted e k (h.compared c d g) xs vs = compared (fitted _ _ d (λ x f. xs x (m.in_left f)) (λ v f. vs v (part.in_left f))) (fitted _ _ g (λ x f. xs x (m.in_right f)) (λ v f. vs v (part.in_right f)))
+    fitted e k (h.sum {ps} l d) xs vs = sum (terms_fitted ps.items d (λ x f. xs x (m.in_sum f)) (λ v j q s f. vs v (part.in_sum {plus = q.0} {e = q.1} (contains_stands ps.items j q s) f)))
+    fitted e k (h.product {es} l d) xs vs = product (each_fitted es.items _ d (λ x f. xs x (m.in_product f)) (λ v j a s f. vs v (part.in_product (contains_stands es.items j a s) f)))
+    fitted e k (h.least {es} l d) xs vs = least (each_fitted es.items _ d (λ x f. xs x (m.in_least f)) (λ v j a s f. vs v (part.in_least (contains_stands es.items j a s) f)))
+    fitted e k (h.greatest {es} l d) xs vs = greatest (each_fitted es.items _ d (λ x f. xs x (m.in_greatest f)) (λ v j a s f. vs v (part.in_greatest (contains_stands es.items j a s) f)))
+    fitted e k (h.count {es} l d) xs vs = count (each_fitted es.items _ d (λ x f. xs x (m.in_count f)) (λ v j a s f. vs v (part.in_count (contains_stands es.items j a s) f)))
+    fitted e k (h.choice {cs} l d o) xs vs =
+        let each = cases_fitted cs.items _ d (λ x f. xs x (m.in_cases f)) (λ v j c s f. vs v (part.in_test {test = c.0} {value = c.1} (contains_stands cs.items j c s) f))
+        (λ v j c s f. vs v (part.in_value {test = c.0} {value = c.1} (contains_stands cs.items j c s) f)) in
+        choice (λ j c s. (each j c s).0) (λ j c s. (each j c s).1) (fitted _ _ o (λ x f. xs x (m.in_other f)) (λ v f. vs v (part.in_other f)))
+
+    each_fitted : (es : List (Expr VarId)) (k : ValueKind) → Every kinds es k → ((x : VarId) → Some_mentions x es → x.n < length p.variables.items)
+        → ((v : Value) → Each es (λ e. IsPart (Constant v) (out-Expr VarId e) → IsNamed p v)) → EachFits p es
+    each_fitted [] k h.none xs vs j a s = absurd (stands_none j a s)
+    each_fitted (e ∷ es) k (h.one_and d ds) xs vs zero a s =
+        let same : e ≡ a = cc in
+        let here : Fits p (out-Expr VarId e) = fitted _ _ d (λ x f. xs x (m.here f)) (λ v f. vs v 0 e refl f) in
+        subst (λ (z : Expr VarId). Fits p (out-Expr VarId z)) same here
+    each_fitted (e ∷ es) k (h.one_and d ds) xs vs (suc j) a s = each_fitted es k ds (λ x f. xs x (m.later f)) (λ v i b t. vs v (suc i) b t) j a s
+
+    terms_fitted : (ps : List (Bool × Expr VarId)) → Every_part kinds ps → ((x : VarId) → Parts_mention x ps → x.n < length p.variables.items)
+        → ((v : Value) → Each ps (λ q. IsPart (Constant v) (out-Expr VarId q.1) → IsNamed p v)) → EachTermFits p ps
+    terms_fitted [] h.no_part xs vs j a s = absurd (stands_none j a s)
+    terms_fitted (q ∷ ps) (h.part_and d ds) xs vs zero a s =
+        let same : q ≡ a = cc in
+        let here : Fits p (out-Expr VarId q.1) = fitted _ _ d (λ x f. xs x (m.this_part f)) (λ v f. vs v 0 q refl f) in
+        subst (λ (z : Bool × Expr VarId). Fits p (out-Expr VarId z.1)) same here
+    terms_fitted (q ∷ ps) (h.part_and d ds) xs vs (suc j) a s = terms_fitted ps ds (λ x f. xs x (m.later_part f)) (λ v i b t. vs v (suc i) b t) j a s
+
+    cases_fitted : (cs : List (Expr VarId × Expr VarId)) (k : ValueKind) → Every_case kinds cs k → ((x : VarId) → Cases_mention x cs → x.n < length p.variables.items)
+        → ((v : Value) → Each cs (λ c. IsPart (Constant v) (out-Expr VarId c.0) → IsNamed p v)) → ((v : Value) → Each cs (λ c. IsPart (Constant v) (out-Expr VarId c.1) → IsNamed p v)) → EachCaseFits p cs
+    cases_fitted [] k h.no_case xs ts vs j a s = absurd (stands_none j a s)
+    cases_fitted (c ∷ cs) k (h.case_and d f ds) xs ts vs zero a s =
+        let same : c ≡ a = cc in
+        let test : Fits p (out-Expr VarId c.0) = fitted _ _ d (λ x g. xs x (m.in_test g)) (λ v g. ts v 0 c refl g) in
+        let value : Fits p (out-Expr VarId c.1) = fitted _ _ f (λ x g. xs x (m.in_value g)) (λ v g. vs v 0 c refl g) in
+        subst (λ (z : Expr VarId × Expr VarId). Fits p (out-Expr VarId z.0) × Fits p (out-Expr VarId z.1)) same (test, value)
+    cases_fitted (c ∷ cs) k (h.case_and d f ds) xs ts vs (suc j) a s = cases_fitted cs k ds (λ x g. xs x (m.later_case g)) (λ v i b t. ts v (suc i) b t) (λ v i b t. vs v (suc i) b t) j a s
+
+-- an expression that fits is typed exactly where it has the kind
+pub typed_by : (p : GtsParts) (e : Expr VarId) (k found : ValueKind) (b : Bool) → Fits p (out-Expr VarId e) → IsKindOf (kind_at p) (out-Expr VarId e) (Some found) → IsTrue b ↔ (found ≡ k) → IsTrue b ↔ IsTyped p e k
+typed_by p e k found b fits is same = (
+  λ t. record {
+    typed = subst (λ (z : ValueKind). HasKind (kind_at p) (out-Expr VarId e) z) (same.0 t) is;
+    variables = λ x d. variable_within p x (out-Expr VarId e) fits d;
+    symbols = λ v d. symbol_named p v (out-Expr VarId e) fits d;
+  },
+  λ t. same.1 (one_kind (kind_at p) is t.typed),
+)
+
+-- a typed expression fits
+pub fits_typed : (p : GtsParts) (e : Expr VarId) (k : ValueKind) → IsTyped p e k → Fits p (out-Expr VarId e)
+fits_typed p e k t = fitted p (kind_at p) (out-Expr VarId e) k t.typed t.variables t.symbols

@@ -1,6 +1,8 @@
 mod Opened
 mod Fitted
-mod Gathered
+mod Forms
+mod Soundness
 pub mod Each
 pub mod Naming
+pub mod Tests
 pub mod Trees

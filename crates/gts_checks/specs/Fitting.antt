@@ -10,10 +10,10 @@ use Rattle.typed_expr.specs.declared.expr.Expr.{Expr, out-Expr}
 use Rattle.typed_expr.specs.declared.expr.Expr.TheOpen.{Constant, Variable, Not, All, Any, Compare, Sum, Product, Least, Greatest, Count, Choose}
 use Rattle.gts_core.specs.View.{VarId}
 use Rattle.gts_core.specs.Sound.{IsNamed, IsTyped, IsAssignTo}
-use Rattle.gts_core.specs.declared.system.Assign.{Assign}
 use Rattle.gts_core.specs.declared.system.GtsParts.{GtsParts}
 use Rattle.gts_core.specs.declared.system.WayBody.{WayBody}
 use Rattle.gts_core.specs.declared.system.WayBody.TheVariants.{Local, Sync}
+use Rattle.gts_checks.specs.Each.{Each}
 
 -- each variable that stands in the expression is one of the system, and each symbol has a name, form by form
 pub data Fits (p : GtsParts) : Level VarId → Type 0 where
@@ -35,5 +35,5 @@ pub data Fits (p : GtsParts) : Level VarId → Type 0 where
 
 -- a transition's guard is a truth value, and its action assigns state variables
 abbrev pub IsBody : GtsParts → WayBody → Type 0
-IsBody p (Local guard action) = IsTyped p guard kind.Truth × ((n : ℕ) (a : Assign) → Stands action.items n a → IsAssignTo p true a)
+IsBody p (Local guard action) = IsTyped p guard kind.Truth × Each action.items (IsAssignTo p true)
 IsBody p (Sync parts) = Unit {0}

@@ -1,2 +1,4 @@
+pub mod Each
 pub mod Fitting
+pub mod Listed
 pub mod Lower

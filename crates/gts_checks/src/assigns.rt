@@ -1,14 +1,9 @@
 // Whether assignments, transitions and observers are typed.
 
-ghost use Rattle.std.specs.Prelude.{◌≡◌, ◌<◌, true, false, Bool, ℕ};
-ghost use Rattle.ar_base.specs.Lists.{Stands};
-ghost use Rattle.typed_expr.specs.declared.expr.Expr.{Expr as Exprs};
+ghost use Rattle.std.specs.Prelude.{◌↔◌, IsTrue, true, false};
 ghost use Rattle.typed_expr.specs.declared.expr.ValueKind.TheVariants.{Truth};
-ghost use Rattle.gts_core.specs.View.{VarId as Numbered};
 ghost use Rattle.gts_core.specs.Sound.{IsTyped, IsAssignTo};
-ghost use Rattle.gts_core.specs.declared.system.Assign.{Assign as Assigns};
-ghost use Rattle.gts_core.specs.declared.system.Observer.{Observer as Observers};
-ghost use Rattle.gts_core.specs.declared.system.Way.{Way as Ways};
+ghost use Rattle.gts_checks.specs.Each.{Each};
 ghost use Rattle.gts_checks.specs.Fitting.{IsBody};
 
 use crate::expressions::{is_typed, kind_of_domain};
@@ -18,7 +13,7 @@ use typed_expr::{Expr, ValueKind};
 
 // Whether an assignment gives a state variable, or a flow, a value of its kind under typed conditions.
 fn is_assign_to(parts: &GtsParts, to_state: bool, assign: &Assign) -> bool
-    ensures { result ≡ true → IsAssignTo parts.now to_state assign.now }
+    ensures { IsTrue result ↔ IsAssignTo parts.now to_state assign.now }
 {
     let target = assign.target.n as usize;
     if target >= parts.variables.len() {
@@ -36,7 +31,7 @@ fn is_assign_to(parts: &GtsParts, to_state: bool, assign: &Assign) -> bool
 
 // Whether each condition is a truth value.
 fn are_conditions(parts: &GtsParts, conditions: &[(Expr<VarId>, bool)]) -> bool
-    ensures { result ≡ true → (n : ℕ) (c : Exprs Numbered × Bool) → Stands conditions.now n c → IsTyped parts.now c.0 Truth }
+    ensures { IsTrue result ↔ Each conditions.now (λ c. IsTyped parts.now c.0 Truth) }
 {
     for (test, _) in conditions {
         if !is_typed(parts, test, ValueKind::Truth) {
@@ -48,7 +43,7 @@ fn are_conditions(parts: &GtsParts, conditions: &[(Expr<VarId>, bool)]) -> bool
 
 // Whether each assignment is one to a state variable, or to a flow.
 fn are_assigns_to(parts: &GtsParts, to_state: bool, assigns: &[Assign]) -> bool
-    ensures { result ≡ true → (n : ℕ) (a : Assigns) → Stands assigns.now n a → IsAssignTo parts.now to_state a }
+    ensures { IsTrue result ↔ Each assigns.now (IsAssignTo parts.now to_state) }
 {
     for assign in assigns {
         if !is_assign_to(parts, to_state, assign) {
@@ -60,7 +55,7 @@ fn are_assigns_to(parts: &GtsParts, to_state: bool, assigns: &[Assign]) -> bool
 
 // Whether a transition's guard is a truth value and its action assigns state variables.
 fn is_body(parts: &GtsParts, body: &WayBody) -> bool
-    ensures { result ≡ true → IsBody parts.now body.now }
+    ensures { IsTrue result ↔ IsBody parts.now body.now }
 {
     match body {
         WayBody::Local(guard, action) => {
@@ -75,7 +70,7 @@ fn is_body(parts: &GtsParts, body: &WayBody) -> bool
 
 // Whether this holds of each of these ways.
 fn bodies_fit(parts: &GtsParts, ways: &[Way]) -> bool
-    ensures { result ≡ true → (n : ℕ) (w : Ways) → Stands ways.now n w → IsBody parts.now w.body }
+    ensures { IsTrue result ↔ Each ways.now (λ w. IsBody parts.now w.body) }
 {
     for way in ways {
         if !is_body(parts, &way.body) {
@@ -87,21 +82,21 @@ fn bodies_fit(parts: &GtsParts, ways: &[Way]) -> bool
 
 // Whether it holds of each way of the system.
 pub(crate) fn are_bodies(parts: &GtsParts) -> bool
-    ensures { result ≡ true → (n : ℕ) (w : Ways) → Stands parts.now.ways.items n w → IsBody parts.now w.body }
+    ensures { IsTrue result ↔ Each parts.now.ways.items (λ w. IsBody parts.now w.body) }
 {
     bodies_fit(parts, &parts.ways)
 }
 
 // Whether the assertions assign flows.
 pub(crate) fn are_assertions(parts: &GtsParts) -> bool
-    ensures { result ≡ true → (n : ℕ) (a : Assigns) → Stands parts.now.assigns.items n a → IsAssignTo parts.now false a }
+    ensures { IsTrue result ↔ Each parts.now.assigns.items (IsAssignTo parts.now false) }
 {
     are_assigns_to(parts, false, &parts.assigns)
 }
 
 // Whether each of these observers has the kind that it says.
 fn observers_fit(parts: &GtsParts, observers: &[Observer]) -> bool
-    ensures { result ≡ true → (n : ℕ) (o : Observers) → Stands observers.now n o → IsTyped parts.now o.value o.kind }
+    ensures { IsTrue result ↔ Each observers.now (λ o. IsTyped parts.now o.value o.kind) }
 {
     for observer in observers {
         if !is_typed(parts, &observer.value, observer.kind) {
@@ -113,7 +108,7 @@ fn observers_fit(parts: &GtsParts, observers: &[Observer]) -> bool
 
 // Whether each observer of the system has the kind that it says.
 pub(crate) fn are_observers(parts: &GtsParts) -> bool
-    ensures { result ≡ true → (n : ℕ) (o : Observers) → Stands parts.now.observers.items n o → IsTyped parts.now o.value o.kind }
+    ensures { IsTrue result ↔ Each parts.now.observers.items (λ o. IsTyped parts.now o.value o.kind) }
 {
     observers_fit(parts, &parts.observers)
 }

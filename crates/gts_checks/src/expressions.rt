@@ -1,11 +1,11 @@
 // Whether expressions are typed, over the variables and symbols of a system.
 
-ghost use Rattle.std.specs.Prelude.{◌≡◌, ◌<◌, true, false, Bool, [], ℕ, length, slice_get};
-ghost use Rattle.ar_base.specs.Lists.{Stands};
+ghost use Rattle.std.specs.Prelude.{◌≡◌, ◌<◌, ◌↔◌, IsTrue, false, [], length, slice_get};
 ghost use Rattle.domains.specs.declared.Value.TheVariants.{Truth};
-ghost use Rattle.typed_expr.specs.declared.expr.Expr.{Expr as Exprs, out-Expr};
+ghost use Rattle.typed_expr.specs.declared.expr.Expr.{out-Expr};
 ghost use Rattle.gts_core.specs.View.{VarId as Numbered};
 ghost use Rattle.gts_core.specs.Sound.{IsNamed, IsTyped, kind_of_domain, kind_of_found};
+ghost use Rattle.gts_checks.specs.Each.{Each};
 ghost use Rattle.gts_checks.specs.Fitting.{Fits};
 
 use ar_base::VarId;
@@ -55,7 +55,7 @@ pub(crate) fn kind_of_domain(domain: &Domain) -> ValueKind
 
 // Whether a value is no symbol, or one that has a name.
 pub(crate) fn is_named(parts: &GtsParts, v: Value) -> bool
-    ensures { result ≡ true → IsNamed parts.now v }
+    ensures { IsTrue result ↔ IsNamed parts.now v }
 {
     match v {
         Value::Truth(_) => true,
@@ -66,7 +66,7 @@ pub(crate) fn is_named(parts: &GtsParts, v: Value) -> bool
 
 // Whether two kinds are one.
 fn is_same(a: ValueKind, b: ValueKind) -> bool
-    ensures { result ≡ true → a ≡ b }
+    ensures { IsTrue result ↔ (a ≡ b) }
 {
     match (a, b) {
         (ValueKind::Truth, ValueKind::Truth) => true,
@@ -78,14 +78,14 @@ fn is_same(a: ValueKind, b: ValueKind) -> bool
 
 // Whether the number is that of a variable.
 fn is_variable(parts: &GtsParts, x: VarId) -> bool
-    ensures { result ≡ true → x.n < length parts.now.variables.items }
+    ensures { IsTrue result ↔ (x.n < length parts.now.variables.items) }
 {
     (x.n as usize) < parts.variables.len()
 }
 
 // Whether an expression has the kind, over the variables and symbols of the system.
 pub(crate) fn is_typed(parts: &GtsParts, expr: &Expr<VarId>, kind: ValueKind) -> bool
-    ensures { result ≡ true → IsTyped parts.now expr.now kind }
+    ensures { IsTrue result ↔ IsTyped parts.now expr.now kind }
 {
     if !fits(parts, expr) {
         return false;
@@ -102,7 +102,7 @@ pub(crate) fn is_typed(parts: &GtsParts, expr: &Expr<VarId>, kind: ValueKind) ->
 // Whether the variables of an expression are those of the system, and its symbols have names.
 #[cycle(fits)]
 fn fits(parts: &GtsParts, expr: &Expr<VarId>) -> bool
-    ensures { result ≡ true → Fits parts.now (out-Expr Numbered expr.now) }
+    ensures { IsTrue result ↔ Fits parts.now (out-Expr Numbered expr.now) }
 {
     match expr {
         Expr::Constant(v) => is_named(parts, *v),
@@ -122,7 +122,7 @@ fn fits(parts: &GtsParts, expr: &Expr<VarId>) -> bool
 
 // Whether both are true.
 fn both(a: bool, b: bool) -> bool
-    ensures { result ≡ true → (a ≡ true) × (b ≡ true) }
+    ensures { IsTrue result ↔ (IsTrue a × IsTrue b) }
 {
     a && b
 }
@@ -130,7 +130,7 @@ fn both(a: bool, b: bool) -> bool
 // The same for each of these expressions.
 #[cycle(fits)]
 fn all_fit(parts: &GtsParts, es: &[Expr<VarId>]) -> bool
-    ensures { result ≡ true → (k : ℕ) (e : Exprs Numbered) → Stands es.now k e → Fits parts.now (out-Expr Numbered e) }
+    ensures { IsTrue result ↔ Each es.now (λ e. Fits parts.now (out-Expr Numbered e)) }
 {
     for e in es {
         if !fits(parts, e) {
@@ -143,7 +143,7 @@ fn all_fit(parts: &GtsParts, es: &[Expr<VarId>]) -> bool
 // The same for the terms of a sum.
 #[cycle(fits)]
 fn terms_fit(parts: &GtsParts, terms: &[(bool, Expr<VarId>)]) -> bool
-    ensures { result ≡ true → (k : ℕ) (q : Bool × Exprs Numbered) → Stands terms.now k q → Fits parts.now (out-Expr Numbered q.1) }
+    ensures { IsTrue result ↔ Each terms.now (λ term. Fits parts.now (out-Expr Numbered term.1)) }
 {
     for (_, e) in terms {
         if !fits(parts, e) {
@@ -156,8 +156,7 @@ fn terms_fit(parts: &GtsParts, terms: &[(bool, Expr<VarId>)]) -> bool
 // The same for the tests and values of the cases of a choice.
 #[cycle(fits)]
 fn cases_fit(parts: &GtsParts, cases: &[(Expr<VarId>, Expr<VarId>)]) -> bool
-    ensures tests { result ≡ true → (k : ℕ) (c : Exprs Numbered × Exprs Numbered) → Stands cases.now k c → Fits parts.now (out-Expr Numbered c.0) }
-    ensures values { result ≡ true → (k : ℕ) (c : Exprs Numbered × Exprs Numbered) → Stands cases.now k c → Fits parts.now (out-Expr Numbered c.1) }
+    ensures { IsTrue result ↔ Each cases.now (λ c. Fits parts.now (out-Expr Numbered c.0) × Fits parts.now (out-Expr Numbered c.1)) }
 {
     for (test, value) in cases {
         if !both(fits(parts, test), fits(parts, value)) {

@@ -1,13 +1,13 @@
 // Whether lists are short enough for the numbers of their items.
 
-ghost use Rattle.std.specs.Prelude.{◌<◌, ◌^◌, IsTrue};
+ghost use Rattle.std.specs.Prelude.{◌<◌, ◌^◌, ◌↔◌, IsTrue};
 ghost use Rattle.gts_core.specs.Sound.{AreShort};
 
 use gts_core::GtsParts;
 
 // Whether each list is short enough for its numbers.
 pub(crate) fn are_short(parts: &GtsParts) -> bool
-    ensures { IsTrue result → AreShort parts.now }
+    ensures { IsTrue result ↔ AreShort parts.now }
 {
     is_short(parts.symbols.len())
         && is_short(parts.units.len())
@@ -20,7 +20,7 @@ pub(crate) fn are_short(parts: &GtsParts) -> bool
 
 // Whether numbers of 32 bits suffice for so many items.
 fn is_short(count: usize) -> bool
-    ensures { IsTrue result → count < 2 ^ 32 }
+    ensures { IsTrue result ↔ (count < 2 ^ 32) }
 {
     count <= u32::MAX as usize
 }

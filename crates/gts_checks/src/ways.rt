@@ -1,14 +1,8 @@
 // Whether ways are listed by their events, and made of ways with lower numbers.
 
-ghost use Rattle.std.specs.Prelude.{◌≡◌, ◌+◌, ℕ, Bool, ◌<◌, ◌≤◌, IsTrue, length, Vec};
-ghost use Rattle.std.specs.Global.{Global as Memory};
-ghost use Rattle.ar_base.specs.Lists.{Stands, IsOneOf};
-ghost use Rattle.ar_meaning.specs.Systems.{Way as Tree};
-ghost use Rattle.ar_meaning.specs.Numbered.{Means_way, height};
-ghost use Rattle.gts_core.specs.View.{WayId as Numbered, bodies_of};
+ghost use Rattle.std.specs.Prelude.{◌<◌, ◌↔◌, IsTrue};
 ghost use Rattle.gts_core.specs.Sound.{IsOwn};
-ghost use Rattle.gts_core.specs.declared.system.Way.{Way as Ways};
-ghost use Rattle.gts_core.specs.declared.system.WayBody.TheVariants.{Sync};
+ghost use Rattle.gts_checks.specs.Each.{Each, EachAt};
 ghost use Rattle.gts_checks.specs.Lower.{IsOver, IsPlaceOf};
 
 use ar_base::WayId;
@@ -16,9 +10,7 @@ use gts_core::{GtsParts, Way, WayBody};
 
 // Whether each way is one of its event, and each part of it a way with a lower number.
 pub(crate) fn are_ways(parts: &GtsParts) -> bool
-    ensures own_ways { IsTrue result → (n : ℕ) (w : Ways) → Stands parts.now.ways.items n w → IsOwn parts.now n w }
-    ensures parts { IsTrue result → (n : ℕ) (w : Ways) (all : Vec (Bool × Numbered) Memory) → Stands parts.now.ways.items n w → w.body ≡ Sync all → (part : Bool × Numbered) → IsOneOf all.items part → part.1.n < length parts.now.ways.items }
-    ensures trees { IsTrue result → (n : ℕ) → n < length parts.now.ways.items → (w : Tree ℕ) × Means_way (bodies_of parts.now) n w × (height w ≤ length parts.now.ways.items) }
+    ensures { IsTrue result ↔ EachAt parts.now.ways.items (λ n w. IsOwn parts.now n w × IsOver n w.body) }
 {
     for (n, way) in parts.ways.iter().enumerate() {
         if !is_own(parts, n, way) || !is_over(n, &way.body) {
@@ -30,7 +22,7 @@ pub(crate) fn are_ways(parts: &GtsParts) -> bool
 
 // Whether way n is a way of its event, the one that its number says.
 fn is_own(parts: &GtsParts, n: usize, way: &Way) -> bool
-    ensures { IsTrue result → IsOwn parts.now n way.now }
+    ensures { IsTrue result ↔ IsOwn parts.now n way.now }
 {
     match parts.events.get(way.event.n as usize) {
         Some(event) => is_place_of(&event.ways, way.number, n),
@@ -40,7 +32,7 @@ fn is_own(parts: &GtsParts, n: usize, way: &Way) -> bool
 
 // Whether the way that a number from 1 says is way n.
 fn is_place_of(ways: &[WayId], number: u32, n: usize) -> bool
-    ensures { IsTrue result → IsPlaceOf ways.now number n }
+    ensures { IsTrue result ↔ IsPlaceOf ways.now number n }
 {
     if number == 0 {
         return false;
@@ -53,7 +45,7 @@ fn is_place_of(ways: &[WayId], number: u32, n: usize) -> bool
 
 // Whether the parts of way n are ways with lower numbers.
 fn is_over(n: usize, body: &WayBody) -> bool
-    ensures { IsTrue result → IsOver n body.now }
+    ensures { IsTrue result ↔ IsOver n body.now }
 {
     match body {
         WayBody::Local(_, _) => true,
@@ -63,7 +55,7 @@ fn is_over(n: usize, body: &WayBody) -> bool
 
 // Whether the parts are ways with numbers below n.
 fn are_lower(n: usize, parts: &[(bool, WayId)]) -> bool
-    ensures { IsTrue result → (part : Bool × Numbered) → IsOneOf parts.now part → part.1.n < n }
+    ensures { IsTrue result ↔ Each parts.now (λ part. part.1.n < n) }
 {
     for part in parts {
         if part.1.n as usize >= n {

@@ -1,35 +1,32 @@
-use Rattle.std.proofs.Common.{ℕ, ◌<◌, length, subst, arith}
-use Rattle.ar_base.specs.Lists.{Stands}
-use Rattle.ar_base.proofs.Standing.{stands_within}
+use Rattle.std.proofs.Common.{ℕ}
+use Rattle.std.proofs.lemmas.Bool.{iff_false}
 use Rattle.gts_core.specs.Sound.{IsOwn}
+use Rattle.gts_core.specs.declared.system.GtsParts.{GtsParts}
 use Rattle.gts_core.specs.declared.system.Way.{Way}
-use Rattle.gts_core.specs.declared.system.WayBody.{WayBody}
 use Rattle.gts_checks.specs.Lower.{IsOver}
-use Rattle.gts_checks.proofs.Each.{each_item, each_whole}
-use Rattle.gts_checks.proofs.Trees.{trees}
+use Rattle.gts_checks.proofs.Each.{each_item, each_passed, each_failed}
 use Rattle.gts_checks.proofs.ways.are_ways.Goals as goal
+use Rattle.gts_checks.proofs.ways.are_ways.Goals.{then-not-is_own-via-then-not-is_own, then-not-is_own-via-else-not-is_own+then-not-is_over}
+
+abbrev IsLaid : GtsParts → ℕ → Way → Type 0
+IsLaid p n w = IsOwn p n w × IsOver n w.body
 
 pub loop-n-preserved : goal.loop-n-preserved
 loop-n-preserved c =
-    let items = c.args.parts.now.ways.items in
     let viewed = c.deref-way-items in
-    record {
-      own = each_item (IsOwn c.args.parts.now) items viewed.result.now viewed.ensures.value c.loop-n.n c.way-item.result c.loop-n-test.true c.way-item.is (c.is_own.ensures c.if-not-is_own.false) c.loop-n.invariant.own;
-      over = each_item (λ (n : ℕ) (w : Way). IsOver n w.body) items viewed.result.now viewed.ensures.value c.loop-n.n c.way-item.result c.loop-n-test.true c.way-item.is (c.is_over.ensures c.if-not-is_over.false) c.loop-n.invariant.over;
-    }
+    each_item (IsLaid c.args.parts.now) c.args.parts.now.ways.items viewed.result.now viewed.ensures.value c.loop-n.n c.way-item.result c.loop-n-test.true c.way-item.is
+    (c.is_own.ensures.0 c.if-not-is_own.false, c.is_over.ensures.0 c.if-not-is_over.false) c.loop-n.invariant
 
-pub returns-clause-own_ways : goal.returns-clause-own_ways
-returns-clause-own_ways c = λ e.
-    each_whole (IsOwn c.args.parts.now) c.args.parts.now.ways.items c.deref-way-items.result.now c.deref-way-items.ensures.value c.loop-n.n c.loop-n-test.false c.loop-n.invariant.own
+pub returns-then-not-is_own : goal.returns-then-not-is_own
+returns-then-not-is_own c =
+    let viewed = c.deref-way-items in
+    each_failed (IsLaid c.args.parts.now) c.args.parts.now.ways.items viewed.result.now viewed.ensures.value c.loop-n.n c.way-item.result c.loop-n-test.true c.way-item.is
+    (λ laid. elim c.then-not-is_own.branch [
+      | then-not-is_own-via-then-not-is_own w ↦ iff_false c.is_own.ensures w.if-not-is_own.true laid.0
+      | then-not-is_own-via-else-not-is_own+then-not-is_over w ↦ iff_false w.is_over.ensures w.if-not-is_over.true laid.1
+    ])
 
-over : (c : goal.After-loop-n) → (n : ℕ) (w : Way) → Stands c.args.parts.now.ways.items n w → IsOver n w.body
-over c = each_whole (λ (n : ℕ) (w : Way). IsOver n w.body) c.args.parts.now.ways.items c.deref-way-items.result.now c.deref-way-items.ensures.value c.loop-n.n c.loop-n-test.false c.loop-n.invariant.over
-
-pub returns-clause-parts : goal.returns-clause-parts
-returns-clause-parts c = λ e n w all s is part one.
-    let lower : part.1.n < n = subst (λ (z : WayBody). IsOver n z) is (over c n w s) part one in
-    let within : n < length c.args.parts.now.ways.items = stands_within c.args.parts.now.ways.items n w s in
-    omega arith
-
-pub returns-clause-trees : goal.returns-clause-trees
-returns-clause-trees c = λ e. trees c.args.parts.now (over c)
+pub returns : goal.returns
+returns c =
+    let viewed = c.deref-way-items in
+    each_passed (IsLaid c.args.parts.now) c.args.parts.now.ways.items viewed.result.now viewed.ensures.value c.loop-n.n c.loop-n-test.false c.loop-n.invariant

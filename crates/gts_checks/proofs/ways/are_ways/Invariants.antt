@@ -6,7 +6,4 @@ use Rattle.gts_checks.specs.Lower.{IsOver}
 use Rattle.gts_checks.proofs.ways.are_ways.Given as goal
 
 abbrev pub invariant-loop-n : goal.invariant-loop-n
-invariant-loop-n l = record {
-  own : (m : ℕ) (w : Way) → m < l.n → Stands l.parts.ways.items m w → IsOwn l.parts m w;
-  over : (m : ℕ) (w : Way) → m < l.n → Stands l.parts.ways.items m w → IsOver m w.body;
-}
+invariant-loop-n l = (m : ℕ) (w : Way) → m < l.n → Stands l.parts.ways.items m w → IsOwn l.parts m w × IsOver m w.body

@@ -13,7 +13,7 @@ use Rattle.flow_blocks.proofs.ClassLemmas.{depends_on}
 use Rattle.flow_blocks.proofs.OrderLemmas.{some_class, below_count, same_class, one_class}
 
 -- how many numbers below an end pass a test
-count_upto : (ℕ → Bool) → ℕ → ℕ
+pub count_upto : (ℕ → Bool) → ℕ → ℕ
 count_upto test zero = 0
 count_upto test (suc n) = (if test n then 1 else 0) + count_upto test n
 
@@ -30,7 +30,7 @@ no_more f g (suc end) more =
     by false true e h rest = rw (e, h) (omega arith)
     by false false e h rest = rw (e, h) (omega arith)
 
-less : (f g : ℕ → Bool) (end k : ℕ) → ((n : ℕ) → n < end → f n ≡ true → g n ≡ true) → k < end → f k ≡ false → g k ≡ true → count_upto f end < count_upto g end
+pub less : (f g : ℕ → Bool) (end k : ℕ) → ((n : ℕ) → n < end → f n ≡ true → g n ≡ true) → k < end → f k ≡ false → g k ≡ true → count_upto f end < count_upto g end
 unfolding count_upto
 less f g zero k more lt no_k yes_k = absurd (omega arith)
 less f g (suc end) k more lt no_k yes_k = elim (cases_eq k end) [

@@ -7,3 +7,5 @@ mod WaitLemmas
 mod OrderLemmas
 mod DescentLemmas
 mod LawLemmas
+mod ReachLemmas
+mod ExistenceLemmas

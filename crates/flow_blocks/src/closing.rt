@@ -1,12 +1,12 @@
 // The rows of all numbers on which each number depends.
 
-ghost use Rattle.std.specs.Prelude.{◌≡◌, ℕ, ◌≤◌, ◌<◌, ◌⊎◌, ◌↔◌, List, IsTrue, ◌||◌, false, IfOk, length, IsPermutation};
+ghost use Rattle.std.specs.Prelude.{◌≡◌, ℕ, ◌≤◌, ◌<◌, ◌⊎◌, ◌↔◌, IsTrue, ◌||◌, false, IfOk};
 ghost use Rattle.ar_base.specs.Lists.{IsOneOf};
 ghost use Rattle.flow_blocks.specs.Blocks.{AreBelow};
 ghost use Rattle.flow_blocks.specs.Bits.{HasBit, AreRows, AreDependences, AreClosed, AreAllDependences, room_left};
 
-use crate::finishing::finishing_times;
 use crate::rows::{add, empty_rows, set};
+use crate::schedule::schedule;
 use ar_base::Memory;
 use std::alloc::Global;
 use std::mem;
@@ -20,24 +20,10 @@ pub(crate) fn closed_rows(
     requires { AreBelow count uses.now }
     ensures { IfOk result (λ rows. AreAllDependences count uses.now rows.items) }
 {
-    let ordered = in_finishing_order(alloc, count, uses)?;
+    let places = schedule(alloc, count, uses)?;
     let mut rows = direct_rows(alloc, count, uses)?;
-    close(alloc, count, &mut rows, &ordered);
+    close(alloc, count, &mut rows, uses, &places);
     Ok(rows)
-}
-
-/// The uses by the time at which the search leaves the number that uses.
-fn in_finishing_order(
-    alloc: Global,
-    count: u32,
-    uses: &[(u32, u32)],
-) -> Result<Vec<(u32, u32)>, Memory>
-    ensures { IfOk result (λ ordered. IsPermutation uses.now ordered.items) }
-{
-    let times = finishing_times(alloc, count, uses)?;
-    let mut ordered = Vec::from_slice(alloc, uses)?;
-    ordered.sort_by_key(|pair| times.get(pair.0 as usize).copied().unwrap_or(0))?;
-    Ok(ordered)
 }
 
 /// The rows of the numbers that each number uses.
@@ -65,29 +51,64 @@ fn mark(count: u32, rows: &mut [Vec<u64>], from: u32, to: u32)
     set(row, to);
 }
 
-/// Passes over the uses until no row changes.
-fn close(alloc: Global, count: u32, rows: &mut [Vec<u64>], uses: &[(u32, u32)])
+/// Joins the rows by the uses at these places, and again until no use changes a row.
+fn close(alloc: Global, count: u32, rows: &mut [Vec<u64>], uses: &[(u32, u32)], places: &[u32])
     requires rows { AreRows count rows.old }
     requires below { AreBelow count uses.now }
     ensures rows { AreRows count rows.new }
     ensures grows { (a n : ℕ) → HasBit rows.old a n → HasBit rows.new a n }
-    ensures sound { (all : List (ℕ × ℕ)) → ((a b : ℕ) → IsOneOf uses.now (a, b) → IsOneOf all (a, b)) → AreDependences all rows.old → AreDependences all rows.new }
+    ensures sound { AreDependences uses.now rows.old → AreDependences uses.now rows.new }
     ensures closed { AreClosed uses.now rows.new }
 {
     loop {
+        join_at_all(alloc, count, rows, uses, places);
         if !pass(alloc, count, rows, uses) {
             break;
         }
     }
 }
 
-/// Adds to the row of each number that uses another the row of the other, and says whether one changed.
+/// Joins the rows by the uses at these places, one after the other.
+fn join_at_all(
+    alloc: Global,
+    count: u32,
+    rows: &mut [Vec<u64>],
+    uses: &[(u32, u32)],
+    places: &[u32],
+)
+    requires rows { AreRows count rows.old }
+    requires below { AreBelow count uses.now }
+    ensures rows { AreRows count rows.new }
+    ensures grows { (a n : ℕ) → HasBit rows.old a n → HasBit rows.new a n }
+    ensures sound { AreDependences uses.now rows.old → AreDependences uses.now rows.new }
+    ensures no_more { room_left rows.new ≤ room_left rows.old }
+{
+    for place in places {
+        join_at(alloc, count, rows, uses, *place);
+    }
+}
+
+/// Joins the rows by the use at a place, if there is one.
+fn join_at(alloc: Global, count: u32, rows: &mut [Vec<u64>], uses: &[(u32, u32)], place: u32)
+    requires rows { AreRows count rows.old }
+    requires below { AreBelow count uses.now }
+    ensures rows { AreRows count rows.new }
+    ensures grows { (a n : ℕ) → HasBit rows.old a n → HasBit rows.new a n }
+    ensures sound { AreDependences uses.now rows.old → AreDependences uses.now rows.new }
+    ensures no_more { room_left rows.new ≤ room_left rows.old }
+{
+    if let Some((from, to)) = uses.get(place as usize) {
+        let _ = join(alloc, count, rows, *from, *to);
+    }
+}
+
+/// Joins the rows by each use, and says whether one changed.
 fn pass(alloc: Global, count: u32, rows: &mut [Vec<u64>], uses: &[(u32, u32)]) -> bool
     requires rows { AreRows count rows.old }
     requires below { AreBelow count uses.now }
     ensures rows { AreRows count rows.new }
     ensures grows { (a n : ℕ) → HasBit rows.old a n → HasBit rows.new a n }
-    ensures sound { (all : List (ℕ × ℕ)) → ((a b : ℕ) → IsOneOf uses.now (a, b) → IsOneOf all (a, b)) → AreDependences all rows.old → AreDependences all rows.new }
+    ensures sound { AreDependences uses.now rows.old → AreDependences uses.now rows.new }
     ensures closed { result ≡ false → AreClosed uses.now rows.new }
     ensures less { IsTrue result → room_left rows.new < room_left rows.old }
 {
@@ -106,7 +127,7 @@ fn either(a: bool, b: bool) -> bool
     a || b
 }
 
-/// Adds one row to another, and says whether the other changed.
+/// Adds the row of `to` to the row of `from`, and says whether that changed.
 fn join(alloc: Global, count: u32, rows: &mut [Vec<u64>], from: u32, to: u32) -> bool
     requires rows { AreRows count rows.old }
     requires from { from < count }

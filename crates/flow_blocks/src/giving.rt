@@ -11,6 +11,7 @@ ghost use Rattle.flow_blocks.specs.Waits.{Crosses, IsReady, WasGiven, IsWaiting,
 
 use crate::Block;
 use crate::classing::ClassTable;
+use crate::lists::empty_lists;
 use ar_base::Memory;
 use std::alloc::Global;
 use std::collections::BTreeSet;
@@ -106,18 +107,6 @@ fn numbers_below(alloc: Global, count: usize) -> Result<Vec<u32>, Memory>
         numbers.push(number)?;
     }
     Ok(numbers)
-}
-
-/// As many empty lists.
-fn empty_lists(alloc: Global, count: usize) -> Result<Vec<Vec<u32>>, Memory>
-    ensures long { IfOk result (λ lists. length lists.items ≡ count) }
-    ensures none { IfOk result (λ lists. (a n : ℕ) → IsOneOf (row_of lists.items a) n → ⊥) }
-{
-    let mut lists: Vec<Vec<u32>> = Vec::with_capacity(alloc, count)?;
-    while lists.len() < count {
-        lists.push(Vec::new(alloc))?;
-    }
-    Ok(lists)
 }
 
 /// For each class the classes that its members use.

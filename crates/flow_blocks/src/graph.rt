@@ -54,23 +54,44 @@ mod tests {
         true
     }
 
-    /// The members of the blocks of a graph, each block behind a bar.
-    fn shown(alloc: Global, count: u32, uses: &[(u32, u32)]) -> Result<String, Fail> {
+    /// The blocks of a graph, none where a use has a number that is not below count.
+    fn found(alloc: Global, count: u32, uses: &[(u32, u32)]) -> Result<Vec<Block>, Fail> {
         let graph = Graph {
             count,
             uses: Vec::from_slice(alloc, uses)?,
         };
         if !are_below(count, &graph.uses) {
-            return Ok(String::new(alloc));
+            return Ok(Vec::new(alloc));
         }
+        Ok(blocks(alloc, &graph)?)
+    }
+
+    /// The members of the blocks of a graph, each block behind a bar.
+    fn shown(alloc: Global, count: u32, uses: &[(u32, u32)]) -> Result<String, Fail> {
         let mut text = String::new(alloc);
-        for block in blocks(alloc, &graph)? {
+        for block in found(alloc, count, uses)? {
             text.push('|')?;
-            for member in &block.members {
-                text.push_str(format!(in alloc; " {member}")?.as_str())?;
-            }
+            add_members(alloc, &mut text, &block)?;
         }
         Ok(text)
+    }
+
+    /// Adds the members of a block to the text.
+    fn add_members(alloc: Global, text: &mut String, block: &Block) -> Result<(), Fail> {
+        for member in &block.members {
+            text.push_str(format!(in alloc; " {member}")?.as_str())?;
+        }
+        Ok(())
+    }
+
+    /// Uses by which each number and the next depend on each other.
+    fn chain_of_ties(alloc: Global, count: u32) -> Result<Vec<(u32, u32)>, Fail> {
+        let mut uses = Vec::new(alloc);
+        for number in 1..count {
+            uses.push((number - 1, number))?;
+            uses.push((number, number - 1))?;
+        }
+        Ok(uses)
     }
 
     #[test]
@@ -86,6 +107,15 @@ mod tests {
             shown(alloc, 6, &[(0, 5), (5, 3), (3, 5), (1, 1), (4, 0)])?.as_str(),
             "| 1| 2| 3 5| 0| 4"
         );
+        Ok(())
+    }
+
+    #[test]
+    fn a_chain_of_ties_is_one_class(rt: HostRuntime) -> Result<(), Fail> {
+        let alloc = rt.alloc();
+        let uses = chain_of_ties(alloc, 200)?;
+        let found = found(alloc, 200, &uses)?;
+        assert_eq!(rt; found.last().map(|block| block.members.len()), Some(200));
         Ok(())
     }
 }

@@ -2,11 +2,12 @@
 
 ghost use Rattle.std.specs.Prelude.{◌≡◌, ℕ, ◌<◌, List, []};
 ghost use Rattle.ar_base.specs.Lists.{Stands, IsOneOf};
-ghost use Rattle.flow_blocks.specs.Blocks.{IsGiven, Follow};
+ghost use Rattle.flow_blocks.specs.Blocks.{IsGiven, Follow, AreBelow};
 
-/// A graph has one list of classes.
+/// A graph has exactly one list of classes, where its uses name numbers below the count only.
 pub fn one_list()
-    ensures { (count : ℕ) (uses : List (ℕ × ℕ)) (xs ys : List (List ℕ)) → Follow count uses [] xs → Follow count uses [] ys → xs ≡ ys }
+    ensures some { (count : ℕ) (uses : List (ℕ × ℕ)) → AreBelow count uses → (blocks : List (List ℕ)) × Follow count uses [] blocks }
+    ensures same { (count : ℕ) (uses : List (ℕ × ℕ)) (xs ys : List (List ℕ)) → Follow count uses [] xs → Follow count uses [] ys → xs ≡ ys }
 {}
 
 /// Each number is in exactly one class.

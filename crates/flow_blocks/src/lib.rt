@@ -4,11 +4,13 @@
 
 mod classing;
 mod closing;
-mod finishing;
 mod giving;
 mod graph;
 mod laws;
+mod lists;
 mod rows;
+mod schedule;
+mod search;
 
 pub use graph::{Block, Graph, blocks};
 pub use laws::{one_class_each, one_list};

@@ -1,18 +1,11 @@
 -- The closed rows are those of all dependences.
 use Rattle.std.proofs.Common.{ℕ, List, drop, length, sym, ◌∙◌, subst}
 use Rattle.std.proofs.lemmas.List.{take_at}
-use Rattle.std.proofs.lemmas.List.Sorted.{IsPermutation-sym}
 use Rattle.ar_base.specs.Lists.{IsOneOf}
 use Rattle.flow_blocks.specs.Blocks.{Depends, directly, through}
 use Rattle.flow_blocks.specs.Bits.{HasBit, AreAllDependences}
 use Rattle.flow_blocks.proofs.RowLemmas.{Row}
-use Rattle.flow_blocks.proofs.UseLemmas.{one_reordered}
 use Rattle.flow_blocks.proofs.closing.closed_rows.Goals as goal
-
-pub close-requires-clause-below : goal.close-requires-clause-below
-close-requires-clause-below c = λ a b one.
-    c.requires a b (one_reordered c.in_ok-ordered.ordered.items c.args.uses.now (a, b) (IsPermutation-sym c.args.uses.now c.in_ok-ordered.ordered.items c.in_ok-ordered.ensures)
-    (subst (λ (l : List (ℕ × ℕ)). IsOneOf l (a, b)) c.deref.ensures.value one))
 
 -- rows that are closed and have the uses have all dependences
 complete : (uses : List (ℕ × ℕ)) (rows : List Row) → ((a b n : ℕ) → IsOneOf uses (a, b) → HasBit rows b n → HasBit rows a n) → ((a n : ℕ) → IsOneOf uses (a, n) → HasBit rows a n)
@@ -20,21 +13,13 @@ complete : (uses : List (ℕ × ℕ)) (rows : List Row) → ((a b n : ℕ) → I
 complete uses rows closed base a n (directly one) = base a n one
 complete uses rows closed base a n (through {b = b} one rest) = closed a b n one (complete uses rows closed base b n rest)
 
-found : (c : goal.After-drop-ordered-2) → AreAllDependences c.args.count c.args.uses.now c.close.new.rows
-found c =
-    let there = λ (a b : ℕ) (one : IsOneOf c.args.uses.now (a, b)).
-    subst (λ (l : List (ℕ × ℕ)). IsOneOf l (a, b)) (sym c.deref.ensures.value) (one_reordered c.args.uses.now c.in_ok-ordered.ordered.items (a, b) c.in_ok-ordered.ensures one) in
-    let back = λ (a b : ℕ) (one : IsOneOf c.deref.result.now (a, b)).
-    one_reordered c.in_ok-ordered.ordered.items c.args.uses.now (a, b) (IsPermutation-sym c.args.uses.now c.in_ok-ordered.ordered.items c.in_ok-ordered.ensures)
-    (subst (λ (l : List (ℕ × ℕ)). IsOneOf l (a, b)) c.deref.ensures.value one) in
-    record {
-      are_rows = c.close.ensures.rows;
-      sound = c.close.ensures.sound c.args.uses.now back
-          (λ a n h. directly ((c.in_ok-rows.ensures.bits a n).0 (subst (λ (rows : List Row). HasBit rows a n) c.deref_mut.ensures.value h)));
-      complete = λ a n lt d. complete c.args.uses.now c.close.new.rows
-          (λ a b n one h. c.close.ensures.closed.closed a b n (there a b one) h)
-          (λ a n one. c.close.ensures.grows a n (subst (λ (rows : List Row). HasBit rows a n) (sym c.deref_mut.ensures.value) ((c.in_ok-rows.ensures.bits a n).1 one))) a n d;
-    }
+found : (c : goal.After-drop-places-2) → AreAllDependences c.args.count c.args.uses.now c.close.new.rows
+found c = record {
+  are_rows = c.close.ensures.rows;
+  sound = c.close.ensures.sound (λ a n h. directly ((c.in_ok-rows.ensures.bits a n).0 (subst (λ (rows : List Row). HasBit rows a n) c.deref_mut.ensures.value h)));
+  complete = λ a n lt d. complete c.args.uses.now c.close.new.rows c.close.ensures.closed.closed
+      (λ a n one. c.close.ensures.grows a n (subst (λ (rows : List Row). HasBit rows a n) (sym c.deref_mut.ensures.value) ((c.in_ok-rows.ensures.bits a n).1 one))) a n d;
+}
 
 pub returns : goal.returns
 returns c =

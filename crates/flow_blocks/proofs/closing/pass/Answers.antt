@@ -1,6 +1,5 @@
 -- One use after the other.
-use Rattle.std.proofs.Common.{◌≡◌, ℕ, ◌+◌, false, List, take, sym, ap, subst, arith, inl, inr}
-use Rattle.ar_base.specs.Lists.{IsOneOf}
+use Rattle.std.proofs.Common.{◌≡◌, ℕ, ◌+◌, false, take, sym, ap, subst, arith, inl, inr}
 use Rattle.flow_blocks.specs.Blocks.{Depends, through}
 use Rattle.flow_blocks.specs.Bits.{HasBit, AreClosed, AreDependences}
 use Rattle.flow_blocks.proofs.UseLemmas.{one_at, one_of_next, neither, one_of_both}
@@ -19,11 +18,11 @@ still c e a n h = elim ((c.join-differs.ensures.bits a n).0 h) [
   | inr new ↦ subst (λ (k : ℕ). HasBit c.loop-from.rows k n) (sym new.0) (c.join-differs.ensures.still e n new.1)
 ]
 
-sound : (c : goal.After-either-changed) (all : List (ℕ × ℕ)) → ((a b : ℕ) → IsOneOf c.args.uses.now (a, b) → IsOneOf all (a, b)) → AreDependences all c.args.rows.now → AreDependences all c.join-differs.new.rows
-sound c all within old a n h = elim ((c.join-differs.ensures.bits a n).0 h) [
-  | inl before ↦ c.loop-from.invariant.sound all within old a n before
-  | inr new ↦ subst (λ (k : ℕ). Depends all k n) (sym new.0)
-      (through (within _ _ (one_at c.args.uses.now c.loop-from.from-index (0, 0) c.loop-from-test.true)) (c.loop-from.invariant.sound all within old _ n new.1))
+sound : (c : goal.After-either-changed) → AreDependences c.args.uses.now c.args.rows.now → AreDependences c.args.uses.now c.join-differs.new.rows
+sound c old a n h = elim ((c.join-differs.ensures.bits a n).0 h) [
+  | inl before ↦ c.loop-from.invariant.sound old a n before
+  | inr new ↦ subst (λ (k : ℕ). Depends c.args.uses.now k n) (sym new.0)
+      (through (one_at c.args.uses.now c.loop-from.from-index (0, 0) c.loop-from-test.true) (c.loop-from.invariant.sound old _ n new.1))
 ]
 
 closed : (c : goal.After-either-changed) → c.loop-from.changed ≡ false → c.join-differs.result ≡ false → AreClosed (take (c.loop-from.from-index + 1) c.args.uses.now) c.join-differs.new.rows

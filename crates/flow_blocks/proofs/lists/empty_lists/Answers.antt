@@ -5,7 +5,7 @@ use Rattle.ar_base.specs.Lists.{IsOneOf}
 use Rattle.ar_base.proofs.Standing.{stands_none}
 use Rattle.flow_blocks.specs.Bits.{row_of}
 use Rattle.flow_blocks.proofs.RowLemmas.{Row, row_past, row_push, row_last}
-use Rattle.flow_blocks.proofs.giving.empty_lists.Goals as goal
+use Rattle.flow_blocks.proofs.lists.empty_lists.Goals as goal
 
 pub loop-alloc-preserved : goal.loop-alloc-preserved
 loop-alloc-preserved c =

@@ -1,15 +1,15 @@
 -- The assignments that wait.
-use Rattle.std.proofs.Common.{◌≡◌, ℕ, zero, suc, ◌+◌, ◌-◌, ◌<◌, ◌≤◌, ◌⊎◌, inl, inr, Bool, true, false, List, [], ◌∷◌, ◌++◌, map, length, get_or, set, take, drop, refl, sym, ap, ◌∙◌, subst, arith, length-set, length-append, length-drop, replicate, ltb, leb}
+use Rattle.std.proofs.Common.{◌≡◌, ℕ, zero, suc, ◌+◌, ◌-◌, ◌<◌, ◌≤◌, ◌⊎◌, inl, inr, Bool, true, false, List, [], ◌∷◌, ◌++◌, map, length, get_or, set, take, drop, refl, sym, ap, ◌∙◌, subst, arith, length-set, length-append, append_assoc, length-drop, replicate, ltb, leb}
 use Rattle.std.proofs.lemmas.Bool.{ltb-true, leb-false}
 use Rattle.std.proofs.lemmas.List.{get_or-drop, get_or-take, length-take-le}
 use Rattle.std.specs.List.Sorted.{IsNonDecreasingBy, IsPartitionPoint, IsPermutation}
 use Rattle.std.proofs.lemmas.List.Sorted.{Contains-permutation, IsPermutation-sym}
 use Rattle.std.proofs.lemmas.Option.{slice_get-get_or, get_or_from_slice_get}
 use Rattle.ar_base.specs.Lists.{Stands, IsOneOf}
-use Rattle.ar_base.proofs.Standing.{stands_none, stands_one, stands_within, stands_some, stands_map, stands_map_back}
+use Rattle.ar_base.proofs.Standing.{stands_none, stands_one, stands_within, stands_some, stands_left, stands_right, stands_split, stands_next, stands_map, stands_map_back}
 use Rattle.gts_core.specs.declared.system.GtsParts.{GtsParts}
 use Rattle.flow_propagate.specs.Plan.{AreReaders, Reader, plain_pair}
-use Rattle.flow_propagate.specs.Closing.{Waits, IsWorklist, Takes, AddsWork}
+use Rattle.flow_propagate.specs.Closing.{Waits, waiting, IsWorklist, Drops, Takes, AddsWork}
 use Rattle.flow_propagate.specs.declared.worklist.Worklist.{Worklist}
 use Rattle.flow_propagate.proofs.NamedVariables.{one_left, one_last, one_cases}
 use Rattle.flow_propagate.proofs.ReaderPairs.{cases_below, one_contains, contains_one}
@@ -44,22 +44,62 @@ same_number (suc m) (suc n) = elim (same_number m n) [ inl e ↦ inl (ap suc e) 
 pub by_length : (count : ℕ) (w : Worklist) → IsWorklist count w → IsWorklist (length w.waits.items) w
 by_length count w h = subst (λ (z : ℕ). IsWorklist z w) (sym h.long) h
 
-pub takes_one : (count n : ℕ) (old new : Worklist) → IsWorklist count old → old.stack.items ≡ new.stack.items ++ n ∷ [] → new.waits.items ≡ set old.waits.items n false → Takes count n old new
-takes_one count n old new w stack waits = record {
-  is = record { long = ap (λ (z : List Bool). length z) waits ∙ length-set old.waits.items n false ∙ w.long; stacked = stacked; below = λ m o. w.below m (subst (λ (z : List ℕ). IsOneOf z m) (sym stack) (one_left new.stack.items (n ∷ []) m o)) };
+-- an item between others, and the items beside it
+module _ {A : Type 0} (x : A) (xs ys : List A) where
+  pub one_between : IsOneOf (xs ++ x ∷ ys) x
+  one_between = record { place = length xs; stands = stands_next xs x ys }
+
+  pub one_beside : (y : A) → IsOneOf (xs ++ ys) y → IsOneOf (xs ++ x ∷ ys) y
+  one_beside y o = elim (stands_split xs ys o.place y o.stands) [
+    | inl s ↦ record { place = o.place; stands = stands_left xs (x ∷ ys) o.place y s }
+    | inr r ↦ record { place = length xs + suc r.0; stands = stands_right xs (x ∷ ys) (suc r.0) (length xs + suc r.0) y refl r.2 }
+  ]
+
+  pub one_apart : (y : A) → IsOneOf (xs ++ x ∷ ys) y → IsOneOf (xs ++ ys) y ⊎ (x ≡ y)
+  one_apart y o = elim (stands_split xs (x ∷ ys) o.place y o.stands) [
+    | inl s ↦ inl (record { place = o.place; stands = stands_left xs ys o.place y s })
+    | inr r ↦ at r.0 r.2
+  ]
+    where
+      at : (k : ℕ) → Stands (x ∷ ys) k y → IsOneOf (xs ++ ys) y ⊎ (x ≡ y)
+      at zero s = inr (cc)
+      at (suc k) s = inl (record { place = length xs + k; stands = stands_right xs ys k (length xs + k) y refl s })
+
+-- the number that was dropped was on a list
+pub dropped_one : (n : ℕ) (old new : Worklist) → Drops n old new → IsOneOf (waiting old) n
+dropped_one n old new d = subst (λ (z : List ℕ). IsOneOf z n) (sym d.was) (one_between n d.before d.after)
+
+-- its mark is taken away too
+pub takes_one : (count n : ℕ) (old mid new : Worklist) → IsWorklist count old → Drops n old mid → waiting new ≡ waiting mid → new.waits.items ≡ set mid.waits.items n false → Takes count n old new
+takes_one count n old mid new w d lists marks = record {
+  is = record { long = ap (λ (z : List Bool). length z) waits ∙ length-set old.waits.items n false ∙ w.long; listed = listed; below = λ m o. w.below m (had m o) };
   below = below;
-  less = (let l = length-append new.stack.items (n ∷ []) in let e = ap (λ (z : List ℕ). length z) stack in omega (arith, l, e));
+  less = (
+      let l = length-append d.before (n ∷ d.after) in
+      let k = length-append d.before d.after in
+      let e = ap (λ (z : List ℕ). length z) d.was in
+      let f = ap (λ (z : List ℕ). length z) list in
+      omega (arith, l, k, e, f));
   others = λ m h. elim (same_number m n) [ inl e ↦ inl e | inr f ↦ inr (subst (λ (z : List Bool). Stands z m true) (sym waits) (set_other old.waits.items n m false true f h)) ];
 }
   where
-    below : n < count
-    below = w.below n (subst (λ (z : List ℕ). IsOneOf z n) (sym stack) (one_last new.stack.items n))
+    waits : new.waits.items ≡ set old.waits.items n false
+    waits = marks ∙ ap (λ (z : List Bool). set z n false) d.marks
 
-    stacked : (m : ℕ) → Waits new m → IsOneOf new.stack.items m
-    stacked m h = elim (set_back old.waits.items n m false true (subst (λ (z : List Bool). Stands z m true) waits h)) [
+    list : waiting new ≡ d.before ++ d.after
+    list = lists ∙ d.is
+
+    below : n < count
+    below = w.below n (dropped_one n old mid d)
+
+    had : (m : ℕ) → IsOneOf (waiting new) m → IsOneOf (waiting old) m
+    had m o = subst (λ (z : List ℕ). IsOneOf z m) (sym d.was) (one_beside n d.before d.after m (subst (λ (z : List ℕ). IsOneOf z m) list o))
+
+    listed : (m : ℕ) → Waits new m → IsOneOf (waiting new) m
+    listed m h = elim (set_back old.waits.items n m false true (subst (λ (z : List Bool). Stands z m true) waits h)) [
       | inl e ↦ absurd (let k : false ≡ true = e.1 in cc)
-      | inr k ↦ (elim (one_cases new.stack.items n m (subst (λ (z : List ℕ). IsOneOf z m) stack (w.stacked m k))) [
-        | inl o ↦ o
+      | inr k ↦ (elim (one_apart n d.before d.after m (subst (λ (z : List ℕ). IsOneOf z m) d.was (w.listed m k))) [
+        | inl o ↦ subst (λ (z : List ℕ). IsOneOf z m) (sym list) o
         | inr e ↦ absurd (clash m (sym e) h)
       ])
     ]
@@ -70,9 +110,21 @@ takes_one count n old new w stack waits = record {
             let there : Stands new.waits.items n false = subst (λ (z : List Bool). Stands z n false) (sym waits) (set_here old.waits.items n false (omega (arith, below, w.long))) in
             cc (stands_one new.waits.items n true false at there)
 
--- where the stack is empty none waits
-pub none_waits : (count : ℕ) (w : Worklist) → IsWorklist count w → w.stack.items ≡ [] → (n : ℕ) → Waits w n → ⊥
-none_waits count w h e n k = let o = subst (λ (z : List ℕ). IsOneOf z n) e (h.stacked n k) in stands_none o.place n o.stands
+-- where the lists are empty none waits
+pub none_waits : (count : ℕ) (w : Worklist) → IsWorklist count w → waiting w ≡ [] → (n : ℕ) → Waits w n → ⊥
+none_waits count w h e n k = let o = subst (λ (z : List ℕ). IsOneOf z n) e (h.listed n k) in stands_none o.place n o.stands
+
+-- the first of the second list is dropped
+pub drops_front : (n : ℕ) (xs old new : List ℕ) → old ≡ n ∷ [] ++ new → xs ++ old ≡ xs ++ n ∷ new
+drops_front n xs old new e = ap (λ (z : List ℕ). xs ++ z) e
+
+-- the last of the first list is dropped
+pub drops_back : (n : ℕ) (old new ys : List ℕ) → old ≡ new ++ n ∷ [] → old ++ ys ≡ new ++ n ∷ ys
+drops_back n old new ys e = ap (λ (z : List ℕ). z ++ ys) e ∙ append_assoc new (n ∷ []) ys
+
+-- one is added at the end of the second list
+pub adds_back : (n : ℕ) (xs old new : List ℕ) → new ≡ old ++ n ∷ [] → xs ++ new ≡ (xs ++ old) ++ n ∷ []
+adds_back n xs old new e = ap (λ (z : List ℕ). xs ++ z) e ∙ sym (append_assoc xs old (n ∷ []))
 
 pub adds_nothing : (count : ℕ) (w : Worklist) → IsWorklist count w → AddsWork count 0 (λ m. ⊥) w w
 adds_nothing count w h = record { is = h; few = omega arith; keeps = λ m k. k; adds = λ m f. absurd f }
@@ -82,10 +134,10 @@ pub adds_waiting : (count n : ℕ) (w : Worklist) → IsWorklist count w → Wai
 adds_waiting count n w h k = record { is = h; few = omega arith; keeps = λ m x. x; adds = λ m e. subst (λ (z : ℕ). Waits w z) (sym e) k }
 
 -- it did not wait
-pub adds_new : (count n : ℕ) (old new : Worklist) → IsWorklist count old → n < count → new.stack.items ≡ old.stack.items ++ n ∷ [] → new.waits.items ≡ set old.waits.items n true → AddsWork count 1 (λ m. m ≡ n) old new
+pub adds_new : (count n : ℕ) (old new : Worklist) → IsWorklist count old → n < count → waiting new ≡ waiting old ++ n ∷ [] → new.waits.items ≡ set old.waits.items n true → AddsWork count 1 (λ m. m ≡ n) old new
 adds_new count n old new w below stack waits = record {
-  is = record { long = ap (λ (z : List Bool). length z) waits ∙ length-set old.waits.items n true ∙ w.long; stacked = stacked; below = λ m o. within m (one_cases old.stack.items n m (subst (λ (z : List ℕ). IsOneOf z m) stack o)) };
-  few = (let l = length-append old.stack.items (n ∷ []) in let e = ap (λ (z : List ℕ). length z) stack in omega (arith, l, e));
+  is = record { long = ap (λ (z : List Bool). length z) waits ∙ length-set old.waits.items n true ∙ w.long; listed = listed; below = λ m o. within m (one_cases (waiting old) n m (subst (λ (z : List ℕ). IsOneOf z m) stack o)) };
+  few = (let l = length-append (waiting old) (n ∷ []) in let e = ap (λ (z : List ℕ). length z) stack in omega (arith, l, e));
   keeps = λ m h. subst (λ (z : List Bool). Stands z m true) (sym waits) (kept m h);
   adds = λ m e. subst (λ (z : ℕ). Waits new z) (sym e) (subst (λ (z : List Bool). Stands z n true) (sym waits) here);
 }
@@ -96,14 +148,14 @@ adds_new count n old new w below stack waits = record {
     kept : (m : ℕ) → Waits old m → Stands (set old.waits.items n true) m true
     kept m h = elim (same_number m n) [ inl e ↦ subst (λ (z : ℕ). Stands (set old.waits.items n true) z true) (sym e) here | inr f ↦ set_other old.waits.items n m true true f h ]
 
-    within : (m : ℕ) → IsOneOf old.stack.items m ⊎ (n ≡ m) → m < count
+    within : (m : ℕ) → IsOneOf (waiting old) m ⊎ (n ≡ m) → m < count
     within m (inl o) = w.below m o
     within m (inr e) = subst (λ (z : ℕ). z < count) e below
 
-    stacked : (m : ℕ) → Waits new m → IsOneOf new.stack.items m
-    stacked m h = subst (λ (z : List ℕ). IsOneOf z m) (sym stack) (elim (set_back old.waits.items n m true true (subst (λ (z : List Bool). Stands z m true) waits h)) [
-      | inl e ↦ subst (λ (z : ℕ). IsOneOf (old.stack.items ++ n ∷ []) z) (sym e.0) (one_last old.stack.items n)
-      | inr k ↦ one_left old.stack.items (n ∷ []) m (w.stacked m k)
+    listed : (m : ℕ) → Waits new m → IsOneOf (waiting new) m
+    listed m h = subst (λ (z : List ℕ). IsOneOf z m) (sym stack) (elim (set_back old.waits.items n m true true (subst (λ (z : List Bool). Stands z m true) waits h)) [
+      | inl e ↦ subst (λ (z : ℕ). IsOneOf (waiting old ++ n ∷ []) z) (sym e.0) (one_last (waiting old) n)
+      | inr k ↦ one_left (waiting old) (n ∷ []) m (w.listed m k)
     ])
 
 -- the assignments of the first so many pairs
@@ -254,11 +306,11 @@ numbers_more i old new e a = (
 )
 
 -- all wait
-pub all_work : (count : ℕ) (numbers : List ℕ) (work : Worklist) → ((n : ℕ) → n < count → IsOneOf numbers n) → ((n : ℕ) → IsOneOf numbers n → n < count) → IsPermutation numbers work.stack.items → length work.waits.items ≡ count → IsWorklist count work
+pub all_work : (count : ℕ) (numbers : List ℕ) (work : Worklist) → ((n : ℕ) → n < count → IsOneOf numbers n) → ((n : ℕ) → IsOneOf numbers n → n < count) → IsPermutation numbers (waiting work) → length work.waits.items ≡ count → IsWorklist count work
 all_work count numbers work all below perm long = record {
   long = long;
-  stacked = λ n h. contains_one work.stack.items n (Contains-permutation numbers work.stack.items n perm (one_contains numbers n (all n (let k = stands_within work.waits.items n true h in omega (arith, k, long)))));
-  below = λ n o. below n (contains_one numbers n (Contains-permutation work.stack.items numbers n (IsPermutation-sym numbers work.stack.items perm) (one_contains work.stack.items n o)));
+  listed = λ n h. contains_one (waiting work) n (Contains-permutation numbers (waiting work) n perm (one_contains numbers n (all n (let k = stands_within work.waits.items n true h in omega (arith, k, long)))));
+  below = λ n o. below n (contains_one numbers n (Contains-permutation (waiting work) numbers n (IsPermutation-sym numbers (waiting work) perm) (one_contains (waiting work) n o)));
 }
 
 pub all_marked : (count k : ℕ) → k < count → Stands (replicate count true) k true

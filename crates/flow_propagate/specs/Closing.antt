@@ -1,5 +1,5 @@
 -- How the facts are gathered: which assignments wait to be looked at, and how many facts may still come.
-use Rattle.std.specs.Prelude.{◌≡◌, ℕ, ◌+◌, ◌*◌, ◌<◌, ◌≤◌, ◌⊎◌, Bool, true, false, cond, nat_eq, List, [], ◌∷◌, ◌||◌, length}
+use Rattle.std.specs.Prelude.{◌≡◌, ℕ, ◌+◌, ◌*◌, ◌<◌, ◌≤◌, ◌⊎◌, Bool, true, false, cond, nat_eq, List, [], ◌∷◌, ◌++◌, ◌||◌, length}
 use Rattle.std.specs.Ordering.{int_eq}
 use Rattle.ar_base.specs.Lists.{Stands, IsOneOf}
 use Rattle.domains.specs.Domains.{values_of}
@@ -58,23 +58,35 @@ pub record Applies (p : GtsParts) (a : Assign) (old new : Rows) (changed : Bool)
 abbrev pub Waits : Worklist → ℕ → Type 0
 Waits work n = Stands work.waits.items n true
 
--- each assignment that waits is on the stack, which has numbers of assignments alone
+-- the numbers on the two lists of a worklist: those that were not looked at yet, and those that were added again
+abbrev pub waiting : Worklist → List ℕ
+waiting work = work.first.items ++ work.again.items
+
+-- each assignment that waits is on one of the lists, which have numbers of assignments alone
 pub record IsWorklist (count : ℕ) (work : Worklist) : Type 0 where
   pub long : length work.waits.items ≡ count
-  pub stacked : (n : ℕ) → Waits work n → IsOneOf work.stack.items n
-  pub below : (n : ℕ) → IsOneOf work.stack.items n → n < count
+  pub listed : (n : ℕ) → Waits work n → IsOneOf (waiting work) n
+  pub below : (n : ℕ) → IsOneOf (waiting work) n → n < count
+
+-- the number was dropped from the lists, once, and the marks are as they were
+pub record Drops (n : ℕ) (old new : Worklist) : Type 0 where
+  pub before : List ℕ
+  pub after : List ℕ
+  pub was : waiting old ≡ before ++ n ∷ after
+  pub is : waiting new ≡ before ++ after
+  pub marks : new.waits.items ≡ old.waits.items
 
 -- the assignment of this number was taken
 pub record Takes (count : ℕ) (n : ℕ) (old new : Worklist) : Type 0 where
   pub is : IsWorklist count new
   pub below : n < count
-  pub less : length old.stack.items ≡ length new.stack.items + 1
+  pub less : length (waiting old) ≡ length (waiting new) + 1
   pub others : (m : ℕ) → Waits old m → (m ≡ n) ⊎ Waits new m
 
 -- the assignments whose numbers have P were added, by so many steps at most
 pub record AddsWork (count most : ℕ) (P : ℕ → Type 0) (old new : Worklist) : Type 0 where
   pub is : IsWorklist count new
-  pub few : length new.stack.items ≤ length old.stack.items + most
+  pub few : length (waiting new) ≤ length (waiting old) + most
   pub keeps : (m : ℕ) → Waits old m → Waits new m
   pub adds : (m : ℕ) → P m → Waits new m
 
@@ -84,7 +96,7 @@ IsSettled p rows work = (m : ℕ) (a : Assign) → Stands p.assigns.items m a �
 
 -- what is left to do: for each fact that may still come one look at each reader, and the looks that wait
 abbrev pub work_left : GtsParts → ℕ → Rows → Worklist → ℕ
-work_left p readers rows work = (readers + 1) * missing p rows + length work.stack.items
+work_left p readers rows work = (readers + 1) * missing p rows + length (waiting work)
 
 -- one assignment was looked at
 pub record LooksAt (p : GtsParts) (readers n : ℕ) (old : Rows) (before : Worklist) (new : Rows) (after : Worklist) : Type 0 where

@@ -1,22 +1,33 @@
 // The assignments that wait to be looked at.
 
-ghost use Rattle.std.specs.Prelude.{◌≡◌, ◌<◌, ◌≤◌, ◌^◌, ℕ, length, IfOk, MatchOption};
+ghost use Rattle.std.specs.Prelude.{◌≡◌, ◌<◌, ◌≤◌, ◌^◌, ℕ, false, [], length, IfOk, IsTrue, MatchOption};
 ghost use Rattle.ar_base.specs.Lists.{IsOneOf};
 ghost use Rattle.gts_core.specs.Sound.{IsSound};
 ghost use Rattle.std.specs.List.Sorted.{IsNonDecreasingBy};
 ghost use Rattle.flow_propagate.specs.Plan.{Reader};
-ghost use Rattle.flow_propagate.specs.Closing.{IsWorklist, Waits, Takes, AddsWork};
+ghost use Rattle.flow_propagate.specs.Closing.{IsWorklist, Waits, Drops, Takes, AddsWork, waiting};
 
 use ar_base::{AssignId, Memory, VarId};
 use flow_blocks::Block;
 use gts_core::{GtsParts, Variable};
 use std::alloc::Global;
+use std::collections::VecDeque;
 
-/// The assignments that wait to be looked at: the stack of their numbers, and a mark for each assignment, which is true
-/// where it waits.
+/// The assignments that wait to be looked at.
+///
+/// They come class by class, in the order of the classes. Within a class first come those that were not looked at yet, and
+/// then those that were added again, in the order in which they were added: one that reads many flows of its class is
+/// looked at once after all of these that wait, and not once after each.
 #[derive(Drop)]
 pub(crate) struct Worklist {
-    pub(crate) stack: Vec<u32>,
+    /// Those that were not looked at yet, the next one last.
+    pub(crate) first: Vec<u32>,
+    /// Those that were added again, the next one first. All are of one class: only a class that is being settled gets
+    /// more facts of its own flows, and the assignments of later classes wait from the beginning.
+    pub(crate) again: VecDeque<u32>,
+    /// The place of each assignment's class.
+    pub(crate) ranks: Vec<usize>,
+    /// A mark for each assignment, which is true where it waits.
     pub(crate) waits: Vec<bool>,
 }
 
@@ -25,9 +36,34 @@ pub(crate) fn take(work: &mut Worklist) -> Option<u32>
     requires { IsWorklist (length work.old.waits.items) work.old }
     ensures { MatchOption result ((n : ℕ) → Waits work.old n → ⊥) (λ n. Takes (length work.old.waits.items) n work.old work.new) }
 {
-    let n = work.stack.pop()?;
+    let n = drop_next(work)?;
     work.waits[n as usize] = false;
     Some(n)
+}
+
+// Takes the number of the next assignment from its list.
+fn drop_next(work: &mut Worklist) -> Option<u32>
+    ensures { MatchOption result (waiting work.old ≡ []) (λ n. Drops n work.old work.new) }
+{
+    if is_again_next(work) {
+        work.again.pop_front()
+    } else {
+        work.first.pop()
+    }
+}
+
+// Whether the next assignment is one that was added again: there is one, and none of its class was not looked at yet.
+fn is_again_next(work: &Worklist) -> bool
+    ensures some { IsTrue result → 0 < length work.now.again.items }
+    ensures none { result ≡ false → work.now.first.items ≡ [] → work.now.again.items ≡ [] }
+{
+    let Some(again) = work.again.front() else {
+        return false;
+    };
+    match work.first.last() {
+        Some(first) => place_of(&work.ranks, *first) != place_of(&work.ranks, *again),
+        None => true,
+    }
 }
 
 // Adds an assignment, where it does not wait.
@@ -40,7 +76,7 @@ fn add(assign: u32, work: &mut Worklist) -> Result<(), Memory>
         return Ok(());
     }
     work.waits[assign as usize] = true;
-    work.stack.push(assign)?;
+    work.again.push_back(assign)?;
     Ok(())
 }
 
@@ -83,7 +119,7 @@ fn run_of(readers: &[(VarId, AssignId)], variable: u32) -> &[(VarId, AssignId)]
     &readers[from..to]
 }
 
-// All assignments, those of the first block on top.
+// All assignments, none of which was looked at.
 pub(crate) fn all_waiting(
     alloc: Global,
     parts: &GtsParts,
@@ -93,11 +129,18 @@ pub(crate) fn all_waiting(
     ensures is { IfOk result (λ work. IsWorklist (length parts.now.assigns.items) work) }
     ensures all { IfOk result (λ work. (n : ℕ) → n < length parts.now.assigns.items → Waits work n) }
 {
-    let ranks = ranks(alloc, &parts.variables, blocks)?;
-    let mut stack = numbers_below(alloc, parts.assigns.len())?;
-    stack.sort_by_key(|n| rank_of(&ranks, parts, *n))?;
+    let ranks = ranks(alloc, parts, blocks)?;
+    let mut first = numbers_below(alloc, parts.assigns.len())?;
+    first.sort_by_key(|n| place_of(&ranks, *n))?;
+    first.reverse();
+    let again = VecDeque::new(alloc);
     let waits = vec![in alloc; true; parts.assigns.len()]?;
-    Ok(Worklist { stack, waits })
+    Ok(Worklist {
+        first,
+        again,
+        ranks,
+        waits,
+    })
 }
 
 // The numbers below a count.
@@ -113,27 +156,33 @@ fn numbers_below(alloc: Global, count: usize) -> Result<Vec<u32>, Memory>
     Ok(numbers)
 }
 
-// How soon the block of an assignment's target comes.
-fn rank_of(ranks: &[usize], parts: &GtsParts, assign: u32) -> usize {
-    match parts.assigns.get(assign as usize) {
-        Some(assign) => ranks.get(assign.target.n as usize).copied().unwrap_or(0),
-        None => 0,
-    }
+// The place of this number.
+fn place_of(places: &[usize], n: u32) -> usize {
+    places.get(n as usize).copied().unwrap_or(0)
 }
 
-// How soon the block of each variable comes: the number of blocks from it on.
-fn ranks(alloc: Global, variables: &[Variable], blocks: &[Block]) -> Result<Vec<usize>, Memory> {
-    let flows = flow_numbers(alloc, variables)?;
-    let mut ranks = vec![in alloc; 0usize; variables.len()]?;
-    for (place, block) in blocks.iter().enumerate() {
-        rank_all(
-            &mut ranks,
-            &flows,
-            &block.members,
-            blocks.len().saturating_sub(place),
-        );
+// The place of the class of each assignment's target.
+fn ranks(alloc: Global, parts: &GtsParts, blocks: &[Block]) -> Result<Vec<usize>, Memory> {
+    let places = class_places(alloc, &parts.variables, blocks)?;
+    let mut ranks = Vec::new(alloc);
+    for assign in &parts.assigns {
+        ranks.push(place_of(&places, assign.target.n))?;
     }
     Ok(ranks)
+}
+
+// The place of each flow's class, by variable; 0 for a state variable.
+fn class_places(
+    alloc: Global,
+    variables: &[Variable],
+    blocks: &[Block],
+) -> Result<Vec<usize>, Memory> {
+    let flows = flow_numbers(alloc, variables)?;
+    let mut places = vec![in alloc; 0usize; variables.len()]?;
+    for (place, block) in blocks.iter().enumerate() {
+        place_all(&mut places, &flows, &block.members, place);
+    }
+    Ok(places)
 }
 
 // The numbers of the flows among the variables.
@@ -147,12 +196,12 @@ fn flow_numbers(alloc: Global, variables: &[Variable]) -> Result<Vec<usize>, Mem
     Ok(flows)
 }
 
-// Gives the flows of a block their rank.
-fn rank_all(ranks: &mut [usize], flows: &[usize], members: &[u32], rank: usize) {
+// Gives the flows of a class its place.
+fn place_all(places: &mut [usize], flows: &[usize], members: &[u32], class: usize) {
     for member in members {
         if let Some(flow) = flows.get(*member as usize) {
-            if let Some(place) = ranks.get_mut(*flow) {
-                *place = rank;
+            if let Some(place) = places.get_mut(*flow) {
+                *place = class;
             }
         }
     }

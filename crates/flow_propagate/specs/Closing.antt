@@ -1,6 +1,7 @@
 -- How the facts are gathered: which assignments wait to be looked at, and how many facts may still come.
-use Rattle.std.specs.Prelude.{◌≡◌, ℕ, ◌+◌, ◌*◌, ◌<◌, ◌≤◌, ◌⊎◌, Bool, true, false, cond, nat_eq, List, [], ◌∷◌, ◌++◌, ◌||◌, length}
-use Rattle.std.specs.Ordering.{int_eq}
+use Rattle.std.specs.Prelude.{◌≡◌, ℕ, ◌+◌, ◌*◌, ◌<◌, ◌≤◌, ◌⊎◌, Bool, true, false, cond, nat_eq, List, [], ◌∷◌, ◌||◌, ◌-◌, IsTrue, length}
+use Rattle.std.specs.BTreeSet.{BTreeSet, contains, btree_set_len}
+use Rattle.std.specs.Ordering.{int_eq, nat_cmp}
 use Rattle.ar_base.specs.Lists.{Stands, IsOneOf}
 use Rattle.domains.specs.Domains.{values_of}
 use Rattle.domains.specs.declared.Value.{Value}
@@ -54,39 +55,58 @@ pub record Applies (p : GtsParts) (a : Assign) (old new : Rows) (changed : Bool)
   pub done : (v : Value) → Passes (Holds old) (assign_of a).conditions → Yields (Holds old) (out-Expr ℕ (assign_of a).value) v → Allows (net_of p) a.target.n v → Holds new a.target.n v
   pub less : changed ≡ true → missing p new < missing p old
 
+-- the place is among those of the assignments that were added again
+abbrev pub IsAgain : BTreeSet ℕ → ℕ → Type 0
+IsAgain again place = IsTrue (contains nat_cmp again place)
+
+-- the assignment at this place of the order waits: none from there on was looked at yet, or it was added again
+abbrev pub WaitsAt : Worklist → ℕ → Type 0
+WaitsAt work place = (work.fresh ≤ place) ⊎ IsAgain work.again place
+
 -- the assignment of this number waits
-abbrev pub Waits : Worklist → ℕ → Type 0
-Waits work n = Stands work.waits.items n true
+pub record Waits (work : Worklist) (n : ℕ) : Type 0 where
+  pub place : ℕ
+  pub stands : Stands work.places.items n place
+  pub waits : WaitsAt work place
 
--- the numbers on the two lists of a worklist: those that were not looked at yet, and those that were added again
-abbrev pub waiting : Worklist → List ℕ
-waiting work = work.first.items ++ work.again.items
+-- a list of the numbers below the count, and of no others
+pub record IsOrder (count : ℕ) (order : List ℕ) : Type 0 where
+  pub all : (n : ℕ) → n < count → IsOneOf order n
+  pub below : (n : ℕ) → IsOneOf order n → n < count
 
--- each assignment that waits is on one of the lists, which have numbers of assignments alone
+-- each assignment stands at its place in the order, which has numbers of assignments alone
 pub record IsWorklist (count : ℕ) (work : Worklist) : Type 0 where
-  pub long : length work.waits.items ≡ count
-  pub listed : (n : ℕ) → Waits work n → IsOneOf (waiting work) n
-  pub below : (n : ℕ) → IsOneOf (waiting work) n → n < count
+  pub long : length work.places.items ≡ count
+  pub placed : (n place : ℕ) → Stands work.places.items n place → Stands work.order.items place n
+  pub below : (n place : ℕ) → Stands work.order.items place n → n < count
+  pub reached : work.fresh ≤ length work.order.items
+  pub within : (place : ℕ) → IsAgain work.again place → place < length work.order.items
 
--- the number was dropped from the lists, once, and the marks are as they were
-pub record Drops (n : ℕ) (old new : Worklist) : Type 0 where
-  pub before : List ℕ
-  pub after : List ℕ
-  pub was : waiting old ≡ before ++ n ∷ after
-  pub is : waiting new ≡ before ++ after
-  pub marks : new.waits.items ≡ old.waits.items
+-- how many wait
+abbrev pub waiting : Worklist → ℕ
+waiting work = (length work.order.items - work.fresh) + btree_set_len work.again
+
+-- the place was taken
+pub record TakesPlace (place : ℕ) (old new : Worklist) : Type 0 where
+  pub below : place < length old.order.items
+  pub order : new.order.items ≡ old.order.items
+  pub places : new.places.items ≡ old.places.items
+  pub reached : new.fresh ≤ length old.order.items
+  pub only : (q : ℕ) → IsAgain new.again q → IsAgain old.again q
+  pub less : waiting old ≡ waiting new + 1
+  pub others : (q : ℕ) → WaitsAt old q → (q ≡ place) ⊎ WaitsAt new q
 
 -- the assignment of this number was taken
 pub record Takes (count : ℕ) (n : ℕ) (old new : Worklist) : Type 0 where
   pub is : IsWorklist count new
   pub below : n < count
-  pub less : length (waiting old) ≡ length (waiting new) + 1
+  pub less : waiting old ≡ waiting new + 1
   pub others : (m : ℕ) → Waits old m → (m ≡ n) ⊎ Waits new m
 
 -- the assignments whose numbers have P were added, by so many steps at most
 pub record AddsWork (count most : ℕ) (P : ℕ → Type 0) (old new : Worklist) : Type 0 where
   pub is : IsWorklist count new
-  pub few : length (waiting new) ≤ length (waiting old) + most
+  pub few : waiting new ≤ waiting old + most
   pub keeps : (m : ℕ) → Waits old m → Waits new m
   pub adds : (m : ℕ) → P m → Waits new m
 
@@ -96,7 +116,7 @@ IsSettled p rows work = (m : ℕ) (a : Assign) → Stands p.assigns.items m a �
 
 -- what is left to do: for each fact that may still come one look at each reader, and the looks that wait
 abbrev pub work_left : GtsParts → ℕ → Rows → Worklist → ℕ
-work_left p readers rows work = (readers + 1) * missing p rows + length (waiting work)
+work_left p readers rows work = (readers + 1) * missing p rows + waiting work
 
 -- one assignment was looked at
 pub record LooksAt (p : GtsParts) (readers n : ℕ) (old : Rows) (before : Worklist) (new : Rows) (after : Worklist) : Type 0 where

@@ -1,90 +1,101 @@
 // The assignments that wait to be looked at.
 
-ghost use Rattle.std.specs.Prelude.{◌≡◌, ◌<◌, ◌≤◌, ◌^◌, ℕ, false, [], length, IfOk, IsTrue, MatchOption};
-ghost use Rattle.ar_base.specs.Lists.{IsOneOf};
+ghost use Rattle.std.specs.Prelude.{◌≡◌, ◌≢◌, ◌+◌, ◌<◌, ◌≤◌, ◌^◌, ◌⊎◌, ◌↔◌, ℕ, length, IfOk, OnOk, IfSome, IfNone, MatchOption};
+ghost use Rattle.std.specs.BTreeSet.{btree_set_len};
+ghost use Rattle.ar_base.specs.Lists.{IsOneOf, Stands};
 ghost use Rattle.gts_core.specs.Sound.{IsSound};
 ghost use Rattle.std.specs.List.Sorted.{IsNonDecreasingBy};
 ghost use Rattle.flow_propagate.specs.Plan.{Reader};
-ghost use Rattle.flow_propagate.specs.Closing.{IsWorklist, Waits, Drops, Takes, AddsWork, waiting};
+ghost use Rattle.flow_propagate.specs.Closing.{IsWorklist, IsAgain, IsOrder, WaitsAt, Waits, TakesPlace, Takes, AddsWork};
 
+use crate::plan::Plan;
 use ar_base::{AssignId, Memory, VarId};
 use flow_blocks::Block;
 use gts_core::{GtsParts, Variable};
 use std::alloc::Global;
-use std::collections::VecDeque;
+use std::collections::BTreeSet;
 
 /// The assignments that wait to be looked at.
 ///
-/// They come class by class, in the order of the classes. Within a class first come those that were not looked at yet, and
-/// then those that were added again, in the order in which they were added: one that reads many flows of its class is
-/// looked at once after all of these that wait, and not once after each.
+/// All assignments stand in one order: by the class of the target, then by how many variables they name, then by number.
+/// The first one in this order that waits comes next. So an assignment that names many flows of its class is looked at
+/// after those that name fewer, and not again after each of them.
 #[derive(Drop)]
 pub(crate) struct Worklist {
-    /// Those that were not looked at yet, the next one last.
-    pub(crate) first: Vec<u32>,
-    /// Those that were added again, the next one first. All are of one class: only a class that is being settled gets
-    /// more facts of its own flows, and the assignments of later classes wait from the beginning.
-    pub(crate) again: VecDeque<u32>,
-    /// The place of each assignment's class.
-    pub(crate) ranks: Vec<usize>,
-    /// A mark for each assignment, which is true where it waits.
-    pub(crate) waits: Vec<bool>,
+    /// The assignments in their order.
+    pub(crate) order: Vec<u32>,
+    /// The place of each assignment in the order.
+    pub(crate) places: Vec<usize>,
+    /// The place from which on no assignment was looked at yet.
+    pub(crate) fresh: usize,
+    /// The places before it of the assignments that were added again.
+    pub(crate) again: BTreeSet<usize>,
 }
 
 // Takes the next assignment.
 pub(crate) fn take(work: &mut Worklist) -> Option<u32>
-    requires { IsWorklist (length work.old.waits.items) work.old }
-    ensures { MatchOption result ((n : ℕ) → Waits work.old n → ⊥) (λ n. Takes (length work.old.waits.items) n work.old work.new) }
+    requires { IsWorklist (length work.old.places.items) work.old }
+    ensures { MatchOption result ((n : ℕ) → Waits work.old n → ⊥) (λ n. Takes (length work.old.places.items) n work.old work.new) }
 {
-    let n = drop_next(work)?;
-    work.waits[n as usize] = false;
-    Some(n)
+    let place = take_place(work)?;
+    Some(work.order[place])
 }
 
-// Takes the number of the next assignment from its list.
-fn drop_next(work: &mut Worklist) -> Option<u32>
-    ensures { MatchOption result (waiting work.old ≡ []) (λ n. Drops n work.old work.new) }
+// Takes the first place that waits.
+fn take_place(work: &mut Worklist) -> Option<usize>
+    requires { IsWorklist (length work.old.places.items) work.old }
+    ensures { MatchOption result ((p : ℕ) → p < length work.old.order.items → WaitsAt work.old p → ⊥) (λ place. TakesPlace place work.old work.new) }
 {
-    if is_again_next(work) {
-        work.again.pop_front()
-    } else {
-        work.first.pop()
+    if let Some(place) = take_again(&mut work.again) {
+        return Some(place);
     }
+    if work.fresh >= work.order.len() {
+        return None;
+    }
+    let place = work.fresh;
+    work.fresh += 1;
+    Some(place)
 }
 
-// Whether the next assignment is one that was added again: there is one, and none of its class was not looked at yet.
-fn is_again_next(work: &Worklist) -> bool
-    ensures some { IsTrue result → 0 < length work.now.again.items }
-    ensures none { result ≡ false → work.now.first.items ≡ [] → work.now.again.items ≡ [] }
+// Takes the least place of those that were added again.
+fn take_again(again: &mut BTreeSet<usize>) -> Option<usize>
+    ensures some { IfSome result (λ place. IsAgain again.old place) }
+    ensures rest { IfSome result (λ place. (p : ℕ) → IsAgain again.new p ↔ (IsAgain again.old p × (p ≢ place))) }
+    ensures less { IfSome result (λ _. btree_set_len again.old ≡ btree_set_len again.new + 1) }
+    ensures none { IfNone result ((p : ℕ) → IsAgain again.old p → ⊥) }
+    ensures still { IfNone result ((p : ℕ) → IsAgain again.new p → ⊥) }
+    ensures few { IfNone result (btree_set_len again.old ≡ btree_set_len again.new) }
 {
-    let Some(again) = work.again.front() else {
-        return false;
-    };
-    match work.first.last() {
-        Some(first) => place_of(&work.ranks, *first) != place_of(&work.ranks, *again),
-        None => true,
-    }
+    again.pop_first()
 }
 
 // Adds an assignment, where it does not wait.
 fn add(assign: u32, work: &mut Worklist) -> Result<(), Memory>
-    requires is { IsWorklist (length work.old.waits.items) work.old }
-    requires below { assign < length work.old.waits.items }
-    ensures { IfOk result (λ _. AddsWork (length work.old.waits.items) 1 (λ m. m ≡ assign) work.old work.new) }
+    requires is { IsWorklist (length work.old.places.items) work.old }
+    requires below { assign < length work.old.places.items }
+    ensures { IfOk result (λ _. AddsWork (length work.old.places.items) 1 (λ m. m ≡ assign) work.old work.new) }
 {
-    if work.waits[assign as usize] {
+    let place = work.places[assign as usize];
+    if work.fresh <= place {
         return Ok(());
     }
-    work.waits[assign as usize] = true;
-    work.again.push_back(assign)?;
+    add_again(&mut work.again, place)
+}
+
+// Adds a place to those that were added again.
+fn add_again(again: &mut BTreeSet<usize>, place: usize) -> Result<(), Memory>
+    ensures all { OnOk result ((p : ℕ) → IsAgain again.new p ↔ (IsAgain again.old p ⊎ (p ≡ place))) }
+    ensures few { OnOk result (btree_set_len again.new ≤ btree_set_len again.old + 1) }
+{
+    again.insert(place)?;
     Ok(())
 }
 
 // Adds the assignments of these pairs.
 fn add_all(readers: &[(VarId, AssignId)], work: &mut Worklist) -> Result<(), Memory>
-    requires is { IsWorklist (length work.old.waits.items) work.old }
-    requires below { (r : Reader) → IsOneOf readers.now r → r.1.n < length work.old.waits.items }
-    ensures { IfOk result (λ _. AddsWork (length work.old.waits.items) (length readers.now) (λ m. (r : Reader) × IsOneOf readers.now r × (r.1.n ≡ m)) work.old work.new) }
+    requires is { IsWorklist (length work.old.places.items) work.old }
+    requires below { (r : Reader) → IsOneOf readers.now r → r.1.n < length work.old.places.items }
+    ensures { IfOk result (λ _. AddsWork (length work.old.places.items) (length readers.now) (λ m. (r : Reader) × IsOneOf readers.now r × (r.1.n ≡ m)) work.old work.new) }
 {
     for (_, assign) in readers {
         add(assign.n, work)?;
@@ -98,10 +109,10 @@ pub(crate) fn add_readers(
     variable: u32,
     work: &mut Worklist,
 ) -> Result<(), Memory>
-    requires is { IsWorklist (length work.old.waits.items) work.old }
-    requires below { (r : Reader) → IsOneOf readers.now r → r.1.n < length work.old.waits.items }
+    requires is { IsWorklist (length work.old.places.items) work.old }
+    requires below { (r : Reader) → IsOneOf readers.now r → r.1.n < length work.old.places.items }
     requires ascending { IsNonDecreasingBy (λ r. r.0.n) readers.now }
-    ensures { IfOk result (λ _. AddsWork (length work.old.waits.items) (length readers.now) (λ m. (r : Reader) × IsOneOf readers.now r × (r.0.n ≡ variable) × (r.1.n ≡ m)) work.old work.new) }
+    ensures { IfOk result (λ _. AddsWork (length work.old.places.items) (length readers.now) (λ m. (r : Reader) × IsOneOf readers.now r × (r.0.n ≡ variable) × (r.1.n ≡ m)) work.old work.new) }
 {
     let run = run_of(readers, variable);
     add_all(run, work)
@@ -120,27 +131,60 @@ fn run_of(readers: &[(VarId, AssignId)], variable: u32) -> &[(VarId, AssignId)]
 }
 
 // All assignments, none of which was looked at.
-pub(crate) fn all_waiting(
-    alloc: Global,
-    parts: &GtsParts,
-    blocks: &[Block],
-) -> Result<Worklist, Memory>
+pub(crate) fn all_waiting(alloc: Global, parts: &GtsParts, plan: &Plan) -> Result<Worklist, Memory>
     requires { IsSound parts.now }
     ensures is { IfOk result (λ work. IsWorklist (length parts.now.assigns.items) work) }
     ensures all { IfOk result (λ work. (n : ℕ) → n < length parts.now.assigns.items → Waits work n) }
 {
-    let ranks = ranks(alloc, parts, blocks)?;
-    let mut first = numbers_below(alloc, parts.assigns.len())?;
-    first.sort_by_key(|n| place_of(&ranks, *n))?;
-    first.reverse();
-    let again = VecDeque::new(alloc);
-    let waits = vec![in alloc; true; parts.assigns.len()]?;
+    let order = in_order(alloc, parts, plan)?;
+    let places = places_in(alloc, &order, parts.assigns.len())?;
+    let again = BTreeSet::new(alloc);
     Ok(Worklist {
-        first,
+        order,
+        places,
+        fresh: 0,
         again,
-        ranks,
-        waits,
     })
+}
+
+// The assignments by the class of the target, then by how many variables they name, then by number.
+fn in_order(alloc: Global, parts: &GtsParts, plan: &Plan) -> Result<Vec<u32>, Memory>
+    requires { IsSound parts.now }
+    ensures { IfOk result (λ order. IsOrder (length parts.now.assigns.items) order.items) }
+{
+    let widths = widths(alloc, parts.assigns.len(), &plan.readers)?;
+    let ranks = ranks(alloc, parts, &plan.blocks)?;
+    let mut order = numbers_below(alloc, parts.assigns.len())?;
+    order.sort_by_key(|n| (place_of(&ranks, *n), place_of(&widths, *n)))?;
+    Ok(order)
+}
+
+// The place of each number below the count in an order of them.
+fn places_in(alloc: Global, order: &[u32], count: usize) -> Result<Vec<usize>, Memory>
+    requires { IsOrder count order.now }
+    ensures long { IfOk result (λ places. length places.items ≡ count) }
+    ensures placed { IfOk result (λ places. (n p : ℕ) → Stands places.items n p → Stands order.now p n) }
+{
+    let mut places = vec![in alloc; 0usize; count]?;
+    for (place, n) in order.iter().enumerate() {
+        places[*n as usize] = place;
+    }
+    Ok(places)
+}
+
+// How many variables each assignment names.
+fn widths(
+    alloc: Global,
+    count: usize,
+    readers: &[(VarId, AssignId)],
+) -> Result<Vec<usize>, Memory> {
+    let mut widths = vec![in alloc; 0usize; count]?;
+    for (_, assign) in readers {
+        if let Some(width) = widths.get_mut(assign.n as usize) {
+            *width = width.saturating_add(1);
+        }
+    }
+    Ok(widths)
 }
 
 // The numbers below a count.

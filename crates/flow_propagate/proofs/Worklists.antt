@@ -6,7 +6,7 @@ use Rattle.std.specs.List.Sorted.{IsNonDecreasingBy, IsPartitionPoint, IsPermuta
 use Rattle.std.proofs.lemmas.List.Sorted.{Contains-permutation, IsPermutation-sym}
 use Rattle.std.proofs.lemmas.Option.{slice_get-get_or, get_or_from_slice_get}
 use Rattle.ar_base.specs.Lists.{Stands, IsOneOf}
-use Rattle.ar_base.proofs.Standing.{stands_none, stands_one, stands_within, stands_some, stands_map, stands_map_back}
+use Rattle.ar_base.proofs.Standing.{stands_one, stands_within, stands_some, stands_map, stands_map_back}
 use Rattle.gts_core.specs.declared.system.GtsParts.{GtsParts}
 use Rattle.flow_propagate.specs.Plan.{AreReaders, Reader, plain_pair}
 use Rattle.flow_propagate.specs.Closing.{IsAgain, IsOrder, WaitsAt, Waits, IsWorklist, TakesPlace, Takes, AddsWork}
@@ -19,13 +19,6 @@ module _ {A : Type 0} where
   set_here [] k x h = absurd (omega arith)
   set_here (y ∷ xs) zero x h = refl
   set_here (y ∷ xs) (suc k) x h = set_here xs k x (omega arith)
-
-  pub set_other : (xs : List A) (k n : ℕ) (x y : A) → (n ≡ k → ⊥) → Stands xs n y → Stands (set xs k x) n y
-  set_other [] k n x y ne s = absurd (stands_none n y s)
-  set_other (z ∷ xs) zero zero x y ne s = absurd (ne refl)
-  set_other (z ∷ xs) zero (suc n) x y ne s = s
-  set_other (z ∷ xs) (suc k) zero x y ne s = s
-  set_other (z ∷ xs) (suc k) (suc n) x y ne s = set_other xs k n x y (λ e. ne (ap suc e)) s
 
   pub set_back : (xs : List A) (k n : ℕ) (x y : A) → Stands (set xs k x) n y → ((n ≡ k) × (x ≡ y)) ⊎ Stands xs n y
   set_back [] k n x y s = inr s

@@ -1,15 +1,15 @@
 -- The assignments that wait.
-use Rattle.std.proofs.Common.{◌≡◌, ℕ, zero, suc, ◌+◌, ◌-◌, ◌<◌, ◌≤◌, ◌⊎◌, inl, inr, Bool, true, false, List, [], ◌∷◌, ◌++◌, map, length, get_or, set, take, drop, refl, sym, ap, ◌∙◌, subst, arith, length-set, length-append, length-drop, replicate, ltb, leb}
+use Rattle.std.proofs.Common.{◌≡◌, ℕ, zero, suc, ◌+◌, ◌-◌, ◌<◌, ◌≤◌, ◌⊎◌, inl, inr, true, false, List, [], ◌∷◌, ◌++◌, map, length, get_or, set, take, drop, refl, sym, ap, ◌∙◌, subst, arith, length-drop, ltb, leb}
 use Rattle.std.proofs.lemmas.Bool.{ltb-true, leb-false}
 use Rattle.std.proofs.lemmas.List.{get_or-drop, get_or-take, length-take-le}
 use Rattle.std.specs.List.Sorted.{IsNonDecreasingBy, IsPartitionPoint, IsPermutation}
 use Rattle.std.proofs.lemmas.List.Sorted.{Contains-permutation, IsPermutation-sym}
 use Rattle.std.proofs.lemmas.Option.{slice_get-get_or, get_or_from_slice_get}
 use Rattle.ar_base.specs.Lists.{Stands, IsOneOf}
-use Rattle.ar_base.proofs.Standing.{stands_none, stands_one, stands_within, stands_some, stands_map, stands_map_back}
+use Rattle.ar_base.proofs.Standing.{stands_one, stands_within, stands_some, stands_map, stands_map_back}
 use Rattle.gts_core.specs.declared.system.GtsParts.{GtsParts}
 use Rattle.flow_propagate.specs.Plan.{AreReaders, Reader, plain_pair}
-use Rattle.flow_propagate.specs.Closing.{Waits, IsWorklist, Takes, AddsWork}
+use Rattle.flow_propagate.specs.Closing.{IsAgain, IsOrder, WaitsAt, Waits, IsWorklist, TakesPlace, Takes, AddsWork}
 use Rattle.flow_propagate.specs.declared.worklist.Worklist.{Worklist}
 use Rattle.flow_propagate.proofs.NamedVariables.{one_left, one_last, one_cases}
 use Rattle.flow_propagate.proofs.ReaderPairs.{cases_below, one_contains, contains_one}
@@ -19,13 +19,6 @@ module _ {A : Type 0} where
   set_here [] k x h = absurd (omega arith)
   set_here (y ∷ xs) zero x h = refl
   set_here (y ∷ xs) (suc k) x h = set_here xs k x (omega arith)
-
-  pub set_other : (xs : List A) (k n : ℕ) (x y : A) → (n ≡ k → ⊥) → Stands xs n y → Stands (set xs k x) n y
-  set_other [] k n x y ne s = absurd (stands_none n y s)
-  set_other (z ∷ xs) zero zero x y ne s = absurd (ne refl)
-  set_other (z ∷ xs) zero (suc n) x y ne s = s
-  set_other (z ∷ xs) (suc k) zero x y ne s = s
-  set_other (z ∷ xs) (suc k) (suc n) x y ne s = set_other xs k n x y (λ e. ne (ap suc e)) s
 
   pub set_back : (xs : List A) (k n : ℕ) (x y : A) → Stands (set xs k x) n y → ((n ≡ k) × (x ≡ y)) ⊎ Stands xs n y
   set_back [] k n x y s = inr s
@@ -40,71 +33,34 @@ same_number zero (suc n) = inr (λ e. omega arith)
 same_number (suc m) zero = inr (λ e. omega arith)
 same_number (suc m) (suc n) = elim (same_number m n) [ inl e ↦ inl (ap suc e) | inr f ↦ inr (λ e. f (omega (arith, e))) ]
 
--- the count of a worklist is the number of its marks
-pub by_length : (count : ℕ) (w : Worklist) → IsWorklist count w → IsWorklist (length w.waits.items) w
+-- the count of a worklist is the number of its places
+pub by_length : (count : ℕ) (w : Worklist) → IsWorklist count w → IsWorklist (length w.places.items) w
 by_length count w h = subst (λ (z : ℕ). IsWorklist z w) (sym h.long) h
 
-pub takes_one : (count n : ℕ) (old new : Worklist) → IsWorklist count old → old.stack.items ≡ new.stack.items ++ n ∷ [] → new.waits.items ≡ set old.waits.items n false → Takes count n old new
-takes_one count n old new w stack waits = record {
-  is = record { long = ap (λ (z : List Bool). length z) waits ∙ length-set old.waits.items n false ∙ w.long; stacked = stacked; below = λ m o. w.below m (subst (λ (z : List ℕ). IsOneOf z m) (sym stack) (one_left new.stack.items (n ∷ []) m o)) };
-  below = below;
-  less = (let l = length-append new.stack.items (n ∷ []) in let e = ap (λ (z : List ℕ). length z) stack in omega (arith, l, e));
-  others = λ m h. elim (same_number m n) [ inl e ↦ inl e | inr f ↦ inr (subst (λ (z : List Bool). Stands z m true) (sym waits) (set_other old.waits.items n m false true f h)) ];
+-- the worklist without the place that was taken
+pub takes_one : (count n place : ℕ) (old new : Worklist) → IsWorklist count old → TakesPlace place old new → Stands new.order.items place n → Takes count n old new
+takes_one count n place old new w t stands = record {
+  is = record {
+    long = ap (λ (z : List ℕ). length z) t.places ∙ w.long;
+    placed = λ m p s. subst (λ (z : List ℕ). Stands z p m) (sym t.order) (w.placed m p (subst (λ (z : List ℕ). Stands z m p) t.places s));
+    below = λ m p s. w.below m p (subst (λ (z : List ℕ). Stands z p m) t.order s);
+    reached = subst (λ (z : List ℕ). new.fresh ≤ length z) (sym t.order) t.reached;
+    within = λ p h. subst (λ (z : List ℕ). p < length z) (sym t.order) (w.within p (t.only p h));
+  };
+  below = w.below n place st;
+  less = t.less;
+  others = λ m h. elim (t.others h.place h.waits) [
+    | inl e ↦ inl (stands_one old.order.items place m n (subst (λ (z : ℕ). Stands old.order.items z m) e (w.placed m h.place h.stands)) st)
+    | inr k ↦ inr (record { place = h.place; stands = subst (λ (z : List ℕ). Stands z m h.place) (sym t.places) h.stands; waits = k })
+  ];
 }
   where
-    below : n < count
-    below = w.below n (subst (λ (z : List ℕ). IsOneOf z n) (sym stack) (one_last new.stack.items n))
+    st : Stands old.order.items place n
+    st = subst (λ (z : List ℕ). Stands z place n) t.order stands
 
-    stacked : (m : ℕ) → Waits new m → IsOneOf new.stack.items m
-    stacked m h = elim (set_back old.waits.items n m false true (subst (λ (z : List Bool). Stands z m true) waits h)) [
-      | inl e ↦ absurd (let k : false ≡ true = e.1 in cc)
-      | inr k ↦ (elim (one_cases new.stack.items n m (subst (λ (z : List ℕ). IsOneOf z m) stack (w.stacked m k))) [
-        | inl o ↦ o
-        | inr e ↦ absurd (clash m (sym e) h)
-      ])
-    ]
-      where
-        clash : (m : ℕ) → m ≡ n → Waits new m → ⊥
-        clash m e h =
-            let at : Stands new.waits.items n true = subst (λ (z : ℕ). Stands new.waits.items z true) e h in
-            let there : Stands new.waits.items n false = subst (λ (z : List Bool). Stands z n false) (sym waits) (set_here old.waits.items n false (omega (arith, below, w.long))) in
-            cc (stands_one new.waits.items n true false at there)
-
--- where the stack is empty none waits
-pub none_waits : (count : ℕ) (w : Worklist) → IsWorklist count w → w.stack.items ≡ [] → (n : ℕ) → Waits w n → ⊥
-none_waits count w h e n k = let o = subst (λ (z : List ℕ). IsOneOf z n) e (h.stacked n k) in stands_none o.place n o.stands
-
-pub adds_nothing : (count : ℕ) (w : Worklist) → IsWorklist count w → AddsWork count 0 (λ m. ⊥) w w
-adds_nothing count w h = record { is = h; few = omega arith; keeps = λ m k. k; adds = λ m f. absurd f }
-
--- it waits
-pub adds_waiting : (count n : ℕ) (w : Worklist) → IsWorklist count w → Waits w n → AddsWork count 1 (λ m. m ≡ n) w w
-adds_waiting count n w h k = record { is = h; few = omega arith; keeps = λ m x. x; adds = λ m e. subst (λ (z : ℕ). Waits w z) (sym e) k }
-
--- it did not wait
-pub adds_new : (count n : ℕ) (old new : Worklist) → IsWorklist count old → n < count → new.stack.items ≡ old.stack.items ++ n ∷ [] → new.waits.items ≡ set old.waits.items n true → AddsWork count 1 (λ m. m ≡ n) old new
-adds_new count n old new w below stack waits = record {
-  is = record { long = ap (λ (z : List Bool). length z) waits ∙ length-set old.waits.items n true ∙ w.long; stacked = stacked; below = λ m o. within m (one_cases old.stack.items n m (subst (λ (z : List ℕ). IsOneOf z m) stack o)) };
-  few = (let l = length-append old.stack.items (n ∷ []) in let e = ap (λ (z : List ℕ). length z) stack in omega (arith, l, e));
-  keeps = λ m h. subst (λ (z : List Bool). Stands z m true) (sym waits) (kept m h);
-  adds = λ m e. subst (λ (z : ℕ). Waits new z) (sym e) (subst (λ (z : List Bool). Stands z n true) (sym waits) here);
-}
-  where
-    here : Stands (set old.waits.items n true) n true
-    here = set_here old.waits.items n true (omega (arith, below, w.long))
-
-    kept : (m : ℕ) → Waits old m → Stands (set old.waits.items n true) m true
-    kept m h = elim (same_number m n) [ inl e ↦ subst (λ (z : ℕ). Stands (set old.waits.items n true) z true) (sym e) here | inr f ↦ set_other old.waits.items n m true true f h ]
-
-    within : (m : ℕ) → IsOneOf old.stack.items m ⊎ (n ≡ m) → m < count
-    within m (inl o) = w.below m o
-    within m (inr e) = subst (λ (z : ℕ). z < count) e below
-
-    stacked : (m : ℕ) → Waits new m → IsOneOf new.stack.items m
-    stacked m h = subst (λ (z : List ℕ). IsOneOf z m) (sym stack) (elim (set_back old.waits.items n m true true (subst (λ (z : List Bool). Stands z m true) waits h)) [
-      | inl e ↦ subst (λ (z : ℕ). IsOneOf (old.stack.items ++ n ∷ []) z) (sym e.0) (one_last old.stack.items n)
-      | inr k ↦ one_left old.stack.items (n ∷ []) m (w.stacked m k)
-    ])
+-- where no place waits no assignment does
+pub none_waits : (count : ℕ) (w : Worklist) → IsWorklist count w → ((p : ℕ) → p < length w.order.items → WaitsAt w p → ⊥) → (n : ℕ) → Waits w n → ⊥
+none_waits count w h lacks n k = lacks k.place (stands_within w.order.items k.place n (h.placed n k.place k.stands)) k.waits
 
 -- the assignments of the first so many pairs
 abbrev pub IsAmong : List Reader → ℕ → ℕ → Type 0
@@ -253,15 +209,53 @@ numbers_more i old new e a = (
   λ n o. elim (one_cases old i n (subst (λ (z : List ℕ). IsOneOf z n) e o)) [ inl k ↦ (let l = a.1 n k in omega (arith, l)) | inr j ↦ omega (arith, j) ],
 )
 
--- all wait
-pub all_work : (count : ℕ) (numbers : List ℕ) (work : Worklist) → ((n : ℕ) → n < count → IsOneOf numbers n) → ((n : ℕ) → IsOneOf numbers n → n < count) → IsPermutation numbers work.stack.items → length work.waits.items ≡ count → IsWorklist count work
-all_work count numbers work all below perm long = record {
-  long = long;
-  stacked = λ n h. contains_one work.stack.items n (Contains-permutation numbers work.stack.items n perm (one_contains numbers n (all n (let k = stands_within work.waits.items n true h in omega (arith, k, long)))));
-  below = λ n o. below n (contains_one numbers n (Contains-permutation work.stack.items numbers n (IsPermutation-sym numbers work.stack.items perm) (one_contains work.stack.items n o)));
+-- numbers in another order
+pub order_moved : (count : ℕ) (xs ys : List ℕ) → IsPermutation xs ys → IsOrder count xs → IsOrder count ys
+order_moved count xs ys perm o = record {
+  all = λ n h. contains_one ys n (Contains-permutation xs ys n perm (one_contains xs n (o.all n h)));
+  below = λ n h. o.below n (contains_one xs n (Contains-permutation ys xs n (IsPermutation-sym xs ys perm) (one_contains ys n h)));
 }
 
-pub all_marked : (count k : ℕ) → k < count → Stands (replicate count true) k true
-all_marked zero k h = absurd (omega arith)
-all_marked (suc n) zero h = refl
-all_marked (suc n) (suc k) h = all_marked n k (omega arith)
+-- the places of the first so many numbers are right
+abbrev pub ArePlaced : List ℕ → ℕ → List ℕ → Type 0
+ArePlaced order i places = (j n p : ℕ) → j < i → Stands order j n → Stands places n p → Stands order p n
+
+pub placed_more : (order places : List ℕ) (i m : ℕ) → Stands order i m → m < length places → ArePlaced order i places → ArePlaced order (i + 1) (set places m i)
+placed_more order places i m st h a j n p l s q = go (same_number n m)
+  where
+    go : (n ≡ m) ⊎ (n ≡ m → ⊥) → Stands order p n
+    go (inl e) =
+        let here : Stands (set places m i) n i = subst (λ (z : ℕ). Stands (set places m i) z i) (sym e) (set_here places m i h) in
+        let same : i ≡ p = stands_one (set places m i) n i p here q in
+        subst (λ (z : ℕ). Stands order z n) same (subst (λ (z : ℕ). Stands order i z) (sym e) st)
+    go (inr f) = elim (set_back places m n i p q) [
+      | inl e ↦ absurd (f e.0)
+      | inr k ↦ (elim (cases_below j i l) [
+        | inl b ↦ a j n p b s k
+        | inr e ↦ absurd (f (stands_one order i n m (subst (λ (z : ℕ). Stands order z n) e s) st))
+      ])
+    ]
+
+pub placed_all : (count i : ℕ) (order places : List ℕ) → IsOrder count order → length places ≡ count → length order ≤ i → ArePlaced order i places → (n p : ℕ) → Stands places n p → Stands order p n
+placed_all count i order places o long end a n p s =
+    let one = o.all n (let k = stands_within places n p s in omega (arith, k, long)) in
+    a one.place n p (let k = stands_within order one.place n one.stands in omega (arith, k, end)) one.stands s
+
+-- an item of an order is below its count
+pub order_below : (count : ℕ) (order : List ℕ) (i : ℕ) → IsOrder count order → i < length order → get_or order i 0 < count
+order_below count order i o h = o.below (get_or order i 0) (record { place = i; stands = slice_get-get_or order i 0 h })
+
+-- all wait
+pub all_work : (count : ℕ) (w : Worklist) → IsOrder count w.order.items → length w.places.items ≡ count → ((n p : ℕ) → Stands w.places.items n p → Stands w.order.items p n) → w.fresh ≡ 0 → ((p : ℕ) → IsAgain w.again p → ⊥) → IsWorklist count w
+all_work count w o long placed fresh none = record {
+  long = long;
+  placed = placed;
+  below = λ n p s. o.below n (record { place = p; stands = s });
+  reached = omega (arith, fresh);
+  within = λ p h. absurd (none p h);
+}
+
+pub all_wait : (count n : ℕ) (w : Worklist) → length w.places.items ≡ count → w.fresh ≡ 0 → n < count → Waits w n
+all_wait count n w long fresh h =
+    let at = stands_some w.places.items n (omega (arith, h, long)) in
+    record { place = at.0; stands = at.1; waits = inl (omega (arith, fresh)) }

@@ -1,6 +1,7 @@
 -- How the facts are gathered: which assignments wait to be looked at, and how many facts may still come.
-use Rattle.std.specs.Prelude.{◌≡◌, ℕ, ◌+◌, ◌*◌, ◌<◌, ◌≤◌, ◌⊎◌, Bool, true, false, cond, nat_eq, List, [], ◌∷◌, ◌||◌, length}
-use Rattle.std.specs.Ordering.{int_eq}
+use Rattle.std.specs.Prelude.{◌≡◌, ℕ, ◌+◌, ◌*◌, ◌<◌, ◌≤◌, ◌⊎◌, Bool, true, false, cond, nat_eq, List, [], ◌∷◌, ◌||◌, ◌-◌, IsTrue, length}
+use Rattle.std.specs.BTreeSet.{BTreeSet, contains, btree_set_len}
+use Rattle.std.specs.Ordering.{int_eq, nat_cmp}
 use Rattle.ar_base.specs.Lists.{Stands, IsOneOf}
 use Rattle.domains.specs.Domains.{values_of}
 use Rattle.domains.specs.declared.Value.{Value}
@@ -54,27 +55,58 @@ pub record Applies (p : GtsParts) (a : Assign) (old new : Rows) (changed : Bool)
   pub done : (v : Value) → Passes (Holds old) (assign_of a).conditions → Yields (Holds old) (out-Expr ℕ (assign_of a).value) v → Allows (net_of p) a.target.n v → Holds new a.target.n v
   pub less : changed ≡ true → missing p new < missing p old
 
--- the assignment of this number waits
-abbrev pub Waits : Worklist → ℕ → Type 0
-Waits work n = Stands work.waits.items n true
+-- the place is among those of the assignments that were added again
+abbrev pub IsAgain : BTreeSet ℕ → ℕ → Type 0
+IsAgain again place = IsTrue (contains nat_cmp again place)
 
--- each assignment that waits is on the stack, which has numbers of assignments alone
+-- the assignment at this place of the order waits: none from there on was looked at yet, or it was added again
+abbrev pub WaitsAt : Worklist → ℕ → Type 0
+WaitsAt work place = (work.fresh ≤ place) ⊎ IsAgain work.again place
+
+-- the assignment of this number waits
+pub record Waits (work : Worklist) (n : ℕ) : Type 0 where
+  pub place : ℕ
+  pub stands : Stands work.places.items n place
+  pub waits : WaitsAt work place
+
+-- a list of the numbers below the count, and of no others
+pub record IsOrder (count : ℕ) (order : List ℕ) : Type 0 where
+  pub all : (n : ℕ) → n < count → IsOneOf order n
+  pub below : (n : ℕ) → IsOneOf order n → n < count
+
+-- each assignment stands at its place in the order, which has numbers of assignments alone
 pub record IsWorklist (count : ℕ) (work : Worklist) : Type 0 where
-  pub long : length work.waits.items ≡ count
-  pub stacked : (n : ℕ) → Waits work n → IsOneOf work.stack.items n
-  pub below : (n : ℕ) → IsOneOf work.stack.items n → n < count
+  pub long : length work.places.items ≡ count
+  pub placed : (n place : ℕ) → Stands work.places.items n place → Stands work.order.items place n
+  pub below : (n place : ℕ) → Stands work.order.items place n → n < count
+  pub reached : work.fresh ≤ length work.order.items
+  pub within : (place : ℕ) → IsAgain work.again place → place < length work.order.items
+
+-- how many wait
+abbrev pub waiting : Worklist → ℕ
+waiting work = (length work.order.items - work.fresh) + btree_set_len work.again
+
+-- the place was taken
+pub record TakesPlace (place : ℕ) (old new : Worklist) : Type 0 where
+  pub below : place < length old.order.items
+  pub order : new.order.items ≡ old.order.items
+  pub places : new.places.items ≡ old.places.items
+  pub reached : new.fresh ≤ length old.order.items
+  pub only : (q : ℕ) → IsAgain new.again q → IsAgain old.again q
+  pub less : waiting old ≡ waiting new + 1
+  pub others : (q : ℕ) → WaitsAt old q → (q ≡ place) ⊎ WaitsAt new q
 
 -- the assignment of this number was taken
 pub record Takes (count : ℕ) (n : ℕ) (old new : Worklist) : Type 0 where
   pub is : IsWorklist count new
   pub below : n < count
-  pub less : length old.stack.items ≡ length new.stack.items + 1
+  pub less : waiting old ≡ waiting new + 1
   pub others : (m : ℕ) → Waits old m → (m ≡ n) ⊎ Waits new m
 
 -- the assignments whose numbers have P were added, by so many steps at most
 pub record AddsWork (count most : ℕ) (P : ℕ → Type 0) (old new : Worklist) : Type 0 where
   pub is : IsWorklist count new
-  pub few : length new.stack.items ≤ length old.stack.items + most
+  pub few : waiting new ≤ waiting old + most
   pub keeps : (m : ℕ) → Waits old m → Waits new m
   pub adds : (m : ℕ) → P m → Waits new m
 
@@ -84,7 +116,7 @@ IsSettled p rows work = (m : ℕ) (a : Assign) → Stands p.assigns.items m a �
 
 -- what is left to do: for each fact that may still come one look at each reader, and the looks that wait
 abbrev pub work_left : GtsParts → ℕ → Rows → Worklist → ℕ
-work_left p readers rows work = (readers + 1) * missing p rows + length work.stack.items
+work_left p readers rows work = (readers + 1) * missing p rows + waiting work
 
 -- one assignment was looked at
 pub record LooksAt (p : GtsParts) (readers n : ℕ) (old : Rows) (before : Worklist) (new : Rows) (after : Worklist) : Type 0 where

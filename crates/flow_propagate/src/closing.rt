@@ -81,7 +81,7 @@ pub(crate) fn known(
     ensures long { IfOk result (λ table. length table.rows.items ≡ length parts.now.variables.items) }
 {
     let first = start(alloc, parts, values)?;
-    let work = all_waiting(alloc, parts, &plan.blocks)?;
+    let work = all_waiting(alloc, parts, plan)?;
     let table = close(alloc, parts, &plan.readers, work, first)?;
     Ok(table)
 }

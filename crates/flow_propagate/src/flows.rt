@@ -27,10 +27,7 @@ pub fn propagate(alloc: Global, gts: &Gts, state: &Valuation) -> Result<Valuatio
     requires { IsState gts.now state.now.values.items }
     ensures { IsFlowAnswer (net_of gts.now) state.now.values.items result }
 {
-    let plan = match make_plan(alloc, gts) {
-        Ok(plan) => plan,
-        Err(_) => return Err(PropagateFault::Memory),
-    };
+    let plan = make_plan(alloc, gts)?;
     propagate_by(alloc, gts, &plan, state)
 }
 
@@ -63,32 +60,17 @@ fn flows(
     requires long { length values.now ≡ length parts.now.variables.items }
     ensures { FlowsTo (net_of parts.now) values.now result }
 {
-    let table = match known(alloc, parts, plan, values) {
-        Ok(table) => table,
-        Err(_) => return Err(PropagateFault::Memory),
-    };
+    let table = known(alloc, parts, plan, values)?;
     if let Some(n) = first_two(parts, &table) {
         return Err(PropagateFault::Flow(FlowFault::Two(VarId::new(n))));
     }
-    let outside = match first_outside(alloc, parts, &table) {
-        Ok(outside) => outside,
-        Err(_) => return Err(PropagateFault::Memory),
-    };
+    let outside = first_outside(alloc, parts, &table)?;
     if let Some(n) = outside {
         return Err(PropagateFault::Flow(FlowFault::Outside(VarId::new(n))));
     }
-    let total = match completed(alloc, parts, values, &table) {
-        Ok(total) => total,
-        Err(_) => return Err(PropagateFault::Memory),
-    };
-    let single = match single(alloc, &total) {
-        Ok(single) => single,
-        Err(_) => return Err(PropagateFault::Memory),
-    };
-    let broken = match first_broken(alloc, parts, &single) {
-        Ok(broken) => broken,
-        Err(_) => return Err(PropagateFault::Memory),
-    };
+    let total = completed(alloc, parts, values, &table)?;
+    let single = single(alloc, &total)?;
+    let broken = first_broken(alloc, parts, &single)?;
     if let Some(n) = broken {
         return Err(PropagateFault::Flow(FlowFault::Broken(AssignId::new(n))));
     }

@@ -1,54 +1,101 @@
 // The assignments that wait to be looked at.
 
-ghost use Rattle.std.specs.Prelude.{◌≡◌, ◌<◌, ◌≤◌, ◌^◌, ℕ, length, IfOk, MatchOption};
-ghost use Rattle.ar_base.specs.Lists.{IsOneOf};
+ghost use Rattle.std.specs.Prelude.{◌≡◌, ◌≢◌, ◌+◌, ◌<◌, ◌≤◌, ◌^◌, ◌⊎◌, ◌↔◌, ℕ, length, IfOk, OnOk, IfSome, IfNone, MatchOption};
+ghost use Rattle.std.specs.BTreeSet.{btree_set_len};
+ghost use Rattle.ar_base.specs.Lists.{IsOneOf, Stands};
 ghost use Rattle.gts_core.specs.Sound.{IsSound};
 ghost use Rattle.std.specs.List.Sorted.{IsNonDecreasingBy};
 ghost use Rattle.flow_propagate.specs.Plan.{Reader};
-ghost use Rattle.flow_propagate.specs.Closing.{IsWorklist, Waits, Takes, AddsWork};
+ghost use Rattle.flow_propagate.specs.Closing.{IsWorklist, IsAgain, IsOrder, WaitsAt, Waits, TakesPlace, Takes, AddsWork};
 
+use crate::plan::Plan;
 use ar_base::{AssignId, Memory, VarId};
 use flow_blocks::Block;
 use gts_core::{GtsParts, Variable};
 use std::alloc::Global;
+use std::collections::BTreeSet;
 
-/// The assignments that wait to be looked at: the stack of their numbers, and a mark for each assignment, which is true
-/// where it waits.
+/// The assignments that wait to be looked at.
+///
+/// All assignments stand in one order: by the class of the target, then by how many variables they name, then by number.
+/// The first one in this order that waits comes next. So an assignment that names many flows of its class is looked at
+/// after those that name fewer, and not again after each of them.
 #[derive(Drop)]
 pub(crate) struct Worklist {
-    pub(crate) stack: Vec<u32>,
-    pub(crate) waits: Vec<bool>,
+    /// The assignments in their order.
+    pub(crate) order: Vec<u32>,
+    /// The place of each assignment in the order.
+    pub(crate) places: Vec<usize>,
+    /// The place from which on no assignment was looked at yet.
+    pub(crate) fresh: usize,
+    /// The places before it of the assignments that were added again.
+    pub(crate) again: BTreeSet<usize>,
 }
 
 // Takes the next assignment.
 pub(crate) fn take(work: &mut Worklist) -> Option<u32>
-    requires { IsWorklist (length work.old.waits.items) work.old }
-    ensures { MatchOption result ((n : ℕ) → Waits work.old n → ⊥) (λ n. Takes (length work.old.waits.items) n work.old work.new) }
+    requires { IsWorklist (length work.old.places.items) work.old }
+    ensures { MatchOption result ((n : ℕ) → Waits work.old n → ⊥) (λ n. Takes (length work.old.places.items) n work.old work.new) }
 {
-    let n = work.stack.pop()?;
-    work.waits[n as usize] = false;
-    Some(n)
+    let place = take_place(work)?;
+    Some(work.order[place])
+}
+
+// Takes the first place that waits.
+fn take_place(work: &mut Worklist) -> Option<usize>
+    requires { IsWorklist (length work.old.places.items) work.old }
+    ensures { MatchOption result ((p : ℕ) → p < length work.old.order.items → WaitsAt work.old p → ⊥) (λ place. TakesPlace place work.old work.new) }
+{
+    if let Some(place) = take_again(&mut work.again) {
+        return Some(place);
+    }
+    if work.fresh >= work.order.len() {
+        return None;
+    }
+    let place = work.fresh;
+    work.fresh += 1;
+    Some(place)
+}
+
+// Takes the least place of those that were added again.
+fn take_again(again: &mut BTreeSet<usize>) -> Option<usize>
+    ensures some { IfSome result (λ place. IsAgain again.old place) }
+    ensures rest { IfSome result (λ place. (p : ℕ) → IsAgain again.new p ↔ (IsAgain again.old p × (p ≢ place))) }
+    ensures less { IfSome result (λ _. btree_set_len again.old ≡ btree_set_len again.new + 1) }
+    ensures none { IfNone result ((p : ℕ) → IsAgain again.old p → ⊥) }
+    ensures still { IfNone result ((p : ℕ) → IsAgain again.new p → ⊥) }
+    ensures few { IfNone result (btree_set_len again.old ≡ btree_set_len again.new) }
+{
+    again.pop_first()
 }
 
 // Adds an assignment, where it does not wait.
 fn add(assign: u32, work: &mut Worklist) -> Result<(), Memory>
-    requires is { IsWorklist (length work.old.waits.items) work.old }
-    requires below { assign < length work.old.waits.items }
-    ensures { IfOk result (λ _. AddsWork (length work.old.waits.items) 1 (λ m. m ≡ assign) work.old work.new) }
+    requires is { IsWorklist (length work.old.places.items) work.old }
+    requires below { assign < length work.old.places.items }
+    ensures { IfOk result (λ _. AddsWork (length work.old.places.items) 1 (λ m. m ≡ assign) work.old work.new) }
 {
-    if work.waits[assign as usize] {
+    let place = work.places[assign as usize];
+    if work.fresh <= place {
         return Ok(());
     }
-    work.waits[assign as usize] = true;
-    work.stack.push(assign)?;
+    add_again(&mut work.again, place)
+}
+
+// Adds a place to those that were added again.
+fn add_again(again: &mut BTreeSet<usize>, place: usize) -> Result<(), Memory>
+    ensures all { OnOk result ((p : ℕ) → IsAgain again.new p ↔ (IsAgain again.old p ⊎ (p ≡ place))) }
+    ensures few { OnOk result (btree_set_len again.new ≤ btree_set_len again.old + 1) }
+{
+    again.insert(place)?;
     Ok(())
 }
 
 // Adds the assignments of these pairs.
 fn add_all(readers: &[(VarId, AssignId)], work: &mut Worklist) -> Result<(), Memory>
-    requires is { IsWorklist (length work.old.waits.items) work.old }
-    requires below { (r : Reader) → IsOneOf readers.now r → r.1.n < length work.old.waits.items }
-    ensures { IfOk result (λ _. AddsWork (length work.old.waits.items) (length readers.now) (λ m. (r : Reader) × IsOneOf readers.now r × (r.1.n ≡ m)) work.old work.new) }
+    requires is { IsWorklist (length work.old.places.items) work.old }
+    requires below { (r : Reader) → IsOneOf readers.now r → r.1.n < length work.old.places.items }
+    ensures { IfOk result (λ _. AddsWork (length work.old.places.items) (length readers.now) (λ m. (r : Reader) × IsOneOf readers.now r × (r.1.n ≡ m)) work.old work.new) }
 {
     for (_, assign) in readers {
         add(assign.n, work)?;
@@ -62,10 +109,10 @@ pub(crate) fn add_readers(
     variable: u32,
     work: &mut Worklist,
 ) -> Result<(), Memory>
-    requires is { IsWorklist (length work.old.waits.items) work.old }
-    requires below { (r : Reader) → IsOneOf readers.now r → r.1.n < length work.old.waits.items }
+    requires is { IsWorklist (length work.old.places.items) work.old }
+    requires below { (r : Reader) → IsOneOf readers.now r → r.1.n < length work.old.places.items }
     requires ascending { IsNonDecreasingBy (λ r. r.0.n) readers.now }
-    ensures { IfOk result (λ _. AddsWork (length work.old.waits.items) (length readers.now) (λ m. (r : Reader) × IsOneOf readers.now r × (r.0.n ≡ variable) × (r.1.n ≡ m)) work.old work.new) }
+    ensures { IfOk result (λ _. AddsWork (length work.old.places.items) (length readers.now) (λ m. (r : Reader) × IsOneOf readers.now r × (r.0.n ≡ variable) × (r.1.n ≡ m)) work.old work.new) }
 {
     let run = run_of(readers, variable);
     add_all(run, work)
@@ -83,21 +130,61 @@ fn run_of(readers: &[(VarId, AssignId)], variable: u32) -> &[(VarId, AssignId)]
     &readers[from..to]
 }
 
-// All assignments, those of the first block on top.
-pub(crate) fn all_waiting(
-    alloc: Global,
-    parts: &GtsParts,
-    blocks: &[Block],
-) -> Result<Worklist, Memory>
+// All assignments, none of which was looked at.
+pub(crate) fn all_waiting(alloc: Global, parts: &GtsParts, plan: &Plan) -> Result<Worklist, Memory>
     requires { IsSound parts.now }
     ensures is { IfOk result (λ work. IsWorklist (length parts.now.assigns.items) work) }
     ensures all { IfOk result (λ work. (n : ℕ) → n < length parts.now.assigns.items → Waits work n) }
 {
-    let ranks = ranks(alloc, &parts.variables, blocks)?;
-    let mut stack = numbers_below(alloc, parts.assigns.len())?;
-    stack.sort_by_key(|n| rank_of(&ranks, parts, *n))?;
-    let waits = vec![in alloc; true; parts.assigns.len()]?;
-    Ok(Worklist { stack, waits })
+    let order = in_order(alloc, parts, plan)?;
+    let places = places_in(alloc, &order, parts.assigns.len())?;
+    let again = BTreeSet::new(alloc);
+    Ok(Worklist {
+        order,
+        places,
+        fresh: 0,
+        again,
+    })
+}
+
+// The assignments by the class of the target, then by how many variables they name, then by number.
+fn in_order(alloc: Global, parts: &GtsParts, plan: &Plan) -> Result<Vec<u32>, Memory>
+    requires { IsSound parts.now }
+    ensures { IfOk result (λ order. IsOrder (length parts.now.assigns.items) order.items) }
+{
+    let widths = widths(alloc, parts.assigns.len(), &plan.readers)?;
+    let ranks = ranks(alloc, parts, &plan.blocks)?;
+    let mut order = numbers_below(alloc, parts.assigns.len())?;
+    order.sort_by_key(|n| (place_of(&ranks, *n), place_of(&widths, *n)))?;
+    Ok(order)
+}
+
+// The place of each number below the count in an order of them.
+fn places_in(alloc: Global, order: &[u32], count: usize) -> Result<Vec<usize>, Memory>
+    requires { IsOrder count order.now }
+    ensures long { IfOk result (λ places. length places.items ≡ count) }
+    ensures placed { IfOk result (λ places. (n p : ℕ) → Stands places.items n p → Stands order.now p n) }
+{
+    let mut places = vec![in alloc; 0usize; count]?;
+    for (place, n) in order.iter().enumerate() {
+        places[*n as usize] = place;
+    }
+    Ok(places)
+}
+
+// How many variables each assignment names.
+fn widths(
+    alloc: Global,
+    count: usize,
+    readers: &[(VarId, AssignId)],
+) -> Result<Vec<usize>, Memory> {
+    let mut widths = vec![in alloc; 0usize; count]?;
+    for (_, assign) in readers {
+        if let Some(width) = widths.get_mut(assign.n as usize) {
+            *width = width.saturating_add(1);
+        }
+    }
+    Ok(widths)
 }
 
 // The numbers below a count.
@@ -113,27 +200,33 @@ fn numbers_below(alloc: Global, count: usize) -> Result<Vec<u32>, Memory>
     Ok(numbers)
 }
 
-// How soon the block of an assignment's target comes.
-fn rank_of(ranks: &[usize], parts: &GtsParts, assign: u32) -> usize {
-    match parts.assigns.get(assign as usize) {
-        Some(assign) => ranks.get(assign.target.n as usize).copied().unwrap_or(0),
-        None => 0,
-    }
+// The place of this number.
+fn place_of(places: &[usize], n: u32) -> usize {
+    places.get(n as usize).copied().unwrap_or(0)
 }
 
-// How soon the block of each variable comes: the number of blocks from it on.
-fn ranks(alloc: Global, variables: &[Variable], blocks: &[Block]) -> Result<Vec<usize>, Memory> {
-    let flows = flow_numbers(alloc, variables)?;
-    let mut ranks = vec![in alloc; 0usize; variables.len()]?;
-    for (place, block) in blocks.iter().enumerate() {
-        rank_all(
-            &mut ranks,
-            &flows,
-            &block.members,
-            blocks.len().saturating_sub(place),
-        );
+// The place of the class of each assignment's target.
+fn ranks(alloc: Global, parts: &GtsParts, blocks: &[Block]) -> Result<Vec<usize>, Memory> {
+    let places = class_places(alloc, &parts.variables, blocks)?;
+    let mut ranks = Vec::new(alloc);
+    for assign in &parts.assigns {
+        ranks.push(place_of(&places, assign.target.n))?;
     }
     Ok(ranks)
+}
+
+// The place of each flow's class, by variable; 0 for a state variable.
+fn class_places(
+    alloc: Global,
+    variables: &[Variable],
+    blocks: &[Block],
+) -> Result<Vec<usize>, Memory> {
+    let flows = flow_numbers(alloc, variables)?;
+    let mut places = vec![in alloc; 0usize; variables.len()]?;
+    for (place, block) in blocks.iter().enumerate() {
+        place_all(&mut places, &flows, &block.members, place);
+    }
+    Ok(places)
 }
 
 // The numbers of the flows among the variables.
@@ -147,12 +240,12 @@ fn flow_numbers(alloc: Global, variables: &[Variable]) -> Result<Vec<usize>, Mem
     Ok(flows)
 }
 
-// Gives the flows of a block their rank.
-fn rank_all(ranks: &mut [usize], flows: &[usize], members: &[u32], rank: usize) {
+// Gives the flows of a class its place.
+fn place_all(places: &mut [usize], flows: &[usize], members: &[u32], class: usize) {
     for member in members {
         if let Some(flow) = flows.get(*member as usize) {
-            if let Some(place) = ranks.get_mut(*flow) {
-                *place = rank;
+            if let Some(place) = places.get_mut(*flow) {
+                *place = class;
             }
         }
     }

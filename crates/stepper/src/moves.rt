@@ -106,10 +106,8 @@ pub(crate) fn first(alloc: Global, gts: &Gts, plan: &Plan) -> Result<Valuation, 
     ensures starts { IfOk result (λ values. Start (net_of gts.now) values.values.items) }
     ensures fault { IfErr result (IsStartFault (net_of gts.now)) }
 {
-    match declared(alloc, gts.parts()) {
-        Ok(state) => flows(alloc, gts, plan, &state),
-        Err(_) => Err(PropagateFault::Memory),
-    }
+    let state = declared(alloc, gts.parts())?;
+    flows(alloc, gts, plan, &state)
 }
 
 // The declared values.

@@ -65,15 +65,9 @@ impl<'a> Stepper<'a> {
         ensures no_step { IfOk result (λ stepper. stepper.below ≡ []) }
         ensures fault { IfErr result (IsStartFault (net_of gts.now)) }
     {
-        let plan = match make_plan(alloc, gts) {
-            Ok(plan) => plan,
-            Err(_) => return Err(PropagateFault::Memory),
-        };
+        let plan = make_plan(alloc, gts)?;
         let values = first(alloc, gts, &plan)?;
-        match Self::over(alloc, gts, plan, values) {
-            Ok(stepper) => Ok(stepper),
-            Err(_) => Err(PropagateFault::Memory),
-        }
+        Ok(Self::over(alloc, gts, plan, values)?)
     }
 
     // A stepper at this valuation, with no standing step.

@@ -8,7 +8,7 @@ use Rattle.flow_propagate.proofs.closing.known.Goals as goal
 pub close-requires : goal.close-requires
 close-requires c = record {
   sound = c.requires.sound;
-  readers = subst (λ (z : List Reader). AreReaders c.args.parts.now (map plain_pair z)) (sym c.deref-2.ensures.value) c.requires.readers;
+  readers = subst (λ (z : List Reader). AreReaders c.args.parts.now (map plain_pair z)) (sym c.deref.ensures.value) c.requires.readers;
   long = c.in_ok-first.ensures.long;
   work = c.in_ok-work.ensures.is;
   settled = λ m a st. inl (c.in_ok-work.ensures.all m (stands_within c.args.parts.now.assigns.items m a st));

@@ -1,24 +1,17 @@
-use Rattle.std.proofs.Common.{◌≡◌, Bool, true, List, length, replicate, rules, subst, sym, ap, ◌∙◌, arith}
-use Rattle.std.proofs.lemmas.List.{length-replicate}
+use Rattle.std.proofs.Common.{◌≡◌, ℕ, List, length, rules, refl, subst, ◌∙◌}
 use Rattle.ar_base.specs.Lists.{Stands}
-use Rattle.flow_propagate.proofs.Worklists.{all_work, all_marked}
+use Rattle.flow_propagate.specs.Closing.{IsAgain}
+use Rattle.flow_propagate.proofs.Worklists.{all_work, all_wait}
 use Rattle.flow_propagate.proofs.worklist.all_waiting.Goals as goal
-
-marks : (c : goal.After-drop-ranks-2) → c.in_ok-waits.waits.items ≡ replicate c.len-2.result true
-marks c = c.in_ok-waits.ensures.items_if_clones_equal (search rules)
-
-count : (c : goal.After-drop-ranks-2) → c.len-2.result ≡ length c.args.parts.now.assigns.items
-count c = search rules
-
-first : (c : goal.After-drop-ranks-2) → c.len.result ≡ length c.args.parts.now.assigns.items
-first c = search rules
 
 pub returns-clause-is : goal.returns-clause-is
 returns-clause-is c =
-    let n = length c.args.parts.now.assigns.items in
-    let numbers = c.in_ok-stack.stack.items in
-    all_work n numbers (record { stack = c.sort_by_key.new.self; waits = c.in_ok-waits.waits }) (λ k h. c.in_ok-stack.ensures.all k (let e = first c in omega (arith, h, e))) (λ k o. let h = c.in_ok-stack.ensures.below k o in let e = first c in omega (arith, h, e))
-    c.sort_by_key.ensures.permutation (ap (λ (z : List Bool). length z) (marks c) ∙ length-replicate c.len-2.result true ∙ count c)
+    let whole : c.len.result ≡ length c.args.parts.now.assigns.items = search rules in
+    let none : (p : ℕ) → IsAgain c.new-again.result p → ⊥ = search rules in
+    all_work (length c.args.parts.now.assigns.items) (record { order = c.in_ok-order.order; places = c.in_ok-places.places; fresh = 0; again = c.new-again.result }) c.in_ok-order.ensures (c.in_ok-places.ensures.long ∙ whole)
+    (λ n p s. subst (λ (z : List ℕ). Stands z p n) c.deref.ensures.value (c.in_ok-places.ensures.placed n p s)) refl none
 
 pub returns-clause-all : goal.returns-clause-all
-returns-clause-all c = λ k h. subst (λ (z : List Bool). Stands z k true) (sym (marks c)) (all_marked c.len-2.result k (let e = count c in omega (arith, h, e)))
+returns-clause-all c =
+    let whole : c.len.result ≡ length c.args.parts.now.assigns.items = search rules in λ n h.
+    all_wait (length c.args.parts.now.assigns.items) n (record { order = c.in_ok-order.order; places = c.in_ok-places.places; fresh = 0; again = c.new-again.result }) (c.in_ok-places.ensures.long ∙ whole) refl h

@@ -1,13 +1,15 @@
-use Rattle.std.proofs.Common.{ℕ, List, length, refl, rules, subst, sym}
-use Rattle.ar_base.specs.Lists.{IsOneOf}
-use Rattle.flow_propagate.proofs.NamedVariables.{one_last}
-use Rattle.flow_propagate.proofs.Worklists.{takes_one}
+use Rattle.std.proofs.Common.{ℕ, List, length, ◌<◌, subst, sym, rules}
+use Rattle.flow_propagate.proofs.Searching.{stands_read}
+use Rattle.flow_propagate.proofs.Worklists.{none_waits, takes_one}
 use Rattle.flow_propagate.proofs.worklist.take.Goals as goal
 
-pub index_mut-requires : goal.index_mut-requires
-index_mut-requires c =
-    let n = c.in_ok-n.n in
-    let t = c.requires.below n (subst (λ (z : List ℕ). IsOneOf z n) (sym c.in_ok-n.ensures.items) (one_last c.pop.new.self.items n)) in search (rules, t)
+pub returns-in_err-place : goal.returns-in_err-place
+returns-in_err-place c = let h = none_waits (length c.args.work.now.places.items) c.args.work.now c.requires c.in_err-place.ensures in search (rules, h)
 
 pub returns : goal.returns
-returns c = takes_one (length c.args.work.now.waits.items) c.in_ok-n.n c.args.work.now _ c.requires c.in_ok-n.ensures.items refl
+returns c =
+    let t = c.in_ok-place.ensures in
+    let new = c.take_place.new.work in
+    let place = c.in_ok-place.place in
+    takes_one (length c.args.work.now.places.items) c.index.result.now place c.args.work.now new c.requires t
+    (stands_read new.order.items place c.index.result.now (subst (λ (z : List ℕ). place < length z) (sym t.order) t.below) c.index.ensures)

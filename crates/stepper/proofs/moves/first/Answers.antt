@@ -9,5 +9,5 @@ use Rattle.stepper.proofs.moves.first.Goals as goal
 
 pub flows-requires-clause-state : goal.flows-requires-clause-state
 flows-requires-clause-state c =
-    let same : c.in-Ok.state.values.items ≡ first_values (net_of c.args.gts.now).variables = c.in-Ok.ensures ∙ ap (λ (z : GtsParts). first_values (net_of z).variables) c.parts.ensures.parts in
+    let same : c.in_ok-state.state.values.items ≡ first_values (net_of c.args.gts.now).variables = c.in_ok-state.ensures ∙ ap (λ (z : GtsParts). first_values (net_of z).variables) c.parts.ensures.parts in
     subst (λ (z : List Value). IsState c.args.gts.now z) (sym same) (first_state c.args.gts.now c.parts.ensures.sound)

@@ -8,12 +8,20 @@ use std::alloc::{AllocError, AllocFailed};
 pub struct Memory {}
 
 impl From<AllocError> for Memory {
+    ghost use Rattle.std.specs.Prelude.{◌≡◌};
+
+    ghost from_gives = { λ _ e. e ≡ record {} };
+
     fn from(_error: AllocError) -> Self {
         Memory {}
     }
 }
 
 impl<T: Drop> From<AllocFailed<T>> for Memory {
+    ghost use Rattle.std.specs.Prelude.{◌≡◌};
+
+    ghost from_gives = { λ _ e. e ≡ record {} };
+
     fn from(_failed: AllocFailed<T>) -> Self {
         Memory {}
     }

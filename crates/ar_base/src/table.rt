@@ -77,22 +77,3 @@ impl Names {
         }
     }
 }
-
-#[cfg(test)]
-mod tests {
-    use super::*;
-    use std::test::Fail;
-
-    #[test]
-    fn numbers_by_first_use(rt: HostRuntime) -> Result<(), Fail> {
-        let mut names = Names::new(rt.alloc());
-        let first = names.intern("a")?;
-        let second = names.intern("b")?;
-        let again = names.intern("a")?;
-        assert_eq!(rt; first.n, 0);
-        assert_eq!(rt; second.n, 1);
-        assert_eq!(rt; again.n, 0);
-        assert!(rt; names.find("c").is_none());
-        Ok(())
-    }
-}

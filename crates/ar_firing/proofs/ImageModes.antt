@@ -150,7 +150,7 @@ module _ {V W : Type 0} (same : V → W → Type 0) (here : System V) (there : S
   under_there (no_more h) = no_more (λ l to b e. h l to b (edge_back e))
   under_there (next b e h d f) = next b (edge_there same here there image dropped e) (λ k u i j g. h k u i j (edge_back g)) (under_there d) (under_there f)
 
-  mode_tree_there : (tree : ModeTree) → IsModeTree here dropped tree → IsModeTree there dropped tree
+  pub mode_tree_there : (tree : ModeTree) → IsModeTree here dropped tree → IsModeTree there dropped tree
   mode_tree_there tree h =
       let p = partner image.net.variables tree.variable h.is_mode.variable h.is_mode.stands in
       let m = mode_variable_there same here there image dropped tree.variable h.is_mode in

@@ -1,50 +1,55 @@
-//! Systems that differ in what stands for their variables have the same firing orders, cuts, forests and broken rules.
+//! A flat system has the firing orders, cuts, forests and broken rules of its system.
 
-ghost use Rattle.std.specs.Prelude.{ℕ, List, Bool, IsTrue, ◌↔◌};
+ghost use Rattle.std.specs.Prelude.{ℕ, List, ◌↔◌};
 ghost use Rattle.domains.specs.declared.Value.{Value};
 ghost use Rattle.typed_expr.specs.declared.expr.Expr.{Expr};
 ghost use Rattle.ar_meaning.specs.Systems.{System};
 ghost use Rattle.ar_meaning.specs.Flows.{FlowFault};
 ghost use Rattle.ar_meaning.specs.Runs.{Label};
-ghost use Rattle.ar_meaning.specs.Image.{Expr_renames, IsImage};
-ghost use Rattle.ar_firing.specs.Cuts.{Reaches, Conflicts, Makes, Cut, ConflictSet, IsFirable};
-ghost use Rattle.ar_firing.specs.Forest.{ModeTree, IsForest, IsLine};
+ghost use Rattle.ar_meaning.specs.Image.{Expr_renames};
+ghost use Rattle.ar_meaning.specs.FlatOf.{IsNumber, IsFlatOf};
+ghost use Rattle.ar_firing.specs.Cuts.{Reaches, Conflicts, Makes, MeetsConflict, Cut, ConflictSet, IsFirable};
+ghost use Rattle.ar_firing.specs.Forest.{ModeTree, IsModeTree, IsForest, IsLine};
 ghost use Rattle.ar_firing.specs.Rules.{Rule, Spot, Keeps, Breaks, IsFirstBroken, KeepsAll};
 
-/// A system and its image have the same orders that fire without fault, conflicts, sets that make a value, cuts and conflict sets.
-pub fn image_cuts<V, W>()
-    ensures reaches { (same : V → W → Bool) (here : System V) (there : System W) → IsImage (λ x y. IsTrue (same x y)) here there
-        → (dropped : List ℕ) (ls : List Label) (t : List Value) → (Reaches here dropped ls t ↔ Reaches there dropped ls t) }
-    ensures conflicts { (same : V → W → Bool) (here : System V) (there : System W) → IsImage (λ x y. IsTrue (same x y)) here there
-        → (dropped : List ℕ) (ls : List Label) (f : FlowFault) → (Conflicts here dropped ls f ↔ Conflicts there dropped ls f) }
-    ensures makes { (same : V → W → Bool) (here : System V) (there : System W) → IsImage (λ x y. IsTrue (same x y)) here there
-        → (dropped : List ℕ) (observer : Expr V) (other : Expr W) → Expr_renames (λ x y. IsTrue (same x y)) observer other
-        → (wanted : Value) (set : List ℕ) → (Makes here dropped observer wanted set ↔ Makes there dropped other wanted set) }
-    ensures cuts { (same : V → W → Bool) (here : System V) (there : System W) → IsImage (λ x y. IsTrue (same x y)) here there
-        → (dropped : List ℕ) (observer : Expr V) (other : Expr W) → Expr_renames (λ x y. IsTrue (same x y)) observer other
-        → (wanted : Value) (set : List ℕ) → (Cut here dropped observer wanted set ↔ Cut there dropped other wanted set) }
-    ensures conflict_sets { (same : V → W → Bool) (here : System V) (there : System W) → IsImage (λ x y. IsTrue (same x y)) here there
-        → (dropped : List ℕ) (set : List ℕ) → (ConflictSet here dropped set ↔ ConflictSet there dropped set) }
+/// A system and a flat system of it have the same firing orders, conflicts, cuts and conflict sets.
+pub fn flat_cuts<V>()
+    ensures reaches { (things : List V) (sys : System V) (flat : System ℕ) → IsFlatOf things sys flat
+        → (dropped : List ℕ) (ls : List Label) (t : List Value) → (Reaches sys dropped ls t ↔ Reaches flat dropped ls t) }
+    ensures conflicts { (things : List V) (sys : System V) (flat : System ℕ) → IsFlatOf things sys flat
+        → (dropped : List ℕ) (ls : List Label) (f : FlowFault) → (Conflicts sys dropped ls f ↔ Conflicts flat dropped ls f) }
+    ensures makes { (things : List V) (sys : System V) (flat : System ℕ) → IsFlatOf things sys flat
+        → (dropped : List ℕ) (observer : Expr V) (other : Expr ℕ) → Expr_renames (IsNumber things) observer other
+        → (wanted : Value) (set : List ℕ) → (Makes sys dropped observer wanted set ↔ Makes flat dropped other wanted set) }
+    ensures cuts { (things : List V) (sys : System V) (flat : System ℕ) → IsFlatOf things sys flat
+        → (dropped : List ℕ) (observer : Expr V) (other : Expr ℕ) → Expr_renames (IsNumber things) observer other
+        → (wanted : Value) (set : List ℕ) → (Cut sys dropped observer wanted set ↔ Cut flat dropped other wanted set) }
+    ensures meets { (things : List V) (sys : System V) (flat : System ℕ) → IsFlatOf things sys flat
+        → (dropped : List ℕ) (set : List ℕ) → (MeetsConflict sys dropped set ↔ MeetsConflict flat dropped set) }
+    ensures conflict_sets { (things : List V) (sys : System V) (flat : System ℕ) → IsFlatOf things sys flat
+        → (dropped : List ℕ) (set : List ℕ) → (ConflictSet sys dropped set ↔ ConflictSet flat dropped set) }
 {}
 
-/// A system and its image have the same firable sets with their states and lines, and the same forest.
-pub fn image_forests<V, W>()
-    ensures firable { (same : V → W → Bool) (here : System V) (there : System W) → IsImage (λ x y. IsTrue (same x y)) here there
-        → (dropped set : List ℕ) (t : List Value) → (IsFirable here dropped set t ↔ IsFirable there dropped set t) }
-    ensures lines { (same : V → W → Bool) (here : System V) (there : System W) → IsImage (λ x y. IsTrue (same x y)) here there
-        → (dropped set : List ℕ) (ls : List Label) → (IsLine here dropped set ls ↔ IsLine there dropped set ls) }
-    ensures forests { (same : V → W → Bool) (here : System V) (there : System W) → IsImage (λ x y. IsTrue (same x y)) here there
-        → (dropped : List ℕ) (trees : List ModeTree) → (IsForest here dropped trees ↔ IsForest there dropped trees) }
+/// A system and a flat system of it have the same firable sets, lines, trees and forest.
+pub fn flat_forests<V>()
+    ensures firable { (things : List V) (sys : System V) (flat : System ℕ) → IsFlatOf things sys flat
+        → (dropped set : List ℕ) (t : List Value) → (IsFirable sys dropped set t ↔ IsFirable flat dropped set t) }
+    ensures lines { (things : List V) (sys : System V) (flat : System ℕ) → IsFlatOf things sys flat
+        → (dropped set : List ℕ) (ls : List Label) → (IsLine sys dropped set ls ↔ IsLine flat dropped set ls) }
+    ensures trees { (things : List V) (sys : System V) (flat : System ℕ) → IsFlatOf things sys flat
+        → (dropped : List ℕ) (tree : ModeTree) → (IsModeTree sys dropped tree ↔ IsModeTree flat dropped tree) }
+    ensures forests { (things : List V) (sys : System V) (flat : System ℕ) → IsFlatOf things sys flat
+        → (dropped : List ℕ) (trees : List ModeTree) → (IsForest sys dropped trees ↔ IsForest flat dropped trees) }
 {}
 
-/// A system and its image keep and break the same rules of the static fragment, by the same numbers.
-pub fn image_rules<V, W>()
-    ensures keeps { (same : V → W → Bool) (here : System V) (there : System W) → IsImage (λ x y. IsTrue (same x y)) here there
-        → (dropped : List ℕ) (rule : Rule) → (Keeps here dropped rule ↔ Keeps there dropped rule) }
-    ensures breaks { (same : V → W → Bool) (here : System V) (there : System W) → IsImage (λ x y. IsTrue (same x y)) here there
-        → (dropped : List ℕ) (rule : Rule) (spot : Spot) → (Breaks here dropped rule spot ↔ Breaks there dropped rule spot) }
-    ensures first_broken { (same : V → W → Bool) (here : System V) (there : System W) → IsImage (λ x y. IsTrue (same x y)) here there
-        → (dropped : List ℕ) (rule : Rule) (spot : Spot) → (IsFirstBroken here dropped rule spot ↔ IsFirstBroken there dropped rule spot) }
-    ensures all { (same : V → W → Bool) (here : System V) (there : System W) → IsImage (λ x y. IsTrue (same x y)) here there
-        → (dropped : List ℕ) → (KeepsAll here dropped ↔ KeepsAll there dropped) }
+/// A system and a flat system of it keep and break the same rules of the static fragment, by the same numbers.
+pub fn flat_rules<V>()
+    ensures keeps { (things : List V) (sys : System V) (flat : System ℕ) → IsFlatOf things sys flat
+        → (dropped : List ℕ) (rule : Rule) → (Keeps sys dropped rule ↔ Keeps flat dropped rule) }
+    ensures breaks { (things : List V) (sys : System V) (flat : System ℕ) → IsFlatOf things sys flat
+        → (dropped : List ℕ) (rule : Rule) (spot : Spot) → (Breaks sys dropped rule spot ↔ Breaks flat dropped rule spot) }
+    ensures first_broken { (things : List V) (sys : System V) (flat : System ℕ) → IsFlatOf things sys flat
+        → (dropped : List ℕ) (rule : Rule) (spot : Spot) → (IsFirstBroken sys dropped rule spot ↔ IsFirstBroken flat dropped rule spot) }
+    ensures all { (things : List V) (sys : System V) (flat : System ℕ) → IsFlatOf things sys flat
+        → (dropped : List ℕ) → (KeepsAll sys dropped ↔ KeepsAll flat dropped) }
 {}

@@ -1,13 +1,9 @@
--- Declared events that differ in keys alone have the same ways, and a system's image has the same runs.
-use Rattle.std.proofs.Common.{◌≡◌, ℕ, Bool, List, ◌++◌, map, refl, sym, ◌∙◌, subst}
+-- A system's image has the same runs.
+use Rattle.std.proofs.Common.{◌≡◌, ℕ, List, refl, sym, ◌∙◌, subst}
 use Rattle.ar_base.specs.Lists.{Stands, Along, IsFirst}
 use Rattle.ar_base.specs.Lists as l
-use Rattle.ar_base.proofs.Standing.{stands_one}
-use Rattle.ar_meaning.specs.Systems.{Variable, System, Event, Transition, Way, Branches, Joint, Branch}
-use Rattle.ar_meaning.specs.Expand.{Declared, Member, Ways, event, Members_give, no_member, one, synchronises, Parts_give, no_part, choice, choices, AreKeyed, IsExpanded}
-use Rattle.ar_meaning.specs.ExpandImage.{Part_renames, Member_renames, transitions, synchronise, Declared_renames}
-use Rattle.ar_meaning.specs.Image.{Way_renames, leaves, joints, Branches_rename, branch, Variable_renames, Event_renames, IsImage}
-use Rattle.ar_meaning.specs.Image as i
+use Rattle.ar_meaning.specs.Systems.{Variable, System, Event, Way}
+use Rattle.ar_meaning.specs.Image.{Way_renames, Variable_renames, Event_renames, IsImage}
 use Rattle.ar_meaning.specs.Facts.{HasValue}
 use Rattle.ar_meaning.specs.Flows.{Flows, Fails, Total}
 use Rattle.ar_meaning.specs.Runs.{Label, IsWay, Command, Moment, Ways_listed, can, cannot, Listed, visible, hidden, Goes, ends, fires, fails, back, no_step, shows, lists, Runs, starts, start_fails, first_values}
@@ -16,54 +12,6 @@ use Rattle.domains.specs.declared.Value.{Value}
 use Rattle.typed_expr.specs.Pairs.{turned}
 use Rattle.ar_meaning.proofs.ImageTurned.{net_turned, way_turned}
 use Rattle.ar_meaning.proofs.ImageFlows.{partner, can_there, value_there, flows_there, step_there}
-
-pub along_append : {A B : Type 0} {R : A → B → Type 0} {xs us : List A} {ys vs : List B} → Along R xs ys → Along R us vs → Along R (xs ++ us) (ys ++ vs)
-along_append l.none d = d
-along_append (l.one_and r rs) d = l.one_and r (along_append rs d)
-
-pub along_map : {A B C D : Type 0} {R : A → B → Type 0} {S : C → D → Type 0} (f : A → C) (g : B → D) → ((a : A) (b : B) → R a b → S (f a) (g b))
-    → {xs : List A} {ys : List B} → Along R xs ys → Along S (map f xs) (map g ys)
-along_map f g k l.none = l.none
-along_map f g k (l.one_and {a = a} {b = b} r rs) = l.one_and (k a b r) (along_map f g k rs)
-
-module _ {V W : Type 0} (same : V → W → Type 0) where
-  pub choices_there : (must : Bool) {vs : List (Way V)} {ws : List (Way W)} {bss : List (Branches (Transition V))} {css : List (Branches (Transition W))} → Along (Way_renames same) vs ws
-      → Along (Branches_rename same) bss css → Along (Branches_rename same) (choices must vs bss) (choices must ws css)
-  choices_there m l.none d = l.none
-  choices_there m (l.one_and {a = v} {b = w} r rs) d =
-      along_append (along_map (λ bs. Branch m v bs) (λ cs. Branch m w cs) (λ bs cs q. branch r q) d) (choices_there m rs d)
-
--- related declarations give related ways
-module _ {V W E F : Type 0} (same : V → W → Type 0) (event_same : E → F → Type 0) (ds : List (Declared (Transition V) E)) (es : List (Declared (Transition W) F))
-    (related : Along (Declared_renames same event_same) ds es) (keyed : AreKeyed es) (single : (x : E) (y z : F) → event_same x y → event_same x z → y ≡ z) where
-  mutual
-    pub ways_there : {e : E} {f : F} {vs : List (Way V)} {ws : List (Way W)} → event_same e f → Ways ds e vs → Ways es f ws → Along (Way_renames same) vs ws
-    ways_there {e = e} {f = f} {ws = ws} s (event {d = d} n at k m) (event {d = d'} n' at' k' m') =
-        let p = partner related n d at in
-        let a : p.item.key ≡ f = single e p.item.key f (subst (λ z. event_same z p.item.key) k p.related.key) s in
-        let b : n ≡ n' = keyed.one n n' p.item d' p.stands at' (a ∙ sym k') in
-        let c : p.item ≡ d' = stands_one es n' p.item d' (subst (λ z. Stands es z p.item) b p.stands) at' in
-        members_there p.related.members m (subst (λ z. Members_give es z.members ws) (sym c) m')
-
-    pub members_there : {ms : List (Member (Transition V) E)} {ns : List (Member (Transition W) F)} {vs : List (Way V)} {ws : List (Way W)} → Along (Member_renames same event_same) ms ns
-        → Members_give ds ms vs → Members_give es ns ws → Along (Way_renames same) vs ws
-    members_there l.none no_member no_member = l.none
-    members_there (l.one_and (transitions q) rs) (one d) (one d') = l.one_and (leaves q) (members_there rs d d')
-    members_there (l.one_and (synchronise q) rs) (synchronises p d) (synchronises p' d') =
-        along_append (along_map Joint Joint (λ bs cs k. joints k) (parts_there q p p')) (members_there rs d d')
-
-    pub parts_there : {ps : List (Bool × E)} {qs : List (Bool × F)} {vs : List (Branches (Transition V))} {ws : List (Branches (Transition W))} → Along (Part_renames event_same) ps qs
-        → Parts_give ds ps vs → Parts_give es qs ws → Along (Branches_rename same) vs ws
-    parts_there l.none no_part no_part = l.one_and i.no_branch l.none
-    parts_there (l.one_and r rs) (choice {must = m} {ts = vs} {bss = bss} w p) (choice {ts = ws} {bss = css} w' p') =
-        subst (λ k. Along (Branches_rename same) (choices m vs bss) (choices k ws css)) r.must (choices_there same m (ways_there r.key w w') (parts_there rs p p'))
-
-  -- and systems' events that differ in what stands for variables
-  pub events_there : {ds' : List (Declared (Transition V) E)} {es' : List (Declared (Transition W) F)} {vs : List (Event V)} {ws : List (Event W)} → Along (Declared_renames same event_same) ds' es'
-      → Along (IsExpanded ds) ds' vs → Along (IsExpanded es) es' ws → Along (Event_renames same) vs ws
-  events_there l.none l.none l.none = l.none
-  events_there (l.one_and r rs) (l.one_and v vs) (l.one_and w ws) =
-      l.one_and (record { unit = sym v.unit ∙ (r.unit ∙ w.unit); hidden = sym v.hidden ∙ (r.hidden ∙ w.hidden); ways = ways_there r.key v.ways w.ways }) (events_there rs vs ws)
 
 module _ {V W : Type 0} (same : V → W → Type 0) (A : System V) (B : System W) (image : IsImage same A B) where
   pub ways_listed_there : (t : List Value) {vs : List (Way V)} {ws : List (Way W)} {e k : ℕ} {ls : List Label} → Along (Way_renames same) vs ws

@@ -12,3 +12,8 @@ pub mod StatesAlone
 pub mod Tabled
 pub mod Forms
 pub mod Worked
+pub mod ImageTexts
+pub mod OneText
+pub mod FlatSystems
+pub mod ImageWays
+pub mod Outcomes

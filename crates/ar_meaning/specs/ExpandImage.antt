@@ -1,4 +1,4 @@
--- Declared events that differ in what stands for variables and events alone.
+-- Declared events that differ in what stands for transitions and events alone.
 use Rattle.std.specs.Prelude.{◌≡◌, Bool, List}
 use Rattle.ar_base.specs.Lists.{Along}
 use Rattle.ar_meaning.specs.Systems.{Transition}
@@ -10,14 +10,21 @@ pub record Part_renames {E F : Type 0} (same : E → F → Type 0) (p : Bool × 
   pub must : p.0 ≡ q.0
   pub key : same p.1 q.1
 
--- both are transitions that differ in their variables alone, or synchronisations with related parts
-pub data Member_renames {V W E F : Type 0} (same : V → W → Type 0) (event_same : E → F → Type 0) : Member (Transition V) E → Member (Transition W) F → Type 0 where
-  transitions : {d : Transition V} {e : Transition W} → Transition_renames same d e → Member_renames same event_same (One d) (One e)
-  synchronise : {ps : List (Bool × E)} {qs : List (Bool × F)} → Along (Part_renames event_same) ps qs → Member_renames same event_same (Synchronises ps) (Synchronises qs)
+-- both are transitions, which are related, or synchronisations with related parts
+pub data Member_along {L M E F : Type 0} (same : L → M → Type 0) (event_same : E → F → Type 0) : Member L E → Member M F → Type 0 where
+  transitions : {d : L} {e : M} → same d e → Member_along same event_same (One d) (One e)
+  synchronise : {ps : List (Bool × E)} {qs : List (Bool × F)} → Along (Part_renames event_same) ps qs → Member_along same event_same (Synchronises ps) (Synchronises qs)
 
 -- the declared events have related keys, one unit, one mark for hidden, and related members
-pub record Declared_renames {V W E F : Type 0} (same : V → W → Type 0) (event_same : E → F → Type 0) (d : Declared (Transition V) E) (e : Declared (Transition W) F) : Type 0 where
+pub record Declared_along {L M E F : Type 0} (same : L → M → Type 0) (event_same : E → F → Type 0) (d : Declared L E) (e : Declared M F) : Type 0 where
   pub key : event_same d.key e.key
   pub unit : d.unit ≡ e.unit
   pub hidden : d.hidden ≡ e.hidden
-  pub members : Along (Member_renames same event_same) d.members e.members
+  pub members : Along (Member_along same event_same) d.members e.members
+
+-- the same where transitions differ in their variables alone
+abbrev pub Member_renames : {V W E F : Type 0} → (V → W → Type 0) → (E → F → Type 0) → Member (Transition V) E → Member (Transition W) F → Type 0
+Member_renames same = Member_along (Transition_renames same)
+
+abbrev pub Declared_renames : {V W E F : Type 0} → (V → W → Type 0) → (E → F → Type 0) → Declared (Transition V) E → Declared (Transition W) F → Type 0
+Declared_renames same = Declared_along (Transition_renames same)

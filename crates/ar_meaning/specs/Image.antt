@@ -3,7 +3,7 @@ use Rattle.std.specs.Prelude.{◌≡◌, Bool, List, [], ◌∷◌}
 use Rattle.ar_base.specs.Lists.{Along}
 use Rattle.typed_expr.specs.Renames.{Renames}
 use Rattle.typed_expr.specs.declared.expr.Expr.{Expr, out-Expr}
-use Rattle.ar_meaning.specs.Systems.{Assign, Variable, Transition, Way, Leaf, Joint, Branches, Empty, Branch, Event, Net, System}
+use Rattle.ar_meaning.specs.Systems.{Assign, Variable, Transition, Way, Tree, Leaf, Joint, Branches, Empty, Branch, Event, Net, System}
 
 -- the expressions differ in their variables alone, which are related
 pub record Expr_renames {V W : Type 0} (same : V → W → Type 0) (e : Expr V) (f : Expr W) : Type 0 where
@@ -35,16 +35,24 @@ pub record Transition_renames {V W : Type 0} (same : V → W → Type 0) (d : Tr
   pub action : Along (Assign_renames same) d.action e.action
 
 mutual
-  -- the ways have the same joints and marks, and their transitions differ in their variables alone
-  pub data Way_renames {V W : Type 0} (same : V → W → Type 0) : Way V → Way W → Type 0 where
-    leaves : {d : Transition V} {e : Transition W} → Transition_renames same d e → Way_renames same (Leaf d) (Leaf e)
-    joints : {bs : Branches (Transition V)} {cs : Branches (Transition W)} → Branches_rename same bs cs → Way_renames same (Joint bs) (Joint cs)
+  -- the trees have the same joints and marks, and their leaves are related
+  pub data Trees_along {L M : Type 0} (same : L → M → Type 0) : Tree L → Tree M → Type 0 where
+    leaves : {d : L} {e : M} → same d e → Trees_along same (Leaf d) (Leaf e)
+    joints : {bs : Branches L} {cs : Branches M} → Branches_along same bs cs → Trees_along same (Joint bs) (Joint cs)
 
   -- the same of the ways of parts, in order
-  pub data Branches_rename {V W : Type 0} (same : V → W → Type 0) : Branches (Transition V) → Branches (Transition W) → Type 0 where
-    no_branch : Branches_rename same Empty Empty
-    branch : {must : Bool} {v : Way V} {w : Way W} {bs : Branches (Transition V)} {cs : Branches (Transition W)} → Way_renames same v w → Branches_rename same bs cs
-        → Branches_rename same (Branch must v bs) (Branch must w cs)
+  pub data Branches_along {L M : Type 0} (same : L → M → Type 0) : Branches L → Branches M → Type 0 where
+    no_branch : Branches_along same Empty Empty
+    branch : {must : Bool} {v : Tree L} {w : Tree M} {bs : Branches L} {cs : Branches M} → Trees_along same v w → Branches_along same bs cs
+        → Branches_along same (Branch must v bs) (Branch must w cs)
+
+-- the ways have the same joints and marks, and their transitions differ in their variables alone
+abbrev pub Way_renames : {V W : Type 0} → (V → W → Type 0) → Way V → Way W → Type 0
+Way_renames same = Trees_along (Transition_renames same)
+
+-- the same of the ways of parts
+abbrev pub Branches_rename : {V W : Type 0} → (V → W → Type 0) → Branches (Transition V) → Branches (Transition W) → Type 0
+Branches_rename same = Branches_along (Transition_renames same)
 
 -- the events have one unit, one mark for hidden, and ways that differ in their variables alone
 pub record Event_renames {V W : Type 0} (same : V → W → Type 0) (e : Event V) (f : Event W) : Type 0 where

@@ -10,4 +10,5 @@ pub mod Image
 pub mod ExpandImage
 pub mod Found
 pub mod TraceText
+pub mod FlatOf
 pub mod Cases

@@ -3,3 +3,5 @@ mod Texts
 pub mod Numbering
 pub mod Viewing
 mod Systems
+mod Copying
+mod ActForms

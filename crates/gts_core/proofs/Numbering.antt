@@ -5,11 +5,13 @@ use Rattle.typed_expr.specs.Pairs.{turned}
 use Rattle.typed_expr.specs.Yields.{Level, Yields}
 use Rattle.typed_expr.specs.Renames.{Renames, All_rename, Parts_rename, Cases_rename}
 use Rattle.typed_expr.specs.Renames as r
-use Rattle.typed_expr.proofs.Renaming.{carries, renames_turned}
+use Rattle.typed_expr.proofs.Renaming.{carries, renames_turned, renames_joined}
 use Rattle.typed_expr.specs.declared.expr.Expr.{Expr, out-Expr, roll-Expr, out-roll-Expr}
 use Rattle.typed_expr.specs.declared.expr.Expr.TheOpen.{Expr-F, Constant, Variable, Not, All, Any, Compare, Sum, Product, Least, Greatest, Count, Choose}
 use Rattle.typed_expr.specs.declared.expr.Expr.TheFolds.{ind-Expr, map-Expr, fold-roll-Expr}
+use Rattle.ar_base.specs.Lists.{Stands}
 use Rattle.gts_core.specs.View.{VarId, numbered, number_step}
+use Rattle.gts_core.specs.Copies.{IsSame, IsCopy}
 
 -- the number stands for the variable
 abbrev pub IsNumber : VarId → ℕ → Type 0
@@ -65,3 +67,15 @@ module _ (facts : VarId → Value → Type 0) (others : ℕ → Value → Type 0
 
   pub yields_back : ((x : VarId) (w : Value) → others x.n w → facts x w) → Yields others (out-Expr ℕ (numbered e)) v → Yields facts (out-Expr VarId e) v
   yields_back same h = carries ℕ VarId others facts (turned IsNumber) (λ n x w i f. same x w (subst (λ (k : ℕ). others k w) (sym i) f)) h (renames_turned IsNumber (renames_numbered e))
+
+-- the numbered form of a copy is a copy of the numbered form
+pub copy_numbered : (e f : Expr VarId) → IsCopy e f → Renames (λ (m n : ℕ). m ≡ n) (out-Expr ℕ (numbered e)) (out-Expr ℕ (numbered f))
+copy_numbered e f k =
+    renames_joined (turned IsNumber) IsNumber (λ (m n : ℕ). m ≡ n) (λ m x n i j. sym i ∙ j) (renames_turned IsNumber (renames_numbered e))
+    (renames_joined IsSame IsNumber IsNumber (λ x y n i j. ap (λ (z : VarId). z.n) i ∙ j) k (renames_numbered f))
+
+-- an expression whose variables have the numbers of a bound one has those of its numbered form
+pub source_numbered : {V : Type 0} (things : List V) (e : Expr V) (f : Expr VarId) → Renames (λ x (y : VarId). Stands things y.n x) (out-Expr V e) (out-Expr VarId f)
+    → Renames (λ x n. Stands things n x) (out-Expr V e) (out-Expr ℕ (numbered f))
+source_numbered {V = V} things e f k =
+    renames_joined (λ x (y : VarId). Stands things y.n x) IsNumber (λ x n. Stands things n x) (λ x y n s i. subst (λ z. Stands things z x) i s) k (renames_numbered f)

@@ -8,3 +8,5 @@ pub mod Kinded
 pub mod Valued
 pub mod Renaming
 pub mod Facts
+pub mod OneValue
+pub mod Listing

@@ -1,7 +1,7 @@
 -- Expressions that differ in their variables alone.
 use Rattle.std.proofs.Common.{Bool, List}
 use Rattle.domains.specs.declared.Value.{Value}
-use Rattle.typed_expr.specs.Pairs.{Joined, turned}
+use Rattle.typed_expr.specs.Pairs.{turned}
 use Rattle.typed_expr.specs.Yields.{Level, Yields, Some_yields, All_yield, Picks, Picks_parts, Takes}
 use Rattle.typed_expr.specs.Yields as y
 use Rattle.typed_expr.specs.Mentions.{Mentions, Some_mentions, Parts_mention, Cases_mention}
@@ -82,11 +82,12 @@ module _ {V W : Type 0} (same : V → W → Type 0) where
     cases_turned (r.case_and p q qs) = r.case_and (renames_turned p) (renames_turned q) (cases_turned qs)
 
 -- a renaming of a renaming
-module _ {U V W : Type 0} (first : U → V → Type 0) (second : V → W → Type 0) where
+module _ {U V W : Type 0} (first : U → V → Type 0) (second : V → W → Type 0) (third : U → W → Type 0)
+    (through : (x : U) (y : V) (z : W) → first x y → second y z → third x z) where
   mutual
-    pub renames_joined : {e : Level U} {f : Level V} {g : Level W} → Renames first e f → Renames second f g → Renames (Joined first second) e g
+    pub renames_joined : {e : Level U} {f : Level V} {g : Level W} → Renames first e f → Renames second f g → Renames third e g
     renames_joined r.constant r.constant = r.constant
-    renames_joined (r.variable {y = y} p) (r.variable q) = r.variable (record { middle = y; left = p; right = q })
+    renames_joined (r.variable {x = x} p) (r.variable {x = y} {y = z} q) = r.variable (through x y z p q)
     renames_joined (r.opposite p) (r.opposite q) = r.opposite (renames_joined p q)
     renames_joined (r.all p) (r.all q) = r.all (all_joined p q)
     renames_joined (r.any p) (r.any q) = r.any (all_joined p q)
@@ -98,17 +99,17 @@ module _ {U V W : Type 0} (first : U → V → Type 0) (second : V → W → Typ
     renames_joined (r.count p) (r.count q) = r.count (all_joined p q)
     renames_joined (r.choice p p') (r.choice q q') = r.choice (cases_joined p q) (renames_joined p' q')
 
-    pub all_joined : {es : List (Expr U)} {fs : List (Expr V)} {gs : List (Expr W)} → All_rename first es fs → All_rename second fs gs → All_rename (Joined first second) es gs
+    pub all_joined : {es : List (Expr U)} {fs : List (Expr V)} {gs : List (Expr W)} → All_rename first es fs → All_rename second fs gs → All_rename third es gs
     all_joined r.none r.none = r.none
     all_joined (r.one_and p ps) (r.one_and q qs) = r.one_and (renames_joined p q) (all_joined ps qs)
 
     pub parts_joined : {ps : List (Bool × Expr U)} {qs : List (Bool × Expr V)} {rs : List (Bool × Expr W)} → Parts_rename first ps qs → Parts_rename second qs rs
-        → Parts_rename (Joined first second) ps rs
+        → Parts_rename third ps rs
     parts_joined r.no_part r.no_part = r.no_part
     parts_joined (r.part p ps) (r.part q qs) = r.part (renames_joined p q) (parts_joined ps qs)
 
     pub cases_joined : {bs : List (Expr U × Expr U)} {cs : List (Expr V × Expr V)} {ds : List (Expr W × Expr W)} → Cases_rename first bs cs → Cases_rename second cs ds
-        → Cases_rename (Joined first second) bs ds
+        → Cases_rename third bs ds
     cases_joined r.no_case r.no_case = r.no_case
     cases_joined (r.case_and p p' ps) (r.case_and q q' qs) = r.case_and (renames_joined p q) (renames_joined p' q') (cases_joined ps qs)
 

@@ -1,17 +1,19 @@
 // Laws of expressions, which have no code.
 
-ghost use Rattle.std.specs.Prelude.{◌≡◌, ◌↔◌, ◌<◌, ◌^◌, IsTrue, Contains, Bool, List, [], ◌∷◌, length, count_by, pos};
+ghost use Rattle.std.specs.Prelude.{◌≡◌, ◌↔◌, ◌⊎◌, ◌<◌, ◌^◌, IsTrue, Contains, Bool, List, [], ◌∷◌, length, count_by, pos};
 ghost use Rattle.domains.specs.declared.Value.{Value};
 ghost use Rattle.typed_expr.specs.declared.expr.ValueKind.{ValueKind};
 ghost use Rattle.typed_expr.specs.declared.expr.Expr.{Expr, out-Expr};
 ghost use Rattle.typed_expr.specs.Values.{truth_of, count_of};
+ghost use Rattle.typed_expr.specs.Sets.{HasExactly};
 ghost use Rattle.typed_expr.specs.Yields.{Level, Yields, facts_of};
 ghost use Rattle.typed_expr.specs.Kinds.{kind_of, HasKind};
 ghost use Rattle.typed_expr.specs.Total.{value_of};
 ghost use Rattle.typed_expr.specs.Renames.{Renames};
 
 /// More facts yield no less; over one fact for each variable a well-typed expression yields exactly its total value; an
-/// expression has one kind, and its total value is of that kind.
+/// expression has one kind, and its total value is of that kind. From at most one fact for each variable an expression
+/// yields at most one value.
 pub fn expression_laws<V>()
     ensures more_facts { (few more : V → List Value) → ((x : V) (v : Value) → Contains (few x) v → Contains (more x) v)
         → (e : Level V) (v : Value) → Yields (facts_of few) e v → Yields (facts_of more) e v }
@@ -21,6 +23,14 @@ pub fn expression_laws<V>()
     ensures total_kind { (t : V → Value) (kinds : V → ValueKind) → ((x : V) → kind_of (t x) ≡ kinds x)
         → (e : Expr V) (kind : ValueKind) → HasKind kinds (out-Expr V e) kind → kind_of (value_of t e) ≡ kind }
     ensures one_kind { (kinds : V → ValueKind) (e : Level V) (m n : ValueKind) → HasKind kinds e m → HasKind kinds e n → m ≡ n }
+    ensures one_value { (facts : V → List Value) → ((x : V) (v w : Value) → Contains (facts x) v → Contains (facts x) w → v ≡ w)
+        → (e : Level V) (v w : Value) → Yields (facts_of facts) e v → Yields (facts_of facts) e w → v ≡ w }
+{}
+
+/// From finitely many facts for each variable what an expression yields can be listed, and whether it yields a value told.
+pub fn finite_laws<V>()
+    ensures listed { (facts : V → List Value) (e : Expr V) → (set : List Value) × HasExactly set (Yields (facts_of facts) (out-Expr V e)) }
+    ensures told { (facts : V → List Value) (e : Expr V) (v : Value) → Yields (facts_of facts) (out-Expr V e) v ⊎ (Yields (facts_of facts) (out-Expr V e) v → ⊥) }
 {}
 
 /// An expression that differs from another in its variables alone yields the same, where related variables have the

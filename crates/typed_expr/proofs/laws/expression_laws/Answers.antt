@@ -1,6 +1,7 @@
 use Rattle.typed_expr.specs.Yields.{facts_of}
 use Rattle.typed_expr.proofs.Facts.{yields_more}
 use Rattle.typed_expr.proofs.Kinded.{one_kind}
+use Rattle.typed_expr.proofs.OneValue.{yields_one}
 use Rattle.typed_expr.proofs.Valued.{one-fact, total-kind}
 use Rattle.typed_expr.proofs.laws.expression_laws.Goals as goal
 
@@ -15,3 +16,6 @@ returns-clause-total_kind g c = total-kind
 
 pub returns-clause-one_kind : goal.returns-clause-one_kind
 returns-clause-one_kind g c = λ kinds e m n d f. one_kind kinds d f
+
+pub returns-clause-one_value : goal.returns-clause-one_value
+returns-clause-one_value g c = λ facts one e v w d k. yields_one g.row.V.Denot (facts_of facts) one d k

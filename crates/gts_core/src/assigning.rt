@@ -1,0 +1,96 @@
+// The assignments of instructions.
+
+ghost use Rattle.std.specs.Prelude.{OnOk, IfOk};
+ghost use Rattle.gts_core.specs.Bound.{assigns_of_act, AreAssigns, Gives, GiveAll, AreConditionCopies, IsUnder};
+
+use crate::bound::Act;
+use crate::copies::copy_expression;
+use crate::system::Assign;
+use ar_base::{Memory, VarId};
+use std::alloc::Global;
+use typed_expr::Expr;
+
+/// The assignments of an instruction in order, with their conditions from the outermost inward. The error is want of memory.
+pub fn assignments(alloc: Global, act: &Act) -> Result<Vec<Assign>, Memory>
+    ensures { IfOk result (λ v. AreAssigns (assigns_of_act act.now) v.items) }
+{
+    let mut out = Vec::new(alloc);
+    assigned(alloc, act, &[], &mut out)?;
+    Ok(out)
+}
+
+// Puts the assignments of an instruction under these conditions behind the others.
+#[cycle(assigned)]
+fn assigned(
+    alloc: Global,
+    act: &Act,
+    when: &[(Expr<VarId>, bool)],
+    out: &mut Vec<Assign>,
+) -> Result<(), Memory>
+    ensures { OnOk result (Gives act.now when.now out.old.items out.new.items) }
+{
+    match act {
+        Act::Skip => Ok(()),
+        Act::Set(target, value, at) => {
+            let conditions = copied(alloc, when)?;
+            let value = copy_expression(alloc, value)?;
+            out.push(Assign {
+                target: *target,
+                when: conditions,
+                value,
+                at: *at,
+            })?;
+            Ok(())
+        }
+        Act::If(test, first, second) => {
+            let here = under(alloc, when, test, true)?;
+            assigned(alloc, first, &here, out)?;
+            let there = under(alloc, when, test, false)?;
+            assigned(alloc, second, &there, out)
+        }
+        Act::All(acts) => all_assigned(alloc, acts, when, out),
+    }
+}
+
+// The same for instructions one after the other.
+#[cycle(assigned)]
+fn all_assigned(
+    alloc: Global,
+    acts: &[Act],
+    when: &[(Expr<VarId>, bool)],
+    out: &mut Vec<Assign>,
+) -> Result<(), Memory>
+    ensures { OnOk result (GiveAll acts.now when.now out.old.items out.new.items) }
+{
+    for act in acts {
+        assigned(alloc, act, when, out)?;
+    }
+    Ok(())
+}
+
+// Copies of conditions.
+fn copied(alloc: Global, when: &[(Expr<VarId>, bool)]) -> Result<Vec<(Expr<VarId>, bool)>, Memory>
+    ensures { IfOk result (λ v. AreConditionCopies when.now v.items) }
+{
+    let mut out = Vec::new(alloc);
+    for (test, truth) in when {
+        let test = copy_expression(alloc, test)?;
+        out.push((test, *truth))?;
+    }
+    Ok(out)
+}
+
+// Copies of conditions with one more, further inward.
+fn under(
+    alloc: Global,
+    when: &[(Expr<VarId>, bool)],
+    test: &Expr<VarId>,
+    truth: bool,
+) -> Result<Vec<(Expr<VarId>, bool)>, Memory>
+    ensures { IfOk result (λ v. IsUnder when.now test.now truth v.items) }
+{
+    let mut out = copied(alloc, when)?;
+    let test = copy_expression(alloc, test)?;
+    out.push((test, truth))?;
+    Ok(out)
+}

@@ -47,21 +47,6 @@ no_end k h e = let q : true ≡ false = sym h ∙ ap goes_unread e in absurd (cc
 no_close : (k : TokenKind) → goes_unread k ≡ true → k ≢ Sign CLOSE_PARENTHESIS
 no_close k h e = let q : true ≡ false = sym h ∙ ap goes_unread e in absurd (cc)
 
-by_eq : (s : ℕ) → s ≢ CLOSE_PARENTHESIS → not (s == CLOSE_PARENTHESIS) ≡ true
-by_eq s h = by_test (s == CLOSE_PARENTHESIS) refl
-  where
-    by_test : (b : Bool) → (s == CLOSE_PARENTHESIS) ≡ b → not b ≡ true
-    by_test true e = absurd (h (eqb-true s CLOSE_PARENTHESIS e))
-    by_test false e = refl
-
-goes : (k : TokenKind) → k ≢ Sign CLOSE_PARENTHESIS → k ≢ End → goes_unread k ≡ true
-goes Name c e = refl
-goes (Whole n) c e = refl
-goes Real c e = refl
-goes (Sign s) c e = by_eq s (λ q. c (ap Sign q))
-goes (Reserved w) c e = refl
-goes End c e = absurd (e refl)
-
 -- the first token of a piece
 unread_of_bracketed : (n : ℕ) (next : TokenKind) (ts : Tokens) → bracketed n next ts → unread_piece n next ts
 unread_of_bracketed zero next ts h = elim h [ ]

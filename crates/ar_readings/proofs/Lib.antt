@@ -1,5 +1,6 @@
 pub mod Agreeing
 pub mod Firsts
+pub mod Keeping
 pub mod OnePath
 pub mod OneExpression
 pub mod OneInstruction

@@ -1,3 +1,4 @@
 pub mod Expressions
 pub mod Members
 pub mod Models
+pub mod Keeps

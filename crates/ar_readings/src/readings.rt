@@ -8,6 +8,7 @@ ghost use Rattle.ar_syntax.specs.declared.expressions.RawExpr.{RawExpr};
 ghost use Rattle.ar_syntax.specs.declared.expressions.RawForm.TheVariants.{Whole};
 ghost use Rattle.ar_readings.specs.Expressions.{SameExpr};
 ghost use Rattle.ar_readings.specs.Models.{HasOneTree};
+ghost use Rattle.ar_readings.specs.Keeps.{TreesKeep};
 
 /// Each text has at most one tree: two readings have the same items, names, places and spans.
 pub fn one_tree()
@@ -26,4 +27,9 @@ pub fn agreement_says()
     ensures place { (e f : RawExpr) → SameExpr e f → e.at ≡ f.at }
     ensures span { (e f : RawExpr) → SameExpr e f → e.span ≡ f.span }
     ensures number { (e f : RawExpr) (n m : ℤ) → SameExpr e f → e.form ≡ Whole n → f.form ≡ Whole m → n ≡ m }
+{}
+
+/// Each name of a text's tree has a number in the tree's table, and no list of the tree has more items than the text has bytes.
+pub fn trees_keep()
+    ensures { (bytes : List ℕ) → TreesKeep bytes }
 {}

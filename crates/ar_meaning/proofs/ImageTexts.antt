@@ -2,6 +2,7 @@
 use Rattle.std.proofs.Common.{◌≡◌, ◌+◌, ℕ, zero, suc, List, [], ◌∷◌, ◌++◌, length, slice_get, codes, refl, sym, ap, subst}
 use Rattle.ar_base.specs.Lists.{Along}
 use Rattle.ar_base.specs.Lists as l
+use Rattle.ar_base.specs.Texts.{text_at, line}
 use Rattle.domains.specs.declared.Value.{Value}
 use Rattle.domains.specs.declared.Value.TheVariants.{Truth, Whole, Symbol}
 use Rattle.typed_expr.specs.Yields.{Yields}
@@ -14,8 +15,9 @@ use Rattle.ar_meaning.specs.Steps.{StepFault, NotEnabled, Clash, Range, Flow}
 use Rattle.ar_meaning.specs.Runs.{Label, Moment, Starts, Start_fails, Fires, Fire_fails, Shows, Lists}
 use Rattle.ar_meaning.specs.Image.{Expr_renames, Event_renames, IsImage}
 use Rattle.ar_meaning.specs.FlatOf.{NameAlike}
-use Rattle.ar_meaning.specs.TraceText.{Naming, text_at, value_text, line, variable_line, observer_line, lines_from, Changed, none, same, differs, Observed, all_lines, ChangedLines, way_text, ways_of, label_text, label_lines, place_text, flow_fault_text, step_fault_text, MomentText, starts, start_fails, fires, fire_fails, goes_back, no_step, shows, lists, ends, TraceText}
+use Rattle.ar_meaning.specs.TraceText.{Naming, variable_line, observer_line, lines_from, Changed, none, same, differs, Observed, all_lines, ChangedLines, way_text, ways_of, label_text, label_lines, place_text, flow_fault_text, step_fault_text, MomentText, starts, start_fails, fires, fire_fails, goes_back, no_step, shows, lists, ends, TraceText}
 use Rattle.ar_meaning.specs.TraceText as t
+use Rattle.ar_meaning.specs.ValueTexts.{value_text}
 use Rattle.ar_meaning.proofs.ImageFlows.{value_there}
 
 pub along_long : {A B : Type 0} {R : A → B → Type 0} {xs : List A} {ys : List B} → Along R xs ys → length xs ≡ length ys
@@ -36,7 +38,7 @@ module _ (f g : ℕ → Value → List ℕ) (alike : (n : ℕ) (v : Value) → f
 
 -- names
 module _ (a b : Naming) (alike : NameAlike a b) where
-  value_alike : (v : Value) → value_text a v ≡ value_text b v
+  value_alike : (v : Value) → value_text a.symbols v ≡ value_text b.symbols v
   value_alike (Truth x) = refl
   value_alike (Whole n) = refl
   value_alike (Symbol n) = alike.symbols n

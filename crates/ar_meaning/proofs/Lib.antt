@@ -17,3 +17,4 @@ pub mod OneText
 pub mod FlatSystems
 pub mod ImageWays
 pub mod Outcomes
+pub mod Dependence

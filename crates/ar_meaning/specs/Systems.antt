@@ -9,7 +9,8 @@ pub record Assign (V : Type 0) : Type 0 where
   pub conditions : List (Expr V × Bool)
   pub value : Expr V
 
--- a variable: what stands for it, the number of its unit, the values of its domain in order, whether it is a state variable, and the value of its init or reset
+-- a variable: what stands for it, the number of its unit, the values of its domain (truth values and numbers ascending, symbols as they are declared: who needs
+-- these ascending sorts them), whether it is a state variable, and the value of its init or reset
 pub record Variable (V : Type 0) : Type 0 where
   pub key : V
   pub unit : ℕ

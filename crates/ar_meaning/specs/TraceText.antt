@@ -1,13 +1,13 @@
 -- The text of a run: one text for each of its moments.
-use Rattle.std.specs.Prelude.{◌≡◌, ℕ, ◌+◌, ◌==◌, if◌then◌else◌, Bool, true, false, List, [], ◌∷◌, ◌++◌, Option, Some, None, length, slice_get, codes, decimal}
-use Rattle.std.specs.Fmt.{signed_decimal}
+use Rattle.std.specs.Prelude.{◌≡◌, ℕ, ◌+◌, ◌==◌, if◌then◌else◌, List, [], ◌∷◌, ◌++◌, Option, Some, None, length, slice_get, codes, decimal}
 use Rattle.ar_base.specs.Lists.{Along}
+use Rattle.ar_base.specs.Texts.{text_at, line}
 use Rattle.ar_base.specs.declared.places.Place.{Place}
 use Rattle.domains.specs.declared.Value.{Value}
-use Rattle.domains.specs.declared.Value.TheVariants.{Truth, Whole, Symbol}
 use Rattle.typed_expr.specs.Yields.{Yields}
 use Rattle.typed_expr.specs.declared.expr.Expr.{Expr, out-Expr}
 use Rattle.ar_meaning.specs.Systems.{System, Event}
+use Rattle.ar_meaning.specs.ValueTexts.{value_text}
 use Rattle.ar_meaning.specs.Facts.{HasValue}
 use Rattle.ar_meaning.specs.Flows.{FlowFault, Two, Outside, Broken}
 use Rattle.ar_meaning.specs.Steps.{StepFault, NotEnabled, Clash, Range, Flow}
@@ -22,35 +22,13 @@ pub record Naming : Type 0 where
   pub symbols : List (List ℕ)
   pub places : List Place
 
--- the text at a place of a list, empty past its end
-abbrev pub or_nothing : Option (List ℕ) → List ℕ
-or_nothing None = []
-or_nothing (Some text) = text
-
-abbrev pub text_at : List (List ℕ) → ℕ → List ℕ
-text_at texts n = or_nothing (slice_get texts n)
-
-abbrev pub truth_text : Bool → List ℕ
-truth_text true = codes "true"
-truth_text false = codes "false"
-
--- a value: `true`, `false`, a number, or a symbol's name
-abbrev pub value_text : Naming → Value → List ℕ
-value_text names (Truth b) = truth_text b
-value_text names (Whole n) = signed_decimal n
-value_text names (Symbol n) = text_at names.symbols n
-
--- a text with the line feed that ends its line
-abbrev pub line : List ℕ → List ℕ
-line text = text ++ 10 ∷ []
-
 -- `  PATH = VALUE`
 abbrev pub variable_line : Naming → ℕ → Value → List ℕ
-variable_line names n v = line (codes "  " ++ (text_at names.variables n ++ (codes " = " ++ value_text names v)))
+variable_line names n v = line (codes "  " ++ (text_at names.variables n ++ (codes " = " ++ value_text names.symbols v)))
 
 -- `  observer PATH = VALUE`
 abbrev pub observer_line : Naming → ℕ → Value → List ℕ
-observer_line names n v = line (codes "  observer " ++ (text_at names.observers n ++ (codes " = " ++ value_text names v)))
+observer_line names n v = line (codes "  observer " ++ (text_at names.observers n ++ (codes " = " ++ value_text names.symbols v)))
 
 -- the lines of these values, numbered from n on
 abbrev pub lines_from : (ℕ → Value → List ℕ) → ℕ → List Value → List ℕ

@@ -1,9 +1,8 @@
 //! A flat system, which has numbers in place of its system's variables, answers as the system does.
 
-ghost use Rattle.std.specs.Prelude.{ℕ, List, Bool, IsTrue, ◌≡◌, ◌↔◌, map};
+ghost use Rattle.std.specs.Prelude.{ℕ, List, ◌≡◌, ◌↔◌, map};
 ghost use Rattle.domains.specs.declared.Value.{Value};
 ghost use Rattle.ar_base.specs.Lists.{Stands, Along, AreDifferent};
-ghost use Rattle.typed_expr.specs.Pairs.{Joined};
 ghost use Rattle.ar_meaning.specs.Systems.{Variable, Net, System, Event, Transition, Way, Tree};
 ghost use Rattle.ar_meaning.specs.Facts.{HasValue, FactOf, AreKeyed, AreNumbered};
 ghost use Rattle.ar_meaning.specs.Flows.{Flows, Outcome};
@@ -13,7 +12,7 @@ ghost use Rattle.ar_meaning.specs.Runs.{Runs, Command, Moment};
 ghost use Rattle.ar_meaning.specs.TraceText.{Naming, TraceText};
 ghost use Rattle.ar_meaning.specs.Expand.{Declared, AreKeyed as HaveKeys, Ways, LeadsBack, IsExpanded};
 ghost use Rattle.ar_meaning.specs.ExpandImage.{Declared_along, Declared_renames};
-ghost use Rattle.ar_meaning.specs.Image.{Way_renames, Event_renames, IsNetImage, IsImage};
+ghost use Rattle.ar_meaning.specs.Image.{Way_renames, Event_renames, IsImage};
 ghost use Rattle.ar_meaning.specs.FlatOf.{IsNumber, IsFlatOf, AreFlatOf, NameAlike};
 ghost use Rattle.ar_meaning.specs.Numbered.{Body, Means_way, body_changed, changed};
 
@@ -70,14 +69,6 @@ pub fn mapped_declarations<L, M, E>()
         → (e : E) (n : ℕ) → Stands keys n e → (us : List (Tree M)) → Ways es n us → (ts : List (Tree L)) × Ways ds e ts × (us ≡ map (changed f) ts) }
     ensures leads_back { (f : L → M) (keys : List E) (ds : List (Declared L E)) (es : List (Declared M ℕ)) → AreDifferent keys → Along (Declared_along (λ l m. f l ≡ m) (IsNumber keys)) ds es
         → (e : E) (n k : ℕ) → Stands keys n e → (LeadsBack ds e k ↔ LeadsBack es n k) }
-{}
-
-/// An image of an image is an image.
-pub fn image_of_image<U, V, W>()
-    ensures nets { (first : U → V → Bool) (second : V → W → Bool) (here : Net U) (middle : Net V) (there : Net W) → IsNetImage (λ x y. IsTrue (first x y)) here middle
-        → IsNetImage (λ y z. IsTrue (second y z)) middle there → IsNetImage (Joined (λ x y. IsTrue (first x y)) (λ y z. IsTrue (second y z))) here there }
-    ensures systems { (first : U → V → Bool) (second : V → W → Bool) (here : System U) (middle : System V) (there : System W) → IsImage (λ x y. IsTrue (first x y)) here middle
-        → IsImage (λ y z. IsTrue (second y z)) middle there → IsImage (Joined (λ x y. IsTrue (first x y)) (λ y z. IsTrue (second y z))) here there }
 {}
 
 /// Numbers stand for the same ways, whatever stands in the ways' leaves.

@@ -159,33 +159,3 @@ fn count_below(symbols: &[u32], s: u32) -> u32
 {
     symbols.iter().filter(|x| **x < s).count() as u32
 }
-
-#[cfg(test)]
-mod tests {
-    use super::*;
-    use std::test::Fail;
-
-    #[test]
-    fn positions_both_ways(rt: HostRuntime) -> Result<(), Fail> {
-        let symbols = Domain::Symbols(vec![in rt.alloc(); 7, 2, 5]?);
-        for (symbol, position) in [(2, Some(0)), (5, Some(1)), (7, Some(2)), (3, None)] {
-            assert_eq!(rt; symbols.position(Value::Symbol(symbol)), position);
-            assert_eq!(rt; symbols.holds(Value::Symbol(symbol)), position.is_some());
-        }
-        assert_eq!(rt; symbols.value_at(2), Some(Value::Symbol(7)));
-        assert_eq!(rt; symbols.value_at(3), None);
-        let range = Domain::Range(-1, 1);
-        assert_eq!(rt; range.position(Value::Whole(1)), Some(2));
-        assert_eq!(rt; range.value_at(0), Some(Value::Whole(-1)));
-        assert_eq!(rt; range.value_at(3), None);
-        assert_eq!(rt; Domain::Boolean.value_at(1), Some(Value::Truth(true)));
-        Ok(())
-    }
-
-    #[test]
-    fn clamped_results(rt: HostRuntime) {
-        assert_eq!(rt; add(i64::MAX, 1), i64::MAX);
-        assert_eq!(rt; subtract(i64::MIN, 1), i64::MIN);
-        assert_eq!(rt; multiply(i64::MIN, -1), i64::MAX);
-    }
-}

@@ -15,7 +15,7 @@ use Rattle.typed_expr.specs.declared.expr.Expr.{Expr, out-Expr}
 use Rattle.typed_expr.specs.declared.expr.Expr as plain
 use Rattle.typed_expr.specs.declared.expr.Expr.TheOpen.{Constant, Variable, Not, All, Any, Compare, Sum, Product, Least, Greatest, Count, Choose}
 use Rattle.typed_expr.specs.declared.expr.Expr.TheViews as view
-use Rattle.typed_expr.proofs.Arms as arm
+use Rattle.typed_expr.proofs.Opened as opened
 use Rattle.typed_expr.proofs.Loops.{item-is-in, take-next}
 
 module _ {V : Type 0} (kinds : V → ValueKind) where
@@ -79,17 +79,17 @@ module _ {V : Type 0} (kinds : V → ValueKind) where
   pub constant-arm : (e : Expr V) (v : Value) (kind : ValueKind) → e ≡ plain.Constant v → kind ≡ kind_of v → HasKind kinds (out-Expr V e) kind
   constant-arm e v kind i j =
       let P : ValueKind → Type 0 = λ z. HasKind kinds (Constant v) z in
-      at (Some kind) e (Constant v) (ap (out-Expr V) i ∙ arm.opened-constant v) (subst P (sym j) k.constant)
+      at (Some kind) e (Constant v) (ap (out-Expr V) i ∙ opened.opened-constant v) (subst P (sym j) k.constant)
 
   pub variable-arm : (e : Expr V) (x : V) (kind : ValueKind) → e ≡ plain.Variable x → kind ≡ kinds x → HasKind kinds (out-Expr V e) kind
   variable-arm e x kind i j =
       let P : ValueKind → Type 0 = λ z. HasKind kinds (Variable x) z in
-      at (Some kind) e (Variable x) (ap (out-Expr V) i ∙ arm.opened-variable x) (subst P (sym j) k.variable)
+      at (Some kind) e (Variable x) (ap (out-Expr V) i ∙ opened.opened-variable x) (subst P (sym j) k.variable)
 
   pub not-arm : (e d : Expr V) (a : Box (Expr V) Global) (found r : Option ValueKind) (b : Bool) → e ≡ view.Not a → d ≡ a.value → IsKindOf kinds (out-Expr V d) found
       → IsTrue b ↔ (found ≡ Some Truth) → r ≡ cond b (Some Truth) None → IsKindOf kinds (out-Expr V e) r
   not-arm e d a found r b i j h f g =
-      at r e (Not a) (arm.opened-not e a i)
+      at r e (Not a) (opened.opened-not e a i)
       (kind-where (Not a) (HasKind kinds (out-Expr V a.value) Truth) Truth b r g (is-kind (out-Expr V a.value) found b Truth (in_box found d a j h) f) (λ c. k.opposite c) (in_not a))
 
   listed : (xs ys : List (Expr V)) (b : Bool) (kind : ValueKind) → xs ≡ ys → IsTrue b ↔ ((0 < length xs) × Each kinds xs kind) → IsTrue b ↔ ((0 < length ys) × Each kinds ys kind)
@@ -97,33 +97,33 @@ module _ {V : Type 0} (kinds : V → ValueKind) where
 
   pub all-arm : (e : Expr V) (xs : List (Expr V)) (es : Vec (Expr V) Global) (r : Option ValueKind) (b : Bool) → e ≡ view.All es → xs ≡ es.items
       → IsTrue b ↔ ((0 < length xs) × Each kinds xs Truth) → r ≡ cond b (Some Truth) None → IsKindOf kinds (out-Expr V e) r
-  all-arm e xs es r b i j f g = at r e (All es) (arm.opened-all e es i) (kind-where (All es) ((0 < length es.items) × Each kinds es.items Truth) Truth b r g (listed xs es.items b Truth j f) (λ c. k.all c.0 c.1) (in_all es))
+  all-arm e xs es r b i j f g = at r e (All es) (opened.opened-all e es i) (kind-where (All es) ((0 < length es.items) × Each kinds es.items Truth) Truth b r g (listed xs es.items b Truth j f) (λ c. k.all c.0 c.1) (in_all es))
 
   pub any-arm : (e : Expr V) (xs : List (Expr V)) (es : Vec (Expr V) Global) (r : Option ValueKind) (b : Bool) → e ≡ view.Any es → xs ≡ es.items
       → IsTrue b ↔ ((0 < length xs) × Each kinds xs Truth) → r ≡ cond b (Some Truth) None → IsKindOf kinds (out-Expr V e) r
-  any-arm e xs es r b i j f g = at r e (Any es) (arm.opened-any e es i) (kind-where (Any es) ((0 < length es.items) × Each kinds es.items Truth) Truth b r g (listed xs es.items b Truth j f) (λ c. k.any c.0 c.1) (in_any es))
+  any-arm e xs es r b i j f g = at r e (Any es) (opened.opened-any e es i) (kind-where (Any es) ((0 < length es.items) × Each kinds es.items Truth) Truth b r g (listed xs es.items b Truth j f) (λ c. k.any c.0 c.1) (in_any es))
 
   pub product-arm : (e : Expr V) (xs : List (Expr V)) (es : Vec (Expr V) Global) (r : Option ValueKind) (b : Bool) → e ≡ view.Product es → xs ≡ es.items
       → IsTrue b ↔ ((0 < length xs) × Each kinds xs Whole) → r ≡ cond b (Some Whole) None → IsKindOf kinds (out-Expr V e) r
-  product-arm e xs es r b i j f g = at r e (Product es) (arm.opened-product e es i) (kind-where (Product es) ((0 < length es.items) × Each kinds es.items Whole) Whole b r g (listed xs es.items b Whole j f) (λ c. k.product c.0 c.1) (in_product es))
+  product-arm e xs es r b i j f g = at r e (Product es) (opened.opened-product e es i) (kind-where (Product es) ((0 < length es.items) × Each kinds es.items Whole) Whole b r g (listed xs es.items b Whole j f) (λ c. k.product c.0 c.1) (in_product es))
 
   pub least-arm : (e : Expr V) (xs : List (Expr V)) (es : Vec (Expr V) Global) (r : Option ValueKind) (b : Bool) → e ≡ view.Least es → xs ≡ es.items
       → IsTrue b ↔ ((0 < length xs) × Each kinds xs Whole) → r ≡ cond b (Some Whole) None → IsKindOf kinds (out-Expr V e) r
-  least-arm e xs es r b i j f g = at r e (Least es) (arm.opened-least e es i) (kind-where (Least es) ((0 < length es.items) × Each kinds es.items Whole) Whole b r g (listed xs es.items b Whole j f) (λ c. k.least c.0 c.1) (in_least es))
+  least-arm e xs es r b i j f g = at r e (Least es) (opened.opened-least e es i) (kind-where (Least es) ((0 < length es.items) × Each kinds es.items Whole) Whole b r g (listed xs es.items b Whole j f) (λ c. k.least c.0 c.1) (in_least es))
 
   pub greatest-arm : (e : Expr V) (xs : List (Expr V)) (es : Vec (Expr V) Global) (r : Option ValueKind) (b : Bool) → e ≡ view.Greatest es → xs ≡ es.items
       → IsTrue b ↔ ((0 < length xs) × Each kinds xs Whole) → r ≡ cond b (Some Whole) None → IsKindOf kinds (out-Expr V e) r
-  greatest-arm e xs es r b i j f g = at r e (Greatest es) (arm.opened-greatest e es i) (kind-where (Greatest es) ((0 < length es.items) × Each kinds es.items Whole) Whole b r g (listed xs es.items b Whole j f) (λ c. k.greatest c.0 c.1) (in_greatest es))
+  greatest-arm e xs es r b i j f g = at r e (Greatest es) (opened.opened-greatest e es i) (kind-where (Greatest es) ((0 < length es.items) × Each kinds es.items Whole) Whole b r g (listed xs es.items b Whole j f) (λ c. k.greatest c.0 c.1) (in_greatest es))
 
   pub count-arm : (e : Expr V) (xs : List (Expr V)) (es : Vec (Expr V) Global) (r : Option ValueKind) (b : Bool) → e ≡ view.Count es → xs ≡ es.items
       → IsTrue b ↔ ((0 < length xs) × Each kinds xs Truth) → r ≡ cond b (Some Whole) None → IsKindOf kinds (out-Expr V e) r
-  count-arm e xs es r b i j f g = at r e (Count es) (arm.opened-count e es i) (kind-where (Count es) ((0 < length es.items) × Each kinds es.items Truth) Whole b r g (listed xs es.items b Truth j f) (λ c. k.count c.0 c.1) (in_count es))
+  count-arm e xs es r b i j f g = at r e (Count es) (opened.opened-count e es i) (kind-where (Count es) ((0 < length es.items) × Each kinds es.items Truth) Whole b r g (listed xs es.items b Truth j f) (λ c. k.count c.0 c.1) (in_count es))
 
   pub sum-arm : (e : Expr V) (xs : List (Bool × Expr V)) (ps : Vec (Bool × Expr V) Global) (r : Option ValueKind) (b : Bool) → e ≡ view.Sum ps → xs ≡ ps.items
       → IsTrue b ↔ ((0 < length xs) × Each_part kinds xs) → r ≡ cond b (Some Whole) None → IsKindOf kinds (out-Expr V e) r
   sum-arm e xs ps r b i j f g =
       let P : List (Bool × Expr V) → Type 0 = λ z. IsTrue b ↔ ((0 < length z) × Each_part kinds z) in
-      at r e (Sum ps) (arm.opened-sum e ps i) (kind-where (Sum ps) ((0 < length ps.items) × Each_part kinds ps.items) Whole b r g (subst P j f) (λ c. k.sum c.0 c.1) (in_sum ps))
+      at r e (Sum ps) (opened.opened-sum e ps i) (kind-where (Sum ps) ((0 < length ps.items) × Each_part kinds ps.items) Whole b r g (subst P j f) (λ c. k.sum c.0 c.1) (in_sum ps))
 
   in_compare : (q : Relation) (a b : Box (Expr V) Global) (kind l : ValueKind) → HasKind kinds (out-Expr V a.value) kind → HasKind kinds (Compare q a b) l → Compares q kind × HasKind kinds (out-Expr V b.value) kind
   in_compare q a b kind l h (k.compared {k = m} c d f) =
@@ -136,7 +136,7 @@ module _ {V : Type 0} (kinds : V → ValueKind) where
   compare-arm e c d q a b kind found r can is both i j l h m f g p o =
       let left : HasKind kinds (out-Expr V a.value) kind = in_box (Some kind) c a j h in
       let right = is-kind (out-Expr V b.value) found is kind (in_box found d b l m) g in
-      at r e (Compare q a b) (arm.opened-compare e q a b i)
+      at r e (Compare q a b) (opened.opened-compare e q a b i)
       (kind-where (Compare q a b) (Compares q kind × HasKind kinds (out-Expr V b.value) kind) Truth both r o
       ((λ t. let z = p.0 t in (f.0 z.0, right.0 z.1)), (λ z. p.1 (f.1 z.0, right.1 z.1)))
       (λ z. k.compared z.0 left z.1) (λ n z. in_compare q a b kind n left z))
@@ -145,7 +145,7 @@ module _ {V : Type 0} (kinds : V → ValueKind) where
   no_left q a b l f (k.compared {k = m} c d e) = f m d
 
   pub compare-none : (e c : Expr V) (q : Relation) (a b : Box (Expr V) Global) → e ≡ view.Compare q a b → c ≡ a.value → IsKindOf kinds (out-Expr V c) None → IsKindOf kinds (out-Expr V e) None
-  compare-none e c q a b i j h = at None e (Compare q a b) (arm.opened-compare e q a b i) (λ l d. no_left q a b l (in_box None c a j h) d)
+  compare-none e c q a b i j h = at None e (Compare q a b) (opened.opened-compare e q a b i) (λ l d. no_left q a b l (in_box None c a j h) d)
 
   in_choice : (cs : Vec (Expr V × Expr V) Global) (other : Box (Expr V) Global) (kind l : ValueKind) → HasKind kinds (out-Expr V other.value) kind → HasKind kinds (Choose cs other) l → (0 < length cs.items) × Each_case kinds cs.items kind
   in_choice cs other kind l h (k.choice {k = m} n c d) =
@@ -157,14 +157,14 @@ module _ {V : Type 0} (kinds : V → ValueKind) where
   choice-arm e d xs cs other kind r b i j l h f g =
       let last : HasKind kinds (out-Expr V other.value) kind = in_box (Some kind) d other l h in
       let P : List (Expr V × Expr V) → Type 0 = λ z. IsTrue b ↔ ((0 < length z) × Each_case kinds z kind) in
-      at r e (Choose cs other) (arm.opened-choice e cs other i)
+      at r e (Choose cs other) (opened.opened-choice e cs other i)
       (kind-where (Choose cs other) ((0 < length cs.items) × Each_case kinds cs.items kind) kind b r g (subst P j f) (λ c. k.choice c.0 c.1 last) (λ n z. in_choice cs other kind n last z))
 
   no_other : (cs : Vec (Expr V × Expr V) Global) (other : Box (Expr V) Global) (l : ValueKind) → ((m : ValueKind) → HasKind kinds (out-Expr V other.value) m → ⊥) → HasKind kinds (Choose cs other) l → ⊥
   no_other cs other l f (k.choice {k = m} n c d) = f m d
 
   pub choice-none : (e d : Expr V) (cs : Vec (Expr V × Expr V) Global) (other : Box (Expr V) Global) → e ≡ view.Choose cs other → d ≡ other.value → IsKindOf kinds (out-Expr V d) None → IsKindOf kinds (out-Expr V e) None
-  choice-none e d cs other i j h = at None e (Choose cs other) (arm.opened-choice e cs other i) (λ l z. no_other cs other l (in_box None d other j h) z)
+  choice-none e d cs other i j h = at None e (Choose cs other) (opened.opened-choice e cs other i) (λ l z. no_other cs other l (in_box None d other j h) z)
 
   -- lists
   pub each-append : (xs ys : List (Expr V)) (kind : ValueKind) → Each kinds xs kind → Each kinds ys kind → Each kinds (xs ++ ys) kind

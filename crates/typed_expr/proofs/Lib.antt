@@ -3,6 +3,7 @@ mod Folding
 mod Gathering
 mod Forms
 mod Loops
+pub mod Opened
 mod Arms
 pub mod Kinded
 pub mod Valued

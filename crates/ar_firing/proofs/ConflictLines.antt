@@ -7,8 +7,9 @@ use Rattle.ar_meaning.specs.Systems.{System}
 use Rattle.ar_meaning.specs.Facts.{AreKeyed}
 use Rattle.ar_meaning.specs.Flows.{FlowFault}
 use Rattle.ar_meaning.specs.Runs.{Label, first_values}
-use Rattle.ar_firing.specs.Fragment.{IsStatic}
-use Rattle.ar_firing.specs.Cuts.{Conflicts, IsFirable, IsLegalOrder, IsLeast, AreEvents, Within}
+use Rattle.ar_firing.specs.Static.{IsStatic}
+use Rattle.ar_firing.specs.Cuts.{Conflicts, IsFirable, IsLegalOrder, IsLeast, AreEvents}
+use Rattle.ar_base.specs.Sets.{Within}
 use Rattle.ar_firing.specs.Cuts as cuts
 use Rattle.ar_firing.specs.Operands.{Agrees, HasFlows, IsFirableWith}
 use Rattle.ar_firing.proofs.Firing.{none_firable}

@@ -9,13 +9,16 @@ use Rattle.ar_meaning.specs.Ways.{Can, Effects}
 use Rattle.ar_meaning.specs.Steps.{flow, Clashes, LeavesDomain, Receives, changed, kept, Step, Next, moves}
 use Rattle.ar_meaning.specs.Steps as s
 use Rattle.ar_meaning.specs.Runs.{Label, first_values}
-use Rattle.ar_firing.specs.Fragment.{Edge, Path, root, edge, IsStatic}
-use Rattle.ar_firing.specs.Cuts.{MeetsConflict, Within, Reaches, IsFirable, AreEvents, HasOrder}
+use Rattle.ar_firing.specs.Fragment.{Edge, Path, root, edge}
+use Rattle.ar_firing.specs.Static.{IsStatic}
+use Rattle.ar_firing.specs.Cuts.{MeetsConflict, Reaches, IsFirable, AreEvents, HasOrder}
+use Rattle.ar_base.specs.Sets.{Within}
 use Rattle.ar_firing.specs.Cuts as cuts
 use Rattle.ar_firing.specs.Operands.{HasFlows}
 use Rattle.domains.specs.declared.Value.{Value}
-use Rattle.ar_base.proofs.Standing.{stands_one}
-use Rattle.ar_firing.proofs.Firing.{no_item, Next_edge, next_edge, to_alone, only_target, only_effects, value_from, moved, firable_flows, none_firable, enabled, longer, is_same}
+use Rattle.ar_base.proofs.Standing.{stands_one, one_none}
+use Rattle.std.proofs.lemmas.Bool.{cases_eq}
+use Rattle.ar_firing.proofs.Firing.{Next_edge, next_edge, to_alone, only_target, only_effects, value_from, moved, firable_flows, none_firable, enabled, longer}
 use Rattle.ar_firing.proofs.Ends.{split_live, split, path_unique, path_end, live}
 
 pub record Received {V : Type 0} (effects : V → Value → Type 0) (xs : List (Variable V)) (vs : List Value) : Type 0 where
@@ -64,7 +67,7 @@ module _ {V : Type 0} (sys : System V) (dropped : List ℕ) (keyed : AreKeyed sy
               (only_effects e.variable.key (value_from sys dropped keyed t e.number e.variable e.from e.stands e.value) e.alone e.facts.gives),
         ))
         (λ i. inr (λ v d. i (keyed.one o.place e.number x e.variable o.stands e.stands (only_target e.alone d))))
-        (is_same o.place e.number))
+        (cases_eq o.place e.number))
 
     pub no_clash : HasNo sys.net.variables (Clashes (Effects (HasValue sys.net t) w))
     no_clash = record {
@@ -100,7 +103,7 @@ module _ {V : Type 0} (sys : System V) (dropped : List ℕ) (keyed : AreKeyed sy
 
   begun : Built (λ n. [])
   begun =
-      let nothing : Within [] limit = record { each = λ e o. absurd (no_item sys dropped keyed e o) } in
+      let nothing : Within [] limit = record { each = λ e o. absurd (one_none e o) } in
       let f = total [] (first_values sys.net.variables) (none_firable sys dropped keyed) nothing
       (λ f k. ([], record { labels = []; fault = f; conflicts = cuts.start k; events = self_events [] (record { once = λ j k l m a b e. cc }) })) in
       record {
@@ -129,14 +132,14 @@ module _ {V : Type 0} (sys : System V) (dropped : List ℕ) (keyed : AreKeyed sy
     the_edge = next_edge sys dropped keyed static b.firable l e.way e.is_open can_fire
 
     at_n : (the_edge.number ≡ n)
-    at_n = let c = static.one_edge l l the_edge.number n the_edge.from from the_edge.to to (live sys dropped keyed static the_edge.path the_edge.edge) (live sys dropped keyed static p e) refl in c.1
+    at_n = let c = static.one_edge.one l l the_edge.number n the_edge.from from the_edge.to to (live sys dropped keyed static the_edge.path the_edge.edge) (live sys dropped keyed static p e) refl in c.1
 
     new_event : (k : ℕ) (m : Label) → Stands b.labels k m → m.event ≡ l.event → ⊥
     new_event k m h i =
         let o = b.firable.whole m.event (record { place = k; stands = event_of b.labels k m h }) in
         let w = b.firable.walks o.0 o.1 o.3 o.4 in
         let r = split sys dropped keyed static w.2 o.5.place o.2 o.5.stands in
-        let c = static.one_edge o.2 l o.0 n r.from from r.to to (split_live sys dropped keyed static r) (live sys dropped keyed static p e) (o.6 ∙ i) in
+        let c = static.one_edge.one o.2 l o.0 n r.from from r.to to (split_live sys dropped keyed static r) (live sys dropped keyed static p e) (o.6 ∙ i) in
         let q : Path sys dropped n r.rest from = subst (λ z. Path sys dropped n r.rest z) c.2 (subst (λ z. Path sys dropped z r.rest r.from) c.1 r.path) in
         let u : r.rest ≡ ls = path_unique sys dropped keyed static q p in
         let v : b.firable.path o.0 ≡ ls = ap b.firable.path c.1 ∙ b.as_wanted n ∙ is in
@@ -196,7 +199,7 @@ module _ {V : Type 0} (sys : System V) (dropped : List ℕ) (keyed : AreKeyed sy
   put n ls want k = cond (k == n) ls (want k)
 
   along : {want : ℕ → List Label} (n : ℕ) (x : Variable V) → Stands sys.net.variables n x → x.is_state ≡ true → want n ≡ [] → {ls : List Label} {m : Value} → ((k : ℕ) (l : Label) → Stands ls k l → IsOneOf limit l.event) → Path sys dropped n ls m → Built want → Built (put n ls want)
-  along {want = want} n x st i empty h (root s j q) b = as_other (λ k. ⊎_elim (λ e. at_same k e) (λ e. let h : (k == n) ≡ false = grind (arith, nat_tests) in rw h refl) (is_same k n)) b
+  along {want = want} n x st i empty h (root s j q) b = as_other (λ k. ⊎_elim (λ e. at_same k e) (λ e. let h : (k == n) ≡ false = grind (arith, nat_tests) in rw h refl) (cases_eq k n)) b
     where
       at_same : (k : ℕ) → k ≡ n → want k ≡ put n [] want k
       at_same k e = let h : (k == n) ≡ true = grind (arith, nat_tests) in rw h (ap want e ∙ empty)
@@ -235,7 +238,7 @@ module _ {V : Type 0} (sys : System V) (dropped : List ℕ) (keyed : AreKeyed sy
 
     by_now : (k n : ℕ) (x : Variable V) → n < k → Stands sys.net.variables n x → x.is_state ≡ true → wanted k n ≡ f.path n
     by_now zero n x h s i = absurd (omega arith)
-    by_now (suc k) n x h s i = ⊎_elim (λ e. same e) (λ e. other (by_now k n x (below e) s i) (slice_get sys.net.variables k)) (is_same n k)
+    by_now (suc k) n x h s i = ⊎_elim (λ e. same e) (λ e. other (by_now k n x (below e) s i) (slice_get sys.net.variables k)) (cases_eq n k)
       where
         below : (n ≡ k → ⊥) → n < k
         below e = grind arith
@@ -251,7 +254,7 @@ module _ {V : Type 0} (sys : System V) (dropped : List ℕ) (keyed : AreKeyed sy
         other e (Some y) = turn y.is_state
           where
             turn : (b : Bool) → cond b (put k (f.path k) (wanted k)) (wanted k) n ≡ f.path n
-            turn true = ⊎_elim (λ q. let i : (n == k) ≡ true = grind (arith, nat_tests) in rw i (ap f.path (sym q))) (λ q. let i : (n == k) ≡ false = grind (arith, nat_tests) in rw i e) (is_same n k)
+            turn true = ⊎_elim (λ q. let i : (n == k) ≡ true = grind (arith, nat_tests) in rw i (ap f.path (sym q))) (λ q. let i : (n == k) ≡ false = grind (arith, nat_tests) in rw i e) (cases_eq n k)
             turn false = e
 
     built : (k : ℕ) → Built (wanted k)

@@ -6,8 +6,10 @@ use Rattle.ar_meaning.specs.Facts.{AreKeyed}
 use Rattle.ar_meaning.specs.Flows.{Flows, Total}
 use Rattle.ar_meaning.specs.Steps.{moves}
 use Rattle.ar_meaning.specs.Runs.{Label, first_values}
-use Rattle.ar_firing.specs.Fragment.{Edge, Path, root, edge, IsLive, IsStatic}
-use Rattle.ar_firing.specs.Cuts.{Reaches, IsFirable, Within}
+use Rattle.ar_firing.specs.Fragment.{Edge, Path, root, edge, IsLive}
+use Rattle.ar_firing.specs.Static.{IsStatic}
+use Rattle.ar_firing.specs.Cuts.{Reaches, IsFirable}
+use Rattle.ar_base.specs.Sets.{Within}
 use Rattle.ar_firing.specs.Cuts as cuts
 use Rattle.domains.specs.declared.Value.{Value}
 use Rattle.ar_meaning.proofs.OneAnswer.{flows_same}
@@ -53,14 +55,13 @@ module _ {V : Type 0} (sys : System V) (dropped : List ℕ) (keyed : AreKeyed sy
   pub path_unique : {n : ℕ} {ls ks : List Label} {m : Value} → Path sys dropped n ls m → Path sys dropped n ks m → ls ≡ ks
   path_unique (root s i e) (root s' i' e') = refl
   path_unique {n = n} {m = m} (root {x = x} s i e) (edge {l = l} {m = u} p k) =
-      absurd (static.begins l n u x s (subst (λ z. IsLive sys dropped l n u z) (sym e) (live p k)))
+      absurd (static.enters_once.begins l n u x s (subst (λ z. IsLive sys dropped l n u z) (sym e) (live p k)))
   path_unique {n = n} {m = m} (edge {l = l} {m = u} p k) (root {x = x} s i e) =
-      absurd (static.begins l n u x s (subst (λ z. IsLive sys dropped l n u z) (sym e) (live p k)))
+      absurd (static.enters_once.begins l n u x s (subst (λ z. IsLive sys dropped l n u z) (sym e) (live p k)))
   path_unique {n = n} {m = m} (edge {l = l} {ls = ls} {m = u} p e) (edge {l = k} {ls = ks} {m = v} q f) =
-      let a = static.enters l k n u v m (live p e) (live q f) in
-      let b = static.one_edge l k n n u v m m (live p e) (live q f) a.0 in
-      let c : l ≡ k = label_same l k a.0 b.0 in
-      let d : ls ≡ ks = path_unique p (subst (λ z. Path sys dropped n ks z) (sym a.1) q) in cc
+      let a = static.enters_once.enters l k n u v m (live p e) (live q f) in
+      let c : l ≡ k = label_same l k a.0 a.1 in
+      let d : ls ≡ ks = path_unique p (subst (λ z. Path sys dropped n ks z) (sym a.2) q) in cc
 
   pub path_end : {n : ℕ} {ls : List Label} {m k : Value} → Path sys dropped n ls m → Path sys dropped n ls k → m ≡ k
   path_end {n = n} (root {x = x} s i e) (root {x = y} s' i' e') = let j : x ≡ y = stands_one sys.net.variables n x y s s' in let l = ap (λ z. z.value) j in sym e ∙ l ∙ e'
@@ -81,7 +82,7 @@ module _ {V : Type 0} (sys : System V) (dropped : List ℕ) (keyed : AreKeyed sy
   tail_of {n = n} {ks = ks} (edge {l = l} {ls = ls} {m = u} {to = to} p e) q h =
       let o = h l (record { place = zero; stands = refl }) in
       let r = split q o.place l o.stands in
-      let b = static.one_edge l l n n u r.from to r.to (live p e) (split_live r) refl in
+      let b = static.one_edge.one l l n n u r.from to r.to (live p e) (split_live r) refl in
       let c : ls ≡ r.rest = path_unique p (subst (λ z. Path sys dropped n r.rest z) (sym b.2) r.path) in
       record { front = r.front; is = r.is ∙ ap (λ z. r.front ++ (l ∷ z)) (sym c) }
 
@@ -107,7 +108,7 @@ module _ {V : Type 0} (sys : System V) (dropped : List ℕ) (keyed : AreKeyed sy
       let m = b.whole l.event (h.each l.event (a.sound n x s i o.place l o.stands)) in
       let v = b.walks m.0 m.1 m.3 m.4 in
       let q = split v.2 m.5.place m.2 m.5.stands in
-      let c = static.one_edge l m.2 n m.0 r.from q.from r.to q.to (split_live r) (split_live q) (sym m.6) in
+      let c = static.one_edge.one l m.2 n m.0 r.from q.from r.to q.to (split_live r) (split_live q) (sym m.6) in
       let d : l ≡ m.2 = label_same l m.2 (sym m.6) c.0 in
       let f : IsOneOf (b.path n) m.2 = subst (λ z. IsOneOf (b.path z) m.2) (sym c.1) m.5 in
       subst (λ z. IsOneOf (b.path n) z) (sym d) f

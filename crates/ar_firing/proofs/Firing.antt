@@ -1,5 +1,6 @@
 -- Static systems: what fires keeps to firable sets.
 use Rattle.std.proofs.Common.{◌≡◌, ◌⊎◌, inl, inr, ⊎_elim, ℕ, zero, suc, Bool, true, false, cond, ◌==◌, List, [], ◌∷◌, map, length, Some, Contains, refl, sym, ◌∙◌, ap, subst, arith}
+use Rattle.std.proofs.lemmas.Bool.{cases_eq}
 use Rattle.std.proofs.lemmas.Bool.Decides.{nat_tests}
 use Rattle.ar_base.specs.Lists.{Stands, IsOneOf}
 use Rattle.typed_expr.specs.Yields.{Level, Yields}
@@ -13,13 +14,14 @@ use Rattle.ar_meaning.specs.Ways.{Can, guard_holds, Effects, acts}
 use Rattle.ar_meaning.specs.Steps.{Clashes, LeavesDomain, Receives, changed, kept, Answer, Refused, Next, Flow, Step, not_enabled, clash, range, flow, moves}
 use Rattle.ar_meaning.specs.Steps as s
 use Rattle.ar_meaning.specs.Runs.{Label, first_values}
-use Rattle.ar_firing.specs.Fragment.{Only, IsOpen, IsModeOf, named, first, At, Edge, Path, root, edge, Is_of, transition, IsStatic}
-use Rattle.ar_firing.specs.Cuts.{Reaches, Conflicts, IsFirable, Moves_to}
+use Rattle.ar_firing.specs.Fragment.{IsOpen, IsModeOf, named, first, At, Edge, Path, root, edge}
+use Rattle.ar_firing.specs.Static.{Only, IsOf, transition, IsStatic}
+use Rattle.ar_firing.specs.Cuts.{Reaches, Conflicts, IsFirable, MovesTo}
 use Rattle.ar_firing.specs.Cuts as cuts
 use Rattle.domains.specs.declared.Value.{Value}
 use Rattle.typed_expr.specs.declared.expr.Expr.{Expr, out-Expr}
 use Rattle.ar_meaning.proofs.OneAnswer.{first_same, no_first}
-use Rattle.ar_base.proofs.Standing.{stands_one}
+use Rattle.ar_base.proofs.Standing.{stands_one, stands_none, one_none}
 
 -- a way that names k alone
 module _ {V : Type 0} {P Q : V → Value → Type 0} (k : V) (on : (x : V) (w : Value) → x ≡ k → P x w → Q x w) where
@@ -30,13 +32,13 @@ module _ {V : Type 0} {P Q : V → Value → Type 0} (k : V) (on : (x : V) (w : 
   only_passes h f.none = f.none
   only_passes h (f.one_and {e = e} {b = b} d ds) = f.one_and (only_yields (h zero e b refl) d) (only_passes (λ n e b s. h (suc n) e b s) ds)
 
-  pub only_can : {w : Way V} → Is_of k w → Can P w → Can Q w
+  pub only_can : {w : Way V} → IsOf k w → Can P w → Can Q w
   only_can (transition o a) (guard_holds d) = guard_holds (only_yields o d)
 
-  pub only_effects : {w : Way V} {x : V} {v : Value} → Is_of k w → Effects P w x v → Effects Q w x v
+  pub only_effects : {w : Way V} {x : V} {v : Value} → IsOf k w → Effects P w x v → Effects Q w x v
   only_effects (transition o h) (acts a i p d) = let b = h i.place a i.stands in acts a i (only_passes b.conditions p) (only_yields b.value d)
 
-pub only_target : {V : Type 0} {P : V → Value → Type 0} {k : V} {w : Way V} {x : V} {v : Value} → Is_of k w → Effects P w x v → x ≡ k
+pub only_target : {V : Type 0} {P : V → Value → Type 0} {k : V} {w : Way V} {x : V} {v : Value} → IsOf k w → Effects P w x v → x ≡ k
 only_target (transition o h) (acts a i p d) = let b = h i.place a i.stands in b.target
 
 -- what stands after the effects
@@ -78,13 +80,6 @@ completed_long (state h d) = ap suc (completed_long d)
 completed_long (known h p d) = ap suc (completed_long d)
 completed_long (unknown h p d) = ap suc (completed_long d)
 
-pub is_same : (m n : ℕ) → (m ≡ n) ⊎ (m ≡ n → ⊥)
-is_same m n = go (m == n) refl
-  where
-    go : (b : Bool) → (m == n) ≡ b → (m ≡ n) ⊎ (m ≡ n → ⊥)
-    go true e = inl (grind (arith, nat_tests))
-    go false e = inr (λ h. grind (arith, nat_tests))
-
 -- the paths, one of them longer by an edge
 abbrev pub longer : ℕ → Label → (ℕ → List Label) → ℕ → List Label
 longer n l path m = cond (m == n) (l ∷ path m) (path m)
@@ -105,8 +100,10 @@ module _ {V : Type 0} (sys : System V) (dropped : List ℕ) (keyed : AreKeyed sy
   pub ahead : {l : Label} {n : ℕ} {from to : Value} → Edge sys dropped l n from to → (w : Way V) (o : IsOpen sys dropped l w) (x : Variable V) → Stands sys.net.variables n x → Ahead from to w x
   ahead {l = l} {n = n} {from = from} {to = to} e w o x h =
       let a : Ahead from to e.way e.variable = record { can = e.can; gives = e.gives; one = e.one; in_domain = e.in_domain } in
-      let ev = stands_one sys.events l.event e.is_open.event o.event e.is_open.is_event o.is_event in
-      let i : e.way ≡ w = stands_one o.event.ways l.way e.way w (subst (λ z. Stands z.ways l.way e.way) ev e.is_open.is_way) o.is_way in
+      let p = e.is_open.is_kept.is_way in
+      let q = o.is_kept.is_way in
+      let ev = stands_one sys.events l.event p.event q.event p.is_event q.is_event in
+      let i : e.way ≡ w = stands_one q.event.ways l.way e.way w (subst (λ z. Stands z.ways l.way e.way) ev p.is_way) q.is_way in
       let j : e.variable ≡ x = stands_one sys.net.variables n e.variable x e.is_variable h in
       subst (λ x. Ahead from to w x) j (subst (λ w. Ahead from to w e.variable) i a)
 
@@ -143,7 +140,7 @@ module _ {V : Type 0} (sys : System V) (dropped : List ℕ) (keyed : AreKeyed sy
       pub variable : Variable V
       pub stands : Stands sys.net.variables number variable
       pub is_state : variable.is_state ≡ true
-      pub alone : Is_of variable.key w
+      pub alone : IsOf variable.key w
       pub from : Value
       pub to : Value
       pub value : Stands t number from
@@ -156,7 +153,7 @@ module _ {V : Type 0} (sys : System V) (dropped : List ℕ) (keyed : AreKeyed sy
         let h = static.modes l w o in
         let k = firable.walks h.number h.variable h.stands h.is_state in
         let can = only_can h.variable.key (value_at t h.number h.variable k.0 h.stands k.1) h.alone c in
-        let e = static.leads l w o h.number h.variable k.0 h.is_mode h.stands (record { labels = firable.path h.number; path = k.2 }) can in
+        let e = static.leads l w h.number h.variable k.0 (record { is_open = o; is_mode = h.is_mode; stands = h.stands; reached = record { labels = firable.path h.number; path = k.2 }; can = can }) in
         record {
           number = h.number;
           variable = h.variable;
@@ -198,7 +195,7 @@ module _ {V : Type 0} (sys : System V) (dropped : List ℕ) (keyed : AreKeyed sy
           let b : longer e.number l firable.path n ≡ l ∷ firable.path n = subst (λ j. longer e.number l firable.path j ≡ l ∷ firable.path j) (sym q) (longer_here e.number l firable.path) in
           subst (λ p. IsOneOf p m) (sym b) a)
           (λ q. subst (λ p. IsOneOf p m) (sym (longer_there e.number n l firable.path q)) o)
-          (is_same n e.number)
+          (cases_eq n e.number)
 
       pub whole_at : (k n : ℕ) → Stands (l.event ∷ set) n k
           → (n : ℕ) × (x : Variable V) × (m : Label) × Stands sys.net.variables n x × (x.is_state ≡ true) × IsOneOf (longer e.number l firable.path n) m × (m.event ≡ k)
@@ -223,11 +220,11 @@ module _ {V : Type 0} (sys : System V) (dropped : List ℕ) (keyed : AreKeyed sy
             ))
             (λ q. let k = firable.walks n x st i in
             (k.0, stands_old n x st q k.0 k.1, subst (λ p. Path sys dropped n p k.0) (sym (longer_there e.number n l firable.path q)) k.2))
-            (is_same n e.number);
+            (cases_eq n e.number);
         sound = λ n x st i k m h. ⊎_elim
             (λ q. sound_here k m (subst (λ p. Stands p k m) (longer_here e.number l firable.path) (subst (λ j. Stands (longer e.number l firable.path j) k m) q h)))
             (λ q. let o = firable.sound n x st i k m (subst (λ p. Stands p k m) (longer_there e.number n l firable.path q) h) in record { place = suc o.place; stands = o.stands })
-            (is_same n e.number);
+            (cases_eq n e.number);
         whole = λ k o. whole_at k o.place o.stands;
       }
 
@@ -246,7 +243,7 @@ module _ {V : Type 0} (sys : System V) (dropped : List ℕ) (keyed : AreKeyed sy
     -- an edge from where a path ends can fire, and fires or meets a flow fault
     pub record Ready (l : Label) (answer : Answer) : Type 0 where
       pub values : List Value
-      pub moves_to : Moves_to sys.net values answer
+      pub moves_to : MovesTo sys.net values answer
       pub is_firable : IsFirable sys dropped (l.event ∷ set) values
 
     pub ready : (l : Label) (w : Way V) (o : IsOpen sys dropped l w) {answer : Answer} → Can (HasValue sys.net t) w → Step sys.net t w answer → Ready l answer
@@ -275,7 +272,7 @@ module _ {V : Type 0} (sys : System V) (dropped : List ℕ) (keyed : AreKeyed sy
       let h = static.modes l e.way e.is_open in
       let i : h.number ≡ n = mode_same h.is_mode e.is_mode in
       let j : h.variable ≡ e.variable = stands_one sys.net.variables n h.variable e.variable (subst (λ z. Stands sys.net.variables z h.variable) i h.stands) e.is_variable in
-      only_can e.variable.key (value_from t n e.variable from e.is_variable v) (subst (λ z. Is_of z.key e.way) j h.alone) e.can
+      only_can e.variable.key (value_from t n e.variable from e.is_variable v) (subst (λ z. IsOf z.key e.way) j h.alone) e.can
     where
       mode_same : {u : ℕ} {w : Way V} {m n : ℕ} → IsModeOf sys u w m → IsModeOf sys u w n → m ≡ n
       mode_same (named a) (named b) = first_same a b
@@ -293,19 +290,13 @@ module _ {V : Type 0} (sys : System V) (dropped : List ℕ) (keyed : AreKeyed sy
   first_long [] = refl
   first_long (x ∷ xs) = ap suc (first_long xs)
 
-  pub no_item : (e : ℕ) → IsOneOf [] e → ⊥
-  no_item e o = let h = o.stands in cc
-
-  pub no_label : (k : ℕ) (l : Label) → Stands [] k l → ⊥
-  no_label k l h = cc
-
   abbrev pub none_firable : IsFirable sys dropped [] (first_values sys.net.variables)
   none_firable = record {
     long = first_long sys.net.variables;
     path = λ n. [];
     walks = λ n x st i. (x.value, first_value sys.net.variables n x st, root st i refl);
-    sound = λ n x st i k l h. absurd (no_label k l h);
-    whole = λ e o. absurd (no_item e o);
+    sound = λ n x st i k l h. absurd (stands_none k l h);
+    whole = λ e o. absurd (one_none e o);
   }
 
   module _ (static : IsStatic sys dropped) where

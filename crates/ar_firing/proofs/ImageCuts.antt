@@ -27,11 +27,12 @@ module _ {V W : Type 0} (same : V → W → Type 0) (here : System V) (there : S
 
   pub open_there : {l : Label} {v : Way V} → IsOpen here dropped l v → OpenThere l v
   open_there {l = l} {v = v} o =
-      let e = partner image.events l.event o.event o.is_event in
-      let w = partner e.related.ways l.way v o.is_way in
+      let k = o.is_kept in
+      let e = partner image.events l.event k.is_way.event k.is_way.is_event in
+      let w = partner e.related.ways l.way v k.is_way.is_way in
       record {
         way = w.item;
-        is_open = record { event = e.item; is_event = e.stands; is_way = w.stands; visible = sym e.related.hidden ∙ o.visible; stays = o.stays };
+        is_open = record { is_kept = record { is_way = record { event = e.item; is_event = e.stands; is_way = w.stands }; stays = k.stays }; visible = sym e.related.hidden ∙ o.visible };
         related = w.related;
       }
 

@@ -1,8 +1,8 @@
 -- A system and its image have the same modes, edges, paths, firable sets and forests.
-use Rattle.std.proofs.Common.{◌≡◌, ℕ, zero, suc, Bool, List, length, Some, Contains, refl, sym, ◌∙◌, ap, subst}
+use Rattle.std.proofs.Common.{◌≡◌, ℕ, zero, suc, Bool, List, length, Some, Contains, inl, inr, refl, sym, ◌∙◌, ap, subst}
 use Rattle.ar_base.specs.Lists.{Stands, IsOneOf, IsFirst, HasNo, Along}
 use Rattle.ar_base.specs.Lists as l
-use Rattle.ar_base.proofs.Standing.{stands_one}
+use Rattle.ar_base.proofs.Standing.{stands_one, along_length}
 use Rattle.domains.specs.declared.Value.{Value}
 use Rattle.typed_expr.specs.Pairs.{turned}
 use Rattle.typed_expr.specs.Renames.{Renames}
@@ -14,8 +14,9 @@ use Rattle.ar_meaning.specs.Runs.{Label}
 use Rattle.ar_meaning.specs.Image.{Conditions_rename, Assign_renames, Variable_renames, Way_renames, leaves, Event_renames, IsImage}
 use Rattle.ar_meaning.specs.Image as i
 use Rattle.ar_meaning.proofs.ImageTurned.{image_turned, way_turned}
+use Rattle.ar_meaning.proofs.Dependence.{tests_there}
 use Rattle.ar_meaning.proofs.ImageFlows.{partner, first_there, none_there, can_there, effects_there}
-use Rattle.ar_firing.specs.Fragment.{Assign_names, as_target, in_condition, in_value, Guard_names, guard, Action_names, action, Way_names, in_guard, in_action, IsKept, IsStateOf, IsNamedStateOf, IsModeOf, named, first, At, Edge, Path, root, edge, IsReached, IsLive}
+use Rattle.ar_firing.specs.Fragment.{Involves, as_target, as_source, GuardNames, guard, ActionNames, action, WayNames, in_guard, in_action, IsKept, IsStateOf, IsNamedStateOf, IsModeOf, named, first, At, Edge, Path, root, edge, IsReached, IsLive}
 use Rattle.ar_firing.specs.Cuts.{IsFirable}
 use Rattle.ar_firing.specs.Forest.{firing_line, HasTransitions, IsModeVariable, Row, Under, no_more, next, ModeTree, IsModeTree, IsForest, IsLine}
 
@@ -35,26 +36,23 @@ condition_there {V = V} {W = W} {same = same} (i.one_and {e = d} {f = f} {b = c}
 condition_there (i.one_and q qs) (suc n) e b s = let r = condition_there qs n e b s in record { expr = r.expr; stands = r.stands; renames = r.renames }
 
 module _ {V W : Type 0} (same : V → W → Type 0) (x : V) where
-  pub guard_there : {v : Way V} {w : Way W} → Way_renames same v w → Guard_names x v → Mentioned same x (λ y. Guard_names y w)
+  pub guard_there : {v : Way V} {w : Way W} → Way_renames same v w → GuardNames x v → Mentioned same x (λ y. GuardNames y w)
   guard_there (leaves q) (guard m) = let n = mentions_carry same x m q.guard in record { other = n.other; related = n.related; stands = guard n.stands }
   guard_there (i.joints q) h = elim h [ ]
 
-  assign_there : {a : Assign V} {b : Assign W} → Assign_renames same a b → Assign_names x a → Mentioned same x (λ y. Assign_names y b)
+  assign_there : {a : Assign V} {b : Assign W} → Assign_renames same a b → Involves x a → Mentioned same x (λ y. Involves y b)
   assign_there {b = b} q (as_target e) = record { other = b.target; related = subst (λ z. same z b.target) e q.target; stands = as_target refl }
-  assign_there q (in_condition {e = e} {b = c} o m) =
-      let k = condition_there q.conditions o.place e c o.stands in
-      let n = mentions_carry same x m k.renames in
-      record { other = n.other; related = n.related; stands = in_condition (record { place = o.place; stands = k.stands }) n.stands }
-  assign_there q (in_value m) = let n = mentions_carry same x m q.value in record { other = n.other; related = n.related; stands = in_value n.stands }
+  assign_there q (as_source (inl m)) = let n = mentions_carry same x m q.value in record { other = n.other; related = n.related; stands = as_source (inl n.stands) }
+  assign_there q (as_source (inr m)) = let n = tests_there q.conditions m in record { other = n.other; related = n.related; stands = as_source (inr n.stands) }
 
-  pub action_there : {v : Way V} {w : Way W} → Way_renames same v w → Action_names x v → Mentioned same x (λ y. Action_names y w)
+  pub action_there : {v : Way V} {w : Way W} → Way_renames same v w → ActionNames x v → Mentioned same x (λ y. ActionNames y w)
   action_there (leaves q) (action a o m) =
       let b = partner q.action o.place a o.stands in
       let n = assign_there b.related m in
       record { other = n.other; related = n.related; stands = action b.item (record { place = o.place; stands = b.stands }) n.stands }
   action_there (i.joints q) h = elim h [ ]
 
-  way_there : {v : Way V} {w : Way W} → Way_renames same v w → Way_names x v → Mentioned same x (λ y. Way_names y w)
+  way_there : {v : Way V} {w : Way W} → Way_renames same v w → WayNames x v → Mentioned same x (λ y. WayNames y w)
   way_there q (in_guard m) = let n = guard_there q m in record { other = n.other; related = n.related; stands = in_guard n.stands }
   way_there q (in_action m) = let n = action_there q m in record { other = n.other; related = n.related; stands = in_action n.stands }
 
@@ -63,14 +61,14 @@ module _ {V W : Type 0} (same : V → W → Type 0) (here : System V) (there : S
   pub record KeptThere (l : Label) (v : Way V) (unit : ℕ) : Type 0 where
     pub way : Way W
     pub is_kept : IsKept there dropped l way
-    pub is_unit : is_kept.event.unit ≡ unit
+    pub is_unit : is_kept.is_way.event.unit ≡ unit
     pub related : Way_renames same v way
 
-  pub kept_there : {l : Label} {v : Way V} → (o : IsKept here dropped l v) → KeptThere l v o.event.unit
+  pub kept_there : {l : Label} {v : Way V} → (o : IsKept here dropped l v) → KeptThere l v o.is_way.event.unit
   kept_there {l = l} {v = v} o =
-      let e = partner image.events l.event o.event o.is_event in
-      let w = partner e.related.ways l.way v o.is_way in
-      record { way = w.item; is_kept = record { event = e.item; is_event = e.stands; is_way = w.stands; stays = o.stays }; is_unit = sym e.related.unit; related = w.related }
+      let e = partner image.events l.event o.is_way.event o.is_way.is_event in
+      let w = partner e.related.ways l.way v o.is_way.is_way in
+      record { way = w.item; is_kept = record { is_way = record { event = e.item; is_event = e.stands; is_way = w.stands }; stays = o.stays }; is_unit = sym e.related.unit; related = w.related }
 
   pub transitions_there : (unit : ℕ) → HasTransitions here dropped unit → HasTransitions there dropped unit
   transitions_there unit h = let k = kept_there h.is_kept in record { label = h.label; way = k.way; is_kept = k.is_kept; is_unit = k.is_unit ∙ h.is_unit }
@@ -86,7 +84,7 @@ module _ {V W : Type 0} (same : V → W → Type 0) (here : System V) (there : S
   named_there : (unit : ℕ) {v : Way V} {w : Way W} → Way_renames same v w → (x : Variable V) (y : Variable W) → Variable_renames same x y → IsNamedStateOf unit v x → IsNamedStateOf unit w y
   named_there unit {w = w} q x y r h =
       let n = way_there same x.key q h.named in
-      record { is_state = sym r.is_state ∙ h.is_state; is_unit = sym r.unit ∙ h.is_unit; named = subst (λ z. Way_names z w) (image.net.one x.key n.other y.key n.related r.key) n.stands }
+      record { is_state = sym r.is_state ∙ h.is_state; is_unit = sym r.unit ∙ h.is_unit; named = subst (λ z. WayNames z w) (image.net.one x.key n.other y.key n.related r.key) n.stands }
 
   at_there : (x : V) (y : W) (m : Value) → same x y → (z : V) (u : W) (v : Value) → same z u → At x m z v → At y m u v
   at_there x y m s z u v r h = record { key = image.net.one x u y (subst (λ k. same k u) h.key r) s; value = h.value }
@@ -117,12 +115,13 @@ module _ {V W : Type 0} (same : V → W → Type 0) (here : System V) (there : S
 
   pub edge_there : {l : Label} {n : ℕ} {from to : Value} → Edge here dropped l n from to → Edge there dropped l n from to
   edge_there {l = l} {n = n} {from = from} {to = to} e =
-      let p = partner image.events l.event e.is_open.event e.is_open.is_event in
-      let w = partner p.related.ways l.way e.way e.is_open.is_way in
+      let k = e.is_open.is_kept in
+      let p = partner image.events l.event k.is_way.event k.is_way.is_event in
+      let w = partner p.related.ways l.way e.way k.is_way.is_way in
       let x = partner image.net.variables n e.variable e.is_variable in
       record {
         way = w.item;
-        is_open = record { event = p.item; is_event = p.stands; is_way = w.stands; visible = sym p.related.hidden ∙ e.is_open.visible; stays = e.is_open.stays };
+        is_open = record { is_kept = record { is_way = record { event = p.item; is_event = p.stands; is_way = w.stands }; stays = k.stays }; visible = sym p.related.hidden ∙ e.is_open.visible };
         variable = x.item;
         is_variable = x.stands;
         is_mode = is_mode_there same here there image dropped p.item.unit w.related (subst (λ z. IsModeOf here z e.way n) p.related.unit e.is_mode);
@@ -164,15 +163,11 @@ module _ {V W : Type 0} (same : V → W → Type 0) (here : System V) (there : S
     ascends = f.ascends;
   }
 
-  along_long : {A B : Type 0} {R : A → B → Type 0} {xs : List A} {ys : List B} → Along R xs ys → length xs ≡ length ys
-  along_long l.none = refl
-  along_long (l.one_and r rs) = ap suc (along_long rs)
-
   pub firable_there : {set : List ℕ} {t : List Value} → IsFirable here dropped set t → IsFirable there dropped set t
   firable_there f =
       let behind = image_turned same image in
       record {
-        long = f.long ∙ along_long image.net.variables;
+        long = f.long ∙ along_length here.net.variables there.net.variables image.net.variables;
         path = f.path;
         walks = λ n y s k.
             let p = partner behind.net.variables n y s in

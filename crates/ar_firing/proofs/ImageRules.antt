@@ -1,7 +1,6 @@
 -- A system and its image keep and break the same rules, by the same numbers.
 use Rattle.std.proofs.Common.{◌≡◌, ℕ, List, Contains, refl, sym, ◌∙◌, subst}
 use Rattle.ar_base.specs.Lists.{Stands}
-use Rattle.ar_base.proofs.Standing.{stands_one}
 use Rattle.domains.specs.declared.Value.{Value}
 use Rattle.typed_expr.specs.Pairs.{turned}
 use Rattle.typed_expr.specs.Yields.{Level}
@@ -11,6 +10,7 @@ use Rattle.ar_meaning.specs.Facts.{Allows}
 use Rattle.ar_meaning.specs.Systems.{Assign, Variable, Transition, Way, Joint, Branches, System}
 use Rattle.ar_meaning.specs.Runs.{Label, IsWay}
 use Rattle.ar_meaning.specs.Image.{Assign_renames, Variable_renames, Way_renames, leaves, joints, IsImage}
+use Rattle.ar_meaning.proofs.OneRun.{way_same}
 use Rattle.ar_meaning.proofs.ImageTurned.{image_turned, way_turned}
 use Rattle.ar_meaning.proofs.ImageFlows.{allows_there, partner}
 use Rattle.ar_firing.specs.Fragment.{IsKept, IsModeOf, IsLive}
@@ -80,7 +80,7 @@ module _ {V W : Type 0} (same : V → W → Type 0) (here : System V) (there : S
           variable = p.item;
           way_related = k.related;
           variable_related = p.related;
-          mode = record { is_kept = k.is_kept; stands = p.stands; is_mode = is_mode_there same here there image dropped k.is_kept.event.unit k.related (subst (λ z. IsModeOf here z v n) (sym k.is_unit) h.is_mode) };
+          mode = record { is_kept = k.is_kept; stands = p.stands; is_mode = is_mode_there same here there image dropped k.is_kept.is_way.event.unit k.related (subst (λ z. IsModeOf here z v n) (sym k.is_unit) h.is_mode) };
         }
 
     pub breaks_s3_there : (n : ℕ) → BreaksS3 here dropped n → BreaksS3 there dropped n
@@ -107,8 +107,9 @@ module _ {V W : Type 0} (same : V → W → Type 0) (here : System V) (there : S
 
     pub live_at_there : {l : Label} {v : Way V} {n : ℕ} {x : Variable V} {m : Value} → IsLiveAt here dropped l v n x m → LiveThere l v n x m
     live_at_there {l = l} {v = v} {n = n} {x = x} {m = m} h =
-        let e = partner image.events l.event h.is_open.event h.is_open.is_event in
-        let w = partner e.related.ways l.way v h.is_open.is_way in
+        let k = h.is_open.is_kept in
+        let e = partner image.events l.event k.is_way.event k.is_way.is_event in
+        let w = partner e.related.ways l.way v k.is_way.is_way in
         let p = partner image.net.variables n x h.stands in
         record {
           way = w.item;
@@ -116,7 +117,7 @@ module _ {V W : Type 0} (same : V → W → Type 0) (here : System V) (there : S
           way_related = w.related;
           variable_related = p.related;
           is_live = record {
-            is_open = record { event = e.item; is_event = e.stands; is_way = w.stands; visible = sym e.related.hidden ∙ h.is_open.visible; stays = h.is_open.stays };
+            is_open = record { is_kept = record { is_way = record { event = e.item; is_event = e.stands; is_way = w.stands }; stays = k.stays }; visible = sym e.related.hidden ∙ h.is_open.visible };
             is_mode = is_mode_there same here there image dropped e.item.unit w.related (subst (λ z. IsModeOf here z v n) e.related.unit h.is_mode);
             stands = p.stands;
             reached = reached_there same here there image dropped h.reached;
@@ -194,9 +195,7 @@ module _ {V W : Type 0} (same : V → W → Type 0) (here : System V) (there : S
   live_back h = live_there (turned same) there here (image_turned same image) dropped h
 
   one_way : {l : Label} {v w : Way W} → IsKept there dropped l v → IsKept there dropped l w → v ≡ w
-  one_way {l = l} {v = v} {w = w} a b =
-      let e = stands_one there.events l.event a.event b.event a.is_event b.is_event in
-      stands_one b.event.ways l.way v w (subst (λ z. Stands z.ways l.way v) e a.is_way) b.is_way
+  one_way a b = way_same there a.is_way b.is_way
 
   pub keeps_s3_there : KeepsS3 here dropped → KeepsS3 there dropped
   keeps_s3_there k = record {

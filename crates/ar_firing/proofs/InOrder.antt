@@ -5,10 +5,12 @@ use Rattle.ar_meaning.specs.Systems.{Variable, System}
 use Rattle.ar_meaning.specs.Facts.{AreKeyed, HasValue}
 use Rattle.ar_meaning.specs.Ways.{Can}
 use Rattle.ar_meaning.specs.Runs.{Label}
-use Rattle.ar_firing.specs.Fragment.{IsStatic, Path, root, edge, Edge}
-use Rattle.ar_firing.specs.Cuts.{Reaches, IsFirable, AreEvents, AreInOrder, Within}
+use Rattle.ar_firing.specs.Fragment.{Path, root, edge, Edge}
+use Rattle.ar_firing.specs.Static.{IsStatic}
+use Rattle.ar_firing.specs.Cuts.{Reaches, IsFirable, AreEvents, AreInOrder}
+use Rattle.ar_base.specs.Sets.{Within}
 use Rattle.domains.specs.declared.Value.{Value}
-use Rattle.ar_base.proofs.Standing.{stands_one}
+use Rattle.ar_base.proofs.Standing.{stands_one, stands_none}
 use Rattle.ar_firing.proofs.Firing.{all_firable, enabled}
 use Rattle.ar_firing.proofs.Ends.{split_live, Split, split, Tail, tail_of, path_unique, path_end, live, on_path, label_same}
 use Rattle.ar_firing.proofs.EachHasOrder.{event_of, label_of}
@@ -32,10 +34,7 @@ module _ {V : Type 0} (sys : System V) (dropped : List ℕ) (keyed : AreKeyed sy
   -- what stands on the path before a label comes before it in the order
   before : {ls : List Label} {n : ℕ} {q : List Label} {from to : Value} → AreInOrder sys dropped ls → (k : ℕ) (l : Label) → Stands ls k l → Path sys dropped n q from → Edge sys dropped l n from to
       → (i : ℕ) (m : Label) → Stands q i m → (j : ℕ) × (k < j) × Stands ls j m
-  before o k l s (root a b c) e i m h = let g : (⊥) = no_item i m h in absurd g
-    where
-      no_item : (i : ℕ) (m : Label) → Stands [] i m → ⊥
-      no_item i m h = cc
+  before o k l s (root a b c) e i m h = absurd (stands_none i m h)
   before {ls = ls} {n = n} {from = from} {to = to} o k l s (edge {l = x} {ls = q} p d) e zero m h =
       let i : x ≡ m = cc in
       let r = o.after k l n from to x q s (edge p d) e in
@@ -84,7 +83,7 @@ module _ {V : Type 0} (sys : System V) (dropped : List ℕ) (keyed : AreKeyed sy
             let y = g.walks h.0 h.1 h.3 h.4 in
             let z = split sys dropped keyed static y.2 h.5.place h.2 h.5.stands in
             let k = split sys dropped keyed static s.path o.place m o.stands in
-            let d = static.one_edge h.2 m h.0 n z.from k.from z.to k.to (split_live sys dropped keyed static z) (split_live sys dropped keyed static k) h.6 in
+            let d = static.one_edge.one h.2 m h.0 n z.from k.from z.to k.to (split_live sys dropped keyed static z) (split_live sys dropped keyed static k) h.6 in
             let i : h.2 ≡ m = label_same h.2 m h.6 d.0 in
             subst (λ z. IsOneOf (g.path z) m) d.1 (subst (λ z. IsOneOf (g.path h.0) z) i h.5)
 
@@ -103,7 +102,7 @@ module _ {V : Type 0} (sys : System V) (dropped : List ℕ) (keyed : AreKeyed sy
             let p = on_path sys dropped keyed static g f inside n x st state i o in
             let w = f.walks n x st state in
             let r = split sys dropped keyed static w.2 p.place i p.stands in
-            let c = static.one_edge i i n n r.from s.from r.to k.to (split_live sys dropped keyed static r) (live sys dropped keyed static s.path k.edge_on) refl in
+            let c = static.one_edge.one i i n n r.from s.from r.to k.to (split_live sys dropped keyed static r) (live sys dropped keyed static s.path k.edge_on) refl in
             let q : r.rest ≡ s.rest = path_unique sys dropped keyed static (subst (λ z. Path sys dropped n r.rest z) c.2 r.path) s.path in
             let a : length (f.path n) ≡ length s.front + suc (length s.rest) = ap length s.is ∙ length-append s.front (l ∷ s.rest) in
             let d : length (f.path n) ≡ length r.front + suc (length r.rest) = ap length r.is ∙ length-append r.front (i ∷ r.rest) in

@@ -1,8 +1,9 @@
 -- Least sets, said by what is within them and by what is lesser.
 use Rattle.std.proofs.Common.{◌≡◌, ◌<◌, ◌≤◌, ◌⊎◌, inl, inr, ⊎_elim, ℕ, zero, suc, List, [], ◌∷◌, Some, refl, sym, ap, subst, arith}
 use Rattle.ar_base.specs.Lists.{Stands, IsOneOf}
-use Rattle.ar_firing.specs.Cuts.{Within, IsLeast, HasNoLesser}
-use Rattle.ar_firing.proofs.Firing.{is_same}
+use Rattle.ar_firing.specs.Cuts.{IsLeast, HasNoLesser}
+use Rattle.ar_base.specs.Sets.{Within}
+use Rattle.std.proofs.lemmas.Bool.{cases_eq}
 
 pub within_self : (xs : List ℕ) → Within xs xs
 within_self xs = record { each = λ e o. o }
@@ -15,7 +16,7 @@ pub one_of : (xs : List ℕ) (e : ℕ) → IsOneOf xs e ⊎ (IsOneOf xs e → �
 one_of [] e = inr (λ o. let h = o.stands in cc)
 one_of (x ∷ xs) e = ⊎_elim (λ i. inl (record { place = zero; stands = ap (λ z. Some z) i }))
     (λ n. ⊎_elim (λ o. inl (record { place = suc o.place; stands = o.stands })) (λ m. inr (λ o. neither n m o.place o.stands)) (one_of xs e))
-    (is_same x e)
+    (cases_eq x e)
   where
     neither : (x ≡ e → ⊥) → (IsOneOf xs e → ⊥) → (k : ℕ) → Stands (x ∷ xs) k e → ⊥
     neither n m zero s = let i : x ≡ e = cc in n i

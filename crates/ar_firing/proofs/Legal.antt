@@ -8,8 +8,10 @@ use Rattle.ar_meaning.specs.Ways.{Can}
 use Rattle.ar_meaning.specs.Flows.{FlowFault, Flows, Fails}
 use Rattle.ar_meaning.specs.Steps.{moves, flow}
 use Rattle.ar_meaning.specs.Runs.{Label, first_values}
-use Rattle.ar_firing.specs.Fragment.{IsStatic, Edge}
-use Rattle.ar_firing.specs.Cuts.{Reaches, Conflicts, IsFirable, IsLegalOrder, AreEvents, Within, Moves_to}
+use Rattle.ar_firing.specs.Fragment.{Edge}
+use Rattle.ar_firing.specs.Static.{IsStatic}
+use Rattle.ar_firing.specs.Cuts.{Reaches, Conflicts, IsFirable, IsLegalOrder, AreEvents, MovesTo}
+use Rattle.ar_base.specs.Sets.{Within}
 use Rattle.ar_firing.specs.Cuts as cuts
 use Rattle.ar_firing.specs.Operands.{HasFlows}
 use Rattle.ar_firing.proofs.Firing.{all_firable, next_edge, moved, none_firable}

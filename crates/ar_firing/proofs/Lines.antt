@@ -7,8 +7,10 @@ use Rattle.domains.specs.declared.Value.{Value}
 use Rattle.ar_meaning.specs.Systems.{Variable, System}
 use Rattle.ar_meaning.specs.Facts.{AreKeyed}
 use Rattle.ar_meaning.specs.Runs.{Label}
-use Rattle.ar_firing.specs.Fragment.{IsStatic, Path, root, edge, Edge}
-use Rattle.ar_firing.specs.Cuts.{IsFirable, IsLegalOrder, AreEvents, AreInOrder, Within}
+use Rattle.ar_firing.specs.Fragment.{Path, root, edge, Edge}
+use Rattle.ar_firing.specs.Static.{IsStatic}
+use Rattle.ar_firing.specs.Cuts.{IsFirable, IsLegalOrder, AreEvents, AreInOrder}
+use Rattle.ar_base.specs.Sets.{Within}
 use Rattle.ar_firing.specs.Forest.{firing_line, IsLine}
 use Rattle.ar_firing.proofs.Ends.{split_live, split, path_unique, live, label_same, path_same, on_path}
 use Rattle.ar_firing.proofs.EachHasOrder.{AreOnce}
@@ -96,7 +98,7 @@ module _ {V : Type 0} (sys : System V) (dropped : List ℕ) (keyed : AreKeyed sy
   not_before : {n : ℕ} {ls : List Label} {l : Label} {from to : Value} → Path sys dropped n ls from → Edge sys dropped l n from to → (k : ℕ) (m : Label) → Stands ls k m → l.event ≡ m.event → ⊥
   not_before {n = n} {ls = ls} {l = l} {from = from} {to = to} p e k m s i =
       let r = split sys dropped keyed static p k m s in
-      let c = static.one_edge l m n n from r.from to r.to (live sys dropped keyed static p e) (split_live sys dropped keyed static r) i in
+      let c = static.one_edge.one l m n n from r.from to r.to (live sys dropped keyed static p e) (split_live sys dropped keyed static r) i in
       let u : r.rest ≡ ls = path_unique sys dropped keyed static (subst (λ z. Path sys dropped n r.rest z) (sym c.2) r.path) p in
       let g : length ls ≡ length r.front + suc (length r.rest) = ap length r.is ∙ length-append r.front (m ∷ r.rest) in
       let z : length r.rest ≡ length ls = ap length u in absurd (omega arith)
@@ -120,7 +122,7 @@ module _ {V : Type 0} (sys : System V) (dropped : List ℕ) (keyed : AreKeyed sy
         let v = f.walks n y s' i' in
         let r = split sys dropped keyed static w.2 o.place k o.stands in
         let q = split sys dropped keyed static v.2 o'.place l o'.stands in
-        let c = static.one_edge k l m n r.from q.from r.to q.to (split_live sys dropped keyed static r) (split_live sys dropped keyed static q) e in
+        let c = static.one_edge.one k l m n r.from q.from r.to q.to (split_live sys dropped keyed static r) (split_live sys dropped keyed static q) e in
         (c.1, label_same k l e c.0)
 
     line_once : (n : ℕ) (xs : List (Variable V)) → ((k : ℕ) (x : Variable V) → Stands xs k x → (m : ℕ) → m ≡ n + k → Stands sys.net.variables m x) → AreOnce (backward n xs f.path)
@@ -167,7 +169,7 @@ module _ {V : Type 0} (sys : System V) (dropped : List ℕ) (keyed : AreKeyed sy
           let c = on_paths k l s in
           let w = f.walks c.0 c.1 c.2 c.3 in
           let r = split sys dropped keyed static w.2 c.4.place l c.4.stands in
-          let d = static.one_edge l l n c.0 from r.from to r.to (live sys dropped keyed static p e) (split_live sys dropped keyed static r) refl in
+          let d = static.one_edge.one l l n c.0 from r.from to r.to (live sys dropped keyed static p e) (split_live sys dropped keyed static r) refl in
           let u : m ∷ ms ≡ r.rest = path_unique sys dropped keyed static p (subst (λ z. Path sys dropped n r.rest z) (sym d.2) (subst (λ z. Path sys dropped z r.rest r.from) (sym d.1) r.path)) in
           let q = piece 0 sys.net.variables f.path c.0 c.0 c.1 c.2 c.3 (omega arith) in
           let here : f.path c.0 ≡ r.front ++ (l ∷ (m ∷ ms)) = r.is ∙ ap (λ z. r.front ++ (l ∷ z)) (sym u) in

@@ -6,7 +6,7 @@ use Rattle.typed_expr.specs.declared.expr.Expr.{Expr, out-Expr}
 use Rattle.ar_meaning.specs.Systems.{System}
 use Rattle.ar_meaning.specs.Facts.{AreKeyed, HasValue}
 use Rattle.ar_meaning.specs.Runs.{Label}
-use Rattle.ar_firing.specs.Fragment.{IsStatic}
+use Rattle.ar_firing.specs.Static.{IsStatic}
 use Rattle.ar_firing.specs.Cuts.{Reaches, IsFirable, Makes}
 use Rattle.ar_firing.specs.Forest.{firing_line, IsLine}
 use Rattle.ar_firing.specs.Operands.{Agrees}

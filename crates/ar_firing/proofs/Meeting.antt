@@ -7,15 +7,18 @@ use Rattle.ar_meaning.specs.Facts.{AreKeyed}
 use Rattle.ar_meaning.specs.Flows.{FlowFault, Flows, Fails}
 use Rattle.ar_meaning.specs.Steps.{flow}
 use Rattle.ar_meaning.specs.Runs.{Label, first_values}
-use Rattle.ar_firing.specs.Fragment.{IsStatic, Path, root, edge, Edge}
-use Rattle.ar_firing.specs.Cuts.{IsLeast, Reaches, Conflicts, IsFirable, AreEvents, HasOrder, MeetsConflict, Within}
+use Rattle.ar_firing.specs.Fragment.{Path, root, edge, Edge}
+use Rattle.ar_firing.specs.Static.{IsStatic}
+use Rattle.ar_firing.specs.Cuts.{IsLeast, Reaches, Conflicts, IsFirable, AreEvents, HasOrder, MeetsConflict}
+use Rattle.ar_base.specs.Sets.{Within}
 use Rattle.ar_firing.specs.Cuts as cuts
 use Rattle.ar_firing.specs.Operands.{Agrees, HasFlows, IsFirableWith}
 use Rattle.domains.specs.declared.Value.{Value}
 use Rattle.typed_expr.specs.declared.expr.Expr.{Expr}
 use Rattle.ar_meaning.proofs.OneAnswer.{flows_same}
 use Rattle.ar_meaning.proofs.StatesAlone.{same_at}
-use Rattle.ar_firing.proofs.Firing.{conflict_firable, none_firable, all_firable, enabled, next_edge, moved, is_same}
+use Rattle.std.proofs.lemmas.Bool.{cases_eq}
+use Rattle.ar_firing.proofs.Firing.{conflict_firable, none_firable, all_firable, enabled, next_edge, moved}
 use Rattle.ar_firing.proofs.Ends.{split_live, split, path_unique, live, firable_same}
 use Rattle.ar_firing.proofs.EachHasOrder.{has_order, received, no_clash, no_leave}
 use Rattle.ar_firing.proofs.Without.{without, kept, was}
@@ -61,15 +64,15 @@ module _ {V : Type 0} (sys : System V) (dropped : List ℕ) (keyed : AreKeyed sy
     other m y sy iy k j h q = ⊎_elim
         (λ i. let a : Stands ls k j = subst (λ z. Stands z k j) (put_here n ls f.path) (subst (λ z. Stands (put n ls f.path z) k j) i h) in
         let r = split sys dropped keyed static p k j a in
-        let c = static.one_edge j l n n r.from from r.to to (split_live sys dropped keyed static r) (live sys dropped keyed static p e) q in
+        let c = static.one_edge.one j l n n r.from from r.to to (split_live sys dropped keyed static r) (live sys dropped keyed static p e) q in
         let u : r.rest ≡ ls = path_unique sys dropped keyed static (subst (λ z. Path sys dropped n r.rest z) c.2 r.path) p in
         let g : length ls ≡ length r.front + suc (length r.rest) = ap length r.is ∙ length-append r.front (j ∷ r.rest) in
         let z : length r.rest ≡ length ls = ap length u in absurd (omega arith))
         (λ i. let a : Stands (f.path m) k j = subst (λ z. Stands z k j) (put_there n m ls f.path i) h in
         let w = f.walks m y sy iy in
         let r = split sys dropped keyed static w.2 k j a in
-        let c = static.one_edge j l m n r.from from r.to to (split_live sys dropped keyed static r) (live sys dropped keyed static p e) q in i c.1)
-        (is_same m n)
+        let c = static.one_edge.one j l m n r.from from r.to to (split_live sys dropped keyed static r) (live sys dropped keyed static p e) q in i c.1)
+        (cases_eq m n)
 
     still : (m : ℕ) (k : ℕ) (j : Label) → Stands (put n ls f.path m) k j → IsOneOf (f.path m) j
     still m k j h = ⊎_elim
@@ -77,7 +80,7 @@ module _ {V : Type 0} (sys : System V) (dropped : List ℕ) (keyed : AreKeyed sy
         let b : f.path m ≡ l ∷ ls = ap f.path i ∙ is in
         subst (λ z. IsOneOf z j) (sym b) (record { place = suc k; stands = a }))
         (λ i. record { place = k; stands = subst (λ z. Stands z k j) (put_there n m ls f.path i) h })
-        (is_same m n)
+        (cases_eq m n)
 
     left : (m : ℕ) (j : Label) → IsOneOf (f.path m) j → (j.event ≡ l.event → ⊥) → IsOneOf (put n ls f.path m) j
     left m j o h = ⊎_elim
@@ -85,7 +88,7 @@ module _ {V : Type 0} (sys : System V) (dropped : List ℕ) (keyed : AreKeyed sy
         let c : IsOneOf ls j = go o.place (subst (λ z. Stands z o.place j) b o.stands) in
         subst (λ z. IsOneOf (put n ls f.path z) j) (sym i) (subst (λ z. IsOneOf z j) (sym (put_here n ls f.path)) c))
         (λ i. subst (λ z. IsOneOf z j) (sym (put_there n m ls f.path i)) o)
-        (is_same m n)
+        (cases_eq m n)
       where
         go : (k : ℕ) → Stands (l ∷ ls) k j → IsOneOf ls j
         go zero s = let q : l ≡ j = cc in absurd (h (sym (ap (λ z. z.event) q)))
@@ -103,7 +106,7 @@ module _ {V : Type 0} (sys : System V) (dropped : List ℕ) (keyed : AreKeyed sy
           ))
           (λ i. let w = f.walks m y sy iy in
           (w.0, changed_there t n m from w.0 i w.1, subst (λ z. Path sys dropped m z w.0) (sym (put_there n m ls f.path i)) w.2))
-          (is_same m n);
+          (cases_eq m n);
       sound = λ m y sy iy k j h.
           let a = still m k j h in
           let b = f.sound m y sy iy a.place j a.stands in
@@ -177,7 +180,7 @@ module _ {V : Type 0} (sys : System V) (dropped : List ℕ) (keyed : AreKeyed sy
           each = λ e o. ⊎_elim
               (λ q. record { place = zero; stands = ap (λ z. Some z) (sym q) })
               (λ q. let k = kept l.event set o.place e o.stands q in let r = (set_within ks (without l.event set) a).each e k in record { place = suc r.place; stands = r.stands })
-              (is_same e l.event);
+              (cases_eq e l.event);
         }
 
         sound_at : (ks : List Label) → AreEvents ks (without l.event set) → IsOneOf set l.event → (k : ℕ) (j : Label) → Stands (l ∷ ks) k j → IsOneOf set j.event
@@ -188,7 +191,7 @@ module _ {V : Type 0} (sys : System V) (dropped : List ℕ) (keyed : AreKeyed sy
         whole_at ks a e o = ⊎_elim
             (λ q. let r : IsOneOf (l ∷ ks) l = record { place = zero; stands = refl } in (l, r, sym q))
             (λ q. let w = a.whole e (kept l.event set o.place e o.stands q) in let r : IsOneOf (l ∷ ks) w.0 = record { place = suc w.1.place; stands = w.1.stands } in (w.0, r, w.2))
-            (is_same e l.event)
+            (cases_eq e l.event)
 
         never : (ks : List Label) → AreEvents ks (without l.event set) → (k : ℕ) (j : Label) → Stands ks k j → j.event ≡ l.event → ⊥
         never ks a k j s q = let r = a.sound k j s in (was l.event set r.place j.event r.stands).1 q

@@ -5,7 +5,8 @@ use Rattle.ar_base.proofs.Standing.{stands_one}
 use Rattle.ar_meaning.specs.Systems.{System}
 use Rattle.ar_meaning.specs.Facts.{AreKeyed}
 use Rattle.ar_meaning.specs.Runs.{Label}
-use Rattle.ar_firing.specs.Fragment.{Edge, Path, root, edge, IsStatic}
+use Rattle.ar_firing.specs.Fragment.{Edge, Path, root, edge}
+use Rattle.ar_firing.specs.Static.{IsStatic}
 use Rattle.ar_firing.specs.Forest.{IsModeVariable, Row, Under, no_more, next, ModeTree, IsModeTree, IsForest}
 use Rattle.domains.specs.declared.Value.{Value}
 use Rattle.ar_firing.proofs.Ends.{live, end_same, label_same}
@@ -19,7 +20,7 @@ module _ {V : Type 0} (sys : System V) (dropped : List ℕ) (keyed : AreKeyed sy
       let x : l.event < k.event → ⊥ = λ h. s' l to i h e in
       let y : k.event < l.event → ⊥ = λ h. s k on i' h e' in
       let z : l.event ≡ k.event = omega arith in
-      let c = static.one_edge l k n n m m to on (live sys dropped keyed static p e) (live sys dropped keyed static p e') z in
+      let c = static.one_edge.one l k n n m m to on (live sys dropped keyed static p e) (live sys dropped keyed static p e') z in
       let j : l ≡ k = label_same l k z c.0 in
       let g : Edge sys dropped l n m on = subst (λ q. Edge sys dropped q n m on) (sym j) e' in
       let t : to ≡ on = end_same sys dropped keyed static e g in

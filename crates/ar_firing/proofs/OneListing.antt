@@ -2,8 +2,8 @@
 use Rattle.std.proofs.Common.{◌≡◌, ◌<◌, ◌⊎◌, inl, inr, ⊎_elim, ℕ, zero, suc, List, [], ◌∷◌, refl, sym, subst, arith}
 use Rattle.std.proofs.lemmas.Bool.{cases_order}
 use Rattle.ar_base.specs.Lists.{Stands, IsOneOf}
-use Rattle.ar_firing.specs.Cuts.{Within}
-use Rattle.ar_firing.specs.Listed.{Ascends, IsBefore, AreListed}
+use Rattle.ar_base.specs.Sets.{Within, Ascends, IsBefore}
+use Rattle.ar_firing.specs.Listed.{AreListed}
 
 -- of two sets at most one is before the other
 pub not_both : {s t : List ℕ} → IsBefore s t → IsBefore t s → ⊥

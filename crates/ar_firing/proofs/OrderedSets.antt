@@ -4,7 +4,7 @@ use Rattle.domains.specs.declared.Value.{Value}
 use Rattle.ar_meaning.specs.Systems.{System}
 use Rattle.ar_meaning.specs.Facts.{AreKeyed}
 use Rattle.ar_meaning.specs.Runs.{Label}
-use Rattle.ar_firing.specs.Fragment.{IsStatic}
+use Rattle.ar_firing.specs.Static.{IsStatic}
 use Rattle.ar_firing.specs.Cuts.{Reaches, start, fire, HasOrder, IsFirable, IsConflictFree}
 use Rattle.ar_firing.specs.Operands.{HasFlows, HasFault}
 use Rattle.ar_firing.proofs.Firing.{all_firable}
@@ -15,7 +15,7 @@ use Rattle.ar_firing.proofs.SameSets.{firable_as, events_within, set_within}
 pub undropped : {V : Type 0} (sys : System V) (dropped : List ℕ) {ls : List Label} {t : List Value} → Reaches sys dropped ls t → Reaches sys [] ls t
 undropped sys dropped (start f) = start f
 undropped sys dropped (fire w r o s) =
-    fire w (undropped sys dropped r) (record { event = o.event; is_event = o.is_event; is_way = o.is_way; visible = o.visible; stays = λ i. let h = i.stands in cc }) s
+    fire w (undropped sys dropped r) (record { is_kept = record { is_way = o.is_kept.is_way; stays = λ i. let h = i.stands in cc }; visible = o.visible }) s
 
 module _ {V : Type 0} (sys : System V) (dropped : List ℕ) (keyed : AreKeyed sys.net) (static : IsStatic sys dropped) where
   pub order_is_firable : {set : List ℕ} {t : List Value} → HasOrder sys dropped set t → IsFirable sys dropped set t

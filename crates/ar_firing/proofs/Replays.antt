@@ -47,7 +47,7 @@ module _ {V : Type 0} (sys : System V) (dropped : List ℕ) where
       (_, ends, subst (λ z. AllFire steps [] t (Rattle.ar_meaning.specs.Runs.Ends z ∷ []) t) (sym i) replays.none)
   goes {t = t} below steps e (step {u = u} w o s c) =
       let r = goes (t ∷ below) steps (omega (arith, e)) c in
-      (_, fires w (record { event = o.event; is_event = o.is_event; is_way = o.is_way }) s r.1, replays.fire r.2)
+      (_, fires w o.is_kept.is_way s r.1, replays.fire r.2)
 
   -- what a run tells where a label fires without fault
   record Fired (below : List (List Value)) (t : List Value) (l : Label) (cs : List Command) (u : List Value) (ms : List Moment) : Type 0 where
@@ -81,7 +81,7 @@ module _ {V : Type 0} (sys : System V) (dropped : List ℕ) where
   went {t = t} o (replays.fire {l = l} {ls = ls} {u = u} {ms = ms} d) g =
       let r = fired g l (map Fire ls) u ms refl refl in
       let k = o.each zero l refl in
-      let e : r.way ≡ k.0 = way_same sys r.is_way (record { event = k.1.event; is_event = k.1.is_event; is_way = k.1.is_way }) in
+      let e : r.way ≡ k.0 = way_same sys r.is_way k.1.is_kept.is_way in
       step k.0 k.1 (subst (λ z. Step sys.net t z (Next u)) e r.steps) (went (record { each = λ j m h. o.each (suc j) m h }) d r.goes_on)
 
   all_open : {t u : List Value} {ls : List Label} → Chain sys dropped t ls u → AreOpen sys dropped ls
@@ -111,10 +111,10 @@ module _ {V : Type 0} (sys : System V) (dropped : List ℕ) where
 
   fails_last : {t u : List Value} {ls : List Label} {f : FlowFault} (below : List (List Value)) (l : Label) → Chain sys dropped t ls u → (w : Way V) → IsOpen sys dropped l w → Step sys.net u w (Refused (Flow f))
       → (ms : List Moment) × Goes sys below t (map Fire (ls ++ (l ∷ []))) ms × LastFails f (ls ++ (l ∷ [])) t ms
-  fails_last below l none w o s = (_, fails w (record { event = o.event; is_event = o.is_event; is_way = o.is_way }) s, replays.last)
+  fails_last below l none w o s = (_, fails w o.is_kept.is_way s, replays.last)
   fails_last {t = t} below l (step v p r c) w o s =
       let k = fails_last (t ∷ below) l c w o s in
-      (_, fires v (record { event = p.event; is_event = p.is_event; is_way = p.is_way }) r k.1, replays.fire k.2)
+      (_, fires v p.is_kept.is_way r k.1, replays.fire k.2)
 
   -- what meets a conflict replays up to its fault
   conflict_unwound : {ls : List Label} {f : FlowFault} → Conflicts sys dropped ls f → (ms : List Moment) × Runs sys (map Fire (reverse ls)) ms × FailsLast f (reverse ls) ms

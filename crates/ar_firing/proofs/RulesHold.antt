@@ -1,13 +1,15 @@
 -- A rule that is kept is not broken, and the rules make a system static.
-use Rattle.std.proofs.Common.{◌≡◌, ◌<◌, ℕ, zero, suc, true, List, refl, sym, ◌∙◌, ap, subst, arith, Contains}
+use Rattle.std.proofs.Common.{◌≡◌, ◌<◌, ℕ, zero, suc, true, List, refl, sym, ◌∙◌, ap, subst, arith, Contains, inl, inr}
 use Rattle.ar_base.specs.Lists.{Stands}
 use Rattle.ar_base.proofs.Standing.{stands_one}
 use Rattle.domains.specs.declared.Value.{Value}
 use Rattle.ar_meaning.specs.Systems.{Variable, Way, Joint, System}
 use Rattle.ar_meaning.specs.Runs.{Label}
 use Rattle.ar_meaning.proofs.OneAnswer.{first_same, no_first}
-use Rattle.ar_firing.specs.Fragment.{Guard_names, guard, Action_names, action, as_target, in_condition, in_value, IsKept, IsOpen, IsModeOf, named, first, At, Edge, IsReached, Is_of, HasMode, Leads, IsStatic}
-use Rattle.ar_firing.specs.Fragment as g
+use Rattle.ar_meaning.proofs.Dependence.{tests_at}
+use Rattle.ar_firing.specs.Fragment.{GuardNames, guard, ActionNames, action, as_target, as_source, IsKept, IsOpen, IsModeOf, named, first, At, Edge, IsReached}
+use Rattle.ar_firing.specs.Static.{IsOf, HasMode, Leads, IsStatic}
+use Rattle.ar_firing.specs.Static as g
 use Rattle.ar_firing.specs.Rules.{IsTransition, transition, KeepsS1, BreaksS1, KeepsS2, BreaksS2, HasModeVariable, KeepsS3, BreaksS3, GivesOne, GivesOther, nothing, two, outside, KeepsS4, BreaksS4, names, gives, AreTwo, ways, variables, modes, KeepsS5, BreaksS5, KeepsS6, BreaksS6, stays, by_events, by_edges, initial, KeepsS7, BreaksS7, ObserverBreaksS7, KeepsS8, BreaksS8, Spot, AtEvent, AtUnit, AtVariable, AtObserver, AtWhole, IsShownBefore, events, units, observers, variable_first, Rule, S1, S2, S3, S4, S5, S6, S7, S8, Breaks, s1, s2, s3, s4, s5, s6, s7, s7_observer, s8, Keeps, number_of, IsFirstBroken, KeepsAll}
 use Rattle.ar_firing.specs.Rules as rules
 use Rattle.ar_firing.proofs.Without.{no_more}
@@ -36,7 +38,7 @@ module _ {V : Type 0} (sys : System V) where
     -- a way has one mode variable
     one_mode : {l : Label} {w : Way V} {m n : ℕ} {x y : Variable V} → HasModeVariable sys dropped l w m x → HasModeVariable sys dropped l w n y → (m ≡ n) × (x ≡ y)
     one_mode {l = l} {w = w} {m = m} {n = n} {x = x} {y = y} a b =
-        let e = stands_one sys.events l.event a.is_kept.event b.is_kept.event a.is_kept.is_event b.is_kept.is_event in
+        let e = stands_one sys.events l.event a.is_kept.is_way.event b.is_kept.is_way.event a.is_kept.is_way.is_event b.is_kept.is_way.is_event in
         let i : m ≡ n = mode_same (subst (λ z. IsModeOf sys z.unit w m) e a.is_mode) b.is_mode in
         (i, stands_one sys.net.variables n x y (subst (λ z. Stands sys.net.variables z x) i a.stands) b.stands)
 
@@ -84,8 +86,8 @@ module _ {V : Type 0} (sys : System V) where
     pub static : KeepsS1 sys → KeepsS3 sys dropped → KeepsS4 sys dropped → KeepsS5 sys dropped → KeepsS6 sys dropped → IsStatic sys dropped
     static k1 k3 k4 k5 k6 = record {
       modes = λ l w o.
-          let k = k3.each l w (record { event = o.event; is_event = o.is_event; is_way = o.is_way; stays = o.stays }) in
-          let e = stands_one sys.events l.event k.mode.is_kept.event o.event k.mode.is_kept.is_event o.is_event in
+          let k = k3.each l w o.is_kept in
+          let e = stands_one sys.events l.event k.mode.is_kept.is_way.event o.is_kept.is_way.event k.mode.is_kept.is_way.is_event o.is_kept.is_way.is_event in
           let m = subst (λ z. IsModeOf sys z.unit w k.number) e k.mode.is_mode in
           record {
             number = k.number;
@@ -93,23 +95,21 @@ module _ {V : Type 0} (sys : System V) where
             stands = k.mode.stands;
             is_state = mode_state m k.variable k.mode.stands;
             is_mode = m;
-            alone = alone k.variable.key w k.alone (k4.alone l w k.number k.variable k.mode) (k1.each l w (record { event = o.event; is_event = o.is_event; is_way = o.is_way }));
+            alone = alone k.variable.key w k.alone (k4.alone l w k.number k.variable k.mode) (k1.each l w o.is_kept.is_way);
           };
-      leads = λ l w o n x m i s r c.
-          let h = k4.gives l w n x m (record { is_open = o; is_mode = i; stands = s; reached = r; can = c }) in
-          record { to = h.value; edge = record { way = w; is_open = o; variable = x; is_variable = s; is_mode = i; can = c; gives = h.gives; one = h.one; in_domain = h.in_domain } };
-      one_edge = k5.one;
-      moves = k6.moves;
-      enters = λ k l n u v x h i. let e = k6.enters k l n u v x h i in (e.0, e.2);
-      begins = k6.begins;
+      leads = λ l w n x m a.
+          let h = k4.gives l w n x m a in
+          record { to = h.value; edge = record { way = w; is_open = a.is_open; variable = x; is_variable = a.stands; is_mode = a.is_mode; can = a.can; gives = h.gives; one = h.one; in_domain = h.in_domain } };
+      one_edge = k5;
+      enters_once = k6;
     }
       where
-        alone : (x : V) (w : Way V) → ((y : V) → Guard_names y w → y ≡ x) → ((y : V) → Action_names y w → y ≡ x) → IsTransition w → Is_of x w
+        alone : (x : V) (w : Way V) → ((y : V) → GuardNames y w → y ≡ x) → ((y : V) → ActionNames y w → y ≡ x) → IsTransition w → IsOf x w
         alone x w h k (transition {d = d}) = g.transition (record { only = λ y m. h y (guard m) })
             (λ n a s. record {
               target = k a.target (action a (record { place = n; stands = s }) (as_target refl));
-              conditions = λ j e b t. record { only = λ y m. k y (action a (record { place = n; stands = s }) (in_condition (record { place = j; stands = t }) m)) };
-              value = record { only = λ y m. k y (action a (record { place = n; stands = s }) (in_value m)) };
+              conditions = λ j e b t. record { only = λ y m. k y (action a (record { place = n; stands = s }) (as_source (inr (tests_at y a.conditions j e b t m)))) };
+              value = record { only = λ y m. k y (action a (record { place = n; stands = s }) (as_source (inl m))) };
             })
 
     -- a rule that is kept is broken nowhere

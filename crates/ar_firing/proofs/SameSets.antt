@@ -4,7 +4,8 @@ use Rattle.ar_base.specs.Lists.{Stands, IsOneOf}
 use Rattle.domains.specs.declared.Value.{Value}
 use Rattle.ar_meaning.specs.Systems.{System}
 use Rattle.ar_meaning.specs.Runs.{Label}
-use Rattle.ar_firing.specs.Cuts.{IsFirable, AreEvents, Within}
+use Rattle.ar_firing.specs.Cuts.{IsFirable, AreEvents}
+use Rattle.ar_base.specs.Sets.{Within}
 use Rattle.ar_firing.proofs.EachHasOrder.{event_of, label_of}
 
 pub firable_as : {V : Type 0} (sys : System V) (dropped : List ℕ) {set other : List ℕ} {t : List Value} → Within set other → Within other set → IsFirable sys dropped set t → IsFirable sys dropped other t

@@ -7,7 +7,8 @@ use Rattle.domains.specs.declared.Value.{Value}
 use Rattle.ar_meaning.specs.Systems.{System}
 use Rattle.ar_meaning.specs.Facts.{AreKeyed}
 use Rattle.ar_meaning.specs.Runs.{Label}
-use Rattle.ar_firing.specs.Fragment.{IsStatic, Path, root, edge, Edge, IsLive}
+use Rattle.ar_firing.specs.Fragment.{Path, root, edge, Edge, IsLive}
+use Rattle.ar_firing.specs.Static.{IsStatic}
 use Rattle.ar_firing.specs.Forest.{Row, Under, no_more, next, ModeTree, IsModeTree}
 use Rattle.ar_firing.proofs.Ends.{live, end_same, label_same}
 
@@ -38,7 +39,7 @@ module _ {V : Type 0} (sys : System V) (dropped : List ℕ) (keyed : AreKeyed sy
     where
       here : l.event ≡ k.event → Below n (record { from = m; label = k; to = on } ∷ (es ++ fs)) (record { from = m; label = l; to = to })
       here i =
-          let a = static.one_edge l k n n m m to on (live sys dropped keyed static p e) (live sys dropped keyed static p d) i in
+          let a = static.one_edge.one l k n n m m to on (live sys dropped keyed static p e) (live sys dropped keyed static p d) i in
           let j : k ≡ l = sym (label_same l k i a.0) in
           let g : on ≡ to = end_same sys dropped keyed static (subst (λ z. Edge sys dropped z n m on) j d) e in
           let w : ◌≡◌ {A = Row} (record { from = m; label = k; to = on }) (record { from = m; label = l; to = to }) = rows k l on to j g in

@@ -1,6 +1,7 @@
 -- Firable sets, firing orders, cuts and conflicts. A set of events is a list of their numbers.
 use Rattle.std.specs.Prelude.{◌<◌, ◌≡◌, ℕ, true, List, [], ◌∷◌, length}
 use Rattle.ar_base.specs.Lists.{Stands, IsOneOf}
+use Rattle.ar_base.specs.Sets.{Within}
 use Rattle.domains.specs.declared.Value.{Value}
 use Rattle.typed_expr.specs.Yields.{Yields}
 use Rattle.typed_expr.specs.declared.expr.Expr.{Expr, out-Expr}
@@ -27,10 +28,6 @@ pub record AreEvents (ls : List Label) (set : List ℕ) : Type 0 where
   pub sound : (k : ℕ) (l : Label) → Stands ls k l → IsOneOf set l.event
   pub whole : (e : ℕ) → IsOneOf set e → (l : Label) × IsOneOf ls l × (l.event ≡ e)
   pub once : (j k : ℕ) (l m : Label) → Stands ls j l → Stands ls k m → l.event ≡ m.event → j ≡ k
-
--- each member of the first set is one of the second
-pub record Within (xs ys : List ℕ) : Type 0 where
-  pub each : (e : ℕ) → IsOneOf xs e → IsOneOf ys e
 
 -- some order of the set fires without fault and ends in this valuation
 pub record HasOrder {V : Type 0} (sys : System V) (dropped : List ℕ) (set : List ℕ) (t : List Value) : Type 0 where
@@ -86,9 +83,9 @@ abbrev pub NoneLeaves : {V : Type 0} → System V → List ℕ → List ℕ → 
 NoneLeaves sys dropped set n m = (l : Label) (to : Value) → IsLive sys dropped l n m to → IsOneOf set l.event → ⊥
 
 -- what follows of a new state: its flows, or a flow fault
-pub data Moves_to {V : Type 0} (net : Net V) : List Value → Answer → Type 0 where
-  on : {state next : List Value} → Flows net state (Total next) → Moves_to net state (Next next)
-  fails : {state : List Value} {f : FlowFault} → Flows net state (Fails f) → Moves_to net state (Refused (Flow f))
+pub data MovesTo {V : Type 0} (net : Net V) : List Value → Answer → Type 0 where
+  on : {state next : List Value} → Flows net state (Total next) → MovesTo net state (Next next)
+  fails : {state : List Value} {f : FlowFault} → Flows net state (Fails f) → MovesTo net state (Refused (Flow f))
 
 -- in this list, the last first, each label stands after the one that enters the mode that it leaves
 pub record AreInOrder {V : Type 0} (sys : System V) (dropped : List ℕ) (ls : List Label) : Type 0 where

@@ -12,7 +12,7 @@ pub record HasTransitions {V : Type 0} (sys : System V) (dropped : List ℕ) (un
   pub label : Label
   pub way : Way V
   pub is_kept : IsKept sys dropped label way
-  pub is_unit : is_kept.event.unit ≡ unit
+  pub is_unit : is_kept.is_way.event.unit ≡ unit
 
 -- the variable of this number is a state variable of a unit with transitions
 pub record IsModeVariable {V : Type 0} (sys : System V) (dropped : List ℕ) (n : ℕ) : Type 0 where

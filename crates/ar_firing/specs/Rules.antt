@@ -8,7 +8,7 @@ use Rattle.ar_meaning.specs.Systems.{Assign, Variable, Net, Transition, Way, Lea
 use Rattle.ar_meaning.specs.Facts.{Allows}
 use Rattle.ar_meaning.specs.Ways.{Can, Effects}
 use Rattle.ar_meaning.specs.Runs.{Label, IsWay}
-use Rattle.ar_firing.specs.Fragment.{Guard_names, Action_names, IsKept, IsOpen, IsStateOf, IsModeOf, At, IsReached, IsLive}
+use Rattle.ar_firing.specs.Fragment.{GuardNames, ActionNames, IsKept, IsOpen, IsStateOf, IsModeOf, At, IsReached, IsLive}
 use Rattle.ar_firing.specs.Forest.{HasTransitions}
 
 -- S1: no event has a synchronised way. Shown with the event
@@ -49,7 +49,7 @@ pub record BreaksS2 {V : Type 0} (sys : System V) (dropped : List ℕ) (unit : �
 -- a way of an event that is not dropped, and its mode variable, by number
 pub record HasModeVariable {V : Type 0} (sys : System V) (dropped : List ℕ) (l : Label) (w : Way V) (n : ℕ) (x : Variable V) : Type 0 where
   pub is_kept : IsKept sys dropped l w
-  pub is_mode : IsModeOf sys is_kept.event.unit w n
+  pub is_mode : IsModeOf sys is_kept.is_way.event.unit w n
   pub stands : Stands sys.net.variables n x
 
 -- S3: the guard of a way of an event that is not dropped names its mode variable alone. Shown with this
@@ -59,7 +59,7 @@ pub record GuardKeeps {V : Type 0} (sys : System V) (dropped : List ℕ) (l : La
   pub number : ℕ
   pub variable : Variable V
   pub mode : HasModeVariable sys dropped l w number variable
-  pub alone : (y : V) → Guard_names y w → y ≡ variable.key
+  pub alone : (y : V) → GuardNames y w → y ≡ variable.key
 
 -- every way of an event that is not dropped has a guard that names its mode variable alone
 pub record KeepsS3 {V : Type 0} (sys : System V) (dropped : List ℕ) : Type 0 where
@@ -72,7 +72,7 @@ pub record BreaksS3 {V : Type 0} (sys : System V) (dropped : List ℕ) (n : ℕ)
   pub variable : Variable V
   pub mode : HasModeVariable sys dropped label way n variable
   pub other : V
-  pub named : Guard_names other way
+  pub named : GuardNames other way
   pub differs : other ≡ variable.key → ⊥
 
 -- S4: the assignments of such a way name its mode variable alone, and wherever the way is live it assigns exactly one value to it, one of its domain. Shown with the mode variable
@@ -80,7 +80,7 @@ pub record BreaksS3 {V : Type 0} (sys : System V) (dropped : List ℕ) (n : ℕ)
 -- a way of a visible event that is not dropped, at a mode of its mode variable that is reached and where its guard is true
 pub record IsLiveAt {V : Type 0} (sys : System V) (dropped : List ℕ) (l : Label) (w : Way V) (n : ℕ) (x : Variable V) (m : Value) : Type 0 where
   pub is_open : IsOpen sys dropped l w
-  pub is_mode : IsModeOf sys is_open.event.unit w n
+  pub is_mode : IsModeOf sys is_open.is_kept.is_way.event.unit w n
   pub stands : Stands sys.net.variables n x
   pub reached : IsReached sys dropped n m
   pub can : Can (At x.key m) w
@@ -100,12 +100,12 @@ pub data GivesOther (effects : Value → Type 0) (domain : List Value) : Type 0 
 
 -- the actions name the mode variable alone, and wherever a way is live it gives this one value, of the domain
 pub record KeepsS4 {V : Type 0} (sys : System V) (dropped : List ℕ) : Type 0 where
-  pub alone : (l : Label) (w : Way V) (n : ℕ) (x : Variable V) → HasModeVariable sys dropped l w n x → (y : V) → Action_names y w → y ≡ x.key
+  pub alone : (l : Label) (w : Way V) (n : ℕ) (x : Variable V) → HasModeVariable sys dropped l w n x → (y : V) → ActionNames y w → y ≡ x.key
   pub gives : (l : Label) (w : Way V) (n : ℕ) (x : Variable V) (m : Value) → IsLiveAt sys dropped l w n x m → GivesOne (Effects (At x.key m) w x.key) x.domain
 
 -- this is the mode variable of a way whose action names another variable, or that is live at a mode and does not give it one value of the domain there
 pub data BreaksS4 {V : Type 0} (sys : System V) (dropped : List ℕ) (n : ℕ) : Type 0 where
-  names : (l : Label) (w : Way V) (x : Variable V) → HasModeVariable sys dropped l w n x → (y : V) → Action_names y w → (y ≡ x.key → ⊥) → BreaksS4 sys dropped n
+  names : (l : Label) (w : Way V) (x : Variable V) → HasModeVariable sys dropped l w n x → (y : V) → ActionNames y w → (y ≡ x.key → ⊥) → BreaksS4 sys dropped n
   gives : (l : Label) (w : Way V) (x : Variable V) (m : Value) → IsLiveAt sys dropped l w n x m → GivesOther (Effects (At x.key m) w x.key) x.domain → BreaksS4 sys dropped n
 
 -- S5: an event has at most one live edge. Shown with the least mode variable of its live edges

@@ -7,7 +7,7 @@ ghost use Rattle.ar_meaning.specs.Systems.{System};
 ghost use Rattle.ar_meaning.specs.Facts.{AreKeyed, HasValue};
 ghost use Rattle.ar_meaning.specs.Flows.{FlowFault};
 ghost use Rattle.ar_meaning.specs.Runs.{Label};
-ghost use Rattle.ar_firing.specs.Fragment.{IsStatic};
+ghost use Rattle.ar_firing.specs.Static.{IsStatic};
 ghost use Rattle.ar_firing.specs.Cuts.{Reaches, Conflicts, Makes, IsLeast, HasNoLesser, MeetsConflict, Cut, ConflictSet, IsConflictFree, IsFirable, IsLegalOrder};
 ghost use Rattle.typed_expr.specs.Yields.{Yields};
 ghost use Rattle.ar_firing.specs.Forest.{IsLine};

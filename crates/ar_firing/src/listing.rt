@@ -5,12 +5,14 @@ ghost use Rattle.domains.specs.declared.Value.{Value};
 ghost use Rattle.ar_meaning.specs.Systems.{System};
 ghost use Rattle.ar_meaning.specs.Facts.{AreKeyed};
 ghost use Rattle.ar_meaning.specs.Runs.{Label};
-ghost use Rattle.ar_firing.specs.Fragment.{IsStatic, IsLive};
+ghost use Rattle.ar_firing.specs.Fragment.{IsLive};
+ghost use Rattle.ar_firing.specs.Static.{IsStatic};
 ghost use Rattle.ar_base.specs.Lists.{Stands, IsOneOf};
 ghost use Rattle.ar_meaning.specs.Systems.{Variable};
-ghost use Rattle.ar_firing.specs.Cuts.{IsLegalOrder, IsFirable, NoneLeaves, Within, Cut, ConflictSet};
+ghost use Rattle.ar_firing.specs.Cuts.{IsLegalOrder, IsFirable, NoneLeaves, Cut, ConflictSet};
+ghost use Rattle.ar_base.specs.Sets.{Within, IsBefore};
 ghost use Rattle.typed_expr.specs.declared.expr.Expr.{Expr};
-ghost use Rattle.ar_firing.specs.Listed.{IsBefore, AreListed};
+ghost use Rattle.ar_firing.specs.Listed.{AreListed};
 ghost use Rattle.ar_firing.specs.Forest.{Row, ModeTree, IsModeTree, IsForest, IsLine};
 
 /// A static system has one forest.

@@ -9,8 +9,10 @@ ghost use Rattle.ar_meaning.specs.Flows.{Flows, FlowFault, Fails};
 ghost use Rattle.ar_meaning.specs.Ways.{Can};
 ghost use Rattle.ar_meaning.specs.Steps.{Step, Answer};
 ghost use Rattle.ar_meaning.specs.Runs.{Label, Moment, Runs, Fire, Starts};
-ghost use Rattle.ar_firing.specs.Fragment.{Edge, IsOpen, IsStatic};
-ghost use Rattle.ar_firing.specs.Cuts.{Reaches, Conflicts, HasOrder, Within, IsFirable, IsLegalOrder, IsConflictFree, Moves_to};
+ghost use Rattle.ar_firing.specs.Fragment.{Edge, IsOpen};
+ghost use Rattle.ar_firing.specs.Static.{IsStatic};
+ghost use Rattle.ar_firing.specs.Cuts.{Reaches, Conflicts, HasOrder, IsFirable, IsLegalOrder, IsConflictFree, MovesTo};
+ghost use Rattle.ar_base.specs.Sets.{Within};
 ghost use Rattle.ar_firing.specs.Operands.{HasFlows, HasFault};
 ghost use Rattle.ar_firing.specs.Replays.{AreOpen, AllFire, FailsLast};
 
@@ -27,7 +29,7 @@ pub fn firing_orders<V>()
         → (l : Label) (w : Way V) → IsOpen sys dropped l w → Can (HasValue sys.net t) w → (n : ℕ) × (from : Value) × (to : Value) × Stands t n from × Edge sys dropped l n from to }
     ensures steps { (sys : System V) (dropped : List ℕ) → AreKeyed sys.net → IsStatic sys dropped → (set : List ℕ) (t : List Value) → IsFirable sys dropped set t
         → (l : Label) (w : Way V) → IsOpen sys dropped l w → Can (HasValue sys.net t) w → (a : Answer) → Step sys.net t w a
-        → (new : List Value) × IsFirable sys dropped (l.event ∷ set) new × Moves_to sys.net new a }
+        → (new : List Value) × IsFirable sys dropped (l.event ∷ set) new × MovesTo sys.net new a }
     ensures one_end { (sys : System V) (dropped : List ℕ) → AreKeyed sys.net → IsStatic sys dropped → (ls ks : List Label) (t u : List Value) → Reaches sys dropped ls t → Reaches sys dropped ks u
         → Within (map (λ l. l.event) ls) (map (λ l. l.event) ks) → Within (map (λ l. l.event) ks) (map (λ l. l.event) ls) → t ≡ u }
 {}

@@ -2,7 +2,7 @@
 
 ghost use Rattle.std.specs.Prelude.{ℕ, List, ◌≡◌};
 ghost use Rattle.ar_meaning.specs.Systems.{System};
-ghost use Rattle.ar_firing.specs.Fragment.{IsStatic};
+ghost use Rattle.ar_firing.specs.Static.{IsStatic};
 ghost use Rattle.ar_firing.specs.Rules.{Rule, Spot, Keeps, Breaks, IsFirstBroken, KeepsAll};
 
 /// A rule that is kept is broken nowhere, and at most one rule is the first that is broken, with one thing that it is shown

@@ -1,12 +1,11 @@
 -- An image of an image is an image.
-use Rattle.std.proofs.Common.{Bool, List, ◌∙◌, subst}
+use Rattle.std.proofs.Common.{Bool, List, ◌∙◌}
 use Rattle.ar_base.specs.Lists.{Along}
 use Rattle.ar_base.specs.Lists as l
 use Rattle.typed_expr.specs.declared.expr.Expr.{Expr}
-use Rattle.typed_expr.specs.Pairs.{Joined}
 use Rattle.typed_expr.proofs.Renaming.{renames_joined}
-use Rattle.ar_meaning.specs.Systems.{Assign, Variable, Transition, Way, Branches, Event, Net, System}
-use Rattle.ar_meaning.specs.Image.{Conditions_rename, Assign_renames, Variable_renames, Transition_renames, Way_renames, leaves, joints, Branches_rename, no_branch, branch, Event_renames, Expr_renames, IsNetImage, IsImage}
+use Rattle.ar_meaning.specs.Systems.{Assign, Variable, Transition, Way, Branches, Event}
+use Rattle.ar_meaning.specs.Image.{Conditions_rename, Assign_renames, Variable_renames, Transition_renames, Way_renames, leaves, joints, Branches_rename, no_branch, branch, Event_renames, Expr_renames}
 use Rattle.ar_meaning.specs.Image as i
 
 pub along_joined : {A B C : Type 0} {R : A → B → Type 0} {S : B → C → Type 0} {T : A → C → Type 0} → ((a : A) (b : B) (c : C) → R a b → S b c → T a c)
@@ -43,22 +42,3 @@ module _ {U V W : Type 0} (first : U → V → Type 0) (second : V → W → Typ
 
   pub observer_joined : (e : Expr U) (f : Expr V) (g : Expr W) → Expr_renames first e f → Expr_renames second f g → Expr_renames third e g
   observer_joined e f g p q = record { renames = renames_joined first second third through p.renames q.renames }
-
-module _ {U V W : Type 0} (first : U → V → Type 0) (second : V → W → Type 0) where
-  by_middle : (x : U) (y : V) (z : W) → first x y → second y z → Joined first second x z
-  by_middle x y z p q = record { middle = y; left = p; right = q }
-
-  pub net_joined : {A : Net U} {B : Net V} {C : Net W} → IsNetImage first A B → IsNetImage second B C → IsNetImage (Joined first second) A C
-  net_joined {C = C} a b = record {
-    variables = along_joined (variable_joined first second (Joined first second) by_middle) a.variables b.variables;
-    assertions = along_joined (assign_joined first second (Joined first second) by_middle) a.assertions b.assertions;
-    one = λ x y z p q. b.one p.middle y z p.right (subst (λ k. second k z) (a.one x q.middle p.middle q.left p.left) q.right);
-    one_back = λ x y z p q. a.one_back x y p.middle p.left (subst (λ k. first y k) (b.one_back q.middle p.middle z q.right p.right) q.left);
-  }
-
-  pub image_joined : {A : System U} {B : System V} {C : System W} → IsImage first A B → IsImage second B C → IsImage (Joined first second) A C
-  image_joined a b = record {
-    net = net_joined a.net b.net;
-    events = along_joined (event_joined first second (Joined first second) by_middle) a.events b.events;
-    observers = along_joined (observer_joined first second (Joined first second) by_middle) a.observers b.observers;
-  }

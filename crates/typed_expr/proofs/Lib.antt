@@ -10,4 +10,5 @@ pub mod Valued
 pub mod Renaming
 pub mod Facts
 pub mod OneValue
+pub mod KindsYielded
 pub mod Listing

@@ -7,7 +7,7 @@ ghost use Rattle.typed_expr.specs.declared.expr.Expr.{Expr, out-Expr};
 ghost use Rattle.typed_expr.specs.Values.{truth_of, count_of};
 ghost use Rattle.typed_expr.specs.Sets.{HasExactly};
 ghost use Rattle.typed_expr.specs.Yields.{Level, Yields, facts_of};
-ghost use Rattle.typed_expr.specs.Kinds.{kind_of, HasKind};
+ghost use Rattle.typed_expr.specs.Kinds.{kind_of, HasKind, YieldsItsKind};
 ghost use Rattle.typed_expr.specs.Total.{value_of};
 ghost use Rattle.typed_expr.specs.Renames.{Renames};
 
@@ -45,4 +45,9 @@ pub fn renaming_laws<V, W>()
 /// A count is the number of its true operands, where this is a number of 64 bits.
 pub fn count_law()
     ensures { (values : List Value) → length values < 2 ^ 63 → count_of values ≡ pos (count_by truth_of values) }
+{}
+
+/// What an expression of a kind yields is of the kind, where the facts of each variable are of its kind.
+pub fn kind_law<V>()
+    ensures { YieldsItsKind V }
 {}

@@ -14,7 +14,7 @@ mod value_set;
 pub use env::Env;
 pub use expr::{Expr, Relation, ValueKind};
 pub use kinds::typed;
-pub use laws::{count_law, expression_laws, finite_laws, renaming_laws};
+pub use laws::{count_law, expression_laws, finite_laws, kind_law, renaming_laws};
 pub use possible::{eval_set, possible_values};
 pub use total::eval_total;
 pub use value_set::ValueSet;

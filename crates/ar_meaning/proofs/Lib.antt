@@ -18,3 +18,6 @@ pub mod FlatSystems
 pub mod ImageWays
 pub mod Outcomes
 pub mod Dependence
+pub mod Lengths
+pub mod Answering
+pub mod Moments

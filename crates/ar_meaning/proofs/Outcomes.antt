@@ -69,11 +69,11 @@ module _ {A : Type 0} (P : A → Type 0) where
     | inr h ↦ inr (λ k. h.has_not k.1.place k.0 k.1.stands k.2)
   ]
 
-not_told : {P : Type 0} → Told P → Told (P → ⊥)
+pub not_told : {P : Type 0} → Told P → Told (P → ⊥)
 not_told (inl p) = inr (λ n. n p)
 not_told (inr n) = inl n
 
-both_told : {P Q : Type 0} → Told P → Told Q → Told (P × Q)
+pub both_told : {P Q : Type 0} → Told P → Told Q → Told (P × Q)
 both_told (inl p) (inl q) = inl (p, q)
 both_told (inl p) (inr n) = inr (λ h. n h.1)
 both_told (inr n) q = inr (λ h. n h.0)
@@ -85,7 +85,7 @@ number_told m n = go (nat_eq m n) refl
     go true i = inl ((unsigned_Decides m n).0 i)
     go false i = inr (λ e. let k = (unsigned_Decides m n).1 e in cc)
 
-bool_told : (a b : Bool) → Told (a ≡ b)
+pub bool_told : (a b : Bool) → Told (a ≡ b)
 bool_told true true = inl refl
 bool_told true false = inr (λ e. cc)
 bool_told false true = inr (λ e. cc)

@@ -1,13 +1,14 @@
 //! One answer each.
 
-ghost use Rattle.std.specs.Prelude.{ℕ, List, ◌≡◌, ◌⊎◌, length};
+ghost use Rattle.std.specs.Prelude.{ℕ, List, ◌≡◌, length};
 ghost use Rattle.ar_base.specs.Lists.{Along};
 ghost use Rattle.domains.specs.declared.Value.{Value};
 ghost use Rattle.ar_meaning.specs.Systems.{Net, System, Event, Transition, Way, Tree};
 ghost use Rattle.ar_meaning.specs.Facts.{AreKeyed};
 ghost use Rattle.ar_meaning.specs.Flows.{Flows, Outcome};
 ghost use Rattle.ar_meaning.specs.Steps.{Step, Answer};
-ghost use Rattle.ar_meaning.specs.Runs.{Runs, Command, Moment};
+ghost use Rattle.ar_meaning.specs.Runs.{Runs, Command, Moment, FiresWays};
+ghost use Rattle.ar_meaning.specs.Found.{AreTold};
 ghost use Rattle.ar_meaning.specs.Expand.{Declared, AreKeyed as HaveKeys, Ways, IsExpanded};
 ghost use Rattle.ar_meaning.specs.TraceText.{Naming, TraceText};
 ghost use Rattle.ar_meaning.specs.Numbered.{Body, Means_way};
@@ -39,6 +40,15 @@ pub fn one_text<V>()
 
 /// Each list of values of the right length has an outcome of its flows, where it can be told whether two keys are one; numbers are such keys.
 pub fn some_outcome<V>()
-    ensures flows { ((x y : V) → (x ≡ y) ⊎ (x ≡ y → ⊥)) → (net : Net V) (t : List Value) → length t ≡ length net.variables → (o : Outcome) × Flows net t o }
+    ensures flows { AreTold V → (net : Net V) (t : List Value) → length t ≡ length net.variables → (o : Outcome) × Flows net t o }
     ensures numbers { (net : Net ℕ) (t : List Value) → length t ≡ length net.variables → (o : Outcome) × Flows net t o }
+{}
+
+/// Where it can be told whether two keys are one, firing a way from a list of values of the right length has an answer, and a list of
+/// commands that fire ways of the system has its moments. Numbers are such keys.
+pub fn some_answer<V>()
+    ensures steps { AreTold V → (net : Net V) (t : List Value) (w : Way V) → length t ≡ length net.variables → (a : Answer) × Step net t w a }
+    ensures runs { AreTold V → (sys : System V) (cs : List Command) → FiresWays sys cs → (ms : List Moment) × Runs sys cs ms }
+    ensures steps_by_number { (net : Net ℕ) (t : List Value) (w : Way ℕ) → length t ≡ length net.variables → (a : Answer) × Step net t w a }
+    ensures runs_by_number { (sys : System ℕ) (cs : List Command) → FiresWays sys cs → (ms : List Moment) × Runs sys cs ms }
 {}

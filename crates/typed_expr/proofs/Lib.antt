@@ -12,3 +12,4 @@ pub mod Facts
 pub mod OneValue
 pub mod KindsYielded
 pub mod Listing
+pub mod Mentioning

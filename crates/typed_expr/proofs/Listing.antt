@@ -1,13 +1,12 @@
 -- The values that an expression yields from finitely many facts can be listed, and so whether it yields one can be told.
-use Rattle.std.proofs.Common.{◌≡◌, ◌⊎◌, inl, inr, ℕ, ℤ, Bool, true, false, List, [], ◌∷◌, ◌++◌, map, Contains, nat_eq, int_eq, refl, sym, ap, subst}
-use Rattle.std.specs.Bool.{Decides}
-use Rattle.std.specs.Cmp.{unsigned_Decides}
+use Rattle.std.proofs.Common.{◌≡◌, ◌⊎◌, inl, inr, Bool, true, false, true≢false, List, [], ◌∷◌, ◌++◌, map, Contains, refl, sym, ◌∙◌, subst}
 use Rattle.std.specs.List.{flat_map}
-use Rattle.std.proofs.lemmas.Bool.Decides.{Decides-int_eq}
 use Rattle.std.proofs.lemmas.List.Elements.{Contains-append_left, Contains-append_right, Contains-append_cases}
 use Rattle.domains.proofs.Members.{nothing-in, contains-head, contains-cons, contains-cases}
+use Rattle.domains.proofs.Same.{same_is, same_self}
+use Rattle.domains.specs.Same.{is_same}
 use Rattle.domains.specs.declared.Value.{Value}
-use Rattle.domains.specs.declared.Value.TheVariants.{Truth, Whole, Symbol}
+use Rattle.domains.specs.declared.Value.TheVariants.{Truth, Whole}
 use Rattle.typed_expr.specs.Values.{is_related, sum_of, product_of, least_of, greatest_of, count_of}
 use Rattle.typed_expr.specs.Yields.{Level, Yields, Some_yields, All_yield, Picks, Picks_parts, Takes}
 use Rattle.typed_expr.specs.Yields as y
@@ -73,33 +72,12 @@ module _ {A B : Type 0} where
   listed_image f p = listed_by p (λ a. listed_one (f a))
 
 -- whether two values are one
-whole_told : (m n : ℤ) → Told (Whole m ≡ Whole n)
-whole_told m n = go (int_eq m n) (Decides-int_eq m n)
-  where
-    go : (b : Bool) → Decides b (m ≡ n) → Told (Whole m ≡ Whole n)
-    go true d = inl (ap Whole (d.0 refl))
-    go false d = inr (λ e. let g : m ≡ n = cc in let k : false ≡ true = d.1 g in cc)
-
-symbol_told : (m n : ℕ) → Told (Symbol m ≡ Symbol n)
-symbol_told m n = go (nat_eq m n) refl
-  where
-    go : (b : Bool) → nat_eq m n ≡ b → Told (Symbol m ≡ Symbol n)
-    go true i = inl (ap Symbol ((unsigned_Decides m n).0 i))
-    go false i = inr (λ e. let g : m ≡ n = cc in let k = (unsigned_Decides m n).1 g in cc)
-
 pub value_told : (v w : Value) → Told (v ≡ w)
-value_told (Truth true) (Truth true) = inl refl
-value_told (Truth true) (Truth false) = inr (λ e. cc)
-value_told (Truth false) (Truth true) = inr (λ e. cc)
-value_told (Truth false) (Truth false) = inl refl
-value_told (Truth b) (Whole n) = inr (λ e. cc)
-value_told (Truth b) (Symbol n) = inr (λ e. cc)
-value_told (Whole m) (Truth b) = inr (λ e. cc)
-value_told (Whole m) (Whole n) = whole_told m n
-value_told (Whole m) (Symbol n) = inr (λ e. cc)
-value_told (Symbol m) (Truth b) = inr (λ e. cc)
-value_told (Symbol m) (Whole n) = inr (λ e. cc)
-value_told (Symbol m) (Symbol n) = symbol_told m n
+value_told v w = go (is_same v w) refl
+  where
+    go : (b : Bool) → is_same v w ≡ b → Told (v ≡ w)
+    go true e = inl (same_is v w e)
+    go false e = inr (λ i. true≢false (sym (subst (λ (z : Value). is_same v z ≡ true) i (same_self v)) ∙ e))
 
 pub contains_told : (vs : List Value) (v : Value) → Told (Contains vs v)
 contains_told [] v = inr (λ m. nothing-in v m)

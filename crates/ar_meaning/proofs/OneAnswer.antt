@@ -1,7 +1,5 @@
 -- Flows, steps have one answer.
-use Rattle.std.proofs.Common.{◌≡◌, ◌<◌, ℕ, ℤ, zero, suc, Bool, true, false, List, ◌∷◌, refl, sym, ap, subst, arith, int_eq}
-use Rattle.std.specs.Bool.{Decides}
-use Rattle.std.proofs.lemmas.Bool.Decides.{Decides-int_eq}
+use Rattle.std.proofs.Common.{◌≡◌, ◌<◌, inl, inr, ℕ, zero, suc, List, ◌∷◌, refl, sym, ap, subst, arith}
 use Rattle.ar_base.specs.Lists.{IsFirst, HasNo}
 use Rattle.ar_meaning.specs.Systems.{Variable, Net, Way}
 use Rattle.ar_meaning.specs.Facts.{FactOf}
@@ -9,7 +7,7 @@ use Rattle.ar_meaning.specs.Flows.{HasTwo, IsBroken, Completes, none, state, kno
 use Rattle.ar_meaning.specs.Steps.{Clashes, LeavesDomain, Receives, changed, kept, StepFault, Answer, Refused, Next, NotEnabled, Clash, Range, Flow, Step, not_enabled, clash, range, flow, moves}
 use Rattle.ar_meaning.specs.Steps as r
 use Rattle.domains.specs.declared.Value.{Value}
-use Rattle.domains.specs.declared.Value.TheVariants.{Truth, Whole, Symbol}
+use Rattle.typed_expr.proofs.Listing.{value_told}
 
 pub first_same : {A : Type 0} {all : List A} {P : A → Type 0} {m n : ℕ} → IsFirst all P m → IsFirst all P n → m ≡ n
 first_same {m = m} {n = n} a b =
@@ -26,30 +24,9 @@ head_has_not {x = x} h p = h.has_not zero x refl p
 pub rest_has_no : {A : Type 0} {x : A} {xs : List A} {P : A → Type 0} → HasNo (x ∷ xs) P → HasNo xs P
 rest_has_no h = record { has_not = λ k a s p. h.has_not (suc k) a s p }
 
-same_whole : (m n : ℤ) → ((Whole m ≡ Whole n → ⊥) → ⊥) → Whole m ≡ Whole n
-same_whole m n h = go (int_eq m n) (Decides-int_eq m n)
-  where
-    go : (b : Bool) → Decides b (m ≡ n) → Whole m ≡ Whole n
-    go true d = ap Whole (d.0 refl)
-    go false d = absurd (h (λ e. let g : m ≡ n = cc in let k : false ≡ true = d.1 g in cc))
-
 -- two values that are not different are one
 pub same_value : (v w : Value) → ((v ≡ w → ⊥) → ⊥) → v ≡ w
-same_value (Truth true) (Truth true) h = refl
-same_value (Truth true) (Truth false) h = absurd (h (λ e. cc))
-same_value (Truth false) (Truth true) h = absurd (h (λ e. cc))
-same_value (Truth false) (Truth false) h = refl
-same_value (Truth b) (Whole n) h = absurd (h (λ e. cc))
-same_value (Truth b) (Symbol n) h = absurd (h (λ e. cc))
-same_value (Whole m) (Truth b) h = absurd (h (λ e. cc))
-same_value (Whole m) (Whole n) h = same_whole m n h
-same_value (Whole m) (Symbol n) h = absurd (h (λ e. cc))
-same_value (Symbol m) (Truth b) h = absurd (h (λ e. cc))
-same_value (Symbol m) (Whole n) h = absurd (h (λ e. cc))
-same_value (Symbol m) (Symbol n) h =
-    let k : m < n → ⊥ = λ l. h (λ e. let g : m ≡ n = cc in absurd (omega arith)) in
-    let l : n < m → ⊥ = λ l. h (λ e. let g : m ≡ n = cc in absurd (omega arith)) in
-    let i : m ≡ n = omega arith in ap Symbol i
+same_value v w h = elim (value_told v w) [ inl e ↦ e | inr n ↦ absurd (h n) ]
 
 module _ {V : Type 0} (net : Net V) where
   pub completes_same : (t : List Value) {xs : List (Variable V)} {vs ws us : List Value} → HasNo xs (HasTwo net t) → Completes (FactOf net t) xs vs ws → Completes (FactOf net t) xs vs us → ws ≡ us

@@ -21,6 +21,7 @@ use Rattle.ar_firing.specs.Cuts as cuts
 use Rattle.domains.specs.declared.Value.{Value}
 use Rattle.typed_expr.specs.declared.expr.Expr.{Expr, out-Expr}
 use Rattle.ar_meaning.proofs.OneAnswer.{first_same, no_first}
+use Rattle.ar_meaning.proofs.Lengths.{received_long, total_long, first_long}
 use Rattle.ar_base.proofs.Standing.{stands_one, stands_none, one_none}
 
 -- a way that names k alone
@@ -69,17 +70,6 @@ completed_at (known h p d) (suc n) x e i v k = completed_at d n x e i v k
 completed_at (unknown {x = z} h p d) zero x e i v k = let j : z ≡ x = cc in let l = ap (λ z. z.is_state) j in cc
 completed_at (unknown h p d) (suc n) x e i v k = completed_at d n x e i v k
 
-pub received_long : {V : Type 0} {effects : V → Value → Type 0} {xs : List (Variable V)} {vs ws : List Value} → Receives effects xs vs ws → length ws ≡ length xs
-received_long s.none = refl
-received_long (changed h d) = ap suc (received_long d)
-received_long (kept h d) = ap suc (received_long d)
-
-pub completed_long : {V : Type 0} {facts : V → Value → Type 0} {xs : List (Variable V)} {vs ws : List Value} → Completes facts xs vs ws → length ws ≡ length xs
-completed_long flows.none = refl
-completed_long (state h d) = ap suc (completed_long d)
-completed_long (known h p d) = ap suc (completed_long d)
-completed_long (unknown h p d) = ap suc (completed_long d)
-
 -- the paths, one of them longer by an edge
 abbrev pub longer : ℕ → Label → (ℕ → List Label) → ℕ → List Label
 longer n l path m = cond (m == n) (l ∷ path m) (path m)
@@ -116,9 +106,6 @@ module _ {V : Type 0} (sys : System V) (dropped : List ℕ) (keyed : AreKeyed sy
 
     pub value_from : (y : V) (v : Value) → y ≡ x.key → At x.key m y v → HasValue sys.net t y v
     value_from y v e a = record { place = n; variable = x; stands = stands; is_key = sym e; value = subst (λ z. Stands t n z) (sym a.value) value }
-
-  pub total_long : {s u : List Value} → Flows sys.net s (Total u) → length u ≡ length sys.net.variables
-  total_long (all_hold n m c b) = completed_long c
 
   pub total_keeps : {s u : List Value} → Flows sys.net s (Total u) → (n : ℕ) (x : Variable V) → Stands sys.net.variables n x → x.is_state ≡ true → (v : Value) → Stands s n v → Stands u n v
   total_keeps (all_hold n m c b) = completed_at c
@@ -285,10 +272,6 @@ module _ {V : Type 0} (sys : System V) (dropped : List ℕ) (keyed : AreKeyed sy
   first_value [] n x h = cc
   first_value (z ∷ zs) zero x h = let i : z ≡ x = cc in ap (λ z. Some z.value) i
   first_value (z ∷ zs) (suc n) x h = first_value zs n x h
-
-  pub first_long : (xs : List (Variable V)) → length (first_values xs) ≡ length xs
-  first_long [] = refl
-  first_long (x ∷ xs) = ap suc (first_long xs)
 
   abbrev pub none_firable : IsFirable sys dropped [] (first_values sys.net.variables)
   none_firable = record {

@@ -103,3 +103,19 @@ module _ (P Q : List ℕ → Type 0) (on : (set : List ℕ) → P set → Q set)
 
   pub least_back : {set : List ℕ} → IsLeast P set → IsLeast Q set
   least_back {set = set} h = from_words Q (record { has = on set h.has; no_lesser = λ part w k q. none_below set h (suc (counted set part)) part (omega arith) w k q })
+
+-- it is refuted that a set has P and that no least such set is within it
+module _ (P : List ℕ → Type 0) (set : List ℕ) (none : (part : List ℕ) → Within part set → IsLeast P part → ⊥) where
+  lesser_refuted : (most : ℕ) (part : List ℕ) → counted set part < most → Within part set → P part → ⊥
+  lesser_refuted zero part c w p = absurd (omega (arith, c))
+  lesser_refuted (suc most) part c w p = none part w (from_words P (record {
+    has = p;
+    no_lesser = λ sub v l r. ⊎_elim (λ a. l a)
+        (λ a. let o = w.each a.event a.is_one in
+        let d = fewer set sub part a.event o.place v o.stands a.is_one a.is_not in
+        lesser_refuted most sub (omega (arith, c, d)) (within_then v w) r)
+        (decided part sub);
+  }))
+
+  pub least_refuted : P set → ⊥
+  least_refuted p = lesser_refuted (suc (counted set set)) set (omega arith) (within_self set) p

@@ -22,3 +22,5 @@ pub mod TreeEdges
 pub mod Widths
 pub mod MakingLines
 pub mod OneListing
+pub mod Unbroken
+pub mod Neither

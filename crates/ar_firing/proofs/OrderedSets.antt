@@ -1,9 +1,12 @@
 -- In a static system that is free of conflicts the sets with an order are the firable sets.
-use Rattle.std.proofs.Common.{◌⊎◌, ⊎_elim, ℕ, List, []}
+use Rattle.std.proofs.Common.{◌⊎◌, inl, inr, ⊎_elim, ℕ, List, []}
 use Rattle.domains.specs.declared.Value.{Value}
 use Rattle.ar_meaning.specs.Systems.{System}
 use Rattle.ar_meaning.specs.Facts.{AreKeyed}
 use Rattle.ar_meaning.specs.Runs.{Label}
+use Rattle.ar_meaning.specs.Flows.{Flows, Outcome, Fails, Total}
+use Rattle.ar_meaning.specs.Found.{AreTold}
+use Rattle.ar_meaning.proofs.Outcomes.{has_outcome}
 use Rattle.ar_firing.specs.Static.{IsStatic}
 use Rattle.ar_firing.specs.Cuts.{Reaches, start, fire, HasOrder, IsFirable, IsConflictFree}
 use Rattle.ar_firing.specs.Operands.{HasFlows, HasFault}
@@ -25,3 +28,14 @@ module _ {V : Type 0} (sys : System V) (dropped : List ℕ) (keyed : AreKeyed sy
       → {set : List ℕ} {t : List Value} → IsFirable sys dropped set t → (u : List Value) × HasOrder sys dropped set u
   firable_has_order free known {set = set} f =
       has_order sys dropped keyed static set (λ part u h w met. ⊎_elim (λ k. k) (λ k. let m = met k.fault k.flows in absurd (free m.0 m.1)) (known part u h)) f (record { each = λ e o. o })
+
+  -- the flows of a firable set are there, or a fault
+  flows_told : AreTold V → (set : List ℕ) (t : List Value) → IsFirable sys dropped set t → HasFlows sys.net t ⊎ HasFault sys.net t
+  flows_told told set t f = go (has_outcome told sys.net t f.long)
+    where
+      go : (o : Outcome) × Flows sys.net t o → HasFlows sys.net t ⊎ HasFault sys.net t
+      go (Total u, h) = inl (record { values = u; flows = h })
+      go (Fails f, h) = inr (record { fault = f; flows = h })
+
+  pub told_has_order : AreTold V → IsConflictFree sys dropped → {set : List ℕ} {t : List Value} → IsFirable sys dropped set t → (u : List Value) × HasOrder sys dropped set u
+  told_has_order told free f = firable_has_order free (flows_told told) f

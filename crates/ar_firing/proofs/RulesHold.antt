@@ -14,6 +14,29 @@ use Rattle.ar_firing.specs.Rules.{IsTransition, transition, KeepsS1, BreaksS1, K
 use Rattle.ar_firing.specs.Rules as rules
 use Rattle.ar_firing.proofs.Without.{no_more}
 
+-- the rule of a number
+pub rule_of : ℕ → Rule
+rule_of zero = S1
+rule_of (suc zero) = S1
+rule_of (suc (suc zero)) = S2
+rule_of (suc (suc (suc zero))) = S3
+rule_of (suc (suc (suc (suc zero)))) = S4
+rule_of (suc (suc (suc (suc (suc zero))))) = S5
+rule_of (suc (suc (suc (suc (suc (suc zero)))))) = S6
+rule_of (suc (suc (suc (suc (suc (suc (suc zero))))))) = S7
+rule_of (suc (suc (suc (suc (suc (suc (suc (suc n)))))))) = S8
+
+pub numbered : (r : Rule) → rule_of (number_of r) ≡ r
+unfolding rule_of
+numbered S1 = refl
+numbered S2 = refl
+numbered S3 = refl
+numbered S4 = refl
+numbered S5 = refl
+numbered S6 = refl
+numbered S7 = refl
+numbered S8 = refl
+
 module _ {V : Type 0} (sys : System V) where
   pub mode_same : {unit : ℕ} {w : Way V} {m n : ℕ} → IsModeOf sys unit w m → IsModeOf sys unit w n → m ≡ n
   mode_same (named a) (named b) = first_same a b
@@ -123,28 +146,6 @@ module _ {V : Type 0} (sys : System V) where
     excludes S7 spot k (s7 {n = n} b) = s7_excludes n k b
     excludes S7 spot k (s7_observer {n = n} b) = s7_observer_excludes n k b
     excludes S8 spot k (s8 b) = s8_excludes k b
-
-    rule_of : ℕ → Rule
-    rule_of zero = S1
-    rule_of (suc zero) = S1
-    rule_of (suc (suc zero)) = S2
-    rule_of (suc (suc (suc zero))) = S3
-    rule_of (suc (suc (suc (suc zero)))) = S4
-    rule_of (suc (suc (suc (suc (suc zero))))) = S5
-    rule_of (suc (suc (suc (suc (suc (suc zero)))))) = S6
-    rule_of (suc (suc (suc (suc (suc (suc (suc zero))))))) = S7
-    rule_of (suc (suc (suc (suc (suc (suc (suc (suc n)))))))) = S8
-
-    numbered : (r : Rule) → rule_of (number_of r) ≡ r
-    unfolding rule_of
-    numbered S1 = refl
-    numbered S2 = refl
-    numbered S3 = refl
-    numbered S4 = refl
-    numbered S5 = refl
-    numbered S6 = refl
-    numbered S7 = refl
-    numbered S8 = refl
 
     same_number : (m n : ℕ) → (m < n → ⊥) → (n < m → ⊥) → m ≡ n
     same_number m n h k = omega arith

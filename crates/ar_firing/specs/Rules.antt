@@ -162,6 +162,10 @@ pub data AssignIsWide {V : Type 0} (net : Net V) (a : Assign V) : Type 0 where
   by_value : IsWide (Allows net) 64 (out-Expr V a.value) → AssignIsWide net a
   by_condition : {e : Expr V} {b : Bool} → IsOneOf a.conditions (e, b) → IsWide (Allows net) 64 (out-Expr V e) → AssignIsWide net a
 
+-- each assignment of an assertion has a variable of the net as its target, as it must have to be shown
+pub record HasTargets {V : Type 0} (sys : System V) : Type 0 where
+  pub each : (k : ℕ) (a : Assign V) → Stands sys.net.assertions k a → (n : ℕ) × (x : Variable V) × Stands sys.net.variables n x × (a.target ≡ x.key)
+
 -- no assignment of an assertion and no observer has too many possible values
 pub record KeepsS7 {V : Type 0} (sys : System V) : Type 0 where
   pub assignments : (k : ℕ) (a : Assign V) → Stands sys.net.assertions k a → AssignIsWide sys.net a → ⊥

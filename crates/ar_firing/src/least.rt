@@ -7,6 +7,7 @@ ghost use Rattle.ar_meaning.specs.Systems.{System};
 ghost use Rattle.ar_meaning.specs.Facts.{AreKeyed, HasValue};
 ghost use Rattle.ar_meaning.specs.Flows.{FlowFault};
 ghost use Rattle.ar_meaning.specs.Runs.{Label};
+ghost use Rattle.ar_base.specs.Sets.{Within};
 ghost use Rattle.ar_firing.specs.Static.{IsStatic};
 ghost use Rattle.ar_firing.specs.Cuts.{Reaches, Conflicts, Makes, IsLeast, HasNoLesser, MeetsConflict, Cut, ConflictSet, IsConflictFree, IsFirable, IsLegalOrder};
 ghost use Rattle.typed_expr.specs.Yields.{Yields};
@@ -50,4 +51,12 @@ pub fn least_in_words<V>()
     ensures cuts { (sys : System V) (dropped : List ℕ) (observer : Expr V) (wanted : Value) (set : List ℕ)
         → (Cut sys dropped observer wanted set ↔ HasNoLesser (Makes sys dropped observer wanted) set) }
     ensures conflict_sets { (sys : System V) (dropped : List ℕ) (set : List ℕ) → (ConflictSet sys dropped set ↔ HasNoLesser (MeetsConflict sys dropped) set) }
+{}
+
+/// A set that makes the value has a cut within it, and one that meets a conflict a conflict set: that none is there is refuted.
+pub fn least_within<V>()
+    ensures cuts { (sys : System V) (dropped : List ℕ) (observer : Expr V) (wanted : Value) (set : List ℕ) → Makes sys dropped observer wanted set
+        → ((part : List ℕ) → Within part set → Cut sys dropped observer wanted part → ⊥) → ⊥ }
+    ensures conflict_sets { (sys : System V) (dropped : List ℕ) (set : List ℕ) → MeetsConflict sys dropped set
+        → ((part : List ℕ) → Within part set → ConflictSet sys dropped part → ⊥) → ⊥ }
 {}

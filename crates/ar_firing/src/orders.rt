@@ -5,6 +5,7 @@ ghost use Rattle.ar_base.specs.Lists.{Stands};
 ghost use Rattle.domains.specs.declared.Value.{Value};
 ghost use Rattle.ar_meaning.specs.Systems.{System, Way};
 ghost use Rattle.ar_meaning.specs.Facts.{AreKeyed, HasValue};
+ghost use Rattle.ar_meaning.specs.Found.{AreTold};
 ghost use Rattle.ar_meaning.specs.Flows.{Flows, FlowFault, Fails};
 ghost use Rattle.ar_meaning.specs.Ways.{Can};
 ghost use Rattle.ar_meaning.specs.Steps.{Step, Answer};
@@ -44,12 +45,16 @@ pub fn legal_orders<V>()
         → ((part : List ℕ) (t : List Value) → IsFirable sys dropped part t → Within part set → HasFlows sys.net t) → (t : List Value) × Reaches sys dropped ls t }
 {}
 
-/// Where no set meets a conflict, and the flows of each firable set are known to be there or a fault, the sets with an
-/// order are exactly the firable sets.
+/// Where no set meets a conflict the sets with an order are exactly the firable sets: where the flows of each firable set are
+/// known to be there or a fault, where it can be told whether two keys are one, and so of numbers.
 pub fn sets_with_orders<V>()
     ensures firable { (sys : System V) (dropped : List ℕ) → AreKeyed sys.net → IsStatic sys dropped → (set : List ℕ) (t : List Value) → HasOrder sys dropped set t → IsFirable sys dropped set t }
     ensures order { (sys : System V) (dropped : List ℕ) → AreKeyed sys.net → IsStatic sys dropped → IsConflictFree sys dropped
         → ((set : List ℕ) (t : List Value) → IsFirable sys dropped set t → HasFlows sys.net t ⊎ HasFault sys.net t)
+        → (set : List ℕ) (t : List Value) → IsFirable sys dropped set t → (u : List Value) × HasOrder sys dropped set u }
+    ensures told { AreTold V → (sys : System V) (dropped : List ℕ) → AreKeyed sys.net → IsStatic sys dropped → IsConflictFree sys dropped
+        → (set : List ℕ) (t : List Value) → IsFirable sys dropped set t → (u : List Value) × HasOrder sys dropped set u }
+    ensures numbers { (sys : System ℕ) (dropped : List ℕ) → AreKeyed sys.net → IsStatic sys dropped → IsConflictFree sys dropped
         → (set : List ℕ) (t : List Value) → IsFirable sys dropped set t → (u : List Value) × HasOrder sys dropped set u }
 {}
 

@@ -24,3 +24,4 @@ pub mod MakingLines
 pub mod OneListing
 pub mod Unbroken
 pub mod Neither
+pub mod Shapes

@@ -6,3 +6,4 @@ pub mod Replays
 pub mod Rules
 pub mod Listed
 pub mod Static
+pub mod Trees

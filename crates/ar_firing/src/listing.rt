@@ -14,6 +14,7 @@ ghost use Rattle.ar_base.specs.Sets.{Within, IsBefore};
 ghost use Rattle.typed_expr.specs.declared.expr.Expr.{Expr};
 ghost use Rattle.ar_firing.specs.Listed.{AreListed};
 ghost use Rattle.ar_firing.specs.Forest.{Row, ModeTree, IsModeTree, IsForest, IsLine};
+ghost use Rattle.ar_firing.specs.Trees.{AreTrees};
 
 /// A static system has one forest.
 pub fn one_forest<V>()
@@ -24,6 +25,12 @@ pub fn one_forest<V>()
 pub fn tree_edges<V>()
     ensures live { (sys : System V) (dropped : List ℕ) → AreKeyed sys.net → IsStatic sys dropped → (tree : ModeTree) → IsModeTree sys dropped tree
         → (r : Row) → (IsOneOf tree.edges r ↔ IsLive sys dropped r.label tree.variable r.from r.to) }
+{}
+
+/// In each tree of a static system's forest an edge leaves the first mode or one that an earlier edge enters, none enters the
+/// first mode, and no two enter one mode or have one event; no event has edges in two trees.
+pub fn forest_trees<V>()
+    ensures trees { (sys : System V) (dropped : List ℕ) → AreKeyed sys.net → IsStatic sys dropped → (trees : List ModeTree) → IsForest sys dropped trees → AreTrees trees }
 {}
 
 /// In the state of a firable set a variable has its init value exactly where no edge that leaves this has its event in the

@@ -21,3 +21,4 @@ pub mod Dependence
 pub mod Lengths
 pub mod Answering
 pub mod Moments
+pub mod Completing

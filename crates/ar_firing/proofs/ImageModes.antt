@@ -1,5 +1,5 @@
 -- A system and its image have the same modes, edges, paths, firable sets and forests.
-use Rattle.std.proofs.Common.{◌≡◌, ℕ, zero, suc, Bool, List, length, Some, Contains, inl, inr, refl, sym, ◌∙◌, ap, subst}
+use Rattle.std.proofs.Common.{◌≡◌, ℕ, zero, suc, Bool, List, Some, Contains, inl, inr, refl, sym, ◌∙◌, ap, subst}
 use Rattle.ar_base.specs.Lists.{Stands, IsOneOf, IsFirst, HasNo, Along}
 use Rattle.ar_base.specs.Lists as l
 use Rattle.ar_base.proofs.Standing.{stands_one, along_length}

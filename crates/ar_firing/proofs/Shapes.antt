@@ -1,8 +1,8 @@
 -- The trees of a static system's forest are trees by their edges alone.
 use Rattle.std.proofs.Common.{◌≡◌, ◌⊎◌, inl, inr, ⊎_elim, ℕ, zero, suc, ◌+◌, ◌<◌, ◌≤◌, List, [], ◌∷◌, ◌++◌, length, Some, refl, sym, ap, ◌∙◌, subst, arith, length-append, append_assoc}
 use Rattle.std.proofs.lemmas.Bool.{cases_order}
-use Rattle.ar_base.specs.Lists.{Stands, IsOneOf}
-use Rattle.ar_base.proofs.Standing.{stands_one, stands_left, stands_right, stands_split, stands_next}
+use Rattle.ar_base.specs.Lists.{Stands}
+use Rattle.ar_base.proofs.Standing.{stands_left, stands_right, stands_split, stands_next}
 use Rattle.domains.specs.declared.Value.{Value}
 use Rattle.ar_meaning.specs.Systems.{System}
 use Rattle.ar_meaning.specs.Facts.{AreKeyed}

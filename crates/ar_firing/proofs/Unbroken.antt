@@ -1,25 +1,24 @@
 -- Where no rule is broken each is kept, the last one of them by refutation alone.
-use Rattle.std.proofs.Common.{◌≡◌, ◌<◌, ◌≤◌, ◌⊎◌, inl, inr, ⊎_elim, ℕ, zero, suc, ◌+◌, Bool, true, false, List, [], ◌∷◌, ◌++◌, length, length-append, Contains, refl, sym, ◌∙◌, ap, subst, arith}
+use Rattle.std.proofs.Common.{◌≡◌, ◌<◌, ◌≤◌, ◌⊎◌, inl, inr, ⊎_elim, ℕ, zero, suc, ◌+◌, Bool, true, List, [], ◌∷◌, ◌++◌, length, length-append, Contains, refl, sym, subst, arith}
 use Rattle.std.proofs.lemmas.Bool.{cases_eq}
 use Rattle.ar_base.specs.Lists.{Stands, IsOneOf, IsFirst, HasNo, AreDifferent}
-use Rattle.ar_base.proofs.Standing.{stands_none, one_here, one_none, one_cases, one_first, one_split, first_or_none, different_more}
+use Rattle.ar_base.proofs.Standing.{stands_none, one_here, one_none, one_cases, one_split, first_or_none, different_more}
 use Rattle.domains.proofs.Members.{nothing-in, contains-head, contains-cases}
 use Rattle.domains.specs.declared.Value.{Value}
 use Rattle.typed_expr.specs.Mentions.{Mentions}
 use Rattle.typed_expr.specs.declared.expr.Expr.{Expr, out-Expr}
 use Rattle.typed_expr.proofs.Listing.{Told, Listed, value_told, contains_told}
 use Rattle.typed_expr.proofs.Mentioning.{mentions_told}
-use Rattle.ar_meaning.specs.Systems.{Assign, Variable, Transition, Way, Leaf, Joint, Branches, System}
+use Rattle.ar_meaning.specs.Systems.{Assign, Variable, Way, Leaf, Joint, System}
 use Rattle.ar_meaning.specs.Dependence.{Tests, in_this, in_later}
 use Rattle.ar_meaning.specs.Ways.{Effects}
 use Rattle.ar_meaning.specs.Runs.{Label, IsWay}
 use Rattle.ar_meaning.specs.Found.{AreTold}
-use Rattle.ar_meaning.proofs.Outcomes.{both_told, bool_told, some_told, one_told, not_told}
+use Rattle.ar_meaning.proofs.Outcomes.{both_told, bool_told, one_told}
 use Rattle.ar_meaning.proofs.Answering.{effects_known}
-use Rattle.ar_firing.specs.Fragment.{Involves, as_target, as_source, GuardNames, guard, ActionNames, action, WayNames, in_guard, in_action, IsKept, IsStateOf, IsNamedStateOf, IsModeOf, named, first, At, IsLive}
+use Rattle.ar_firing.specs.Fragment.{Involves, as_target, as_source, GuardNames, guard, ActionNames, action, WayNames, in_guard, in_action, IsStateOf, IsNamedStateOf, IsModeOf, named, first, At, IsLive}
 use Rattle.ar_firing.specs.Static.{IsStatic}
-use Rattle.ar_firing.specs.Rules.{IsTransition, transition, KeepsS1, KeepsS2, HasState, HasModeVariable, GuardKeeps, KeepsS3, IsLiveAt, GivesOne, GivesOther, nothing, two, outside, KeepsS4, names, gives, AreTwo, ways, variables, modes, HasLive, KeepsS5, KeepsS6, stays, by_events, by_edges, initial, HasTargets, KeepsS7, IsLiveEvent, KeepsS8, BreaksS8, Spot, AtEvent, AtUnit, AtVariable, AtObserver, AtWhole, Rule, S1, S2, S3, S4, S5, S6, S7, S8, Breaks, s1, s2, s3, s4, s5, s6, s7, s7_observer, s8}
-use Rattle.ar_firing.specs.Forest.{HasTransitions}
+use Rattle.ar_firing.specs.Rules.{IsTransition, transition, KeepsS1, KeepsS2, HasState, HasModeVariable, KeepsS3, IsLiveAt, GivesOne, GivesOther, nothing, two, outside, KeepsS4, names, gives, AreTwo, ways, variables, modes, HasLive, KeepsS5, KeepsS6, stays, by_events, by_edges, initial, HasTargets, KeepsS7, IsLiveEvent, KeepsS8, Spot, AtEvent, AtUnit, AtVariable, AtObserver, AtWhole, Rule, S1, S2, S3, S4, S5, S6, S7, S8, Breaks, s1, s2, s3, s4, s5, s6, s7, s7_observer, s8}
 use Rattle.ar_firing.proofs.LeastSets.{one_of}
 use Rattle.ar_firing.proofs.RulesHold.{static}
 

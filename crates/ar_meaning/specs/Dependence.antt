@@ -1,5 +1,5 @@
 -- Which variables an assignment names, and how the flows of a net depend on each other.
-use Rattle.std.specs.Prelude.{◌≡◌, ◌⊎◌, ℕ, Bool, false, not, List, [], ◌∷◌, take, count_by}
+use Rattle.std.specs.Prelude.{◌≡◌, ◌⊎◌, ℕ, Bool, false, not, List, ◌∷◌, take, count_by}
 use Rattle.ar_base.specs.Lists.{Stands, IsOneOf}
 use Rattle.typed_expr.specs.Mentions.{Mentions}
 use Rattle.typed_expr.specs.declared.expr.Expr.{Expr, out-Expr}

@@ -5,7 +5,7 @@ use Rattle.ar_base.specs.Texts.{text_at, line}
 use Rattle.ar_base.specs.declared.places.Place.{Place}
 use Rattle.domains.specs.declared.Value.{Value}
 use Rattle.typed_expr.specs.Yields.{Yields}
-use Rattle.typed_expr.specs.declared.expr.Expr.{Expr, out-Expr}
+use Rattle.typed_expr.specs.declared.expr.Expr.{out-Expr}
 use Rattle.ar_meaning.specs.Systems.{System, Event}
 use Rattle.ar_meaning.specs.ValueTexts.{value_text}
 use Rattle.ar_meaning.specs.Facts.{HasValue}

@@ -1,12 +1,12 @@
 -- What an expression of a kind yields is of the kind.
-use Rattle.std.proofs.Common.{◌≡◌, List, ◌∷◌, refl}
+use Rattle.std.proofs.Common.{◌≡◌, List, refl}
 use Rattle.domains.specs.declared.Value.{Value}
 use Rattle.typed_expr.specs.Yields.{Level, Yields, Takes}
 use Rattle.typed_expr.specs.Yields as y
 use Rattle.typed_expr.specs.Kinds.{kind_of, HasKind, Each_case}
 use Rattle.typed_expr.specs.Kinds as k
 use Rattle.typed_expr.specs.declared.expr.ValueKind.{ValueKind}
-use Rattle.typed_expr.specs.declared.expr.Expr.{Expr, out-Expr}
+use Rattle.typed_expr.specs.declared.expr.Expr.{Expr}
 
 module _ {V : Type 0} (facts : V → Value → Type 0) (kinds : V → ValueKind) (of_kinds : (x : V) (v : Value) → facts x v → kind_of v ≡ kinds x) where
   mutual

@@ -16,7 +16,7 @@ use Rattle.ar_base.specs.Sets.{Within}
 use Rattle.ar_firing.specs.Cuts as cuts
 use Rattle.ar_firing.specs.Operands.{HasFlows}
 use Rattle.domains.specs.declared.Value.{Value}
-use Rattle.ar_base.proofs.Standing.{stands_one, one_none}
+use Rattle.ar_base.proofs.Standing.{stands_one, stands_map, stands_map_back, one_none}
 use Rattle.std.proofs.lemmas.Bool.{cases_eq}
 use Rattle.ar_firing.proofs.Firing.{Next_edge, next_edge, to_alone, only_target, only_effects, value_from, moved, firable_flows, none_firable, enabled, longer}
 use Rattle.ar_firing.proofs.Ends.{split_live, split, path_unique, path_end, live}
@@ -40,14 +40,10 @@ pub record AreOnce (ls : List Label) : Type 0 where
   pub once : (j k : ℕ) (l m : Label) → Stands ls j l → Stands ls k m → l.event ≡ m.event → j ≡ k
 
 pub event_of : (ls : List Label) (k : ℕ) (l : Label) → Stands ls k l → Stands (map (λ l. l.event) ls) k l.event
-event_of [] k l h = cc
-event_of (x ∷ ls) zero l h = let i : x ≡ l = cc in ap (λ z. Some z.event) i
-event_of (x ∷ ls) (suc k) l h = event_of ls k l h
+event_of ls k l h = stands_map (λ (l : Label). l.event) ls k l h
 
 pub label_of : (ls : List Label) (k e : ℕ) → Stands (map (λ l. l.event) ls) k e → (l : Label) × Stands ls k l × (l.event ≡ e)
-label_of [] k e h = cc
-label_of (x ∷ ls) zero e h = (x, refl, cc)
-label_of (x ∷ ls) (suc k) e h = label_of ls k e h
+label_of ls k e h = stands_map_back (λ (l : Label). l.event) ls k e h
 
 self_events : (ls : List Label) → AreOnce ls → AreEvents ls (map (λ l. l.event) ls)
 self_events ls o = record {

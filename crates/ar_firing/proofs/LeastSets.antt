@@ -47,7 +47,7 @@ module _ (P : List ℕ → Type 0) where
   from_words {set = set} h = record { has = h.has; least = λ part w p. ⊎_elim (λ k. k) (λ l. absurd (h.no_lesser part w (λ k. l.is_not (k.each l.event l.is_one)) p)) (decided set part) }
 
 -- how many places of the first list hold a number of the second
-abbrev counted : List ℕ → List ℕ → ℕ
+abbrev pub counted : List ℕ → List ℕ → ℕ
 counted [] part = 0
 counted (x ∷ xs) part = ⊎_elim (λ o. suc (counted xs part)) (λ n. counted xs part) (one_of part x)
 
@@ -62,7 +62,7 @@ no_more_counted (x ∷ xs) part whole w = go (one_of part x) (one_of whole x) (n
     go (inr n) (inl i) h = omega (arith, h)
     go (inr n) (inr m) h = h
 
-fewer : (xs part whole : List ℕ) (e k : ℕ) → Within part whole → Stands xs k e → IsOneOf whole e → (IsOneOf part e → ⊥) → counted xs part < counted xs whole
+pub fewer : (xs part whole : List ℕ) (e k : ℕ) → Within part whole → Stands xs k e → IsOneOf whole e → (IsOneOf part e → ⊥) → counted xs part < counted xs whole
 fewer [] part whole e k w s i n = cc
 fewer (x ∷ xs) part whole e zero w s i n = go (one_of part x) (one_of whole x) (no_more_counted xs part whole w)
   where

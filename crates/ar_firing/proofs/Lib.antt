@@ -25,3 +25,5 @@ pub mod OneListing
 pub mod Unbroken
 pub mod Neither
 pub mod Shapes
+pub mod RunsTold
+pub mod LeastThere

@@ -1,12 +1,13 @@
 //! Cuts and conflict sets, by two tests of sets of events.
 
-ghost use Rattle.std.specs.Prelude.{ℕ, Bool, false, List, ◌≡◌, ◌↔◌, reverse};
+ghost use Rattle.std.specs.Prelude.{ℕ, Bool, false, List, ◌≡◌, ◌↔◌, ◌⊎◌, reverse};
 ghost use Rattle.domains.specs.declared.Value.{Value};
 ghost use Rattle.typed_expr.specs.declared.expr.Expr.{Expr, out-Expr};
 ghost use Rattle.ar_meaning.specs.Systems.{System};
 ghost use Rattle.ar_meaning.specs.Facts.{AreKeyed, HasValue};
 ghost use Rattle.ar_meaning.specs.Flows.{FlowFault};
 ghost use Rattle.ar_meaning.specs.Runs.{Label};
+ghost use Rattle.ar_meaning.specs.Found.{AreTold};
 ghost use Rattle.ar_base.specs.Sets.{Within};
 ghost use Rattle.ar_firing.specs.Static.{IsStatic};
 ghost use Rattle.ar_firing.specs.Cuts.{Reaches, Conflicts, Makes, IsLeast, HasNoLesser, MeetsConflict, Cut, ConflictSet, IsConflictFree, IsFirable, IsLegalOrder};
@@ -53,10 +54,23 @@ pub fn least_in_words<V>()
     ensures conflict_sets { (sys : System V) (dropped : List ℕ) (set : List ℕ) → (ConflictSet sys dropped set ↔ HasNoLesser (MeetsConflict sys dropped) set) }
 {}
 
-/// A set that makes the value has a cut within it, and one that meets a conflict a conflict set: that none is there is refuted.
+/// Where it can be told whether two keys are one, as with numbers, it can be told whether a set makes the value, and whether it
+/// meets a conflict.
+pub fn sets_told<V>()
+    ensures makes { AreTold V → (sys : System V) (dropped : List ℕ) (observer : Expr V) (wanted : Value) (set : List ℕ)
+        → Makes sys dropped observer wanted set ⊎ (Makes sys dropped observer wanted set → ⊥) }
+    ensures conflicts { AreTold V → (sys : System V) (dropped : List ℕ) (set : List ℕ) → MeetsConflict sys dropped set ⊎ (MeetsConflict sys dropped set → ⊥) }
+{}
+
+/// A set that makes the value has a cut within it, and one that meets a conflict a conflict set, where it can be told whether two
+/// keys are one; elsewhere it is refuted that there is none.
 pub fn least_within<V>()
-    ensures cuts { (sys : System V) (dropped : List ℕ) (observer : Expr V) (wanted : Value) (set : List ℕ) → Makes sys dropped observer wanted set
+    ensures cuts { AreTold V → (sys : System V) (dropped : List ℕ) (observer : Expr V) (wanted : Value) (set : List ℕ) → Makes sys dropped observer wanted set
+        → (part : List ℕ) × Within part set × Cut sys dropped observer wanted part }
+    ensures conflict_sets { AreTold V → (sys : System V) (dropped : List ℕ) (set : List ℕ) → MeetsConflict sys dropped set
+        → (part : List ℕ) × Within part set × ConflictSet sys dropped part }
+    ensures not_no_cut { (sys : System V) (dropped : List ℕ) (observer : Expr V) (wanted : Value) (set : List ℕ) → Makes sys dropped observer wanted set
         → ((part : List ℕ) → Within part set → Cut sys dropped observer wanted part → ⊥) → ⊥ }
-    ensures conflict_sets { (sys : System V) (dropped : List ℕ) (set : List ℕ) → MeetsConflict sys dropped set
+    ensures not_no_conflict_set { (sys : System V) (dropped : List ℕ) (set : List ℕ) → MeetsConflict sys dropped set
         → ((part : List ℕ) → Within part set → ConflictSet sys dropped part → ⊥) → ⊥ }
 {}

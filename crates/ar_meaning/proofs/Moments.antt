@@ -8,10 +8,10 @@ use Rattle.ar_meaning.specs.Systems.{Way, Event, System}
 use Rattle.ar_meaning.specs.Facts.{HasValue}
 use Rattle.ar_meaning.specs.Flows.{Flows, Outcome, Fails, Total}
 use Rattle.ar_meaning.specs.Ways.{Can}
-use Rattle.ar_meaning.specs.Steps.{Answer, Refused, Next, Step, moves}
+use Rattle.ar_meaning.specs.Steps.{Answer, Refused, Next, Step}
 use Rattle.ar_meaning.specs.Runs.{Label, IsWay, Command, Fire, Back, Show, Enabled, FiresWays, Moment, Ways_listed, can, cannot, Listed, visible, hidden, Goes, ends, fires, fails, back, no_step, shows, lists, first_values, Runs, starts, start_fails}
 use Rattle.ar_meaning.specs.Runs as r
-use Rattle.ar_meaning.proofs.Lengths.{first_long, total_long}
+use Rattle.ar_meaning.proofs.Lengths.{first_long, total_long, step_long}
 use Rattle.ar_meaning.proofs.Outcomes.{values_known, has_outcome}
 use Rattle.ar_meaning.proofs.Answering.{can_told, has_answer}
 
@@ -40,9 +40,6 @@ module _ {V : Type 0} (key_told : (x y : V) → Told (x ≡ y)) (sys : System V)
 
   later : {c : Command} {cs : List Command} → FiresWays sys (c ∷ cs) → FiresWays sys cs
   later {c = c} {cs = cs} h = record { each = λ l o. h.each l (one_rest c cs (Fire l) o) }
-
-  step_long : {t u : List Value} {w : Way V} → Step sys.net t w (Next u) → length u ≡ length sys.net.variables
-  step_long (moves state c n m h f) = total_long f
 
   -- what follows has its moments
   goes : (below : List (List Value)) (t : List Value) (cs : List Command) → AreLong below → length t ≡ length sys.net.variables → FiresWays sys cs → (ms : List Moment) × Goes sys below t cs ms

@@ -1,6 +1,5 @@
 -- Each list of values of the right length has an outcome of its flows.
-use Rattle.std.proofs.Common.{◌≡◌, ◌⊎◌, inl, inr, ℕ, zero, suc, ◌<◌, Bool, true, false, nat_eq, List, [], ◌∷◌, ◌++◌, map, length, Some, Contains, refl, sym, ap, ◌∙◌, subst, arith}
-use Rattle.std.specs.Cmp.{unsigned_Decides}
+use Rattle.std.proofs.Common.{◌≡◌, ◌⊎◌, inl, inr, ℕ, zero, suc, ◌<◌, Bool, true, false, List, [], ◌∷◌, ◌++◌, map, length, Some, Contains, refl, sym, ap, ◌∙◌, subst, arith}
 use Rattle.std.proofs.lemmas.List.Elements.{Contains-append_left, Contains-append_right, Contains-append_cases}
 use Rattle.domains.proofs.Members.{nothing-in, contains-head, contains-cons, contains-cases, contains-map, contains-from_map}
 use Rattle.domains.specs.declared.Value.{Value}
@@ -77,13 +76,6 @@ pub both_told : {P Q : Type 0} → Told P → Told Q → Told (P × Q)
 both_told (inl p) (inl q) = inl (p, q)
 both_told (inl p) (inr n) = inr (λ h. n h.1)
 both_told (inr n) q = inr (λ h. n h.0)
-
-pub number_told : (m n : ℕ) → Told (m ≡ n)
-number_told m n = go (nat_eq m n) refl
-  where
-    go : (b : Bool) → nat_eq m n ≡ b → Told (m ≡ n)
-    go true i = inl ((unsigned_Decides m n).0 i)
-    go false i = inr (λ e. let k = (unsigned_Decides m n).1 e in cc)
 
 pub bool_told : (a b : Bool) → Told (a ≡ b)
 bool_told true true = inl refl

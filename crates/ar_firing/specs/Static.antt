@@ -6,6 +6,7 @@ use Rattle.typed_expr.specs.Yields.{Level}
 use Rattle.typed_expr.specs.Mentions.{Mentions}
 use Rattle.typed_expr.specs.declared.expr.Expr.{Expr, out-Expr}
 use Rattle.ar_meaning.specs.Systems.{Assign, Variable, Transition, Way, Leaf, System}
+use Rattle.ar_meaning.specs.Facts.{AreKeyed}
 use Rattle.ar_meaning.specs.Runs.{Label}
 use Rattle.ar_firing.specs.Fragment.{IsOpen, IsModeOf, Edge}
 use Rattle.ar_firing.specs.Rules.{IsLiveAt, KeepsS5, KeepsS6}
@@ -44,3 +45,8 @@ pub record IsStatic {V : Type 0} (sys : System V) (dropped : List ℕ) : Type 0 
   pub leads : (l : Label) (w : Way V) (n : ℕ) (x : Variable V) (m : Value) → IsLiveAt sys dropped l w n x m → Leads sys dropped l n m
   pub one_edge : KeepsS5 sys dropped
   pub enters_once : KeepsS6 sys dropped
+
+-- no two variables have one key, and the system is static
+pub record IsKeyedStatic {V : Type 0} (sys : System V) (dropped : List ℕ) : Type 0 where
+  pub keyed : AreKeyed sys.net
+  pub static : IsStatic sys dropped

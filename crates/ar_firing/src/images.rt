@@ -52,7 +52,8 @@ pub fn flat_forests<V>()
         → (IsForest sys dropped trees ↔ IsForest flat dropped trees) }
 {}
 
-/// A system and a flat system of it keep and break the same rules of the static fragment, by the same numbers.
+/// A system and a flat system of it keep and break the same rules of the static fragment, by the
+/// same numbers.
 pub fn flat_rules<V>()
     ensures keeps { (things : List V) (sys : System V) (flat : System ℕ) → IsFlatOf things sys flat
         → (dropped : List ℕ) (rule : Rule) → (Keeps sys dropped rule ↔ Keeps flat dropped rule) }

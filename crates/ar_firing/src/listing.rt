@@ -1,4 +1,5 @@
-//! The forest of a static system, and the order in which a set's labels and the sets themselves are listed.
+//! The forest of a static system, and the order in which a set's labels and the sets themselves are
+//! listed.
 
 ghost use Rattle.std.specs.Prelude.{ℕ, List, true, ◌≡◌, ◌↔◌, ◌⊎◌, reverse};
 ghost use Rattle.domains.specs.declared.Value.{Value};
@@ -28,15 +29,17 @@ pub fn tree_edges<V>()
         → (IsOneOf tree.edges r ↔ IsLive sys dropped r.label tree.variable r.from r.to) }
 {}
 
-/// In each tree of a static system's forest an edge leaves the first mode or one that an earlier edge enters, none enters the
-/// first mode, and no two enter one mode or have one event; no event has edges in two trees.
+/// In each tree of a static system's forest an edge leaves the first mode or one that an earlier
+/// edge enters, none enters the first mode, and no two enter one mode or have one event; no event
+/// has edges in two trees.
 pub fn forest_trees<V>()
     ensures trees { (sys : System V) (dropped : List ℕ) → IsKeyedStatic sys dropped
         → (trees : List ModeTree) → IsForest sys dropped trees → AreTrees trees }
 {}
 
-/// In the state of a firable set a variable has its init value exactly where no edge that leaves this has its event in the
-/// set, and a mode that an edge enters exactly where this edge's event is in the set and that of none that leaves the mode.
+/// In the state of a firable set a variable has its init value exactly where no edge that leaves
+/// this has its event in the set, and a mode that an edge enters exactly where this edge's event is
+/// in the set and that of none that leaves the mode.
 pub fn modes_of_sets<V>()
     ensures initial { (sys : System V) (dropped : List ℕ) → IsKeyedStatic sys dropped
         → (set : List ℕ) (t : List Value) → IsFirable sys dropped set t → (n : ℕ) (x : Variable V)
@@ -50,7 +53,8 @@ pub fn modes_of_sets<V>()
     ensures no_other { (sys : System V) (dropped : List ℕ) → IsKeyedStatic sys dropped
         → (set : List ℕ) (t : List Value) → IsFirable sys dropped set t → (n : ℕ) (x : Variable V)
         → Stands sys.net.variables n x → x.is_state ≡ true → (m : Value) → Stands t n m
-        → (m ≡ x.value) ⊎ ((l : Label) × (from : Value) × IsLive sys dropped l n from m × IsOneOf set l.event) }
+        → (m ≡ x.value)
+        ⊎ ((l : Label) × (from : Value) × IsLive sys dropped l n from m × IsOneOf set l.event) }
 {}
 
 /// A firable set has one line, and fires in this order where any order of it does.
@@ -67,16 +71,16 @@ pub fn lines<V>()
 
 /// The cuts of a value are listed in one way, and so are the conflict sets.
 pub fn one_listing<V>()
-    ensures cuts { (sys : System V) (dropped : List ℕ) (observer : Expr V) (wanted : Value) (xs ys : List (List ℕ))
-        → AreListed (Cut sys dropped observer wanted) xs
+    ensures cuts { (sys : System V) (dropped : List ℕ) (observer : Expr V) (wanted : Value)
+        (xs ys : List (List ℕ)) → AreListed (Cut sys dropped observer wanted) xs
         → AreListed (Cut sys dropped observer wanted) ys → xs ≡ ys }
     ensures conflict_sets { (sys : System V) (dropped : List ℕ) (xs ys : List (List ℕ))
         → AreListed (ConflictSet sys dropped) xs → AreListed (ConflictSet sys dropped) ys
         → xs ≡ ys }
 {}
 
-/// Sets of events are in a strict order: none is before one with the same members, of two at most one is before the other,
-/// and what is before a set is before those after it.
+/// Sets of events are in a strict order: none is before one with the same members, of two at most
+/// one is before the other, and what is before a set is before those after it.
 pub fn order_of_sets()
     ensures not_itself { (s t : List ℕ) → IsBefore s t → Within s t → ⊥ }
     ensures not_both { (s t : List ℕ) → IsBefore s t → IsBefore t s → ⊥ }

@@ -6,8 +6,8 @@ ghost use Rattle.ar_meaning.specs.Found.{AreTold};
 ghost use Rattle.ar_firing.specs.Static.{IsStatic};
 ghost use Rattle.ar_firing.specs.Rules.{Rule, Spot, HasTargets, Keeps, Breaks, IsFirstBroken, KeepsAll};
 
-/// A rule that is kept is broken nowhere, and at most one rule is the first that is broken, with one thing that it is shown
-/// with.
+/// A rule that is kept is broken nowhere, and at most one rule is the first that is broken, with
+/// one thing that it is shown with.
 pub fn kept_or_broken<V>()
     ensures one_rule { (sys : System V) (dropped : List ℕ) (rule : Rule) (spot : Spot)
         → Keeps sys dropped rule → Breaks sys dropped rule spot → ⊥ }
@@ -24,9 +24,9 @@ pub fn rules_make_static<V>()
         → IsStatic sys dropped }
 {}
 
-/// Where it can be told whether two keys are one, as with numbers, a system of which no rule is broken is static; and where each
-/// assignment of an assertion has a variable as its target, it is refuted that a system neither keeps every rule nor has a first
-/// one that it breaks.
+/// Where it can be told whether two keys are one, as with numbers, a system of which no rule is
+/// broken is static; and where each assignment of an assertion has a variable as its target, it is
+/// refuted that a system neither keeps every rule nor has a first one that it breaks.
 pub fn unbroken_rules<V>()
     ensures is_static { AreTold V → (sys : System V) (dropped : List ℕ)
         → ((rule : Rule) (spot : Spot) → Breaks sys dropped rule spot → ⊥) → IsStatic sys dropped }

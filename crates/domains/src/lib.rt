@@ -40,7 +40,8 @@ pub enum Domain {
     Range(i64, i64),
 }
 
-/// The sum of two numbers; a result that is too small or too large becomes the least or the greatest `i64`.
+/// The sum of two numbers; a result that is too small or too large becomes the least or the
+/// greatest `i64`.
 pub fn add(a: i64, b: i64) -> i64
     ensures { result ≡ saturate_signed w64 (a +ℤ b) }
 {
@@ -61,12 +62,14 @@ pub fn multiply(a: i64, b: i64) -> i64
     a.saturating_mul(b)
 }
 
-/// The laws of domains: a value has one position and a position one value, positions follow the order of values, and
-/// what a domain holds is what stands in the list of its values.
+/// The laws of domains: a value has one position and a position one value, positions follow the
+/// order of values, and what a domain holds is what stands in the list of its values.
 pub fn domain_laws()
     ensures one_position { (d : Domain) (v : Value) (p q : ℕ) → IsAt d v p → IsAt d v q → p ≡ q }
-    ensures one_value { (d : Domain) (v w : Value) (p : ℕ) → IsDomain d → Holds d v → Holds d w → IsAt d v p → IsAt d w p → v ≡ w }
-    ensures in_order { (d : Domain) (v w : Value) (p q : ℕ) → Holds d v → Holds d w → IsAt d v p → IsAt d w q → is_before v w ≡ true → p < q }
+    ensures one_value { (d : Domain) (v w : Value) (p : ℕ) → IsDomain d → Holds d v → Holds d w
+        → IsAt d v p → IsAt d w p → v ≡ w }
+    ensures in_order { (d : Domain) (v w : Value) (p q : ℕ) → Holds d v → Holds d w → IsAt d v p
+        → IsAt d w q → is_before v w ≡ true → p < q }
     ensures listed { (d : Domain) (v : Value) → IsDomain d → Holds d v ↔ Contains (values_of d) v }
 {}
 
@@ -84,8 +87,8 @@ impl Domain {
         }
     }
 
-    /// How many values of the domain come before this one in the order of values, or None where the domain does not
-    /// have it.
+    /// How many values of the domain come before this one in the order of values, or None where the
+    /// domain does not have it.
     pub fn position(&self, value: Value) -> Option<u32>
         requires { IsDomain self.now }
         ensures found { IfSome result (IsAt self.now value) }
@@ -102,7 +105,8 @@ impl Domain {
         }
     }
 
-    /// The value before which so many values of the domain come, or None where the domain does not have more.
+    /// The value before which so many values of the domain come, or None where the domain does not
+    /// have more.
     pub fn value_at(&self, position: u32) -> Option<Value>
         requires { IsDomain self.now }
         ensures found { IfSome result (λ v. Holds self.now v × IsAt self.now v position) }
@@ -129,8 +133,10 @@ impl Domain {
 // The symbol that has so many symbols below it.
 fn symbol_at(symbols: &[u32], position: u32) -> Option<u32>
     requires { length symbols.now ≤ 256 }
-    ensures found { IfSome result (λ s. Contains symbols.now s × (count_by (λ x. nat_lt x s) symbols.now ≡ position)) }
-    ensures none { IfNone result ((s : ℕ) → Contains symbols.now s → count_by (λ x. nat_lt x s) symbols.now ≢ position) }
+    ensures found { IfSome result (λ s. Contains symbols.now s
+        × (count_by (λ x. nat_lt x s) symbols.now ≡ position)) }
+    ensures none { IfNone result ((s : ℕ) → Contains symbols.now s
+        → count_by (λ x. nat_lt x s) symbols.now ≢ position) }
 {
     // symbols that ascend stand at their positions
     if let Some(s) = symbols.get(position as usize) {

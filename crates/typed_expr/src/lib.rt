@@ -1,4 +1,5 @@
-//! Expressions over variables of any kind: their kinds, their values, and the values that they yield from facts.
+//! Expressions over variables of any kind: their kinds, their values, and the values that they
+//! yield from facts.
 #![tactic(auto)]
 
 mod env;

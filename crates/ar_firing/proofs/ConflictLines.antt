@@ -17,9 +17,11 @@ use Rattle.ar_firing.proofs.EachHasOrder.{label_of}
 use Rattle.ar_firing.proofs.SameSets.{firable_as, events_within, set_within}
 use Rattle.ar_firing.proofs.Legal.{goes_on, onward, fires_all}
 
-module _ {V : Type 0} (sys : System V) (dropped : List ℕ) (keyed : AreKeyed sys.net) (static : IsStatic sys dropped) (observer : Expr V) (wanted : Value)
+module _ {V : Type 0} (sys : System V) (dropped : List ℕ) (keyed : AreKeyed sys.net) (static : IsStatic sys dropped)
+    (observer : Expr V) (wanted : Value)
     (conflict top : List ℕ → Bool) (agrees : Agrees sys dropped observer wanted conflict top) where
-  pub legal_meets : {set : List ℕ} (ls : List Label) → IsLeast (IsFirableWith sys dropped conflict) set → IsLegalOrder sys dropped set ls → (f : FlowFault) × Conflicts sys dropped ls f
+  pub legal_meets : {set : List ℕ} (ls : List Label) → IsLeast (IsFirableWith sys dropped conflict) set
+      → IsLegalOrder sys dropped set ls → (f : FlowFault) × Conflicts sys dropped ls f
   legal_meets {set = set} [] c o =
       let none : Within set [] = set_within [] set o.events in
       let all : Within [] set = record { each = λ e i. let h = i.stands in cc } in
@@ -40,7 +42,8 @@ module _ {V : Type 0} (sys : System V) (dropped : List ℕ) (keyed : AreKeyed sy
           let h : zero ≡ suc i.place = o.events.once zero (suc i.place) l m.0 refl m.1 (sym m.2) in
           absurd (omega (arith, h))
 
-      flows : (part : List ℕ) (t : List Value) → IsFirable sys dropped part t → Within part (map (λ k. k.event) b) → (v : Bool) → conflict part ≡ v → HasFlows sys.net t
+      flows : (part : List ℕ) (t : List Value) → IsFirable sys dropped part t → Within part (map (λ k. k.event) b)
+          → (v : Bool) → conflict part ≡ v → HasFlows sys.net t
       flows part t f w true e =
           let all = c.least part (record { each = λ k i. in_set k (w.each k i) }) (record { values = t; is_firable = f; holds = e }) in
           absurd (not_again (w.each l.event (all.each l.event (o.events.sound zero l refl))))

@@ -21,12 +21,15 @@ use Rattle.std.proofs.lemmas.Bool.{cases_eq}
 use Rattle.ar_firing.proofs.Firing.{Next_edge, next_edge, to_alone, only_target, only_effects, value_from, moved, firable_flows, none_firable, enabled, longer}
 use Rattle.ar_firing.proofs.Ends.{split_live, split, path_unique, path_end, live}
 
-pub record Received {V : Type 0} (effects : V → Value → Type 0) (xs : List (Variable V)) (vs : List Value) : Type 0 where
+pub record Received {V : Type 0} (effects : V → Value → Type 0) (xs : List (Variable V))
+    (vs : List Value) : Type 0 where
   pub values : List Value
   pub receives : Receives effects xs vs values
 
-receives_all : {V : Type 0} {effects : V → Value → Type 0} (xs : List (Variable V)) (vs : List Value) → length vs ≡ length xs
-    → ((x : Variable V) → IsOneOf xs x → ((w : Value) × effects x.key w) ⊎ ((w : Value) → effects x.key w → ⊥)) → Received effects xs vs
+receives_all : {V : Type 0} {effects : V → Value → Type 0} (xs : List (Variable V)) (vs : List Value)
+    → length vs ≡ length xs
+    → ((x : Variable V) → IsOneOf xs x → ((w : Value) × effects x.key w) ⊎ ((w : Value) → effects x.key w → ⊥))
+    → Received effects xs vs
 receives_all [] [] e h = record { values = []; receives = s.none }
 receives_all [] (v ∷ vs) e h = absurd (omega arith)
 receives_all (x ∷ xs) [] e h = absurd (omega arith)
@@ -42,7 +45,8 @@ pub record AreOnce (ls : List Label) : Type 0 where
 pub event_of : (ls : List Label) (k : ℕ) (l : Label) → Stands ls k l → Stands (map (λ l. l.event) ls) k l.event
 event_of ls k l h = stands_map (λ (l : Label). l.event) ls k l h
 
-pub label_of : (ls : List Label) (k e : ℕ) → Stands (map (λ l. l.event) ls) k e → (l : Label) × Stands ls k l × (l.event ≡ e)
+pub label_of : (ls : List Label) (k e : ℕ) → Stands (map (λ l. l.event) ls) k e
+    → (l : Label) × Stands ls k l × (l.event ≡ e)
 label_of ls k e h = stands_map_back (λ (l : Label). l.event) ls k e h
 
 self_events : (ls : List Label) → AreOnce ls → AreEvents ls (map (λ l. l.event) ls)
@@ -52,8 +56,10 @@ self_events ls o = record {
   once = o.once;
 }
 
-module _ {V : Type 0} (sys : System V) (dropped : List ℕ) (keyed : AreKeyed sys.net) (static : IsStatic sys dropped) where
-  module _ {set : List ℕ} {t : List Value} (firable : IsFirable sys dropped set t) (l : Label) (w : Way V) (e : Next_edge sys dropped keyed static firable l w) where
+module _ {V : Type 0} (sys : System V) (dropped : List ℕ) (keyed : AreKeyed sys.net)
+    (static : IsStatic sys dropped) where
+  module _ {set : List ℕ} {t : List Value} (firable : IsFirable sys dropped set t) (l : Label) (w : Way V)
+      (e : Next_edge sys dropped keyed static firable l w) where
     pub received : Received (Effects (HasValue sys.net t) w) sys.net.variables t
     received = receives_all sys.net.variables t firable.long (λ x o. ⊎_elim
         (λ i. let j : e.variable ≡ x = stands_one sys.net.variables o.place e.variable x (subst (λ z. Stands sys.net.variables z e.variable) (sym i) e.stands) o.stands in
@@ -86,7 +92,8 @@ module _ {V : Type 0} (sys : System V) (dropped : List ℕ) (keyed : AreKeyed sy
 
 module _ {V : Type 0} (sys : System V) (dropped : List ℕ) (keyed : AreKeyed sys.net) (static : IsStatic sys dropped)
     (limit : List ℕ) (total : (part : List ℕ) (t : List Value) → IsFirable sys dropped part t → Within part limit
-    → ((f : FlowFault) → Flows sys.net t (Fails f) → (set : List ℕ) × MeetsConflict sys dropped set) → HasFlows sys.net t) where
+    → ((f : FlowFault) → Flows sys.net t (Fails f) → (set : List ℕ) × MeetsConflict sys dropped set)
+    → HasFlows sys.net t) where
   -- these labels, the last first, fire, and each variable's labels are as wanted
   record Built (want : ℕ → List Label) : Type 0 where
     pub labels : List Label
@@ -113,7 +120,8 @@ module _ {V : Type 0} (sys : System V) (dropped : List ℕ) (keyed : AreKeyed sy
       }
 
   -- one edge more
-  module _ {want : ℕ → List Label} (b : Built want) (l : Label) (n : ℕ) {ls : List Label} {from to : Value} (is : want n ≡ ls) (p : Path sys dropped n ls from) (e : Edge sys dropped l n from to) (x : Variable V)
+  module _ {want : ℕ → List Label} (b : Built want) (l : Label) (n : ℕ) {ls : List Label} {from to : Value}
+      (is : want n ≡ ls) (p : Path sys dropped n ls from) (e : Edge sys dropped l n from to) (x : Variable V)
       (st : Stands sys.net.variables n x) (state : x.is_state ≡ true) (inside : IsOneOf limit l.event) where
     stands_from : Stands b.values n from
     stands_from =
@@ -128,7 +136,9 @@ module _ {V : Type 0} (sys : System V) (dropped : List ℕ) (keyed : AreKeyed sy
     the_edge = next_edge sys dropped keyed static b.firable l e.way e.is_open can_fire
 
     at_n : (the_edge.number ≡ n)
-    at_n = let c = static.one_edge.one l l the_edge.number n the_edge.from from the_edge.to to (live sys dropped keyed static the_edge.path the_edge.edge) (live sys dropped keyed static p e) refl in c.1
+    at_n =
+        let c = static.one_edge.one l l the_edge.number n the_edge.from from the_edge.to to (live sys dropped keyed static the_edge.path the_edge.edge) (live sys dropped keyed static p e) refl in
+        c.1
 
     new_event : (k : ℕ) (m : Label) → Stands b.labels k m → m.event ≡ l.event → ⊥
     new_event k m h i =
@@ -194,7 +204,9 @@ module _ {V : Type 0} (sys : System V) (dropped : List ℕ) (keyed : AreKeyed sy
   abbrev put : ℕ → List Label → (ℕ → List Label) → ℕ → List Label
   put n ls want k = cond (k == n) ls (want k)
 
-  along : {want : ℕ → List Label} (n : ℕ) (x : Variable V) → Stands sys.net.variables n x → x.is_state ≡ true → want n ≡ [] → {ls : List Label} {m : Value} → ((k : ℕ) (l : Label) → Stands ls k l → IsOneOf limit l.event) → Path sys dropped n ls m → Built want → Built (put n ls want)
+  along : {want : ℕ → List Label} (n : ℕ) (x : Variable V) → Stands sys.net.variables n x → x.is_state ≡ true
+      → want n ≡ [] → {ls : List Label} {m : Value} → ((k : ℕ) (l : Label) → Stands ls k l → IsOneOf limit l.event)
+      → Path sys dropped n ls m → Built want → Built (put n ls want)
   along {want = want} n x st i empty h (root s j q) b = as_other (λ k. ⊎_elim (λ e. at_same k e) (λ e. let h : (k == n) ≡ false = grind (arith, nat_tests) in rw h refl) (cases_eq k n)) b
     where
       at_same : (k : ℕ) → k ≡ n → want k ≡ put n [] want k
@@ -232,9 +244,11 @@ module _ {V : Type 0} (sys : System V) (dropped : List ℕ) (keyed : AreKeyed sy
             turn true = let i : (n == k) ≡ false = grind (arith, nat_tests) in rw i e
             turn false = e
 
-    by_now : (k n : ℕ) (x : Variable V) → n < k → Stands sys.net.variables n x → x.is_state ≡ true → wanted k n ≡ f.path n
+    by_now : (k n : ℕ) (x : Variable V) → n < k → Stands sys.net.variables n x → x.is_state ≡ true
+        → wanted k n ≡ f.path n
     by_now zero n x h s i = absurd (omega arith)
-    by_now (suc k) n x h s i = ⊎_elim (λ e. same e) (λ e. other (by_now k n x (below e) s i) (slice_get sys.net.variables k)) (cases_eq n k)
+    by_now (suc k) n x h s i =
+        ⊎_elim (λ e. same e) (λ e. other (by_now k n x (below e) s i) (slice_get sys.net.variables k)) (cases_eq n k)
       where
         below : (n ≡ k → ⊥) → n < k
         below e = grind arith
@@ -257,12 +271,15 @@ module _ {V : Type 0} (sys : System V) (dropped : List ℕ) (keyed : AreKeyed sy
     built zero = begun
     built (suc k) = go (slice_get sys.net.variables k) refl (built k)
       where
-        go : (o : Option (Variable V)) → slice_get sys.net.variables k ≡ o → Built (wanted k) → Built (more k o (wanted k))
+        go : (o : Option (Variable V)) → slice_get sys.net.variables k ≡ o → Built (wanted k)
+            → Built (more k o (wanted k))
         go None e b = b
         go (Some x) e b = turn x.is_state refl
           where
             turn : (s : Bool) → x.is_state ≡ s → Built (cond s (put k (f.path k) (wanted k)) (wanted k))
-            turn true s = let w = f.walks k x e s in along k x e s (not_yet k k (omega arith)) (λ j l st. fits.each l.event (f.sound k x e s j l st)) w.2 b
+            turn true s =
+                let w = f.walks k x e s in
+                along k x e s (not_yet k k (omega arith)) (λ j l st. fits.each l.event (f.sound k x e s j l st)) w.2 b
             turn false s = b
 
     -- a firable set has an order

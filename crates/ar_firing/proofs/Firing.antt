@@ -29,29 +29,38 @@ module _ {V : Type 0} {P Q : V → Value → Type 0} (k : V) (on : (x : V) (w : 
   only_yields : {e : Level V} {v : Value} → Only k e → Yields P e v → Yields Q e v
   only_yields o d = yields_named (λ x w m p. on x w (o.only x m) p) d
 
-  only_passes : {cs : List (Expr V × Bool)} → ((n : ℕ) (e : Expr V) (b : Bool) → Stands cs n (e, b) → Only k (out-Expr V e)) → Passes P cs → Passes Q cs
+  only_passes : {cs : List (Expr V × Bool)}
+      → ((n : ℕ) (e : Expr V) (b : Bool) → Stands cs n (e, b) → Only k (out-Expr V e)) → Passes P cs → Passes Q cs
   only_passes h f.none = f.none
-  only_passes h (f.one_and {e = e} {b = b} d ds) = f.one_and (only_yields (h zero e b refl) d) (only_passes (λ n e b s. h (suc n) e b s) ds)
+  only_passes h (f.one_and {e = e} {b = b} d ds) =
+      f.one_and (only_yields (h zero e b refl) d) (only_passes (λ n e b s. h (suc n) e b s) ds)
 
   pub only_can : {w : Way V} → IsOf k w → Can P w → Can Q w
   only_can (transition o a) (guard_holds d) = guard_holds (only_yields o d)
 
   pub only_effects : {w : Way V} {x : V} {v : Value} → IsOf k w → Effects P w x v → Effects Q w x v
-  only_effects (transition o h) (acts a i p d) = let b = h i.place a i.stands in acts a i (only_passes b.conditions p) (only_yields b.value d)
+  only_effects (transition o h) (acts a i p d) =
+      let b = h i.place a i.stands in
+      acts a i (only_passes b.conditions p) (only_yields b.value d)
 
-pub only_target : {V : Type 0} {P : V → Value → Type 0} {k : V} {w : Way V} {x : V} {v : Value} → IsOf k w → Effects P w x v → x ≡ k
+pub only_target : {V : Type 0} {P : V → Value → Type 0} {k : V} {w : Way V} {x : V} {v : Value} → IsOf k w
+    → Effects P w x v → x ≡ k
 only_target (transition o h) (acts a i p d) = let b = h i.place a i.stands in b.target
 
 -- what stands after the effects
-pub data IsReceived {V : Type 0} (effects : V → Value → Type 0) (x : Variable V) (old new : List Value) (n : ℕ) : Type 0 where
+pub data IsReceived {V : Type 0} (effects : V → Value → Type 0) (x : Variable V) (old new : List Value)
+    (n : ℕ) : Type 0 where
   by_effect : (v : Value) → effects x.key v → Stands new n v → IsReceived effects x old new n
-  by_old : ((v : Value) → effects x.key v → ⊥) → ((v : Value) → Stands old n v → Stands new n v) → IsReceived effects x old new n
+  by_old : ((v : Value) → effects x.key v → ⊥) → ((v : Value) → Stands old n v → Stands new n v)
+      → IsReceived effects x old new n
 
-shifted : {V : Type 0} {effects : V → Value → Type 0} {x : Variable V} {vs ws : List Value} {n : ℕ} (v w : Value) → IsReceived effects x vs ws n → IsReceived effects x (v ∷ vs) (w ∷ ws) (suc n)
+shifted : {V : Type 0} {effects : V → Value → Type 0} {x : Variable V} {vs ws : List Value} {n : ℕ} (v w : Value)
+    → IsReceived effects x vs ws n → IsReceived effects x (v ∷ vs) (w ∷ ws) (suc n)
 shifted v w (by_effect u e s) = by_effect u e s
 shifted v w (by_old h k) = by_old h k
 
-pub received_at : {V : Type 0} {effects : V → Value → Type 0} {xs : List (Variable V)} {vs ws : List Value} → Receives effects xs vs ws → (n : ℕ) (x : Variable V) → Stands xs n x → IsReceived effects x vs ws n
+pub received_at : {V : Type 0} {effects : V → Value → Type 0} {xs : List (Variable V)} {vs ws : List Value}
+    → Receives effects xs vs ws → (n : ℕ) (x : Variable V) → Stands xs n x → IsReceived effects x vs ws n
 received_at s.none n x e = cc
 received_at {effects = effects} (changed {x = z} {v = v} {w = w} {vs = vs} {ws = ws} h d) zero x e =
     let i : z ≡ x = cc in subst (λ z. IsReceived effects z (v ∷ vs) (w ∷ ws) zero) i (by_effect w h refl)
@@ -60,7 +69,8 @@ received_at {effects = effects} (kept {x = z} {v = v} {vs = vs} {ws = ws} h d) z
     let i : z ≡ x = cc in subst (λ z. IsReceived effects z (v ∷ vs) (v ∷ ws) zero) i (by_old h (λ u k. k))
 received_at (kept {v = v} h d) (suc n) x e = shifted v v (received_at d n x e)
 
-pub completed_at : {V : Type 0} {facts : V → Value → Type 0} {xs : List (Variable V)} {vs ws : List Value} → Completes facts xs vs ws → (n : ℕ) (x : Variable V) → Stands xs n x → x.is_state ≡ true
+pub completed_at : {V : Type 0} {facts : V → Value → Type 0} {xs : List (Variable V)} {vs ws : List Value}
+    → Completes facts xs vs ws → (n : ℕ) (x : Variable V) → Stands xs n x → x.is_state ≡ true
     → (v : Value) → Stands vs n v → Stands ws n v
 completed_at flows.none n x e i v k = cc
 completed_at (state h d) zero x e i v k = k
@@ -87,7 +97,8 @@ pub record Ahead {V : Type 0} (from to : Value) (w : Way V) (x : Variable V) : T
   pub in_domain : Contains x.domain to
 
 module _ {V : Type 0} (sys : System V) (dropped : List ℕ) (keyed : AreKeyed sys.net) where
-  pub ahead : {l : Label} {n : ℕ} {from to : Value} → Edge sys dropped l n from to → (w : Way V) (o : IsOpen sys dropped l w) (x : Variable V) → Stands sys.net.variables n x → Ahead from to w x
+  pub ahead : {l : Label} {n : ℕ} {from to : Value} → Edge sys dropped l n from to
+      → (w : Way V) (o : IsOpen sys dropped l w) (x : Variable V) → Stands sys.net.variables n x → Ahead from to w x
   ahead {l = l} {n = n} {from = from} {to = to} e w o x h =
       let a : Ahead from to e.way e.variable = record { can = e.can; gives = e.gives; one = e.one; in_domain = e.in_domain } in
       let p = e.is_open.is_kept.is_way in
@@ -98,7 +109,8 @@ module _ {V : Type 0} (sys : System V) (dropped : List ℕ) (keyed : AreKeyed sy
       subst (λ x. Ahead from to w x) j (subst (λ w. Ahead from to w e.variable) i a)
 
   -- at a variable whose value is known
-  module _ (t : List Value) (n : ℕ) (x : Variable V) (m : Value) (stands : Stands sys.net.variables n x) (value : Stands t n m) where
+  module _ (t : List Value) (n : ℕ) (x : Variable V) (m : Value) (stands : Stands sys.net.variables n x)
+      (value : Stands t n m) where
     pub value_at : (y : V) (v : Value) → y ≡ x.key → HasValue sys.net t y v → At x.key m y v
     value_at y v e h =
         let i : h.place ≡ n = keyed.one h.place n h.variable x h.stands stands (h.is_key ∙ e) in
@@ -107,10 +119,12 @@ module _ {V : Type 0} (sys : System V) (dropped : List ℕ) (keyed : AreKeyed sy
     pub value_from : (y : V) (v : Value) → y ≡ x.key → At x.key m y v → HasValue sys.net t y v
     value_from y v e a = record { place = n; variable = x; stands = stands; is_key = sym e; value = subst (λ z. Stands t n z) (sym a.value) value }
 
-  pub total_keeps : {s u : List Value} → Flows sys.net s (Total u) → (n : ℕ) (x : Variable V) → Stands sys.net.variables n x → x.is_state ≡ true → (v : Value) → Stands s n v → Stands u n v
+  pub total_keeps : {s u : List Value} → Flows sys.net s (Total u) → (n : ℕ) (x : Variable V)
+      → Stands sys.net.variables n x → x.is_state ≡ true → (v : Value) → Stands s n v → Stands u n v
   total_keeps (all_hold n m c b) = completed_at c
 
-  abbrev pub firable_flows : {set : List ℕ} {s u : List Value} → Flows sys.net s (Total u) → IsFirable sys dropped set s → IsFirable sys dropped set u
+  abbrev pub firable_flows : {set : List ℕ} {s u : List Value} → Flows sys.net s (Total u) → IsFirable sys dropped set s
+      → IsFirable sys dropped set u
   firable_flows f h =
       record {
         long = total_long f;
@@ -156,17 +170,21 @@ module _ {V : Type 0} (sys : System V) (dropped : List ℕ) (keyed : AreKeyed sy
         }
 
     -- after such a way's effects the set with its event is firable
-    pub to_alone : (l : Label) (w : Way V) (e : Next_edge l w) (v : Value) → Effects (HasValue sys.net t) w e.variable.key v → v ≡ e.to
-    to_alone l w e v d = e.facts.one v (only_effects e.variable.key (value_at t e.number e.variable e.from e.stands e.value) e.alone d)
+    pub to_alone : (l : Label) (w : Way V) (e : Next_edge l w) (v : Value)
+        → Effects (HasValue sys.net t) w e.variable.key v → v ≡ e.to
+    to_alone l w e v d =
+        e.facts.one v (only_effects e.variable.key (value_at t e.number e.variable e.from e.stands e.value) e.alone d)
 
-    module _ (l : Label) (w : Way V) (e : Next_edge l w) (new : List Value) (r : Receives (Effects (HasValue sys.net t) w) sys.net.variables t new) where
+    module _ (l : Label) (w : Way V) (e : Next_edge l w) (new : List Value)
+        (r : Receives (Effects (HasValue sys.net t) w) sys.net.variables t new) where
       pub stands_new : Stands new e.number e.to
       stands_new = elim (received_at r e.number e.variable e.stands) [
         | by_effect v d k ↦ subst (λ z. Stands new e.number z) (to_alone l w e v d) k
         | by_old n k ↦ absurd (n e.to (only_effects e.variable.key (value_from t e.number e.variable e.from e.stands e.value) e.alone e.facts.gives))
       ]
 
-      pub stands_old : (n : ℕ) (x : Variable V) → Stands sys.net.variables n x → (n ≡ e.number → ⊥) → (v : Value) → Stands t n v → Stands new n v
+      pub stands_old : (n : ℕ) (x : Variable V) → Stands sys.net.variables n x → (n ≡ e.number → ⊥) → (v : Value)
+          → Stands t n v → Stands new n v
       stands_old n x st ne v k = elim (received_at r n x st) [
         | by_effect u d i ↦ absurd (ne (keyed.one n e.number x e.variable st e.stands (only_target e.alone d)))
         | by_old h i ↦ i v k
@@ -174,7 +192,9 @@ module _ {V : Type 0} (sys : System V) (dropped : List ℕ) (keyed : AreKeyed sy
 
       pub sound_here : (k : ℕ) (m : Label) → Stands (l ∷ firable.path e.number) k m → IsOneOf (l.event ∷ set) m.event
       sound_here zero m h = let i : l ≡ m = cc in record { place = zero; stands = ap (λ z. Some z.event) i }
-      sound_here (suc k) m h = let o = firable.sound e.number e.variable e.stands e.is_state k m h in record { place = suc o.place; stands = o.stands }
+      sound_here (suc k) m h =
+          let o = firable.sound e.number e.variable e.stands e.is_state k m h in
+          record { place = suc o.place; stands = o.stands }
 
       pub still : (n : ℕ) (m : Label) → IsOneOf (firable.path n) m → IsOneOf (longer e.number l firable.path n) m
       still n m o = ⊎_elim
@@ -216,7 +236,8 @@ module _ {V : Type 0} (sys : System V) (dropped : List ℕ) (keyed : AreKeyed sy
       }
 
     -- what such a step leaves
-    pub fires : (l : Label) (w : Way V) → IsOpen sys dropped l w → {u : List Value} → Step sys.net t w (Next u) → IsFirable sys dropped (l.event ∷ set) u
+    pub fires : (l : Label) (w : Way V) → IsOpen sys dropped l w → {u : List Value} → Step sys.net t w (Next u)
+        → IsFirable sys dropped (l.event ∷ set) u
     fires l w o (moves new can n m r f) = firable_flows f (moved l w (next_edge l w o can) new r)
 
     pub record Fault_state (l : Label) (f : FlowFault) : Type 0 where
@@ -224,7 +245,8 @@ module _ {V : Type 0} (sys : System V) (dropped : List ℕ) (keyed : AreKeyed sy
       pub flows : Flows sys.net values (Fails f)
       pub is_firable : IsFirable sys dropped (l.event ∷ set) values
 
-    pub faults : (l : Label) (w : Way V) → IsOpen sys dropped l w → {f : FlowFault} → Step sys.net t w (Refused (Flow f)) → Fault_state l f
+    pub faults : (l : Label) (w : Way V) → IsOpen sys dropped l w → {f : FlowFault}
+        → Step sys.net t w (Refused (Flow f)) → Fault_state l f
     faults l w o (flow new can n m r k) = record { values = new; flows = k; is_firable = moved l w (next_edge l w o can) new r }
 
     -- an edge from where a path ends can fire, and fires or meets a flow fault
@@ -233,7 +255,8 @@ module _ {V : Type 0} (sys : System V) (dropped : List ℕ) (keyed : AreKeyed sy
       pub moves_to : MovesTo sys.net values answer
       pub is_firable : IsFirable sys dropped (l.event ∷ set) values
 
-    pub ready : (l : Label) (w : Way V) (o : IsOpen sys dropped l w) {answer : Answer} → Can (HasValue sys.net t) w → Step sys.net t w answer → Ready l answer
+    pub ready : (l : Label) (w : Way V) (o : IsOpen sys dropped l w) {answer : Answer} → Can (HasValue sys.net t) w
+        → Step sys.net t w answer → Ready l answer
     ready l w o c (not_enabled n) = absurd (n c)
     ready l w o c (clash d k) =
         let e = next_edge l w o c in
@@ -254,7 +277,9 @@ module _ {V : Type 0} (sys : System V) (dropped : List ℕ) (keyed : AreKeyed sy
     ready l w o c (moves new d n m r k) = record { values = new; moves_to = cuts.on k; is_firable = moved l w (next_edge l w o d) new r }
 
   -- a label whose edge leaves where its variable's path ends can fire
-  pub enabled : {set : List ℕ} {t : List Value} → IsFirable sys dropped set t → IsStatic sys dropped → (l : Label) (n : ℕ) (from to : Value) (e : Edge sys dropped l n from to) → Stands t n from → Can (HasValue sys.net t) e.way
+  pub enabled : {set : List ℕ} {t : List Value} → IsFirable sys dropped set t → IsStatic sys dropped
+      → (l : Label) (n : ℕ) (from to : Value) (e : Edge sys dropped l n from to) → Stands t n from
+      → Can (HasValue sys.net t) e.way
   enabled {t = t} firable static l n from to e v =
       let h = static.modes l e.way e.is_open in
       let i : h.number ≡ n = mode_same h.is_mode e.is_mode in
@@ -268,7 +293,8 @@ module _ {V : Type 0} (sys : System V) (dropped : List ℕ) (keyed : AreKeyed sy
       mode_same (first h a) (first k b) = first_same a b
 
   -- the start is the empty set's
-  pub first_value : (xs : List (Variable V)) (n : ℕ) (x : Variable V) → Stands xs n x → Stands (first_values xs) n x.value
+  pub first_value : (xs : List (Variable V)) (n : ℕ) (x : Variable V) → Stands xs n x
+      → Stands (first_values xs) n x.value
   first_value [] n x h = cc
   first_value (z ∷ zs) zero x h = let i : z ≡ x = cc in ap (λ z. Some z.value) i
   first_value (z ∷ zs) (suc n) x h = first_value zs n x h
@@ -284,7 +310,8 @@ module _ {V : Type 0} (sys : System V) (dropped : List ℕ) (keyed : AreKeyed sy
 
   module _ (static : IsStatic sys dropped) where
     -- what fires without fault is a firable set, and its state stands
-    pub all_firable : {ls : List Label} {t : List Value} → Reaches sys dropped ls t → IsFirable sys dropped (map (λ l. l.event) ls) t
+    pub all_firable : {ls : List Label} {t : List Value} → Reaches sys dropped ls t
+        → IsFirable sys dropped (map (λ l. l.event) ls) t
     all_firable (cuts.start f) = firable_flows f none_firable
     all_firable (cuts.fire {l = l} w r o s) = fires static (all_firable r) l w o s
 
@@ -293,6 +320,9 @@ module _ {V : Type 0} (sys : System V) (dropped : List ℕ) (keyed : AreKeyed sy
       pub flows : Flows sys.net values (Fails f)
       pub is_firable : IsFirable sys dropped set values
 
-    pub conflict_firable : {ls : List Label} {f : FlowFault} → Conflicts sys dropped ls f → Conflict_state (map (λ l. l.event) ls) f
+    pub conflict_firable : {ls : List Label} {f : FlowFault} → Conflicts sys dropped ls f
+        → Conflict_state (map (λ l. l.event) ls) f
     conflict_firable (cuts.start f) = record { values = first_values sys.net.variables; flows = f; is_firable = none_firable }
-    conflict_firable (cuts.fire {l = l} w r o s) = let k = faults static (all_firable r) l w o s in record { values = k.values; flows = k.flows; is_firable = k.is_firable }
+    conflict_firable (cuts.fire {l = l} w r o s) =
+        let k = faults static (all_firable r) l w o s in
+        record { values = k.values; flows = k.flows; is_firable = k.is_firable }

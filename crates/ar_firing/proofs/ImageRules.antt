@@ -18,11 +18,13 @@ use Rattle.ar_firing.specs.Rules.{IsTransition, transition, KeepsS1, BreaksS1, K
 use Rattle.ar_firing.proofs.Widths.{wide_there}
 use Rattle.ar_firing.proofs.ImageModes.{condition_there, guard_there, action_there, kept_there, transitions_there, is_mode_there, can_at_there, effects_at_there, effects_at_back, reached_there, live_there}
 
-transition_there : {V W : Type 0} {same : V → W → Type 0} {v : Way V} {w : Way W} → Way_renames same v w → IsTransition v → IsTransition w
+transition_there : {V W : Type 0} {same : V → W → Type 0} {v : Way V} {w : Way W} → Way_renames same v w
+    → IsTransition v → IsTransition w
 transition_there (leaves q) transition = transition
 transition_there (joints q) h = elim h [ ]
 
-module _ {V W : Type 0} (same : V → W → Type 0) (here : System V) (there : System W) (image : IsImage same here there) where
+module _ {V W : Type 0} (same : V → W → Type 0) (here : System V) (there : System W)
+    (image : IsImage same here there) where
   way_back : {l : Label} {w : Way W} → IsWay there l w → (v : Way V) × IsWay here l v × Way_renames same v w
   way_back {l = l} {w = w} i =
       let behind = image_turned same image in
@@ -38,9 +40,11 @@ module _ {V W : Type 0} (same : V → W → Type 0) (here : System V) (there : S
       let p = partner image.events e b.event b.stands in
       let w = partner p.related.ways b.has.place (Joint b.parts) b.has.stands in
       let j = joint_of b.parts w.item w.related in
-      record { event = p.item; stands = p.stands; parts = j.0; has = record { place = b.has.place; stands = subst (λ z. Stands p.item.ways b.has.place z) j.1 w.stands } }
+      record
+      { event = p.item; stands = p.stands; parts = j.0; has = record { place = b.has.place; stands = subst (λ z. Stands p.item.ways b.has.place z) j.1 w.stands } }
     where
-      joint_of : (bs : Branches (Transition V)) (w : Way W) → Way_renames same (Joint bs) w → (cs : Branches (Transition W)) × (w ≡ Joint cs)
+      joint_of : (bs : Branches (Transition V)) (w : Way W) → Way_renames same (Joint bs) w
+          → (cs : Branches (Transition W)) × (w ≡ Joint cs)
       joint_of bs w (joints {cs = cs} q) = (cs, refl)
 
   module _ (dropped : List ℕ) where
@@ -49,7 +53,8 @@ module _ {V W : Type 0} (same : V → W → Type 0) (here : System V) (there : S
       each = λ unit h.
           let s = k.each unit (transitions_there (turned same) there here (image_turned same image) dropped unit h) in
           let p = partner image.net.variables s.number s.variable s.stands in
-          record { number = s.number; variable = p.item; stands = p.stands; is_state = record { is_state = sym p.related.is_state ∙ s.is_state.is_state; is_unit = sym p.related.unit ∙ s.is_state.is_unit } };
+          record
+          { number = s.number; variable = p.item; stands = p.stands; is_state = record { is_state = sym p.related.is_state ∙ s.is_state.is_state; is_unit = sym p.related.unit ∙ s.is_state.is_unit } };
     }
 
     pub breaks_s2_there : (unit : ℕ) → BreaksS2 here dropped unit → BreaksS2 there dropped unit
@@ -71,7 +76,8 @@ module _ {V W : Type 0} (same : V → W → Type 0) (here : System V) (there : S
       pub way_related : Way_renames same v way
       pub variable_related : Variable_renames same x variable
 
-    pub mode_there : {l : Label} {v : Way V} {n : ℕ} {x : Variable V} → HasModeVariable here dropped l v n x → ModeThere l v n x
+    pub mode_there : {l : Label} {v : Way V} {n : ℕ} {x : Variable V} → HasModeVariable here dropped l v n x
+        → ModeThere l v n x
     mode_there {v = v} {n = n} {x = x} h =
         let k = kept_there same here there image dropped h.is_kept in
         let p = partner image.net.variables n x h.stands in
@@ -105,7 +111,8 @@ module _ {V W : Type 0} (same : V → W → Type 0) (here : System V) (there : S
       pub way_related : Way_renames same v way
       pub variable_related : Variable_renames same x variable
 
-    pub live_at_there : {l : Label} {v : Way V} {n : ℕ} {x : Variable V} {m : Value} → IsLiveAt here dropped l v n x m → LiveThere l v n x m
+    pub live_at_there : {l : Label} {v : Way V} {n : ℕ} {x : Variable V} {m : Value} → IsLiveAt here dropped l v n x m
+        → LiveThere l v n x m
     live_at_there {l = l} {v = v} {n = n} {x = x} {m = m} h =
         let k = h.is_open.is_kept in
         let e = partner image.events l.event k.is_way.event k.is_way.is_event in
@@ -125,7 +132,8 @@ module _ {V W : Type 0} (same : V → W → Type 0) (here : System V) (there : S
           };
         }
 
-    gives_other_there : {P Q : Value → Type 0} {d e : List Value} → ((v : Value) → P v → Q v) → ((v : Value) → Q v → P v) → d ≡ e → GivesOther P d → GivesOther Q e
+    gives_other_there : {P Q : Value → Type 0} {d e : List Value} → ((v : Value) → P v → Q v)
+        → ((v : Value) → Q v → P v) → d ≡ e → GivesOther P d → GivesOther Q e
     gives_other_there on off i (nothing h) = nothing (λ v q. h v (off v q))
     gives_other_there on off i (two v w p q n) = two v w (on v p) (on w q) n
     gives_other_there on off i (outside v p n) = outside v (on v p) (λ c. n (subst (λ z. Contains z v) (sym i) c))
@@ -145,8 +153,10 @@ module _ {V W : Type 0} (same : V → W → Type 0) (here : System V) (there : S
 
     pub breaks_s6_there : (n : ℕ) → BreaksS6 here dropped n → BreaksS6 there dropped n
     breaks_s6_there n (stays l u v h e) = stays l u v (live_there same here there image dropped h) e
-    breaks_s6_there n (by_events k l u v x h i d) = by_events k l u v x (live_there same here there image dropped h) (live_there same here there image dropped i) d
-    breaks_s6_there n (by_edges k l u v x h i e d) = by_edges k l u v x (live_there same here there image dropped h) (live_there same here there image dropped i) e d
+    breaks_s6_there n (by_events k l u v x h i d) =
+        by_events k l u v x (live_there same here there image dropped h) (live_there same here there image dropped i) d
+    breaks_s6_there n (by_edges k l u v x h i e d) =
+        by_edges k l u v x (live_there same here there image dropped h) (live_there same here there image dropped i) e d
     breaks_s6_there n (initial l u x s h) =
         let p = partner image.net.variables n x s in
         initial l u p.item p.stands (subst (λ z. IsLive there dropped l n u z) p.related.value (live_there same here there image dropped h))
@@ -155,11 +165,13 @@ module _ {V W : Type 0} (same : V → W → Type 0) (here : System V) (there : S
     breaks_s8_there b = record { events = b.events; differ = b.differ; many = b.many; live = λ k e s. let h = b.live k e s in record { number = h.number; live = has_live_there e h.number h.live } }
 
 -- the possible values
-module _ {V W : Type 0} (same : V → W → Type 0) (here : System V) (there : System W) (image : IsImage same here there) where
+module _ {V W : Type 0} (same : V → W → Type 0) (here : System V) (there : System W)
+    (image : IsImage same here there) where
   wide : {e : Level V} {f : Level W} → Renames same e f → IsWide (Allows here.net) 64 e → IsWide (Allows there.net) 64 f
   wide q h = wide_there same (Allows here.net) (Allows there.net) (λ x y v s a. allows_there same here.net there.net image.net x y v s a) q h
 
-  assign_wide : {a : Assign V} {b : Assign W} → Assign_renames same a b → AssignIsWide here.net a → AssignIsWide there.net b
+  assign_wide : {a : Assign V} {b : Assign W} → Assign_renames same a b → AssignIsWide here.net a
+      → AssignIsWide there.net b
   assign_wide q (by_value h) = by_value (wide q.value h)
   assign_wide q (by_condition {e = e} {b = b} o h) =
       let c = condition_there q.conditions o.place e b o.stands in by_condition (record { place = o.place; stands = c.stands }) (wide c.renames h)
@@ -178,9 +190,12 @@ module _ {V W : Type 0} (same : V → W → Type 0) (here : System V) (there : S
       }
 
   pub observer_breaks_s7_there : (n : ℕ) → ObserverBreaksS7 here n → ObserverBreaksS7 there n
-  observer_breaks_s7_there n b = let p = partner image.observers n b.observer b.stands in record { observer = p.item; stands = p.stands; wide = wide p.related.renames b.wide }
+  observer_breaks_s7_there n b =
+      let p = partner image.observers n b.observer b.stands in
+      record { observer = p.item; stands = p.stands; wide = wide p.related.renames b.wide }
 
-module _ {V W : Type 0} (same : V → W → Type 0) (here : System V) (there : System W) (image : IsImage same here there) where
+module _ {V W : Type 0} (same : V → W → Type 0) (here : System V) (there : System W)
+    (image : IsImage same here there) where
   pub keeps_s7_there : KeepsS7 here → KeepsS7 there
   keeps_s7_there k =
       let behind = image_turned same image in
@@ -190,7 +205,8 @@ module _ {V W : Type 0} (same : V → W → Type 0) (here : System V) (there : S
       }
 
 -- both ways
-module _ {V W : Type 0} (same : V → W → Type 0) (here : System V) (there : System W) (image : IsImage same here there) (dropped : List ℕ) where
+module _ {V W : Type 0} (same : V → W → Type 0) (here : System V) (there : System W) (image : IsImage same here there)
+    (dropped : List ℕ) where
   live_back : {l : Label} {n : ℕ} {from to : Value} → IsLive there dropped l n from to → IsLive here dropped l n from to
   live_back h = live_there (turned same) there here (image_turned same image) dropped h
 
@@ -289,8 +305,10 @@ module _ {V W : Type 0} (same : V → W → Type 0) (here : System V) (there : S
   keeps_there S7 k = keeps_s7_there same here there image k
   keeps_there S8 k = keeps_s8_there k
 
-module _ {V W : Type 0} (same : V → W → Type 0) (here : System V) (there : System W) (image : IsImage same here there) (dropped : List ℕ) where
-  pub first_broken_there : {rule : Rule} {spot : Spot} → IsFirstBroken here dropped rule spot → IsFirstBroken there dropped rule spot
+module _ {V W : Type 0} (same : V → W → Type 0) (here : System V) (there : System W) (image : IsImage same here there)
+    (dropped : List ℕ) where
+  pub first_broken_there : {rule : Rule} {spot : Spot} → IsFirstBroken here dropped rule spot
+      → IsFirstBroken there dropped rule spot
   first_broken_there h = record {
     breaks = breaks_there same here there image dropped h.breaks;
     lesser_kept = λ r l. keeps_there same here there image dropped r (h.lesser_kept r l);

@@ -16,7 +16,8 @@ use Rattle.ar_firing.proofs.Ends.{split_live, Split, split, Tail, tail_of, path_
 use Rattle.ar_firing.proofs.EachHasOrder.{event_of, label_of}
 
 -- past a place of a joined list
-beyond : (front : List Label) (l : Label) (b : List Label) (j : ℕ) (m : Label) → length front < j → Stands (front ++ (l ∷ b)) j m → IsOneOf b m
+beyond : (front : List Label) (l : Label) (b : List Label) (j : ℕ) (m : Label) → length front < j
+    → Stands (front ++ (l ∷ b)) j m → IsOneOf b m
 beyond [] l b zero m h s = absurd (omega arith)
 beyond [] l b (suc j) m h s = record { place = j; stands = s }
 beyond (x ∷ front) l b zero m h s = absurd (omega arith)
@@ -26,13 +27,16 @@ at_front : (front : List Label) (l : Label) (b : List Label) → Stands (front +
 at_front [] l b = refl
 at_front (x ∷ front) l b = at_front front l b
 
-shifted : (front : List Label) (l : Label) (b : List Label) (k : ℕ) (m : Label) → Stands b k m → (j : ℕ) × (length front < j) × Stands (front ++ (l ∷ b)) j m
+shifted : (front : List Label) (l : Label) (b : List Label) (k : ℕ) (m : Label) → Stands b k m
+    → (j : ℕ) × (length front < j) × Stands (front ++ (l ∷ b)) j m
 shifted [] l b k m s = (suc k, omega arith, s)
 shifted (x ∷ front) l b k m s = let r = shifted front l b k m s in (suc r.0, omega (arith, r.1), r.2)
 
-module _ {V : Type 0} (sys : System V) (dropped : List ℕ) (keyed : AreKeyed sys.net) (static : IsStatic sys dropped) where
+module _ {V : Type 0} (sys : System V) (dropped : List ℕ) (keyed : AreKeyed sys.net)
+    (static : IsStatic sys dropped) where
   -- what stands on the path before a label comes before it in the order
-  before : {ls : List Label} {n : ℕ} {q : List Label} {from to : Value} → AreInOrder sys dropped ls → (k : ℕ) (l : Label) → Stands ls k l → Path sys dropped n q from → Edge sys dropped l n from to
+  before : {ls : List Label} {n : ℕ} {q : List Label} {from to : Value} → AreInOrder sys dropped ls
+      → (k : ℕ) (l : Label) → Stands ls k l → Path sys dropped n q from → Edge sys dropped l n from to
       → (i : ℕ) (m : Label) → Stands q i m → (j : ℕ) × (k < j) × Stands ls j m
   before o k l s (root a b c) e i m h = absurd (stands_none i m h)
   before {ls = ls} {n = n} {from = from} {to = to} o k l s (edge {l = x} {ls = q} p d) e zero m h =
@@ -50,7 +54,8 @@ module _ {V : Type 0} (sys : System V) (dropped : List ℕ) (keyed : AreKeyed sy
     pub edge_on : Edge sys dropped label n from to
     pub is_one : IsOneOf ls label
 
-  pub leaves : (fr : List Label) {n : ℕ} {q : List Label} {from m : Value} → Path sys dropped n (fr ++ q) m → Path sys dropped n q from → (fr ≡ []) ⊎ LeavesBy n (fr ++ q) from
+  pub leaves : (fr : List Label) {n : ℕ} {q : List Label} {from m : Value} → Path sys dropped n (fr ++ q) m
+      → Path sys dropped n q from → (fr ≡ []) ⊎ LeavesBy n (fr ++ q) from
   leaves [] p d = inl refl
   leaves (x ∷ []) {n = n} {from = from} (edge {m = u} {to = to} p e) d =
       let i : u ≡ from = path_end sys dropped keyed static p d in
@@ -61,7 +66,9 @@ module _ {V : Type 0} (sys : System V) (dropped : List ℕ) (keyed : AreKeyed sy
       full : y ∷ fr ≡ [] → ⊥
       full i = cc
 
-  module _ {set : List ℕ} {t u : List Value} (front : List Label) (l : Label) (b : List Label) (f : IsFirable sys dropped set t) (events : AreEvents (front ++ (l ∷ b)) set) (order : AreInOrder sys dropped (front ++ (l ∷ b)))
+  module _ {set : List ℕ} {t u : List Value} (front : List Label) (l : Label) (b : List Label)
+      (f : IsFirable sys dropped set t) (events : AreEvents (front ++ (l ∷ b)) set)
+      (order : AreInOrder sys dropped (front ++ (l ∷ b)))
       (n : ℕ) (x : Variable V) (st : Stands sys.net.variables n x) (state : x.is_state ≡ true) (on : IsOneOf (f.path n) l) (r : Reaches sys dropped b u) where
     pub can_go_on : (from : Value) × (to : Value) × (e : Edge sys dropped l n from to) × Can (HasValue sys.net u) e.way
     can_go_on =
@@ -75,7 +82,8 @@ module _ {V : Type 0} (sys : System V) (dropped : List ℕ) (keyed : AreKeyed sy
         let m : v.0 ≡ s.from = path_end sys dropped keyed static v.2 (subst (λ z. Path sys dropped n z s.from) e s.path) in
         (s.from, s.to, s.edge, enabled sys dropped keyed g static l n s.from s.to s.edge (subst (λ z. Stands u n z) m v.1))
       where
-        in_path : (g : IsFirable sys dropped (map (λ l. l.event) b) u) (s : Split sys dropped n (f.path n) l) (m : Label) → IsOneOf s.rest m → IsOneOf (g.path n) m
+        in_path : (g : IsFirable sys dropped (map (λ l. l.event) b) u) (s : Split sys dropped n (f.path n) l) (m : Label)
+            → IsOneOf s.rest m → IsOneOf (g.path n) m
         in_path g s m o =
             let a = before order (length front) l (at_front front l b) s.path s.edge o.place m o.stands in
             let c = beyond front l b a.0 m a.1 a.2 in
@@ -95,7 +103,8 @@ module _ {V : Type 0} (sys : System V) (dropped : List ℕ) (keyed : AreKeyed sy
               subst (λ z. IsOneOf set z) a.2 (events.sound c.0 a.0 c.2);
         }
 
-        never : (g : IsFirable sys dropped (map (λ l. l.event) b) u) (s : Split sys dropped n (f.path n) l) (t : Tail sys dropped keyed static s.rest (g.path n)) → LeavesBy n (t.front ++ s.rest) s.from → ⊥
+        never : (g : IsFirable sys dropped (map (λ l. l.event) b) u) (s : Split sys dropped n (f.path n) l) (t : Tail sys dropped keyed static s.rest (g.path n))
+            → LeavesBy n (t.front ++ s.rest) s.from → ⊥
         never g s t k =
             let i = k.label in
             let o : IsOneOf (g.path n) i = subst (λ z. IsOneOf z i) (sym t.is) k.is_one in

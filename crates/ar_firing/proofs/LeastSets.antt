@@ -55,28 +55,32 @@ no_more_counted : (xs part whole : List ℕ) → Within part whole → counted x
 no_more_counted [] part whole w = omega arith
 no_more_counted (x ∷ xs) part whole w = go (one_of part x) (one_of whole x) (no_more_counted xs part whole w)
   where
-    go : (a : IsOneOf part x ⊎ (IsOneOf part x → ⊥)) (b : IsOneOf whole x ⊎ (IsOneOf whole x → ⊥)) → counted xs part ≤ counted xs whole
+    go : (a : IsOneOf part x ⊎ (IsOneOf part x → ⊥)) (b : IsOneOf whole x ⊎ (IsOneOf whole x → ⊥))
+        → counted xs part ≤ counted xs whole
         → ⊎_elim (λ o. suc (counted xs part)) (λ n. counted xs part) a ≤ ⊎_elim (λ o. suc (counted xs whole)) (λ n. counted xs whole) b
     go (inl o) (inl i) h = omega (arith, h)
     go (inl o) (inr n) h = absurd (n (w.each x o))
     go (inr n) (inl i) h = omega (arith, h)
     go (inr n) (inr m) h = h
 
-pub fewer : (xs part whole : List ℕ) (e k : ℕ) → Within part whole → Stands xs k e → IsOneOf whole e → (IsOneOf part e → ⊥) → counted xs part < counted xs whole
+pub fewer : (xs part whole : List ℕ) (e k : ℕ) → Within part whole → Stands xs k e → IsOneOf whole e
+    → (IsOneOf part e → ⊥) → counted xs part < counted xs whole
 fewer [] part whole e k w s i n = cc
 fewer (x ∷ xs) part whole e zero w s i n = go (one_of part x) (one_of whole x) (no_more_counted xs part whole w)
   where
     same : x ≡ e
     same = cc
 
-    go : (a : IsOneOf part x ⊎ (IsOneOf part x → ⊥)) (b : IsOneOf whole x ⊎ (IsOneOf whole x → ⊥)) → counted xs part ≤ counted xs whole
+    go : (a : IsOneOf part x ⊎ (IsOneOf part x → ⊥)) (b : IsOneOf whole x ⊎ (IsOneOf whole x → ⊥))
+        → counted xs part ≤ counted xs whole
         → ⊎_elim (λ o. suc (counted xs part)) (λ n. counted xs part) a < ⊎_elim (λ o. suc (counted xs whole)) (λ n. counted xs whole) b
     go (inl o) b h = absurd (n (subst (λ z. IsOneOf part z) same o))
     go (inr m) (inl o) h = omega (arith, h)
     go (inr m) (inr l) h = absurd (l (subst (λ z. IsOneOf whole z) (sym same) i))
 fewer (x ∷ xs) part whole e (suc k) w s i n = go (one_of part x) (one_of whole x) (fewer xs part whole e k w s i n)
   where
-    go : (a : IsOneOf part x ⊎ (IsOneOf part x → ⊥)) (b : IsOneOf whole x ⊎ (IsOneOf whole x → ⊥)) → counted xs part < counted xs whole
+    go : (a : IsOneOf part x ⊎ (IsOneOf part x → ⊥)) (b : IsOneOf whole x ⊎ (IsOneOf whole x → ⊥))
+        → counted xs part < counted xs whole
         → ⊎_elim (λ o. suc (counted xs part)) (λ n. counted xs part) a < ⊎_elim (λ o. suc (counted xs whole)) (λ n. counted xs whole) b
     go (inl o) (inl i) h = omega (arith, h)
     go (inl o) (inr n) h = absurd (n (w.each x o))
@@ -84,11 +88,13 @@ fewer (x ∷ xs) part whole e (suc k) w s i n = go (one_of part x) (one_of whole
     go (inr n) (inr m) h = h
 
 -- where each least set with Q has P, and each set with P has Q, the least sets of both are the same
-module _ (P Q : List ℕ → Type 0) (on : (set : List ℕ) → P set → Q set) (back : (set : List ℕ) → IsLeast Q set → P set) where
+module _ (P Q : List ℕ → Type 0) (on : (set : List ℕ) → P set → Q set)
+    (back : (set : List ℕ) → IsLeast Q set → P set) where
   pub least_on : {set : List ℕ} → IsLeast Q set → IsLeast P set
   least_on {set = set} h = record { has = back set h; least = λ part w p. h.least part w (on part p) }
 
-  none_below : (set : List ℕ) → IsLeast P set → (n : ℕ) (part : List ℕ) → counted set part < n → Within part set → (Within set part → ⊥) → Q part → ⊥
+  none_below : (set : List ℕ) → IsLeast P set → (n : ℕ) (part : List ℕ) → counted set part < n → Within part set
+      → (Within set part → ⊥) → Q part → ⊥
   none_below set h zero part c w k q = absurd (omega (arith, c))
   none_below set h (suc n) part c w k q =
       let least : IsLeast Q part = from_words Q (record {

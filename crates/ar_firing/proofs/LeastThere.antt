@@ -35,7 +35,8 @@ unfolding picked
 picked_within [] part e o = absurd (one_none e o)
 picked_within (x ∷ xs) part e o = go (one_of part x) (picked_within xs part e) o
   where
-    go : (d : IsOneOf part x ⊎ (IsOneOf part x → ⊥)) → (IsOneOf (picked xs part) e → IsOneOf part e) → IsOneOf (⊎_elim (λ o. x ∷ picked xs part) (λ n. picked xs part) d) e → IsOneOf part e
+    go : (d : IsOneOf part x ⊎ (IsOneOf part x → ⊥)) → (IsOneOf (picked xs part) e → IsOneOf part e)
+        → IsOneOf (⊎_elim (λ o. x ∷ picked xs part) (λ n. picked xs part) d) e → IsOneOf part e
     go (inl i) h p = elim (one_cases x (picked xs part) e p) [ inl q ↦ subst (λ z. IsOneOf part z) q i | inr q ↦ h q ]
     go (inr n) h p = h p
 
@@ -44,36 +45,43 @@ unfolding picked
 picked_all [] part e o i = absurd (one_none e o)
 picked_all (x ∷ xs) part e o i = go (one_of part x) (λ p. picked_all xs part e p i) (one_cases x xs e o)
   where
-    go : (d : IsOneOf part x ⊎ (IsOneOf part x → ⊥)) → (IsOneOf xs e → IsOneOf (picked xs part) e) → (x ≡ e) ⊎ IsOneOf xs e → IsOneOf (⊎_elim (λ o. x ∷ picked xs part) (λ n. picked xs part) d) e
+    go : (d : IsOneOf part x ⊎ (IsOneOf part x → ⊥)) → (IsOneOf xs e → IsOneOf (picked xs part) e)
+        → (x ≡ e) ⊎ IsOneOf xs e → IsOneOf (⊎_elim (λ o. x ∷ picked xs part) (λ n. picked xs part) d) e
     go (inl q) h (inl s) = subst (λ z. IsOneOf (x ∷ picked xs part) z) s (one_first x (picked xs part))
     go (inl q) h (inr p) = one_rest x (picked xs part) e (h p)
     go (inr n) h (inl s) = absurd (n (subst (λ z. IsOneOf part z) (sym s) i))
     go (inr n) h (inr p) = h p
 
-module _ (P : List ℕ → Type 0) (told : (set : List ℕ) → Told (P set)) (same : (set other : List ℕ) → Within set other → Within other set → P set → P other) where
+module _ (P : List ℕ → Type 0) (told : (set : List ℕ) → Told (P set))
+    (same : (set other : List ℕ) → Within set other → Within other set → P set → P other) where
   -- a part with P that lacks some of the set
   abbrev Lesser : List ℕ → List ℕ → Type 0
   Lesser set part = (Within part set × (Within set part → ⊥)) × P part
 
-  none_lesser : (set : List ℕ) → (((q : List ℕ) × Contains (parts set) q × Lesser set q) → ⊥) → (part : List ℕ) → Within part set → (Within set part → ⊥) → P part → ⊥
+  none_lesser : (set : List ℕ) → (((q : List ℕ) × Contains (parts set) q × Lesser set q) → ⊥) → (part : List ℕ)
+      → Within part set → (Within set part → ⊥) → P part → ⊥
   none_lesser set none part w n p =
       let down : Within (picked set part) part = record { each = λ e o. picked_within set part e o } in
       let up : Within part (picked set part) = record { each = λ e o. picked_all set part e (w.each e o) o } in
       none (picked set part, picked_in set part, ((within_then down w, λ b. n (within_then b down)), same part (picked set part) up down p))
 
-  least_of : (set : List ℕ) (most : ℕ) (part : List ℕ) → counted set part < most → Within part set → P part → (q : List ℕ) × Within q set × IsLeast P q
+  least_of : (set : List ℕ) (most : ℕ) (part : List ℕ) → counted set part < most → Within part set → P part
+      → (q : List ℕ) × Within q set × IsLeast P q
   least_of set zero part c w p = absurd (omega (arith, c))
   least_of set (suc most) part c w p = go (some_told (Lesser part) (parts part) (λ q m. both_told (both_told (within_told q part) (not_told (within_told part q))) (told q)))
       (λ q d v r. least_of set most q d v r)
     where
-      lesser : (q : List ℕ) → Lesser part q → ((q : List ℕ) → counted set q < most → Within q set → P q → (q : List ℕ) × Within q set × IsLeast P q) → Within part q ⊎ Left part q → (q : List ℕ) × Within q set × IsLeast P q
+      lesser : (q : List ℕ) → Lesser part q
+          → ((q : List ℕ) → counted set q < most → Within q set → P q → (q : List ℕ) × Within q set × IsLeast P q)
+          → Within part q ⊎ Left part q → (q : List ℕ) × Within q set × IsLeast P q
       lesser q h on (inl b) = absurd (h.0.1 b)
       lesser q h on (inr l) =
           let o = w.each l.event l.is_one in
           let d = fewer set q part l.event o.place h.0.0 o.stands l.is_one l.is_not in
           on q (omega (arith, c, d)) (within_then h.0.0 w) h.1
 
-      go : Told ((q : List ℕ) × Contains (parts part) q × Lesser part q) → ((q : List ℕ) → counted set q < most → Within q set → P q → (q : List ℕ) × Within q set × IsLeast P q)
+      go : Told ((q : List ℕ) × Contains (parts part) q × Lesser part q)
+          → ((q : List ℕ) → counted set q < most → Within q set → P q → (q : List ℕ) × Within q set × IsLeast P q)
           → (q : List ℕ) × Within q set × IsLeast P q
       go (inl h) on = lesser h.0 h.2 on (decided part h.0)
       go (inr n) on = (part, w, from_words P (record { has = p; no_lesser = none_lesser part n }))

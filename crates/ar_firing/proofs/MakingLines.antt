@@ -17,10 +17,13 @@ use Rattle.ar_firing.proofs.Lines.{line_is_legal}
 use Rattle.ar_firing.proofs.SameSets.{events_within, set_within}
 
 -- a firable set has a line
-pub has_line : {V : Type 0} (sys : System V) (dropped : List ℕ) {set : List ℕ} {t : List Value} → IsFirable sys dropped set t → (ls : List Label) × IsLine sys dropped set ls
-has_line sys dropped {t = t} f = (firing_line 0 sys.net.variables f.path, record { values = t; is_firable = f; is = refl })
+pub has_line : {V : Type 0} (sys : System V) (dropped : List ℕ) {set : List ℕ} {t : List Value}
+    → IsFirable sys dropped set t → (ls : List Label) × IsLine sys dropped set ls
+has_line sys dropped {t = t} f =
+    (firing_line 0 sys.net.variables f.path, record { values = t; is_firable = f; is = refl })
 
-module _ {V : Type 0} (sys : System V) (dropped : List ℕ) (keyed : AreKeyed sys.net) (static : IsStatic sys dropped) (observer : Expr V) (wanted : Value)
+module _ {V : Type 0} (sys : System V) (dropped : List ℕ) (keyed : AreKeyed sys.net) (static : IsStatic sys dropped)
+    (observer : Expr V) (wanted : Value)
     (conflict top : List ℕ → Bool) (agrees : Agrees sys dropped observer wanted conflict top) (calm : (set : List ℕ) (t : List Value) → IsFirable sys dropped set t → conflict set ≡ false) where
   pub line_makes : {set : List ℕ} {ls : List Label} → Makes sys dropped observer wanted set → IsLine sys dropped set ls
       → (t : List Value) × Reaches sys dropped (reverse ls) t × Yields (HasValue sys.net t) (out-Expr V observer) wanted

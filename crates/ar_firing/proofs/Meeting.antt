@@ -56,11 +56,14 @@ put_here n ls path = let h : (n == n) ≡ true = grind (arith, nat_tests) in rw 
 put_there : (n m : ℕ) (ls : List Label) (path : ℕ → List Label) → (m ≡ n → ⊥) → put n ls path m ≡ path m
 put_there n m ls path k = let h : (m == n) ≡ false = grind (arith, nat_tests) in rw h refl
 
-module _ {V : Type 0} (sys : System V) (dropped : List ℕ) (keyed : AreKeyed sys.net) (static : IsStatic sys dropped) where
+module _ {V : Type 0} (sys : System V) (dropped : List ℕ) (keyed : AreKeyed sys.net)
+    (static : IsStatic sys dropped) where
   -- the set without the last event of one path
-  module _ {set : List ℕ} {t : List Value} (f : IsFirable sys dropped set t) (n : ℕ) (x : Variable V) (st : Stands sys.net.variables n x) (state : x.is_state ≡ true)
+  module _ {set : List ℕ} {t : List Value} (f : IsFirable sys dropped set t) (n : ℕ) (x : Variable V)
+      (st : Stands sys.net.variables n x) (state : x.is_state ≡ true)
       (l : Label) (ls : List Label) (from to : Value) (is : f.path n ≡ l ∷ ls) (p : Path sys dropped n ls from) (e : Edge sys dropped l n from to) where
-    other : (m : ℕ) (y : Variable V) → Stands sys.net.variables m y → y.is_state ≡ true → (k : ℕ) (j : Label) → Stands (put n ls f.path m) k j → j.event ≡ l.event → ⊥
+    other : (m : ℕ) (y : Variable V) → Stands sys.net.variables m y → y.is_state ≡ true → (k : ℕ) (j : Label)
+        → Stands (put n ls f.path m) k j → j.event ≡ l.event → ⊥
     other m y sy iy k j h q = ⊎_elim
         (λ i. let a : Stands ls k j = subst (λ z. Stands z k j) (put_here n ls f.path) (subst (λ z. Stands (put n ls f.path z) k j) i h) in
         let r = split sys dropped keyed static p k j a in
@@ -120,18 +123,22 @@ module _ {V : Type 0} (sys : System V) (dropped : List ℕ) (keyed : AreKeyed sy
     pub stands_from : Stands (changed_at t n from) n from
     stands_from = let w = f.walks n x st state in changed_here t n from w.0 w.1
 
-  module _ (observer : Expr V) (wanted : Value) (conflict top : List ℕ → Bool) (agrees : Agrees sys dropped observer wanted conflict top) where
+  module _ (observer : Expr V) (wanted : Value) (conflict top : List ℕ → Bool)
+      (agrees : Agrees sys dropped observer wanted conflict top) where
     pub met_is_conflicting : {set : List ℕ} → MeetsConflict sys dropped set → IsFirableWith sys dropped conflict set
     met_is_conflicting {set = set} m =
         let c = conflict_firable sys dropped keyed static m.conflicts in
         let f = firable_as sys dropped (events_within m.labels set m.events) (set_within m.labels set m.events) c.is_firable in
         record { values = c.values; is_firable = f; holds = go c.values f c.flows (conflict set) refl }
       where
-        go : (t : List Value) → IsFirable sys dropped set t → Flows sys.net t (Fails m.fault) → (b : Bool) → conflict set ≡ b → conflict set ≡ true
+        go : (t : List Value) → IsFirable sys dropped set t → Flows sys.net t (Fails m.fault) → (b : Bool)
+            → conflict set ≡ b → conflict set ≡ true
         go t f h true e = e
         go t f h false e = let s = agrees.total set t f e in let i = flows_same sys.net s.flows h in cc
 
-    last_one : {n : ℕ} {ks : List Label} {m : Value} (set : List ℕ) (t : List Value) (f : IsFirable sys dropped set t) → IsLeast (IsFirableWith sys dropped conflict) set → (x : Variable V) → Stands sys.net.variables n x → x.is_state ≡ true
+    last_one : {n : ℕ} {ks : List Label} {m : Value} (set : List ℕ) (t : List Value) (f : IsFirable sys dropped set t)
+        → IsLeast (IsFirableWith sys dropped conflict) set → (x : Variable V) → Stands sys.net.variables n x
+        → x.is_state ≡ true
         → f.path n ≡ ks → Path sys dropped n ks m → (j : Label) → IsOneOf ks j → MeetsConflict sys dropped set
     last_one set t f c x st state is (root s i e) j o = let h = o.stands in cc
     last_one {n = n} set t f c x st state is (edge {l = l} {ls = ls} {m = from} {to = to} p e) j o =
@@ -160,7 +167,8 @@ module _ {V : Type 0} (sys : System V) (dropped : List ℕ) (keyed : AreKeyed sy
           };
         }
       where
-        flows_of : (a : List ℕ) (u : List Value) → IsFirable sys dropped a u → Within a (without l.event set) → IsOneOf set l.event → (b : Bool) → conflict a ≡ b → HasFlows sys.net u
+        flows_of : (a : List ℕ) (u : List Value) → IsFirable sys dropped a u → Within a (without l.event set)
+            → IsOneOf set l.event → (b : Bool) → conflict a ≡ b → HasFlows sys.net u
         flows_of a u h w i true q =
             let inside : Within a set = record { each = λ e o. let r = w.each e o in (was l.event set r.place e r.stands).0 } in
             let all = c.least a inside (record { values = u; is_firable = h; holds = q }) in
@@ -168,12 +176,15 @@ module _ {V : Type 0} (sys : System V) (dropped : List ℕ) (keyed : AreKeyed sy
             absurd ((was l.event set o.place l.event o.stands).1 refl)
         flows_of a u h w i false q = let s = agrees.total a u h q in record { values = s.values; flows = s.flows }
 
-        back : (ks : List Label) → AreEvents ks (without l.event set) → IsOneOf set l.event → Within (l.event ∷ map (λ l. l.event) ks) set
+        back : (ks : List Label) → AreEvents ks (without l.event set) → IsOneOf set l.event
+            → Within (l.event ∷ map (λ l. l.event) ks) set
         back ks a i = record { each = λ e o. go e o.place o.stands }
           where
             go : (e k : ℕ) → Stands (l.event ∷ map (λ l. l.event) ks) k e → IsOneOf set e
             go e zero s = let q : l.event ≡ e = cc in subst (λ z. IsOneOf set z) q i
-            go e (suc k) s = let r = (events_within ks (without l.event set) a).each e (record { place = k; stands = s }) in (was l.event set r.place e r.stands).0
+            go e (suc k) s =
+                let r = (events_within ks (without l.event set) a).each e (record { place = k; stands = s }) in
+                (was l.event set r.place e r.stands).0
 
         forth : (ks : List Label) → AreEvents ks (without l.event set) → Within set (l.event ∷ map (λ l. l.event) ks)
         forth ks a = record {
@@ -183,26 +194,35 @@ module _ {V : Type 0} (sys : System V) (dropped : List ℕ) (keyed : AreKeyed sy
               (cases_eq e l.event);
         }
 
-        sound_at : (ks : List Label) → AreEvents ks (without l.event set) → IsOneOf set l.event → (k : ℕ) (j : Label) → Stands (l ∷ ks) k j → IsOneOf set j.event
+        sound_at : (ks : List Label) → AreEvents ks (without l.event set) → IsOneOf set l.event → (k : ℕ) (j : Label)
+            → Stands (l ∷ ks) k j → IsOneOf set j.event
         sound_at ks a i zero j s = let q : l ≡ j = cc in subst (λ z. IsOneOf set z.event) q i
         sound_at ks a i (suc k) j s = let r = a.sound k j s in (was l.event set r.place j.event r.stands).0
 
-        whole_at : (ks : List Label) → AreEvents ks (without l.event set) → (e : ℕ) → IsOneOf set e → (j : Label) × IsOneOf (l ∷ ks) j × (j.event ≡ e)
+        whole_at : (ks : List Label) → AreEvents ks (without l.event set) → (e : ℕ) → IsOneOf set e
+            → (j : Label) × IsOneOf (l ∷ ks) j × (j.event ≡ e)
         whole_at ks a e o = ⊎_elim
             (λ q. let r : IsOneOf (l ∷ ks) l = record { place = zero; stands = refl } in (l, r, sym q))
             (λ q. let w = a.whole e (kept l.event set o.place e o.stands q) in let r : IsOneOf (l ∷ ks) w.0 = record { place = suc w.1.place; stands = w.1.stands } in (w.0, r, w.2))
             (cases_eq e l.event)
 
-        never : (ks : List Label) → AreEvents ks (without l.event set) → (k : ℕ) (j : Label) → Stands ks k j → j.event ≡ l.event → ⊥
+        never : (ks : List Label) → AreEvents ks (without l.event set) → (k : ℕ) (j : Label) → Stands ks k j
+            → j.event ≡ l.event → ⊥
         never ks a k j s q = let r = a.sound k j s in (was l.event set r.place j.event r.stands).1 q
 
-        once_at : (ks : List Label) → AreEvents ks (without l.event set) → (i k : ℕ) (a b : Label) → Stands (l ∷ ks) i a → Stands (l ∷ ks) k b → a.event ≡ b.event → i ≡ k
+        once_at : (ks : List Label) → AreEvents ks (without l.event set) → (i k : ℕ) (a b : Label) → Stands (l ∷ ks) i a
+            → Stands (l ∷ ks) k b → a.event ≡ b.event → i ≡ k
         once_at ks v zero zero a b s r q = refl
-        once_at ks v zero (suc k) a b s r q = let j : l ≡ a = cc in absurd (never ks v k b r (sym q ∙ ap (λ z. z.event) (sym j)))
-        once_at ks v (suc i) zero a b s r q = let j : l ≡ b = cc in absurd (never ks v i a s (q ∙ ap (λ z. z.event) (sym j)))
+        once_at ks v zero (suc k) a b s r q =
+            let j : l ≡ a = cc in
+            absurd (never ks v k b r (sym q ∙ ap (λ z. z.event) (sym j)))
+        once_at ks v (suc i) zero a b s r q =
+            let j : l ≡ b = cc in
+            absurd (never ks v i a s (q ∙ ap (λ z. z.event) (sym j)))
         once_at ks v (suc i) (suc k) a b s r q = ap suc (v.once i k a b s r q)
 
-    pub conflict_is_met : (set : List ℕ) → IsLeast (IsFirableWith sys dropped conflict) set → MeetsConflict sys dropped set
+    pub conflict_is_met : (set : List ℕ) → IsLeast (IsFirableWith sys dropped conflict) set
+        → MeetsConflict sys dropped set
     conflict_is_met [] c =
         let k = agrees.fault [] (first_values sys.net.variables) (none_firable sys dropped keyed) c.has.holds in
         record {

@@ -11,8 +11,10 @@ use Rattle.ar_firing.specs.Forest.{IsModeVariable, Row, Under, no_more, next, Mo
 use Rattle.domains.specs.declared.Value.{Value}
 use Rattle.ar_firing.proofs.Ends.{live, end_same, label_same}
 
-module _ {V : Type 0} (sys : System V) (dropped : List ℕ) (keyed : AreKeyed sys.net) (static : IsStatic sys dropped) (n : ℕ) where
-  pub under_same : {m : Value} {low : ℕ} {ls : List Label} {xs ys : List Row} → Path sys dropped n ls m → Under sys dropped n m low xs → Under sys dropped n m low ys → xs ≡ ys
+module _ {V : Type 0} (sys : System V) (dropped : List ℕ) (keyed : AreKeyed sys.net) (static : IsStatic sys dropped)
+    (n : ℕ) where
+  pub under_same : {m : Value} {low : ℕ} {ls : List Label} {xs ys : List Row} → Path sys dropped n ls m
+      → Under sys dropped n m low xs → Under sys dropped n m low ys → xs ≡ ys
   under_same p (no_more h) (no_more k) = refl
   under_same p (no_more h) (next {to = to} {l = l} i e s d f) = absurd (h l to i e)
   under_same p (next {to = to} {l = l} i e s d f) (no_more h) = absurd (h l to i e)
@@ -32,7 +34,8 @@ module _ {V : Type 0} (sys : System V) (dropped : List ℕ) (keyed : AreKeyed sy
           → ◌≡◌ {A = List Row} (record { from = m; label = l; to = to } ∷ (es ++ fs)) (record { from = m; label = k; to = on } ∷ (gs ++ hs))
       rows m l k to on es gs fs hs j t a b = cc
 
-module _ {V : Type 0} (sys : System V) (dropped : List ℕ) (keyed : AreKeyed sys.net) (static : IsStatic sys dropped) where
+module _ {V : Type 0} (sys : System V) (dropped : List ℕ) (keyed : AreKeyed sys.net)
+    (static : IsStatic sys dropped) where
   -- a mode variable has one tree
   tree_same : (x y : ModeTree) → IsModeTree sys dropped x → IsModeTree sys dropped y → x.variable ≡ y.variable → x ≡ y
   tree_same x y a b e =
@@ -42,17 +45,20 @@ module _ {V : Type 0} (sys : System V) (dropped : List ℕ) (keyed : AreKeyed sy
       let d : Under sys dropped y.variable y.first 0 x.edges = subst (λ z. Under sys dropped y.variable z 0 x.edges) f (subst (λ z. Under sys dropped z x.first 0 x.edges) e a.edges) in
       trees x.variable y.variable x.first y.first x.edges y.edges e f (under_same sys dropped keyed static y.variable p d b.edges)
     where
-      trees : (m n : ℕ) (u v : Value) (es fs : List Row) → m ≡ n → u ≡ v → es ≡ fs → ◌≡◌ {A = ModeTree} (record { variable = m; first = u; edges = es }) (record { variable = n; first = v; edges = fs })
+      trees : (m n : ℕ) (u v : Value) (es fs : List Row) → m ≡ n → u ≡ v → es ≡ fs
+          → ◌≡◌ {A = ModeTree} (record { variable = m; first = u; edges = es }) (record { variable = n; first = v; edges = fs })
       trees m n u v es fs e f g = cc
 
   -- the trees of the mode variables from a number on
   record AreTrees (low : ℕ) (trees : List ModeTree) : Type 0 where
     pub sound : (k : ℕ) (tree : ModeTree) → Stands trees k tree → IsModeTree sys dropped tree
     pub above : (k : ℕ) (tree : ModeTree) → Stands trees k tree → low ≤ tree.variable
-    pub whole : (n : ℕ) → low ≤ n → IsModeVariable sys dropped n → (tree : ModeTree) × IsOneOf trees tree × (tree.variable ≡ n)
+    pub whole : (n : ℕ) → low ≤ n → IsModeVariable sys dropped n
+        → (tree : ModeTree) × IsOneOf trees tree × (tree.variable ≡ n)
     pub ascends : (j k : ℕ) (s t : ModeTree) → j < k → Stands trees j s → Stands trees k t → s.variable < t.variable
 
-  at_head : {low : ℕ} {x y : ModeTree} {xs ys : List ModeTree} → AreTrees low (x ∷ xs) → AreTrees low (y ∷ ys) → x.variable ≤ y.variable
+  at_head : {low : ℕ} {x y : ModeTree} {xs ys : List ModeTree} → AreTrees low (x ∷ xs) → AreTrees low (y ∷ ys)
+      → x.variable ≤ y.variable
   at_head {x = x} {y = y} {xs = xs} a b =
       let m = b.sound zero y refl in
       let t = a.whole y.variable (b.above zero y refl) m.is_mode in
@@ -76,8 +82,16 @@ module _ {V : Type 0} (sys : System V) (dropped : List ℕ) (keyed : AreKeyed sy
 
   trees_same : (low : ℕ) (xs ys : List ModeTree) → AreTrees low xs → AreTrees low ys → xs ≡ ys
   trees_same low [] [] a b = refl
-  trees_same low [] (y ∷ ys) a b = let m = b.sound zero y refl in let t = a.whole y.variable (b.above zero y refl) m.is_mode in let h = t.1.stands in cc
-  trees_same low (x ∷ xs) [] a b = let m = a.sound zero x refl in let t = b.whole x.variable (a.above zero x refl) m.is_mode in let h = t.1.stands in cc
+  trees_same low [] (y ∷ ys) a b =
+      let m = b.sound zero y refl in
+      let t = a.whole y.variable (b.above zero y refl) m.is_mode in
+      let h = t.1.stands in
+      cc
+  trees_same low (x ∷ xs) [] a b =
+      let m = a.sound zero x refl in
+      let t = b.whole x.variable (a.above zero x refl) m.is_mode in
+      let h = t.1.stands in
+      cc
   trees_same low (x ∷ xs) (y ∷ ys) a b =
       let h = at_head a b in
       let k = at_head b a in

@@ -54,15 +54,20 @@ ascending_same (x ∷ xs) (y ∷ ys) a b v w =
     let e : x ≡ y = omega arith in
     let r : xs ≡ ys = ascending_same xs ys (rest x xs a) (rest y ys b) (within_rest x xs y ys a e v) (within_rest y ys x xs b (sym e) w) in cc
   where
-    within_rest : (x : ℕ) (xs : List ℕ) (y : ℕ) (ys : List ℕ) → Ascends (x ∷ xs) → x ≡ y → Within (x ∷ xs) (y ∷ ys) → Within xs ys
+    within_rest : (x : ℕ) (xs : List ℕ) (y : ℕ) (ys : List ℕ) → Ascends (x ∷ xs) → x ≡ y → Within (x ∷ xs) (y ∷ ys)
+        → Within xs ys
     within_rest x xs y ys a e w = record { each = λ d o. let p = w.each d (record { place = suc o.place; stands = o.stands }) in go d o.place o.stands p.place p.stands }
       where
         go : (d j : ℕ) → Stands xs j d → (k : ℕ) → Stands (y ∷ ys) k d → IsOneOf ys d
-        go d j s zero t = let i : y ≡ d = cc in let h = a.ascends zero (suc j) x d (omega arith) refl s in absurd (omega (arith, i, h, e))
+        go d j s zero t =
+            let i : y ≡ d = cc in
+            let h = a.ascends zero (suc j) x d (omega arith) refl s in
+            absurd (omega (arith, i, h, e))
         go d j s (suc k) t = record { place = k; stands = t }
 
 -- the sets after the first one
-after_first : (P : List ℕ → Type 0) (x : List ℕ) (xs : List (List ℕ)) → AreListed P (x ∷ xs) → AreListed (λ s. P s × IsBefore x s) xs
+after_first : (P : List ℕ → Type 0) (x : List ℕ) (xs : List (List ℕ)) → AreListed P (x ∷ xs)
+    → AreListed (λ s. P s × IsBefore x s) xs
 after_first P x xs a = record {
   ascend = λ k s t. a.ascend (suc k) s t;
   sound = λ k s t. (a.sound (suc k) s t, a.in_order zero (suc k) x s (omega arith) refl t);
@@ -70,12 +75,14 @@ after_first P x xs a = record {
   in_order = λ j k s t l p q. a.in_order (suc j) (suc k) s t (omega (arith, l)) p q;
 }
   where
-    go : (s : List ℕ) → IsBefore x s → (other : List ℕ) (k : ℕ) → Stands (x ∷ xs) k other → Within s other → Within other s → (other : List ℕ) × IsOneOf xs other × Within s other × Within other s
+    go : (s : List ℕ) → IsBefore x s → (other : List ℕ) (k : ℕ) → Stands (x ∷ xs) k other → Within s other
+        → Within other s → (other : List ℕ) × IsOneOf xs other × Within s other × Within other s
     go s b other zero t v w = let i : x ≡ other = cc in absurd (not_itself b (subst (λ z. Within z s) (sym i) w))
     go s b other (suc k) t v w = (other, record { place = k; stands = t }, v, w)
 
 -- the first of one list is the first of the other, or comes after it
-first_or_later : (P : List ℕ → Type 0) (x : List ℕ) (xs : List (List ℕ)) (y : List ℕ) (ys : List (List ℕ)) → AreListed P (x ∷ xs) → AreListed P (y ∷ ys) → (x ≡ y) ⊎ IsBefore y x
+first_or_later : (P : List ℕ → Type 0) (x : List ℕ) (xs : List (List ℕ)) (y : List ℕ) (ys : List (List ℕ))
+    → AreListed P (x ∷ xs) → AreListed P (y ∷ ys) → (x ≡ y) ⊎ IsBefore y x
 first_or_later P x xs y ys a b =
     let o = b.whole x (a.sound zero x refl) in
     let e : x ≡ o.0 = ascending_same x o.0 (a.ascend zero x refl) (b.ascend o.1.place o.0 o.1.stands) o.2 o.3 in
@@ -94,5 +101,6 @@ listed_same (x ∷ xs) (y ∷ ys) P a b =
     let r : xs ≡ ys = listed_same xs ys (λ s. P s × IsBefore x s) (after_first P x xs a) (subst (λ z. AreListed (λ s. P s × IsBefore z s) ys) (sym e) (after_first P y ys b)) in cc
 
 -- the sets with one property are listed as those with another that says as much
-pub listed_as : {P Q : List ℕ → Type 0} {sets : List (List ℕ)} → ((s : List ℕ) → P s → Q s) → ((s : List ℕ) → Q s → P s) → AreListed P sets → AreListed Q sets
+pub listed_as : {P Q : List ℕ → Type 0} {sets : List (List ℕ)} → ((s : List ℕ) → P s → Q s) → ((s : List ℕ) → Q s → P s)
+    → AreListed P sets → AreListed Q sets
 listed_as on off a = record { ascend = a.ascend; sound = λ k s t. on s (a.sound k s t); whole = λ s q. a.whole s (off s q); in_order = a.in_order }

@@ -44,9 +44,14 @@ module _ {V : Type 0} (sys : System V) where
   mode_same (first h a) (named b) = absurd (no_first h b)
   mode_same (first h a) (first k b) = first_same a b
 
-  mode_state : {unit : ℕ} {w : Way V} {n : ℕ} → IsModeOf sys unit w n → (x : Variable V) → Stands sys.net.variables n x → x.is_state ≡ true
-  mode_state {n = n} (named a) x s = let e : a.item ≡ x = stands_one sys.net.variables n a.item x a.stands s in sym (ap (λ z. z.is_state) e) ∙ a.has.is_state
-  mode_state {n = n} (first h a) x s = let e : a.item ≡ x = stands_one sys.net.variables n a.item x a.stands s in sym (ap (λ z. z.is_state) e) ∙ a.has.is_state
+  mode_state : {unit : ℕ} {w : Way V} {n : ℕ} → IsModeOf sys unit w n → (x : Variable V) → Stands sys.net.variables n x
+      → x.is_state ≡ true
+  mode_state {n = n} (named a) x s =
+      let e : a.item ≡ x = stands_one sys.net.variables n a.item x a.stands s in
+      sym (ap (λ z. z.is_state) e) ∙ a.has.is_state
+  mode_state {n = n} (first h a) x s =
+      let e : a.item ≡ x = stands_one sys.net.variables n a.item x a.stands s in
+      sym (ap (λ z. z.is_state) e) ∙ a.has.is_state
 
   pub s1_excludes : (e : ℕ) → KeepsS1 sys → BreaksS1 sys e → ⊥
   s1_excludes e k b = go (k.each (record { event = e; way = b.has.place }) (Joint b.parts) (record { event = b.event; is_event = b.stands; is_way = b.has.stands }))
@@ -59,7 +64,8 @@ module _ {V : Type 0} (sys : System V) where
     s2_excludes unit k b = let h = k.each unit b.moves in b.has_none.has_not h.number h.variable h.stands h.is_state
 
     -- a way has one mode variable
-    one_mode : {l : Label} {w : Way V} {m n : ℕ} {x y : Variable V} → HasModeVariable sys dropped l w m x → HasModeVariable sys dropped l w n y → (m ≡ n) × (x ≡ y)
+    one_mode : {l : Label} {w : Way V} {m n : ℕ} {x y : Variable V} → HasModeVariable sys dropped l w m x
+        → HasModeVariable sys dropped l w n y → (m ≡ n) × (x ≡ y)
     one_mode {l = l} {w = w} {m = m} {n = n} {x = x} {y = y} a b =
         let e = stands_one sys.events l.event a.is_kept.is_way.event b.is_kept.is_way.event a.is_kept.is_way.is_event b.is_kept.is_way.is_event in
         let i : m ≡ n = mode_same (subst (λ z. IsModeOf sys z.unit w m) e a.is_mode) b.is_mode in
@@ -71,7 +77,8 @@ module _ {V : Type 0} (sys : System V) where
         let e = one_mode h.mode b.mode in
         b.differs (h.alone b.other b.named ∙ ap (λ z. z.key) e.1)
 
-    not_other : {effects : Value → Type 0} {domain : List Value} → GivesOne effects domain → GivesOther effects domain → ⊥
+    not_other : {effects : Value → Type 0} {domain : List Value} → GivesOne effects domain → GivesOther effects domain
+        → ⊥
     not_other o (nothing h) = h o.value o.gives
     not_other o (two v w e f h) = h (o.one v e ∙ sym (o.one w f))
     not_other {domain = domain} o (outside v e h) = h (subst (λ z. Contains domain z) (sym (o.one v e)) o.in_domain)
@@ -103,10 +110,13 @@ module _ {V : Type 0} (sys : System V) where
     s7_observer_excludes n k b = k.observers n b.observer b.stands b.wide
 
     pub s8_excludes : KeepsS8 sys dropped → BreaksS8 sys dropped → ⊥
-    s8_excludes k b = let h = no_more b.events k.events b.differ (λ j e s. k.whole e (b.live j e s)) in omega (arith, h, k.few, b.many)
+    s8_excludes k b =
+        let h = no_more b.events k.events b.differ (λ j e s. k.whole e (b.live j e s)) in
+        omega (arith, h, k.few, b.many)
 
     -- the rules make a system static
-    pub static : KeepsS1 sys → KeepsS3 sys dropped → KeepsS4 sys dropped → KeepsS5 sys dropped → KeepsS6 sys dropped → IsStatic sys dropped
+    pub static : KeepsS1 sys → KeepsS3 sys dropped → KeepsS4 sys dropped → KeepsS5 sys dropped → KeepsS6 sys dropped
+        → IsStatic sys dropped
     static k1 k3 k4 k5 k6 = record {
       modes = λ l w o.
           let k = k3.each l w o.is_kept in
@@ -118,16 +128,19 @@ module _ {V : Type 0} (sys : System V) where
             stands = k.mode.stands;
             is_state = mode_state m k.variable k.mode.stands;
             is_mode = m;
-            alone = alone k.variable.key w k.alone (k4.alone l w k.number k.variable k.mode) (k1.each l w o.is_kept.is_way);
+            alone =
+                alone k.variable.key w k.alone (k4.alone l w k.number k.variable k.mode) (k1.each l w o.is_kept.is_way);
           };
       leads = λ l w n x m a.
           let h = k4.gives l w n x m a in
-          record { to = h.value; edge = record { way = w; is_open = a.is_open; variable = x; is_variable = a.stands; is_mode = a.is_mode; can = a.can; gives = h.gives; one = h.one; in_domain = h.in_domain } };
+          record
+          { to = h.value; edge = record { way = w; is_open = a.is_open; variable = x; is_variable = a.stands; is_mode = a.is_mode; can = a.can; gives = h.gives; one = h.one; in_domain = h.in_domain } };
       one_edge = k5;
       enters_once = k6;
     }
       where
-        alone : (x : V) (w : Way V) → ((y : V) → GuardNames y w → y ≡ x) → ((y : V) → ActionNames y w → y ≡ x) → IsTransition w → IsOf x w
+        alone : (x : V) (w : Way V) → ((y : V) → GuardNames y w → y ≡ x) → ((y : V) → ActionNames y w → y ≡ x)
+            → IsTransition w → IsOf x w
         alone x w h k (transition {d = d}) = g.transition (record { only = λ y m. h y (guard m) })
             (λ n a s. record {
               target = k a.target (action a (record { place = n; stands = s }) (as_target refl));
@@ -151,21 +164,29 @@ module _ {V : Type 0} (sys : System V) where
     same_number m n h k = omega arith
 
     -- two spots of one rule are one where none is shown before the other
-    same_spot : {rule : Rule} {a b : Spot} → Breaks sys dropped rule a → Breaks sys dropped rule b → (IsShownBefore a b → ⊥) → (IsShownBefore b a → ⊥) → a ≡ b
+    same_spot : {rule : Rule} {a b : Spot} → Breaks sys dropped rule a → Breaks sys dropped rule b
+        → (IsShownBefore a b → ⊥) → (IsShownBefore b a → ⊥) → a ≡ b
     same_spot (s1 {n = m} x) (s1 {n = n} y) h k = ap AtEvent (same_number m n (λ l. h (events l)) (λ l. k (events l)))
     same_spot (s2 {n = m} x) (s2 {n = n} y) h k = ap AtUnit (same_number m n (λ l. h (units l)) (λ l. k (units l)))
-    same_spot (s3 {n = m} x) (s3 {n = n} y) h k = ap AtVariable (same_number m n (λ l. h (rules.variables l)) (λ l. k (rules.variables l)))
-    same_spot (s4 {n = m} x) (s4 {n = n} y) h k = ap AtVariable (same_number m n (λ l. h (rules.variables l)) (λ l. k (rules.variables l)))
-    same_spot (s5 {n = m} x) (s5 {n = n} y) h k = ap AtVariable (same_number m n (λ l. h (rules.variables l)) (λ l. k (rules.variables l)))
-    same_spot (s6 {n = m} x) (s6 {n = n} y) h k = ap AtVariable (same_number m n (λ l. h (rules.variables l)) (λ l. k (rules.variables l)))
-    same_spot (s7 {n = m} x) (s7 {n = n} y) h k = ap AtVariable (same_number m n (λ l. h (rules.variables l)) (λ l. k (rules.variables l)))
+    same_spot (s3 {n = m} x) (s3 {n = n} y) h k =
+        ap AtVariable (same_number m n (λ l. h (rules.variables l)) (λ l. k (rules.variables l)))
+    same_spot (s4 {n = m} x) (s4 {n = n} y) h k =
+        ap AtVariable (same_number m n (λ l. h (rules.variables l)) (λ l. k (rules.variables l)))
+    same_spot (s5 {n = m} x) (s5 {n = n} y) h k =
+        ap AtVariable (same_number m n (λ l. h (rules.variables l)) (λ l. k (rules.variables l)))
+    same_spot (s6 {n = m} x) (s6 {n = n} y) h k =
+        ap AtVariable (same_number m n (λ l. h (rules.variables l)) (λ l. k (rules.variables l)))
+    same_spot (s7 {n = m} x) (s7 {n = n} y) h k =
+        ap AtVariable (same_number m n (λ l. h (rules.variables l)) (λ l. k (rules.variables l)))
     same_spot (s7 x) (s7_observer y) h k = absurd (h variable_first)
     same_spot (s7_observer x) (s7 y) h k = absurd (k variable_first)
-    same_spot (s7_observer {n = m} x) (s7_observer {n = n} y) h k = ap AtObserver (same_number m n (λ l. h (observers l)) (λ l. k (observers l)))
+    same_spot (s7_observer {n = m} x) (s7_observer {n = n} y) h k =
+        ap AtObserver (same_number m n (λ l. h (observers l)) (λ l. k (observers l)))
     same_spot (s8 x) (s8 y) h k = refl
 
     -- one rule is broken first, at one spot
-    pub first_broken_same : {r q : Rule} {a b : Spot} → IsFirstBroken sys dropped r a → IsFirstBroken sys dropped q b → (r ≡ q) × (a ≡ b)
+    pub first_broken_same : {r q : Rule} {a b : Spot} → IsFirstBroken sys dropped r a → IsFirstBroken sys dropped q b
+        → (r ≡ q) × (a ≡ b)
     first_broken_same {r = r} {q = q} {a = a} {b = b} x y =
         let h : number_of r < number_of q → ⊥ = λ l. excludes r a (y.lesser_kept r l) x.breaks in
         let k : number_of q < number_of r → ⊥ = λ l. excludes q b (x.lesser_kept q l) y.breaks in

@@ -33,7 +33,9 @@ use Rattle.ar_firing.proofs.Without.{no_more}
 module _ {V : Type 0} (sys : System V) (dropped : List ℕ) where
   -- what is reached is one
   pub reaches_same : {ls : List Label} {t u : List Value} → Reaches sys dropped ls t → Reaches sys dropped ls u → t ≡ u
-  reaches_same (c.start {t = t} f) (c.start {t = u} g) = let e : ◌≡◌ {A = Outcome} (Total t) (Total u) = flows_same sys.net f g in cc
+  reaches_same (c.start {t = t} f) (c.start {t = u} g) =
+      let e : ◌≡◌ {A = Outcome} (Total t) (Total u) = flows_same sys.net f g in
+      cc
   reaches_same (c.fire {u = u} w r o s) (c.fire {t = t} {u = v} {l = l} x q p k) =
       let e = reaches_same r q in
       let i : w ≡ x = way_same sys o.is_kept.is_way p.is_kept.is_way in
@@ -47,14 +49,17 @@ module _ {V : Type 0} (sys : System V) (dropped : List ℕ) where
   open_told : (l : Label) → Told ((w : Way V) × IsOpen sys dropped l w)
   open_told l = at_event (slice_get sys.events l.event) refl
     where
-      at_way : (e : Event V) → Stands sys.events l.event e → (w : Way V) → Stands e.ways l.way w → (b : Bool) → e.hidden ≡ b → IsOneOf dropped l.event ⊎ (IsOneOf dropped l.event → ⊥) → Told ((w : Way V) × IsOpen sys dropped l w)
+      at_way : (e : Event V) → Stands sys.events l.event e → (w : Way V) → Stands e.ways l.way w → (b : Bool)
+          → e.hidden ≡ b → IsOneOf dropped l.event ⊎ (IsOneOf dropped l.event → ⊥)
+          → Told ((w : Way V) × IsOpen sys dropped l w)
       at_way e s w i true h d = inr (λ k. let o = k.1 in
           let same : e ≡ o.is_kept.is_way.event = stands_one sys.events l.event e o.is_kept.is_way.event s o.is_kept.is_way.is_event in
           let g = ap (λ (z : Event V). z.hidden) same in let v = o.visible in cc)
       at_way e s w i false h (inl d) = inr (λ k. k.1.is_kept.stays d)
       at_way e s w i false h (inr n) = inl (w, record { is_kept = record { is_way = record { event = e; is_event = s; is_way = i }; stays = n }; visible = h })
 
-      at_ways : (e : Event V) → Stands sys.events l.event e → (o : Option (Way V)) → slice_get e.ways l.way ≡ o → Told ((w : Way V) × IsOpen sys dropped l w)
+      at_ways : (e : Event V) → Stands sys.events l.event e → (o : Option (Way V)) → slice_get e.ways l.way ≡ o
+          → Told ((w : Way V) × IsOpen sys dropped l w)
       at_ways e s None i = inr (λ k. let o = k.1 in
           let same : o.is_kept.is_way.event ≡ e = stands_one sys.events l.event o.is_kept.is_way.event e o.is_kept.is_way.is_event s in
           let g = subst (λ (z : Event V). Stands z.ways l.way k.0) same o.is_kept.is_way.is_way in cc)
@@ -72,10 +77,14 @@ module _ {V : Type 0} (sys : System V) (dropped : List ℕ) where
     pub reach_told : (ls : List Label) → Told ((t : List Value) × Reaches sys dropped ls t)
     reach_told [] = go start_of
       where
-        other : {t : List Value} {f : FlowFault} → Flows sys.net (first_values sys.net.variables) (Fails f) → Reaches sys dropped [] t → ⊥
-        other {t = t} {f = f} h (c.start g) = let e : ◌≡◌ {A = Outcome} (Fails f) (Total t) = flows_same sys.net h g in cc
+        other : {t : List Value} {f : FlowFault} → Flows sys.net (first_values sys.net.variables) (Fails f)
+            → Reaches sys dropped [] t → ⊥
+        other {t = t} {f = f} h (c.start g) =
+            let e : ◌≡◌ {A = Outcome} (Fails f) (Total t) = flows_same sys.net h g in
+            cc
 
-        go : (o : Outcome) × Flows sys.net (first_values sys.net.variables) o → Told ((t : List Value) × Reaches sys dropped [] t)
+        go : (o : Outcome) × Flows sys.net (first_values sys.net.variables) o
+            → Told ((t : List Value) × Reaches sys dropped [] t)
         go (Total t, h) = inl (t, c.start h)
         go (Fails f, h) = inr (λ k. other h k.1)
     reach_told (l ∷ ls) = go (reach_told ls) (open_told l)
@@ -86,17 +95,20 @@ module _ {V : Type 0} (sys : System V) (dropped : List ℕ) where
         way : {u : List Value} → Reaches sys dropped (l ∷ ls) u → (w : Way V) × IsOpen sys dropped l w
         way (c.fire w r o s) = (w, o)
 
-        other : (t : List Value) (w : Way V) (a : Answer) {u : List Value} → Reaches sys dropped ls t → IsOpen sys dropped l w → Step sys.net t w a → Reaches sys dropped (l ∷ ls) u → a ≡ Next u
+        other : (t : List Value) (w : Way V) (a : Answer) {u : List Value} → Reaches sys dropped ls t
+            → IsOpen sys dropped l w → Step sys.net t w a → Reaches sys dropped (l ∷ ls) u → a ≡ Next u
         other t w a {u = u} r o s (c.fire {t = v} x q p k) =
             let e = reaches_same q r in
             let i : x ≡ w = way_same sys p.is_kept.is_way o.is_kept.is_way in
             step_same sys.net s (subst (λ (z : Way V). Step sys.net t z (Next u)) i (subst (λ z. Step sys.net z x (Next u)) e k))
 
-        fired : (t : List Value) (w : Way V) → Reaches sys dropped ls t → IsOpen sys dropped l w → (a : Answer) × Step sys.net t w a → Told ((u : List Value) × Reaches sys dropped (l ∷ ls) u)
+        fired : (t : List Value) (w : Way V) → Reaches sys dropped ls t → IsOpen sys dropped l w
+            → (a : Answer) × Step sys.net t w a → Told ((u : List Value) × Reaches sys dropped (l ∷ ls) u)
         fired t w r o (Next u, s) = inl (u, c.fire w r o s)
         fired t w r o (Refused f, s) = inr (λ k. let e = other t w (Refused f) r o s k.1 in cc)
 
-        go : Told ((t : List Value) × Reaches sys dropped ls t) → Told ((w : Way V) × IsOpen sys dropped l w) → Told ((u : List Value) × Reaches sys dropped (l ∷ ls) u)
+        go : Told ((t : List Value) × Reaches sys dropped ls t) → Told ((w : Way V) × IsOpen sys dropped l w)
+            → Told ((u : List Value) × Reaches sys dropped (l ∷ ls) u)
         go (inr n) d = inr (λ k. n (before k.1))
         go (inl r) (inr n) = inr (λ k. n (way k.1))
         go (inl r) (inl w) = fired r.0 w.0 r.1 w.1 (has_answer key_told sys.net r.0 w.0 (reaches_long r.1))
@@ -105,10 +117,14 @@ module _ {V : Type 0} (sys : System V) (dropped : List ℕ) where
     pub conflict_told : (ls : List Label) → Told ((f : FlowFault) × Conflicts sys dropped ls f)
     conflict_told [] = go start_of
       where
-        other : {t : List Value} {f : FlowFault} → Flows sys.net (first_values sys.net.variables) (Total t) → Conflicts sys dropped [] f → ⊥
-        other {t = t} {f = f} h (c.start g) = let e : ◌≡◌ {A = Outcome} (Total t) (Fails f) = flows_same sys.net h g in cc
+        other : {t : List Value} {f : FlowFault} → Flows sys.net (first_values sys.net.variables) (Total t)
+            → Conflicts sys dropped [] f → ⊥
+        other {t = t} {f = f} h (c.start g) =
+            let e : ◌≡◌ {A = Outcome} (Total t) (Fails f) = flows_same sys.net h g in
+            cc
 
-        go : (o : Outcome) × Flows sys.net (first_values sys.net.variables) o → Told ((f : FlowFault) × Conflicts sys dropped [] f)
+        go : (o : Outcome) × Flows sys.net (first_values sys.net.variables) o
+            → Told ((f : FlowFault) × Conflicts sys dropped [] f)
         go (Fails f, h) = inl (f, c.start h)
         go (Total t, h) = inr (λ k. other h k.1)
     conflict_told (l ∷ ls) = go (reach_told ls) (open_told l)
@@ -119,20 +135,23 @@ module _ {V : Type 0} (sys : System V) (dropped : List ℕ) where
         way : {f : FlowFault} → Conflicts sys dropped (l ∷ ls) f → (w : Way V) × IsOpen sys dropped l w
         way (c.fire w r o s) = (w, o)
 
-        other : (t : List Value) (w : Way V) (a : Answer) {f : FlowFault} → Reaches sys dropped ls t → IsOpen sys dropped l w → Step sys.net t w a → Conflicts sys dropped (l ∷ ls) f → a ≡ Refused (Flow f)
+        other : (t : List Value) (w : Way V) (a : Answer) {f : FlowFault} → Reaches sys dropped ls t
+            → IsOpen sys dropped l w → Step sys.net t w a → Conflicts sys dropped (l ∷ ls) f → a ≡ Refused (Flow f)
         other t w a {f = f} r o s (c.fire {t = v} x q p k) =
             let e = reaches_same q r in
             let i : x ≡ w = way_same sys p.is_kept.is_way o.is_kept.is_way in
             step_same sys.net s (subst (λ (z : Way V). Step sys.net t z (Refused (Flow f))) i (subst (λ z. Step sys.net z x (Refused (Flow f))) e k))
 
-        fired : (t : List Value) (w : Way V) → Reaches sys dropped ls t → IsOpen sys dropped l w → (a : Answer) × Step sys.net t w a → Told ((f : FlowFault) × Conflicts sys dropped (l ∷ ls) f)
+        fired : (t : List Value) (w : Way V) → Reaches sys dropped ls t → IsOpen sys dropped l w
+            → (a : Answer) × Step sys.net t w a → Told ((f : FlowFault) × Conflicts sys dropped (l ∷ ls) f)
         fired t w r o (Next u, s) = inr (λ k. let e = other t w (Next u) r o s k.1 in cc)
         fired t w r o (Refused (Flow f), s) = inl (f, c.fire w r o s)
         fired t w r o (Refused NotEnabled, s) = inr (λ k. let e = other t w (Refused NotEnabled) r o s k.1 in cc)
         fired t w r o (Refused (Clash n), s) = inr (λ k. let e = other t w (Refused (Clash n)) r o s k.1 in cc)
         fired t w r o (Refused (Range n), s) = inr (λ k. let e = other t w (Refused (Range n)) r o s k.1 in cc)
 
-        go : Told ((t : List Value) × Reaches sys dropped ls t) → Told ((w : Way V) × IsOpen sys dropped l w) → Told ((f : FlowFault) × Conflicts sys dropped (l ∷ ls) f)
+        go : Told ((t : List Value) × Reaches sys dropped ls t) → Told ((w : Way V) × IsOpen sys dropped l w)
+            → Told ((f : FlowFault) × Conflicts sys dropped (l ∷ ls) f)
         go (inr n) d = inr (λ k. n (before k.1))
         go (inl r) (inr n) = inr (λ k. n (way k.1))
         go (inl r) (inl w) = fired r.0 w.0 r.1 w.1 (has_answer key_told sys.net r.0 w.0 (reaches_long r.1))
@@ -142,7 +161,8 @@ module _ {V : Type 0} (sys : System V) (dropped : List ℕ) where
   AreWays ls = (l : Label) → IsOneOf ls l → (w : Way V) × IsWay sys l w
 
   one_way_more : (l : Label) (ls : List Label) (w : Way V) → IsWay sys l w → AreWays ls → AreWays (l ∷ ls)
-  one_way_more l ls w i h k o = elim (one_cases l ls k o) [ inl e ↦ (w, subst (λ z. IsWay sys z w) e i) | inr p ↦ h k p ]
+  one_way_more l ls w i h k o =
+      elim (one_cases l ls k o) [ inl e ↦ (w, subst (λ z. IsWay sys z w) e i) | inr p ↦ h k p ]
 
   reached_ways : {ls : List Label} {t : List Value} → Reaches sys dropped ls t → AreWays ls
   reached_ways (c.start f) l o = absurd (one_none l o)
@@ -184,7 +204,8 @@ module _ {V : Type 0} (sys : System V) (dropped : List ℕ) where
   before_each [] lss = []
   before_each (l ∷ ls) lss = map (λ z. l ∷ z) lss ++ before_each ls lss
 
-  in_before_each : (all : List Label) (lss : List (List Label)) (l : Label) (ls : List Label) → IsOneOf all l → Contains lss ls → Contains (before_each all lss) (l ∷ ls)
+  in_before_each : (all : List Label) (lss : List (List Label)) (l : Label) (ls : List Label) → IsOneOf all l
+      → Contains lss ls → Contains (before_each all lss) (l ∷ ls)
   unfolding before_each
   in_before_each [] lss l ls o m = absurd (one_none l o)
   in_before_each (k ∷ all) lss l ls o m = elim (one_cases k all l o) [
@@ -196,7 +217,8 @@ module _ {V : Type 0} (sys : System V) (dropped : List ℕ) where
   lists all zero = [] ∷ []
   lists all (suc n) = [] ∷ before_each all (lists all n)
 
-  in_lists : (all : List Label) (n : ℕ) (ls : List Label) → length ls ≤ n → ((l : Label) → IsOneOf ls l → IsOneOf all l) → Contains (lists all n) ls
+  in_lists : (all : List Label) (n : ℕ) (ls : List Label) → length ls ≤ n → ((l : Label) → IsOneOf ls l → IsOneOf all l)
+      → Contains (lists all n) ls
   unfolding lists
   in_lists all zero [] h k = contains-head [] []
   in_lists all zero (l ∷ ls) h k = absurd (omega (arith, h))
@@ -245,8 +267,12 @@ different_told (x ∷ xs) = go (one_of xs x) (different_told xs)
 
     more : (IsOneOf xs x → ⊥) → AreDifferent xs → (m n : ℕ) (a : ℕ) → Stands (x ∷ xs) m a → Stands (x ∷ xs) n a → m ≡ n
     more n d zero zero a p q = refl
-    more n d zero (suc k) a p q = let e : x ≡ a = cc in absurd (n (subst (λ z. IsOneOf xs z) (sym e) (one_here xs k a q)))
-    more n d (suc j) zero a p q = let e : x ≡ a = cc in absurd (n (subst (λ z. IsOneOf xs z) (sym e) (one_here xs j a p)))
+    more n d zero (suc k) a p q =
+        let e : x ≡ a = cc in
+        absurd (n (subst (λ z. IsOneOf xs z) (sym e) (one_here xs k a q)))
+    more n d (suc j) zero a p q =
+        let e : x ≡ a = cc in
+        absurd (n (subst (λ z. IsOneOf xs z) (sym e) (one_here xs j a p)))
     more n d (suc j) (suc k) a p q = ap suc (d.one j k a p q)
 
     go : Told (IsOneOf xs x) → Told (AreDifferent xs) → Told (AreDifferent (x ∷ xs))
@@ -281,7 +307,8 @@ module _ {V : Type 0} (key_told : AreTold V) (sys : System V) (dropped set : Lis
     ends_told : (ls : List Label) → Told (Ends ls)
     ends_told ls = go (reach_told sys dropped key_told ls)
       where
-        at : (t : List Value) → Reaches sys dropped ls t → Told (Yields (HasValue sys.net t) (out-Expr V observer) wanted) → Told (Ends ls)
+        at : (t : List Value) → Reaches sys dropped ls t
+            → Told (Yields (HasValue sys.net t) (out-Expr V observer) wanted) → Told (Ends ls)
         at t r (inl y) = inl (t, r, y)
         at t r (inr n) = inr (λ h. n (subst (λ z. Yields (HasValue sys.net z) (out-Expr V observer) wanted) (reaches_same sys dropped h.1 r) h.2))
 
@@ -304,13 +331,17 @@ module _ {V : Type 0} (key_told : AreTold V) (sys : System V) (dropped set : Lis
   ]
 
 -- what sets with the same members have in common
-events_as : (ls : List Label) {set other : List ℕ} → Within set other → Within other set → AreEvents ls set → AreEvents ls other
+events_as : (ls : List Label) {set other : List ℕ} → Within set other → Within other set → AreEvents ls set
+    → AreEvents ls other
 events_as ls w v a = record { sound = λ k l s. w.each l.event (a.sound k l s); whole = λ e o. a.whole e (v.each e o); once = a.once }
 
 module _ {V : Type 0} (sys : System V) (dropped : List ℕ) where
-  pub makes_as : (observer : Expr V) (wanted : Value) (set other : List ℕ) → Within set other → Within other set → Makes sys dropped observer wanted set → Makes sys dropped observer wanted other
+  pub makes_as : (observer : Expr V) (wanted : Value) (set other : List ℕ) → Within set other → Within other set
+      → Makes sys dropped observer wanted set → Makes sys dropped observer wanted other
   makes_as observer wanted set other w v m =
-      record { values = m.values; order = record { labels = m.order.labels; events = events_as m.order.labels w v m.order.events; reaches = m.order.reaches }; shows = m.shows }
+      record
+      { values = m.values; order = record { labels = m.order.labels; events = events_as m.order.labels w v m.order.events; reaches = m.order.reaches }; shows = m.shows }
 
-  pub meets_as : (set other : List ℕ) → Within set other → Within other set → MeetsConflict sys dropped set → MeetsConflict sys dropped other
+  pub meets_as : (set other : List ℕ) → Within set other → Within other set → MeetsConflict sys dropped set
+      → MeetsConflict sys dropped other
   meets_as set other w v m = record { labels = m.labels; events = events_as m.labels w v m.events; fault = m.fault; conflicts = m.conflicts }

@@ -14,7 +14,8 @@ use Rattle.ar_firing.proofs.Ends.{path_unique, end_same, label_same}
 use Rattle.ar_firing.proofs.TreeEdges.{row_is_live}
 use Rattle.ar_firing.specs.Trees.{IsTree, AreTrees, AreApart}
 
-module _ {V : Type 0} (sys : System V) (dropped : List ℕ) (keyed : AreKeyed sys.net) (static : IsStatic sys dropped) where
+module _ {V : Type 0} (sys : System V) (dropped : List ℕ) (keyed : AreKeyed sys.net)
+    (static : IsStatic sys dropped) where
   -- the path to the mode that a row below this mode enters: it goes on from the mode by an edge from `low` on
   record Goes_on (n : ℕ) (ls : List Label) (low : ℕ) (to : Value) : Type 0 where
     pub front : List Label
@@ -22,18 +23,21 @@ module _ {V : Type 0} (sys : System V) (dropped : List ℕ) (keyed : AreKeyed sy
     pub late : low ≤ step.event
     pub path : Path sys dropped n (front ++ step ∷ ls) to
 
-  goes_on : {n : ℕ} {m : Value} {low : ℕ} {rows : List Row} {ls : List Label} → Path sys dropped n ls m → Under sys dropped n m low rows → (k : ℕ) (r : Row) → Stands rows k r → Goes_on n ls low r.to
+  goes_on : {n : ℕ} {m : Value} {low : ℕ} {rows : List Row} {ls : List Label} → Path sys dropped n ls m
+      → Under sys dropped n m low rows → (k : ℕ) (r : Row) → Stands rows k r → Goes_on n ls low r.to
   goes_on p (no_more h) k r s = cc
   goes_on {n = n} {low = low} {ls = ls} p (next {to = to} {l = l} b e h d f) zero r s =
       let i : to ≡ r.to = cc in subst (Goes_on n ls low) i (record { front = []; step = l; late = b; path = edge p e })
   goes_on {n = n} {low = low} {ls = ls} p (next {to = to} {l = l} {es = es} {fs = fs} b e h d f) (suc k) r s = ⊎_elim
       (λ q. let g = goes_on (edge p e) d k r q in
-      record { front = g.front ++ g.step ∷ []; step = l; late = b; path = subst (λ z. Path sys dropped n z r.to) (sym (append_assoc g.front (g.step ∷ []) (l ∷ ls))) g.path })
+      record
+      { front = g.front ++ g.step ∷ []; step = l; late = b; path = subst (λ z. Path sys dropped n z r.to) (sym (append_assoc g.front (g.step ∷ []) (l ∷ ls))) g.path })
       (λ q. let g = goes_on p f q.0 r q.2 in record { front = g.front; step = g.step; late = omega (arith, b, g.late); path = g.path })
       (stands_split es fs k r s)
 
   -- no mode is entered by two rows
-  entered_once : {n : ℕ} {m : Value} {low : ℕ} {rows : List Row} {ls : List Label} → Path sys dropped n ls m → Under sys dropped n m low rows
+  entered_once : {n : ℕ} {m : Value} {low : ℕ} {rows : List Row} {ls : List Label} → Path sys dropped n ls m
+      → Under sys dropped n m low rows
       → (j k : ℕ) (q r : Row) → j < k → Stands rows j q → Stands rows k r → q.to ≡ r.to → ⊥
   entered_once p (no_more h) j k q r l s t w = cc
   entered_once p (next b e h d f) zero zero q r l s t w = omega (arith, l)
@@ -73,7 +77,8 @@ module _ {V : Type 0} (sys : System V) (dropped : List ℕ) (keyed : AreKeyed sy
           omega (arith, o.late, ap (λ (a : Label). a.event) c)
 
   -- each row leaves the mode or one that an earlier row enters
-  leaves : {n : ℕ} {m : Value} {low : ℕ} {rows : List Row} → Under sys dropped n m low rows → (k : ℕ) (r : Row) → Stands rows k r → (r.from ≡ m) ⊎ ((j : ℕ) × (q : Row) × (j < k) × Stands rows j q × (q.to ≡ r.from))
+  leaves : {n : ℕ} {m : Value} {low : ℕ} {rows : List Row} → Under sys dropped n m low rows → (k : ℕ) (r : Row)
+      → Stands rows k r → (r.from ≡ m) ⊎ ((j : ℕ) × (q : Row) × (j < k) × Stands rows j q × (q.to ≡ r.from))
   leaves (no_more h) k r s = cc
   leaves {m = m} (next b e h d f) zero r s = let i : m ≡ r.from = cc in inl (sym i)
   leaves {m = m} (next {to = to} {l = l} {es = es} {fs = fs} b e h d f) (suc k) r s = ⊎_elim

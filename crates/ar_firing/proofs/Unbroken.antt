@@ -36,14 +36,16 @@ module _ {V : Type 0} (key_told : AreTold V) (x : V) where
   involves_told : (a : Assign V) → Told (Involves x a)
   involves_told a = go (key_told a.target x) (mentions_told key_told x a.value) (tests_told a.conditions)
     where
-      go : Told (a.target ≡ x) → Told (Mentions x (out-Expr V a.value)) → Told (Tests x a.conditions) → Told (Involves x a)
+      go : Told (a.target ≡ x) → Told (Mentions x (out-Expr V a.value)) → Told (Tests x a.conditions)
+          → Told (Involves x a)
       go (inl e) h t = inl (as_target e)
       go (inr n) (inl h) t = inl (as_source (inl h))
       go (inr n) (inr m) (inl t) = inl (as_source (inr t))
       go (inr n) (inr m) (inr k) = inr (λ i. elim i [ as_target e ↦ n e | as_source s ↦ ⊎_elim m k s ])
 
   guard_told : (w : Way V) → Told (GuardNames x w)
-  guard_told (Leaf d) = elim (mentions_told key_told x d.guard) [ inl h ↦ inl (guard h) | inr n ↦ inr (λ g. elim g [ guard h ↦ n h ]) ]
+  guard_told (Leaf d) =
+      elim (mentions_told key_told x d.guard) [ inl h ↦ inl (guard h) | inr n ↦ inr (λ g. elim g [ guard h ↦ n h ]) ]
   guard_told (Joint bs) = inr (λ g. elim g [ ])
 
   action_told : (w : Way V) → Told (ActionNames x w)
@@ -75,7 +77,8 @@ at_known key_told x m y = elim (key_told y x) [
 -- it is refuted that a number has P and that none that has it is the least
 least_refuted : (P : ℕ → Type 0) → ((n : ℕ) → P n → ((k : ℕ) → P k → n ≤ k) → ⊥) → (most n : ℕ) → n < most → P n → ⊥
 least_refuted P never zero n l p = absurd (omega (arith, l))
-least_refuted P never (suc most) n l p = never n p (λ k q. not_less k n (λ h. least_refuted P never most k (omega (arith, l, h)) q))
+least_refuted P never (suc most) n l p =
+    never n p (λ k q. not_less k n (λ h. least_refuted P never most k (omega (arith, l, h)) q))
   where
     not_less : (k n : ℕ) → (k < n → ⊥) → n ≤ k
     not_less k n h = omega arith
@@ -123,7 +126,8 @@ module _ {V : Type 0} (key_told : AreTold V) (sys : System V) (dropped : List �
   mode_of unit w h = go (first_or_none (IsNamedStateOf unit w) (named_told unit w) sys.net.variables) (first_or_none (IsStateOf unit) (state_told unit) sys.net.variables)
     where
       go : ((n : ℕ) × IsFirst sys.net.variables (IsNamedStateOf unit w) n) ⊎ HasNo sys.net.variables (IsNamedStateOf unit w)
-          → ((n : ℕ) × IsFirst sys.net.variables (IsStateOf unit) n) ⊎ HasNo sys.net.variables (IsStateOf unit) → HasMode unit w
+          → ((n : ℕ) × IsFirst sys.net.variables (IsStateOf unit) n) ⊎ HasNo sys.net.variables (IsStateOf unit)
+          → HasMode unit w
       go (inl f) q = record { number = f.0; variable = f.1.item; stands = f.1.stands; is_mode = named f.1 }
       go (inr m) (inl f) = record { number = f.0; variable = f.1.item; stands = f.1.stands; is_mode = first m f.1 }
       go (inr m) (inr k) = absurd (k.has_not h.number h.variable h.stands h.is_state)
@@ -145,10 +149,12 @@ module _ {V : Type 0} (key_told : AreTold V) (sys : System V) (dropped : List �
   pub keeps_s4 : Unbroken sys dropped S4 → KeepsS4 sys dropped
   keeps_s4 none = record {
     alone = λ l w n x m y a. ⊎_elim (λ e. e) (λ d. absurd (none (AtVariable n) (s4 (names l w x m y a d)))) (key_told y x.key);
-    gives = λ l w n x m h. one_given l w n x m h (effects_known (At x.key m) (at_known key_told x.key m) key_told x.key w);
+    gives =
+        λ l w n x m h. one_given l w n x m h (effects_known (At x.key m) (at_known key_told x.key m) key_told x.key w);
   }
     where
-      one_given : (l : Label) (w : Way V) (n : ℕ) (x : Variable V) (m : Value) → IsLiveAt sys dropped l w n x m → Listed (Effects (At x.key m) w x.key) → GivesOne (Effects (At x.key m) w x.key) x.domain
+      one_given : (l : Label) (w : Way V) (n : ℕ) (x : Variable V) (m : Value) → IsLiveAt sys dropped l w n x m
+          → Listed (Effects (At x.key m) w x.key) → GivesOne (Effects (At x.key m) w x.key) x.domain
       one_given l w n x m h k = go k.items refl
         where
           broken : GivesOther (Effects (At x.key m) w x.key) x.domain → ⊥
@@ -166,7 +172,8 @@ module _ {V : Type 0} (key_told : AreTold V) (sys : System V) (dropped : List �
               }
 
   -- an event with two live edges breaks the fifth rule
-  two_edges : Unbroken sys dropped S5 → (k l : Label) (m n : ℕ) (u v x y : Value) → IsLive sys dropped k m u x → IsLive sys dropped l n v y → k.event ≡ l.event → AreTwo k l m n u v → ⊥
+  two_edges : Unbroken sys dropped S5 → (k l : Label) (m n : ℕ) (u v x y : Value) → IsLive sys dropped k m u x
+      → IsLive sys dropped l n v y → k.event ≡ l.event → AreTwo k l m n u v → ⊥
   two_edges none k l m n u v x y a b e t =
       let here : HasLive sys dropped k.event m = record { label = k; is_event = refl; from = u; to = x; is_live = a } in
       let there : HasLive sys dropped k.event n = record { label = l; is_event = sym e; from = v; to = y; is_live = b } in
@@ -203,9 +210,11 @@ module _ {V : Type 0} (key_told : AreTold V) (sys : System V) (dropped : List �
 
   -- it is refuted that the last rule is neither kept nor broken
   pub keeps_s8 : Unbroken sys dropped S8 → (KeepsS8 sys dropped → ⊥) → ⊥
-  keeps_s8 none kept = grow 2049 [] (record { one = λ m n a p q. absurd (stands_none m a p) }) (λ e o. absurd (one_none e o)) refl
+  keeps_s8 none kept =
+      grow 2049 [] (record { one = λ m n a p q. absurd (stands_none m a p) }) (λ e o. absurd (one_none e o)) refl
     where
-      grow : (more : ℕ) (events : List ℕ) → AreDifferent events → ((e : ℕ) → IsOneOf events e → IsLiveEvent sys dropped e) → more + length events ≡ 2049 → ⊥
+      grow : (more : ℕ) (events : List ℕ) → AreDifferent events
+          → ((e : ℕ) → IsOneOf events e → IsLiveEvent sys dropped e) → more + length events ≡ 2049 → ⊥
       grow zero events d live long = none AtWhole (s8 (record { events = events; differ = d; live = λ k e s. live e (one_here events k e s); many = omega (arith, long) }))
       grow (suc more) events d live long = kept (record {
         events = events;
@@ -216,7 +225,8 @@ module _ {V : Type 0} (key_told : AreTold V) (sys : System V) (dropped : List �
             (longer more events e long))) (one_of events e);
       })
         where
-          longer : (more : ℕ) (events : List ℕ) (e : ℕ) → suc more + length events ≡ 2049 → more + length (events ++ e ∷ []) ≡ 2049
+          longer : (more : ℕ) (events : List ℕ) (e : ℕ) → suc more + length events ≡ 2049
+              → more + length (events ++ e ∷ []) ≡ 2049
           longer more events e h = let k = length-append events (e ∷ []) in omega (arith, h, k)
 
   -- a system that breaks no rule is static

@@ -48,17 +48,20 @@ pub record IsNamedStateOf {V : Type 0} (unit : ℕ) (w : Way V) (x : Variable V)
   pub is_unit : x.unit ≡ unit
   pub named : WayNames x.key w
 
--- the mode variable of a way of an event of this unit, by number: the least state variable of the unit that the way names, or, where it names none, the least one
+-- the mode variable of a way of an event of this unit, by number: the least state variable of the unit that the way
+-- names, or, where it names none, the least one
 pub data IsModeOf {V : Type 0} (sys : System V) (unit : ℕ) (w : Way V) : ℕ → Type 0 where
   named : {n : ℕ} → IsFirst sys.net.variables (IsNamedStateOf unit w) n → IsModeOf sys unit w n
-  first : {n : ℕ} → HasNo sys.net.variables (IsNamedStateOf unit w) → IsFirst sys.net.variables (IsStateOf unit) n → IsModeOf sys unit w n
+  first : {n : ℕ} → HasNo sys.net.variables (IsNamedStateOf unit w) → IsFirst sys.net.variables (IsStateOf unit) n
+      → IsModeOf sys unit w n
 
 -- the facts where this variable alone has a value, and it is this one
 pub record At {V : Type 0} (x : V) (m : Value) (y : V) (v : Value) : Type 0 where
   pub key : y ≡ x
   pub value : v ≡ m
 
--- the way is an edge from one mode of its mode variable to another: it is open, its guard is true there, and it gives the variable exactly one value, in the domain
+-- the way is an edge from one mode of its mode variable to another: it is open, its guard is true there, and it gives
+-- the variable exactly one value, in the domain
 pub record Edge {V : Type 0} (sys : System V) (dropped : List ℕ) (l : Label) (n : ℕ) (from to : Value) : Type 0 where
   pub way : Way V
   pub is_open : IsOpen sys dropped l way
@@ -72,8 +75,10 @@ pub record Edge {V : Type 0} (sys : System V) (dropped : List ℕ) (l : Label) (
 
 -- these edges, the last first, lead from the variable's init value to this mode
 pub data Path {V : Type 0} (sys : System V) (dropped : List ℕ) (n : ℕ) : List Label → Value → Type 0 where
-  root : {x : Variable V} {m : Value} → Stands sys.net.variables n x → x.is_state ≡ true → x.value ≡ m → Path sys dropped n [] m
-  edge : {l : Label} {ls : List Label} {m to : Value} → Path sys dropped n ls m → Edge sys dropped l n m to → Path sys dropped n (l ∷ ls) to
+  root : {x : Variable V} {m : Value} → Stands sys.net.variables n x → x.is_state ≡ true → x.value ≡ m
+      → Path sys dropped n [] m
+  edge : {l : Label} {ls : List Label} {m to : Value} → Path sys dropped n ls m → Edge sys dropped l n m to
+      → Path sys dropped n (l ∷ ls) to
 
 -- the mode is reached along edges of its variable alone
 pub record IsReached {V : Type 0} (sys : System V) (dropped : List ℕ) (n : ℕ) (m : Value) : Type 0 where

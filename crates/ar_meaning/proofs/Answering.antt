@@ -21,20 +21,23 @@ module _ {V : Type 0} (facts : V → Value → Type 0) (known : (x : V) → List
   leaf_told : (d : Transition V) → Told (Can facts (Leaf d))
   leaf_told d = elim (yields_told facts known d.guard (Truth true)) [ inl h ↦ inl (guard_holds h) | inr n ↦ inr (λ c. elim c [ guard_holds h ↦ n h ]) ]
 
-  joint_told : (bs : Branches (Transition V)) (b : Bool) → has_must bs ≡ b → Told (Musts_can facts bs) → Told (Some_can facts bs) → Told (Can facts (Joint bs))
+  joint_told : (bs : Branches (Transition V)) (b : Bool) → has_must bs ≡ b → Told (Musts_can facts bs)
+      → Told (Some_can facts bs) → Told (Can facts (Joint bs))
   joint_told bs true e (inl m) s = inl (all_musts e m)
   joint_told bs true e (inr n) s = inr (λ c. elim c [ all_musts f m ↦ n m | some_may f k ↦ true≢false (sym e ∙ f) ])
   joint_told bs false e m (inl k) = inl (some_may e k)
   joint_told bs false e m (inr n) = inr (λ c. elim c [ all_musts f k ↦ true≢false (sym f ∙ e) | some_may f k ↦ n k ])
 
-  musts_more : (b : Bool) (w : Way V) (bs : Branches (Transition V)) → Told (Can facts w) → Told (Musts_can facts bs) → Told (Musts_can facts (Branch b w bs))
+  musts_more : (b : Bool) (w : Way V) (bs : Branches (Transition V)) → Told (Can facts w) → Told (Musts_can facts bs)
+      → Told (Musts_can facts (Branch b w bs))
   musts_more true w bs (inl c) (inl m) = inl (must c m)
   musts_more true w bs (inl c) (inr n) = inr (λ h. elim h [ must a b ↦ n b ])
   musts_more true w bs (inr n) t = inr (λ h. elim h [ must a b ↦ n a ])
   musts_more false w bs t (inl m) = inl (may m)
   musts_more false w bs t (inr n) = inr (λ h. elim h [ may b ↦ n b ])
 
-  some_more : (b : Bool) (w : Way V) (bs : Branches (Transition V)) → Told (Can facts w) → Told (Some_can facts bs) → Told (Some_can facts (Branch b w bs))
+  some_more : (b : Bool) (w : Way V) (bs : Branches (Transition V)) → Told (Can facts w) → Told (Some_can facts bs)
+      → Told (Some_can facts (Branch b w bs))
   some_more m w bs (inl c) t = inl (this c)
   some_more m w bs (inr n) (inl k) = inl (later k)
   some_more m w bs (inr n) (inr k) = inr (λ h. elim h [ this a ↦ n a | later b ↦ k b ])
@@ -66,14 +69,19 @@ module _ {V : Type 0} (facts : V → Value → Type 0) (known : (x : V) → List
     acts_listed [] = record { items = []; sound = λ v m. absurd (nothing-in v m); whole = λ v h. absurd (one_none h.assign h.is_one) }
     acts_listed (a ∷ xs) = listed_as (listed_or (listed_where (both_told (key_told a.target x) (passes_told facts known a.conditions)) (yields_listed facts known a.value)) (acts_listed xs)) on back
       where
-        on : (v : Value) → (((a.target ≡ x) × Passes facts a.conditions) × Yields facts (out-Expr V a.value) v) ⊎ Acts xs v → Acts (a ∷ xs) v
+        on : (v : Value)
+            → (((a.target ≡ x) × Passes facts a.conditions) × Yields facts (out-Expr V a.value) v) ⊎ Acts xs v
+            → Acts (a ∷ xs) v
         on v (inl h) = record { assign = a; is_one = one_first a xs; is_target = h.0.0; passes = h.0.1; yields = h.1 }
         on v (inr h) = record { assign = h.assign; is_one = one_rest a xs h.assign h.is_one; is_target = h.is_target; passes = h.passes; yields = h.yields }
 
-        at : (v : Value) (b : Assign V) → a ≡ b → b.target ≡ x → Passes facts b.conditions → Yields facts (out-Expr V b.value) v → ((a.target ≡ x) × Passes facts a.conditions) × Yields facts (out-Expr V a.value) v
+        at : (v : Value) (b : Assign V) → a ≡ b → b.target ≡ x → Passes facts b.conditions
+            → Yields facts (out-Expr V b.value) v
+            → ((a.target ≡ x) × Passes facts a.conditions) × Yields facts (out-Expr V a.value) v
         at v b e i p y = subst (λ (z : Assign V). ((z.target ≡ x) × Passes facts z.conditions) × Yields facts (out-Expr V z.value) v) (sym e) ((i, p), y)
 
-        back : (v : Value) → Acts (a ∷ xs) v → (((a.target ≡ x) × Passes facts a.conditions) × Yields facts (out-Expr V a.value) v) ⊎ Acts xs v
+        back : (v : Value) → Acts (a ∷ xs) v
+            → (((a.target ≡ x) × Passes facts a.conditions) × Yields facts (out-Expr V a.value) v) ⊎ Acts xs v
         back v h = elim (one_cases a xs h.assign h.is_one) [
           | inl e ↦ inl (at v h.assign e h.is_target h.passes h.yields)
           | inr o ↦ inr (record { assign = h.assign; is_one = o; is_target = h.is_target; passes = h.passes; yields = h.yields })
@@ -95,15 +103,19 @@ module _ {V : Type 0} (facts : V → Value → Type 0) (known : (x : V) → List
           (λ v h. elim h [ by_may c e ↦ inl (c, e) | by_later r ↦ inr r ])
 
 -- each variable's value after the effects, where those of each are listed
-received : {V : Type 0} (effects : V → Value → Type 0) → ((x : V) → Listed (effects x)) → (xs : List (Variable V)) (ts : List Value) → length ts ≡ length xs → (us : List Value) × Receives effects xs ts us
+received : {V : Type 0} (effects : V → Value → Type 0) → ((x : V) → Listed (effects x))
+    → (xs : List (Variable V)) (ts : List Value) → length ts ≡ length xs → (us : List Value) × Receives effects xs ts us
 received effects known [] [] l = ([], s.none)
 received effects known [] (v ∷ ts) l = absurd (omega (arith, l))
 received effects known (x ∷ xs) [] l = absurd (omega (arith, l))
-received effects known (x ∷ xs) (v ∷ ts) l = go (known x.key).items refl (received effects known xs ts (omega (arith, l)))
+received effects known (x ∷ xs) (v ∷ ts) l =
+    go (known x.key).items refl (received effects known xs ts (omega (arith, l)))
   where
-    go : (ws : List Value) → (known x.key).items ≡ ws → (us : List Value) × Receives effects xs ts us → (us : List Value) × Receives effects (x ∷ xs) (v ∷ ts) us
+    go : (ws : List Value) → (known x.key).items ≡ ws → (us : List Value) × Receives effects xs ts us
+        → (us : List Value) × Receives effects (x ∷ xs) (v ∷ ts) us
     go [] j r = (v ∷ r.0, kept (λ u h. nothing-in u (subst (λ z. Contains z u) j ((known x.key).whole u h))) r.1)
-    go (u ∷ ws) j r = (u ∷ r.0, changed ((known x.key).sound u (subst (λ z. Contains z u) (sym j) (contains-head u ws))) r.1)
+    go (u ∷ ws) j r =
+        (u ∷ r.0, changed ((known x.key).sound u (subst (λ z. Contains z u) (sym j) (contains-head u ws))) r.1)
 
 module _ {V : Type 0} (key_told : (x y : V) → Told (x ≡ y)) (net : Net V) (t : List Value) (w : Way V) where
   abbrev effects : V → Value → Type 0
@@ -133,13 +145,16 @@ module _ {V : Type 0} (key_told : (x y : V) → Told (x ≡ y)) (net : Net V) (t
   has_answer long = go (can_told (HasValue net t) (values_known key_told net t) w) (first_or_none (Clashes effects) net.variables (λ x o. clash_told x))
       (first_or_none (LeavesDomain effects) net.variables (λ x o. leaves_told x))
     where
-      last : Can (HasValue net t) w → HasNo net.variables (Clashes effects) → HasNo net.variables (LeavesDomain effects) → (state : List Value) → Receives effects net.variables t state
+      last : Can (HasValue net t) w → HasNo net.variables (Clashes effects) → HasNo net.variables (LeavesDomain effects)
+          → (state : List Value) → Receives effects net.variables t state
           → (o : Outcome) → Flows net state o → (a : Answer) × Step net t w a
       last c n m state r (Fails f) h = (Refused (Flow f), flow state c n m r h)
       last c n m state r (Total next) h = (Next next, moves state c n m r h)
 
-      go : Told (Can (HasValue net t) w) → ((n : ℕ) × IsFirst net.variables (Clashes effects) n) ⊎ HasNo net.variables (Clashes effects)
-          → ((n : ℕ) × IsFirst net.variables (LeavesDomain effects) n) ⊎ HasNo net.variables (LeavesDomain effects) → (a : Answer) × Step net t w a
+      go : Told (Can (HasValue net t) w)
+          → ((n : ℕ) × IsFirst net.variables (Clashes effects) n) ⊎ HasNo net.variables (Clashes effects)
+          → ((n : ℕ) × IsFirst net.variables (LeavesDomain effects) n) ⊎ HasNo net.variables (LeavesDomain effects)
+          → (a : Answer) × Step net t w a
       go (inr n) p q = (Refused NotEnabled, not_enabled n)
       go (inl c) (inl r) q = (Refused (Clash r.0), clash c r.1)
       go (inl c) (inr n) (inl r) = (Refused (Range r.0), range c n r.1)

@@ -14,7 +14,8 @@ use Rattle.ar_meaning.proofs.ImageTurned.{net_turned, way_turned}
 use Rattle.ar_meaning.proofs.ImageFlows.{partner, can_there, value_there, flows_there, step_there}
 
 module _ {V W : Type 0} (same : V → W → Type 0) (A : System V) (B : System W) (image : IsImage same A B) where
-  pub ways_listed_there : (t : List Value) {vs : List (Way V)} {ws : List (Way W)} {e k : ℕ} {ls : List Label} → Along (Way_renames same) vs ws
+  pub ways_listed_there : (t : List Value) {vs : List (Way V)} {ws : List (Way W)} {e k : ℕ} {ls : List Label}
+      → Along (Way_renames same) vs ws
       → Ways_listed (HasValue A.net t) e k vs ls → Ways_listed (HasValue B.net t) e k ws ls
   ways_listed_there t l.none r.none = r.none
   ways_listed_there t (l.one_and q qs) (can c d) =
@@ -23,13 +24,16 @@ module _ {V W : Type 0} (same : V → W → Type 0) (A : System V) (B : System W
       let behind = net_turned same image.net in
       cannot (λ c. n (can_there W V (HasValue B.net t) (HasValue A.net t) (turned same) (λ y x d s h. value_there (turned same) B.net A.net behind t y x d s h) behind.one (way_turned same q) c)) (ways_listed_there t qs d)
 
-  pub listed_there : (t : List Value) {vs : List (Event V)} {ws : List (Event W)} {e : ℕ} {ls : List Label} → Along (Event_renames same) vs ws
+  pub listed_there : (t : List Value) {vs : List (Event V)} {ws : List (Event W)} {e : ℕ} {ls : List Label}
+      → Along (Event_renames same) vs ws
       → Listed (HasValue A.net t) e vs ls → Listed (HasValue B.net t) e ws ls
   listed_there t l.none r.none = r.none
-  listed_there t (l.one_and q qs) (visible h w d) = visible (sym q.hidden ∙ h) (ways_listed_there t q.ways w) (listed_there t qs d)
+  listed_there t (l.one_and q qs) (visible h w d) =
+      visible (sym q.hidden ∙ h) (ways_listed_there t q.ways w) (listed_there t qs d)
   listed_there t (l.one_and q qs) (hidden h d) = hidden (sym q.hidden ∙ h) (listed_there t qs d)
 
-  pub goes_there : {below : List (List Value)} {t : List Value} {cs : List Command} {ms : List Moment} → Goes A below t cs ms → Goes B below t cs ms
+  pub goes_there : {below : List (List Value)} {t : List Value} {cs : List Command} {ms : List Moment}
+      → Goes A below t cs ms → Goes B below t cs ms
   goes_there ends = ends
   goes_there (fires {l = k} w a s d) =
       let e = partner image.events k.event a.event a.is_event in
@@ -44,7 +48,8 @@ module _ {V W : Type 0} (same : V → W → Type 0) (A : System V) (B : System W
   goes_there (shows d) = shows (goes_there d)
   goes_there {t = t} (lists a d) = lists (listed_there t image.events a) (goes_there d)
 
-  pub first_values_there : {xs : List (Variable V)} {ys : List (Variable W)} → Along (Variable_renames same) xs ys → first_values xs ≡ first_values ys
+  pub first_values_there : {xs : List (Variable V)} {ys : List (Variable W)} → Along (Variable_renames same) xs ys
+      → first_values xs ≡ first_values ys
   first_values_there l.none = refl
   first_values_there (l.one_and r rs) = let h = r.value in let i = first_values_there rs in cc
 

@@ -66,19 +66,25 @@ module _ (a b : Naming) (alike : NameAlike a b) where
   step_fault_alike (Flow f) = flow_fault_alike f
 
 module _ {V W : Type 0} (same' : V → W → Type 0) where
-  ways_count : {es : List (Event V)} {fs : List (Event W)} → Along (Event_renames same') es fs → (n : ℕ) → ways_of (slice_get es n) ≡ ways_of (slice_get fs n)
+  ways_count : {es : List (Event V)} {fs : List (Event W)} → Along (Event_renames same') es fs → (n : ℕ)
+      → ways_of (slice_get es n) ≡ ways_of (slice_get fs n)
   ways_count l.none zero = refl
   ways_count l.none (suc n) = refl
   ways_count (l.one_and r rs) zero = along_long r.ways
   ways_count (l.one_and r rs) (suc n) = ways_count rs n
 
-  observed_along : (P : V → Value → Type 0) (Q : W → Value → Type 0) → ((x : V) (y : W) (v : Value) → same' x y → P x v → Q y v) → {es : List (Expr V)} {fs : List (Expr W)} {vs : List Value}
-      → Along (Expr_renames same') es fs → Along (λ e v. Yields P (out-Expr V e) v) es vs → Along (λ e v. Yields Q (out-Expr W e) v) fs vs
+  observed_along : (P : V → Value → Type 0) (Q : W → Value → Type 0)
+      → ((x : V) (y : W) (v : Value) → same' x y → P x v → Q y v)
+      → {es : List (Expr V)} {fs : List (Expr W)} {vs : List Value}
+      → Along (Expr_renames same') es fs → Along (λ e v. Yields P (out-Expr V e) v) es vs
+      → Along (λ e v. Yields Q (out-Expr W e) v) fs vs
   observed_along P Q kept l.none l.none = l.none
-  observed_along P Q kept (l.one_and r rs) (l.one_and d ds) = l.one_and (carries V W P Q same' kept d r.renames) (observed_along P Q kept rs ds)
+  observed_along P Q kept (l.one_and r rs) (l.one_and d ds) =
+      l.one_and (carries V W P Q same' kept d r.renames) (observed_along P Q kept rs ds)
 
 -- texts
-module _ {V W : Type 0} (same' : V → W → Type 0) (A : System V) (B : System W) (image : IsImage same' A B) (a b : Naming) (alike : NameAlike a b) where
+module _ {V W : Type 0} (same' : V → W → Type 0) (A : System V) (B : System W) (image : IsImage same' A B)
+    (a b : Naming) (alike : NameAlike a b) where
   label_alike : (k : Label) → label_text a A k ≡ label_text b B k
   label_alike k =
       let i = alike.events k.event in
@@ -99,8 +105,10 @@ module _ {V W : Type 0} (same' : V → W → Type 0) (A : System V) (B : System 
     is_seen_then = observed_there new c.seen_then c.is_seen_then;
     variables = c.variables;
     observers = c.observers;
-    variables_changed = changed_alike (variable_line a) (variable_line b) (variable_alike a b alike) c.variables_changed;
-    observers_changed = changed_alike (observer_line a) (observer_line b) (observer_alike a b alike) c.observers_changed;
+    variables_changed =
+        changed_alike (variable_line a) (variable_line b) (variable_alike a b alike) c.variables_changed;
+    observers_changed =
+        changed_alike (observer_line a) (observer_line b) (observer_alike a b alike) c.observers_changed;
     joined = c.joined;
   }
 
@@ -116,7 +124,8 @@ module _ {V W : Type 0} (same' : V → W → Type 0) (A : System V) (B : System 
   moment_there no_step = no_step
   moment_there (shows {t = t} {seen = seen} o) =
       subst (λ z. MomentText b B (Shows t) (line (codes "show") ++ z)) (sym (all_alike a b alike t seen)) (shows (observed_there t seen o))
-  moment_there (lists {ls = ks}) = subst (λ z. MomentText b B (Lists ks) (line (codes "enabled") ++ z)) (sym (labels_alike ks)) lists
+  moment_there (lists {ls = ks}) =
+      subst (λ z. MomentText b B (Lists ks) (line (codes "enabled") ++ z)) (sym (labels_alike ks)) lists
   moment_there ends = ends
 
   pub trace_there : {ms : List Moment} {text : List ℕ} → TraceText a A ms text → TraceText b B ms text

@@ -9,12 +9,14 @@ use Rattle.ar_meaning.specs.Steps as r
 use Rattle.ar_meaning.specs.Runs.{first_values}
 
 module _ {V : Type 0} where
-  pub received_long : {effects : V → Value → Type 0} {xs : List (Variable V)} {vs ws : List Value} → Receives effects xs vs ws → length ws ≡ length xs
+  pub received_long : {effects : V → Value → Type 0} {xs : List (Variable V)} {vs ws : List Value}
+      → Receives effects xs vs ws → length ws ≡ length xs
   received_long r.none = refl
   received_long (changed h d) = ap suc (received_long d)
   received_long (kept h d) = ap suc (received_long d)
 
-  pub completed_long : {facts : V → Value → Type 0} {xs : List (Variable V)} {vs ws : List Value} → Completes facts xs vs ws → length ws ≡ length xs
+  pub completed_long : {facts : V → Value → Type 0} {xs : List (Variable V)} {vs ws : List Value}
+      → Completes facts xs vs ws → length ws ≡ length xs
   completed_long flows.none = refl
   completed_long (state h d) = ap suc (completed_long d)
   completed_long (known h p d) = ap suc (completed_long d)

@@ -20,7 +20,8 @@ module _ {V : Type 0} (facts : V → Value → Type 0) (way_told : (w : Way V) �
   ways_listed e k [] = ([], r.none)
   ways_listed e k (w ∷ ws) = go (way_told w) (ways_listed e (k + 1) ws)
     where
-      go : Told (Can facts w) → (ls : List Label) × Ways_listed facts e (k + 1) ws ls → (ls : List Label) × Ways_listed facts e k (w ∷ ws) ls
+      go : Told (Can facts w) → (ls : List Label) × Ways_listed facts e (k + 1) ws ls
+          → (ls : List Label) × Ways_listed facts e k (w ∷ ws) ls
       go (inl c) h = (_, can c h.1)
       go (inr n) h = (_, cannot n h.1)
 
@@ -29,7 +30,8 @@ module _ {V : Type 0} (facts : V → Value → Type 0) (way_told : (w : Way V) �
   listed e [] = ([], r.none)
   listed e (v ∷ vs) = go v.hidden refl (listed (e + 1) vs)
     where
-      go : (b : Bool) → v.hidden ≡ b → (ls : List Label) × Listed facts (e + 1) vs ls → (ls : List Label) × Listed facts e (v ∷ vs) ls
+      go : (b : Bool) → v.hidden ≡ b → (ls : List Label) × Listed facts (e + 1) vs ls
+          → (ls : List Label) × Listed facts e (v ∷ vs) ls
       go true i h = (_, hidden i h.1)
       go false i h = let w = ways_listed e 0 v.ways in (_, visible i w.1 h.1)
 
@@ -42,9 +44,11 @@ module _ {V : Type 0} (key_told : (x y : V) → Told (x ≡ y)) (sys : System V)
   later {c = c} {cs = cs} h = record { each = λ l o. h.each l (one_rest c cs (Fire l) o) }
 
   -- what follows has its moments
-  goes : (below : List (List Value)) (t : List Value) (cs : List Command) → AreLong below → length t ≡ length sys.net.variables → FiresWays sys cs → (ms : List Moment) × Goes sys below t cs ms
+  goes : (below : List (List Value)) (t : List Value) (cs : List Command) → AreLong below
+      → length t ≡ length sys.net.variables → FiresWays sys cs → (ms : List Moment) × Goes sys below t cs ms
   goes below t [] longs long h = (_, ends)
-  goes below t (Fire l ∷ cs) longs long h = go (has_answer key_told sys.net t way.0 long) (λ u k. goes (t ∷ below) u cs deeper k (later h))
+  goes below t (Fire l ∷ cs) longs long h =
+      go (has_answer key_told sys.net t way.0 long) (λ u k. goes (t ∷ below) u cs deeper k (later h))
     where
       way : (w : Way V) × IsWay sys l w
       way = h.each l (one_first (Fire l) cs)
@@ -52,7 +56,8 @@ module _ {V : Type 0} (key_told : (x y : V) → Told (x ≡ y)) (sys : System V)
       deeper : AreLong (t ∷ below)
       deeper u o = elim (one_cases t below u o) [ inl e ↦ (let i = long in cc) | inr p ↦ longs u p ]
 
-      go : (a : Answer) × Step sys.net t way.0 a → ((u : List Value) → length u ≡ length sys.net.variables → (ms : List Moment) × Goes sys (t ∷ below) u cs ms)
+      go : (a : Answer) × Step sys.net t way.0 a
+          → ((u : List Value) → length u ≡ length sys.net.variables → (ms : List Moment) × Goes sys (t ∷ below) u cs ms)
           → (ms : List Moment) × Goes sys below t (Fire l ∷ cs) ms
       go (Refused f, s) on = (_, fails way.0 way.1 s)
       go (Next u, s) on = let k = on u (step_long s) in (_, fires way.0 way.1 s k.1)

@@ -29,7 +29,8 @@ pub same_value : (v w : Value) → ((v ≡ w → ⊥) → ⊥) → v ≡ w
 same_value v w h = elim (value_told v w) [ inl e ↦ e | inr n ↦ absurd (h n) ]
 
 module _ {V : Type 0} (net : Net V) where
-  pub completes_same : (t : List Value) {xs : List (Variable V)} {vs ws us : List Value} → HasNo xs (HasTwo net t) → Completes (FactOf net t) xs vs ws → Completes (FactOf net t) xs vs us → ws ≡ us
+  pub completes_same : (t : List Value) {xs : List (Variable V)} {vs ws us : List Value} → HasNo xs (HasTwo net t)
+      → Completes (FactOf net t) xs vs ws → Completes (FactOf net t) xs vs us → ws ≡ us
   completes_same t h none none = refl
   completes_same t h (state {v = v} s d) (state s' d') = ap (λ us. v ∷ us) (completes_same t (rest_has_no h) d d')
   completes_same t h (state s d) (known s' f d') = cc
@@ -41,7 +42,8 @@ module _ {V : Type 0} (net : Net V) where
   completes_same t h (known {w = w} s f d) (unknown s' n d') = absurd (n w f)
   completes_same t h (unknown s n d) (state s' d') = cc
   completes_same t h (unknown s n d) (known {w = w} s' f d') = absurd (n w f)
-  completes_same t h (unknown {x = x} s n d) (unknown s' n' d') = ap (λ us. x.value ∷ us) (completes_same t (rest_has_no h) d d')
+  completes_same t h (unknown {x = x} s n d) (unknown s' n' d') =
+      ap (λ us. x.value ∷ us) (completes_same t (rest_has_no h) d d')
 
   pub flows_same : {t : List Value} {o p : Outcome} → Flows net t o → Flows net t p → o ≡ p
   flows_same (two a) (two b) = ap (λ n. Fails (Two n)) (first_same a b)
@@ -65,7 +67,8 @@ module _ {V : Type 0} (net : Net V) where
       let e = completes_same s n c c' in absurd (no_first (subst (λ z. HasNo net.assertions (IsBroken net z)) e a) b)
   flows_same {t = s} (all_hold n m c a) (all_hold n' m' c' b) = ap Total (completes_same s n c c')
 
-pub receives_same : {V : Type 0} {effects : V → Value → Type 0} {xs : List (Variable V)} {vs ws us : List Value} → HasNo xs (Clashes effects)
+pub receives_same : {V : Type 0} {effects : V → Value → Type 0} {xs : List (Variable V)} {vs ws us : List Value}
+    → HasNo xs (Clashes effects)
     → Receives effects xs vs ws → Receives effects xs vs us → ws ≡ us
 receives_same h r.none r.none = refl
 receives_same h (changed {w = w} f d) (changed {w = u} f' d') =
@@ -75,7 +78,8 @@ receives_same h (changed {w = w} f d) (kept n d') = absurd (n w f)
 receives_same h (kept n d) (changed {w = w} f d') = absurd (n w f)
 receives_same h (kept {v = v} n d) (kept n' d') = ap (λ us. v ∷ us) (receives_same (rest_has_no h) d d')
 
-pub step_same : {V : Type 0} (net : Net V) {t : List Value} {w : Way V} {o p : Answer} → Step net t w o → Step net t w p → o ≡ p
+pub step_same : {V : Type 0} (net : Net V) {t : List Value} {w : Way V} {o p : Answer} → Step net t w o → Step net t w p
+    → o ≡ p
 step_same net (not_enabled n) (not_enabled n') = refl
 step_same net (not_enabled n) (clash c f) = absurd (n c)
 step_same net (not_enabled n) (range c h f) = absurd (n c)

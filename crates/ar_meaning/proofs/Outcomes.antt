@@ -28,14 +28,18 @@ module _ {A : Type 0} (P : A → Type 0) where
     pub is : xs ≡ front ++ item ∷ rest
     pub has : P item
 
-  pub search_list : (xs : List A) → ((x : A) → Contains xs x → Told (P x)) → Found xs ⊎ ((x : A) → Contains xs x → P x → ⊥)
+  pub search_list : (xs : List A) → ((x : A) → Contains xs x → Told (P x))
+      → Found xs ⊎ ((x : A) → Contains xs x → P x → ⊥)
   search_list [] t = inr (λ x m p. nothing-in x m)
   search_list (x ∷ xs) t = go (t x (contains-head x xs)) (search_list xs (λ z m. t z (contains-cons x z xs m)))
     where
-      go : Told (P x) → Found xs ⊎ ((z : A) → Contains xs z → P z → ⊥) → Found (x ∷ xs) ⊎ ((z : A) → Contains (x ∷ xs) z → P z → ⊥)
+      go : Told (P x) → Found xs ⊎ ((z : A) → Contains xs z → P z → ⊥)
+          → Found (x ∷ xs) ⊎ ((z : A) → Contains (x ∷ xs) z → P z → ⊥)
       go (inl p) r = inl (record { front = []; item = x; rest = xs; is = refl; has = p })
-      go (inr n) (inl k) = inl (record { front = x ∷ k.front; item = k.item; rest = k.rest; is = ap (λ zs. x ∷ zs) k.is; has = k.has })
-      go (inr n) (inr k) = inr (λ z m p. elim (contains-cases x z xs m) [ inl e ↦ n (subst P (sym e) p) | inr l ↦ k z l p ])
+      go (inr n) (inl k) =
+          inl (record { front = x ∷ k.front; item = k.item; rest = k.rest; is = ap (λ zs. x ∷ zs) k.is; has = k.has })
+      go (inr n) (inr k) =
+          inr (λ z m p. elim (contains-cases x z xs m) [ inl e ↦ n (subst P (sym e) p) | inr l ↦ k z l p ])
 
   pub some_told : (xs : List A) → ((x : A) → Contains xs x → Told (P x)) → Told ((x : A) × Contains xs x × P x)
   some_told xs t = elim (search_list xs t) [
@@ -57,8 +61,10 @@ module _ {A : Type 0} (P : A → Type 0) where
       nowhere q h (suc k) a s p = h.has_not k a s p
 
       go : Told (P x) → ((n : ℕ) × IsFirst xs P n) ⊎ HasNo xs P → ((n : ℕ) × IsFirst (x ∷ xs) P n) ⊎ HasNo (x ∷ xs) P
-      go (inl p) r = inl (zero, record { item = x; stands = refl; has = p; before = λ j a l s q. absurd (omega (arith, l)) })
-      go (inr q) (inl r) = inl (suc r.0, record { item = r.1.item; stands = r.1.stands; has = r.1.has; before = before q r.0 r.1 })
+      go (inl p) r =
+          inl (zero, record { item = x; stands = refl; has = p; before = λ j a l s q. absurd (omega (arith, l)) })
+      go (inr q) (inl r) =
+          inl (suc r.0, record { item = r.1.item; stands = r.1.stands; has = r.1.has; before = before q r.0 r.1 })
       go (inr q) (inr h) = inr (record { has_not = nowhere q h })
 
   -- the same by places
@@ -84,7 +90,8 @@ bool_told false true = inr (λ e. cc)
 bool_told false false = inl refl
 
 -- whether conditions pass
-pub passes_told : {V : Type 0} (P : V → Value → Type 0) → ((x : V) → Listed (P x)) → (cs : List (Expr V × Bool)) → Told (Passes P cs)
+pub passes_told : {V : Type 0} (P : V → Value → Type 0) → ((x : V) → Listed (P x)) → (cs : List (Expr V × Bool))
+    → Told (Passes P cs)
 passes_told P known [] = inl f.none
 passes_told {V = V} P known ((e, b) ∷ cs) = go (yields_told P known e (Truth b)) (passes_told P known cs)
   where
@@ -106,14 +113,18 @@ abbrev universe : {V : Type 0} → List (Variable V) → List (Pair V)
 universe [] = []
 universe (x ∷ xs) = row x ++ universe xs
 
-in_universe : {V : Type 0} (xs : List (Variable V)) (k : ℕ) (x : Variable V) (v : Value) → Stands xs k x → Contains x.domain v → Contains (universe xs) (x.key, v)
+in_universe : {V : Type 0} (xs : List (Variable V)) (k : ℕ) (x : Variable V) (v : Value) → Stands xs k x
+    → Contains x.domain v → Contains (universe xs) (x.key, v)
 in_universe [] k x v s c = absurd (stands_none k x s)
 in_universe {V = V} (z ∷ xs) zero x v s c =
     let e : z ≡ x = cc in let p : Pair V = (x.key, v) in
     Contains-append_left (row z) (universe xs) p (subst (λ (u : Variable V). Contains (row u) p) (sym e) (contains-map {X = Value} {Y = Pair V} (λ d. (x.key, d)) v x.domain c))
-in_universe {V = V} (z ∷ xs) (suc k) x v s c = let p : Pair V = (x.key, v) in Contains-append_right (row z) (universe xs) p (in_universe xs k x v s c)
+in_universe {V = V} (z ∷ xs) (suc k) x v s c =
+    let p : Pair V = (x.key, v) in
+    Contains-append_right (row z) (universe xs) p (in_universe xs k x v s c)
 
-from_universe : {V : Type 0} (xs : List (Variable V)) (x : V) (v : Value) → Contains (universe xs) (x, v) → (k : ℕ) × (y : Variable V) × Stands xs k y × (y.key ≡ x) × Contains y.domain v
+from_universe : {V : Type 0} (xs : List (Variable V)) (x : V) (v : Value) → Contains (universe xs) (x, v)
+    → (k : ℕ) × (y : Variable V) × Stands xs k y × (y.key ≡ x) × Contains y.domain v
 from_universe {V = V} [] x v m = let p : Pair V = (x, v) in absurd (nothing-in p m)
 from_universe {V = V} (z ∷ xs) x v m = let p : Pair V = (x, v) in elim (Contains-append_cases (row z) (universe xs) p m) [
   | inl n ↦ (let r = contains-from_map {X = Value} {Y = Pair V} (λ d. (z.key, d)) p z.domain n in
@@ -131,7 +142,8 @@ pairs_of test [] ts = []
 pairs_of test (x ∷ xs) [] = []
 pairs_of test (x ∷ xs) (v ∷ ts) = entry (test x) x v ++ pairs_of test xs ts
 
-in_pairs : {V : Type 0} (test : Variable V → Bool) (xs : List (Variable V)) (ts : List Value) (k : ℕ) (x : Variable V) (v : Value) → Stands xs k x → Stands ts k v → test x ≡ true
+in_pairs : {V : Type 0} (test : Variable V → Bool) (xs : List (Variable V)) (ts : List Value) (k : ℕ) (x : Variable V) (v : Value)
+    → Stands xs k x → Stands ts k v → test x ≡ true
     → Contains (pairs_of test xs ts) (x.key, v)
 in_pairs test [] ts k x v s r i = absurd (stands_none k x s)
 in_pairs test (z ∷ xs) [] k x v s r i = absurd (stands_none k v r)
@@ -140,10 +152,13 @@ in_pairs {V = V} test (z ∷ xs) (u ∷ ts) zero x v s r i =
     let h : Contains (entry (test x) x v) p = subst (λ b. Contains (entry b x v) p) (sym i) (contains-head p []) in
     Contains-append_left (entry (test z) z u) (pairs_of test xs ts) p
     (subst (λ (y : Variable V). Contains (entry (test y) y u) p) (sym e) (subst (λ (d : Value). Contains (entry (test x) x d) p) (sym j) h))
-in_pairs {V = V} test (z ∷ xs) (u ∷ ts) (suc k) x v s r i = let p : Pair V = (x.key, v) in Contains-append_right (entry (test z) z u) (pairs_of test xs ts) p (in_pairs test xs ts k x v s r i)
+in_pairs {V = V} test (z ∷ xs) (u ∷ ts) (suc k) x v s r i =
+    let p : Pair V = (x.key, v) in
+    Contains-append_right (entry (test z) z u) (pairs_of test xs ts) p (in_pairs test xs ts k x v s r i)
 
 -- where a pair comes from
-record Comes {V : Type 0} (test : Variable V → Bool) (xs : List (Variable V)) (ts : List Value) (x : V) (v : Value) : Type 0 where
+record Comes {V : Type 0} (test : Variable V → Bool) (xs : List (Variable V)) (ts : List Value) (x : V)
+    (v : Value) : Type 0 where
   pub place : ℕ
   pub variable : Variable V
   pub stands : Stands xs place variable
@@ -151,7 +166,8 @@ record Comes {V : Type 0} (test : Variable V → Bool) (xs : List (Variable V)) 
   pub is_key : variable.key ≡ x
   pub holds : test variable ≡ true
 
-from_pairs : {V : Type 0} (test : Variable V → Bool) (xs : List (Variable V)) (ts : List Value) (x : V) (v : Value) → Contains (pairs_of test xs ts) (x, v) → Comes test xs ts x v
+from_pairs : {V : Type 0} (test : Variable V → Bool) (xs : List (Variable V)) (ts : List Value) (x : V) (v : Value)
+    → Contains (pairs_of test xs ts) (x, v) → Comes test xs ts x v
 from_pairs {V = V} test [] ts x v m = let p : Pair V = (x, v) in absurd (nothing-in p m)
 from_pairs {V = V} test (z ∷ xs) [] x v m = let p : Pair V = (x, v) in absurd (nothing-in p m)
 from_pairs {V = V} test (z ∷ xs) (u ∷ ts) x v m = let p : Pair V = (x, v) in elim (Contains-append_cases (entry (test z) z u) (pairs_of test xs ts) p m) [
@@ -216,7 +232,8 @@ module _ {V : Type 0} (key_told : (x y : V) → Told (x ≡ y)) where
       pub begins : (x : V) (v : Value) → IsGiven net t x v → Has pairs x v
       pub closes : (x : V) (v : Value) → Allows net x v → Derives pairs (x, v) → Has pairs x v
 
-    new_fact : (K : List (Pair V)) → ((x : V) (v : Value) → Has K x v → FactOf net t x v) → (x : V) (v : Value) → Allows net x v → Derives K (x, v) → FactOf net t x v
+    new_fact : (K : List (Pair V)) → ((x : V) (v : Value) → Has K x v → FactOf net t x v) → (x : V) (v : Value)
+        → Allows net x v → Derives K (x, v) → FactOf net t x v
     new_fact K sound x v a d =
         subst (λ z. FactOf net t z v) d.is_target (closed net.assertions (Allows net) (IsGiven net t) d.assign v d.is_one
         (passes_more V (Has K) (FactOf net t) sound d.passes) (yields_more V (Has K) (FactOf net t) sound d.yields) (subst (λ z. Allows net z v) (sym d.is_target) a))
@@ -234,7 +251,8 @@ module _ {V : Type 0} (key_told : (x y : V) → Told (x ≡ y)) where
     advance : (n : ℕ) (s : Stage n) → Saturated ⊎ ((m : ℕ) × (n ≡ suc m) × Stage m)
     advance n s = go (search_list (Derives s.pairs) s.rest (λ p m. derives_told s.pairs p))
       where
-        go : Found (Derives s.pairs) s.rest ⊎ ((p : Pair V) → Contains s.rest p → Derives s.pairs p → ⊥) → Saturated ⊎ ((m : ℕ) × (n ≡ suc m) × Stage m)
+        go : Found (Derives s.pairs) s.rest ⊎ ((p : Pair V) → Contains s.rest p → Derives s.pairs p → ⊥)
+            → Saturated ⊎ ((m : ℕ) × (n ≡ suc m) × Stage m)
         go (inr none) = inl (record {
           pairs = s.pairs;
           sound = s.sound;
@@ -308,16 +326,21 @@ module _ {V : Type 0} (key_told : (x y : V) → Told (x ≡ y)) where
         (λ v h. subst (λ (z : V). Has (pairs_of (λ x. true) net.variables t) z v) h.is_key (in_pairs (λ x. true) net.variables t h.place h.variable v h.stands h.value refl))
 
 -- each variable's value, where the facts of each are listed
-pub completed : {V : Type 0} (P : V → Value → Type 0) → ((x : V) → Listed (P x)) → (xs : List (Variable V)) (ts : List Value) → length ts ≡ length xs → (us : List Value) × Completes P xs ts us
+pub completed : {V : Type 0} (P : V → Value → Type 0) → ((x : V) → Listed (P x))
+    → (xs : List (Variable V)) (ts : List Value) → length ts ≡ length xs → (us : List Value) × Completes P xs ts us
 completed P known [] [] l = ([], w.none)
 completed P known [] (v ∷ ts) l = absurd (omega (arith, l))
 completed P known (x ∷ xs) [] l = absurd (omega (arith, l))
-completed P known (x ∷ xs) (v ∷ ts) l = go x.is_state refl (known x.key).items refl (completed P known xs ts (omega (arith, l)))
+completed P known (x ∷ xs) (v ∷ ts) l =
+    go x.is_state refl (known x.key).items refl (completed P known xs ts (omega (arith, l)))
   where
-    go : (b : Bool) → x.is_state ≡ b → (ws : List Value) → (known x.key).items ≡ ws → (us : List Value) × Completes P xs ts us → (us : List Value) × Completes P (x ∷ xs) (v ∷ ts) us
+    go : (b : Bool) → x.is_state ≡ b → (ws : List Value) → (known x.key).items ≡ ws
+        → (us : List Value) × Completes P xs ts us → (us : List Value) × Completes P (x ∷ xs) (v ∷ ts) us
     go true i ws j r = (v ∷ r.0, w.state i r.1)
-    go false i [] j r = (x.value ∷ r.0, w.unknown i (λ u h. nothing-in u (subst (λ z. Contains z u) j ((known x.key).whole u h))) r.1)
-    go false i (u ∷ ws) j r = (u ∷ r.0, w.known i ((known x.key).sound u (subst (λ z. Contains z u) (sym j) (contains-head u ws))) r.1)
+    go false i [] j r =
+        (x.value ∷ r.0, w.unknown i (λ u h. nothing-in u (subst (λ z. Contains z u) j ((known x.key).whole u h))) r.1)
+    go false i (u ∷ ws) j r =
+        (u ∷ r.0, w.known i ((known x.key).sound u (subst (λ z. Contains z u) (sym j) (contains-head u ws))) r.1)
 
 module _ {V : Type 0} (key_told : (x y : V) → Told (x ≡ y)) (net : Net V) (t : List Value) where
   known : (x : V) → Listed (FactOf net t x)
@@ -332,7 +355,8 @@ module _ {V : Type 0} (key_told : (x y : V) → Told (x ≡ y)) (net : Net V) (t
       ]
 
   -- the values that an assignment yields
-  given_by : (P : V → Value → Type 0) → ((x : V) → Listed (P x)) → (a : Assign V) → Listed (Yields P (out-Expr V a.value))
+  given_by : (P : V → Value → Type 0) → ((x : V) → Listed (P x)) → (a : Assign V)
+      → Listed (Yields P (out-Expr V a.value))
   given_by P k a = yields_listed P k a.value
 
   outside_told : (x : Variable V) → Told (IsOutside net t x)
@@ -366,12 +390,15 @@ module _ {V : Type 0} (key_told : (x y : V) → Told (x ≡ y)) (net : Net V) (t
   pub has_outcome : length t ≡ length net.variables → (o : Outcome) × Flows net t o
   has_outcome long = go (first_or_none (HasTwo net t) net.variables (λ x o. two_told x)) (first_or_none (IsOutside net t) net.variables (λ x o. outside_told x))
     where
-      last : HasNo net.variables (HasTwo net t) → HasNo net.variables (IsOutside net t) → (total : List Value) → Completes (FactOf net t) net.variables t total
-          → ((i : ℕ) × IsFirst net.assertions (IsBroken net total) i) ⊎ HasNo net.assertions (IsBroken net total) → (o : Outcome) × Flows net t o
+      last : HasNo net.variables (HasTwo net t) → HasNo net.variables (IsOutside net t) → (total : List Value)
+          → Completes (FactOf net t) net.variables t total
+          → ((i : ℕ) × IsFirst net.assertions (IsBroken net total) i) ⊎ HasNo net.assertions (IsBroken net total)
+          → (o : Outcome) × Flows net t o
       last n m total c (inl r) = (Fails (Broken r.0), w.broken total n m c r.1)
       last n m total c (inr h) = (Total total, w.all_hold n m c h)
 
-      go : ((n : ℕ) × IsFirst net.variables (HasTwo net t) n) ⊎ HasNo net.variables (HasTwo net t) → ((n : ℕ) × IsFirst net.variables (IsOutside net t) n) ⊎ HasNo net.variables (IsOutside net t)
+      go : ((n : ℕ) × IsFirst net.variables (HasTwo net t) n) ⊎ HasNo net.variables (HasTwo net t)
+          → ((n : ℕ) × IsFirst net.variables (IsOutside net t) n) ⊎ HasNo net.variables (IsOutside net t)
           → (o : Outcome) × Flows net t o
       go (inl r) q = (Fails (Two r.0), w.two r.1)
       go (inr n) (inl r) = (Fails (Outside r.0), w.outside n r.1)

@@ -16,12 +16,17 @@ abbrev pub AllFrom : {A : Type 0} → (ℕ → A → Type 0) → ℕ → List A 
 AllFrom Q n [] = Unit {0}
 AllFrom Q n (x ∷ xs) = Q n x × AllFrom Q (suc n) xs
 
-pub at_place : {A : Type 0} (Q : ℕ → A → Type 0) (n : ℕ) (xs : List A) → AllFrom Q n xs → (k m : ℕ) (a : A) → Stands xs k a → m ≡ n + k → Q m a
+pub at_place : {A : Type 0} (Q : ℕ → A → Type 0) (n : ℕ) (xs : List A) → AllFrom Q n xs → (k m : ℕ) (a : A)
+    → Stands xs k a → m ≡ n + k → Q m a
 at_place Q n [] h k m a s e = cc
-at_place Q n (x ∷ xs) h zero m a s e = let i : x ≡ a = cc in let j : m ≡ n = omega (arith, e) in subst (λ z. Q z a) (sym j) (subst (λ z. Q n z) i h.0)
+at_place Q n (x ∷ xs) h zero m a s e =
+    let i : x ≡ a = cc in
+    let j : m ≡ n = omega (arith, e) in
+    subst (λ z. Q z a) (sym j) (subst (λ z. Q n z) i h.0)
 at_place Q n (x ∷ xs) h (suc k) m a s e = at_place Q (suc n) xs h.1 k m a s (omega (arith, e))
 
-pub in_list : {A : Type 0} (Q : A → Type 0) (xs : List A) → AllFrom (λ n a. Q a) 0 xs → (k : ℕ) (a : A) → Stands xs k a → Q a
+pub in_list : {A : Type 0} (Q : A → Type 0) (xs : List A) → AllFrom (λ n a. Q a) 0 xs → (k : ℕ) (a : A) → Stands xs k a
+    → Q a
 in_list Q xs h k a s = at_place (λ n a. Q a) 0 xs h k k a s (omega arith)
 
 -- what is known of a variable
@@ -33,7 +38,8 @@ known_one table x v w a b = let e = sym a ∙ b in cc
 
 -- the table knows the states
 abbrev pub Starts : Net ℕ → List Value → List (Option Value) → Type 0
-Starts net t table = AllFrom (λ n (x : Variable ℕ). x.is_state ≡ true → (v : Value) → Stands t n v → Known table n v) 0 net.variables
+Starts net t table =
+    AllFrom (λ n (x : Variable ℕ). x.is_state ≡ true → (v : Value) → Stands t n v → Known table n v) 0 net.variables
 
 -- the table knows what the assignments give from it
 abbrev pub Closes : Net ℕ → List (Option Value) → Type 0
@@ -43,10 +49,12 @@ module _ (net : Net ℕ) (numbered : AllFrom (λ n (x : Variable ℕ). x.key ≡
   pub is_numbered : AreNumbered net
   is_numbered = record { key = λ k x s. at_place (λ n (x : Variable ℕ). x.key ≡ n) 0 net.variables numbered k k x s (omega arith) }
 
-  pub given_fact : (t : List Value) (n : ℕ) (x : Variable ℕ) (v : Value) → Stands net.variables n x → x.is_state ≡ true → Stands t n v → FactOf net t n v
+  pub given_fact : (t : List Value) (n : ℕ) (x : Variable ℕ) (v : Value) → Stands net.variables n x → x.is_state ≡ true
+      → Stands t n v → FactOf net t n v
   given_fact t n x v s i h = given (given_from net is_numbered t n x v s i h)
 
-  pub added_fact : (t : List Value) (k : ℕ) (a : Assign ℕ) (n : ℕ) (x : Variable ℕ) (v : Value) → Stands net.assertions k a → a.target ≡ n → Stands net.variables n x → Contains x.domain v
+  pub added_fact : (t : List Value) (k : ℕ) (a : Assign ℕ) (n : ℕ) (x : Variable ℕ) (v : Value)
+      → Stands net.assertions k a → a.target ≡ n → Stands net.variables n x → Contains x.domain v
       → Passes (FactOf net t) a.conditions → Yields (FactOf net t) (out-Expr ℕ a.value) v → FactOf net t n v
   added_fact t k a n x v s e m c p d =
       subst (λ z. FactOf net t z v) e (closed net.assertions (Allows net) (IsGiven net t) a v (record { place = k; stands = s }) p d
@@ -65,7 +73,8 @@ module _ (net : Net ℕ) (numbered : AllFrom (λ n (x : Variable ℕ). x.key ≡
     pub no_two : HasNo net.variables (HasTwo net t)
     no_two = record { has_not = λ k x s h. h.differ (known_one table x.key h.first h.second (at_most x.key h.first h.is_first) (at_most x.key h.second h.is_second)) }
 
-    module _ (fits : AllFrom (λ n (x : Variable ℕ). (v : Value) → Known table n v → Contains x.domain v) 0 net.variables) where
+    module _
+        (fits : AllFrom (λ n (x : Variable ℕ). (v : Value) → Known table n v → Contains x.domain v) 0 net.variables) where
       pub none_outside : HasNo net.variables (IsOutside net t)
       none_outside = record {
         has_not = λ k x s h.
@@ -76,7 +85,8 @@ module _ (net : Net ℕ) (numbered : AllFrom (λ n (x : Variable ℕ). x.key ≡
       }
 
       pub flows : (total : List Value) → Completes (FactOf net t) net.variables t total
-          → AllFrom (λ n (a : Assign ℕ). (v : Value) → Passes (Stands total) a.conditions → Yields (Stands total) (out-Expr ℕ a.value) v → HasValue net total a.target v) 0 net.assertions → Flows net t (Total total)
+          → AllFrom (λ n (a : Assign ℕ). (v : Value) → Passes (Stands total) a.conditions → Yields (Stands total) (out-Expr ℕ a.value) v → HasValue net total a.target v) 0 net.assertions
+          → Flows net t (Total total)
       flows total c h = all_hold no_two none_outside c (record {
         has_not = λ k a s b.
             b.differs (in_list (λ (a : Assign ℕ). (v : Value) → Passes (Stands total) a.conditions → Yields (Stands total) (out-Expr ℕ a.value) v → HasValue net total a.target v) net.assertions h k a s b.value

@@ -35,7 +35,8 @@ in_truths false = (0, omega arith, refl)
 in_truths_as : (b : Bool) (v : Value) → Truth b ≡ v → Contains truths v
 in_truths_as b v e = subst (λ z. Contains truths z) e (in_truths b)
 
-pub follows : (e : Expr ℕ) → IsVariable e 0 → (s f : Bool) → Flows (follower e) (Truth s ∷ Truth f ∷ []) (Total (Truth s ∷ Truth s ∷ []))
+pub follows : (e : Expr ℕ) → IsVariable e 0 → (s f : Bool)
+    → Flows (follower e) (Truth s ∷ Truth f ∷ []) (Total (Truth s ∷ Truth s ∷ []))
 follows e i s f =
     let net : Net ℕ = follower e in
     let t : List Value = Truth s ∷ Truth f ∷ [] in
@@ -75,13 +76,16 @@ module _ (first second third : Expr ℕ) (i : IsRing first second third) where
   around = ring first second third
 
   -- the first flow has the value true, or false where both of what it reads are false
-  first_is : (P : ℕ → Value → Type 0) (v : Value) → Yields P (out-Expr ℕ first) v → ((P 3 (Truth true) ⊎ Yields P (out-Expr ℕ i.test) (Truth true)) × (v ≡ Truth true)) ⊎ (P 3 (Truth false) × (v ≡ Truth false))
+  first_is : (P : ℕ → Value → Type 0) (v : Value) → Yields P (out-Expr ℕ first) v →
+      ((P 3 (Truth true) ⊎ Yields P (out-Expr ℕ i.test) (Truth true)) × (v ≡ Truth true)) ⊎
+      (P 3 (Truth false) × (v ≡ Truth false))
   first_is P v d = ⊎_elim
       (λ r. inl (⊎_elim (λ h. inl (variable_is P i.last 3 (Truth true) i.is_last h)) (λ h. inr h) r.0, r.1))
       (λ r. inr (variable_is P i.last 3 (Truth false) i.is_last r.0, r.2))
       (either_is P first i.last i.test v i.is_either d)
 
-  pub ring_on : (x y z : Bool) → Flows around (closed ∷ Truth x ∷ Truth y ∷ Truth z ∷ []) (Total (closed ∷ Truth true ∷ Truth true ∷ Truth true ∷ []))
+  pub ring_on : (x y z : Bool)
+      → Flows around (closed ∷ Truth x ∷ Truth y ∷ Truth z ∷ []) (Total (closed ∷ Truth true ∷ Truth true ∷ Truth true ∷ []))
   ring_on x y z =
       let t : List Value = closed ∷ Truth x ∷ Truth y ∷ Truth z ∷ [] in
       let table : List (Option Value) = Some closed ∷ Some (Truth true) ∷ Some (Truth true) ∷ Some (Truth true) ∷ [] in
@@ -113,13 +117,15 @@ module _ (first second third : Expr ℕ) (i : IsRing first second third) where
       )
 
   -- the switch is not closed
-  not_closed : (P : ℕ → Value → Type 0) → ((v : Value) → P 0 v → v ≡ opened) → Yields P (out-Expr ℕ i.test) (Truth true) → ⊥
+  not_closed : (P : ℕ → Value → Type 0) → ((v : Value) → P 0 v → v ≡ opened) → Yields P (out-Expr ℕ i.test) (Truth true)
+      → ⊥
   not_closed P only d =
       let r = closed_is P i.test (Truth true) i.is_test d in
       let e : r.0 ≡ opened = only r.0 r.1 in
       let f : ◌≡◌ {A = Value} (Truth true) (Truth false) = r.2 ∙ ap (λ z. Truth (is_related Equal z closed)) e in apart true f
 
-  pub ring_off : (x y z : Bool) → Flows around (opened ∷ Truth x ∷ Truth y ∷ Truth z ∷ []) (Total (opened ∷ Truth false ∷ Truth false ∷ Truth false ∷ []))
+  pub ring_off : (x y z : Bool)
+      → Flows around (opened ∷ Truth x ∷ Truth y ∷ Truth z ∷ []) (Total (opened ∷ Truth false ∷ Truth false ∷ Truth false ∷ []))
   ring_off x y z =
       let t : List Value = opened ∷ Truth x ∷ Truth y ∷ Truth z ∷ [] in
       let table : List (Option Value) = Some opened ∷ None ∷ None ∷ None ∷ [] in
@@ -188,14 +194,18 @@ module _ (test on opposite off first : Expr ℕ) (i : IsQuarrel test on opposite
   })
 
 -- what a way that sets one variable does
-turn_gives : (P : ℕ → Value → Type 0) (guard e : Expr ℕ) (n x : ℕ) (v : Value) → Effects P (turns guard n e) x v → (n ≡ x) × Yields P (out-Expr ℕ e) v
+turn_gives : (P : ℕ → Value → Type 0) (guard e : Expr ℕ) (n x : ℕ) (v : Value) → Effects P (turns guard n e) x v
+    → (n ≡ x) × Yields P (out-Expr ℕ e) v
 turn_gives P guard e n x v (acts a o p d) = go o.place o.stands
   where
     go : (k : ℕ) → Stands (sets n e ∷ []) k a → (n ≡ a.target) × Yields P (out-Expr ℕ e) v
-    go zero s = let i : sets n e ≡ a = cc in (ap (λ z. z.target) i, subst (λ z. Yields P (out-Expr ℕ z.value) v) (sym i) d)
+    go zero s =
+        let i : sets n e ≡ a = cc in
+        (ap (λ z. z.target) i, subst (λ z. Yields P (out-Expr ℕ z.value) v) (sym i) d)
     go (suc k) s = cc
 
-turn_can : (P : ℕ → Value → Type 0) (guard e : Expr ℕ) (n m : ℕ) → IsVariable guard m → Can P (turns guard n e) → P m (Truth true)
+turn_can : (P : ℕ → Value → Type 0) (guard e : Expr ℕ) (n m : ℕ) → IsVariable guard m → Can P (turns guard n e)
+    → P m (Truth true)
 turn_can P guard e n m i (guard_holds d) = variable_is P guard m (Truth true) i d
 
 module _ (first second off : Expr ℕ) (i : AreTurns first second off) where
@@ -212,7 +222,9 @@ module _ (first second off : Expr ℕ) (i : AreTurns first second off) where
   second_cannot c = apart false (stands_is (Truth false) (Truth true) (value_at pair (is_numbered pair (refl, (refl, tt))) (Truth true ∷ Truth false ∷ []) 1 (Truth true) (turn_can Before second off 1 1 i.is_second c)))
 
   gives : (x : ℕ) (v : Value) → Effects Before (one_way false) x v → (0 ≡ x) × (v ≡ Truth false)
-  gives x v (by_part (by_may c e)) = let r = turn_gives Before first off 0 x v e in (r.0, constant_is Before off (Truth false) v i.is_off r.1)
+  gives x v (by_part (by_may c e)) =
+      let r = turn_gives Before first off 0 x v e in
+      (r.0, constant_is Before off (Truth false) v i.is_off r.1)
   gives x v (by_part (by_later (by_may c e))) = absurd (second_cannot c)
   gives x v (by_part (by_later (by_later e))) = elim e [ ]
 

@@ -21,7 +21,8 @@ pub record IsFlatOf {V : Type 0} (things : List V) (sys : System V) (flat : Syst
   pub observers : Along (Expr_renames (IsNumber things)) sys.observers flat.observers
 
 -- the same of declared events, where each number stands for the event's key at its place of another list
-pub record AreFlatOf {V E : Type 0} (things : List V) (keys : List E) (declared : List (Declared (Transition V) E)) (flat : List (Declared (Transition ℕ) ℕ)) : Type 0 where
+pub record AreFlatOf {V E : Type 0} (things : List V) (keys : List E) (declared : List (Declared (Transition V) E))
+    (flat : List (Declared (Transition ℕ) ℕ)) : Type 0 where
   pub different : AreDifferent keys
   pub events : Along (Declared_renames (IsNumber things) (IsNumber keys)) declared flat
 

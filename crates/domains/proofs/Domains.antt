@@ -25,7 +25,8 @@ one_position (Range low high) (Whole n) p q h k = omega (arith, ints)
 one_position (Range low high) (Symbol s) p q h k = absurd h
 
 -- a position has one value
-pub one_value : (d : Domain) (v w : Value) (p : ℕ) → IsDomain d → Holds d v → Holds d w → IsAt d v p → IsAt d w p → v ≡ w
+pub one_value : (d : Domain) (v w : Value) (p : ℕ) → IsDomain d → Holds d v → Holds d w → IsAt d v p → IsAt d w p
+    → v ≡ w
 one_value Boolean (Truth true) (Truth true) p i a b h k = refl
 one_value Boolean (Truth true) (Truth false) p i a b h k = absurd (omega (arith, h, k))
 one_value Boolean (Truth false) (Truth true) p i a b h k = absurd (omega (arith, h, k))
@@ -46,12 +47,16 @@ one_value (Range low high) (Whole n) (Truth c) p i a b h k = absurd b
 one_value (Range low high) (Whole n) (Symbol s) p i a b h k = absurd b
 
 -- positions follow the order of values
-pub in_order : (d : Domain) (v w : Value) (p q : ℕ) → Holds d v → Holds d w → IsAt d v p → IsAt d w q → is_before v w ≡ true → p < q
+pub in_order : (d : Domain) (v w : Value) (p q : ℕ) → Holds d v → Holds d w → IsAt d v p → IsAt d w q
+    → is_before v w ≡ true → p < q
 in_order Boolean (Truth true) (Truth true) p q a b h k l = cc
 in_order Boolean (Truth true) (Truth false) p q a b h k l = cc
 in_order Boolean (Truth false) (Truth true) p q a b h k l = omega (arith, h, k)
 in_order Boolean (Truth false) (Truth false) p q a b h k l = cc
-in_order (Symbols symbols) (Symbol s) (Symbol t) p q a b h k l = let i : s < t = grind (arith, ints, nat_tests) in let j = rank-lt s t symbols.items i a in omega (arith, h, k, j)
+in_order (Symbols symbols) (Symbol s) (Symbol t) p q a b h k l =
+    let i : s < t = grind (arith, ints, nat_tests) in
+    let j = rank-lt s t symbols.items i a in
+    omega (arith, h, k, j)
 in_order (Range low high) (Whole m) (Whole n) p q a b h k l = grind (arith, ints, nat_tests)
 in_order Boolean (Whole n) w p q a b h k l = absurd a
 in_order Boolean (Symbol s) w p q a b h k l = absurd a
@@ -82,7 +87,8 @@ from_range a (suc n) k m =
       | inr i ↦ let r = from_range (a + 1) n k i in (let h = r.0 in omega arith, let h = r.1 in omega arith)
     ]
 
-range_held : (low high n : ℤ) → low ≤ℤ n → n ≤ℤ high → Contains (map (λ k. Whole (low +ℤ pos k)) (range_with_len 0 (nat_abs (high -ℤ low) + 1))) (Whole n)
+range_held : (low high n : ℤ) → low ≤ℤ n → n ≤ℤ high
+    → Contains (map (λ k. Whole (low +ℤ pos k)) (range_with_len 0 (nat_abs (high -ℤ low) + 1))) (Whole n)
 range_held low high n h l =
     let k = nat_abs (n -ℤ low) in
     let e : (low +ℤ pos k) ≡ n = grind (arith, ints) in
@@ -91,7 +97,8 @@ range_held low high n h l =
 
 -- what the domain holds is one of its values
 pub listed : (d : Domain) (v : Value) → Holds d v → Contains (values_of d) v
-listed Boolean (Truth true) h = contains-cons (Truth false) (Truth true) (Truth true ∷ []) (contains-head (Truth true) [])
+listed Boolean (Truth true) h =
+    contains-cons (Truth false) (Truth true) (Truth true ∷ []) (contains-head (Truth true) [])
 listed Boolean (Truth false) h = contains-head (Truth false) (Truth true ∷ [])
 listed (Symbols symbols) (Symbol s) h = contains-map Symbol s symbols.items h
 listed (Range low high) (Whole n) h = range_held low high n h.0 h.1
@@ -102,7 +109,8 @@ listed (Symbols symbols) (Whole n) h = absurd h
 listed (Range low high) (Truth b) h = absurd h
 listed (Range low high) (Symbol s) h = absurd h
 
-held_range : (low high : ℤ) (k : ℕ) → low ≤ℤ high → k < nat_abs (high -ℤ low) + 1 → (low ≤ℤ (low +ℤ pos k)) × ((low +ℤ pos k) ≤ℤ high)
+held_range : (low high : ℤ) (k : ℕ) → low ≤ℤ high → k < nat_abs (high -ℤ low) + 1
+    → (low ≤ℤ (low +ℤ pos k)) × ((low +ℤ pos k) ≤ℤ high)
 held_range low high k h l = (grind (arith, ints), grind (arith, ints))
 
 -- each of its values is held by the domain
@@ -112,7 +120,9 @@ held Boolean v i m =
       | inl e ↦ subst (Holds Boolean) e tt
       | inr n ↦ elim (contains-cases (Truth true) v [] n) [ inl e ↦ subst (Holds Boolean) e tt | inr k ↦ absurd (nothing-in v k) ]
     ]
-held (Symbols symbols) v i m = let (s, n, e) = contains-from_map Symbol v symbols.items m in subst (Holds (Symbols symbols)) e n
+held (Symbols symbols) v i m =
+    let (s, n, e) = contains-from_map Symbol v symbols.items m in
+    subst (Holds (Symbols symbols)) e n
 held (Range low high) v i m =
     let (k, n, e) = contains-from_map (λ k. Whole (low +ℤ pos k)) v (range_with_len 0 (nat_abs (high -ℤ low) + 1)) m in
     let r = from_range 0 (nat_abs (high -ℤ low) + 1) k n in

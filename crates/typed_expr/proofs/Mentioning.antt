@@ -27,7 +27,8 @@ module _ {V : Type 0} (key_told : (x y : V) → Told (x ≡ y)) (x : V) where
 
   some_told : (ds : List Operand) → Told (Some_mentions x (exprs ds))
   some_told [] = inr (λ h. elim h [ ])
-  some_told (d ∷ ds) = told_or d.1 (some_told ds) (λ h. m.here h) (λ h. m.later h) (λ h. elim h [ m.here k ↦ inl k | m.later k ↦ inr k ])
+  some_told (d ∷ ds) =
+      told_or d.1 (some_told ds) (λ h. m.here h) (λ h. m.later h) (λ h. elim h [ m.here k ↦ inl k | m.later k ↦ inr k ])
 
   abbrev terms : List (Bool × Operand) → List (Bool × Expr V)
   terms ds = map (λ (p : Bool × Operand). (p.0, p.1.0)) ds
@@ -55,7 +56,8 @@ module _ {V : Type 0} (key_told : (x y : V) → Told (x ≡ y)) (x : V) where
 
   form_told : (d : Expr-F V Operand) → Told (Mentions x (opened d))
   form_told (Constant v) = inr (λ h. elim h [ ])
-  form_told (Variable y) = told_as (key_told y x) (λ e. subst (λ (z : V). Mentions x (Variable z)) (sym e) m.itself) (λ h. variable_is h)
+  form_told (Variable y) =
+      told_as (key_told y x) (λ e. subst (λ (z : V). Mentions x (Variable z)) (sym e) m.itself) (λ h. variable_is h)
   form_told (Not a) = told_as a.value.1 (λ h. m.in_not h) (λ h. elim h [ m.in_not k ↦ k ])
   form_told (All es) = told_as (some_told es.items) (λ h. m.in_all h) (λ h. elim h [ m.in_all k ↦ k ])
   form_told (Any es) = told_as (some_told es.items) (λ h. m.in_any h) (λ h. elim h [ m.in_any k ↦ k ])

@@ -25,7 +25,8 @@ module _ {V : Type 0} where
   pub opened-any : (e : Expr V) (es : Vec (Expr V) Global) → e ≡ view.Any es → out-Expr V e ≡ Any es
   opened-any e es i = ap (out-Expr V) i ∙ view.outs-Any es
 
-  pub opened-compare : (e : Expr V) (r : Relation) (a b : Box (Expr V) Global) → e ≡ view.Compare r a b → out-Expr V e ≡ Compare r a b
+  pub opened-compare : (e : Expr V) (r : Relation) (a b : Box (Expr V) Global) → e ≡ view.Compare r a b
+      → out-Expr V e ≡ Compare r a b
   opened-compare e r a b i = ap (out-Expr V) i ∙ view.outs-Compare r a b
 
   pub opened-sum : (e : Expr V) (ps : Vec (Bool × Expr V) Global) → e ≡ view.Sum ps → out-Expr V e ≡ Sum ps
@@ -43,5 +44,6 @@ module _ {V : Type 0} where
   pub opened-count : (e : Expr V) (es : Vec (Expr V) Global) → e ≡ view.Count es → out-Expr V e ≡ Count es
   opened-count e es i = ap (out-Expr V) i ∙ view.outs-Count es
 
-  pub opened-choice : (e : Expr V) (cs : Vec (Expr V × Expr V) Global) (other : Box (Expr V) Global) → e ≡ view.Choose cs other → out-Expr V e ≡ Choose cs other
+  pub opened-choice : (e : Expr V) (cs : Vec (Expr V × Expr V) Global) (other : Box (Expr V) Global)
+      → e ≡ view.Choose cs other → out-Expr V e ≡ Choose cs other
   opened-choice e cs other i = ap (out-Expr V) i ∙ view.outs-Choose cs other

@@ -12,7 +12,8 @@ pub returns-clause-conflict_sets : goal.returns-clause-conflict_sets
 returns-clause-conflict_sets g c = λ told sys dropped set m. least_there (MeetsConflict sys dropped) (λ s. meets_told told sys dropped s) (meets_as sys dropped) set m
 
 pub returns-clause-not_no_cut : goal.returns-clause-not_no_cut
-returns-clause-not_no_cut g c = λ sys dropped observer wanted set m none. least_refuted (Makes sys dropped observer wanted) set none m
+returns-clause-not_no_cut g c =
+    λ sys dropped observer wanted set m none. least_refuted (Makes sys dropped observer wanted) set none m
 
 pub returns-clause-not_no_conflict_set : goal.returns-clause-not_no_conflict_set
 returns-clause-not_no_conflict_set g c = λ sys dropped set m none. least_refuted (MeetsConflict sys dropped) set none m

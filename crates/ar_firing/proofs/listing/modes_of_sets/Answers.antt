@@ -11,4 +11,5 @@ returns-clause-entered g c = λ sys dropped both set t f n x s i l from m h. (
 )
 
 pub returns-clause-no_other : goal.returns-clause-no_other
-returns-clause-no_other g c = λ sys dropped both set t f n x s i m v. comes_by sys dropped both.keyed both.static f n x s i m v
+returns-clause-no_other g c =
+    λ sys dropped both set t f n x s i m v. comes_by sys dropped both.keyed both.static f n x s i m v

@@ -9,7 +9,8 @@ pub returns-clause-meets : goal.returns-clause-meets
 returns-clause-meets g c = λ sys dropped both ls f r. let k = conflict_firable sys dropped both.keyed both.static r in (k.values, k.flows, k.is_firable)
 
 pub returns-clause-can_fire : goal.returns-clause-can_fire
-returns-clause-can_fire g c = λ sys dropped both set t f l n from to e s. enabled sys dropped both.keyed f both.static l n from to e s
+returns-clause-can_fire g c =
+    λ sys dropped both set t f l n from to e s. enabled sys dropped both.keyed f both.static l n from to e s
 
 pub returns-clause-no_other_can : goal.returns-clause-no_other_can
 returns-clause-no_other_can g c = λ sys dropped both set t f l w o h. let e = next_edge sys dropped both.keyed both.static f l w o h in (e.number, e.from, e.to, e.value, e.edge)

@@ -11,4 +11,5 @@ returns-in_err-out c =
     (gathered-as c.args.most c.new.result c.args.values.now (Err c.in_err-out.field-0.0) c.new.ensures c.in_err-out.ensures)
 
 pub returns : goal.returns
-returns c = gathered-as c.args.most c.new.result c.args.values.now (Ok c.in_ok-out.out) c.new.ensures c.in_ok-out.ensures
+returns c =
+    gathered-as c.args.most c.new.result c.args.values.now (Ok c.in_ok-out.out) c.new.ensures c.in_ok-out.ensures

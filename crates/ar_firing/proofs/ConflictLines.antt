@@ -25,12 +25,16 @@ module _ {V : Type 0} (sys : System V) (dropped : List ℕ) (keyed : AreKeyed sy
   legal_meets {set = set} [] c o =
       let none : Within set [] = set_within [] set o.events in
       let all : Within [] set = record { each = λ e i. let h = i.stands in cc } in
-      let k = agrees.fault set (first_values sys.net.variables) (firable_as sys dropped all none (none_firable sys dropped keyed)) c.has.holds in
+      let k =
+      agrees.fault set (first_values sys.net.variables)
+      (firable_as sys dropped all none (none_firable sys dropped keyed)) c.has.holds in
       (k.fault, cuts.start k.flows)
   legal_meets {set = set} (l ∷ b) c o =
       let r = fires_all sys dropped keyed static (l ∷ []) b o (λ part t f w. flows part t f w (conflict part) refl) in
       let n = onward sys dropped keyed static l b r.1 (goes_on sys dropped keyed static [] l b o r.1) in
-      let k = agrees.fault set n.values (firable_as sys dropped (events_within (l ∷ b) set o.events) (set_within (l ∷ b) set o.events) n.is_firable) c.has.holds in
+      let k =
+      agrees.fault set n.values
+      (firable_as sys dropped (events_within (l ∷ b) set o.events) (set_within (l ∷ b) set o.events) n.is_firable) c.has.holds in
       (k.fault, n.fails k.fault k.flows)
     where
       in_set : (e : ℕ) → IsOneOf (map (λ k. k.event) b) e → IsOneOf set e
@@ -45,6 +49,8 @@ module _ {V : Type 0} (sys : System V) (dropped : List ℕ) (keyed : AreKeyed sy
       flows : (part : List ℕ) (t : List Value) → IsFirable sys dropped part t → Within part (map (λ k. k.event) b)
           → (v : Bool) → conflict part ≡ v → HasFlows sys.net t
       flows part t f w true e =
-          let all = c.least part (record { each = λ k i. in_set k (w.each k i) }) (record { values = t; is_firable = f; holds = e }) in
+          let all =
+          c.least part (record { each = λ k i. in_set k (w.each k i) })
+          (record { values = t; is_firable = f; holds = e }) in
           absurd (not_again (w.each l.event (all.each l.event (o.events.sound zero l refl))))
       flows part t f w false e = let s = agrees.total part t f e in record { values = s.values; flows = s.flows }

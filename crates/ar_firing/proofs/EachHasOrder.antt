@@ -34,8 +34,11 @@ receives_all [] [] e h = record { values = []; receives = s.none }
 receives_all [] (v ∷ vs) e h = absurd (omega arith)
 receives_all (x ∷ xs) [] e h = absurd (omega arith)
 receives_all {effects = effects} (x ∷ xs) (v ∷ vs) e h =
-    let r = receives_all {effects = effects} xs vs (omega arith) (λ y o. h y (record { place = suc o.place; stands = o.stands })) in
-    ⊎_elim (λ k. record { values = k.0 ∷ r.values; receives = changed k.1 r.receives }) (λ k. record { values = v ∷ r.values; receives = kept k r.receives })
+    let r =
+    receives_all {effects = effects} xs vs (omega arith)
+    (λ y o. h y (record { place = suc o.place; stands = o.stands })) in
+    ⊎_elim (λ k. record { values = k.0 ∷ r.values; receives = changed k.1 r.receives })
+    (λ k. record { values = v ∷ r.values; receives = kept k r.receives })
     (h x (record { place = zero; stands = refl }))
 
 -- no two labels have one event
@@ -75,8 +78,12 @@ module _ {V : Type 0} (sys : System V) (dropped : List ℕ) (keyed : AreKeyed sy
     no_clash = record {
       has_not = λ k x st h.
           let i : x.key ≡ e.variable.key = only_target e.alone h.is_first in
-          let a = to_alone sys dropped keyed static firable l w e h.first (subst (λ z. Effects (HasValue sys.net t) w z h.first) i h.is_first) in
-          let b = to_alone sys dropped keyed static firable l w e h.second (subst (λ z. Effects (HasValue sys.net t) w z h.second) i h.is_second) in
+          let a =
+          to_alone sys dropped keyed static firable l w e h.first
+          (subst (λ z. Effects (HasValue sys.net t) w z h.first) i h.is_first) in
+          let b =
+          to_alone sys dropped keyed static firable l w e h.second
+          (subst (λ z. Effects (HasValue sys.net t) w z h.second) i h.is_second) in
           h.differ (a ∙ sym b);
     }
 
@@ -84,10 +91,15 @@ module _ {V : Type 0} (sys : System V) (dropped : List ℕ) (keyed : AreKeyed sy
     no_leave = record {
       has_not = λ k x st h.
           let i : x.key ≡ e.variable.key = only_target e.alone h.received in
-          let a = to_alone sys dropped keyed static firable l w e h.value (subst (λ z. Effects (HasValue sys.net t) w z h.value) i h.received) in
+          let a =
+          to_alone sys dropped keyed static firable l w e h.value
+          (subst (λ z. Effects (HasValue sys.net t) w z h.value) i h.received) in
           let j : k ≡ e.number = keyed.one k e.number x e.variable st e.stands i in
-          let b : x ≡ e.variable = stands_one sys.net.variables e.number x e.variable (subst (λ z. Stands sys.net.variables z x) j st) e.stands in
-          h.outside (subst (λ z. Contains z.domain h.value) (sym b) (subst (λ v. Contains e.variable.domain v) (sym a) e.facts.in_domain));
+          let b : x ≡ e.variable =
+          stands_one sys.net.variables e.number x e.variable
+          (subst (λ z. Stands sys.net.variables z x) j st) e.stands in
+          h.outside
+          (subst (λ z. Contains z.domain h.value) (sym b) (subst (λ v. Contains e.variable.domain v) (sym a) e.facts.in_domain));
     }
 
 module _ {V : Type 0} (sys : System V) (dropped : List ℕ) (keyed : AreKeyed sys.net) (static : IsStatic sys dropped)
@@ -126,7 +138,8 @@ module _ {V : Type 0} (sys : System V) (dropped : List ℕ) (keyed : AreKeyed sy
     stands_from : Stands b.values n from
     stands_from =
         let w = b.firable.walks n x st state in
-        let k : w.0 ≡ from = path_end sys dropped keyed static (subst (λ z. Path sys dropped n z w.0) (b.as_wanted n ∙ is) w.2) p in
+        let k : w.0 ≡ from =
+        path_end sys dropped keyed static (subst (λ z. Path sys dropped n z w.0) (b.as_wanted n ∙ is) w.2) p in
         subst (λ z. Stands b.values n z) k w.1
 
     can_fire : Can (HasValue sys.net b.values) e.way
@@ -137,7 +150,9 @@ module _ {V : Type 0} (sys : System V) (dropped : List ℕ) (keyed : AreKeyed sy
 
     at_n : (the_edge.number ≡ n)
     at_n =
-        let c = static.one_edge.one l l the_edge.number n the_edge.from from the_edge.to to (live sys dropped keyed static the_edge.path the_edge.edge) (live sys dropped keyed static p e) refl in
+        let c =
+        static.one_edge.one l l the_edge.number n the_edge.from from the_edge.to to
+        (live sys dropped keyed static the_edge.path the_edge.edge) (live sys dropped keyed static p e) refl in
         c.1
 
     new_event : (k : ℕ) (m : Label) → Stands b.labels k m → m.event ≡ l.event → ⊥
@@ -145,11 +160,15 @@ module _ {V : Type 0} (sys : System V) (dropped : List ℕ) (keyed : AreKeyed sy
         let o = b.firable.whole m.event (record { place = k; stands = event_of b.labels k m h }) in
         let w = b.firable.walks o.0 o.1 o.3 o.4 in
         let r = split sys dropped keyed static w.2 o.5.place o.2 o.5.stands in
-        let c = static.one_edge.one o.2 l o.0 n r.from from r.to to (split_live sys dropped keyed static r) (live sys dropped keyed static p e) (o.6 ∙ i) in
-        let q : Path sys dropped n r.rest from = subst (λ z. Path sys dropped n r.rest z) c.2 (subst (λ z. Path sys dropped z r.rest r.from) c.1 r.path) in
+        let c =
+        static.one_edge.one o.2 l o.0 n r.from from r.to to (split_live sys dropped keyed static r)
+        (live sys dropped keyed static p e) (o.6 ∙ i) in
+        let q : Path sys dropped n r.rest from =
+        subst (λ z. Path sys dropped n r.rest z) c.2 (subst (λ z. Path sys dropped z r.rest r.from) c.1 r.path) in
         let u : r.rest ≡ ls = path_unique sys dropped keyed static q p in
         let v : b.firable.path o.0 ≡ ls = ap b.firable.path c.1 ∙ b.as_wanted n ∙ is in
-        let g : length (b.firable.path o.0) ≡ length r.front + suc (length r.rest) = ap length r.is ∙ length-append r.front (o.2 ∷ r.rest) in
+        let g : length (b.firable.path o.0) ≡ length r.front + suc (length r.rest) =
+        ap length r.is ∙ length-append r.front (o.2 ∷ r.rest) in
         let y : length (b.firable.path o.0) ≡ length ls = ap length v in
         let z : length r.rest ≡ length ls = ap length u in
         absurd (omega arith)
@@ -181,13 +200,17 @@ module _ {V : Type 0} (sys : System V) (dropped : List ℕ) (keyed : AreKeyed sy
             labels = l ∷ b.labels;
             fault = f;
             events = self_events (l ∷ b.labels) once_more;
-            conflicts = cuts.fire e.way b.reaches e.is_open (flow r.values can_fire (no_clash sys dropped keyed static b.firable l e.way the_edge) (no_leave sys dropped keyed static b.firable l e.way the_edge) r.receives k);
+            conflicts =
+                cuts.fire e.way b.reaches e.is_open
+                (flow r.values can_fire (no_clash sys dropped keyed static b.firable l e.way the_edge) (no_leave sys dropped keyed static b.firable l e.way the_edge) r.receives k);
           },
         )) in
         record {
           labels = l ∷ b.labels;
           values = f.values;
-          reaches = cuts.fire e.way b.reaches e.is_open (moves r.values can_fire (no_clash sys dropped keyed static b.firable l e.way the_edge) (no_leave sys dropped keyed static b.firable l e.way the_edge) r.receives f.flows);
+          reaches =
+              cuts.fire e.way b.reaches e.is_open
+              (moves r.values can_fire (no_clash sys dropped keyed static b.firable l e.way the_edge) (no_leave sys dropped keyed static b.firable l e.way the_edge) r.receives f.flows);
           firable = firable_flows sys dropped keyed f.flows m;
           as_wanted = λ k. subst (λ z. longer z l b.firable.path k ≡ longer n l want k) (sym at_n) (longer_as k);
           once = once_more;
@@ -198,7 +221,15 @@ module _ {V : Type 0} (sys : System V) (dropped : List ℕ) (keyed : AreKeyed sy
         longer_as k = ap (λ z. cond (k == n) (l ∷ z) z) (b.as_wanted k)
 
   as_other : {want : ℕ → List Label} {other : ℕ → List Label} → ((n : ℕ) → want n ≡ other n) → Built want → Built other
-  as_other h b = record { labels = b.labels; values = b.values; reaches = b.reaches; firable = b.firable; as_wanted = λ n. b.as_wanted n ∙ h n; once = b.once; within = b.within }
+  as_other h b = record {
+    labels = b.labels;
+    values = b.values;
+    reaches = b.reaches;
+    firable = b.firable;
+    as_wanted = λ n. b.as_wanted n ∙ h n;
+    once = b.once;
+    within = b.within;
+  }
 
   -- one variable's path
   abbrev put : ℕ → List Label → (ℕ → List Label) → ℕ → List Label
@@ -207,7 +238,9 @@ module _ {V : Type 0} (sys : System V) (dropped : List ℕ) (keyed : AreKeyed sy
   along : {want : ℕ → List Label} (n : ℕ) (x : Variable V) → Stands sys.net.variables n x → x.is_state ≡ true
       → want n ≡ [] → {ls : List Label} {m : Value} → ((k : ℕ) (l : Label) → Stands ls k l → IsOneOf limit l.event)
       → Path sys dropped n ls m → Built want → Built (put n ls want)
-  along {want = want} n x st i empty h (root s j q) b = as_other (λ k. ⊎_elim (λ e. at_same k e) (λ e. let h : (k == n) ≡ false = grind (arith, nat_tests) in rw h refl) (cases_eq k n)) b
+  along {want = want} n x st i empty h (root s j q) b =
+      as_other
+      (λ k. ⊎_elim (λ e. at_same k e) (λ e. let h : (k == n) ≡ false = grind (arith, nat_tests) in rw h refl) (cases_eq k n)) b
     where
       at_same : (k : ℕ) → k ≡ n → want k ≡ put n [] want k
       at_same k e = let h : (k == n) ≡ true = grind (arith, nat_tests) in rw h (ap want e ∙ empty)
@@ -264,7 +297,9 @@ module _ {V : Type 0} (sys : System V) (dropped : List ℕ) (keyed : AreKeyed sy
         other e (Some y) = turn y.is_state
           where
             turn : (b : Bool) → cond b (put k (f.path k) (wanted k)) (wanted k) n ≡ f.path n
-            turn true = ⊎_elim (λ q. let i : (n == k) ≡ true = grind (arith, nat_tests) in rw i (ap f.path (sym q))) (λ q. let i : (n == k) ≡ false = grind (arith, nat_tests) in rw i e) (cases_eq n k)
+            turn true =
+                ⊎_elim (λ q. let i : (n == k) ≡ true = grind (arith, nat_tests) in rw i (ap f.path (sym q)))
+                (λ q. let i : (n == k) ≡ false = grind (arith, nat_tests) in rw i e) (cases_eq n k)
             turn false = e
 
     built : (k : ℕ) → Built (wanted k)
@@ -286,7 +321,9 @@ module _ {V : Type 0} (sys : System V) (dropped : List ℕ) (keyed : AreKeyed sy
     pub has_order : (u : List Value) × HasOrder sys dropped set u
     has_order =
         let b = built (length sys.net.variables) in
-        let same = λ (n : ℕ) (x : Variable V) (s : Stands sys.net.variables n x) (i : x.is_state ≡ true). b.as_wanted n ∙ by_now (length sys.net.variables) n x (within sys.net.variables n x s) s i in (
+        let same =
+        λ (n : ℕ) (x : Variable V) (s : Stands sys.net.variables n x) (i : x.is_state ≡ true). b.as_wanted n
+        ∙ by_now (length sys.net.variables) n x (within sys.net.variables n x s) s i in (
           b.values,
           record {
             labels = b.labels;
@@ -294,11 +331,13 @@ module _ {V : Type 0} (sys : System V) (dropped : List ℕ) (keyed : AreKeyed sy
             events = record {
               sound = λ k l s.
                   let o = b.firable.whole l.event (record { place = k; stands = event_of b.labels k l s }) in
-                  let p : Stands (f.path o.0) o.5.place o.2 = subst (λ z. Stands z o.5.place o.2) (same o.0 o.1 o.3 o.4) o.5.stands in
+                  let p : Stands (f.path o.0) o.5.place o.2 =
+                  subst (λ z. Stands z o.5.place o.2) (same o.0 o.1 o.3 o.4) o.5.stands in
                   subst (λ z. IsOneOf set z) o.6 (f.sound o.0 o.1 o.3 o.4 o.5.place o.2 p);
               whole = λ e o.
                   let w = f.whole e o in
-                  let p : Stands (b.firable.path w.0) w.5.place w.2 = subst (λ z. Stands z w.5.place w.2) (sym (same w.0 w.1 w.3 w.4)) w.5.stands in
+                  let p : Stands (b.firable.path w.0) w.5.place w.2 =
+                  subst (λ z. Stands z w.5.place w.2) (sym (same w.0 w.1 w.3 w.4)) w.5.stands in
                   let i = b.firable.sound w.0 w.1 w.3 w.4 w.5.place w.2 p in
                   let l = label_of b.labels i.place w.2.event i.stands in
                   (l.0, record { place = i.place; stands = l.1 }, l.2 ∙ w.6);

@@ -147,7 +147,11 @@ module _ {V : Type 0} (sys : System V) (dropped : List ℕ) (keyed : AreKeyed sy
     pub is_firable : IsFirable sys dropped set values
 
   pub came : {ls : List Label} {t : List Value} → Reaches sys dropped ls t → Came (map (λ l. l.event) ls) t
-  came (cuts.start f) = record { values = first_values sys.net.variables; flows = f; is_firable = none_firable sys dropped keyed }
+  came (cuts.start f) = record {
+    values = first_values sys.net.variables;
+    flows = f;
+    is_firable = none_firable sys dropped keyed;
+  }
   came (cuts.fire {l = l} w r o (moves new can n m d f)) =
       let h = all_firable sys dropped keyed static r in
       record

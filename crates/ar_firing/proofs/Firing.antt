@@ -100,11 +100,13 @@ module _ {V : Type 0} (sys : System V) (dropped : List ℕ) (keyed : AreKeyed sy
   pub ahead : {l : Label} {n : ℕ} {from to : Value} → Edge sys dropped l n from to
       → (w : Way V) (o : IsOpen sys dropped l w) (x : Variable V) → Stands sys.net.variables n x → Ahead from to w x
   ahead {l = l} {n = n} {from = from} {to = to} e w o x h =
-      let a : Ahead from to e.way e.variable = record { can = e.can; gives = e.gives; one = e.one; in_domain = e.in_domain } in
+      let a : Ahead from to e.way e.variable =
+      record { can = e.can; gives = e.gives; one = e.one; in_domain = e.in_domain } in
       let p = e.is_open.is_kept.is_way in
       let q = o.is_kept.is_way in
       let ev = stands_one sys.events l.event p.event q.event p.is_event q.is_event in
-      let i : e.way ≡ w = stands_one q.event.ways l.way e.way w (subst (λ z. Stands z.ways l.way e.way) ev p.is_way) q.is_way in
+      let i : e.way ≡ w =
+      stands_one q.event.ways l.way e.way w (subst (λ z. Stands z.ways l.way e.way) ev p.is_way) q.is_way in
       let j : e.variable ≡ x = stands_one sys.net.variables n e.variable x e.is_variable h in
       subst (λ x. Ahead from to w x) j (subst (λ w. Ahead from to w e.variable) i a)
 
@@ -117,7 +119,13 @@ module _ {V : Type 0} (sys : System V) (dropped : List ℕ) (keyed : AreKeyed sy
         record { key = e; value = stands_one t n v m (subst (λ k. Stands t k v) i h.value) value }
 
     pub value_from : (y : V) (v : Value) → y ≡ x.key → At x.key m y v → HasValue sys.net t y v
-    value_from y v e a = record { place = n; variable = x; stands = stands; is_key = sym e; value = subst (λ z. Stands t n z) (sym a.value) value }
+    value_from y v e a = record {
+      place = n;
+      variable = x;
+      stands = stands;
+      is_key = sym e;
+      value = subst (λ z. Stands t n z) (sym a.value) value;
+    }
 
   pub total_keeps : {s u : List Value} → Flows sys.net s (Total u) → (n : ℕ) (x : Variable V)
       → Stands sys.net.variables n x → x.is_state ≡ true → (v : Value) → Stands s n v → Stands u n v
@@ -154,7 +162,9 @@ module _ {V : Type 0} (sys : System V) (dropped : List ℕ) (keyed : AreKeyed sy
         let h = static.modes l w o in
         let k = firable.walks h.number h.variable h.stands h.is_state in
         let can = only_can h.variable.key (value_at t h.number h.variable k.0 h.stands k.1) h.alone c in
-        let e = static.leads l w h.number h.variable k.0 (record { is_open = o; is_mode = h.is_mode; stands = h.stands; reached = record { labels = firable.path h.number; path = k.2 }; can = can }) in
+        let e =
+        static.leads l w h.number h.variable k.0
+        (record { is_open = o; is_mode = h.is_mode; stands = h.stands; reached = record { labels = firable.path h.number; path = k.2 }; can = can }) in
         record {
           number = h.number;
           variable = h.variable;
@@ -180,7 +190,9 @@ module _ {V : Type 0} (sys : System V) (dropped : List ℕ) (keyed : AreKeyed sy
       pub stands_new : Stands new e.number e.to
       stands_new = elim (received_at r e.number e.variable e.stands) [
         | by_effect v d k ↦ subst (λ z. Stands new e.number z) (to_alone l w e v d) k
-        | by_old n k ↦ absurd (n e.to (only_effects e.variable.key (value_from t e.number e.variable e.from e.stands e.value) e.alone e.facts.gives))
+        | by_old n k ↦
+            absurd
+            (n e.to (only_effects e.variable.key (value_from t e.number e.variable e.from e.stands e.value) e.alone e.facts.gives))
       ]
 
       pub stands_old : (n : ℕ) (x : Variable V) → Stands sys.net.variables n x → (n ≡ e.number → ⊥) → (v : Value)
@@ -199,13 +211,16 @@ module _ {V : Type 0} (sys : System V) (dropped : List ℕ) (keyed : AreKeyed sy
       pub still : (n : ℕ) (m : Label) → IsOneOf (firable.path n) m → IsOneOf (longer e.number l firable.path n) m
       still n m o = ⊎_elim
           (λ q. let a : IsOneOf (l ∷ firable.path n) m = record { place = suc o.place; stands = o.stands } in
-          let b : longer e.number l firable.path n ≡ l ∷ firable.path n = subst (λ j. longer e.number l firable.path j ≡ l ∷ firable.path j) (sym q) (longer_here e.number l firable.path) in
+          let b : longer e.number l firable.path n ≡ l ∷ firable.path n =
+          subst (λ j. longer e.number l firable.path j ≡ l ∷ firable.path j) (sym q)
+          (longer_here e.number l firable.path) in
           subst (λ p. IsOneOf p m) (sym b) a)
           (λ q. subst (λ p. IsOneOf p m) (sym (longer_there e.number n l firable.path q)) o)
           (cases_eq n e.number)
 
       pub whole_at : (k n : ℕ) → Stands (l.event ∷ set) n k
-          → (n : ℕ) × (x : Variable V) × (m : Label) × Stands sys.net.variables n x × (x.is_state ≡ true) × IsOneOf (longer e.number l firable.path n) m × (m.event ≡ k)
+          → (n : ℕ) × (x : Variable V) × (m : Label) × Stands sys.net.variables n x × (x.is_state ≡ true)
+          × IsOneOf (longer e.number l firable.path n) m × (m.event ≡ k)
       whole_at k zero h =
           let i : l.event ≡ k = cc in
           let a : IsOneOf (l ∷ firable.path e.number) l = record { place = zero; stands = refl } in
@@ -247,7 +262,11 @@ module _ {V : Type 0} (sys : System V) (dropped : List ℕ) (keyed : AreKeyed sy
 
     pub faults : (l : Label) (w : Way V) → IsOpen sys dropped l w → {f : FlowFault}
         → Step sys.net t w (Refused (Flow f)) → Fault_state l f
-    faults l w o (flow new can n m r k) = record { values = new; flows = k; is_firable = moved l w (next_edge l w o can) new r }
+    faults l w o (flow new can n m r k) = record {
+      values = new;
+      flows = k;
+      is_firable = moved l w (next_edge l w o can) new r;
+    }
 
     -- an edge from where a path ends can fire, and fires or meets a flow fault
     pub record Ready (l : Label) (answer : Answer) : Type 0 where
@@ -271,10 +290,21 @@ module _ {V : Type 0} (sys : System V) (dropped : List ℕ) (keyed : AreKeyed sy
         let x : k.item.key ≡ e.variable.key = only_target e.alone h.received in
         let a = to_alone l w e h.value (subst (λ z. Effects (HasValue sys.net t) w z h.value) x h.received) in
         let i : n ≡ e.number = keyed.one n e.number k.item e.variable k.stands e.stands x in
-        let b : k.item ≡ e.variable = stands_one sys.net.variables e.number k.item e.variable (subst (λ z. Stands sys.net.variables z k.item) i k.stands) e.stands in
-        absurd (h.outside (subst (λ z. Contains z.domain h.value) (sym b) (subst (λ v. Contains e.variable.domain v) (sym a) e.facts.in_domain)))
-    ready l w o c (flow new d n m r k) = record { values = new; moves_to = cuts.fails k; is_firable = moved l w (next_edge l w o d) new r }
-    ready l w o c (moves new d n m r k) = record { values = new; moves_to = cuts.on k; is_firable = moved l w (next_edge l w o d) new r }
+        let b : k.item ≡ e.variable =
+        stands_one sys.net.variables e.number k.item e.variable
+        (subst (λ z. Stands sys.net.variables z k.item) i k.stands) e.stands in
+        absurd
+        (h.outside (subst (λ z. Contains z.domain h.value) (sym b) (subst (λ v. Contains e.variable.domain v) (sym a) e.facts.in_domain)))
+    ready l w o c (flow new d n m r k) = record {
+      values = new;
+      moves_to = cuts.fails k;
+      is_firable = moved l w (next_edge l w o d) new r;
+    }
+    ready l w o c (moves new d n m r k) = record {
+      values = new;
+      moves_to = cuts.on k;
+      is_firable = moved l w (next_edge l w o d) new r;
+    }
 
   -- a label whose edge leaves where its variable's path ends can fire
   pub enabled : {set : List ℕ} {t : List Value} → IsFirable sys dropped set t → IsStatic sys dropped
@@ -283,8 +313,11 @@ module _ {V : Type 0} (sys : System V) (dropped : List ℕ) (keyed : AreKeyed sy
   enabled {t = t} firable static l n from to e v =
       let h = static.modes l e.way e.is_open in
       let i : h.number ≡ n = mode_same h.is_mode e.is_mode in
-      let j : h.variable ≡ e.variable = stands_one sys.net.variables n h.variable e.variable (subst (λ z. Stands sys.net.variables z h.variable) i h.stands) e.is_variable in
-      only_can e.variable.key (value_from t n e.variable from e.is_variable v) (subst (λ z. IsOf z.key e.way) j h.alone) e.can
+      let j : h.variable ≡ e.variable =
+      stands_one sys.net.variables n h.variable e.variable
+      (subst (λ z. Stands sys.net.variables z h.variable) i h.stands) e.is_variable in
+      only_can e.variable.key (value_from t n e.variable from e.is_variable v)
+      (subst (λ z. IsOf z.key e.way) j h.alone) e.can
     where
       mode_same : {u : ℕ} {w : Way V} {m n : ℕ} → IsModeOf sys u w m → IsModeOf sys u w n → m ≡ n
       mode_same (named a) (named b) = first_same a b
@@ -322,7 +355,11 @@ module _ {V : Type 0} (sys : System V) (dropped : List ℕ) (keyed : AreKeyed sy
 
     pub conflict_firable : {ls : List Label} {f : FlowFault} → Conflicts sys dropped ls f
         → Conflict_state (map (λ l. l.event) ls) f
-    conflict_firable (cuts.start f) = record { values = first_values sys.net.variables; flows = f; is_firable = none_firable }
+    conflict_firable (cuts.start f) = record {
+      values = first_values sys.net.variables;
+      flows = f;
+      is_firable = none_firable;
+    }
     conflict_firable (cuts.fire {l = l} w r o s) =
         let k = faults static (all_firable r) l w o s in
         record { values = k.values; flows = k.flows; is_firable = k.is_firable }

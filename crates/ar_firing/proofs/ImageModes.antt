@@ -51,7 +51,11 @@ module _ {V W : Type 0} (same : V → W → Type 0) (x : V) where
 
   assign_there : {a : Assign V} {b : Assign W} → Assign_renames same a b → Involves x a
       → Mentioned same x (λ y. Involves y b)
-  assign_there {b = b} q (as_target e) = record { other = b.target; related = subst (λ z. same z b.target) e q.target; stands = as_target refl }
+  assign_there {b = b} q (as_target e) = record {
+    other = b.target;
+    related = subst (λ z. same z b.target) e q.target;
+    stands = as_target refl;
+  }
   assign_there q (as_source (inl m)) =
       let n = mentions_carry same x m q.value in
       record { other = n.other; related = n.related; stands = as_source (inl n.stands) }
@@ -130,16 +134,22 @@ module _ {V W : Type 0} (same : V → W → Type 0) (here : System V) (there : S
       let off' = state_there (turned same) there here behind dropped unit in
       elim h [
         | named f ↦ named (first_there image.net.variables behind.net.variables on off f)
-        | first k f ↦ first (none_there image.net.variables behind.net.variables on off k) (first_there image.net.variables behind.net.variables on' off' f)
+        | first k f ↦
+            first (none_there image.net.variables behind.net.variables on off k)
+            (first_there image.net.variables behind.net.variables on' off' f)
       ]
 
   pub can_at_there : {v : Way V} {w : Way W} (x : V) (y : W) (m : Value) → Way_renames same v w → same x y
       → Can (At x m) v → Can (At y m) w
-  can_at_there x y m q s c = can_there V W (At x m) (At y m) same (λ z u d r h. at_there same here there image dropped x y m s z u d r h) image.net.one q c
+  can_at_there x y m q s c =
+      can_there V W (At x m) (At y m) same
+      (λ z u d r h. at_there same here there image dropped x y m s z u d r h) image.net.one q c
 
   pub effects_at_there : {v : Way V} {w : Way W} (x : V) (y : W) (m d : Value) → Way_renames same v w → same x y
       → Effects (At x m) v x d → Effects (At y m) w y d
-  effects_at_there x y m d q s e = effects_there V W (At x m) (At y m) same (λ z u d r h. at_there same here there image dropped x y m s z u d r h) image.net.one q s e
+  effects_at_there x y m d q s e =
+      effects_there V W (At x m) (At y m) same
+      (λ z u d r h. at_there same here there image dropped x y m s z u d r h) image.net.one q s e
 
 module _ {V W : Type 0} (same : V → W → Type 0) (here : System V) (there : System W) (image : IsImage same here there)
     (dropped : List ℕ) where
@@ -157,12 +167,16 @@ module _ {V W : Type 0} (same : V → W → Type 0) (here : System V) (there : S
       let x = partner image.net.variables n e.variable e.is_variable in
       record {
         way = w.item;
-        is_open = record { is_kept = record { is_way = record { event = p.item; is_event = p.stands; is_way = w.stands }; stays = k.stays }; visible = sym p.related.hidden ∙ e.is_open.visible };
+        is_open =
+            record { is_kept = record { is_way = record { event = p.item; is_event = p.stands; is_way = w.stands }; stays = k.stays }; visible = sym p.related.hidden ∙ e.is_open.visible };
         variable = x.item;
         is_variable = x.stands;
-        is_mode = is_mode_there same here there image dropped p.item.unit w.related (subst (λ z. IsModeOf here z e.way n) p.related.unit e.is_mode);
+        is_mode =
+            is_mode_there same here there image dropped p.item.unit w.related
+            (subst (λ z. IsModeOf here z e.way n) p.related.unit e.is_mode);
         can = can_at_there same here there image dropped e.variable.key x.item.key from w.related x.related.key e.can;
-        gives = effects_at_there same here there image dropped e.variable.key x.item.key from to w.related x.related.key e.gives;
+        gives =
+            effects_at_there same here there image dropped e.variable.key x.item.key from to w.related x.related.key e.gives;
         one = λ v d. e.one v (effects_at_back e.variable.key x.item.key from v w.related x.related.key d);
         in_domain = subst (λ d. Contains d to) x.related.domain e.in_domain;
       }
@@ -188,7 +202,9 @@ module _ {V W : Type 0} (same : V → W → Type 0) (here : System V) (there : S
   under_there : {n low : ℕ} {m : Value} {rows : List Row} → Under here dropped n m low rows
       → Under there dropped n m low rows
   under_there (no_more h) = no_more (λ l to b e. h l to b (edge_back e))
-  under_there (next b e h d f) = next b (edge_there same here there image dropped e) (λ k u i j g. h k u i j (edge_back g)) (under_there d) (under_there f)
+  under_there (next b e h d f) =
+      next b (edge_there same here there image dropped e) (λ k u i j g. h k u i j (edge_back g)) (under_there d)
+      (under_there f)
 
   pub mode_tree_there : (tree : ModeTree) → IsModeTree here dropped tree → IsModeTree there dropped tree
   mode_tree_there tree h =
@@ -214,7 +230,8 @@ module _ {V W : Type 0} (same : V → W → Type 0) (here : System V) (there : S
             let p = partner behind.net.variables n y s in
             let w = f.walks n p.item p.stands (sym p.related.is_state ∙ k) in
             (w.0, w.1, path_there same here there image dropped w.2);
-        sound = λ n y s k. let p = partner behind.net.variables n y s in f.sound n p.item p.stands (sym p.related.is_state ∙ k);
+        sound = λ n y s k.
+            let p = partner behind.net.variables n y s in f.sound n p.item p.stands (sym p.related.is_state ∙ k);
         whole = λ e o.
             let w = f.whole e o in
             let p = partner image.net.variables w.0 w.1 w.3 in
@@ -228,4 +245,8 @@ module _ {V W : Type 0} (same : V → W → Type 0) (here : System V) (there : S
 
   pub line_there : {set : List ℕ} {ls : List Label} → IsLine here dropped set ls → IsLine there dropped set ls
   unfolding firable_there
-  line_there h = record { values = h.values; is_firable = firable_there h.is_firable; is = h.is ∙ line_same 0 h.is_firable.path image.net.variables }
+  line_there h = record {
+    values = h.values;
+    is_firable = firable_there h.is_firable;
+    is = h.is ∙ line_same 0 h.is_firable.path image.net.variables;
+  }

@@ -64,7 +64,8 @@ module _ {V W : Type 0} (same : V → W → Type 0) (here : System V) (there : S
         has_not = λ k y s h.
             let behind = image_turned same image in
             let p = partner behind.net.variables k y s in
-            b.has_none.has_not k p.item p.stands (record { is_state = sym p.related.is_state ∙ h.is_state; is_unit = sym p.related.unit ∙ h.is_unit });
+            b.has_none.has_not k p.item p.stands
+            (record { is_state = sym p.related.is_state ∙ h.is_state; is_unit = sym p.related.unit ∙ h.is_unit });
       };
     }
 
@@ -86,7 +87,8 @@ module _ {V W : Type 0} (same : V → W → Type 0) (here : System V) (there : S
           variable = p.item;
           way_related = k.related;
           variable_related = p.related;
-          mode = record { is_kept = k.is_kept; stands = p.stands; is_mode = is_mode_there same here there image dropped k.is_kept.is_way.event.unit k.related (subst (λ z. IsModeOf here z v n) (sym k.is_unit) h.is_mode) };
+          mode =
+              record { is_kept = k.is_kept; stands = p.stands; is_mode = is_mode_there same here there image dropped k.is_kept.is_way.event.unit k.related (subst (λ z. IsModeOf here z v n) (sym k.is_unit) h.is_mode) };
         }
 
     pub breaks_s3_there : (n : ℕ) → BreaksS3 here dropped n → BreaksS3 there dropped n
@@ -100,7 +102,9 @@ module _ {V W : Type 0} (same : V → W → Type 0) (here : System V) (there : S
           mode = m.mode;
           other = g.other;
           named = g.stands;
-          differs = λ e. b.differs (image.net.one_back b.other b.variable.key m.variable.key (subst (λ z. same b.other z) e g.related) m.variable_related.key);
+          differs = λ e.
+              b.differs
+              (image.net.one_back b.other b.variable.key m.variable.key (subst (λ z. same b.other z) e g.related) m.variable_related.key);
         }
 
     -- the way and variable of the image, at the same mode
@@ -124,8 +128,11 @@ module _ {V W : Type 0} (same : V → W → Type 0) (here : System V) (there : S
           way_related = w.related;
           variable_related = p.related;
           is_live = record {
-            is_open = record { is_kept = record { is_way = record { event = e.item; is_event = e.stands; is_way = w.stands }; stays = k.stays }; visible = sym e.related.hidden ∙ h.is_open.visible };
-            is_mode = is_mode_there same here there image dropped e.item.unit w.related (subst (λ z. IsModeOf here z v n) e.related.unit h.is_mode);
+            is_open =
+                record { is_kept = record { is_way = record { event = e.item; is_event = e.stands; is_way = w.stands }; stays = k.stays }; visible = sym e.related.hidden ∙ h.is_open.visible };
+            is_mode =
+                is_mode_there same here there image dropped e.item.unit w.related
+                (subst (λ z. IsModeOf here z v n) e.related.unit h.is_mode);
             stands = p.stands;
             reached = reached_there same here there image dropped h.reached;
             can = can_at_there same here there image dropped x.key p.item.key m w.related p.related.key h.can;
@@ -142,14 +149,22 @@ module _ {V W : Type 0} (same : V → W → Type 0) (here : System V) (there : S
     breaks_s4_there n (names l v x h y a d) =
         let m = mode_there h in
         let g = action_there same y m.way_related a in
-        names l m.way m.variable m.mode g.other g.stands (λ e. d (image.net.one_back y x.key m.variable.key (subst (λ z. same y z) e g.related) m.variable_related.key))
+        names l m.way m.variable m.mode g.other g.stands
+        (λ e. d (image.net.one_back y x.key m.variable.key (subst (λ z. same y z) e g.related) m.variable_related.key))
     breaks_s4_there n (gives l v x m h o) =
         let k = live_at_there h in
-        gives l k.way k.variable m k.is_live (gives_other_there (λ d e. effects_at_there same here there image dropped x.key k.variable.key m d k.way_related k.variable_related.key e)
+        gives l k.way k.variable m k.is_live
+        (gives_other_there (λ d e. effects_at_there same here there image dropped x.key k.variable.key m d k.way_related k.variable_related.key e)
         (λ d e. effects_at_back same here there image dropped x.key k.variable.key m d k.way_related k.variable_related.key e) k.variable_related.domain o)
 
     pub has_live_there : (e n : ℕ) → HasLive here dropped e n → HasLive there dropped e n
-    has_live_there e n h = record { label = h.label; is_event = h.is_event; from = h.from; to = h.to; is_live = live_there same here there image dropped h.is_live }
+    has_live_there e n h = record {
+      label = h.label;
+      is_event = h.is_event;
+      from = h.from;
+      to = h.to;
+      is_live = live_there same here there image dropped h.is_live;
+    }
 
     pub breaks_s6_there : (n : ℕ) → BreaksS6 here dropped n → BreaksS6 there dropped n
     breaks_s6_there n (stays l u v h e) = stays l u v (live_there same here there image dropped h) e
@@ -159,22 +174,32 @@ module _ {V W : Type 0} (same : V → W → Type 0) (here : System V) (there : S
         by_edges k l u v x (live_there same here there image dropped h) (live_there same here there image dropped i) e d
     breaks_s6_there n (initial l u x s h) =
         let p = partner image.net.variables n x s in
-        initial l u p.item p.stands (subst (λ z. IsLive there dropped l n u z) p.related.value (live_there same here there image dropped h))
+        initial l u p.item p.stands
+        (subst (λ z. IsLive there dropped l n u z) p.related.value (live_there same here there image dropped h))
 
     pub breaks_s8_there : BreaksS8 here dropped → BreaksS8 there dropped
-    breaks_s8_there b = record { events = b.events; differ = b.differ; many = b.many; live = λ k e s. let h = b.live k e s in record { number = h.number; live = has_live_there e h.number h.live } }
+    breaks_s8_there b = record {
+      events = b.events;
+      differ = b.differ;
+      many = b.many;
+      live = λ k e s. let h = b.live k e s in record { number = h.number; live = has_live_there e h.number h.live };
+    }
 
 -- the possible values
 module _ {V W : Type 0} (same : V → W → Type 0) (here : System V) (there : System W)
     (image : IsImage same here there) where
   wide : {e : Level V} {f : Level W} → Renames same e f → IsWide (Allows here.net) 64 e → IsWide (Allows there.net) 64 f
-  wide q h = wide_there same (Allows here.net) (Allows there.net) (λ x y v s a. allows_there same here.net there.net image.net x y v s a) q h
+  wide q h =
+      wide_there same (Allows here.net) (Allows there.net)
+      (λ x y v s a. allows_there same here.net there.net image.net x y v s a) q h
 
   assign_wide : {a : Assign V} {b : Assign W} → Assign_renames same a b → AssignIsWide here.net a
       → AssignIsWide there.net b
   assign_wide q (by_value h) = by_value (wide q.value h)
   assign_wide q (by_condition {e = e} {b = b} o h) =
-      let c = condition_there q.conditions o.place e b o.stands in by_condition (record { place = o.place; stands = c.stands }) (wide c.renames h)
+      let c =
+      condition_there q.conditions o.place e b o.stands in by_condition
+      (record { place = o.place; stands = c.stands }) (wide c.renames h)
 
   pub breaks_s7_there : (n : ℕ) → BreaksS7 here n → BreaksS7 there n
   breaks_s7_there n b =
@@ -185,7 +210,9 @@ module _ {V W : Type 0} (same : V → W → Type 0) (here : System V) (there : S
         stands = p.stands;
         assign = a.item;
         is_one = record { place = b.is_one.place; stands = a.stands };
-        is_target = image.net.one b.variable.key a.item.target p.item.key (subst (λ z. same z a.item.target) b.is_target a.related.target) p.related.key;
+        is_target =
+            image.net.one b.variable.key a.item.target p.item.key
+            (subst (λ z. same z a.item.target) b.is_target a.related.target) p.related.key;
         wide = assign_wide a.related b.wide;
       }
 
@@ -200,8 +227,14 @@ module _ {V W : Type 0} (same : V → W → Type 0) (here : System V) (there : S
   keeps_s7_there k =
       let behind = image_turned same image in
       record {
-        assignments = λ j b s h. let a = partner behind.net.assertions j b s in k.assignments j a.item a.stands (assign_wide (turned same) there here behind a.related h);
-        observers = λ j f s h. let e = partner behind.observers j f s in k.observers j e.item e.stands (wide (turned same) there here behind e.related.renames h);
+        assignments = λ j b s h.
+            let a =
+            partner behind.net.assertions j b s in k.assignments j a.item a.stands
+            (assign_wide (turned same) there here behind a.related h);
+        observers = λ j f s h.
+            let e =
+            partner behind.observers j f s in k.observers j e.item e.stands
+            (wide (turned same) there here behind e.related.renames h);
       }
 
 -- both ways
@@ -246,8 +279,12 @@ module _ {V W : Type 0} (same : V → W → Type 0) (here : System V) (there : S
             let g = k.gives l v.way n v.variable m v.is_live in
             record {
               value = g.value;
-              gives = effects_at_back (turned same) there here behind dropped y.key v.variable.key m g.value v.way_related v.variable_related.key g.gives;
-              one = λ d e. g.one d (effects_at_there (turned same) there here behind dropped y.key v.variable.key m d v.way_related v.variable_related.key e);
+              gives =
+                  effects_at_back
+                  (turned same) there here behind dropped y.key v.variable.key m g.value v.way_related v.variable_related.key g.gives;
+              one = λ d e.
+                  g.one d
+                  (effects_at_there (turned same) there here behind dropped y.key v.variable.key m d v.way_related v.variable_related.key e);
               in_domain = subst (λ z. Contains z g.value) (sym v.variable_related.domain) g.in_domain;
             };
       }
@@ -281,7 +318,9 @@ module _ {V W : Type 0} (same : V → W → Type 0) (here : System V) (there : S
   keeps_s8_there k = record {
     events = k.events;
     few = k.few;
-    whole = λ e h. k.whole e (record { number = h.number; live = has_live_there (turned same) there here (image_turned same image) dropped e h.number h.live });
+    whole = λ e h.
+        k.whole e
+        (record { number = h.number; live = has_live_there (turned same) there here (image_turned same image) dropped e h.number h.live });
   }
 
   pub breaks_there : {rule : Rule} {spot : Spot} → Breaks here dropped rule spot → Breaks there dropped rule spot

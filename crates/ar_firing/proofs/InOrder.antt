@@ -59,9 +59,12 @@ module _ {V : Type 0} (sys : System V) (dropped : List ℕ) (keyed : AreKeyed sy
   leaves [] p d = inl refl
   leaves (x ∷ []) {n = n} {from = from} (edge {m = u} {to = to} p e) d =
       let i : u ≡ from = path_end sys dropped keyed static p d in
-      inr (record { label = x; to = to; edge_on = subst (λ z. Edge sys dropped x n z to) i e; is_one = record { place = zero; stands = refl } })
+      inr
+      (record { label = x; to = to; edge_on = subst (λ z. Edge sys dropped x n z to) i e; is_one = record { place = zero; stands = refl } })
   leaves (x ∷ y ∷ fr) {n = n} {q = q} {from = from} (edge p e) d =
-      ⊎_elim (λ i. absurd (full i)) (λ r. inr (record { label = r.label; to = r.to; edge_on = r.edge_on; is_one = record { place = suc r.is_one.place; stands = r.is_one.stands } })) (leaves (y ∷ fr) p d)
+      ⊎_elim (λ i. absurd (full i))
+      (λ r. inr (record { label = r.label; to = r.to; edge_on = r.edge_on; is_one = record { place = suc r.is_one.place; stands = r.is_one.stands } }))
+      (leaves (y ∷ fr) p d)
     where
       full : y ∷ fr ≡ [] → ⊥
       full i = cc
@@ -69,7 +72,8 @@ module _ {V : Type 0} (sys : System V) (dropped : List ℕ) (keyed : AreKeyed sy
   module _ {set : List ℕ} {t u : List Value} (front : List Label) (l : Label) (b : List Label)
       (f : IsFirable sys dropped set t) (events : AreEvents (front ++ (l ∷ b)) set)
       (order : AreInOrder sys dropped (front ++ (l ∷ b)))
-      (n : ℕ) (x : Variable V) (st : Stands sys.net.variables n x) (state : x.is_state ≡ true) (on : IsOneOf (f.path n) l) (r : Reaches sys dropped b u) where
+      (n : ℕ) (x : Variable V) (st : Stands sys.net.variables n x) (state : x.is_state ≡ true)
+      (on : IsOneOf (f.path n) l) (r : Reaches sys dropped b u) where
     pub can_go_on : (from : Value) × (to : Value) × (e : Edge sys dropped l n from to) × Can (HasValue sys.net u) e.way
     can_go_on =
         let w = f.walks n x st state in
@@ -78,8 +82,11 @@ module _ {V : Type 0} (sys : System V) (dropped : List ℕ) (keyed : AreKeyed sy
         let v = g.walks n x st state in
         let q_in : (m : Label) → IsOneOf s.rest m → IsOneOf (g.path n) m = λ m o. in_path g s m o in
         let tail = tail_of sys dropped keyed static s.path v.2 q_in in
-        let e : s.rest ≡ g.path n = ⊎_elim (λ i. sym (tail.is ∙ ap (λ z. z ++ s.rest) i)) (λ k. absurd (never g s tail k)) (leaves tail.front (subst (λ z. Path sys dropped n z v.0) tail.is v.2) s.path) in
-        let m : v.0 ≡ s.from = path_end sys dropped keyed static v.2 (subst (λ z. Path sys dropped n z s.from) e s.path) in
+        let e : s.rest ≡ g.path n =
+        ⊎_elim (λ i. sym (tail.is ∙ ap (λ z. z ++ s.rest) i)) (λ k. absurd (never g s tail k))
+        (leaves tail.front (subst (λ z. Path sys dropped n z v.0) tail.is v.2) s.path) in
+        let m : v.0 ≡ s.from =
+        path_end sys dropped keyed static v.2 (subst (λ z. Path sys dropped n z s.from) e s.path) in
         (s.from, s.to, s.edge, enabled sys dropped keyed g static l n s.from s.to s.edge (subst (λ z. Stands u n z) m v.1))
       where
         in_path : (g : IsFirable sys dropped (map (λ l. l.event) b) u) (s : Split sys dropped n (f.path n) l) (m : Label)
@@ -91,7 +98,9 @@ module _ {V : Type 0} (sys : System V) (dropped : List ℕ) (keyed : AreKeyed sy
             let y = g.walks h.0 h.1 h.3 h.4 in
             let z = split sys dropped keyed static y.2 h.5.place h.2 h.5.stands in
             let k = split sys dropped keyed static s.path o.place m o.stands in
-            let d = static.one_edge.one h.2 m h.0 n z.from k.from z.to k.to (split_live sys dropped keyed static z) (split_live sys dropped keyed static k) h.6 in
+            let d =
+            static.one_edge.one h.2 m h.0 n z.from k.from z.to k.to (split_live sys dropped keyed static z)
+            (split_live sys dropped keyed static k) h.6 in
             let i : h.2 ≡ m = label_same h.2 m h.6 d.0 in
             subst (λ z. IsOneOf (g.path z) m) d.1 (subst (λ z. IsOneOf (g.path h.0) z) i h.5)
 
@@ -111,17 +120,26 @@ module _ {V : Type 0} (sys : System V) (dropped : List ℕ) (keyed : AreKeyed sy
             let p = on_path sys dropped keyed static g f inside n x st state i o in
             let w = f.walks n x st state in
             let r = split sys dropped keyed static w.2 p.place i p.stands in
-            let c = static.one_edge.one i i n n r.from s.from r.to k.to (split_live sys dropped keyed static r) (live sys dropped keyed static s.path k.edge_on) refl in
-            let q : r.rest ≡ s.rest = path_unique sys dropped keyed static (subst (λ z. Path sys dropped n r.rest z) c.2 r.path) s.path in
-            let a : length (f.path n) ≡ length s.front + suc (length s.rest) = ap length s.is ∙ length-append s.front (l ∷ s.rest) in
-            let d : length (f.path n) ≡ length r.front + suc (length r.rest) = ap length r.is ∙ length-append r.front (i ∷ r.rest) in
+            let c =
+            static.one_edge.one i i n n r.from s.from r.to k.to (split_live sys dropped keyed static r)
+            (live sys dropped keyed static s.path k.edge_on) refl in
+            let q : r.rest ≡ s.rest =
+            path_unique sys dropped keyed static (subst (λ z. Path sys dropped n r.rest z) c.2 r.path) s.path in
+            let a : length (f.path n) ≡ length s.front + suc (length s.rest) =
+            ap length s.is ∙ length-append s.front (l ∷ s.rest) in
+            let d : length (f.path n) ≡ length r.front + suc (length r.rest) =
+            ap length r.is ∙ length-append r.front (i ∷ r.rest) in
             let e : length r.rest ≡ length s.rest = ap length q in
             let h : length r.front ≡ length s.front = omega arith in
-            let here : Stands (f.path n) (length s.front) l = subst (λ z. Stands z (length s.front) l) (sym s.is) (at_front s.front l s.rest) in
-            let there : Stands (f.path n) (length r.front) i = subst (λ z. Stands z (length r.front) i) (sym r.is) (at_front r.front i r.rest) in
-            let j : i ≡ l = stands_one (f.path n) (length s.front) i l (subst (λ z. Stands (f.path n) z i) h there) here in
+            let here : Stands (f.path n) (length s.front) l =
+            subst (λ z. Stands z (length s.front) l) (sym s.is) (at_front s.front l s.rest) in
+            let there : Stands (f.path n) (length r.front) i =
+            subst (λ z. Stands z (length r.front) i) (sym r.is) (at_front r.front i r.rest) in
+            let j : i ≡ l =
+            stands_one (f.path n) (length s.front) i l (subst (λ z. Stands (f.path n) z i) h there) here in
             let m = g.sound n x st state o.place i o.stands in
             let v = label_of b m.place i.event m.stands in
             let y = shifted front l b m.place v.0 v.1 in
-            let z : length front ≡ y.0 = events.once (length front) y.0 l v.0 (at_front front l b) y.2 (sym (v.2 ∙ ap (λ z. z.event) j)) in
+            let z : length front ≡ y.0 =
+            events.once (length front) y.0 l v.0 (at_front front l b) y.2 (sym (v.2 ∙ ap (λ z. z.event) j)) in
             absurd (omega (arith, y.1))

@@ -44,7 +44,12 @@ module _ (P : List ℕ → Type 0) where
   in_words h = record { has = h.has; no_lesser = λ part w n p. n (h.least part w p) }
 
   pub from_words : {set : List ℕ} → HasNoLesser P set → IsLeast P set
-  from_words {set = set} h = record { has = h.has; least = λ part w p. ⊎_elim (λ k. k) (λ l. absurd (h.no_lesser part w (λ k. l.is_not (k.each l.event l.is_one)) p)) (decided set part) }
+  from_words {set = set} h = record {
+    has = h.has;
+    least = λ part w p.
+        ⊎_elim (λ k. k) (λ l. absurd (h.no_lesser part w (λ k. l.is_not (k.each l.event l.is_one)) p))
+        (decided set part);
+  }
 
 -- how many places of the first list hold a number of the second
 abbrev pub counted : List ℕ → List ℕ → ℕ
@@ -108,7 +113,9 @@ module _ (P Q : List ℕ → Type 0) (on : (set : List ℕ) → P set → Q set)
       k (h.least part w (back part least))
 
   pub least_back : {set : List ℕ} → IsLeast P set → IsLeast Q set
-  least_back {set = set} h = from_words Q (record { has = on set h.has; no_lesser = λ part w k q. none_below set h (suc (counted set part)) part (omega arith) w k q })
+  least_back {set = set} h =
+      from_words Q
+      (record { has = on set h.has; no_lesser = λ part w k q. none_below set h (suc (counted set part)) part (omega arith) w k q })
 
 -- it is refuted that a set has P and that no least such set is within it
 module _ (P : List ℕ → Type 0) (set : List ℕ) (none : (part : List ℕ) → Within part set → IsLeast P part → ⊥) where

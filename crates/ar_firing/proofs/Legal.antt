@@ -76,9 +76,13 @@ module _ {V : Type 0} (sys : System V) (dropped : List ℕ) (keyed : AreKeyed sy
       → ((part : List ℕ) (t : List Value) → IsFirable sys dropped part t → Within part (map (λ k. k.event) b) → HasFlows sys.net t)
       → (u : List Value) × Reaches sys dropped b u
   fires_all front [] o total =
-      let f = total [] (first_values sys.net.variables) (none_firable sys dropped keyed) (record { each = λ e i. i }) in (f.values, cuts.start f.flows)
+      let f =
+      total [] (first_values sys.net.variables) (none_firable sys dropped keyed) (record { each = λ e i. i }) in
+      (f.values, cuts.start f.flows)
   fires_all {set = set} front (l ∷ b) o total =
-      let r = fires_all (front ++ (l ∷ [])) b (subst (λ z. IsLegalOrder sys dropped set z) (regrouped front l b) o) (λ part t f w. total part t f (further part w)) in
+      let r =
+      fires_all (front ++ (l ∷ [])) b (subst (λ z. IsLegalOrder sys dropped set z) (regrouped front l b) o)
+      (λ part t f w. total part t f (further part w)) in
       let n = onward l b r.1 (goes_on front l b o r.1) in
       n.fires (total (map (λ k. k.event) (l ∷ b)) n.values n.is_firable (record { each = λ e i. i }))
     where
@@ -89,4 +93,6 @@ module _ {V : Type 0} (sys : System V) (dropped : List ℕ) (keyed : AreKeyed sy
   pub order_fires : {set : List ℕ} (ls : List Label) → IsLegalOrder sys dropped set ls
       → ((part : List ℕ) (t : List Value) → IsFirable sys dropped part t → Within part set → HasFlows sys.net t)
       → (u : List Value) × Reaches sys dropped ls u
-  order_fires {set = set} ls o total = fires_all [] ls o (λ part t f w. total part t f (record { each = λ e i. (events_within ls set o.events).each e (w.each e i) }))
+  order_fires {set = set} ls o total =
+      fires_all [] ls o
+      (λ part t f w. total part t f (record { each = λ e i. (events_within ls set o.events).each e (w.each e i) }))

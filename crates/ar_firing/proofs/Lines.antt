@@ -24,7 +24,8 @@ turned_round : {V : Type 0} (n : ℕ) (xs : List (Variable V)) (path : ℕ → L
     → reverse (firing_line n xs path) ≡ backward n xs path
 turned_round n [] path = refl
 turned_round n (x ∷ xs) path =
-    reverse-append (cond x.is_state (reverse (path n)) []) (firing_line (suc n) xs path) ∙ (ap (λ z. z ++ reverse (cond x.is_state (reverse (path n)) [])) (turned_round (suc n) xs path) ∙ ap (λ z. backward (suc n) xs path ++ z) (inner x.is_state))
+    reverse-append (cond x.is_state (reverse (path n)) []) (firing_line (suc n) xs path) ∙
+    (ap (λ z. z ++ reverse (cond x.is_state (reverse (path n)) [])) (turned_round (suc n) xs path) ∙ ap (λ z. backward (suc n) xs path ++ z) (inner x.is_state))
   where
     inner : (b : Bool) → reverse (cond b (reverse (path n)) []) ≡ cond b (path n) []
     inner true = reverse-reverse (path n)
@@ -51,7 +52,15 @@ comes_from {V = V} n (x ∷ xs) path l o = ⊎_elim
     (stands_split (backward (suc n) xs path) (cond x.is_state (path n) []) o.place l o.stands)
   where
     here : (b : Bool) → x.is_state ≡ b → (k : ℕ) → Stands (cond b (path n) []) k l → Comes_from n (x ∷ xs) path l
-    here true e k s = record { place = zero; variable = x; stands = refl; is_state = e; number = n; is = omega arith; on_path = record { place = k; stands = s } }
+    here true e k s = record {
+      place = zero;
+      variable = x;
+      stands = refl;
+      is_state = e;
+      number = n;
+      is = omega arith;
+      on_path = record { place = k; stands = s };
+    }
     here false e k s = cc
 
 -- a variable's path stands in the list as one piece
@@ -74,20 +83,26 @@ piece {V = V} n (y ∷ ys) path zero m x s i e =
     record {
       front = backward (suc n) ys path;
       rest = [];
-      is = ap (λ z. backward (suc n) ys path ++ z) (ap (λ b. cond b (path n) []) h ∙ (ap path (sym f) ∙ sym (append-nil (path m))));
+      is =
+          ap (λ z. backward (suc n) ys path ++ z)
+          (ap (λ b. cond b (path n) []) h ∙ (ap path (sym f) ∙ sym (append-nil (path m))));
     }
 piece n (y ∷ ys) path (suc k) m x s i e =
     let p = piece (suc n) ys path k m x s i (omega (arith, e)) in
     record {
       front = p.front;
       rest = p.rest ++ cond y.is_state (path n) [];
-      is = ap (λ z. z ++ cond y.is_state (path n) []) p.is ∙ (append_assoc p.front (path m ++ p.rest) (cond y.is_state (path n) []) ∙ ap (λ z. p.front ++ z) (append_assoc (path m) p.rest (cond y.is_state (path n) [])));
+      is =
+          ap (λ z. z ++ cond y.is_state (path n) []) p.is ∙
+          (append_assoc p.front (path m ++ p.rest) (cond y.is_state (path n) []) ∙ ap (λ z. p.front ++ z) (append_assoc (path m) p.rest (cond y.is_state (path n) [])));
     }
 
 -- no two labels of the joined lists have one event
 once_joined : (xs ys : List Label) → AreOnce xs → AreOnce ys
     → ((l m : Label) → IsOneOf xs l → IsOneOf ys m → l.event ≡ m.event → ⊥) → AreOnce (xs ++ ys)
-once_joined xs ys a b apart = record { once = λ j k l m s t e. go j k l m e (stands_split xs ys j l s) (stands_split xs ys k m t) }
+once_joined xs ys a b apart = record {
+  once = λ j k l m s t e. go j k l m e (stands_split xs ys j l s) (stands_split xs ys k m t);
+}
   where
     go : (j k : ℕ) (l m : Label) → l.event ≡ m.event → Stands xs j l ⊎ ((i : ℕ) × (j ≡ length xs + i) × Stands ys i l)
         → Stands xs k m ⊎ ((i : ℕ) × (k ≡ length xs + i) × Stands ys i m) → j ≡ k
@@ -108,8 +123,11 @@ module _ {V : Type 0} (sys : System V) (dropped : List ℕ) (keyed : AreKeyed sy
       → Edge sys dropped l n from to → (k : ℕ) (m : Label) → Stands ls k m → l.event ≡ m.event → ⊥
   not_before {n = n} {ls = ls} {l = l} {from = from} {to = to} p e k m s i =
       let r = split sys dropped keyed static p k m s in
-      let c = static.one_edge.one l m n n from r.from to r.to (live sys dropped keyed static p e) (split_live sys dropped keyed static r) i in
-      let u : r.rest ≡ ls = path_unique sys dropped keyed static (subst (λ z. Path sys dropped n r.rest z) (sym c.2) r.path) p in
+      let c =
+      static.one_edge.one l m n n from r.from to r.to (live sys dropped keyed static p e)
+      (split_live sys dropped keyed static r) i in
+      let u : r.rest ≡ ls =
+      path_unique sys dropped keyed static (subst (λ z. Path sys dropped n r.rest z) (sym c.2) r.path) p in
       let g : length ls ≡ length r.front + suc (length r.rest) = ap length r.is ∙ length-append r.front (m ∷ r.rest) in
       let z : length r.rest ≡ length ls = ap length u in absurd (omega arith)
 
@@ -133,7 +151,9 @@ module _ {V : Type 0} (sys : System V) (dropped : List ℕ) (keyed : AreKeyed sy
         let v = f.walks n y s' i' in
         let r = split sys dropped keyed static w.2 o.place k o.stands in
         let q = split sys dropped keyed static v.2 o'.place l o'.stands in
-        let c = static.one_edge.one k l m n r.from q.from r.to q.to (split_live sys dropped keyed static r) (split_live sys dropped keyed static q) e in
+        let c =
+        static.one_edge.one k l m n r.from q.from r.to q.to (split_live sys dropped keyed static r)
+        (split_live sys dropped keyed static q) e in
         (c.1, label_same k l e c.0)
 
     line_once : (n : ℕ) (xs : List (Variable V))
@@ -147,9 +167,13 @@ module _ {V : Type 0} (sys : System V) (dropped : List ℕ) (keyed : AreKeyed sy
 
         go : AreOnce (backward (suc n) xs f.path) → (b : Bool) → x.is_state ≡ b
             → AreOnce (backward (suc n) xs f.path ++ cond b (f.path n) [])
-        go r true i = once_joined (backward (suc n) xs f.path) (f.path n) r (let w = f.walks n x (at zero x refl n (omega arith)) i in path_once w.2)
+        go r true i =
+            once_joined (backward (suc n) xs f.path) (f.path n) r
+            (let w = f.walks n x (at zero x refl n (omega arith)) i in path_once w.2)
             (λ k l o p e. let c = comes_from (suc n) xs f.path k o in
-            let h = one_label c.number n c.variable x k l (after c.place c.variable c.stands c.number c.is) c.is_state (at zero x refl n (omega arith)) i c.on_path p e in
+            let h =
+            one_label c.number n c.variable x k l (after c.place c.variable c.stands c.number c.is) c.is_state
+            (at zero x refl n (omega arith)) i c.on_path p e in
             absurd (omega (arith, h.0, c.is)))
         go r false i = once_joined (backward (suc n) xs f.path) [] r nothing_once (λ k l o p e. let h = p.stands in cc)
 
@@ -187,8 +211,12 @@ module _ {V : Type 0} (sys : System V) (dropped : List ℕ) (keyed : AreKeyed sy
           let c = on_paths k l s in
           let w = f.walks c.0 c.1 c.2 c.3 in
           let r = split sys dropped keyed static w.2 c.4.place l c.4.stands in
-          let d = static.one_edge.one l l n c.0 from r.from to r.to (live sys dropped keyed static p e) (split_live sys dropped keyed static r) refl in
-          let u : m ∷ ms ≡ r.rest = path_unique sys dropped keyed static p (subst (λ z. Path sys dropped n r.rest z) (sym d.2) (subst (λ z. Path sys dropped z r.rest r.from) (sym d.1) r.path)) in
+          let d =
+          static.one_edge.one l l n c.0 from r.from to r.to (live sys dropped keyed static p e)
+          (split_live sys dropped keyed static r) refl in
+          let u : m ∷ ms ≡ r.rest =
+          path_unique sys dropped keyed static p
+          (subst (λ z. Path sys dropped n r.rest z) (sym d.2) (subst (λ z. Path sys dropped z r.rest r.from) (sym d.1) r.path)) in
           let q = piece 0 sys.net.variables f.path c.0 c.0 c.1 c.2 c.3 (omega arith) in
           let here : f.path c.0 ≡ r.front ++ (l ∷ (m ∷ ms)) = r.is ∙ ap (λ z. r.front ++ (l ∷ z)) (sym u) in
           follow k l m ms s c.0 q r.front here;
@@ -202,13 +230,19 @@ module _ {V : Type 0} (sys : System V) (dropped : List ℕ) (keyed : AreKeyed sy
             → (n : ℕ) (q : Piece (f.path n) whole) (front : List Label) → f.path n ≡ front ++ (l ∷ (m ∷ ms))
             → (j : ℕ) × (k < j) × Stands whole j m
         follow k l m ms s n q front here =
-            let a : Stands (f.path n) (length front) l = subst (λ z. Stands z (length front) l) (sym here) (at_end front (m ∷ ms) l) in
-            let b : Stands (f.path n) (length front + 1) m = subst (λ z. Stands z (length front + 1) m) (sym here) (stands_right front (l ∷ (m ∷ ms)) 1 (length front + 1) m refl refl) in
-            let c : Stands whole (length q.front + length front) l = subst (λ z. Stands z (length q.front + length front) l) (sym q.is)
+            let a : Stands (f.path n) (length front) l =
+            subst (λ z. Stands z (length front) l) (sym here) (at_end front (m ∷ ms) l) in
+            let b : Stands (f.path n) (length front + 1) m =
+            subst (λ z. Stands z (length front + 1) m) (sym here)
+            (stands_right front (l ∷ (m ∷ ms)) 1 (length front + 1) m refl refl) in
+            let c : Stands whole (length q.front + length front) l =
+            subst (λ z. Stands z (length q.front + length front) l) (sym q.is)
             (stands_right q.front (f.path n ++ q.rest) (length front) (length q.front + length front) l refl (stands_left (f.path n) q.rest (length front) l a)) in
-            let d : Stands whole (length q.front + (length front + 1)) m = subst (λ z. Stands z (length q.front + (length front + 1)) m) (sym q.is)
+            let d : Stands whole (length q.front + (length front + 1)) m =
+            subst (λ z. Stands z (length q.front + (length front + 1)) m) (sym q.is)
             (stands_right q.front (f.path n ++ q.rest) (length front + 1) (length q.front + (length front + 1)) m refl (stands_left (f.path n) q.rest (length front + 1) m b)) in
-            let i : k ≡ length q.front + length front = line_events.once k (length q.front + length front) l l s c refl in
+            let i : k ≡ length q.front + length front =
+            line_events.once k (length q.front + length front) l l s c refl in
             (length q.front + (length front + 1), omega (arith, i), d)
 
   -- the line of a firable set, the last first, is a legal order of it
@@ -216,8 +250,10 @@ module _ {V : Type 0} (sys : System V) (dropped : List ℕ) (keyed : AreKeyed sy
       → IsLegalOrder sys dropped set (reverse ls)
   line_is_legal {set = set} {ls = ls} h =
       let f = h.is_firable in
-      let e : reverse ls ≡ backward 0 sys.net.variables f.path = ap reverse h.is ∙ turned_round 0 sys.net.variables f.path in
-      subst (λ z. IsLegalOrder sys dropped set z) (sym e) (record { values = h.values; is_firable = f; on_paths = on_paths f; events = line_events f; in_order = line_in_order f })
+      let e : reverse ls ≡ backward 0 sys.net.variables f.path =
+      ap reverse h.is ∙ turned_round 0 sys.net.variables f.path in
+      subst (λ z. IsLegalOrder sys dropped set z) (sym e)
+      (record { values = h.values; is_firable = f; on_paths = on_paths f; events = line_events f; in_order = line_in_order f })
 
   -- a set has one line
   pub one_line : {set other : List ℕ} {ls ks : List Label} → Within set other → Within other set
@@ -235,7 +271,9 @@ module _ {V : Type 0} (sys : System V) (dropped : List ℕ) (keyed : AreKeyed sy
               let s = at zero x refl n (omega arith) in
               let w = a.is_firable.walks n x s i in
               let v = b.is_firable.walks n x s i in
-              path_same sys dropped keyed static w.2 v.2 (on_path sys dropped keyed static a.is_firable b.is_firable h n x s i) (on_path sys dropped keyed static b.is_firable a.is_firable k n x s i)
+              path_same sys dropped keyed static w.2 v.2
+              (on_path sys dropped keyed static a.is_firable b.is_firable h n x s i)
+              (on_path sys dropped keyed static b.is_firable a.is_firable k n x s i)
 
           here : (b' : Bool) → x.is_state ≡ b'
               → firing_line (suc n) xs a.is_firable.path ≡ firing_line (suc n) xs b.is_firable.path

@@ -61,20 +61,27 @@ module _ {V : Type 0} (sys : System V) (dropped : List ℕ) (keyed : AreKeyed sy
   -- the set without the last event of one path
   module _ {set : List ℕ} {t : List Value} (f : IsFirable sys dropped set t) (n : ℕ) (x : Variable V)
       (st : Stands sys.net.variables n x) (state : x.is_state ≡ true)
-      (l : Label) (ls : List Label) (from to : Value) (is : f.path n ≡ l ∷ ls) (p : Path sys dropped n ls from) (e : Edge sys dropped l n from to) where
+      (l : Label) (ls : List Label) (from to : Value) (is : f.path n ≡ l ∷ ls) (p : Path sys dropped n ls from)
+      (e : Edge sys dropped l n from to) where
     other : (m : ℕ) (y : Variable V) → Stands sys.net.variables m y → y.is_state ≡ true → (k : ℕ) (j : Label)
         → Stands (put n ls f.path m) k j → j.event ≡ l.event → ⊥
     other m y sy iy k j h q = ⊎_elim
         (λ i. let a : Stands ls k j = subst (λ z. Stands z k j) (put_here n ls f.path) (subst (λ z. Stands (put n ls f.path z) k j) i h) in
         let r = split sys dropped keyed static p k j a in
-        let c = static.one_edge.one j l n n r.from from r.to to (split_live sys dropped keyed static r) (live sys dropped keyed static p e) q in
-        let u : r.rest ≡ ls = path_unique sys dropped keyed static (subst (λ z. Path sys dropped n r.rest z) c.2 r.path) p in
-        let g : length ls ≡ length r.front + suc (length r.rest) = ap length r.is ∙ length-append r.front (j ∷ r.rest) in
+        let c =
+        static.one_edge.one j l n n r.from from r.to to (split_live sys dropped keyed static r)
+        (live sys dropped keyed static p e) q in
+        let u : r.rest ≡ ls =
+        path_unique sys dropped keyed static (subst (λ z. Path sys dropped n r.rest z) c.2 r.path) p in
+        let g : length ls ≡ length r.front + suc (length r.rest) =
+        ap length r.is ∙ length-append r.front (j ∷ r.rest) in
         let z : length r.rest ≡ length ls = ap length u in absurd (omega arith))
         (λ i. let a : Stands (f.path m) k j = subst (λ z. Stands z k j) (put_there n m ls f.path i) h in
         let w = f.walks m y sy iy in
         let r = split sys dropped keyed static w.2 k j a in
-        let c = static.one_edge.one j l m n r.from from r.to to (split_live sys dropped keyed static r) (live sys dropped keyed static p e) q in i c.1)
+        let c =
+        static.one_edge.one j l m n r.from from r.to to (split_live sys dropped keyed static r)
+        (live sys dropped keyed static p e) q in i c.1)
         (cases_eq m n)
 
     still : (m : ℕ) (k : ℕ) (j : Label) → Stands (put n ls f.path m) k j → IsOneOf (f.path m) j
@@ -105,7 +112,8 @@ module _ {V : Type 0} (sys : System V) (dropped : List ℕ) (keyed : AreKeyed sy
           (λ i. let w = f.walks n x st state in (
             from,
             subst (λ z. Stands (changed_at t n from) z from) (sym i) (changed_here t n from w.0 w.1),
-            subst (λ z. Path sys dropped z (put n ls f.path z) from) (sym i) (subst (λ z. Path sys dropped n z from) (sym (put_here n ls f.path)) p),
+            subst (λ z. Path sys dropped z (put n ls f.path z) from) (sym i)
+                (subst (λ z. Path sys dropped n z from) (sym (put_here n ls f.path)) p),
           ))
           (λ i. let w = f.walks m y sy iy in
           (w.0, changed_there t n m from w.0 i w.1, subst (λ z. Path sys dropped m z w.0) (sym (put_there n m ls f.path i)) w.2))
@@ -128,7 +136,9 @@ module _ {V : Type 0} (sys : System V) (dropped : List ℕ) (keyed : AreKeyed sy
     pub met_is_conflicting : {set : List ℕ} → MeetsConflict sys dropped set → IsFirableWith sys dropped conflict set
     met_is_conflicting {set = set} m =
         let c = conflict_firable sys dropped keyed static m.conflicts in
-        let f = firable_as sys dropped (events_within m.labels set m.events) (set_within m.labels set m.events) c.is_firable in
+        let f =
+        firable_as sys dropped (events_within m.labels set m.events)
+        (set_within m.labels set m.events) c.is_firable in
         record { values = c.values; is_firable = f; holds = go c.values f c.flows (conflict set) refl }
       where
         go : (t : List Value) → IsFirable sys dropped set t → Flows sys.net t (Fails m.fault) → (b : Bool)
@@ -145,10 +155,15 @@ module _ {V : Type 0} (sys : System V) (dropped : List ℕ) (keyed : AreKeyed sy
         let part = without l.event set in
         let g = shorter f n x st state l ls from to is p e in
         let in_set : IsOneOf set l.event = f.sound n x st state zero l (subst (λ z. Stands z zero l) (sym is) refl) in
-        let fine = λ (a : List ℕ) (u : List Value) (h : IsFirable sys dropped a u) (w : Within a part) (m : (f : FlowFault) → Flows sys.net u (Fails f) → (set : List ℕ) × MeetsConflict sys dropped set). flows_of a u h w in_set (conflict a) refl in
+        let fine =
+        λ (a : List ℕ) (u : List Value) (h : IsFirable sys dropped a u) (w : Within a part)
+        (m : (f : FlowFault) → Flows sys.net u (Fails f) → (set : List ℕ) × MeetsConflict sys dropped set). flows_of a u h w in_set
+        (conflict a) refl in
         let r = has_order sys dropped keyed static part fine g (record { each = λ e o. o }) in
         let h = all_firable sys dropped keyed static r.1.reaches in
-        let same = firable_same sys dropped keyed static g h (set_within r.1.labels part r.1.events) (events_within r.1.labels part r.1.events) in
+        let same =
+        firable_same sys dropped keyed static g h (set_within r.1.labels part r.1.events)
+        (events_within r.1.labels part r.1.events) in
         let value = same_at same n x st state from (stands_from f n x st state l ls from to is p e) in
         let can = enabled sys dropped keyed h static l n from to e value in
         let edge_on = next_edge sys dropped keyed static h l e.way e.is_open can in
@@ -159,7 +174,9 @@ module _ {V : Type 0} (sys : System V) (dropped : List ℕ) (keyed : AreKeyed sy
         record {
           labels = l ∷ r.1.labels;
           fault = k.fault;
-          conflicts = cuts.fire e.way r.1.reaches e.is_open (flow new.values can (no_clash sys dropped keyed static h l e.way edge_on) (no_leave sys dropped keyed static h l e.way edge_on) new.receives k.flows);
+          conflicts =
+              cuts.fire e.way r.1.reaches e.is_open
+              (flow new.values can (no_clash sys dropped keyed static h l e.way edge_on) (no_leave sys dropped keyed static h l e.way edge_on) new.receives k.flows);
           events = record {
             sound = λ k j s. sound_at r.1.labels r.1.events in_set k j s;
             whole = λ a o. whole_at r.1.labels r.1.events a o;
@@ -170,7 +187,8 @@ module _ {V : Type 0} (sys : System V) (dropped : List ℕ) (keyed : AreKeyed sy
         flows_of : (a : List ℕ) (u : List Value) → IsFirable sys dropped a u → Within a (without l.event set)
             → IsOneOf set l.event → (b : Bool) → conflict a ≡ b → HasFlows sys.net u
         flows_of a u h w i true q =
-            let inside : Within a set = record { each = λ e o. let r = w.each e o in (was l.event set r.place e r.stands).0 } in
+            let inside : Within a set =
+            record { each = λ e o. let r = w.each e o in (was l.event set r.place e r.stands).0 } in
             let all = c.least a inside (record { values = u; is_firable = h; holds = q }) in
             let o = w.each l.event (all.each l.event i) in
             absurd ((was l.event set o.place l.event o.stands).1 refl)

@@ -33,8 +33,11 @@ module _ {V : Type 0} (sys : System V) (dropped : List ℕ) (keyed : AreKeyed sy
       let r = split sys dropped keyed static w.2 p.place l p.stands in
       let c = static.one_edge.one l l n n r.from m r.to to (split_live sys dropped keyed static r) e refl in
       let i : w.0 ≡ m = stands_one t n w.0 m w.1 h in
-      let u : r.rest ≡ f.path n = path_unique sys dropped keyed static (subst (λ z. Path sys dropped n r.rest z) c.2 r.path) (subst (λ z. Path sys dropped n (f.path n) z) i w.2) in
-      let a : length (f.path n) ≡ length r.front + suc (length r.rest) = ap length r.is ∙ length-append r.front (l ∷ r.rest) in
+      let u : r.rest ≡ f.path n =
+      path_unique sys dropped keyed static (subst (λ z. Path sys dropped n r.rest z) c.2 r.path)
+      (subst (λ z. Path sys dropped n (f.path n) z) i w.2) in
+      let a : length (f.path n) ≡ length r.front + suc (length r.rest) =
+      ap length r.is ∙ length-append r.front (l ∷ r.rest) in
       let b : length r.rest ≡ length (f.path n) = ap length u in absurd (omega arith)
 
   -- where no edge leaves a mode on the way, the path ends there
@@ -46,7 +49,8 @@ module _ {V : Type 0} (sys : System V) (dropped : List ℕ) (keyed : AreKeyed sy
       ⊎_elim
       (λ e. let k : w.0 ≡ m = path_end sys dropped keyed static (subst (λ z. Path sys dropped n (z ++ ls) w.0) e q) p in subst (λ z. Stands t n z) k w.1)
       (λ b. let o : IsOneOf (f.path n) b.label = subst (λ z. IsOneOf z b.label) (sym is) b.is_one in
-      absurd (h b.label b.to (record { reached = record { labels = ls; path = p }; edge = b.edge_on }) (f.sound n x s state o.place b.label o.stands)))
+      absurd
+      (h b.label b.to (record { reached = record { labels = ls; path = p }; edge = b.edge_on }) (f.sound n x s state o.place b.label o.stands)))
       (leaves sys dropped keyed static front q p)
 
   pub entered : (l : Label) (from m : Value) → IsLive sys dropped l n from m → Stands t n m → IsOneOf set l.event
@@ -59,7 +63,9 @@ module _ {V : Type 0} (sys : System V) (dropped : List ℕ) (keyed : AreKeyed sy
       go [] is k (root {x = y} st i e) j =
           absurd (static.enters_once.begins l n from y st (subst (λ z. IsLive sys dropped l n from z) (sym (e ∙ j)) h))
       go (a ∷ ls) is k (edge {m = u} p d) j =
-          let b = static.enters_once.enters a l n u from m (subst (λ z. IsLive sys dropped a n u z) j (live sys dropped keyed static p d)) h in
+          let b =
+          static.enters_once.enters a l n u from m
+          (subst (λ z. IsLive sys dropped a n u z) j (live sys dropped keyed static p d)) h in
           subst (λ z. IsOneOf set z) b.0 (f.sound n x s state zero a (subst (λ z. Stands z zero a) (sym is) refl))
 
   pub enters_and_stays : (l : Label) (from m : Value) → IsLive sys dropped l n from m → IsOneOf set l.event
@@ -69,7 +75,8 @@ module _ {V : Type 0} (sys : System V) (dropped : List ℕ) (keyed : AreKeyed sy
       let w = f.walks n x s state in
       let r = split sys dropped keyed static w.2 p.place l p.stands in
       let c = static.one_edge.one l l n n r.from from r.to m (split_live sys dropped keyed static r) h refl in
-      let e : r.to ≡ m = end_same sys dropped keyed static (subst (λ z. Edge sys dropped l n z r.to) c.2 r.edge) h.edge in
+      let e : r.to ≡ m =
+      end_same sys dropped keyed static (subst (λ z. Edge sys dropped l n z r.to) c.2 r.edge) h.edge in
       ends_at r.front (l ∷ r.rest) m r.is (subst (λ z. Path sys dropped n (l ∷ r.rest) z) e (edge r.path r.edge)) k
 
   pub stays_at_first : NoneLeaves sys dropped set n x.value → Stands t n x.value
@@ -92,4 +99,5 @@ module _ {V : Type 0} (sys : System V) (dropped : List ℕ) (keyed : AreKeyed sy
       go [] is k (root {x = y} st i e) j =
           inl (sym j ∙ (sym e ∙ ap (λ z. z.value) (stands_one sys.net.variables n y x st s)))
       go (a ∷ ls) is k (edge {m = u} p d) j =
-          inr (a, u, subst (λ z. IsLive sys dropped a n u z) j (live sys dropped keyed static p d), f.sound n x s state zero a (subst (λ z. Stands z zero a) (sym is) refl))
+          inr
+          (a, u, subst (λ z. IsLive sys dropped a n u z) j (live sys dropped keyed static p d), f.sound n x s state zero a (subst (λ z. Stands z zero a) (sym is) refl))

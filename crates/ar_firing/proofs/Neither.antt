@@ -70,7 +70,9 @@ module _ (P : Rule → Type 0) (step : (r : Rule) → ((l : Rule) → number_of 
       → (number_of (rule_of n) ≡ n) ⊎ (number_of (rule_of n) ≡ n → ⊥) → ⊥
   one_more n below k (inl e) = step (rule_of n) (λ l h. below l (omega (arith, h, e)))
       (λ p. k (λ l h. ⊎_elim (λ i. subst P (ap rule_of (sym i) ∙ numbered l) p) (λ d. below l (omega (arith, h, d))) (cases_eq (number_of l) n)))
-  one_more n below k (inr d) = k (λ l h. ⊎_elim (λ i. absurd (d (ap number_of (ap rule_of (sym i) ∙ numbered l) ∙ i))) (λ q. below l (omega (arith, h, q))) (cases_eq (number_of l) n))
+  one_more n below k (inr d) =
+      k
+      (λ l h. ⊎_elim (λ i. absurd (d (ap number_of (ap rule_of (sym i) ∙ numbered l) ∙ i))) (λ q. below l (omega (arith, h, q))) (cases_eq (number_of l) n))
 
   by_number : (n : ℕ) → (((l : Rule) → number_of l < n → P l) → ⊥) → ⊥
   by_number zero k = k (λ l h. absurd (omega (arith, h)))
@@ -102,4 +104,5 @@ module _ {V : Type 0} (key_told : AreTold V) (sys : System V) (dropped : List �
   pub neither_refuted : (KeepsAll sys dropped → ⊥)
       → ((rule : Rule) (spot : Spot) → IsFirstBroken sys dropped rule spot → ⊥) → ⊥
   neither_refuted none never =
-      by_number (Keeps sys dropped) (λ r below k. kept r below (unbroken sys dropped r below (never r)) k) 9 (λ ks. none (record { each = λ r. ks r (below_nine r) }))
+      by_number (Keeps sys dropped) (λ r below k. kept r below (unbroken sys dropped r below (never r)) k) 9
+      (λ ks. none (record { each = λ r. ks r (below_nine r) }))

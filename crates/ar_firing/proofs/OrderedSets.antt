@@ -19,18 +19,23 @@ pub undropped : {V : Type 0} (sys : System V) (dropped : List ℕ) {ls : List La
     → Reaches sys dropped ls t → Reaches sys [] ls t
 undropped sys dropped (start f) = start f
 undropped sys dropped (fire w r o s) =
-    fire w (undropped sys dropped r) (record { is_kept = record { is_way = o.is_kept.is_way; stays = λ i. let h = i.stands in cc }; visible = o.visible }) s
+    fire w (undropped sys dropped r)
+    (record { is_kept = record { is_way = o.is_kept.is_way; stays = λ i. let h = i.stands in cc }; visible = o.visible }) s
 
 module _ {V : Type 0} (sys : System V) (dropped : List ℕ) (keyed : AreKeyed sys.net)
     (static : IsStatic sys dropped) where
   pub order_is_firable : {set : List ℕ} {t : List Value} → HasOrder sys dropped set t → IsFirable sys dropped set t
-  order_is_firable {set = set} o = firable_as sys dropped (events_within o.labels set o.events) (set_within o.labels set o.events) (all_firable sys dropped keyed static o.reaches)
+  order_is_firable {set = set} o =
+      firable_as sys dropped (events_within o.labels set o.events) (set_within o.labels set o.events)
+      (all_firable sys dropped keyed static o.reaches)
 
   pub firable_has_order : IsConflictFree sys dropped
       → ((set : List ℕ) (t : List Value) → IsFirable sys dropped set t → HasFlows sys.net t ⊎ HasFault sys.net t)
       → {set : List ℕ} {t : List Value} → IsFirable sys dropped set t → (u : List Value) × HasOrder sys dropped set u
   firable_has_order free known {set = set} f =
-      has_order sys dropped keyed static set (λ part u h w met. ⊎_elim (λ k. k) (λ k. let m = met k.fault k.flows in absurd (free m.0 m.1)) (known part u h)) f (record { each = λ e o. o })
+      has_order sys dropped keyed static set
+      (λ part u h w met. ⊎_elim (λ k. k) (λ k. let m = met k.fault k.flows in absurd (free m.0 m.1)) (known part u h)) f
+      (record { each = λ e o. o })
 
   -- the flows of a firable set are there, or a fault
   flows_told : AreTold V → (set : List ℕ) (t : List Value) → IsFirable sys dropped set t

@@ -37,7 +37,8 @@ module _ {V : Type 0} (sys : System V) (dropped : List ℕ) where
       → Reaches sys dropped (reverse ks ++ ls) u
   rewound r none = r
   rewound {ls = ls} {u = u} r (step {l = l} {ls = ks} w o s c) =
-      let e : reverse ks ++ (l ∷ ls) ≡ reverse (l ∷ ks) ++ ls = sym (ap (λ z. z ++ ls) (reverse-append (l ∷ []) ks) ∙ regrouped (reverse ks) l ls) in
+      let e : reverse ks ++ (l ∷ ls) ≡ reverse (l ∷ ks) ++ ls =
+      sym (ap (λ z. z ++ ls) (reverse-append (l ∷ []) ks) ∙ regrouped (reverse ks) l ls) in
       subst (λ z. Reaches sys dropped z u) e (rewound (fire w r o s) c)
     where
       regrouped : (front : List Label) (l : Label) (b : List Label) → (front ++ (l ∷ [])) ++ b ≡ front ++ (l ∷ b)
@@ -75,7 +76,9 @@ module _ {V : Type 0} (sys : System V) (dropped : List ℕ) where
         way = w;
         is_way = subst (λ z. IsWay sys z w) a i;
         steps = subst (λ z. Step sys.net t w (Next z)) c s;
-        goes_on = subst (λ z. Goes sys (t ∷ below) z cs ms) c (subst (λ z. Goes sys (t ∷ below) v z ms) b (subst (λ z. Goes sys (t ∷ below) v ds z) d g));
+        goes_on =
+            subst (λ z. Goes sys (t ∷ below) z cs ms) c
+            (subst (λ z. Goes sys (t ∷ below) v z ms) b (subst (λ z. Goes sys (t ∷ below) v ds z) d g));
       }
   fired (fails w i s) l cs u ms e f = cc
   fired (back g) l cs u ms e f = cc
@@ -90,7 +93,8 @@ module _ {V : Type 0} (sys : System V) (dropped : List ℕ) where
       let r = fired g l (map Fire ls) u ms refl refl in
       let k = o.each zero l refl in
       let e : r.way ≡ k.0 = way_same sys r.is_way k.1.is_kept.is_way in
-      step k.0 k.1 (subst (λ z. Step sys.net t z (Next u)) e r.steps) (went (record { each = λ j m h. o.each (suc j) m h }) d r.goes_on)
+      step k.0 k.1 (subst (λ z. Step sys.net t z (Next u)) e r.steps)
+      (went (record { each = λ j m h. o.each (suc j) m h }) d r.goes_on)
 
   all_open : {t u : List Value} {ls : List Label} → Chain sys dropped t ls u → AreOpen sys dropped ls
   all_open none = record { each = λ k l s. cc }
@@ -102,7 +106,8 @@ module _ {V : Type 0} (sys : System V) (dropped : List ℕ) where
 
   -- what fires without fault replays
   pub replays_so : {ls : List Label} {u : List Value} → Reaches sys dropped (reverse ls) u
-      → AreOpen sys dropped ls × ((t : List Value) × (ms : List Moment) × Runs sys (map Fire ls) (Starts t ∷ ms) × AllFire (length ls) ls t ms u)
+      → AreOpen sys dropped ls
+      × ((t : List Value) × (ms : List Moment) × Runs sys (map Fire ls) (Starts t ∷ ms) × AllFire (length ls) ls t ms u)
   replays_so {ls = ls} {u = u} r =
       let c = unwound r in
       let d = subst (λ z. Chain sys dropped c.0 z u) (reverse-reverse ls) c.2 in
@@ -135,8 +140,11 @@ module _ {V : Type 0} (sys : System V) (dropped : List ℕ) where
       let c = unwound r in
       let k = fails_last [] l c.2 w o s in
       let e : reverse ls ++ (l ∷ []) ≡ reverse (l ∷ ls) = sym (reverse-append (l ∷ []) ls) in
-      subst (λ z. (ms : List Moment) × Runs sys (map Fire z) ms × FailsLast f z ms) e (_, starts c.1 k.1, replays.at_last k.2)
+      subst (λ z. (ms : List Moment) × Runs sys (map Fire z) ms × FailsLast f z ms) e
+      (_, starts c.1 k.1, replays.at_last k.2)
 
   pub conflict_replays : {ls : List Label} {f : FlowFault} → Conflicts sys dropped (reverse ls) f
       → (ms : List Moment) × Runs sys (map Fire ls) ms × FailsLast f ls ms
-  conflict_replays {ls = ls} {f = f} c = subst (λ z. (ms : List Moment) × Runs sys (map Fire z) ms × FailsLast f z ms) (reverse-reverse ls) (conflict_unwound c)
+  conflict_replays {ls = ls} {f = f} c =
+      subst (λ z. (ms : List Moment) × Runs sys (map Fire z) ms × FailsLast f z ms) (reverse-reverse ls)
+      (conflict_unwound c)

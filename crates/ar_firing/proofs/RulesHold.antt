@@ -54,7 +54,9 @@ module _ {V : Type 0} (sys : System V) where
       sym (ap (λ z. z.is_state) e) ∙ a.has.is_state
 
   pub s1_excludes : (e : ℕ) → KeepsS1 sys → BreaksS1 sys e → ⊥
-  s1_excludes e k b = go (k.each (record { event = e; way = b.has.place }) (Joint b.parts) (record { event = b.event; is_event = b.stands; is_way = b.has.stands }))
+  s1_excludes e k b =
+      go
+      (k.each (record { event = e; way = b.has.place }) (Joint b.parts) (record { event = b.event; is_event = b.stands; is_way = b.has.stands }))
     where
       go : IsTransition (Joint b.parts) → ⊥
       go h = elim h [ ]
@@ -67,7 +69,8 @@ module _ {V : Type 0} (sys : System V) where
     one_mode : {l : Label} {w : Way V} {m n : ℕ} {x y : Variable V} → HasModeVariable sys dropped l w m x
         → HasModeVariable sys dropped l w n y → (m ≡ n) × (x ≡ y)
     one_mode {l = l} {w = w} {m = m} {n = n} {x = x} {y = y} a b =
-        let e = stands_one sys.events l.event a.is_kept.is_way.event b.is_kept.is_way.event a.is_kept.is_way.is_event b.is_kept.is_way.is_event in
+        let e =
+        stands_one sys.events l.event a.is_kept.is_way.event b.is_kept.is_way.event a.is_kept.is_way.is_event b.is_kept.is_way.is_event in
         let i : m ≡ n = mode_same (subst (λ z. IsModeOf sys z.unit w m) e a.is_mode) b.is_mode in
         (i, stands_one sys.net.variables n x y (subst (λ z. Stands sys.net.variables z x) i a.stands) b.stands)
 
@@ -94,7 +97,9 @@ module _ {V : Type 0} (sys : System V) where
 
     pub s5_excludes : (n : ℕ) → KeepsS5 sys dropped → BreaksS5 sys dropped n → ⊥
     s5_excludes n k b =
-        let e = k.one b.first.label b.second.label b.first_variable b.second_variable b.first.from b.second.from b.first.to b.second.to b.first.is_live b.second.is_live (b.first.is_event ∙ sym b.second.is_event) in
+        let e =
+        k.one b.first.label b.second.label b.first_variable b.second_variable b.first.from b.second.from b.first.to b.second.to b.first.is_live b.second.is_live
+        (b.first.is_event ∙ sym b.second.is_event) in
         not_two e.0 e.1 e.2 b.two
 
     pub s6_excludes : (n : ℕ) → KeepsS6 sys dropped → BreaksS6 sys dropped n → ⊥
@@ -120,7 +125,8 @@ module _ {V : Type 0} (sys : System V) where
     static k1 k3 k4 k5 k6 = record {
       modes = λ l w o.
           let k = k3.each l w o.is_kept in
-          let e = stands_one sys.events l.event k.mode.is_kept.is_way.event o.is_kept.is_way.event k.mode.is_kept.is_way.is_event o.is_kept.is_way.is_event in
+          let e =
+          stands_one sys.events l.event k.mode.is_kept.is_way.event o.is_kept.is_way.event k.mode.is_kept.is_way.is_event o.is_kept.is_way.is_event in
           let m = subst (λ z. IsModeOf sys z.unit w k.number) e k.mode.is_mode in
           record {
             number = k.number;
@@ -144,7 +150,8 @@ module _ {V : Type 0} (sys : System V) where
         alone x w h k (transition {d = d}) = g.transition (record { only = λ y m. h y (guard m) })
             (λ n a s. record {
               target = k a.target (action a (record { place = n; stands = s }) (as_target refl));
-              conditions = λ j e b t. record { only = λ y m. k y (action a (record { place = n; stands = s }) (as_source (inr (tests_at y a.conditions j e b t m)))) };
+              conditions = λ j e b t.
+                  record { only = λ y m. k y (action a (record { place = n; stands = s }) (as_source (inr (tests_at y a.conditions j e b t m)))) };
               value = record { only = λ y m. k y (action a (record { place = n; stands = s }) (as_source (inl m))) };
             })
 

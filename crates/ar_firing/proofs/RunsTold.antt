@@ -39,7 +39,9 @@ module _ {V : Type 0} (sys : System V) (dropped : List ℕ) where
   reaches_same (c.fire {u = u} w r o s) (c.fire {t = t} {u = v} {l = l} x q p k) =
       let e = reaches_same r q in
       let i : w ≡ x = way_same sys o.is_kept.is_way p.is_kept.is_way in
-      let a : ◌≡◌ {A = Answer} (Next u) (Next v) = step_same sys.net (subst (λ (z : Way V). Step sys.net t z (Next u)) i (subst (λ z. Step sys.net z w (Next u)) e s)) k in cc
+      let a : ◌≡◌ {A = Answer} (Next u) (Next v) =
+      step_same sys.net
+      (subst (λ (z : Way V). Step sys.net t z (Next u)) i (subst (λ z. Step sys.net z w (Next u)) e s)) k in cc
 
   reaches_long : {ls : List Label} {t : List Value} → Reaches sys dropped ls t → length t ≡ length sys.net.variables
   reaches_long (c.start f) = total_long f
@@ -53,15 +55,19 @@ module _ {V : Type 0} (sys : System V) (dropped : List ℕ) where
           → e.hidden ≡ b → IsOneOf dropped l.event ⊎ (IsOneOf dropped l.event → ⊥)
           → Told ((w : Way V) × IsOpen sys dropped l w)
       at_way e s w i true h d = inr (λ k. let o = k.1 in
-          let same : e ≡ o.is_kept.is_way.event = stands_one sys.events l.event e o.is_kept.is_way.event s o.is_kept.is_way.is_event in
+          let same : e ≡ o.is_kept.is_way.event =
+          stands_one sys.events l.event e o.is_kept.is_way.event s o.is_kept.is_way.is_event in
           let g = ap (λ (z : Event V). z.hidden) same in let v = o.visible in cc)
       at_way e s w i false h (inl d) = inr (λ k. k.1.is_kept.stays d)
-      at_way e s w i false h (inr n) = inl (w, record { is_kept = record { is_way = record { event = e; is_event = s; is_way = i }; stays = n }; visible = h })
+      at_way e s w i false h (inr n) =
+          inl
+          (w, record { is_kept = record { is_way = record { event = e; is_event = s; is_way = i }; stays = n }; visible = h })
 
       at_ways : (e : Event V) → Stands sys.events l.event e → (o : Option (Way V)) → slice_get e.ways l.way ≡ o
           → Told ((w : Way V) × IsOpen sys dropped l w)
       at_ways e s None i = inr (λ k. let o = k.1 in
-          let same : o.is_kept.is_way.event ≡ e = stands_one sys.events l.event o.is_kept.is_way.event e o.is_kept.is_way.is_event s in
+          let same : o.is_kept.is_way.event ≡ e =
+          stands_one sys.events l.event o.is_kept.is_way.event e o.is_kept.is_way.is_event s in
           let g = subst (λ (z : Event V). Stands z.ways l.way k.0) same o.is_kept.is_way.is_way in cc)
       at_ways e s (Some w) i = at_way e s w i e.hidden refl (one_of dropped l.event)
 
@@ -100,7 +106,8 @@ module _ {V : Type 0} (sys : System V) (dropped : List ℕ) where
         other t w a {u = u} r o s (c.fire {t = v} x q p k) =
             let e = reaches_same q r in
             let i : x ≡ w = way_same sys p.is_kept.is_way o.is_kept.is_way in
-            step_same sys.net s (subst (λ (z : Way V). Step sys.net t z (Next u)) i (subst (λ z. Step sys.net z x (Next u)) e k))
+            step_same sys.net s
+            (subst (λ (z : Way V). Step sys.net t z (Next u)) i (subst (λ z. Step sys.net z x (Next u)) e k))
 
         fired : (t : List Value) (w : Way V) → Reaches sys dropped ls t → IsOpen sys dropped l w
             → (a : Answer) × Step sys.net t w a → Told ((u : List Value) × Reaches sys dropped (l ∷ ls) u)
@@ -140,7 +147,8 @@ module _ {V : Type 0} (sys : System V) (dropped : List ℕ) where
         other t w a {f = f} r o s (c.fire {t = v} x q p k) =
             let e = reaches_same q r in
             let i : x ≡ w = way_same sys p.is_kept.is_way o.is_kept.is_way in
-            step_same sys.net s (subst (λ (z : Way V). Step sys.net t z (Refused (Flow f))) i (subst (λ z. Step sys.net z x (Refused (Flow f))) e k))
+            step_same sys.net s
+            (subst (λ (z : Way V). Step sys.net t z (Refused (Flow f))) i (subst (λ z. Step sys.net z x (Refused (Flow f))) e k))
 
         fired : (t : List Value) (w : Way V) → Reaches sys dropped ls t → IsOpen sys dropped l w
             → (a : Answer) × Step sys.net t w a → Told ((f : FlowFault) × Conflicts sys dropped (l ∷ ls) f)
@@ -180,8 +188,11 @@ module _ {V : Type 0} (sys : System V) (dropped : List ℕ) where
   in_labels_of : (l : Label) (n : ℕ) → l.way < n → Contains (labels_of l.event n) l
   unfolding labels_of
   in_labels_of l zero h = absurd (omega (arith, h))
-  in_labels_of l (suc n) h = ⊎_elim (λ e. subst (λ (z : ℕ). Contains (record { event = l.event; way = z } ∷ labels_of l.event n) l) e (contains-head l (labels_of l.event n)))
-      (λ d. contains-cons (record { event = l.event; way = n }) l (labels_of l.event n) (in_labels_of l n (omega (arith, h, d)))) (cases_eq l.way n)
+  in_labels_of l (suc n) h =
+      ⊎_elim
+      (λ e. subst (λ (z : ℕ). Contains (record { event = l.event; way = z } ∷ labels_of l.event n) l) e (contains-head l (labels_of l.event n)))
+      (λ d. contains-cons (record { event = l.event; way = n }) l (labels_of l.event n) (in_labels_of l n (omega (arith, h, d))))
+      (cases_eq l.way n)
 
   labels : List ℕ → List Label
   labels [] = []
@@ -193,7 +204,8 @@ module _ {V : Type 0} (sys : System V) (dropped : List ℕ) where
   in_labels (e ∷ es) l w i o = elim (one_cases e es l.event o) [
     | inl q ↦ Contains-append_left (labels_of e (ways_of (slice_get sys.events e))) (labels es) l
         (subst (λ z. Contains (labels_of z (ways_of (slice_get sys.events z))) l) (sym q) (in_labels_of l (ways_of (slice_get sys.events l.event)) (count l w i)))
-    | inr p ↦ Contains-append_right (labels_of e (ways_of (slice_get sys.events e))) (labels es) l (in_labels es l w i p)
+    | inr p ↦
+        Contains-append_right (labels_of e (ways_of (slice_get sys.events e))) (labels es) l (in_labels es l w i p)
   ]
     where
       count : (l : Label) (w : Way V) (i : IsWay sys l w) → l.way < ways_of (slice_get sys.events l.event)
@@ -209,8 +221,11 @@ module _ {V : Type 0} (sys : System V) (dropped : List ℕ) where
   unfolding before_each
   in_before_each [] lss l ls o m = absurd (one_none l o)
   in_before_each (k ∷ all) lss l ls o m = elim (one_cases k all l o) [
-    | inl e ↦ Contains-append_left (map (λ z. k ∷ z) lss) (before_each all lss) (l ∷ ls) (subst (λ (z : Label). Contains (map (λ y. k ∷ y) lss) (z ∷ ls)) e (contains-map (λ z. k ∷ z) ls lss m))
-    | inr p ↦ Contains-append_right (map (λ z. k ∷ z) lss) (before_each all lss) (l ∷ ls) (in_before_each all lss l ls p m)
+    | inl e ↦
+        Contains-append_left (map (λ z. k ∷ z) lss) (before_each all lss) (l ∷ ls)
+        (subst (λ (z : Label). Contains (map (λ y. k ∷ y) lss) (z ∷ ls)) e (contains-map (λ z. k ∷ z) ls lss m))
+    | inr p ↦
+        Contains-append_right (map (λ z. k ∷ z) lss) (before_each all lss) (l ∷ ls) (in_before_each all lss l ls p m)
   ]
 
   lists : List Label → ℕ → List (List Label)
@@ -224,7 +239,8 @@ module _ {V : Type 0} (sys : System V) (dropped : List ℕ) where
   in_lists all zero (l ∷ ls) h k = absurd (omega (arith, h))
   in_lists all (suc n) [] h k = contains-head [] (before_each all (lists all n))
   in_lists all (suc n) (l ∷ ls) h k =
-      contains-cons [] (l ∷ ls) (before_each all (lists all n)) (in_before_each all (lists all n) l ls (k l (one_first l ls)) (in_lists all n ls (omega (arith, h)) (λ m o. k m (one_rest l ls m o))))
+      contains-cons [] (l ∷ ls) (before_each all (lists all n))
+      (in_before_each all (lists all n) l ls (k l (one_first l ls)) (in_lists all n ls (omega (arith, h)) (λ m o. k m (one_rest l ls m o))))
 
 -- the events of the labels are those of the set, each once, said of the list of these events
 record HasEvents (ls : List Label) (set : List ℕ) : Type 0 where
@@ -246,13 +262,16 @@ events_have ls set a = record {
 
 have_events : (ls : List Label) (set : List ℕ) → HasEvents ls set → AreEvents ls set
 have_events ls set h = record {
-  sound = λ k l s. h.sound.each l.event (one_here (map (λ l. l.event) ls) k l.event (stands_map (λ (l : Label). l.event) ls k l s));
+  sound = λ k l s.
+      h.sound.each l.event (one_here (map (λ l. l.event) ls) k l.event (stands_map (λ (l : Label). l.event) ls k l s));
   whole = λ e o.
       let p = h.whole.each e o in
       let l = stands_map_back (λ (l : Label). l.event) ls p.place e p.stands in
       (l.0, one_here ls p.place l.0 l.1, l.2);
   once = λ j k l m s t e.
-      h.once.one j k m.event (subst (λ z. Stands (map (λ l. l.event) ls) j z) e (stands_map (λ (l : Label). l.event) ls j l s)) (stands_map (λ (l : Label). l.event) ls k m t);
+      h.once.one j k m.event
+      (subst (λ z. Stands (map (λ l. l.event) ls) j z) e (stands_map (λ (l : Label). l.event) ls j l s))
+      (stands_map (λ (l : Label). l.event) ls k m t);
 }
 
 pub within_told : (xs ys : List ℕ) → Told (Within xs ys)
@@ -282,7 +301,8 @@ different_told (x ∷ xs) = go (one_of xs x) (different_told xs)
 
 events_told : (ls : List Label) (set : List ℕ) → Told (AreEvents ls set)
 events_told ls set =
-    elim (both_told (within_told (map (λ l. l.event) ls) set) (both_told (within_told set (map (λ l. l.event) ls)) (different_told (map (λ l. l.event) ls)))) [
+    elim
+    (both_told (within_told (map (λ l. l.event) ls) set) (both_told (within_told set (map (λ l. l.event) ls)) (different_told (map (λ l. l.event) ls)))) [
       | inl h ↦ inl (have_events ls set (record { sound = h.0; whole = h.1.0; once = h.1.1 }))
       | inr n ↦ inr (λ a. let h = events_have ls set a in n (h.sound, (h.whole, h.once)))
     ]
@@ -296,8 +316,11 @@ module _ {V : Type 0} (key_told : AreTold V) (sys : System V) (dropped set : Lis
   unfolding candidates
   is_candidate ls a h =
       let e = events_have ls set a in
-      let few : length (map (λ l. l.event) ls) ≤ length set = no_more (map (λ l. l.event) ls) set e.once (λ k n s. e.sound.each n (one_here (map (λ l. l.event) ls) k n s)) in
-      in_lists sys dropped (labels sys dropped set) (length set) ls (subst (λ n. n ≤ length set) (length-map ls (λ (l : Label). l.event)) few)
+      let few : length (map (λ l. l.event) ls) ≤ length set =
+      no_more (map (λ l. l.event) ls) set e.once
+      (λ k n s. e.sound.each n (one_here (map (λ l. l.event) ls) k n s)) in
+      in_lists sys dropped (labels sys dropped set) (length set) ls
+      (subst (λ n. n ≤ length set) (length-map ls (λ (l : Label). l.event)) few)
       (λ l o. one_contains (labels sys dropped set) l (in_labels sys dropped set l (h l o).0 (h l o).1 (a.sound o.place l o.stands)))
 
   module _ (observer : Expr V) (wanted : Value) where
@@ -310,7 +333,9 @@ module _ {V : Type 0} (key_told : AreTold V) (sys : System V) (dropped set : Lis
         at : (t : List Value) → Reaches sys dropped ls t
             → Told (Yields (HasValue sys.net t) (out-Expr V observer) wanted) → Told (Ends ls)
         at t r (inl y) = inl (t, r, y)
-        at t r (inr n) = inr (λ h. n (subst (λ z. Yields (HasValue sys.net z) (out-Expr V observer) wanted) (reaches_same sys dropped h.1 r) h.2))
+        at t r (inr n) =
+            inr
+            (λ h. n (subst (λ z. Yields (HasValue sys.net z) (out-Expr V observer) wanted) (reaches_same sys dropped h.1 r) h.2))
 
         go : Told ((t : List Value) × Reaches sys dropped ls t) → Told (Ends ls)
         go (inl r) = at r.0 r.1 (yields_told (HasValue sys.net r.0) (values_known key_told sys.net r.0) observer wanted)
@@ -318,22 +343,36 @@ module _ {V : Type 0} (key_told : AreTold V) (sys : System V) (dropped set : Lis
 
     -- whether the set makes the value
     pub makes_told : Told (Makes sys dropped observer wanted set)
-    makes_told = elim (some_told (λ ls. AreEvents ls set × Ends ls) candidates (λ ls m. both_told (events_told ls set) (ends_told ls))) [
-      | inl h ↦ inl (record { values = h.2.1.0; order = record { labels = h.0; events = h.2.0; reaches = h.2.1.1 }; shows = h.2.1.2 })
-      | inr n ↦ inr (λ k. n (k.order.labels, is_candidate k.order.labels k.order.events (reached_ways sys dropped k.order.reaches), (k.order.events, (k.values, k.order.reaches, k.shows))))
-    ]
+    makes_told =
+        elim
+        (some_told (λ ls. AreEvents ls set × Ends ls) candidates (λ ls m. both_told (events_told ls set) (ends_told ls))) [
+          | inl h ↦
+              inl
+              (record { values = h.2.1.0; order = record { labels = h.0; events = h.2.0; reaches = h.2.1.1 }; shows = h.2.1.2 })
+          | inr n ↦
+              inr
+              (λ k. n (k.order.labels, is_candidate k.order.labels k.order.events (reached_ways sys dropped k.order.reaches), (k.order.events, (k.values, k.order.reaches, k.shows))))
+        ]
 
   -- whether the set meets a conflict
   pub meets_told : Told (MeetsConflict sys dropped set)
-  meets_told = elim (some_told (λ ls. AreEvents ls set × ((f : FlowFault) × Conflicts sys dropped ls f)) candidates (λ ls m. both_told (events_told ls set) (conflict_told sys dropped key_told ls))) [
-    | inl h ↦ inl (record { labels = h.0; events = h.2.0; fault = h.2.1.0; conflicts = h.2.1.1 })
-    | inr n ↦ inr (λ k. n (k.labels, is_candidate k.labels k.events (conflict_ways sys dropped k.conflicts), (k.events, (k.fault, k.conflicts))))
-  ]
+  meets_told =
+      elim
+      (some_told (λ ls. AreEvents ls set × ((f : FlowFault) × Conflicts sys dropped ls f)) candidates (λ ls m. both_told (events_told ls set) (conflict_told sys dropped key_told ls))) [
+        | inl h ↦ inl (record { labels = h.0; events = h.2.0; fault = h.2.1.0; conflicts = h.2.1.1 })
+        | inr n ↦
+            inr
+            (λ k. n (k.labels, is_candidate k.labels k.events (conflict_ways sys dropped k.conflicts), (k.events, (k.fault, k.conflicts))))
+      ]
 
 -- what sets with the same members have in common
 events_as : (ls : List Label) {set other : List ℕ} → Within set other → Within other set → AreEvents ls set
     → AreEvents ls other
-events_as ls w v a = record { sound = λ k l s. w.each l.event (a.sound k l s); whole = λ e o. a.whole e (v.each e o); once = a.once }
+events_as ls w v a = record {
+  sound = λ k l s. w.each l.event (a.sound k l s);
+  whole = λ e o. a.whole e (v.each e o);
+  once = a.once;
+}
 
 module _ {V : Type 0} (sys : System V) (dropped : List ℕ) where
   pub makes_as : (observer : Expr V) (wanted : Value) (set other : List ℕ) → Within set other → Within other set
@@ -344,4 +383,9 @@ module _ {V : Type 0} (sys : System V) (dropped : List ℕ) where
 
   pub meets_as : (set other : List ℕ) → Within set other → Within other set → MeetsConflict sys dropped set
       → MeetsConflict sys dropped other
-  meets_as set other w v m = record { labels = m.labels; events = events_as m.labels w v m.events; fault = m.fault; conflicts = m.conflicts }
+  meets_as set other w v m = record {
+    labels = m.labels;
+    events = events_as m.labels w v m.events;
+    fault = m.fault;
+    conflicts = m.conflicts;
+  }

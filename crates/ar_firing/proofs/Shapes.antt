@@ -51,11 +51,14 @@ module _ {V : Type 0} (sys : System V) (dropped : List ℕ) (keyed : AreKeyed sy
       (λ y. let g = goes_on p f y.0 r y.2 in
       let u = path_unique sys dropped keyed static (subst (Path sys dropped n (x ∷ ls)) i (edge p e)) g.path in
       let z : length g.front ≡ 0 = omega (arith, ap length u, length-append g.front (g.step ∷ ls)) in
-      let v : Stands (x ∷ ls) 0 g.step = subst (λ c. Stands c 0 g.step) (sym u) (subst (λ c. Stands (g.front ++ g.step ∷ ls) c g.step) z (stands_next g.front g.step ls)) in
+      let v : Stands (x ∷ ls) 0 g.step =
+      subst (λ c. Stands c 0 g.step) (sym u)
+      (subst (λ c. Stands (g.front ++ g.step ∷ ls) c g.step) z (stands_next g.front g.step ls)) in
       let c : x ≡ g.step = cc in
       omega (arith, g.late, ap (λ (a : Label). a.event) c))
       (stands_split es fs k r t)
-  entered_once {n = n} {ls = ls} p (next {to = to} {l = x} {es = es} {fs = fs} b e h d f) (suc j) (suc k) q r l s t w = ⊎_elim
+  entered_once {n = n} {ls = ls} p (next {to = to} {l = x} {es = es} {fs = fs} b e h d f) (suc j) (suc k) q r l s t w =
+      ⊎_elim
       (λ y. ⊎_elim
       (λ z. entered_once (edge p e) d j k q r (omega (arith, l)) y z w)
       (λ z. across q r (goes_on (edge p e) d j q y) (goes_on p f z.0 r z.2) w)
@@ -68,10 +71,16 @@ module _ {V : Type 0} (sys : System V) (dropped : List ℕ) (keyed : AreKeyed sy
     where
       across : (q r : Row) → Goes_on n (x ∷ ls) 0 q.to → Goes_on n ls (x.event + 1) r.to → q.to ≡ r.to → ⊥
       across q r g o w =
-          let u = path_unique sys dropped keyed static (subst (Path sys dropped n (g.front ++ g.step ∷ x ∷ ls)) w g.path) o.path in
-          let z : length o.front ≡ length (g.front ++ g.step ∷ []) = omega (arith, ap length u, length-append g.front (g.step ∷ x ∷ ls), length-append o.front (o.step ∷ ls), length-append g.front (g.step ∷ [])) in
+          let u =
+          path_unique sys dropped keyed static
+          (subst (Path sys dropped n (g.front ++ g.step ∷ x ∷ ls)) w g.path) o.path in
+          let z : length o.front ≡ length (g.front ++ g.step ∷ []) =
+          omega
+          (arith, ap length u, length-append g.front (g.step ∷ x ∷ ls), length-append o.front (o.step ∷ ls), length-append g.front (g.step ∷ [])) in
           let v : Stands ((g.front ++ g.step ∷ []) ++ x ∷ ls) (length (g.front ++ g.step ∷ [])) o.step =
-          subst (λ c. Stands c (length (g.front ++ g.step ∷ [])) o.step) (sym (append_assoc g.front (g.step ∷ []) (x ∷ ls) ∙ u)) (subst (λ c. Stands (o.front ++ o.step ∷ ls) c o.step) z (stands_next o.front o.step ls)) in
+          subst (λ c. Stands c (length (g.front ++ g.step ∷ [])) o.step)
+          (sym (append_assoc g.front (g.step ∷ []) (x ∷ ls) ∙ u))
+          (subst (λ c. Stands (o.front ++ o.step ∷ ls) c o.step) z (stands_next o.front o.step ls)) in
           let a : Some x ≡ Some o.step = sym (stands_next (g.front ++ g.step ∷ []) x ls) ∙ v in
           let c : x ≡ o.step = cc in
           omega (arith, o.late, ap (λ (a : Label). a.event) c)
@@ -85,20 +94,31 @@ module _ {V : Type 0} (sys : System V) (dropped : List ℕ) (keyed : AreKeyed sy
       (λ y. ⊎_elim (λ i. inr (zero, record { from = m; label = l; to = to }, omega arith, refl, sym i))
       (λ o. inr (suc o.0, o.1, omega (arith, o.2), stands_left es fs o.0 o.1 o.3, o.4)) (leaves d k r y))
       (λ y. ⊎_elim (λ i. inl i)
-      (λ o. inr (suc (length es + o.0), o.1, omega (arith, o.2, y.1), stands_right es fs o.0 (length es + o.0) o.1 refl o.3, o.4)) (leaves f y.0 r y.2))
+      (λ o. inr (suc (length es + o.0), o.1, omega (arith, o.2, y.1), stands_right es fs o.0 (length es + o.0) o.1 refl o.3, o.4))
+      (leaves f y.0 r y.2))
       (stands_split es fs k r s)
 
   pub is_tree : (tree : ModeTree) → IsModeTree sys dropped tree → IsTree tree
   is_tree tree h = record {
     from = leaves h.edges;
-    begins = λ k r s w. static.enters_once.begins r.label tree.variable r.from h.is_mode.variable h.is_mode.stands (subst (λ z. IsLive sys dropped r.label tree.variable r.from z) (w ∙ h.first) (row_is_live sys dropped keyed static tree h r (record { place = k; stands = s })));
-    enters = λ j k q r s t w. ⊎_elim (λ e. e) (λ o. ⊎_elim (λ l. absurd (entered_once here h.edges j k q r l s t w)) (λ l. absurd (entered_once here h.edges k j r q l t s (sym w))) o) (cases_order j k);
+    begins = λ k r s w.
+        static.enters_once.begins r.label tree.variable r.from h.is_mode.variable h.is_mode.stands
+        (subst (λ z. IsLive sys dropped r.label tree.variable r.from z) (w ∙ h.first) (row_is_live sys dropped keyed static tree h r (record { place = k; stands = s })));
+    enters = λ j k q r s t w.
+        ⊎_elim (λ e. e)
+        (λ o. ⊎_elim (λ l. absurd (entered_once here h.edges j k q r l s t w)) (λ l. absurd (entered_once here h.edges k j r q l t s (sym w))) o)
+        (cases_order j k);
     event = λ j k q r s t w.
         let a = row_is_live sys dropped keyed static tree h q (record { place = j; stands = s }) in
         let b = row_is_live sys dropped keyed static tree h r (record { place = k; stands = t }) in
         let u = static.one_edge.one q.label r.label tree.variable tree.variable q.from r.from q.to r.to a b w in
-        let g : q.to ≡ r.to = end_same sys dropped keyed static (subst (λ z. Edge sys dropped z tree.variable q.from q.to) (label_same q.label r.label w u.0) a.edge) (subst (λ z. Edge sys dropped r.label tree.variable z r.to) (sym u.2) b.edge) in
-        ⊎_elim (λ e. e) (λ o. ⊎_elim (λ l. absurd (entered_once here h.edges j k q r l s t g)) (λ l. absurd (entered_once here h.edges k j r q l t s (sym g))) o) (cases_order j k);
+        let g : q.to ≡ r.to =
+        end_same sys dropped keyed static
+        (subst (λ z. Edge sys dropped z tree.variable q.from q.to) (label_same q.label r.label w u.0) a.edge)
+        (subst (λ z. Edge sys dropped r.label tree.variable z r.to) (sym u.2) b.edge) in
+        ⊎_elim (λ e. e)
+        (λ o. ⊎_elim (λ l. absurd (entered_once here h.edges j k q r l s t g)) (λ l. absurd (entered_once here h.edges k j r q l t s (sym g))) o)
+        (cases_order j k);
   }
     where
       here : Path sys dropped tree.variable [] tree.first
@@ -114,8 +134,10 @@ module _ {V : Type 0} (sys : System V) (dropped : List ℕ) (keyed : AreKeyed sy
     pub forest_apart : AreApart trees
     forest_apart = record {
       one = λ j k s t a b c d l m i h x y e.
-          let u = row_is_live sys dropped keyed static s (forest.sound j s i) (record { from = a; label = l; to = b }) x in
-          let v = row_is_live sys dropped keyed static t (forest.sound k t h) (record { from = c; label = m; to = d }) y in
+          let u =
+          row_is_live sys dropped keyed static s (forest.sound j s i) (record { from = a; label = l; to = b }) x in
+          let v =
+          row_is_live sys dropped keyed static t (forest.sound k t h) (record { from = c; label = m; to = d }) y in
           one_tree j k s t i h (static.one_edge.one l m s.variable t.variable a c b d u v e).1;
     }
 

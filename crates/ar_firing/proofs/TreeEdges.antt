@@ -18,7 +18,8 @@ module _ {V : Type 0} (sys : System V) (dropped : List ℕ) (keyed : AreKeyed sy
       → Under sys dropped n m low rows → (k : ℕ) (r : Row) → Stands rows k r → IsLive sys dropped r.label n r.from r.to
   under_is_live p (no_more h) k r s = cc
   under_is_live {n = n} {m = m} p (next {to = to} {l = l} b e h d f) zero r s =
-      let i : ◌≡◌ {A = Row} (record { from = m; label = l; to = to }) r = cc in subst (λ (z : Row). IsLive sys dropped z.label n z.from z.to) i (live sys dropped keyed static p e)
+      let i : ◌≡◌ {A = Row} (record { from = m; label = l; to = to }) r =
+      cc in subst (λ (z : Row). IsLive sys dropped z.label n z.from z.to) i (live sys dropped keyed static p e)
   under_is_live p (next {es = es} {fs = fs} b e h d f) (suc k) r s =
       ⊎_elim (λ q. under_is_live (edge p e) d k r q) (λ q. under_is_live p f q.0 r q.2) (stands_split es fs k r s)
 
@@ -46,10 +47,13 @@ module _ {V : Type 0} (sys : System V) (dropped : List ℕ) (keyed : AreKeyed sy
       here : l.event ≡ k.event
           → Below n (record { from = m; label = k; to = on } ∷ (es ++ fs)) (record { from = m; label = l; to = to })
       here i =
-          let a = static.one_edge.one l k n n m m to on (live sys dropped keyed static p e) (live sys dropped keyed static p d) i in
+          let a =
+          static.one_edge.one l k n n m m to on (live sys dropped keyed static p e)
+          (live sys dropped keyed static p d) i in
           let j : k ≡ l = sym (label_same l k i a.0) in
           let g : on ≡ to = end_same sys dropped keyed static (subst (λ z. Edge sys dropped z n m on) j d) e in
-          let w : ◌≡◌ {A = Row} (record { from = m; label = k; to = on }) (record { from = m; label = l; to = to }) = rows k l on to j g in
+          let w : ◌≡◌ {A = Row} (record { from = m; label = k; to = on }) (record { from = m; label = l; to = to }) =
+          rows k l on to j g in
           subst (λ z. Below n (record { from = m; label = k; to = on } ∷ (es ++ fs)) z) w
           (record { is_one = record { place = zero; stands = refl }; under = es; is_under = u; all = λ q o. record { place = suc o.place; stands = stands_left es fs o.place q o.stands } })
         where
@@ -58,11 +62,19 @@ module _ {V : Type 0} (sys : System V) (dropped : List ℕ) (keyed : AreKeyed sy
           rows k l on to i j = cc
 
       beyond : (q : Row) → IsOneOf fs q → IsOneOf (record { from = m; label = k; to = on } ∷ (es ++ fs)) q
-      beyond q o = record { place = suc (length es + o.place); stands = stands_right es fs o.place (length es + o.place) q refl o.stands }
+      beyond q o = record {
+        place = suc (length es + o.place);
+        stands = stands_right es fs o.place (length es + o.place) q refl o.stands;
+      }
 
       later : Below n fs (record { from = m; label = l; to = to })
           → Below n (record { from = m; label = k; to = on } ∷ (es ++ fs)) (record { from = m; label = l; to = to })
-      later r = record { is_one = beyond (record { from = m; label = l; to = to }) r.is_one; under = r.under; is_under = r.is_under; all = λ q o. beyond q (r.all q o) }
+      later r = record {
+        is_one = beyond (record { from = m; label = l; to = to }) r.is_one;
+        under = r.under;
+        is_under = r.is_under;
+        all = λ q o. beyond q (r.all q o);
+      }
 
   -- the rows below a mode that is reached are among the tree's
   record Among (n : ℕ) (m : Value) (rows : List Row) : Type 0 where
@@ -73,7 +85,8 @@ module _ {V : Type 0} (sys : System V) (dropped : List ℕ) (keyed : AreKeyed sy
   among : (tree : ModeTree) → IsModeTree sys dropped tree → {ls : List Label} {m : Value}
       → Path sys dropped tree.variable ls m → Among tree.variable m tree.edges
   among tree h {m = m} (root {x = x} s i e) =
-      let j : h.is_mode.variable ≡ x = stands_one sys.net.variables tree.variable h.is_mode.variable x h.is_mode.stands s in
+      let j : h.is_mode.variable ≡ x =
+      stands_one sys.net.variables tree.variable h.is_mode.variable x h.is_mode.stands s in
       let k : tree.first ≡ m = h.first ∙ (ap (λ z. z.value) j ∙ e) in
       record
       { under = tree.edges; is_under = subst (λ z. Under sys dropped tree.variable z 0 tree.edges) k h.edges; all = λ q o. o }

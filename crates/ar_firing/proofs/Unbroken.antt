@@ -68,7 +68,8 @@ at_known : {V : Type 0} → AreTold V → (x : V) (m : Value) (y : V) → Listed
 at_known key_told x m y = elim (key_told y x) [
   | inl e ↦ record {
     items = m ∷ [];
-    sound = λ v c. elim (contains-cases m v [] c) [ inl i ↦ record { key = e; value = sym i } | inr n ↦ absurd (nothing-in v n) ];
+    sound = λ v c.
+        elim (contains-cases m v [] c) [ inl i ↦ record { key = e; value = sym i } | inr n ↦ absurd (nothing-in v n) ];
     whole = λ v a. subst (λ (z : Value). Contains (m ∷ []) z) (sym a.value) (contains-head m []);
   }
   | inr n ↦ record { items = []; sound = λ v c. absurd (nothing-in v c); whole = λ v a. absurd (n a.key) }
@@ -93,7 +94,9 @@ module _ {V : Type 0} (key_told : AreTold V) (sys : System V) (dropped : List �
     where
       go : (l : Label) (w : Way V) → IsWay sys l w → IsTransition w
       go l (Leaf d) i = transition
-      go l (Joint bs) i = absurd (none (AtEvent l.event) (s1 (record { event = i.event; stands = i.is_event; parts = bs; has = one_here i.event.ways l.way (Joint bs) i.is_way })))
+      go l (Joint bs) i =
+          absurd
+          (none (AtEvent l.event) (s1 (record { event = i.event; stands = i.is_event; parts = bs; has = one_here i.event.ways l.way (Joint bs) i.is_way })))
 
   state_told : (unit : ℕ) (x : Variable V) → Told (IsStateOf unit x)
   state_told unit x = elim (both_told (bool_told x.is_state true) (cases_eq x.unit unit)) [
@@ -123,7 +126,9 @@ module _ {V : Type 0} (key_told : AreTold V) (sys : System V) (dropped : List �
     pub is_mode : IsModeOf sys unit w number
 
   mode_of : (unit : ℕ) (w : Way V) → HasState sys unit → HasMode unit w
-  mode_of unit w h = go (first_or_none (IsNamedStateOf unit w) (named_told unit w) sys.net.variables) (first_or_none (IsStateOf unit) (state_told unit) sys.net.variables)
+  mode_of unit w h =
+      go (first_or_none (IsNamedStateOf unit w) (named_told unit w) sys.net.variables)
+      (first_or_none (IsStateOf unit) (state_told unit) sys.net.variables)
     where
       go : ((n : ℕ) × IsFirst sys.net.variables (IsNamedStateOf unit w) n) ⊎ HasNo sys.net.variables (IsNamedStateOf unit w)
           → ((n : ℕ) × IsFirst sys.net.variables (IsStateOf unit) n) ⊎ HasNo sys.net.variables (IsStateOf unit)
@@ -137,18 +142,23 @@ module _ {V : Type 0} (key_told : AreTold V) (sys : System V) (dropped : List �
     each = λ l w k.
         let unit = k.is_way.event.unit in
         let h = mode_of unit w (k2.each unit (record { label = l; way = w; is_kept = k; is_unit = refl })) in
-        let m : HasModeVariable sys dropped l w h.number h.variable = record { is_kept = k; is_mode = h.is_mode; stands = h.stands } in
+        let m : HasModeVariable sys dropped l w h.number h.variable =
+        record { is_kept = k; is_mode = h.is_mode; stands = h.stands } in
         record {
           number = h.number;
           variable = h.variable;
           mode = m;
-          alone = λ y g. ⊎_elim (λ e. e) (λ n. absurd (none (AtVariable h.number) (s3 (record { label = l; way = w; variable = h.variable; mode = m; other = y; named = g; differs = n })))) (key_told y h.variable.key);
+          alone = λ y g.
+              ⊎_elim (λ e. e)
+              (λ n. absurd (none (AtVariable h.number) (s3 (record { label = l; way = w; variable = h.variable; mode = m; other = y; named = g; differs = n }))))
+              (key_told y h.variable.key);
         };
   }
 
   pub keeps_s4 : Unbroken sys dropped S4 → KeepsS4 sys dropped
   keeps_s4 none = record {
-    alone = λ l w n x m y a. ⊎_elim (λ e. e) (λ d. absurd (none (AtVariable n) (s4 (names l w x m y a d)))) (key_told y x.key);
+    alone = λ l w n x m y a.
+        ⊎_elim (λ e. e) (λ d. absurd (none (AtVariable n) (s4 (names l w x m y a d)))) (key_told y x.key);
     gives =
         λ l w n x m h. one_given l w n x m h (effects_known (At x.key m) (at_known key_told x.key m) key_told x.key w);
   }
@@ -176,9 +186,11 @@ module _ {V : Type 0} (key_told : AreTold V) (sys : System V) (dropped : List �
       → IsLive sys dropped l n v y → k.event ≡ l.event → AreTwo k l m n u v → ⊥
   two_edges none k l m n u v x y a b e t =
       let here : HasLive sys dropped k.event m = record { label = k; is_event = refl; from = u; to = x; is_live = a } in
-      let there : HasLive sys dropped k.event n = record { label = l; is_event = sym e; from = v; to = y; is_live = b } in
+      let there : HasLive sys dropped k.event n =
+      record { label = l; is_event = sym e; from = v; to = y; is_live = b } in
       least_refuted (HasLive sys dropped k.event)
-      (λ i h least. none (AtVariable i) (s5 (record { event = k.event; first_variable = m; second_variable = n; first = here; second = there; two = t; has = h; least = least }))) (suc m) m (omega arith) here
+      (λ i h least. none (AtVariable i) (s5 (record { event = k.event; first_variable = m; second_variable = n; first = here; second = there; two = t; has = h; least = least })))
+      (suc m) m (omega arith) here
 
   pub keeps_s5 : Unbroken sys dropped S5 → KeepsS5 sys dropped
   keeps_s5 none = record {
@@ -194,7 +206,9 @@ module _ {V : Type 0} (key_told : AreTold V) (sys : System V) (dropped : List �
   keeps_s6 none = record {
     moves = λ l n u v h e. none (AtVariable n) (s6 (stays l u v h e));
     enters = λ k l n u v x h i.
-        let e : k.event ≡ l.event = ⊎_elim (λ i. i) (λ d. absurd (none (AtVariable n) (s6 (by_events k l u v x h i d)))) (cases_eq k.event l.event) in
+        let e : k.event ≡ l.event =
+        ⊎_elim (λ i. i) (λ d. absurd (none (AtVariable n) (s6 (by_events k l u v x h i d))))
+        (cases_eq k.event l.event) in
         let broken : AreTwo k l n n u v → ⊥ = λ t. none (AtVariable n) (s6 (by_edges k l u v x h i e t)) in
         (e, ⊎_elim (λ i. i) (λ d. absurd (broken (ways d))) (cases_eq k.way l.way), ⊎_elim (λ i. i) (λ d. absurd (broken (modes d))) (value_told u v));
     begins = λ l n u x s h. none (AtVariable n) (s6 (initial l u x s h));
@@ -204,7 +218,8 @@ module _ {V : Type 0} (key_told : AreTold V) (sys : System V) (dropped : List �
   keeps_s7 targets none = record {
     assignments = λ k a s w.
         let t = targets.each k a s in
-        none (AtVariable t.0) (s7 (record { variable = t.1; stands = t.2; assign = a; is_one = one_here sys.net.assertions k a s; is_target = t.3; wide = w }));
+        none (AtVariable t.0)
+        (s7 (record { variable = t.1; stands = t.2; assign = a; is_one = one_here sys.net.assertions k a s; is_target = t.3; wide = w }));
     observers = λ k e s w. none (AtObserver k) (s7_observer (record { observer = e; stands = s; wide = w }));
   }
 
@@ -215,7 +230,9 @@ module _ {V : Type 0} (key_told : AreTold V) (sys : System V) (dropped : List �
     where
       grow : (more : ℕ) (events : List ℕ) → AreDifferent events
           → ((e : ℕ) → IsOneOf events e → IsLiveEvent sys dropped e) → more + length events ≡ 2049 → ⊥
-      grow zero events d live long = none AtWhole (s8 (record { events = events; differ = d; live = λ k e s. live e (one_here events k e s); many = omega (arith, long) }))
+      grow zero events d live long =
+          none AtWhole
+          (s8 (record { events = events; differ = d; live = λ k e s. live e (one_here events k e s); many = omega (arith, long) }))
       grow (suc more) events d live long = kept (record {
         events = events;
         few = omega (arith, long);
@@ -231,4 +248,6 @@ module _ {V : Type 0} (key_told : AreTold V) (sys : System V) (dropped : List �
 
   -- a system that breaks no rule is static
   pub unbroken_static : ((rule : Rule) → Unbroken sys dropped rule) → IsStatic sys dropped
-  unbroken_static none = static sys dropped (keeps_s1 (none S1)) (keeps_s3 (keeps_s2 (none S2)) (none S3)) (keeps_s4 (none S4)) (keeps_s5 (none S5)) (keeps_s6 (none S6))
+  unbroken_static none =
+      static sys dropped (keeps_s1 (none S1)) (keeps_s3 (keeps_s2 (none S2)) (none S3)) (keeps_s4 (none S4))
+      (keeps_s5 (none S5)) (keeps_s6 (none S6))

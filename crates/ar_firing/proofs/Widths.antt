@@ -13,7 +13,9 @@ use Rattle.typed_expr.proofs.Renaming.{carries, picks_carry, parts_carry}
 
 -- the first item, or one of the rest
 first_or : {A : Type 0} (x : A) (xs : List A) (y : A) → Contains (x ∷ xs) y → (x ≡ y) ⊎ Contains xs y
-first_or {A = A} x xs y c = ⊎_elim (λ h. ⊎_elim (λ n. absurd (none y n)) (λ e. inl e) (Contains-push_cases [] x y h)) (λ h. inr h) (Contains-append_cases (x ∷ []) xs y c)
+first_or {A = A} x xs y c =
+    ⊎_elim (λ h. ⊎_elim (λ n. absurd (none y n)) (λ e. inl e) (Contains-push_cases [] x y h)) (λ h. inr h)
+    (Contains-append_cases (x ∷ []) xs y c)
   where
     none : (y : A) → Contains [] y → ⊥
     none y n = absurd (omega (arith, n.1))

@@ -64,7 +64,9 @@ no_more [] ys d h = omega arith
 no_more (x ∷ xs) ys d h =
     let o = h zero x refl in
     let s = shorter x ys o.place o.stands in
-    let r = no_more xs (without x ys) (record { one = λ m n a p q. let i = d.one (suc m) (suc n) a p q in omega (arith, i) })
+    let r =
+    no_more xs (without x ys)
+    (record { one = λ m n a p q. let i = d.one (suc m) (suc n) a p q in omega (arith, i) })
     (λ k e p. let m = h (suc k) e p in kept x ys m.place e m.stands (λ i. absurd (apart k e p i))) in
     omega (arith, s, r)
   where

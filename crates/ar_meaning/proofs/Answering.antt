@@ -19,7 +19,9 @@ use Rattle.ar_meaning.proofs.Outcomes.{not_told, both_told, some_told, first_or_
 
 module _ {V : Type 0} (facts : V → Value → Type 0) (known : (x : V) → Listed (facts x)) where
   leaf_told : (d : Transition V) → Told (Can facts (Leaf d))
-  leaf_told d = elim (yields_told facts known d.guard (Truth true)) [ inl h ↦ inl (guard_holds h) | inr n ↦ inr (λ c. elim c [ guard_holds h ↦ n h ]) ]
+  leaf_told d =
+      elim
+      (yields_told facts known d.guard (Truth true)) [ inl h ↦ inl (guard_holds h) | inr n ↦ inr (λ c. elim c [ guard_holds h ↦ n h ]) ]
 
   joint_told : (bs : Branches (Transition V)) (b : Bool) → has_must bs ≡ b → Told (Musts_can facts bs)
       → Told (Some_can facts bs) → Told (Can facts (Joint bs))
@@ -66,25 +68,41 @@ module _ {V : Type 0} (facts : V → Value → Type 0) (known : (x : V) → List
       pub yields : Yields facts (out-Expr V assign.value) v
 
     acts_listed : (xs : List (Assign V)) → Listed (Acts xs)
-    acts_listed [] = record { items = []; sound = λ v m. absurd (nothing-in v m); whole = λ v h. absurd (one_none h.assign h.is_one) }
-    acts_listed (a ∷ xs) = listed_as (listed_or (listed_where (both_told (key_told a.target x) (passes_told facts known a.conditions)) (yields_listed facts known a.value)) (acts_listed xs)) on back
+    acts_listed [] = record {
+      items = [];
+      sound = λ v m. absurd (nothing-in v m);
+      whole = λ v h. absurd (one_none h.assign h.is_one);
+    }
+    acts_listed (a ∷ xs) =
+        listed_as
+        (listed_or (listed_where (both_told (key_told a.target x) (passes_told facts known a.conditions)) (yields_listed facts known a.value)) (acts_listed xs)) on back
       where
         on : (v : Value)
             → (((a.target ≡ x) × Passes facts a.conditions) × Yields facts (out-Expr V a.value) v) ⊎ Acts xs v
             → Acts (a ∷ xs) v
         on v (inl h) = record { assign = a; is_one = one_first a xs; is_target = h.0.0; passes = h.0.1; yields = h.1 }
-        on v (inr h) = record { assign = h.assign; is_one = one_rest a xs h.assign h.is_one; is_target = h.is_target; passes = h.passes; yields = h.yields }
+        on v (inr h) = record {
+          assign = h.assign;
+          is_one = one_rest a xs h.assign h.is_one;
+          is_target = h.is_target;
+          passes = h.passes;
+          yields = h.yields;
+        }
 
         at : (v : Value) (b : Assign V) → a ≡ b → b.target ≡ x → Passes facts b.conditions
             → Yields facts (out-Expr V b.value) v
             → ((a.target ≡ x) × Passes facts a.conditions) × Yields facts (out-Expr V a.value) v
-        at v b e i p y = subst (λ (z : Assign V). ((z.target ≡ x) × Passes facts z.conditions) × Yields facts (out-Expr V z.value) v) (sym e) ((i, p), y)
+        at v b e i p y =
+            subst (λ (z : Assign V). ((z.target ≡ x) × Passes facts z.conditions) × Yields facts (out-Expr V z.value) v)
+            (sym e) ((i, p), y)
 
         back : (v : Value) → Acts (a ∷ xs) v
             → (((a.target ≡ x) × Passes facts a.conditions) × Yields facts (out-Expr V a.value) v) ⊎ Acts xs v
         back v h = elim (one_cases a xs h.assign h.is_one) [
           | inl e ↦ inl (at v h.assign e h.is_target h.passes h.yields)
-          | inr o ↦ inr (record { assign = h.assign; is_one = o; is_target = h.is_target; passes = h.passes; yields = h.yields })
+          | inr o ↦
+              inr
+              (record { assign = h.assign; is_one = o; is_target = h.is_target; passes = h.passes; yields = h.yields })
         ]
 
     leaf_acts : {d : Transition V} {y : V} {v : Value} → y ≡ x → Effects facts (Leaf d) y v → Acts d.action v
@@ -93,13 +111,21 @@ module _ {V : Type 0} (facts : V → Value → Type 0) (known : (x : V) → List
     mutual
       -- the values that a way gives the variable
       pub effects_known : (w : Way V) → Listed (Effects facts w x)
-      effects_known (Leaf d) = listed_as (acts_listed d.action) (λ v h. subst (λ (z : V). Effects facts (Leaf d) z v) h.is_target (acts h.assign h.is_one h.passes h.yields)) (λ v e. leaf_acts refl e)
+      effects_known (Leaf d) =
+          listed_as (acts_listed d.action)
+          (λ v h. subst (λ (z : V). Effects facts (Leaf d) z v) h.is_target (acts h.assign h.is_one h.passes h.yields))
+          (λ v e. leaf_acts refl e)
       effects_known (Joint bs) = listed_as (parts_known bs) (λ v h. by_part h) (λ v e. elim e [ by_part h ↦ h ])
 
       parts_known : (bs : Branches (Transition V)) → Listed (Part_effects facts bs x)
       parts_known Empty = record { items = []; sound = λ v m. absurd (nothing-in v m); whole = λ v h. elim h [ ] }
-      parts_known (Branch true w bs) = listed_as (listed_or (effects_known w) (parts_known bs)) (λ v h. elim h [ inl e ↦ by_must e | inr r ↦ by_later r ]) (λ v h. elim h [ by_must e ↦ inl e | by_later r ↦ inr r ])
-      parts_known (Branch false w bs) = listed_as (listed_or (listed_where (can_told w) (effects_known w)) (parts_known bs)) (λ v h. elim h [ inl e ↦ by_may e.0 e.1 | inr r ↦ by_later r ])
+      parts_known (Branch true w bs) =
+          listed_as (listed_or (effects_known w) (parts_known bs))
+          (λ v h. elim h [ inl e ↦ by_must e | inr r ↦ by_later r ])
+          (λ v h. elim h [ by_must e ↦ inl e | by_later r ↦ inr r ])
+      parts_known (Branch false w bs) =
+          listed_as (listed_or (listed_where (can_told w) (effects_known w)) (parts_known bs))
+          (λ v h. elim h [ inl e ↦ by_may e.0 e.1 | inr r ↦ by_later r ])
           (λ v h. elim h [ by_may c e ↦ inl (c, e) | by_later r ↦ inr r ])
 
 -- each variable's value after the effects, where those of each are listed
@@ -127,8 +153,11 @@ module _ {V : Type 0} (key_told : (x y : V) → Told (x ≡ y)) (net : Net V) (t
   clash_told : (x : Variable V) → Told (Clashes effects x)
   clash_told x =
       let l = given x.key in
-      elim (some_told (λ v. (u : Value) × Contains l.items u × (v ≡ u → ⊥)) l.items (λ v m. some_told (λ u. v ≡ u → ⊥) l.items (λ u n. not_told (value_told v u)))) [
-        | inl r ↦ inl (record { first = r.0; second = r.2.0; is_first = l.sound r.0 r.1; is_second = l.sound r.2.0 r.2.1; differ = r.2.2 })
+      elim
+      (some_told (λ v. (u : Value) × Contains l.items u × (v ≡ u → ⊥)) l.items (λ v m. some_told (λ u. v ≡ u → ⊥) l.items (λ u n. not_told (value_told v u)))) [
+        | inl r ↦
+            inl
+            (record { first = r.0; second = r.2.0; is_first = l.sound r.0 r.1; is_second = l.sound r.2.0 r.2.1; differ = r.2.2 })
         | inr n ↦ inr (λ h. n (h.first, l.whole h.first h.is_first, (h.second, l.whole h.second h.is_second, h.differ)))
       ]
 
@@ -142,7 +171,9 @@ module _ {V : Type 0} (key_told : (x y : V) → Told (x ≡ y)) (net : Net V) (t
 
   -- an answer
   pub has_answer : length t ≡ length net.variables → (a : Answer) × Step net t w a
-  has_answer long = go (can_told (HasValue net t) (values_known key_told net t) w) (first_or_none (Clashes effects) net.variables (λ x o. clash_told x))
+  has_answer long =
+      go (can_told (HasValue net t) (values_known key_told net t) w)
+      (first_or_none (Clashes effects) net.variables (λ x o. clash_told x))
       (first_or_none (LeavesDomain effects) net.variables (λ x o. leaves_told x))
     where
       last : Can (HasValue net t) w → HasNo net.variables (Clashes effects) → HasNo net.variables (LeavesDomain effects)

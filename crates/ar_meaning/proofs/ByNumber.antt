@@ -34,7 +34,14 @@ module _ (net : Net ℕ) (numbered : AreNumbered net) where
 
   pub given_from : (t : List Value) (n : ℕ) (x : Variable ℕ) (v : Value) → Stands net.variables n x → x.is_state ≡ true
       → Stands t n v → IsGiven net t n v
-  given_from t n x v s i h = record { place = n; variable = x; stands = s; is_key = numbered.key n x s; is_state = i; value = h }
+  given_from t n x v s i h = record {
+    place = n;
+    variable = x;
+    stands = s;
+    is_key = numbered.key n x s;
+    is_state = i;
+    value = h;
+  }
 
   pub allowed_at : (n : ℕ) (x : Variable ℕ) (v : Value) → Stands net.variables n x → Allows net n v
       → Contains x.domain v

@@ -49,7 +49,8 @@ keyed_there same here there image k =
       one = λ m n x y s r i.
           let p = partner back.variables m x s in
           let q = partner back.variables n y r in
-          k.one m n p.item q.item p.stands q.stands (image.one_back p.item.key q.item.key y.key (subst (λ z. same p.item.key z) i p.related.key) q.related.key);
+          k.one m n p.item q.item p.stands q.stands
+          (image.one_back p.item.key q.item.key y.key (subst (λ z. same p.item.key z) i p.related.key) q.related.key);
     }
 
 -- where each key stands at its variable's place, each number is that of its variable
@@ -78,11 +79,17 @@ copied_system things sys flat other f k =
     let second : ℕ → ℕ → Type 0 = λ m n. m ≡ n in
     record {
       different = f.different;
-      variables = along_joined (variable_joined (IsNumber things) second (IsNumber things) (by_copy things)) f.variables k.net.variables;
-      assertions = along_joined (assign_joined (IsNumber things) second (IsNumber things) (by_copy things)) f.assertions k.net.assertions;
+      variables =
+          along_joined
+          (variable_joined (IsNumber things) second (IsNumber things) (by_copy things)) f.variables k.net.variables;
+      assertions =
+          along_joined
+          (assign_joined (IsNumber things) second (IsNumber things) (by_copy things)) f.assertions k.net.assertions;
       events =
           along_joined (event_joined (IsNumber things) second (IsNumber things) (by_copy things)) f.events k.events;
-      observers = along_joined (observer_joined (IsNumber things) second (IsNumber things) (by_copy things)) f.observers k.observers;
+      observers =
+          along_joined
+          (observer_joined (IsNumber things) second (IsNumber things) (by_copy things)) f.observers k.observers;
     }
 
 module _ {V E : Type 0} (things : List V) (keys : List E) where
@@ -100,7 +107,12 @@ module _ {V E : Type 0} (things : List V) (keys : List E) where
   declared_copied : (d : Declared (Transition V) E) (e f : Declared (Transition ℕ) ℕ)
       → Declared_renames (IsNumber things) (IsNumber keys) d e → Declared_renames (λ m n. m ≡ n) (λ m n. m ≡ n) e f
       → Declared_renames (IsNumber things) (IsNumber keys) d f
-  declared_copied d e f p q = record { key = by_copy keys d.key e.key f.key p.key q.key; unit = p.unit ∙ q.unit; hidden = p.hidden ∙ q.hidden; members = along_joined member_copied p.members q.members }
+  declared_copied d e f p q = record {
+    key = by_copy keys d.key e.key f.key p.key q.key;
+    unit = p.unit ∙ q.unit;
+    hidden = p.hidden ∙ q.hidden;
+    members = along_joined member_copied p.members q.members;
+  }
 
   pub copied_events : (ds : List (Declared (Transition V) E)) (es fs : List (Declared (Transition ℕ) ℕ))
       → AreFlatOf things keys ds es → Along (Declared_renames (λ m n. m ≡ n) (λ m n. m ≡ n)) es fs

@@ -28,7 +28,8 @@ module _ (P : ℕ → Value → Type 0) where
   at_any es v (all_false d) = inr (d, refl)
 
   at_equal : (a b : Box (Expr ℕ) Global) (v : Value) → Yields P (form.Compare Equal a b) v
-      → (x : Value) × (y : Value) × Yields P (out-Expr ℕ a.value) x × Yields P (out-Expr ℕ b.value) y × (v ≡ Truth (is_related Equal x y))
+      → (x : Value) × (y : Value) × Yields P (out-Expr ℕ a.value) x × Yields P (out-Expr ℕ b.value) y
+      × (v ≡ Truth (is_related Equal x y))
   at_equal a b v (compared {v = x} {w = y} d e) = (x, y, d, e, refl)
 
   some_of_two : (a b : Expr ℕ) (v : Value) → Some_yields P (a ∷ b ∷ []) v
@@ -61,7 +62,9 @@ module _ (P : ℕ → Value → Type 0) where
 
   pub not_yields : (e a : Expr ℕ) (b : Bool) → IsNot e a → Yields P (out-Expr ℕ a) (Truth b)
       → Yields P (out-Expr ℕ e) (Truth (not b))
-  not_yields e a b i d = subst (λ z. Yields P z (Truth (not b))) (sym i.is) (opposite (subst (λ z. Yields P (out-Expr ℕ z) (Truth b)) (sym i.is_operand) d))
+  not_yields e a b i d =
+      subst (λ z. Yields P z (Truth (not b))) (sym i.is)
+      (opposite (subst (λ z. Yields P (out-Expr ℕ z) (Truth b)) (sym i.is_operand) d))
 
   pub either_is : (e a b : Expr ℕ) (v : Value) → IsEither e a b → Yields P (out-Expr ℕ e) v
       → ((Yields P (out-Expr ℕ a) (Truth true) ⊎ Yields P (out-Expr ℕ b) (Truth true)) × (v ≡ Truth true)) ⊎ (Yields P (out-Expr ℕ a) (Truth false) × Yields P (out-Expr ℕ b) (Truth false) × (v ≡ Truth false))
@@ -72,7 +75,9 @@ module _ (P : ℕ → Value → Type 0) where
 
   pub second_yields : (e a b : Expr ℕ) → IsEither e a b → Yields P (out-Expr ℕ b) (Truth true)
       → Yields P (out-Expr ℕ e) (Truth true)
-  second_yields e a b i d = subst (λ z. Yields P z (Truth true)) (sym i.is) (one_true (subst (λ z. Some_yields P z (Truth true)) (sym i.are_operands) (later (here d))))
+  second_yields e a b i d =
+      subst (λ z. Yields P z (Truth true)) (sym i.is)
+      (one_true (subst (λ z. Some_yields P z (Truth true)) (sym i.are_operands) (later (here d))))
 
   pub equal_is : (e a b : Expr ℕ) (v : Value) → IsEqual e a b → Yields P (out-Expr ℕ e) v → (x : Value) ×
       (y : Value) × Yields P (out-Expr ℕ a) x × Yields P (out-Expr ℕ b) y × (v ≡ Truth (is_related Equal x y))
@@ -92,5 +97,6 @@ module _ (P : ℕ → Value → Type 0) where
       → Yields P (out-Expr ℕ e) (Truth (is_related Equal x closed))
   closed_yields e x i h =
       let l = subst (λ z. Yields P (out-Expr ℕ z) x) (sym i.is.is_left) (variable_yields i.switch 0 x i.is_switch h) in
-      let r = subst (λ z. Yields P (out-Expr ℕ z) closed) (sym i.is.is_right) (constant_yields i.value closed i.is_value) in
+      let r =
+      subst (λ z. Yields P (out-Expr ℕ z) closed) (sym i.is.is_right) (constant_yields i.value closed i.is_value) in
       subst (λ z. Yields P z (Truth (is_related Equal x closed))) (sym i.is.is) (compared l r)

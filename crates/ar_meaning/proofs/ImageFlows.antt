@@ -37,7 +37,8 @@ partner (l.one_and r d) (suc n) a e =
 
 module _ {A B : Type 0} {R : A → B → Type 0} {S : B → A → Type 0} {P : A → Type 0} {Q : B → Type 0} {xs : List A}
     {ys : List B}
-    (there : Along R xs ys) (here : Along S ys xs) (on : (a : A) (b : B) → R a b → P a → Q b) (back : (b : B) (a : A) → S b a → Q b → P a) where
+    (there : Along R xs ys) (here : Along S ys xs) (on : (a : A) (b : B) → R a b → P a → Q b)
+    (back : (b : B) (a : A) → S b a → Q b → P a) where
   pub first_there : {n : ℕ} → IsFirst xs P n → IsFirst ys Q n
   first_there {n = n} h =
       let p = partner there n h.item h.stands in
@@ -49,10 +50,13 @@ module _ {A B : Type 0} {R : A → B → Type 0} {S : B → A → Type 0} {P : A
       }
 
   pub none_there : HasNo xs P → HasNo ys Q
-  none_there h = record { has_not = λ k b e q. let o = partner here k b e in h.has_not k o.item o.stands (back b o.item o.related q) }
+  none_there h = record {
+    has_not = λ k b e q. let o = partner here k b e in h.has_not k o.item o.stands (back b o.item o.related q);
+  }
 
 pub passes_carry : (V W : Type 0) (P : V → Value → Type 0) (Q : W → Value → Type 0) (same : V → W → Type 0)
-    (kept : (x : V) (y : W) (v : Value) → same x y → P x v → Q y v) {es : List (Expr V × Bool)} {fs : List (Expr W × Bool)}
+    (kept : (x : V) (y : W) (v : Value) → same x y → P x v → Q y v) {es : List (Expr V × Bool)}
+    {fs : List (Expr W × Bool)}
     → Passes P es → Conditions_rename same es fs → Passes Q fs
 passes_carry V W P Q same kept f.none i.none = f.none
 passes_carry V W P Q same kept (f.one_and d ds) (i.one_and r rs) =
@@ -66,7 +70,8 @@ must_same (branch {must = false} q qs) = must_same qs
 
 -- what ways can do
 module _ (V W : Type 0) (P : V → Value → Type 0) (Q : W → Value → Type 0) (same : V → W → Type 0)
-    (kept : (x : V) (y : W) (v : Value) → same x y → P x v → Q y v) (one : (x : V) (y z : W) → same x y → same x z → y ≡ z) where
+    (kept : (x : V) (y : W) (v : Value) → same x y → P x v → Q y v)
+    (one : (x : V) (y z : W) → same x y → same x z → y ≡ z) where
   mutual
     pub can_there : {v : Way V} {w : Way W} → Way_renames same v w → Can P v → Can Q w
     can_there (leaves q) (guard_holds y) = guard_holds (carries V W P Q same kept y q.guard)
@@ -141,7 +146,8 @@ module _ {V W : Type 0} (same : V → W → Type 0) (A : Net V) (B : Net W) (ima
       (λ a v m p d l y q.
       let b = partner image.assertions m.place a m.stands in
       let k = closed B.assertions (Allows B) (IsGiven B t) b.item v (record { place = m.place; stands = b.stands })
-      (passes_carry V W P (FactOf B t) same go p b.related.conditions) (carries V W P (FactOf B t) same go d b.related.value)
+      (passes_carry V W P (FactOf B t) same go p b.related.conditions)
+      (carries V W P (FactOf B t) same go d b.related.value)
       (allows_there a.target b.item.target v b.related.target l) in
       subst (λ z. FactOf B t z v) (image.one a.target b.item.target y b.related.target q) k)
       x v h y s
@@ -201,38 +207,61 @@ module _ {V W : Type 0} (same : V → W → Type 0) (A : Net V) (B : Net W) (ima
   broken_there : (t : List Value) (a : Assign V) (b : Assign W) → Assign_renames same a b → IsBroken A t a
       → IsBroken B t b
   broken_there t a b r h =
-      let go = λ (x : V) (y : W) (v : Value) (s : same x y) (d : HasValue A t x v). value_there same A B image t x y v s d in
+      let go =
+      λ (x : V) (y : W) (v : Value) (s : same x y) (d : HasValue A t x v). value_there same A B image t x y v s d in
       record {
         passes = passes_carry V W (HasValue A t) (HasValue B t) same go h.passes r.conditions;
         value = h.value;
         yields = carries V W (HasValue A t) (HasValue B t) same go h.yields r.value;
-        differs = λ d. h.differs (value_there (turned same) B A (net_turned same image) t b.target a.target h.value r.target d);
+        differs = λ d.
+            h.differs (value_there (turned same) B A (net_turned same image) t b.target a.target h.value r.target d);
       }
 
   clashes_there : (P : V → Value → Type 0) (Q : W → Value → Type 0)
       → ((x : V) (y : W) (v : Value) → same x y → P x v → Q y v)
       → (x : Variable V) (y : Variable W) → Variable_renames same x y → Clashes P x → Clashes Q y
-  clashes_there P Q on x y r h = record { first = h.first; second = h.second; is_first = on x.key y.key h.first r.key h.is_first; is_second = on x.key y.key h.second r.key h.is_second; differ = h.differ }
+  clashes_there P Q on x y r h = record {
+    first = h.first;
+    second = h.second;
+    is_first = on x.key y.key h.first r.key h.is_first;
+    is_second = on x.key y.key h.second r.key h.is_second;
+    differ = h.differ;
+  }
 
   leaves_there : (P : V → Value → Type 0) (Q : W → Value → Type 0)
       → ((x : V) (y : W) (v : Value) → same x y → P x v → Q y v)
       → (x : Variable V) (y : Variable W) → Variable_renames same x y → LeavesDomain P x → LeavesDomain Q y
-  leaves_there P Q on x y r h = record { value = h.value; received = on x.key y.key h.value r.key h.received; outside = λ c. h.outside (subst (λ d. Contains d h.value) (sym r.domain) c) }
+  leaves_there P Q on x y r h = record {
+    value = h.value;
+    received = on x.key y.key h.value r.key h.received;
+    outside = λ c. h.outside (subst (λ d. Contains d h.value) (sym r.domain) c);
+  }
 
 module _ {V W : Type 0} (same : V → W → Type 0) (A : Net V) (B : Net W) (image : IsNetImage same A B) where
   pub flows_there : {t : List Value} {o : Outcome} → Flows A t o → Flows B t o
   flows_there {t = t} {o = o} h =
       let back = net_turned same image in
-      let no_two = none_there image.variables back.variables (two_there same A B image t) (two_there (turned same) B A back t) in
-      let no_outside = none_there image.variables back.variables (outside_there same A B image t) (outside_there (turned same) B A back t) in
-      let on = λ (x : V) (y : W) (v : Value) (s : same x y) (d : FactOf A t x v). fact_there same A B image t x y v s d in
-      let off = λ (y : W) (x : V) (v : Value) (s : same x y) (d : FactOf B t y v). fact_there (turned same) B A back t y x v s d in
+      let no_two =
+      none_there image.variables back.variables (two_there same A B image t) (two_there (turned same) B A back t) in
+      let no_outside =
+      none_there image.variables back.variables (outside_there same A B image t)
+      (outside_there (turned same) B A back t) in
+      let on =
+      λ (x : V) (y : W) (v : Value) (s : same x y) (d : FactOf A t x v). fact_there same A B image t x y v s d in
+      let off =
+      λ (y : W) (x : V) (v : Value) (s : same x y) (d : FactOf B t y v). fact_there
+      (turned same) B A back t y x v s d in
       elim h as (λ k _. Flows B t k) [
-        | two f ↦ two (first_there image.variables back.variables (two_there same A B image t) (two_there (turned same) B A back t) f)
-        | outside n f ↦ outside (no_two n) (first_there image.variables back.variables (outside_there same A B image t) (outside_there (turned same) B A back t) f)
+        | two f ↦
+            two
+            (first_there image.variables back.variables (two_there same A B image t) (two_there (turned same) B A back t) f)
+        | outside n f ↦
+            outside (no_two n)
+            (first_there image.variables back.variables (outside_there same A B image t) (outside_there (turned same) B A back t) f)
         | broken total n m c f ↦ broken total (no_two n) (no_outside m) (completes_there on off image.variables c)
             (first_there image.assertions back.assertions (broken_there same A B image total) (broken_there (turned same) B A back total) f)
-        | all_hold {total = total} n m c f ↦ all_hold (no_two n) (no_outside m) (completes_there on off image.variables c)
+        | all_hold {total = total} n m c f ↦
+            all_hold (no_two n) (no_outside m) (completes_there on off image.variables c)
             (none_there image.assertions back.assertions (broken_there same A B image total) (broken_there (turned same) B A back total) f)
       ]
 
@@ -240,20 +269,39 @@ module _ {V W : Type 0} (same : V → W → Type 0) (A : Net V) (B : Net W) (ima
       → Step B t w o
   step_there {t = t} {v = v} {w = w} {o = o} q h =
       let back = net_turned same image in
-      let value_on = λ (x : V) (y : W) (d : Value) (s : same x y) (h : HasValue A t x d). value_there same A B image t x y d s h in
-      let value_off = λ (y : W) (x : V) (d : Value) (s : same x y) (h : HasValue B t y d). value_there (turned same) B A back t y x d s h in
+      let value_on =
+      λ (x : V) (y : W) (d : Value) (s : same x y) (h : HasValue A t x d). value_there same A B image t x y d s h in
+      let value_off =
+      λ (y : W) (x : V) (d : Value) (s : same x y) (h : HasValue B t y d). value_there
+      (turned same) B A back t y x d s h in
       let P = Effects (HasValue A t) v in
       let Q = Effects (HasValue B t) w in
-      let on = λ (x : V) (y : W) (d : Value) (s : same x y) (h : P x d). effects_there V W (HasValue A t) (HasValue B t) same value_on image.one q s h in
-      let off = λ (y : W) (x : V) (d : Value) (s : same x y) (h : Q y d). effects_there W V (HasValue B t) (HasValue A t) (turned same) value_off back.one (way_turned same q) s h in
-      let can : Can (HasValue A t) v → Can (HasValue B t) w = can_there V W (HasValue A t) (HasValue B t) same value_on image.one q in
-      let can_back : Can (HasValue B t) w → Can (HasValue A t) v = can_there W V (HasValue B t) (HasValue A t) (turned same) value_off back.one (way_turned same q) in
-      let no_clash = none_there image.variables back.variables (clashes_there same A B image P Q on) (clashes_there (turned same) B A back Q P off) in
-      let no_leave = none_there image.variables back.variables (leaves_there same A B image P Q on) (leaves_there (turned same) B A back Q P off) in
+      let on =
+      λ (x : V) (y : W) (d : Value) (s : same x y) (h : P x d). effects_there V W (HasValue A t)
+      (HasValue B t) same value_on image.one q s h in
+      let off =
+      λ (y : W) (x : V) (d : Value) (s : same x y) (h : Q y d). effects_there W V (HasValue B t) (HasValue A t)
+      (turned same) value_off back.one (way_turned same q) s h in
+      let can : Can (HasValue A t) v → Can (HasValue B t) w =
+      can_there V W (HasValue A t) (HasValue B t) same value_on image.one q in
+      let can_back : Can (HasValue B t) w → Can (HasValue A t) v =
+      can_there W V (HasValue B t) (HasValue A t) (turned same) value_off back.one (way_turned same q) in
+      let no_clash =
+      none_there image.variables back.variables (clashes_there same A B image P Q on)
+      (clashes_there (turned same) B A back Q P off) in
+      let no_leave =
+      none_there image.variables back.variables (leaves_there same A B image P Q on)
+      (leaves_there (turned same) B A back Q P off) in
       elim h as (λ k _. Step B t w k) [
         | not_enabled n ↦ not_enabled (λ c. n (can_back c))
-        | clash c f ↦ clash (can c) (first_there image.variables back.variables (clashes_there same A B image P Q on) (clashes_there (turned same) B A back Q P off) f)
-        | range c n f ↦ range (can c) (no_clash n) (first_there image.variables back.variables (leaves_there same A B image P Q on) (leaves_there (turned same) B A back Q P off) f)
-        | flow u c n m r f ↦ flow u (can c) (no_clash n) (no_leave m) (receives_there on off image.variables r) (flows_there f)
-        | moves u c n m r f ↦ moves u (can c) (no_clash n) (no_leave m) (receives_there on off image.variables r) (flows_there f)
+        | clash c f ↦
+            clash (can c)
+            (first_there image.variables back.variables (clashes_there same A B image P Q on) (clashes_there (turned same) B A back Q P off) f)
+        | range c n f ↦
+            range (can c) (no_clash n)
+            (first_there image.variables back.variables (leaves_there same A B image P Q on) (leaves_there (turned same) B A back Q P off) f)
+        | flow u c n m r f ↦
+            flow u (can c) (no_clash n) (no_leave m) (receives_there on off image.variables r) (flows_there f)
+        | moves u c n m r f ↦
+            moves u (can c) (no_clash n) (no_leave m) (receives_there on off image.variables r) (flows_there f)
       ]

@@ -24,15 +24,28 @@ module _ {U V W : Type 0} (first : U → V → Type 0) (second : V → W → Typ
 
   pub assign_joined : (a : Assign U) (b : Assign V) (c : Assign W) → Assign_renames first a b
       → Assign_renames second b c → Assign_renames third a c
-  assign_joined a b c p q = record { target = through a.target b.target c.target p.target q.target; conditions = conditions_joined p.conditions q.conditions; value = renames_joined first second third through p.value q.value }
+  assign_joined a b c p q = record {
+    target = through a.target b.target c.target p.target q.target;
+    conditions = conditions_joined p.conditions q.conditions;
+    value = renames_joined first second third through p.value q.value;
+  }
 
   pub variable_joined : (x : Variable U) (y : Variable V) (z : Variable W) → Variable_renames first x y
       → Variable_renames second y z → Variable_renames third x z
-  variable_joined x y z p q = record { key = through x.key y.key z.key p.key q.key; unit = p.unit ∙ q.unit; domain = p.domain ∙ q.domain; is_state = p.is_state ∙ q.is_state; value = p.value ∙ q.value }
+  variable_joined x y z p q = record {
+    key = through x.key y.key z.key p.key q.key;
+    unit = p.unit ∙ q.unit;
+    domain = p.domain ∙ q.domain;
+    is_state = p.is_state ∙ q.is_state;
+    value = p.value ∙ q.value;
+  }
 
   pub transition_joined : (d : Transition U) (e : Transition V) (f : Transition W) → Transition_renames first d e
       → Transition_renames second e f → Transition_renames third d f
-  transition_joined d e f p q = record { guard = renames_joined first second third through p.guard q.guard; action = along_joined assign_joined p.action q.action }
+  transition_joined d e f p q = record {
+    guard = renames_joined first second third through p.guard q.guard;
+    action = along_joined assign_joined p.action q.action;
+  }
 
   mutual
     pub way_joined : {u : Way U} {v : Way V} {w : Way W} → Way_renames first u v → Way_renames second v w
@@ -47,7 +60,11 @@ module _ {U V W : Type 0} (first : U → V → Type 0) (second : V → W → Typ
 
   pub event_joined : (e : Event U) (f : Event V) (g : Event W) → Event_renames first e f → Event_renames second f g
       → Event_renames third e g
-  event_joined e f g p q = record { unit = p.unit ∙ q.unit; hidden = p.hidden ∙ q.hidden; ways = along_joined (λ u v w p q. way_joined p q) p.ways q.ways }
+  event_joined e f g p q = record {
+    unit = p.unit ∙ q.unit;
+    hidden = p.hidden ∙ q.hidden;
+    ways = along_joined (λ u v w p q. way_joined p q) p.ways q.ways;
+  }
 
   pub observer_joined : (e : Expr U) (f : Expr V) (g : Expr W) → Expr_renames first e f → Expr_renames second f g
       → Expr_renames third e g

@@ -95,7 +95,9 @@ module _ {V W : Type 0} (same' : V → W → Type 0) (A : System V) (B : System 
   labels_alike (k ∷ ks) = let i = label_alike k in let j = labels_alike ks in cc
 
   pub observed_there : (t seen : List Value) → Observed A t seen → Observed B t seen
-  observed_there t seen o = observed_along same' (HasValue A.net t) (HasValue B.net t) (λ x y v s h. value_there same' A.net B.net image.net t x y v s h) image.observers o
+  observed_there t seen o =
+      observed_along same' (HasValue A.net t) (HasValue B.net t)
+      (λ x y v s h. value_there same' A.net B.net image.net t x y v s h) image.observers o
 
   changed_there : (old new : List Value) (text : List ℕ) → ChangedLines a A old new text → ChangedLines b B old new text
   changed_there old new text c = record {
@@ -114,16 +116,22 @@ module _ {V W : Type 0} (same' : V → W → Type 0) (A : System V) (B : System 
 
   pub moment_there : {m : Moment} {text : List ℕ} → MomentText a A m text → MomentText b B m text
   moment_there (starts {t = t} {seen = seen} o) =
-      subst (λ z. MomentText b B (Starts t) (line (codes "start") ++ z)) (sym (all_alike a b alike t seen)) (starts (observed_there t seen o))
-  moment_there (start_fails {f = f}) = subst (λ z. MomentText b B (Start_fails f) (line (codes "fault: start: " ++ z))) (sym (flow_fault_alike a b alike f)) start_fails
+      subst (λ z. MomentText b B (Starts t) (line (codes "start") ++ z)) (sym (all_alike a b alike t seen))
+      (starts (observed_there t seen o))
+  moment_there (start_fails {f = f}) =
+      subst (λ z. MomentText b B (Start_fails f) (line (codes "fault: start: " ++ z)))
+      (sym (flow_fault_alike a b alike f)) start_fails
   moment_there (fires {l = k} {old = old} {new = new} {text = text} c) =
-      subst (λ z. MomentText b B (Fires k old new) (line (codes "fire " ++ z) ++ text)) (sym (label_alike k)) (fires (changed_there old new text c))
+      subst (λ z. MomentText b B (Fires k old new) (line (codes "fire " ++ z) ++ text)) (sym (label_alike k))
+      (fires (changed_there old new text c))
   moment_there (fire_fails {l = k} {f = f}) =
-      subst (λ z. MomentText b B (Fire_fails k f) z) (let i = label_alike k in let j = step_fault_alike a b alike f in cc) fire_fails
+      subst (λ z. MomentText b B (Fire_fails k f) z)
+      (let i = label_alike k in let j = step_fault_alike a b alike f in cc) fire_fails
   moment_there (goes_back {old = old} {new = new} {text = text} c) = goes_back (changed_there old new text c)
   moment_there no_step = no_step
   moment_there (shows {t = t} {seen = seen} o) =
-      subst (λ z. MomentText b B (Shows t) (line (codes "show") ++ z)) (sym (all_alike a b alike t seen)) (shows (observed_there t seen o))
+      subst (λ z. MomentText b B (Shows t) (line (codes "show") ++ z)) (sym (all_alike a b alike t seen))
+      (shows (observed_there t seen o))
   moment_there (lists {ls = ks}) =
       subst (λ z. MomentText b B (Lists ks) (line (codes "enabled") ++ z)) (sym (labels_alike ks)) lists
   moment_there ends = ends

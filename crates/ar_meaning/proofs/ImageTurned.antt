@@ -21,11 +21,21 @@ module _ {V W : Type 0} (same : V → W → Type 0) where
   conditions_turned (i.one_and q qs) = i.one_and (renames_turned same q) (conditions_turned qs)
 
   pub assign_turned : (a : Assign V) (b : Assign W) → Assign_renames same a b → Assign_renames (turned same) b a
-  assign_turned a b r = record { target = r.target; conditions = conditions_turned r.conditions; value = renames_turned same r.value }
+  assign_turned a b r = record {
+    target = r.target;
+    conditions = conditions_turned r.conditions;
+    value = renames_turned same r.value;
+  }
 
   pub variable_turned : (x : Variable V) (y : Variable W) → Variable_renames same x y
       → Variable_renames (turned same) y x
-  variable_turned x y r = record { key = r.key; unit = sym r.unit; domain = sym r.domain; is_state = sym r.is_state; value = sym r.value }
+  variable_turned x y r = record {
+    key = r.key;
+    unit = sym r.unit;
+    domain = sym r.domain;
+    is_state = sym r.is_state;
+    value = sym r.value;
+  }
 
   pub transition_turned : (d : Transition V) (e : Transition W) → Transition_renames same d e
       → Transition_renames (turned same) e d
@@ -42,7 +52,11 @@ module _ {V W : Type 0} (same : V → W → Type 0) where
     branches_turned (branch q qs) = branch (way_turned q) (branches_turned qs)
 
   pub event_turned : (e : Event V) (f : Event W) → Event_renames same e f → Event_renames (turned same) f e
-  event_turned e f r = record { unit = sym r.unit; hidden = sym r.hidden; ways = along_turned (λ v w q. way_turned q) r.ways }
+  event_turned e f r = record {
+    unit = sym r.unit;
+    hidden = sym r.hidden;
+    ways = along_turned (λ v w q. way_turned q) r.ways;
+  }
 
   pub net_turned : {here : Net V} {there : Net W} → IsNetImage same here there → IsNetImage (turned same) there here
   net_turned image = record {

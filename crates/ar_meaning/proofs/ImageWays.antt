@@ -29,12 +29,14 @@ module _ {L M : Type 0} (same : L → M → Type 0) where
       → Along (Branches_along same) bss css → Along (Branches_along same) (choices must ts bss) (choices must us css)
   choices_along m l.none d = l.none
   choices_along m (l.one_and {a = t} {b = u} r rs) d =
-      along_append (along_map (λ bs. Branch m t bs) (λ cs. Branch m u cs) (λ bs cs q. branch r q) d) (choices_along m rs d)
+      along_append (along_map (λ bs. Branch m t bs) (λ cs. Branch m u cs) (λ bs cs q. branch r q) d)
+      (choices_along m rs d)
 
 -- the ways here give ways there
 module _ {L M E F : Type 0} (same : L → M → Type 0) (event_same : E → F → Type 0) (ds : List (Declared L E))
     (es : List (Declared M F))
-    (related : Along (Declared_along same event_same) ds es) (single : (x : E) (y z : F) → event_same x y → event_same x z → y ≡ z) where
+    (related : Along (Declared_along same event_same) ds es)
+    (single : (x : E) (y z : F) → event_same x y → event_same x z → y ≡ z) where
   mutual
     pub ways_along : {e : E} {f : F} {ts : List (Tree L)} → event_same e f → Ways ds e ts
         → (us : List (Tree M)) × Ways es f us × Along (Trees_along same) ts us
@@ -82,7 +84,8 @@ module _ {L M E F : Type 0} (same : L → M → Type 0) (event_same : E → F �
   part_there {d = d} {e = e} {d' = d'} s h =
       let p = partner related h.place h.declared h.stands in
       let m = partner p.related.members h.is_member.place (Synchronises h.parts) h.is_member.stands in
-      let k : p.item.key ≡ d' = single d p.item.key d' (subst (λ z. event_same z p.item.key) h.is_key p.related.key) s in
+      let k : p.item.key ≡ d' =
+      single d p.item.key d' (subst (λ z. event_same z p.item.key) h.is_key p.related.key) s in
       let qs = parts_of m.related in
       let q = partner qs.2 h.is_part.place (h.must, e) h.is_part.stands in
       record {
@@ -94,7 +97,8 @@ module _ {L M E F : Type 0} (same : L → M → Type 0) (event_same : E → F �
           stands = p.stands;
           is_key = k;
           parts = qs.0;
-          is_member = record { place = h.is_member.place; stands = subst (λ z. Stands p.item.members h.is_member.place z) qs.1 m.stands };
+          is_member =
+              record { place = h.is_member.place; stands = subst (λ z. Stands p.item.members h.is_member.place z) qs.1 m.stands };
           must = q.item.0;
           is_part = one_part qs.0 h.is_part.place q.item q.stands;
         };
@@ -135,7 +139,8 @@ module _ {L M E F : Type 0} (same : L → M → Type 0) (event_same : E → F �
     one = λ m n d e s r i.
         let p = partner related m d s in
         let q = partner related n e r in
-        k.one m n p.item q.item p.stands q.stands (single d.key p.item.key q.item.key p.related.key (subst (λ z. event_same z q.item.key) (sym i) q.related.key));
+        k.one m n p.item q.item p.stands q.stands
+        (single d.key p.item.key q.item.key p.related.key (subst (λ z. event_same z q.item.key) (sym i) q.related.key));
   }
 
 -- turned round
@@ -150,7 +155,12 @@ module _ {L M E F : Type 0} (same : L → M → Type 0) (event_same : E → F �
 
   pub declared_turned : (d : Declared L E) (e : Declared M F) → Declared_along same event_same d e
       → Declared_along (turned same) (turned event_same) e d
-  declared_turned d e r = record { key = r.key; unit = sym r.unit; hidden = sym r.hidden; members = along_turned member_turned r.members }
+  declared_turned d e r = record {
+    key = r.key;
+    unit = sym r.unit;
+    hidden = sym r.hidden;
+    members = along_turned member_turned r.members;
+  }
 
   mutual
     pub trees_turned : {t : Tree L} {u : Tree M} → Trees_along (turned same) u t → Trees_along same t u
@@ -168,18 +178,23 @@ module _ {L M E F : Type 0} (same : L → M → Type 0) (event_same : E → F �
       → {e : E} {f : F} {us : List (Tree M)} → event_same e f → Ways es f us
       → (ts : List (Tree L)) × Ways ds e ts × Along (Trees_along same) ts us
   ways_back ds es related single s w =
-      let r = ways_along (turned same) (turned event_same) es ds (along_turned declared_turned related) (λ z x y p q. single x y z p q) s w in
+      let r =
+      ways_along (turned same) (turned event_same) es ds (along_turned declared_turned related)
+      (λ z x y p q. single x y z p q) s w in
       (r.0, r.1, along_turned (λ u t q. trees_turned q) r.2)
 
   pub leads_back : (ds : List (Declared L E)) (es : List (Declared M F)) → Along (Declared_along same event_same) ds es
       → ((x y : E) (z : F) → event_same x z → event_same y z → x ≡ y)
       → {e : E} {f : F} {k : ℕ} → event_same e f → LeadsBack es f k → LeadsBack ds e k
-  leads_back ds es related single s h = leads_there (turned same) (turned event_same) es ds (along_turned declared_turned related) (λ z x y p q. single x y z p q) s h
+  leads_back ds es related single s h =
+      leads_there (turned same) (turned event_same) es ds (along_turned declared_turned related)
+      (λ z x y p q. single x y z p q) s h
 
 -- events of systems, here and there
 module _ {V W E F : Type 0} (same : V → W → Type 0) (event_same : E → F → Type 0)
     (ds : List (Declared (Transition V) E)) (es : List (Declared (Transition W) F))
-    (related : Along (Declared_renames same event_same) ds es) (single : (x : E) (y z : F) → event_same x y → event_same x z → y ≡ z) where
+    (related : Along (Declared_renames same event_same) ds es)
+    (single : (x : E) (y z : F) → event_same x y → event_same x z → y ≡ z) where
   pub events_along : {ds' : List (Declared (Transition V) E)} {es' : List (Declared (Transition W) F)} {vs : List (Event V)}
       → Along (Declared_renames same event_same) ds' es' → Along (IsExpanded ds) ds' vs
       → (ws : List (Event W)) × Along (IsExpanded es) es' ws × Along (Event_renames same) vs ws
@@ -210,4 +225,9 @@ events_back {V = V} {W = W} {E = E} {F = F} same event_same ds es related single
 
     back : (d : Declared (Transition V) E) (e : Declared (Transition W) F) → Declared_renames same event_same d e
         → Declared_renames (turned same) (turned event_same) e d
-    back d e r = record { key = r.key; unit = sym r.unit; hidden = sym r.hidden; members = along_turned member_back r.members }
+    back d e r = record {
+      key = r.key;
+      unit = sym r.unit;
+      hidden = sym r.hidden;
+      members = along_turned member_back r.members;
+    }

@@ -36,7 +36,9 @@ passes_need {V = V} P (f.one_and d ds) =
     record {
       pairs = n.pairs ++ k.pairs;
       hold = either_holds P n.pairs k.pairs n.hold k.hold;
-      suffice = f.one_and (yields_more V (Has n.pairs) (Has (n.pairs ++ k.pairs)) (λ x v m. Contains-append_left n.pairs k.pairs (x, v) m) n.suffice)
+      suffice =
+          f.one_and
+          (yields_more V (Has n.pairs) (Has (n.pairs ++ k.pairs)) (λ x v m. Contains-append_left n.pairs k.pairs (x, v) m) n.suffice)
           (passes_more V (Has k.pairs) (Has (n.pairs ++ k.pairs)) (λ x v m. Contains-append_right n.pairs k.pairs (x, v) m) k.suffice);
     }
 

@@ -63,10 +63,13 @@ module _ {V : Type 0} (key_told : (x y : V) → Told (x ≡ y)) (sys : System V)
       go (Next u, s) on = let k = on u (step_long s) in (_, fires way.0 way.1 s k.1)
   goes [] t (Back ∷ cs) longs long h = (_, no_step)
   goes (u ∷ below) t (Back ∷ cs) longs long h =
-      let k = goes below u cs (λ v o. longs v (one_rest u below v o)) (longs u (one_first u below)) (later h) in (_, back k.1)
+      let k =
+      goes below u cs (λ v o. longs v (one_rest u below v o)) (longs u (one_first u below)) (later h) in
+      (_, back k.1)
   goes below t (Show ∷ cs) longs long h = let k = goes below t cs longs long (later h) in (_, shows k.1)
   goes below t (Enabled ∷ cs) longs long h =
-      let f = listed (HasValue sys.net t) (can_told (HasValue sys.net t) (values_known key_told sys.net t)) 0 sys.events in
+      let f =
+      listed (HasValue sys.net t) (can_told (HasValue sys.net t) (values_known key_told sys.net t)) 0 sys.events in
       let k = goes below t cs longs long (later h) in
       (_, lists f.1 k.1)
 

@@ -37,7 +37,9 @@ module _ {V : Type 0} (net : Net V) where
   completes_same t h (state s d) (unknown s' f d') = cc
   completes_same t h (known s f d) (state s' d') = cc
   completes_same t h (known {x = x} {w = w} s f d) (known {w = u} s' f' d') =
-      let e : w ≡ u = same_value w u (λ n. head_has_not h (record { is_flow = s; first = w; second = u; is_first = f; is_second = f'; differ = n })) in
+      let e : w ≡ u =
+      same_value w u
+      (λ n. head_has_not h (record { is_flow = s; first = w; second = u; is_first = f; is_second = f'; differ = n })) in
       let i = completes_same t (rest_has_no h) d d' in cc
   completes_same t h (known {w = w} s f d) (unknown s' n d') = absurd (n w f)
   completes_same t h (unknown s n d) (state s' d') = cc
@@ -60,7 +62,8 @@ module _ {V : Type 0} (net : Net V) where
       let e = completes_same s n c c' in
       ap (λ n. Fails (Broken n)) (first_same (subst (λ z. IsFirst net.assertions (IsBroken net z) i) e a) b)
   flows_same {t = s} (broken t n m c a) (all_hold n' m' c' b) =
-      let e = completes_same s n c c' in absurd (no_first (subst (λ z. HasNo net.assertions (IsBroken net z)) (sym e) b) a)
+      let e =
+      completes_same s n c c' in absurd (no_first (subst (λ z. HasNo net.assertions (IsBroken net z)) (sym e) b) a)
   flows_same (all_hold n m c a) (two b) = absurd (no_first n b)
   flows_same (all_hold n m c a) (outside n' b) = absurd (no_first m b)
   flows_same {t = s} (all_hold n m c a) (broken t' n' m' c' b) =
@@ -72,7 +75,9 @@ pub receives_same : {V : Type 0} {effects : V → Value → Type 0} {xs : List (
     → Receives effects xs vs ws → Receives effects xs vs us → ws ≡ us
 receives_same h r.none r.none = refl
 receives_same h (changed {w = w} f d) (changed {w = u} f' d') =
-    let e : w ≡ u = same_value w u (λ n. head_has_not h (record { first = w; second = u; is_first = f; is_second = f'; differ = n })) in
+    let e : w ≡ u =
+    same_value w u
+    (λ n. head_has_not h (record { first = w; second = u; is_first = f; is_second = f'; differ = n })) in
     let i = receives_same (rest_has_no h) d d' in cc
 receives_same h (changed {w = w} f d) (kept n d') = absurd (n w f)
 receives_same h (kept n d) (changed {w = w} f d') = absurd (n w f)

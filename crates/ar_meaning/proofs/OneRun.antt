@@ -36,7 +36,9 @@ module _ {L E : Type 0} (events : List (Declared L E)) (keyed : AreKeyed events)
 -- the declared events make one list of events
 module _ {V E : Type 0} (events : List (Declared (Transition V) E)) (keyed : AreKeyed events) where
   event_same : (d : Declared (Transition V) E) (e f : Event V) → IsExpanded events d e → IsExpanded events d f → e ≡ f
-  event_same d e f a b = go e.unit f.unit e.hidden f.hidden e.ways f.ways (sym a.unit ∙ b.unit) (sym a.hidden ∙ b.hidden) (ways_same events keyed a.ways b.ways)
+  event_same d e f a b =
+      go e.unit f.unit e.hidden f.hidden e.ways f.ways (sym a.unit ∙ b.unit) (sym a.hidden ∙ b.hidden)
+      (ways_same events keyed a.ways b.ways)
     where
       go : (u v : ℕ) (h k : Bool) (ws xs : List (Way V)) → u ≡ v → h ≡ k → ws ≡ xs
           → ◌≡◌ {A = Event V} (record { unit = u; hidden = h; ways = ws }) (record { unit = v; hidden = k; ways = xs })
@@ -91,7 +93,8 @@ module _ {V : Type 0} (sys : System V) where
   pub goes_same : {below : List (List Value)} {t : List Value} {cs : List Command} {ms ns : List Moment}
       → Goes sys below t cs ms → Goes sys below t cs ns → ms ≡ ns
   goes_same ends ends = refl
-  goes_same {below = below} {t = t} (fires {u = u} {l = k} {cs = cs} {ms = ms} w i s d) (fires {u = u'} {ms = ns} w' i' s' d') =
+  goes_same {below = below} {t = t} (fires {u = u} {l = k} {cs = cs} {ms = ms} w i s d)
+      (fires {u = u'} {ms = ns} w' i' s' d') =
       let e : w ≡ w' = way_same i i' in
       let a = step_same sys.net (subst (λ z. Step sys.net t z (Next u)) e s) s' in
       let b : u ≡ u' = cc in

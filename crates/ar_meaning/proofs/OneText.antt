@@ -17,7 +17,8 @@ use Rattle.ar_meaning.specs.TraceText as t
 pub value_one : {V : Type 0} (net : Net V) → AreKeyed net → (t : List Value) (x : V) (v w : Value) → HasValue net t x v
     → HasValue net t x w → v ≡ w
 value_one net keyed t x v w h k =
-    let i : h.place ≡ k.place = keyed.one h.place k.place h.variable k.variable h.stands k.stands (h.is_key ∙ sym k.is_key) in
+    let i : h.place ≡ k.place =
+    keyed.one h.place k.place h.variable k.variable h.stands k.stands (h.is_key ∙ sym k.is_key) in
     stands_one t k.place v w (subst (λ z. Stands t z v) i h.value) k.value
 
 changed_one : {one : ℕ → Value → List ℕ} {m n : ℕ} {vs ws ts us : List Value} {a b : List ℕ} → m ≡ n → vs ≡ ts → ws ≡ us

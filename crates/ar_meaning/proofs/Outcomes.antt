@@ -43,14 +43,18 @@ module _ {A : Type 0} (P : A → Type 0) where
 
   pub some_told : (xs : List A) → ((x : A) → Contains xs x → Told (P x)) → Told ((x : A) × Contains xs x × P x)
   some_told xs t = elim (search_list xs t) [
-    | inl k ↦ inl (k.item, subst (λ zs. Contains zs k.item) (sym k.is) (Contains-append_right k.front (k.item ∷ k.rest) k.item (contains-head k.item k.rest)), k.has)
+    | inl k ↦
+        inl
+        (k.item, subst (λ zs. Contains zs k.item) (sym k.is) (Contains-append_right k.front (k.item ∷ k.rest) k.item (contains-head k.item k.rest)), k.has)
     | inr n ↦ inr (λ h. n h.0 h.1 h.2)
   ]
 
   -- the first item that has P, or none
   pub first_or_none : (xs : List A) → ((x : A) → IsOneOf xs x → Told (P x)) → ((n : ℕ) × IsFirst xs P n) ⊎ HasNo xs P
   first_or_none [] t = inr (record { has_not = λ k a s p. stands_none k a s })
-  first_or_none (x ∷ xs) t = go (t x (record { place = zero; stands = refl })) (first_or_none xs (λ z o. t z (record { place = suc o.place; stands = o.stands })))
+  first_or_none (x ∷ xs) t =
+      go (t x (record { place = zero; stands = refl }))
+      (first_or_none xs (λ z o. t z (record { place = suc o.place; stands = o.stands })))
     where
       before : (P x → ⊥) → (n : ℕ) → IsFirst xs P n → (j : ℕ) (a : A) → j < suc n → Stands (x ∷ xs) j a → P a → ⊥
       before q n k zero a l s p = let e : a ≡ x = cc in q (subst P e p)
@@ -118,7 +122,8 @@ in_universe : {V : Type 0} (xs : List (Variable V)) (k : ℕ) (x : Variable V) (
 in_universe [] k x v s c = absurd (stands_none k x s)
 in_universe {V = V} (z ∷ xs) zero x v s c =
     let e : z ≡ x = cc in let p : Pair V = (x.key, v) in
-    Contains-append_left (row z) (universe xs) p (subst (λ (u : Variable V). Contains (row u) p) (sym e) (contains-map {X = Value} {Y = Pair V} (λ d. (x.key, d)) v x.domain c))
+    Contains-append_left (row z) (universe xs) p
+    (subst (λ (u : Variable V). Contains (row u) p) (sym e) (contains-map {X = Value} {Y = Pair V} (λ d. (x.key, d)) v x.domain c))
 in_universe {V = V} (z ∷ xs) (suc k) x v s c =
     let p : Pair V = (x.key, v) in
     Contains-append_right (row z) (universe xs) p (in_universe xs k x v s c)
@@ -126,11 +131,12 @@ in_universe {V = V} (z ∷ xs) (suc k) x v s c =
 from_universe : {V : Type 0} (xs : List (Variable V)) (x : V) (v : Value) → Contains (universe xs) (x, v)
     → (k : ℕ) × (y : Variable V) × Stands xs k y × (y.key ≡ x) × Contains y.domain v
 from_universe {V = V} [] x v m = let p : Pair V = (x, v) in absurd (nothing-in p m)
-from_universe {V = V} (z ∷ xs) x v m = let p : Pair V = (x, v) in elim (Contains-append_cases (row z) (universe xs) p m) [
-  | inl n ↦ (let r = contains-from_map {X = Value} {Y = Pair V} (λ d. (z.key, d)) p z.domain n in
-      (zero, z, refl, ap (λ (q : Pair V). q.0) r.2, subst (λ d. Contains z.domain d) (ap (λ (q : Pair V). q.1) r.2) r.1))
-  | inr n ↦ (let r = from_universe xs x v n in (suc r.0, r.1, r.2, r.3, r.4))
-]
+from_universe {V = V} (z ∷ xs) x v m =
+    let p : Pair V = (x, v) in elim (Contains-append_cases (row z) (universe xs) p m) [
+      | inl n ↦ (let r = contains-from_map {X = Value} {Y = Pair V} (λ d. (z.key, d)) p z.domain n in
+          (zero, z, refl, ap (λ (q : Pair V). q.0) r.2, subst (λ d. Contains z.domain d) (ap (λ (q : Pair V). q.1) r.2) r.1))
+      | inr n ↦ (let r = from_universe xs x v n in (suc r.0, r.1, r.2, r.3, r.4))
+    ]
 
 -- the pairs of the variables of which the test holds, each with its value
 abbrev entry : {V : Type 0} → Bool → Variable V → Value → List (Pair V)
@@ -170,22 +176,36 @@ from_pairs : {V : Type 0} (test : Variable V → Bool) (xs : List (Variable V)) 
     → Contains (pairs_of test xs ts) (x, v) → Comes test xs ts x v
 from_pairs {V = V} test [] ts x v m = let p : Pair V = (x, v) in absurd (nothing-in p m)
 from_pairs {V = V} test (z ∷ xs) [] x v m = let p : Pair V = (x, v) in absurd (nothing-in p m)
-from_pairs {V = V} test (z ∷ xs) (u ∷ ts) x v m = let p : Pair V = (x, v) in elim (Contains-append_cases (entry (test z) z u) (pairs_of test xs ts) p m) [
-  | inl n ↦ here (test z) refl n
-  | inr n ↦ (let r = from_pairs test xs ts x v n in record { place = suc r.place; variable = r.variable; stands = r.stands; value = r.value; is_key = r.is_key; holds = r.holds })
-]
+from_pairs {V = V} test (z ∷ xs) (u ∷ ts) x v m =
+    let p : Pair V = (x, v) in elim (Contains-append_cases (entry (test z) z u) (pairs_of test xs ts) p m) [
+      | inl n ↦ here (test z) refl n
+      | inr n ↦
+          (let r = from_pairs test xs ts x v n in record { place = suc r.place; variable = r.variable; stands = r.stands; value = r.value; is_key = r.is_key; holds = r.holds })
+    ]
   where
     here : (b : Bool) → test z ≡ b → Contains (entry b z u) (x, v) → Comes test (z ∷ xs) (u ∷ ts) x v
     here false i n = let p : Pair V = (x, v) in absurd (nothing-in p n)
     here true i n = let p : Pair V = (x, v) in let q : Pair V = (z.key, u) in elim (contains-cases q p [] n) [
-      | inl e ↦ record { place = zero; variable = z; stands = refl; value = ap (λ (a : Pair V). Some a.1) e; is_key = ap (λ (a : Pair V). a.0) e; holds = i }
+      | inl e ↦
+          record {
+            place = zero;
+            variable = z;
+            stands = refl;
+            value = ap (λ (a : Pair V). Some a.1) e;
+            is_key = ap (λ (a : Pair V). a.0) e;
+            holds = i;
+          }
       | inr k ↦ absurd (nothing-in p k)
     ]
 
 module _ {V : Type 0} (key_told : (x y : V) → Told (x ≡ y)) where
   -- the values that pairs give a variable
   pub pairs_listed : (ps : List (Pair V)) (x : V) → Listed (Has ps x)
-  pairs_listed [] x = record { items = []; sound = λ v m. absurd (nothing-in v m); whole = λ v m. absurd (nothing-in (x, v) m) }
+  pairs_listed [] x = record {
+    items = [];
+    sound = λ v m. absurd (nothing-in v m);
+    whole = λ v m. absurd (nothing-in (x, v) m);
+  }
   pairs_listed ((k, u) ∷ ps) x = go (key_told k x) (pairs_listed ps x)
     where
       go : Told (k ≡ x) → Listed (Has ps x) → Listed (Has ((k, u) ∷ ps) x)
@@ -206,7 +226,9 @@ module _ {V : Type 0} (key_told : (x y : V) → Told (x ≡ y)) where
       go (inr n) r = record {
         items = r.items;
         sound = λ v m. contains-cons (k, u) (x, v) ps (r.sound v m);
-        whole = λ v m. elim (contains-cases (k, u) (x, v) ps m) [ inl i ↦ absurd (n (ap (λ (p : V × Value). p.0) i)) | inr l ↦ r.whole v l ];
+        whole = λ v m.
+            elim
+            (contains-cases (k, u) (x, v) ps m) [ inl i ↦ absurd (n (ap (λ (p : V × Value). p.0) i)) | inr l ↦ r.whole v l ];
       }
 
   module _ (net : Net V) (t : List Value) where
@@ -219,7 +241,9 @@ module _ {V : Type 0} (key_told : (x y : V) → Told (x ≡ y)) where
       pub yields : Yields (Has K) (out-Expr V assign.value) p.1
 
     derives_told : (K : List (Pair V)) (p : Pair V) → Told (Derives K p)
-    derives_told K p = elim (one_told (λ (a : Assign V). (a.target ≡ p.0) × (Passes (Has K) a.conditions × Yields (Has K) (out-Expr V a.value) p.1)) net.assertions
+    derives_told K p =
+        elim
+        (one_told (λ (a : Assign V). (a.target ≡ p.0) × (Passes (Has K) a.conditions × Yields (Has K) (out-Expr V a.value) p.1)) net.assertions
         (λ a o. both_told (key_told a.target p.0) (both_told (passes_told (Has K) (pairs_listed K) a.conditions) (yields_told (Has K) (pairs_listed K) a.value p.1)))) [
           | inl r ↦ inl (record { assign = r.0; is_one = r.1; is_target = r.2.0; passes = r.2.1.0; yields = r.2.1.1 })
           | inr n ↦ inr (λ d. n (d.assign, d.is_one, (d.is_target, (d.passes, d.yields))))
@@ -235,8 +259,10 @@ module _ {V : Type 0} (key_told : (x y : V) → Told (x ≡ y)) where
     new_fact : (K : List (Pair V)) → ((x : V) (v : Value) → Has K x v → FactOf net t x v) → (x : V) (v : Value)
         → Allows net x v → Derives K (x, v) → FactOf net t x v
     new_fact K sound x v a d =
-        subst (λ z. FactOf net t z v) d.is_target (closed net.assertions (Allows net) (IsGiven net t) d.assign v d.is_one
-        (passes_more V (Has K) (FactOf net t) sound d.passes) (yields_more V (Has K) (FactOf net t) sound d.yields) (subst (λ z. Allows net z v) (sym d.is_target) a))
+        subst (λ z. FactOf net t z v) d.is_target
+        (closed net.assertions (Allows net) (IsGiven net t) d.assign v d.is_one
+        (passes_more V (Has K) (FactOf net t) sound d.passes) (yields_more V (Has K) (FactOf net t) sound d.yields)
+        (subst (λ z. Allows net z v) (sym d.is_target) a))
 
     -- how far the facts have come: the pairs that may still follow, and those that do
     record Stage (n : ℕ) : Type 0 where
@@ -260,11 +286,14 @@ module _ {V : Type 0} (key_told : (x y : V) → Told (x ≡ y)) where
           closes = λ x v a d. elim (s.covers x v a) [ inl h ↦ h | inr m ↦ absurd (none (x, v) m d) ];
         })
         go (inl k) =
-            let whole : (p : Pair V) → Contains (k.front ++ k.rest) p → Contains s.rest p = λ p c. subst (λ zs. Contains zs p) (sym k.is) (elim (Contains-append_cases k.front k.rest p c) [
+            let whole : (p : Pair V) → Contains (k.front ++ k.rest) p → Contains s.rest p =
+            λ p c. subst (λ zs. Contains zs p) (sym k.is) (elim (Contains-append_cases k.front k.rest p c) [
               | inl h ↦ Contains-append_left k.front (k.item ∷ k.rest) p h
               | inr h ↦ Contains-append_right k.front (k.item ∷ k.rest) p (contains-cons k.item p k.rest h)
             ]) in
-            let found : Contains s.rest k.item = subst (λ zs. Contains zs k.item) (sym k.is) (Contains-append_right k.front (k.item ∷ k.rest) k.item (contains-head k.item k.rest)) in
+            let found : Contains s.rest k.item =
+            subst (λ zs. Contains zs k.item) (sym k.is)
+            (Contains-append_right k.front (k.item ∷ k.rest) k.item (contains-head k.item k.rest)) in
             inr (
               length (k.front ++ k.rest),
               sym s.long ∙ (ap length k.is ∙ shorter k.front k.item k.rest),
@@ -274,26 +303,31 @@ module _ {V : Type 0} (key_told : (x y : V) → Told (x ≡ y)) where
                 allowed = λ x v c. s.allowed x v (whole (x, v) c);
                 pairs = k.item ∷ s.pairs;
                 sound = λ x v h. let p : Pair V = (x, v) in elim (contains-cases k.item p s.pairs h) [
-                  | inl i ↦ new_fact s.pairs s.sound x v (s.allowed x v (subst (λ q. Contains s.rest q) i found)) (subst (λ q. Derives s.pairs q) i k.has)
+                  | inl i ↦
+                      new_fact s.pairs s.sound x v (s.allowed x v (subst (λ q. Contains s.rest q) i found))
+                      (subst (λ q. Derives s.pairs q) i k.has)
                   | inr l ↦ s.sound x v l
                 ];
                 begins = λ x v g. let p : Pair V = (x, v) in contains-cons k.item p s.pairs (s.begins x v g);
                 covers = λ x v a. let p : Pair V = (x, v) in elim (s.covers x v a) [
                   | inl h ↦ inl (contains-cons k.item p s.pairs h)
-                  | inr c ↦ elim (Contains-append_cases k.front (k.item ∷ k.rest) p (subst (λ zs. Contains zs p) k.is c)) [
-                    | inl h ↦ inr (Contains-append_left k.front k.rest p h)
-                    | inr h ↦ elim (contains-cases k.item p k.rest h) [
-                      | inl i ↦ inl (subst (λ q. Contains (k.item ∷ s.pairs) q) i (contains-head k.item s.pairs))
-                      | inr j ↦ inr (Contains-append_right k.front k.rest p j)
-                    ]
-                  ]
+                  | inr c ↦
+                      elim (Contains-append_cases k.front (k.item ∷ k.rest) p (subst (λ zs. Contains zs p) k.is c)) [
+                        | inl h ↦ inr (Contains-append_left k.front k.rest p h)
+                        | inr h ↦ elim (contains-cases k.item p k.rest h) [
+                          | inl i ↦ inl (subst (λ q. Contains (k.item ∷ s.pairs) q) i (contains-head k.item s.pairs))
+                          | inr j ↦ inr (Contains-append_right k.front k.rest p j)
+                        ]
+                      ]
                 ];
               },
             )
 
     saturate : (n : ℕ) → Stage n → Saturated
     saturate zero s = elim (advance zero s) [ inl r ↦ r | inr k ↦ (let e = k.1 in cc) ]
-    saturate (suc n) s = elim (advance (suc n) s) [ inl r ↦ r | inr k ↦ (let e : k.0 ≡ n = omega (arith, k.1) in saturate n (subst (λ m. Stage m) e k.2)) ]
+    saturate (suc n) s =
+        elim
+        (advance (suc n) s) [ inl r ↦ r | inr k ↦ (let e : k.0 ≡ n = omega (arith, k.1) in saturate n (subst (λ m. Stage m) e k.2)) ]
 
     given_pairs : List (Pair V)
     given_pairs = pairs_of (λ x. x.is_state) net.variables t
@@ -303,12 +337,19 @@ module _ {V : Type 0} (key_told : (x y : V) → Told (x ≡ y)) where
     saturated = saturate (length (universe net.variables)) (record {
       rest = universe net.variables;
       long = refl;
-      allowed = λ x v m. let r = from_universe net.variables x v m in record { place = r.0; variable = r.1; stands = r.2; is_key = r.3; has = r.4 };
+      allowed = λ x v m.
+          let r =
+          from_universe net.variables x v m in record { place = r.0; variable = r.1; stands = r.2; is_key = r.3; has = r.4 };
       pairs = given_pairs;
       sound = λ x v m. let r = from_pairs (λ x. x.is_state) net.variables t x v m in
-          given (record { place = r.place; variable = r.variable; stands = r.stands; is_key = r.is_key; is_state = r.holds; value = r.value });
-      begins = λ x v g. subst (λ z. Has given_pairs z v) g.is_key (in_pairs (λ x. x.is_state) net.variables t g.place g.variable v g.stands g.value g.is_state);
-      covers = λ x v a. inr (subst (λ (z : V). Contains {X = Pair V} (universe net.variables) (z, v)) a.is_key (in_universe net.variables a.place a.variable v a.stands a.has));
+          given
+          (record { place = r.place; variable = r.variable; stands = r.stands; is_key = r.is_key; is_state = r.holds; value = r.value });
+      begins = λ x v g.
+          subst (λ z. Has given_pairs z v) g.is_key
+          (in_pairs (λ x. x.is_state) net.variables t g.place g.variable v g.stands g.value g.is_state);
+      covers = λ x v a.
+          inr
+          (subst (λ (z : V). Contains {X = Pair V} (universe net.variables) (z, v)) a.is_key (in_universe net.variables a.place a.variable v a.stands a.has));
     })
 
     -- the facts of a variable
@@ -349,9 +390,14 @@ module _ {V : Type 0} (key_told : (x y : V) → Told (x ≡ y)) (net : Net V) (t
   two_told : (x : Variable V) → Told (HasTwo net t x)
   two_told x =
       let l = known x.key in
-      elim (both_told (bool_told x.is_state false) (some_told (λ v. (u : Value) × Contains l.items u × (v ≡ u → ⊥)) l.items (λ v m. some_told (λ u. v ≡ u → ⊥) l.items (λ u n. not_told (value_told v u))))) [
-        | inl r ↦ inl (record { is_flow = r.0; first = r.1.0; second = r.1.2.0; is_first = l.sound r.1.0 r.1.1; is_second = l.sound r.1.2.0 r.1.2.1; differ = r.1.2.2 })
-        | inr n ↦ inr (λ h. n (h.is_flow, (h.first, l.whole h.first h.is_first, (h.second, l.whole h.second h.is_second, h.differ))))
+      elim
+      (both_told (bool_told x.is_state false) (some_told (λ v. (u : Value) × Contains l.items u × (v ≡ u → ⊥)) l.items (λ v m. some_told (λ u. v ≡ u → ⊥) l.items (λ u n. not_told (value_told v u))))) [
+        | inl r ↦
+            inl
+            (record { is_flow = r.0; first = r.1.0; second = r.1.2.0; is_first = l.sound r.1.0 r.1.1; is_second = l.sound r.1.2.0 r.1.2.1; differ = r.1.2.2 })
+        | inr n ↦
+            inr
+            (λ h. n (h.is_flow, (h.first, l.whole h.first h.is_first, (h.second, l.whole h.second h.is_second, h.differ))))
       ]
 
   -- the values that an assignment yields
@@ -361,8 +407,11 @@ module _ {V : Type 0} (key_told : (x y : V) → Told (x ≡ y)) (net : Net V) (t
 
   outside_told : (x : Variable V) → Told (IsOutside net t x)
   outside_told x =
-      let P : Assign V → Type 0 = λ a. (a.target ≡ x.key) × (Passes (FactOf net t) a.conditions × ((v : Value) × Contains (given_by (FactOf net t) known a).items v × (Contains x.domain v → ⊥))) in
-      elim (both_told (bool_told x.is_state false) (one_told P net.assertions (λ a o. both_told (key_told a.target x.key) (both_told (passes_told (FactOf net t) known a.conditions)
+      let P : Assign V → Type 0 =
+      λ a. (a.target ≡ x.key) ×
+      (Passes (FactOf net t) a.conditions × ((v : Value) × Contains (given_by (FactOf net t) known a).items v × (Contains x.domain v → ⊥))) in
+      elim
+      (both_told (bool_told x.is_state false) (one_told P net.assertions (λ a o. both_told (key_told a.target x.key) (both_told (passes_told (FactOf net t) known a.conditions)
       (some_told (λ v. Contains x.domain v → ⊥) (given_by (FactOf net t) known a).items (λ v m. not_told (contains_told x.domain v))))))) [
         | inl r ↦ inl (record {
           is_flow = r.0;
@@ -374,21 +423,26 @@ module _ {V : Type 0} (key_told : (x y : V) → Told (x ≡ y)) (net : Net V) (t
           yields = (given_by (FactOf net t) known r.1.0).sound r.1.2.1.1.0 r.1.2.1.1.1;
           outside = r.1.2.1.1.2;
         })
-        | inr n ↦ inr (λ h. n (h.is_flow, (h.assign, h.is_one, (h.is_target, (h.passes, (h.value, (given_by (FactOf net t) known h.assign).whole h.value h.yields, h.outside))))))
+        | inr n ↦
+            inr
+            (λ h. n (h.is_flow, (h.assign, h.is_one, (h.is_target, (h.passes, (h.value, (given_by (FactOf net t) known h.assign).whole h.value h.yields, h.outside))))))
       ]
 
   broken_told : (total : List Value) (a : Assign V) → Told (IsBroken net total a)
   broken_told total a =
       let k = values_known key_told net total in
       let l = given_by (HasValue net total) k a in
-      elim (both_told (passes_told (HasValue net total) k a.conditions) (some_told (λ v. HasValue net total a.target v → ⊥) l.items (λ v m. not_told (listed_told (k a.target) v)))) [
+      elim
+      (both_told (passes_told (HasValue net total) k a.conditions) (some_told (λ v. HasValue net total a.target v → ⊥) l.items (λ v m. not_told (listed_told (k a.target) v)))) [
         | inl r ↦ inl (record { passes = r.0; value = r.1.0; yields = l.sound r.1.0 r.1.1; differs = r.1.2 })
         | inr n ↦ inr (λ h. n (h.passes, (h.value, l.whole h.value h.yields, h.differs)))
       ]
 
   -- an outcome
   pub has_outcome : length t ≡ length net.variables → (o : Outcome) × Flows net t o
-  has_outcome long = go (first_or_none (HasTwo net t) net.variables (λ x o. two_told x)) (first_or_none (IsOutside net t) net.variables (λ x o. outside_told x))
+  has_outcome long =
+      go (first_or_none (HasTwo net t) net.variables (λ x o. two_told x))
+      (first_or_none (IsOutside net t) net.variables (λ x o. outside_told x))
     where
       last : HasNo net.variables (HasTwo net t) → HasNo net.variables (IsOutside net t) → (total : List Value)
           → Completes (FactOf net t) net.variables t total

@@ -51,7 +51,14 @@ module _ {V : Type 0} (net : Net V) where
       (λ a v m p y l. closed net.assertions (Allows net) (IsGiven net u) a v m p y l)
 
   same_two : {t u : List Value} → Same_states net.variables t u → (x : Variable V) → HasTwo net t x → HasTwo net u x
-  same_two d x h = record { is_flow = h.is_flow; first = h.first; second = h.second; is_first = same_fact d x.key h.first h.is_first; is_second = same_fact d x.key h.second h.is_second; differ = h.differ }
+  same_two d x h = record {
+    is_flow = h.is_flow;
+    first = h.first;
+    second = h.second;
+    is_first = same_fact d x.key h.first h.is_first;
+    is_second = same_fact d x.key h.second h.is_second;
+    differ = h.differ;
+  }
 
   same_outside : {t u : List Value} → Same_states net.variables t u → (x : Variable V) → IsOutside net t x
       → IsOutside net u x
@@ -68,7 +75,12 @@ module _ {V : Type 0} (net : Net V) where
 
   first_as : {A : Type 0} {xs : List A} {P Q : A → Type 0} {n : ℕ} → ((a : A) → P a → Q a) → ((a : A) → Q a → P a)
       → IsFirst xs P n → IsFirst xs Q n
-  first_as on off h = record { item = h.item; stands = h.stands; has = on h.item h.has; before = λ k a l s q. h.before k a l s (off a q) }
+  first_as on off h = record {
+    item = h.item;
+    stands = h.stands;
+    has = on h.item h.has;
+    before = λ k a l s q. h.before k a l s (off a q);
+  }
 
   none_as : {A : Type 0} {xs : List A} {P Q : A → Type 0} → ((a : A) → Q a → P a) → HasNo xs P → HasNo xs Q
   none_as off h = record { has_not = λ k a s q. h.has_not k a s (off a q) }
@@ -77,8 +89,12 @@ module _ {V : Type 0} (net : Net V) where
   same_flows d (two f) = two (first_as (same_two d) (same_two (turned d)) f)
   same_flows d (outside n f) =
       outside (none_as (same_two (turned d)) n) (first_as (same_outside d) (same_outside (turned d)) f)
-  same_flows d (broken total n m c f) = broken total (none_as (same_two (turned d)) n) (none_as (same_outside (turned d)) m) (same_completes (same_fact d) (same_fact (turned d)) d c) f
-  same_flows d (all_hold n m c f) = all_hold (none_as (same_two (turned d)) n) (none_as (same_outside (turned d)) m) (same_completes (same_fact d) (same_fact (turned d)) d c) f
+  same_flows d (broken total n m c f) =
+      broken total (none_as (same_two (turned d)) n) (none_as (same_outside (turned d)) m)
+      (same_completes (same_fact d) (same_fact (turned d)) d c) f
+  same_flows d (all_hold n m c f) =
+      all_hold (none_as (same_two (turned d)) n) (none_as (same_outside (turned d)) m)
+      (same_completes (same_fact d) (same_fact (turned d)) d c) f
 
 pub states_same : {V : Type 0} (xs : List (Variable V)) (t u : List Value) → length t ≡ length xs → length u ≡ length xs
     → ((n : ℕ) (x : Variable V) → Stands xs n x → x.is_state ≡ true → (m : Value) × Stands t n m × Stands u n m)

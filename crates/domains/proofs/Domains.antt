@@ -75,8 +75,12 @@ in_range : (a n k : ℕ) → a ≤ k → k < a + n → Contains (range_with_len 
 in_range a zero k h l = absurd (omega arith)
 in_range a (suc n) k h l =
     elim (nat_lt a k) as (λ b. nat_lt a k ≡ b → Contains (range_with_len a (suc n)) k) [
-      | true ↦ λ e. contains-cons a k (range_with_len (a + 1) n) (in_range (a + 1) n k (grind (arith, nat_tests)) (omega arith))
-      | false ↦ λ e. let i : a ≡ k = grind (arith, nat_tests) in let P : ℕ → Type 0 = λ z. Contains (range_with_len a (suc n)) z in subst P i (contains-head a (range_with_len (a + 1) n))
+      | true ↦
+          λ e. contains-cons a k (range_with_len (a + 1) n)
+          (in_range (a + 1) n k (grind (arith, nat_tests)) (omega arith))
+      | false ↦
+          λ e. let i : a ≡ k = grind (arith, nat_tests) in let P : ℕ → Type 0 = λ z. Contains
+          (range_with_len a (suc n)) z in subst P i (contains-head a (range_with_len (a + 1) n))
     ] refl
 
 from_range : (a n k : ℕ) → Contains (range_with_len a n) k → (a ≤ k) × (k < a + n)
@@ -92,8 +96,10 @@ range_held : (low high n : ℤ) → low ≤ℤ n → n ≤ℤ high
 range_held low high n h l =
     let k = nat_abs (n -ℤ low) in
     let e : (low +ℤ pos k) ≡ n = grind (arith, ints) in
-    let P : ℤ → Type 0 = λ z. Contains (map (λ k. Whole (low +ℤ pos k)) (range_with_len 0 (nat_abs (high -ℤ low) + 1))) (Whole z) in
-    subst P e (contains-map (λ k. Whole (low +ℤ pos k)) k (range_with_len 0 (nat_abs (high -ℤ low) + 1)) (in_range 0 (nat_abs (high -ℤ low) + 1) k (omega arith) (grind (arith, ints))))
+    let P : ℤ → Type 0 =
+    λ z. Contains (map (λ k. Whole (low +ℤ pos k)) (range_with_len 0 (nat_abs (high -ℤ low) + 1))) (Whole z) in
+    subst P e
+    (contains-map (λ k. Whole (low +ℤ pos k)) k (range_with_len 0 (nat_abs (high -ℤ low) + 1)) (in_range 0 (nat_abs (high -ℤ low) + 1) k (omega arith) (grind (arith, ints))))
 
 -- what the domain holds is one of its values
 pub listed : (d : Domain) (v : Value) → Holds d v → Contains (values_of d) v
@@ -118,7 +124,9 @@ pub held : (d : Domain) (v : Value) → IsDomain d → Contains (values_of d) v 
 held Boolean v i m =
     elim (contains-cases (Truth false) v (Truth true ∷ []) m) [
       | inl e ↦ subst (Holds Boolean) e tt
-      | inr n ↦ elim (contains-cases (Truth true) v [] n) [ inl e ↦ subst (Holds Boolean) e tt | inr k ↦ absurd (nothing-in v k) ]
+      | inr n ↦
+          elim
+          (contains-cases (Truth true) v [] n) [ inl e ↦ subst (Holds Boolean) e tt | inr k ↦ absurd (nothing-in v k) ]
     ]
 held (Symbols symbols) v i m =
     let (s, n, e) = contains-from_map Symbol v symbols.items m in

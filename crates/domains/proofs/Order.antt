@@ -47,7 +47,8 @@ same_value (Symbol a) (Symbol b) r n = cc
 -- values of which neither comes before the other are one
 pub same-from_neither : (x y : Value) → is_before x y ≡ false → is_before y x ≡ false → x ≡ y
 same-from_neither x y h k =
-    same_value x y (before_rank (rank_of x) (rank_of y) (number_of x) (number_of y) h k) (before_number (rank_of x) (rank_of y) (number_of x) (number_of y) h k)
+    same_value x y (before_rank (rank_of x) (rank_of y) (number_of x) (number_of y) h k)
+    (before_number (rank_of x) (rank_of y) (number_of x) (number_of y) h k)
 
 -- a value does not come before itself
 pub not_before : (x y : Value) → is_before x y ≡ true → x ≡ y → ⊥

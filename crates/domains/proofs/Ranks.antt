@@ -36,8 +36,12 @@ pub rank-lt : (s t : ℕ) (xs : List ℕ) → s < t → Contains xs s → rank s
 rank-lt s t [] h (k, l, e) = absurd (omega (arith, l))
 rank-lt s t (x ∷ xs) h m =
     elim (contains-cases x s xs m) [
-      | inl e ↦ rw (rank-cons s x xs, rank-cons t x xs) (rw e (rank_here (rank s xs) (rank t xs) s t (rank-le s t xs (omega arith)) h))
-      | inr m ↦ rw (rank-cons s x xs, rank-cons t x xs) (rank_step_lt (rank s xs) (rank t xs) s t x (rank-lt s t xs h m) (omega arith))
+      | inl e ↦
+          rw (rank-cons s x xs, rank-cons t x xs)
+          (rw e (rank_here (rank s xs) (rank t xs) s t (rank-le s t xs (omega arith)) h))
+      | inr m ↦
+          rw (rank-cons s x xs, rank-cons t x xs)
+          (rank_step_lt (rank s xs) (rank t xs) s t x (rank-lt s t xs h m) (omega arith))
     ]
 
 -- one of the numbers has this rank
@@ -92,7 +96,8 @@ pub rank-small : (xs : List ℕ) (s : ℕ) → Contains xs s → rank s xs < len
 rank-small [] s (k, h, e) = absurd (omega (arith, h))
 rank-small (x ∷ xs) s m =
     elim (contains-cases x s xs m) [
-      | inl e ↦ rw (rank-cons s x xs) (rw e (let k = count_by-le-length (λ y. nat_lt y s) xs in grind (arith, nat_tests)))
+      | inl e ↦
+          rw (rank-cons s x xs) (rw e (let k = count_by-le-length (λ y. nat_lt y s) xs in grind (arith, nat_tests)))
       | inr n ↦ rw (rank-cons s x xs) (let k = rank-small xs s n in grind (arith, nat_tests))
     ]
 

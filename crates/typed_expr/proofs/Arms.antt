@@ -52,7 +52,9 @@ module _ {V : Type 0} (facts : V → Value → Type 0) (most : Option ℕ) where
 
   pub not-stop : (stop : Stop) (e d : Expr V) (a : Box (Expr V) Global) → e ≡ view.Not a → d ≡ a.value
       → Evaluates facts most (Err stop) (out-Expr V d) → Evaluates facts most (Err stop) (out-Expr V e)
-  not-stop stop e d a i j h = stopped_at stop e (Not a) (λ n. IsWide facts n (out-Expr V a.value)) (opened-not e a i) (form.up-not facts a) (in_box (Err stop) d a j h)
+  not-stop stop e d a i j h =
+      stopped_at stop e (Not a) (λ n. IsWide facts n (out-Expr V a.value)) (opened-not e a i) (form.up-not facts a)
+      (in_box (Err stop) d a j h)
 
   tallied_in : (b : Bool) (r : Result (Bool × Bool) Stop) (xs : List (Expr V)) (es : Vec (Expr V) Global)
       → xs ≡ es.items → Tallies facts most b r xs → Tallies facts most b r es.items
@@ -66,7 +68,9 @@ module _ {V : Type 0} (facts : V → Value → Type 0) (most : Option ℕ) where
 
   pub all-stop : (stop : Stop) (e : Expr V) (xs : List (Expr V)) (es : Vec (Expr V) Global) → e ≡ view.All es
       → xs ≡ es.items → Tallies facts most true (Err stop) xs → Evaluates facts most (Err stop) (out-Expr V e)
-  all-stop stop e xs es i j h = stopped_at stop e (All es) (SomeWide facts es.items) (opened-all e es i) (form.up-all facts es) (tallied_in true (Err stop) xs es j h)
+  all-stop stop e xs es i j h =
+      stopped_at stop e (All es) (SomeWide facts es.items) (opened-all e es i) (form.up-all facts es)
+      (tallied_in true (Err stop) xs es j h)
 
   pub any-arm : (r : Result (List Value) Stop) (e : Expr V) (xs : List (Expr V)) (es : Vec (Expr V) Global) (t f : Bool)
       → e ≡ view.Any es → xs ≡ es.items
@@ -76,7 +80,9 @@ module _ {V : Type 0} (facts : V → Value → Type 0) (most : Option ℕ) where
 
   pub any-stop : (stop : Stop) (e : Expr V) (xs : List (Expr V)) (es : Vec (Expr V) Global) → e ≡ view.Any es
       → xs ≡ es.items → Tallies facts most false (Err stop) xs → Evaluates facts most (Err stop) (out-Expr V e)
-  any-stop stop e xs es i j h = stopped_at stop e (Any es) (SomeWide facts es.items) (opened-any e es i) (form.up-any facts es) (tallied_in false (Err stop) xs es j h)
+  any-stop stop e xs es i j h =
+      stopped_at stop e (Any es) (SomeWide facts es.items) (opened-any e es i) (form.up-any facts es)
+      (tallied_in false (Err stop) xs es j h)
 
   pub compare-arm : (r : Result (List Value) Stop) (e c d : Expr V) (q : Relation) (a b : Box (Expr V) Global) (xs ys : List Value) (f t : Bool)
       → e ≡ view.Compare q a b → c ≡ a.value → d ≡ b.value
@@ -84,37 +90,52 @@ module _ {V : Type 0} (facts : V → Value → Type 0) (most : Option ℕ) where
       → IsTrue f ↔ SomeRelated q xs ys false → IsTrue t ↔ SomeRelated q xs ys true
       → Gathers most r (IsTruth f t) → Evaluates facts most r (out-Expr V e)
   compare-arm r e c d q a b xs ys f t i j k h l m n g =
-      at r e (Compare q a b) (opened-compare e q a b i) (form.compare-done facts most q a b xs ys f t r (in_box (Ok xs) c a j h) (in_box (Ok ys) d b k l) m n g)
+      at r e (Compare q a b) (opened-compare e q a b i)
+      (form.compare-done facts most q a b xs ys f t r (in_box (Ok xs) c a j h) (in_box (Ok ys) d b k l) m n g)
 
   pub left-stop : (stop : Stop) (e c : Expr V) (q : Relation) (a b : Box (Expr V) Global) → e ≡ view.Compare q a b
       → c ≡ a.value → Evaluates facts most (Err stop) (out-Expr V c)
       → Evaluates facts most (Err stop) (out-Expr V e)
-  left-stop stop e c q a b i j h = stopped_at stop e (Compare q a b) (λ n. IsWide facts n (out-Expr V a.value)) (opened-compare e q a b i) (form.up-left facts q a b) (in_box (Err stop) c a j h)
+  left-stop stop e c q a b i j h =
+      stopped_at stop e (Compare q a b) (λ n. IsWide facts n (out-Expr V a.value)) (opened-compare e q a b i)
+      (form.up-left facts q a b) (in_box (Err stop) c a j h)
 
   pub right-stop : (stop : Stop) (e d : Expr V) (q : Relation) (a b : Box (Expr V) Global) → e ≡ view.Compare q a b
       → d ≡ b.value → Evaluates facts most (Err stop) (out-Expr V d)
       → Evaluates facts most (Err stop) (out-Expr V e)
-  right-stop stop e d q a b i j h = stopped_at stop e (Compare q a b) (λ n. IsWide facts n (out-Expr V b.value)) (opened-compare e q a b i) (form.up-right facts q a b) (in_box (Err stop) d b j h)
+  right-stop stop e d q a b i j h =
+      stopped_at stop e (Compare q a b) (λ n. IsWide facts n (out-Expr V b.value)) (opened-compare e q a b i)
+      (form.up-right facts q a b) (in_box (Err stop) d b j h)
 
   pub sum-arm : (r : Result (List Value) Stop) (e : Expr V) (xs : List (Bool × Expr V)) (ps : Vec (Bool × Expr V) Global)
       → e ≡ view.Sum ps → xs ≡ ps.items → Sums facts most r xs → Evaluates facts most r (out-Expr V e)
-  sum-arm r e xs ps i j h = at r e (Sum ps) (opened-sum e ps i) (form.sum-done facts most ps r (let P : List (Bool × Expr V) → Type 0 = λ z. Sums facts most r z in subst P j h))
+  sum-arm r e xs ps i j h =
+      at r e (Sum ps) (opened-sum e ps i)
+      (form.sum-done facts most ps r (let P : List (Bool × Expr V) → Type 0 = λ z. Sums facts most r z in subst P j h))
 
   pub product-arm : (r : Result (List Value) Stop) (e : Expr V) (xs : List (Expr V)) (es : Vec (Expr V) Global)
       → e ≡ view.Product es → xs ≡ es.items → Folds facts most Times r xs → Evaluates facts most r (out-Expr V e)
-  product-arm r e xs es i j h = at r e (Product es) (opened-product e es i) (form.product-done facts most es r (let P : List (Expr V) → Type 0 = λ z. Folds facts most Times r z in subst P j h))
+  product-arm r e xs es i j h =
+      at r e (Product es) (opened-product e es i)
+      (form.product-done facts most es r (let P : List (Expr V) → Type 0 = λ z. Folds facts most Times r z in subst P j h))
 
   pub least-arm : (r : Result (List Value) Stop) (e : Expr V) (xs : List (Expr V)) (es : Vec (Expr V) Global)
       → e ≡ view.Least es → xs ≡ es.items → Folds facts most Lesser r xs → Evaluates facts most r (out-Expr V e)
-  least-arm r e xs es i j h = at r e (Least es) (opened-least e es i) (form.least-done facts most es r (let P : List (Expr V) → Type 0 = λ z. Folds facts most Lesser r z in subst P j h))
+  least-arm r e xs es i j h =
+      at r e (Least es) (opened-least e es i)
+      (form.least-done facts most es r (let P : List (Expr V) → Type 0 = λ z. Folds facts most Lesser r z in subst P j h))
 
   pub greatest-arm : (r : Result (List Value) Stop) (e : Expr V) (xs : List (Expr V)) (es : Vec (Expr V) Global)
       → e ≡ view.Greatest es → xs ≡ es.items → Folds facts most Greater r xs → Evaluates facts most r (out-Expr V e)
-  greatest-arm r e xs es i j h = at r e (Greatest es) (opened-greatest e es i) (form.greatest-done facts most es r (let P : List (Expr V) → Type 0 = λ z. Folds facts most Greater r z in subst P j h))
+  greatest-arm r e xs es i j h =
+      at r e (Greatest es) (opened-greatest e es i)
+      (form.greatest-done facts most es r (let P : List (Expr V) → Type 0 = λ z. Folds facts most Greater r z in subst P j h))
 
   pub count-arm : (r : Result (List Value) Stop) (e : Expr V) (xs : List (Expr V)) (es : Vec (Expr V) Global)
       → e ≡ view.Count es → xs ≡ es.items → Folds facts most Counted r xs → Evaluates facts most r (out-Expr V e)
-  count-arm r e xs es i j h = at r e (Count es) (opened-count e es i) (form.count-done facts most es r (let P : List (Expr V) → Type 0 = λ z. Folds facts most Counted r z in subst P j h))
+  count-arm r e xs es i j h =
+      at r e (Count es) (opened-count e es i)
+      (form.count-done facts most es r (let P : List (Expr V) → Type 0 = λ z. Folds facts most Counted r z in subst P j h))
 
   chosen_in : (r : Result (List Value × Bool) Stop) (xs : List (Expr V × Expr V)) (cs : Vec (Expr V × Expr V) Global)
       → xs ≡ cs.items → Chooses facts most r xs → Chooses facts most r cs.items
@@ -125,9 +146,12 @@ module _ {V : Type 0} (facts : V → Value → Type 0) (most : Option ℕ) where
       → Joins facts most r passes set (out-Expr V d) → Evaluates facts most r (out-Expr V e)
   choice-arm r e d us cs other set passes i j k h l =
       let P : Expr V → Type 0 = λ z. Joins facts most r passes set (out-Expr V z) in
-      at r e (Choose cs other) (opened-choice e cs other i) (form.choice-done facts most cs other set passes r (chosen_in (Ok (set, passes)) us cs j h) (subst P k l))
+      at r e (Choose cs other) (opened-choice e cs other i)
+      (form.choice-done facts most cs other set passes r (chosen_in (Ok (set, passes)) us cs j h) (subst P k l))
 
   pub cases-stop : (stop : Stop) (e : Expr V) (us : List (Expr V × Expr V)) (cs : Vec (Expr V × Expr V) Global) (other : Box (Expr V) Global)
       → e ≡ view.Choose cs other → us ≡ cs.items
       → Chooses facts most (Err stop) us → Evaluates facts most (Err stop) (out-Expr V e)
-  cases-stop stop e us cs other i j h = stopped_at stop e (Choose cs other) (λ n. CaseWide facts cs.items n ⊎ HasMoreThan n (Took facts cs.items)) (opened-choice e cs other i) (form.up-cases facts cs other) (chosen_in (Err stop) us cs j h)
+  cases-stop stop e us cs other i j h =
+      stopped_at stop e (Choose cs other) (λ n. CaseWide facts cs.items n ⊎ HasMoreThan n (Took facts cs.items))
+      (opened-choice e cs other i) (form.up-cases facts cs other) (chosen_in (Err stop) us cs j h)

@@ -22,7 +22,9 @@ module _ {V : Type 0} {P Q : V → Value → Type 0} where
     yields_named k (y.all_true d) = y.all_true (all_named (λ x w n p. k x w (m.in_all n) p) d)
     yields_named k (y.one_true d) = y.one_true (some_named (λ x w n p. k x w (m.in_any n) p) d)
     yields_named k (y.all_false d) = y.all_false (all_named (λ x w n p. k x w (m.in_any n) p) d)
-    yields_named k (y.compared c d) = y.compared (yields_named (λ x w n p. k x w (m.in_left n) p) c) (yields_named (λ x w n p. k x w (m.in_right n) p) d)
+    yields_named k (y.compared c d) =
+        y.compared (yields_named (λ x w n p. k x w (m.in_left n) p) c)
+        (yields_named (λ x w n p. k x w (m.in_right n) p) d)
     yields_named k (y.sum d) = y.sum (parts_named (λ x w n p. k x w (m.in_sum n) p) d)
     yields_named k (y.product d) = y.product (picks_named (λ x w n p. k x w (m.in_product n) p) d)
     yields_named k (y.least d) = y.least (picks_named (λ x w n p. k x w (m.in_least n) p) d)
@@ -51,7 +53,9 @@ module _ {V : Type 0} {P Q : V → Value → Type 0} where
     pub parts_named : {ps : List (Bool × Expr V)} {vs : List (Bool × Value)}
         → ((x : V) (w : Value) → Parts_mention x ps → P x w → Q x w) → Picks_parts P ps vs → Picks_parts Q ps vs
     parts_named k y.no_part = y.no_part
-    parts_named k (y.part d ds) = y.part (yields_named (λ x w n p. k x w (m.this_part n) p) d) (parts_named (λ x w n p. k x w (m.later_part n) p) ds)
+    parts_named k (y.part d ds) =
+        y.part (yields_named (λ x w n p. k x w (m.this_part n) p) d)
+        (parts_named (λ x w n p. k x w (m.later_part n) p) ds)
 
     pub takes_named : {cs : List (Expr V × Expr V)} {e : Level V} {v : Value}
         → ((x : V) (w : Value) → Cases_mention x cs → P x w → Q x w)
@@ -59,7 +63,9 @@ module _ {V : Type 0} {P Q : V → Value → Type 0} where
     takes_named k l (y.otherwise d) = y.otherwise (yields_named l d)
     takes_named k l (y.taken t d) =
         y.taken (yields_named (λ x w n p. k x w (m.in_test n) p) t) (yields_named (λ x w n p. k x w (m.in_value n) p) d)
-    takes_named k l (y.passed t d) = y.passed (yields_named (λ x w n p. k x w (m.in_test n) p) t) (takes_named (λ x w n p. k x w (m.later_case n) p) l d)
+    takes_named k l (y.passed t d) =
+        y.passed (yields_named (λ x w n p. k x w (m.in_test n) p) t)
+        (takes_named (λ x w n p. k x w (m.later_case n) p) l d)
 
 -- more facts yield no less
 module _ (V : Type 0) (P Q : V → Value → Type 0) (more : (x : V) (v : Value) → P x v → Q x v) where
@@ -91,7 +97,9 @@ nothing_holds x v (k, h, e) = absurd (omega (arith, h))
 
 only_holds : {V : Type 0} (P : V → Value → Type 0) (x : V) (v : Value) → P x v → (z : V) (w : Value)
     → Has ((x, v) ∷ []) z w → P z w
-only_holds P x v h z w n = ⊎_elim (λ a. absurd (nothing_holds z w a)) (λ e. let Q : Pair _ → Type 0 = λ k. P k.0 k.1 in subst Q e h) (Contains-push_cases [] (x, v) (z, w) n)
+only_holds P x v h z w n =
+    ⊎_elim (λ a. absurd (nothing_holds z w a)) (λ e. let Q : Pair _ → Type 0 = λ k. P k.0 k.1 in subst Q e h)
+    (Contains-push_cases [] (x, v) (z, w) n)
 
 -- two that need finitely many facts need finitely many together
 pub needs_both : (V : Type 0) (P : V → Value → Type 0) (R S T : (V → Value → Type 0) → Type 0)
@@ -101,7 +109,9 @@ pub needs_both : (V : Type 0) (P : V → Value → Type 0) (R S T : (V → Value
 needs_both V P R S T more_r more_s both n k = record {
   pairs = n.pairs ++ k.pairs;
   hold = either_holds P n.pairs k.pairs n.hold k.hold;
-  suffice = both (Has (n.pairs ++ k.pairs)) (more_r (Has n.pairs) (Has (n.pairs ++ k.pairs)) (λ x v h. Contains-append_left n.pairs k.pairs (x, v) h) n.suffice)
+  suffice =
+      both (Has (n.pairs ++ k.pairs))
+      (more_r (Has n.pairs) (Has (n.pairs ++ k.pairs)) (λ x v h. Contains-append_left n.pairs k.pairs (x, v) h) n.suffice)
       (more_s (Has k.pairs) (Has (n.pairs ++ k.pairs)) (λ x v h. Contains-append_right n.pairs k.pairs (x, v) h) k.suffice);
 }
 
@@ -110,7 +120,11 @@ module _ (V : Type 0) (P : V → Value → Type 0) where
   mutual
     pub needs : {e : Level V} {v : Value} → Yields P e v → Needs V P (λ F. Yields F e v)
     needs y.constant = record { pairs = []; hold = λ x v n. absurd (nothing_holds x v n); suffice = y.constant }
-    needs (y.variable {x = x} {v = v} h) = record { pairs = (x, v) ∷ []; hold = only_holds P x v h; suffice = y.variable (Contains-push [] (x, v)) }
+    needs (y.variable {x = x} {v = v} h) = record {
+      pairs = (x, v) ∷ [];
+      hold = only_holds P x v h;
+      suffice = y.variable (Contains-push [] (x, v));
+    }
     needs (y.opposite d) = let n = needs d in record { pairs = n.pairs; hold = n.hold; suffice = y.opposite n.suffice }
     needs (y.one_false d) =
         let n = some_need d in
@@ -124,8 +138,10 @@ module _ (V : Type 0) (P : V → Value → Type 0) where
     needs (y.all_false d) =
         let n = all_need d in
         record { pairs = n.pairs; hold = n.hold; suffice = y.all_false n.suffice }
-    needs (y.compared {r = r} {a = a} {b = b} {v = v} {w = w} c d) = needs_both V P (λ F. Yields F _ v) (λ F. Yields F _ w) (λ F. Yields F _ _)
-        (λ F G k h. yields_more V F G k h) (λ F G k h. yields_more V F G k h) (λ F h k. y.compared h k) (needs c) (needs d)
+    needs (y.compared {r = r} {a = a} {b = b} {v = v} {w = w} c d) =
+        needs_both V P (λ F. Yields F _ v) (λ F. Yields F _ w) (λ F. Yields F _ _)
+        (λ F G k h. yields_more V F G k h) (λ F G k h. yields_more V F G k h) (λ F h k. y.compared h k) (needs c)
+        (needs d)
     needs (y.sum d) = let n = parts_need d in record { pairs = n.pairs; hold = n.hold; suffice = y.sum n.suffice }
     needs (y.product d) =
         let n = picks_need d in
@@ -146,25 +162,37 @@ module _ (V : Type 0) (P : V → Value → Type 0) where
     pub all_need : {es : List (Expr V)} {v : Value} → All_yield P es v → Needs V P (λ F. All_yield F es v)
     all_need y.none = record { pairs = []; hold = λ x v n. absurd (nothing_holds x v n); suffice = y.none }
     all_need {v = v} (y.one_and d ds) = needs_both V P (λ F. Yields F _ v) (λ F. All_yield F _ v) (λ F. All_yield F _ v)
-        (λ F G k h. yields_more V F G k h) (λ F G k h. all_more V F G k h) (λ F h k. y.one_and h k) (needs d) (all_need ds)
+        (λ F G k h. yields_more V F G k h) (λ F G k h. all_more V F G k h) (λ F h k. y.one_and h k) (needs d)
+        (all_need ds)
 
     pub picks_need : {es : List (Expr V)} {vs : List Value} → Picks P es vs → Needs V P (λ F. Picks F es vs)
-    picks_need y.no_operand = record { pairs = []; hold = λ x v n. absurd (nothing_holds x v n); suffice = y.no_operand }
-    picks_need (y.operand {v = v} {vs = vs} d ds) = needs_both V P (λ F. Yields F _ v) (λ F. Picks F _ vs) (λ F. Picks F _ (v ∷ vs))
-        (λ F G k h. yields_more V F G k h) (λ F G k h. picks_more V F G k h) (λ F h k. y.operand h k) (needs d) (picks_need ds)
+    picks_need y.no_operand = record {
+      pairs = [];
+      hold = λ x v n. absurd (nothing_holds x v n);
+      suffice = y.no_operand;
+    }
+    picks_need (y.operand {v = v} {vs = vs} d ds) =
+        needs_both V P (λ F. Yields F _ v) (λ F. Picks F _ vs) (λ F. Picks F _ (v ∷ vs))
+        (λ F G k h. yields_more V F G k h) (λ F G k h. picks_more V F G k h) (λ F h k. y.operand h k) (needs d)
+        (picks_need ds)
 
     pub parts_need : {ps : List (Bool × Expr V)} {vs : List (Bool × Value)} → Picks_parts P ps vs
         → Needs V P (λ F. Picks_parts F ps vs)
     parts_need y.no_part = record { pairs = []; hold = λ x v n. absurd (nothing_holds x v n); suffice = y.no_part }
-    parts_need (y.part {v = v} {vs = vs} d ds) = needs_both V P (λ F. Yields F _ v) (λ F. Picks_parts F _ vs) (λ F. Picks_parts F _ _)
-        (λ F G k h. yields_more V F G k h) (λ F G k h. parts_more V F G k h) (λ F h k. y.part h k) (needs d) (parts_need ds)
+    parts_need (y.part {v = v} {vs = vs} d ds) =
+        needs_both V P (λ F. Yields F _ v) (λ F. Picks_parts F _ vs) (λ F. Picks_parts F _ _)
+        (λ F G k h. yields_more V F G k h) (λ F G k h. parts_more V F G k h) (λ F h k. y.part h k) (needs d)
+        (parts_need ds)
 
     pub takes_need : {cs : List (Expr V × Expr V)} {e : Level V} {v : Value} → Takes P cs e v
         → Needs V P (λ F. Takes F cs e v)
     takes_need (y.otherwise d) =
         let n = needs d in
         record { pairs = n.pairs; hold = n.hold; suffice = y.otherwise n.suffice }
-    takes_need {v = v} (y.taken t d) = needs_both V P (λ F. Yields F _ (Truth true)) (λ F. Yields F _ v) (λ F. Takes F _ _ v)
+    takes_need {v = v} (y.taken t d) =
+        needs_both V P (λ F. Yields F _ (Truth true)) (λ F. Yields F _ v) (λ F. Takes F _ _ v)
         (λ F G k h. yields_more V F G k h) (λ F G k h. yields_more V F G k h) (λ F h k. y.taken h k) (needs t) (needs d)
-    takes_need {v = v} (y.passed t d) = needs_both V P (λ F. Yields F _ (Truth false)) (λ F. Takes F _ _ v) (λ F. Takes F _ _ v)
-        (λ F G k h. yields_more V F G k h) (λ F G k h. takes_more V F G k h) (λ F h k. y.passed h k) (needs t) (takes_need d)
+    takes_need {v = v} (y.passed t d) =
+        needs_both V P (λ F. Yields F _ (Truth false)) (λ F. Takes F _ _ v) (λ F. Takes F _ _ v)
+        (λ F G k h. yields_more V F G k h) (λ F G k h. takes_more V F G k h) (λ F h k. y.passed h k) (needs t)
+        (takes_need d)

@@ -33,7 +33,8 @@ fold_of-push Counted vs v = fold_push counted (pos 0) vs v
 pub map-more : {X Y : Type 0} (f : X → Y) (xs : List X) (i : ℕ) (x : X) → i < length xs → x ≡ get_or xs i x
     → map f (take (i + 1) xs) ≡ map f (take i xs) ++ f x ∷ []
 map-more f xs i x h is =
-    ap (map f) (take_more xs i x h) ∙ map-append f (take i xs) (get_or xs i x ∷ []) ∙ ap (λ z. map f (take i xs) ++ f z ∷ []) (sym is)
+    ap (map f) (take_more xs i x h) ∙ map-append f (take i xs) (get_or xs i x ∷ []) ∙ ap
+    (λ z. map f (take i xs) ++ f z ∷ []) (sym is)
 
 -- one more operand of a fold along the list of operands
 pub fold_of-more : {X : Type 0} (s : Step) (f : X → Value) (xs : List X) (i : ℕ) (x : X) → i < length xs
@@ -46,7 +47,8 @@ pub fold_of-step : {X : Type 0} (s : Step) (f : X → Value) (xs : List X) (i : 
     → r ≡ next_of s first n v → n ≡ fold_of s (map f (take i xs)) → first ≡ is_nil (map f (take i xs)) → v ≡ f x
     → r ≡ fold_of s (map f (take (i + 1) xs))
 fold_of-step s f xs i x first n v r h is e a b d =
-    e ∙ ap (λ z. next_of s first n z) d ∙ ap (λ z. next_of s first z (f x)) a ∙ ap (λ z. next_of s z (fold_of s (map f (take i xs))) (f x)) b ∙ sym (fold_of-more s f xs i x h is)
+    e ∙ ap (λ z. next_of s first n z) d ∙ ap (λ z. next_of s first z (f x)) a ∙ ap
+    (λ z. next_of s z (fold_of s (map f (take i xs))) (f x)) b ∙ sym (fold_of-more s f xs i x h is)
 
 pub is_nil-push : {X : Type 0} (xs : List X) (x : X) → is_nil (xs ++ x ∷ []) ≡ false
 is_nil-push [] x = refl
@@ -62,7 +64,9 @@ pub first_true-drop : {X : Type 0} (f : X → Value) (cs : List (X × X)) (i : �
     → first_true (map (λ c. (f c.0, f c.1)) (drop i cs)) other ≡ cond (truth_of (f c.0)) (f c.1) (first_true (map (λ c. (f c.0, f c.1)) (drop (i + 1) cs)) other)
 first_true-drop {X} f cs i c other h is =
     at_drop_more (λ (xs : List (X × X)). first_true (map (λ c. (f c.0, f c.1)) xs) other) cs i c h
-    ∙ ap (λ (x : X × X). cond (truth_of (f x.0)) (f x.1) (first_true (map (λ c. (f c.0, f c.1)) (drop (i + 1) cs)) other)) (sym is)
+    ∙ ap
+    (λ (x : X × X). cond (truth_of (f x.0)) (f x.1) (first_true (map (λ c. (f c.0, f c.1)) (drop (i + 1) cs)) other))
+    (sym is)
 
 -- a case whose test is true decides, and one whose test is false does not
 pub chosen-true : {X : Type 0} (f : X → Value) (cs : List (X × X)) (i : ℕ) (c : X × X) → i < length cs
@@ -81,7 +85,8 @@ pub chosen-false : {X : Type 0} (f : X → Value) (cs : List (X × X)) (i : ℕ)
     → (other : Value)
     → first_true (map (λ c. (f c.0, f c.1)) (drop (i + 1) cs)) other ≡ first_true (map (λ c. (f c.0, f c.1)) cs) other
 chosen-false f cs i c h is inv t other =
-    sym (first_true-drop f cs i c other h is ∙ ap (λ b. cond b (f c.1) (first_true (map (λ c. (f c.0, f c.1)) (drop (i + 1) cs)) other)) t)
+    sym
+    (first_true-drop f cs i c other h is ∙ ap (λ b. cond b (f c.1) (first_true (map (λ c. (f c.0, f c.1)) (drop (i + 1) cs)) other)) t)
     ∙ inv other
 
 pub chosen-over : {X : Type 0} (f : X → Value) (cs : List (X × X)) (i : ℕ) → length cs ≤ i
@@ -103,6 +108,7 @@ pub value_of-chosen : {V : Type 0} (t : V → Value) (cases : Vec (Expr V × Exp
     → unwrap_or r (value_of t other.value) ≡ value_of t e
 value_of-chosen {V} t cases other e xs r is same h =
     sym (h (value_of t other.value))
-    ∙ ap (λ (ys : List (Expr V × Expr V)). first_true (map (λ c. (value_of t c.0, value_of t c.1)) ys) (value_of t other.value)) same
+    ∙ ap
+    (λ (ys : List (Expr V × Expr V)). first_true (map (λ c. (value_of t c.0, value_of t c.1)) ys) (value_of t other.value)) same
     ∙ sym (value_of-Choose t cases other)
     ∙ ap (value_of t) (sym is)

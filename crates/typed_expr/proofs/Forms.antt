@@ -42,7 +42,9 @@ pub no-longer : (xs ys : List Value) → Ascends xs → ((d : Value) → Contain
 no-longer [] ys a f = omega arith
 no-longer (x ∷ xs) ys a f =
     let (zs, l, g) = without ys x (f x (contains-head x xs)) in
-    let k = no-longer xs zs a.1 (λ d m. elim (g d (f d (contains-cons x d xs m))) [ inl e ↦ absurd (not_before x d (a.0 d m) (sym e)) | inr n ↦ n ]) in
+    let k =
+    no-longer xs zs a.1
+    (λ d m. elim (g d (f d (contains-cons x d xs m))) [ inl e ↦ absurd (not_before x d (a.0 d m) (sym e)) | inr n ↦ n ]) in
     omega arith
 
 -- the values of a set within the limit are not too many
@@ -76,10 +78,12 @@ module _ {V : Type 0} (facts : V → Value → Type 0) where
   finish None e (Ok set) P C g up down cases never =
       (record { sound = λ v m. up v (g.0.sound v m); complete = λ v q. g.0.complete v (down v q) }, tt, λ w. w)
   finish (Some n) e (Ok set) P C g up down cases never =
-      let exact : HasExactly set (Yields facts e) = record { sound = λ v m. up v (g.0.sound v m); complete = λ v q. g.0.complete v (down v q) } in
+      let exact : HasExactly set (Yields facts e) =
+      record { sound = λ v m. up v (g.0.sound v m); complete = λ v q. g.0.complete v (down v q) } in
       (exact, g.1, λ w. elim (cases n w) [ inl m ↦ not-more n set (Yields facts e) exact g.1 m | inr c ↦ never c ])
   finish most e (Err stop) P C g up down cases never =
-      stopped-up most (λ n. HasMoreThan n P) (λ n. IsWide facts n e) (λ n h. subexpression itself (more-than up h)) stop g
+      stopped-up most (λ n. HasMoreThan n P) (λ n. IsWide facts n e)
+      (λ n h. subexpression itself (more-than up h)) stop g
 
   no_step : {n : ℕ} {P : Value → Type 0} {C : Type 0} → ((v : Value) → P v → ⊥) → HasMoreThan n P → C
   no_step {n} {P} f m = absurd (none-more n P f m)
@@ -252,7 +256,9 @@ module _ {V : Type 0} (facts : V → Value → Type 0) where
 
   pub variable-done : (most : Option ℕ) (x : V) (r : Result (List Value) Stop) → Gathers most r (facts x)
       → Evaluates facts most r (Variable x)
-  variable-done most x r g = finish most (Variable x) r (facts x) (λ n. ⊥) g (λ w m. y.variable m) (yielded_variable x) (wide-variable x) (nothing most)
+  variable-done most x r g =
+      finish most (Variable x) r (facts x) (λ n. ⊥) g (λ w m. y.variable m) (yielded_variable x) (wide-variable x)
+      (nothing most)
 
   to_not : (a : Box (Expr V) Global) (set : List Value) (can_be_false can_be_true : Bool)
       → HasExactly set (Yields facts (out-Expr V a.value))
@@ -273,7 +279,8 @@ module _ {V : Type 0} (facts : V → Value → Type 0) where
       → IsTrue can_be_true ↔ Contains set (Truth false)
       → Gathers most r (IsTruth can_be_false can_be_true) → Evaluates facts most r (Not a)
   not-done most a set f t r h p q g =
-      finish most (Not a) r (IsTruth f t) (λ n. IsWide facts n (out-Expr V a.value)) g (to_not a set f t h.0 p.0 q.0) (from_not a set f t h.0 p.1 q.1) (wide-not a) h.2
+      finish most (Not a) r (IsTruth f t) (λ n. IsWide facts n (out-Expr V a.value)) g (to_not a set f t h.0 p.0 q.0)
+      (from_not a set f t h.0 p.1 q.1) (wide-not a) h.2
 
   to_all : (es : Vec (Expr V) Global) (one_false all_true : Bool) → Tallied facts true one_false all_true es.items
       → (v : Value) → IsTruth one_false all_true v → Yields facts (All es) v
@@ -288,7 +295,9 @@ module _ {V : Type 0} (facts : V → Value → Type 0) where
   pub all-done : (most : Option ℕ) (es : Vec (Expr V) Global) (one_false all_true : Bool) (r : Result (List Value) Stop)
       → Tallies facts most true (Ok (one_false, all_true)) es.items → Gathers most r (IsTruth one_false all_true)
       → Evaluates facts most r (All es)
-  all-done most es f t r h g = finish most (All es) r (IsTruth f t) (SomeWide facts es.items) g (to_all es f t h.0) (from_all es f t h.0) (wide-all es) h.1
+  all-done most es f t r h g =
+      finish most (All es) r (IsTruth f t) (SomeWide facts es.items) g (to_all es f t h.0) (from_all es f t h.0)
+      (wide-all es) h.1
 
   to_any : (es : Vec (Expr V) Global) (one_true all_false : Bool) → Tallied facts false one_true all_false es.items
       → (v : Value) → IsTruth all_false one_true v → Yields facts (Any es) v
@@ -303,7 +312,9 @@ module _ {V : Type 0} (facts : V → Value → Type 0) where
   pub any-done : (most : Option ℕ) (es : Vec (Expr V) Global) (one_true all_false : Bool) (r : Result (List Value) Stop)
       → Tallies facts most false (Ok (one_true, all_false)) es.items → Gathers most r (IsTruth all_false one_true)
       → Evaluates facts most r (Any es)
-  any-done most es t f r h g = finish most (Any es) r (IsTruth f t) (SomeWide facts es.items) g (to_any es t f h.0) (from_any es t f h.0) (wide-any es) h.1
+  any-done most es t f r h g =
+      finish most (Any es) r (IsTruth f t) (SomeWide facts es.items) g (to_any es t f h.0) (from_any es t f h.0)
+      (wide-any es) h.1
 
   to_compare : (q : Relation) (a b : Box (Expr V) Global) (xs ys : List Value) (f t : Bool)
       → HasExactly xs (Yields facts (out-Expr V a.value)) → HasExactly ys (Yields facts (out-Expr V b.value))
@@ -311,10 +322,12 @@ module _ {V : Type 0} (facts : V → Value → Type 0) where
       → Yields facts (Compare q a b) v
   to_compare q a b xs ys f t h k p o v (inl m) =
       let s = p m.0 in
-      subst (Yields facts (Compare q a b)) (ap Truth s.related ∙ sym m.1) (y.compared (h.sound s.left s.in_left) (k.sound s.right s.in_right))
+      subst (Yields facts (Compare q a b)) (ap Truth s.related ∙ sym m.1)
+      (y.compared (h.sound s.left s.in_left) (k.sound s.right s.in_right))
   to_compare q a b xs ys f t h k p o v (inr m) =
       let s = o m.0 in
-      subst (Yields facts (Compare q a b)) (ap Truth s.related ∙ sym m.1) (y.compared (h.sound s.left s.in_left) (k.sound s.right s.in_right))
+      subst (Yields facts (Compare q a b)) (ap Truth s.related ∙ sym m.1)
+      (y.compared (h.sound s.left s.in_left) (k.sound s.right s.in_right))
 
   truth_found : (f t b : Bool) → (b ≡ false → IsTrue f) → (b ≡ true → IsTrue t) → IsTruth f t (Truth b)
   truth_found f t true p o = inr (o refl, refl)
@@ -334,8 +347,10 @@ module _ {V : Type 0} (facts : V → Value → Type 0) where
       → IsTrue f ↔ SomeRelated q xs ys false → IsTrue t ↔ SomeRelated q xs ys true → Gathers most r (IsTruth f t)
       → Evaluates facts most r (Compare q a b)
   compare-done most q a b xs ys f t r h k p o g =
-      finish most (Compare q a b) r (IsTruth f t) (λ n. IsWide facts n (out-Expr V a.value) ⊎ IsWide facts n (out-Expr V b.value)) g
-      (to_compare q a b xs ys f t h.0 k.0 p.0 o.0) (from_compare q a b xs ys f t h.0 k.0 p.1 o.1) (wide-compare q a b) (neither most _ _ h.2 k.2)
+      finish most (Compare q a b) r (IsTruth f t)
+      (λ n. IsWide facts n (out-Expr V a.value) ⊎ IsWide facts n (out-Expr V b.value)) g
+      (to_compare q a b xs ys f t h.0 k.0 p.0 o.0) (from_compare q a b xs ys f t h.0 k.0 p.1 o.1) (wide-compare q a b)
+      (neither most _ _ h.2 k.2)
 
   from_sum : (ps : Vec (Bool × Expr V) Global) (v : Value) → Yields facts (Sum ps) v
       → (vs : List (Bool × Value)) × Picks_parts facts ps.items vs × (v ≡ Whole (sum_of vs))
@@ -344,10 +359,14 @@ module _ {V : Type 0} (facts : V → Value → Type 0) where
   pub sum-done : (most : Option ℕ) (ps : Vec (Bool × Expr V) Global) (r : Result (List Value) Stop)
       → Sums facts most r ps.items → Evaluates facts most r (Sum ps)
   sum-done most ps (Ok set) h =
-      finish most (Sum ps) (Ok set) (λ v. (vs : List (Bool × Value)) × Picks_parts facts ps.items vs × (v ≡ Whole (sum_of vs)))
+      finish most (Sum ps) (Ok set)
+      (λ v. (vs : List (Bool × Value)) × Picks_parts facts ps.items vs × (v ≡ Whole (sum_of vs)))
       (λ n. PartWide facts ps.items n ⊎ SomeStep (SumYields facts ps.items) n) (h.0, h.1)
-      (λ v m. let (vs, d, e) = m in subst (Yields facts (Sum ps)) (sym e) (y.sum d)) (from_sum ps) (wide-sum ps) (neither most _ _ h.2 h.3)
-  sum-done most ps (Err stop) h = stopped-up most (λ n. PartWide facts ps.items n ⊎ SomeStep (SumYields facts ps.items) n) (λ n. IsWide facts n (Sum ps)) (up-sum ps) stop h
+      (λ v m. let (vs, d, e) = m in subst (Yields facts (Sum ps)) (sym e) (y.sum d)) (from_sum ps) (wide-sum ps)
+      (neither most _ _ h.2 h.3)
+  sum-done most ps (Err stop) h =
+      stopped-up most (λ n. PartWide facts ps.items n ⊎ SomeStep (SumYields facts ps.items) n)
+      (λ n. IsWide facts n (Sum ps)) (up-sum ps) stop h
 
   from_product : (es : Vec (Expr V) Global) (v : Value) → Yields facts (Product es) v
       → (vs : List Value) × Picks facts es.items vs × (v ≡ Whole (fold_of Times vs))
@@ -356,10 +375,14 @@ module _ {V : Type 0} (facts : V → Value → Type 0) where
   pub product-done : (most : Option ℕ) (es : Vec (Expr V) Global) (r : Result (List Value) Stop)
       → Folds facts most Times r es.items → Evaluates facts most r (Product es)
   product-done most es (Ok set) h =
-      finish most (Product es) (Ok set) (λ v. (vs : List Value) × Picks facts es.items vs × (v ≡ Whole (fold_of Times vs)))
+      finish most (Product es) (Ok set)
+      (λ v. (vs : List Value) × Picks facts es.items vs × (v ≡ Whole (fold_of Times vs)))
       (λ n. SomeWide facts es.items n ⊎ SomeStep (FoldYields facts Times es.items) n) (h.0, h.1)
-      (λ v m. let (vs, d, e) = m in subst (Yields facts (Product es)) (sym e) (y.product d)) (from_product es) (wide-product es) (neither most _ _ h.2 h.3)
-  product-done most es (Err stop) h = stopped-up most (λ n. SomeWide facts es.items n ⊎ SomeStep (FoldYields facts Times es.items) n) (λ n. IsWide facts n (Product es)) (up-product es) stop h
+      (λ v m. let (vs, d, e) = m in subst (Yields facts (Product es)) (sym e) (y.product d)) (from_product es)
+      (wide-product es) (neither most _ _ h.2 h.3)
+  product-done most es (Err stop) h =
+      stopped-up most (λ n. SomeWide facts es.items n ⊎ SomeStep (FoldYields facts Times es.items) n)
+      (λ n. IsWide facts n (Product es)) (up-product es) stop h
 
   from_least : (es : Vec (Expr V) Global) (v : Value) → Yields facts (Least es) v
       → (vs : List Value) × Picks facts es.items vs × (v ≡ Whole (fold_of Lesser vs))
@@ -368,10 +391,14 @@ module _ {V : Type 0} (facts : V → Value → Type 0) where
   pub least-done : (most : Option ℕ) (es : Vec (Expr V) Global) (r : Result (List Value) Stop)
       → Folds facts most Lesser r es.items → Evaluates facts most r (Least es)
   least-done most es (Ok set) h =
-      finish most (Least es) (Ok set) (λ v. (vs : List Value) × Picks facts es.items vs × (v ≡ Whole (fold_of Lesser vs)))
+      finish most (Least es) (Ok set)
+      (λ v. (vs : List Value) × Picks facts es.items vs × (v ≡ Whole (fold_of Lesser vs)))
       (λ n. SomeWide facts es.items n ⊎ SomeStep (FoldYields facts Lesser es.items) n) (h.0, h.1)
-      (λ v m. let (vs, d, e) = m in subst (Yields facts (Least es)) (sym e) (y.least d)) (from_least es) (wide-least es) (neither most _ _ h.2 h.3)
-  least-done most es (Err stop) h = stopped-up most (λ n. SomeWide facts es.items n ⊎ SomeStep (FoldYields facts Lesser es.items) n) (λ n. IsWide facts n (Least es)) (up-least es) stop h
+      (λ v m. let (vs, d, e) = m in subst (Yields facts (Least es)) (sym e) (y.least d)) (from_least es) (wide-least es)
+      (neither most _ _ h.2 h.3)
+  least-done most es (Err stop) h =
+      stopped-up most (λ n. SomeWide facts es.items n ⊎ SomeStep (FoldYields facts Lesser es.items) n)
+      (λ n. IsWide facts n (Least es)) (up-least es) stop h
 
   from_greatest : (es : Vec (Expr V) Global) (v : Value) → Yields facts (Greatest es) v
       → (vs : List Value) × Picks facts es.items vs × (v ≡ Whole (fold_of Greater vs))
@@ -380,10 +407,14 @@ module _ {V : Type 0} (facts : V → Value → Type 0) where
   pub greatest-done : (most : Option ℕ) (es : Vec (Expr V) Global) (r : Result (List Value) Stop)
       → Folds facts most Greater r es.items → Evaluates facts most r (Greatest es)
   greatest-done most es (Ok set) h =
-      finish most (Greatest es) (Ok set) (λ v. (vs : List Value) × Picks facts es.items vs × (v ≡ Whole (fold_of Greater vs)))
+      finish most (Greatest es) (Ok set)
+      (λ v. (vs : List Value) × Picks facts es.items vs × (v ≡ Whole (fold_of Greater vs)))
       (λ n. SomeWide facts es.items n ⊎ SomeStep (FoldYields facts Greater es.items) n) (h.0, h.1)
-      (λ v m. let (vs, d, e) = m in subst (Yields facts (Greatest es)) (sym e) (y.greatest d)) (from_greatest es) (wide-greatest es) (neither most _ _ h.2 h.3)
-  greatest-done most es (Err stop) h = stopped-up most (λ n. SomeWide facts es.items n ⊎ SomeStep (FoldYields facts Greater es.items) n) (λ n. IsWide facts n (Greatest es)) (up-greatest es) stop h
+      (λ v m. let (vs, d, e) = m in subst (Yields facts (Greatest es)) (sym e) (y.greatest d)) (from_greatest es)
+      (wide-greatest es) (neither most _ _ h.2 h.3)
+  greatest-done most es (Err stop) h =
+      stopped-up most (λ n. SomeWide facts es.items n ⊎ SomeStep (FoldYields facts Greater es.items) n)
+      (λ n. IsWide facts n (Greatest es)) (up-greatest es) stop h
 
   from_count : (es : Vec (Expr V) Global) (v : Value) → Yields facts (Count es) v
       → (vs : List Value) × Picks facts es.items vs × (v ≡ Whole (fold_of Counted vs))
@@ -392,10 +423,14 @@ module _ {V : Type 0} (facts : V → Value → Type 0) where
   pub count-done : (most : Option ℕ) (es : Vec (Expr V) Global) (r : Result (List Value) Stop)
       → Folds facts most Counted r es.items → Evaluates facts most r (Count es)
   count-done most es (Ok set) h =
-      finish most (Count es) (Ok set) (λ v. (vs : List Value) × Picks facts es.items vs × (v ≡ Whole (fold_of Counted vs)))
+      finish most (Count es) (Ok set)
+      (λ v. (vs : List Value) × Picks facts es.items vs × (v ≡ Whole (fold_of Counted vs)))
       (λ n. SomeWide facts es.items n ⊎ SomeStep (FoldYields facts Counted es.items) n) (h.0, h.1)
-      (λ v m. let (vs, d, e) = m in subst (Yields facts (Count es)) (sym e) (y.count d)) (from_count es) (wide-count es) (neither most _ _ h.2 h.3)
-  count-done most es (Err stop) h = stopped-up most (λ n. SomeWide facts es.items n ⊎ SomeStep (FoldYields facts Counted es.items) n) (λ n. IsWide facts n (Count es)) (up-count es) stop h
+      (λ v m. let (vs, d, e) = m in subst (Yields facts (Count es)) (sym e) (y.count d)) (from_count es) (wide-count es)
+      (neither most _ _ h.2 h.3)
+  count-done most es (Err stop) h =
+      stopped-up most (λ n. SomeWide facts es.items n ⊎ SomeStep (FoldYields facts Counted es.items) n)
+      (λ n. IsWide facts n (Count es)) (up-count es) stop h
 
   -- what a choice yields: what a case gives, or what the last branch yields where all tests pass it on
   pub takes-from : (cs : List (Expr V × Expr V)) (other : Level V) (v : Value)
@@ -428,20 +463,25 @@ module _ {V : Type 0} (facts : V → Value → Type 0) where
   from_branches : (cs : Vec (Expr V × Expr V) Global) (other : Box (Expr V) Global) (set : List Value) (passes : Bool)
       → Chosen facts set passes cs.items
       → (v : Value) → Yields facts (Choose cs other) v → BranchYields facts passes set (out-Expr V other.value) v
-  from_branches cs other set passes h v d = elim (takes-cases cs.items (out-Expr V other.value) v (from_choice cs other v d)) [
-    | inl t ↦ inl (h.exact.complete v t)
-    | inr p ↦ inr (h.all.1 p.0, p.1)
-  ]
+  from_branches cs other set passes h v d =
+      elim (takes-cases cs.items (out-Expr V other.value) v (from_choice cs other v d)) [
+        | inl t ↦ inl (h.exact.complete v t)
+        | inr p ↦ inr (h.all.1 p.0, p.1)
+      ]
 
   -- the cases with the last branch
   pub choice-done : (most : Option ℕ) (cs : Vec (Expr V × Expr V) Global) (other : Box (Expr V) Global) (set : List Value) (passes : Bool) (r : Result (List Value) Stop)
       → Chooses facts most (Ok (set, passes)) cs.items → Joins facts most r passes set (out-Expr V other.value)
       → Evaluates facts most r (Choose cs other)
   choice-done most cs other set passes (Ok new) h g =
-      finish most (Choose cs other) (Ok new) (BranchYields facts passes set (out-Expr V other.value)) (λ n. CaseWide facts cs.items n ⊎ IsWide facts n (out-Expr V other.value)) (g.0, g.1)
-      (to_choice cs other set passes h.0) (from_branches cs other set passes h.0) (wide-choice cs other) (neither most _ _ h.2 g.2)
+      finish most (Choose cs other) (Ok new) (BranchYields facts passes set (out-Expr V other.value))
+      (λ n. CaseWide facts cs.items n ⊎ IsWide facts n (out-Expr V other.value)) (g.0, g.1)
+      (to_choice cs other set passes h.0) (from_branches cs other set passes h.0) (wide-choice cs other)
+      (neither most _ _ h.2 g.2)
   choice-done most cs other set passes (Err stop) h g =
-      stopped-up most (λ n. IsWide facts n (out-Expr V other.value) ⊎ HasMoreThan n (BranchYields facts passes set (out-Expr V other.value))) (λ n. IsWide facts n (Choose cs other))
+      stopped-up most
+      (λ n. IsWide facts n (out-Expr V other.value) ⊎ HasMoreThan n (BranchYields facts passes set (out-Expr V other.value)))
+      (λ n. IsWide facts n (Choose cs other))
       (λ n w. elim w [ inl a ↦ up-other cs other n a | inr m ↦ subexpression itself (more-than (to_choice cs other set passes h.0) m) ]) stop g
 
   pub up-cases : (cs : Vec (Expr V × Expr V) Global) (other : Box (Expr V) Global) (n : ℕ)
@@ -467,15 +507,19 @@ module _ {V : Type 0} (facts : V → Value → Type 0) where
   branch-done most e set values takes (Ok new) h g =
       (record { sound = λ v m. branch_up e set values takes h.0 v (g.0.sound v m); complete = λ v m. g.0.complete v (branch_down e set values takes h.0 v m) }, g.1, h.2)
   branch-done most e set values takes (Err stop) h g =
-      stopped-up most (λ n. HasMoreThan n (λ v. Contains set v ⊎ (IsTrue takes × Contains values v))) (λ n. IsWide facts n e ⊎ HasMoreThan n (BranchYields facts takes set e))
+      stopped-up most (λ n. HasMoreThan n (λ v. Contains set v ⊎ (IsTrue takes × Contains values v)))
+      (λ n. IsWide facts n e ⊎ HasMoreThan n (BranchYields facts takes set e))
       (λ n m. inr (more-than (branch_up e set values takes h.0) m)) stop g
 
   pub branch-stop : (most : Option ℕ) (e : Level V) (set : List Value) (takes : Bool) (stop : Stop)
       → Evaluates facts most (Err stop) e → Joins facts most (Err stop) takes set e
-  branch-stop most e set takes stop h = stopped-up most (λ n. IsWide facts n e) (λ n. IsWide facts n e ⊎ HasMoreThan n (BranchYields facts takes set e)) (λ n w. inl w) stop h
+  branch-stop most e set takes stop h =
+      stopped-up most (λ n. IsWide facts n e) (λ n. IsWide facts n e ⊎ HasMoreThan n (BranchYields facts takes set e))
+      (λ n w. inl w) stop h
 
 -- without a limit, a branch that is not taken is passed over
 pub branch-skips : {V : Type 0} (facts : V → Value → Type 0) (most : Option ℕ) (e : Level V) (set : List Value) (takes : Bool)
     → takes ≡ false → is_some most ≡ false → Joins facts most (Ok set) takes set e
-branch-skips facts None e set takes p q = (record { sound = λ v m. inl m; complete = λ v m. elim m [ inl a ↦ a | inr a ↦ absurd (let k = a.0 in cc) ] }, tt, λ w. w)
+branch-skips facts None e set takes p q =
+    (record { sound = λ v m. inl m; complete = λ v m. elim m [ inl a ↦ a | inr a ↦ absurd (let k = a.0 in cc) ] }, tt, λ w. w)
 branch-skips facts (Some n) e set takes p q = cc

@@ -52,7 +52,9 @@ pub exactly-put : (set new : List Value) (v : Value) (P Q : Value → Type 0) �
     → ((d : Value) → Q d → P d ⊎ (d ≡ v)) → HasExactly new Q
 exactly-put set new v P Q h a up here down = record {
   sound = λ d m. elim (a.only d m) [ inl k ↦ up d (h.sound d k) | inr e ↦ subst Q (sym e) here ];
-  complete = λ d q. elim (down d q) [ inl p ↦ a.kept d (h.complete d p) | inr e ↦ subst (λ (z : Value). Contains new z) (sym e) a.added ];
+  complete = λ d q.
+      elim
+      (down d q) [ inl p ↦ a.kept d (h.complete d p) | inr e ↦ subst (λ (z : Value). Contains new z) (sym e) a.added ];
 }
 
 -- where one more is refused, there are too many
@@ -73,7 +75,9 @@ pub not-more : (most : Option ℕ) (set : List Value) (P : Value → Type 0) →
     → KeepsLimit most set → AtLimit most (λ n. HasMoreThan n P) → ⊥
 not-more None set P a h k m = m
 not-more (Some n) set P a h k m =
-    let l = ascends-length m.values set (ascends-from m.values m.ascend) (ascends-from set a) (λ d i. h.complete d (m.each d i)) in
+    let l =
+    ascends-length m.values set (ascends-from m.values m.ascend) (ascends-from set a)
+    (λ d i. h.complete d (m.each d i)) in
     let g = m.more in
     absurd (omega arith)
 
@@ -81,14 +85,19 @@ not-more (Some n) set P a h k m =
 pub take-cases : {X : Type 0} (xs : List X) (i : ℕ) (d x : X) → i < length xs → Contains (take (i + 1) xs) x
     → Contains (take i xs) x ⊎ (x ≡ get_or xs i d)
 take-cases {X} xs i d x h m =
-    elim (Contains-push_cases (take i xs) (get_or xs i d) x (subst (λ (l : List X). Contains l x) (take_more xs i d h) m)) [ inl k ↦ inl k | inr e ↦ inr (sym e) ]
+    elim
+    (Contains-push_cases (take i xs) (get_or xs i d) x (subst (λ (l : List X). Contains l x) (take_more xs i d h) m)) [ inl k ↦ inl k | inr e ↦ inr (sym e) ]
 
 pub take-keeps : {X : Type 0} (xs : List X) (i : ℕ) (d x : X) → i < length xs → Contains (take i xs) x
     → Contains (take (i + 1) xs) x
-take-keeps {X} xs i d x h m = subst (λ (l : List X). Contains l x) (sym (take_more xs i d h)) (Contains-append_left (take i xs) (get_or xs i d ∷ []) x m)
+take-keeps {X} xs i d x h m =
+    subst (λ (l : List X). Contains l x) (sym (take_more xs i d h))
+    (Contains-append_left (take i xs) (get_or xs i d ∷ []) x m)
 
 pub take-has : {X : Type 0} (xs : List X) (i : ℕ) (d : X) → i < length xs → Contains (take (i + 1) xs) (get_or xs i d)
-take-has {X} xs i d h = subst (λ (l : List X). Contains l (get_or xs i d)) (sym (take_more xs i d h)) (Contains-push (take i xs) (get_or xs i d))
+take-has {X} xs i d h =
+    subst (λ (l : List X). Contains l (get_or xs i d)) (sym (take_more xs i d h))
+    (Contains-push (take i xs) (get_or xs i d))
 
 pub take-within : {X : Type 0} (xs : List X) (i : ℕ) (x : X) → Contains (take i xs) x → Contains xs x
 take-within {X} xs i x m =
@@ -122,7 +131,8 @@ pub joined-refused : (most : Option ℕ) (old set values : List Value) (i : ℕ)
     → i < length values → SoFar most set (JoinedTo old values i)
     → Refuses most set (get_or values i d) stop → Gathers most (Err stop) (λ v. Contains old v ⊎ Contains values v)
 joined-refused most old set values i d stop h s r =
-    refused-put most set (get_or values i d) stop (JoinedTo old values i) (λ v. Contains old v ⊎ Contains values v) s.0 r
+    refused-put most set (get_or values i d) stop (JoinedTo old values i)
+    (λ v. Contains old v ⊎ Contains values v) s.0 r
     (λ v m. elim m [ inl k ↦ inl k | inr k ↦ inr (take-within values i v k) ])
     (inr (take-within values (i + 1) (get_or values i d) (take-has values i d h)))
 
@@ -139,15 +149,33 @@ SteppedTo s first n old values i v = Contains old v ⊎ IsNext s first (n ∷ []
 
 next-more : (s : Step) (first : Bool) (ns values : List Value) (i : ℕ) (d v : Value) → i < length values
     → IsNext s first ns (take i values) v → IsNext s first ns (take (i + 1) values) v
-next-more s first ns values i d v h m = record { number = m.number; value = m.value; in_numbers = m.in_numbers; in_values = take-keeps values i d m.value h m.in_values; is = m.is }
+next-more s first ns values i d v h m = record {
+  number = m.number;
+  value = m.value;
+  in_numbers = m.in_numbers;
+  in_values = take-keeps values i d m.value h m.in_values;
+  is = m.is;
+}
 
 next-within : (s : Step) (first : Bool) (ns values : List Value) (i : ℕ) (v : Value)
     → IsNext s first ns (take i values) v → IsNext s first ns values v
-next-within s first ns values i v m = record { number = m.number; value = m.value; in_numbers = m.in_numbers; in_values = take-within values i m.value m.in_values; is = m.is }
+next-within s first ns values i v m = record {
+  number = m.number;
+  value = m.value;
+  in_numbers = m.in_numbers;
+  in_values = take-within values i m.value m.in_values;
+  is = m.is;
+}
 
 next-here : (s : Step) (first : Bool) (n : Value) (values : List Value) (i : ℕ) (d : Value) → i < length values
     → IsNext s first (n ∷ []) (take (i + 1) values) (Whole (next_of s first (whole_of n) (get_or values i d)))
-next-here s first n values i d h = record { number = n; value = get_or values i d; in_numbers = contains-head n []; in_values = take-has values i d h; is = refl }
+next-here s first n values i d h = record {
+  number = n;
+  value = get_or values i d;
+  in_numbers = contains-head n [];
+  in_values = take-has values i d h;
+  is = refl;
+}
 
 pub one-item : (n m : Value) → Contains (n ∷ []) m → n ≡ m
 one-item n m h = elim (contains-cases n m [] h) [ inl e ↦ e | inr k ↦ absurd (nothing-in m k) ]
@@ -158,12 +186,15 @@ next-cases : (s : Step) (first : Bool) (n : Value) (values : List Value) (i : �
 next-cases s first n values i d v h m =
     elim (take-cases values i d m.value h m.in_values) [
       | inl k ↦ inl (record { number = m.number; value = m.value; in_numbers = m.in_numbers; in_values = k; is = m.is })
-      | inr e ↦ inr (m.is ∙ ap (λ z. Whole (next_of s first (whole_of z) m.value)) (sym (one-item n m.number m.in_numbers)) ∙ ap (λ z. Whole (next_of s first (whole_of n) z)) e)
+      | inr e ↦
+          inr
+          (m.is ∙ ap (λ z. Whole (next_of s first (whole_of z) m.value)) (sym (one-item n m.number m.in_numbers)) ∙ ap (λ z. Whole (next_of s first (whole_of n) z)) e)
     ]
 
 pub stepped-start : (most : Option ℕ) (s : Step) (first : Bool) (n : Value) (set values : List Value)
     → KeepsLimit most set → SoFar most set (SteppedTo s first n set values 0)
-stepped-start most s first n set values k = (record { sound = λ v m. inl m; complete = λ v m. elim m [ inl h ↦ h | inr h ↦ absurd (nothing-in h.value h.in_values) ] }, k)
+stepped-start most s first n set values k =
+    (record { sound = λ v m. inl m; complete = λ v m. elim m [ inl h ↦ h | inr h ↦ absurd (nothing-in h.value h.in_values) ] }, k)
 
 pub stepped-more : (most : Option ℕ) (s : Step) (first : Bool) (n x : Value) (old set new values : List Value) (i : ℕ) (d : Value)
     → i < length values
@@ -184,7 +215,8 @@ pub stepped-refused : (most : Option ℕ) (s : Step) (first : Bool) (n x : Value
     → Refuses most set x stop
     → Gathers most (Err stop) (λ v. Contains old v ⊎ IsNext s first (n ∷ []) values v)
 stepped-refused most s first n x old set values i d stop h t e r =
-    refused-put most set x stop (SteppedTo s first n old values i) (λ v. Contains old v ⊎ IsNext s first (n ∷ []) values v) t.0 r
+    refused-put most set x stop (SteppedTo s first n old values i)
+    (λ v. Contains old v ⊎ IsNext s first (n ∷ []) values v) t.0 r
     (λ v m. elim m [ inl k ↦ inl k | inr k ↦ inr (next-within s first (n ∷ []) values i v k) ])
     (inr (subst (IsNext s first (n ∷ []) values) (sym e) (next-within s first (n ∷ []) values (i + 1) _ (next-here s first n values i d h))))
 
@@ -202,13 +234,21 @@ numbers_up : (s : Step) (first : Bool) (ns values set : List Value) (i : ℕ) (d
     → IsNext s first (take (i + 1) ns) values v
 numbers_up s first ns values set i d n h e t v (inl k) =
     let m = t v k in
-    record { number = m.number; value = m.value; in_numbers = take-keeps ns i d m.number h m.in_numbers; in_values = m.in_values; is = m.is }
+    record {
+      number = m.number;
+      value = m.value;
+      in_numbers = take-keeps ns i d m.number h m.in_numbers;
+      in_values = m.in_values;
+      is = m.is;
+    }
 numbers_up s first ns values set i d n h e t v (inr m) = record {
   number = m.number;
   value = m.value;
   in_values = m.in_values;
   is = m.is;
-  in_numbers = subst (λ (z : Value). Contains (take (i + 1) ns) z) (sym e ∙ one-item n m.number m.in_numbers) (take-has ns i d h);
+  in_numbers =
+      subst (λ (z : Value). Contains (take (i + 1) ns) z) (sym e ∙ one-item n m.number m.in_numbers)
+      (take-has ns i d h);
 }
 
 numbers_down : (s : Step) (first : Bool) (ns values set : List Value) (i : ℕ) (d n : Value) → i < length ns
@@ -218,8 +258,11 @@ numbers_down : (s : Step) (first : Bool) (ns values set : List Value) (i : ℕ) 
     → Contains set v ⊎ IsNext s first (n ∷ []) values v
 numbers_down s first ns values set i d n h e t v m =
     elim (take-cases ns i d m.number h m.in_numbers) [
-      | inl k ↦ inl (t v (record { number = m.number; value = m.value; in_numbers = k; in_values = m.in_values; is = m.is }))
-      | inr q ↦ inr (record { number = m.number; value = m.value; in_values = m.in_values; is = m.is; in_numbers = subst (λ (z : Value). Contains (n ∷ []) z) (e ∙ sym q) (contains-head n []) })
+      | inl k ↦
+          inl (t v (record { number = m.number; value = m.value; in_numbers = k; in_values = m.in_values; is = m.is }))
+      | inr q ↦
+          inr
+          (record { number = m.number; value = m.value; in_values = m.in_values; is = m.is; in_numbers = subst (λ (z : Value). Contains (n ∷ []) z) (e ∙ sym q) (contains-head n []) })
     ]
 
 -- one more number
@@ -229,7 +272,8 @@ pub numbers-more : (most : Option ℕ) (s : Step) (first : Bool) (ns values set 
     → Gathers most (Ok new) (λ v. Contains set v ⊎ IsNext s first (n ∷ []) values v)
     → SoFar most new (IsNext s first (take (i + 1) ns) values)
 numbers-more most s first ns values set new i d n h e t g =
-    gathers-as most (Ok new) {P = λ v. Contains set v ⊎ IsNext s first (n ∷ []) values v} (numbers_up s first ns values set i d n h e t.sound) (numbers_down s first ns values set i d n h e t.complete) g
+    gathers-as most (Ok new) {P = λ v. Contains set v ⊎ IsNext s first (n ∷ []) values v}
+    (numbers_up s first ns values set i d n h e t.sound) (numbers_down s first ns values set i d n h e t.complete) g
 
 pub numbers-refused : (most : Option ℕ) (s : Step) (first : Bool) (ns values set : List Value) (i : ℕ) (d n : Value) (stop : Stop)
     → i < length ns → n ≡ get_or ns i d
@@ -265,7 +309,8 @@ keeps-nothing (Some k) set e = rw e (omega arith)
 pub gathered-as : (most : Option ℕ) (set values : List Value) (r : Result (List Value) Stop) → set ≡ []
     → Gathers most r (λ v. Contains set v ⊎ Contains values v) → Gathers most r (Contains values)
 gathered-as most set values r e g = gathers-as most r {P = λ v. Contains set v ⊎ Contains values v}
-    (λ v m. elim m [ inl h ↦ absurd (nothing-in v (subst (λ (l : List Value). Contains l v) e h)) | inr k ↦ k ]) (λ v m. inr m) g
+    (λ v m. elim m [ inl h ↦ absurd (nothing-in v (subst (λ (l : List Value). Contains l v) e h)) | inr k ↦ k ])
+    (λ v m. inr m) g
 
 pub truths-none : (most : Option ℕ) (r : Result (List Value) Stop) → Gathers most r (Contains [])
     → Gathers most r (IsTruth false false)
@@ -289,8 +334,12 @@ pub truths-both : (most : Option ℕ) (r : Result (List Value) Stop)
 truths-both most r g = gathers-as most r {P = Contains (Truth false ∷ Truth true ∷ [])}
     (λ v m. elim (contains-cases (Truth false) v (Truth true ∷ []) m) [ inl e ↦ inl (refl, sym e) | inr k ↦ inr (refl, sym (one-item (Truth true) v k)) ])
     (λ v m. elim m [
-      | inl h ↦ subst (λ (z : Value). Contains (Truth false ∷ Truth true ∷ []) z) (sym h.1) (contains-head (Truth false) (Truth true ∷ []))
-      | inr h ↦ subst (λ (z : Value). Contains (Truth false ∷ Truth true ∷ []) z) (sym h.1) (contains-cons (Truth false) (Truth true) (Truth true ∷ []) (contains-head (Truth true) []))
+      | inl h ↦
+          subst (λ (z : Value). Contains (Truth false ∷ Truth true ∷ []) z) (sym h.1)
+          (contains-head (Truth false) (Truth true ∷ []))
+      | inr h ↦
+          subst (λ (z : Value). Contains (Truth false ∷ Truth true ∷ []) z) (sym h.1)
+          (contains-cons (Truth false) (Truth true) (Truth true ∷ []) (contains-head (Truth true) []))
     ]) g
 
 -- no value so far is so related, and neither is the next
@@ -300,7 +349,9 @@ pub right-more : (r : Relation) (a : Value) (bs : List Value) (wanted b : Bool) 
 right-more r a bs wanted b i d h f e n s =
     elim (take-cases bs i d s.right h s.in_right) [
       | inl k ↦ f (record { left = s.left; right = s.right; in_left = s.in_left; in_right = k; related = s.related })
-      | inr q ↦ n (e ∙ ap (λ z. is_related r z (get_or bs i d)) (one-item a s.left s.in_left) ∙ ap (λ z. is_related r s.left z) (sym q) ∙ s.related)
+      | inr q ↦
+          n
+          (e ∙ ap (λ z. is_related r z (get_or bs i d)) (one-item a s.left s.in_left) ∙ ap (λ z. is_related r s.left z) (sym q) ∙ s.related)
     ]
 
 pub left-more : (r : Relation) (us bs : List Value) (wanted : Bool) (i : ℕ) (d : Value) → i < length us

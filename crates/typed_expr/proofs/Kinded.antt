@@ -121,37 +121,49 @@ module _ {V : Type 0} (kinds : V → ValueKind) where
       → e ≡ view.All es → xs ≡ es.items
       → IsTrue b ↔ ((0 < length xs) × Each kinds xs Truth) → r ≡ cond b (Some Truth) None
       → IsKindOf kinds (out-Expr V e) r
-  all-arm e xs es r b i j f g = at r e (All es) (opened.opened-all e es i) (kind-where (All es) ((0 < length es.items) × Each kinds es.items Truth) Truth b r g (listed xs es.items b Truth j f) (λ c. k.all c.0 c.1) (in_all es))
+  all-arm e xs es r b i j f g =
+      at r e (All es) (opened.opened-all e es i)
+      (kind-where (All es) ((0 < length es.items) × Each kinds es.items Truth) Truth b r g (listed xs es.items b Truth j f) (λ c. k.all c.0 c.1) (in_all es))
 
   pub any-arm : (e : Expr V) (xs : List (Expr V)) (es : Vec (Expr V) Global) (r : Option ValueKind) (b : Bool)
       → e ≡ view.Any es → xs ≡ es.items
       → IsTrue b ↔ ((0 < length xs) × Each kinds xs Truth) → r ≡ cond b (Some Truth) None
       → IsKindOf kinds (out-Expr V e) r
-  any-arm e xs es r b i j f g = at r e (Any es) (opened.opened-any e es i) (kind-where (Any es) ((0 < length es.items) × Each kinds es.items Truth) Truth b r g (listed xs es.items b Truth j f) (λ c. k.any c.0 c.1) (in_any es))
+  any-arm e xs es r b i j f g =
+      at r e (Any es) (opened.opened-any e es i)
+      (kind-where (Any es) ((0 < length es.items) × Each kinds es.items Truth) Truth b r g (listed xs es.items b Truth j f) (λ c. k.any c.0 c.1) (in_any es))
 
   pub product-arm : (e : Expr V) (xs : List (Expr V)) (es : Vec (Expr V) Global) (r : Option ValueKind) (b : Bool)
       → e ≡ view.Product es → xs ≡ es.items
       → IsTrue b ↔ ((0 < length xs) × Each kinds xs Whole) → r ≡ cond b (Some Whole) None
       → IsKindOf kinds (out-Expr V e) r
-  product-arm e xs es r b i j f g = at r e (Product es) (opened.opened-product e es i) (kind-where (Product es) ((0 < length es.items) × Each kinds es.items Whole) Whole b r g (listed xs es.items b Whole j f) (λ c. k.product c.0 c.1) (in_product es))
+  product-arm e xs es r b i j f g =
+      at r e (Product es) (opened.opened-product e es i)
+      (kind-where (Product es) ((0 < length es.items) × Each kinds es.items Whole) Whole b r g (listed xs es.items b Whole j f) (λ c. k.product c.0 c.1) (in_product es))
 
   pub least-arm : (e : Expr V) (xs : List (Expr V)) (es : Vec (Expr V) Global) (r : Option ValueKind) (b : Bool)
       → e ≡ view.Least es → xs ≡ es.items
       → IsTrue b ↔ ((0 < length xs) × Each kinds xs Whole) → r ≡ cond b (Some Whole) None
       → IsKindOf kinds (out-Expr V e) r
-  least-arm e xs es r b i j f g = at r e (Least es) (opened.opened-least e es i) (kind-where (Least es) ((0 < length es.items) × Each kinds es.items Whole) Whole b r g (listed xs es.items b Whole j f) (λ c. k.least c.0 c.1) (in_least es))
+  least-arm e xs es r b i j f g =
+      at r e (Least es) (opened.opened-least e es i)
+      (kind-where (Least es) ((0 < length es.items) × Each kinds es.items Whole) Whole b r g (listed xs es.items b Whole j f) (λ c. k.least c.0 c.1) (in_least es))
 
   pub greatest-arm : (e : Expr V) (xs : List (Expr V)) (es : Vec (Expr V) Global) (r : Option ValueKind) (b : Bool)
       → e ≡ view.Greatest es → xs ≡ es.items
       → IsTrue b ↔ ((0 < length xs) × Each kinds xs Whole) → r ≡ cond b (Some Whole) None
       → IsKindOf kinds (out-Expr V e) r
-  greatest-arm e xs es r b i j f g = at r e (Greatest es) (opened.opened-greatest e es i) (kind-where (Greatest es) ((0 < length es.items) × Each kinds es.items Whole) Whole b r g (listed xs es.items b Whole j f) (λ c. k.greatest c.0 c.1) (in_greatest es))
+  greatest-arm e xs es r b i j f g =
+      at r e (Greatest es) (opened.opened-greatest e es i)
+      (kind-where (Greatest es) ((0 < length es.items) × Each kinds es.items Whole) Whole b r g (listed xs es.items b Whole j f) (λ c. k.greatest c.0 c.1) (in_greatest es))
 
   pub count-arm : (e : Expr V) (xs : List (Expr V)) (es : Vec (Expr V) Global) (r : Option ValueKind) (b : Bool)
       → e ≡ view.Count es → xs ≡ es.items
       → IsTrue b ↔ ((0 < length xs) × Each kinds xs Truth) → r ≡ cond b (Some Whole) None
       → IsKindOf kinds (out-Expr V e) r
-  count-arm e xs es r b i j f g = at r e (Count es) (opened.opened-count e es i) (kind-where (Count es) ((0 < length es.items) × Each kinds es.items Truth) Whole b r g (listed xs es.items b Truth j f) (λ c. k.count c.0 c.1) (in_count es))
+  count-arm e xs es r b i j f g =
+      at r e (Count es) (opened.opened-count e es i)
+      (kind-where (Count es) ((0 < length es.items) × Each kinds es.items Truth) Whole b r g (listed xs es.items b Truth j f) (λ c. k.count c.0 c.1) (in_count es))
 
   pub sum-arm : (e : Expr V) (xs : List (Bool × Expr V)) (ps : Vec (Bool × Expr V) Global) (r : Option ValueKind) (b : Bool)
       → e ≡ view.Sum ps → xs ≡ ps.items
@@ -159,7 +171,8 @@ module _ {V : Type 0} (kinds : V → ValueKind) where
       → IsKindOf kinds (out-Expr V e) r
   sum-arm e xs ps r b i j f g =
       let P : List (Bool × Expr V) → Type 0 = λ z. IsTrue b ↔ ((0 < length z) × Each_part kinds z) in
-      at r e (Sum ps) (opened.opened-sum e ps i) (kind-where (Sum ps) ((0 < length ps.items) × Each_part kinds ps.items) Whole b r g (subst P j f) (λ c. k.sum c.0 c.1) (in_sum ps))
+      at r e (Sum ps) (opened.opened-sum e ps i)
+      (kind-where (Sum ps) ((0 < length ps.items) × Each_part kinds ps.items) Whole b r g (subst P j f) (λ c. k.sum c.0 c.1) (in_sum ps))
 
   in_compare : (q : Relation) (a b : Box (Expr V) Global) (kind l : ValueKind) → HasKind kinds (out-Expr V a.value) kind
       → HasKind kinds (Compare q a b) l → Compares q kind × HasKind kinds (out-Expr V b.value) kind
@@ -213,7 +226,9 @@ module _ {V : Type 0} (kinds : V → ValueKind) where
   pub choice-none : (e d : Expr V) (cs : Vec (Expr V × Expr V) Global) (other : Box (Expr V) Global)
       → e ≡ view.Choose cs other → d ≡ other.value → IsKindOf kinds (out-Expr V d) None
       → IsKindOf kinds (out-Expr V e) None
-  choice-none e d cs other i j h = at None e (Choose cs other) (opened.opened-choice e cs other i) (λ l z. no_other cs other l (in_box None d other j h) z)
+  choice-none e d cs other i j h =
+      at None e (Choose cs other) (opened.opened-choice e cs other i)
+      (λ l z. no_other cs other l (in_box None d other j h) z)
 
   -- lists
   pub each-append : (xs ys : List (Expr V)) (kind : ValueKind) → Each kinds xs kind → Each kinds ys kind
@@ -225,7 +240,8 @@ module _ {V : Type 0} (kinds : V → ValueKind) where
       → HasKind kinds (out-Expr V e) kind
   each-at [] kind e d m = absurd (nothing-in e m)
   each-at (x ∷ xs) kind e (k.one_and d ds) m =
-      elim (contains-cases x e xs m) [ inl i ↦ (let P : Expr V → Type 0 = λ z. HasKind kinds (out-Expr V z) kind in subst P i d) | inr n ↦ each-at xs kind e ds n ]
+      elim
+      (contains-cases x e xs m) [ inl i ↦ (let P : Expr V → Type 0 = λ z. HasKind kinds (out-Expr V z) kind in subst P i d) | inr n ↦ each-at xs kind e ds n ]
 
   pub each-more : (es : List (Expr V)) (i : ℕ) (e : Expr V) (kind : ValueKind) → i < length es → e ≡ get_or es i e
       → HasKind kinds (out-Expr V e) kind → Each kinds (take i es) kind → Each kinds (take (i + 1) es) kind
@@ -246,7 +262,8 @@ module _ {V : Type 0} (kinds : V → ValueKind) where
       → HasKind kinds (out-Expr V p.1) Whole
   part-at [] p d m = absurd (nothing-in p m)
   part-at (x ∷ xs) p (k.part_and d ds) m =
-      elim (contains-cases x p xs m) [ inl i ↦ (let P : Bool × Expr V → Type 0 = λ z. HasKind kinds (out-Expr V z.1) Whole in subst P i d) | inr n ↦ part-at xs p ds n ]
+      elim
+      (contains-cases x p xs m) [ inl i ↦ (let P : Bool × Expr V → Type 0 = λ z. HasKind kinds (out-Expr V z.1) Whole in subst P i d) | inr n ↦ part-at xs p ds n ]
 
   pub part-more : (ps : List (Bool × Expr V)) (i : ℕ) (p : Bool × Expr V) → i < length ps → p ≡ get_or ps i p
       → HasKind kinds (out-Expr V p.1) Whole → Each_part kinds (take i ps) → Each_part kinds (take (i + 1) ps)
@@ -266,7 +283,8 @@ module _ {V : Type 0} (kinds : V → ValueKind) where
       → Contains xs p → HasKind kinds (out-Expr V p.0) Truth × HasKind kinds (out-Expr V p.1) kind
   case-at [] kind p d m = absurd (nothing-in p m)
   case-at (x ∷ xs) kind p (k.case_and c d ds) m =
-      elim (contains-cases x p xs m) [ inl i ↦ (let P : Expr V × Expr V → Type 0 = λ z. HasKind kinds (out-Expr V z.0) Truth × HasKind kinds (out-Expr V z.1) kind in subst P i (c, d)) | inr n ↦ case-at xs kind p ds n ]
+      elim
+      (contains-cases x p xs m) [ inl i ↦ (let P : Expr V × Expr V → Type 0 = λ z. HasKind kinds (out-Expr V z.0) Truth × HasKind kinds (out-Expr V z.1) kind in subst P i (c, d)) | inr n ↦ case-at xs kind p ds n ]
 
   pub case-more : (cs : List (Expr V × Expr V)) (i : ℕ) (p : Expr V × Expr V) (kind : ValueKind) → i < length cs
       → p ≡ get_or cs i p → HasKind kinds (out-Expr V p.0) Truth → HasKind kinds (out-Expr V p.1) kind
@@ -303,7 +321,9 @@ module _ {V : Type 0} (kinds : V → ValueKind) where
   pub each-goes-on : (es : List (Expr V)) (i : ℕ) (e : Expr V) (kind : ValueKind) (found : Option ValueKind) (b : Bool)
       → i < length es → e ≡ get_or es i e → IsKindOf kinds (out-Expr V e) found
       → IsTrue b ↔ (found ≡ Some kind) → b ≡ true → EachSoFar kinds es i kind → EachSoFar kinds es (i + 1) kind
-  each-goes-on es i e kind found b h is f g t r = record { each = each-more kinds es i e kind h is ((is-kind kinds (out-Expr V e) found b kind f g).0 t) r.each }
+  each-goes-on es i e kind found b h is f g t r = record {
+    each = each-more kinds es i e kind h is ((is-kind kinds (out-Expr V e) found b kind f g).0 t) r.each;
+  }
 
   pub each-fails : (es : List (Expr V)) (i : ℕ) (e : Expr V) (kind : ValueKind) (found : Option ValueKind) (b : Bool)
       → i < length es → e ≡ get_or es i e → IsKindOf kinds (out-Expr V e) found
@@ -321,7 +341,9 @@ module _ {V : Type 0} (kinds : V → ValueKind) where
   pub parts-go-on : (ps : List (Bool × Expr V)) (i : ℕ) (p : Bool × Expr V) (found : Option ValueKind) (b : Bool)
       → i < length ps → p ≡ get_or ps i p → IsKindOf kinds (out-Expr V p.1) found
       → IsTrue b ↔ (found ≡ Some Whole) → b ≡ true → PartsSoFar kinds ps i → PartsSoFar kinds ps (i + 1)
-  parts-go-on ps i p found b h is f g t r = record { each = part-more kinds ps i p h is ((is-kind kinds (out-Expr V p.1) found b Whole f g).0 t) r.each }
+  parts-go-on ps i p found b h is f g t r = record {
+    each = part-more kinds ps i p h is ((is-kind kinds (out-Expr V p.1) found b Whole f g).0 t) r.each;
+  }
 
   pub parts-fail : (ps : List (Bool × Expr V)) (i : ℕ) (p : Bool × Expr V) (found : Option ValueKind) (b : Bool)
       → i < length ps → p ≡ get_or ps i p → IsKindOf kinds (out-Expr V p.1) found

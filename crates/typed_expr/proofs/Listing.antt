@@ -43,7 +43,11 @@ from_flat f (x ∷ xs) b m = elim (Contains-append_cases (f x) (flat_map f xs) b
 
 module _ {A : Type 0} where
   pub listed_as : {P Q : A → Type 0} → Listed P → ((a : A) → P a → Q a) → ((a : A) → Q a → P a) → Listed Q
-  listed_as p on back = record { items = p.items; sound = λ a m. on a (p.sound a m); whole = λ a q. p.whole a (back a q) }
+  listed_as p on back = record {
+    items = p.items;
+    sound = λ a m. on a (p.sound a m);
+    whole = λ a q. p.whole a (back a q);
+  }
 
   pub listed_one : (c : A) → Listed (λ a. c ≡ a)
   listed_one c = record {
@@ -55,8 +59,10 @@ module _ {A : Type 0} where
   pub listed_or : {P Q : A → Type 0} → Listed P → Listed Q → Listed (λ a. P a ⊎ Q a)
   listed_or p q = record {
     items = p.items ++ q.items;
-    sound = λ a m. elim (Contains-append_cases p.items q.items a m) [ inl k ↦ inl (p.sound a k) | inr k ↦ inr (q.sound a k) ];
-    whole = λ a h. elim h [ inl k ↦ Contains-append_left p.items q.items a (p.whole a k) | inr k ↦ Contains-append_right p.items q.items a (q.whole a k) ];
+    sound = λ a m.
+        elim (Contains-append_cases p.items q.items a m) [ inl k ↦ inl (p.sound a k) | inr k ↦ inr (q.sound a k) ];
+    whole = λ a h.
+        elim h [ inl k ↦ Contains-append_left p.items q.items a (p.whole a k) | inr k ↦ Contains-append_right p.items q.items a (q.whole a k) ];
   }
 
   pub listed_where : {R : Type 0} {P : A → Type 0} → Told R → Listed P → Listed (λ a. R × P a)
@@ -174,7 +180,9 @@ module _ {V : Type 0} (facts : V → Value → Type 0) (known : (x : V) → List
       back : {v : Value} → Takes facts [] other v → Yields facts other v
       back (y.otherwise h) = h
   takes_listed ((test, value) ∷ cs) other l =
-      listed_as (listed_or (listed_where (listed_told test.1 (Truth true)) value.1) (listed_where (listed_told test.1 (Truth false)) (takes_listed cs other l))) on (λ v h. back h)
+      listed_as
+      (listed_or (listed_where (listed_told test.1 (Truth true)) value.1) (listed_where (listed_told test.1 (Truth false)) (takes_listed cs other l))) on
+      (λ v h. back h)
     where
       on : (v : Value) → (Yields facts (out-Expr V test.0) (Truth true) × Yields facts (out-Expr V value.0) v) ⊎
           (Yields facts (out-Expr V test.0) (Truth false) × Takes facts (cases cs) other v)
@@ -201,7 +209,10 @@ module _ {V : Type 0} (facts : V → Value → Type 0) (known : (x : V) → List
     where
       back : {v : Value} → Yields facts (Variable x) v → facts x v
       back (y.variable h) = h
-  form_listed (Not a) = listed_as (listed_or (listed_where (listed_told a.value.1 (Truth true)) (listed_one (Truth false))) (listed_where (listed_told a.value.1 (Truth false)) (listed_one (Truth true)))) on (λ v h. back h)
+  form_listed (Not a) =
+      listed_as
+      (listed_or (listed_where (listed_told a.value.1 (Truth true)) (listed_one (Truth false))) (listed_where (listed_told a.value.1 (Truth false)) (listed_one (Truth true)))) on
+      (λ v h. back h)
     where
       on : (v : Value) → (Yields facts (out-Expr V a.value.0) (Truth true) × (Truth false ≡ v)) ⊎
           (Yields facts (out-Expr V a.value.0) (Truth false) × (Truth true ≡ v)) → Yields facts (opened (Not a)) v
@@ -213,7 +224,10 @@ module _ {V : Type 0} (facts : V → Value → Type 0) (known : (x : V) → List
           (Yields facts (out-Expr V a.value.0) (Truth false) × (Truth true ≡ v))
       back (y.opposite {b = true} h) = inl (h, refl)
       back (y.opposite {b = false} h) = inr (h, refl)
-  form_listed (All es) = listed_as (listed_or (listed_where (some_told es.items (Truth false)) (listed_one (Truth false))) (listed_where (all_told es.items (Truth true)) (listed_one (Truth true)))) on (λ v h. back h)
+  form_listed (All es) =
+      listed_as
+      (listed_or (listed_where (some_told es.items (Truth false)) (listed_one (Truth false))) (listed_where (all_told es.items (Truth true)) (listed_one (Truth true)))) on
+      (λ v h. back h)
     where
       on : (v : Value) → (Some_yields facts (exprs es.items) (Truth false) × (Truth false ≡ v)) ⊎
           (All_yield facts (exprs es.items) (Truth true) × (Truth true ≡ v)) → Yields facts (opened (All es)) v
@@ -225,7 +239,10 @@ module _ {V : Type 0} (facts : V → Value → Type 0) (known : (x : V) → List
           (All_yield facts (exprs es.items) (Truth true) × (Truth true ≡ v))
       back (y.one_false h) = inl (h, refl)
       back (y.all_true h) = inr (h, refl)
-  form_listed (Any es) = listed_as (listed_or (listed_where (some_told es.items (Truth true)) (listed_one (Truth true))) (listed_where (all_told es.items (Truth false)) (listed_one (Truth false)))) on (λ v h. back h)
+  form_listed (Any es) =
+      listed_as
+      (listed_or (listed_where (some_told es.items (Truth true)) (listed_one (Truth true))) (listed_where (all_told es.items (Truth false)) (listed_one (Truth false)))) on
+      (λ v h. back h)
     where
       on : (v : Value) → (Some_yields facts (exprs es.items) (Truth true) × (Truth true ≡ v)) ⊎
           (All_yield facts (exprs es.items) (Truth false) × (Truth false ≡ v)) → Yields facts (opened (Any es)) v

@@ -108,7 +108,8 @@ module _ {V : Type 0} (facts : V → Value → Type 0) where
       → e ≡ get_or es i e
       → Stopped most (λ n. IsWide facts n (out-Expr V e)) stop → Stopped most (SomeWide facts es) stop
   wide-here most es i e stop h is s =
-      stopped-up most (λ n. IsWide facts n (out-Expr V e)) (SomeWide facts es) (λ n w. record { expr = e; in_list = item-is-in es i e h is; wide = w }) stop s
+      stopped-up most (λ n. IsWide facts n (out-Expr V e)) (SomeWide facts es)
+      (λ n w. record { expr = e; in_list = item-is-in es i e h is; wide = w }) stop s
 
   -- tallies
   pub tallied-start : (b : Bool) → Tallied facts b false true []
@@ -177,7 +178,13 @@ module _ {V : Type 0} (facts : V → Value → Type 0) where
 
   pub last-pick : (xs : List (Expr V)) (e : Expr V) (vs : List Value) → Picks facts (xs ++ e ∷ []) vs → LastPick xs e vs
   last-pick [] e [] d = elim d [ ]
-  last-pick [] e (v ∷ vs) (y.operand d ds) = record { before = []; last = v; picks = y.no_operand; yields = d; is = ap (λ (z : List Value). v ∷ z) (picks_none vs ds) }
+  last-pick [] e (v ∷ vs) (y.operand d ds) = record {
+    before = [];
+    last = v;
+    picks = y.no_operand;
+    yields = d;
+    is = ap (λ (z : List Value). v ∷ z) (picks_none vs ds);
+  }
   last-pick (x ∷ xs) e [] d = elim d [ ]
   last-pick (x ∷ xs) e (v ∷ vs) (y.operand d ds) =
       let l = last-pick xs e vs ds in
@@ -196,7 +203,8 @@ module _ {V : Type 0} (facts : V → Value → Type 0) where
   fold-start s es n set e h = record {
     sound = λ v m. ([], y.no_operand, sym (one-item (Whole n) v (h.sound v m)) ∙ ap Whole e);
     complete = λ v p. let (vs, d, k) = p in
-        h.complete v (subst (λ (z : Value). Contains (Whole n ∷ []) z) (ap Whole (e ∙ ap (fold_of s) (sym (picks_none vs d))) ∙ sym k) (contains-head (Whole n) []));
+        h.complete v
+        (subst (λ (z : Value). Contains (Whole n ∷ []) z) (ap Whole (e ∙ ap (fold_of s) (sym (picks_none vs d))) ∙ sym k) (contains-head (Whole n) []));
   }
 
   -- one more operand of the fold
@@ -207,10 +215,13 @@ module _ {V : Type 0} (facts : V → Value → Type 0) where
   fold-up s first es i e so_far values h is f p q v m =
       let (vs, d, k) = p.sound m.number m.in_numbers in
       let all : Picks facts (take (i + 1) es) (vs ++ m.value ∷ []) =
-      subst (λ (l : List (Expr V)). Picks facts l (vs ++ m.value ∷ [])) (sym (take-next es i e h is)) (picks-append (take i es) (e ∷ []) vs (m.value ∷ []) d (y.operand (q.sound m.value m.in_values) y.no_operand)) in (
+      subst (λ (l : List (Expr V)). Picks facts l (vs ++ m.value ∷ [])) (sym (take-next es i e h is))
+      (picks-append (take i es) (e ∷ []) vs (m.value ∷ []) d (y.operand (q.sound m.value m.in_values) y.no_operand)) in (
         vs ++ m.value ∷ [],
         all,
-        m.is ∙ ap (λ (z : Value). Whole (next_of s first (whole_of z) m.value)) k ∙ ap (λ b. Whole (next_of s b (fold_of s vs) m.value)) (f ∙ picks-nil (take i es) vs d) ∙ ap Whole (sym (fold_of-push s vs m.value)),
+        m.is ∙ ap (λ (z : Value). Whole (next_of s first (whole_of z) m.value)) k ∙ ap
+            (λ b. Whole (next_of s b (fold_of s vs) m.value)) (f ∙ picks-nil (take i es) vs d) ∙ ap Whole
+            (sym (fold_of-push s vs m.value)),
       )
 
   pub fold-down : (s : Step) (first : Bool) (es : List (Expr V)) (i : ℕ) (e : Expr V) (so_far values : List Value)
@@ -225,7 +236,8 @@ module _ {V : Type 0} (facts : V → Value → Type 0) where
         in_numbers = p.complete (Whole (fold_of s l.before)) (l.before, l.picks, refl);
         in_values = q.complete l.last l.yields;
         is = k ∙ ap (λ (z : List Value). Whole (fold_of s z)) l.is ∙ ap Whole (fold_of-push s l.before l.last)
-            ∙ ap (λ b. Whole (next_of s b (fold_of s l.before) l.last)) (sym (f ∙ picks-nil (take i es) l.before l.picks));
+            ∙ ap (λ b. Whole (next_of s b (fold_of s l.before) l.last))
+            (sym (f ∙ picks-nil (take i es) l.before l.picks));
       }
 
   pub fold-more : (s : Step) (first : Bool) (es : List (Expr V)) (i : ℕ) (e : Expr V) (so_far values new : List Value)
@@ -251,7 +263,10 @@ module _ {V : Type 0} (facts : V → Value → Type 0) where
       → ⊥
   steps-more most P i new f h l k j m =
       elim (cases_lt i k) [
-        | inl a ↦ let e : k ≡ i + 1 = omega arith in let Q : ℕ → Type 0 = λ z. AtLimit most (λ n. HasMoreThan n (P z)) in not-more-at most new (P (i + 1)) h l (subst Q e m)
+        | inl a ↦
+            let e : k ≡ i + 1 =
+            omega arith in let Q : ℕ → Type 0 = λ z. AtLimit most (λ n. HasMoreThan n (P z)) in not-more-at most new
+            (P (i + 1)) h l (subst Q e m)
         | inr a ↦ f k a m
       ]
 
@@ -283,7 +298,8 @@ module _ {V : Type 0} (facts : V → Value → Type 0) where
       → ((k : ℕ) → k ≤ i → AtLimit most (λ n. HasMoreThan n (FoldYields facts s es k)) → ⊥)
       → Folds facts most s (Ok set) es
   folds-end most s es i set h g l w f =
-      let P : List (Expr V) → Type 0 = λ z. HasExactly set (λ v. (vs : List Value) × Picks facts z vs × (v ≡ Whole (fold_of s vs))) in
+      let P : List (Expr V) → Type 0 =
+      λ z. HasExactly set (λ v. (vs : List Value) × Picks facts z vs × (v ≡ Whole (fold_of s vs))) in
       (subst P (take_all i es h) g, l, narrow-end most es i h w, steps_end most (FoldYields facts s es) i (λ k v j m. fold_same s es i k v h j m) f)
 
   -- the sum of no part
@@ -296,7 +312,8 @@ module _ {V : Type 0} (facts : V → Value → Type 0) where
   sum-start ps n set e h = record {
     sound = λ v m. ([], y.no_part, sym (one-item (Whole n) v (h.sound v m)) ∙ ap Whole e);
     complete = λ v p. let (vs, d, k) = p in
-        h.complete v (subst (λ (z : Value). Contains (Whole n ∷ []) z) (ap Whole (e ∙ ap sum_of (sym (parts_none vs d))) ∙ sym k) (contains-head (Whole n) []));
+        h.complete v
+        (subst (λ (z : Value). Contains (Whole n ∷ []) z) (ap Whole (e ∙ ap sum_of (sym (parts_none vs d))) ∙ sym k) (contains-head (Whole n) []));
   }
 
   parts-append : (xs ys : List (Bool × Expr V)) (vs ws : List (Bool × Value)) → Picks_parts facts xs vs
@@ -316,7 +333,13 @@ module _ {V : Type 0} (facts : V → Value → Type 0) where
   pub last-part : (xs : List (Bool × Expr V)) (p : Bool × Expr V) (vs : List (Bool × Value))
       → Picks_parts facts (xs ++ p ∷ []) vs → LastPart xs p vs
   last-part [] p [] d = elim d [ ]
-  last-part [] p (v ∷ vs) (y.part {v = w} d ds) = record { before = []; last = w; picks = y.no_part; yields = d; is = ap (λ (z : List (Bool × Value)). (p.0, w) ∷ z) (parts_none vs ds) }
+  last-part [] p (v ∷ vs) (y.part {v = w} d ds) = record {
+    before = [];
+    last = w;
+    picks = y.no_part;
+    yields = d;
+    is = ap (λ (z : List (Bool × Value)). (p.0, w) ∷ z) (parts_none vs ds);
+  }
   last-part (x ∷ xs) p [] d = elim d [ ]
   last-part (x ∷ xs) p (v ∷ vs) (y.part d ds) =
       let l = last-part xs p vs ds in
@@ -330,11 +353,13 @@ module _ {V : Type 0} (facts : V → Value → Type 0) where
   sum-up ps i p so_far values h is g q v m =
       let (vs, d, k) = g.sound m.number m.in_numbers in
       let all : Picks_parts facts (take (i + 1) ps) (vs ++ (p.0, m.value) ∷ []) =
-      subst (λ (l : List (Bool × Expr V)). Picks_parts facts l (vs ++ (p.0, m.value) ∷ [])) (sym (take-next ps i p h is))
+      subst (λ (l : List (Bool × Expr V)). Picks_parts facts l (vs ++ (p.0, m.value) ∷ []))
+      (sym (take-next ps i p h is))
       (parts-append (take i ps) (p ∷ []) vs ((p.0, m.value) ∷ []) d (y.part (q.sound m.value m.in_values) y.no_part)) in (
         vs ++ (p.0, m.value) ∷ [],
         all,
-        m.is ∙ ap (λ (z : Value). Whole (added (whole_of z) (p.0, m.value))) k ∙ ap Whole (sym (fold_push added (pos 0) vs (p.0, m.value))),
+        m.is ∙ ap (λ (z : Value). Whole (added (whole_of z) (p.0, m.value))) k ∙ ap Whole
+            (sym (fold_push added (pos 0) vs (p.0, m.value))),
       )
 
   pub sum-down : (ps : List (Bool × Expr V)) (i : ℕ) (p : Bool × Expr V) (so_far values : List Value) → i < length ps
@@ -342,13 +367,17 @@ module _ {V : Type 0} (facts : V → Value → Type 0) where
       → HasExactly so_far (SumYields facts ps i) → HasExactly values (Yields facts (out-Expr V p.1)) → (v : Value)
       → SumYields facts ps (i + 1) v → IsNext (Part p.0) false so_far values v
   sum-down ps i p so_far values h is g q v (vs, d, k) =
-      let l = last-part (take i ps) p vs (subst (λ (l : List (Bool × Expr V)). Picks_parts facts l vs) (take-next ps i p h is) d) in
+      let l =
+      last-part (take i ps) p vs
+      (subst (λ (l : List (Bool × Expr V)). Picks_parts facts l vs) (take-next ps i p h is) d) in
       record {
         number = Whole (sum_of l.before);
         value = l.last;
         in_numbers = g.complete (Whole (sum_of l.before)) (l.before, l.picks, refl);
         in_values = q.complete l.last l.yields;
-        is = k ∙ ap (λ (z : List (Bool × Value)). Whole (sum_of z)) l.is ∙ ap Whole (fold_push added (pos 0) l.before (p.0, l.last));
+        is =
+            k ∙ ap (λ (z : List (Bool × Value)). Whole (sum_of z)) l.is ∙ ap Whole
+            (fold_push added (pos 0) l.before (p.0, l.last));
       }
 
   pub sum-more : (ps : List (Bool × Expr V)) (i : ℕ) (p : Bool × Expr V) (so_far values new : List Value)
@@ -376,7 +405,8 @@ module _ {V : Type 0} (facts : V → Value → Type 0) where
   sum_same : (ps : List (Bool × Expr V)) (i k : ℕ) (v : Value) → length ps ≤ i → i ≤ k → SumYields facts ps k v
       → SumYields facts ps i v
   sum_same ps i k v h j m =
-      let P : List (Bool × Expr V) → Type 0 = λ l. (vs : List (Bool × Value)) × Picks_parts facts l vs × (v ≡ Whole (sum_of vs)) in
+      let P : List (Bool × Expr V) → Type 0 =
+      λ l. (vs : List (Bool × Value)) × Picks_parts facts l vs × (v ≡ Whole (sum_of vs)) in
       subst P (take_all k ps (omega arith) ∙ sym (take_all i ps h)) m
 
   pub sums-end : (most : Option ℕ) (ps : List (Bool × Expr V)) (i : ℕ) (set : List Value) → length ps ≤ i
@@ -384,7 +414,8 @@ module _ {V : Type 0} (facts : V → Value → Type 0) where
       → (AtLimit most (PartWide facts (take i ps)) → ⊥)
       → ((k : ℕ) → k ≤ i → AtLimit most (λ n. HasMoreThan n (SumYields facts ps k)) → ⊥) → Sums facts most (Ok set) ps
   sums-end most ps i set h g l w f =
-      let P : List (Bool × Expr V) → Type 0 = λ z. HasExactly set (λ v. (vs : List (Bool × Value)) × Picks_parts facts z vs × (v ≡ Whole (sum_of vs))) in
+      let P : List (Bool × Expr V) → Type 0 =
+      λ z. HasExactly set (λ v. (vs : List (Bool × Value)) × Picks_parts facts z vs × (v ≡ Whole (sum_of vs))) in
       let W : List (Bool × Expr V) → Type 0 = λ z. AtLimit most (PartWide facts z) → ⊥ in
       (subst P (take_all i ps h) g, l, subst W (take_all i ps h) w, steps_end most (SumYields facts ps) i (λ k v j m. sum_same ps i k v h j m) f)
 
@@ -421,7 +452,8 @@ module _ {V : Type 0} (facts : V → Value → Type 0) where
 
   pub chosen-start : (set : List Value) → set ≡ [] → Chosen facts set true []
   chosen-start set e = record {
-    exact = record { sound = λ v m. absurd (nothing-in v (subst (λ (l : List Value). Contains l v) e m)); complete = λ v h. absurd h };
+    exact =
+        record { sound = λ v m. absurd (nothing-in v (subst (λ (l : List Value). Contains l v) e m)); complete = λ v h. absurd h };
     all = ((λ h. tt), (λ h. refl));
   }
 
@@ -441,7 +473,9 @@ module _ {V : Type 0} (facts : V → Value → Type 0) where
             | inl n ↦ took-left (take i cs) (c ∷ []) v (k.exact.sound v n)
             | inr n ↦ took-right (take i cs) (c ∷ []) v n.0 n.1
           ];
-          complete = λ v d. elim (took-append (take i cs) (c ∷ []) v d) [ inl n ↦ up v (inl (k.exact.complete v n)) | inr n ↦ up v (inr n) ];
+          complete = λ v d.
+              elim
+              (took-append (take i cs) (c ∷ []) v d) [ inl n ↦ up v (inl (k.exact.complete v n)) | inr n ↦ up v (inr n) ];
         };
         all = (
           (λ g. let m = q.0 g in passes-append (take i cs) (c ∷ []) (k.all.0 m.0) (t.sound (Truth false) (p.0 m.1), tt)),
@@ -463,7 +497,9 @@ module _ {V : Type 0} (facts : V → Value → Type 0) where
       subst P (take-append-drop i cs) (record {
         exact = record {
           sound = λ v m. took-left (take i cs) (drop i cs) v (k.exact.sound v m);
-          complete = λ v d. elim (took-append (take i cs) (drop i cs) v d) [ inl n ↦ k.exact.complete v n | inr n ↦ absurd (let z = k.all.1 n.0 in cc) ];
+          complete = λ v d.
+              elim
+              (took-append (take i cs) (drop i cs) v d) [ inl n ↦ k.exact.complete v n | inr n ↦ absurd (let z = k.all.1 n.0 in cc) ];
         };
         all = ((λ g. cc), (λ d. absurd (let z = k.all.1 (passes-left (take i cs) (drop i cs) d) in cc)));
       })
@@ -557,7 +593,8 @@ module _ {V : Type 0} (facts : V → Value → Type 0) (most : Option ℕ) where
   pub fold-begins-stop : (s : Step) (es : List (Expr V)) (w : Value) (stop : Stop) → w ≡ Whole (fold_of s [])
       → Gathers most (Err stop) (Contains (w ∷ [])) → Folds facts most s (Err stop) es
   fold-begins-stop s es w stop e g =
-      stopped-up most (λ k. HasMoreThan k (Contains (w ∷ []))) (λ k. SomeWide facts es k ⊎ SomeStep (FoldYields facts s es) k)
+      stopped-up most (λ k. HasMoreThan k (Contains (w ∷ [])))
+      (λ k. SomeWide facts es k ⊎ SomeStep (FoldYields facts s es) k)
       (λ k h. inr (record { place = 0; wide = more-than (λ v m. ([], y.no_operand, sym (one-item w v m) ∙ e)) h })) stop g
 
   pub fold-goes-on : (s : Step) (first : Bool) (es : List (Expr V)) (i : ℕ) (e : Expr V) (set values new : List Value)
@@ -565,7 +602,8 @@ module _ {V : Type 0} (facts : V → Value → Type 0) (most : Option ℕ) where
       → Evaluates facts most (Ok values) (out-Expr V e) → Gathers most (Ok new) (IsNext s first set values)
       → FoldSoFar facts most s false new es (i + 1)
   fold-goes-on s first es i e set values new h is f q g =
-      let exact : HasExactly new (FoldYields facts s es (i + 1)) = fold-more facts s first es i e set values new h is f.starts f.exact q.0 g.0 in
+      let exact : HasExactly new (FoldYields facts s es (i + 1)) =
+      fold-more facts s first es i e set values new h is f.starts f.exact q.0 g.0 in
       record {
         exact = exact;
         keeps = g.1;
@@ -577,14 +615,17 @@ module _ {V : Type 0} (facts : V → Value → Type 0) (most : Option ℕ) where
   pub fold-operand-stop : (s : Step) (es : List (Expr V)) (i : ℕ) (e : Expr V) (stop : Stop) → i < length es
       → e ≡ get_or es i e → Evaluates facts most (Err stop) (out-Expr V e) → Folds facts most s (Err stop) es
   fold-operand-stop s es i e stop h is q =
-      stopped-up most (λ n. IsWide facts n (out-Expr V e)) (λ n. SomeWide facts es n ⊎ SomeStep (FoldYields facts s es) n) (λ n w. inl (record { expr = e; in_list = item-is-in es i e h is; wide = w })) stop q
+      stopped-up most (λ n. IsWide facts n (out-Expr V e))
+      (λ n. SomeWide facts es n ⊎ SomeStep (FoldYields facts s es) n)
+      (λ n w. inl (record { expr = e; in_list = item-is-in es i e h is; wide = w })) stop q
 
   pub fold-step-stop : (s : Step) (first : Bool) (es : List (Expr V)) (i : ℕ) (e : Expr V) (set values : List Value) (stop : Stop)
       → i < length es → e ≡ get_or es i e → FoldSoFar facts most s first set es i
       → Evaluates facts most (Ok values) (out-Expr V e) → Gathers most (Err stop) (IsNext s first set values)
       → Folds facts most s (Err stop) es
   fold-step-stop s first es i e set values stop h is f q g =
-      stopped-up most (λ n. HasMoreThan n (IsNext s first set values)) (λ n. SomeWide facts es n ⊎ SomeStep (FoldYields facts s es) n)
+      stopped-up most (λ n. HasMoreThan n (IsNext s first set values))
+      (λ n. SomeWide facts es n ⊎ SomeStep (FoldYields facts s es) n)
       (λ n m. inr (record { place = i + 1; wide = more-than (fold-up facts s first es i e set values h is f.starts f.exact q.0) m })) stop g
 
   pub fold-ends : (s : Step) (first : Bool) (es : List (Expr V)) (i : ℕ) (set : List Value) → length es ≤ i
@@ -603,7 +644,8 @@ module _ {V : Type 0} (facts : V → Value → Type 0) (most : Option ℕ) where
   pub sum-begins-stop : (ps : List (Bool × Expr V)) (n : ℤ) (stop : Stop) → n ≡ sum_of []
       → Gathers most (Err stop) (Contains (Whole n ∷ [])) → Sums facts most (Err stop) ps
   sum-begins-stop ps n stop e g =
-      stopped-up most (λ k. HasMoreThan k (Contains (Whole n ∷ []))) (λ k. PartWide facts ps k ⊎ SomeStep (SumYields facts ps) k)
+      stopped-up most (λ k. HasMoreThan k (Contains (Whole n ∷ [])))
+      (λ k. PartWide facts ps k ⊎ SomeStep (SumYields facts ps) k)
       (λ k h. inr (record { place = 0; wide = more-than (λ v m. ([], y.no_part, sym (one-item (Whole n) v m) ∙ ap Whole e)) h })) stop g
 
   pub sum-goes-on : (ps : List (Bool × Expr V)) (i : ℕ) (p : Bool × Expr V) (set values new : List Value)
@@ -611,7 +653,8 @@ module _ {V : Type 0} (facts : V → Value → Type 0) (most : Option ℕ) where
       → Evaluates facts most (Ok values) (out-Expr V p.1) → Gathers most (Ok new) (IsNext (Part p.0) false set values)
       → SumSoFar facts most new ps (i + 1)
   sum-goes-on ps i p set values new h is f q g =
-      let exact : HasExactly new (SumYields facts ps (i + 1)) = sum-more facts ps i p set values new h is f.exact q.0 g.0 in
+      let exact : HasExactly new (SumYields facts ps (i + 1)) =
+      sum-more facts ps i p set values new h is f.exact q.0 g.0 in
       record {
         exact = exact;
         keeps = g.1;
@@ -622,14 +665,17 @@ module _ {V : Type 0} (facts : V → Value → Type 0) (most : Option ℕ) where
   pub sum-operand-stop : (ps : List (Bool × Expr V)) (i : ℕ) (p : Bool × Expr V) (stop : Stop) → i < length ps
       → p ≡ get_or ps i p → Evaluates facts most (Err stop) (out-Expr V p.1) → Sums facts most (Err stop) ps
   sum-operand-stop ps i p stop h is q =
-      stopped-up most (λ n. IsWide facts n (out-Expr V p.1)) (λ n. PartWide facts ps n ⊎ SomeStep (SumYields facts ps) n) (λ n w. inl (record { part = p; in_list = item-is-in ps i p h is; wide = w })) stop q
+      stopped-up most (λ n. IsWide facts n (out-Expr V p.1))
+      (λ n. PartWide facts ps n ⊎ SomeStep (SumYields facts ps) n)
+      (λ n w. inl (record { part = p; in_list = item-is-in ps i p h is; wide = w })) stop q
 
   pub sum-step-stop : (ps : List (Bool × Expr V)) (i : ℕ) (p : Bool × Expr V) (set values : List Value) (stop : Stop)
       → i < length ps → p ≡ get_or ps i p → SumSoFar facts most set ps i
       → Evaluates facts most (Ok values) (out-Expr V p.1) → Gathers most (Err stop) (IsNext (Part p.0) false set values)
       → Sums facts most (Err stop) ps
   sum-step-stop ps i p set values stop h is f q g =
-      stopped-up most (λ n. HasMoreThan n (IsNext (Part p.0) false set values)) (λ n. PartWide facts ps n ⊎ SomeStep (SumYields facts ps) n)
+      stopped-up most (λ n. HasMoreThan n (IsNext (Part p.0) false set values))
+      (λ n. PartWide facts ps n ⊎ SomeStep (SumYields facts ps) n)
       (λ n m. inr (record { place = i + 1; wide = more-than (sum-up facts ps i p set values h is f.exact q.0) m })) stop g
 
   pub sum-ends : (ps : List (Bool × Expr V)) (i : ℕ) (set : List Value) → length ps ≤ i → SumSoFar facts most set ps i
@@ -664,7 +710,11 @@ module _ {V : Type 0} (facts : V → Value → Type 0) (most : Option ℕ) where
 
   pub choice-begins : (cs : List (Expr V × Expr V)) (set : List Value) → set ≡ [] → KeepsLimit most set
       → ChoiceSoFar facts most set true cs 0
-  choice-begins cs set e k = record { chosen = chosen-start facts set e; keeps = k; narrow = case-narrow-start facts most }
+  choice-begins cs set e k = record {
+    chosen = chosen-start facts set e;
+    keeps = k;
+    narrow = case-narrow-start facts most;
+  }
 
   pub choice-goes-on : (cs : List (Expr V × Expr V)) (i : ℕ) (c : Expr V × Expr V) (set tests new : List Value) (passes takes can_take can_pass passes_more : Bool)
       → i < length cs → c ≡ get_or cs i c
@@ -684,7 +734,8 @@ module _ {V : Type 0} (facts : V → Value → Type 0) (most : Option ℕ) where
   pub case-test-stop : (cs : List (Expr V × Expr V)) (i : ℕ) (c : Expr V × Expr V) (stop : Stop) → i < length cs
       → c ≡ get_or cs i c → Evaluates facts most (Err stop) (out-Expr V c.0) → Chooses facts most (Err stop) cs
   case-test-stop cs i c stop h is q =
-      stopped-up most (λ n. IsWide facts n (out-Expr V c.0)) (λ n. CaseWide facts cs n ⊎ HasMoreThan n (Took facts cs)) (λ n w. inl (record { case = c; in_list = item-is-in cs i c h is; wide = inl w })) stop q
+      stopped-up most (λ n. IsWide facts n (out-Expr V c.0)) (λ n. CaseWide facts cs n ⊎ HasMoreThan n (Took facts cs))
+      (λ n w. inl (record { case = c; in_list = item-is-in cs i c h is; wide = inl w })) stop q
 
   took_within : (cs : List (Expr V × Expr V)) (i : ℕ) (v : Value) → Took facts (take i cs) v → Took facts cs v
   took_within cs i v m =
@@ -697,12 +748,15 @@ module _ {V : Type 0} (facts : V → Value → Type 0) (most : Option ℕ) where
       → IsTrue can_take ↔ Contains tests (Truth true) → IsTrue takes ↔ (IsTrue passes × IsTrue can_take)
       → Joins facts most (Err stop) takes set (out-Expr V c.1) → Chooses facts most (Err stop) cs
   case-branch-stop cs i c set tests passes takes can_take stop h is f t a p g =
-      stopped-up most (λ n. IsWide facts n (out-Expr V c.1) ⊎ HasMoreThan n (BranchYields facts takes set (out-Expr V c.1))) (λ n. CaseWide facts cs n ⊎ HasMoreThan n (Took facts cs))
+      stopped-up most
+      (λ n. IsWide facts n (out-Expr V c.1) ⊎ HasMoreThan n (BranchYields facts takes set (out-Expr V c.1)))
+      (λ n. CaseWide facts cs n ⊎ HasMoreThan n (Took facts cs))
       (λ n w. elim w [
         | inl b ↦ inl (record { case = c; in_list = item-is-in cs i c h is; wide = inr b })
         | inr m ↦ inr (more-than (λ v k. took_within cs (i + 1) v
             (let P : List (Expr V × Expr V) → Type 0 = λ l. Took facts l v in
-            subst P (sym (take-next cs i c h is)) (elim (case_down cs i c set tests passes takes f t.0 (λ k. let z = p.0 k in (z.0, a.0 z.1)) v k) [
+            subst P (sym (take-next cs i c h is))
+            (elim (case_down cs i c set tests passes takes f t.0 (λ k. let z = p.0 k in (z.0, a.0 z.1)) v k) [
               | inl b ↦ took-left facts (take i cs) (c ∷ []) v (f.chosen.exact.sound v b)
               | inr b ↦ took-right facts (take i cs) (c ∷ []) v b.0 b.1
             ]))) m)

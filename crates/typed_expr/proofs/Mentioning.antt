@@ -35,7 +35,9 @@ module _ {V : Type 0} (key_told : (x y : V) → Told (x ≡ y)) (x : V) where
 
   parts_told : (ds : List (Bool × Operand)) → Told (Parts_mention x (terms ds))
   parts_told [] = inr (λ h. elim h [ ])
-  parts_told ((plus, d) ∷ ds) = told_or d.1 (parts_told ds) (λ h. m.this_part h) (λ h. m.later_part h) (λ h. elim h [ m.this_part k ↦ inl k | m.later_part k ↦ inr k ])
+  parts_told ((plus, d) ∷ ds) =
+      told_or d.1 (parts_told ds) (λ h. m.this_part h) (λ h. m.later_part h)
+      (λ h. elim h [ m.this_part k ↦ inl k | m.later_part k ↦ inr k ])
 
   abbrev cases : List (Operand × Operand) → List (Expr V × Expr V)
   cases cs = map (λ (c : Operand × Operand). (c.0.0, c.1.0)) cs
@@ -43,7 +45,9 @@ module _ {V : Type 0} (key_told : (x y : V) → Told (x ≡ y)) (x : V) where
   cases_told : (cs : List (Operand × Operand)) → Told (Cases_mention x (cases cs))
   cases_told [] = inr (λ h. elim h [ ])
   cases_told ((test, value) ∷ cs) =
-      told_or (told_or {C = Mentions x (out-Expr V test.0) ⊎ Mentions x (out-Expr V value.0)} test.1 value.1 (λ h. inl h) (λ h. inr h) (λ h. h)) (cases_told cs)
+      told_or
+      (told_or {C = Mentions x (out-Expr V test.0) ⊎ Mentions x (out-Expr V value.0)} test.1 value.1 (λ h. inl h) (λ h. inr h) (λ h. h))
+      (cases_told cs)
       (λ h. elim h [ inl k ↦ m.in_test k | inr k ↦ m.in_value k ]) (λ h. m.later_case h)
       (λ h. elim h [ m.in_test k ↦ inl (inl k) | m.in_value k ↦ inl (inr k) | m.later_case k ↦ inr k ])
 
@@ -61,13 +65,17 @@ module _ {V : Type 0} (key_told : (x y : V) → Told (x ≡ y)) (x : V) where
   form_told (Not a) = told_as a.value.1 (λ h. m.in_not h) (λ h. elim h [ m.in_not k ↦ k ])
   form_told (All es) = told_as (some_told es.items) (λ h. m.in_all h) (λ h. elim h [ m.in_all k ↦ k ])
   form_told (Any es) = told_as (some_told es.items) (λ h. m.in_any h) (λ h. elim h [ m.in_any k ↦ k ])
-  form_told (Compare r a b) = told_or a.value.1 b.value.1 (λ h. m.in_left h) (λ h. m.in_right h) (λ h. elim h [ m.in_left k ↦ inl k | m.in_right k ↦ inr k ])
+  form_told (Compare r a b) =
+      told_or a.value.1 b.value.1 (λ h. m.in_left h) (λ h. m.in_right h)
+      (λ h. elim h [ m.in_left k ↦ inl k | m.in_right k ↦ inr k ])
   form_told (Sum ps) = told_as (parts_told ps.items) (λ h. m.in_sum h) (λ h. elim h [ m.in_sum k ↦ k ])
   form_told (Product es) = told_as (some_told es.items) (λ h. m.in_product h) (λ h. elim h [ m.in_product k ↦ k ])
   form_told (Least es) = told_as (some_told es.items) (λ h. m.in_least h) (λ h. elim h [ m.in_least k ↦ k ])
   form_told (Greatest es) = told_as (some_told es.items) (λ h. m.in_greatest h) (λ h. elim h [ m.in_greatest k ↦ k ])
   form_told (Count es) = told_as (some_told es.items) (λ h. m.in_count h) (λ h. elim h [ m.in_count k ↦ k ])
-  form_told (Choose cs other) = told_or (cases_told cs.items) other.value.1 (λ h. m.in_cases h) (λ h. m.in_other h) (λ h. elim h [ m.in_cases k ↦ inl k | m.in_other k ↦ inr k ])
+  form_told (Choose cs other) =
+      told_or (cases_told cs.items) other.value.1 (λ h. m.in_cases h) (λ h. m.in_other h)
+      (λ h. elim h [ m.in_cases k ↦ inl k | m.in_other k ↦ inr k ])
 
   -- whether the variable stands in the expression
   pub mentions_told : (e : Expr V) → Told (Mentions x (out-Expr V e))

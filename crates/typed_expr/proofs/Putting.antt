@@ -60,12 +60,15 @@ ascends-insert (x ∷ xs) (suc n) v h f g a = (
     | inl e ↦ let P : Value → Type 0 = λ z. is_before x z ≡ true in subst P e (f zero x (omega arith))
     | inr k ↦ a.0 y k
   ]),
-  ascends-insert xs n v (omega (arith, h)) (λ k d l. f (suc k) d (omega (arith, l))) (λ k d l i. g (suc k) d (omega (arith, l)) (omega (arith, i))) a.1,
+  ascends-insert xs n v (omega (arith, h)) (λ k d l. f (suc k) d (omega (arith, l)))
+      (λ k d l i. g (suc k) d (omega (arith, l)) (omega (arith, i))) a.1,
 )
 
 pub ascending-insert : (xs : List Value) (n : ℕ) (v : Value) → GoesAt xs v n → IsAscending xs
     → IsAscending (insert xs n v)
-ascending-insert xs n v g a = ascending-from (insert xs n v) (ascends-insert xs n v g.within (λ k d l. g.lower k d (omega arith) l) (λ k d l i. g.upper k d l i) (ascends-from xs a))
+ascending-insert xs n v g a =
+    ascending-from (insert xs n v)
+    (ascends-insert xs n v g.within (λ k d l. g.lower k d (omega arith) l) (λ k d l i. g.upper k d l i) (ascends-from xs a))
 
 not_true : (b : Bool) → (b ≡ true → ⊥) → b ≡ false
 not_true true f = absurd (f refl)

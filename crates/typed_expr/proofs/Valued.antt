@@ -51,7 +51,8 @@ module _ {V : Type 0} (facts : V → Value → Type 0) (t : V → Value)
     yielded-value y.constant = refl
     yielded-value (y.variable {x = x} {v = w} h) = only x w h
     yielded-value (y.opposite {a = a} {b = b} d) =
-        let e : val.Truth b ≡ value_of t a.value = yielded-value d ∙ sym (value_of-level t a.value) in ap (λ z. val.Truth (not (truth_of z))) e
+        let e : val.Truth b ≡ value_of t a.value =
+        yielded-value d ∙ sym (value_of-level t a.value) in ap (λ z. val.Truth (not (truth_of z))) e
     yielded-value (y.one_false d) = ap val.Truth (sym (some-false d refl))
     yielded-value (y.all_true d) = ap val.Truth (sym (all-true d refl))
     yielded-value (y.one_true d) = ap val.Truth (sym (some-true d refl))
@@ -66,7 +67,8 @@ module _ {V : Type 0} (facts : V → Value → Type 0) (t : V → Value)
     yielded-value (y.greatest d) = ap (λ z. val.Whole (greatest_of z)) (picked d)
     yielded-value (y.count d) = ap (λ z. val.Whole (count_of z)) (picked d)
     yielded-value (y.choice {cases = cases} {other = other} d) =
-        taken-value d ∙ ap (first_true (map (λ c. (value_of t c.0, value_of t c.1)) cases.items)) (sym (value_of-level t other.value))
+        taken-value d ∙ ap (first_true (map (λ c. (value_of t c.0, value_of t c.1)) cases.items))
+        (sym (value_of-level t other.value))
 
     pub some-false : {es : List (Expr V)} {w : Value} → Some_yields facts es w → w ≡ val.Truth false
         → all_true (map (value_of t) es) ≡ false
@@ -101,14 +103,18 @@ module _ {V : Type 0} (facts : V → Value → Type 0) (t : V → Value)
         → vs ≡ map (λ p. (p.0, value_of t p.1)) ps
     picked-parts y.no_part = refl
     picked-parts (y.part {plus = plus} {e = e} {v = w} {vs = vs} d ds) =
-        ap (λ z. (plus, z) ∷ vs) (yielded-value d ∙ sym (value_of-level t e)) ∙ ap (λ z. (plus, value_of t e) ∷ z) (picked-parts ds)
+        ap (λ z. (plus, z) ∷ vs) (yielded-value d ∙ sym (value_of-level t e)) ∙ ap (λ z. (plus, value_of t e) ∷ z)
+        (picked-parts ds)
 
     pub taken-value : {cs : List (Expr V × Expr V)} {other : Level V} {w : Value} → Takes facts cs other w
         → w ≡ first_true (map (λ c. (value_of t c.0, value_of t c.1)) cs) (level_value t other)
     taken-value (y.otherwise d) = yielded-value d
     taken-value (y.taken {test = e} {value = f} c d) =
-        yielded-value d ∙ sym (value_of-level t f) ∙ sym (cond_true (truth_of (value_of t e)) _ _ (ap truth_of (value_of-level t e ∙ sym (yielded-value c))))
-    taken-value (y.passed {test = e} c d) = taken-value d ∙ sym (cond_false (truth_of (value_of t e)) _ _ (ap truth_of (value_of-level t e ∙ sym (yielded-value c))))
+        yielded-value d ∙ sym (value_of-level t f) ∙ sym
+        (cond_true (truth_of (value_of t e)) _ _ (ap truth_of (value_of-level t e ∙ sym (yielded-value c))))
+    taken-value (y.passed {test = e} c d) =
+        taken-value d ∙ sym
+        (cond_false (truth_of (value_of t e)) _ _ (ap truth_of (value_of-level t e ∙ sym (yielded-value c))))
 
 -- the value is yielded, and is of the kind
 pub record Valued {V : Type 0} (facts : V → Value → Type 0) (t : V → Value) (e : Level V)
@@ -133,7 +139,8 @@ module _ {V : Type 0} (facts : V → Value → Type 0) (t : V → Value) (kinds 
       → Yields facts (out-Expr V e) (val.Truth (truth_of (value_of t e)))
   truth_yields e h =
       let P : Value → Type 0 = λ z. Yields facts (out-Expr V e) z in
-      subst P (truth-form (level_value t (out-Expr V e)) h.is_kind ∙ ap (λ z. val.Truth (truth_of z)) (sym (value_of-level t e))) h.yields
+      subst P
+      (truth-form (level_value t (out-Expr V e)) h.is_kind ∙ ap (λ z. val.Truth (truth_of z)) (sym (value_of-level t e))) h.yields
 
   value_yields : (e : Expr V) (kind : ValueKind) → Valued facts t (out-Expr V e) kind
       → Yields facts (out-Expr V e) (value_of t e)
@@ -154,12 +161,24 @@ module _ {V : Type 0} (facts : V → Value → Type 0) (t : V → Value) (kinds 
   disjoin e es false i d (some_true j c) = some_true (cond_false _ _ _ i ∙ j) (y.later c)
 
   from_conjoined : (es : Vec (Expr V) Global) → Conjoined facts t es.items → Valued facts t (All es) Truth
-  from_conjoined es (each_true j c) = record { yields = let P : Bool → Type 0 = λ z. Yields facts (All es) (val.Truth z) in subst P (sym j) (y.all_true c); is_kind = refl }
-  from_conjoined es (some_false j c) = record { yields = let P : Bool → Type 0 = λ z. Yields facts (All es) (val.Truth z) in subst P (sym j) (y.one_false c); is_kind = refl }
+  from_conjoined es (each_true j c) = record {
+    yields = let P : Bool → Type 0 = λ z. Yields facts (All es) (val.Truth z) in subst P (sym j) (y.all_true c);
+    is_kind = refl;
+  }
+  from_conjoined es (some_false j c) = record {
+    yields = let P : Bool → Type 0 = λ z. Yields facts (All es) (val.Truth z) in subst P (sym j) (y.one_false c);
+    is_kind = refl;
+  }
 
   from_disjoined : (es : Vec (Expr V) Global) → Disjoined facts t es.items → Valued facts t (Any es) Truth
-  from_disjoined es (each_false j c) = record { yields = let P : Bool → Type 0 = λ z. Yields facts (Any es) (val.Truth z) in subst P (sym j) (y.all_false c); is_kind = refl }
-  from_disjoined es (some_true j c) = record { yields = let P : Bool → Type 0 = λ z. Yields facts (Any es) (val.Truth z) in subst P (sym j) (y.one_true c); is_kind = refl }
+  from_disjoined es (each_false j c) = record {
+    yields = let P : Bool → Type 0 = λ z. Yields facts (Any es) (val.Truth z) in subst P (sym j) (y.all_false c);
+    is_kind = refl;
+  }
+  from_disjoined es (some_true j c) = record {
+    yields = let P : Bool → Type 0 = λ z. Yields facts (Any es) (val.Truth z) in subst P (sym j) (y.one_true c);
+    is_kind = refl;
+  }
 
   -- what a choice takes
   pub record Chosen_value (cs : List (Expr V × Expr V)) (other : Level V) (kind : ValueKind) : Type 0 where
@@ -170,12 +189,16 @@ module _ {V : Type 0} (facts : V → Value → Type 0) (t : V → Value) (kinds 
       → truth_of (value_of t e) ≡ b → Yields facts (out-Expr V e) (val.Truth b)
       → Valued facts t (out-Expr V f) kind → Chosen_value cs other kind → Chosen_value ((e, f) ∷ cs) other kind
   choose e f cs other kind true i d h c =
-      let w = cond_true (truth_of (value_of t e)) (value_of t f) (first_true (map (λ c. (value_of t c.0, value_of t c.1)) cs) (level_value t other)) i in
+      let w =
+      cond_true (truth_of (value_of t e)) (value_of t f)
+      (first_true (map (λ c. (value_of t c.0, value_of t c.1)) cs) (level_value t other)) i in
       let P : Value → Type 0 = λ z. Takes facts ((e, f) ∷ cs) other z in
       record
       { takes = subst P (sym w) (y.taken d (value_yields f kind h)); is_kind = ap kind_of w ∙ ap kind_of (value_of-level t f) ∙ h.is_kind }
   choose e f cs other kind false i d h c =
-      let w = cond_false (truth_of (value_of t e)) (value_of t f) (first_true (map (λ c. (value_of t c.0, value_of t c.1)) cs) (level_value t other)) i in
+      let w =
+      cond_false (truth_of (value_of t e)) (value_of t f)
+      (first_true (map (λ c. (value_of t c.0, value_of t c.1)) cs) (level_value t other)) i in
       let P : Value → Type 0 = λ z. Takes facts ((e, f) ∷ cs) other z in
       record { takes = subst P (sym w) (y.passed d c.takes); is_kind = ap kind_of w ∙ c.is_kind }
 
@@ -187,7 +210,10 @@ module _ {V : Type 0} (facts : V → Value → Type 0) (t : V → Value) (kinds 
     valued (k.opposite {a = a} d) = record { yields = y.opposite (truth_yields a.value (valued d)); is_kind = refl }
     valued (k.all {es = es} l d) = from_conjoined es (conjoined d refl)
     valued (k.any {es = es} l d) = from_disjoined es (disjoined d refl)
-    valued (k.compared {a = a} {b = b} {k = kind} c d e) = record { yields = y.compared (value_yields a.value kind (valued d)) (value_yields b.value kind (valued e)); is_kind = refl }
+    valued (k.compared {a = a} {b = b} {k = kind} c d e) = record {
+      yields = y.compared (value_yields a.value kind (valued d)) (value_yields b.value kind (valued e));
+      is_kind = refl;
+    }
     valued (k.sum l d) = record { yields = y.sum (picks-parts d); is_kind = refl }
     valued (k.product l d) = record { yields = y.product (picks d); is_kind = refl }
     valued (k.least l d) = record { yields = y.least (picks d); is_kind = refl }
@@ -196,8 +222,11 @@ module _ {V : Type 0} (facts : V → Value → Type 0) (t : V → Value) (kinds 
     valued (k.choice {cs = cs} {other = other} {k = kind} l c d) =
         let h = chosen c (valued d) in
         let i = value_of-level t other.value in
-        let P : Value → Type 0 = λ z. Takes facts cs.items (out-Expr V other.value) (first_true (map (λ c. (value_of t c.0, value_of t c.1)) cs.items) z) in
-        let Q : Value → Type 0 = λ z. kind_of (first_true (map (λ c. (value_of t c.0, value_of t c.1)) cs.items) z) ≡ kind in
+        let P : Value → Type 0 =
+        λ z. Takes facts cs.items (out-Expr V other.value)
+        (first_true (map (λ c. (value_of t c.0, value_of t c.1)) cs.items) z) in
+        let Q : Value → Type 0 =
+        λ z. kind_of (first_true (map (λ c. (value_of t c.0, value_of t c.1)) cs.items) z) ≡ kind in
         record { yields = y.choice (subst P (sym i) h.takes); is_kind = subst Q (sym i) h.is_kind }
 
     conjoined : {es : List (Expr V)} {kind : ValueKind} → Each kinds es kind → kind ≡ Truth → Conjoined facts t es
@@ -244,7 +273,9 @@ one-fact {V} t kinds agree e kind h w =
 
 pub total-kind : {V : Type 0} (t : V → Value) (kinds : V → ValueKind) → ((x : V) → kind_of (t x) ≡ kinds x)
     → (e : Expr V) (kind : ValueKind) → HasKind kinds (out-Expr V e) kind → kind_of (value_of t e) ≡ kind
-total-kind {V} t kinds agree e kind h = ap kind_of (value_of-level t e) ∙ (valued (facts_of (λ x. t x ∷ [])) t kinds (λ x. contains-head (t x) []) agree h).is_kind
+total-kind {V} t kinds agree e kind h =
+    ap kind_of (value_of-level t e) ∙
+    (valued (facts_of (λ x. t x ∷ [])) t kinds (λ x. contains-head (t x) []) agree h).is_kind
 
 -- related variables with the same facts
 pub renamed : {V W : Type 0} (same : V → W → Type 0) (facts : V → List Value) (others : W → List Value)

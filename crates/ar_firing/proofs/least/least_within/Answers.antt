@@ -6,10 +6,13 @@ use Rattle.ar_firing.proofs.least.least_within.Goals as goal
 
 pub returns-clause-cuts : goal.returns-clause-cuts
 returns-clause-cuts g c = λ told sys dropped observer wanted set m.
-    least_there (Makes sys dropped observer wanted) (λ s. makes_told told sys dropped s observer wanted) (makes_as sys dropped observer wanted) set m
+    least_there (Makes sys dropped observer wanted) (λ s. makes_told told sys dropped s observer wanted)
+    (makes_as sys dropped observer wanted) set m
 
 pub returns-clause-conflict_sets : goal.returns-clause-conflict_sets
-returns-clause-conflict_sets g c = λ told sys dropped set m. least_there (MeetsConflict sys dropped) (λ s. meets_told told sys dropped s) (meets_as sys dropped) set m
+returns-clause-conflict_sets g c =
+    λ told sys dropped set m. least_there (MeetsConflict sys dropped) (λ s. meets_told told sys dropped s)
+    (meets_as sys dropped) set m
 
 pub returns-clause-not_no_cut : goal.returns-clause-not_no_cut
 returns-clause-not_no_cut g c =

@@ -31,7 +31,8 @@ returns-clause-runs g c = λ things sys flat f. same_runs (IsNumber things) sys 
 pub returns-clause-texts : goal.returns-clause-texts
 returns-clause-texts g c = λ things sys flat f names numbers alike ms text. (
   λ d. trace_there (IsNumber things) sys flat (flat_image things sys flat f) names numbers alike d,
-  λ d. trace_there (turned (IsNumber things)) flat sys (flat_back things sys flat f) numbers names (names_back names numbers alike) d,
+  λ d. trace_there (turned (IsNumber things)) flat sys (flat_back things sys flat f) numbers names
+      (names_back names numbers alike) d,
 )
 
 pub returns-clause-keys : goal.returns-clause-keys

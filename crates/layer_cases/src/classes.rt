@@ -4,7 +4,8 @@ ghost use Rattle.std.specs.Prelude.{IsTrue};
 ghost use Rattle.flow_blocks.specs.Blocks.{AreBelow};
 
 use crate::no_memory;
-use flow_blocks::{Graph, blocks};
+use flow_blocks::{Block, Graph, blocks};
+use std::alloc::Global;
 use std::io;
 
 // Whether all numbers of the uses are below count.
@@ -19,35 +20,34 @@ fn are_below(count: u32, uses: &[(u32, u32)]) -> bool
     true
 }
 
-// Prints the classes of a graph.
-fn show(rt: &HostRuntime, count: u32, uses: &[(u32, u32)]) -> io::Result<()> {
+// The classes of a graph, none where a use has a number that is not below count.
+fn found(alloc: Global, count: u32, uses: &[(u32, u32)]) -> io::Result<Vec<Block>> {
     let graph = Graph {
         count,
-        uses: Vec::from_slice(rt.alloc(), uses)?,
+        uses: Vec::from_slice(alloc, uses)?,
     };
     if !are_below(count, &graph.uses) {
-        return println!(rt; "classes of other numbers");
+        return Ok(Vec::new(alloc));
     }
-    let found = blocks(rt.alloc(), &graph).map_err(no_memory)?;
-    println!(rt; "classes {:?}", found)
+    blocks(alloc, &graph).map_err(no_memory)
 }
 
-// The first and the last of a chain of numbers of which each and the next depend on each other.
+fn show(rt: &HostRuntime, count: u32, uses: &[(u32, u32)]) -> io::Result<()> {
+    println!(rt; "classes {:?}", found(rt.alloc(), count, uses)?)
+}
+
+// How many classes and members a chain of numbers has of which each and the next depend on each other.
 fn show_chain(rt: &HostRuntime, count: u32) -> io::Result<()> {
     let mut uses = Vec::new(rt.alloc());
     for number in 1..count {
         uses.push((number - 1, number))?;
         uses.push((number, number - 1))?;
     }
-    let graph = Graph { count, uses };
-    if !are_below(count, &graph.uses) {
-        return println!(rt; "classes of other numbers");
-    }
-    let found = blocks(rt.alloc(), &graph).map_err(no_memory)?;
-    let members = found.iter().map(|block| block.members.len()).sum::<usize>();
+    let classes = found(rt.alloc(), count, &uses)?;
+    let members = classes.iter().map(|block| block.members.len()).max();
     println!(rt;
-        "classes of a chain of {count}: {} with {members} members",
-        found.len()
+        "chain of {count}: {} class, members {members:?}",
+        classes.len()
     )
 }
 

@@ -164,9 +164,8 @@ fn show_all(rt: &HostRuntime) -> io::Result<()> {
     let mut ops = Ops::new(rt.alloc(), 254);
     let families = all_families(rt, &mut ops)?;
     let mut agreed: u64 = 0;
-    for (f, first) in families.iter().enumerate() {
-        for (g, second) in families.iter().enumerate() {
-            let (f, g) = (f as u32, g as u32);
+    for (f, first) in (0..256u32).zip(&families) {
+        for (g, second) in (0..256u32).zip(&families) {
             if let Some(found) = results(&mut ops, *first, *second, g % 3) {
                 let more = agreeing(&families, &found, &masks(f, g, g % 3));
                 agreed = agreed.wrapping_add(more);

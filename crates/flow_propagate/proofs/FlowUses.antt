@@ -6,12 +6,15 @@ use Rattle.ar_base.proofs.Standing.{stands_within, stands_one, stands_none, stan
 use Rattle.typed_expr.specs.Mentions.{Mentions}
 use Rattle.typed_expr.specs.declared.expr.Expr.{Expr, out-Expr}
 use Rattle.flow_blocks.specs.Blocks.{AreBelow}
-use Rattle.gts_core.specs.View.{VarId, assign_of}
+use Rattle.ar_base.specs.Numbers.{VarId}
+use Rattle.gts_core.specs.View.{assign_of}
 use Rattle.gts_core.specs.Sound.{IsSound, IsAssignTo}
 use Rattle.gts_core.specs.declared.system.Variable.{Variable}
 use Rattle.gts_core.specs.declared.system.Assign.{Assign}
 use Rattle.gts_core.specs.declared.system.GtsParts.{GtsParts}
-use Rattle.flow_propagate.specs.Plan.{Tests, in_this, in_later, Names, Reads, AreReaders, IsFlow, DependsOn, flow_count}
+use Rattle.ar_meaning.specs.Dependence.{Names}
+use Rattle.ar_meaning.proofs.Dependence.{tests_one}
+use Rattle.flow_propagate.specs.Plan.{Reads, AreReaders, IsFlow, DependsOn, flow_count}
 use Rattle.flow_propagate.specs.Dependence.{ArePlaces, AreUses, AddsUse, AreUsesSoFar}
 use Rattle.flow_propagate.proofs.NamedVariables.{one_left, one_last, one_cases}
 use Rattle.flow_propagate.proofs.ReaderPairs.{cases_below, names_back}
@@ -79,11 +82,6 @@ flow_below (y ∷ xs) (suc n) x s e =
     omega (arith, r, whole, front)
 
 -- what an assignment names is a variable of the system
-tests_one : (v : VarId) (cs : List (Expr VarId × Bool)) → Tests v cs → (c : Expr VarId × Bool) × IsOneOf cs c × Mentions v (out-Expr VarId c.0)
-tests_one v [] d = elim d [ ]
-tests_one v (c ∷ cs) (in_this d) = (c, record { place = 0; stands = refl }, d)
-tests_one v (c ∷ cs) (in_later d) = let r = tests_one v cs d in (r.0, record { place = suc r.1.place; stands = r.1.stands }, r.2)
-
 pub reads_below : (p : GtsParts) (x n : ℕ) → IsSound p → Reads p x n → x < length p.variables.items
 reads_below p x n s r =
     let t = names_back r.assign x r.names in

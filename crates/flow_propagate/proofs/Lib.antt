@@ -1,5 +1,4 @@
 mod NamedVariables
-mod Opened
 mod ReaderPairs
 mod FlowUses
 mod Reaching
@@ -13,4 +12,3 @@ mod Missing
 mod Applying
 mod Looking
 mod Worklists
-mod SoundTests

@@ -13,16 +13,13 @@ use Rattle.ar_meaning.proofs.Least.{least}
 use Rattle.gts_core.specs.View.{assign_of, net_of}
 use Rattle.gts_core.specs.declared.system.Assign.{Assign}
 use Rattle.gts_core.specs.declared.system.GtsParts.{GtsParts}
-use Rattle.flow_propagate.specs.Plan.{Tests, in_this, in_later, Names, AreReaders}
+use Rattle.ar_meaning.specs.Dependence.{Names}
+use Rattle.ar_meaning.proofs.Dependence.{passes_named}
+use Rattle.flow_propagate.specs.Plan.{AreReaders}
 use Rattle.flow_propagate.specs.Table.{Rows, Holds, IsClosed, IsSoundTable, AreFacts}
 use Rattle.flow_propagate.specs.Closing.{Applies, Waits, IsWorklist, Takes, AddsWork, IsSettled, LooksAt, work_left, missing}
 use Rattle.flow_propagate.specs.declared.worklist.Worklist.{Worklist}
 use Rattle.flow_propagate.proofs.ReaderPairs.{pair_eq, pair_same, pair_equiv}
-
--- facts of the variables that the conditions name suffice
-passes_named : {V : Type 0} {P Q : V → Value → Type 0} {cs : List (Expr V × Bool)} → ((x : V) (w : Value) → Tests x cs → P x w → Q x w) → Passes P cs → Passes Q cs
-passes_named k none = none
-passes_named k (one_and y p) = one_and (yields_named (λ x w n h. k x w (in_this n) h) y) (passes_named (λ x w n h. k x w (in_later n) h) p)
 
 -- an assignment that does not name the target keeps what it has
 stays : (p : GtsParts) (a b : Assign) (old new : Rows) (changed : Bool) → Applies p a old new changed → (Names (assign_of b) a.target.n → ⊥)

@@ -9,6 +9,7 @@ use Rattle.std.specs.List.Retain.{IsFiltered, DiffersFromLast}
 use Rattle.std.proofs.lemmas.List.Sorted.{Contains-permutation, IsPermutation-sym}
 use Rattle.std.proofs.lemmas.List.Filters.{dedup_is}
 use Rattle.std.proofs.lemmas.List.Kept.{Contains-dedup, Contains-from_dedup, IsStrictlySortedBy-dedup}
+use Rattle.std.proofs.lemmas.Bool.{and_parts}
 use Rattle.std.proofs.lemmas.Option.{slice_get-get_or, get_or_from_slice_get}
 use Rattle.ar_base.specs.Lists.{Stands, IsOneOf}
 use Rattle.ar_base.proofs.Standing.{stands_within, stands_one, stands_none}
@@ -16,11 +17,13 @@ use Rattle.typed_expr.specs.Pairs.{turned}
 use Rattle.typed_expr.specs.Mentions.{Mentions}
 use Rattle.typed_expr.proofs.Renaming.{mentions_carry, renames_turned}
 use Rattle.typed_expr.specs.declared.expr.Expr.{Expr, out-Expr}
-use Rattle.gts_core.specs.View.{VarId, numbered, condition_of, assign_of}
+use Rattle.ar_base.specs.Numbers.{VarId}
+use Rattle.gts_core.specs.View.{numbered, condition_of, assign_of}
 use Rattle.gts_core.proofs.Numbering.{IsNumber, renames_numbered}
 use Rattle.gts_core.specs.declared.system.Assign.{Assign}
 use Rattle.gts_core.specs.declared.system.GtsParts.{GtsParts}
-use Rattle.flow_propagate.specs.Plan.{Tests, in_this, in_later, Names, Reads, ComesBefore, AreReaders}
+use Rattle.ar_meaning.specs.Dependence.{Tests, in_this, in_later, Names}
+use Rattle.flow_propagate.specs.Plan.{Reads, ComesBefore, AreReaders}
 use Rattle.flow_propagate.specs.Named.{IsPairFor, AddsNamed, NamesVariable, AreNamed}
 use Rattle.flow_propagate.proofs.Searching.{stands_read}
 
@@ -111,13 +114,9 @@ pair_equiv = and_equiv (on_equiv (λ (t : ℕ × ℕ). t.0) nat_eq_equiv) (on_eq
 pair_ties : (x y : ℕ × ℕ) → pair_eq x y ≡ eq_by_cmp pair_cmp x y
 pair_ties x y = both_tied _ _ (nat_cmp x.0 y.0) (nat_cmp x.1 y.1) (unsigned_ties x.0 y.0) (unsigned_ties x.1 y.1)
 
-both_true : (a b : Bool) → (a && b) ≡ true → (a ≡ true) × (b ≡ true)
-both_true true b e = (refl, e)
-both_true false b e = absurd (cc e)
-
 pub pair_same : (x y : ℕ × ℕ) → pair_eq x y ≡ true → x ≡ y
 pair_same x y e =
-    let r = both_true (nat_eq x.0 y.0) (nat_eq x.1 y.1) e in
+    let r = and_parts (nat_eq x.0 y.0) (nat_eq x.1 y.1) e in
     let a : x.0 ≡ y.0 = (unsigned_Decides x.0 y.0).0 r.0 in
     let b : x.1 ≡ y.1 = (unsigned_Decides x.1 y.1).0 r.1 in
     ap (λ (z : ℕ). let q : ℕ × ℕ = (z, x.1) in q) a ∙ ap (λ (z : ℕ). let q : ℕ × ℕ = (y.0, z) in q) b

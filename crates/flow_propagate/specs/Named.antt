@@ -3,10 +3,11 @@ use Rattle.std.specs.Prelude.{◌≡◌, ◌<◌, ℕ, ◌⊎◌, List}
 use Rattle.ar_base.specs.Lists.{IsOneOf}
 use Rattle.typed_expr.specs.Mentions.{Mentions}
 use Rattle.typed_expr.specs.declared.expr.Expr.{out-Expr}
-use Rattle.gts_core.specs.View.{VarId}
+use Rattle.ar_base.specs.Numbers.{VarId}
 use Rattle.gts_core.specs.declared.system.Assign.{Assign}
 use Rattle.gts_core.specs.declared.system.GtsParts.{GtsParts}
-use Rattle.flow_propagate.specs.Plan.{Tests, Reads}
+use Rattle.ar_meaning.specs.Dependence.{Tests}
+use Rattle.flow_propagate.specs.Plan.{Reads}
 
 -- a variable that has P, by its number, with the assignment's
 pub record IsPairFor (n : ℕ) (P : VarId → Type 0) (q : ℕ × ℕ) : Type 0 where

@@ -4,9 +4,7 @@ use Rattle.ar_base.specs.Lists.{Stands, IsOneOf}
 use Rattle.ar_base.specs.declared.numbers.Id.{Id}
 use Rattle.ar_base.specs.declared.numbers.VarKind.{VarKind}
 use Rattle.ar_base.specs.declared.numbers.AssignKind.{AssignKind}
-use Rattle.typed_expr.specs.Mentions.{Mentions}
-use Rattle.typed_expr.specs.declared.expr.Expr.{Expr, out-Expr}
-use Rattle.ar_meaning.specs.Systems as s
+use Rattle.ar_meaning.specs.Dependence.{Names}
 use Rattle.flow_blocks.specs.Blocks.{Follow}
 use Rattle.flow_blocks.specs.declared.graph.Block.{Block}
 use Rattle.gts_core.specs.View.{assign_of}
@@ -14,15 +12,6 @@ use Rattle.gts_core.specs.declared.system.Variable.{Variable}
 use Rattle.gts_core.specs.declared.system.Assign.{Assign}
 use Rattle.gts_core.specs.declared.system.GtsParts.{GtsParts}
 use Rattle.flow_propagate.specs.declared.plan.Plan.{Plan}
-
--- a condition names the variable
-pub data Tests {V : Type 0} (x : V) : List (Expr V × Bool) → Type 0 where
-  in_this : {e : Expr V} {b : Bool} {cs : List (Expr V × Bool)} → Mentions x (out-Expr V e) → Tests x ((e, b) ∷ cs)
-  in_later : {e : Expr V} {b : Bool} {cs : List (Expr V × Bool)} → Tests x cs → Tests x ((e, b) ∷ cs)
-
--- the assignment names the variable in its value or in a condition
-abbrev pub Names : {V : Type 0} → s.Assign V → V → Type 0
-Names {V} a x = Mentions x (out-Expr V a.value) ⊎ Tests x a.conditions
 
 -- how many of the variables are flows
 abbrev pub flow_count : List Variable → ℕ

@@ -1,9 +1,8 @@
 -- What the texts of expressions are, part by part, and what is made of the parts.
-use Rattle.std.proofs.Common.{◌≡◌, ◌≢◌, ℕ, zero, suc, ◌-◌, ◌≤◌, inl, inr, Bool, true, false, not, ◌&&◌, List, [], ◌∷◌, ◌++◌, length, Vec, Box, refl, sym, ap, ◌∙◌, subst, arith}
+use Rattle.std.proofs.Common.{◌≡◌, ◌≢◌, ℕ, zero, suc, ◌-◌, ◌≤◌, Bool, true, false, not, ◌&&◌, List, [], ◌∷◌, ◌++◌, length, Vec, Box, refl, sym, ap, ◌∙◌, subst, arith}
 use Rattle.std.specs.Prelude.{if◌then◌else◌, Some}
 use Rattle.std.specs.declared.alloc.Global.{Global}
 use Rattle.std.proofs.Math.Numerals.{sub-one}
-use Rattle.std.proofs.lemmas.List.{append-nil}
 use Rattle.ar_lexer.specs.declared.token.TokenKind.{TokenKind}
 use Rattle.ar_lexer.specs.declared.token.TokenKind.TheVariants.{Sign, Reserved}
 use Rattle.ar_lexer.specs.declared.signs.TheConstants.{PLUS, MINUS}
@@ -15,34 +14,14 @@ use Rattle.ar_syntax.specs.declared.expressions.RawRelation.{RawRelation}
 use Rattle.ar_syntax.specs.declared.expressions.RawRelation.TheVariants as relation
 use Rattle.ar_parser.specs.declared.terms.Chain.{Chain}
 use Rattle.ar_parser.specs.declared.terms.Chain.TheVariants.{Any, All, Product}
-use Rattle.ar_parser.specs.Words.{Form, Tokens, kind_or, token, ◌▸◌, ◌∣◌, nothing, between, each, many, separated, Has}
+use Rattle.ar_parser.specs.Words.{Tokens, token, ◌▸◌, between, each, separated}
 use Rattle.ar_parser.specs.Expressions.{Node, one, more, IsProduct, IsTerm, AreTerms, IsSum, IsCompare, two, sign_of, negated, plain, IsIf, choice, IsPrimary, IsExpr, IsNot, IsMinus}
-use Rattle.ar_parser.specs.Chains.{separator_of, chain_of, operand_form, chain_form, ends_operand, ends_chain, term_text, IsComparison, IsOneCase}
-use Rattle.ar_parser.specs.Results.{kind_at, Spans, Eats, is_sign, begins_term, is_relation, ends_path, ends_product, ends_sum, ends_not, ends_and, begins_primary, begins_minus, begins_not, begins_expr}
-use Rattle.ar_parser.proofs.Finding.{Follows, kind_join, inside, apart, fails, follows_many, token_kind, then_kind, each_maps, spans_then}
-use Rattle.ar_parser.proofs.ExpressionForms.{then_map, then_some, token_some, node_some, node_has, Places, node_made, and_left, primary_first, minus_first, not_first, or_first, compare_first, expr_first}
+use Rattle.ar_parser.specs.Chains.{separator_of, chain_of, operand_form, chain_form, ends_operand, ends_chain, IsComparison, IsOneCase}
+use Rattle.ar_parser.specs.Results.{kind_at, Spans, Eats, begins_term, is_relation, ends_path, ends_product, ends_sum, ends_not, ends_and}
+use Rattle.ar_parser.proofs.Finding.{spans_then}
+use Rattle.ar_parser.proofs.ExpressionForms.{then_some, token_some, node_some, Places, node_made, and_left}
 
 -- Expr
-
-pub expr_some : (n : ℕ) (next : TokenKind) (ts : Tokens) → Has (IsExpr n) next ts → n ≢ 0
-expr_some zero next ts h = elim h.1 [ ]
-expr_some (suc n) next ts h = λ e. absurd (cc)
-
-pub expr_begins : (n : ℕ) (next : TokenKind) (ts : Tokens) → Has (IsExpr n) next ts → begins_expr (kind_or next ts) ≡ true
-expr_begins n next ts h = expr_first n h.0 next ts h.1
-
-pub expr_if : (n : ℕ) (next : TokenKind) (ts : Tokens) → Has (IsExpr n) next ts → kind_or next ts ≡ Reserved IF → inside (λ m. Has (IsIf (IsExpr m))) n next ts
-expr_if zero next ts h k = elim h.1 [ ]
-expr_if (suc n) next ts (f, choice h) k = (n, refl, (f, h))
-expr_if (suc n) next ts (f, plain h) k = fails begins_not (or_first n f next ts h) k refl
-
-pub expr_plain : (n : ℕ) (next : TokenKind) (ts : Tokens) → Has (IsExpr n) next ts → kind_or next ts ≢ Reserved IF → inside (λ m. Has (chain_form Any m)) n next ts
-expr_plain zero next ts h k = elim h.1 [ ]
-expr_plain (suc n) next ts (f, choice h) k = absurd (k (if_kind next ts h.reads))
-  where
-    if_kind : {A B : Form} (next : TokenKind) (ts : Tokens) → (between (Reserved IF) (Reserved THEN) A ▸ B) next ts → kind_or next ts ≡ Reserved IF
-    if_kind next ts g = ap (kind_or next) g.split ∙ kind_join g.front g.back next ∙ then_kind g.first
-expr_plain (suc n) next ts (f, plain h) k = (n, refl, (f, h))
 
 pub expr_choice_in : (n : ℕ) (e : RawExpr) (next : TokenKind) (ts : Tokens) → n ≢ 0 → Node (IsIf (IsExpr (n - 1))) e next ts → Node (IsExpr n) e next ts
 expr_choice_in zero e next ts some h = absurd (some refl)
@@ -53,14 +32,6 @@ expr_plain_in zero e next ts some h = absurd (some refl)
 expr_plain_in (suc n) e next ts some h = record { there = h.there; span_is = h.span_is; form = plain (subst (λ (m : ℕ). chain_form Any m e.form next ts) (sub-one (suc n)) h.form) }
 
 -- "if" Expr "then" Expr "else" Expr
-
-pub if_parts : (n : ℕ) (next : TokenKind) (ts : Tokens) → Has (IsIf (IsExpr n)) next ts → (between (Reserved IF) (Reserved THEN) (Has (IsExpr n)) ▸ Has (IsExpr n) ▸ token (Reserved ELSE) ▸ Has (IsExpr n)) next ts
-if_parts n next ts (f, h) =
-    then_map h.reads (λ next ts g. between_node (Reserved IF) (Reserved THEN) (IsExpr n) h.test next ts g)
-    (λ next ts g. then_map g (node_has (IsExpr n) h.value) (λ next ts k. then_map k (λ next ts j. j) (node_has (IsExpr n) h.other.value)))
-  where
-    between_node : (opens closes : TokenKind) (Is : RawForm → Form) (e : RawExpr) (next : TokenKind) (ts : Tokens) → between opens closes (Node Is e) next ts → between opens closes (Has Is) next ts
-    between_node opens closes Is e next ts g = then_map g (λ next ts j. j) (λ next ts k. then_map k (node_has Is e) (λ next ts j. j))
 
 pub if_made : (n : ℕ) (test value other : RawExpr) (f : RawForm) (e : RawExpr) {old mid rest last new : Tokens} → IsOneCase test value other f → Places e f old new →
     Spans (between (Reserved IF) (Reserved THEN) (Node (IsExpr n) test)) old mid → Spans (Node (IsExpr n) value) mid rest → Spans (token (Reserved ELSE)) rest last → Spans (Node (IsExpr n) other) last new → Spans (Node (IsIf (IsExpr n)) e) old new
@@ -95,19 +66,6 @@ chain_ends Any k h = and_left (ends_and k) _ h
 chain_ends All k h = and_left (ends_not k) _ h
 chain_ends Product k h = and_left (ends_path k) _ h
 
-pub chain_parts : (c : Chain) (n : ℕ) (next : TokenKind) (ts : Tokens) → Has (chain_form c n) next ts → (Has (operand_form c n) ▸ many (token (separator_of c) ▸ Has (operand_form c n))) next ts
-chain_parts c n next ts (f, one h) = record { front = ts; back = []; split = sym (append-nil ts); first = (f, h); second = ([], refl) }
-chain_parts c n next ts (f, more v e several h) = by_items v.items next ts h
-  where
-    by_items : (xs : List RawExpr) (next : TokenKind) (ts : Tokens) → separated (separator_of c) (Node (operand_form c n)) xs next ts → (Has (operand_form c n) ▸ many (token (separator_of c) ▸ Has (operand_form c n))) next ts
-    by_items [] next ts h = elim h [ ]
-    by_items (x ∷ xs) next ts h = then_map h (node_has (operand_form c n) x)
-        (λ next ts g. each_maps (λ y. token (separator_of c) ▸ Node (operand_form c n) y) (token (separator_of c) ▸ Has (operand_form c n)) xs next ts
-        (λ y next ts k. then_map k (λ next ts j. j) (node_has (operand_form c n) y)) g)
-
-pub chain_follows : (c : Chain) → Follows (λ n. many (token (separator_of c) ▸ Has (operand_form c n))) (ends_operand c) (ends_chain c)
-chain_follows c = follows_many (λ n next ts h. ap (ends_operand c) (then_kind h) ∙ sep_ends c) (chain_ends c)
-
 some_more : {X : Type 0} (xs : List X) → (xs ≡ [] → ⊥) → 2 ≤ suc (length xs)
 some_more [] h = absurd (h refl)
 some_more (x ∷ xs) h = omega arith
@@ -127,23 +85,6 @@ chain_made c n first rest v e {old} {mid} {new} items p a b at over =
 
 -- Not
 
-pub not_some : (n : ℕ) (next : TokenKind) (ts : Tokens) → Has (IsNot n) next ts → n ≢ 0
-not_some zero next ts h = elim h.1 [ ]
-not_some (suc n) next ts h = λ e. absurd (cc)
-
-pub not_begins : (n : ℕ) (next : TokenKind) (ts : Tokens) → Has (IsNot n) next ts → begins_not (kind_or next ts) ≡ true
-not_begins n next ts h = not_first n h.0 next ts h.1
-
-pub not_negated : (n : ℕ) (next : TokenKind) (ts : Tokens) → Has (IsNot n) next ts → kind_or next ts ≡ Reserved NOT → inside (λ m. token (Reserved NOT) ▸ Has (IsNot m)) n next ts
-not_negated zero next ts h k = elim h.1 [ ]
-not_negated (suc n) next ts (f, negated x e h) k = (n, refl, then_map h (λ next ts j. j) (node_has (IsNot n) x.value))
-not_negated (suc n) next ts (f, plain h) k = fails begins_minus (compare_first n f next ts h) k refl
-
-pub not_plain : (n : ℕ) (next : TokenKind) (ts : Tokens) → Has (IsNot n) next ts → kind_or next ts ≢ Reserved NOT → inside (λ m. Has (IsCompare (IsSum (IsProduct (IsMinus m))))) n next ts
-not_plain zero next ts h k = elim h.1 [ ]
-not_plain (suc n) next ts (f, negated x e h) k = absurd (k (then_kind h))
-not_plain (suc n) next ts (f, plain h) k = (n, refl, (f, h))
-
 pub not_plain_in : (n : ℕ) (e : RawExpr) (next : TokenKind) (ts : Tokens) → n ≢ 0 → Node (IsCompare (IsSum (IsProduct (IsMinus (n - 1))))) e next ts → Node (IsNot n) e next ts
 not_plain_in zero e next ts some h = absurd (some refl)
 not_plain_in (suc n) e next ts some h = record { there = h.there; span_is = h.span_is; form = plain (subst (λ (m : ℕ). IsCompare (IsSum (IsProduct (IsMinus m))) e.form next ts) (sub-one (suc n)) h.form) }
@@ -158,14 +99,6 @@ not_made (suc n) x operand e some same p a b =
 -- Compare
 
 -- [ relation Sum ]
-abbrev pub compare_rest : ℕ → Form
-compare_rest n = nothing ∣ (Has (λ (r : RawRelation). token (Sign (sign_of r))) ▸ Has (IsSum (IsProduct (IsMinus n))))
-
-pub compare_parts : (n : ℕ) (next : TokenKind) (ts : Tokens) → Has (IsCompare (IsSum (IsProduct (IsMinus n)))) next ts → (Has (IsSum (IsProduct (IsMinus n))) ▸ compare_rest n) next ts
-compare_parts n next ts (f, one h) = record { front = ts; back = []; split = sym (append-nil ts); first = (f, h); second = inl refl }
-compare_parts n next ts (f, two r x y e h) =
-    then_map h (node_has (IsSum (IsProduct (IsMinus n))) x.value) (λ next ts g. inr (then_map g (λ next ts j. (r, j)) (node_has (IsSum (IsProduct (IsMinus n))) y.value)))
-
 pub relation_ends : (r : RawRelation) → ends_sum (Sign (sign_of r)) ≡ true
 relation_ends relation.Equal = refl
 relation_ends relation.Differs = refl
@@ -182,33 +115,13 @@ relation_is relation.AtMost = refl
 relation_is relation.More = refl
 relation_is relation.AtLeast = refl
 
-relation_open : (r : RawRelation) → ends_not (Sign (sign_of r)) ≡ false
+pub relation_open : (r : RawRelation) → ends_not (Sign (sign_of r)) ≡ false
 relation_open relation.Equal = refl
 relation_open relation.Differs = refl
 relation_open relation.Less = refl
 relation_open relation.AtMost = refl
 relation_open relation.More = refl
 relation_open relation.AtLeast = refl
-
-relation_kind : {B : Form} (next : TokenKind) (ts : Tokens) → (h : (Has (λ (r : RawRelation). token (Sign (sign_of r))) ▸ B) next ts) → kind_or next ts ≡ Sign (sign_of h.first.0)
-relation_kind next ts h = ap (kind_or next) h.split ∙ kind_join h.front h.back next ∙ token_kind h.first.1
-
-pub compare_follows : Follows compare_rest ends_sum ends_not
-compare_follows = record { holds = λ n next ts h s. by_rest n next ts h s }
-  where
-    by_rest : (n : ℕ) (next : TokenKind) (ts : Tokens) → compare_rest n next ts → ends_not next ≡ true → ends_sum (kind_or next ts) ≡ true
-    by_rest n next ts (inl h) s = ap ends_sum (ap (kind_or next) h) ∙ and_left (ends_sum next) _ s
-    by_rest n next ts (inr h) s = ap ends_sum (relation_kind next ts h) ∙ relation_ends h.first.0
-
-pub compare_over : (n : ℕ) (next : TokenKind) (ts : Tokens) → compare_rest n next ts → is_relation (kind_or next ts) ≡ false → nothing next ts
-compare_over n next ts (inl h) k = h
-compare_over n next ts (inr h) k = let q : true ≡ false = sym (relation_is h.first.0) ∙ ap is_relation (sym (relation_kind next ts h)) ∙ k in absurd (cc)
-
-pub compare_more : (n : ℕ) (r : RawRelation) (next : TokenKind) (ts : Tokens) → compare_rest n next ts → ends_not next ≡ true → kind_or next ts ≡ Sign (sign_of r) → (token (Sign (sign_of r)) ▸ Has (IsSum (IsProduct (IsMinus n)))) next ts
-compare_more n r next ts (inl h) s k = let q : true ≡ false = sym s ∙ ap ends_not (sym (ap (kind_or next) h) ∙ k) ∙ relation_open r in absurd (cc)
-compare_more n r next ts (inr h) s k =
-    let same : Sign (sign_of h.first.0) ≡ Sign (sign_of r) = sym (relation_kind next ts h) ∙ k in
-    record { front = h.front; back = h.back; split = h.split; first = record { one = h.first.1.one; alone = h.first.1.alone; of_kind = h.first.1.of_kind ∙ same }; second = h.second }
 
 pub compare_made : (n : ℕ) (r : RawRelation) (first second : RawExpr) (f : RawForm) (e : RawExpr) {old mid rest new : Tokens} → IsComparison r first second f → Places e f old new →
     Spans (Node (IsSum (IsProduct (IsMinus n))) first) old mid → Spans (token (Sign (sign_of r))) mid rest → Spans (Node (IsSum (IsProduct (IsMinus n))) second) rest new → Spans (Node (IsCompare (IsSum (IsProduct (IsMinus n)))) e) old new
@@ -221,22 +134,8 @@ compare_made n r first second f e c p a t b =
 
 -- Sum
 
-term_kind : (n : ℕ) (next : TokenKind) (ts : Tokens) → term_text n next ts → begins_term (kind_or next ts) ≡ true
-term_kind n next ts ((true, e), h) = ap begins_term (then_kind h)
-term_kind n next ts ((false, e), h) = ap begins_term (then_kind h)
-
-pub term_begins : (n : ℕ) (next : TokenKind) (ts : Tokens) (k : TokenKind) → term_text n next ts → kind_or next ts ≡ k → begins_term k ≡ false → ⊥
-term_begins n next ts k h e f = let q : true ≡ false = sym (term_kind n next ts h) ∙ ap begins_term e ∙ f in absurd (cc)
-
-term_ends : (n : ℕ) (next : TokenKind) (ts : Tokens) → term_text n next ts → ends_product (kind_or next ts) ≡ true
-term_ends n next ts ((true, e), h) = ap ends_product (then_kind h)
-term_ends n next ts ((false, e), h) = ap ends_product (then_kind h)
-
 pub sum_ends : (k : TokenKind) → ends_sum k ≡ true → ends_product k ≡ true
 sum_ends k h = and_left (ends_product k) _ h
-
-pub sum_follows : Follows (λ n. many (term_text n)) ends_product ends_sum
-sum_follows = follows_many term_ends sum_ends
 
 -- a token that begins a term does not end a sum
 pub term_open : (k : TokenKind) → begins_term k ≡ true → ends_sum k ≡ false
@@ -246,15 +145,6 @@ term_open k h = by_tests (ends_product k) (begins_term k) h
     by_tests true true h = refl
     by_tests true false h = absurd (cc)
     by_tests false q h = refl
-
-pub sum_parts : (n : ℕ) (next : TokenKind) (ts : Tokens) → Has (IsSum (IsProduct (IsMinus n))) next ts → (Has (IsProduct (IsMinus n)) ▸ many (term_text n)) next ts
-sum_parts n next ts (f, one h) = record { front = ts; back = []; split = sym (append-nil ts); first = (f, h); second = ([], refl) }
-sum_parts n next ts (f, more v e several h) = by_items v.items next ts h
-  where
-    by_items : (xs : List (Bool × RawExpr)) (next : TokenKind) (ts : Tokens) → AreTerms (IsProduct (IsMinus n)) xs next ts → (Has (IsProduct (IsMinus n)) ▸ many (term_text n)) next ts
-    by_items [] next ts h = elim h [ ]
-    by_items ((plus, x) ∷ xs) next ts h = then_map h.1 (node_has (IsProduct (IsMinus n)) x)
-        (λ next ts g. each_maps (IsTerm (IsProduct (IsMinus n))) (term_text n) xs next ts (λ y next ts k. (y, k)) g)
 
 pub sum_one : (n : ℕ) (e : RawExpr) (next : TokenKind) (ts : Tokens) → Node (chain_form Product n) e next ts → Node (IsSum (IsProduct (IsMinus n))) e next ts
 sum_one n e next ts h = record { there = h.there; span_is = h.span_is; form = one h.form }
@@ -272,23 +162,6 @@ sum_made n first rest v e {old} {mid} {new} items p a b at over =
     none (x ∷ rest) s z = absurd (cc)
 
 -- Minus
-
-pub minus_some : (n : ℕ) (next : TokenKind) (ts : Tokens) → Has (IsMinus n) next ts → n ≢ 0
-minus_some zero next ts h = elim h.1 [ ]
-minus_some (suc n) next ts h = λ e. absurd (cc)
-
-pub minus_begins : (n : ℕ) (next : TokenKind) (ts : Tokens) → Has (IsMinus n) next ts → begins_minus (kind_or next ts) ≡ true
-minus_begins n next ts h = minus_first n h.0 next ts h.1
-
-pub minus_negated : (n : ℕ) (next : TokenKind) (ts : Tokens) → Has (IsMinus n) next ts → kind_or next ts ≡ Sign MINUS → inside (λ m. token (Sign MINUS) ▸ Has (IsMinus m)) n next ts
-minus_negated zero next ts h k = elim h.1 [ ]
-minus_negated (suc n) next ts (f, negated x e h) k = (n, refl, then_map h (λ next ts j. j) (node_has (IsMinus n) x.value))
-minus_negated (suc n) next ts (f, plain h) k = fails begins_primary (primary_first (IsExpr n) f next ts h) k refl
-
-pub minus_plain : (n : ℕ) (next : TokenKind) (ts : Tokens) → Has (IsMinus n) next ts → kind_or next ts ≢ Sign MINUS → inside (λ m. Has (IsPrimary (IsExpr m))) n next ts
-minus_plain zero next ts h k = elim h.1 [ ]
-minus_plain (suc n) next ts (f, negated x e h) k = absurd (k (then_kind h))
-minus_plain (suc n) next ts (f, plain h) k = (n, refl, (f, h))
 
 pub minus_plain_in : (n : ℕ) (e : RawExpr) (next : TokenKind) (ts : Tokens) → n ≢ 0 → Node (IsPrimary (IsExpr (n - 1))) e next ts → Node (IsMinus n) e next ts
 minus_plain_in zero e next ts some h = absurd (some refl)
@@ -310,12 +183,6 @@ term_sign false = refl
 pub term_eats : (plus : Bool) {old new : Tokens} → (Some plus ≡ Some true → Eats (Sign PLUS) old new) → (Some plus ≡ Some false → Eats (Sign MINUS) old new) → Eats (Sign (if plus then PLUS else MINUS)) old new
 term_eats true p m = p refl
 term_eats false p m = m refl
-
-pub term_given : (n : ℕ) (plus : Bool) (next : TokenKind) (ts : Tokens) → term_text n next ts → kind_or next ts ≡ Sign (if plus then PLUS else MINUS) → (token (Sign (if plus then PLUS else MINUS)) ▸ Has (IsProduct (IsMinus n))) next ts
-term_given n true next ts ((true, e), h) k = then_map h (λ next ts j. j) (node_has (IsProduct (IsMinus n)) e)
-term_given n true next ts ((false, e), h) k = apart (is_sign MINUS) (then_kind h) k refl refl
-term_given n false next ts ((true, e), h) k = apart (is_sign PLUS) (then_kind h) k refl refl
-term_given n false next ts ((false, e), h) k = then_map h (λ next ts j. j) (node_has (IsProduct (IsMinus n)) e)
 
 pub compare_one : (n : ℕ) (e : RawExpr) (next : TokenKind) (ts : Tokens) → Node (IsSum (IsProduct (IsMinus n))) e next ts → Node (IsCompare (IsSum (IsProduct (IsMinus n)))) e next ts
 compare_one n e next ts h = record { there = h.there; span_is = h.span_is; form = one h.form }

@@ -3,17 +3,30 @@ use Rattle.std.proofs.Common.{◌≡◌, ◌≢◌, ℕ, suc, ◌-◌, Bool, tru
 use Rattle.std.proofs.lemmas.List.{append-nil}
 use Rattle.ar_lexer.specs.declared.token.TokenKind.{TokenKind}
 use Rattle.ar_parser.specs.declared.lexeme.Lexeme.{Lexeme}
-use Rattle.ar_parser.specs.declared.lexeme.ParseFault.{ParseFault}
-use Rattle.ar_parser.specs.declared.lexeme.ParseFault.TheVariants.{Lex, Syntax, Depth, Memory}
-use Rattle.ar_parser.specs.Words.{Form, Tokens, kind_or, token, ◌▸◌, nothing, each, many, Has}
+use Rattle.ar_parser.specs.declared.lexeme.Refusal.{Refusal}
+use Rattle.ar_parser.specs.declared.lexeme.Refusal.TheVariants.{Syntax, Depth, Memory}
+use Rattle.ar_parser.specs.Words.{Form, Tokens, kind_or, no_kind, token, ◌▸◌, nothing, each, many, Has}
 use Rattle.std.specs.Bool.{OnTrue, OnFalse}
-use Rattle.ar_parser.specs.Results.{kind_at, Spans, Takes, Arrives, Finds, Eats, IsSyntax, IsDepth, anything}
+use Rattle.ar_parser.specs.Results.{kind_at, Spans, Takes, Arrives, Finds, Eats, Plain, anything}
 
 pub cons_head : {X : Type 0} {x y : X} {xs ys : List X} → x ∷ xs ≡ y ∷ ys → x ≡ y
 cons_head e = cc
 
 pub cons_tail : {X : Type 0} {x y : X} {xs ys : List X} → x ∷ xs ≡ y ∷ ys → xs ≡ ys
 cons_tail e = cc
+
+-- Tokens of texts
+
+pub plain_behind : (front rest : Tokens) → Plain (front ++ rest) → Plain rest
+plain_behind [] rest p = p
+plain_behind (t ∷ front) rest p = plain_behind front rest p.1
+
+pub plain_at : {old old' : Tokens} → old ≡ old' → Plain old → Plain old'
+plain_at e p = subst Plain e p
+
+pub plain_kind : (old : Tokens) → Plain old → kind_at old ≡ no_kind → ⊥
+plain_kind [] p e = absurd (cc)
+plain_kind (t ∷ old) p e = p.0 e
 
 -- The kind of the first token
 
@@ -63,26 +76,24 @@ spans_from {A} {old} {old'} {new} a e = record { front = a.front; split = e ∙ 
 
 -- Where a call arrives
 
-arrives_fault : (A B : Type 0) (left n : ℕ) (x e : ParseFault) (new after new' after' : Tokens) → x ≡ e → Arrives {A = B} left n (Err e) new' after' → Arrives {A = A} left n (Err x) new after
-arrives_fault A B left n x (Lex at) new after new' after' h a = elim a [ ]
-arrives_fault A B left n x (Syntax at) new after new' after' h a = elim a [ ]
-arrives_fault A B left n x (Depth at) new after new' after' h a = subst (λ (f : ParseFault). Arrives {A = A} left n (Err f) new after) (sym h) a
-arrives_fault A B left n x Memory new after new' after' h a = subst (λ (f : ParseFault). Arrives {A = A} left n (Err f) new after) (sym h) tt
+arrives_fault : (A B : Type 0) (left n : ℕ) (x e : Refusal) (new after new' after' : Tokens) → x ≡ e → Arrives {A = B} left n (Err e) new' after' → Arrives {A = A} left n (Err x) new after
+arrives_fault A B left n x Syntax new after new' after' h a = elim a [ ]
+arrives_fault A B left n x Depth new after new' after' h a = subst (λ (f : Refusal). Arrives {A = A} left n (Err f) new after) (sym h) a
+arrives_fault A B left n x Memory new after new' after' h a = subst (λ (f : Refusal). Arrives {A = A} left n (Err f) new after) (sym h) tt
 
 -- a fault is handed on
-pub arrives_err : (A B : Type 0) (left n : ℕ) (r : Result A ParseFault) (e : ParseFault) (new after new' after' : Tokens) → IsErrAnd r (λ x. x ≡ e) → Arrives {A = B} left n (Err e) new' after' → Arrives left n r new after
+pub arrives_err : (A B : Type 0) (left n : ℕ) (r : Result A Refusal) (e : Refusal) (new after new' after' : Tokens) → IsErrAnd r (λ x. x ≡ e) → Arrives {A = B} left n (Err e) new' after' → Arrives left n r new after
 arrives_err A B left n (Ok x) e new after new' after' h a = elim h [ ]
 arrives_err A B left n (Err x) e new after new' after' h a = arrives_fault A B left n x e new after new' after' h a
 
-arrives_memory : {A : Type 0} (left n : ℕ) (r : Result A ParseFault) (new after : Tokens) → IsErrAnd r (λ x. x ≡ Memory) → Arrives left n r new after
+arrives_memory : {A : Type 0} (left n : ℕ) (r : Result A Refusal) (new after : Tokens) → IsErrAnd r (λ x. x ≡ Memory) → Arrives left n r new after
 arrives_memory left n (Ok x) new after h = elim h [ ]
-arrives_memory {A} left n (Err x) new after h = subst (λ (f : ParseFault). Arrives {A = A} left n (Err f) new after) (sym h) tt
+arrives_memory {A} left n (Err x) new after h = subst (λ (f : Refusal). Arrives {A = A} left n (Err f) new after) (sym h) tt
 
-arrives_depth : {A : Type 0} (left m n : ℕ) (r : Result A ParseFault) (new after : Tokens) → left ≢ 0 → n ≡ suc m → Arrives (left - 1) m r new after → Arrives left n r new after
+arrives_depth : {A : Type 0} (left m n : ℕ) (r : Result A Refusal) (new after : Tokens) → left ≢ 0 → n ≡ suc m → Arrives (left - 1) m r new after → Arrives left n r new after
 arrives_depth left m n (Ok x) new after some e a = a
-arrives_depth left m n (Err (Lex at)) new after some e a = a
-arrives_depth left m n (Err (Syntax at)) new after some e a = a
-arrives_depth left m n (Err (Depth at)) new after some e a = omega (arith, some, e, a)
+arrives_depth left m n (Err Syntax) new after some e a = a
+arrives_depth left m n (Err Depth) new after some e a = omega (arith, some, e, a)
 arrives_depth left m n (Err Memory) new after some e a = a
 
 -- What a call finds
@@ -93,102 +104,115 @@ pub record Follows (Q : ℕ → Form) (ends ends' : TokenKind → Bool) : Type 0
 
 module _ {A B : Type 0} {P Q : ℕ → Form} {ends ends' : TokenKind → Bool} {left : ℕ} where
   -- one call that went well, and then another
-  pub finds_then : {y : A} {r : Result B ParseFault} {old mid new : Tokens} → Finds P ends left (Ok y) old mid → Finds Q ends' left r mid new → Follows Q ends ends' → Finds (λ n. P n ▸ Q n) ends' left r old new
+  pub finds_then : {y : A} {r : Result B Refusal} {old mid new : Tokens} → Finds P ends left (Ok y) old mid → Finds Q ends' left r mid new → Follows Q ends ends' → Finds (λ n. P n ▸ Q n) ends' left r old new
   finds_then {y} {r} {old} {mid} {new} f g follows = record {
     front = f.front ++ g.front;
     passed = f.passed ∙ ap (λ (s : Tokens). f.front ++ s) g.passed ∙ sym (append_assoc f.front g.front new);
-    only = λ n other ts after same h e s.
+    only = λ p n other ts after same h e s.
         let back : kind_at (h.back ++ after) ≡ kind_or (kind_at after) h.back = kind_before h.back after in
         let same' : kind_at (g.front ++ other) ≡ kind_at mid = kind_behind g.front other new same ∙ sym (ap kind_at g.passed) in
         let e' : f.front ++ (g.front ++ other) ≡ h.front ++ (h.back ++ after) =
         sym (append_assoc f.front g.front other) ∙ e ∙ ap (λ (x : Tokens). x ++ after) h.split ∙ append_assoc h.front h.back after in
         let there : g.front ++ other ≡ h.back ++ after =
-        f.only n (g.front ++ other) h.front (h.back ++ after) same' (subst (λ (k : TokenKind). P n k h.front) (sym back) h.first) e' (ap ends back ∙ follows.holds n (kind_at after) h.back h.second s) in
-        g.only n other h.back after same h.second there s;
+        f.only p n (g.front ++ other) h.front (h.back ++ after) same' (subst (λ (k : TokenKind). P n k h.front) (sym back) h.first) e' (ap ends back ∙ follows.holds n (kind_at after) h.back h.second s) in
+        g.only (plain_behind f.front mid (plain_at f.passed p)) n other h.back after same h.second there s;
   }
 
   -- a call that failed, whatever was to come
-  pub finds_fails : {r : Result B ParseFault} {e : ParseFault} {old mid : Tokens} → Finds {A = A} P ends left (Err e) old mid → IsErrAnd r (λ x. x ≡ e) → Follows Q ends ends' → Finds (λ n. P n ▸ Q n) ends' left r old mid
+  pub finds_fails : {r : Result B Refusal} {e : Refusal} {old mid : Tokens} → Finds {A = A} P ends left (Err e) old mid → IsErrAnd r (λ x. x ≡ e) → Follows Q ends ends' → Finds (λ n. P n ▸ Q n) ends' left r old mid
   finds_fails {r} {e} {old} {mid} f failed follows = record {
     front = f.front;
     passed = f.passed;
-    only = λ n other ts after same h w s.
+    only = λ p n other ts after same h w s.
         let back : kind_at (h.back ++ after) ≡ kind_or (kind_at after) h.back = kind_before h.back after in
         let e' : f.front ++ other ≡ h.front ++ (h.back ++ after) = w ∙ ap (λ (x : Tokens). x ++ after) h.split ∙ append_assoc h.front h.back after in
         arrives_err B A left n r e other after other (h.back ++ after) failed
-        (f.only n other h.front (h.back ++ after) same (subst (λ (k : TokenKind). P n k h.front) (sym back) h.first) e' (ap ends back ∙ follows.holds n (kind_at after) h.back h.second s));
+        (f.only p n other h.front (h.back ++ after) same (subst (λ (k : TokenKind). P n k h.front) (sym back) h.first) e' (ap ends back ∙ follows.holds n (kind_at after) h.back h.second s));
   }
 
 -- the first token decides which form it can be
-pub finds_given : {B : Type 0} {P Q : ℕ → Form} {ends ends' : TokenKind → Bool} {left : ℕ} {r : Result B ParseFault} {old new : Tokens} → Finds Q ends' left r old new → ((n : ℕ) (next : TokenKind) (ts : Tokens) → P n next ts → ends next ≡ true → kind_or next ts ≡ kind_at old → Q n next ts × (ends' next ≡ true)) → Finds P ends left r old new
+pub finds_given : {B : Type 0} {P Q : ℕ → Form} {ends ends' : TokenKind → Bool} {left : ℕ} {r : Result B Refusal} {old new : Tokens} → Finds Q ends' left r old new → ((n : ℕ) (next : TokenKind) (ts : Tokens) → P n next ts → ends next ≡ true → kind_or next ts ≡ kind_at old → Q n next ts × (ends' next ≡ true)) → Finds P ends left r old new
 finds_given {B} {P} {Q} {ends} {ends'} {left} {r} {old} {new} f given = record {
   front = f.front;
   passed = f.passed;
-  only = λ n other ts after same h e s.
+  only = λ p n other ts after same h e s.
       let first : kind_or (kind_at after) ts ≡ kind_at old = sym (kind_before ts after) ∙ sym (ap kind_at e) ∙ kind_behind f.front other new same ∙ sym (ap kind_at f.passed) in
       let q = given n (kind_at after) ts h s first in
-      f.only n other ts after same q.0 e q.1;
+      f.only p n other ts after same q.0 e q.1;
+}
+
+-- so it does where the first token is one of a text
+pub finds_plain : {B : Type 0} {P Q : ℕ → Form} {ends ends' : TokenKind → Bool} {left : ℕ} {r : Result B Refusal} {old new : Tokens} → Finds Q ends' left r old new → ((n : ℕ) (next : TokenKind) (ts : Tokens) → P n next ts → ends next ≡ true → kind_or next ts ≡ kind_at old → (kind_or next ts ≡ no_kind → ⊥) → Q n next ts × (ends' next ≡ true)) → Finds P ends left r old new
+finds_plain {B} {P} {Q} {ends} {ends'} {left} {r} {old} {new} f given = record {
+  front = f.front;
+  passed = f.passed;
+  only = λ p n other ts after same h e s.
+      let first : kind_or (kind_at after) ts ≡ kind_at old = sym (kind_before ts after) ∙ sym (ap kind_at e) ∙ kind_behind f.front other new same ∙ sym (ap kind_at f.passed) in
+      let q = given n (kind_at after) ts h s first (λ z. plain_kind old p (sym first ∙ z)) in
+      f.only p n other ts after same q.0 e q.1;
 }
 
 -- the call is the last: its result is handed on
-pub finds_err : {A B : Type 0} {P : ℕ → Form} {ends : TokenKind → Bool} {left : ℕ} {r : Result B ParseFault} {e : ParseFault} {old new : Tokens} → Finds {A = A} P ends left (Err e) old new → IsErrAnd r (λ x. x ≡ e) → Finds P ends left r old new
+pub finds_err : {A B : Type 0} {P : ℕ → Form} {ends : TokenKind → Bool} {left : ℕ} {r : Result B Refusal} {e : Refusal} {old new : Tokens} → Finds {A = A} P ends left (Err e) old new → IsErrAnd r (λ x. x ≡ e) → Finds P ends left r old new
 finds_err {A} {B} {P} {ends} {left} {r} {e} {old} {new} f failed = record {
   front = f.front;
   passed = f.passed;
-  only = λ n other ts after same h w s. arrives_err B A left n r e other after other after failed (f.only n other ts after same h w s);
+  only = λ p n other ts after same h w s. arrives_err B A left n r e other after other after failed (f.only p n other ts after same h w s);
 }
 
 pub finds_ok : {A B : Type 0} {P : ℕ → Form} {ends : TokenKind → Bool} {left : ℕ} {x : A} (y : B) {old new : Tokens} → Finds P ends left (Ok x) old new → Finds P ends left (Ok y) old new
 finds_ok y f = record { front = f.front; passed = f.passed; only = f.only }
 
 -- memory ran out
-pub finds_memory : {A : Type 0} {P : ℕ → Form} {ends : TokenKind → Bool} {left : ℕ} {r : Result A ParseFault} {old new : Tokens} (front : Tokens) → old ≡ front ++ new → IsErrAnd r (λ x. x ≡ Memory) → Finds P ends left r old new
-finds_memory {left = left} {r = r} front e failed = record { front = front; passed = e; only = λ n other ts after same h w s. arrives_memory left n r other after failed }
+pub finds_memory : {A : Type 0} {P : ℕ → Form} {ends : TokenKind → Bool} {left : ℕ} {r : Result A Refusal} {old new : Tokens} (front : Tokens) → old ≡ front ++ new → IsErrAnd r (λ x. x ≡ Memory) → Finds P ends left r old new
+finds_memory {left = left} {r = r} front e failed = record { front = front; passed = e; only = λ p n other ts after same h w s. arrives_memory left n r other after failed }
 
 -- one more production is open
 abbrev pub inside : (ℕ → Form) → ℕ → Form
 inside P n next ts = (m : ℕ) × (n ≡ suc m) × P m next ts
 
-pub finds_inside : {A : Type 0} {P : ℕ → Form} {ends : TokenKind → Bool} {left : ℕ} {r : Result A ParseFault} {old new : Tokens} → left ≢ 0 → Finds P ends (left - 1) r old new → Finds (inside P) ends left r old new
+pub finds_inside : {A : Type 0} {P : ℕ → Form} {ends : TokenKind → Bool} {left : ℕ} {r : Result A Refusal} {old new : Tokens} → left ≢ 0 → Finds P ends (left - 1) r old new → Finds (inside P) ends left r old new
 finds_inside {left = left} {r = r} some f = record {
   front = f.front;
   passed = f.passed;
-  only = λ n other ts after same h w s. arrives_depth left h.0 n r other after some h.1 (f.only h.0 other ts after same h.2 w s);
+  only = λ p n other ts after same h w s. arrives_depth left h.0 n r other after some h.1 (f.only p h.0 other ts after same h.2 w s);
 }
 
 -- no text of this form begins here
-pub finds_none : {A : Type 0} {P : ℕ → Form} {ends : TokenKind → Bool} {left : ℕ} {e : ParseFault} {old : Tokens} → ((n : ℕ) (next : TokenKind) (ts : Tokens) → P n next ts → ends next ≡ true → kind_or next ts ≡ kind_at old → ⊥) → Finds {A = A} P ends left (Err e) old old
+pub finds_none : {A : Type 0} {P : ℕ → Form} {ends : TokenKind → Bool} {left : ℕ} {e : Refusal} {old : Tokens} → ((n : ℕ) (next : TokenKind) (ts : Tokens) → P n next ts → ends next ≡ true → kind_or next ts ≡ kind_at old → ⊥) → Finds {A = A} P ends left (Err e) old old
 finds_none none = record {
   front = [];
   passed = refl;
-  only = λ n other ts after same h w s. absurd (none n (kind_at after) ts h s (sym (kind_before ts after) ∙ sym (ap kind_at w) ∙ same));
+  only = λ p n other ts after same h w s. absurd (none n (kind_at after) ts h s (sym (kind_before ts after) ∙ sym (ap kind_at w) ∙ same));
 }
 
--- no room is left
-pub finds_too_deep : {A : Type 0} {P : ℕ → Form} {ends : TokenKind → Bool} {left : ℕ} {at : _} {old : Tokens} → left ≡ 0 → ((n : ℕ) (next : TokenKind) (ts : Tokens) → P n next ts → n ≢ 0) → Finds {A = A} P ends left (Err (Depth at)) old old
-finds_too_deep none some = record {
+-- no room is left: what begins here would open a production too deep
+pub finds_too_deep : {A : Type 0} {P : ℕ → Form} {ends : TokenKind → Bool} {left : ℕ} {old : Tokens} → left ≡ 0 → ((n : ℕ) (next : TokenKind) (ts : Tokens) → P n next ts → (kind_or next ts ≡ no_kind → ⊥) → n ≢ 0) → Finds {A = A} P ends left (Err Depth) old old
+finds_too_deep {old = old} none some = record {
   front = [];
   passed = refl;
-  only = λ n other ts after same h w s. let k = some n (kind_at after) ts h in omega (arith, none, k);
+  only = λ p n other ts after same h w s.
+      let first : kind_or (kind_at after) ts ≡ kind_at old = sym (kind_before ts after) ∙ sym (ap kind_at w) ∙ same in
+      let k = some n (kind_at after) ts h (λ z. plain_kind old p (sym first ∙ z)) in omega (arith, none, k);
 }
 
 -- no token
 pub finds_nothing : {A : Type 0} (x : A) {ends : TokenKind → Bool} {left : ℕ} {old : Tokens} → Finds (λ n. nothing) ends left (Ok x) old old
-finds_nothing x = record { front = []; passed = refl; only = λ n other ts after same h w s. w ∙ ap (λ (t : Tokens). t ++ after) h }
+finds_nothing x = record { front = []; passed = refl; only = λ p n other ts after same h w s. w ∙ ap (λ (t : Tokens). t ++ after) h }
 
 -- a token that stands there
 pub finds_token : {kind : TokenKind} {left : ℕ} {old new : Tokens} → Eats kind old new → Finds {A = Unit {0}} (λ n. token kind) anything left (Ok tt) old new
 finds_token e = record {
   front = e.one ∷ [];
   passed = e.split;
-  only = λ n other ts after same h w s. cons_tail (w ∙ ap (λ (t : Tokens). t ++ after) h.alone);
+  only = λ p n other ts after same h w s. cons_tail (w ∙ ap (λ (t : Tokens). t ++ after) h.alone);
 }
 
 pub finds_expected : {A : Type 0} {kind : TokenKind} {left : ℕ} {x : A} {old new : Tokens} {t : Lexeme} → old ≡ t ∷ new → Finds (λ n. token kind) anything left (Ok x) old new
 finds_expected {t = t} e = record {
   front = t ∷ [];
   passed = e;
-  only = λ n other ts after same h w s. cons_tail (w ∙ ap (λ (t : Tokens). t ++ after) h.alone);
+  only = λ p n other ts after same h w s. cons_tail (w ∙ ap (λ (t : Tokens). t ++ after) h.alone);
 }
 
 -- Loops
@@ -197,10 +221,10 @@ finds_expected {t = t} e = record {
 pub record Loops (A : ℕ → Form) (ends : TokenKind → Bool) (start rest : Tokens) : Type 0 where
   pub front : Tokens
   pub passed : start ≡ front ++ rest
-  pub goes : (n : ℕ) (other ts after : Tokens) → kind_at other ≡ kind_at rest → many (A n) (kind_at after) ts → front ++ other ≡ ts ++ after → ends (kind_at after) ≡ true → (back : Tokens) × (other ≡ back ++ after) × many (A n) (kind_at after) back
+  pub goes : Plain start → (n : ℕ) (other ts after : Tokens) → kind_at other ≡ kind_at rest → many (A n) (kind_at after) ts → front ++ other ≡ ts ++ after → ends (kind_at after) ≡ true → (back : Tokens) × (other ≡ back ++ after) × many (A n) (kind_at after) back
 
 pub loops_start : {A : ℕ → Form} {ends : TokenKind → Bool} {start : Tokens} → Loops A ends start start
-loops_start = record { front = []; passed = refl; goes = λ n other ts after same h w s. (ts, w, h) }
+loops_start = record { front = []; passed = refl; goes = λ p n other ts after same h w s. (ts, w, h) }
 
 -- nothing more of the form begins here
 loop_over : (A : Form) (next : TokenKind) (back after other : Tokens) (k : TokenKind) → next ≡ kind_at after → other ≡ back ++ after → kind_at other ≡ k → (count : List (Unit {0})) → each (λ _. A) count next back → ((next' : TokenKind) (ts : Tokens) → A next' ts → kind_or next' ts ≡ k → ⊥) → other ≡ after
@@ -214,9 +238,20 @@ pub loops_stop : {A : ℕ → Form} {ends : TokenKind → Bool} {left : ℕ} {X 
 loops_stop {A} {rest = rest} l none = record {
   front = l.front;
   passed = l.passed;
-  only = λ n other ts after same h w s.
-      let g = l.goes n other ts after same h w s in
+  only = λ p n other ts after same h w s.
+      let g = l.goes p n other ts after same h w s in
       loop_over (A n) (kind_at after) g.0 after other (kind_at rest) refl g.1 same g.2.0 g.2.1 (none n);
+}
+
+-- so it is where the next token is one of a text
+pub loops_stop_plain : {A : ℕ → Form} {ends : TokenKind → Bool} {left : ℕ} {X : Type 0} {x : X} {start rest : Tokens} → Loops A ends start rest → ((n : ℕ) (next : TokenKind) (ts : Tokens) → A n next ts → kind_or next ts ≡ kind_at rest → (kind_or next ts ≡ no_kind → ⊥) → ⊥) → Finds (λ n. many (A n)) ends left (Ok x) start rest
+loops_stop_plain {A} {rest = rest} l none = record {
+  front = l.front;
+  passed = l.passed;
+  only = λ p n other ts after same h w s.
+      let g = l.goes p n other ts after same h w s in
+      let q = plain_behind l.front rest (plain_at l.passed p) in
+      loop_over (A n) (kind_at after) g.0 after other (kind_at rest) refl g.1 same g.2.0 g.2.1 (λ next' ts h k. none n next' ts h k (λ z. plain_kind rest q (sym k ∙ z)));
 }
 
 -- another of the form stands here
@@ -232,34 +267,34 @@ module _ {A : ℕ → Form} {ends ends' : TokenKind → Bool} {left : ℕ} {X : 
   loops_next {x} l more f follows = record {
     front = l.front ++ f.front;
     passed = l.passed ∙ ap (λ (s : Tokens). l.front ++ s) f.passed ∙ sym (append_assoc l.front f.front new);
-    goes = λ n other ts after same h w s.
+    goes = λ p n other ts after same h w s.
         let same' : kind_at (f.front ++ other) ≡ kind_at rest = kind_behind f.front other new same ∙ sym (ap kind_at f.passed) in
-        let g = l.goes n (f.front ++ other) ts after same' h (sym (append_assoc l.front f.front other) ∙ w) s in
+        let g = l.goes p n (f.front ++ other) ts after same' h (sym (append_assoc l.front f.front other) ∙ w) s in
         let m = loop_more (A n) (kind_at after) g.0 after (f.front ++ other) rest ends' refl g.1 same' more s g.2.0 g.2.1 in
         let back : kind_at (m.1 ++ after) ≡ kind_or (kind_at after) m.1 = kind_before m.1 after in (
           m.1,
-          f.only n other m.0 (m.1 ++ after) same (subst (λ (k : TokenKind). A n k m.0) (sym back) m.3) m.2 (ap ends back ∙ follows.holds n (kind_at after) m.1 m.4 s),
+          f.only (plain_behind l.front rest (plain_at l.passed p)) n other m.0 (m.1 ++ after) same (subst (λ (k : TokenKind). A n k m.0) (sym back) m.3) m.2 (ap ends back ∙ follows.holds n (kind_at after) m.1 m.4 s),
           m.4,
         );
   }
 
   -- a turn that failed
-  pub loops_fail : {Y : Type 0} {r : Result Y ParseFault} {e : ParseFault} → Loops A ends' start rest → ends' (kind_at rest) ≡ false → Finds {A = X} A ends left (Err e) rest new → IsErrAnd r (λ x. x ≡ e) → Follows (λ n. many (A n)) ends ends' → Finds (λ n. many (A n)) ends' left r start new
+  pub loops_fail : {Y : Type 0} {r : Result Y Refusal} {e : Refusal} → Loops A ends' start rest → ends' (kind_at rest) ≡ false → Finds {A = X} A ends left (Err e) rest new → IsErrAnd r (λ x. x ≡ e) → Follows (λ n. many (A n)) ends ends' → Finds (λ n. many (A n)) ends' left r start new
   loops_fail {Y} {r} {e} l more f failed follows = record {
     front = l.front ++ f.front;
     passed = l.passed ∙ ap (λ (s : Tokens). l.front ++ s) f.passed ∙ sym (append_assoc l.front f.front new);
-    only = λ n other ts after same h w s.
+    only = λ p n other ts after same h w s.
         let same' : kind_at (f.front ++ other) ≡ kind_at rest = kind_behind f.front other new same ∙ sym (ap kind_at f.passed) in
-        let g = l.goes n (f.front ++ other) ts after same' h (sym (append_assoc l.front f.front other) ∙ w) s in
+        let g = l.goes p n (f.front ++ other) ts after same' h (sym (append_assoc l.front f.front other) ∙ w) s in
         let m = loop_more (A n) (kind_at after) g.0 after (f.front ++ other) rest ends' refl g.1 same' more s g.2.0 g.2.1 in
         let back : kind_at (m.1 ++ after) ≡ kind_or (kind_at after) m.1 = kind_before m.1 after in
         arrives_err Y X left n r e other after other (m.1 ++ after) failed
-        (f.only n other m.0 (m.1 ++ after) same (subst (λ (k : TokenKind). A n k m.0) (sym back) m.3) m.2 (ap ends back ∙ follows.holds n (kind_at after) m.1 m.4 s));
+        (f.only (plain_behind l.front rest (plain_at l.passed p)) n other m.0 (m.1 ++ after) same (subst (λ (k : TokenKind). A n k m.0) (sym back) m.3) m.2 (ap ends back ∙ follows.holds n (kind_at after) m.1 m.4 s));
   }
 
 -- What a loop has taken
 
-each_push : {X : Type 0} (One : X → Form) (more : List X) (x : X) (front b : Tokens) (next : TokenKind) → each One more (kind_or next b) front → One x next b → each One (more ++ x ∷ []) next (front ++ b)
+pub each_push : {X : Type 0} (One : X → Form) (more : List X) (x : X) (front b : Tokens) (next : TokenKind) → each One more (kind_or next b) front → One x next b → each One (more ++ x ∷ []) next (front ++ b)
 each_push One [] x front b next h o = record {
   front = b;
   back = [];
@@ -340,11 +375,11 @@ follows_many {A} {ends} {ends'} first weaker = record { holds = λ n next ts h s
     by_count n next ts (x ∷ count) h s = ap ends (ap (kind_or next) h.split ∙ kind_join h.front h.back next) ∙ first n (kind_or next h.back) h.front h.first
 
 -- where nothing was taken before
-pub finds_from : {A : Type 0} {P : ℕ → Form} {ends : TokenKind → Bool} {left : ℕ} {r : Result A ParseFault} {old old' new : Tokens} → Finds P ends left r old new → old ≡ old' → Finds P ends left r old' new
-finds_from f e = record { front = f.front; passed = sym e ∙ f.passed; only = f.only }
+pub finds_from : {A : Type 0} {P : ℕ → Form} {ends : TokenKind → Bool} {left : ℕ} {r : Result A Refusal} {old old' new : Tokens} → Finds P ends left r old new → old ≡ old' → Finds P ends left r old' new
+finds_from f e = record { front = f.front; passed = sym e ∙ f.passed; only = λ p. f.only (subst Plain (sym e) p) }
 
 -- where nothing was taken after
-pub finds_at : {A : Type 0} {P : ℕ → Form} {ends : TokenKind → Bool} {left : ℕ} {r : Result A ParseFault} {old new new' : Tokens} → Finds P ends left r old new → new' ≡ new → Finds P ends left r old new'
+pub finds_at : {A : Type 0} {P : ℕ → Form} {ends : TokenKind → Bool} {left : ℕ} {r : Result A Refusal} {old new new' : Tokens} → Finds P ends left r old new → new' ≡ new → Finds P ends left r old new'
 finds_at {P = P} {ends = ends} {left = left} {r = r} {old = old} f e = subst (λ (t : Tokens). Finds P ends left r old t) (sym e) f
 
 -- Loops that push what they take
@@ -369,30 +404,30 @@ gathers_push {One = One} {x = x} {before = before} g more s f follows e = record
 }
 
 -- no room is left for what may begin here
-pub finds_no_room : {A : Type 0} {P : ℕ → Form} {ends : TokenKind → Bool} {left : ℕ} {old : Tokens} (test : TokenKind → Bool) (b : Bool) (e : ParseFault) → b ≡ test (kind_at old) → OnTrue b (IsDepth e) → OnFalse b (IsSyntax e) → left ≡ 0 →
-    ((n : ℕ) (next : TokenKind) (ts : Tokens) → P n next ts → test (kind_or next ts) ≡ true) → ((n : ℕ) (next : TokenKind) (ts : Tokens) → P n next ts → n ≢ 0) → Finds {A = A} P ends left (Err e) old old
-finds_no_room test true (Depth at) t deep other none first some = finds_too_deep none some
-finds_no_room test true (Lex at) t deep other none first some = elim deep [ ]
-finds_no_room test true (Syntax at) t deep other none first some = elim deep [ ]
-finds_no_room test true Memory t deep other none first some = elim deep [ ]
-finds_no_room {old = old} test false (Syntax at) t deep other none first some = finds_none (λ n next ts h s k. let q : true ≡ false = sym (first n next ts h) ∙ ap test k ∙ sym t in absurd (cc))
-finds_no_room test false (Lex at) t deep other none first some = elim other [ ]
-finds_no_room test false (Depth at) t deep other none first some = elim other [ ]
-finds_no_room test false Memory t deep other none first some = elim other [ ]
+pub finds_no_room : {A : Type 0} {P : ℕ → Form} {ends : TokenKind → Bool} {left : ℕ} {old : Tokens} (test : TokenKind → Bool) (b : Bool) (e : Refusal) → b ≡ test (kind_at old) → OnTrue b (e ≡ Depth) → OnFalse b (e ≡ Syntax) → left ≡ 0 →
+    ((n : ℕ) (next : TokenKind) (ts : Tokens) → P n next ts → (kind_or next ts ≡ no_kind → ⊥) → test (kind_or next ts) ≡ true) → ((n : ℕ) (next : TokenKind) (ts : Tokens) → P n next ts → (kind_or next ts ≡ no_kind → ⊥) → n ≢ 0) → Finds {A = A} P ends left (Err e) old old
+finds_no_room {A} {P} {ends} {left} {old} test true e t deep other none first some = subst (λ (f : Refusal). Finds {A = A} P ends left (Err f) old old) (sym deep) (finds_too_deep none some)
+finds_no_room {A} {P} {ends} {left} {old} test false e t deep other none first some = record {
+  front = [];
+  passed = refl;
+  only = λ p n other ts after same h w s.
+      let k : kind_or (kind_at after) ts ≡ kind_at old = sym (kind_before ts after) ∙ sym (ap kind_at w) ∙ same in
+      let q : true ≡ false = sym (first n (kind_at after) ts h (λ z. plain_kind old p (sym k ∙ z))) ∙ ap test k ∙ sym t in absurd (cc);
+}
 
--- no text of this form begins here, and the refusal says so
-pub finds_syntax : {A : Type 0} {P : ℕ → Form} {ends : TokenKind → Bool} {left : ℕ} {e : ParseFault} {old : Tokens} → IsSyntax e → ((n : ℕ) (next : TokenKind) (ts : Tokens) → P n next ts → ends next ≡ true → kind_or next ts ≡ kind_at old → ⊥) → Finds {A = A} P ends left (Err e) old old
-finds_syntax s none = finds_none none
+-- no text of this form begins here
+pub finds_syntax : {A : Type 0} {P : ℕ → Form} {ends : TokenKind → Bool} {left : ℕ} {e : Refusal} {old : Tokens} → ((n : ℕ) (next : TokenKind) (ts : Tokens) → P n next ts → ends next ≡ true → kind_or next ts ≡ kind_at old → ⊥) → Finds {A = A} P ends left (Err e) old old
+finds_syntax none = finds_none none
 
-pub takes_map : {A : Type 0} (P Q : A → Form) (r : Result A ParseFault) (old new : Tokens) → Takes P r old new → ((x : A) (next : TokenKind) (ts : Tokens) → P x next ts → Q x next ts) → Takes Q r old new
+pub takes_map : {A : Type 0} (P Q : A → Form) (r : Result A Refusal) (old new : Tokens) → Takes P r old new → ((x : A) (next : TokenKind) (ts : Tokens) → P x next ts → Q x next ts) → Takes Q r old new
 takes_map P Q (Ok x) old new t f = spans_map t (f x)
 takes_map P Q (Err e) old new t f = tt
 
-pub takes_from : {A : Type 0} (P : A → Form) (r : Result A ParseFault) (old old' new : Tokens) → Takes P r old new → old' ≡ old → Takes P r old' new
+pub takes_from : {A : Type 0} (P : A → Form) (r : Result A Refusal) (old old' new : Tokens) → Takes P r old new → old' ≡ old → Takes P r old' new
 takes_from P (Ok x) old old' new t e = spans_from t e
 takes_from P (Err f) old old' new t e = tt
 
-pub err_memory : {A : Type 0} (r : Result A ParseFault) (e : ParseFault) → IsErrAnd r (λ x. x ≡ e) → e ≡ Memory → IsErrAnd r (λ x. x ≡ Memory)
+pub err_memory : {A : Type 0} (r : Result A Refusal) (e : Refusal) → IsErrAnd r (λ x. x ≡ e) → e ≡ Memory → IsErrAnd r (λ x. x ≡ Memory)
 err_memory (Ok x) e h m = elim h [ ]
 err_memory (Err x) e h m = h ∙ m
 
@@ -404,11 +439,8 @@ pub spans_at : (A : Form) {old new new' : Tokens} → Spans A old new → new' �
 spans_at A {old} s e = subst (λ (t : Tokens). Spans A old t) (sym e) s
 
 -- no room is left where a production surely begins
-pub finds_deep : {A : Type 0} {P : ℕ → Form} {ends : TokenKind → Bool} {left : ℕ} {e : ParseFault} {old : Tokens} → IsDepth e → left ≡ 0 → ((n : ℕ) (next : TokenKind) (ts : Tokens) → P n next ts → n ≢ 0) → Finds {A = A} P ends left (Err e) old old
-finds_deep {e = Depth at} d none some = finds_too_deep none some
-finds_deep {e = Lex at} d none some = elim d [ ]
-finds_deep {e = Syntax at} d none some = elim d [ ]
-finds_deep {e = Memory} d none some = elim d [ ]
+pub finds_deep : {A : Type 0} {P : ℕ → Form} {ends : TokenKind → Bool} {left : ℕ} {e : Refusal} {old : Tokens} → e ≡ Depth → left ≡ 0 → ((n : ℕ) (next : TokenKind) (ts : Tokens) → P n next ts → (kind_or next ts ≡ no_kind → ⊥) → n ≢ 0) → Finds {A = A} P ends left (Err e) old old
+finds_deep {A} {P} {ends} {left} {old = old} d none some = subst (λ (f : Refusal). Finds {A = A} P ends left (Err f) old old) (sym d) (finds_too_deep none some)
 
 pub many_push : (A : Form) {start rest new : Tokens} → Spans (many A) start rest → Spans A rest new → Spans (many A) start new
 many_push A {start} {rest} {new} a b =

@@ -1,11 +1,12 @@
 -- Where names stand in a text, and that their numbers are the only ones.
 use Rattle.std.proofs.Common.{◌≡◌, ◌≢◌, ℕ, zero, suc, ◌+◌, ◌-◌, ◌<◌, ◌≤◌, inl, inr, true, Some, None, List, [], ◌∷◌, ◌++◌, map, length, take, drop, refl, sym, ap, ◌∙◌, subst, append_assoc, arith}
-use Rattle.std.specs.Prelude.{◌^◌}
+use Rattle.std.specs.Prelude.{◌^◌, reverse, Option}
+use Rattle.std.specs.Option.{option_to_list}
 use Rattle.std.specs.List.{IsFirstAndRest}
 use Rattle.std.specs.Str.{IsAscii, IsUtf8}
 use Rattle.std.proofs.lemmas.Str.{IsUtf8-from_ascii}
 use Rattle.std.proofs.lemmas.Str.Ascii.{IsAscii-nil, IsAscii-cons}
-use Rattle.std.proofs.lemmas.List.{length-append, take_at, append-nil}
+use Rattle.std.proofs.lemmas.List.{length-append, take_at, append-nil, reverse-append, reverse-reverse}
 use Rattle.std.proofs.Math.Seq.{drop-append_seam}
 use Rattle.ar_base.specs.declared.places.Place.{Place}
 use Rattle.ar_base.specs.Lists.{Stands, AreDifferent}
@@ -195,6 +196,18 @@ numbering_room bytes start names tokens rest more ls t n e =
     let l : length more + 1 ≡ length rest = e.1 in
     let r : length names + length rest < 2 ^ 32 = n.room in
     omega (arith, l, r)
+
+-- the last of a list is the first of it turned round
+pub popped : {old mid new : List Token} {t : Token} → old ≡ mid ++ t ∷ [] → new ≡ mid → IsFirstAndRest (reverse old) t (reverse new)
+popped {old} {mid} {new} {t} e n =
+    let r : reverse old ≡ t ∷ reverse new = ap (λ (xs : List Token). reverse xs) e ∙ reverse-append mid (t ∷ []) ∙ ap (λ (xs : List Token). t ∷ reverse xs) (sym n) in
+    (r, let l : length (reverse old) ≡ length (t ∷ reverse new) = ap length r in omega (arith, l))
+
+pub turned_twice : {all turned : List Token} (found : List Token) (end : Token) → all ≡ found ++ end ∷ [] → turned ≡ reverse found → all ≡ reverse turned ++ end ∷ []
+turned_twice found end e t = e ∙ ap (λ (xs : List Token). xs ++ end ∷ []) (sym (reverse-reverse found) ∙ ap (λ (xs : List Token). reverse xs) (sym t))
+
+pub last_of : {all : List Token} (found : List Token) {end : Token} {r : Option Token} → all ≡ found ++ option_to_list r → r ≡ Some end → all ≡ found ++ end ∷ []
+last_of found e s = e ∙ ap (λ (x : Option Token). found ++ option_to_list x) s
 
 no_length : (xs : List Token) → length xs ≡ 0 → xs ≡ []
 no_length [] e = refl

@@ -1,18 +1,33 @@
 -- What is unread, piece by piece.
-use Rattle.std.proofs.Common.{◌≡◌, ◌≢◌, ℕ, zero, suc, ◌-◌, inl, inr, Bool, true, false, not, ◌&&◌, [], ◌∷◌, ◌++◌, Result, Ok, Err, IfOk, refl, sym, ap, ◌∙◌, subst}
-use Rattle.std.specs.Prelude.{Some, None, ◌==◌}
+use Rattle.std.proofs.Common.{◌≡◌, ◌≢◌, ℕ, zero, suc, ◌-◌, ◌≤◌, inl, inr, Bool, true, false, not, ◌&&◌, [], ◌∷◌, Result, Ok, Err, IfOk, refl, sym, ap, ◌∙◌, subst, arith, ◌++◌, Some, None}
+use Rattle.std.specs.Prelude.{◌==◌}
 use Rattle.std.proofs.lemmas.Bool.{eqb-true}
 use Rattle.std.proofs.Math.Numerals.{sub-one}
-use Rattle.ar_base.specs.declared.places.Span.{Span}
 use Rattle.ar_lexer.specs.declared.token.TokenKind.{TokenKind}
 use Rattle.ar_lexer.specs.declared.token.TokenKind.TheVariants.{Name, Whole, Real, Sign, Reserved, End}
 use Rattle.ar_lexer.specs.declared.signs.TheConstants.{OPEN_PARENTHESIS, CLOSE_PARENTHESIS, SEMICOLON}
-use Rattle.ar_parser.specs.declared.lexeme.ParseFault.{ParseFault}
-use Rattle.ar_parser.specs.Words.{Tokens, kind_or, token, ◌▸◌, nothing, between, many, covering, Covers, Has}
-use Rattle.ar_parser.specs.Members.{plain_token, kept_token, unread, unread_piece, bracketed, IsAttribute, kept, kept_piece}
-use Rattle.ar_parser.specs.Results.{kind_at, Spans, Eats, goes_unread, goes_kept, ends_unread, ends_kept, ends_attribute}
-use Rattle.ar_parser.proofs.Finding.{kind_join, inside, fails, then_kind, spans_then, spans_map}
-use Rattle.ar_parser.proofs.ExpressionForms.{then_map, sign_from, and_left}
+use Rattle.ar_parser.specs.declared.lexeme.Refusal.{Refusal}
+use Rattle.ar_parser.specs.Words.{Form, Tokens, kind_or, token, no_kind, deep, ◌▸◌, many, between}
+use Rattle.ar_parser.specs.Members.{plain_token, unread, unread_piece, bracketed}
+use Rattle.ar_parser.specs.declared.lexeme.Lexeme.{Lexeme}
+use Rattle.ar_parser.specs.Texts.{is_unread, bracketed_text, one_of}
+use Rattle.ar_parser.proofs.TextParts.{one_kind, one_as, token_as}
+use Rattle.ar_parser.proofs.Standing.{Turns, turns_token, turns_then, turns_each, begins_token, begins_here, begins_no_more, begins_then}
+use Rattle.ar_parser.specs.Results.{kind_at, Spans, Eats, Begins, is_sign, goes_unread, ends_unread}
+use Rattle.ar_parser.proofs.Finding.{inside, apart, fails, token_kind, then_kind, spans_map}
+use Rattle.ar_parser.proofs.ExpressionForms.{sign_from, and_right}
+use Rattle.ar_parser.specs.Parts.{unread_text}
+use Rattle.std.specs.Prelude.{Option}
+use Rattle.ar_parser.specs.Words.{nothing, covering, Covers}
+use Rattle.ar_parser.specs.Members.{kept_token, kept, kept_piece, IsAttribute}
+use Rattle.ar_parser.specs.Texts.{is_kept, kept_text}
+use Rattle.ar_parser.specs.Parts.{attribute_text, kept_piece_text}
+use Rattle.ar_parser.specs.Results.{goes_kept, ends_kept, ends_attribute}
+use Rattle.ar_parser.proofs.Finding.{spans_then}
+use Rattle.ar_parser.proofs.ExpressionForms.{and_left}
+use Rattle.ar_parser.proofs.TextParts.{first_of}
+use Rattle.ar_parser.proofs.Standing.{begins_one, begins_map}
+use Rattle.ar_base.specs.declared.places.Span.{Span}
 
 -- a bracket that closes goes on with nothing
 pub unread_open : (k : TokenKind) → goes_unread k ≡ true → ends_unread k ≡ false
@@ -20,13 +35,6 @@ unread_open k h = by_test (ends_unread k) refl
   where
     by_test : (b : Bool) → ends_unread k ≡ b → b ≡ false
     by_test true e = let q : true ≡ false = sym h ∙ ap goes_unread (sign_from CLOSE_PARENTHESIS k e) in absurd (cc)
-    by_test false e = refl
-
-pub kept_open : (k : TokenKind) → goes_kept k ≡ true → ends_kept k ≡ false
-kept_open k h = by_test (ends_kept k) refl
-  where
-    by_test : (b : Bool) → ends_kept k ≡ b → b ≡ false
-    by_test true e = let q : true ≡ false = sym h ∙ ap goes_kept (sign_from SEMICOLON k e) in absurd (cc)
     by_test false e = refl
 
 plain_kind : (next : TokenKind) (ts : Tokens) → (h : plain_token next ts) → kind_or next ts ≡ h.one.kind
@@ -39,40 +47,12 @@ no_end k h e = let q : true ≡ false = sym h ∙ ap goes_unread e in absurd (cc
 no_close : (k : TokenKind) → goes_unread k ≡ true → k ≢ Sign CLOSE_PARENTHESIS
 no_close k h e = let q : true ≡ false = sym h ∙ ap goes_unread e in absurd (cc)
 
-by_eq : (s : ℕ) → s ≢ CLOSE_PARENTHESIS → not (s == CLOSE_PARENTHESIS) ≡ true
-by_eq s h = by_test (s == CLOSE_PARENTHESIS) refl
-  where
-    by_test : (b : Bool) → (s == CLOSE_PARENTHESIS) ≡ b → not b ≡ true
-    by_test true e = absurd (h (eqb-true s CLOSE_PARENTHESIS e))
-    by_test false e = refl
-
-goes : (k : TokenKind) → k ≢ Sign CLOSE_PARENTHESIS → k ≢ End → goes_unread k ≡ true
-goes Name c e = refl
-goes (Whole n) c e = refl
-goes Real c e = refl
-goes (Sign s) c e = by_eq s (λ q. c (ap Sign q))
-goes (Reserved w) c e = refl
-goes End c e = absurd (e refl)
-
 -- the first token of a piece
-pub unread_first : (n : ℕ) (next : TokenKind) (ts : Tokens) → unread_piece n next ts → goes_unread (kind_or next ts) ≡ true
-unread_first zero next ts h = ap goes_unread (plain_kind next ts h) ∙ goes h.one.kind h.no_close h.no_end
-unread_first (suc n) next ts (inl h) = ap goes_unread (plain_kind next ts h) ∙ goes h.one.kind h.no_close h.no_end
-unread_first (suc n) next ts (inr h) = ap goes_unread (then_kind h)
-
-pub unread_over : (n : ℕ) (next : TokenKind) (ts : Tokens) → unread_piece n next ts → goes_unread (kind_or next ts) ≡ false → ⊥
-unread_over n next ts h k = let q : true ≡ false = sym (unread_first n next ts h) ∙ k in absurd (cc)
-
-pub unread_bracketed : (n : ℕ) (next : TokenKind) (ts : Tokens) → unread_piece n next ts → kind_or next ts ≡ Sign OPEN_PARENTHESIS → bracketed n next ts
-unread_bracketed zero next ts h k = absurd (h.no_open (sym (plain_kind next ts h) ∙ k))
-unread_bracketed (suc n) next ts (inl h) k = absurd (h.no_open (sym (plain_kind next ts h) ∙ k))
-unread_bracketed (suc n) next ts (inr h) k = h
-
 unread_of_bracketed : (n : ℕ) (next : TokenKind) (ts : Tokens) → bracketed n next ts → unread_piece n next ts
 unread_of_bracketed zero next ts h = elim h [ ]
 unread_of_bracketed (suc n) next ts h = inr h
 
-pub unread_grouped : (n : ℕ) (r : Result (Unit {0}) ParseFault) (old new : Tokens) → IfOk r (λ _. Spans (bracketed n) old new) → IfOk r (λ _. Spans (unread_piece n) old new)
+pub unread_grouped : (n : ℕ) (r : Result (Unit {0}) Refusal) (old new : Tokens) → IfOk r (λ _. Spans (bracketed n) old new) → IfOk r (λ _. Spans (unread_piece n) old new)
 unread_grouped n (Ok x) old new s = spans_map s (unread_of_bracketed n)
 unread_grouped n (Err e) old new s = tt
 
@@ -94,39 +74,98 @@ unread_plain n {old} e g o = spans_map (plain_of (kind_at old) e g o) (unread_of
 as_token : {k next : TokenKind} {ts : Tokens} → (h : plain_token next ts) → kind_or next ts ≡ k → token k next ts
 as_token {next = next} {ts = ts} h q = record { one = h.one; alone = h.alone; of_kind = sym (plain_kind next ts h) ∙ q }
 
-pub unread_token : (n : ℕ) (next : TokenKind) (ts : Tokens) {k : TokenKind} → unread_piece n next ts → kind_or next ts ≡ k → k ≢ Sign OPEN_PARENTHESIS → token k next ts
-unread_token zero next ts h q o = as_token h q
-unread_token (suc n) next ts (inl h) q o = as_token h q
-unread_token (suc n) next ts (inr h) q o = absurd (o (sym q ∙ then_kind h))
-
 -- "(" Unread ")"
-
-pub bracketed_some : (n : ℕ) (next : TokenKind) (ts : Tokens) → bracketed n next ts → n ≢ 0
-bracketed_some zero next ts h = elim h [ ]
-bracketed_some (suc n) next ts h = λ e. absurd (cc)
-
-pub bracketed_inside : (n : ℕ) (next : TokenKind) (ts : Tokens) → bracketed n next ts → inside (λ m. token (Sign OPEN_PARENTHESIS) ▸ unread m ▸ token (Sign CLOSE_PARENTHESIS)) n next ts
-bracketed_inside zero next ts h = elim h [ ]
-bracketed_inside (suc n) next ts h = (n, refl, h)
 
 pub bracketed_in : (n : ℕ) → n ≢ 0 → (next : TokenKind) (ts : Tokens) → (token (Sign OPEN_PARENTHESIS) ▸ unread (n - 1) ▸ token (Sign CLOSE_PARENTHESIS)) next ts → bracketed n next ts
 bracketed_in zero some next ts h = absurd (some refl)
 bracketed_in (suc n) some next ts h = subst (λ (m : ℕ). (token (Sign OPEN_PARENTHESIS) ▸ unread m ▸ token (Sign CLOSE_PARENTHESIS)) next ts) (sub-one (suc n)) h
 
+-- Texts
+
+unread_goes : (k : TokenKind) → is_unread k ≡ true → goes_unread k ≡ true
+unread_goes Name h = refl
+unread_goes (Whole n) h = refl
+unread_goes Real h = refl
+unread_goes (Sign s) h = and_right (not (s == OPEN_PARENTHESIS)) (not (s == CLOSE_PARENTHESIS)) h
+unread_goes (Reserved w) h = refl
+unread_goes End h = absurd (cc)
+
+pub unread_over : (n : ℕ) (next : TokenKind) (ts : Tokens) → unread_text n next ts → goes_unread (kind_or next ts) ≡ false → ⊥
+unread_over n next ts (inl h) k = let q : true ≡ false = sym (unread_goes (kind_or next ts) (one_kind h)) ∙ k in absurd (cc)
+unread_over zero next ts (inr h) k = let q : true ≡ false = sym (ap goes_unread (token_kind h)) ∙ k in absurd (cc)
+unread_over (suc n) next ts (inr h) k = let q : true ≡ false = sym (ap goes_unread (then_kind h)) ∙ k in absurd (cc)
+
+pub unread_bracketed : (n : ℕ) (next : TokenKind) (ts : Tokens) → unread_text n next ts → kind_or next ts ≡ Sign OPEN_PARENTHESIS → bracketed_text deep n next ts
+unread_bracketed n next ts (inl h) k = fails is_unread (one_kind h) k refl
+unread_bracketed n next ts (inr h) k = h
+
+pub unread_token : (n : ℕ) (next : TokenKind) (ts : Tokens) {k : TokenKind} → unread_text n next ts → kind_or next ts ≡ k → k ≢ Sign OPEN_PARENTHESIS → token k next ts
+unread_token n next ts (inl h) q o = one_as h q
+unread_token zero next ts (inr h) q o = token_as h q
+unread_token (suc n) next ts (inr h) q o = absurd (o (sym q ∙ then_kind h))
+
+pub bracketed_some : (n : ℕ) (next : TokenKind) (ts : Tokens) → bracketed_text deep n next ts → (kind_or next ts ≡ no_kind → ⊥) → n ≢ 0
+bracketed_some zero next ts h none = absurd (none (token_kind h))
+bracketed_some (suc n) next ts h none = λ e. absurd (cc)
+
+pub bracketed_inside : (n : ℕ) (next : TokenKind) (ts : Tokens) → bracketed_text deep n next ts → kind_or next ts ≡ Sign OPEN_PARENTHESIS → inside (λ m. token (Sign OPEN_PARENTHESIS) ▸ many (unread_text m) ▸ token (Sign CLOSE_PARENTHESIS)) n next ts
+bracketed_inside zero next ts h k = apart (is_sign 256) (token_kind h) k refl refl
+bracketed_inside (suc n) next ts h k = (n, refl, h)
+
+pub turns_many : {A B : Form} → Turns A B → Turns (many A) (many B)
+turns_many f = λ next next' ts h. turns_each (λ x. f) h.0 next next' ts h.1
+
+both : (p q : Bool) → p ≡ true → q ≡ true → (p && q) ≡ true
+both true q a b = b
+both false q a b = absurd (cc)
+
+other_sign : (s n : ℕ) → s ≢ n → not (s == n) ≡ true
+other_sign s n h = by_test (s == n) refl
+  where
+    by_test : (b : Bool) → (s == n) ≡ b → not b ≡ true
+    by_test true e = absurd (h (eqb-true s n e))
+    by_test false e = refl
+
+unread_from : (k : TokenKind) → k ≢ Sign OPEN_PARENTHESIS → k ≢ Sign CLOSE_PARENTHESIS → k ≢ End → is_unread k ≡ true
+unread_from Name o c e = refl
+unread_from (Whole n) o c e = refl
+unread_from Real o c e = refl
+unread_from (Sign s) o c e = both (not (s == OPEN_PARENTHESIS)) (not (s == CLOSE_PARENTHESIS)) (other_sign s OPEN_PARENTHESIS (λ q. o (ap Sign q))) (other_sign s CLOSE_PARENTHESIS (λ q. c (ap Sign q)))
+unread_from (Reserved w) o c e = refl
+unread_from End o c e = absurd (e refl)
+
+piece_case : (n m : ℕ) → n ≤ m → (next next' : TokenKind) (ts : Tokens) → unread_piece n next ts → unread_text m next' ts
+piece_case zero m l next next' ts h = inl (record { one = h.one; alone = h.alone; passes = unread_from h.one.kind h.no_open h.no_close h.no_end })
+piece_case (suc n) m l next next' ts (inl h) = inl (record { one = h.one; alone = h.alone; passes = unread_from h.one.kind h.no_open h.no_close h.no_end })
+piece_case (suc n) zero l next next' ts (inr h) = absurd (omega (arith, l))
+piece_case (suc n) (suc m) l next next' ts (inr h) = inr (turns_then turns_token (turns_then (turns_many (λ next next' ts j. piece_case n m (omega (arith, l)) next next' ts j)) turns_token) next next' ts h)
+
+pub turns_unread : (n m : ℕ) → n ≤ m → Turns (unread n) (many (unread_text m))
+turns_unread n m l = turns_many (λ next next' ts j. piece_case n m l next next' ts j)
+
+pub some_unread_end : {A : Form} → Begins (many A ▸ token (Sign CLOSE_PARENTHESIS)) []
+some_unread_end = begins_then begins_no_more (begins_token (Sign CLOSE_PARENTHESIS))
+
+pub some_bracketed : (m : ℕ) → Begins (bracketed_text deep m) []
+some_bracketed zero = begins_token no_kind
+some_bracketed (suc m) = begins_then (begins_token (Sign OPEN_PARENTHESIS)) some_unread_end
+
+pub bracketed_at : (m : ℕ) (t : Lexeme) → is_sign OPEN_PARENTHESIS t.kind ≡ true → Begins (bracketed_text deep (suc m)) (t ∷ [])
+bracketed_at m t h = begins_then (begins_here t (Sign OPEN_PARENTHESIS) (sign_from OPEN_PARENTHESIS t.kind h)) some_unread_end
+
 -- Attributes
 
-pub attribute_none : (n : ℕ) (next : TokenKind) (ts : Tokens) → Has (IsAttribute n) next ts → kind_or next ts ≢ Sign OPEN_PARENTHESIS → nothing next ts
-attribute_none n next ts (None, h) k = h
-attribute_none zero next ts (Some span, h) k = elim h [ ]
-attribute_none (suc n) next ts (Some span, h) k = absurd (k (then_kind h))
+pub attribute_none : (n : ℕ) (next : TokenKind) (ts : Tokens) → attribute_text n next ts → kind_or next ts ≢ Sign OPEN_PARENTHESIS → (kind_or next ts ≡ no_kind → ⊥) → nothing next ts
+attribute_none n next ts (inl h) k none = h
+attribute_none zero next ts (inr h) k none = absurd (none (token_kind h))
+attribute_none (suc n) next ts (inr h) k none = absurd (k (then_kind h))
 
-pub attribute_inside : (n : ℕ) (next : TokenKind) (ts : Tokens) → Has (IsAttribute n) next ts → ends_attribute next ≡ true → kind_or next ts ≡ Sign OPEN_PARENTHESIS → inside (λ m. token (Sign OPEN_PARENTHESIS) ▸ unread m ▸ token (Sign CLOSE_PARENTHESIS)) n next ts
-attribute_inside n next ts (None, h) s k = fails ends_attribute s (sym (ap (kind_or next) h) ∙ k) refl
-attribute_inside zero next ts (Some span, h) s k = elim h [ ]
-attribute_inside (suc n) next ts (Some span, h) s k = (n, refl, then_map h (λ next ts j. j) (λ next ts j. then_map j (λ next ts i. i.form) (λ next ts i. i)))
+pub attribute_there : (n : ℕ) (next : TokenKind) (ts : Tokens) → attribute_text n next ts → ends_attribute next ≡ true → kind_or next ts ≡ Sign OPEN_PARENTHESIS → bracketed_text deep n next ts
+attribute_there n next ts (inl h) s k = fails ends_attribute s (sym (ap (kind_or next) h) ∙ k) refl
+attribute_there n next ts (inr h) s k = h
 
-pub attribute_some : (n : ℕ) (next : TokenKind) (ts : Tokens) → inside (λ m. token (Sign OPEN_PARENTHESIS) ▸ unread m ▸ token (Sign CLOSE_PARENTHESIS)) n next ts → n ≢ 0
-attribute_some n next ts (m, e, h) = λ z. let q : 0 ≡ suc m = sym z ∙ e in absurd (cc)
+pub attribute_inside : (n : ℕ) (next : TokenKind) (ts : Tokens) → attribute_text n next ts → ends_attribute next ≡ true → kind_or next ts ≡ Sign OPEN_PARENTHESIS → inside (λ m. token (Sign OPEN_PARENTHESIS) ▸ many (unread_text m) ▸ token (Sign CLOSE_PARENTHESIS)) n next ts
+attribute_inside n next ts h s k = bracketed_inside n next ts (attribute_there n next ts h s k) k
 
 pub attribute_in : (n : ℕ) (span : Span) {old a b new : Tokens} → n ≢ 0 → Spans (token (Sign OPEN_PARENTHESIS)) old a → Spans (unread (n - 1)) a b → ((ts : Tokens) → a ≡ ts ++ b → Covers span ts) → Spans (token (Sign CLOSE_PARENTHESIS)) b new → Spans (IsAttribute n (Some span)) old new
 attribute_in zero span some o u c d = absurd (some refl)
@@ -134,7 +173,21 @@ attribute_in (suc n) span some o u c d =
     spans_map (spans_then o (spans_then (record { front = u.front; split = u.split; form = record { span_is = c u.front u.split; form = u.form } }) d))
     (λ next ts h. subst (λ (m : ℕ). between (Sign OPEN_PARENTHESIS) (Sign CLOSE_PARENTHESIS) (covering span (unread m)) next ts) (sub-one (suc n)) h)
 
+pub turns_attribute : (n m : ℕ) → n ≤ m → (a : Option Span) → Turns (IsAttribute n a) (attribute_text m)
+turns_attribute n m l None = λ next next' ts h. inl h
+turns_attribute zero m l (Some span) = λ next next' ts h. elim h [ ]
+turns_attribute (suc n) zero l (Some span) = λ next next' ts h. absurd (omega (arith, l))
+turns_attribute (suc n) (suc m) l (Some span) = λ next next' ts h.
+    inr (turns_then turns_token (turns_then {A = covering span (unread n)} (λ next next' ts j. turns_unread n m (omega (arith, l)) next next' ts j.form) turns_token) next next' ts h)
+
 -- Kept values
+
+pub kept_open : (k : TokenKind) → goes_kept k ≡ true → ends_kept k ≡ false
+kept_open k h = by_test (ends_kept k) refl
+  where
+    by_test : (b : Bool) → ends_kept k ≡ b → b ≡ false
+    by_test true e = let q : true ≡ false = sym h ∙ ap goes_kept (sign_from SEMICOLON k e) in absurd (cc)
+    by_test false e = refl
 
 no_semicolon : (k : TokenKind) → goes_kept k ≡ true → k ≢ Sign SEMICOLON
 no_semicolon k h e = let q : true ≡ false = sym h ∙ ap goes_kept e in absurd (cc)
@@ -147,49 +200,39 @@ kept_goes (Sign s) h = and_left (not (s == CLOSE_PARENTHESIS)) (not (s == SEMICO
 kept_goes (Reserved w) h = refl
 kept_goes End h = absurd (cc)
 
-not_semicolon : (s : ℕ) → s ≢ SEMICOLON → not (s == SEMICOLON) ≡ true
-not_semicolon s h = by_test (s == SEMICOLON) refl
-  where
-    by_test : (b : Bool) → (s == SEMICOLON) ≡ b → not b ≡ true
-    by_test true e = absurd (h (eqb-true s SEMICOLON e))
-    by_test false e = refl
+kept_on : (k : TokenKind) → is_kept k ≡ true → goes_kept k ≡ true
+kept_on Name h = refl
+kept_on (Whole n) h = refl
+kept_on Real h = refl
+kept_on (Sign s) h = and_right (not (s == OPEN_PARENTHESIS)) (not (s == CLOSE_PARENTHESIS) && not (s == SEMICOLON)) h
+kept_on (Reserved w) h = refl
+kept_on End h = absurd (cc)
 
-both_true : (p q : Bool) → p ≡ true → q ≡ true → (p && q) ≡ true
-both_true true q a b = b
-both_true false q a b = absurd (cc)
-
-goes_on : (k : TokenKind) → k ≢ Sign CLOSE_PARENTHESIS → k ≢ End → k ≢ Sign SEMICOLON → goes_kept k ≡ true
-goes_on Name c e s = refl
-goes_on (Whole n) c e s = refl
-goes_on Real c e s = refl
-goes_on (Sign m) c e s = both_true (not (m == CLOSE_PARENTHESIS)) (not (m == SEMICOLON)) (by_eq m (λ q. c (ap Sign q))) (not_semicolon m (λ q. s (ap Sign q)))
-goes_on (Reserved w) c e s = refl
-goes_on End c e s = absurd (e refl)
-
-kept_of_token : (next : TokenKind) (ts : Tokens) → (h : kept_token next ts) → goes_kept (kind_or next ts) ≡ true
-kept_of_token next ts h = ap goes_kept (plain_kind next ts h.plain) ∙ goes_on h.plain.one.kind h.plain.no_close h.plain.no_end h.no_semicolon
-
-piece_first : (n : ℕ) (next : TokenKind) (ts : Tokens) → kept_piece n next ts → goes_kept (kind_or next ts) ≡ true
-piece_first zero next ts h = kept_of_token next ts h
-piece_first (suc n) next ts (inl h) = kept_of_token next ts h
+piece_first : (n : ℕ) (next : TokenKind) (ts : Tokens) → kept_piece_text n next ts → goes_kept (kind_or next ts) ≡ true
+piece_first n next ts (inl h) = kept_on (kind_or next ts) (one_kind h)
+piece_first zero next ts (inr h) = ap goes_kept (token_kind h)
 piece_first (suc n) next ts (inr h) = ap goes_kept (then_kind h)
 
-pub kept_over : (n : ℕ) (next : TokenKind) (ts : Tokens) → kept_piece n next ts → goes_kept (kind_or next ts) ≡ false → ⊥
+pub kept_over : (n : ℕ) (next : TokenKind) (ts : Tokens) → kept_piece_text n next ts → goes_kept (kind_or next ts) ≡ false → ⊥
 kept_over n next ts h k = let q : true ≡ false = sym (piece_first n next ts h) ∙ k in absurd (cc)
 
-pub kept_first : (n : ℕ) (next : TokenKind) (ts : Tokens) → kept n next ts → goes_kept (kind_or next ts) ≡ false → ⊥
-kept_first n next ts h k = kept_over n (kind_or next h.back) h.front h.first (ap goes_kept (sym (kind_join h.front h.back next) ∙ sym (ap (kind_or next) h.split)) ∙ k)
+pub kept_first : (n : ℕ) (next : TokenKind) (ts : Tokens) → kept_text (bracketed_text deep n) next ts → goes_kept (kind_or next ts) ≡ false → ⊥
+kept_first n next ts h k = kept_over n (kind_or next h.back) h.front h.first (ap goes_kept (sym (first_of h)) ∙ k)
 
-pub kept_bracketed : (n : ℕ) (next : TokenKind) (ts : Tokens) → kept_piece n next ts → kind_or next ts ≡ Sign OPEN_PARENTHESIS → bracketed n next ts
-kept_bracketed zero next ts h k = absurd (h.plain.no_open (sym (plain_kind next ts h.plain) ∙ k))
-kept_bracketed (suc n) next ts (inl h) k = absurd (h.plain.no_open (sym (plain_kind next ts h.plain) ∙ k))
-kept_bracketed (suc n) next ts (inr h) k = h
+pub kept_bracketed : (n : ℕ) (next : TokenKind) (ts : Tokens) → kept_piece_text n next ts → kind_or next ts ≡ Sign OPEN_PARENTHESIS → bracketed_text deep n next ts
+kept_bracketed n next ts (inl h) k = fails is_kept (one_kind h) k refl
+kept_bracketed n next ts (inr h) k = h
+
+pub kept_token_given : (n : ℕ) (next : TokenKind) (ts : Tokens) {k : TokenKind} → kept_piece_text n next ts → kind_or next ts ≡ k → k ≢ Sign OPEN_PARENTHESIS → token k next ts
+kept_token_given n next ts (inl h) q o = one_as h q
+kept_token_given zero next ts (inr h) q o = token_as h q
+kept_token_given (suc n) next ts (inr h) q o = absurd (o (sym q ∙ then_kind h))
 
 kept_of_bracketed : (n : ℕ) (next : TokenKind) (ts : Tokens) → bracketed n next ts → kept_piece n next ts
 kept_of_bracketed zero next ts h = elim h [ ]
 kept_of_bracketed (suc n) next ts h = inr h
 
-pub kept_grouped : (n : ℕ) (r : Result (Unit {0}) ParseFault) (old new : Tokens) → IfOk r (λ _. Spans (bracketed n) old new) → IfOk r (λ _. Spans (kept_piece n) old new)
+pub kept_grouped : (n : ℕ) (r : Result (Unit {0}) Refusal) (old new : Tokens) → IfOk r (λ _. Spans (bracketed n) old new) → IfOk r (λ _. Spans (kept_piece n) old new)
 kept_grouped n (Ok x) old new s = spans_map s (kept_of_bracketed n)
 kept_grouped n (Err e) old new s = tt
 
@@ -209,10 +252,34 @@ kept_plain n {old} e g o =
       });
     }
 
-pub kept_token_given : (n : ℕ) (next : TokenKind) (ts : Tokens) {k : TokenKind} → kept_piece n next ts → kind_or next ts ≡ k → k ≢ Sign OPEN_PARENTHESIS → token k next ts
-kept_token_given zero next ts h q o = as_token h.plain q
-kept_token_given (suc n) next ts (inl h) q o = as_token h.plain q
-kept_token_given (suc n) next ts (inr h) q o = absurd (o (sym q ∙ then_kind h))
-
 pub kept_made : (n : ℕ) (span : Span) {old mid new : Tokens} → Spans (kept_piece n) old mid → Spans (many (kept_piece n)) mid new → ((ts : Tokens) → old ≡ ts ++ new → Covers span ts) → Spans (covering span (kept n)) old new
 kept_made n span a b c = let s = spans_then a b in record { front = s.front; split = s.split; form = record { span_is = c s.front s.split; form = s.form } }
+
+-- A kept value, before any token
+
+kept_from : (k : TokenKind) → k ≢ Sign OPEN_PARENTHESIS → k ≢ Sign CLOSE_PARENTHESIS → k ≢ End → k ≢ Sign SEMICOLON → is_kept k ≡ true
+kept_from Name o c e s = refl
+kept_from (Whole n) o c e s = refl
+kept_from Real o c e s = refl
+kept_from (Sign m) o c e s = both (not (m == OPEN_PARENTHESIS)) (not (m == CLOSE_PARENTHESIS) && not (m == SEMICOLON)) (other_sign m OPEN_PARENTHESIS (λ q. o (ap Sign q)))
+    (both (not (m == CLOSE_PARENTHESIS)) (not (m == SEMICOLON)) (other_sign m CLOSE_PARENTHESIS (λ q. c (ap Sign q))) (other_sign m SEMICOLON (λ q. s (ap Sign q))))
+kept_from (Reserved w) o c e s = refl
+kept_from End o c e s = absurd (e refl)
+
+kept_one : (next next' : TokenKind) (ts : Tokens) → kept_token next ts → one_of is_kept next' ts
+kept_one next next' ts h = record { one = h.plain.one; alone = h.plain.alone; passes = kept_from h.plain.one.kind h.plain.no_open h.plain.no_close h.plain.no_end h.no_semicolon }
+
+pub turns_kept_piece : (n m : ℕ) → n ≤ m → Turns (kept_piece n) (kept_piece_text m)
+turns_kept_piece n m l = λ next next' ts h. by_case n m l next next' ts h
+  where
+    by_case : (n m : ℕ) → n ≤ m → (next next' : TokenKind) (ts : Tokens) → kept_piece n next ts → kept_piece_text m next' ts
+    by_case zero m l next next' ts h = inl (kept_one next next' ts h)
+    by_case (suc n) m l next next' ts (inl h) = inl (kept_one next next' ts h)
+    by_case (suc n) zero l next next' ts (inr h) = absurd (omega (arith, l))
+    by_case (suc n) (suc m) l next next' ts (inr h) = inr (turns_then turns_token (turns_then (turns_unread n m (omega (arith, l))) turns_token) next next' ts h)
+
+pub turns_kept : (n m : ℕ) → n ≤ m → Turns (kept n) (kept_text (bracketed_text deep m))
+turns_kept n m l = turns_then (turns_kept_piece n m l) (turns_many (turns_kept_piece n m l))
+
+pub some_kept : (m : ℕ) → Begins (kept_text (bracketed_text deep m)) []
+some_kept m = begins_then (begins_map (begins_one {test = is_kept} Name refl) (λ next ts h. inl h)) begins_no_more

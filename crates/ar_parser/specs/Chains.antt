@@ -1,11 +1,11 @@
 -- What the functions that read expressions share.
-use Rattle.std.specs.Prelude.{◌≡◌, ℕ, Bool, true, false, ◌||◌, ◌==◌, ℤ, [], ◌∷◌, Vec, Box}
+use Rattle.std.specs.Prelude.{◌≡◌, ℕ, Bool, true, false, ℤ, [], ◌∷◌, Vec, Box}
 use Rattle.ar_syntax.specs.declared.expressions.RawRelation.{RawRelation}
 use Rattle.std.specs.declared.alloc.Global.{Global}
 use Rattle.ar_lexer.specs.declared.token.TokenKind.{TokenKind}
 use Rattle.ar_lexer.specs.declared.token.TokenKind.TheVariants.{Whole, Real, Sign, Reserved}
-use Rattle.ar_lexer.specs.declared.signs.TheConstants.{COLON, STAR}
-use Rattle.ar_lexer.specs.declared.words.TheConstants.{AND, CASE, COUNT, FALSE, MAX, MIN, OR, TRUE}
+use Rattle.ar_lexer.specs.declared.signs.TheConstants.{STAR}
+use Rattle.ar_lexer.specs.declared.words.TheConstants.{AND, COUNT, FALSE, MAX, MIN, OR, TRUE}
 use Rattle.ar_syntax.specs.declared.expressions.RawExpr.{RawExpr}
 use Rattle.ar_syntax.specs.declared.expressions.RawForm.{RawForm}
 use Rattle.ar_syntax.specs.declared.expressions.RawForm.TheVariants as form
@@ -13,8 +13,8 @@ use Rattle.ar_parser.specs.declared.terms.Chain.{Chain}
 use Rattle.ar_parser.specs.declared.terms.Chain.TheVariants as chain
 use Rattle.ar_parser.specs.declared.terms.Call.{Call}
 use Rattle.ar_parser.specs.declared.terms.Call.TheVariants as call
-use Rattle.ar_parser.specs.Words.{Form, ◌▸◌, between, Has}
-use Rattle.ar_parser.specs.Expressions.{OneOrMore, IsAnd, IsNot, IsMinus, IsProduct, IsTerm, IsExpr}
+use Rattle.ar_parser.specs.Words.{Form}
+use Rattle.ar_parser.specs.Expressions.{OneOrMore, IsAnd, IsNot, IsMinus}
 use Rattle.ar_parser.specs.Results.{ends_path, ends_product, ends_not, ends_and, ends_expr}
 
 -- what stands between the operands of a chain
@@ -58,13 +58,6 @@ pub data IsConstant (f : RawForm) (k : TokenKind) : Type 0 where
   whole : (n : ℤ) → f ≡ form.Whole n → k ≡ Whole n → IsConstant f k
   real : f ≡ form.Real → k ≡ Real → IsConstant f k
 
--- the kinds of tokens that are constants
-abbrev pub begins_constant : TokenKind → Bool
-begins_constant (Whole n) = true
-begins_constant Real = true
-begins_constant (Reserved w) = (w == TRUE) || (w == FALSE)
-begins_constant _ = false
-
 -- the reserved word that a call begins with
 abbrev pub word_of : Call → TokenKind
 word_of call.Least = Reserved MIN
@@ -76,11 +69,6 @@ abbrev pub call_of : Call → Vec RawExpr Global → RawForm
 call_of call.Least = form.Least
 call_of call.Greatest = form.Greatest
 call_of call.Count = form.Count
-
--- the kinds of tokens that begin a call
-abbrev pub begins_call : TokenKind → Bool
-begins_call (Reserved w) = (w == MIN) || (w == MAX) || (w == COUNT)
-begins_call _ = false
 
 -- a comparison of these two expressions
 pub record IsComparison (r : RawRelation) (first second : RawExpr) (f : RawForm) : Type 0 where
@@ -97,11 +85,3 @@ pub record IsOneCase (test value other : RawExpr) (f : RawForm) : Type 0 where
   pub is : f ≡ form.Choose cases d
   pub one : cases.items ≡ (test, value) ∷ []
   pub other_is : d.value ≡ other
-
--- ( "+" | "-" ) Product
-abbrev pub term_text : ℕ → Form
-term_text n = Has (IsTerm (IsProduct (IsMinus n)))
-
--- "case" Expr ":" Expr
-abbrev pub case_text : ℕ → Form
-case_text n = between (Reserved CASE) (Sign COLON) (Has (IsExpr n)) ▸ Has (IsExpr n)

@@ -6,4 +6,6 @@ pub mod Members
 pub mod Models
 pub mod Results
 pub mod Chains
+pub mod Texts
+pub mod Parts
 pub mod Names

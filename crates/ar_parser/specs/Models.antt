@@ -1,5 +1,5 @@
 -- The grammar of models, and what it is to read a text.
-use Rattle.std.specs.Prelude.{◌≡◌, ◌≢◌, ℕ, ◌-◌, ◌≤ℤ◌, ℤ, pos, neg_ℤ, List, [], ◌∷◌, ◌++◌, map, take, drop}
+use Rattle.std.specs.Prelude.{◌≡◌, ◌≢◌, ℕ, ◌<◌, Result, Ok, Err, ◌-◌, ◌≤ℤ◌, ℤ, pos, neg_ℤ, List, [], ◌∷◌, ◌++◌, map, take, drop}
 use Rattle.ar_base.specs.declared.places.Place.{Place}
 use Rattle.ar_base.specs.Counts.{limit_of}
 use Rattle.ar_base.specs.declared.counts.Count.TheVariants.{Nesting}
@@ -20,9 +20,12 @@ use Rattle.ar_syntax.specs.declared.items.Item.{Item}
 use Rattle.ar_syntax.specs.declared.items.Item.TheVariants as item
 use Rattle.ar_syntax.specs.declared.items.Model.{Model}
 use Rattle.ar_parser.specs.declared.lexeme.Lexeme.{Lexeme}
-use Rattle.ar_parser.specs.Words.{Form, Tokens, token, nothing, never, ◌▸◌, ◌∣◌, each, between}
+use Rattle.ar_parser.specs.declared.lexeme.ParseFault.{ParseFault}
+use Rattle.ar_parser.specs.declared.lexeme.ParseFault.TheVariants as fault
+use Rattle.ar_parser.specs.Words.{Form, Tokens, token, nothing, never, ◌▸◌, ◌∣◌, each, between, place_at}
 use Rattle.ar_parser.specs.Paths.{IsPlacedName, AreNames}
 use Rattle.ar_parser.specs.Members.{IsBody, IsUnit}
+use Rattle.ar_parser.specs.Texts.{IsSyntaxAt, IsDepthAt}
 
 -- a whole number, which has no sign
 pub record IsWhole (z : ℤ) (next : TokenKind) (ts : Tokens) : Type 0 where
@@ -99,3 +102,30 @@ pub record ReadsWithin (n : ℕ) (bytes : List ℕ) (model : Model) : Type 0 whe
 -- A text is read as this tree.
 abbrev pub Reads : List ℕ → Model → Type 0
 Reads bytes model = ReadsWithin (limit_of Nesting) bytes model
+
+-- How a call with room for `left` open productions may end where the text has a tree of nesting n: well, or by want of
+-- room or of memory.
+abbrev pub Reaches : {A : Type 0} → ℕ → ℕ → Result A ParseFault → Type 0
+Reaches left n (Ok x) = Unit {0}
+Reaches left n (Err (fault.Lex at)) = ⊥
+Reaches left n (Err (fault.Syntax at)) = ⊥
+Reaches left n (Err (fault.Depth at)) = left < n
+Reaches left n (Err fault.Memory) = Unit {0}
+
+-- A text is refused at the token that stands here: P tells how, of the tokens before it and of those from it on.
+pub record IsRefusedAt (P : Tokens → Tokens → Type 0) (bytes : List ℕ) (at : Place) : Type 0 where
+  pub front : Tokens
+  pub rest : Tokens
+  pub names : List (List ℕ)
+  pub end : Place
+  pub are : AreLexemes bytes (front ++ rest) names end
+  pub there : at ≡ place_at end rest
+  pub told : P front rest
+
+-- the first token that no text of the grammar goes on with, where none before it opens a production inside 128 others
+abbrev pub SyntaxStandsAt : List ℕ → Place → Type 0
+SyntaxStandsAt = IsRefusedAt (IsSyntaxAt (limit_of Nesting))
+
+-- the first token that opens a production inside 128 others, where some text of the grammar goes on with it
+abbrev pub DepthStandsAt : List ℕ → Place → Type 0
+DepthStandsAt = IsRefusedAt (IsDepthAt (limit_of Nesting))

@@ -1,14 +1,14 @@
 -- What a function of the parser says of the tokens that it takes.
-use Rattle.std.specs.Prelude.{◌≡◌, ℕ, ◌<◌, Bool, true, false, not, ◌||◌, ◌&&◌, ◌==◌, [], ◌∷◌, ◌++◌, Result, Ok, Err, IfOk}
-use Rattle.ar_base.specs.declared.places.Place.{Place}
+use Rattle.std.specs.Prelude.{◌≡◌, ◌≢◌, ℕ, ◌<◌, ◌+◌, Bool, true, false, not, ◌||◌, ◌&&◌, ◌==◌, ℤ, pos, ◌≤ℤ◌, [], ◌∷◌, ◌++◌, Result, Ok, Err, IfOk, IfErr}
 use Rattle.ar_lexer.specs.declared.token.TokenKind.{TokenKind}
 use Rattle.ar_lexer.specs.declared.token.TokenKind.TheVariants.{Name, Whole, Real, Sign, Reserved, End}
 use Rattle.ar_lexer.specs.declared.signs.TheConstants.{OPEN_BRACE, CLOSE_BRACE, OPEN_PARENTHESIS, CLOSE_PARENTHESIS, SEMICOLON, COMMA, DOT, EQUALS, EXCLAMATION, QUESTION, EQUAL, DIFFERS, LESS, AT_MOST, MORE, AT_LEAST, PLUS, MINUS, STAR}
 use Rattle.ar_lexer.specs.declared.words.TheConstants.{AND, ASSERTION, BLOCK, BOOLEAN, CLASS, CLONES, COUNT, DEFAULT, DOMAIN, EMBEDS, END, EVENT, EXTENDS, FALSE, HIDE, IF, MAIN, MAX, MIN, NOT, OBSERVER, OR, OWNER, PARAMETER, SKIP, SWITCH, TRANSITION, TRUE}
 use Rattle.ar_parser.specs.declared.lexeme.Lexeme.{Lexeme}
-use Rattle.ar_parser.specs.declared.lexeme.ParseFault.{ParseFault}
-use Rattle.ar_parser.specs.declared.lexeme.ParseFault.TheVariants.{Lex, Syntax, Depth, Memory}
-use Rattle.ar_parser.specs.Words.{Form, Tokens, kind_or}
+use Rattle.ar_parser.specs.declared.lexeme.Refusal.{Refusal}
+use Rattle.ar_parser.specs.declared.lexeme.Refusal.TheVariants.{Syntax, Depth, Memory}
+use Rattle.ar_parser.specs.Words.{Form, Tokens, kind_or, no_kind}
+use Rattle.ar_parser.specs.Texts.{IsSyntaxAt, IsDepthAt}
 
 -- the kind of the first token; the end of the text where there is none
 abbrev pub kind_at : Tokens → TokenKind
@@ -21,46 +21,73 @@ pub record Spans (A : Form) (old new : Tokens) : Type 0 where
   pub form : A (kind_at new) front
 
 -- What was taken is of the value that is answered.
-abbrev pub Takes : {A : Type 0} → (A → Form) → Result A ParseFault → Tokens → Tokens → Type 0
+abbrev pub Takes : {A : Type 0} → (A → Form) → Result A Refusal → Tokens → Tokens → Type 0
 Takes One result old new = IfOk result (λ x. Spans (One x) old new)
 
 -- How a call with room for `left` open productions may end where a text of nesting n goes to `after`: there, or by
 -- want of room or of memory.
-abbrev pub Arrives : {A : Type 0} → ℕ → ℕ → Result A ParseFault → Tokens → Tokens → Type 0
+abbrev pub Arrives : {A : Type 0} → ℕ → ℕ → Result A Refusal → Tokens → Tokens → Type 0
 Arrives left n (Ok x) new after = new ≡ after
-Arrives left n (Err (Lex at)) new after = ⊥
-Arrives left n (Err (Syntax at)) new after = ⊥
-Arrives left n (Err (Depth at)) new after = left < n
+Arrives left n (Err Syntax) new after = ⊥
+Arrives left n (Err Depth) new after = left < n
 Arrives left n (Err Memory) new after = Unit {0}
 
 -- How a call with room for `left` open productions may end where the whole text has the nesting n: well, or by want of
 -- room or of memory.
-abbrev pub Reaches : {A : Type 0} → ℕ → ℕ → Result A ParseFault → Type 0
-Reaches left n (Ok x) = Unit {0}
-Reaches left n (Err (Lex at)) = ⊥
-Reaches left n (Err (Syntax at)) = ⊥
-Reaches left n (Err (Depth at)) = left < n
-Reaches left n (Err Memory) = Unit {0}
+abbrev pub Gets : {A : Type 0} → ℕ → ℕ → Result A Refusal → Type 0
+Gets left n (Ok x) = Unit {0}
+Gets left n (Err Syntax) = ⊥
+Gets left n (Err Depth) = left < n
+Gets left n (Err Memory) = Unit {0}
+
+-- no whole number among these tokens has a sign
+abbrev pub AreUnsigned : Tokens → Type 0
+AreUnsigned [] = Unit {0}
+AreUnsigned (t ∷ ts) = ((n : ℤ) → t.kind ≡ Whole n → pos 0 ≤ℤ n) × AreUnsigned ts
+
+-- none of these tokens has the kind that no token of a text has
+abbrev pub Plain : Tokens → Type 0
+Plain [] = Unit {0}
+Plain (t ∷ ts) = (t.kind ≢ no_kind) × Plain ts
 
 -- The call stands at `new`. Whatever stood there in its place, if its first token had the same kind: a front of this
 -- form, of any nesting, with what ends it behind it, would end right there.
-pub record Finds {A : Type 0} (P : ℕ → Form) (ends : TokenKind → Bool) (left : ℕ) (result : Result A ParseFault) (old new : Tokens) : Type 0 where
+pub record Finds {A : Type 0} (P : ℕ → Form) (ends : TokenKind → Bool) (left : ℕ) (result : Result A Refusal) (old new : Tokens) : Type 0 where
   pub front : Tokens
   pub passed : old ≡ front ++ new
-  pub only : (n : ℕ) (other ts after : Tokens) → kind_at other ≡ kind_at new → P n (kind_at after) ts → front ++ other ≡ ts ++ after → ends (kind_at after) ≡ true → Arrives left n result other after
+  pub only : Plain old → (n : ℕ) (other ts after : Tokens) → kind_at other ≡ kind_at new → P n (kind_at after) ts → front ++ other ≡ ts ++ after → ends (kind_at after) ≡ true → Arrives left n result other after
 
--- the place of the next token
-abbrev pub place_at : Place → Tokens → Place
-place_at end [] = end
-place_at end (t ∷ ts) = t.at
+-- Some text of this form begins with these tokens, whatever follows it.
+pub record Begins (A : Form) (front : Tokens) : Type 0 where
+  pub more : Tokens
+  pub form : (next : TokenKind) → A next (front ++ more)
 
-abbrev pub IsSyntax : ParseFault → Type 0
-IsSyntax (Syntax at) = Unit {0}
-IsSyntax _ = ⊥
+-- What a refusal at `new` with room for `left` open productions tells of the tokens passed, with `more` of the next ones:
+-- that they begin a text with at most m open.
+pub data Tells (left : ℕ) (e : Refusal) (new : Tokens) (m : ℕ) (more : Tokens) : Type 0 where
+  before : m ≡ left → more ≡ [] → Tells left e new m more
+  through : (t : Lexeme) (rest : Tokens) → e ≡ Depth → new ≡ t ∷ rest → m ≡ left + 3 → more ≡ t ∷ [] → Tells left e new m more
 
-abbrev pub IsDepth : ParseFault → Type 0
-IsDepth (Depth at) = Unit {0}
-IsDepth _ = ⊥
+-- A refusal stands where the call stopped: what was passed begins a text of this form with no token that opens a
+-- production too deep, and at Depth some text of the form goes on with the next token.
+pub record Stands (P : ℕ → Form) (left : ℕ) (e : Refusal) (old new : Tokens) : Type 0 where
+  pub front : Tokens
+  pub passed : old ≡ front ++ new
+  pub opens : e ≡ Depth → new ≢ []
+  pub tells : (m : ℕ) (more : Tokens) → Tells left e new m more → Begins (P m) (front ++ more)
+
+-- so it is with each refusal but for want of memory
+abbrev pub Refuses : (ℕ → Form) → ℕ → Refusal → Tokens → Tokens → Type 0
+Refuses P left e old new = e ≢ Memory → Stands P left e old new
+
+abbrev pub Halts : {A : Type 0} → (ℕ → Form) → ℕ → Result A Refusal → Tokens → Tokens → Type 0
+Halts P left result old new = IfErr result (λ e. Refuses P left e old new)
+
+-- A whole text is refused at `new`, and why.
+abbrev pub IsRefusedAs : ℕ → Refusal → Tokens → Tokens → Type 0
+IsRefusedAs n Syntax old new = (front : Tokens) × (old ≡ front ++ new) × IsSyntaxAt n front new
+IsRefusedAs n Depth old new = (front : Tokens) × (old ≡ front ++ new) × IsDepthAt n front new
+IsRefusedAs n Memory old new = Unit {0}
 
 -- a token of this kind is gone
 pub record Eats (kind : TokenKind) (old new : Tokens) : Type 0 where

@@ -5,6 +5,7 @@ use Rattle.ar_base.specs.declared.places.Span.{Span}
 use Rattle.ar_base.specs.declared.numbers.Id.{Id}
 use Rattle.ar_base.specs.declared.numbers.NameKind.{NameKind}
 use Rattle.ar_lexer.specs.declared.token.TokenKind.{TokenKind}
+use Rattle.ar_lexer.specs.declared.token.TokenKind.TheVariants.{Sign}
 use Rattle.ar_parser.specs.declared.lexeme.Lexeme.{Lexeme}
 
 -- the number of a name
@@ -54,6 +55,14 @@ pub record not_before (kind next : TokenKind) (ts : Tokens) : Type 0 where
 abbrev pub never : Form
 never next ts = ⊥
 
+-- the kind that no token of a text has
+abbrev pub no_kind : TokenKind
+no_kind = Sign 256
+
+-- in what only begins a text, a production that would open too deep
+abbrev pub deep : Form
+deep = token no_kind
+
 -- { x }
 abbrev pub each : {A : Type 0} → (A → Form) → List A → Form
 each One [] = nothing
@@ -72,6 +81,11 @@ Has One next ts = (x : _) × One x next ts
 abbrev pub StandsAt : Place → Tokens → Type 0
 StandsAt at [] = ⊥
 StandsAt at (t ∷ ts) = at ≡ t.at
+
+-- the place of the first token; the end of the text where there is none
+abbrev pub place_at : Place → Tokens → Place
+place_at end [] = end
+place_at end (t ∷ ts) = t.at
 
 -- this form, from this place on
 pub record standing (at : Place) (A : Form) (next : TokenKind) (ts : Tokens) : Type 0 where

@@ -3,16 +3,18 @@
 ghost use Rattle.std.specs.Prelude.{◌≡◌, ◌≢◌, ◌++◌, ℕ, IfOk};
 ghost use Rattle.ar_lexer.specs.declared.token.TokenKind.TheVariants.{Name, Sign, Reserved, End};
 ghost use Rattle.ar_lexer.specs.declared.signs.TheConstants.{SEMICOLON, EQUALS};
-ghost use Rattle.ar_lexer.specs.declared.words.TheConstants.{AS, PARAMETER, REAL};
-ghost use Rattle.ar_parser.specs.Words.{token, ◌▸◌, between, many, groups, covering, Has};
+ghost use Rattle.ar_lexer.specs.declared.words.TheConstants.{AS, REAL};
+ghost use Rattle.ar_parser.specs.Words.{token, deep, ◌▸◌, between, many, groups, covering};
 ghost use Rattle.ar_parser.specs.Paths.{IsPath, IsPlacedName};
 ghost use Rattle.ar_parser.specs.Expressions.{Node, IsExpr};
-ghost use Rattle.ar_parser.specs.Members.{IsType, IsSingle, IsKeyed, IsUnit, IsMember, IsSection, IsLater, AreSections, IsBody, kept, parameter_rest};
-ghost use Rattle.ar_parser.specs.Results.{Takes, Finds, Spans, anything, ends_body, ends_members, ends_section};
+ghost use Rattle.ar_parser.specs.Members.{IsType, IsSingle, IsKeyed, IsUnit, IsMember, IsSection, IsLater, AreSections, IsBody, kept};
+ghost use Rattle.ar_parser.specs.Texts.{body_text};
+ghost use Rattle.ar_parser.specs.Parts.{alias_text, value_text, kept_value_text, single_text, parameter_text, section_of, unit_of, member_text, keyed_of, sections_text, later_text};
+ghost use Rattle.ar_parser.specs.Results.{Takes, Finds, Halts, Spans, anything, ends_body, ends_members, ends_section};
 
 use crate::begins::{begins_body, begins_later, begins_member, begins_section};
-use crate::cursor::Parser;
-use crate::lexeme::ParseFault;
+use crate::cursor::{Parser, no_room};
+use crate::lexeme::Refusal;
 use ar_base::{NameId, Place, Span};
 use ar_lexer::{TokenKind, signs, words};
 use ar_syntax::{Member, Path, RawExpr, TypeName, Unit};
@@ -23,11 +25,12 @@ impl<'a> Parser<'a> {
         &mut self,
         opens: TokenKind,
         closes: TokenKind,
-    ) -> Result<(NameId, Place), ParseFault>
+    ) -> Result<(NameId, Place), Refusal>
         requires opens { opens ≢ End }
         requires closes { closes ≢ End }
         ensures found { Takes (λ x. between opens closes (IsPlacedName x)) result self.old.rest.now self.new.rest.now }
         ensures only { (left : ℕ) → Finds (λ _. between opens closes (token Name)) anything left result self.old.rest.now self.new.rest.now }
+        ensures stuck { (left : ℕ) → Halts (λ _. between opens closes (token Name)) left result self.old.rest.now self.new.rest.now }
     {
         self.expect(opens)?;
         let name = self.placed_name()?;
@@ -36,9 +39,10 @@ impl<'a> Parser<'a> {
     }
 
     /// Takes a word, a path and "as" name ";".
-    fn aliased(&mut self, word: u8) -> Result<(Path, NameId, Place), ParseFault>
+    fn aliased(&mut self, word: u8) -> Result<(Path, NameId, Place), Refusal>
         ensures found { Takes (λ x. token (Reserved word) ▸ IsPath x.0 ▸ between (Reserved AS) (Sign SEMICOLON) (IsPlacedName (x.1, x.2))) result self.old.rest.now self.new.rest.now }
-        ensures only { (left : ℕ) → Finds (λ _. token (Reserved word) ▸ Has IsPath ▸ between (Reserved AS) (Sign SEMICOLON) (token Name)) anything left result self.old.rest.now self.new.rest.now }
+        ensures only { (left : ℕ) → Finds (λ _. token (Reserved word) ▸ alias_text) anything left result self.old.rest.now self.new.rest.now }
+        ensures stuck { (left : ℕ) → Halts (λ _. token (Reserved word) ▸ alias_text) left result self.old.rest.now self.new.rest.now }
     {
         self.expect(TokenKind::Reserved(word))?;
         let path = self.path()?;
@@ -50,9 +54,10 @@ impl<'a> Parser<'a> {
     }
 
     /// Takes Type name "=" Expr ";".
-    fn valued(&mut self, left: u32) -> Result<(TypeName, NameId, Place, RawExpr), ParseFault>
+    fn valued(&mut self, left: u32) -> Result<(TypeName, NameId, Place, RawExpr), Refusal>
         ensures found { Takes (λ x. IsType x.0 ▸ IsPlacedName (x.1, x.2) ▸ between (Sign EQUALS) (Sign SEMICOLON) (Node (IsExpr left) x.3)) result self.old.rest.now self.new.rest.now }
-        ensures only { Finds (λ n. Has IsType ▸ token Name ▸ between (Sign EQUALS) (Sign SEMICOLON) (Has (IsExpr n))) anything left result self.old.rest.now self.new.rest.now }
+        ensures only { Finds value_text anything left result self.old.rest.now self.new.rest.now }
+        ensures stuck { Halts value_text left result self.old.rest.now self.new.rest.now }
     {
         let of_type = self.type_name()?;
         let (name, at) = self.placed_name()?;
@@ -65,9 +70,10 @@ impl<'a> Parser<'a> {
     }
 
     /// Takes "Real" name "=" Kept ";".
-    fn kept_value(&mut self, left: u32) -> Result<(NameId, Place, Span), ParseFault>
+    fn kept_value(&mut self, left: u32) -> Result<(NameId, Place, Span), Refusal>
         ensures found { Takes (λ x. token (Reserved REAL) ▸ IsPlacedName (x.0, x.1) ▸ between (Sign EQUALS) (Sign SEMICOLON) (covering x.2 (kept left))) result self.old.rest.now self.new.rest.now }
-        ensures only { Finds (λ n. token (Reserved REAL) ▸ token Name ▸ between (Sign EQUALS) (Sign SEMICOLON) (kept n)) anything left result self.old.rest.now self.new.rest.now }
+        ensures only { Finds kept_value_text anything left result self.old.rest.now self.new.rest.now }
+        ensures stuck { Halts kept_value_text left result self.old.rest.now self.new.rest.now }
     {
         self.expect(TokenKind::Reserved(words::REAL))?;
         let (name, at) = self.placed_name()?;
@@ -78,9 +84,10 @@ impl<'a> Parser<'a> {
     }
 
     /// Takes a clause that begins with a reserved word and makes one member.
-    fn single(&mut self, left: u32) -> Result<Member, ParseFault>
+    fn single(&mut self, left: u32) -> Result<Member, Refusal>
         ensures found { Takes (IsSingle left) result self.old.rest.now self.new.rest.now }
-        ensures only { Finds (λ n. Has (IsSingle n)) anything left result self.old.rest.now self.new.rest.now }
+        ensures only { Finds single_text anything left result self.old.rest.now self.new.rest.now }
+        ensures stuck { Halts single_text left result self.old.rest.now self.new.rest.now }
     {
         if self.is_at(TokenKind::Reserved(words::EXTENDS)) {
             let (base, at) = self.enclosed_name(
@@ -108,9 +115,10 @@ impl<'a> Parser<'a> {
     }
 
     /// Takes "parameter" ( "Real" name "=" Kept | Type name "=" Expr ) ";".
-    fn parameter(&mut self, left: u32) -> Result<Member, ParseFault>
+    fn parameter(&mut self, left: u32) -> Result<Member, Refusal>
         ensures found { Takes (IsSingle left) result self.old.rest.now self.new.rest.now }
-        ensures only { Finds (λ n. token (Reserved PARAMETER) ▸ parameter_rest n) anything left result self.old.rest.now self.new.rest.now }
+        ensures only { Finds parameter_text anything left result self.old.rest.now self.new.rest.now }
+        ensures stuck { Halts parameter_text left result self.old.rest.now self.new.rest.now }
     {
         self.expect(TokenKind::Reserved(words::PARAMETER))?;
         if self.is_at(TokenKind::Reserved(words::REAL)) {
@@ -122,9 +130,10 @@ impl<'a> Parser<'a> {
     }
 
     /// Takes one transition section or assertion section.
-    fn section(&mut self, left: u32, members: &mut Vec<Member>) -> Result<(), ParseFault>
+    fn section(&mut self, left: u32, members: &mut Vec<Member>) -> Result<(), Refusal>
         ensures found { IfOk result (λ _. (ms : _) × (members.new.items ≡ members.old.items ++ ms) × Spans (IsSection left ms) self.old.rest.now self.new.rest.now) }
-        ensures only { Finds (λ n. Has (IsSection n)) ends_section left result self.old.rest.now self.new.rest.now }
+        ensures only { Finds section_of ends_section left result self.old.rest.now self.new.rest.now }
+        ensures stuck { Halts section_of left result self.old.rest.now self.new.rest.now }
     {
         if self.eat(TokenKind::Reserved(words::TRANSITION)) {
             self.transitions(left, members)?;
@@ -137,9 +146,10 @@ impl<'a> Parser<'a> {
 
     /// Takes name Body "end".
     #[cycle(body)]
-    pub fn unit(&mut self, left: u32) -> Result<Unit, ParseFault>
+    pub fn unit(&mut self, left: u32) -> Result<Unit, Refusal>
         ensures found { Takes (IsUnit (IsBody left)) result self.old.rest.now self.new.rest.now }
-        ensures only { Finds (λ n. Has (IsUnit (IsBody n))) anything left result self.old.rest.now self.new.rest.now }
+        ensures only { Finds unit_of anything left result self.old.rest.now self.new.rest.now }
+        ensures stuck { Halts unit_of left result self.old.rest.now self.new.rest.now }
     {
         let (name, at) = self.placed_name()?;
         let members = self.body(left)?;
@@ -149,14 +159,15 @@ impl<'a> Parser<'a> {
 
     /// Takes a body, with room for `left` open productions: { Member } [ Section { Section | Keyed } ].
     #[cycle(body)]
-    fn body(&mut self, left: u32) -> Result<Vec<Member>, ParseFault>
+    fn body(&mut self, left: u32) -> Result<Vec<Member>, Refusal>
         ensures found { Takes (λ members. IsBody left members.items) result self.old.rest.now self.new.rest.now }
-        ensures only { Finds (λ n. Has (IsBody n)) ends_body left result self.old.rest.now self.new.rest.now }
+        ensures only { Finds (body_text deep) ends_body left result self.old.rest.now self.new.rest.now }
+        ensures stuck { Halts (body_text deep) left result self.old.rest.now self.new.rest.now }
     {
         let mut members = Vec::new(self.alloc);
         if left == 0 {
             if begins_body(self.kind()) {
-                return Err(self.no_room(true));
+                return Err(no_room(true));
             }
             return Ok(members);
         }
@@ -167,9 +178,10 @@ impl<'a> Parser<'a> {
 
     /// Takes the members before the first section: { Member }.
     #[cycle(body)]
-    fn members(&mut self, left: u32, members: &mut Vec<Member>) -> Result<(), ParseFault>
+    fn members(&mut self, left: u32, members: &mut Vec<Member>) -> Result<(), Refusal>
         ensures found { IfOk result (λ _. (ms : _) × (members.new.items ≡ members.old.items ++ ms) × Spans (groups (IsMember left (IsBody left)) ms) self.old.rest.now self.new.rest.now) }
-        ensures only { Finds (λ n. many (Has (IsMember n (IsBody n)))) ends_members left result self.old.rest.now self.new.rest.now }
+        ensures only { Finds (λ n. many (member_text n)) ends_members left result self.old.rest.now self.new.rest.now }
+        ensures stuck { Halts (λ n. many (member_text n)) left result self.old.rest.now self.new.rest.now }
     {
         while begins_member(self.kind()) {
             self.member(left, members)?;
@@ -179,9 +191,10 @@ impl<'a> Parser<'a> {
 
     /// Takes Keyed | name Names [ Settings ] ";".
     #[cycle(body)]
-    fn member(&mut self, left: u32, members: &mut Vec<Member>) -> Result<(), ParseFault>
+    fn member(&mut self, left: u32, members: &mut Vec<Member>) -> Result<(), Refusal>
         ensures found { IfOk result (λ _. (ms : _) × (members.new.items ≡ members.old.items ++ ms) × Spans (IsMember left (IsBody left) ms) self.old.rest.now self.new.rest.now) }
-        ensures only { Finds (λ n. Has (IsMember n (IsBody n))) anything left result self.old.rest.now self.new.rest.now }
+        ensures only { Finds member_text anything left result self.old.rest.now self.new.rest.now }
+        ensures stuck { Halts member_text left result self.old.rest.now self.new.rest.now }
     {
         if self.is_at(TokenKind::Name) {
             let declaration = self.declaration(left)?;
@@ -193,9 +206,10 @@ impl<'a> Parser<'a> {
 
     /// Takes a clause that begins with a reserved word.
     #[cycle(body)]
-    fn keyed(&mut self, left: u32, members: &mut Vec<Member>) -> Result<(), ParseFault>
+    fn keyed(&mut self, left: u32, members: &mut Vec<Member>) -> Result<(), Refusal>
         ensures found { IfOk result (λ _. (ms : _) × (members.new.items ≡ members.old.items ++ ms) × Spans (IsKeyed left (IsBody left) ms) self.old.rest.now self.new.rest.now) }
-        ensures only { Finds (λ n. Has (IsKeyed n (IsBody n))) anything left result self.old.rest.now self.new.rest.now }
+        ensures only { Finds keyed_of anything left result self.old.rest.now self.new.rest.now }
+        ensures stuck { Halts keyed_of left result self.old.rest.now self.new.rest.now }
     {
         if self.is_at(TokenKind::Reserved(words::EVENT)) {
             return self.events(left, members);
@@ -215,9 +229,10 @@ impl<'a> Parser<'a> {
 
     /// Takes [ Section { Section | Keyed } ].
     #[cycle(body)]
-    fn sections(&mut self, left: u32, members: &mut Vec<Member>) -> Result<(), ParseFault>
+    fn sections(&mut self, left: u32, members: &mut Vec<Member>) -> Result<(), Refusal>
         ensures found { IfOk result (λ _. (ms : _) × (members.new.items ≡ members.old.items ++ ms) × Spans (AreSections left (IsBody left) ms) self.old.rest.now self.new.rest.now) }
-        ensures only { Finds (λ n. Has (AreSections n (IsBody n))) ends_body left result self.old.rest.now self.new.rest.now }
+        ensures only { Finds sections_text ends_body left result self.old.rest.now self.new.rest.now }
+        ensures stuck { Halts sections_text left result self.old.rest.now self.new.rest.now }
     {
         if !begins_section(self.kind()) {
             return Ok(());
@@ -229,9 +244,10 @@ impl<'a> Parser<'a> {
 
     /// Takes { Section | Keyed }.
     #[cycle(body)]
-    fn later_clauses(&mut self, left: u32, members: &mut Vec<Member>) -> Result<(), ParseFault>
+    fn later_clauses(&mut self, left: u32, members: &mut Vec<Member>) -> Result<(), Refusal>
         ensures found { IfOk result (λ _. (ms : _) × (members.new.items ≡ members.old.items ++ ms) × Spans (groups (IsLater left (IsBody left)) ms) self.old.rest.now self.new.rest.now) }
-        ensures only { Finds (λ n. many (Has (IsLater n (IsBody n)))) ends_body left result self.old.rest.now self.new.rest.now }
+        ensures only { Finds (λ n. many (later_text n)) ends_body left result self.old.rest.now self.new.rest.now }
+        ensures stuck { Halts (λ n. later_text n ▸ many (later_text n)) left result self.old.rest.now self.new.rest.now }
     {
         while begins_later(self.kind()) {
             self.later_clause(left, members)?;
@@ -241,9 +257,10 @@ impl<'a> Parser<'a> {
 
     /// Takes Section | Keyed.
     #[cycle(body)]
-    fn later_clause(&mut self, left: u32, members: &mut Vec<Member>) -> Result<(), ParseFault>
+    fn later_clause(&mut self, left: u32, members: &mut Vec<Member>) -> Result<(), Refusal>
         ensures found { IfOk result (λ _. (ms : _) × (members.new.items ≡ members.old.items ++ ms) × Spans (IsLater left (IsBody left) ms) self.old.rest.now self.new.rest.now) }
-        ensures only { Finds (λ n. Has (IsLater n (IsBody n))) ends_section left result self.old.rest.now self.new.rest.now }
+        ensures only { Finds later_text ends_section left result self.old.rest.now self.new.rest.now }
+        ensures stuck { Halts later_text left result self.old.rest.now self.new.rest.now }
     {
         if begins_section(self.kind()) {
             return self.section(left, members);

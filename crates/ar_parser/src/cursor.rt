@@ -3,12 +3,12 @@
 ghost use Rattle.std.specs.Prelude.{◌≡◌, ◌≢◌, ◌∷◌, ◌++◌, ℕ, IfOk, IfErr, IfSome, IfNone};
 ghost use Rattle.std.specs.Bool.{OnTrue, OnFalse};
 ghost use Rattle.ar_lexer.specs.declared.token.TokenKind.TheVariants.{Name, Whole, End};
-ghost use Rattle.ar_parser.specs.declared.lexeme.ParseFault.TheVariants.{Syntax, Depth};
-ghost use Rattle.ar_parser.specs.Words.{token, end_of, StandsAt, Covers};
+ghost use Rattle.ar_parser.specs.declared.lexeme.Refusal.TheVariants.{Syntax, Depth};
+ghost use Rattle.ar_parser.specs.Words.{token, end_of, StandsAt, Covers, place_at};
 ghost use Rattle.ar_parser.specs.Paths.{IsName};
-ghost use Rattle.ar_parser.specs.Results.{kind_at, Takes, Finds, Eats, IsSyntax, IsDepth, anything, place_at};
+ghost use Rattle.ar_parser.specs.Results.{kind_at, Takes, Finds, Halts, Eats, anything};
 
-use crate::lexeme::{Lexeme, ParseFault};
+use crate::lexeme::{Lexeme, Refusal};
 use ar_base::{Place, Span};
 use ar_lexer::TokenKind;
 use ar_syntax::{RawExpr, RawForm};
@@ -19,6 +19,28 @@ pub struct Parser<'a> {
     pub alloc: Global,
     pub rest: &'a [Lexeme],
     pub end: Place,
+}
+
+/// The place of the first of these tokens, and of the end where there is none.
+pub fn place_of(rest: &[Lexeme], end: Place) -> Place
+    ensures { result ≡ place_at end rest.now }
+{
+    match rest.first() {
+        Some(next) => next.at,
+        None => end,
+    }
+}
+
+/// The refusal where no room is left for a production that the next token begins, or does not begin.
+pub fn no_room(begins: bool) -> Refusal
+    ensures deep { OnTrue begins (result ≡ Depth) }
+    ensures other { OnFalse begins (result ≡ Syntax) }
+{
+    if begins {
+        Refusal::Depth
+    } else {
+        Refusal::Syntax
+    }
 }
 
 impl<'a> Parser<'a> {
@@ -36,32 +58,7 @@ impl<'a> Parser<'a> {
     pub fn place(&self) -> Place
         ensures { result ≡ place_at self.now.end self.now.rest.now }
     {
-        match self.rest.first() {
-            Some(next) => next.at,
-            None => self.end,
-        }
-    }
-
-    /// The refusal at the next token.
-    pub fn syntax(&self) -> ParseFault
-        ensures kind { IsSyntax result }
-        ensures there { result ≡ Syntax (place_at self.now.end self.now.rest.now) }
-    {
-        ParseFault::Syntax(self.place())
-    }
-
-    /// The refusal where no room is left for a production that the next token begins, or does not begin.
-    pub fn no_room(&self, begins: bool) -> ParseFault
-        ensures deep { OnTrue begins (IsDepth result) }
-        ensures other { OnFalse begins (IsSyntax result) }
-        ensures deep_there { OnTrue begins (result ≡ Depth (place_at self.now.end self.now.rest.now)) }
-        ensures other_there { OnFalse begins (result ≡ Syntax (place_at self.now.end self.now.rest.now)) }
-    {
-        if begins {
-            ParseFault::Depth(self.place())
-        } else {
-            self.syntax()
-        }
+        place_of(self.rest, self.end)
     }
 
     /// Whether the next token is of this kind.
@@ -104,10 +101,11 @@ impl<'a> Parser<'a> {
     }
 
     /// Takes the next token, which is to be of this kind.
-    pub fn expect(&mut self, kind: TokenKind) -> Result<Lexeme, ParseFault>
+    pub fn expect(&mut self, kind: TokenKind) -> Result<Lexeme, Refusal>
         requires { kind ≢ End }
         ensures found { IfOk result (λ t. (self.old.rest.now ≡ t ∷ self.new.rest.now) × (t.kind ≡ kind)) }
         ensures only { (left : ℕ) → Finds (λ _. token kind) anything left result self.old.rest.now self.new.rest.now }
+        ensures stuck { (left : ℕ) → Halts (λ _. token kind) left result self.old.rest.now self.new.rest.now }
     {
         match self.rest.split_first() {
             Some((next, rest)) => {
@@ -115,16 +113,17 @@ impl<'a> Parser<'a> {
                     self.rest = rest;
                     return Ok(*next);
                 }
-                Err(self.syntax())
+                Err(Refusal::Syntax)
             }
-            None => Err(self.syntax()),
+            None => Err(Refusal::Syntax),
         }
     }
 
     /// Takes a name.
-    pub fn name(&mut self) -> Result<Lexeme, ParseFault>
+    pub fn name(&mut self) -> Result<Lexeme, Refusal>
         ensures found { IfOk result (λ t. (self.old.rest.now ≡ t ∷ self.new.rest.now) × (t.kind ≡ Name)) }
         ensures only { (left : ℕ) → Finds (λ _. token Name) anything left result self.old.rest.now self.new.rest.now }
+        ensures stuck { (left : ℕ) → Halts (λ _. token Name) left result self.old.rest.now self.new.rest.now }
     {
         self.expect(TokenKind::Name)
     }

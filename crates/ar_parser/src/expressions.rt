@@ -4,14 +4,16 @@ ghost use Rattle.std.specs.Prelude.{◌≡◌, ◌≢◌, ◌++◌, ◌∷◌, �
 ghost use Rattle.ar_lexer.specs.declared.token.TokenKind.TheVariants.{Sign, Reserved, End};
 ghost use Rattle.ar_lexer.specs.declared.signs.TheConstants.{COMMA};
 ghost use Rattle.ar_lexer.specs.declared.words.TheConstants.{CASE};
-ghost use Rattle.ar_parser.specs.Words.{token, ◌▸◌, between, each, many, Has};
+ghost use Rattle.ar_parser.specs.Words.{token, deep, ◌▸◌, between, each, many};
 ghost use Rattle.ar_parser.specs.Expressions.{Node, IsExpr, IsNot, IsMinus, IsProduct, IsSum, IsTerm, IsCompare, IsPrimary, IsIf, IsSwitch, IsCase, AreOperands};
-ghost use Rattle.ar_parser.specs.Chains.{separator_of, operand_form, chain_form, ends_operand, ends_chain, term_text, case_text};
-ghost use Rattle.ar_parser.specs.Results.{kind_at, Takes, Finds, Spans, anything, ends_path, ends_product, ends_sum, ends_not, ends_expr, ends_list, ends_cases, begins_term};
+ghost use Rattle.ar_parser.specs.Chains.{separator_of, operand_form, chain_form, ends_operand, ends_chain};
+ghost use Rattle.ar_parser.specs.Texts.{expr_text, not_text, minus_text, if_text, compare_text, sum_text, product_text, primary_text, operands_text, switch_text};
+ghost use Rattle.ar_parser.specs.Results.{kind_at, Takes, Finds, Halts, Spans, anything, ends_path, ends_product, ends_sum, ends_not, ends_expr, ends_list, ends_cases, begins_term};
+ghost use Rattle.ar_parser.specs.Parts.{operand_text, chain_text, term_text, case_text};
 
 use crate::begins::{begins_expr, begins_minus, begins_not};
-use crate::cursor::Parser;
-use crate::lexeme::ParseFault;
+use crate::cursor::{Parser, no_room};
+use crate::lexeme::Refusal;
 use crate::terms::{Chain, call_of, chain_of, separator_of};
 use ar_lexer::{TokenKind, signs, words};
 use ar_syntax::{RawExpr, RawForm};
@@ -19,12 +21,13 @@ use ar_syntax::{RawExpr, RawForm};
 impl<'a> Parser<'a> {
     /// Takes an expression, with room for `left` open productions.
     #[cycle(expression)]
-    pub fn expr(&mut self, left: u32) -> Result<RawExpr, ParseFault>
+    pub fn expr(&mut self, left: u32) -> Result<RawExpr, Refusal>
         ensures found { Takes (Node (IsExpr left)) result self.old.rest.now self.new.rest.now }
-        ensures only { Finds (λ n. Has (IsExpr n)) ends_expr left result self.old.rest.now self.new.rest.now }
+        ensures only { Finds (expr_text deep) ends_expr left result self.old.rest.now self.new.rest.now }
+        ensures stuck { Halts (expr_text deep) left result self.old.rest.now self.new.rest.now }
     {
         if left == 0 {
-            return Err(self.no_room(begins_expr(self.kind())));
+            return Err(no_room(begins_expr(self.kind())));
         }
         if self.is_at(TokenKind::Reserved(words::IF)) {
             return self.choice(left - 1);
@@ -39,12 +42,13 @@ impl<'a> Parser<'a> {
         opens: TokenKind,
         closes: TokenKind,
         left: u32,
-    ) -> Result<RawExpr, ParseFault>
+    ) -> Result<RawExpr, Refusal>
         requires opens { opens ≢ End }
         requires closes { closes ≢ End }
         requires ends { ends_expr closes ≡ true }
         ensures found { Takes (λ e. between opens closes (Node (IsExpr left) e)) result self.old.rest.now self.new.rest.now }
-        ensures only { Finds (λ n. between opens closes (Has (IsExpr n))) anything left result self.old.rest.now self.new.rest.now }
+        ensures only { Finds (λ n. between opens closes (expr_text deep n)) anything left result self.old.rest.now self.new.rest.now }
+        ensures stuck { Halts (λ n. between opens closes (expr_text deep n)) left result self.old.rest.now self.new.rest.now }
     {
         self.expect(opens)?;
         let inner = self.expr(left)?;
@@ -54,9 +58,10 @@ impl<'a> Parser<'a> {
 
     /// Takes a choice between two values: "if" Expr "then" Expr "else" Expr.
     #[cycle(expression)]
-    fn choice(&mut self, left: u32) -> Result<RawExpr, ParseFault>
+    fn choice(&mut self, left: u32) -> Result<RawExpr, Refusal>
         ensures found { Takes (Node (IsIf (IsExpr left))) result self.old.rest.now self.new.rest.now }
-        ensures only { Finds (λ n. Has (IsIf (IsExpr n))) ends_expr left result self.old.rest.now self.new.rest.now }
+        ensures only { Finds (λ n. if_text (expr_text deep n)) ends_expr left result self.old.rest.now self.new.rest.now }
+        ensures stuck { Halts (λ n. if_text (expr_text deep n)) left result self.old.rest.now self.new.rest.now }
     {
         let start = self.rest;
         let test = self.enclosed(
@@ -73,9 +78,10 @@ impl<'a> Parser<'a> {
 
     /// Takes operands with one separator between them; one operand alone is itself.
     #[cycle(expression)]
-    fn chain(&mut self, chain: Chain, left: u32) -> Result<RawExpr, ParseFault>
+    fn chain(&mut self, chain: Chain, left: u32) -> Result<RawExpr, Refusal>
         ensures found { Takes (Node (chain_form chain left)) result self.old.rest.now self.new.rest.now }
-        ensures only { Finds (λ n. Has (chain_form chain n)) (ends_chain chain) left result self.old.rest.now self.new.rest.now }
+        ensures only { Finds (chain_text chain) (ends_chain chain) left result self.old.rest.now self.new.rest.now }
+        ensures stuck { Halts (chain_text chain) left result self.old.rest.now self.new.rest.now }
     {
         let start = self.rest;
         let first = self.operand(chain, left)?;
@@ -95,10 +101,11 @@ impl<'a> Parser<'a> {
         chain: Chain,
         left: u32,
         operands: &mut Vec<RawExpr>,
-    ) -> Result<(), ParseFault>
+    ) -> Result<(), Refusal>
         ensures found { IfOk result (λ _. (more : _) × (operands.new.items ≡ operands.old.items ++ more) × Spans (each (λ e. token (separator_of chain) ▸ Node (operand_form chain left) e) more) self.old.rest.now self.new.rest.now) }
         ensures over { IfOk result (λ _. kind_at self.new.rest.now ≢ separator_of chain) }
-        ensures only { Finds (λ n. many (token (separator_of chain) ▸ Has (operand_form chain n))) (ends_chain chain) left result self.old.rest.now self.new.rest.now }
+        ensures only { Finds (λ n. many (token (separator_of chain) ▸ operand_text chain n)) (ends_chain chain) left result self.old.rest.now self.new.rest.now }
+        ensures stuck { Halts (λ n. many (token (separator_of chain) ▸ operand_text chain n)) left result self.old.rest.now self.new.rest.now }
     {
         let separator = separator_of(chain);
         while self.eat(separator) {
@@ -110,9 +117,10 @@ impl<'a> Parser<'a> {
 
     /// Takes one operand of a chain.
     #[cycle(expression)]
-    fn operand(&mut self, chain: Chain, left: u32) -> Result<RawExpr, ParseFault>
+    fn operand(&mut self, chain: Chain, left: u32) -> Result<RawExpr, Refusal>
         ensures found { Takes (Node (operand_form chain left)) result self.old.rest.now self.new.rest.now }
-        ensures only { Finds (λ n. Has (operand_form chain n)) (ends_operand chain) left result self.old.rest.now self.new.rest.now }
+        ensures only { Finds (operand_text chain) (ends_operand chain) left result self.old.rest.now self.new.rest.now }
+        ensures stuck { Halts (operand_text chain) left result self.old.rest.now self.new.rest.now }
     {
         match chain {
             Chain::Any => self.chain(Chain::All, left),
@@ -123,12 +131,13 @@ impl<'a> Parser<'a> {
 
     /// Takes "not" Not | Compare.
     #[cycle(expression)]
-    fn not(&mut self, left: u32) -> Result<RawExpr, ParseFault>
+    fn not(&mut self, left: u32) -> Result<RawExpr, Refusal>
         ensures found { Takes (Node (IsNot left)) result self.old.rest.now self.new.rest.now }
-        ensures only { Finds (λ n. Has (IsNot n)) ends_not left result self.old.rest.now self.new.rest.now }
+        ensures only { Finds (not_text deep) ends_not left result self.old.rest.now self.new.rest.now }
+        ensures stuck { Halts (not_text deep) left result self.old.rest.now self.new.rest.now }
     {
         if left == 0 {
-            return Err(self.no_room(begins_not(self.kind())));
+            return Err(no_room(begins_not(self.kind())));
         }
         let start = self.rest;
         if self.eat(TokenKind::Reserved(words::NOT)) {
@@ -141,9 +150,10 @@ impl<'a> Parser<'a> {
 
     /// Takes Sum [ relation Sum ].
     #[cycle(expression)]
-    fn compare(&mut self, left: u32) -> Result<RawExpr, ParseFault>
+    fn compare(&mut self, left: u32) -> Result<RawExpr, Refusal>
         ensures found { Takes (Node (IsCompare (IsSum (IsProduct (IsMinus left))))) result self.old.rest.now self.new.rest.now }
-        ensures only { Finds (λ n. Has (IsCompare (IsSum (IsProduct (IsMinus n))))) ends_not left result self.old.rest.now self.new.rest.now }
+        ensures only { Finds (λ n. compare_text (sum_text (product_text (minus_text deep n)))) ends_not left result self.old.rest.now self.new.rest.now }
+        ensures stuck { Halts (λ n. compare_text (sum_text (product_text (minus_text deep n)))) left result self.old.rest.now self.new.rest.now }
     {
         let start = self.rest;
         let first = self.sum(left)?;
@@ -159,9 +169,10 @@ impl<'a> Parser<'a> {
 
     /// Takes Product { ( "+" | "-" ) Product }.
     #[cycle(expression)]
-    fn sum(&mut self, left: u32) -> Result<RawExpr, ParseFault>
+    fn sum(&mut self, left: u32) -> Result<RawExpr, Refusal>
         ensures found { Takes (Node (IsSum (IsProduct (IsMinus left)))) result self.old.rest.now self.new.rest.now }
-        ensures only { Finds (λ n. Has (IsSum (IsProduct (IsMinus n)))) ends_sum left result self.old.rest.now self.new.rest.now }
+        ensures only { Finds (λ n. sum_text (product_text (minus_text deep n))) ends_sum left result self.old.rest.now self.new.rest.now }
+        ensures stuck { Halts (λ n. sum_text (product_text (minus_text deep n))) left result self.old.rest.now self.new.rest.now }
     {
         let start = self.rest;
         let first = self.chain(Chain::Product, left)?;
@@ -176,10 +187,11 @@ impl<'a> Parser<'a> {
 
     /// Takes the terms behind the first.
     #[cycle(expression)]
-    fn more_terms(&mut self, left: u32, terms: &mut Vec<(bool, RawExpr)>) -> Result<(), ParseFault>
+    fn more_terms(&mut self, left: u32, terms: &mut Vec<(bool, RawExpr)>) -> Result<(), Refusal>
         ensures found { IfOk result (λ _. (more : _) × (terms.new.items ≡ terms.old.items ++ more) × Spans (each (IsTerm (IsProduct (IsMinus left))) more) self.old.rest.now self.new.rest.now) }
         ensures over { IfOk result (λ _. begins_term (kind_at self.new.rest.now) ≡ false) }
         ensures only { Finds (λ n. many (term_text n)) ends_sum left result self.old.rest.now self.new.rest.now }
+        ensures stuck { Halts (λ n. many (term_text n)) left result self.old.rest.now self.new.rest.now }
     {
         while let Some(plus) = self.eat_plus() {
             let term = self.chain(Chain::Product, left)?;
@@ -190,12 +202,13 @@ impl<'a> Parser<'a> {
 
     /// Takes "-" Minus | Primary.
     #[cycle(expression)]
-    fn minus(&mut self, left: u32) -> Result<RawExpr, ParseFault>
+    fn minus(&mut self, left: u32) -> Result<RawExpr, Refusal>
         ensures found { Takes (Node (IsMinus left)) result self.old.rest.now self.new.rest.now }
-        ensures only { Finds (λ n. Has (IsMinus n)) ends_path left result self.old.rest.now self.new.rest.now }
+        ensures only { Finds (minus_text deep) ends_path left result self.old.rest.now self.new.rest.now }
+        ensures stuck { Halts (minus_text deep) left result self.old.rest.now self.new.rest.now }
     {
         if left == 0 {
-            return Err(self.no_room(begins_minus(self.kind())));
+            return Err(no_room(begins_minus(self.kind())));
         }
         let start = self.rest;
         if self.eat(TokenKind::Sign(signs::MINUS)) {
@@ -208,9 +221,10 @@ impl<'a> Parser<'a> {
 
     /// Takes a constant, a path, a call, a choice or an expression in brackets.
     #[cycle(expression)]
-    fn primary(&mut self, left: u32) -> Result<RawExpr, ParseFault>
+    fn primary(&mut self, left: u32) -> Result<RawExpr, Refusal>
         ensures found { Takes (Node (IsPrimary (IsExpr left))) result self.old.rest.now self.new.rest.now }
-        ensures only { Finds (λ n. Has (IsPrimary (IsExpr n))) ends_path left result self.old.rest.now self.new.rest.now }
+        ensures only { Finds (λ n. primary_text (expr_text deep n)) ends_path left result self.old.rest.now self.new.rest.now }
+        ensures stuck { Halts (λ n. primary_text (expr_text deep n)) left result self.old.rest.now self.new.rest.now }
     {
         let start = self.rest;
         if let Some(form) = self.eat_constant() {
@@ -237,9 +251,10 @@ impl<'a> Parser<'a> {
 
     /// Takes "(" Expr { "," Expr } ")".
     #[cycle(expression)]
-    fn operands(&mut self, left: u32) -> Result<Vec<RawExpr>, ParseFault>
+    fn operands(&mut self, left: u32) -> Result<Vec<RawExpr>, Refusal>
         ensures found { Takes (λ operands. AreOperands (IsExpr left) operands.items) result self.old.rest.now self.new.rest.now }
-        ensures only { Finds (λ n. Has (AreOperands (IsExpr n))) anything left result self.old.rest.now self.new.rest.now }
+        ensures only { Finds (λ n. operands_text (expr_text deep n)) anything left result self.old.rest.now self.new.rest.now }
+        ensures stuck { Halts (λ n. operands_text (expr_text deep n)) left result self.old.rest.now self.new.rest.now }
     {
         self.expect(TokenKind::Sign(signs::OPEN_PARENTHESIS))?;
         let first = self.expr(left)?;
@@ -252,9 +267,10 @@ impl<'a> Parser<'a> {
 
     /// Takes { "," Expr }.
     #[cycle(expression)]
-    fn more_arguments(&mut self, left: u32, operands: &mut Vec<RawExpr>) -> Result<(), ParseFault>
+    fn more_arguments(&mut self, left: u32, operands: &mut Vec<RawExpr>) -> Result<(), Refusal>
         ensures found { IfOk result (λ _. (more : _) × (operands.new.items ≡ operands.old.items ++ more) × Spans (each (λ e. token (Sign COMMA) ▸ Node (IsExpr left) e) more) self.old.rest.now self.new.rest.now) }
-        ensures only { Finds (λ n. many (token (Sign COMMA) ▸ Has (IsExpr n))) ends_list left result self.old.rest.now self.new.rest.now }
+        ensures only { Finds (λ n. many (token (Sign COMMA) ▸ expr_text deep n)) ends_list left result self.old.rest.now self.new.rest.now }
+        ensures stuck { Halts (λ n. many (token (Sign COMMA) ▸ expr_text deep n)) left result self.old.rest.now self.new.rest.now }
     {
         while self.eat(TokenKind::Sign(signs::COMMA)) {
             let operand = self.expr(left)?;
@@ -265,16 +281,17 @@ impl<'a> Parser<'a> {
 
     /// Takes "switch" "{" Case { Case } "default" ":" Expr "}".
     #[cycle(expression)]
-    fn switch(&mut self, left: u32) -> Result<RawExpr, ParseFault>
+    fn switch(&mut self, left: u32) -> Result<RawExpr, Refusal>
         ensures found { Takes (Node (IsSwitch (IsExpr left))) result self.old.rest.now self.new.rest.now }
-        ensures only { Finds (λ n. Has (IsSwitch (IsExpr n))) anything left result self.old.rest.now self.new.rest.now }
+        ensures only { Finds (λ n. switch_text (expr_text deep n)) anything left result self.old.rest.now self.new.rest.now }
+        ensures stuck { Halts (λ n. switch_text (expr_text deep n)) left result self.old.rest.now self.new.rest.now }
     {
         let start = self.rest;
         self.expect(TokenKind::Reserved(words::SWITCH))?;
         self.expect(TokenKind::Sign(signs::OPEN_BRACE))?;
         let cases = self.cases(left)?;
         if cases.as_slice().is_empty() {
-            return Err(self.syntax());
+            return Err(Refusal::Syntax);
         }
         self.expect(TokenKind::Reserved(words::DEFAULT))?;
         let other = self.enclosed(
@@ -288,10 +305,11 @@ impl<'a> Parser<'a> {
 
     /// Takes { "case" Expr ":" Expr }.
     #[cycle(expression)]
-    fn cases(&mut self, left: u32) -> Result<Vec<(RawExpr, RawExpr)>, ParseFault>
+    fn cases(&mut self, left: u32) -> Result<Vec<(RawExpr, RawExpr)>, Refusal>
         ensures found { Takes (λ cases. each (IsCase (IsExpr left)) cases.items) result self.old.rest.now self.new.rest.now }
         ensures over { IfOk result (λ _. kind_at self.new.rest.now ≢ Reserved CASE) }
         ensures only { Finds (λ n. many (case_text n)) ends_cases left result self.old.rest.now self.new.rest.now }
+        ensures stuck { Halts (λ n. case_text n ▸ many (case_text n)) left result self.old.rest.now self.new.rest.now }
     {
         let mut cases = Vec::new(self.alloc);
         while self.is_at(TokenKind::Reserved(words::CASE)) {

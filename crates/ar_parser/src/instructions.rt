@@ -1,28 +1,31 @@
 // Instructions.
 
-ghost use Rattle.std.specs.Prelude.{◌≡◌, ◌++◌, ℕ, IfOk};
-ghost use Rattle.ar_lexer.specs.declared.token.TokenKind.TheVariants.{Sign};
+ghost use Rattle.std.specs.Prelude.{◌≡◌, ◌++◌, ℕ, IfOk, IfErr};
+ghost use Rattle.ar_lexer.specs.declared.token.TokenKind.TheVariants.{Sign, Reserved};
 ghost use Rattle.ar_lexer.specs.declared.signs.TheConstants.{SEMICOLON, TIE};
-ghost use Rattle.ar_parser.specs.Words.{between, each, many, Has};
+ghost use Rattle.ar_parser.specs.Words.{token, deep, ◌▸◌, between, each, many};
 ghost use Rattle.ar_parser.specs.Paths.{IsPath};
 ghost use Rattle.ar_parser.specs.Instructions.{IsInstr, IsElse, IsConditional, IsGroup, IsSimple};
-ghost use Rattle.ar_parser.specs.Results.{Takes, Finds, Spans, anything, ends_group};
+ghost use Rattle.ar_lexer.specs.declared.words.TheConstants.{ELSE};
+ghost use Rattle.ar_parser.specs.Texts.{path_text, expr_text, instr_text, conditional_text, else_text, group_text, simple_text};
+ghost use Rattle.ar_parser.specs.Results.{kind_at, Takes, Finds, Halts, Spans, anything, ends_group};
 
 use crate::begins::begins_instr;
-use crate::cursor::Parser;
-use crate::lexeme::ParseFault;
+use crate::cursor::{Parser, no_room};
+use crate::lexeme::Refusal;
 use ar_lexer::{TokenKind, signs, words};
 use ar_syntax::{Instr, Path};
 
 impl<'a> Parser<'a> {
     /// Takes an instruction, with room for `left` open productions.
     #[cycle(instruction)]
-    pub fn instr(&mut self, left: u32) -> Result<Instr, ParseFault>
+    pub fn instr(&mut self, left: u32) -> Result<Instr, Refusal>
         ensures found { Takes (IsInstr left) result self.old.rest.now self.new.rest.now }
-        ensures only { Finds (λ n. Has (IsInstr n)) anything left result self.old.rest.now self.new.rest.now }
+        ensures only { Finds (instr_text deep) anything left result self.old.rest.now self.new.rest.now }
+        ensures stuck { Halts (instr_text deep) left result self.old.rest.now self.new.rest.now }
     {
         if left == 0 {
-            return Err(self.no_room(begins_instr(self.kind())));
+            return Err(no_room(begins_instr(self.kind())));
         }
         if self.is_at(TokenKind::Reserved(words::IF)) {
             return self.conditional(left - 1);
@@ -35,9 +38,10 @@ impl<'a> Parser<'a> {
 
     /// Takes "if" Expr "then" Instr [ "else" Instr ].
     #[cycle(instruction)]
-    fn conditional(&mut self, left: u32) -> Result<Instr, ParseFault>
+    fn conditional(&mut self, left: u32) -> Result<Instr, Refusal>
         ensures found { Takes (IsConditional left) result self.old.rest.now self.new.rest.now }
-        ensures only { Finds (λ n. Has (IsConditional n)) anything left result self.old.rest.now self.new.rest.now }
+        ensures only { Finds (λ n. conditional_text (expr_text deep n) (instr_text deep n)) anything left result self.old.rest.now self.new.rest.now }
+        ensures stuck { Halts (λ n. conditional_text (expr_text deep n) (instr_text deep n)) left result self.old.rest.now self.new.rest.now }
     {
         let test = self.enclosed(
             TokenKind::Reserved(words::IF),
@@ -52,9 +56,11 @@ impl<'a> Parser<'a> {
 
     /// Takes [ "else" Instr ].
     #[cycle(instruction)]
-    fn other_branch(&mut self, left: u32) -> Result<Option<Box<Instr>>, ParseFault>
+    fn other_branch(&mut self, left: u32) -> Result<Option<Box<Instr>>, Refusal>
         ensures found { Takes (IsElse (IsInstr left)) result self.old.rest.now self.new.rest.now }
-        ensures only { Finds (λ n. Has (IsElse (IsInstr n))) anything left result self.old.rest.now self.new.rest.now }
+        ensures only { Finds (λ n. else_text (instr_text deep n)) anything left result self.old.rest.now self.new.rest.now }
+        ensures began { IfErr result (λ _. kind_at self.old.rest.now ≡ Reserved ELSE) }
+        ensures stuck { Halts (λ n. token (Reserved ELSE) ▸ instr_text deep n) left result self.old.rest.now self.new.rest.now }
     {
         if self.eat(TokenKind::Reserved(words::ELSE)) {
             let inner = self.instr(left)?;
@@ -66,9 +72,10 @@ impl<'a> Parser<'a> {
 
     /// Takes "{" { Instr } "}".
     #[cycle(instruction)]
-    fn group(&mut self, left: u32) -> Result<Instr, ParseFault>
+    fn group(&mut self, left: u32) -> Result<Instr, Refusal>
         ensures found { Takes (IsGroup left) result self.old.rest.now self.new.rest.now }
-        ensures only { Finds (λ n. Has (IsGroup n)) anything left result self.old.rest.now self.new.rest.now }
+        ensures only { Finds (λ n. group_text (instr_text deep n)) anything left result self.old.rest.now self.new.rest.now }
+        ensures stuck { Halts (λ n. group_text (instr_text deep n)) left result self.old.rest.now self.new.rest.now }
     {
         self.expect(TokenKind::Sign(signs::OPEN_BRACE))?;
         let mut instrs = Vec::new(self.alloc);
@@ -79,9 +86,10 @@ impl<'a> Parser<'a> {
 
     /// Takes the instructions of a group: { Instr }.
     #[cycle(instruction)]
-    fn more_instrs(&mut self, left: u32, instrs: &mut Vec<Instr>) -> Result<(), ParseFault>
+    fn more_instrs(&mut self, left: u32, instrs: &mut Vec<Instr>) -> Result<(), Refusal>
         ensures found { IfOk result (λ _. (more : _) × (instrs.new.items ≡ instrs.old.items ++ more) × Spans (each (IsInstr left) more) self.old.rest.now self.new.rest.now) }
-        ensures only { Finds (λ n. many (Has (IsInstr n))) ends_group left result self.old.rest.now self.new.rest.now }
+        ensures only { Finds (λ n. many (instr_text deep n)) ends_group left result self.old.rest.now self.new.rest.now }
+        ensures stuck { Halts (λ n. many (instr_text deep n)) left result self.old.rest.now self.new.rest.now }
     {
         while !self.is_at(TokenKind::Sign(signs::CLOSE_BRACE)) {
             let inner = self.instr(left)?;
@@ -91,9 +99,10 @@ impl<'a> Parser<'a> {
     }
 
     /// Takes Path ( ":=" Expr | ":=:" Path ) ";" or "skip" ";".
-    fn simple(&mut self, left: u32) -> Result<Instr, ParseFault>
+    fn simple(&mut self, left: u32) -> Result<Instr, Refusal>
         ensures found { Takes (IsSimple left) result self.old.rest.now self.new.rest.now }
-        ensures only { Finds (λ n. Has (IsSimple n)) anything left result self.old.rest.now self.new.rest.now }
+        ensures only { Finds (λ n. simple_text (expr_text deep n)) anything left result self.old.rest.now self.new.rest.now }
+        ensures stuck { Halts (λ n. simple_text (expr_text deep n)) left result self.old.rest.now self.new.rest.now }
     {
         if self.eat(TokenKind::Reserved(words::SKIP)) {
             self.expect(TokenKind::Sign(signs::SEMICOLON))?;
@@ -113,9 +122,10 @@ impl<'a> Parser<'a> {
     }
 
     /// Takes ":=:" Path ";".
-    fn tied(&mut self) -> Result<Path, ParseFault>
+    fn tied(&mut self) -> Result<Path, Refusal>
         ensures found { Takes (λ p. between (Sign TIE) (Sign SEMICOLON) (IsPath p)) result self.old.rest.now self.new.rest.now }
-        ensures only { (left : ℕ) → Finds (λ _. between (Sign TIE) (Sign SEMICOLON) (Has IsPath)) anything left result self.old.rest.now self.new.rest.now }
+        ensures only { (left : ℕ) → Finds (λ _. between (Sign TIE) (Sign SEMICOLON) path_text) anything left result self.old.rest.now self.new.rest.now }
+        ensures stuck { (left : ℕ) → Halts (λ _. between (Sign TIE) (Sign SEMICOLON) path_text) left result self.old.rest.now self.new.rest.now }
     {
         self.expect(TokenKind::Sign(signs::TIE))?;
         let path = self.path()?;

@@ -1,4 +1,4 @@
-//! The grammar of models: what source tree a text has.
+//! The grammar of models: what source tree a text has, and where a text that has none is refused.
 #![tactic(auto)]
 
 mod begins;

@@ -4,23 +4,26 @@ ghost use Rattle.std.specs.Prelude.{◌≡◌, ◌++◌, ℕ, IfOk, if◌then◌
 ghost use Rattle.ar_lexer.specs.declared.token.TokenKind.TheVariants.{Name, Sign, Reserved};
 ghost use Rattle.ar_lexer.specs.declared.signs.TheConstants.{COMMA, SEMICOLON, DOT, ARROW, AMPERSAND, EXCLAMATION, QUESTION};
 ghost use Rattle.ar_lexer.specs.declared.words.TheConstants.{EVENT, HIDE};
-ghost use Rattle.ar_parser.specs.Words.{token, ◌▸◌, between, each, many, separated, Has};
+ghost use Rattle.ar_parser.specs.Words.{token, deep, ◌▸◌, between, each, many, separated};
 ghost use Rattle.ar_parser.specs.Expressions.{Node, IsExpr};
 ghost use Rattle.ar_parser.specs.Instructions.{IsInstr};
 ghost use Rattle.ar_parser.specs.Members.{IsType, IsWord, IsSetting, AreSettings, IsDeclared, IsEvent, IsHidden, IsPart, IsTransition, IsAssertion};
-ghost use Rattle.ar_parser.specs.Results.{kind_at, Takes, Finds, Spans, anything, ends_path, ends_expr, ends_list, ends_attribute, ends_semicolon, ends_target, ends_transitions, ends_assertions, begins_part};
+ghost use Rattle.ar_parser.specs.Texts.{one_of, list_of, path_text, is_type, is_target_word, expr_text, setting_text, settings_text, declared_rest, instr_text, is_part};
+ghost use Rattle.ar_parser.specs.Parts.{event_text, part_text, parts_text, guarded_text, transition_of};
+ghost use Rattle.ar_parser.specs.Results.{kind_at, Takes, Finds, Halts, Spans, anything, ends_path, ends_expr, ends_list, ends_attribute, ends_semicolon, ends_target, ends_transitions, ends_assertions, begins_part};
 
 use crate::begins::begins_instr;
 use crate::cursor::Parser;
-use crate::lexeme::ParseFault;
+use crate::lexeme::Refusal;
 use ar_lexer::{TokenKind, signs, words};
 use ar_syntax::{Instr, Member, Part, RawExpr, Setting, TypeForm, TypeName, Word};
 
 impl<'a> Parser<'a> {
     /// Takes a type: "Boolean" | "Integer" | name.
-    pub fn type_name(&mut self) -> Result<TypeName, ParseFault>
+    pub fn type_name(&mut self) -> Result<TypeName, Refusal>
         ensures found { Takes IsType result self.old.rest.now self.new.rest.now }
-        ensures only { (left : ℕ) → Finds (λ _. Has IsType) anything left result self.old.rest.now self.new.rest.now }
+        ensures only { (left : ℕ) → Finds (λ _. one_of is_type) anything left result self.old.rest.now self.new.rest.now }
+        ensures stuck { (left : ℕ) → Halts (λ _. one_of is_type) left result self.old.rest.now self.new.rest.now }
     {
         let at = self.place();
         if self.eat(TokenKind::Reserved(words::BOOLEAN)) {
@@ -43,9 +46,10 @@ impl<'a> Parser<'a> {
     }
 
     /// Takes a word of a target: name | "init" | "reset".
-    fn word(&mut self) -> Result<Word, ParseFault>
+    fn word(&mut self) -> Result<Word, Refusal>
         ensures found { Takes IsWord result self.old.rest.now self.new.rest.now }
-        ensures only { (left : ℕ) → Finds (λ _. Has IsWord) anything left result self.old.rest.now self.new.rest.now }
+        ensures only { (left : ℕ) → Finds (λ _. one_of is_target_word) anything left result self.old.rest.now self.new.rest.now }
+        ensures stuck { (left : ℕ) → Halts (λ _. one_of is_target_word) left result self.old.rest.now self.new.rest.now }
     {
         if self.eat(TokenKind::Reserved(words::INIT)) {
             return Ok(Word::Init);
@@ -58,9 +62,10 @@ impl<'a> Parser<'a> {
     }
 
     /// Takes { "." Word }.
-    fn more_words(&mut self, target: &mut Vec<Word>) -> Result<(), ParseFault>
+    fn more_words(&mut self, target: &mut Vec<Word>) -> Result<(), Refusal>
         ensures found { IfOk result (λ _. (more : _) × (target.new.items ≡ target.old.items ++ more) × Spans (each (λ w. token (Sign DOT) ▸ IsWord w) more) self.old.rest.now self.new.rest.now) }
-        ensures only { (left : ℕ) → Finds (λ _. many (token (Sign DOT) ▸ Has IsWord)) ends_target left result self.old.rest.now self.new.rest.now }
+        ensures only { (left : ℕ) → Finds (λ _. many (token (Sign DOT) ▸ one_of is_target_word)) ends_target left result self.old.rest.now self.new.rest.now }
+        ensures stuck { (left : ℕ) → Halts (λ _. many (token (Sign DOT) ▸ one_of is_target_word)) left result self.old.rest.now self.new.rest.now }
     {
         while self.eat(TokenKind::Sign(signs::DOT)) {
             let word = self.word()?;
@@ -70,9 +75,10 @@ impl<'a> Parser<'a> {
     }
 
     /// Takes the target of a setting: Word { "." Word }.
-    fn target(&mut self) -> Result<Vec<Word>, ParseFault>
+    fn target(&mut self) -> Result<Vec<Word>, Refusal>
         ensures found { Takes (λ target. separated (Sign DOT) IsWord target.items) result self.old.rest.now self.new.rest.now }
-        ensures only { (left : ℕ) → Finds (λ _. Has (separated (Sign DOT) IsWord)) ends_target left result self.old.rest.now self.new.rest.now }
+        ensures only { (left : ℕ) → Finds (λ _. list_of (Sign DOT) (one_of is_target_word)) ends_target left result self.old.rest.now self.new.rest.now }
+        ensures stuck { (left : ℕ) → Halts (λ _. list_of (Sign DOT) (one_of is_target_word)) left result self.old.rest.now self.new.rest.now }
     {
         let first = self.word()?;
         let mut target = Vec::new(self.alloc);
@@ -82,9 +88,10 @@ impl<'a> Parser<'a> {
     }
 
     /// Takes Word { "." Word } "=" Expr.
-    fn setting(&mut self, left: u32) -> Result<Setting, ParseFault>
+    fn setting(&mut self, left: u32) -> Result<Setting, Refusal>
         ensures found { Takes (IsSetting left) result self.old.rest.now self.new.rest.now }
-        ensures only { Finds (λ n. Has (IsSetting n)) ends_expr left result self.old.rest.now self.new.rest.now }
+        ensures only { Finds (λ n. setting_text (expr_text deep n)) ends_expr left result self.old.rest.now self.new.rest.now }
+        ensures stuck { Halts (λ n. setting_text (expr_text deep n)) left result self.old.rest.now self.new.rest.now }
     {
         let at = self.place();
         let target = self.target()?;
@@ -94,9 +101,10 @@ impl<'a> Parser<'a> {
     }
 
     /// Takes { "," Setting }.
-    fn more_settings(&mut self, left: u32, settings: &mut Vec<Setting>) -> Result<(), ParseFault>
+    fn more_settings(&mut self, left: u32, settings: &mut Vec<Setting>) -> Result<(), Refusal>
         ensures found { IfOk result (λ _. (more : _) × (settings.new.items ≡ settings.old.items ++ more) × Spans (each (λ s. token (Sign COMMA) ▸ IsSetting left s) more) self.old.rest.now self.new.rest.now) }
-        ensures only { Finds (λ n. many (token (Sign COMMA) ▸ Has (IsSetting n))) ends_list left result self.old.rest.now self.new.rest.now }
+        ensures only { Finds (λ n. many (token (Sign COMMA) ▸ setting_text (expr_text deep n))) ends_list left result self.old.rest.now self.new.rest.now }
+        ensures stuck { Halts (λ n. many (token (Sign COMMA) ▸ setting_text (expr_text deep n))) left result self.old.rest.now self.new.rest.now }
     {
         while self.eat(TokenKind::Sign(signs::COMMA)) {
             let setting = self.setting(left)?;
@@ -106,9 +114,10 @@ impl<'a> Parser<'a> {
     }
 
     /// Takes [ "(" Setting { "," Setting } ")" ].
-    fn settings(&mut self, left: u32) -> Result<Vec<Setting>, ParseFault>
+    fn settings(&mut self, left: u32) -> Result<Vec<Setting>, Refusal>
         ensures found { Takes (λ settings. AreSettings left settings.items) result self.old.rest.now self.new.rest.now }
-        ensures only { Finds (λ n. Has (AreSettings n)) ends_attribute left result self.old.rest.now self.new.rest.now }
+        ensures only { Finds (λ n. settings_text (expr_text deep n)) ends_attribute left result self.old.rest.now self.new.rest.now }
+        ensures stuck { Halts (λ n. settings_text (expr_text deep n)) left result self.old.rest.now self.new.rest.now }
     {
         let mut settings = Vec::new(self.alloc);
         if !self.is_at(TokenKind::Sign(signs::OPEN_PARENTHESIS)) {
@@ -123,9 +132,10 @@ impl<'a> Parser<'a> {
     }
 
     /// Takes a declaration: Type Names [ Settings ] ";".
-    pub fn declaration(&mut self, left: u32) -> Result<Member, ParseFault>
+    pub fn declaration(&mut self, left: u32) -> Result<Member, Refusal>
         ensures found { Takes (IsDeclared left) result self.old.rest.now self.new.rest.now }
-        ensures only { Finds (λ n. Has (IsDeclared n)) anything left result self.old.rest.now self.new.rest.now }
+        ensures only { Finds (λ n. one_of is_type ▸ declared_rest (expr_text deep n)) anything left result self.old.rest.now self.new.rest.now }
+        ensures stuck { Halts (λ n. one_of is_type ▸ declared_rest (expr_text deep n)) left result self.old.rest.now self.new.rest.now }
     {
         let of_type = self.type_name()?;
         let names = self.names()?;
@@ -135,9 +145,10 @@ impl<'a> Parser<'a> {
     }
 
     /// Takes name [ "(" Unread ")" ].
-    fn event(&mut self, left: u32) -> Result<Member, ParseFault>
+    fn event(&mut self, left: u32) -> Result<Member, Refusal>
         ensures found { Takes (IsEvent left) result self.old.rest.now self.new.rest.now }
-        ensures only { Finds (λ n. Has (IsEvent n)) ends_attribute left result self.old.rest.now self.new.rest.now }
+        ensures only { Finds event_text ends_attribute left result self.old.rest.now self.new.rest.now }
+        ensures stuck { Halts event_text left result self.old.rest.now self.new.rest.now }
     {
         let (name, at) = self.placed_name()?;
         let attribute = self.attribute(left)?;
@@ -145,9 +156,10 @@ impl<'a> Parser<'a> {
     }
 
     /// Takes { "," Event }.
-    fn more_events(&mut self, left: u32, members: &mut Vec<Member>) -> Result<(), ParseFault>
+    fn more_events(&mut self, left: u32, members: &mut Vec<Member>) -> Result<(), Refusal>
         ensures found { IfOk result (λ _. (more : _) × (members.new.items ≡ members.old.items ++ more) × Spans (each (λ m. token (Sign COMMA) ▸ IsEvent left m) more) self.old.rest.now self.new.rest.now) }
-        ensures only { Finds (λ n. many (token (Sign COMMA) ▸ Has (IsEvent n))) ends_semicolon left result self.old.rest.now self.new.rest.now }
+        ensures only { Finds (λ n. many (token (Sign COMMA) ▸ event_text n)) ends_semicolon left result self.old.rest.now self.new.rest.now }
+        ensures stuck { Halts (λ n. many (token (Sign COMMA) ▸ event_text n)) left result self.old.rest.now self.new.rest.now }
     {
         while self.eat(TokenKind::Sign(signs::COMMA)) {
             let event = self.event(left)?;
@@ -157,9 +169,10 @@ impl<'a> Parser<'a> {
     }
 
     /// Takes "event" Event { "," Event } ";".
-    pub fn events(&mut self, left: u32, members: &mut Vec<Member>) -> Result<(), ParseFault>
+    pub fn events(&mut self, left: u32, members: &mut Vec<Member>) -> Result<(), Refusal>
         ensures found { IfOk result (λ _. (ms : _) × (members.new.items ≡ members.old.items ++ ms) × Spans (between (Reserved EVENT) (Sign SEMICOLON) (separated (Sign COMMA) (IsEvent left) ms)) self.old.rest.now self.new.rest.now) }
-        ensures only { Finds (λ n. between (Reserved EVENT) (Sign SEMICOLON) (Has (separated (Sign COMMA) (IsEvent n)))) anything left result self.old.rest.now self.new.rest.now }
+        ensures only { Finds (λ n. between (Reserved EVENT) (Sign SEMICOLON) (list_of (Sign COMMA) (event_text n))) anything left result self.old.rest.now self.new.rest.now }
+        ensures stuck { Halts (λ n. between (Reserved EVENT) (Sign SEMICOLON) (list_of (Sign COMMA) (event_text n))) left result self.old.rest.now self.new.rest.now }
     {
         self.expect(TokenKind::Reserved(words::EVENT))?;
         let first = self.event(left)?;
@@ -170,18 +183,20 @@ impl<'a> Parser<'a> {
     }
 
     /// Takes the path of a hidden event.
-    fn hidden(&mut self) -> Result<Member, ParseFault>
+    fn hidden(&mut self) -> Result<Member, Refusal>
         ensures found { Takes IsHidden result self.old.rest.now self.new.rest.now }
-        ensures only { (left : ℕ) → Finds (λ _. Has IsHidden) ends_path left result self.old.rest.now self.new.rest.now }
+        ensures only { (left : ℕ) → Finds (λ _. path_text) ends_path left result self.old.rest.now self.new.rest.now }
+        ensures stuck { (left : ℕ) → Halts (λ _. path_text) left result self.old.rest.now self.new.rest.now }
     {
         let path = self.path()?;
         Ok(Member::Hide(path))
     }
 
     /// Takes { "," Path }.
-    fn more_hidden(&mut self, members: &mut Vec<Member>) -> Result<(), ParseFault>
+    fn more_hidden(&mut self, members: &mut Vec<Member>) -> Result<(), Refusal>
         ensures found { IfOk result (λ _. (more : _) × (members.new.items ≡ members.old.items ++ more) × Spans (each (λ m. token (Sign COMMA) ▸ IsHidden m) more) self.old.rest.now self.new.rest.now) }
-        ensures only { (left : ℕ) → Finds (λ _. many (token (Sign COMMA) ▸ Has IsHidden)) ends_semicolon left result self.old.rest.now self.new.rest.now }
+        ensures only { (left : ℕ) → Finds (λ _. many (token (Sign COMMA) ▸ path_text)) ends_semicolon left result self.old.rest.now self.new.rest.now }
+        ensures stuck { (left : ℕ) → Halts (λ _. many (token (Sign COMMA) ▸ path_text)) left result self.old.rest.now self.new.rest.now }
     {
         while self.eat(TokenKind::Sign(signs::COMMA)) {
             let hidden = self.hidden()?;
@@ -191,9 +206,10 @@ impl<'a> Parser<'a> {
     }
 
     /// Takes "hide" Path { "," Path } ";".
-    pub fn hides(&mut self, members: &mut Vec<Member>) -> Result<(), ParseFault>
+    pub fn hides(&mut self, members: &mut Vec<Member>) -> Result<(), Refusal>
         ensures found { IfOk result (λ _. (ms : _) × (members.new.items ≡ members.old.items ++ ms) × Spans (between (Reserved HIDE) (Sign SEMICOLON) (separated (Sign COMMA) IsHidden ms)) self.old.rest.now self.new.rest.now) }
-        ensures only { (left : ℕ) → Finds (λ _. between (Reserved HIDE) (Sign SEMICOLON) (Has (separated (Sign COMMA) IsHidden))) anything left result self.old.rest.now self.new.rest.now }
+        ensures only { (left : ℕ) → Finds (λ _. between (Reserved HIDE) (Sign SEMICOLON) (list_of (Sign COMMA) path_text)) anything left result self.old.rest.now self.new.rest.now }
+        ensures stuck { (left : ℕ) → Halts (λ _. between (Reserved HIDE) (Sign SEMICOLON) (list_of (Sign COMMA) path_text)) left result self.old.rest.now self.new.rest.now }
     {
         self.expect(TokenKind::Reserved(words::HIDE))?;
         let first = self.hidden()?;
@@ -204,9 +220,10 @@ impl<'a> Parser<'a> {
     }
 
     /// Takes "!" or "?": true for "!".
-    fn must(&mut self) -> Result<bool, ParseFault>
+    fn must(&mut self) -> Result<bool, Refusal>
         ensures found { Takes (λ must. token (Sign (if must then EXCLAMATION else QUESTION))) result self.old.rest.now self.new.rest.now }
-        ensures only { (left : ℕ) → Finds (λ _. Has (λ must. token (Sign (if must then EXCLAMATION else QUESTION)))) anything left result self.old.rest.now self.new.rest.now }
+        ensures only { (left : ℕ) → Finds (λ _. one_of is_part) anything left result self.old.rest.now self.new.rest.now }
+        ensures stuck { (left : ℕ) → Halts (λ _. one_of is_part) left result self.old.rest.now self.new.rest.now }
     {
         if self.eat(TokenKind::Sign(signs::EXCLAMATION)) {
             return Ok(true);
@@ -216,9 +233,10 @@ impl<'a> Parser<'a> {
     }
 
     /// Takes ( "!" | "?" ) Path.
-    fn part(&mut self) -> Result<Part, ParseFault>
+    fn part(&mut self) -> Result<Part, Refusal>
         ensures found { Takes IsPart result self.old.rest.now self.new.rest.now }
-        ensures only { (left : ℕ) → Finds (λ _. Has IsPart) ends_path left result self.old.rest.now self.new.rest.now }
+        ensures only { (left : ℕ) → Finds (λ _. part_text) ends_path left result self.old.rest.now self.new.rest.now }
+        ensures stuck { (left : ℕ) → Halts (λ _. part_text) left result self.old.rest.now self.new.rest.now }
     {
         let must = self.must()?;
         let event = self.path()?;
@@ -226,9 +244,10 @@ impl<'a> Parser<'a> {
     }
 
     /// Takes { "&" Part }.
-    fn more_parts(&mut self, parts: &mut Vec<Part>) -> Result<(), ParseFault>
+    fn more_parts(&mut self, parts: &mut Vec<Part>) -> Result<(), Refusal>
         ensures found { IfOk result (λ _. (more : _) × (parts.new.items ≡ parts.old.items ++ more) × Spans (each (λ p. token (Sign AMPERSAND) ▸ IsPart p) more) self.old.rest.now self.new.rest.now) }
-        ensures only { (left : ℕ) → Finds (λ _. many (token (Sign AMPERSAND) ▸ Has IsPart)) ends_semicolon left result self.old.rest.now self.new.rest.now }
+        ensures only { (left : ℕ) → Finds (λ _. many (token (Sign AMPERSAND) ▸ part_text)) ends_semicolon left result self.old.rest.now self.new.rest.now }
+        ensures stuck { (left : ℕ) → Halts (λ _. many (token (Sign AMPERSAND) ▸ part_text)) left result self.old.rest.now self.new.rest.now }
     {
         while self.eat(TokenKind::Sign(signs::AMPERSAND)) {
             let part = self.part()?;
@@ -238,9 +257,10 @@ impl<'a> Parser<'a> {
     }
 
     /// Takes Part { "&" Part } ";".
-    fn parts(&mut self) -> Result<Vec<Part>, ParseFault>
+    fn parts(&mut self) -> Result<Vec<Part>, Refusal>
         ensures found { Takes (λ parts. separated (Sign AMPERSAND) IsPart parts.items ▸ token (Sign SEMICOLON)) result self.old.rest.now self.new.rest.now }
-        ensures only { (left : ℕ) → Finds (λ _. Has (separated (Sign AMPERSAND) IsPart) ▸ token (Sign SEMICOLON)) anything left result self.old.rest.now self.new.rest.now }
+        ensures only { (left : ℕ) → Finds (λ _. parts_text) anything left result self.old.rest.now self.new.rest.now }
+        ensures stuck { (left : ℕ) → Halts (λ _. parts_text) left result self.old.rest.now self.new.rest.now }
     {
         let first = self.part()?;
         let mut parts = Vec::new(self.alloc);
@@ -251,9 +271,10 @@ impl<'a> Parser<'a> {
     }
 
     /// Takes Expr "->" Instr.
-    fn guarded(&mut self, left: u32) -> Result<(RawExpr, Instr), ParseFault>
+    fn guarded(&mut self, left: u32) -> Result<(RawExpr, Instr), Refusal>
         ensures found { Takes (λ x. Node (IsExpr left) x.0 ▸ token (Sign ARROW) ▸ IsInstr left x.1) result self.old.rest.now self.new.rest.now }
-        ensures only { Finds (λ n. Has (IsExpr n) ▸ token (Sign ARROW) ▸ Has (IsInstr n)) anything left result self.old.rest.now self.new.rest.now }
+        ensures only { Finds guarded_text anything left result self.old.rest.now self.new.rest.now }
+        ensures stuck { Halts guarded_text left result self.old.rest.now self.new.rest.now }
     {
         let guard = self.expr(left)?;
         self.expect(TokenKind::Sign(signs::ARROW))?;
@@ -270,9 +291,10 @@ impl<'a> Parser<'a> {
     }
 
     /// Takes name ":" ( Part { "&" Part } ";" | Expr "->" Instr ).
-    fn transition(&mut self, left: u32) -> Result<Member, ParseFault>
+    fn transition(&mut self, left: u32) -> Result<Member, Refusal>
         ensures found { Takes (IsTransition left) result self.old.rest.now self.new.rest.now }
-        ensures only { Finds (λ n. Has (IsTransition n)) anything left result self.old.rest.now self.new.rest.now }
+        ensures only { Finds transition_of anything left result self.old.rest.now self.new.rest.now }
+        ensures stuck { Halts transition_of left result self.old.rest.now self.new.rest.now }
     {
         let (name, at) = self.placed_name()?;
         self.expect(TokenKind::Sign(signs::COLON))?;
@@ -285,9 +307,10 @@ impl<'a> Parser<'a> {
     }
 
     /// Takes { Transition }.
-    pub fn transitions(&mut self, left: u32, members: &mut Vec<Member>) -> Result<(), ParseFault>
+    pub fn transitions(&mut self, left: u32, members: &mut Vec<Member>) -> Result<(), Refusal>
         ensures found { IfOk result (λ _. (more : _) × (members.new.items ≡ members.old.items ++ more) × Spans (each (IsTransition left) more) self.old.rest.now self.new.rest.now) }
-        ensures only { Finds (λ n. many (Has (IsTransition n))) ends_transitions left result self.old.rest.now self.new.rest.now }
+        ensures only { Finds (λ n. many (transition_of n)) ends_transitions left result self.old.rest.now self.new.rest.now }
+        ensures stuck { Halts (λ n. many (transition_of n)) left result self.old.rest.now self.new.rest.now }
     {
         while self.is_at(TokenKind::Name) {
             let transition = self.transition(left)?;
@@ -297,9 +320,10 @@ impl<'a> Parser<'a> {
     }
 
     /// Takes the instructions of an assertion: { Instr }.
-    pub fn assertions(&mut self, left: u32, members: &mut Vec<Member>) -> Result<(), ParseFault>
+    pub fn assertions(&mut self, left: u32, members: &mut Vec<Member>) -> Result<(), Refusal>
         ensures found { IfOk result (λ _. (more : _) × (members.new.items ≡ members.old.items ++ more) × Spans (each (IsAssertion left) more) self.old.rest.now self.new.rest.now) }
-        ensures only { Finds (λ n. many (Has (IsInstr n))) ends_assertions left result self.old.rest.now self.new.rest.now }
+        ensures only { Finds (λ n. many (instr_text deep n)) ends_assertions left result self.old.rest.now self.new.rest.now }
+        ensures stuck { Halts (λ n. many (instr_text deep n)) left result self.old.rest.now self.new.rest.now }
     {
         while begins_instr(self.kind()) {
             let instr = self.instr(left)?;

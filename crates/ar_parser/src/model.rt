@@ -1,50 +1,40 @@
 // Domains, items and models.
 
-ghost use Rattle.std.specs.Prelude.{◌≡◌, ◌++◌, ℕ, Ok, IfOk, IfErr, ◌≢◌};
+ghost use Rattle.std.specs.Prelude.{◌≡◌, ◌++◌, ℕ, Ok, IfOk, IfErr, IfSome};
 ghost use Rattle.ar_lexer.specs.declared.token.TokenKind.TheVariants.{End, Sign};
 ghost use Rattle.ar_lexer.specs.declared.signs.TheConstants.{SEMICOLON};
-ghost use Rattle.ar_parser.specs.declared.lexeme.ParseFault.TheVariants.{Lex, Depth, Memory};
-ghost use Rattle.ar_parser.specs.Words.{token, nothing, ◌∣◌, each, many, Has};
+ghost use Rattle.ar_parser.specs.Words.{token, deep, nothing, ◌∣◌, each, many, Has};
+ghost use Rattle.ar_parser.specs.Texts.{maybe, whole_text, bound_text, domain_text, item_text, model_text};
+ghost use Rattle.ar_parser.specs.Parts.{domain_body_text};
 ghost use Rattle.ar_parser.specs.Models.{IsWhole, IsBound, IsDomainBody, IsDomain, IsItem, AreItems};
-ghost use Rattle.ar_parser.specs.Results.{Takes, Finds, Spans, Reaches, anything, ends_item, is_end};
+ghost use Rattle.ar_parser.specs.Results.{Takes, Finds, Halts, Spans, Gets, Plain, AreUnsigned, IsRefusedAs, anything, ends_item, is_end};
 
 use crate::begins::begins_item;
 use crate::cursor::Parser;
-use crate::lexeme::ParseFault;
+use crate::lexeme::Refusal;
 use ar_lexer::{TokenKind, signs, words};
 use ar_syntax::{DomainBody, DomainDecl, Item};
 
-/// The refusal of a text that has tokens.
-fn grammatical(fault: ParseFault) -> ParseFault
-    ensures tokens { (at : _) → result ≢ Lex at }
-    ensures deep { (at : _) → fault ≡ Depth at → result ≡ Depth at }
-    ensures memory { fault ≡ Memory → result ≡ Memory }
-{
-    match fault {
-        ParseFault::Lex(at) => ParseFault::Syntax(at),
-        other => other,
-    }
-}
-
 impl<'a> Parser<'a> {
     /// Takes a whole number.
-    fn whole(&mut self) -> Result<i64, ParseFault>
+    fn whole(&mut self) -> Result<i64, Refusal>
+        requires { AreUnsigned self.old.rest.now }
         ensures found { Takes IsWhole result self.old.rest.now self.new.rest.now }
-        ensures only { (left : ℕ) → Finds (λ _. Has IsWhole) anything left result self.old.rest.now self.new.rest.now }
+        ensures only { (left : ℕ) → Finds (λ _. whole_text) anything left result self.old.rest.now self.new.rest.now }
+        ensures stuck { (left : ℕ) → Halts (λ _. whole_text) left result self.old.rest.now self.new.rest.now }
     {
-        if let TokenKind::Whole(n) = self.kind() {
-            if n >= 0 {
-                self.expect(TokenKind::Whole(n))?;
-                return Ok(n);
-            }
+        match self.eat_whole() {
+            Some(n) => Ok(n),
+            None => Err(Refusal::Syntax),
         }
-        Err(self.syntax())
     }
 
     /// Takes a bound of a range: [ "-" ] whole.
-    fn bound(&mut self) -> Result<i64, ParseFault>
+    fn bound(&mut self) -> Result<i64, Refusal>
+        requires { AreUnsigned self.old.rest.now }
         ensures found { Takes IsBound result self.old.rest.now self.new.rest.now }
-        ensures only { (left : ℕ) → Finds (λ _. Has IsBound) anything left result self.old.rest.now self.new.rest.now }
+        ensures only { (left : ℕ) → Finds (λ _. bound_text) anything left result self.old.rest.now self.new.rest.now }
+        ensures stuck { (left : ℕ) → Halts (λ _. bound_text) left result self.old.rest.now self.new.rest.now }
     {
         if self.eat(TokenKind::Sign(signs::MINUS)) {
             let n = self.whole()?;
@@ -54,9 +44,11 @@ impl<'a> Parser<'a> {
     }
 
     /// Takes what a domain holds: "{" Names "}" | "[" Bound "," Bound "]".
-    fn domain_body(&mut self) -> Result<DomainBody, ParseFault>
+    fn domain_body(&mut self) -> Result<DomainBody, Refusal>
+        requires { AreUnsigned self.old.rest.now }
         ensures found { Takes IsDomainBody result self.old.rest.now self.new.rest.now }
-        ensures only { (left : ℕ) → Finds (λ _. Has IsDomainBody) anything left result self.old.rest.now self.new.rest.now }
+        ensures only { (left : ℕ) → Finds (λ _. domain_body_text) anything left result self.old.rest.now self.new.rest.now }
+        ensures stuck { (left : ℕ) → Halts (λ _. domain_body_text) left result self.old.rest.now self.new.rest.now }
     {
         if self.eat(TokenKind::Sign(signs::OPEN_BRACE)) {
             let symbols = self.names()?;
@@ -74,15 +66,17 @@ impl<'a> Parser<'a> {
     /// Takes the semicolon that may stand behind a domain.
     fn skip_semicolon(&mut self)
         ensures found { Spans (nothing ∣ token (Sign SEMICOLON)) self.old.rest.now self.new.rest.now }
-        ensures only { (left : ℕ) → Finds {A = Unit {0}} (λ _. nothing ∣ token (Sign SEMICOLON)) ends_item left (Ok tt) self.old.rest.now self.new.rest.now }
+        ensures only { (left : ℕ) → Finds {A = Unit {0}} (λ _. maybe (token (Sign SEMICOLON))) ends_item left (Ok tt) self.old.rest.now self.new.rest.now }
     {
         self.eat(TokenKind::Sign(signs::SEMICOLON));
     }
 
     /// Takes "domain" name DomainBody [ ";" ].
-    fn domain(&mut self) -> Result<DomainDecl, ParseFault>
+    fn domain(&mut self) -> Result<DomainDecl, Refusal>
+        requires { AreUnsigned self.old.rest.now }
         ensures found { Takes IsDomain result self.old.rest.now self.new.rest.now }
-        ensures only { (left : ℕ) → Finds (λ _. Has IsDomain) ends_item left result self.old.rest.now self.new.rest.now }
+        ensures only { (left : ℕ) → Finds (λ _. domain_text) ends_item left result self.old.rest.now self.new.rest.now }
+        ensures stuck { (left : ℕ) → Halts (λ _. domain_text) left result self.old.rest.now self.new.rest.now }
     {
         self.expect(TokenKind::Reserved(words::DOMAIN))?;
         let (name, at) = self.placed_name()?;
@@ -92,9 +86,11 @@ impl<'a> Parser<'a> {
     }
 
     /// Takes an item, with room for `left` open productions.
-    fn item(&mut self, left: u32) -> Result<Item, ParseFault>
+    fn item(&mut self, left: u32) -> Result<Item, Refusal>
+        requires { AreUnsigned self.old.rest.now }
         ensures found { Takes (IsItem left) result self.old.rest.now self.new.rest.now }
-        ensures only { Finds (λ n. Has (IsItem n)) ends_item left result self.old.rest.now self.new.rest.now }
+        ensures only { Finds (item_text deep) ends_item left result self.old.rest.now self.new.rest.now }
+        ensures stuck { Halts (item_text deep) left result self.old.rest.now self.new.rest.now }
     {
         if self.is_at(TokenKind::Reserved(words::DOMAIN)) {
             let domain = self.domain()?;
@@ -110,9 +106,11 @@ impl<'a> Parser<'a> {
     }
 
     /// Takes the items behind the first.
-    fn more_items(&mut self, left: u32, items: &mut Vec<Item>) -> Result<(), ParseFault>
+    fn more_items(&mut self, left: u32, items: &mut Vec<Item>) -> Result<(), Refusal>
+        requires { AreUnsigned self.old.rest.now }
         ensures found { IfOk result (λ _. (more : _) × (items.new.items ≡ items.old.items ++ more) × Spans (each (IsItem left) more) self.old.rest.now self.new.rest.now) }
-        ensures only { Finds (λ n. many (Has (IsItem n))) is_end left result self.old.rest.now self.new.rest.now }
+        ensures only { Finds (λ n. many (item_text deep n)) is_end left result self.old.rest.now self.new.rest.now }
+        ensures stuck { Halts (λ n. many (item_text deep n)) left result self.old.rest.now self.new.rest.now }
     {
         while begins_item(self.kind()) {
             let item = self.item(left)?;
@@ -122,9 +120,11 @@ impl<'a> Parser<'a> {
     }
 
     /// Takes the items of a model: Item { Item }.
-    fn items(&mut self, left: u32) -> Result<Vec<Item>, ParseFault>
+    fn items(&mut self, left: u32) -> Result<Vec<Item>, Refusal>
+        requires { AreUnsigned self.old.rest.now }
         ensures found { Takes (λ items. AreItems left items.items) result self.old.rest.now self.new.rest.now }
-        ensures only { Finds (λ n. Has (AreItems n)) is_end left result self.old.rest.now self.new.rest.now }
+        ensures only { Finds (model_text deep) is_end left result self.old.rest.now self.new.rest.now }
+        ensures stuck { Halts (model_text deep) left result self.old.rest.now self.new.rest.now }
     {
         let first = self.item(left)?;
         let mut items = Vec::new(self.alloc);
@@ -133,19 +133,18 @@ impl<'a> Parser<'a> {
         Ok(items)
     }
 
-    /// Takes all that is left as the items of a model.
-    pub fn model(&mut self, left: u32) -> Result<Vec<Item>, ParseFault>
+    /// Takes all that is left as the items of a model, or stops at the token that is refused.
+    pub fn model(&mut self, left: u32) -> Result<Vec<Item>, Refusal>
+        requires unsigned { AreUnsigned self.old.rest.now }
+        requires plain { Plain self.old.rest.now }
         ensures found { IfOk result (λ items. AreItems left items.items End self.old.rest.now) }
-        ensures only { (n : ℕ) → Has (AreItems n) End self.old.rest.now → Reaches left n result }
-        ensures tokens { IfErr result (λ e. (at : _) → e ≢ Lex at) }
+        ensures only { (n : ℕ) → Has (AreItems n) End self.old.rest.now → Gets left n result }
+        ensures stuck { IfErr result (λ e. IsRefusedAs left e self.old.rest.now self.new.rest.now) }
     {
-        let items = match self.items(left) {
-            Ok(items) => items,
-            Err(fault) => return Err(grammatical(fault)),
-        };
+        let items = self.items(left)?;
         if self.rest.is_empty() {
             return Ok(items);
         }
-        Err(ParseFault::Syntax(self.place()))
+        Err(Refusal::Syntax)
     }
 }

@@ -1,6 +1,6 @@
 // The tokens of a text, with the numbers of their names.
 
-ghost use Rattle.std.specs.Prelude.{◌≡◌, ◌≢◌, ◌+◌, ◌-◌, ◌<◌, ◌≤◌, ◌^◌, [], ◌∷◌, ◌++◌, length, map, IfOk, IfErr};
+ghost use Rattle.std.specs.Prelude.{◌≡◌, ◌≢◌, ◌+◌, ◌-◌, ◌<◌, ◌≤◌, ◌^◌, [], ◌∷◌, ◌++◌, length, map, reverse, IfOk, IfErr};
 ghost use Rattle.ar_base.specs.Counts.{limit_of};
 ghost use Rattle.ar_base.specs.declared.counts.Count.TheVariants.{ModelBytes};
 ghost use Rattle.ar_lexer.specs.declared.token.TokenKind.TheVariants.{Name};
@@ -39,29 +39,30 @@ fn number(text: &[u8], token: &Token, names: &mut Names) -> Result<NameId, Parse
     Ok(id)
 }
 
-/// The tokens with the numbers of their names.
+/// The tokens, which are given last one first, with the numbers of their names. A token's room is given back once most are numbered.
 fn numbered(
     alloc: Global,
     text: &[u8],
-    tokens: &[Token],
+    mut left: Vec<Token>,
     names: &mut Names,
 ) -> Result<Vec<Lexeme>, ParseFault>
-    requires spelled { AreSpelled text.now tokens.now }
-    requires room { length names.old + length tokens.now < 2 ^ 32 }
-    ensures found { IfOk result (λ ls. (map token_of ls.items ≡ tokens.now) × AreNumbered text.now names.old ls.items names.new) }
+    requires spelled { AreSpelled text.now (reverse left.items) }
+    requires room { length names.old + length (reverse left.items) < 2 ^ 32 }
+    ensures found { IfOk result (λ ls. (map token_of ls.items ≡ reverse left.items) × AreNumbered text.now names.old ls.items names.new) }
     ensures fault { IfErr result (λ e. e ≡ Memory) }
 {
     let mut lexemes = Vec::new(alloc);
-    let mut rest = tokens;
-    while let Some((token, more)) = rest.split_first() {
-        let name = number(text, token, names)?;
+    while let Some(token) = left.pop() {
+        let name = number(text, &token, names)?;
         lexemes.push(Lexeme {
             kind: token.kind,
             span: token.span,
             at: token.at,
             name,
         })?;
-        rest = more;
+        if left.len() <= left.capacity() / 2 {
+            left.shrink_to_fit();
+        }
     }
     Ok(lexemes)
 }
@@ -89,15 +90,12 @@ pub fn lexemes(
     ensures found { IfOk result (λ x. AreLexemes text.now x.0.items names.new x.1) }
     ensures fault { IfErr result (λ e. e ≢ Memory → (at : _) × (e ≡ Lex at) × HasFaultAt text.now at) }
 {
-    let all = match tokens(alloc, text) {
+    let mut all = match tokens(alloc, text) {
         Ok(all) => all,
         Err(fault) => return Err(lexical(fault)),
     };
-    match all.as_slice().split_last() {
-        Some((end, found)) => {
-            let lexemes = numbered(alloc, text, found, names)?;
-            Ok((lexemes, end.at))
-        }
-        None => Err(ParseFault::Memory),
-    }
+    let end = all.pop().unwrap();
+    all.reverse();
+    let lexemes = numbered(alloc, text, all, names)?;
+    Ok((lexemes, end.at))
 }

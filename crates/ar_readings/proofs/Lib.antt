@@ -1,4 +1,5 @@
 pub mod Agreeing
+pub mod Firsts
 pub mod OnePath
 pub mod OneExpression
 pub mod OneInstruction

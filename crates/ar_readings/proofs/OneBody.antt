@@ -24,8 +24,8 @@ use Rattle.ar_parser.specs.Members as grammar
 use Rattle.ar_parser.specs.Results.{kind_at, anything, is_word, ends_path, ends_attribute, ends_semicolon, ends_body, ends_members, ends_section, begins_instr, begins_keyed, begins_section, begins_later}
 use Rattle.ar_parser.proofs.Finding.{fails, token_kind, then_kind, kind_join}
 use Rattle.ar_parser.proofs.ExpressionForms.{either, or_left, or_right, sign_from, word_from}
-use Rattle.ar_parser.proofs.InstrParts.{instr_first}
-use Rattle.ar_parser.proofs.BodyParts.{section_first, section_ends_assertions, keyed_first, member_first, member_open, later_open, later_first}
+use Rattle.ar_parser.proofs.BodyParts.{section_ends_assertions, member_open, later_open}
+use Rattle.ar_readings.proofs.Firsts.{instr_first, section_first, keyed_first, member_first, later_first}
 use Rattle.ar_readings.specs.Expressions.{SamePath, SameExpr}
 use Rattle.ar_readings.specs.Members.{SameUnitBy, SameMemberBy, SameMemberToDepth, SameMember, SameUnit}
 use Rattle.ar_readings.specs.Members as same

@@ -16,7 +16,7 @@ use Rattle.ar_parser.specs.Instructions.{IsElse, IsIfOf, IsGroupOf, IsSimpleOf, 
 use Rattle.ar_parser.specs.Results.{kind_at, anything, is_sign, is_word, ends_group, begins_instr}
 use Rattle.ar_parser.proofs.Finding.{fails, then_kind}
 use Rattle.ar_parser.proofs.ExpressionForms.{sign_from, word_from}
-use Rattle.ar_parser.proofs.InstrParts.{instr_first}
+use Rattle.ar_readings.proofs.Firsts.{instr_first}
 use Rattle.ar_readings.specs.Expressions.{SamePath, SameExpr, SameOption, SameSteps, SameStepsToDepth, SameInstr}
 use Rattle.ar_readings.specs.Expressions as same
 use Rattle.ar_readings.proofs.Agreeing.{Agree, First, other, first_token, first_front, not_both, meet, agree_map, agree_all, agree_apart, agree_token, agree_then, agree_next, agree_each}

@@ -11,7 +11,8 @@ use Rattle.ar_parser.specs.Words.{Form, Tokens, kind_or, token, ◌▸◌, many,
 use Rattle.ar_parser.specs.Members.{plain_token, unread, unread_piece, IsAttribute, kept, kept_piece}
 use Rattle.ar_parser.specs.Results.{kind_at, anything, is_sign, ends_unread, ends_kept, ends_attribute}
 use Rattle.ar_parser.proofs.Finding.{cons_head, then_kind}
-use Rattle.ar_parser.proofs.UnreadParts.{unread_first, unread_open}
+use Rattle.ar_parser.proofs.UnreadParts.{unread_open}
+use Rattle.ar_readings.proofs.Firsts.{unread_first}
 use Rattle.ar_readings.proofs.Agreeing.{Agree, First, other, first_token, first_front, first_nothing, meet, sorted, agree_map, agree_apart, agree_nothing, agree_next, agree_each}
 use Rattle.ar_readings.proofs.OneExpression.{agree_between, one_span}
 

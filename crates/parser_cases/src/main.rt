@@ -1,9 +1,13 @@
 //! Prints the source tree of the worked model of two pumps behind a valve: the numbers of its names, and then each
-//! item, a member a line. What it must print was written by hand from the text.
+//! item, a member a line. Behind it stand texts, each with its answer: how many items it has, or where it is refused.
+//! What it must print was written by hand from the texts and the grammar.
 #![tactic(auto)]
+
+mod cases;
 
 use ar_parser::{ParseFault, parse};
 use ar_syntax::{Item, Model, Unit};
+use cases::print_cases;
 use std::{fs, io};
 
 /// The room for the text, in bytes.
@@ -66,14 +70,20 @@ fn print_model(rt: &HostRuntime, model: &Model) -> io::Result<()> {
     println!(rt; "end {:?}", model.end)
 }
 
-fn main(rt: HostRuntime) -> io::Result<()> {
-    let text = fs::read(&rt, "plant.model")?;
+// Prints the tree of the model of two pumps.
+fn print_plant(rt: &HostRuntime) -> io::Result<()> {
+    let text = fs::read(rt, "plant.model")?;
     if text.len() > ROOM {
         return println!(rt; "too long");
     }
     match parse(rt.alloc(), &text) {
-        Ok(model) => print_model(&rt, &model),
+        Ok(model) => print_model(rt, &model),
         Err(ParseFault::Memory) => Err(io::Error::from(io::ErrorKind::OutOfMemory)),
         Err(fault) => println!(rt; "{fault:?}"),
     }
+}
+
+fn main(rt: HostRuntime) -> io::Result<()> {
+    print_plant(&rt)?;
+    print_cases(&rt)
 }

@@ -1,5 +1,5 @@
 use Rattle.std.proofs.Common.{length, ◌+◌, ◌*◌}
-use Rattle.ar_parser.specs.Words.{Has}
+use Rattle.ar_parser.specs.Parts.{member_text, later_text}
 use Rattle.ar_parser.specs.Members.{IsMember, IsLater, IsBody}
 use Rattle.ar_parser.specs.Results.{ends_members, ends_body}
 use Rattle.ar_parser.proofs.BodyParts.{GathersGroups}
@@ -31,14 +31,14 @@ decreases-sections l = 8 * l.left + 5
 
 abbrev pub invariant-members-loop-self : goal.invariant-members-loop-self
 invariant-members-loop-self l =
-    GathersGroups (IsMember l.left (IsBody l.left)) (λ n. Has (IsMember n (IsBody n))) ends_members l.fn.members.items l.members.items l.fn.self.rest.now l.self.rest.now
+    GathersGroups (IsMember l.left (IsBody l.left)) member_text ends_members l.fn.members.items l.members.items l.fn.self.rest.now l.self.rest.now
 
 abbrev pub decreases-members-loop-self : goal.decreases-members-loop-self
 decreases-members-loop-self l = length l.self.rest.now
 
 abbrev pub invariant-later_clauses-loop-self : goal.invariant-later_clauses-loop-self
 invariant-later_clauses-loop-self l =
-    GathersGroups (IsLater l.left (IsBody l.left)) (λ n. Has (IsLater n (IsBody n))) ends_body l.fn.members.items l.members.items l.fn.self.rest.now l.self.rest.now
+    GathersGroups (IsLater l.left (IsBody l.left)) later_text ends_body l.fn.members.items l.members.items l.fn.self.rest.now l.self.rest.now
 
 abbrev pub decreases-later_clauses-loop-self : goal.decreases-later_clauses-loop-self
 decreases-later_clauses-loop-self l = length l.self.rest.now

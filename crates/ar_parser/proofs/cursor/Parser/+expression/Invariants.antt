@@ -3,12 +3,14 @@ use Rattle.ar_lexer.specs.declared.token.TokenKind.TheVariants.{Sign}
 use Rattle.ar_lexer.specs.declared.signs.TheConstants.{COMMA}
 use Rattle.ar_parser.specs.declared.terms.Chain.{Chain}
 use Rattle.ar_parser.specs.declared.terms.Chain.TheVariants.{Any, All, Product}
-use Rattle.ar_parser.specs.Words.{token, ◌▸◌, Has}
+use Rattle.ar_parser.specs.Words.{token, deep, ◌▸◌}
 use Rattle.ar_parser.specs.Expressions.{Node, IsExpr, IsMinus, IsProduct, IsTerm, IsCase}
-use Rattle.ar_parser.specs.Chains.{separator_of, operand_form, ends_chain, term_text, case_text}
+use Rattle.ar_parser.specs.Chains.{separator_of, operand_form, ends_chain}
+use Rattle.ar_parser.specs.Texts.{expr_text}
 use Rattle.ar_parser.specs.Results.{ends_sum, ends_list, ends_cases}
 use Rattle.ar_parser.proofs.Finding.{Gathers}
 use Rattle.ar_parser.proofs.cursor.Parser.+expression.Given as goal
+use Rattle.ar_parser.specs.Parts.{operand_text, term_text, case_text}
 
 -- how far a chain stands above its operands
 abbrev rank_of : Chain → ℕ
@@ -66,7 +68,7 @@ decreases-compare l = 8 * l.left + 6
 
 abbrev pub invariant-more_operands-loop-chain : goal.invariant-more_operands-loop-chain
 invariant-more_operands-loop-chain l =
-    Gathers (λ e. token (separator_of l.chain) ▸ Node (operand_form l.chain l.left) e) (λ n. token (separator_of l.chain) ▸ Has (operand_form l.chain n)) (ends_chain l.chain)
+    Gathers (λ e. token (separator_of l.chain) ▸ Node (operand_form l.chain l.left) e) (λ n. token (separator_of l.chain) ▸ operand_text l.chain n) (ends_chain l.chain)
     l.fn.operands.items l.operands.items l.fn.self.rest.now l.self.rest.now
 
 abbrev pub decreases-more_operands-loop-chain : goal.decreases-more_operands-loop-chain
@@ -81,7 +83,7 @@ decreases-more_terms-loop-plus l = length l.self.rest.now
 
 abbrev pub invariant-more_arguments-loop-self : goal.invariant-more_arguments-loop-self
 invariant-more_arguments-loop-self l =
-    Gathers (λ e. token (Sign COMMA) ▸ Node (IsExpr l.left) e) (λ n. token (Sign COMMA) ▸ Has (IsExpr n)) ends_list l.fn.operands.items l.operands.items l.fn.self.rest.now l.self.rest.now
+    Gathers (λ e. token (Sign COMMA) ▸ Node (IsExpr l.left) e) (λ n. token (Sign COMMA) ▸ expr_text deep n) ends_list l.fn.operands.items l.operands.items l.fn.self.rest.now l.self.rest.now
 
 abbrev pub decreases-more_arguments-loop-self : goal.decreases-more_arguments-loop-self
 decreases-more_arguments-loop-self l = length l.self.rest.now

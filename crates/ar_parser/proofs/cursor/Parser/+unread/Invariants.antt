@@ -1,8 +1,9 @@
 use Rattle.std.proofs.Common.{length, ◌+◌, ◌*◌}
-use Rattle.ar_parser.specs.Members.{unread, unread_piece}
+use Rattle.ar_parser.specs.Members.{unread}
 use Rattle.ar_parser.specs.Results.{Spans, ends_unread}
 use Rattle.ar_parser.proofs.Finding.{Loops}
 use Rattle.ar_parser.proofs.cursor.Parser.+unread.Given as goal
+use Rattle.ar_parser.specs.Parts.{unread_text}
 
 abbrev pub decreases-unread_group : goal.decreases-unread_group
 decreases-unread_group l = 4 * l.left
@@ -15,7 +16,7 @@ decreases-unread l = 4 * l.left + 2
 
 abbrev pub invariant-unread-loop-self : goal.invariant-unread-loop-self
 invariant-unread-loop-self l =
-    Spans (unread l.left) l.fn.self.rest.now l.self.rest.now × Loops unread_piece ends_unread l.fn.self.rest.now l.self.rest.now
+    Spans (unread l.left) l.fn.self.rest.now l.self.rest.now × Loops unread_text ends_unread l.fn.self.rest.now l.self.rest.now
 
 abbrev pub decreases-unread-loop-self : goal.decreases-unread-loop-self
 decreases-unread-loop-self l = length l.self.rest.now

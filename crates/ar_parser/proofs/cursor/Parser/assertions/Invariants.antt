@@ -1,6 +1,6 @@
 use Rattle.std.proofs.Common.{length}
-use Rattle.ar_parser.specs.Words.{Has}
-use Rattle.ar_parser.specs.Instructions.{IsInstr}
+use Rattle.ar_parser.specs.Words.{deep}
+use Rattle.ar_parser.specs.Texts.{instr_text}
 use Rattle.ar_parser.specs.Members.{IsAssertion}
 use Rattle.ar_parser.specs.Results.{ends_assertions}
 use Rattle.ar_parser.proofs.Finding.{Gathers}
@@ -8,7 +8,7 @@ use Rattle.ar_parser.proofs.cursor.Parser.assertions.Given as goal
 
 abbrev pub invariant-loop-self : goal.invariant-loop-self
 invariant-loop-self l =
-    Gathers (IsAssertion l.left) (λ n. Has (IsInstr n)) ends_assertions l.fn.members.items l.members.items l.fn.self.rest.now l.self.rest.now
+    Gathers (IsAssertion l.left) (instr_text deep) ends_assertions l.fn.members.items l.members.items l.fn.self.rest.now l.self.rest.now
 
 abbrev pub decreases-loop-self : goal.decreases-loop-self
 decreases-loop-self l = length l.self.rest.now

@@ -8,6 +8,8 @@ use Rattle.std.proofs.lemmas.Int.{ints}
 use mir.Syntax.{w64}
 use mir.Val.{SFits}
 use Rattle.ar_parser.proofs.cursor.Parser.bound.Goals as goal
+use Rattle.ar_parser.proofs.Standing.{halts_err, halts_over, refuses_then, refuses_map, refuses_from, passes_token}
+use Rattle.std.proofs.Common.{inl, inr}
 
 pub returns-in_err-n-clause-only : goal.returns-in_err-n-clause-only
 returns-in_err-n-clause-only c = λ left. finds_given (finds_then (finds_token c.if-eat.ensures.taken) (finds_err (c.in_err-n.ensures.only left) c.from_residual.ensures.1) follows_any) (λ n next ts h s k. (bound_minus next ts h (k ∙ eats_kind c.if-eat.ensures.taken), refl))
@@ -23,3 +25,9 @@ returns-clause-found c = takes_from IsBound _ _ _ _ (takes_map IsWhole IsBound _
 
 pub returns-clause-only : goal.returns-clause-only
 returns-clause-only c = λ left. finds_from (finds_given (c.whole-2.ensures.only left) (λ n next ts h s k. (bound_whole next ts h (λ e. c.if-eat.ensures.other (ap kind_at (sym c.if-eat.ensures.left) ∙ sym k ∙ e)), refl))) c.if-eat.ensures.left
+
+pub returns-in_err-n-clause-stuck : goal.returns-in_err-n-clause-stuck
+returns-in_err-n-clause-stuck c = λ left. halts_err _ _ c.from_residual.ensures.1 (refuses_map (refuses_then (passes_token c.if-eat.ensures.taken) (c.in_err-n.ensures.stuck left)) (λ m next ts h. inr h))
+
+pub returns-clause-stuck : goal.returns-clause-stuck
+returns-clause-stuck c = λ left. halts_over _ (c.whole-2.ensures.stuck left) (λ e r. refuses_from (refuses_map r (λ m next ts h. inl h)) (sym c.if-eat.ensures.left))

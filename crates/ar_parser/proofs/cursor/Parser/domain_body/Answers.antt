@@ -6,6 +6,12 @@ use Rattle.std.proofs.Common.{rules}
 use mir.Syntax.{w64}
 use mir.Val.{SFits}
 use Rattle.ar_parser.proofs.cursor.Parser.domain_body.Goals as goal
+use Rattle.ar_parser.proofs.Standing.{halts_err, refuses_fails, refuses_then, refuses_map, refuses_from, passes, passes_token, passes_expected, begins_then, begins_token}
+use Rattle.ar_parser.proofs.ItemParts.{turns_bound, some_bound, range_domain}
+use Rattle.ar_parser.proofs.MemberParts.{turns_names}
+use Rattle.std.proofs.Common.{inl}
+use Rattle.ar_lexer.specs.declared.token.TokenKind.TheVariants.{Sign}
+use Rattle.ar_lexer.specs.declared.signs.TheConstants.{CLOSE_BRACE, CLOSE_BRACKET, COMMA}
 
 pub returns-in_err-symbols-clause-only : goal.returns-in_err-symbols-clause-only
 returns-in_err-symbols-clause-only c = λ left. finds_given (finds_then (finds_token c.if-eat.ensures.taken) (finds_fails (c.in_err-symbols.ensures.only left) c.from_residual.ensures.1 (follows_token refl)) follows_any) (λ n next ts h s k. (domain_symbols next ts h (k ∙ eats_kind c.if-eat.ensures.taken), refl))
@@ -39,3 +45,24 @@ returns-clause-found c = let f : SFits w64 c.in_ok-low.low = search rules in let
 
 pub returns-clause-only : goal.returns-clause-only
 returns-clause-only c = λ left. finds_from (finds_given (finds_then (c.in_ok-expect-2.ensures.only left) (finds_then (c.in_ok-low.ensures.only left) (finds_then (c.in_ok-expect-3.ensures.only left) (finds_then (c.in_ok-high.ensures.only left) (finds_ok _ (c.in_ok-expect-4.ensures.only left)) follows_any) follows_any) follows_any) follows_any) (λ n next ts h s k. (domain_range next ts h (λ e. c.if-eat.ensures.other (ap kind_at (sym c.if-eat.ensures.left) ∙ sym k ∙ e)), refl))) c.if-eat.ensures.left
+
+pub returns-in_err-symbols-clause-stuck : goal.returns-in_err-symbols-clause-stuck
+returns-in_err-symbols-clause-stuck c = λ left. halts_err _ _ c.from_residual.ensures.1 (refuses_map (refuses_then (passes_token c.if-eat.ensures.taken) (refuses_fails (c.in_err-symbols.ensures.stuck left) (λ m. begins_token (Sign CLOSE_BRACE)))) (λ m next ts h. inl h))
+
+pub returns-in_err-expect-clause-stuck : goal.returns-in_err-expect-clause-stuck
+returns-in_err-expect-clause-stuck c = λ left. halts_err _ _ c.from_residual-in_err-expect.ensures.1 (refuses_map (refuses_then (passes_token c.if-eat.ensures.taken) (refuses_then (passes c.in_ok-symbols.ensures.found (λ m l. turns_names c.in_ok-symbols.symbols.items)) (c.in_err-expect.ensures.stuck left))) (λ m next ts h. inl h))
+
+pub returns-in_err-expect-2-clause-stuck : goal.returns-in_err-expect-2-clause-stuck
+returns-in_err-expect-2-clause-stuck c = λ left. halts_err _ _ c.from_residual-in_err-expect-2.ensures.1 (refuses_from (refuses_map (refuses_fails (c.in_err-expect-2.ensures.stuck left) (λ m. begins_then some_bound (begins_then (begins_token (Sign COMMA)) (begins_then some_bound (begins_token (Sign CLOSE_BRACKET)))))) (λ m next ts h. range_domain next ts h)) (sym c.if-eat.ensures.left))
+
+pub returns-in_err-low-clause-stuck : goal.returns-in_err-low-clause-stuck
+returns-in_err-low-clause-stuck c = λ left. halts_err _ _ c.from_residual-in_err-low.ensures.1 (refuses_from (refuses_map (refuses_then (passes_expected c.in_ok-expect-2.ensures.found) (refuses_fails (c.in_err-low.ensures.stuck left) (λ m. begins_then (begins_token (Sign COMMA)) (begins_then some_bound (begins_token (Sign CLOSE_BRACKET)))))) (λ m next ts h. range_domain next ts h)) (sym c.if-eat.ensures.left))
+
+pub returns-in_err-expect-3-clause-stuck : goal.returns-in_err-expect-3-clause-stuck
+returns-in_err-expect-3-clause-stuck c = λ left. halts_err _ _ c.from_residual-in_err-expect-3.ensures.1 (refuses_from (refuses_map (refuses_then (passes_expected c.in_ok-expect-2.ensures.found) (refuses_then (passes c.in_ok-low.ensures.found (λ m l. turns_bound c.in_ok-low.low)) (refuses_fails (c.in_err-expect-3.ensures.stuck left) (λ m. begins_then some_bound (begins_token (Sign CLOSE_BRACKET)))))) (λ m next ts h. range_domain next ts h)) (sym c.if-eat.ensures.left))
+
+pub returns-in_err-high-clause-stuck : goal.returns-in_err-high-clause-stuck
+returns-in_err-high-clause-stuck c = λ left. halts_err _ _ c.from_residual-in_err-high.ensures.1 (refuses_from (refuses_map (refuses_then (passes_expected c.in_ok-expect-2.ensures.found) (refuses_then (passes c.in_ok-low.ensures.found (λ m l. turns_bound c.in_ok-low.low)) (refuses_then (passes_expected c.in_ok-expect-3.ensures.found) (refuses_fails (c.in_err-high.ensures.stuck left) (λ m. begins_token (Sign CLOSE_BRACKET)))))) (λ m next ts h. range_domain next ts h)) (sym c.if-eat.ensures.left))
+
+pub returns-in_err-expect-4-clause-stuck : goal.returns-in_err-expect-4-clause-stuck
+returns-in_err-expect-4-clause-stuck c = λ left. halts_err _ _ c.from_residual-in_err-expect-4.ensures.1 (refuses_from (refuses_map (refuses_then (passes_expected c.in_ok-expect-2.ensures.found) (refuses_then (passes c.in_ok-low.ensures.found (λ m l. turns_bound c.in_ok-low.low)) (refuses_then (passes_expected c.in_ok-expect-3.ensures.found) (refuses_then (passes c.in_ok-high.ensures.found (λ m l. turns_bound c.in_ok-high.high)) (c.in_err-expect-4.ensures.stuck left))))) (λ m next ts h. range_domain next ts h)) (sym c.if-eat.ensures.left))

@@ -7,6 +7,8 @@ use Rattle.ar_lexer.specs.declared.signs.TheConstants.{DOT}
 use Rattle.ar_parser.proofs.Finding.{finds_then, finds_token, finds_memory, loops_next, loops_fail, loops_stop, spans_token, spans_then, spans_push, eats_kind, follows_any, then_kind, finds_at}
 use Rattle.ar_parser.proofs.PathForms.{spans_name}
 use Rattle.ar_parser.proofs.cursor.Parser.more_steps.Goals as goal
+use Rattle.ar_parser.proofs.Standing.{halts_err, halts_memory, refuses_turn, refuses_then, passes, passes_token, turns_each, turns_then, turns_token}
+use Rattle.ar_parser.proofs.Turning.{turns_name}
 
 pub returns-in_err-name-clause-only : goal.returns-in_err-name-clause-only
 returns-in_err-name-clause-only c = λ left.
@@ -33,3 +35,11 @@ pub returns-clause-only : goal.returns-clause-only
 returns-clause-only c = λ left.
     let a = c.loop-self-test.ensures in
     finds_at (loops_stop c.loop-self.invariant.3 (λ n next ts h k. a.other (sym k ∙ then_kind h))) a.left
+
+pub returns-in_err-name-clause-stuck : goal.returns-in_err-name-clause-stuck
+returns-in_err-name-clause-stuck c = λ left.
+    let i = c.loop-self.invariant in
+    halts_err _ _ c.from_residual.ensures.1 (refuses_turn (passes i.2 (λ m l. turns_each (λ x. turns_then turns_token (turns_name x)) i.0)) (refuses_then (passes_token c.loop-self-test.ensures.taken) (c.in_err-name.ensures.stuck left)))
+
+pub returns-in_err-push-clause-stuck : goal.returns-in_err-push-clause-stuck
+returns-in_err-push-clause-stuck c = λ left. halts_memory _ _ _ _ _ c.from_residual-in_err-push.ensures.1

@@ -2,6 +2,8 @@ use Rattle.std.proofs.Common.{sym, ap, ◌∙◌}
 use Rattle.ar_parser.specs.Results.{ends_target}
 use Rattle.ar_parser.proofs.Finding.{finds_then, finds_memory, finds_token, finds_at, loops_stop, loops_fail, loops_next, gathers_push, spans_then, spans_token, eats_kind, then_kind, follows_any}
 use Rattle.ar_parser.proofs.cursor.Parser.more_words.Goals as goal
+use Rattle.ar_parser.proofs.Standing.{halts_err, halts_memory, refuses_turn, refuses_then, passes, passes_token, turns_each, turns_then, turns_token}
+use Rattle.ar_parser.proofs.MemberParts.{turns_word}
 
 pub returns-in_err-word-clause-only : goal.returns-in_err-word-clause-only
 returns-in_err-word-clause-only c = λ left. let e = c.loop-self-test.ensures.taken in loops_fail c.loop-self.invariant.loops (ap ends_target (eats_kind e)) (finds_then (finds_token e) (c.in_err-word.ensures.only _) follows_any) c.from_residual.ensures.1 follows_any
@@ -14,3 +16,9 @@ returns-in_err-push-clause-only c = λ left. let e = c.loop-self-test.ensures.ta
 
 pub returns-clause-only : goal.returns-clause-only
 returns-clause-only c = λ left. let a = c.loop-self-test.ensures in finds_at (loops_stop c.loop-self.invariant.loops (λ n next ts h k. a.other (sym k ∙ then_kind h))) a.left
+
+pub returns-in_err-word-clause-stuck : goal.returns-in_err-word-clause-stuck
+returns-in_err-word-clause-stuck c = λ left. let g = c.loop-self.invariant in halts_err _ _ c.from_residual.ensures.1 (refuses_turn (passes g.taken (λ m l. turns_each (λ x. turns_then turns_token (turns_word x)) g.more)) (refuses_then (passes_token c.loop-self-test.ensures.taken) (c.in_err-word.ensures.stuck left)))
+
+pub returns-in_err-push-clause-stuck : goal.returns-in_err-push-clause-stuck
+returns-in_err-push-clause-stuck c = λ left. halts_memory _ _ _ _ _ c.from_residual-in_err-push.ensures.1

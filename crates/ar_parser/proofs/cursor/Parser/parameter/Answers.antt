@@ -3,6 +3,9 @@ use Rattle.ar_parser.specs.Members.{kept_value, parameter}
 use Rattle.ar_parser.proofs.Finding.{finds_then, finds_fails, finds_given, finds_err, finds_ok, spans_then, spans_expected, spans_map, follows_any}
 use Rattle.ar_parser.proofs.BodyParts.{parameter_real, parameter_typed}
 use Rattle.ar_parser.proofs.cursor.Parser.parameter.Goals as goal
+use Rattle.ar_parser.proofs.Standing.{halts_err, refuses_fails, refuses_then, refuses_map, passes_expected, begins_map}
+use Rattle.ar_parser.proofs.BodyTexts.{some_value}
+use Rattle.std.proofs.Common.{inl, inr}
 
 pub returns-in_err-expect-clause-only : goal.returns-in_err-expect-clause-only
 returns-in_err-expect-clause-only c = finds_fails (c.in_err-expect.ensures.only _) c.from_residual.ensures.1 follows_any
@@ -24,3 +27,12 @@ returns-clause-found c = spans_map (spans_then (spans_expected c.in_ok-expect.en
 
 pub returns-clause-only : goal.returns-clause-only
 returns-clause-only c = finds_then (c.in_ok-expect.ensures.only _) (finds_given (finds_ok _ c.in_ok-of_type.ensures.only) (λ n next ts h s k. (parameter_typed n next ts h (λ e. c.if-is_at.ensures.no (sym k ∙ e)), refl))) follows_any
+
+pub returns-in_err-expect-clause-stuck : goal.returns-in_err-expect-clause-stuck
+returns-in_err-expect-clause-stuck c = halts_err _ _ c.from_residual.ensures.1 (refuses_fails (c.in_err-expect.ensures.stuck _) (λ m. begins_map (some_value m) (λ next ts h. inr h)))
+
+pub returns-in_err-kept_name-clause-stuck : goal.returns-in_err-kept_name-clause-stuck
+returns-in_err-kept_name-clause-stuck c = halts_err _ _ c.from_residual-in_err-kept_name.ensures.1 (refuses_then (passes_expected c.in_ok-expect.ensures.found) (refuses_map c.in_err-kept_name.ensures.stuck (λ m next ts h. inl h)))
+
+pub returns-in_err-of_type-clause-stuck : goal.returns-in_err-of_type-clause-stuck
+returns-in_err-of_type-clause-stuck c = halts_err _ _ c.from_residual-in_err-of_type.ensures.1 (refuses_then (passes_expected c.in_ok-expect.ensures.found) (refuses_map c.in_err-of_type.ensures.stuck (λ m next ts h. inr h)))

@@ -2,7 +2,10 @@ use Rattle.std.proofs.Common.{refl, sym, ap, ◌∙◌}
 use Rattle.ar_parser.specs.Instructions.{assign, tie, skip}
 use Rattle.ar_parser.specs.Results.{kind_at}
 use Rattle.ar_parser.proofs.Finding.{finds_then, finds_fails, finds_given, finds_err, finds_ok, finds_token, finds_from, spans_then, spans_token, spans_expected, spans_from, spans_map, eats_kind, follows_any}
-use Rattle.ar_parser.proofs.InstrParts.{simple_skip, simple_parts, simple_follows, simple_tie, simple_assign}
+use Rattle.std.proofs.Common.{inl, inr}
+use Rattle.ar_parser.proofs.Standing.{halts_err, refuses_fails, refuses_then, refuses_map, refuses_from, passes, passes_token}
+use Rattle.ar_parser.proofs.Turning.{turns_path}
+use Rattle.ar_parser.proofs.InstrTexts.{some_assign, simple_skip, simple_parts, simple_follows, simple_tie, simple_assign}
 use Rattle.ar_parser.proofs.cursor.Parser.simple.Goals as goal
 
 pub returns-in_err-expect-clause-only : goal.returns-in_err-expect-clause-only
@@ -34,3 +37,15 @@ returns-clause-found c = spans_from (spans_map (spans_then c.in_ok-path.ensures.
 
 pub returns-clause-only : goal.returns-clause-only
 returns-clause-only c = finds_from (finds_given (finds_then (c.in_ok-path.ensures.only _) (finds_given (finds_ok _ c.in_ok-value.ensures.only) (λ n next ts h s k. (simple_assign n next ts h (λ e. c.if-is_at.ensures.no (sym k ∙ e)), refl))) simple_follows) (λ n next ts h s k. (simple_parts n next ts h (λ e. c.if-eat.ensures.other (ap kind_at (sym c.if-eat.ensures.left) ∙ sym k ∙ e)), refl))) c.if-eat.ensures.left
+
+pub returns-in_err-expect-clause-stuck : goal.returns-in_err-expect-clause-stuck
+returns-in_err-expect-clause-stuck c = halts_err _ _ c.from_residual.ensures.1 (refuses_map (refuses_then (passes_token c.if-eat.ensures.taken) (c.in_err-expect.ensures.stuck _)) (λ m next ts h. inl h))
+
+pub returns-in_err-path-clause-stuck : goal.returns-in_err-path-clause-stuck
+returns-in_err-path-clause-stuck c = halts_err _ _ c.from_residual-in_err-path.ensures.1 (refuses_from (refuses_map (refuses_fails (c.in_err-path.ensures.stuck _) some_assign) (λ m next ts h. inr h)) (sym c.if-eat.ensures.left))
+
+pub returns-in_err-other-clause-stuck : goal.returns-in_err-other-clause-stuck
+returns-in_err-other-clause-stuck c = halts_err _ _ c.from_residual-in_err-other.ensures.1 (refuses_from (refuses_map (refuses_then (passes c.in_ok-path.ensures.found (λ m l. turns_path c.in_ok-path.path)) (refuses_map (c.in_err-other.ensures.stuck _) (λ m next ts h. inr h))) (λ m next ts h. inr h)) (sym c.if-eat.ensures.left))
+
+pub returns-in_err-value-clause-stuck : goal.returns-in_err-value-clause-stuck
+returns-in_err-value-clause-stuck c = halts_err _ _ c.from_residual-in_err-value.ensures.1 (refuses_from (refuses_map (refuses_then (passes c.in_ok-path.ensures.found (λ m l. turns_path c.in_ok-path.path)) (refuses_map c.in_err-value.ensures.stuck (λ m next ts h. inl h))) (λ m next ts h. inr h)) (sym c.if-eat.ensures.left))

@@ -4,8 +4,11 @@ use Rattle.ar_lexer.specs.declared.words.TheConstants.{BOOLEAN}
 use Rattle.ar_parser.specs.Members.{IsDeclared, IsSingle, extends, clones, embeds, observer}
 use Rattle.ar_parser.specs.Results.{kind_at}
 use Rattle.ar_parser.proofs.Finding.{finds_then, finds_given, finds_err, finds_ok, finds_token, finds_from, spans_then, spans_token, spans_map, takes_from, eats_kind, follows_any}
-use Rattle.ar_parser.proofs.BodyParts.{takes_at, single_declared, single_extends, single_boolean, single_clones, single_embeds, single_observer, single_parameter}
+use Rattle.ar_parser.proofs.BodyParts.{takes_at, single_declared, single_extends, single_as_declared, single_of_declared, single_clones, single_embeds, single_observer, single_parameter}
 use Rattle.ar_parser.proofs.cursor.Parser.single.Goals as goal
+use Rattle.ar_parser.proofs.Standing.{halts_err, halts_over, refuses_then, refuses_map, refuses_from, refuses_given, passes_token}
+use Rattle.ar_parser.proofs.BodyTexts.{some_single}
+use Rattle.std.proofs.Common.{inl, inr}
 
 pub returns-in_err-base-clause-only : goal.returns-in_err-base-clause-only
 returns-in_err-base-clause-only c = finds_given (finds_err (c.in_err-base.ensures.only _) c.from_residual.ensures.1) (λ n next ts h s k. (single_extends n next ts h (k ∙ c.if-is_at.ensures.yes), refl))
@@ -20,7 +23,7 @@ pub returns-then-is_at-2-clause-found : goal.returns-then-is_at-2-clause-found
 returns-then-is_at-2-clause-found c = takes_at (IsDeclared c.args.left) (IsSingle c.args.left) _ _ _ (Reserved BOOLEAN) c.declaration.ensures.found c.if-is_at-2.ensures.yes (λ m next ts h k. single_declared c.args.left m next ts h k)
 
 pub returns-then-is_at-2-clause-only : goal.returns-then-is_at-2-clause-only
-returns-then-is_at-2-clause-only c = finds_given c.declaration.ensures.only (λ n next ts h s k. (single_boolean n next ts h (k ∙ c.if-is_at-2.ensures.yes), refl))
+returns-then-is_at-2-clause-only c = finds_given c.declaration.ensures.only (λ n next ts h s k. (single_as_declared n next ts h (k ∙ c.if-is_at-2.ensures.yes), refl))
 
 pub returns-in_err-path-clause-only : goal.returns-in_err-path-clause-only
 returns-in_err-path-clause-only c = finds_given (finds_err (c.in_err-path.ensures.only _) c.from_residual-in_err-path.ensures.1) (λ n next ts h s k. (single_clones n next ts h (k ∙ c.if-is_at-3.ensures.yes), refl))
@@ -54,3 +57,21 @@ returns-clause-found c = takes_from (IsSingle c.args.left) _ _ _ _ c.parameter.e
 
 pub returns-clause-only : goal.returns-clause-only
 returns-clause-only c = finds_from (finds_given c.parameter.ensures.only (λ n next ts h s k. (single_parameter n next ts h (λ e. c.if-is_at.ensures.no (ap kind_at (sym c.if-eat.ensures.left) ∙ sym k ∙ e)) (λ e. c.if-is_at-2.ensures.no (ap kind_at (sym c.if-eat.ensures.left) ∙ sym k ∙ e)) (λ e. c.if-is_at-3.ensures.no (ap kind_at (sym c.if-eat.ensures.left) ∙ sym k ∙ e)) (λ e. c.if-is_at-4.ensures.no (ap kind_at (sym c.if-eat.ensures.left) ∙ sym k ∙ e)) (λ e. c.if-eat.ensures.other (ap kind_at (sym c.if-eat.ensures.left) ∙ sym k ∙ e)), refl))) c.if-eat.ensures.left
+
+pub returns-in_err-base-clause-stuck : goal.returns-in_err-base-clause-stuck
+returns-in_err-base-clause-stuck c = halts_err _ _ c.from_residual.ensures.1 (refuses_map (c.in_err-base.ensures.stuck _) (λ m next ts h. inl h))
+
+pub returns-then-is_at-2-clause-stuck : goal.returns-then-is_at-2-clause-stuck
+returns-then-is_at-2-clause-stuck c = halts_over _ c.declaration.ensures.stuck (λ e r. refuses_given r some_single (λ m next ts h k. single_of_declared m next ts h (k ∙ c.if-is_at-2.ensures.yes)))
+
+pub returns-in_err-path-clause-stuck : goal.returns-in_err-path-clause-stuck
+returns-in_err-path-clause-stuck c = halts_err _ _ c.from_residual-in_err-path.ensures.1 (refuses_map (c.in_err-path.ensures.stuck _) (λ m next ts h. inr (inr (inl h))))
+
+pub returns-in_err-target-clause-stuck : goal.returns-in_err-target-clause-stuck
+returns-in_err-target-clause-stuck c = halts_err _ _ c.from_residual-in_err-target.ensures.1 (refuses_map (c.in_err-target.ensures.stuck _) (λ m next ts h. inr (inr (inr (inl h)))))
+
+pub returns-in_err-of_type-clause-stuck : goal.returns-in_err-of_type-clause-stuck
+returns-in_err-of_type-clause-stuck c = halts_err _ _ c.from_residual-in_err-of_type.ensures.1 (refuses_map (refuses_then (passes_token c.if-eat.ensures.taken) c.in_err-of_type.ensures.stuck) (λ m next ts h. inr (inr (inr (inr (inl h))))))
+
+pub returns-clause-stuck : goal.returns-clause-stuck
+returns-clause-stuck c = halts_over _ c.parameter.ensures.stuck (λ e r. refuses_from (refuses_map r (λ m next ts h. inr (inr (inr (inr (inr h)))))) (sym c.if-eat.ensures.left))

@@ -1,5 +1,5 @@
 use Rattle.std.proofs.Common.{length}
-use Rattle.ar_parser.specs.Words.{Has}
+use Rattle.ar_parser.specs.Parts.{transition_of}
 use Rattle.ar_parser.specs.Members.{IsTransition}
 use Rattle.ar_parser.specs.Results.{ends_transitions}
 use Rattle.ar_parser.proofs.Finding.{Gathers}
@@ -7,7 +7,7 @@ use Rattle.ar_parser.proofs.cursor.Parser.transitions.Given as goal
 
 abbrev pub invariant-loop-self : goal.invariant-loop-self
 invariant-loop-self l =
-    Gathers (IsTransition l.left) (λ n. Has (IsTransition n)) ends_transitions l.fn.members.items l.members.items l.fn.self.rest.now l.self.rest.now
+    Gathers (IsTransition l.left) transition_of ends_transitions l.fn.members.items l.members.items l.fn.self.rest.now l.self.rest.now
 
 abbrev pub decreases-loop-self : goal.decreases-loop-self
 decreases-loop-self l = length l.self.rest.now

@@ -1,5 +1,10 @@
 use Rattle.ar_parser.proofs.Finding.{finds_then, finds_fails, finds_err, finds_ok, spans_then, follows_any}
 use Rattle.ar_parser.proofs.cursor.Parser.valued.Goals as goal
+use Rattle.ar_parser.proofs.Standing.{halts_err, refuses_fails, refuses_then, passes, begins_then, begins_token}
+use Rattle.ar_parser.proofs.Turning.{turns_placed}
+use Rattle.ar_parser.proofs.MemberParts.{turns_type}
+use Rattle.ar_parser.proofs.BodyTexts.{some_equals}
+use Rattle.ar_lexer.specs.declared.token.TokenKind.TheVariants.{Name}
 
 pub returns-in_err-of_type-clause-only : goal.returns-in_err-of_type-clause-only
 returns-in_err-of_type-clause-only c = finds_fails (c.in_err-of_type.ensures.only _) c.from_residual.ensures.1 follows_any
@@ -15,3 +20,12 @@ returns-clause-found c = spans_then c.in_ok-of_type.ensures.found (spans_then c.
 
 pub returns-clause-only : goal.returns-clause-only
 returns-clause-only c = finds_then (c.in_ok-of_type.ensures.only _) (finds_then (c.in_ok-name.ensures.only _) (finds_ok _ c.in_ok-value.ensures.only) follows_any) follows_any
+
+pub returns-in_err-of_type-clause-stuck : goal.returns-in_err-of_type-clause-stuck
+returns-in_err-of_type-clause-stuck c = halts_err _ _ c.from_residual.ensures.1 (refuses_fails (c.in_err-of_type.ensures.stuck _) (λ m. begins_then (begins_token Name) (some_equals m)))
+
+pub returns-in_err-name-clause-stuck : goal.returns-in_err-name-clause-stuck
+returns-in_err-name-clause-stuck c = halts_err _ _ c.from_residual-in_err-name.ensures.1 (refuses_then (passes c.in_ok-of_type.ensures.found (λ m l. turns_type c.in_ok-of_type.of_type)) (refuses_fails (c.in_err-name.ensures.stuck _) some_equals))
+
+pub returns-in_err-value-clause-stuck : goal.returns-in_err-value-clause-stuck
+returns-in_err-value-clause-stuck c = halts_err _ _ c.from_residual-in_err-value.ensures.1 (refuses_then (passes c.in_ok-of_type.ensures.found (λ m l. turns_type c.in_ok-of_type.of_type)) (refuses_then (passes c.in_ok-name.ensures.found (λ m l. turns_placed _)) c.in_err-value.ensures.stuck))

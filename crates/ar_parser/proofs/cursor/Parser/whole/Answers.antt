@@ -1,23 +1,22 @@
-use Rattle.std.proofs.Common.{refl, sym, ap, ◌∙◌}
-use Rattle.ar_lexer.specs.declared.token.TokenKind.TheVariants.{Whole}
-use Rattle.ar_parser.proofs.Finding.{finds_given, finds_err, finds_ok, finds_syntax, spans_expected, spans_map}
-use Rattle.ar_parser.proofs.ItemParts.{whole_token, whole_kind}
-use Rattle.std.proofs.Common.{arith, rules}
-use Rattle.std.proofs.lemmas.Int.{ints, to_z-of_z}
+use Rattle.std.proofs.Common.{refl, sym, ◌∙◌, rules}
 use mir.Syntax.{w64}
 use mir.Val.{SFits}
-use Rattle.ar_parser.proofs.ItemParts.{whole_signed}
-use Rattle.ar_parser.proofs.cursor.Parser.whole.Goals.{in-Whole+else-n-ge0, in_default}
+use Rattle.ar_parser.specs.Models.{IsWhole}
+use Rattle.ar_parser.specs.Results.{Spans}
+use Rattle.ar_parser.specs.declared.lexeme.Refusal.TheVariants.{Syntax}
+use Rattle.ar_parser.proofs.Finding.{finds_given, finds_ok, finds_token, finds_syntax, finds_at, spans_token, spans_map, token_kind, eats_kind}
+use Rattle.ar_parser.proofs.Standing.{refuses_here, refuses_at}
+use Rattle.ar_parser.proofs.ItemParts.{again, no_sign_of, whole_as, some_whole}
 use Rattle.ar_parser.proofs.cursor.Parser.whole.Goals as goal
 
-pub returns-in_err-expect-clause-only : goal.returns-in_err-expect-clause-only
-returns-in_err-expect-clause-only c = let f : SFits w64 c.in-Whole.n = search rules in λ left. finds_given (finds_err (c.in_err-expect.ensures.only left) c.from_residual.ensures.1) (λ n next ts h s k. (whole_token next ts _ h (k ∙ sym c.kind.ensures ∙ c.in-Whole.is ∙ ap Whole (sym (to_z-of_z w64 c.in-Whole.n f))), refl))
+pub returns-in-Some-clause-found : goal.returns-in-Some-clause-found
+returns-in-Some-clause-found c = let f : SFits w64 c.in-Some.n = search rules in again (λ z. Spans (IsWhole z) c.args.self.now.rest.now c.eat_whole.new.self.rest.now) c.in-Some.n f (spans_map (spans_token c.in-Some.ensures.taken) (λ next ts h. record { no_sign = no_sign_of c.in-Some.n c.in-Some.ensures.taken c.requires; reads = h }))
 
-pub returns-then-n-ge0-clause-found : goal.returns-then-n-ge0-clause-found
-returns-then-n-ge0-clause-found c = let f : SFits w64 c.in-Whole.n = search rules in spans_map (spans_expected c.in_ok-expect.ensures.found) (λ next ts h. record { no_sign = omega (arith, ints, f, c.if-n-ge0.true); reads = h })
+pub returns-in-Some-clause-only : goal.returns-in-Some-clause-only
+returns-in-Some-clause-only c = λ left. finds_given (finds_ok _ (finds_token c.in-Some.ensures.taken)) (λ n next ts h s k. (whole_as c.in-Some.n next ts h (k ∙ eats_kind c.in-Some.ensures.taken), refl))
 
-pub returns-then-n-ge0-clause-only : goal.returns-then-n-ge0-clause-only
-returns-then-n-ge0-clause-only c = let f : SFits w64 c.in-Whole.n = search rules in λ left. finds_given (finds_ok _ (c.in_ok-expect.ensures.only left)) (λ n next ts h s k. (whole_token next ts _ h (k ∙ sym c.kind.ensures ∙ c.in-Whole.is ∙ ap Whole (sym (to_z-of_z w64 c.in-Whole.n f))), refl))
+pub returns-in-None-clause-only : goal.returns-in-None-clause-only
+returns-in-None-clause-only c = λ left. finds_at (finds_syntax (λ n next ts h s k. c.in-None.ensures.other h.z (sym k ∙ token_kind h.reads))) c.in-None.ensures.left
 
-pub returns-clause-only : goal.returns-clause-only
-returns-clause-only c = elim c.match-kind.branch [ in-Whole+else-n-ge0 w ↦ (let f : SFits w64 w.in-Whole.n = search rules in λ left. finds_syntax c.syntax.ensures.kind (λ n next ts h s k. whole_signed next ts w.in-Whole.n h (k ∙ sym c.kind.ensures ∙ w.in-Whole.is) f w.if-n-ge0.false)) | in_default w ↦ (λ left. finds_syntax c.syntax.ensures.kind (λ n next ts h s k. let z = whole_kind next ts h in w.in_default.not-Whole z.0 (c.kind.ensures ∙ sym k ∙ z.2))) ]
+pub returns-in-None-clause-stuck : goal.returns-in-None-clause-stuck
+returns-in-None-clause-stuck c = λ left. refuses_at (refuses_here Syntax refl (λ m. some_whole)) c.in-None.ensures.left

@@ -1,3 +1,4 @@
+mod Numbered
 mod NamedVariables
 mod ReaderPairs
 mod FlowUses

@@ -1,14 +1,11 @@
 -- How many facts may still come.
-use Rattle.std.proofs.Common.{◌≡◌, ℕ, zero, suc, ◌+◌, ◌<◌, ◌≤◌, ◌⊎◌, inl, inr, Bool, true, false, cond, ◌||◌, List, [], ◌∷◌, Contains, refl, sym, ap, subst, arith}
-use Rattle.std.specs.Cmp.{unsigned_Decides}
-use Rattle.std.proofs.lemmas.Bool.Decides.{Decides-int_eq}
+use Rattle.std.proofs.Common.{◌≡◌, ℕ, zero, suc, ◌+◌, ◌<◌, ◌≤◌, Bool, true, false, cond, List, [], ◌∷◌, Contains, refl, sym, subst, arith}
 use Rattle.ar_base.specs.Lists.{Stands}
 use Rattle.ar_base.proofs.Standing.{stands_none}
 use Rattle.domains.specs.Domains.{values_of}
 use Rattle.domains.specs.Same.{has_value}
 use Rattle.domains.specs.declared.Value.{Value}
 use Rattle.domains.proofs.Same.{has_in, in_has}
-use Rattle.domains.specs.declared.Value.TheVariants.{Truth, Whole, Symbol}
 use Rattle.gts_core.specs.declared.system.Variable.{Variable}
 use Rattle.flow_propagate.specs.Table.{Rows, row_at, Holds}
 use Rattle.flow_propagate.specs.Closing.{lacking, missing_from}

@@ -1,5 +1,5 @@
 -- Total valuations, and the assignments that do not hold under them.
-use Rattle.std.proofs.Common.{◌≡◌, ℕ, zero, suc, ◌+◌, ◌<◌, ◌≤◌, ◌⊎◌, inl, inr, Bool, true, false, List, [], ◌∷◌, ◌++◌, length, Contains, Some, refl, sym, ap, ◌∙◌, subst, arith, length-append}
+use Rattle.std.proofs.Common.{◌≡◌, ℕ, suc, ◌+◌, ◌<◌, ◌≤◌, ◌⊎◌, inl, inr, Bool, true, false, List, [], ◌∷◌, ◌++◌, length, Contains, Some, refl, sym, ap, ◌∙◌, subst, arith, length-append}
 use Rattle.ar_base.specs.Lists.{Stands, IsFirst, HasNo}
 use Rattle.ar_base.proofs.Standing.{stands_one, stands_map, stands_map_back, stands_within, stands_some, stands_left, stands_next}
 use Rattle.domains.specs.declared.Value.{Value}

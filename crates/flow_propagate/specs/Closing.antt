@@ -1,5 +1,5 @@
 -- How the facts are gathered: which assignments wait to be looked at, and how many facts may still come.
-use Rattle.std.specs.Prelude.{◌≡◌, ℕ, ◌+◌, ◌*◌, ◌<◌, ◌≤◌, ◌⊎◌, Bool, true, false, cond, nat_eq, List, [], ◌∷◌, ◌||◌, ◌-◌, IsTrue, length}
+use Rattle.std.specs.Prelude.{◌≡◌, ℕ, ◌+◌, ◌*◌, ◌<◌, ◌≤◌, ◌⊎◌, Bool, true, false, cond, List, [], ◌∷◌, ◌-◌, IsTrue, length}
 use Rattle.std.specs.BTreeSet.{BTreeSet, contains, btree_set_len}
 use Rattle.std.specs.Ordering.{nat_cmp}
 use Rattle.ar_base.specs.Lists.{Stands, IsOneOf}

@@ -1,8 +1,8 @@
 -- The system of sound parts is lawful.
 use Rattle.std.proofs.Common.{◌≡◌, ◌<◌, ℕ, inl, inr, Bool, false, List, map, length, take, Contains, refl, sym, ap, ◌∙◌, subst}
-use Rattle.ar_base.specs.Lists.{Stands, IsOneOf}
+use Rattle.ar_base.specs.Lists.{IsOneOf}
 use Rattle.ar_base.specs.Numbers.{VarId}
-use Rattle.ar_base.proofs.Standing.{stands_within, stands_map_back, one_here}
+use Rattle.ar_base.proofs.Standing.{stands_map_back, one_here}
 use Rattle.domains.specs.Domains.{values_of}
 use Rattle.domains.specs.declared.Value.{Value}
 use Rattle.domains.proofs.Domains.{listed, held}
@@ -20,7 +20,6 @@ use Rattle.ar_meaning.proofs.Dependence.{tests_one}
 use Rattle.gts_core.specs.View.{numbered, condition_of, assign_of, variable_of, net_of}
 use Rattle.gts_core.specs.Sound.{kind_of_domain, kind_of_found, kind_at, IsTyped, IsAssignTo, IsSound}
 use Rattle.gts_core.specs.Lawful.{kind_by_number, IsTypedAssign, IsLawful}
-use Rattle.gts_core.specs.declared.system.Variable.{Variable}
 use Rattle.gts_core.specs.declared.system.Assign.{Assign}
 use Rattle.gts_core.specs.declared.system.Observer.{Observer}
 use Rattle.gts_core.specs.declared.system.GtsParts.{GtsParts}

@@ -1,5 +1,5 @@
 -- The text of an expression, form by form.
-use Rattle.std.proofs.Common.{◌≡◌, ℕ, Bool, true, false, List, [], ◌∷◌, ◌++◌, map, codes, cond, length, nat_eq, Vec, Box, Global, refl, sym, ap, ◌∙◌, append-nil, arith}
+use Rattle.std.proofs.Common.{◌≡◌, ℕ, Bool, true, false, List, [], ◌∷◌, ◌++◌, map, codes, cond, length, nat_eq, Vec, Box, Global, refl, sym, ap, ◌∙◌}
 use Rattle.std.proofs.lemmas.List.{length-map}
 use Rattle.ar_base.specs.Texts.{separated}
 use Rattle.typed_expr.specs.Yields.{Level}

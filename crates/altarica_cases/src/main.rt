@@ -1,8 +1,9 @@
 //! Runs the worked cases of its folder over a shelf and a sink in memory.
 //!
-//! Each line of the file `cases` is a case: its name, the number of the load that is to fail or `-`, and
-//! the words of the job. Words that name a file of the folder stand for its bytes. For each case its
-//! name, the status and the bytes that were written are printed.
+//! Each line of the file `cases` is a case: its name, the number of the load that is to fail or `-`, the number of
+//! the put that is to fail or `-`, and the words of the job. Words that name a file of the folder stand for its
+//! bytes. For each case its name, the status, how many faults the shelf and the sink counted, and the bytes that
+//! were written are printed.
 #![tactic(auto)]
 
 use altarica_run::altarica;
@@ -26,18 +27,22 @@ fn place(rt: &HostRuntime, shelf: &mut MemoryShelf, name: &str) -> io::Result<()
     }
 }
 
-// Runs the job of the words and prints what it answers.
-fn run(rt: &HostRuntime, name: &str, failing: &str, words: &[String]) -> io::Result<()> {
+// Runs the job of the words, over a shelf and a sink of which these calls fail, and prints what it answers.
+fn run(rt: &HostRuntime, name: &str, failing: [&str; 2], words: &[String]) -> io::Result<()> {
     let mut shelf = MemoryShelf::new(rt.alloc());
     for word in words {
         place(rt, &mut shelf, word.as_str())?;
     }
-    if let Ok(call) = failing.parse::<u32>() {
+    if let Ok(call) = failing[0].parse::<u32>() {
         shelf.fail_at(&[call]).map_err(no_memory)?;
     }
     let mut sink = MemorySink::new(rt.alloc(), ROOM).map_err(no_memory)?;
+    if let Ok(call) = failing[1].parse::<u32>() {
+        sink.fail_at(&[call]).map_err(no_memory)?;
+    }
     let status = altarica(rt.alloc(), words, &mut shelf, &mut sink).number();
-    println!(rt; "{name}: status {status}")?;
+    let faults = (shelf.fault_count(), sink.fault_count());
+    println!(rt; "{name}: status {status} faults {} {}", faults.0, faults.1)?;
     io::writer(rt).write_all(sink.bytes())
 }
 
@@ -45,12 +50,13 @@ fn run(rt: &HostRuntime, name: &str, failing: &str, words: &[String]) -> io::Res
 fn run_line(rt: &HostRuntime, line: &str) -> io::Result<()> {
     let mut parts = line.split(' ');
     let name = parts.next().unwrap_or("");
-    let failing = parts.next().unwrap_or("-");
+    let load = parts.next().unwrap_or("-");
+    let put = parts.next().unwrap_or("-");
     let mut words = Vec::new(rt.alloc());
     for part in parts {
         words.push(String::from_str(rt.alloc(), part)?)?;
     }
-    run(rt, name, failing, &words)
+    run(rt, name, [load, put], &words)
 }
 
 fn main(rt: HostRuntime) -> io::Result<()> {

@@ -1,10 +1,10 @@
 -- Why calls end as they do.
 use Rattle.std.proofs.Common.{ap, Bool, true, false, ◌≡◌, ◌⊎◌, inl, inr, ℕ, List, [], ◌∷◌, Option, Some, None, Result, Ok, Err, refl, sym, ◌∙◌, subst}
 use Rattle.ar_io.specs.Outside.{Told, Bytes}
+use Rattle.ar_io.specs.Writing.{Appended}
 use Rattle.ar_meaning.specs.Runs.{Command, Moment, Starts, Start_fails, Fires, Fire_fails, Goes_back, No_step, Shows, Lists, Ends}
 use Rattle.altarica_run.specs.Small.{Block}
 use Rattle.altarica_run.specs.Jobs.{Job, Replay}
-use Rattle.altarica_run.specs.Outside.{Appended}
 use Rattle.altarica_run.specs.Replays.{IsReplay, status_of_run}
 use Rattle.altarica_run.specs.Refusals.{status_of}
 use Rattle.altarica_run.specs.Scripts.{Why, IsNoCommand, NamesNoEvent}

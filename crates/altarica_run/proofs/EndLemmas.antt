@@ -13,7 +13,7 @@ use Rattle.altarica_run.specs.Scripts.{IsFirable}
 use Rattle.altarica_run.specs.Reads.{fire_of}
 use Rattle.altarica_run.specs.Lines.{start_lines, end_line, piece_of}
 use Rattle.altarica_run.specs.Stepping.{effect_at}
-use Rattle.altarica_run.specs.Outside.{Appended, Cut}
+use Rattle.ar_io.specs.Writing.{Appended, Cut}
 use Rattle.altarica_run.specs.Replays.{IsReplay, BeginsReplay, nothing, whole}
 use Rattle.altarica_run.specs.Played.{Played, AreFirable, IsEnd, Starts, IsStepped}
 use Rattle.altarica_run.specs.declared.binding.BlockSystem.{BlockSystem}
@@ -25,7 +25,8 @@ use Rattle.altarica_run.specs.declared.status.Status.TheVariants.{Done, Fault}
 use Rattle.altarica_run.proofs.Lines.{image_more, image_split}
 use Rattle.altarica_run.proofs.FindLemmas.{starts_long}
 use Rattle.altarica_run.proofs.StepLemmas.{Fires, fires_so}
-use Rattle.altarica_run.proofs.PlayLemmas.{played_start, played_more, replay_ends, replay_fails, replay_begins, appended_more, cut_more, cut_none, cut_nothing, rose_more}
+use Rattle.ar_io.proofs.Writing.{appended_more, cut_more, cut_none, cut_nothing, rose_after}
+use Rattle.altarica_run.proofs.PlayLemmas.{played_start, played_more, replay_ends, replay_fails, replay_begins}
 
 end_at : (b : Block) (cs : List Command) (old new : Option (List ℕ)) (m n : ℕ) (r : Result Ended Broken) (d e : Broken) → r ≡ Err d → d ≡ e → IsEnd b cs old new m n (Err e) → IsEnd b cs old new m n r
 end_at b cs old new m n r d e i j h = let P : Result Ended Broken → Type 0 = λ z. IsEnd b cs old new m n z in subst P (sym (i ∙ ap Err j)) h
@@ -105,7 +106,7 @@ module _ (b : Block) (sound : IsSound b) (z : BlockSystem) (bound : IsBound b z)
     step_failed vs r d x h j g = end_at b (map fire_of events) old new m n r d x h j (go x g)
       where
         go : (x : Broken) → IsStepped o piece values vs now new k n (Err x) → IsEnd b (map fire_of events) old new m n (Err x)
-        go broken.Write g = (played.0 ++ piece, begins o refl, rose_more m k n faults g.0, cut_more old now new played.0 piece played.2 g.1)
+        go broken.Write g = (played.0 ++ piece, begins o refl, rose_after m k n faults g.0, cut_more old now new played.0 piece played.2 g.1)
         go broken.Memory g = (played.0, replay_begins b (map fire_of events) (map fire_of (take i events)) (fire_of e ∷ map fire_of (drop (i + 1) events)) values i played.0 split played.1, cut_none old now new played.0 played.2 g)
 
     pub step_faulted : (vs : List Bool) → IsStepped o piece values vs now new k n (Ok false) → (text : List ℕ) × IsReplay b (map fire_of events) text Fault × Appended old new text
@@ -132,7 +133,7 @@ module _ (b : Block) (sound : IsSound b) (z : BlockSystem) (bound : IsBound b z)
         go broken.Write g = (
           played.0 ++ end_line (length events),
           whole (replay_ends b (map fire_of events) values (length events) played.0 at_all),
-          rose_more m k n faults g.0,
+          rose_after m k n faults g.0,
           cut_more old now new played.0 (end_line (length events)) played.2 g.1,
         )
         go broken.Memory g = (played.0, replay_begins b (map fire_of events) (map fire_of events) [] values (length events) played.0 (sym (append-nil (map fire_of events))) at_all, cut_none old now new played.0 played.2 g)

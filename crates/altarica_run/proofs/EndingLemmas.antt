@@ -4,13 +4,13 @@ use Rattle.std.proofs.lemmas.List.{length-append}
 use Rattle.ar_base.specs.Lists.{Stands}
 use Rattle.ar_base.proofs.Standing.{stands_within}
 use Rattle.ar_io.specs.Outside.{Told}
+use Rattle.ar_io.specs.Writing.{Appended, Cut}
 use Rattle.altarica_run.specs.Small.{Block}
 use Rattle.altarica_run.specs.Sound.{states_of, names_of, moves_of}
 use Rattle.altarica_run.specs.Binding.{IsMoveOf}
 use Rattle.altarica_run.specs.Jobs.{Job, Replay}
 use Rattle.altarica_run.specs.Reads.{fire_of}
 use Rattle.altarica_run.specs.Lines.{IsWhole}
-use Rattle.altarica_run.specs.Outside.{Appended, Cut}
 use Rattle.altarica_run.specs.Played.{AreFirable, Puts, IsEnd, status_of, broken_status}
 use Rattle.altarica_run.specs.Refusals as refusals
 use Rattle.altarica_run.specs.Says.{Prepares, Says, usage, refuses, replays, Loads, Begins, EndsSo}
@@ -31,7 +31,7 @@ use Rattle.altarica_run.specs.declared.status.Status.{Status}
 use Rattle.altarica_run.specs.declared.status.Status.TheVariants as status
 use Rattle.altarica_run.proofs.FindLemmas.{starts_long}
 use Rattle.altarica_run.proofs.SoundLemmas.{states_long}
-use Rattle.altarica_run.proofs.PlayLemmas.{cut_nothing}
+use Rattle.ar_io.proofs.Writing.{cut_nothing}
 
 -- What a replay asks for
 

@@ -1,12 +1,12 @@
 -- What follows from the answer of a call.
 use Rattle.std.proofs.Common.{◌≡◌, ◌⊎◌, ℕ, List, [], ◌∷◌, Option, Some, Ok, Err, length, refl, sym, ◌∙◌, ap, subst, arith, inl, inr}
 use Rattle.std.proofs.lemmas.List.{append-nil}
-use Rattle.ar_io.specs.Outside.{Told, Bytes, Absent, Untold}
+use Rattle.ar_io.specs.Outside.{Told, Bytes, Absent, Untold, MayBeLonger, IsFile}
+use Rattle.ar_io.specs.Writing.{Cut}
 use Rattle.ar_meaning.specs.Runs.{Command, Moment, Starts, Start_fails, Fires, Fire_fails, Goes_back, No_step, Shows, Lists, Ends}
 use Rattle.altarica_run.specs.Small.{Block}
 use Rattle.altarica_run.specs.Scripts.{Why, IsNoCommand, NamesNoEvent}
 use Rattle.altarica_run.specs.Jobs.{Job, Replay, job_of}
-use Rattle.altarica_run.specs.Outside.{MayBeLonger, IsFile, Cut}
 use Rattle.altarica_run.specs.Replays.{IsReplay, status_of_run}
 use Rattle.altarica_run.specs.Refusals.{status_of, line_of}
 use Rattle.altarica_run.specs.Says.{Elaborates, means, no_tokens, no_model, IsModel, Commands, gives, bad, bad_line, Prepares, model_long, script_long, no_block, no_commands, passes, Says, usage, refuses, replays, Loads, Begins, EndsSo}

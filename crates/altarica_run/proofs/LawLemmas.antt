@@ -9,7 +9,8 @@ use Rattle.domains.specs.declared.Value.{Value}
 use Rattle.ar_lexer.specs.Spelling.{AllPass, is_word_byte, IsWord}
 use Rattle.ar_lexer.proofs.Laws.{tokens_one, tokens_no_fault}
 use Rattle.ar_meaning.specs.Runs.{Command, Moment}
-use Rattle.ar_meaning.specs.TraceText.{Naming, Observed, Changed, ChangedLines, MomentText, TraceText, line, all_lines, label_text}
+use Rattle.ar_base.specs.Texts.{line}
+use Rattle.ar_meaning.specs.TraceText.{Naming, Observed, Changed, ChangedLines, MomentText, TraceText, all_lines, label_text}
 use Rattle.ar_meaning.specs.TraceText as trace
 use Rattle.ar_meaning.proofs.OneRun.{runs_same}
 use Rattle.altarica_run.specs.Words.{words}

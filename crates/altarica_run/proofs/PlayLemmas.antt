@@ -12,7 +12,8 @@ use Rattle.ar_meaning.specs.Steps.{NotEnabled}
 use Rattle.ar_meaning.specs.Runs as runs
 use Rattle.ar_meaning.specs.Runs.{Label, Command, Fire, Moment, Starts, Fires, Fire_fails, Ends, Goes, Runs, IsWay, first_values}
 use Rattle.ar_meaning.specs.TraceText as trace
-use Rattle.ar_meaning.specs.TraceText.{Naming, line, text_at, or_nothing, truth_text, variable_line, lines_from, Changed, ChangedLines, label_text, way_text, ways_of, MomentText, TraceText}
+use Rattle.ar_base.specs.Texts.{line, text_at, truth_text}
+use Rattle.ar_meaning.specs.TraceText.{Naming, variable_line, lines_from, Changed, ChangedLines, label_text, way_text, ways_of, MomentText, TraceText}
 use Rattle.altarica_run.specs.Small.{Block}
 use Rattle.altarica_run.specs.Sound.{IsSound, states_of, names_of, moves_of}
 use Rattle.altarica_run.specs.Meaning.{event_meant, system_of, naming_of}
@@ -21,8 +22,6 @@ use Rattle.altarica_run.specs.Reads.{fire_of}
 use Rattle.altarica_run.specs.Lines.{state_line, state_lines, start_lines, changed_line, end_line, piece_of}
 use Rattle.altarica_run.specs.Replays.{IsReplay, BeginsReplay, status_of_run}
 use Rattle.altarica_run.specs.Replays as replays
-use Rattle.ar_io.specs.Outside.{Rose}
-use Rattle.altarica_run.specs.Outside.{Appended, Cut}
 use Rattle.altarica_run.specs.Played.{Played}
 use Rattle.altarica_run.specs.declared.stepping.Effect.{Effect}
 use Rattle.altarica_run.specs.declared.status.Status.TheVariants.{Done, Fault}
@@ -33,7 +32,7 @@ use Rattle.altarica_run.proofs.StepLemmas.{flows_itself, starts_from, one_way, I
 -- Names
 
 same_text : (xs ys : List (List ℕ)) (m n : ℕ) (name : List ℕ) → Stands xs m name → Stands ys n name → text_at xs m ≡ text_at ys n
-same_text xs ys m n name p q = ap or_nothing p ∙ sym (ap or_nothing q)
+same_text xs ys m n name p q = ap (λ o. unwrap_or o []) p ∙ sym (ap (λ o. unwrap_or o []) q)
 
 module _ (b : Block) where
   state_text : (n : ℕ) → n < length b.states → text_at (names_of b) n ≡ text_at (states_of b) n
@@ -188,22 +187,3 @@ module _ (b : Block) where
   -- the moments so far begin the run
   pub replay_begins : (all cs rest : List Command) (values : List Bool) (n : ℕ) (text : List ℕ) → all ≡ cs ++ rest → Played b cs values n text → BeginsReplay b all text
   replay_begins all cs rest values n text e p = replays.first cs rest p.done n e (ended cs values n text p) p.trace
-
--- Sinks
-
-pub appended_more : (a b c : Option (List ℕ)) (text piece : List ℕ) → Appended a b text → Appended b c piece → Appended a c (text ++ piece)
-appended_more a b c text piece h k = λ bytes e. k (bytes ++ text) (h bytes e) ∙ ap Some (append_assoc bytes text piece)
-
-pub cut_more : (a b c : Option (List ℕ)) (text piece : List ℕ) → Appended a b text → Cut b c piece → Cut a c (text ++ piece)
-cut_more a b c text piece h k = λ bytes e. let p = k (bytes ++ text) (h bytes e) in
-    (text ++ p.0, record { rest = p.1.rest; joined = append_assoc text p.0 p.1.rest ∙ ap (λ z. text ++ z) p.1.joined }, p.2 ∙ ap Some (append_assoc bytes text p.0))
-
-pub cut_none : (a b c : Option (List ℕ)) (text : List ℕ) → Appended a b text → c ≡ b → Cut a c text
-cut_none a b c text h e = λ bytes i. (text, record { rest = []; joined = append-nil text }, e ∙ h bytes i)
-
-pub cut_nothing : (a c : Option (List ℕ)) → c ≡ a → Cut a c []
-cut_nothing a c e = λ bytes i. ([], record { rest = []; joined = refl }, e ∙ i ∙ ap Some (sym (append-nil bytes)))
-
-pub rose_more : (a b c : ℕ) → a ≤ b → Rose b c → Rose a c
-rose_more a b c h (inl k) = inl (omega arith)
-rose_more a b c h (inr k) = inr k

@@ -3,10 +3,9 @@ use Rattle.std.proofs.Common.{◌≡◌, ℕ, List, Result, Ok, Err, Vec, map, s
 use Rattle.std.specs.Global.{Global}
 use Rattle.ar_base.specs.Counts.{limit_of}
 use Rattle.ar_base.specs.declared.counts.Count.TheVariants.{ModelBytes, ScriptBytes}
-use Rattle.ar_io.specs.Outside.{Told, Rose}
+use Rattle.ar_io.specs.Outside.{Told, IsFile, Rose}
 use Rattle.altarica_run.specs.Small.{Block}
 use Rattle.altarica_run.specs.Reads.{fire_of}
-use Rattle.altarica_run.specs.Outside.{IsFile}
 use Rattle.altarica_run.specs.Says.{Elaborates, Commands, Prepares, model_long, script_long, no_block, no_commands, passes, Loads}
 use Rattle.altarica_run.specs.Says as says
 use Rattle.altarica_run.specs.Stages.{IsLoaded, IsStopped, IsRefusedScript, IsPrepared}

@@ -3,7 +3,7 @@ use Rattle.std.proofs.Common.{◌≡◌, ◌<◌, ◌≤◌, ℕ, Bool, true, fa
 use Rattle.std.proofs.lemmas.Option.{slice_get_read}
 use Rattle.altarica_run.specs.Lines.{step_lines, piece_of, IsWhole}
 use Rattle.altarica_run.specs.Stepping.{expression_value, effect_of, effect_at}
-use Rattle.altarica_run.specs.Outside.{Appended, Cut}
+use Rattle.ar_io.specs.Writing.{Appended, Cut}
 use Rattle.altarica_run.specs.Played.{Puts, IsStepped}
 use Rattle.altarica_run.specs.declared.binding.BoundMove.{BoundMove}
 use Rattle.altarica_run.specs.declared.binding.BlockSystem.{BlockSystem}

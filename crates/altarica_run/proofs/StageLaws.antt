@@ -3,10 +3,9 @@ use Rattle.std.proofs.Common.{◌≡◌, ◌<◌, ◌≤◌, ℕ, List, Result, 
 use Rattle.ar_base.specs.Counts.{limit_of}
 use Rattle.ar_base.specs.declared.counts.Count.TheVariants.{ModelBytes, ScriptBytes}
 use Rattle.ar_base.specs.declared.places.Place.{Place}
-use Rattle.ar_io.specs.Outside.{Bytes}
+use Rattle.ar_io.specs.Outside.{Bytes, IsFile}
 use Rattle.ar_meaning.specs.Runs.{Command}
 use Rattle.altarica_run.specs.Small.{Block}
-use Rattle.altarica_run.specs.Outside.{IsFile}
 use Rattle.altarica_run.specs.Says.{Elaborates, no_tokens, no_model, Commands, Prepares, model_long, script_long, no_block, no_commands, passes}
 use Rattle.altarica_run.specs.declared.refusals.Refusal.{Refusal}
 use Rattle.altarica_run.specs.declared.refusals.Refusal.TheVariants.{Size, Syntax}

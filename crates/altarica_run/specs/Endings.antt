@@ -1,10 +1,10 @@
 -- How the parts of a call end.
 use Rattle.std.specs.Prelude.{◌≡◌, ℕ, List, Option, map}
 use Rattle.ar_io.specs.Outside.{Told, Rose}
+use Rattle.ar_io.specs.Writing.{Appended, Cut}
 use Rattle.altarica_run.specs.Small.{Block}
 use Rattle.altarica_run.specs.Jobs.{Job}
 use Rattle.altarica_run.specs.Reads.{fire_of}
-use Rattle.altarica_run.specs.Outside.{Appended, Cut}
 use Rattle.altarica_run.specs.Replays.{IsReplay, BeginsReplay}
 use Rattle.altarica_run.specs.Refusals.{line_of, status_of}
 use Rattle.altarica_run.specs.Says.{EndsSo}

@@ -1,10 +1,10 @@
 -- What follows from the answer of a call, in single statements.
 use Rattle.std.specs.Prelude.{◌≡◌, ℕ, List, Option, Some, None, Ok, Err}
 use Rattle.ar_io.specs.Outside.{Told, Bytes, Absent, Untold, Rose}
+use Rattle.ar_io.specs.Writing.{Appended, Cut}
 use Rattle.ar_meaning.specs.Runs.{Command}
 use Rattle.altarica_run.specs.Small.{Block}
 use Rattle.altarica_run.specs.Jobs.{Replay, job_of}
-use Rattle.altarica_run.specs.Outside.{Appended, Cut}
 use Rattle.altarica_run.specs.Replays.{IsReplay}
 use Rattle.altarica_run.specs.Refusals.{line_of, status_of}
 use Rattle.altarica_run.specs.Says.{Prepares, Loads, Begins}

@@ -11,7 +11,6 @@ pub mod Scripts
 pub mod Reads
 pub mod Stepping
 pub mod Lines
-pub mod Outside
 pub mod Replays
 pub mod Refusals
 pub mod Says

@@ -1,7 +1,7 @@
 -- The lines of a trace as the code writes them, by the numbers of names, and what a whole system keeps.
 use Rattle.std.specs.Prelude.{◌≡◌, ◌+◌, ◌<◌, ◌^◌, ◌++◌, ℕ, Bool, true, false, List, [], ◌∷◌, Option, Some, None, length, slice_get, unwrap_or, codes, decimal}
 use Rattle.ar_base.specs.Lists.{Stands}
-use Rattle.ar_meaning.specs.TraceText.{line, text_at, truth_text}
+use Rattle.ar_base.specs.Texts.{line, text_at, truth_text}
 use Rattle.altarica_run.specs.declared.binding.BoundMove.{BoundMove}
 use Rattle.altarica_run.specs.declared.stepping.Effect.{Effect}
 use Rattle.altarica_run.specs.declared.binding.BlockSystem.{BlockSystem}

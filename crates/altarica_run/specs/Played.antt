@@ -2,6 +2,7 @@
 use Rattle.std.specs.Prelude.{◌≡◌, ◌≤◌, ◌++◌, slice_set, ℕ, Bool, true, false, List, Option, Some, None, Result, Ok, Err, map, length}
 use Rattle.ar_base.specs.Lists.{Stands}
 use Rattle.ar_io.specs.Outside.{Rose}
+use Rattle.ar_io.specs.Writing.{Appended, Cut}
 use Rattle.domains.specs.declared.Value.{Value}
 use Rattle.domains.specs.declared.Value.TheVariants.{Truth}
 use Rattle.ar_meaning.specs.Runs.{Command, Moment, Goes, Runs}
@@ -9,7 +10,6 @@ use Rattle.ar_meaning.specs.TraceText.{TraceText}
 use Rattle.altarica_run.specs.Small.{Block}
 use Rattle.altarica_run.specs.Meaning.{system_of, naming_of}
 use Rattle.altarica_run.specs.Scripts.{IsFirable}
-use Rattle.altarica_run.specs.Outside.{Appended, Cut}
 use Rattle.altarica_run.specs.Replays.{IsReplay, BeginsReplay, status_of_run}
 use Rattle.altarica_run.specs.declared.stepping.Effect.{Effect}
 use Rattle.altarica_run.specs.declared.replaying.Ended.{Ended}

@@ -3,7 +3,7 @@ use Rattle.std.specs.Prelude.{ℕ, ◌++◌, List, codes, decimal}
 use Rattle.ar_base.specs.Counts.{limit_of}
 use Rattle.ar_base.specs.declared.counts.Count.{Count}
 use Rattle.ar_base.specs.declared.counts.Count.TheVariants.{ModelBytes, ScriptBytes, Nesting, Depth, Units, Variables, Events, TreeNodes, Ways, WayParts, ExpressionNodes, Gates, CutLines}
-use Rattle.ar_meaning.specs.TraceText.{line}
+use Rattle.ar_base.specs.Texts.{line}
 use Rattle.altarica_run.specs.declared.refusals.FileKind.TheVariants.{Model, Script}
 use Rattle.altarica_run.specs.declared.refusals.Refusal.{Refusal}
 use Rattle.altarica_run.specs.declared.refusals.Refusal.TheVariants.{Usage, NotRead, Size, Syntax, NoCommand, NoEvent}

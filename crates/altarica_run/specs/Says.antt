@@ -3,7 +3,8 @@ use Rattle.std.specs.Prelude.{◌≡◌, ◌+◌, ◌≤◌, ℕ, List, [], Opti
 use Rattle.ar_base.specs.Counts.{limit_of}
 use Rattle.ar_base.specs.declared.counts.Count.TheVariants.{ModelBytes, ScriptBytes}
 use Rattle.ar_base.specs.declared.places.Place.{Place}
-use Rattle.ar_io.specs.Outside.{Told}
+use Rattle.ar_io.specs.Outside.{Told, MayBeLonger, IsFile}
+use Rattle.ar_io.specs.Writing.{Appended, Cut}
 use Rattle.ar_lexer.specs.Tokens.{AreTokens, IsFirstFault, place_after}
 use Rattle.ar_lexer.specs.declared.token.Token.{Token}
 use Rattle.ar_lexer.specs.declared.token.LexFault.{LexFault}
@@ -14,7 +15,6 @@ use Rattle.altarica_run.specs.Small.{Block, block_words}
 use Rattle.altarica_run.specs.Sound.{IsSound}
 use Rattle.altarica_run.specs.Scripts.{lines_of, Gives, Why, IsNoCommand, NamesNoEvent, IsFirstBad}
 use Rattle.altarica_run.specs.Jobs.{Job, Replay}
-use Rattle.altarica_run.specs.Outside.{MayBeLonger, IsFile, Appended, Cut}
 use Rattle.altarica_run.specs.Replays.{IsReplay, BeginsReplay}
 use Rattle.altarica_run.specs.Refusals.{line_of, status_of}
 use Rattle.altarica_run.specs.declared.refusals.FileKind.{FileKind}

@@ -32,8 +32,8 @@ without_return (b ∷ []) = if b == 13 then [] else b ∷ []
 without_return (b ∷ c ∷ bs) = b ∷ without_return (c ∷ bs)
 
 -- a space or a tab
-abbrev pub is_blank : ℕ → Bool
-is_blank b = (b == 32) || (b == 9)
+abbrev pub is_space_or_tab : ℕ → Bool
+is_space_or_tab b = (b == 32) || (b == 9)
 
 abbrev pub is_some_word : List ℕ → Bool
 is_some_word [] = false
@@ -41,7 +41,7 @@ is_some_word (b ∷ bs) = true
 
 -- the words between spaces and tabs
 abbrev pub words_of : List ℕ → List (List ℕ)
-words_of line = filter is_some_word (pieces is_blank line)
+words_of line = filter is_some_word (pieces is_space_or_tab line)
 
 -- What a line says
 

@@ -3,13 +3,12 @@ use Rattle.std.specs.Prelude.{◌≡◌, ◌<◌, ◌^◌, ◌⊎◌, ℕ, List,
 use Rattle.std.specs.Global.{Global}
 use Rattle.ar_base.specs.Counts.{limit_of}
 use Rattle.ar_base.specs.declared.counts.Count.{Count}
-use Rattle.ar_io.specs.Outside.{Told, Rose}
+use Rattle.ar_io.specs.Outside.{Told, MayBeLonger, IsFile, Rose}
 use Rattle.altarica_run.specs.Small.{Block}
 use Rattle.altarica_run.specs.Sound.{IsSound, names_of}
 use Rattle.altarica_run.specs.Binding.{IsBound, AreTexts}
 use Rattle.altarica_run.specs.Reads.{fire_of}
 use Rattle.altarica_run.specs.Jobs.{Replay}
-use Rattle.altarica_run.specs.Outside.{MayBeLonger, IsFile}
 use Rattle.altarica_run.specs.Played.{AreFirable}
 use Rattle.altarica_run.specs.Says.{Elaborates, Commands, Prepares, Loads}
 use Rattle.altarica_run.specs.declared.binding.BlockSystem.{BlockSystem}

@@ -13,8 +13,6 @@ mod scripts;
 mod stages;
 mod status;
 mod stepping;
-#[cfg(test)]
-mod tests;
 mod trace;
 mod tree;
 

@@ -2,7 +2,7 @@
 
 ghost use Rattle.std.specs.Prelude.{◌≡◌, ℕ, List, Some, map};
 ghost use Rattle.std.specs.String.{string_bytes};
-ghost use Rattle.ar_io.specs.Outside.{Rose, Told};
+ghost use Rattle.ar_io.specs.Outside.{Told, Rose};
 ghost use Rattle.altarica_run.specs.Small.{Block};
 ghost use Rattle.altarica_run.specs.Jobs.{Replay};
 ghost use Rattle.altarica_run.specs.Played.{AreFirable};
@@ -21,7 +21,7 @@ use std::alloc::Global;
 
 // Tells why a job does not run.
 fn refuse<K: Sink>(alloc: Global, refusal: Refusal, out: &mut K) -> Status
-    ensures { IsTold (K.written out.old) (K.written out.new) (K.faults out.old) (K.faults out.new) refusal result }
+    ensures { IsTold (K.state out.old).bytes (K.state out.new).bytes (K.state out.old).faults (K.state out.new).faults refusal result }
 {
     match refusal.line(alloc) {
         Ok(line) => match put_text(out, &line) {
@@ -36,7 +36,7 @@ fn refuse<K: Sink>(alloc: Global, refusal: Refusal, out: &mut K) -> Status
 fn run<K: Sink>(alloc: Global, prepared: &Prepared, out: &mut K) -> Status
     requires { (b : Block) × IsSystem b prepared.now.system × AreFirable b prepared.now.commands.items }
     ensures { (b : Block) → IsSystem b prepared.now.system → AreFirable b prepared.now.commands.items
-        → IsRun b prepared.now (K.written out.old) (K.written out.new) (K.faults out.old) (K.faults out.new) result }
+        → IsRun b prepared.now (K.state out.old).bytes (K.state out.new).bytes (K.state out.old).faults (K.state out.new).faults result }
 {
     match replay(alloc, &prepared.system, &prepared.commands, out) {
         Ok(ended) => ended.status(),
@@ -53,7 +53,7 @@ fn run_replay<H: Shelf, K: Sink>(
     out: &mut K,
 ) -> Status
     ensures { IsDone (H.holds shelf.old) (λ name. Rose (H.faults shelf.old name) (H.faults shelf.new name)) (Some (Replay model.now script.now))
-        (K.written out.old) (K.written out.new) (K.faults out.old) (K.faults out.new) result }
+        (K.state out.old).bytes (K.state out.new).bytes (K.state out.old).faults (K.state out.new).faults result }
 {
     match prepare(alloc, shelf, model, script) {
         Ok(prepared) => run(alloc, &prepared, out),
@@ -72,7 +72,7 @@ pub fn altarica<H: Shelf, K: Sink>(
     shelf: &mut H,
     out: &mut K,
 ) -> Status
-    ensures { Answers (map string_bytes words.now) (H.holds shelf.old) (H.faults shelf.old) (H.faults shelf.new) (K.written out.old) (K.written out.new) (K.faults out.old) (K.faults out.new) result }
+    ensures { Answers (map string_bytes words.now) (H.holds shelf.old) (H.faults shelf.old) (H.faults shelf.new) (K.state out.old).bytes (K.state out.new).bytes (K.state out.old).faults (K.state out.new).faults result }
 {
     match job_of(words) {
         Some(job) => run_replay(alloc, job.model, job.script, shelf, out),

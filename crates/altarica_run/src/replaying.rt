@@ -9,7 +9,7 @@ ghost use Rattle.altarica_run.specs.Binding.{IsBound};
 ghost use Rattle.altarica_run.specs.Reads.{fire_of};
 ghost use Rattle.altarica_run.specs.Lines.{IsWhole, piece_of, start_lines, end_line};
 ghost use Rattle.altarica_run.specs.Stepping.{effect_at};
-ghost use Rattle.altarica_run.specs.Outside.{Appended};
+ghost use Rattle.ar_io.specs.Writing.{Appended};
 ghost use Rattle.altarica_run.specs.Played.{AreFirable, IsEnd, Puts, Starts, IsStepped, status_of, broken_status};
 
 use crate::binding::BlockSystem;
@@ -85,7 +85,7 @@ impl From<SinkFailed> for Broken {
 
 /// Writes a text.
 pub fn put_text<K: Sink>(out: &mut K, text: &String) -> Result<(), Broken>
-    ensures { Puts (K.written out.old) (K.written out.new) (K.faults out.old) (K.faults out.new) (string_bytes text.now) result }
+    ensures { Puts (K.state out.old).bytes (K.state out.new).bytes (K.state out.old).faults (K.state out.new).faults (string_bytes text.now) result }
 {
     out.put(text.as_bytes())?;
     Ok(())
@@ -100,7 +100,7 @@ fn put_start<K: Sink>(
 ) -> Result<(), Broken>
     requires few { length values.now ≤ length system.now.names }
     requires small { length system.now.names < 2 ^ 32 }
-    ensures { Starts (K.written out.old) (K.written out.new) (K.faults out.old) (K.faults out.new) (start_lines system.now.names values.now) result }
+    ensures { Starts (K.state out.old).bytes (K.state out.new).bytes (K.state out.old).faults (K.state out.new).faults (start_lines system.now.names values.now) result }
 {
     let text = start_text(alloc, system, values)?;
     put_text(out, &text)
@@ -108,7 +108,7 @@ fn put_start<K: Sink>(
 
 // Writes the line of the end.
 fn put_end<K: Sink>(alloc: Global, steps: usize, out: &mut K) -> Result<(), Broken>
-    ensures { Starts (K.written out.old) (K.written out.new) (K.faults out.old) (K.faults out.new) (end_line steps) result }
+    ensures { Starts (K.state out.old).bytes (K.state out.new).bytes (K.state out.old).faults (K.state out.new).faults (end_line steps) result }
 {
     let text = end_text(alloc, steps)?;
     put_text(out, &text)
@@ -127,7 +127,7 @@ fn step<K: Sink>(
     requires values { length values.old.items ≡ length system.now.starts.items }
     ensures { IsStepped (effect_at values.old.items (slice_get system.now.moves.items event))
         (piece_of system.now.names (length system.now.starts.items + event) values.old.items (effect_at values.old.items (slice_get system.now.moves.items event)))
-        values.old.items values.new.items (K.written out.old) (K.written out.new) (K.faults out.old) (K.faults out.new) result }
+        values.old.items values.new.items (K.state out.old).bytes (K.state out.new).bytes (K.state out.old).faults (K.state out.new).faults result }
 {
     let number = system.starts.as_slice().len() as u32 + event;
     match fire(system, values, event) {
@@ -156,7 +156,7 @@ pub fn replay<K: Sink>(
     requires whole { IsWhole system.now }
     requires events { (k e : ℕ) → Stands commands.now k e → e < length system.now.moves.items }
     ensures { (b : Block) → IsSound b → IsBound b system.now → AreFirable b commands.now
-        → IsEnd b (map fire_of commands.now) (K.written out.old) (K.written out.new) (K.faults out.old) (K.faults out.new) result }
+        → IsEnd b (map fire_of commands.now) (K.state out.old).bytes (K.state out.new).bytes (K.state out.old).faults (K.state out.new).faults result }
 {
     let mut values = Vec::from_slice(alloc, &system.starts)?;
     put_start(alloc, system, &values, out)?;

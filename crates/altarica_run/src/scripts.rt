@@ -6,7 +6,7 @@ ghost use Rattle.ar_base.specs.Lists.{Stands};
 ghost use Rattle.altarica_run.specs.Small.{Block};
 ghost use Rattle.altarica_run.specs.Sound.{names_of};
 ghost use Rattle.altarica_run.specs.Binding.{IsBound, AreTexts};
-ghost use Rattle.altarica_run.specs.Scripts.{ends_line, is_blank, lines_of, words_of, without_return, line_said, IsFirable, IsLabel, Gives, IsFirstBad, IsNoCommand, NamesNoEvent};
+ghost use Rattle.altarica_run.specs.Scripts.{ends_line, is_space_or_tab, lines_of, words_of, without_return, line_said, IsFirable, IsLabel, Gives, IsFirstBad, IsNoCommand, NamesNoEvent};
 ghost use Rattle.altarica_run.specs.Reads.{IsSaid, fire_of, Adds, IsBadLine, IsBadScript};
 ghost use Rattle.ar_base.specs.Counts.{limit_of};
 ghost use Rattle.ar_base.specs.declared.counts.Count.TheVariants.{ScriptBytes};
@@ -46,8 +46,8 @@ enum Line<'a> {
     Bad,
 }
 
-fn is_blank(byte: u8) -> bool
-    ensures { result ≡ is_blank byte }
+fn is_space_or_tab(byte: u8) -> bool
+    ensures { result ≡ is_space_or_tab byte }
 {
     byte == b' ' || byte == b'\t'
 }
@@ -66,11 +66,11 @@ fn line_len(bytes: &[u8]) -> usize
 
 // How many blanks stand at the front.
 fn blanks_len(bytes: &[u8]) -> usize
-    ensures value { result ≡ prefix_len is_blank bytes.now }
+    ensures value { result ≡ prefix_len is_space_or_tab bytes.now }
     ensures within { result ≤ length bytes.now }
 {
     let mut n = 0;
-    while n < bytes.len() && is_blank(bytes[n]) {
+    while n < bytes.len() && is_space_or_tab(bytes[n]) {
         n += 1;
     }
     n
@@ -78,11 +78,11 @@ fn blanks_len(bytes: &[u8]) -> usize
 
 // How many bytes stand before the first blank.
 fn word_len(bytes: &[u8]) -> usize
-    ensures value { result ≡ prefix_len (λ b. not (is_blank b)) bytes.now }
+    ensures value { result ≡ prefix_len (λ b. not (is_space_or_tab b)) bytes.now }
     ensures within { result ≤ length bytes.now }
 {
     let mut n = 0;
-    while n < bytes.len() && !is_blank(bytes[n]) {
+    while n < bytes.len() && !is_space_or_tab(bytes[n]) {
         n += 1;
     }
     n

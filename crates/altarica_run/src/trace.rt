@@ -2,7 +2,7 @@
 
 ghost use Rattle.std.specs.Prelude.{◌≡◌, ◌+◌, ◌<◌, ◌≤◌, length, IfOk};
 ghost use Rattle.std.specs.String.{string_bytes};
-ghost use Rattle.ar_meaning.specs.TraceText.{truth_text, text_at};
+ghost use Rattle.ar_base.specs.Texts.{truth_text, text_at};
 ghost use Rattle.altarica_run.specs.Lines.{state_line, start_lines, changed_line, step_lines, fault_line, end_line, IsWhole};
 
 use crate::binding::BlockSystem;

@@ -1,9 +1,10 @@
--- Where the two tests agree with a static system that has no conflict, a set makes the value exactly where it is firable and the top test is true.
+-- Where the two tests agree with a static system that has no conflict, a set makes the value exactly where it is
+-- firable and the top test is true.
 use Rattle.std.proofs.Common.{◌≡◌, ℕ, Bool, true, false, List, refl, sym, subst}
 use Rattle.typed_expr.specs.Yields.{Yields}
 use Rattle.ar_meaning.specs.Systems.{System}
 use Rattle.ar_meaning.specs.Facts.{AreKeyed, HasValue}
-use Rattle.ar_firing.specs.Fragment.{IsStatic}
+use Rattle.ar_firing.specs.Static.{IsStatic}
 use Rattle.ar_firing.specs.Cuts.{MeetsConflict, IsConflictFree, IsFirable, Makes}
 use Rattle.ar_meaning.specs.Found.{IsAnswer}
 use Rattle.ar_firing.specs.Operands.{Agrees, HasFlows, IsFirableWith}
@@ -16,8 +17,10 @@ use Rattle.ar_firing.proofs.EachHasOrder.{has_order}
 use Rattle.ar_firing.proofs.SameSets.{firable_as, events_within, set_within}
 use Rattle.ar_meaning.specs.Flows.{Flows, FlowFault, Fails}
 
-module _ {V : Type 0} (sys : System V) (dropped : List ℕ) (keyed : AreKeyed sys.net) (static : IsStatic sys dropped) (observer : Expr V) (wanted : Value) (conflict top : List ℕ → Bool)
-    (agrees : Agrees sys dropped observer wanted conflict top) (free : (set : List ℕ) (t : List Value) → IsFirable sys dropped set t → conflict set ≡ false) where
+module _ {V : Type 0} (sys : System V) (dropped : List ℕ) (keyed : AreKeyed sys.net) (static : IsStatic sys dropped)
+    (observer : Expr V) (wanted : Value) (conflict top : List ℕ → Bool)
+    (agrees : Agrees sys dropped observer wanted conflict top)
+    (free : (set : List ℕ) (t : List Value) → IsFirable sys dropped set t → conflict set ≡ false) where
   total : (set : List ℕ) (t : List Value) → IsFirable sys dropped set t → HasFlows sys.net t
   total set t f = let s = agrees.total set t f (free set t f) in record { values = s.values; flows = s.flows }
 
@@ -32,26 +35,37 @@ module _ {V : Type 0} (sys : System V) (dropped : List ℕ) (keyed : AreKeyed sy
   pub made_is_counted : {set : List ℕ} → Makes sys dropped observer wanted set → IsFirableWith sys dropped top set
   made_is_counted {set = set} m =
       let c = came sys dropped keyed static m.order.reaches in
-      let f = firable_as sys dropped (events_within m.order.labels set m.order.events) (set_within m.order.labels set m.order.events) c.is_firable in
+      let f =
+      firable_as sys dropped (events_within m.order.labels set m.order.events)
+      (set_within m.order.labels set m.order.events) c.is_firable in
       let s = agrees.total set c.values f (free set c.values f) in
       let e = flows_same sys.net c.flows s.flows in
       let u : m.values ≡ s.values = cc in
-      record { values = c.values; is_firable = f; holds = answered _ s.shows (subst (λ z. Yields (HasValue sys.net z) (out-Expr V observer) wanted) u m.shows) }
+      record
+      { values = c.values; is_firable = f; holds = answered _ s.shows (subst (λ z. Yields (HasValue sys.net z) (out-Expr V observer) wanted) u m.shows) }
 
   pub counted_is_made : {set : List ℕ} → IsFirableWith sys dropped top set → Makes sys dropped observer wanted set
   counted_is_made {set = set} i =
-      let o = has_order sys dropped keyed static set (λ part t f w k. total part t f) i.is_firable (record { each = λ e o. o }) in
+      let o =
+      has_order sys dropped keyed static set (λ part t f w k. total part t f) i.is_firable
+      (record { each = λ e o. o }) in
       let c = came sys dropped keyed static o.1.reaches in
       let s = agrees.total set i.values i.is_firable (free set i.values i.is_firable) in
-      let h = firable_same sys dropped keyed static c.is_firable i.is_firable (events_within o.1.labels set o.1.events) (set_within o.1.labels set o.1.events) in
+      let h =
+      firable_same sys dropped keyed static c.is_firable i.is_firable (events_within o.1.labels set o.1.events)
+      (set_within o.1.labels set o.1.events) in
       let e = flows_same sys.net (same_flows sys.net h c.flows) s.flows in
       let u : o.0 ≡ s.values = cc in
-      record { values = o.0; order = o.1; shows = subst (λ z. Yields (HasValue sys.net z) (out-Expr V observer) wanted) (sym u) (answer _ s.shows i.holds) }
+      record
+      { values = o.0; order = o.1; shows = subst (λ z. Yields (HasValue sys.net z) (out-Expr V observer) wanted) (sym u) (answer _ s.shows i.holds) }
 
 -- where no list meets a conflict, the conflict test is false at each firable set
-module _ {V : Type 0} (sys : System V) (dropped : List ℕ) (keyed : AreKeyed sys.net) (static : IsStatic sys dropped) (observer : Expr V) (wanted : Value) (conflict top : List ℕ → Bool)
+module _ {V : Type 0} (sys : System V) (dropped : List ℕ) (keyed : AreKeyed sys.net) (static : IsStatic sys dropped)
+    (observer : Expr V) (wanted : Value) (conflict top : List ℕ → Bool)
     (agrees : Agrees sys dropped observer wanted conflict top) (free : IsConflictFree sys dropped) where
-  flows_at : (part : List ℕ) (t : List Value) → IsFirable sys dropped part t → ((f : FlowFault) → Flows sys.net t (Fails f) → (set : List ℕ) × MeetsConflict sys dropped set) → HasFlows sys.net t
+  flows_at : (part : List ℕ) (t : List Value) → IsFirable sys dropped part t
+      → ((f : FlowFault) → Flows sys.net t (Fails f) → (set : List ℕ) × MeetsConflict sys dropped set)
+      → HasFlows sys.net t
   flows_at part t f met = go (conflict part) refl
     where
       go : (b : Bool) → conflict part ≡ b → HasFlows sys.net t
@@ -64,8 +78,12 @@ module _ {V : Type 0} (sys : System V) (dropped : List ℕ) (keyed : AreKeyed sy
       go : (b : Bool) → conflict set ≡ b → conflict set ≡ false
       go false e = e
       go true e =
-          let o = has_order sys dropped keyed static set (λ part t f w k. flows_at part t f k) f (record { each = λ e o. o }) in
+          let o =
+          has_order sys dropped keyed static set (λ part t f w k. flows_at part t f k) f
+          (record { each = λ e o. o }) in
           let c = came sys dropped keyed static o.1.reaches in
-          let h = firable_same sys dropped keyed static c.is_firable f (events_within o.1.labels set o.1.events) (set_within o.1.labels set o.1.events) in
+          let h =
+          firable_same sys dropped keyed static c.is_firable f (events_within o.1.labels set o.1.events)
+          (set_within o.1.labels set o.1.events) in
           let k = agrees.fault set t f e in
           let i = flows_same sys.net (same_flows sys.net h c.flows) k.flows in cc

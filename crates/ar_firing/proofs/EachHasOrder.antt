@@ -9,27 +9,36 @@ use Rattle.ar_meaning.specs.Ways.{Can, Effects}
 use Rattle.ar_meaning.specs.Steps.{flow, Clashes, LeavesDomain, Receives, changed, kept, Step, Next, moves}
 use Rattle.ar_meaning.specs.Steps as s
 use Rattle.ar_meaning.specs.Runs.{Label, first_values}
-use Rattle.ar_firing.specs.Fragment.{Edge, Path, root, edge, IsStatic}
-use Rattle.ar_firing.specs.Cuts.{MeetsConflict, Within, Reaches, IsFirable, AreEvents, HasOrder}
+use Rattle.ar_firing.specs.Fragment.{Edge, Path, root, edge}
+use Rattle.ar_firing.specs.Static.{IsStatic}
+use Rattle.ar_firing.specs.Cuts.{MeetsConflict, Reaches, IsFirable, AreEvents, HasOrder}
+use Rattle.ar_base.specs.Sets.{Within}
 use Rattle.ar_firing.specs.Cuts as cuts
 use Rattle.ar_firing.specs.Operands.{HasFlows}
 use Rattle.domains.specs.declared.Value.{Value}
-use Rattle.ar_base.proofs.Standing.{stands_one}
-use Rattle.ar_firing.proofs.Firing.{no_item, Next_edge, next_edge, to_alone, only_target, only_effects, value_from, moved, firable_flows, none_firable, enabled, longer, is_same}
+use Rattle.ar_base.proofs.Standing.{stands_one, stands_map, stands_map_back, one_none}
+use Rattle.std.proofs.lemmas.Bool.{cases_eq}
+use Rattle.ar_firing.proofs.Firing.{Next_edge, next_edge, to_alone, only_target, only_effects, value_from, moved, firable_flows, none_firable, enabled, longer}
 use Rattle.ar_firing.proofs.Ends.{split_live, split, path_unique, path_end, live}
 
-pub record Received {V : Type 0} (effects : V → Value → Type 0) (xs : List (Variable V)) (vs : List Value) : Type 0 where
+pub record Received {V : Type 0} (effects : V → Value → Type 0) (xs : List (Variable V))
+    (vs : List Value) : Type 0 where
   pub values : List Value
   pub receives : Receives effects xs vs values
 
-receives_all : {V : Type 0} {effects : V → Value → Type 0} (xs : List (Variable V)) (vs : List Value) → length vs ≡ length xs
-    → ((x : Variable V) → IsOneOf xs x → ((w : Value) × effects x.key w) ⊎ ((w : Value) → effects x.key w → ⊥)) → Received effects xs vs
+receives_all : {V : Type 0} {effects : V → Value → Type 0} (xs : List (Variable V)) (vs : List Value)
+    → length vs ≡ length xs
+    → ((x : Variable V) → IsOneOf xs x → ((w : Value) × effects x.key w) ⊎ ((w : Value) → effects x.key w → ⊥))
+    → Received effects xs vs
 receives_all [] [] e h = record { values = []; receives = s.none }
 receives_all [] (v ∷ vs) e h = absurd (omega arith)
 receives_all (x ∷ xs) [] e h = absurd (omega arith)
 receives_all {effects = effects} (x ∷ xs) (v ∷ vs) e h =
-    let r = receives_all {effects = effects} xs vs (omega arith) (λ y o. h y (record { place = suc o.place; stands = o.stands })) in
-    ⊎_elim (λ k. record { values = k.0 ∷ r.values; receives = changed k.1 r.receives }) (λ k. record { values = v ∷ r.values; receives = kept k r.receives })
+    let r =
+    receives_all {effects = effects} xs vs (omega arith)
+    (λ y o. h y (record { place = suc o.place; stands = o.stands })) in
+    ⊎_elim (λ k. record { values = k.0 ∷ r.values; receives = changed k.1 r.receives })
+    (λ k. record { values = v ∷ r.values; receives = kept k r.receives })
     (h x (record { place = zero; stands = refl }))
 
 -- no two labels have one event
@@ -37,14 +46,11 @@ pub record AreOnce (ls : List Label) : Type 0 where
   pub once : (j k : ℕ) (l m : Label) → Stands ls j l → Stands ls k m → l.event ≡ m.event → j ≡ k
 
 pub event_of : (ls : List Label) (k : ℕ) (l : Label) → Stands ls k l → Stands (map (λ l. l.event) ls) k l.event
-event_of [] k l h = cc
-event_of (x ∷ ls) zero l h = let i : x ≡ l = cc in ap (λ z. Some z.event) i
-event_of (x ∷ ls) (suc k) l h = event_of ls k l h
+event_of ls k l h = stands_map (λ (l : Label). l.event) ls k l h
 
-pub label_of : (ls : List Label) (k e : ℕ) → Stands (map (λ l. l.event) ls) k e → (l : Label) × Stands ls k l × (l.event ≡ e)
-label_of [] k e h = cc
-label_of (x ∷ ls) zero e h = (x, refl, cc)
-label_of (x ∷ ls) (suc k) e h = label_of ls k e h
+pub label_of : (ls : List Label) (k e : ℕ) → Stands (map (λ l. l.event) ls) k e
+    → (l : Label) × Stands ls k l × (l.event ≡ e)
+label_of ls k e h = stands_map_back (λ (l : Label). l.event) ls k e h
 
 self_events : (ls : List Label) → AreOnce ls → AreEvents ls (map (λ l. l.event) ls)
 self_events ls o = record {
@@ -53,8 +59,10 @@ self_events ls o = record {
   once = o.once;
 }
 
-module _ {V : Type 0} (sys : System V) (dropped : List ℕ) (keyed : AreKeyed sys.net) (static : IsStatic sys dropped) where
-  module _ {set : List ℕ} {t : List Value} (firable : IsFirable sys dropped set t) (l : Label) (w : Way V) (e : Next_edge sys dropped keyed static firable l w) where
+module _ {V : Type 0} (sys : System V) (dropped : List ℕ) (keyed : AreKeyed sys.net)
+    (static : IsStatic sys dropped) where
+  module _ {set : List ℕ} {t : List Value} (firable : IsFirable sys dropped set t) (l : Label) (w : Way V)
+      (e : Next_edge sys dropped keyed static firable l w) where
     pub received : Received (Effects (HasValue sys.net t) w) sys.net.variables t
     received = receives_all sys.net.variables t firable.long (λ x o. ⊎_elim
         (λ i. let j : e.variable ≡ x = stands_one sys.net.variables o.place e.variable x (subst (λ z. Stands sys.net.variables z e.variable) (sym i) e.stands) o.stands in
@@ -64,14 +72,18 @@ module _ {V : Type 0} (sys : System V) (dropped : List ℕ) (keyed : AreKeyed sy
               (only_effects e.variable.key (value_from sys dropped keyed t e.number e.variable e.from e.stands e.value) e.alone e.facts.gives),
         ))
         (λ i. inr (λ v d. i (keyed.one o.place e.number x e.variable o.stands e.stands (only_target e.alone d))))
-        (is_same o.place e.number))
+        (cases_eq o.place e.number))
 
     pub no_clash : HasNo sys.net.variables (Clashes (Effects (HasValue sys.net t) w))
     no_clash = record {
       has_not = λ k x st h.
           let i : x.key ≡ e.variable.key = only_target e.alone h.is_first in
-          let a = to_alone sys dropped keyed static firable l w e h.first (subst (λ z. Effects (HasValue sys.net t) w z h.first) i h.is_first) in
-          let b = to_alone sys dropped keyed static firable l w e h.second (subst (λ z. Effects (HasValue sys.net t) w z h.second) i h.is_second) in
+          let a =
+          to_alone sys dropped keyed static firable l w e h.first
+          (subst (λ z. Effects (HasValue sys.net t) w z h.first) i h.is_first) in
+          let b =
+          to_alone sys dropped keyed static firable l w e h.second
+          (subst (λ z. Effects (HasValue sys.net t) w z h.second) i h.is_second) in
           h.differ (a ∙ sym b);
     }
 
@@ -79,15 +91,21 @@ module _ {V : Type 0} (sys : System V) (dropped : List ℕ) (keyed : AreKeyed sy
     no_leave = record {
       has_not = λ k x st h.
           let i : x.key ≡ e.variable.key = only_target e.alone h.received in
-          let a = to_alone sys dropped keyed static firable l w e h.value (subst (λ z. Effects (HasValue sys.net t) w z h.value) i h.received) in
+          let a =
+          to_alone sys dropped keyed static firable l w e h.value
+          (subst (λ z. Effects (HasValue sys.net t) w z h.value) i h.received) in
           let j : k ≡ e.number = keyed.one k e.number x e.variable st e.stands i in
-          let b : x ≡ e.variable = stands_one sys.net.variables e.number x e.variable (subst (λ z. Stands sys.net.variables z x) j st) e.stands in
-          h.outside (subst (λ z. Contains z.domain h.value) (sym b) (subst (λ v. Contains e.variable.domain v) (sym a) e.facts.in_domain));
+          let b : x ≡ e.variable =
+          stands_one sys.net.variables e.number x e.variable
+          (subst (λ z. Stands sys.net.variables z x) j st) e.stands in
+          h.outside
+          (subst (λ z. Contains z.domain h.value) (sym b) (subst (λ v. Contains e.variable.domain v) (sym a) e.facts.in_domain));
     }
 
 module _ {V : Type 0} (sys : System V) (dropped : List ℕ) (keyed : AreKeyed sys.net) (static : IsStatic sys dropped)
     (limit : List ℕ) (total : (part : List ℕ) (t : List Value) → IsFirable sys dropped part t → Within part limit
-    → ((f : FlowFault) → Flows sys.net t (Fails f) → (set : List ℕ) × MeetsConflict sys dropped set) → HasFlows sys.net t) where
+    → ((f : FlowFault) → Flows sys.net t (Fails f) → (set : List ℕ) × MeetsConflict sys dropped set)
+    → HasFlows sys.net t) where
   -- these labels, the last first, fire, and each variable's labels are as wanted
   record Built (want : ℕ → List Label) : Type 0 where
     pub labels : List Label
@@ -100,7 +118,7 @@ module _ {V : Type 0} (sys : System V) (dropped : List ℕ) (keyed : AreKeyed sy
 
   begun : Built (λ n. [])
   begun =
-      let nothing : Within [] limit = record { each = λ e o. absurd (no_item sys dropped keyed e o) } in
+      let nothing : Within [] limit = record { each = λ e o. absurd (one_none e o) } in
       let f = total [] (first_values sys.net.variables) (none_firable sys dropped keyed) nothing
       (λ f k. ([], record { labels = []; fault = f; conflicts = cuts.start k; events = self_events [] (record { once = λ j k l m a b e. cc }) })) in
       record {
@@ -114,12 +132,14 @@ module _ {V : Type 0} (sys : System V) (dropped : List ℕ) (keyed : AreKeyed sy
       }
 
   -- one edge more
-  module _ {want : ℕ → List Label} (b : Built want) (l : Label) (n : ℕ) {ls : List Label} {from to : Value} (is : want n ≡ ls) (p : Path sys dropped n ls from) (e : Edge sys dropped l n from to) (x : Variable V)
+  module _ {want : ℕ → List Label} (b : Built want) (l : Label) (n : ℕ) {ls : List Label} {from to : Value}
+      (is : want n ≡ ls) (p : Path sys dropped n ls from) (e : Edge sys dropped l n from to) (x : Variable V)
       (st : Stands sys.net.variables n x) (state : x.is_state ≡ true) (inside : IsOneOf limit l.event) where
     stands_from : Stands b.values n from
     stands_from =
         let w = b.firable.walks n x st state in
-        let k : w.0 ≡ from = path_end sys dropped keyed static (subst (λ z. Path sys dropped n z w.0) (b.as_wanted n ∙ is) w.2) p in
+        let k : w.0 ≡ from =
+        path_end sys dropped keyed static (subst (λ z. Path sys dropped n z w.0) (b.as_wanted n ∙ is) w.2) p in
         subst (λ z. Stands b.values n z) k w.1
 
     can_fire : Can (HasValue sys.net b.values) e.way
@@ -129,18 +149,26 @@ module _ {V : Type 0} (sys : System V) (dropped : List ℕ) (keyed : AreKeyed sy
     the_edge = next_edge sys dropped keyed static b.firable l e.way e.is_open can_fire
 
     at_n : (the_edge.number ≡ n)
-    at_n = let c = static.one_edge l l the_edge.number n the_edge.from from the_edge.to to (live sys dropped keyed static the_edge.path the_edge.edge) (live sys dropped keyed static p e) refl in c.1
+    at_n =
+        let c =
+        static.one_edge.one l l the_edge.number n the_edge.from from the_edge.to to
+        (live sys dropped keyed static the_edge.path the_edge.edge) (live sys dropped keyed static p e) refl in
+        c.1
 
     new_event : (k : ℕ) (m : Label) → Stands b.labels k m → m.event ≡ l.event → ⊥
     new_event k m h i =
         let o = b.firable.whole m.event (record { place = k; stands = event_of b.labels k m h }) in
         let w = b.firable.walks o.0 o.1 o.3 o.4 in
         let r = split sys dropped keyed static w.2 o.5.place o.2 o.5.stands in
-        let c = static.one_edge o.2 l o.0 n r.from from r.to to (split_live sys dropped keyed static r) (live sys dropped keyed static p e) (o.6 ∙ i) in
-        let q : Path sys dropped n r.rest from = subst (λ z. Path sys dropped n r.rest z) c.2 (subst (λ z. Path sys dropped z r.rest r.from) c.1 r.path) in
+        let c =
+        static.one_edge.one o.2 l o.0 n r.from from r.to to (split_live sys dropped keyed static r)
+        (live sys dropped keyed static p e) (o.6 ∙ i) in
+        let q : Path sys dropped n r.rest from =
+        subst (λ z. Path sys dropped n r.rest z) c.2 (subst (λ z. Path sys dropped z r.rest r.from) c.1 r.path) in
         let u : r.rest ≡ ls = path_unique sys dropped keyed static q p in
         let v : b.firable.path o.0 ≡ ls = ap b.firable.path c.1 ∙ b.as_wanted n ∙ is in
-        let g : length (b.firable.path o.0) ≡ length r.front + suc (length r.rest) = ap length r.is ∙ length-append r.front (o.2 ∷ r.rest) in
+        let g : length (b.firable.path o.0) ≡ length r.front + suc (length r.rest) =
+        ap length r.is ∙ length-append r.front (o.2 ∷ r.rest) in
         let y : length (b.firable.path o.0) ≡ length ls = ap length v in
         let z : length r.rest ≡ length ls = ap length u in
         absurd (omega arith)
@@ -172,13 +200,17 @@ module _ {V : Type 0} (sys : System V) (dropped : List ℕ) (keyed : AreKeyed sy
             labels = l ∷ b.labels;
             fault = f;
             events = self_events (l ∷ b.labels) once_more;
-            conflicts = cuts.fire e.way b.reaches e.is_open (flow r.values can_fire (no_clash sys dropped keyed static b.firable l e.way the_edge) (no_leave sys dropped keyed static b.firable l e.way the_edge) r.receives k);
+            conflicts =
+                cuts.fire e.way b.reaches e.is_open
+                (flow r.values can_fire (no_clash sys dropped keyed static b.firable l e.way the_edge) (no_leave sys dropped keyed static b.firable l e.way the_edge) r.receives k);
           },
         )) in
         record {
           labels = l ∷ b.labels;
           values = f.values;
-          reaches = cuts.fire e.way b.reaches e.is_open (moves r.values can_fire (no_clash sys dropped keyed static b.firable l e.way the_edge) (no_leave sys dropped keyed static b.firable l e.way the_edge) r.receives f.flows);
+          reaches =
+              cuts.fire e.way b.reaches e.is_open
+              (moves r.values can_fire (no_clash sys dropped keyed static b.firable l e.way the_edge) (no_leave sys dropped keyed static b.firable l e.way the_edge) r.receives f.flows);
           firable = firable_flows sys dropped keyed f.flows m;
           as_wanted = λ k. subst (λ z. longer z l b.firable.path k ≡ longer n l want k) (sym at_n) (longer_as k);
           once = once_more;
@@ -189,14 +221,26 @@ module _ {V : Type 0} (sys : System V) (dropped : List ℕ) (keyed : AreKeyed sy
         longer_as k = ap (λ z. cond (k == n) (l ∷ z) z) (b.as_wanted k)
 
   as_other : {want : ℕ → List Label} {other : ℕ → List Label} → ((n : ℕ) → want n ≡ other n) → Built want → Built other
-  as_other h b = record { labels = b.labels; values = b.values; reaches = b.reaches; firable = b.firable; as_wanted = λ n. b.as_wanted n ∙ h n; once = b.once; within = b.within }
+  as_other h b = record {
+    labels = b.labels;
+    values = b.values;
+    reaches = b.reaches;
+    firable = b.firable;
+    as_wanted = λ n. b.as_wanted n ∙ h n;
+    once = b.once;
+    within = b.within;
+  }
 
   -- one variable's path
   abbrev put : ℕ → List Label → (ℕ → List Label) → ℕ → List Label
   put n ls want k = cond (k == n) ls (want k)
 
-  along : {want : ℕ → List Label} (n : ℕ) (x : Variable V) → Stands sys.net.variables n x → x.is_state ≡ true → want n ≡ [] → {ls : List Label} {m : Value} → ((k : ℕ) (l : Label) → Stands ls k l → IsOneOf limit l.event) → Path sys dropped n ls m → Built want → Built (put n ls want)
-  along {want = want} n x st i empty h (root s j q) b = as_other (λ k. ⊎_elim (λ e. at_same k e) (λ e. let h : (k == n) ≡ false = grind (arith, nat_tests) in rw h refl) (is_same k n)) b
+  along : {want : ℕ → List Label} (n : ℕ) (x : Variable V) → Stands sys.net.variables n x → x.is_state ≡ true
+      → want n ≡ [] → {ls : List Label} {m : Value} → ((k : ℕ) (l : Label) → Stands ls k l → IsOneOf limit l.event)
+      → Path sys dropped n ls m → Built want → Built (put n ls want)
+  along {want = want} n x st i empty h (root s j q) b =
+      as_other
+      (λ k. ⊎_elim (λ e. at_same k e) (λ e. let h : (k == n) ≡ false = grind (arith, nat_tests) in rw h refl) (cases_eq k n)) b
     where
       at_same : (k : ℕ) → k ≡ n → want k ≡ put n [] want k
       at_same k e = let h : (k == n) ≡ true = grind (arith, nat_tests) in rw h (ap want e ∙ empty)
@@ -233,9 +277,11 @@ module _ {V : Type 0} (sys : System V) (dropped : List ℕ) (keyed : AreKeyed sy
             turn true = let i : (n == k) ≡ false = grind (arith, nat_tests) in rw i e
             turn false = e
 
-    by_now : (k n : ℕ) (x : Variable V) → n < k → Stands sys.net.variables n x → x.is_state ≡ true → wanted k n ≡ f.path n
+    by_now : (k n : ℕ) (x : Variable V) → n < k → Stands sys.net.variables n x → x.is_state ≡ true
+        → wanted k n ≡ f.path n
     by_now zero n x h s i = absurd (omega arith)
-    by_now (suc k) n x h s i = ⊎_elim (λ e. same e) (λ e. other (by_now k n x (below e) s i) (slice_get sys.net.variables k)) (is_same n k)
+    by_now (suc k) n x h s i =
+        ⊎_elim (λ e. same e) (λ e. other (by_now k n x (below e) s i) (slice_get sys.net.variables k)) (cases_eq n k)
       where
         below : (n ≡ k → ⊥) → n < k
         below e = grind arith
@@ -251,26 +297,33 @@ module _ {V : Type 0} (sys : System V) (dropped : List ℕ) (keyed : AreKeyed sy
         other e (Some y) = turn y.is_state
           where
             turn : (b : Bool) → cond b (put k (f.path k) (wanted k)) (wanted k) n ≡ f.path n
-            turn true = ⊎_elim (λ q. let i : (n == k) ≡ true = grind (arith, nat_tests) in rw i (ap f.path (sym q))) (λ q. let i : (n == k) ≡ false = grind (arith, nat_tests) in rw i e) (is_same n k)
+            turn true =
+                ⊎_elim (λ q. let i : (n == k) ≡ true = grind (arith, nat_tests) in rw i (ap f.path (sym q)))
+                (λ q. let i : (n == k) ≡ false = grind (arith, nat_tests) in rw i e) (cases_eq n k)
             turn false = e
 
     built : (k : ℕ) → Built (wanted k)
     built zero = begun
     built (suc k) = go (slice_get sys.net.variables k) refl (built k)
       where
-        go : (o : Option (Variable V)) → slice_get sys.net.variables k ≡ o → Built (wanted k) → Built (more k o (wanted k))
+        go : (o : Option (Variable V)) → slice_get sys.net.variables k ≡ o → Built (wanted k)
+            → Built (more k o (wanted k))
         go None e b = b
         go (Some x) e b = turn x.is_state refl
           where
             turn : (s : Bool) → x.is_state ≡ s → Built (cond s (put k (f.path k) (wanted k)) (wanted k))
-            turn true s = let w = f.walks k x e s in along k x e s (not_yet k k (omega arith)) (λ j l st. fits.each l.event (f.sound k x e s j l st)) w.2 b
+            turn true s =
+                let w = f.walks k x e s in
+                along k x e s (not_yet k k (omega arith)) (λ j l st. fits.each l.event (f.sound k x e s j l st)) w.2 b
             turn false s = b
 
     -- a firable set has an order
     pub has_order : (u : List Value) × HasOrder sys dropped set u
     has_order =
         let b = built (length sys.net.variables) in
-        let same = λ (n : ℕ) (x : Variable V) (s : Stands sys.net.variables n x) (i : x.is_state ≡ true). b.as_wanted n ∙ by_now (length sys.net.variables) n x (within sys.net.variables n x s) s i in (
+        let same =
+        λ (n : ℕ) (x : Variable V) (s : Stands sys.net.variables n x) (i : x.is_state ≡ true). b.as_wanted n
+        ∙ by_now (length sys.net.variables) n x (within sys.net.variables n x s) s i in (
           b.values,
           record {
             labels = b.labels;
@@ -278,11 +331,13 @@ module _ {V : Type 0} (sys : System V) (dropped : List ℕ) (keyed : AreKeyed sy
             events = record {
               sound = λ k l s.
                   let o = b.firable.whole l.event (record { place = k; stands = event_of b.labels k l s }) in
-                  let p : Stands (f.path o.0) o.5.place o.2 = subst (λ z. Stands z o.5.place o.2) (same o.0 o.1 o.3 o.4) o.5.stands in
+                  let p : Stands (f.path o.0) o.5.place o.2 =
+                  subst (λ z. Stands z o.5.place o.2) (same o.0 o.1 o.3 o.4) o.5.stands in
                   subst (λ z. IsOneOf set z) o.6 (f.sound o.0 o.1 o.3 o.4 o.5.place o.2 p);
               whole = λ e o.
                   let w = f.whole e o in
-                  let p : Stands (b.firable.path w.0) w.5.place w.2 = subst (λ z. Stands z w.5.place w.2) (sym (same w.0 w.1 w.3 w.4)) w.5.stands in
+                  let p : Stands (b.firable.path w.0) w.5.place w.2 =
+                  subst (λ z. Stands z w.5.place w.2) (sym (same w.0 w.1 w.3 w.4)) w.5.stands in
                   let i = b.firable.sound w.0 w.1 w.3 w.4 w.5.place w.2 p in
                   let l = label_of b.labels i.place w.2.event i.stands in
                   (l.0, record { place = i.place; stands = l.1 }, l.2 ∙ w.6);

@@ -22,3 +22,8 @@ pub mod TreeEdges
 pub mod Widths
 pub mod MakingLines
 pub mod OneListing
+pub mod Unbroken
+pub mod Neither
+pub mod Shapes
+pub mod RunsTold
+pub mod LeastThere

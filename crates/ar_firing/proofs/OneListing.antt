@@ -2,8 +2,8 @@
 use Rattle.std.proofs.Common.{◌≡◌, ◌<◌, ◌⊎◌, inl, inr, ⊎_elim, ℕ, zero, suc, List, [], ◌∷◌, refl, sym, subst, arith}
 use Rattle.std.proofs.lemmas.Bool.{cases_order}
 use Rattle.ar_base.specs.Lists.{Stands, IsOneOf}
-use Rattle.ar_firing.specs.Cuts.{Within}
-use Rattle.ar_firing.specs.Listed.{Ascends, IsBefore, AreListed}
+use Rattle.ar_base.specs.Sets.{Within, Ascends, IsBefore}
+use Rattle.ar_firing.specs.Listed.{AreListed}
 
 -- of two sets at most one is before the other
 pub not_both : {s t : List ℕ} → IsBefore s t → IsBefore t s → ⊥
@@ -24,13 +24,17 @@ before_then {s = s} {t = t} {u = u} a b = ⊎_elim
       least = a.least;
       in_first = a.in_first;
       not_in_second = λ k. a.not_in_second ((b.same_below a.least h).1 k);
-      same_below = λ e l. let p = a.same_below e l in let q = b.same_below e (omega (arith, l, h)) in (λ k. q.0 (p.0 k), λ k. p.1 (q.1 k));
+      same_below = λ e l.
+          let p =
+          a.same_below e l in let q = b.same_below e (omega (arith, l, h)) in (λ k. q.0 (p.0 k), λ k. p.1 (q.1 k));
     })
     (λ h. record {
       least = b.least;
       in_first = (a.same_below b.least h).1 b.in_first;
       not_in_second = b.not_in_second;
-      same_below = λ e l. let p = a.same_below e (omega (arith, l, h)) in let q = b.same_below e l in (λ k. q.0 (p.0 k), λ k. p.1 (q.1 k));
+      same_below = λ e l.
+          let p =
+          a.same_below e (omega (arith, l, h)) in let q = b.same_below e l in (λ k. q.0 (p.0 k), λ k. p.1 (q.1 k));
     }) o)
     (cases_order a.least b.least)
 
@@ -52,17 +56,28 @@ ascending_same (x ∷ xs) (y ∷ ys) a b v w =
     let h : x < y → ⊥ = no_lesser y ys b o.place x o.stands in
     let k : y < x → ⊥ = no_lesser x xs a p.place y p.stands in
     let e : x ≡ y = omega arith in
-    let r : xs ≡ ys = ascending_same xs ys (rest x xs a) (rest y ys b) (within_rest x xs y ys a e v) (within_rest y ys x xs b (sym e) w) in cc
+    let r : xs ≡ ys =
+    ascending_same xs ys (rest x xs a) (rest y ys b) (within_rest x xs y ys a e v)
+    (within_rest y ys x xs b (sym e) w) in cc
   where
-    within_rest : (x : ℕ) (xs : List ℕ) (y : ℕ) (ys : List ℕ) → Ascends (x ∷ xs) → x ≡ y → Within (x ∷ xs) (y ∷ ys) → Within xs ys
-    within_rest x xs y ys a e w = record { each = λ d o. let p = w.each d (record { place = suc o.place; stands = o.stands }) in go d o.place o.stands p.place p.stands }
+    within_rest : (x : ℕ) (xs : List ℕ) (y : ℕ) (ys : List ℕ) → Ascends (x ∷ xs) → x ≡ y → Within (x ∷ xs) (y ∷ ys)
+        → Within xs ys
+    within_rest x xs y ys a e w = record {
+      each = λ d o.
+          let p =
+          w.each d (record { place = suc o.place; stands = o.stands }) in go d o.place o.stands p.place p.stands;
+    }
       where
         go : (d j : ℕ) → Stands xs j d → (k : ℕ) → Stands (y ∷ ys) k d → IsOneOf ys d
-        go d j s zero t = let i : y ≡ d = cc in let h = a.ascends zero (suc j) x d (omega arith) refl s in absurd (omega (arith, i, h, e))
+        go d j s zero t =
+            let i : y ≡ d = cc in
+            let h = a.ascends zero (suc j) x d (omega arith) refl s in
+            absurd (omega (arith, i, h, e))
         go d j s (suc k) t = record { place = k; stands = t }
 
 -- the sets after the first one
-after_first : (P : List ℕ → Type 0) (x : List ℕ) (xs : List (List ℕ)) → AreListed P (x ∷ xs) → AreListed (λ s. P s × IsBefore x s) xs
+after_first : (P : List ℕ → Type 0) (x : List ℕ) (xs : List (List ℕ)) → AreListed P (x ∷ xs)
+    → AreListed (λ s. P s × IsBefore x s) xs
 after_first P x xs a = record {
   ascend = λ k s t. a.ascend (suc k) s t;
   sound = λ k s t. (a.sound (suc k) s t, a.in_order zero (suc k) x s (omega arith) refl t);
@@ -70,12 +85,14 @@ after_first P x xs a = record {
   in_order = λ j k s t l p q. a.in_order (suc j) (suc k) s t (omega (arith, l)) p q;
 }
   where
-    go : (s : List ℕ) → IsBefore x s → (other : List ℕ) (k : ℕ) → Stands (x ∷ xs) k other → Within s other → Within other s → (other : List ℕ) × IsOneOf xs other × Within s other × Within other s
+    go : (s : List ℕ) → IsBefore x s → (other : List ℕ) (k : ℕ) → Stands (x ∷ xs) k other → Within s other
+        → Within other s → (other : List ℕ) × IsOneOf xs other × Within s other × Within other s
     go s b other zero t v w = let i : x ≡ other = cc in absurd (not_itself b (subst (λ z. Within z s) (sym i) w))
     go s b other (suc k) t v w = (other, record { place = k; stands = t }, v, w)
 
 -- the first of one list is the first of the other, or comes after it
-first_or_later : (P : List ℕ → Type 0) (x : List ℕ) (xs : List (List ℕ)) (y : List ℕ) (ys : List (List ℕ)) → AreListed P (x ∷ xs) → AreListed P (y ∷ ys) → (x ≡ y) ⊎ IsBefore y x
+first_or_later : (P : List ℕ → Type 0) (x : List ℕ) (xs : List (List ℕ)) (y : List ℕ) (ys : List (List ℕ))
+    → AreListed P (x ∷ xs) → AreListed P (y ∷ ys) → (x ≡ y) ⊎ IsBefore y x
 first_or_later P x xs y ys a b =
     let o = b.whole x (a.sound zero x refl) in
     let e : x ≡ o.0 = ascending_same x o.0 (a.ascend zero x refl) (b.ascend o.1.place o.0 o.1.stands) o.2 o.3 in
@@ -90,9 +107,19 @@ listed_same [] [] P a b = refl
 listed_same [] (y ∷ ys) P a b = let o = a.whole y (b.sound zero y refl) in let h = o.1.stands in cc
 listed_same (x ∷ xs) [] P a b = let o = b.whole x (a.sound zero x refl) in let h = o.1.stands in cc
 listed_same (x ∷ xs) (y ∷ ys) P a b =
-    let e : x ≡ y = ⊎_elim (λ i. i) (λ h. ⊎_elim (λ i. sym i) (λ k. absurd (not_both h k)) (first_or_later P y ys x xs b a)) (first_or_later P x xs y ys a b) in
-    let r : xs ≡ ys = listed_same xs ys (λ s. P s × IsBefore x s) (after_first P x xs a) (subst (λ z. AreListed (λ s. P s × IsBefore z s) ys) (sym e) (after_first P y ys b)) in cc
+    let e : x ≡ y =
+    ⊎_elim (λ i. i) (λ h. ⊎_elim (λ i. sym i) (λ k. absurd (not_both h k)) (first_or_later P y ys x xs b a))
+    (first_or_later P x xs y ys a b) in
+    let r : xs ≡ ys =
+    listed_same xs ys (λ s. P s × IsBefore x s) (after_first P x xs a)
+    (subst (λ z. AreListed (λ s. P s × IsBefore z s) ys) (sym e) (after_first P y ys b)) in cc
 
 -- the sets with one property are listed as those with another that says as much
-pub listed_as : {P Q : List ℕ → Type 0} {sets : List (List ℕ)} → ((s : List ℕ) → P s → Q s) → ((s : List ℕ) → Q s → P s) → AreListed P sets → AreListed Q sets
-listed_as on off a = record { ascend = a.ascend; sound = λ k s t. on s (a.sound k s t); whole = λ s q. a.whole s (off s q); in_order = a.in_order }
+pub listed_as : {P Q : List ℕ → Type 0} {sets : List (List ℕ)} → ((s : List ℕ) → P s → Q s) → ((s : List ℕ) → Q s → P s)
+    → AreListed P sets → AreListed Q sets
+listed_as on off a = record {
+  ascend = a.ascend;
+  sound = λ k s t. on s (a.sound k s t);
+  whole = λ s q. a.whole s (off s q);
+  in_order = a.in_order;
+}

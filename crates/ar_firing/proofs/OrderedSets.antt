@@ -1,10 +1,13 @@
 -- In a static system that is free of conflicts the sets with an order are the firable sets.
-use Rattle.std.proofs.Common.{◌⊎◌, ⊎_elim, ℕ, List, []}
+use Rattle.std.proofs.Common.{◌⊎◌, inl, inr, ⊎_elim, ℕ, List, []}
 use Rattle.domains.specs.declared.Value.{Value}
 use Rattle.ar_meaning.specs.Systems.{System}
 use Rattle.ar_meaning.specs.Facts.{AreKeyed}
 use Rattle.ar_meaning.specs.Runs.{Label}
-use Rattle.ar_firing.specs.Fragment.{IsStatic}
+use Rattle.ar_meaning.specs.Flows.{Flows, Outcome, Fails, Total}
+use Rattle.ar_meaning.specs.Found.{AreTold}
+use Rattle.ar_meaning.proofs.Outcomes.{has_outcome}
+use Rattle.ar_firing.specs.Static.{IsStatic}
 use Rattle.ar_firing.specs.Cuts.{Reaches, start, fire, HasOrder, IsFirable, IsConflictFree}
 use Rattle.ar_firing.specs.Operands.{HasFlows, HasFault}
 use Rattle.ar_firing.proofs.Firing.{all_firable}
@@ -12,16 +15,37 @@ use Rattle.ar_firing.proofs.EachHasOrder.{has_order}
 use Rattle.ar_firing.proofs.SameSets.{firable_as, events_within, set_within}
 
 -- what fires with events dropped fires without
-pub undropped : {V : Type 0} (sys : System V) (dropped : List ℕ) {ls : List Label} {t : List Value} → Reaches sys dropped ls t → Reaches sys [] ls t
+pub undropped : {V : Type 0} (sys : System V) (dropped : List ℕ) {ls : List Label} {t : List Value}
+    → Reaches sys dropped ls t → Reaches sys [] ls t
 undropped sys dropped (start f) = start f
 undropped sys dropped (fire w r o s) =
-    fire w (undropped sys dropped r) (record { event = o.event; is_event = o.is_event; is_way = o.is_way; visible = o.visible; stays = λ i. let h = i.stands in cc }) s
+    fire w (undropped sys dropped r)
+    (record { is_kept = record { is_way = o.is_kept.is_way; stays = λ i. let h = i.stands in cc }; visible = o.visible }) s
 
-module _ {V : Type 0} (sys : System V) (dropped : List ℕ) (keyed : AreKeyed sys.net) (static : IsStatic sys dropped) where
+module _ {V : Type 0} (sys : System V) (dropped : List ℕ) (keyed : AreKeyed sys.net)
+    (static : IsStatic sys dropped) where
   pub order_is_firable : {set : List ℕ} {t : List Value} → HasOrder sys dropped set t → IsFirable sys dropped set t
-  order_is_firable {set = set} o = firable_as sys dropped (events_within o.labels set o.events) (set_within o.labels set o.events) (all_firable sys dropped keyed static o.reaches)
+  order_is_firable {set = set} o =
+      firable_as sys dropped (events_within o.labels set o.events) (set_within o.labels set o.events)
+      (all_firable sys dropped keyed static o.reaches)
 
-  pub firable_has_order : IsConflictFree sys dropped → ((set : List ℕ) (t : List Value) → IsFirable sys dropped set t → HasFlows sys.net t ⊎ HasFault sys.net t)
+  pub firable_has_order : IsConflictFree sys dropped
+      → ((set : List ℕ) (t : List Value) → IsFirable sys dropped set t → HasFlows sys.net t ⊎ HasFault sys.net t)
       → {set : List ℕ} {t : List Value} → IsFirable sys dropped set t → (u : List Value) × HasOrder sys dropped set u
   firable_has_order free known {set = set} f =
-      has_order sys dropped keyed static set (λ part u h w met. ⊎_elim (λ k. k) (λ k. let m = met k.fault k.flows in absurd (free m.0 m.1)) (known part u h)) f (record { each = λ e o. o })
+      has_order sys dropped keyed static set
+      (λ part u h w met. ⊎_elim (λ k. k) (λ k. let m = met k.fault k.flows in absurd (free m.0 m.1)) (known part u h)) f
+      (record { each = λ e o. o })
+
+  -- the flows of a firable set are there, or a fault
+  flows_told : AreTold V → (set : List ℕ) (t : List Value) → IsFirable sys dropped set t
+      → HasFlows sys.net t ⊎ HasFault sys.net t
+  flows_told told set t f = go (has_outcome told sys.net t f.long)
+    where
+      go : (o : Outcome) × Flows sys.net t o → HasFlows sys.net t ⊎ HasFault sys.net t
+      go (Total u, h) = inl (record { values = u; flows = h })
+      go (Fails f, h) = inr (record { fault = f; flows = h })
+
+  pub told_has_order : AreTold V → IsConflictFree sys dropped → {set : List ℕ} {t : List Value}
+      → IsFirable sys dropped set t → (u : List Value) × HasOrder sys dropped set u
+  told_has_order told free f = firable_has_order free (flows_told told) f

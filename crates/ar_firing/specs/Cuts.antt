@@ -1,6 +1,7 @@
 -- Firable sets, firing orders, cuts and conflicts. A set of events is a list of their numbers.
 use Rattle.std.specs.Prelude.{◌<◌, ◌≡◌, ℕ, true, List, [], ◌∷◌, length}
 use Rattle.ar_base.specs.Lists.{Stands, IsOneOf}
+use Rattle.ar_base.specs.Sets.{Within}
 use Rattle.domains.specs.declared.Value.{Value}
 use Rattle.typed_expr.specs.Yields.{Yields}
 use Rattle.typed_expr.specs.declared.expr.Expr.{Expr, out-Expr}
@@ -11,15 +12,19 @@ use Rattle.ar_meaning.specs.Steps.{Step, Answer, Refused, Next, Flow}
 use Rattle.ar_meaning.specs.Runs.{Label, Start, StartFails}
 use Rattle.ar_firing.specs.Fragment.{Edge, IsOpen, IsLive, Path}
 
--- the run that starts and fires these labels of visible events that are not dropped, the last first, has no fault and ends in this valuation
+-- the run that starts and fires these labels of visible events that are not dropped, the last first, has no fault and
+-- ends in this valuation
 pub data Reaches {V : Type 0} (sys : System V) (dropped : List ℕ) : List Label → List Value → Type 0 where
   start : {t : List Value} → Start sys.net t → Reaches sys dropped [] t
-  fire : {ls : List Label} {t u : List Value} {l : Label} (w : Way V) → Reaches sys dropped ls t → IsOpen sys dropped l w → Step sys.net t w (Next u) → Reaches sys dropped (l ∷ ls) u
+  fire : {ls : List Label} {t u : List Value} {l : Label} (w : Way V) → Reaches sys dropped ls t
+      → IsOpen sys dropped l w → Step sys.net t w (Next u) → Reaches sys dropped (l ∷ ls) u
 
--- the same run has no fault up to its last label, and this meets a flow fault; or there is no label, and the start meets one
+-- the same run has no fault up to its last label, and this meets a flow fault; or there is no label, and the start
+-- meets one
 pub data Conflicts {V : Type 0} (sys : System V) (dropped : List ℕ) : List Label → FlowFault → Type 0 where
   start : {f : FlowFault} → StartFails sys.net f → Conflicts sys dropped [] f
-  fire : {ls : List Label} {t : List Value} {l : Label} {f : FlowFault} (w : Way V) → Reaches sys dropped ls t → IsOpen sys dropped l w → Step sys.net t w (Refused (Flow f))
+  fire : {ls : List Label} {t : List Value} {l : Label} {f : FlowFault} (w : Way V) → Reaches sys dropped ls t
+      → IsOpen sys dropped l w → Step sys.net t w (Refused (Flow f))
       → Conflicts sys dropped (l ∷ ls) f
 
 -- the labels' events are those of the set, each once
@@ -28,10 +33,6 @@ pub record AreEvents (ls : List Label) (set : List ℕ) : Type 0 where
   pub whole : (e : ℕ) → IsOneOf set e → (l : Label) × IsOneOf ls l × (l.event ≡ e)
   pub once : (j k : ℕ) (l m : Label) → Stands ls j l → Stands ls k m → l.event ≡ m.event → j ≡ k
 
--- each member of the first set is one of the second
-pub record Within (xs ys : List ℕ) : Type 0 where
-  pub each : (e : ℕ) → IsOneOf xs e → IsOneOf ys e
-
 -- some order of the set fires without fault and ends in this valuation
 pub record HasOrder {V : Type 0} (sys : System V) (dropped : List ℕ) (set : List ℕ) (t : List Value) : Type 0 where
   pub labels : List Label
@@ -39,7 +40,8 @@ pub record HasOrder {V : Type 0} (sys : System V) (dropped : List ℕ) (set : Li
   pub reaches : Reaches sys dropped labels t
 
 -- some order of the set ends with the wanted value of the observer
-pub record Makes {V : Type 0} (sys : System V) (dropped : List ℕ) (observer : Expr V) (wanted : Value) (set : List ℕ) : Type 0 where
+pub record Makes {V : Type 0} (sys : System V) (dropped : List ℕ) (observer : Expr V) (wanted : Value)
+    (set : List ℕ) : Type 0 where
   pub values : List Value
   pub order : HasOrder sys dropped set values
   pub shows : Yields (HasValue sys.net values) (out-Expr V observer) wanted
@@ -54,7 +56,8 @@ pub record HasNoLesser (P : List ℕ → Type 0) (set : List ℕ) : Type 0 where
   pub has : P set
   pub no_lesser : (part : List ℕ) → Within part set → (Within set part → ⊥) → P part → ⊥
 
--- some order of the set fires without fault up to its last event, and meets a flow fault there; the empty set does where the start does
+-- some order of the set fires without fault up to its last event, and meets a flow fault there; the empty set does
+-- where the start does
 pub record MeetsConflict {V : Type 0} (sys : System V) (dropped : List ℕ) (set : List ℕ) : Type 0 where
   pub labels : List Label
   pub events : AreEvents labels set
@@ -73,32 +76,38 @@ ConflictSet sys dropped = IsLeast (MeetsConflict sys dropped)
 abbrev pub IsConflictFree : {V : Type 0} → System V → List ℕ → Type 0
 IsConflictFree sys dropped = (set : List ℕ) → MeetsConflict sys dropped set → ⊥
 
--- the set is firable, and t is its state: its events are exactly those along one path of each state variable, and each state variable has the value where its path ends
+-- the set is firable, and t is its state: its events are exactly those along one path of each state variable, and each
+-- state variable has the value where its path ends
 pub record IsFirable {V : Type 0} (sys : System V) (dropped : List ℕ) (set : List ℕ) (t : List Value) : Type 0 where
   pub long : length t ≡ length sys.net.variables
   pub path : ℕ → List Label
-  pub walks : (n : ℕ) (x : Variable V) → Stands sys.net.variables n x → x.is_state ≡ true → (m : Value) × Stands t n m × Path sys dropped n (path n) m
-  pub sound : (n : ℕ) (x : Variable V) → Stands sys.net.variables n x → x.is_state ≡ true → (k : ℕ) (l : Label) → Stands (path n) k l → IsOneOf set l.event
-  pub whole : (e : ℕ) → IsOneOf set e → (n : ℕ) × (x : Variable V) × (l : Label) × Stands sys.net.variables n x × (x.is_state ≡ true) × IsOneOf (path n) l × (l.event ≡ e)
+  pub walks : (n : ℕ) (x : Variable V) → Stands sys.net.variables n x → x.is_state ≡ true
+      → (m : Value) × Stands t n m × Path sys dropped n (path n) m
+  pub sound : (n : ℕ) (x : Variable V) → Stands sys.net.variables n x → x.is_state ≡ true → (k : ℕ) (l : Label)
+      → Stands (path n) k l → IsOneOf set l.event
+  pub whole : (e : ℕ) → IsOneOf set e → (n : ℕ) × (x : Variable V) × (l : Label) × Stands sys.net.variables n x ×
+      (x.is_state ≡ true) × IsOneOf (path n) l × (l.event ≡ e)
 
 -- no live edge of the variable that leaves this mode has its event in the set
 abbrev pub NoneLeaves : {V : Type 0} → System V → List ℕ → List ℕ → ℕ → Value → Type 0
 NoneLeaves sys dropped set n m = (l : Label) (to : Value) → IsLive sys dropped l n m to → IsOneOf set l.event → ⊥
 
 -- what follows of a new state: its flows, or a flow fault
-pub data Moves_to {V : Type 0} (net : Net V) : List Value → Answer → Type 0 where
-  on : {state next : List Value} → Flows net state (Total next) → Moves_to net state (Next next)
-  fails : {state : List Value} {f : FlowFault} → Flows net state (Fails f) → Moves_to net state (Refused (Flow f))
+pub data MovesTo {V : Type 0} (net : Net V) : List Value → Answer → Type 0 where
+  on : {state next : List Value} → Flows net state (Total next) → MovesTo net state (Next next)
+  fails : {state : List Value} {f : FlowFault} → Flows net state (Fails f) → MovesTo net state (Refused (Flow f))
 
 -- in this list, the last first, each label stands after the one that enters the mode that it leaves
 pub record AreInOrder {V : Type 0} (sys : System V) (dropped : List ℕ) (ls : List Label) : Type 0 where
-  pub after : (k : ℕ) (l : Label) (n : ℕ) (from to : Value) (m : Label) (ms : List Label) → Stands ls k l → Path sys dropped n (m ∷ ms) from → Edge sys dropped l n from to
+  pub after : (k : ℕ) (l : Label) (n : ℕ) (from to : Value) (m : Label) (ms : List Label) → Stands ls k l
+      → Path sys dropped n (m ∷ ms) from → Edge sys dropped l n from to
       → (j : ℕ) × (k < j) × Stands ls j m
 
 -- the labels, the last first, are those of a firable set's paths, one for each of its events, in such an order
 pub record IsLegalOrder {V : Type 0} (sys : System V) (dropped : List ℕ) (set : List ℕ) (ls : List Label) : Type 0 where
   pub values : List Value
   pub is_firable : IsFirable sys dropped set values
-  pub on_paths : (k : ℕ) (l : Label) → Stands ls k l → (n : ℕ) × (x : Variable V) × Stands sys.net.variables n x × (x.is_state ≡ true) × IsOneOf (is_firable.path n) l
+  pub on_paths : (k : ℕ) (l : Label) → Stands ls k l
+      → (n : ℕ) × (x : Variable V) × Stands sys.net.variables n x × (x.is_state ≡ true) × IsOneOf (is_firable.path n) l
   pub events : AreEvents ls set
   pub in_order : AreInOrder sys dropped ls

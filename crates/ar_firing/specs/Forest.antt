@@ -12,7 +12,7 @@ pub record HasTransitions {V : Type 0} (sys : System V) (dropped : List ℕ) (un
   pub label : Label
   pub way : Way V
   pub is_kept : IsKept sys dropped label way
-  pub is_unit : is_kept.event.unit ≡ unit
+  pub is_unit : is_kept.is_way.event.unit ≡ unit
 
 -- the variable of this number is a state variable of a unit with transitions
 pub record IsModeVariable {V : Type 0} (sys : System V) (dropped : List ℕ) (n : ℕ) : Type 0 where
@@ -27,12 +27,15 @@ pub record Row : Type 0 where
   pub label : Label
   pub to : Value
 
--- the edges below this mode by events from number `low` on, in the order of their events, each before those below the mode that it enters
+-- the edges below this mode by events from number `low` on, in the order of their events, each before those below the
+-- mode that it enters
 pub data Under {V : Type 0} (sys : System V) (dropped : List ℕ) (n : ℕ) : Value → ℕ → List Row → Type 0 where
-  no_more : {m : Value} {low : ℕ} → ((l : Label) (to : Value) → low ≤ l.event → Edge sys dropped l n m to → ⊥) → Under sys dropped n m low []
+  no_more : {m : Value} {low : ℕ} → ((l : Label) (to : Value) → low ≤ l.event → Edge sys dropped l n m to → ⊥)
+      → Under sys dropped n m low []
   next : {m to : Value} {low : ℕ} {l : Label} {es fs : List Row} → low ≤ l.event → Edge sys dropped l n m to
       → ((k : Label) (u : Value) → low ≤ k.event → k.event < l.event → Edge sys dropped k n m u → ⊥)
-      → Under sys dropped n to 0 es → Under sys dropped n m (l.event + 1) fs → Under sys dropped n m low (record { from = m; label = l; to = to } ∷ (es ++ fs))
+      → Under sys dropped n to 0 es → Under sys dropped n m (l.event + 1) fs
+      → Under sys dropped n m low (record { from = m; label = l; to = to } ∷ (es ++ fs))
 
 -- a variable's tree: its number, its init value, and its edges
 pub record ModeTree : Type 0 where
@@ -52,7 +55,8 @@ pub record IsForest {V : Type 0} (sys : System V) (dropped : List ℕ) (trees : 
   pub whole : (n : ℕ) → IsModeVariable sys dropped n → (tree : ModeTree) × IsOneOf trees tree × (tree.variable ≡ n)
   pub ascends : (j k : ℕ) (s t : ModeTree) → j < k → Stands trees j s → Stands trees k t → s.variable < t.variable
 
--- the labels of the paths of these variables, numbered from n on: variable by variable, each path from its root downward
+-- the labels of the paths of these variables, numbered from n on: variable by variable, each path from its root
+-- downward
 abbrev pub firing_line : {V : Type 0} → ℕ → List (Variable V) → (ℕ → List Label) → List Label
 firing_line n [] path = []
 firing_line n (x ∷ xs) path = cond x.is_state (reverse (path n)) [] ++ firing_line (suc n) xs path

@@ -5,3 +5,5 @@ pub mod Forest
 pub mod Replays
 pub mod Rules
 pub mod Listed
+pub mod Static
+pub mod Trees

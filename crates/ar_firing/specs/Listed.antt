@@ -1,18 +1,7 @@
 -- The order in which sets of events are listed.
-use Rattle.std.specs.Prelude.{◌↔◌, ◌<◌, ℕ, List}
+use Rattle.std.specs.Prelude.{◌<◌, ℕ, List}
 use Rattle.ar_base.specs.Lists.{Stands, IsOneOf}
-use Rattle.ar_firing.specs.Cuts.{Within}
-
--- each number is greater than those before it
-pub record Ascends (set : List ℕ) : Type 0 where
-  pub ascends : (j k a b : ℕ) → j < k → Stands set j a → Stands set k b → a < b
-
--- the least number that is in just one of the two sets is in the first
-pub record IsBefore (s t : List ℕ) : Type 0 where
-  pub least : ℕ
-  pub in_first : IsOneOf s least
-  pub not_in_second : IsOneOf t least → ⊥
-  pub same_below : (e : ℕ) → e < least → (IsOneOf s e ↔ IsOneOf t e)
+use Rattle.ar_base.specs.Sets.{Ascends, Within, IsBefore}
 
 -- the list has the sets with P, and no other, each once as an ascending list, and each before the later ones
 pub record AreListed (P : List ℕ → Type 0) (sets : List (List ℕ)) : Type 0 where

@@ -10,7 +10,8 @@ use Rattle.ar_meaning.specs.Found.{IsAnswer}
 use Rattle.ar_firing.specs.Cuts.{IsFirable}
 
 -- the state has flows, and top says whether the observer then has the wanted value
-pub record Shows {V : Type 0} (net : Net V) (state : List Value) (observer : Expr V) (wanted : Value) (top : Bool) : Type 0 where
+pub record Shows {V : Type 0} (net : Net V) (state : List Value) (observer : Expr V) (wanted : Value)
+    (top : Bool) : Type 0 where
   pub values : List Value
   pub flows : Flows net state (Total values)
   pub shows : IsAnswer top (Yields (HasValue net values) (out-Expr V observer) wanted)
@@ -25,13 +26,17 @@ pub record HasFault {V : Type 0} (net : Net V) (state : List Value) : Type 0 whe
   pub fault : FlowFault
   pub flows : Flows net state (Fails fault)
 
--- at each firable set the conflict test is true exactly where the flows of its state are a fault, and where it is false the top test is true exactly where the observer has the wanted value
-pub record Agrees {V : Type 0} (sys : System V) (dropped : List ℕ) (observer : Expr V) (wanted : Value) (conflict top : List ℕ → Bool) : Type 0 where
+-- at each firable set the conflict test is true exactly where the flows of its state are a fault, and where it is false
+-- the top test is true exactly where the observer has the wanted value
+pub record Agrees {V : Type 0} (sys : System V) (dropped : List ℕ) (observer : Expr V) (wanted : Value)
+    (conflict top : List ℕ → Bool) : Type 0 where
   pub fault : (set : List ℕ) (t : List Value) → IsFirable sys dropped set t → conflict set ≡ true → HasFault sys.net t
-  pub total : (set : List ℕ) (t : List Value) → IsFirable sys dropped set t → conflict set ≡ false → Shows sys.net t observer wanted (top set)
+  pub total : (set : List ℕ) (t : List Value) → IsFirable sys dropped set t → conflict set ≡ false
+      → Shows sys.net t observer wanted (top set)
 
 -- the set is firable, and the test is true of it
-pub record IsFirableWith {V : Type 0} (sys : System V) (dropped : List ℕ) (test : List ℕ → Bool) (set : List ℕ) : Type 0 where
+pub record IsFirableWith {V : Type 0} (sys : System V) (dropped : List ℕ) (test : List ℕ → Bool)
+    (set : List ℕ) : Type 0 where
   pub values : List Value
   pub is_firable : IsFirable sys dropped set values
   pub holds : test set ≡ true

@@ -8,7 +8,7 @@ use Rattle.ar_meaning.specs.Systems.{Assign, Variable, Net, Transition, Way, Lea
 use Rattle.ar_meaning.specs.Facts.{Allows}
 use Rattle.ar_meaning.specs.Ways.{Can, Effects}
 use Rattle.ar_meaning.specs.Runs.{Label, IsWay}
-use Rattle.ar_firing.specs.Fragment.{Guard_names, Action_names, IsKept, IsOpen, IsStateOf, IsModeOf, At, IsReached, IsLive}
+use Rattle.ar_firing.specs.Fragment.{GuardNames, ActionNames, IsKept, IsOpen, IsStateOf, IsModeOf, At, IsReached, IsLive}
 use Rattle.ar_firing.specs.Forest.{HasTransitions}
 
 -- S1: no event has a synchronised way. Shown with the event
@@ -47,9 +47,10 @@ pub record BreaksS2 {V : Type 0} (sys : System V) (dropped : List ℕ) (unit : �
   pub has_none : HasNo sys.net.variables (IsStateOf unit)
 
 -- a way of an event that is not dropped, and its mode variable, by number
-pub record HasModeVariable {V : Type 0} (sys : System V) (dropped : List ℕ) (l : Label) (w : Way V) (n : ℕ) (x : Variable V) : Type 0 where
+pub record HasModeVariable {V : Type 0} (sys : System V) (dropped : List ℕ) (l : Label) (w : Way V) (n : ℕ)
+    (x : Variable V) : Type 0 where
   pub is_kept : IsKept sys dropped l w
-  pub is_mode : IsModeOf sys is_kept.event.unit w n
+  pub is_mode : IsModeOf sys is_kept.is_way.event.unit w n
   pub stands : Stands sys.net.variables n x
 
 -- S3: the guard of a way of an event that is not dropped names its mode variable alone. Shown with this
@@ -59,7 +60,7 @@ pub record GuardKeeps {V : Type 0} (sys : System V) (dropped : List ℕ) (l : La
   pub number : ℕ
   pub variable : Variable V
   pub mode : HasModeVariable sys dropped l w number variable
-  pub alone : (y : V) → Guard_names y w → y ≡ variable.key
+  pub alone : (y : V) → GuardNames y w → y ≡ variable.key
 
 -- every way of an event that is not dropped has a guard that names its mode variable alone
 pub record KeepsS3 {V : Type 0} (sys : System V) (dropped : List ℕ) : Type 0 where
@@ -72,15 +73,18 @@ pub record BreaksS3 {V : Type 0} (sys : System V) (dropped : List ℕ) (n : ℕ)
   pub variable : Variable V
   pub mode : HasModeVariable sys dropped label way n variable
   pub other : V
-  pub named : Guard_names other way
+  pub named : GuardNames other way
   pub differs : other ≡ variable.key → ⊥
 
--- S4: the assignments of such a way name its mode variable alone, and wherever the way is live it assigns exactly one value to it, one of its domain. Shown with the mode variable
+-- S4: the assignments of such a way name its mode variable alone, and wherever the way is live it assigns exactly one
+-- value to it, one of its domain. Shown with the mode variable
 
--- a way of a visible event that is not dropped, at a mode of its mode variable that is reached and where its guard is true
-pub record IsLiveAt {V : Type 0} (sys : System V) (dropped : List ℕ) (l : Label) (w : Way V) (n : ℕ) (x : Variable V) (m : Value) : Type 0 where
+-- a way of a visible event that is not dropped, at a mode of its mode variable that is reached and where its guard is
+-- true
+pub record IsLiveAt {V : Type 0} (sys : System V) (dropped : List ℕ) (l : Label) (w : Way V) (n : ℕ) (x : Variable V)
+    (m : Value) : Type 0 where
   pub is_open : IsOpen sys dropped l w
-  pub is_mode : IsModeOf sys is_open.event.unit w n
+  pub is_mode : IsModeOf sys is_open.is_kept.is_way.event.unit w n
   pub stands : Stands sys.net.variables n x
   pub reached : IsReached sys dropped n m
   pub can : Can (At x.key m) w
@@ -100,13 +104,18 @@ pub data GivesOther (effects : Value → Type 0) (domain : List Value) : Type 0 
 
 -- the actions name the mode variable alone, and wherever a way is live it gives this one value, of the domain
 pub record KeepsS4 {V : Type 0} (sys : System V) (dropped : List ℕ) : Type 0 where
-  pub alone : (l : Label) (w : Way V) (n : ℕ) (x : Variable V) → HasModeVariable sys dropped l w n x → (y : V) → Action_names y w → y ≡ x.key
-  pub gives : (l : Label) (w : Way V) (n : ℕ) (x : Variable V) (m : Value) → IsLiveAt sys dropped l w n x m → GivesOne (Effects (At x.key m) w x.key) x.domain
+  pub alone : (l : Label) (w : Way V) (n : ℕ) (x : Variable V) → HasModeVariable sys dropped l w n x → (y : V)
+      → ActionNames y w → y ≡ x.key
+  pub gives : (l : Label) (w : Way V) (n : ℕ) (x : Variable V) (m : Value) → IsLiveAt sys dropped l w n x m
+      → GivesOne (Effects (At x.key m) w x.key) x.domain
 
--- this is the mode variable of a way whose action names another variable, or that is live at a mode and does not give it one value of the domain there
+-- this is the mode variable of a way whose action names another variable, or that is live at a mode and does not give
+-- it one value of the domain there
 pub data BreaksS4 {V : Type 0} (sys : System V) (dropped : List ℕ) (n : ℕ) : Type 0 where
-  names : (l : Label) (w : Way V) (x : Variable V) → HasModeVariable sys dropped l w n x → (y : V) → Action_names y w → (y ≡ x.key → ⊥) → BreaksS4 sys dropped n
-  gives : (l : Label) (w : Way V) (x : Variable V) (m : Value) → IsLiveAt sys dropped l w n x m → GivesOther (Effects (At x.key m) w x.key) x.domain → BreaksS4 sys dropped n
+  names : (l : Label) (w : Way V) (x : Variable V) → HasModeVariable sys dropped l w n x → (y : V) → ActionNames y w
+      → (y ≡ x.key → ⊥) → BreaksS4 sys dropped n
+  gives : (l : Label) (w : Way V) (x : Variable V) (m : Value) → IsLiveAt sys dropped l w n x m
+      → GivesOther (Effects (At x.key m) w x.key) x.domain → BreaksS4 sys dropped n
 
 -- S5: an event has at most one live edge. Shown with the least mode variable of its live edges
 
@@ -118,7 +127,8 @@ pub data AreTwo (k l : Label) (m n : ℕ) (u v : Value) : Type 0 where
 
 -- two live edges of one event are one
 pub record KeepsS5 {V : Type 0} (sys : System V) (dropped : List ℕ) : Type 0 where
-  pub one : (k l : Label) (m n : ℕ) (u v x y : Value) → IsLive sys dropped k m u x → IsLive sys dropped l n v y → k.event ≡ l.event → (k.way ≡ l.way) × (m ≡ n) × (u ≡ v)
+  pub one : (k l : Label) (m n : ℕ) (u v x y : Value) → IsLive sys dropped k m u x → IsLive sys dropped l n v y
+      → k.event ≡ l.event → (k.way ≡ l.way) × (m ≡ n) × (u ≡ v)
 
 -- a live edge of the event, at this variable
 pub record HasLive {V : Type 0} (sys : System V) (dropped : List ℕ) (e n : ℕ) : Type 0 where
@@ -139,28 +149,42 @@ pub record BreaksS5 {V : Type 0} (sys : System V) (dropped : List ℕ) (n : ℕ)
   pub has : HasLive sys dropped event n
   pub least : (k : ℕ) → HasLive sys dropped event k → n ≤ k
 
--- S6: no live edge stays in its mode, no mode is entered by two live edges, and the initial mode by none. Shown with the variable
+-- S6: no live edge stays in its mode, no mode is entered by two live edges, and the initial mode by none. Shown with
+-- the variable
 
 -- no live edge stays, two live edges that enter one mode are one, and none enters the init value
 pub record KeepsS6 {V : Type 0} (sys : System V) (dropped : List ℕ) : Type 0 where
   pub moves : (l : Label) (n : ℕ) (u v : Value) → IsLive sys dropped l n u v → u ≡ v → ⊥
-  pub enters : (k l : Label) (n : ℕ) (u v x : Value) → IsLive sys dropped k n u x → IsLive sys dropped l n v x → (k.event ≡ l.event) × (k.way ≡ l.way) × (u ≡ v)
-  pub begins : (l : Label) (n : ℕ) (u : Value) (x : Variable V) → Stands sys.net.variables n x → IsLive sys dropped l n u x.value → ⊥
+  pub enters : (k l : Label) (n : ℕ) (u v x : Value) → IsLive sys dropped k n u x → IsLive sys dropped l n v x
+      → (k.event ≡ l.event) × (k.way ≡ l.way) × (u ≡ v)
+  pub begins : (l : Label) (n : ℕ) (u : Value) (x : Variable V) → Stands sys.net.variables n x
+      → IsLive sys dropped l n u x.value → ⊥
 
 -- a live edge of this variable stays in its mode, two of them enter one mode, or one enters the init value
 pub data BreaksS6 {V : Type 0} (sys : System V) (dropped : List ℕ) (n : ℕ) : Type 0 where
   stays : (l : Label) (u v : Value) → IsLive sys dropped l n u v → u ≡ v → BreaksS6 sys dropped n
-  by_events : (k l : Label) (u v x : Value) → IsLive sys dropped k n u x → IsLive sys dropped l n v x → (k.event ≡ l.event → ⊥) → BreaksS6 sys dropped n
-  by_edges : (k l : Label) (u v x : Value) → IsLive sys dropped k n u x → IsLive sys dropped l n v x → k.event ≡ l.event → AreTwo k l n n u v → BreaksS6 sys dropped n
-  initial : (l : Label) (u : Value) (x : Variable V) → Stands sys.net.variables n x → IsLive sys dropped l n u x.value → BreaksS6 sys dropped n
+  by_events : (k l : Label) (u v x : Value) → IsLive sys dropped k n u x → IsLive sys dropped l n v x
+      → (k.event ≡ l.event → ⊥) → BreaksS6 sys dropped n
+  by_edges : (k l : Label) (u v x : Value) → IsLive sys dropped k n u x → IsLive sys dropped l n v x → k.event ≡ l.event
+      → AreTwo k l n n u v → BreaksS6 sys dropped n
+  initial : (l : Label) (u : Value) (x : Variable V) → Stands sys.net.variables n x → IsLive sys dropped l n u x.value
+      → BreaksS6 sys dropped n
 
--- S7: each subexpression, and each step of a fold, of an observer and of the expression and conditions of an assertion's assignment has at most 64 possible values.
+-- S7: each subexpression, and each step of a fold, of an observer and of the expression and conditions of an
+-- assertion's assignment has at most 64 possible values.
 -- Shown with the flow assigned, or with the observer
 
--- the assignment's expression or one of its conditions has more than 64 possible values in some part, where each variable may have each value of its domain
+-- the assignment's expression or one of its conditions has more than 64 possible values in some part, where each
+-- variable may have each value of its domain
 pub data AssignIsWide {V : Type 0} (net : Net V) (a : Assign V) : Type 0 where
   by_value : IsWide (Allows net) 64 (out-Expr V a.value) → AssignIsWide net a
-  by_condition : {e : Expr V} {b : Bool} → IsOneOf a.conditions (e, b) → IsWide (Allows net) 64 (out-Expr V e) → AssignIsWide net a
+  by_condition : {e : Expr V} {b : Bool} → IsOneOf a.conditions (e, b) → IsWide (Allows net) 64 (out-Expr V e)
+      → AssignIsWide net a
+
+-- each assignment of an assertion has a variable of the net as its target, as it must have to be shown
+pub record HasTargets {V : Type 0} (sys : System V) : Type 0 where
+  pub each : (k : ℕ) (a : Assign V) → Stands sys.net.assertions k a
+      → (n : ℕ) × (x : Variable V) × Stands sys.net.variables n x × (a.target ≡ x.key)
 
 -- no assignment of an assertion and no observer has too many possible values
 pub record KeepsS7 {V : Type 0} (sys : System V) : Type 0 where

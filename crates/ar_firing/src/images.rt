@@ -14,42 +14,55 @@ ghost use Rattle.ar_firing.specs.Rules.{Rule, Spot, Keeps, Breaks, IsFirstBroken
 
 /// A system and a flat system of it have the same firing orders, conflicts, cuts and conflict sets.
 pub fn flat_cuts<V>()
-    ensures reaches { (things : List V) (sys : System V) (flat : System ℕ) → IsFlatOf things sys flat
-        → (dropped : List ℕ) (ls : List Label) (t : List Value) → (Reaches sys dropped ls t ↔ Reaches flat dropped ls t) }
-    ensures conflicts { (things : List V) (sys : System V) (flat : System ℕ) → IsFlatOf things sys flat
-        → (dropped : List ℕ) (ls : List Label) (f : FlowFault) → (Conflicts sys dropped ls f ↔ Conflicts flat dropped ls f) }
+    ensures reaches { (things : List V) (sys : System V) (flat : System ℕ)
+        → IsFlatOf things sys flat → (dropped : List ℕ) (ls : List Label) (t : List Value)
+        → (Reaches sys dropped ls t ↔ Reaches flat dropped ls t) }
+    ensures conflicts { (things : List V) (sys : System V) (flat : System ℕ)
+        → IsFlatOf things sys flat → (dropped : List ℕ) (ls : List Label) (f : FlowFault)
+        → (Conflicts sys dropped ls f ↔ Conflicts flat dropped ls f) }
     ensures makes { (things : List V) (sys : System V) (flat : System ℕ) → IsFlatOf things sys flat
-        → (dropped : List ℕ) (observer : Expr V) (other : Expr ℕ) → Expr_renames (IsNumber things) observer other
-        → (wanted : Value) (set : List ℕ) → (Makes sys dropped observer wanted set ↔ Makes flat dropped other wanted set) }
+        → (dropped : List ℕ) (observer : Expr V) (other : Expr ℕ)
+        → Expr_renames (IsNumber things) observer other → (wanted : Value) (set : List ℕ)
+        → (Makes sys dropped observer wanted set ↔ Makes flat dropped other wanted set) }
     ensures cuts { (things : List V) (sys : System V) (flat : System ℕ) → IsFlatOf things sys flat
-        → (dropped : List ℕ) (observer : Expr V) (other : Expr ℕ) → Expr_renames (IsNumber things) observer other
-        → (wanted : Value) (set : List ℕ) → (Cut sys dropped observer wanted set ↔ Cut flat dropped other wanted set) }
+        → (dropped : List ℕ) (observer : Expr V) (other : Expr ℕ)
+        → Expr_renames (IsNumber things) observer other → (wanted : Value) (set : List ℕ)
+        → (Cut sys dropped observer wanted set ↔ Cut flat dropped other wanted set) }
     ensures meets { (things : List V) (sys : System V) (flat : System ℕ) → IsFlatOf things sys flat
-        → (dropped : List ℕ) (set : List ℕ) → (MeetsConflict sys dropped set ↔ MeetsConflict flat dropped set) }
-    ensures conflict_sets { (things : List V) (sys : System V) (flat : System ℕ) → IsFlatOf things sys flat
-        → (dropped : List ℕ) (set : List ℕ) → (ConflictSet sys dropped set ↔ ConflictSet flat dropped set) }
+        → (dropped : List ℕ) (set : List ℕ)
+        → (MeetsConflict sys dropped set ↔ MeetsConflict flat dropped set) }
+    ensures conflict_sets { (things : List V) (sys : System V) (flat : System ℕ)
+        → IsFlatOf things sys flat → (dropped : List ℕ) (set : List ℕ)
+        → (ConflictSet sys dropped set ↔ ConflictSet flat dropped set) }
 {}
 
 /// A system and a flat system of it have the same firable sets, lines, trees and forest.
 pub fn flat_forests<V>()
-    ensures firable { (things : List V) (sys : System V) (flat : System ℕ) → IsFlatOf things sys flat
-        → (dropped set : List ℕ) (t : List Value) → (IsFirable sys dropped set t ↔ IsFirable flat dropped set t) }
+    ensures firable { (things : List V) (sys : System V) (flat : System ℕ)
+        → IsFlatOf things sys flat → (dropped set : List ℕ) (t : List Value)
+        → (IsFirable sys dropped set t ↔ IsFirable flat dropped set t) }
     ensures lines { (things : List V) (sys : System V) (flat : System ℕ) → IsFlatOf things sys flat
-        → (dropped set : List ℕ) (ls : List Label) → (IsLine sys dropped set ls ↔ IsLine flat dropped set ls) }
+        → (dropped set : List ℕ) (ls : List Label)
+        → (IsLine sys dropped set ls ↔ IsLine flat dropped set ls) }
     ensures trees { (things : List V) (sys : System V) (flat : System ℕ) → IsFlatOf things sys flat
-        → (dropped : List ℕ) (tree : ModeTree) → (IsModeTree sys dropped tree ↔ IsModeTree flat dropped tree) }
-    ensures forests { (things : List V) (sys : System V) (flat : System ℕ) → IsFlatOf things sys flat
-        → (dropped : List ℕ) (trees : List ModeTree) → (IsForest sys dropped trees ↔ IsForest flat dropped trees) }
+        → (dropped : List ℕ) (tree : ModeTree)
+        → (IsModeTree sys dropped tree ↔ IsModeTree flat dropped tree) }
+    ensures forests { (things : List V) (sys : System V) (flat : System ℕ)
+        → IsFlatOf things sys flat → (dropped : List ℕ) (trees : List ModeTree)
+        → (IsForest sys dropped trees ↔ IsForest flat dropped trees) }
 {}
 
-/// A system and a flat system of it keep and break the same rules of the static fragment, by the same numbers.
+/// A system and a flat system of it keep and break the same rules of the static fragment, by the
+/// same numbers.
 pub fn flat_rules<V>()
     ensures keeps { (things : List V) (sys : System V) (flat : System ℕ) → IsFlatOf things sys flat
         → (dropped : List ℕ) (rule : Rule) → (Keeps sys dropped rule ↔ Keeps flat dropped rule) }
     ensures breaks { (things : List V) (sys : System V) (flat : System ℕ) → IsFlatOf things sys flat
-        → (dropped : List ℕ) (rule : Rule) (spot : Spot) → (Breaks sys dropped rule spot ↔ Breaks flat dropped rule spot) }
-    ensures first_broken { (things : List V) (sys : System V) (flat : System ℕ) → IsFlatOf things sys flat
-        → (dropped : List ℕ) (rule : Rule) (spot : Spot) → (IsFirstBroken sys dropped rule spot ↔ IsFirstBroken flat dropped rule spot) }
+        → (dropped : List ℕ) (rule : Rule) (spot : Spot)
+        → (Breaks sys dropped rule spot ↔ Breaks flat dropped rule spot) }
+    ensures first_broken { (things : List V) (sys : System V) (flat : System ℕ)
+        → IsFlatOf things sys flat → (dropped : List ℕ) (rule : Rule) (spot : Spot)
+        → (IsFirstBroken sys dropped rule spot ↔ IsFirstBroken flat dropped rule spot) }
     ensures all { (things : List V) (sys : System V) (flat : System ℕ) → IsFlatOf things sys flat
         → (dropped : List ℕ) → (KeepsAll sys dropped ↔ KeepsAll flat dropped) }
 {}

@@ -6,6 +6,7 @@ use Rattle.std.specs.declared.vec.Vec.{Vec}
 use Rattle.std.specs.List.{list_any}
 use Rattle.std.specs.Str.{bytes_eq}
 use Rattle.ar_io.specs.Outside.{Told, Bytes, Absent}
+use Rattle.ar_io.specs.Writing.{SinkState}
 
 -- a shelf in memory: the named texts, the numbers of the calls that are to fail, the calls so far, and the faults so far
 pub record Shelved : Type 0 where
@@ -35,6 +36,10 @@ texts_of {Y} {Z} entries = map (λ (t : String Y × Vec ℕ Z). (string_bytes t.
 abbrev pub told_of : Option (List ℕ) → Told
 told_of (Some bytes) = Bytes bytes
 told_of None = Absent
+
+-- a sink in memory tells its bytes
+abbrev pub state_of : Sunk → SinkState
+state_of s = record { bytes = Some s.bytes; faults = s.fault_count }
 
 -- one more, but a counter stays at its last value
 abbrev pub next : ℕ → ℕ

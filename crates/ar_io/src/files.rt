@@ -142,9 +142,7 @@ fn write_out<W: Write>(out: &mut W, piece: &[u8]) -> bool {
 }
 
 impl<'a, R: Print> Sink for StdSink<'a, R> {
-    ghost written = { λ _. None };
-
-    ghost faults = { λ s. s };
+    ghost state = { λ s. record { bytes = None; faults = s } };
 
     fn put(&mut self, piece: &[u8]) -> Result<(), SinkFailed> {
         let mut out = io::writer(self.to);

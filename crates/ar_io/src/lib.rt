@@ -15,43 +15,9 @@ pub use outside::{LoadFault, Shelf, Sink, SinkFailed};
 #[cfg(test)]
 mod tests {
     use super::*;
-    use ar_base::Memory;
     use std::fs;
     use std::test::Fail;
     use std::time::{SystemTime, UNIX_EPOCH};
-
-    #[test]
-    fn a_shelf_in_memory(rt: HostRuntime) -> Result<(), Fail> {
-        let alloc = rt.alloc();
-        let mut shelf = MemoryShelf::new(alloc);
-        shelf.place("model", b"old")?;
-        shelf.place("model", b"block")?;
-        shelf.fail_at(&[2])?;
-        let first = shelf.load(alloc, "model", 5)?;
-        assert_eq!(rt; first.as_slice(), b"block".as_slice());
-        assert_eq!(rt; shelf.fault_count(), 0);
-        let second = shelf.load(alloc, "model", 5);
-        assert!(rt; matches!(second, Err(LoadFault::Failed)));
-        let absent = shelf.load(alloc, "script", 5);
-        assert!(rt; matches!(absent, Err(LoadFault::Failed)));
-        assert_eq!(rt; shelf.fault_count(), 2);
-        let long = shelf.load(alloc, "model", 4);
-        assert!(rt; matches!(long, Err(LoadFault::TooLong)));
-        Ok(())
-    }
-
-    #[test]
-    fn a_sink_in_memory(rt: HostRuntime) -> Result<(), Fail> {
-        let mut sink = MemorySink::new(rt.alloc(), 4)?;
-        sink.fail_at(&[2])?;
-        sink.put(b"ab")?;
-        assert!(rt; sink.put(b"c").is_err());
-        sink.put(b"cd")?;
-        assert!(rt; sink.put(b"e").is_err());
-        assert_eq!(rt; sink.bytes(), b"abcd".as_slice());
-        assert_eq!(rt; sink.fault_count(), 2);
-        Ok(())
-    }
 
     #[test]
     fn a_real_file_and_real_output(rt: HostRuntime) -> Result<(), Fail> {

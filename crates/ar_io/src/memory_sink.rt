@@ -1,8 +1,8 @@
 // A sink in memory.
 
-ghost use Rattle.std.specs.Prelude.{◌≡◌, ℕ, ◌+◌, ◌^◌, ◌<◌, ◌≤◌, ◌⊎◌, ◌↔◌, List, Some, None, [], ◌++◌, length, IfOk, OnOk, OnErr};
-ghost use Rattle.ar_io.specs.Outside.{Rose, IsFront};
-ghost use Rattle.ar_io.specs.Memories.{next, FailsPiece};
+ghost use Rattle.std.specs.Prelude.{◌≡◌, ◌+◌, ◌<◌, ◌≤◌, ◌↔◌, [], ◌++◌, IfOk, OnOk, OnErr};
+ghost use Rattle.ar_io.specs.Writing.{Writes};
+ghost use Rattle.ar_io.specs.Memories.{next, state_of, FailsPiece};
 
 use crate::memory_shelf::{is_failing, next_count};
 use crate::{Sink, SinkFailed};
@@ -82,16 +82,11 @@ impl MemorySink {
 }
 
 impl Sink for MemorySink {
-    ghost written = { λ s. Some s.bytes };
-
-    ghost faults = { λ s. s.fault_count };
+    ghost state = { state_of };
 
     fn put(&mut self, piece: &[u8]) -> Result<(), SinkFailed>
         // What every sink promises.
-        ensures appended { (bytes : List ℕ) → Some self.old.bytes ≡ Some bytes → OnOk result (Some self.new.bytes ≡ Some (bytes ++ piece.now)) }
-        ensures cut { (bytes : List ℕ) → Some self.old.bytes ≡ Some bytes → OnErr result ((front : List ℕ) × IsFront front piece.now × (Some self.new.bytes ≡ Some (bytes ++ front))) }
-        ensures failed { OnErr result (Rose self.old.fault_count self.new.fault_count) }
-        ensures rises { self.old.fault_count ≤ self.new.fault_count }
+        ensures writes { Writes (state_of self.old) (state_of self.new) piece.now result }
 
         // It fails exactly where it was asked to, or has no room, and counts its calls and its faults.
         ensures fails { (result ≡ Err (record {})) ↔ FailsPiece self.old piece.now }

@@ -1,7 +1,8 @@
 // The traits of the outside.
 
-ghost use Rattle.std.specs.Prelude.{◌≡◌, ℕ, ◌+◌, ◌^◌, ◌<◌, ◌≤◌, ◌⊎◌, List, Option, Some, None, ◌++◌, length, IfOk, OnOk, OnErr};
-ghost use Rattle.ar_io.specs.Outside.{Told, Bytes, Absent, Rose, IsFront};
+ghost use Rattle.std.specs.Prelude.{◌≡◌, ℕ, ◌^◌, ◌<◌, ◌≤◌, ◌⊎◌, List, length, IfOk};
+ghost use Rattle.ar_io.specs.Outside.{Told, Bytes, Absent, Rose};
+ghost use Rattle.ar_io.specs.Writing.{SinkState, Writes};
 
 use std::alloc::Global;
 
@@ -48,17 +49,11 @@ pub trait Shelf {
 
 /// Where bytes are written to.
 pub trait Sink {
-    // What was written so far, where the sink tells it.
-    ghost written: { Self → Option (List ℕ) };
-
-    // How many faults writes have met.
-    ghost faults: { Self → ℕ };
+    // The bytes that were written so far, where the sink tells them, and how many faults writes have met.
+    ghost state: { Self → SinkState };
 
     /// Writes a piece behind what was written. After a fault the sink may have some first bytes of it.
     /// Takes no memory.
     fn put(&mut self, piece: &[u8]) -> Result<(), SinkFailed>
-        ensures appended { (bytes : List ℕ) → written self.old ≡ Some bytes → OnOk result (written self.new ≡ Some (bytes ++ piece.now)) }
-        ensures cut { (bytes : List ℕ) → written self.old ≡ Some bytes → OnErr result ((front : List ℕ) × IsFront front piece.now × (written self.new ≡ Some (bytes ++ front))) }
-        ensures failed { OnErr result (Rose (faults self.old) (faults self.new)) }
-        ensures rises { faults self.old ≤ faults self.new };
+        ensures { Writes (state self.old) (state self.new) piece.now result };
 }

@@ -1,4 +1,5 @@
 -- What the first byte of a token's text says of its kind.
+use Rattle.std.proofs.lemmas.Bool.{and_parts}
 use Rattle.std.proofs.Common.{◌≡◌, ℕ, ◌+◌, ◌≤◌, ◌⊎◌, inl, inr, Bool, true, false, not, ◌&&◌, ◌||◌, Some, List, [], ◌∷◌, ◌++◌, length, take, drop, get_or, refl, sym, ap, ◌∙◌, subst, append_assoc, arith}
 use Rattle.std.specs.Prelude.{nat_le}
 use Rattle.std.specs.Char.{is_ascii_digit}
@@ -29,10 +30,6 @@ sign_passes text n h =
     let e : get_or signs n [] ≡ text = (bytes_eq-Decides (get_or signs n []) text).0 p.1 in
     subst (λ (s : List ℕ). sign_test s ≡ true) e (AllPass-from_list_all sign_test signs refl n [] p.0)
 
-and_both : (p q : Bool) → (p && q) ≡ true → (p ≡ true) × (q ≡ true)
-and_both true q h = (refl, h)
-and_both false q h = absurd (cc)
-
 none_of : (p q r : Bool) → not (p || (q || r)) ≡ true → (p ≡ false) × ((q ≡ false) × (r ≡ false))
 none_of true q r h = absurd (cc)
 none_of false true r h = absurd (cc)
@@ -41,13 +38,13 @@ none_of false false false h = (refl, (refl, refl))
 
 sign_len : (text : List ℕ) → sign_test text ≡ true → (1 ≤ length text) × (length text ≤ 3)
 sign_len [] h = absurd (cc)
-sign_len (b ∷ bs) h = let l = leb-true (length bs) 2 (and_both _ (nat_le (length bs) 2) h).1 in (omega arith, omega (arith, l))
+sign_len (b ∷ bs) h = let l = leb-true (length bs) 2 (and_parts _ (nat_le (length bs) 2) h).1 in (omega arith, omega (arith, l))
 
 pub sign_short : (text : List ℕ) (n : ℕ) → place_in signs text ≡ Some n → (1 ≤ length text) × (length text ≤ 3)
 sign_short text n h = sign_len text (sign_passes text n h)
 
 pub sign_head : (b : ℕ) (bs : List ℕ) (n : ℕ) → place_in signs (b ∷ bs) ≡ Some n → (is_letter b ≡ false) × ((is_ascii_digit b ≡ false) × (is_blank b ≡ false))
-sign_head b bs n h = none_of (is_letter b) (is_ascii_digit b) (is_blank b) (and_both (not (is_letter b || (is_ascii_digit b || is_blank b))) _ (sign_passes (b ∷ bs) n h)).0
+sign_head b bs n h = none_of (is_letter b) (is_ascii_digit b) (is_blank b) (and_parts (not (is_letter b || (is_ascii_digit b || is_blank b))) _ (sign_passes (b ∷ bs) n h)).0
 
 -- Fronts of a text, by its first byte
 

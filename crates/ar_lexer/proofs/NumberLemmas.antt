@@ -1,4 +1,5 @@
 -- Fractions, exponents and tails of numbers at the front of a text.
+use Rattle.std.proofs.lemmas.Bool.{or_cases}
 use Rattle.std.proofs.Common.{◌≡◌, ◌≢◌, ℕ, zero, suc, ◌+◌, ◌-◌, ◌*◌, ◌<◌, ◌≤◌, ◌⊎◌, inl, inr, Bool, true, false, cond, ◌||◌, List, [], ◌∷◌, ◌++◌, length, take, drop, refl, sym, ap, ◌∙◌, subst, append_assoc, arith}
 use Rattle.std.specs.Prelude.{◌==◌, codes}
 use Rattle.std.specs.Char.{is_ascii_digit}
@@ -83,16 +84,12 @@ fraction_no_digit b rest none = record {
 
 -- Exponents
 
-pub either : (p q : Bool) → (p || q) ≡ true → (p ≡ true) ⊎ (q ≡ true)
-either true q h = inl refl
-either false q h = inr h
-
 mark_passes : (m : List ℕ) → (m ≡ codes "e") ⊎ (m ≡ codes "E") → (b : ℕ) × ((m ≡ b ∷ []) × (is_exponent_mark b ≡ true))
 mark_passes m (inl e) = (101, (e, refl))
 mark_passes m (inr e) = (69, (e, refl))
 
 mark_from : (b : ℕ) → is_exponent_mark b ≡ true → ((b ∷ []) ≡ codes "e") ⊎ ((b ∷ []) ≡ codes "E")
-mark_from b h = elim (either (b == 101) (b == 69) h) as (λ _. ((b ∷ []) ≡ codes "e") ⊎ ((b ∷ []) ≡ codes "E")) [ inl e ↦ inl (ap (λ (n : ℕ). n ∷ []) (eqb-true b 101 e)) | inr e ↦ inr (ap (λ (n : ℕ). n ∷ []) (eqb-true b 69 e)) ]
+mark_from b h = elim (or_cases (b == 101) (b == 69) h) as (λ _. ((b ∷ []) ≡ codes "e") ⊎ ((b ∷ []) ≡ codes "E")) [ inl e ↦ inl (ap (λ (n : ℕ). n ∷ []) (eqb-true b 101 e)) | inr e ↦ inr (ap (λ (n : ℕ). n ∷ []) (eqb-true b 69 e)) ]
 
 digit_no_sign : (b : ℕ) → is_ascii_digit b ≡ true → ((b == 43) || (b == 45)) ≡ false
 digit_no_sign b d = grind arith
@@ -112,7 +109,7 @@ sign_taken [] = inl refl
 sign_taken (b ∷ rest) = sign_by b rest ((b == 43) || (b == 45)) refl
   where
     sign_by : (b : ℕ) (rest : List ℕ) (r : Bool) → ((b == 43) || (b == 45)) ≡ r → IsOptionalSign (take (cond r 1 0) (b ∷ rest))
-    sign_by b rest true e = inr (elim (either (b == 43) (b == 45) e) as (λ _. ((b ∷ []) ≡ codes "+") ⊎ ((b ∷ []) ≡ codes "-")) [ inl e ↦ inl (ap (λ (n : ℕ). n ∷ []) (eqb-true b 43 e)) | inr e ↦ inr (ap (λ (n : ℕ). n ∷ []) (eqb-true b 45 e)) ])
+    sign_by b rest true e = inr (elim (or_cases (b == 43) (b == 45) e) as (λ _. ((b ∷ []) ≡ codes "+") ⊎ ((b ∷ []) ≡ codes "-")) [ inl e ↦ inl (ap (λ (n : ℕ). n ∷ []) (eqb-true b 43 e)) | inr e ↦ inr (ap (λ (n : ℕ). n ∷ []) (eqb-true b 45 e)) ])
     sign_by b rest false e = inl refl
 
 exponent_split : (b : ℕ) (rest front back : List ℕ) → (b ∷ rest) ≡ front ++ back → (h : IsExponent front) → (is_exponent_mark b ≡ true) × ((rest ≡ h.1 ++ (h.2 ++ back)) × (length front ≡ 1 + (length h.1 + length h.2)))
@@ -182,7 +179,7 @@ exponent_made b rest mark within some =
 -- Fractions with exponents
 
 exponent_head : (b : ℕ) → is_exponent_mark b ≡ true → is_ascii_digit b ≡ false
-exponent_head b h = elim (either (b == 101) (b == 69) h) as (λ _. is_ascii_digit b ≡ false) [ inl e ↦ ap is_ascii_digit (eqb-true b 101 e) | inr e ↦ ap is_ascii_digit (eqb-true b 69 e) ]
+exponent_head b h = elim (or_cases (b == 101) (b == 69) h) as (λ _. is_ascii_digit b ≡ false) [ inl e ↦ ap is_ascii_digit (eqb-true b 101 e) | inr e ↦ ap is_ascii_digit (eqb-true b 69 e) ]
 
 pub exponent_fails : (text back : List ℕ) → IsExponent text → HeadFails is_ascii_digit (text ++ back)
 exponent_fails text back h =

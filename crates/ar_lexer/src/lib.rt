@@ -4,6 +4,7 @@
 #![tactic(auto)]
 
 mod lexer;
+mod marks;
 mod numbers;
 mod piece;
 mod runs;

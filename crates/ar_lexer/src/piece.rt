@@ -6,9 +6,10 @@ ghost use Rattle.std.specs.Char.{is_ascii_digit};
 ghost use Rattle.ar_lexer.specs.Scans.{ClosesFirst, IsSignFront, IsSignOfLen, IsPieceAt, HeadPasses};
 ghost use Rattle.ar_lexer.specs.Tokens.{BeginsComment, Closes};
 
+use crate::marks::sign_of;
 use crate::numbers::{tail_len, whole_of};
 use crate::runs::{digits_len, is_blank, is_letter, line_len, word_len};
-use crate::tables::{sign_of, word_of};
+use crate::tables::word_of;
 use crate::token::TokenKind;
 
 /// What stands at the front of a text.

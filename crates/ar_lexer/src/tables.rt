@@ -1,12 +1,7 @@
-// The tables of signs and reserved words.
+// The table of reserved words.
 
 ghost use Rattle.std.specs.Prelude.{◌≡◌, ◌<◌, IfSome, length, map};
-ghost use Rattle.ar_lexer.specs.Spelling.{place_in, signs, reserved_words};
-
-const SIGNS: [&str; 27] = [
-    "{", "}", "[", "]", "(", ")", ",", ";", ":", ".", "=", ":=", "==", "!=", "<", "<=", ">", ">=",
-    "+", "-", "*", "/", "->", "!", "?", "&", ":=:",
-];
+ghost use Rattle.ar_lexer.specs.Spelling.{place_in, reserved_words};
 
 const WORDS: [&str; 36] = [
     "and",
@@ -57,17 +52,6 @@ fn place_in(table: &[&str], text: &[u8]) -> Option<usize>
         }
     }
     None
-}
-
-// The place of a sign in the list of signs.
-pub fn sign_of(text: &[u8]) -> Option<u8>
-    ensures { result ≡ place_in signs text.now }
-{
-    let table: [&str; 27] = SIGNS;
-    match place_in(&table, text) {
-        Some(place) => Some(place as u8),
-        None => None,
-    }
 }
 
 // The place of a reserved word in the list of reserved words.

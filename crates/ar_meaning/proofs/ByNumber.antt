@@ -11,9 +11,12 @@ module _ (net : Net ℕ) (numbered : AreNumbered net) where
   keyed = record { one = λ m n x y s r e. sym (numbered.key m x s) ∙ (e ∙ numbered.key n y r) }
 
   pub value_at : (t : List Value) (n : ℕ) (v : Value) → HasValue net t n v → Stands t n v
-  value_at t n v h = let e : h.place ≡ n = sym (numbered.key h.place h.variable h.stands) ∙ h.is_key in subst (λ z. Stands t z v) e h.value
+  value_at t n v h =
+      let e : h.place ≡ n = sym (numbered.key h.place h.variable h.stands) ∙ h.is_key in
+      subst (λ z. Stands t z v) e h.value
 
-  pub value_from : (t : List Value) (n : ℕ) (x : Variable ℕ) (v : Value) → Stands net.variables n x → Stands t n v → HasValue net t n v
+  pub value_from : (t : List Value) (n : ℕ) (x : Variable ℕ) (v : Value) → Stands net.variables n x → Stands t n v
+      → HasValue net t n v
   value_from t n x v s h = record { place = n; variable = x; stands = s; is_key = numbered.key n x s; value = h }
 
   -- the variable of the number
@@ -22,17 +25,30 @@ module _ (net : Net ℕ) (numbered : AreNumbered net) where
       let i : k ≡ n = sym (numbered.key k y s) ∙ e in
       stands_one net.variables n y x (subst (λ z. Stands net.variables z y) i s) r
 
-  pub given_at : (t : List Value) (n : ℕ) (x : Variable ℕ) (v : Value) → Stands net.variables n x → IsGiven net t n v → (x.is_state ≡ true) × Stands t n v
+  pub given_at : (t : List Value) (n : ℕ) (x : Variable ℕ) (v : Value) → Stands net.variables n x → IsGiven net t n v
+      → (x.is_state ≡ true) × Stands t n v
   given_at t n x v s h =
       let e : h.place ≡ n = sym (numbered.key h.place h.variable h.stands) ∙ h.is_key in
       let i : h.variable ≡ x = the_variable h.place n x h.variable h.stands h.is_key s in
       (sym (ap (λ z. z.is_state) i) ∙ h.is_state, subst (λ z. Stands t z v) e h.value)
 
-  pub given_from : (t : List Value) (n : ℕ) (x : Variable ℕ) (v : Value) → Stands net.variables n x → x.is_state ≡ true → Stands t n v → IsGiven net t n v
-  given_from t n x v s i h = record { place = n; variable = x; stands = s; is_key = numbered.key n x s; is_state = i; value = h }
+  pub given_from : (t : List Value) (n : ℕ) (x : Variable ℕ) (v : Value) → Stands net.variables n x → x.is_state ≡ true
+      → Stands t n v → IsGiven net t n v
+  given_from t n x v s i h = record {
+    place = n;
+    variable = x;
+    stands = s;
+    is_key = numbered.key n x s;
+    is_state = i;
+    value = h;
+  }
 
-  pub allowed_at : (n : ℕ) (x : Variable ℕ) (v : Value) → Stands net.variables n x → Allows net n v → Contains x.domain v
-  allowed_at n x v s h = let i : h.variable ≡ x = the_variable h.place n x h.variable h.stands h.is_key s in subst (λ z. Contains z.domain v) i h.has
+  pub allowed_at : (n : ℕ) (x : Variable ℕ) (v : Value) → Stands net.variables n x → Allows net n v
+      → Contains x.domain v
+  allowed_at n x v s h =
+      let i : h.variable ≡ x = the_variable h.place n x h.variable h.stands h.is_key s in
+      subst (λ z. Contains z.domain v) i h.has
 
-  pub allowed_from : (n : ℕ) (x : Variable ℕ) (v : Value) → Stands net.variables n x → Contains x.domain v → Allows net n v
+  pub allowed_from : (n : ℕ) (x : Variable ℕ) (v : Value) → Stands net.variables n x → Contains x.domain v
+      → Allows net n v
   allowed_from n x v s c = record { place = n; variable = x; stands = s; is_key = numbered.key n x s; has = c }

@@ -10,11 +10,13 @@ use Rattle.ar_meaning.specs.Numbered as t
 
 module _ {L M : Type 0} (f : L → M) (bodies : List (Body L)) where
   mutual
-    pub means_changed : {n : ℕ} {w : Tree L} → Means_way bodies n w → Means_way (map (body_changed f) bodies) n (changed f w)
+    pub means_changed : {n : ℕ} {w : Tree L} → Means_way bodies n w
+        → Means_way (map (body_changed f) bodies) n (changed f w)
     means_changed {n = n} (leaf s) = leaf (stands_map (body_changed f) bodies n _ s)
     means_changed {n = n} (joint s m) = joint (stands_map (body_changed f) bodies n _ s) (parts_changed m)
 
-    pub parts_changed : {ns : List (Bool × ℕ)} {bs : Branches L} → Mean_parts bodies ns bs → Mean_parts (map (body_changed f) bodies) ns (branches_changed f bs)
+    pub parts_changed : {ns : List (Bool × ℕ)} {bs : Branches L} → Mean_parts bodies ns bs
+        → Mean_parts (map (body_changed f) bodies) ns (branches_changed f bs)
     parts_changed t.no_part = t.no_part
     parts_changed (part w ps) = part (means_changed w) (parts_changed ps)
 
@@ -25,10 +27,12 @@ module _ {L M : Type 0} (f : L → M) where
     is_mapped (leaves q) = ap Leaf (sym q)
     is_mapped (joints q) = ap Joint (branches_mapped q)
 
-    branches_mapped : {bs : Branches L} {cs : Branches M} → Branches_along (λ l m. f l ≡ m) bs cs → cs ≡ branches_changed f bs
+    branches_mapped : {bs : Branches L} {cs : Branches M} → Branches_along (λ l m. f l ≡ m) bs cs
+        → cs ≡ branches_changed f bs
     branches_mapped no_branch = refl
     branches_mapped (branch q qs) = let i = is_mapped q in let j = branches_mapped qs in cc
 
-  pub are_mapped : {ts : List (Tree L)} {us : List (Tree M)} → Along (Trees_along (λ l m. f l ≡ m)) ts us → us ≡ map (changed f) ts
+  pub are_mapped : {ts : List (Tree L)} {us : List (Tree M)} → Along (Trees_along (λ l m. f l ≡ m)) ts us
+      → us ≡ map (changed f) ts
   are_mapped l.none = refl
   are_mapped (l.one_and q qs) = let i = is_mapped q in let j = are_mapped qs in cc

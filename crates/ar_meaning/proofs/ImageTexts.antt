@@ -2,6 +2,7 @@
 use Rattle.std.proofs.Common.{◌≡◌, ◌+◌, ℕ, zero, suc, List, [], ◌∷◌, ◌++◌, length, slice_get, codes, refl, sym, ap, subst}
 use Rattle.ar_base.specs.Lists.{Along}
 use Rattle.ar_base.specs.Lists as l
+use Rattle.ar_base.specs.Texts.{line}
 use Rattle.domains.specs.declared.Value.{Value}
 use Rattle.domains.specs.declared.Value.TheVariants.{Truth, Whole, Symbol}
 use Rattle.typed_expr.specs.Yields.{Yields}
@@ -14,8 +15,9 @@ use Rattle.ar_meaning.specs.Steps.{StepFault, NotEnabled, Clash, Range, Flow}
 use Rattle.ar_meaning.specs.Runs.{Label, Moment, Starts, Start_fails, Fires, Fire_fails, Shows, Lists}
 use Rattle.ar_meaning.specs.Image.{Expr_renames, Event_renames, IsImage}
 use Rattle.ar_meaning.specs.FlatOf.{NameAlike}
-use Rattle.ar_meaning.specs.TraceText.{Naming, text_at, value_text, line, variable_line, observer_line, lines_from, Changed, none, same, differs, Observed, all_lines, ChangedLines, way_text, ways_of, label_text, label_lines, place_text, flow_fault_text, step_fault_text, MomentText, starts, start_fails, fires, fire_fails, goes_back, no_step, shows, lists, ends, TraceText}
+use Rattle.ar_meaning.specs.TraceText.{Naming, variable_line, observer_line, lines_from, Changed, none, same, differs, Observed, all_lines, ChangedLines, way_text, ways_of, label_text, label_lines, place_text, flow_fault_text, step_fault_text, MomentText, starts, start_fails, fires, fire_fails, goes_back, no_step, shows, lists, ends, TraceText}
 use Rattle.ar_meaning.specs.TraceText as t
+use Rattle.ar_meaning.specs.ValueTexts.{value_text}
 use Rattle.ar_meaning.proofs.ImageFlows.{value_there}
 
 pub along_long : {A B : Type 0} {R : A → B → Type 0} {xs : List A} {ys : List B} → Along R xs ys → length xs ≡ length ys
@@ -36,7 +38,7 @@ module _ (f g : ℕ → Value → List ℕ) (alike : (n : ℕ) (v : Value) → f
 
 -- names
 module _ (a b : Naming) (alike : NameAlike a b) where
-  value_alike : (v : Value) → value_text a v ≡ value_text b v
+  value_alike : (v : Value) → value_text a.symbols v ≡ value_text b.symbols v
   value_alike (Truth x) = refl
   value_alike (Whole n) = refl
   value_alike (Symbol n) = alike.symbols n
@@ -64,19 +66,25 @@ module _ (a b : Naming) (alike : NameAlike a b) where
   step_fault_alike (Flow f) = flow_fault_alike f
 
 module _ {V W : Type 0} (same' : V → W → Type 0) where
-  ways_count : {es : List (Event V)} {fs : List (Event W)} → Along (Event_renames same') es fs → (n : ℕ) → ways_of (slice_get es n) ≡ ways_of (slice_get fs n)
+  ways_count : {es : List (Event V)} {fs : List (Event W)} → Along (Event_renames same') es fs → (n : ℕ)
+      → ways_of (slice_get es n) ≡ ways_of (slice_get fs n)
   ways_count l.none zero = refl
   ways_count l.none (suc n) = refl
   ways_count (l.one_and r rs) zero = along_long r.ways
   ways_count (l.one_and r rs) (suc n) = ways_count rs n
 
-  observed_along : (P : V → Value → Type 0) (Q : W → Value → Type 0) → ((x : V) (y : W) (v : Value) → same' x y → P x v → Q y v) → {es : List (Expr V)} {fs : List (Expr W)} {vs : List Value}
-      → Along (Expr_renames same') es fs → Along (λ e v. Yields P (out-Expr V e) v) es vs → Along (λ e v. Yields Q (out-Expr W e) v) fs vs
+  observed_along : (P : V → Value → Type 0) (Q : W → Value → Type 0)
+      → ((x : V) (y : W) (v : Value) → same' x y → P x v → Q y v)
+      → {es : List (Expr V)} {fs : List (Expr W)} {vs : List Value}
+      → Along (Expr_renames same') es fs → Along (λ e v. Yields P (out-Expr V e) v) es vs
+      → Along (λ e v. Yields Q (out-Expr W e) v) fs vs
   observed_along P Q kept l.none l.none = l.none
-  observed_along P Q kept (l.one_and r rs) (l.one_and d ds) = l.one_and (carries V W P Q same' kept d r.renames) (observed_along P Q kept rs ds)
+  observed_along P Q kept (l.one_and r rs) (l.one_and d ds) =
+      l.one_and (carries V W P Q same' kept d r.renames) (observed_along P Q kept rs ds)
 
 -- texts
-module _ {V W : Type 0} (same' : V → W → Type 0) (A : System V) (B : System W) (image : IsImage same' A B) (a b : Naming) (alike : NameAlike a b) where
+module _ {V W : Type 0} (same' : V → W → Type 0) (A : System V) (B : System W) (image : IsImage same' A B)
+    (a b : Naming) (alike : NameAlike a b) where
   label_alike : (k : Label) → label_text a A k ≡ label_text b B k
   label_alike k =
       let i = alike.events k.event in
@@ -87,7 +95,9 @@ module _ {V W : Type 0} (same' : V → W → Type 0) (A : System V) (B : System 
   labels_alike (k ∷ ks) = let i = label_alike k in let j = labels_alike ks in cc
 
   pub observed_there : (t seen : List Value) → Observed A t seen → Observed B t seen
-  observed_there t seen o = observed_along same' (HasValue A.net t) (HasValue B.net t) (λ x y v s h. value_there same' A.net B.net image.net t x y v s h) image.observers o
+  observed_there t seen o =
+      observed_along same' (HasValue A.net t) (HasValue B.net t)
+      (λ x y v s h. value_there same' A.net B.net image.net t x y v s h) image.observers o
 
   changed_there : (old new : List Value) (text : List ℕ) → ChangedLines a A old new text → ChangedLines b B old new text
   changed_there old new text c = record {
@@ -97,24 +107,33 @@ module _ {V W : Type 0} (same' : V → W → Type 0) (A : System V) (B : System 
     is_seen_then = observed_there new c.seen_then c.is_seen_then;
     variables = c.variables;
     observers = c.observers;
-    variables_changed = changed_alike (variable_line a) (variable_line b) (variable_alike a b alike) c.variables_changed;
-    observers_changed = changed_alike (observer_line a) (observer_line b) (observer_alike a b alike) c.observers_changed;
+    variables_changed =
+        changed_alike (variable_line a) (variable_line b) (variable_alike a b alike) c.variables_changed;
+    observers_changed =
+        changed_alike (observer_line a) (observer_line b) (observer_alike a b alike) c.observers_changed;
     joined = c.joined;
   }
 
   pub moment_there : {m : Moment} {text : List ℕ} → MomentText a A m text → MomentText b B m text
   moment_there (starts {t = t} {seen = seen} o) =
-      subst (λ z. MomentText b B (Starts t) (line (codes "start") ++ z)) (sym (all_alike a b alike t seen)) (starts (observed_there t seen o))
-  moment_there (start_fails {f = f}) = subst (λ z. MomentText b B (Start_fails f) (line (codes "fault: start: " ++ z))) (sym (flow_fault_alike a b alike f)) start_fails
+      subst (λ z. MomentText b B (Starts t) (line (codes "start") ++ z)) (sym (all_alike a b alike t seen))
+      (starts (observed_there t seen o))
+  moment_there (start_fails {f = f}) =
+      subst (λ z. MomentText b B (Start_fails f) (line (codes "fault: start: " ++ z)))
+      (sym (flow_fault_alike a b alike f)) start_fails
   moment_there (fires {l = k} {old = old} {new = new} {text = text} c) =
-      subst (λ z. MomentText b B (Fires k old new) (line (codes "fire " ++ z) ++ text)) (sym (label_alike k)) (fires (changed_there old new text c))
+      subst (λ z. MomentText b B (Fires k old new) (line (codes "fire " ++ z) ++ text)) (sym (label_alike k))
+      (fires (changed_there old new text c))
   moment_there (fire_fails {l = k} {f = f}) =
-      subst (λ z. MomentText b B (Fire_fails k f) z) (let i = label_alike k in let j = step_fault_alike a b alike f in cc) fire_fails
+      subst (λ z. MomentText b B (Fire_fails k f) z)
+      (let i = label_alike k in let j = step_fault_alike a b alike f in cc) fire_fails
   moment_there (goes_back {old = old} {new = new} {text = text} c) = goes_back (changed_there old new text c)
   moment_there no_step = no_step
   moment_there (shows {t = t} {seen = seen} o) =
-      subst (λ z. MomentText b B (Shows t) (line (codes "show") ++ z)) (sym (all_alike a b alike t seen)) (shows (observed_there t seen o))
-  moment_there (lists {ls = ks}) = subst (λ z. MomentText b B (Lists ks) (line (codes "enabled") ++ z)) (sym (labels_alike ks)) lists
+      subst (λ z. MomentText b B (Shows t) (line (codes "show") ++ z)) (sym (all_alike a b alike t seen))
+      (shows (observed_there t seen o))
+  moment_there (lists {ls = ks}) =
+      subst (λ z. MomentText b B (Lists ks) (line (codes "enabled") ++ z)) (sym (labels_alike ks)) lists
   moment_there ends = ends
 
   pub trace_there : {ms : List Moment} {text : List ℕ} → TraceText a A ms text → TraceText b B ms text

@@ -28,20 +28,25 @@ least {V = V} assigns allows state P g c x v (assigned a K m h p d l) =
     c a v m (passes_more V (Has K) P all p) (yields_more V (Has K) P all d) l
 
 -- finitely many facts suffice for a list of conditions
-pub passes_need : {V : Type 0} (P : V → Value → Type 0) {cs : List (Expr V × Bool)} → Passes P cs → Needs V P (λ F. Passes F cs)
+pub passes_need : {V : Type 0} (P : V → Value → Type 0) {cs : List (Expr V × Bool)} → Passes P cs
+    → Needs V P (λ F. Passes F cs)
 passes_need P f.none = record { pairs = []; hold = λ x v m. absurd (nothing_holds x v m); suffice = f.none }
 passes_need {V = V} P (f.one_and d ds) =
     let n = needs V P d in let k = passes_need P ds in
     record {
       pairs = n.pairs ++ k.pairs;
       hold = either_holds P n.pairs k.pairs n.hold k.hold;
-      suffice = f.one_and (yields_more V (Has n.pairs) (Has (n.pairs ++ k.pairs)) (λ x v m. Contains-append_left n.pairs k.pairs (x, v) m) n.suffice)
+      suffice =
+          f.one_and
+          (yields_more V (Has n.pairs) (Has (n.pairs ++ k.pairs)) (λ x v m. Contains-append_left n.pairs k.pairs (x, v) m) n.suffice)
           (passes_more V (Has k.pairs) (Has (n.pairs ++ k.pairs)) (λ x v m. Contains-append_right n.pairs k.pairs (x, v) m) k.suffice);
     }
 
 -- the facts are closed under the assignments
-pub closed : {V : Type 0} (assigns : List (Assign V)) (allows state : V → Value → Type 0) (a : Assign V) (v : Value) → IsOneOf assigns a
-    → Passes (Fact assigns allows state) a.conditions → Yields (Fact assigns allows state) (out-Expr V a.value) v → allows a.target v → Fact assigns allows state a.target v
+pub closed : {V : Type 0} (assigns : List (Assign V)) (allows state : V → Value → Type 0) (a : Assign V) (v : Value)
+    → IsOneOf assigns a
+    → Passes (Fact assigns allows state) a.conditions → Yields (Fact assigns allows state) (out-Expr V a.value) v
+    → allows a.target v → Fact assigns allows state a.target v
 closed {V = V} assigns allows state a v m p d l =
     let F = Fact assigns allows state in
     let n = passes_need F p in let k = needs V F d in

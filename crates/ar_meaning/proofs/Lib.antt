@@ -17,3 +17,8 @@ pub mod OneText
 pub mod FlatSystems
 pub mod ImageWays
 pub mod Outcomes
+pub mod Dependence
+pub mod Lengths
+pub mod Answering
+pub mod Moments
+pub mod Completing

@@ -1,7 +1,5 @@
 -- Flows, steps have one answer.
-use Rattle.std.proofs.Common.{◌≡◌, ◌<◌, ℕ, ℤ, zero, suc, Bool, true, false, List, ◌∷◌, refl, sym, ap, subst, arith, int_eq}
-use Rattle.std.specs.Bool.{Decides}
-use Rattle.std.proofs.lemmas.Bool.Decides.{Decides-int_eq}
+use Rattle.std.proofs.Common.{◌≡◌, ◌<◌, inl, inr, ℕ, zero, suc, List, ◌∷◌, refl, sym, ap, subst, arith}
 use Rattle.ar_base.specs.Lists.{IsFirst, HasNo}
 use Rattle.ar_meaning.specs.Systems.{Variable, Net, Way}
 use Rattle.ar_meaning.specs.Facts.{FactOf}
@@ -9,7 +7,7 @@ use Rattle.ar_meaning.specs.Flows.{HasTwo, IsBroken, Completes, none, state, kno
 use Rattle.ar_meaning.specs.Steps.{Clashes, LeavesDomain, Receives, changed, kept, StepFault, Answer, Refused, Next, NotEnabled, Clash, Range, Flow, Step, not_enabled, clash, range, flow, moves}
 use Rattle.ar_meaning.specs.Steps as r
 use Rattle.domains.specs.declared.Value.{Value}
-use Rattle.domains.specs.declared.Value.TheVariants.{Truth, Whole, Symbol}
+use Rattle.typed_expr.proofs.Listing.{value_told}
 
 pub first_same : {A : Type 0} {all : List A} {P : A → Type 0} {m n : ℕ} → IsFirst all P m → IsFirst all P n → m ≡ n
 first_same {m = m} {n = n} a b =
@@ -26,45 +24,28 @@ head_has_not {x = x} h p = h.has_not zero x refl p
 pub rest_has_no : {A : Type 0} {x : A} {xs : List A} {P : A → Type 0} → HasNo (x ∷ xs) P → HasNo xs P
 rest_has_no h = record { has_not = λ k a s p. h.has_not (suc k) a s p }
 
-same_whole : (m n : ℤ) → ((Whole m ≡ Whole n → ⊥) → ⊥) → Whole m ≡ Whole n
-same_whole m n h = go (int_eq m n) (Decides-int_eq m n)
-  where
-    go : (b : Bool) → Decides b (m ≡ n) → Whole m ≡ Whole n
-    go true d = ap Whole (d.0 refl)
-    go false d = absurd (h (λ e. let g : m ≡ n = cc in let k : false ≡ true = d.1 g in cc))
-
 -- two values that are not different are one
 pub same_value : (v w : Value) → ((v ≡ w → ⊥) → ⊥) → v ≡ w
-same_value (Truth true) (Truth true) h = refl
-same_value (Truth true) (Truth false) h = absurd (h (λ e. cc))
-same_value (Truth false) (Truth true) h = absurd (h (λ e. cc))
-same_value (Truth false) (Truth false) h = refl
-same_value (Truth b) (Whole n) h = absurd (h (λ e. cc))
-same_value (Truth b) (Symbol n) h = absurd (h (λ e. cc))
-same_value (Whole m) (Truth b) h = absurd (h (λ e. cc))
-same_value (Whole m) (Whole n) h = same_whole m n h
-same_value (Whole m) (Symbol n) h = absurd (h (λ e. cc))
-same_value (Symbol m) (Truth b) h = absurd (h (λ e. cc))
-same_value (Symbol m) (Whole n) h = absurd (h (λ e. cc))
-same_value (Symbol m) (Symbol n) h =
-    let k : m < n → ⊥ = λ l. h (λ e. let g : m ≡ n = cc in absurd (omega arith)) in
-    let l : n < m → ⊥ = λ l. h (λ e. let g : m ≡ n = cc in absurd (omega arith)) in
-    let i : m ≡ n = omega arith in ap Symbol i
+same_value v w h = elim (value_told v w) [ inl e ↦ e | inr n ↦ absurd (h n) ]
 
 module _ {V : Type 0} (net : Net V) where
-  pub completes_same : (t : List Value) {xs : List (Variable V)} {vs ws us : List Value} → HasNo xs (HasTwo net t) → Completes (FactOf net t) xs vs ws → Completes (FactOf net t) xs vs us → ws ≡ us
+  pub completes_same : (t : List Value) {xs : List (Variable V)} {vs ws us : List Value} → HasNo xs (HasTwo net t)
+      → Completes (FactOf net t) xs vs ws → Completes (FactOf net t) xs vs us → ws ≡ us
   completes_same t h none none = refl
   completes_same t h (state {v = v} s d) (state s' d') = ap (λ us. v ∷ us) (completes_same t (rest_has_no h) d d')
   completes_same t h (state s d) (known s' f d') = cc
   completes_same t h (state s d) (unknown s' f d') = cc
   completes_same t h (known s f d) (state s' d') = cc
   completes_same t h (known {x = x} {w = w} s f d) (known {w = u} s' f' d') =
-      let e : w ≡ u = same_value w u (λ n. head_has_not h (record { is_flow = s; first = w; second = u; is_first = f; is_second = f'; differ = n })) in
+      let e : w ≡ u =
+      same_value w u
+      (λ n. head_has_not h (record { is_flow = s; first = w; second = u; is_first = f; is_second = f'; differ = n })) in
       let i = completes_same t (rest_has_no h) d d' in cc
   completes_same t h (known {w = w} s f d) (unknown s' n d') = absurd (n w f)
   completes_same t h (unknown s n d) (state s' d') = cc
   completes_same t h (unknown s n d) (known {w = w} s' f d') = absurd (n w f)
-  completes_same t h (unknown {x = x} s n d) (unknown s' n' d') = ap (λ us. x.value ∷ us) (completes_same t (rest_has_no h) d d')
+  completes_same t h (unknown {x = x} s n d) (unknown s' n' d') =
+      ap (λ us. x.value ∷ us) (completes_same t (rest_has_no h) d d')
 
   pub flows_same : {t : List Value} {o p : Outcome} → Flows net t o → Flows net t p → o ≡ p
   flows_same (two a) (two b) = ap (λ n. Fails (Two n)) (first_same a b)
@@ -81,24 +62,29 @@ module _ {V : Type 0} (net : Net V) where
       let e = completes_same s n c c' in
       ap (λ n. Fails (Broken n)) (first_same (subst (λ z. IsFirst net.assertions (IsBroken net z) i) e a) b)
   flows_same {t = s} (broken t n m c a) (all_hold n' m' c' b) =
-      let e = completes_same s n c c' in absurd (no_first (subst (λ z. HasNo net.assertions (IsBroken net z)) (sym e) b) a)
+      let e =
+      completes_same s n c c' in absurd (no_first (subst (λ z. HasNo net.assertions (IsBroken net z)) (sym e) b) a)
   flows_same (all_hold n m c a) (two b) = absurd (no_first n b)
   flows_same (all_hold n m c a) (outside n' b) = absurd (no_first m b)
   flows_same {t = s} (all_hold n m c a) (broken t' n' m' c' b) =
       let e = completes_same s n c c' in absurd (no_first (subst (λ z. HasNo net.assertions (IsBroken net z)) e a) b)
   flows_same {t = s} (all_hold n m c a) (all_hold n' m' c' b) = ap Total (completes_same s n c c')
 
-pub receives_same : {V : Type 0} {effects : V → Value → Type 0} {xs : List (Variable V)} {vs ws us : List Value} → HasNo xs (Clashes effects)
+pub receives_same : {V : Type 0} {effects : V → Value → Type 0} {xs : List (Variable V)} {vs ws us : List Value}
+    → HasNo xs (Clashes effects)
     → Receives effects xs vs ws → Receives effects xs vs us → ws ≡ us
 receives_same h r.none r.none = refl
 receives_same h (changed {w = w} f d) (changed {w = u} f' d') =
-    let e : w ≡ u = same_value w u (λ n. head_has_not h (record { first = w; second = u; is_first = f; is_second = f'; differ = n })) in
+    let e : w ≡ u =
+    same_value w u
+    (λ n. head_has_not h (record { first = w; second = u; is_first = f; is_second = f'; differ = n })) in
     let i = receives_same (rest_has_no h) d d' in cc
 receives_same h (changed {w = w} f d) (kept n d') = absurd (n w f)
 receives_same h (kept n d) (changed {w = w} f d') = absurd (n w f)
 receives_same h (kept {v = v} n d) (kept n' d') = ap (λ us. v ∷ us) (receives_same (rest_has_no h) d d')
 
-pub step_same : {V : Type 0} (net : Net V) {t : List Value} {w : Way V} {o p : Answer} → Step net t w o → Step net t w p → o ≡ p
+pub step_same : {V : Type 0} (net : Net V) {t : List Value} {w : Way V} {o p : Answer} → Step net t w o → Step net t w p
+    → o ≡ p
 step_same net (not_enabled n) (not_enabled n') = refl
 step_same net (not_enabled n) (clash c f) = absurd (n c)
 step_same net (not_enabled n) (range c h f) = absurd (n c)

@@ -1,6 +1,5 @@
 -- Each list of values of the right length has an outcome of its flows.
-use Rattle.std.proofs.Common.{◌≡◌, ◌⊎◌, inl, inr, ℕ, zero, suc, ◌<◌, Bool, true, false, nat_eq, List, [], ◌∷◌, ◌++◌, map, length, Some, Contains, refl, sym, ap, ◌∙◌, subst, arith}
-use Rattle.std.specs.Cmp.{unsigned_Decides}
+use Rattle.std.proofs.Common.{◌≡◌, ◌⊎◌, inl, inr, ℕ, zero, suc, ◌<◌, Bool, true, false, List, [], ◌∷◌, ◌++◌, map, length, Some, Contains, refl, sym, ap, ◌∙◌, subst, arith}
 use Rattle.std.proofs.lemmas.List.Elements.{Contains-append_left, Contains-append_right, Contains-append_cases}
 use Rattle.domains.proofs.Members.{nothing-in, contains-head, contains-cons, contains-cases, contains-map, contains-from_map}
 use Rattle.domains.specs.declared.Value.{Value}
@@ -29,25 +28,33 @@ module _ {A : Type 0} (P : A → Type 0) where
     pub is : xs ≡ front ++ item ∷ rest
     pub has : P item
 
-  pub search_list : (xs : List A) → ((x : A) → Contains xs x → Told (P x)) → Found xs ⊎ ((x : A) → Contains xs x → P x → ⊥)
+  pub search_list : (xs : List A) → ((x : A) → Contains xs x → Told (P x))
+      → Found xs ⊎ ((x : A) → Contains xs x → P x → ⊥)
   search_list [] t = inr (λ x m p. nothing-in x m)
   search_list (x ∷ xs) t = go (t x (contains-head x xs)) (search_list xs (λ z m. t z (contains-cons x z xs m)))
     where
-      go : Told (P x) → Found xs ⊎ ((z : A) → Contains xs z → P z → ⊥) → Found (x ∷ xs) ⊎ ((z : A) → Contains (x ∷ xs) z → P z → ⊥)
+      go : Told (P x) → Found xs ⊎ ((z : A) → Contains xs z → P z → ⊥)
+          → Found (x ∷ xs) ⊎ ((z : A) → Contains (x ∷ xs) z → P z → ⊥)
       go (inl p) r = inl (record { front = []; item = x; rest = xs; is = refl; has = p })
-      go (inr n) (inl k) = inl (record { front = x ∷ k.front; item = k.item; rest = k.rest; is = ap (λ zs. x ∷ zs) k.is; has = k.has })
-      go (inr n) (inr k) = inr (λ z m p. elim (contains-cases x z xs m) [ inl e ↦ n (subst P (sym e) p) | inr l ↦ k z l p ])
+      go (inr n) (inl k) =
+          inl (record { front = x ∷ k.front; item = k.item; rest = k.rest; is = ap (λ zs. x ∷ zs) k.is; has = k.has })
+      go (inr n) (inr k) =
+          inr (λ z m p. elim (contains-cases x z xs m) [ inl e ↦ n (subst P (sym e) p) | inr l ↦ k z l p ])
 
   pub some_told : (xs : List A) → ((x : A) → Contains xs x → Told (P x)) → Told ((x : A) × Contains xs x × P x)
   some_told xs t = elim (search_list xs t) [
-    | inl k ↦ inl (k.item, subst (λ zs. Contains zs k.item) (sym k.is) (Contains-append_right k.front (k.item ∷ k.rest) k.item (contains-head k.item k.rest)), k.has)
+    | inl k ↦
+        inl
+        (k.item, subst (λ zs. Contains zs k.item) (sym k.is) (Contains-append_right k.front (k.item ∷ k.rest) k.item (contains-head k.item k.rest)), k.has)
     | inr n ↦ inr (λ h. n h.0 h.1 h.2)
   ]
 
   -- the first item that has P, or none
   pub first_or_none : (xs : List A) → ((x : A) → IsOneOf xs x → Told (P x)) → ((n : ℕ) × IsFirst xs P n) ⊎ HasNo xs P
   first_or_none [] t = inr (record { has_not = λ k a s p. stands_none k a s })
-  first_or_none (x ∷ xs) t = go (t x (record { place = zero; stands = refl })) (first_or_none xs (λ z o. t z (record { place = suc o.place; stands = o.stands })))
+  first_or_none (x ∷ xs) t =
+      go (t x (record { place = zero; stands = refl }))
+      (first_or_none xs (λ z o. t z (record { place = suc o.place; stands = o.stands })))
     where
       before : (P x → ⊥) → (n : ℕ) → IsFirst xs P n → (j : ℕ) (a : A) → j < suc n → Stands (x ∷ xs) j a → P a → ⊥
       before q n k zero a l s p = let e : a ≡ x = cc in q (subst P e p)
@@ -58,8 +65,10 @@ module _ {A : Type 0} (P : A → Type 0) where
       nowhere q h (suc k) a s p = h.has_not k a s p
 
       go : Told (P x) → ((n : ℕ) × IsFirst xs P n) ⊎ HasNo xs P → ((n : ℕ) × IsFirst (x ∷ xs) P n) ⊎ HasNo (x ∷ xs) P
-      go (inl p) r = inl (zero, record { item = x; stands = refl; has = p; before = λ j a l s q. absurd (omega (arith, l)) })
-      go (inr q) (inl r) = inl (suc r.0, record { item = r.1.item; stands = r.1.stands; has = r.1.has; before = before q r.0 r.1 })
+      go (inl p) r =
+          inl (zero, record { item = x; stands = refl; has = p; before = λ j a l s q. absurd (omega (arith, l)) })
+      go (inr q) (inl r) =
+          inl (suc r.0, record { item = r.1.item; stands = r.1.stands; has = r.1.has; before = before q r.0 r.1 })
       go (inr q) (inr h) = inr (record { has_not = nowhere q h })
 
   -- the same by places
@@ -69,30 +78,24 @@ module _ {A : Type 0} (P : A → Type 0) where
     | inr h ↦ inr (λ k. h.has_not k.1.place k.0 k.1.stands k.2)
   ]
 
-not_told : {P : Type 0} → Told P → Told (P → ⊥)
+pub not_told : {P : Type 0} → Told P → Told (P → ⊥)
 not_told (inl p) = inr (λ n. n p)
 not_told (inr n) = inl n
 
-both_told : {P Q : Type 0} → Told P → Told Q → Told (P × Q)
+pub both_told : {P Q : Type 0} → Told P → Told Q → Told (P × Q)
 both_told (inl p) (inl q) = inl (p, q)
 both_told (inl p) (inr n) = inr (λ h. n h.1)
 both_told (inr n) q = inr (λ h. n h.0)
 
-pub number_told : (m n : ℕ) → Told (m ≡ n)
-number_told m n = go (nat_eq m n) refl
-  where
-    go : (b : Bool) → nat_eq m n ≡ b → Told (m ≡ n)
-    go true i = inl ((unsigned_Decides m n).0 i)
-    go false i = inr (λ e. let k = (unsigned_Decides m n).1 e in cc)
-
-bool_told : (a b : Bool) → Told (a ≡ b)
+pub bool_told : (a b : Bool) → Told (a ≡ b)
 bool_told true true = inl refl
 bool_told true false = inr (λ e. cc)
 bool_told false true = inr (λ e. cc)
 bool_told false false = inl refl
 
 -- whether conditions pass
-pub passes_told : {V : Type 0} (P : V → Value → Type 0) → ((x : V) → Listed (P x)) → (cs : List (Expr V × Bool)) → Told (Passes P cs)
+pub passes_told : {V : Type 0} (P : V → Value → Type 0) → ((x : V) → Listed (P x)) → (cs : List (Expr V × Bool))
+    → Told (Passes P cs)
 passes_told P known [] = inl f.none
 passes_told {V = V} P known ((e, b) ∷ cs) = go (yields_told P known e (Truth b)) (passes_told P known cs)
   where
@@ -114,20 +117,26 @@ abbrev universe : {V : Type 0} → List (Variable V) → List (Pair V)
 universe [] = []
 universe (x ∷ xs) = row x ++ universe xs
 
-in_universe : {V : Type 0} (xs : List (Variable V)) (k : ℕ) (x : Variable V) (v : Value) → Stands xs k x → Contains x.domain v → Contains (universe xs) (x.key, v)
+in_universe : {V : Type 0} (xs : List (Variable V)) (k : ℕ) (x : Variable V) (v : Value) → Stands xs k x
+    → Contains x.domain v → Contains (universe xs) (x.key, v)
 in_universe [] k x v s c = absurd (stands_none k x s)
 in_universe {V = V} (z ∷ xs) zero x v s c =
     let e : z ≡ x = cc in let p : Pair V = (x.key, v) in
-    Contains-append_left (row z) (universe xs) p (subst (λ (u : Variable V). Contains (row u) p) (sym e) (contains-map {X = Value} {Y = Pair V} (λ d. (x.key, d)) v x.domain c))
-in_universe {V = V} (z ∷ xs) (suc k) x v s c = let p : Pair V = (x.key, v) in Contains-append_right (row z) (universe xs) p (in_universe xs k x v s c)
+    Contains-append_left (row z) (universe xs) p
+    (subst (λ (u : Variable V). Contains (row u) p) (sym e) (contains-map {X = Value} {Y = Pair V} (λ d. (x.key, d)) v x.domain c))
+in_universe {V = V} (z ∷ xs) (suc k) x v s c =
+    let p : Pair V = (x.key, v) in
+    Contains-append_right (row z) (universe xs) p (in_universe xs k x v s c)
 
-from_universe : {V : Type 0} (xs : List (Variable V)) (x : V) (v : Value) → Contains (universe xs) (x, v) → (k : ℕ) × (y : Variable V) × Stands xs k y × (y.key ≡ x) × Contains y.domain v
+from_universe : {V : Type 0} (xs : List (Variable V)) (x : V) (v : Value) → Contains (universe xs) (x, v)
+    → (k : ℕ) × (y : Variable V) × Stands xs k y × (y.key ≡ x) × Contains y.domain v
 from_universe {V = V} [] x v m = let p : Pair V = (x, v) in absurd (nothing-in p m)
-from_universe {V = V} (z ∷ xs) x v m = let p : Pair V = (x, v) in elim (Contains-append_cases (row z) (universe xs) p m) [
-  | inl n ↦ (let r = contains-from_map {X = Value} {Y = Pair V} (λ d. (z.key, d)) p z.domain n in
-      (zero, z, refl, ap (λ (q : Pair V). q.0) r.2, subst (λ d. Contains z.domain d) (ap (λ (q : Pair V). q.1) r.2) r.1))
-  | inr n ↦ (let r = from_universe xs x v n in (suc r.0, r.1, r.2, r.3, r.4))
-]
+from_universe {V = V} (z ∷ xs) x v m =
+    let p : Pair V = (x, v) in elim (Contains-append_cases (row z) (universe xs) p m) [
+      | inl n ↦ (let r = contains-from_map {X = Value} {Y = Pair V} (λ d. (z.key, d)) p z.domain n in
+          (zero, z, refl, ap (λ (q : Pair V). q.0) r.2, subst (λ d. Contains z.domain d) (ap (λ (q : Pair V). q.1) r.2) r.1))
+      | inr n ↦ (let r = from_universe xs x v n in (suc r.0, r.1, r.2, r.3, r.4))
+    ]
 
 -- the pairs of the variables of which the test holds, each with its value
 abbrev entry : {V : Type 0} → Bool → Variable V → Value → List (Pair V)
@@ -139,7 +148,8 @@ pairs_of test [] ts = []
 pairs_of test (x ∷ xs) [] = []
 pairs_of test (x ∷ xs) (v ∷ ts) = entry (test x) x v ++ pairs_of test xs ts
 
-in_pairs : {V : Type 0} (test : Variable V → Bool) (xs : List (Variable V)) (ts : List Value) (k : ℕ) (x : Variable V) (v : Value) → Stands xs k x → Stands ts k v → test x ≡ true
+in_pairs : {V : Type 0} (test : Variable V → Bool) (xs : List (Variable V)) (ts : List Value) (k : ℕ) (x : Variable V) (v : Value)
+    → Stands xs k x → Stands ts k v → test x ≡ true
     → Contains (pairs_of test xs ts) (x.key, v)
 in_pairs test [] ts k x v s r i = absurd (stands_none k x s)
 in_pairs test (z ∷ xs) [] k x v s r i = absurd (stands_none k v r)
@@ -148,10 +158,13 @@ in_pairs {V = V} test (z ∷ xs) (u ∷ ts) zero x v s r i =
     let h : Contains (entry (test x) x v) p = subst (λ b. Contains (entry b x v) p) (sym i) (contains-head p []) in
     Contains-append_left (entry (test z) z u) (pairs_of test xs ts) p
     (subst (λ (y : Variable V). Contains (entry (test y) y u) p) (sym e) (subst (λ (d : Value). Contains (entry (test x) x d) p) (sym j) h))
-in_pairs {V = V} test (z ∷ xs) (u ∷ ts) (suc k) x v s r i = let p : Pair V = (x.key, v) in Contains-append_right (entry (test z) z u) (pairs_of test xs ts) p (in_pairs test xs ts k x v s r i)
+in_pairs {V = V} test (z ∷ xs) (u ∷ ts) (suc k) x v s r i =
+    let p : Pair V = (x.key, v) in
+    Contains-append_right (entry (test z) z u) (pairs_of test xs ts) p (in_pairs test xs ts k x v s r i)
 
 -- where a pair comes from
-record Comes {V : Type 0} (test : Variable V → Bool) (xs : List (Variable V)) (ts : List Value) (x : V) (v : Value) : Type 0 where
+record Comes {V : Type 0} (test : Variable V → Bool) (xs : List (Variable V)) (ts : List Value) (x : V)
+    (v : Value) : Type 0 where
   pub place : ℕ
   pub variable : Variable V
   pub stands : Stands xs place variable
@@ -159,25 +172,40 @@ record Comes {V : Type 0} (test : Variable V → Bool) (xs : List (Variable V)) 
   pub is_key : variable.key ≡ x
   pub holds : test variable ≡ true
 
-from_pairs : {V : Type 0} (test : Variable V → Bool) (xs : List (Variable V)) (ts : List Value) (x : V) (v : Value) → Contains (pairs_of test xs ts) (x, v) → Comes test xs ts x v
+from_pairs : {V : Type 0} (test : Variable V → Bool) (xs : List (Variable V)) (ts : List Value) (x : V) (v : Value)
+    → Contains (pairs_of test xs ts) (x, v) → Comes test xs ts x v
 from_pairs {V = V} test [] ts x v m = let p : Pair V = (x, v) in absurd (nothing-in p m)
 from_pairs {V = V} test (z ∷ xs) [] x v m = let p : Pair V = (x, v) in absurd (nothing-in p m)
-from_pairs {V = V} test (z ∷ xs) (u ∷ ts) x v m = let p : Pair V = (x, v) in elim (Contains-append_cases (entry (test z) z u) (pairs_of test xs ts) p m) [
-  | inl n ↦ here (test z) refl n
-  | inr n ↦ (let r = from_pairs test xs ts x v n in record { place = suc r.place; variable = r.variable; stands = r.stands; value = r.value; is_key = r.is_key; holds = r.holds })
-]
+from_pairs {V = V} test (z ∷ xs) (u ∷ ts) x v m =
+    let p : Pair V = (x, v) in elim (Contains-append_cases (entry (test z) z u) (pairs_of test xs ts) p m) [
+      | inl n ↦ here (test z) refl n
+      | inr n ↦
+          (let r = from_pairs test xs ts x v n in record { place = suc r.place; variable = r.variable; stands = r.stands; value = r.value; is_key = r.is_key; holds = r.holds })
+    ]
   where
     here : (b : Bool) → test z ≡ b → Contains (entry b z u) (x, v) → Comes test (z ∷ xs) (u ∷ ts) x v
     here false i n = let p : Pair V = (x, v) in absurd (nothing-in p n)
     here true i n = let p : Pair V = (x, v) in let q : Pair V = (z.key, u) in elim (contains-cases q p [] n) [
-      | inl e ↦ record { place = zero; variable = z; stands = refl; value = ap (λ (a : Pair V). Some a.1) e; is_key = ap (λ (a : Pair V). a.0) e; holds = i }
+      | inl e ↦
+          record {
+            place = zero;
+            variable = z;
+            stands = refl;
+            value = ap (λ (a : Pair V). Some a.1) e;
+            is_key = ap (λ (a : Pair V). a.0) e;
+            holds = i;
+          }
       | inr k ↦ absurd (nothing-in p k)
     ]
 
 module _ {V : Type 0} (key_told : (x y : V) → Told (x ≡ y)) where
   -- the values that pairs give a variable
   pub pairs_listed : (ps : List (Pair V)) (x : V) → Listed (Has ps x)
-  pairs_listed [] x = record { items = []; sound = λ v m. absurd (nothing-in v m); whole = λ v m. absurd (nothing-in (x, v) m) }
+  pairs_listed [] x = record {
+    items = [];
+    sound = λ v m. absurd (nothing-in v m);
+    whole = λ v m. absurd (nothing-in (x, v) m);
+  }
   pairs_listed ((k, u) ∷ ps) x = go (key_told k x) (pairs_listed ps x)
     where
       go : Told (k ≡ x) → Listed (Has ps x) → Listed (Has ((k, u) ∷ ps) x)
@@ -198,7 +226,9 @@ module _ {V : Type 0} (key_told : (x y : V) → Told (x ≡ y)) where
       go (inr n) r = record {
         items = r.items;
         sound = λ v m. contains-cons (k, u) (x, v) ps (r.sound v m);
-        whole = λ v m. elim (contains-cases (k, u) (x, v) ps m) [ inl i ↦ absurd (n (ap (λ (p : V × Value). p.0) i)) | inr l ↦ r.whole v l ];
+        whole = λ v m.
+            elim
+            (contains-cases (k, u) (x, v) ps m) [ inl i ↦ absurd (n (ap (λ (p : V × Value). p.0) i)) | inr l ↦ r.whole v l ];
       }
 
   module _ (net : Net V) (t : List Value) where
@@ -211,7 +241,9 @@ module _ {V : Type 0} (key_told : (x y : V) → Told (x ≡ y)) where
       pub yields : Yields (Has K) (out-Expr V assign.value) p.1
 
     derives_told : (K : List (Pair V)) (p : Pair V) → Told (Derives K p)
-    derives_told K p = elim (one_told (λ (a : Assign V). (a.target ≡ p.0) × (Passes (Has K) a.conditions × Yields (Has K) (out-Expr V a.value) p.1)) net.assertions
+    derives_told K p =
+        elim
+        (one_told (λ (a : Assign V). (a.target ≡ p.0) × (Passes (Has K) a.conditions × Yields (Has K) (out-Expr V a.value) p.1)) net.assertions
         (λ a o. both_told (key_told a.target p.0) (both_told (passes_told (Has K) (pairs_listed K) a.conditions) (yields_told (Has K) (pairs_listed K) a.value p.1)))) [
           | inl r ↦ inl (record { assign = r.0; is_one = r.1; is_target = r.2.0; passes = r.2.1.0; yields = r.2.1.1 })
           | inr n ↦ inr (λ d. n (d.assign, d.is_one, (d.is_target, (d.passes, d.yields))))
@@ -224,10 +256,13 @@ module _ {V : Type 0} (key_told : (x y : V) → Told (x ≡ y)) where
       pub begins : (x : V) (v : Value) → IsGiven net t x v → Has pairs x v
       pub closes : (x : V) (v : Value) → Allows net x v → Derives pairs (x, v) → Has pairs x v
 
-    new_fact : (K : List (Pair V)) → ((x : V) (v : Value) → Has K x v → FactOf net t x v) → (x : V) (v : Value) → Allows net x v → Derives K (x, v) → FactOf net t x v
+    new_fact : (K : List (Pair V)) → ((x : V) (v : Value) → Has K x v → FactOf net t x v) → (x : V) (v : Value)
+        → Allows net x v → Derives K (x, v) → FactOf net t x v
     new_fact K sound x v a d =
-        subst (λ z. FactOf net t z v) d.is_target (closed net.assertions (Allows net) (IsGiven net t) d.assign v d.is_one
-        (passes_more V (Has K) (FactOf net t) sound d.passes) (yields_more V (Has K) (FactOf net t) sound d.yields) (subst (λ z. Allows net z v) (sym d.is_target) a))
+        subst (λ z. FactOf net t z v) d.is_target
+        (closed net.assertions (Allows net) (IsGiven net t) d.assign v d.is_one
+        (passes_more V (Has K) (FactOf net t) sound d.passes) (yields_more V (Has K) (FactOf net t) sound d.yields)
+        (subst (λ z. Allows net z v) (sym d.is_target) a))
 
     -- how far the facts have come: the pairs that may still follow, and those that do
     record Stage (n : ℕ) : Type 0 where
@@ -242,7 +277,8 @@ module _ {V : Type 0} (key_told : (x y : V) → Told (x ≡ y)) where
     advance : (n : ℕ) (s : Stage n) → Saturated ⊎ ((m : ℕ) × (n ≡ suc m) × Stage m)
     advance n s = go (search_list (Derives s.pairs) s.rest (λ p m. derives_told s.pairs p))
       where
-        go : Found (Derives s.pairs) s.rest ⊎ ((p : Pair V) → Contains s.rest p → Derives s.pairs p → ⊥) → Saturated ⊎ ((m : ℕ) × (n ≡ suc m) × Stage m)
+        go : Found (Derives s.pairs) s.rest ⊎ ((p : Pair V) → Contains s.rest p → Derives s.pairs p → ⊥)
+            → Saturated ⊎ ((m : ℕ) × (n ≡ suc m) × Stage m)
         go (inr none) = inl (record {
           pairs = s.pairs;
           sound = s.sound;
@@ -250,11 +286,14 @@ module _ {V : Type 0} (key_told : (x y : V) → Told (x ≡ y)) where
           closes = λ x v a d. elim (s.covers x v a) [ inl h ↦ h | inr m ↦ absurd (none (x, v) m d) ];
         })
         go (inl k) =
-            let whole : (p : Pair V) → Contains (k.front ++ k.rest) p → Contains s.rest p = λ p c. subst (λ zs. Contains zs p) (sym k.is) (elim (Contains-append_cases k.front k.rest p c) [
+            let whole : (p : Pair V) → Contains (k.front ++ k.rest) p → Contains s.rest p =
+            λ p c. subst (λ zs. Contains zs p) (sym k.is) (elim (Contains-append_cases k.front k.rest p c) [
               | inl h ↦ Contains-append_left k.front (k.item ∷ k.rest) p h
               | inr h ↦ Contains-append_right k.front (k.item ∷ k.rest) p (contains-cons k.item p k.rest h)
             ]) in
-            let found : Contains s.rest k.item = subst (λ zs. Contains zs k.item) (sym k.is) (Contains-append_right k.front (k.item ∷ k.rest) k.item (contains-head k.item k.rest)) in
+            let found : Contains s.rest k.item =
+            subst (λ zs. Contains zs k.item) (sym k.is)
+            (Contains-append_right k.front (k.item ∷ k.rest) k.item (contains-head k.item k.rest)) in
             inr (
               length (k.front ++ k.rest),
               sym s.long ∙ (ap length k.is ∙ shorter k.front k.item k.rest),
@@ -264,26 +303,31 @@ module _ {V : Type 0} (key_told : (x y : V) → Told (x ≡ y)) where
                 allowed = λ x v c. s.allowed x v (whole (x, v) c);
                 pairs = k.item ∷ s.pairs;
                 sound = λ x v h. let p : Pair V = (x, v) in elim (contains-cases k.item p s.pairs h) [
-                  | inl i ↦ new_fact s.pairs s.sound x v (s.allowed x v (subst (λ q. Contains s.rest q) i found)) (subst (λ q. Derives s.pairs q) i k.has)
+                  | inl i ↦
+                      new_fact s.pairs s.sound x v (s.allowed x v (subst (λ q. Contains s.rest q) i found))
+                      (subst (λ q. Derives s.pairs q) i k.has)
                   | inr l ↦ s.sound x v l
                 ];
                 begins = λ x v g. let p : Pair V = (x, v) in contains-cons k.item p s.pairs (s.begins x v g);
                 covers = λ x v a. let p : Pair V = (x, v) in elim (s.covers x v a) [
                   | inl h ↦ inl (contains-cons k.item p s.pairs h)
-                  | inr c ↦ elim (Contains-append_cases k.front (k.item ∷ k.rest) p (subst (λ zs. Contains zs p) k.is c)) [
-                    | inl h ↦ inr (Contains-append_left k.front k.rest p h)
-                    | inr h ↦ elim (contains-cases k.item p k.rest h) [
-                      | inl i ↦ inl (subst (λ q. Contains (k.item ∷ s.pairs) q) i (contains-head k.item s.pairs))
-                      | inr j ↦ inr (Contains-append_right k.front k.rest p j)
-                    ]
-                  ]
+                  | inr c ↦
+                      elim (Contains-append_cases k.front (k.item ∷ k.rest) p (subst (λ zs. Contains zs p) k.is c)) [
+                        | inl h ↦ inr (Contains-append_left k.front k.rest p h)
+                        | inr h ↦ elim (contains-cases k.item p k.rest h) [
+                          | inl i ↦ inl (subst (λ q. Contains (k.item ∷ s.pairs) q) i (contains-head k.item s.pairs))
+                          | inr j ↦ inr (Contains-append_right k.front k.rest p j)
+                        ]
+                      ]
                 ];
               },
             )
 
     saturate : (n : ℕ) → Stage n → Saturated
     saturate zero s = elim (advance zero s) [ inl r ↦ r | inr k ↦ (let e = k.1 in cc) ]
-    saturate (suc n) s = elim (advance (suc n) s) [ inl r ↦ r | inr k ↦ (let e : k.0 ≡ n = omega (arith, k.1) in saturate n (subst (λ m. Stage m) e k.2)) ]
+    saturate (suc n) s =
+        elim
+        (advance (suc n) s) [ inl r ↦ r | inr k ↦ (let e : k.0 ≡ n = omega (arith, k.1) in saturate n (subst (λ m. Stage m) e k.2)) ]
 
     given_pairs : List (Pair V)
     given_pairs = pairs_of (λ x. x.is_state) net.variables t
@@ -293,12 +337,19 @@ module _ {V : Type 0} (key_told : (x y : V) → Told (x ≡ y)) where
     saturated = saturate (length (universe net.variables)) (record {
       rest = universe net.variables;
       long = refl;
-      allowed = λ x v m. let r = from_universe net.variables x v m in record { place = r.0; variable = r.1; stands = r.2; is_key = r.3; has = r.4 };
+      allowed = λ x v m.
+          let r =
+          from_universe net.variables x v m in record { place = r.0; variable = r.1; stands = r.2; is_key = r.3; has = r.4 };
       pairs = given_pairs;
       sound = λ x v m. let r = from_pairs (λ x. x.is_state) net.variables t x v m in
-          given (record { place = r.place; variable = r.variable; stands = r.stands; is_key = r.is_key; is_state = r.holds; value = r.value });
-      begins = λ x v g. subst (λ z. Has given_pairs z v) g.is_key (in_pairs (λ x. x.is_state) net.variables t g.place g.variable v g.stands g.value g.is_state);
-      covers = λ x v a. inr (subst (λ (z : V). Contains {X = Pair V} (universe net.variables) (z, v)) a.is_key (in_universe net.variables a.place a.variable v a.stands a.has));
+          given
+          (record { place = r.place; variable = r.variable; stands = r.stands; is_key = r.is_key; is_state = r.holds; value = r.value });
+      begins = λ x v g.
+          subst (λ z. Has given_pairs z v) g.is_key
+          (in_pairs (λ x. x.is_state) net.variables t g.place g.variable v g.stands g.value g.is_state);
+      covers = λ x v a.
+          inr
+          (subst (λ (z : V). Contains {X = Pair V} (universe net.variables) (z, v)) a.is_key (in_universe net.variables a.place a.variable v a.stands a.has));
     })
 
     -- the facts of a variable
@@ -316,16 +367,21 @@ module _ {V : Type 0} (key_told : (x y : V) → Told (x ≡ y)) where
         (λ v h. subst (λ (z : V). Has (pairs_of (λ x. true) net.variables t) z v) h.is_key (in_pairs (λ x. true) net.variables t h.place h.variable v h.stands h.value refl))
 
 -- each variable's value, where the facts of each are listed
-pub completed : {V : Type 0} (P : V → Value → Type 0) → ((x : V) → Listed (P x)) → (xs : List (Variable V)) (ts : List Value) → length ts ≡ length xs → (us : List Value) × Completes P xs ts us
+pub completed : {V : Type 0} (P : V → Value → Type 0) → ((x : V) → Listed (P x))
+    → (xs : List (Variable V)) (ts : List Value) → length ts ≡ length xs → (us : List Value) × Completes P xs ts us
 completed P known [] [] l = ([], w.none)
 completed P known [] (v ∷ ts) l = absurd (omega (arith, l))
 completed P known (x ∷ xs) [] l = absurd (omega (arith, l))
-completed P known (x ∷ xs) (v ∷ ts) l = go x.is_state refl (known x.key).items refl (completed P known xs ts (omega (arith, l)))
+completed P known (x ∷ xs) (v ∷ ts) l =
+    go x.is_state refl (known x.key).items refl (completed P known xs ts (omega (arith, l)))
   where
-    go : (b : Bool) → x.is_state ≡ b → (ws : List Value) → (known x.key).items ≡ ws → (us : List Value) × Completes P xs ts us → (us : List Value) × Completes P (x ∷ xs) (v ∷ ts) us
+    go : (b : Bool) → x.is_state ≡ b → (ws : List Value) → (known x.key).items ≡ ws
+        → (us : List Value) × Completes P xs ts us → (us : List Value) × Completes P (x ∷ xs) (v ∷ ts) us
     go true i ws j r = (v ∷ r.0, w.state i r.1)
-    go false i [] j r = (x.value ∷ r.0, w.unknown i (λ u h. nothing-in u (subst (λ z. Contains z u) j ((known x.key).whole u h))) r.1)
-    go false i (u ∷ ws) j r = (u ∷ r.0, w.known i ((known x.key).sound u (subst (λ z. Contains z u) (sym j) (contains-head u ws))) r.1)
+    go false i [] j r =
+        (x.value ∷ r.0, w.unknown i (λ u h. nothing-in u (subst (λ z. Contains z u) j ((known x.key).whole u h))) r.1)
+    go false i (u ∷ ws) j r =
+        (u ∷ r.0, w.known i ((known x.key).sound u (subst (λ z. Contains z u) (sym j) (contains-head u ws))) r.1)
 
 module _ {V : Type 0} (key_told : (x y : V) → Told (x ≡ y)) (net : Net V) (t : List Value) where
   known : (x : V) → Listed (FactOf net t x)
@@ -334,19 +390,28 @@ module _ {V : Type 0} (key_told : (x y : V) → Told (x ≡ y)) (net : Net V) (t
   two_told : (x : Variable V) → Told (HasTwo net t x)
   two_told x =
       let l = known x.key in
-      elim (both_told (bool_told x.is_state false) (some_told (λ v. (u : Value) × Contains l.items u × (v ≡ u → ⊥)) l.items (λ v m. some_told (λ u. v ≡ u → ⊥) l.items (λ u n. not_told (value_told v u))))) [
-        | inl r ↦ inl (record { is_flow = r.0; first = r.1.0; second = r.1.2.0; is_first = l.sound r.1.0 r.1.1; is_second = l.sound r.1.2.0 r.1.2.1; differ = r.1.2.2 })
-        | inr n ↦ inr (λ h. n (h.is_flow, (h.first, l.whole h.first h.is_first, (h.second, l.whole h.second h.is_second, h.differ))))
+      elim
+      (both_told (bool_told x.is_state false) (some_told (λ v. (u : Value) × Contains l.items u × (v ≡ u → ⊥)) l.items (λ v m. some_told (λ u. v ≡ u → ⊥) l.items (λ u n. not_told (value_told v u))))) [
+        | inl r ↦
+            inl
+            (record { is_flow = r.0; first = r.1.0; second = r.1.2.0; is_first = l.sound r.1.0 r.1.1; is_second = l.sound r.1.2.0 r.1.2.1; differ = r.1.2.2 })
+        | inr n ↦
+            inr
+            (λ h. n (h.is_flow, (h.first, l.whole h.first h.is_first, (h.second, l.whole h.second h.is_second, h.differ))))
       ]
 
   -- the values that an assignment yields
-  given_by : (P : V → Value → Type 0) → ((x : V) → Listed (P x)) → (a : Assign V) → Listed (Yields P (out-Expr V a.value))
+  given_by : (P : V → Value → Type 0) → ((x : V) → Listed (P x)) → (a : Assign V)
+      → Listed (Yields P (out-Expr V a.value))
   given_by P k a = yields_listed P k a.value
 
   outside_told : (x : Variable V) → Told (IsOutside net t x)
   outside_told x =
-      let P : Assign V → Type 0 = λ a. (a.target ≡ x.key) × (Passes (FactOf net t) a.conditions × ((v : Value) × Contains (given_by (FactOf net t) known a).items v × (Contains x.domain v → ⊥))) in
-      elim (both_told (bool_told x.is_state false) (one_told P net.assertions (λ a o. both_told (key_told a.target x.key) (both_told (passes_told (FactOf net t) known a.conditions)
+      let P : Assign V → Type 0 =
+      λ a. (a.target ≡ x.key) ×
+      (Passes (FactOf net t) a.conditions × ((v : Value) × Contains (given_by (FactOf net t) known a).items v × (Contains x.domain v → ⊥))) in
+      elim
+      (both_told (bool_told x.is_state false) (one_told P net.assertions (λ a o. both_told (key_told a.target x.key) (both_told (passes_told (FactOf net t) known a.conditions)
       (some_told (λ v. Contains x.domain v → ⊥) (given_by (FactOf net t) known a).items (λ v m. not_told (contains_told x.domain v))))))) [
         | inl r ↦ inl (record {
           is_flow = r.0;
@@ -358,28 +423,36 @@ module _ {V : Type 0} (key_told : (x y : V) → Told (x ≡ y)) (net : Net V) (t
           yields = (given_by (FactOf net t) known r.1.0).sound r.1.2.1.1.0 r.1.2.1.1.1;
           outside = r.1.2.1.1.2;
         })
-        | inr n ↦ inr (λ h. n (h.is_flow, (h.assign, h.is_one, (h.is_target, (h.passes, (h.value, (given_by (FactOf net t) known h.assign).whole h.value h.yields, h.outside))))))
+        | inr n ↦
+            inr
+            (λ h. n (h.is_flow, (h.assign, h.is_one, (h.is_target, (h.passes, (h.value, (given_by (FactOf net t) known h.assign).whole h.value h.yields, h.outside))))))
       ]
 
   broken_told : (total : List Value) (a : Assign V) → Told (IsBroken net total a)
   broken_told total a =
       let k = values_known key_told net total in
       let l = given_by (HasValue net total) k a in
-      elim (both_told (passes_told (HasValue net total) k a.conditions) (some_told (λ v. HasValue net total a.target v → ⊥) l.items (λ v m. not_told (listed_told (k a.target) v)))) [
+      elim
+      (both_told (passes_told (HasValue net total) k a.conditions) (some_told (λ v. HasValue net total a.target v → ⊥) l.items (λ v m. not_told (listed_told (k a.target) v)))) [
         | inl r ↦ inl (record { passes = r.0; value = r.1.0; yields = l.sound r.1.0 r.1.1; differs = r.1.2 })
         | inr n ↦ inr (λ h. n (h.passes, (h.value, l.whole h.value h.yields, h.differs)))
       ]
 
   -- an outcome
   pub has_outcome : length t ≡ length net.variables → (o : Outcome) × Flows net t o
-  has_outcome long = go (first_or_none (HasTwo net t) net.variables (λ x o. two_told x)) (first_or_none (IsOutside net t) net.variables (λ x o. outside_told x))
+  has_outcome long =
+      go (first_or_none (HasTwo net t) net.variables (λ x o. two_told x))
+      (first_or_none (IsOutside net t) net.variables (λ x o. outside_told x))
     where
-      last : HasNo net.variables (HasTwo net t) → HasNo net.variables (IsOutside net t) → (total : List Value) → Completes (FactOf net t) net.variables t total
-          → ((i : ℕ) × IsFirst net.assertions (IsBroken net total) i) ⊎ HasNo net.assertions (IsBroken net total) → (o : Outcome) × Flows net t o
+      last : HasNo net.variables (HasTwo net t) → HasNo net.variables (IsOutside net t) → (total : List Value)
+          → Completes (FactOf net t) net.variables t total
+          → ((i : ℕ) × IsFirst net.assertions (IsBroken net total) i) ⊎ HasNo net.assertions (IsBroken net total)
+          → (o : Outcome) × Flows net t o
       last n m total c (inl r) = (Fails (Broken r.0), w.broken total n m c r.1)
       last n m total c (inr h) = (Total total, w.all_hold n m c h)
 
-      go : ((n : ℕ) × IsFirst net.variables (HasTwo net t) n) ⊎ HasNo net.variables (HasTwo net t) → ((n : ℕ) × IsFirst net.variables (IsOutside net t) n) ⊎ HasNo net.variables (IsOutside net t)
+      go : ((n : ℕ) × IsFirst net.variables (HasTwo net t) n) ⊎ HasNo net.variables (HasTwo net t)
+          → ((n : ℕ) × IsFirst net.variables (IsOutside net t) n) ⊎ HasNo net.variables (IsOutside net t)
           → (o : Outcome) × Flows net t o
       go (inl r) q = (Fails (Two r.0), w.two r.1)
       go (inr n) (inl r) = (Fails (Outside r.0), w.outside n r.1)

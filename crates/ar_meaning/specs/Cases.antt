@@ -1,4 +1,5 @@
--- Four small systems, by what stands at each place of their expressions: a flow that follows a state, three flows in a ring, a flow with two values, and a
+-- Four small systems, by what stands at each place of their expressions: a flow that follows a state, three flows in a
+-- ring, a flow with two values, and a
 -- synchronisation of two parts that need not take part.
 use Rattle.std.specs.Prelude.{◌≡◌, ℕ, Bool, true, false, List, [], ◌∷◌, Box, Vec}
 use Rattle.std.specs.Global.{Global}
@@ -98,11 +99,13 @@ pub record IsRing (either second third : Expr ℕ) : Type 0 where
   pub is_second : IsVariable second 1
   pub is_third : IsVariable third 2
 
--- where the switch is not closed flow 1 is true and also the opposite of flow 2, else it is false, and flow 2 follows flow 1
+-- where the switch is not closed flow 1 is true and also the opposite of flow 2, else it is false, and flow 2 follows
+-- flow 1
 abbrev pub quarrel : Expr ℕ → Expr ℕ → Expr ℕ → Expr ℕ → Expr ℕ → Net ℕ
 quarrel test on opposite off first = record {
   variables = state_of 0 switches closed ∷ flow_of 1 truths (Truth false) ∷ flow_of 2 truths (Truth false) ∷ [];
-  assertions = sets_where test false 1 on ∷ sets_where test false 1 opposite ∷ sets_where test true 1 off ∷ sets 2 first ∷ [];
+  assertions =
+      sets_where test false 1 on ∷ sets_where test false 1 opposite ∷ sets_where test true 1 off ∷ sets 2 first ∷ [];
 }
 
 -- the expressions of the quarrel

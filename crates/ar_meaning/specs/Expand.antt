@@ -1,15 +1,18 @@
--- The ways that declared transitions and synchronisations give. L is what stands for a transition, and E what stands for an event.
+-- The ways that declared transitions and synchronisations give. L is what stands for a transition, and E what stands
+-- for an event.
 use Rattle.std.specs.Prelude.{◌≡◌, ◌⊎◌, ℕ, Bool, List, [], ◌∷◌, ◌++◌, map}
 use Rattle.std.specs.List.{flat_map}
 use Rattle.ar_base.specs.Lists.{Stands, IsOneOf}
 use Rattle.ar_meaning.specs.Systems.{Transition, Tree, Leaf, Joint, Branches, Empty, Branch, Event}
 
--- a member that gives an event ways: a transition, or a synchronisation, which names an event for each part, with its mark, which is true for !
+-- a member that gives an event ways: a transition, or a synchronisation, which names an event for each part, with its
+-- mark, which is true for !
 pub data Member (L E : Type 0) : Type 0 where
   One : L → Member L E
   Synchronises : (parts : List (Bool × E)) → Member L E
 
--- an event as it is declared: what stands for it, the number of its unit, whether a hide clause names it, and its members in order
+-- an event as it is declared: what stands for it, the number of its unit, whether a hide clause names it, and its
+-- members in order
 pub record Declared (L E : Type 0) : Type 0 where
   pub key : E
   pub unit : ℕ
@@ -23,19 +26,23 @@ choices must ts bss = flat_map (λ t. map (λ bs. Branch must t bs) bss) ts
 mutual
   -- the ways of an event are what its members give, in member order
   pub data Ways {L E : Type 0} (events : List (Declared L E)) : E → List (Tree L) → Type 0 where
-    event : {d : Declared L E} {e : E} {ts : List (Tree L)} (n : ℕ) → Stands events n d → d.key ≡ e → Members_give events d.members ts → Ways events e ts
+    event : {d : Declared L E} {e : E} {ts : List (Tree L)} (n : ℕ) → Stands events n d → d.key ≡ e
+        → Members_give events d.members ts → Ways events e ts
 
   -- a transition gives one way, a synchronisation one for each choice of one way for each part
   pub data Members_give {L E : Type 0} (events : List (Declared L E)) : List (Member L E) → List (Tree L) → Type 0 where
     no_member : Members_give events [] []
-    one : {l : L} {ms : List (Member L E)} {ts : List (Tree L)} → Members_give events ms ts → Members_give events (One l ∷ ms) (Leaf l ∷ ts)
-    synchronises : {ps : List (Bool × E)} {ms : List (Member L E)} {bss : List (Branches L)} {ts : List (Tree L)} → Parts_give events ps bss → Members_give events ms ts
+    one : {l : L} {ms : List (Member L E)} {ts : List (Tree L)} → Members_give events ms ts
+        → Members_give events (One l ∷ ms) (Leaf l ∷ ts)
+    synchronises : {ps : List (Bool × E)} {ms : List (Member L E)} {bss : List (Branches L)} {ts : List (Tree L)}
+        → Parts_give events ps bss → Members_give events ms ts
         → Members_give events (Synchronises ps ∷ ms) (map Joint bss ++ ts)
 
   -- every choice of one way for each part, in lexicographic order
   pub data Parts_give {L E : Type 0} (events : List (Declared L E)) : List (Bool × E) → List (Branches L) → Type 0 where
     no_part : Parts_give events [] (Empty ∷ [])
-    choice : {must : Bool} {e : E} {ps : List (Bool × E)} {ts : List (Tree L)} {bss : List (Branches L)} → Ways events e ts → Parts_give events ps bss
+    choice : {must : Bool} {e : E} {ps : List (Bool × E)} {ts : List (Tree L)} {bss : List (Branches L)}
+        → Ways events e ts → Parts_give events ps bss
         → Parts_give events ((must, e) ∷ ps) (choices must ts bss)
 
 -- no two events have one key
@@ -72,7 +79,8 @@ pub record LeadsBack {L E : Type 0} (events : List (Declared L E)) (e : E) (k : 
   pub back : (part ≡ e) ⊎ ReachesPart events part e
 
 -- the event of a system that a declared event is
-pub record IsExpanded {V E : Type 0} (events : List (Declared (Transition V) E)) (d : Declared (Transition V) E) (e : Event V) : Type 0 where
+pub record IsExpanded {V E : Type 0} (events : List (Declared (Transition V) E)) (d : Declared (Transition V) E)
+    (e : Event V) : Type 0 where
   pub unit : d.unit ≡ e.unit
   pub hidden : d.hidden ≡ e.hidden
   pub ways : Ways events d.key e.ways

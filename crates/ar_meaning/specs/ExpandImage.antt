@@ -11,20 +11,25 @@ pub record Part_renames {E F : Type 0} (same : E → F → Type 0) (p : Bool × 
   pub key : same p.1 q.1
 
 -- both are transitions, which are related, or synchronisations with related parts
-pub data Member_along {L M E F : Type 0} (same : L → M → Type 0) (event_same : E → F → Type 0) : Member L E → Member M F → Type 0 where
+pub data Member_along {L M E F : Type 0} (same : L → M → Type 0)
+    (event_same : E → F → Type 0) : Member L E → Member M F → Type 0 where
   transitions : {d : L} {e : M} → same d e → Member_along same event_same (One d) (One e)
-  synchronise : {ps : List (Bool × E)} {qs : List (Bool × F)} → Along (Part_renames event_same) ps qs → Member_along same event_same (Synchronises ps) (Synchronises qs)
+  synchronise : {ps : List (Bool × E)} {qs : List (Bool × F)} → Along (Part_renames event_same) ps qs
+      → Member_along same event_same (Synchronises ps) (Synchronises qs)
 
 -- the declared events have related keys, one unit, one mark for hidden, and related members
-pub record Declared_along {L M E F : Type 0} (same : L → M → Type 0) (event_same : E → F → Type 0) (d : Declared L E) (e : Declared M F) : Type 0 where
+pub record Declared_along {L M E F : Type 0} (same : L → M → Type 0) (event_same : E → F → Type 0) (d : Declared L E)
+    (e : Declared M F) : Type 0 where
   pub key : event_same d.key e.key
   pub unit : d.unit ≡ e.unit
   pub hidden : d.hidden ≡ e.hidden
   pub members : Along (Member_along same event_same) d.members e.members
 
 -- the same where transitions differ in their variables alone
-abbrev pub Member_renames : {V W E F : Type 0} → (V → W → Type 0) → (E → F → Type 0) → Member (Transition V) E → Member (Transition W) F → Type 0
+abbrev pub Member_renames : {V W E F : Type 0} → (V → W → Type 0) → (E → F → Type 0) → Member (Transition V) E
+    → Member (Transition W) F → Type 0
 Member_renames same = Member_along (Transition_renames same)
 
-abbrev pub Declared_renames : {V W E F : Type 0} → (V → W → Type 0) → (E → F → Type 0) → Declared (Transition V) E → Declared (Transition W) F → Type 0
+abbrev pub Declared_renames : {V W E F : Type 0} → (V → W → Type 0) → (E → F → Type 0) → Declared (Transition V) E
+    → Declared (Transition W) F → Type 0
 Declared_renames same = Declared_along (Transition_renames same)

@@ -11,14 +11,17 @@ use Rattle.ar_meaning.specs.Systems.{Assign, Variable, Net}
 -- every condition yields from the facts the truth value that it must have
 pub data Passes {V : Type 0} (facts : V → Value → Type 0) : List (Expr V × Bool) → Type 0 where
   none : Passes facts []
-  one_and : {e : Expr V} {b : Bool} {cs : List (Expr V × Bool)} → Yields facts (out-Expr V e) (Truth b) → Passes facts cs → Passes facts ((e, b) ∷ cs)
+  one_and : {e : Expr V} {b : Bool} {cs : List (Expr V × Bool)} → Yields facts (out-Expr V e) (Truth b)
+      → Passes facts cs → Passes facts ((e, b) ∷ cs)
 
--- the least facts: what the state gives, and what an assignment yields for its target where facts K reach it, if the target's domain has the value
+-- the least facts: what the state gives, and what an assignment yields for its target where facts K reach it, if the
+-- target's domain has the value
 pub data Fact {V : Type 0} (assigns : List (Assign V)) (allows state : V → Value → Type 0) : V → Value → Type 0 where
   given : {x : V} {v : Value} → state x v → Fact assigns allows state x v
   assigned : (a : Assign V) {v : Value} (K : List (Pair V)) → IsOneOf assigns a
       → ((x : V) (w : Value) → Has K x w → Fact assigns allows state x w)
-      → Passes (Has K) a.conditions → Yields (Has K) (out-Expr V a.value) v → allows a.target v → Fact assigns allows state a.target v
+      → Passes (Has K) a.conditions → Yields (Has K) (out-Expr V a.value) v → allows a.target v
+      → Fact assigns allows state a.target v
 
 -- the variable's domain has the value
 pub record Allows {V : Type 0} (net : Net V) (x : V) (v : Value) : Type 0 where

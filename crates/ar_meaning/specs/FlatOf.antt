@@ -1,11 +1,12 @@
 -- A flat system of a system: each number stands for the variable at its place of a list.
 use Rattle.std.specs.Prelude.{◌≡◌, ℕ, List, slice_get}
 use Rattle.ar_base.specs.Lists.{Stands, AreDifferent, Along}
+use Rattle.ar_base.specs.Texts.{text_at}
 use Rattle.ar_meaning.specs.Systems.{Transition, System}
 use Rattle.ar_meaning.specs.Image.{Assign_renames, Variable_renames, Event_renames, Expr_renames}
 use Rattle.ar_meaning.specs.Expand.{Declared}
 use Rattle.ar_meaning.specs.ExpandImage.{Declared_renames}
-use Rattle.ar_meaning.specs.TraceText.{Naming, text_at, place_text}
+use Rattle.ar_meaning.specs.TraceText.{Naming, place_text}
 
 -- the number that stands for the thing
 abbrev pub IsNumber : {A : Type 0} → List A → A → ℕ → Type 0
@@ -20,7 +21,8 @@ pub record IsFlatOf {V : Type 0} (things : List V) (sys : System V) (flat : Syst
   pub observers : Along (Expr_renames (IsNumber things)) sys.observers flat.observers
 
 -- the same of declared events, where each number stands for the event's key at its place of another list
-pub record AreFlatOf {V E : Type 0} (things : List V) (keys : List E) (declared : List (Declared (Transition V) E)) (flat : List (Declared (Transition ℕ) ℕ)) : Type 0 where
+pub record AreFlatOf {V E : Type 0} (things : List V) (keys : List E) (declared : List (Declared (Transition V) E))
+    (flat : List (Declared (Transition ℕ) ℕ)) : Type 0 where
   pub different : AreDifferent keys
   pub events : Along (Declared_renames (IsNumber things) (IsNumber keys)) declared flat
 

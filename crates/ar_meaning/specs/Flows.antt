@@ -27,14 +27,18 @@ pub record IsOutside {V : Type 0} (net : Net V) (t : List Value) (x : Variable V
   pub yields : Yields (FactOf net t) (out-Expr V assign.value) value
   pub outside : Contains x.domain value → ⊥
 
--- each variable's value, in order, from the old ones: a state variable keeps its own, a flow has its fact, or its reset where it has none
-pub data Completes {V : Type 0} (facts : V → Value → Type 0) : List (Variable V) → List Value → List Value → Type 0 where
+-- each variable's value, in order, from the old ones: a state variable keeps its own, a flow has its fact, or its reset
+-- where it has none
+pub data Completes {V : Type 0} (facts : V → Value → Type 0) : List
+    (Variable V) → List Value → List Value → Type 0 where
   none : Completes facts [] [] []
   state : {x : Variable V} {xs : List (Variable V)} {v : Value} {vs ws : List Value} → x.is_state ≡ true
       → Completes facts xs vs ws → Completes facts (x ∷ xs) (v ∷ vs) (v ∷ ws)
-  known : {x : Variable V} {xs : List (Variable V)} {v w : Value} {vs ws : List Value} → x.is_state ≡ false → facts x.key w
+  known : {x : Variable V} {xs : List (Variable V)} {v w : Value} {vs ws : List Value} → x.is_state ≡ false
+      → facts x.key w
       → Completes facts xs vs ws → Completes facts (x ∷ xs) (v ∷ vs) (w ∷ ws)
-  unknown : {x : Variable V} {xs : List (Variable V)} {v : Value} {vs ws : List Value} → x.is_state ≡ false → ((w : Value) → facts x.key w → ⊥)
+  unknown : {x : Variable V} {xs : List (Variable V)} {v : Value} {vs ws : List Value} → x.is_state ≡ false
+      → ((w : Value) → facts x.key w → ⊥)
       → Completes facts xs vs ws → Completes facts (x ∷ xs) (v ∷ vs) (x.value ∷ ws)
 
 -- the total valuation reaches the assignment, and its value is not its target's
@@ -58,8 +62,11 @@ pub data Outcome : Type 0 where
 -- what the state variables' values in t determine: the first of the four that applies
 pub data Flows {V : Type 0} (net : Net V) (t : List Value) : Outcome → Type 0 where
   two : {n : ℕ} → IsFirst net.variables (HasTwo net t) n → Flows net t (Fails (Two n))
-  outside : {n : ℕ} → HasNo net.variables (HasTwo net t) → IsFirst net.variables (IsOutside net t) n → Flows net t (Fails (Outside n))
+  outside : {n : ℕ} → HasNo net.variables (HasTwo net t) → IsFirst net.variables (IsOutside net t) n
+      → Flows net t (Fails (Outside n))
   broken : {i : ℕ} (total : List Value) → HasNo net.variables (HasTwo net t) → HasNo net.variables (IsOutside net t)
-      → Completes (FactOf net t) net.variables t total → IsFirst net.assertions (IsBroken net total) i → Flows net t (Fails (Broken i))
+      → Completes (FactOf net t) net.variables t total → IsFirst net.assertions (IsBroken net total) i
+      → Flows net t (Fails (Broken i))
   all_hold : {total : List Value} → HasNo net.variables (HasTwo net t) → HasNo net.variables (IsOutside net t)
-      → Completes (FactOf net t) net.variables t total → HasNo net.assertions (IsBroken net total) → Flows net t (Total total)
+      → Completes (FactOf net t) net.variables t total → HasNo net.assertions (IsBroken net total)
+      → Flows net t (Total total)

@@ -1,5 +1,5 @@
 -- What a test and a search answer.
-use Rattle.std.specs.Prelude.{ℕ, Bool, true, false, List, Option, Some, None}
+use Rattle.std.specs.Prelude.{◌≡◌, ◌⊎◌, ℕ, Bool, true, false, List, Option, Some, None}
 use Rattle.ar_base.specs.Lists.{IsFirst, HasNo}
 
 -- the test says whether P holds
@@ -11,3 +11,7 @@ IsAnswer false P = P → ⊥
 abbrev pub IsFirstOrNone : {A : Type 0} → List A → (A → Type 0) → Option ℕ → Type 0
 IsFirstOrNone all P None = HasNo all P
 IsFirstOrNone all P (Some n) = IsFirst all P n
+
+-- it can be told whether two things are one, as with numbers
+abbrev pub AreTold : Type 0 → Type 0
+AreTold A = (x y : A) → (x ≡ y) ⊎ (x ≡ y → ⊥)

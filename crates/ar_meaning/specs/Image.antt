@@ -10,9 +10,11 @@ pub record Expr_renames {V W : Type 0} (same : V → W → Type 0) (e : Expr V) 
   pub renames : Renames same (out-Expr V e) (out-Expr W f)
 
 -- the same of conditions, which have the same truth values
-pub data Conditions_rename {V W : Type 0} (same : V → W → Type 0) : List (Expr V × Bool) → List (Expr W × Bool) → Type 0 where
+pub data Conditions_rename {V W : Type 0} (same : V → W → Type 0) : List (Expr V × Bool) → List
+    (Expr W × Bool) → Type 0 where
   none : Conditions_rename same [] []
-  one_and : {e : Expr V} {f : Expr W} {b : Bool} {es : List (Expr V × Bool)} {fs : List (Expr W × Bool)} → Renames same (out-Expr V e) (out-Expr W f)
+  one_and : {e : Expr V} {f : Expr W} {b : Bool} {es : List (Expr V × Bool)} {fs : List (Expr W × Bool)}
+      → Renames same (out-Expr V e) (out-Expr W f)
       → Conditions_rename same es fs → Conditions_rename same ((e, b) ∷ es) ((f, b) ∷ fs)
 
 -- the assignments have related targets, and conditions and expressions that differ in their variables alone
@@ -30,7 +32,8 @@ pub record Variable_renames {V W : Type 0} (same : V → W → Type 0) (x : Vari
   pub value : x.value ≡ y.value
 
 -- the transitions differ in their variables alone
-pub record Transition_renames {V W : Type 0} (same : V → W → Type 0) (d : Transition V) (e : Transition W) : Type 0 where
+pub record Transition_renames {V W : Type 0} (same : V → W → Type 0) (d : Transition V)
+    (e : Transition W) : Type 0 where
   pub guard : Renames same (out-Expr V d.guard) (out-Expr W e.guard)
   pub action : Along (Assign_renames same) d.action e.action
 
@@ -43,7 +46,8 @@ mutual
   -- the same of the ways of parts, in order
   pub data Branches_along {L M : Type 0} (same : L → M → Type 0) : Branches L → Branches M → Type 0 where
     no_branch : Branches_along same Empty Empty
-    branch : {must : Bool} {v : Tree L} {w : Tree M} {bs : Branches L} {cs : Branches M} → Trees_along same v w → Branches_along same bs cs
+    branch : {must : Bool} {v : Tree L} {w : Tree M} {bs : Branches L} {cs : Branches M} → Trees_along same v w
+        → Branches_along same bs cs
         → Branches_along same (Branch must v bs) (Branch must w cs)
 
 -- the ways have the same joints and marks, and their transitions differ in their variables alone
@@ -51,7 +55,8 @@ abbrev pub Way_renames : {V W : Type 0} → (V → W → Type 0) → Way V → W
 Way_renames same = Trees_along (Transition_renames same)
 
 -- the same of the ways of parts
-abbrev pub Branches_rename : {V W : Type 0} → (V → W → Type 0) → Branches (Transition V) → Branches (Transition W) → Type 0
+abbrev pub Branches_rename : {V W : Type 0} → (V → W → Type 0) → Branches (Transition V) → Branches (Transition W)
+    → Type 0
 Branches_rename same = Branches_along (Transition_renames same)
 
 -- the events have one unit, one mark for hidden, and ways that differ in their variables alone

@@ -9,6 +9,8 @@ pub mod Numbered
 pub mod Image
 pub mod ExpandImage
 pub mod Found
+pub mod ValueTexts
 pub mod TraceText
+pub mod Dependence
 pub mod FlatOf
 pub mod Cases

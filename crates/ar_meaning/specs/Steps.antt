@@ -22,14 +22,17 @@ pub record LeavesDomain {V : Type 0} (effects : V → Value → Type 0) (x : Var
   pub outside : Contains x.domain value → ⊥
 
 -- each variable's value after the effects, in order: what it receives, or else the old one
-pub data Receives {V : Type 0} (effects : V → Value → Type 0) : List (Variable V) → List Value → List Value → Type 0 where
+pub data Receives {V : Type 0} (effects : V → Value → Type 0) : List
+    (Variable V) → List Value → List Value → Type 0 where
   none : Receives effects [] [] []
   changed : {x : Variable V} {xs : List (Variable V)} {v w : Value} {vs ws : List Value} → effects x.key w
       → Receives effects xs vs ws → Receives effects (x ∷ xs) (v ∷ vs) (w ∷ ws)
-  kept : {x : Variable V} {xs : List (Variable V)} {v : Value} {vs ws : List Value} → ((w : Value) → effects x.key w → ⊥)
+  kept : {x : Variable V} {xs : List (Variable V)} {v : Value} {vs ws : List Value}
+      → ((w : Value) → effects x.key w → ⊥)
       → Receives effects xs vs ws → Receives effects (x ∷ xs) (v ∷ vs) (v ∷ ws)
 
--- the way cannot fire, a variable receives two values, a variable receives a value outside its domain, or the new state has a flow fault; variables by number
+-- the way cannot fire, a variable receives two values, a variable receives a value outside its domain, or the new state
+-- has a flow fault; variables by number
 pub data StepFault : Type 0 where
   NotEnabled : StepFault
   Clash : (variable : ℕ) → StepFault
@@ -44,12 +47,17 @@ pub data Answer : Type 0 where
 -- what firing a way from the total valuation t gives: the first of the five that applies
 pub data Step {V : Type 0} (net : Net V) (t : List Value) (w : Way V) : Answer → Type 0 where
   not_enabled : (Can (HasValue net t) w → ⊥) → Step net t w (Refused NotEnabled)
-  clash : {n : ℕ} → Can (HasValue net t) w → IsFirst net.variables (Clashes (Effects (HasValue net t) w)) n → Step net t w (Refused (Clash n))
+  clash : {n : ℕ} → Can (HasValue net t) w → IsFirst net.variables (Clashes (Effects (HasValue net t) w)) n
+      → Step net t w (Refused (Clash n))
   range : {n : ℕ} → Can (HasValue net t) w → HasNo net.variables (Clashes (Effects (HasValue net t) w))
       → IsFirst net.variables (LeavesDomain (Effects (HasValue net t) w)) n → Step net t w (Refused (Range n))
-  flow : {f : FlowFault} (state : List Value) → Can (HasValue net t) w → HasNo net.variables (Clashes (Effects (HasValue net t) w))
-      → HasNo net.variables (LeavesDomain (Effects (HasValue net t) w)) → Receives (Effects (HasValue net t) w) net.variables t state
+  flow : {f : FlowFault} (state : List Value) → Can (HasValue net t) w
+      → HasNo net.variables (Clashes (Effects (HasValue net t) w))
+      → HasNo net.variables (LeavesDomain (Effects (HasValue net t) w))
+      → Receives (Effects (HasValue net t) w) net.variables t state
       → Flows net state (Fails f) → Step net t w (Refused (Flow f))
-  moves : {next : List Value} (state : List Value) → Can (HasValue net t) w → HasNo net.variables (Clashes (Effects (HasValue net t) w))
-      → HasNo net.variables (LeavesDomain (Effects (HasValue net t) w)) → Receives (Effects (HasValue net t) w) net.variables t state
+  moves : {next : List Value} (state : List Value) → Can (HasValue net t) w
+      → HasNo net.variables (Clashes (Effects (HasValue net t) w))
+      → HasNo net.variables (LeavesDomain (Effects (HasValue net t) w))
+      → Receives (Effects (HasValue net t) w) net.variables t state
       → Flows net state (Total next) → Step net t w (Next next)

@@ -1,15 +1,19 @@
--- Systems: variables, assertions, events with their ways, and observers. V is what stands for a variable, as a path or a number.
+-- Systems: variables, assertions, events with their ways, and observers. V is what stands for a variable, as a path or
+-- a number.
 use Rattle.std.specs.Prelude.{ℕ, Bool, List}
 use Rattle.domains.specs.declared.Value.{Value}
 use Rattle.typed_expr.specs.declared.expr.Expr.{Expr}
 
--- an assignment: its target, its conditions from the outermost inward, each with the truth value that it must have, and its expression
+-- an assignment: its target, its conditions from the outermost inward, each with the truth value that it must have, and
+-- its expression
 pub record Assign (V : Type 0) : Type 0 where
   pub target : V
   pub conditions : List (Expr V × Bool)
   pub value : Expr V
 
--- a variable: what stands for it, the number of its unit, the values of its domain in order, whether it is a state variable, and the value of its init or reset
+-- a variable: what stands for it, the number of its unit, the values of its domain (truth values and numbers ascending,
+-- symbols as they are declared: who needs
+-- these ascending sorts them), whether it is a state variable, and the value of its init or reset
 pub record Variable (V : Type 0) : Type 0 where
   pub key : V
   pub unit : ℕ
@@ -22,7 +26,8 @@ pub record Transition (V : Type 0) : Type 0 where
   pub guard : Expr V
   pub action : List (Assign V)
 
--- a way: a leaf, or a joint of one way for each part of a synchronisation, each with its mark, which is true for ! and false for ?
+-- a way: a leaf, or a joint of one way for each part of a synchronisation, each with its mark, which is true for ! and
+-- false for ?
 mutual
   pub data Tree (L : Type 0) : Type 0 where
     Leaf : L → Tree L

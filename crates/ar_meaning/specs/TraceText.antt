@@ -1,19 +1,20 @@
 -- The text of a run: one text for each of its moments.
-use Rattle.std.specs.Prelude.{◌≡◌, ℕ, ◌+◌, ◌==◌, if◌then◌else◌, Bool, true, false, List, [], ◌∷◌, ◌++◌, Option, Some, None, length, slice_get, codes, decimal}
-use Rattle.std.specs.Fmt.{signed_decimal}
+use Rattle.std.specs.Prelude.{◌≡◌, ℕ, ◌+◌, ◌==◌, if◌then◌else◌, List, [], ◌∷◌, ◌++◌, Option, Some, None, length, slice_get, codes, decimal}
 use Rattle.ar_base.specs.Lists.{Along}
+use Rattle.ar_base.specs.Texts.{text_at, line}
 use Rattle.ar_base.specs.declared.places.Place.{Place}
 use Rattle.domains.specs.declared.Value.{Value}
-use Rattle.domains.specs.declared.Value.TheVariants.{Truth, Whole, Symbol}
 use Rattle.typed_expr.specs.Yields.{Yields}
-use Rattle.typed_expr.specs.declared.expr.Expr.{Expr, out-Expr}
+use Rattle.typed_expr.specs.declared.expr.Expr.{out-Expr}
 use Rattle.ar_meaning.specs.Systems.{System, Event}
+use Rattle.ar_meaning.specs.ValueTexts.{value_text}
 use Rattle.ar_meaning.specs.Facts.{HasValue}
 use Rattle.ar_meaning.specs.Flows.{FlowFault, Two, Outside, Broken}
 use Rattle.ar_meaning.specs.Steps.{StepFault, NotEnabled, Clash, Range, Flow}
 use Rattle.ar_meaning.specs.Runs.{Label, Moment, Starts, Start_fails, Fires, Fire_fails, Goes_back, No_step, Shows, Lists, Ends}
 
--- what things are called: the canonical paths of variables, events and observers by number, the names of symbols by number,
+-- what things are called: the canonical paths of variables, events and observers by number, the names of symbols by
+-- number,
 -- and where the target of each assignment of an assertion stands
 pub record Naming : Type 0 where
   pub variables : List (List ℕ)
@@ -22,35 +23,15 @@ pub record Naming : Type 0 where
   pub symbols : List (List ℕ)
   pub places : List Place
 
--- the text at a place of a list, empty past its end
-abbrev pub or_nothing : Option (List ℕ) → List ℕ
-or_nothing None = []
-or_nothing (Some text) = text
-
-abbrev pub text_at : List (List ℕ) → ℕ → List ℕ
-text_at texts n = or_nothing (slice_get texts n)
-
-abbrev pub truth_text : Bool → List ℕ
-truth_text true = codes "true"
-truth_text false = codes "false"
-
--- a value: `true`, `false`, a number, or a symbol's name
-abbrev pub value_text : Naming → Value → List ℕ
-value_text names (Truth b) = truth_text b
-value_text names (Whole n) = signed_decimal n
-value_text names (Symbol n) = text_at names.symbols n
-
--- a text with the line feed that ends its line
-abbrev pub line : List ℕ → List ℕ
-line text = text ++ 10 ∷ []
-
 -- `  PATH = VALUE`
 abbrev pub variable_line : Naming → ℕ → Value → List ℕ
-variable_line names n v = line (codes "  " ++ (text_at names.variables n ++ (codes " = " ++ value_text names v)))
+variable_line names n v =
+    line (codes "  " ++ (text_at names.variables n ++ (codes " = " ++ value_text names.symbols v)))
 
 -- `  observer PATH = VALUE`
 abbrev pub observer_line : Naming → ℕ → Value → List ℕ
-observer_line names n v = line (codes "  observer " ++ (text_at names.observers n ++ (codes " = " ++ value_text names v)))
+observer_line names n v =
+    line (codes "  observer " ++ (text_at names.observers n ++ (codes " = " ++ value_text names.symbols v)))
 
 -- the lines of these values, numbered from n on
 abbrev pub lines_from : (ℕ → Value → List ℕ) → ℕ → List Value → List ℕ
@@ -60,8 +41,10 @@ lines_from one n (v ∷ vs) = one n v ++ lines_from one (n + 1) vs
 -- the lines of those new values that differ from the old ones, numbered from n on
 pub data Changed (one : ℕ → Value → List ℕ) : ℕ → List Value → List Value → List ℕ → Type 0 where
   none : {n : ℕ} → Changed one n [] [] []
-  same : {n : ℕ} {v : Value} {vs ws : List Value} {text : List ℕ} → Changed one (n + 1) vs ws text → Changed one n (v ∷ vs) (v ∷ ws) text
-  differs : {n : ℕ} {v w : Value} {vs ws : List Value} {text : List ℕ} → (v ≡ w → ⊥) → Changed one (n + 1) vs ws text → Changed one n (v ∷ vs) (w ∷ ws) (one n w ++ text)
+  same : {n : ℕ} {v : Value} {vs ws : List Value} {text : List ℕ} → Changed one (n + 1) vs ws text
+      → Changed one n (v ∷ vs) (v ∷ ws) text
+  differs : {n : ℕ} {v w : Value} {vs ws : List Value} {text : List ℕ} → (v ≡ w → ⊥) → Changed one (n + 1) vs ws text
+      → Changed one n (v ∷ vs) (w ∷ ws) (one n w ++ text)
 
 -- the observers' values under a total valuation
 abbrev pub Observed : {V : Type 0} → System V → List Value → List Value → Type 0
@@ -72,7 +55,8 @@ abbrev pub all_lines : Naming → List Value → List Value → List ℕ
 all_lines names values seen = lines_from (variable_line names) 0 values ++ lines_from (observer_line names) 0 seen
 
 -- the lines of the variables that changed, and then of the observers that did
-pub record ChangedLines {V : Type 0} (names : Naming) (sys : System V) (old new : List Value) (text : List ℕ) : Type 0 where
+pub record ChangedLines {V : Type 0} (names : Naming) (sys : System V) (old new : List Value)
+    (text : List ℕ) : Type 0 where
   pub seen : List Value
   pub seen_then : List Value
   pub is_seen : Observed sys old seen
@@ -120,18 +104,24 @@ step_fault_text names (Flow f) = flow_fault_text names f
 
 -- the lines of one moment
 pub data MomentText {V : Type 0} (names : Naming) (sys : System V) : Moment → List ℕ → Type 0 where
-  starts : {t seen : List Value} → Observed sys t seen → MomentText names sys (Starts t) (line (codes "start") ++ all_lines names t seen)
-  start_fails : {f : FlowFault} → MomentText names sys (Start_fails f) (line (codes "fault: start: " ++ flow_fault_text names f))
+  starts : {t seen : List Value} → Observed sys t seen
+      → MomentText names sys (Starts t) (line (codes "start") ++ all_lines names t seen)
+  start_fails : {f : FlowFault}
+      → MomentText names sys (Start_fails f) (line (codes "fault: start: " ++ flow_fault_text names f))
   fires : {l : Label} {old new : List Value} {text : List ℕ} → ChangedLines names sys old new text
       → MomentText names sys (Fires l old new) (line (codes "fire " ++ label_text names sys l) ++ text)
-  fire_fails : {l : Label} {f : StepFault} → MomentText names sys (Fire_fails l f) (line (codes "fault: " ++ (label_text names sys l ++ (codes ": " ++ step_fault_text names f))))
-  goes_back : {old new : List Value} {text : List ℕ} → ChangedLines names sys old new text → MomentText names sys (Goes_back old new) (line (codes "back") ++ text)
+  fire_fails : {l : Label} {f : StepFault}
+      → MomentText names sys (Fire_fails l f) (line (codes "fault: " ++ (label_text names sys l ++ (codes ": " ++ step_fault_text names f))))
+  goes_back : {old new : List Value} {text : List ℕ} → ChangedLines names sys old new text
+      → MomentText names sys (Goes_back old new) (line (codes "back") ++ text)
   no_step : MomentText names sys No_step (line (codes "fault: back: no step"))
-  shows : {t seen : List Value} → Observed sys t seen → MomentText names sys (Shows t) (line (codes "show") ++ all_lines names t seen)
+  shows : {t seen : List Value} → Observed sys t seen
+      → MomentText names sys (Shows t) (line (codes "show") ++ all_lines names t seen)
   lists : {ls : List Label} → MomentText names sys (Lists ls) (line (codes "enabled") ++ label_lines names sys ls)
   ends : {n : ℕ} → MomentText names sys (Ends n) (line (codes "end " ++ decimal n))
 
 -- the texts of the moments, one after the other
 pub data TraceText {V : Type 0} (names : Naming) (sys : System V) : List Moment → List ℕ → Type 0 where
   none : TraceText names sys [] []
-  one_and : {m : Moment} {ms : List Moment} {text texts : List ℕ} → MomentText names sys m text → TraceText names sys ms texts → TraceText names sys (m ∷ ms) (text ++ texts)
+  one_and : {m : Moment} {ms : List Moment} {text texts : List ℕ} → MomentText names sys m text
+      → TraceText names sys ms texts → TraceText names sys (m ∷ ms) (text ++ texts)

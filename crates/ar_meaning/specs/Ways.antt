@@ -24,7 +24,8 @@ mutual
   -- each ! part can fire
   pub data Musts_can {V : Type 0} (facts : V → Value → Type 0) : Branches (Transition V) → Type 0 where
     no_part : Musts_can facts Empty
-    must : {w : Way V} {bs : Branches (Transition V)} → Can facts w → Musts_can facts bs → Musts_can facts (Branch true w bs)
+    must : {w : Way V} {bs : Branches (Transition V)} → Can facts w → Musts_can facts bs
+        → Musts_can facts (Branch true w bs)
     may : {w : Way V} {bs : Branches (Transition V)} → Musts_can facts bs → Musts_can facts (Branch false w bs)
 
   -- one of the parts can fire
@@ -33,14 +34,19 @@ mutual
     later : {m : Bool} {w : Way V} {bs : Branches (Transition V)} → Some_can facts bs → Some_can facts (Branch m w bs)
 
 mutual
-  -- the way gives the variable this value: an assignment of its action that the facts reach yields it, or a part that takes part gives it
+  -- the way gives the variable this value: an assignment of its action that the facts reach yields it, or a part that
+  -- takes part gives it
   pub data Effects {V : Type 0} (facts : V → Value → Type 0) : Way V → V → Value → Type 0 where
     acts : {d : Transition V} {v : Value} (a : Assign V) → IsOneOf d.action a → Passes facts a.conditions
         → Yields facts (out-Expr V a.value) v → Effects facts (Leaf d) a.target v
-    by_part : {bs : Branches (Transition V)} {x : V} {v : Value} → Part_effects facts bs x v → Effects facts (Joint bs) x v
+    by_part : {bs : Branches (Transition V)} {x : V} {v : Value} → Part_effects facts bs x v
+        → Effects facts (Joint bs) x v
 
   -- a ! part gives it, or a ? part that can fire
   pub data Part_effects {V : Type 0} (facts : V → Value → Type 0) : Branches (Transition V) → V → Value → Type 0 where
-    by_must : {w : Way V} {bs : Branches (Transition V)} {x : V} {v : Value} → Effects facts w x v → Part_effects facts (Branch true w bs) x v
-    by_may : {w : Way V} {bs : Branches (Transition V)} {x : V} {v : Value} → Can facts w → Effects facts w x v → Part_effects facts (Branch false w bs) x v
-    by_later : {m : Bool} {w : Way V} {bs : Branches (Transition V)} {x : V} {v : Value} → Part_effects facts bs x v → Part_effects facts (Branch m w bs) x v
+    by_must : {w : Way V} {bs : Branches (Transition V)} {x : V} {v : Value} → Effects facts w x v
+        → Part_effects facts (Branch true w bs) x v
+    by_may : {w : Way V} {bs : Branches (Transition V)} {x : V} {v : Value} → Can facts w → Effects facts w x v
+        → Part_effects facts (Branch false w bs) x v
+    by_later : {m : Bool} {w : Way V} {bs : Branches (Transition V)} {x : V} {v : Value} → Part_effects facts bs x v
+        → Part_effects facts (Branch m w bs) x v

@@ -9,32 +9,47 @@ ghost use Rattle.ar_meaning.specs.Systems.{Assign, Variable, Net};
 ghost use Rattle.ar_meaning.specs.Facts.{Passes, Allows, HasValue, IsGiven, FactOf, AreKeyed, AreNumbered};
 ghost use Rattle.ar_meaning.specs.Flows.{Flows, Outcome};
 
-/// The facts hold what the state gives and what each assignment adds that they reach, they are the least such, and
-/// more values give more facts.
+/// The facts hold what the state gives and what each assignment adds that they reach, they are the
+/// least such, and more values give more facts.
 pub fn facts_are_least<V>()
-    ensures given { (net : Net V) (t : List Value) (x : V) (v : Value) → IsGiven net t x v → FactOf net t x v }
-    ensures closed { (net : Net V) (t : List Value) (a : Assign V) (v : Value) → IsOneOf net.assertions a → Passes (FactOf net t) a.conditions
-        → Yields (FactOf net t) (out-Expr V a.value) v → Allows net a.target v → FactOf net t a.target v }
-    ensures least { (net : Net V) (t : List Value) (holds : V → Value → Bool) → ((x : V) (v : Value) → IsGiven net t x v → IsTrue (holds x v))
-        → ((a : Assign V) (v : Value) → IsOneOf net.assertions a → Passes (λ x w. IsTrue (holds x w)) a.conditions
-        → Yields (λ x w. IsTrue (holds x w)) (out-Expr V a.value) v → Allows net a.target v → IsTrue (holds a.target v))
+    ensures given { (net : Net V) (t : List Value) (x : V) (v : Value) → IsGiven net t x v
+        → FactOf net t x v }
+    ensures closed { (net : Net V) (t : List Value) (a : Assign V) (v : Value)
+        → IsOneOf net.assertions a → Passes (FactOf net t) a.conditions
+        → Yields (FactOf net t) (out-Expr V a.value) v → Allows net a.target v
+        → FactOf net t a.target v }
+    ensures least { (net : Net V) (t : List Value) (holds : V → Value → Bool)
+        → ((x : V) (v : Value) → IsGiven net t x v → IsTrue (holds x v))
+        → ((a : Assign V) (v : Value) → IsOneOf net.assertions a
+        → Passes (λ x w. IsTrue (holds x w)) a.conditions
+        → Yields (λ x w. IsTrue (holds x w)) (out-Expr V a.value) v
+        → Allows net a.target v → IsTrue (holds a.target v))
         → (x : V) (v : Value) → FactOf net t x v → IsTrue (holds x v) }
-    ensures more { (net : Net V) (t u : List Value) → ((x : V) (v : Value) → IsGiven net t x v → IsGiven net u x v)
-        → (x : V) (v : Value) → FactOf net t x v → FactOf net u x v }
+    ensures more { (net : Net V) (t u : List Value)
+        → ((x : V) (v : Value) → IsGiven net t x v → IsGiven net u x v) → (x : V) (v : Value)
+        → FactOf net t x v → FactOf net u x v }
 {}
 
-/// Where each variable stands for itself by its number, a valuation's value at a number is that variable's.
+/// Where each variable stands for itself by its number, a valuation's value at a number is that
+/// variable's.
 pub fn variables_by_number()
     ensures keyed { (net : Net ℕ) → AreNumbered net → AreKeyed net }
-    ensures values { (net : Net ℕ) → AreNumbered net → (t : List Value) (n : ℕ) (x : Variable ℕ) (v : Value) → Stands net.variables n x → (HasValue net t n v ↔ Stands t n v) }
-    ensures given { (net : Net ℕ) → AreNumbered net → (t : List Value) (n : ℕ) (x : Variable ℕ) (v : Value) → Stands net.variables n x
+    ensures values { (net : Net ℕ) → AreNumbered net
+        → (t : List Value) (n : ℕ) (x : Variable ℕ) (v : Value) → Stands net.variables n x
+        → (HasValue net t n v ↔ Stands t n v) }
+    ensures given { (net : Net ℕ) → AreNumbered net
+        → (t : List Value) (n : ℕ) (x : Variable ℕ) (v : Value) → Stands net.variables n x
         → (IsGiven net t n v ↔ ((x.is_state ≡ true) × Stands t n v)) }
-    ensures allowed { (net : Net ℕ) → AreNumbered net → (n : ℕ) (x : Variable ℕ) (v : Value) → Stands net.variables n x → (Allows net n v ↔ Contains x.domain v) }
+    ensures allowed { (net : Net ℕ) → AreNumbered net → (n : ℕ) (x : Variable ℕ) (v : Value)
+        → Stands net.variables n x → (Allows net n v ↔ Contains x.domain v) }
 {}
 
-/// The flows of two valuations that give each state variable the same value are the same: the values of flows are not read.
+/// The flows of two valuations that give each state variable the same value are the same: the
+/// values of flows are not read.
 pub fn flows_read_states<V>()
-    ensures flows { (net : Net V) (t u : List Value) → length t ≡ length net.variables → length u ≡ length net.variables
-        → ((n : ℕ) (x : Variable V) → Stands net.variables n x → x.is_state ≡ true → (v : Value) × Stands t n v × Stands u n v)
+    ensures flows { (net : Net V) (t u : List Value) → length t ≡ length net.variables
+        → length u ≡ length net.variables
+        → ((n : ℕ) (x : Variable V) → Stands net.variables n x → x.is_state ≡ true
+        → (v : Value) × Stands t n v × Stands u n v)
         → (o : Outcome) → Flows net t o → Flows net u o }
 {}

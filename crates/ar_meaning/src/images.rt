@@ -1,9 +1,8 @@
 //! A flat system, which has numbers in place of its system's variables, answers as the system does.
 
-ghost use Rattle.std.specs.Prelude.{ℕ, List, Bool, IsTrue, ◌≡◌, ◌↔◌, map};
+ghost use Rattle.std.specs.Prelude.{ℕ, List, ◌≡◌, ◌↔◌, map};
 ghost use Rattle.domains.specs.declared.Value.{Value};
 ghost use Rattle.ar_base.specs.Lists.{Stands, Along, AreDifferent};
-ghost use Rattle.typed_expr.specs.Pairs.{Joined};
 ghost use Rattle.ar_meaning.specs.Systems.{Variable, Net, System, Event, Transition, Way, Tree};
 ghost use Rattle.ar_meaning.specs.Facts.{HasValue, FactOf, AreKeyed, AreNumbered};
 ghost use Rattle.ar_meaning.specs.Flows.{Flows, Outcome};
@@ -13,74 +12,99 @@ ghost use Rattle.ar_meaning.specs.Runs.{Runs, Command, Moment};
 ghost use Rattle.ar_meaning.specs.TraceText.{Naming, TraceText};
 ghost use Rattle.ar_meaning.specs.Expand.{Declared, AreKeyed as HaveKeys, Ways, LeadsBack, IsExpanded};
 ghost use Rattle.ar_meaning.specs.ExpandImage.{Declared_along, Declared_renames};
-ghost use Rattle.ar_meaning.specs.Image.{Way_renames, Event_renames, IsNetImage, IsImage};
+ghost use Rattle.ar_meaning.specs.Image.{Way_renames, Event_renames, IsImage};
 ghost use Rattle.ar_meaning.specs.FlatOf.{IsNumber, IsFlatOf, AreFlatOf, NameAlike};
 ghost use Rattle.ar_meaning.specs.Numbered.{Body, Means_way, body_changed, changed};
 
-/// A flat system has the facts, flows, ways that can fire, effects, steps, runs and texts of its system, and no others.
+/// A flat system has the facts, flows, ways that can fire, effects, steps, runs and texts of its
+/// system, and no others.
 pub fn flat_answers<V>()
     ensures facts { (things : List V) (sys : System V) (flat : System ℕ) → IsFlatOf things sys flat
-        → (t : List Value) (x : V) (n : ℕ) (v : Value) → Stands things n x → (FactOf sys.net t x v ↔ FactOf flat.net t n v) }
+        → (t : List Value) (x : V) (n : ℕ) (v : Value) → Stands things n x
+        → (FactOf sys.net t x v ↔ FactOf flat.net t n v) }
     ensures flows { (things : List V) (sys : System V) (flat : System ℕ) → IsFlatOf things sys flat
         → (t : List Value) (o : Outcome) → (Flows sys.net t o ↔ Flows flat.net t o) }
     ensures ways { (things : List V) (sys : System V) (flat : System ℕ) → IsFlatOf things sys flat
-        → (t : List Value) (v : Way V) (w : Way ℕ) → Way_renames (IsNumber things) v w → (Can (HasValue sys.net t) v ↔ Can (HasValue flat.net t) w) }
-    ensures effects { (things : List V) (sys : System V) (flat : System ℕ) → IsFlatOf things sys flat
-        → (t : List Value) (v : Way V) (w : Way ℕ) → Way_renames (IsNumber things) v w → (x : V) (n : ℕ) (d : Value) → Stands things n x
+        → (t : List Value) (v : Way V) (w : Way ℕ) → Way_renames (IsNumber things) v w
+        → (Can (HasValue sys.net t) v ↔ Can (HasValue flat.net t) w) }
+    ensures effects { (things : List V) (sys : System V) (flat : System ℕ)
+        → IsFlatOf things sys flat → (t : List Value) (v : Way V) (w : Way ℕ)
+        → Way_renames (IsNumber things) v w → (x : V) (n : ℕ) (d : Value) → Stands things n x
         → (Effects (HasValue sys.net t) v x d ↔ Effects (HasValue flat.net t) w n d) }
     ensures steps { (things : List V) (sys : System V) (flat : System ℕ) → IsFlatOf things sys flat
-        → (t : List Value) (v : Way V) (w : Way ℕ) → Way_renames (IsNumber things) v w → (a : Answer) → (Step sys.net t v a ↔ Step flat.net t w a) }
+        → (t : List Value) (v : Way V) (w : Way ℕ) → Way_renames (IsNumber things) v w
+        → (a : Answer) → (Step sys.net t v a ↔ Step flat.net t w a) }
     ensures runs { (things : List V) (sys : System V) (flat : System ℕ) → IsFlatOf things sys flat
         → (cs : List Command) (ms : List Moment) → (Runs sys cs ms ↔ Runs flat cs ms) }
-    ensures texts { (things : List V) (sys : System V) (flat : System ℕ) → IsFlatOf things sys flat → (names numbers : Naming) → NameAlike names numbers
-        → (ms : List Moment) (text : List ℕ) → (TraceText names sys ms text ↔ TraceText numbers flat ms text) }
-    ensures keys { (things : List V) (sys : System V) (flat : System ℕ) → IsFlatOf things sys flat → (AreKeyed sys.net ↔ AreKeyed flat.net) }
-    ensures numbers { (things : List V) (sys : System V) (flat : System ℕ) → IsFlatOf things sys flat
-        → ((n : ℕ) (x : Variable V) → Stands sys.net.variables n x → Stands things n x.key) ↔ AreNumbered flat.net }
+    ensures texts { (things : List V) (sys : System V) (flat : System ℕ) → IsFlatOf things sys flat
+        → (names numbers : Naming) → NameAlike names numbers → (ms : List Moment) (text : List ℕ)
+        → (TraceText names sys ms text ↔ TraceText numbers flat ms text) }
+    ensures keys { (things : List V) (sys : System V) (flat : System ℕ) → IsFlatOf things sys flat
+        → (AreKeyed sys.net ↔ AreKeyed flat.net) }
+    ensures numbers { (things : List V) (sys : System V) (flat : System ℕ)
+        → IsFlatOf things sys flat
+        → ((n : ℕ) (x : Variable V) → Stands sys.net.variables n x → Stands things n x.key)
+        ↔ AreNumbered flat.net }
 {}
 
-/// Flat declared events have the ways, events of a system and ways back to themselves of their declared events, and no others.
+/// Flat declared events have the ways, events of a system and ways back to themselves of their
+/// declared events, and no others.
 pub fn flat_declarations<V, E>()
-    ensures ways { (things : List V) (keys : List E) (ds : List (Declared (Transition V) E)) (es : List (Declared (Transition ℕ) ℕ)) → AreFlatOf things keys ds es
-        → (e : E) (n : ℕ) → Stands keys n e → (vs : List (Way V)) → Ways ds e vs → (ws : List (Way ℕ)) × Ways es n ws × Along (Way_renames (IsNumber things)) vs ws }
-    ensures ways_back { (things : List V) (keys : List E) (ds : List (Declared (Transition V) E)) (es : List (Declared (Transition ℕ) ℕ)) → AreFlatOf things keys ds es
-        → (e : E) (n : ℕ) → Stands keys n e → (ws : List (Way ℕ)) → Ways es n ws → (vs : List (Way V)) × Ways ds e vs × Along (Way_renames (IsNumber things)) vs ws }
-    ensures events { (things : List V) (keys : List E) (ds : List (Declared (Transition V) E)) (es : List (Declared (Transition ℕ) ℕ)) → AreFlatOf things keys ds es
-        → (vs : List (Event V)) → Along (IsExpanded ds) ds vs → (ws : List (Event ℕ)) × Along (IsExpanded es) es ws × Along (Event_renames (IsNumber things)) vs ws }
-    ensures events_back { (things : List V) (keys : List E) (ds : List (Declared (Transition V) E)) (es : List (Declared (Transition ℕ) ℕ)) → AreFlatOf things keys ds es
-        → (ws : List (Event ℕ)) → Along (IsExpanded es) es ws → (vs : List (Event V)) × Along (IsExpanded ds) ds vs × Along (Event_renames (IsNumber things)) vs ws }
-    ensures leads_back { (things : List V) (keys : List E) (ds : List (Declared (Transition V) E)) (es : List (Declared (Transition ℕ) ℕ)) → AreFlatOf things keys ds es
-        → (e : E) (n k : ℕ) → Stands keys n e → (LeadsBack ds e k ↔ LeadsBack es n k) }
-    ensures keys { (things : List V) (keys : List E) (ds : List (Declared (Transition V) E)) (es : List (Declared (Transition ℕ) ℕ)) → AreFlatOf things keys ds es
+    ensures ways { (things : List V) (keys : List E) (ds : List (Declared (Transition V) E))
+        (es : List (Declared (Transition ℕ) ℕ)) → AreFlatOf things keys ds es → (e : E) (n : ℕ)
+        → Stands keys n e → (vs : List (Way V)) → Ways ds e vs
+        → (ws : List (Way ℕ)) × Ways es n ws × Along (Way_renames (IsNumber things)) vs ws }
+    ensures ways_back { (things : List V) (keys : List E) (ds : List (Declared (Transition V) E))
+        (es : List (Declared (Transition ℕ) ℕ)) → AreFlatOf things keys ds es → (e : E) (n : ℕ)
+        → Stands keys n e → (ws : List (Way ℕ)) → Ways es n ws
+        → (vs : List (Way V)) × Ways ds e vs × Along (Way_renames (IsNumber things)) vs ws }
+    ensures events { (things : List V) (keys : List E) (ds : List (Declared (Transition V) E))
+        (es : List (Declared (Transition ℕ) ℕ)) → AreFlatOf things keys ds es
+        → (vs : List (Event V)) → Along (IsExpanded ds) ds vs → (ws : List (Event ℕ))
+        × Along (IsExpanded es) es ws × Along (Event_renames (IsNumber things)) vs ws }
+    ensures events_back { (things : List V) (keys : List E) (ds : List (Declared (Transition V) E))
+        (es : List (Declared (Transition ℕ) ℕ)) → AreFlatOf things keys ds es
+        → (ws : List (Event ℕ)) → Along (IsExpanded es) es ws → (vs : List (Event V))
+        × Along (IsExpanded ds) ds vs × Along (Event_renames (IsNumber things)) vs ws }
+    ensures leads_back { (things : List V) (keys : List E) (ds : List (Declared (Transition V) E))
+        (es : List (Declared (Transition ℕ) ℕ)) → AreFlatOf things keys ds es → (e : E) (n k : ℕ)
+        → Stands keys n e → (LeadsBack ds e k ↔ LeadsBack es n k) }
+    ensures keys { (things : List V) (keys : List E) (ds : List (Declared (Transition V) E))
+        (es : List (Declared (Transition ℕ) ℕ)) → AreFlatOf things keys ds es
         → (HaveKeys ds ↔ HaveKeys es) }
 {}
 
-/// A copy of a flat system, item by item, is a flat system of the same system; so are copied declared events.
+/// A copy of a flat system, item by item, is a flat system of the same system; so are copied
+/// declared events.
 pub fn copied<V, E>()
-    ensures systems { (things : List V) (sys : System V) (flat other : System ℕ) → IsFlatOf things sys flat → IsImage (λ m n. m ≡ n) flat other → IsFlatOf things sys other }
-    ensures declared { (things : List V) (keys : List E) (ds : List (Declared (Transition V) E)) (es fs : List (Declared (Transition ℕ) ℕ)) → AreFlatOf things keys ds es
-        → Along (Declared_renames (λ m n. m ≡ n) (λ m n. m ≡ n)) es fs → AreFlatOf things keys ds fs }
+    ensures systems { (things : List V) (sys : System V) (flat other : System ℕ)
+        → IsFlatOf things sys flat → IsImage (λ m n. m ≡ n) flat other → IsFlatOf things sys other }
+    ensures declared { (things : List V) (keys : List E) (ds : List (Declared (Transition V) E))
+        (es fs : List (Declared (Transition ℕ) ℕ)) → AreFlatOf things keys ds es
+        → Along (Declared_renames (λ m n. m ≡ n) (λ m n. m ≡ n)) es fs
+        → AreFlatOf things keys ds fs }
 {}
 
-/// Declared events whose transitions are mapped, with each key's number in its place, have the mapped ways, and no others.
+/// Declared events whose transitions are mapped, with each key's number in its place, have the
+/// mapped ways, and no others.
 pub fn mapped_declarations<L, M, E>()
-    ensures ways { (f : L → M) (keys : List E) (ds : List (Declared L E)) (es : List (Declared M ℕ)) → AreDifferent keys → Along (Declared_along (λ l m. f l ≡ m) (IsNumber keys)) ds es
-        → (e : E) (n : ℕ) → Stands keys n e → (ts : List (Tree L)) → Ways ds e ts → Ways es n (map (changed f) ts) }
-    ensures ways_back { (f : L → M) (keys : List E) (ds : List (Declared L E)) (es : List (Declared M ℕ)) → AreDifferent keys → Along (Declared_along (λ l m. f l ≡ m) (IsNumber keys)) ds es
-        → (e : E) (n : ℕ) → Stands keys n e → (us : List (Tree M)) → Ways es n us → (ts : List (Tree L)) × Ways ds e ts × (us ≡ map (changed f) ts) }
-    ensures leads_back { (f : L → M) (keys : List E) (ds : List (Declared L E)) (es : List (Declared M ℕ)) → AreDifferent keys → Along (Declared_along (λ l m. f l ≡ m) (IsNumber keys)) ds es
+    ensures ways { (f : L → M) (keys : List E) (ds : List (Declared L E)) (es : List (Declared M ℕ))
+        → AreDifferent keys → Along (Declared_along (λ l m. f l ≡ m) (IsNumber keys)) ds es
+        → (e : E) (n : ℕ) → Stands keys n e → (ts : List (Tree L)) → Ways ds e ts
+        → Ways es n (map (changed f) ts) }
+    ensures ways_back { (f : L → M) (keys : List E) (ds : List (Declared L E))
+        (es : List (Declared M ℕ))
+        → AreDifferent keys → Along (Declared_along (λ l m. f l ≡ m) (IsNumber keys)) ds es
+        → (e : E) (n : ℕ) → Stands keys n e → (us : List (Tree M)) → Ways es n us
+        → (ts : List (Tree L)) × Ways ds e ts × (us ≡ map (changed f) ts) }
+    ensures leads_back { (f : L → M) (keys : List E) (ds : List (Declared L E))
+        (es : List (Declared M ℕ))
+        → AreDifferent keys → Along (Declared_along (λ l m. f l ≡ m) (IsNumber keys)) ds es
         → (e : E) (n k : ℕ) → Stands keys n e → (LeadsBack ds e k ↔ LeadsBack es n k) }
-{}
-
-/// An image of an image is an image.
-pub fn image_of_image<U, V, W>()
-    ensures nets { (first : U → V → Bool) (second : V → W → Bool) (here : Net U) (middle : Net V) (there : Net W) → IsNetImage (λ x y. IsTrue (first x y)) here middle
-        → IsNetImage (λ y z. IsTrue (second y z)) middle there → IsNetImage (Joined (λ x y. IsTrue (first x y)) (λ y z. IsTrue (second y z))) here there }
-    ensures systems { (first : U → V → Bool) (second : V → W → Bool) (here : System U) (middle : System V) (there : System W) → IsImage (λ x y. IsTrue (first x y)) here middle
-        → IsImage (λ y z. IsTrue (second y z)) middle there → IsImage (Joined (λ x y. IsTrue (first x y)) (λ y z. IsTrue (second y z))) here there }
 {}
 
 /// Numbers stand for the same ways, whatever stands in the ways' leaves.
 pub fn changed_leaves<L, M>()
-    ensures ways { (f : L → M) (bodies : List (Body L)) (n : ℕ) (t : Tree L) → Means_way bodies n t → Means_way (map (body_changed f) bodies) n (changed f t) }
+    ensures ways { (f : L → M) (bodies : List (Body L)) (n : ℕ) (t : Tree L) → Means_way bodies n t
+        → Means_way (map (body_changed f) bodies) n (changed f t) }
 {}

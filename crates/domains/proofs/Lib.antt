@@ -1,4 +1,5 @@
 pub mod Members
 pub mod Order
+pub mod Same
 mod Ranks
 pub mod Domains

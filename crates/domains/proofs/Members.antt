@@ -17,8 +17,11 @@ contains-cases x s xs (suc k, h, e) = inr (k, omega (arith, h), e)
 pub pairs-tail : {X : Type 0} (R : X → X → Type 0) (x : X) (xs : List X) → AllPairs R (x ∷ xs) → AllPairs R xs
 pairs-tail R x xs a i j d h k = a (suc i) (suc j) d (omega (arith, h)) (omega (arith, k))
 
-pub pairs-head : {X : Type 0} (R : X → X → Type 0) (x : X) (xs : List X) → AllPairs R (x ∷ xs) → (s : X) → Contains xs s → R x s
-pairs-head R x xs a s (k, h, e) = let P : _ → Type 0 = λ z. R x z in subst P e (a zero (suc k) s (omega arith) (omega (arith, h)))
+pub pairs-head : {X : Type 0} (R : X → X → Type 0) (x : X) (xs : List X) → AllPairs R (x ∷ xs) → (s : X) → Contains xs s
+    → R x s
+pairs-head R x xs a s (k, h, e) =
+    let P : _ → Type 0 = λ z. R x z in
+    subst P e (a zero (suc k) s (omega arith) (omega (arith, h)))
 
 pub contains-map : {X Y : Type 0} (f : X → Y) (x : X) (xs : List X) → Contains xs x → Contains (map f xs) (f x)
 contains-map f x [] (k, h, e) = absurd (omega (arith, h))
@@ -28,7 +31,8 @@ contains-map f x (a ∷ xs) m =
       | inr n ↦ contains-cons (f a) (f x) (map f xs) (contains-map f x xs n)
     ]
 
-pub contains-from_map : {X Y : Type 0} (f : X → Y) (y : Y) (xs : List X) → Contains (map f xs) y → (x : X) × Contains xs x × (f x ≡ y)
+pub contains-from_map : {X Y : Type 0} (f : X → Y) (y : Y) (xs : List X) → Contains (map f xs) y
+    → (x : X) × Contains xs x × (f x ≡ y)
 contains-from_map f y [] (k, h, e) = absurd (omega (arith, h))
 contains-from_map f y (a ∷ xs) m =
     elim (contains-cases (f a) y (map f xs) m) [

@@ -8,11 +8,13 @@ use Rattle.domains.specs.declared.Value.TheVariants.{Truth, Whole, Symbol}
 use Rattle.domains.proofs.Members.{contains-head, contains-cons, contains-cases, nothing-in, pairs-tail, pairs-head}
 
 before_trans : (r s t : ℕ) (a b c : ℤ) → cond (nat_lt r s) true (cond (nat_lt s r) false (int_lt a b)) ≡ true
-    → cond (nat_lt s t) true (cond (nat_lt t s) false (int_lt b c)) ≡ true → cond (nat_lt r t) true (cond (nat_lt t r) false (int_lt a c)) ≡ true
+    → cond (nat_lt s t) true (cond (nat_lt t s) false (int_lt b c)) ≡ true
+    → cond (nat_lt r t) true (cond (nat_lt t r) false (int_lt a c)) ≡ true
 before_trans r s t a b c h k = grind (arith, ints, nat_tests)
 
 pub is_before-trans : (x y z : Value) → is_before x y ≡ true → is_before y z ≡ true → is_before x z ≡ true
-is_before-trans x y z h k = before_trans (rank_of x) (rank_of y) (rank_of z) (number_of x) (number_of y) (number_of z) h k
+is_before-trans x y z h k =
+    before_trans (rank_of x) (rank_of y) (rank_of z) (number_of x) (number_of y) (number_of z) h k
 
 before_self : (r : ℕ) (a : ℤ) → cond (nat_lt r r) true (cond (nat_lt r r) false (int_lt a a)) ≡ false
 before_self r a = grind (arith, ints, nat_tests)
@@ -45,11 +47,16 @@ same_value (Symbol a) (Symbol b) r n = cc
 -- values of which neither comes before the other are one
 pub same-from_neither : (x y : Value) → is_before x y ≡ false → is_before y x ≡ false → x ≡ y
 same-from_neither x y h k =
-    same_value x y (before_rank (rank_of x) (rank_of y) (number_of x) (number_of y) h k) (before_number (rank_of x) (rank_of y) (number_of x) (number_of y) h k)
+    same_value x y (before_rank (rank_of x) (rank_of y) (number_of x) (number_of y) h k)
+    (before_number (rank_of x) (rank_of y) (number_of x) (number_of y) h k)
 
 -- a value does not come before itself
 pub not_before : (x y : Value) → is_before x y ≡ true → x ≡ y → ⊥
-not_before x y h e = let P : Value → Type 0 = λ z. is_before x z ≡ true in let k : is_before x x ≡ true = subst P (sym e) h in let l = is_before-self x in cc
+not_before x y h e =
+    let P : Value → Type 0 = λ z. is_before x z ≡ true in
+    let k : is_before x x ≡ true = subst P (sym e) h in
+    let l = is_before-self x in
+    cc
 
 -- each value comes before all later ones, by recursion
 abbrev pub Ascends : List Value → Type 0
@@ -58,7 +65,8 @@ Ascends (x ∷ xs) = ((y : Value) → Contains xs y → is_before x y ≡ true) 
 
 pub ascends-from : (xs : List Value) → IsAscending xs → Ascends xs
 ascends-from [] a = tt
-ascends-from (x ∷ xs) a = (pairs-head (λ x y. is_before x y ≡ true) x xs a, ascends-from xs (pairs-tail (λ x y. is_before x y ≡ true) x xs a))
+ascends-from (x ∷ xs) a =
+    (pairs-head (λ x y. is_before x y ≡ true) x xs a, ascends-from xs (pairs-tail (λ x y. is_before x y ≡ true) x xs a))
 
 get_in : (xs : List Value) (k : ℕ) (d : Value) → k < length xs → Contains xs (get_or xs k d)
 get_in [] k d h = absurd (omega (arith, h))
@@ -74,7 +82,8 @@ ascending-from (x ∷ xs) a = pairs (a.0) (ascending-from xs a.1) where
   pairs f p (suc i) (suc j) d h k = p i j d (omega (arith, h)) (omega (arith, k))
 
 -- a list that ascends and is within another is no longer
-pub ascends-length : (xs ys : List Value) → Ascends xs → Ascends ys → ((d : Value) → Contains xs d → Contains ys d) → length xs ≤ length ys
+pub ascends-length : (xs ys : List Value) → Ascends xs → Ascends ys → ((d : Value) → Contains xs d → Contains ys d)
+    → length xs ≤ length ys
 ascends-length [] ys a b f = omega arith
 ascends-length (x ∷ xs) [] a b f = absurd (nothing-in x (f x (contains-head x xs)))
 ascends-length (x ∷ xs) (y ∷ ys) a b f =
@@ -97,7 +106,8 @@ ascends-length (x ∷ xs) (y ∷ ys) a b f =
     ]
 
 -- lists that ascend and have the same items are one
-pub ascends-same : (xs ys : List Value) → Ascends xs → Ascends ys → ((d : Value) → Contains xs d → Contains ys d) → ((d : Value) → Contains ys d → Contains xs d) → xs ≡ ys
+pub ascends-same : (xs ys : List Value) → Ascends xs → Ascends ys → ((d : Value) → Contains xs d → Contains ys d)
+    → ((d : Value) → Contains ys d → Contains xs d) → xs ≡ ys
 ascends-same [] [] a b f g = refl
 ascends-same [] (y ∷ ys) a b f g = absurd (nothing-in y (g y (contains-head y ys)))
 ascends-same (x ∷ xs) [] a b f g = absurd (nothing-in x (f x (contains-head x xs)))

@@ -22,7 +22,8 @@ rank_step a b s t x h k = grind (arith, nat_tests)
 -- a greater number has no lesser rank
 pub rank-le : (s t : ℕ) (xs : List ℕ) → s ≤ t → rank s xs ≤ rank t xs
 rank-le s t [] h = omega arith
-rank-le s t (x ∷ xs) h = rw (rank-cons s x xs, rank-cons t x xs) (rank_step (rank s xs) (rank t xs) s t x (rank-le s t xs h) h)
+rank-le s t (x ∷ xs) h =
+    rw (rank-cons s x xs, rank-cons t x xs) (rank_step (rank s xs) (rank t xs) s t x (rank-le s t xs h) h)
 
 rank_step_lt : (a b s t x : ℕ) → a < b → s ≤ t → cond (nat_lt x s) 1 0 + a < cond (nat_lt x t) 1 0 + b
 rank_step_lt a b s t x h k = grind (arith, nat_tests)
@@ -35,8 +36,12 @@ pub rank-lt : (s t : ℕ) (xs : List ℕ) → s < t → Contains xs s → rank s
 rank-lt s t [] h (k, l, e) = absurd (omega (arith, l))
 rank-lt s t (x ∷ xs) h m =
     elim (contains-cases x s xs m) [
-      | inl e ↦ rw (rank-cons s x xs, rank-cons t x xs) (rw e (rank_here (rank s xs) (rank t xs) s t (rank-le s t xs (omega arith)) h))
-      | inr m ↦ rw (rank-cons s x xs, rank-cons t x xs) (rank_step_lt (rank s xs) (rank t xs) s t x (rank-lt s t xs h m) (omega arith))
+      | inl e ↦
+          rw (rank-cons s x xs, rank-cons t x xs)
+          (rw e (rank_here (rank s xs) (rank t xs) s t (rank-le s t xs (omega arith)) h))
+      | inr m ↦
+          rw (rank-cons s x xs, rank-cons t x xs)
+          (rank_step_lt (rank s xs) (rank t xs) s t x (rank-lt s t xs h m) (omega arith))
     ]
 
 -- one of the numbers has this rank
@@ -91,13 +96,18 @@ pub rank-small : (xs : List ℕ) (s : ℕ) → Contains xs s → rank s xs < len
 rank-small [] s (k, h, e) = absurd (omega (arith, h))
 rank-small (x ∷ xs) s m =
     elim (contains-cases x s xs m) [
-      | inl e ↦ rw (rank-cons s x xs) (rw e (let k = count_by-le-length (λ y. nat_lt y s) xs in grind (arith, nat_tests)))
+      | inl e ↦
+          rw (rank-cons s x xs) (rw e (let k = count_by-le-length (λ y. nat_lt y s) xs in grind (arith, nat_tests)))
       | inr n ↦ rw (rank-cons s x xs) (let k = rank-small xs s n in grind (arith, nat_tests))
     ]
 
-find_passes : {X : Type 0} (p : X → Bool) (x : X) (xs : List X) (s : X) (b : Bool) → p x ≡ b → (find p xs ≡ Some s → Contains xs s × (p s ≡ true))
+find_passes : {X : Type 0} (p : X → Bool) (x : X) (xs : List X) (s : X) (b : Bool) → p x ≡ b
+    → (find p xs ≡ Some s → Contains xs s × (p s ≡ true))
     → cond b (Some x) (find p xs) ≡ Some s → Contains (x ∷ xs) s × (p s ≡ true)
-find_passes p x xs s true i f e = let k : x ≡ s = cc in let P : _ → Type 0 = λ z. Contains (x ∷ xs) z × (p z ≡ true) in subst P k (contains-head x xs, i)
+find_passes p x xs s true i f e =
+    let k : x ≡ s = cc in
+    let P : _ → Type 0 = λ z. Contains (x ∷ xs) z × (p z ≡ true) in
+    subst P k (contains-head x xs, i)
 find_passes p x xs s false i f e = let r = f e in (contains-cons x s xs r.0, r.1)
 
 -- what a search by a test finds
@@ -105,7 +115,8 @@ pub find-passes : {X : Type 0} (p : X → Bool) (xs : List X) (s : X) → find p
 find-passes p [] s e = cc
 find-passes p (x ∷ xs) s e = find_passes p x xs s (p x) refl (λ i. find-passes p xs s i) e
 
-find_fails : {X : Type 0} (p : X → Bool) (x : X) (xs : List X) (s : X) (b : Bool) → p x ≡ b → (find p xs ≡ None → Contains xs s → p s ≡ false)
+find_fails : {X : Type 0} (p : X → Bool) (x : X) (xs : List X) (s : X) (b : Bool) → p x ≡ b
+    → (find p xs ≡ None → Contains xs s → p s ≡ false)
     → cond b (Some x) (find p xs) ≡ None → Contains (x ∷ xs) s → p s ≡ false
 find_fails p x xs s true i f e m = cc
 find_fails p x xs s false i f e m = elim (contains-cases x s xs m) [ inl k ↦ ap p (sym k) ∙ i | inr n ↦ f e n ]
@@ -122,23 +133,31 @@ same_false : (m n : ℕ) → nat_eq m n ≡ false → m ≢ n
 same_false m n h = grind (arith, nat_tests)
 
 -- what is found has the rank
-pub ranked-found : (xs : List ℕ) (p : ℕ) (r : Option ℕ) → r ≡ find (λ s. nat_eq (rank s xs) p) xs → IfSome r (λ s. Contains xs s × (rank s xs ≡ p))
+pub ranked-found : (xs : List ℕ) (p : ℕ) (r : Option ℕ) → r ≡ find (λ s. nat_eq (rank s xs) p) xs
+    → IfSome r (λ s. Contains xs s × (rank s xs ≡ p))
 ranked-found xs p None e = tt
-ranked-found xs p (Some s) e = let f = find-passes (λ s. nat_eq (rank s xs) p) xs s (sym e) in (f.0, same_true (rank s xs) p f.1)
+ranked-found xs p (Some s) e =
+    let f = find-passes (λ s. nat_eq (rank s xs) p) xs s (sym e) in
+    (f.0, same_true (rank s xs) p f.1)
 
-pub ranked-none : (xs : List ℕ) (p : ℕ) (r : Option ℕ) → r ≡ find (λ s. nat_eq (rank s xs) p) xs → IfNone r ((s : ℕ) → Contains xs s → rank s xs ≢ p)
+pub ranked-none : (xs : List ℕ) (p : ℕ) (r : Option ℕ) → r ≡ find (λ s. nat_eq (rank s xs) p) xs
+    → IfNone r ((s : ℕ) → Contains xs s → rank s xs ≢ p)
 ranked-none xs p None e = λ s m. same_false (rank s xs) p (find-none (λ s. nat_eq (rank s xs) p) xs s (sym e) m)
 ranked-none xs p (Some s) e = tt
 
 -- a search by rank finds something exactly where there are more numbers
-pub ranked-some : (xs : List ℕ) (p : ℕ) (r : Option ℕ) → AllPairs (λ a b. a ≢ b) xs → IfSome r (λ s. Contains xs s × (rank s xs ≡ p))
+pub ranked-some : (xs : List ℕ) (p : ℕ) (r : Option ℕ) → AllPairs (λ a b. a ≢ b) xs
+    → IfSome r (λ s. Contains xs s × (rank s xs ≡ p))
     → IfNone r ((s : ℕ) → Contains xs s → rank s xs ≢ p) → IsSome r ↔ (p < length xs)
 ranked-some xs p None a found none = (λ h. cc, λ h. let (s, m, e) = has_rank xs p a h in absurd (none s m e))
-ranked-some xs p (Some s) a found none = (λ h. let k = rank-small xs s found.0 in let e = found.1 in omega arith, λ h. refl)
+ranked-some xs p (Some s) a found none =
+    (λ h. let k = rank-small xs s found.0 in let e = found.1 in omega arith, λ h. refl)
 
 -- so the domain has more values exactly where the search finds a symbol
-pub symbols-more : (d : Domain) (symbols : Vec ℕ Global) (xs : List ℕ) (p : ℕ) (r : Option ℕ) (q : Option Value) → d ≡ Symbols symbols → xs ≡ symbols.items → IsDomain d
-    → IfSome r (λ s. Contains xs s × (rank s xs ≡ p)) → IfNone r ((s : ℕ) → Contains xs s → rank s xs ≢ p) → is_some q ≡ is_some r → IsSome q ↔ HasMore d p
+pub symbols-more : (d : Domain) (symbols : Vec ℕ Global) (xs : List ℕ) (p : ℕ) (r : Option ℕ) (q : Option Value)
+    → d ≡ Symbols symbols → xs ≡ symbols.items → IsDomain d
+    → IfSome r (λ s. Contains xs s × (rank s xs ≡ p)) → IfNone r ((s : ℕ) → Contains xs s → rank s xs ≢ p)
+    → is_some q ≡ is_some r → IsSome q ↔ HasMore d p
 symbols-more d symbols xs p r q e i h found none same =
     let is : IsDomain (Symbols symbols) = subst IsDomain e h in
     let D : List ℕ → Type 0 = λ zs. AllPairs (λ a b. a ≢ b) zs in

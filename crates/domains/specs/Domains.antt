@@ -9,7 +9,8 @@ use Rattle.domains.specs.declared.Domain.TheVariants.{Boolean, Symbols, Range}
 -- a domain has at least one and at most 256 values, and no symbol twice
 abbrev pub IsDomain : Domain → Type 0
 IsDomain Boolean = Unit {0}
-IsDomain (Symbols symbols) = (0 < length symbols.items) × (length symbols.items ≤ 256) × AllPairs (λ a b. a ≢ b) symbols.items
+IsDomain (Symbols symbols) =
+    (0 < length symbols.items) × (length symbols.items ≤ 256) × AllPairs (λ a b. a ≢ b) symbols.items
 IsDomain (Range low high) = (low ≤ℤ high) × (high <ℤ (low +ℤ pos 256))
 
 -- the domain has the value

@@ -1,2 +1,3 @@
 pub mod Values
 pub mod Domains
+pub mod Same

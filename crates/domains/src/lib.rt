@@ -40,7 +40,8 @@ pub enum Domain {
     Range(i64, i64),
 }
 
-/// The sum of two numbers; a result that is too small or too large becomes the least or the greatest `i64`.
+/// The sum of two numbers; a result that is too small or too large becomes the least or the
+/// greatest `i64`.
 pub fn add(a: i64, b: i64) -> i64
     ensures { result ≡ saturate_signed w64 (a +ℤ b) }
 {
@@ -61,12 +62,14 @@ pub fn multiply(a: i64, b: i64) -> i64
     a.saturating_mul(b)
 }
 
-/// The laws of domains: a value has one position and a position one value, positions follow the order of values, and
-/// what a domain holds is what stands in the list of its values.
+/// The laws of domains: a value has one position and a position one value, positions follow the
+/// order of values, and what a domain holds is what stands in the list of its values.
 pub fn domain_laws()
     ensures one_position { (d : Domain) (v : Value) (p q : ℕ) → IsAt d v p → IsAt d v q → p ≡ q }
-    ensures one_value { (d : Domain) (v w : Value) (p : ℕ) → IsDomain d → Holds d v → Holds d w → IsAt d v p → IsAt d w p → v ≡ w }
-    ensures in_order { (d : Domain) (v w : Value) (p q : ℕ) → Holds d v → Holds d w → IsAt d v p → IsAt d w q → is_before v w ≡ true → p < q }
+    ensures one_value { (d : Domain) (v w : Value) (p : ℕ) → IsDomain d → Holds d v → Holds d w
+        → IsAt d v p → IsAt d w p → v ≡ w }
+    ensures in_order { (d : Domain) (v w : Value) (p q : ℕ) → Holds d v → Holds d w → IsAt d v p
+        → IsAt d w q → is_before v w ≡ true → p < q }
     ensures listed { (d : Domain) (v : Value) → IsDomain d → Holds d v ↔ Contains (values_of d) v }
 {}
 
@@ -84,8 +87,8 @@ impl Domain {
         }
     }
 
-    /// How many values of the domain come before this one in the order of values, or None where the domain does not
-    /// have it.
+    /// How many values of the domain come before this one in the order of values, or None where the
+    /// domain does not have it.
     pub fn position(&self, value: Value) -> Option<u32>
         requires { IsDomain self.now }
         ensures found { IfSome result (IsAt self.now value) }
@@ -102,7 +105,8 @@ impl Domain {
         }
     }
 
-    /// The value before which so many values of the domain come, or None where the domain does not have more.
+    /// The value before which so many values of the domain come, or None where the domain does not
+    /// have more.
     pub fn value_at(&self, position: u32) -> Option<Value>
         requires { IsDomain self.now }
         ensures found { IfSome result (λ v. Holds self.now v × IsAt self.now v position) }
@@ -129,8 +133,10 @@ impl Domain {
 // The symbol that has so many symbols below it.
 fn symbol_at(symbols: &[u32], position: u32) -> Option<u32>
     requires { length symbols.now ≤ 256 }
-    ensures found { IfSome result (λ s. Contains symbols.now s × (count_by (λ x. nat_lt x s) symbols.now ≡ position)) }
-    ensures none { IfNone result ((s : ℕ) → Contains symbols.now s → count_by (λ x. nat_lt x s) symbols.now ≢ position) }
+    ensures found { IfSome result (λ s. Contains symbols.now s
+        × (count_by (λ x. nat_lt x s) symbols.now ≡ position)) }
+    ensures none { IfNone result ((s : ℕ) → Contains symbols.now s
+        → count_by (λ x. nat_lt x s) symbols.now ≢ position) }
 {
     // symbols that ascend stand at their positions
     if let Some(s) = symbols.get(position as usize) {
@@ -158,34 +164,4 @@ fn count_below(symbols: &[u32], s: u32) -> u32
     ensures { result ≡ count_by (λ x. nat_lt x s) symbols.now }
 {
     symbols.iter().filter(|x| **x < s).count() as u32
-}
-
-#[cfg(test)]
-mod tests {
-    use super::*;
-    use std::test::Fail;
-
-    #[test]
-    fn positions_both_ways(rt: HostRuntime) -> Result<(), Fail> {
-        let symbols = Domain::Symbols(vec![in rt.alloc(); 7, 2, 5]?);
-        for (symbol, position) in [(2, Some(0)), (5, Some(1)), (7, Some(2)), (3, None)] {
-            assert_eq!(rt; symbols.position(Value::Symbol(symbol)), position);
-            assert_eq!(rt; symbols.holds(Value::Symbol(symbol)), position.is_some());
-        }
-        assert_eq!(rt; symbols.value_at(2), Some(Value::Symbol(7)));
-        assert_eq!(rt; symbols.value_at(3), None);
-        let range = Domain::Range(-1, 1);
-        assert_eq!(rt; range.position(Value::Whole(1)), Some(2));
-        assert_eq!(rt; range.value_at(0), Some(Value::Whole(-1)));
-        assert_eq!(rt; range.value_at(3), None);
-        assert_eq!(rt; Domain::Boolean.value_at(1), Some(Value::Truth(true)));
-        Ok(())
-    }
-
-    #[test]
-    fn clamped_results(rt: HostRuntime) {
-        assert_eq!(rt; add(i64::MAX, 1), i64::MAX);
-        assert_eq!(rt; subtract(i64::MIN, 1), i64::MIN);
-        assert_eq!(rt; multiply(i64::MIN, -1), i64::MAX);
-    }
 }

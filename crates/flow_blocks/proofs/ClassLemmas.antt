@@ -1,11 +1,13 @@
 -- Classes from rows of bits.
-use Rattle.std.proofs.Common.{◌≡◌, ℕ, zero, suc, ◌+◌, ◌<◌, ◌≤◌, ◌⊎◌, inl, inr, List, [], ◌∷◌, ◌++◌, Vec, Global, length, refl, sym, subst, arith, Bool, true, false, true≢false, IsTrue, if◌then◌else◌}
-use Rattle.std.proofs.lemmas.Bool.{cases_eq, cases_lt}
+use Rattle.std.proofs.Common.{◌≡◌, ℕ, zero, suc, ◌+◌, ◌<◌, ◌⊎◌, inl, inr, List, [], ◌∷◌, ◌++◌, Vec, Global, length, take, get_or, refl, sym, subst, arith, ◌↔◌, Bool, true, false, true≢false, IsTrue, if◌then◌else◌}
+use Rattle.std.proofs.lemmas.Option.{slice_get-get_or}
+use Rattle.ar_base.specs.Sets.{Ascends}
 use Rattle.ar_base.specs.Lists.{Stands, IsOneOf}
-use Rattle.ar_base.proofs.Standing.{stands_split, stands_left, stands_next, stands_none, stands_within}
-use Rattle.flow_blocks.specs.Blocks.{Depends, directly, through, Together, same, each_other, IsClass, AreAscending}
+use Rattle.ar_base.proofs.Standing.{stands_split, stands_left, stands_none, stands_within, one_split, one_left, one_right, one_first}
+use Rattle.flow_blocks.specs.Blocks.{Depends, directly, through, Together, same, each_other, IsClass}
 use Rattle.flow_blocks.specs.Bits.{HasBit, AreAllDependences}
 use Rattle.flow_blocks.specs.Table.{IsSelection}
+use Rattle.flow_blocks.proofs.UseLemmas.{stands_take, below_take, one_of_more, next_one, one_of_next}
 
 module _ {uses : List (ℕ × ℕ)} where
   pub depends_on : {a b c : ℕ} → Depends uses a b → Depends uses b c → Depends uses a c
@@ -30,15 +32,15 @@ only_one a n one = by one.place one.stands
     by (suc k) p = absurd (stands_none k n p)
 
 -- a new greatest item keeps the list ascending
-pub ascending_more : (xs : List ℕ) (x : ℕ) → AreAscending xs → ((n : ℕ) → IsOneOf xs n → n < x) → AreAscending (xs ++ x ∷ [])
-ascending_more xs x up below = record { less = λ j k m n lt p q. by j k m n lt (stands_split xs (x ∷ []) j m p) (stands_split xs (x ∷ []) k n q) }
+pub ascending_more : (xs : List ℕ) (x : ℕ) → Ascends xs → ((n : ℕ) → IsOneOf xs n → n < x) → Ascends (xs ++ x ∷ [])
+ascending_more xs x up below = record { ascends = λ j k m n lt p q. by j k m n lt (stands_split xs (x ∷ []) j m p) (stands_split xs (x ∷ []) k n q) }
   where
     last : (k n : ℕ) → Stands (x ∷ []) k n → (k ≡ 0) × (n ≡ x)
     last zero n p = (refl, cc)
     last (suc k) n p = absurd (stands_none k n p)
 
     by : (j k m n : ℕ) → j < k → Stands xs j m ⊎ ((i : ℕ) × (j ≡ length xs + i) × Stands (x ∷ []) i m) → Stands xs k n ⊎ ((i : ℕ) × (k ≡ length xs + i) × Stands (x ∷ []) i n) → m < n
-    by j k m n lt (inl p) (inl q) = up.less j k m n lt p q
+    by j k m n lt (inl p) (inl q) = up.ascends j k m n lt p q
     by j k m n lt (inl p) (inr q) = let is = (last q.0 n q.2).1 in let low = below m (record { place = j; stands = p }) in omega arith
     by j k m n lt (inr p) (inl q) = absurd (let within = stands_within xs k n q in omega (arith, p.1))
     by j k m n lt (inr p) (inr q) = let e = (last p.0 m p.2).0 in let f = (last q.0 n q.2).0 in absurd (omega (arith, p.1, q.1))
@@ -53,7 +55,7 @@ module _ (count : ℕ) (uses : List (ℕ × ℕ)) (rows : List (Vec ℕ Global))
     below = λ n one. subst (λ (k : ℕ). k < count) (sym (only_one least n one)) below;
     only = λ n one. subst (λ (k : ℕ). Together uses least k) (sym (only_one least n one)) same;
     all = λ n lt t. alone n t;
-    ascending = record { less = λ j k m n lt p q. no_later j k n lt q };
+    ascending = record { ascends = λ j k m n lt p q. no_later j k n lt q };
   }
     where
       alone : (n : ℕ) → Together uses least n → IsOneOf (least ∷ []) n
@@ -64,56 +66,43 @@ module _ (count : ℕ) (uses : List (ℕ × ℕ)) (rows : List (Vec ℕ Global))
       no_later j zero n lt q = absurd (omega arith)
       no_later j (suc k) n lt q = absurd (stands_none k n q)
 
-  -- the numbers with both bits are the class
-  pub class_selected : (members : List ℕ) → HasBit rows least least → IsSelection rows least count members → IsClass count uses members
-  class_selected members own s = record {
-    one = least;
-    is_member = record { place = 0; stands = s.first };
-    below = λ n one. elim (s.only n one) [ inl is ↦ subst (λ (k : ℕ). k < count) (sym is) below | inr more ↦ more.1 ];
-    only = λ n one. elim (s.only n one) [
-      | inl is ↦ subst (λ (k : ℕ). Together uses least k) (sym is) same
-      | inr more ↦ each_other (all.sound least n more.2) (all.sound n least more.3)
-    ];
-    all = λ n lt t. there n lt t;
-    ascending = s.ascending;
-  }
-    where
-      there : (n : ℕ) → n < count → Together uses least n → IsOneOf members n
-      there n lt same = record { place = 0; stands = s.first }
-      there n lt (each_other f g) = elim (cases_lt n least) [
-        | inl less ↦ absurd (lone n less (each_other f g))
-        | inr at_least ↦ elim (cases_eq n least) [
-          | inl is ↦ subst (λ (k : ℕ). IsOneOf members k) (sym is) (record { place = 0; stands = s.first })
-          | inr other ↦ s.all n (omega arith) lt (all.complete least n below f) (all.complete n least lt g)
-        ]
-      ]
+-- one candidate more is looked at
+module _ (rows : List (Vec ℕ Global)) (least : ℕ) (candidates : List ℕ) (k : ℕ) (lt : k < length candidates) (up : Ascends candidates) (members new : List ℕ)
+    (s : IsSelection rows least (take k candidates) members) where
+  abbrev number : ℕ
+  number = get_or candidates k 0
 
--- one number more is looked at
-pub selection_on : (rows : List (Vec ℕ Global)) (least number : ℕ) (members new : List ℕ) (is_member : Bool) → IsSelection rows least number members → least + 1 ≤ number
-    → (IsTrue is_member → HasBit rows least number × HasBit rows number least) × (HasBit rows least number × HasBit rows number least → IsTrue is_member)
-    → new ≡ (if is_member then members ++ number ∷ [] else members) → IsSelection rows least (number + 1) new
-selection_on rows least number members new true s above says is =
-    let both = says.0 refl in
-    subst (λ (l : List ℕ). IsSelection rows least (number + 1) l) (sym is) (record {
-      first = stands_left members (number ∷ []) 0 least s.first;
-      only = λ n one. elim (stands_split members (number ∷ []) one.place n one.stands) [
-        | inl old ↦ elim (s.only n (record { place = one.place; stands = old })) [ inl same_one ↦ inl same_one | inr more ↦ inr (more.0, omega (arith, more.1), more.2, more.3) ]
-        | inr last ↦ let e = only_one number n (record { place = last.0; stands = last.2 }) in
-            inr (omega (arith, above), omega (arith, above), subst (λ (k : ℕ). HasBit rows least k) (sym e) both.0, subst (λ (k : ℕ). HasBit rows k least) (sym e) both.1)
-      ];
-      all = λ n low high f g. elim (cases_eq n number) [
-        | inl e ↦ record { place = length members; stands = subst (λ (k : ℕ). Stands (members ++ number ∷ []) (length members) k) (sym e) (stands_next members number []) }
-        | inr other ↦ let one = s.all n low (omega arith) f g in record { place = one.place; stands = stands_left members (number ∷ []) one.place n one.stands }
-      ];
-      ascending = ascending_more members number s.ascending (λ n one. elim (s.only n one) [ inl e ↦ omega arith | inr more ↦ more.1 ]);
-    })
-selection_on rows least number members new false s above says is =
-    subst (λ (l : List ℕ). IsSelection rows least (number + 1) l) (sym is) (record {
-      first = s.first;
-      only = λ n one. elim (s.only n one) [ inl e ↦ inl e | inr more ↦ inr (more.0, omega (arith, more.1), more.2, more.3) ];
-      all = λ n low high f g. elim (cases_eq n number) [
-        | inl e ↦ absurd (true≢false (sym (says.1 (subst (λ (k : ℕ). HasBit rows least k) e f, subst (λ (k : ℕ). HasBit rows k least) e g))))
-        | inr other ↦ s.all n low (omega arith) f g
-      ];
-      ascending = s.ascending;
-    })
+  -- the members found so far are less
+  under : least < number → (n : ℕ) → IsOneOf members n → n < number
+  under low n one = elim (s.only n one) [
+    | inl e ↦ omega (arith, e, low)
+    | inr more ↦ up.ascends more.0.place k n number (below_take candidates k more.0.place n more.0.stands) (stands_take candidates k more.0.place n more.0.stands) (slice_get-get_or candidates k 0 lt)
+  ]
+
+  pub selection_on : (is_member : Bool) → (IsTrue is_member ↔ ((least < number) × HasBit rows least number × HasBit rows number least))
+      → new ≡ (if is_member then members ++ number ∷ [] else members) → IsSelection rows least (take (k + 1) candidates) new
+  selection_on true says is =
+      let both = says.0 refl in
+      subst (λ (l : List ℕ). IsSelection rows least (take (k + 1) candidates) l) (sym is) (record {
+        first = stands_left members (number ∷ []) 0 least s.first;
+        only = λ n one. elim (one_split members (number ∷ []) n one) [
+          | inl old ↦ elim (s.only n old) [ inl e ↦ inl e | inr more ↦ inr (one_of_more candidates k n more.0, more.1, more.2, more.3) ]
+          | inr last ↦ let e : n ≡ number = only_one number n last in
+              inr (subst (λ (m : ℕ). IsOneOf (take (k + 1) candidates) m × (least < m) × HasBit rows least m × HasBit rows m least) (sym e) (next_one candidates k 0 lt, both.0, both.1, both.2))
+        ];
+        all = λ n one low f g. elim (one_of_next candidates k 0 n lt one) [
+          | inl old ↦ one_left members (number ∷ []) n (s.all n old low f g)
+          | inr e ↦ subst (λ (m : ℕ). IsOneOf (members ++ number ∷ []) m) (sym e) (one_right members (number ∷ []) number (one_first number []))
+        ];
+        ascending = ascending_more members number s.ascending (under both.0);
+      })
+  selection_on false says is =
+      subst (λ (l : List ℕ). IsSelection rows least (take (k + 1) candidates) l) (sym is) (record {
+        first = s.first;
+        only = λ n one. elim (s.only n one) [ inl e ↦ inl e | inr more ↦ inr (one_of_more candidates k n more.0, more.1, more.2, more.3) ];
+        all = λ n one low f g. elim (one_of_next candidates k 0 n lt one) [
+          | inl old ↦ s.all n old low f g
+          | inr e ↦ absurd (true≢false (sym (says.1 (subst (λ (m : ℕ). (least < m) × HasBit rows least m × HasBit rows m least) e (low, f, g)))))
+        ];
+        ascending = s.ascending;
+      })

@@ -47,7 +47,7 @@ first_least P end m n xs of first one = by one.place one.stands
   where
     by : (k : ℕ) → Stands xs k n → m ≤ n
     by zero p = let e : m ≡ n = stands_one xs 0 m n first p in omega arith
-    by (suc k) p = let lt = of.ascending.less 0 (suc k) m n (omega arith) first p in omega arith
+    by (suc k) p = let lt = of.ascending.ascends 0 (suc k) m n (omega arith) first p in omega arith
 
 module _ (count : ℕ) (uses : List (ℕ × ℕ)) (low : AreBelow count uses) where
   target_below : {a b : ℕ} → Depends uses a b → b < count

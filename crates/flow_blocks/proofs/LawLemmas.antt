@@ -1,30 +1,30 @@
 -- A graph has one list of classes, and each number is in one of them.
-use Rattle.std.proofs.Common.{◌≡◌, ℕ, zero, suc, ◌<◌, ◌≤◌, ◌⊎◌, inl, inr, List, [], ◌∷◌, ◌++◌, length, refl, sym, ap, subst, arith}
+use Rattle.std.proofs.Common.{◌≡◌, ℕ, zero, suc, ◌<◌, ◌≤◌, ◌⊎◌, inl, inr, List, [], ◌∷◌, ◌++◌, length, take, refl, sym, ap, subst, arith}
+use Rattle.ar_base.specs.Sets.{Ascends}
 use Rattle.ar_base.specs.Lists.{Stands, IsOneOf}
-use Rattle.ar_base.proofs.Standing.{stands_none, stands_one, stands_left, stands_next, stands_split}
-use Rattle.flow_blocks.specs.Blocks.{AreAscending, IsGiven, IsNext, Follow, all_given, next}
+use Rattle.ar_base.proofs.Standing.{stands_none, stands_one, stands_left, stands_next, stands_split, one_rest, one_cases, one_first, one_split, one_left}
+use Rattle.flow_blocks.specs.Blocks.{Depends, same, IsGiven, IsNext, Follow, all_given, next}
 use Rattle.flow_blocks.proofs.ClassLemmas.{together_on, together_back}
 use Rattle.flow_blocks.proofs.TableLemmas.{the_one}
-use Rattle.flow_blocks.proofs.WaitLemmas.{one_of_front, one_behind, front_one}
 
-tail_ascends : (x : ℕ) (xs : List ℕ) → AreAscending (x ∷ xs) → AreAscending xs
-tail_ascends x xs up = record { less = λ j k m n lt p q. up.less (suc j) (suc k) m n (omega arith) p q }
+tail_ascends : (x : ℕ) (xs : List ℕ) → Ascends (x ∷ xs) → Ascends xs
+tail_ascends x xs up = record { ascends = λ j k m n lt p q. up.ascends (suc j) (suc k) m n (omega arith) p q }
 
-above_head : (x n : ℕ) (xs : List ℕ) → AreAscending (x ∷ xs) → IsOneOf xs n → x < n
-above_head x n xs up one = up.less 0 (suc one.place) x n (omega arith) refl one.stands
+above_head : (x n : ℕ) (xs : List ℕ) → Ascends (x ∷ xs) → IsOneOf xs n → x < n
+above_head x n xs up one = up.ascends 0 (suc one.place) x n (omega arith) refl one.stands
 
 -- ascending lists with the same numbers are one
-same_ascending : (xs ys : List ℕ) → AreAscending xs → AreAscending ys → ((n : ℕ) → IsOneOf xs n → IsOneOf ys n) → ((n : ℕ) → IsOneOf ys n → IsOneOf xs n) → xs ≡ ys
+same_ascending : (xs ys : List ℕ) → Ascends xs → Ascends ys → ((n : ℕ) → IsOneOf xs n → IsOneOf ys n) → ((n : ℕ) → IsOneOf ys n → IsOneOf xs n) → xs ≡ ys
 same_ascending [] [] up_x up_y to from = refl
-same_ascending [] (y ∷ ys) up_x up_y to from = let one = from y (front_one y ys) in absurd (stands_none one.place y one.stands)
-same_ascending (x ∷ xs) [] up_x up_y to from = let one = to x (front_one x xs) in absurd (stands_none one.place x one.stands)
+same_ascending [] (y ∷ ys) up_x up_y to from = let one = from y (one_first y ys) in absurd (stands_none one.place y one.stands)
+same_ascending (x ∷ xs) [] up_x up_y to from = let one = to x (one_first x xs) in absurd (stands_none one.place x one.stands)
 same_ascending (x ∷ xs) (y ∷ ys) up_x up_y to from =
-    let low_x : y ≤ x = elim (one_of_front y x ys (to x (front_one x xs))) [ inl is ↦ omega arith | inr one ↦ let lt = above_head y x ys up_y one in omega arith ] in
-    let low_y : x ≤ y = elim (one_of_front x y xs (from y (front_one y ys))) [ inl is ↦ omega arith | inr one ↦ let lt = above_head x y xs up_x one in omega arith ] in
+    let low_x : y ≤ x = elim (one_cases y ys x (to x (one_first x xs))) [ inl is ↦ omega arith | inr one ↦ let lt = above_head y x ys up_y one in omega arith ] in
+    let low_y : x ≤ y = elim (one_cases x xs y (from y (one_first y ys))) [ inl is ↦ omega arith | inr one ↦ let lt = above_head x y xs up_x one in omega arith ] in
     let is : x ≡ y = omega arith in
     let rest : xs ≡ ys = same_ascending xs ys (tail_ascends x xs up_x) (tail_ascends y ys up_y)
-    (λ n one. elim (one_of_front y n ys (to n (one_behind x n xs one))) [ inl e ↦ absurd (let lt = above_head x n xs up_x one in omega arith) | inr there ↦ there ])
-    (λ n one. elim (one_of_front x n xs (from n (one_behind y n ys one))) [ inl e ↦ absurd (let lt = above_head y n ys up_y one in omega arith) | inr there ↦ there ]) in
+    (λ n one. elim (one_cases y ys n (to n (one_rest x xs n one))) [ inl e ↦ absurd (let lt = above_head x n xs up_x one in omega arith) | inr there ↦ there ])
+    (λ n one. elim (one_cases x xs n (from n (one_rest y ys n one))) [ inl e ↦ absurd (let lt = above_head y n ys up_y one in omega arith) | inr there ↦ there ]) in
     λ j. is j ∷ rest j
 
 first_of : (members : List ℕ) (n : ℕ) → IsOneOf members n → (m : ℕ) × Stands members 0 m
@@ -62,9 +62,9 @@ module _ {count : ℕ} {uses : List (ℕ × ℕ)} where
   in_some {given} (x ∷ xs) (next p f) n lt = elim (in_some xs f n lt) [
     | inl before ↦ elim (stands_split given (x ∷ []) before.is_one.place before.members before.is_one.stands) [
       | inl old ↦ inl (record { members = before.members; is_one = record { place = before.is_one.place; stands = old }; is_member = before.is_member })
-      | inr last ↦ inr (record { members = x; is_one = front_one x xs; is_member = subst (λ (l : List ℕ). IsOneOf l n) (the_one x before.members last.0 last.2).1 before.is_member })
+      | inr last ↦ inr (record { members = x; is_one = one_first x xs; is_member = subst (λ (l : List ℕ). IsOneOf l n) (the_one x before.members last.0 last.2).1 before.is_member })
     ]
-    | inr later ↦ inr (record { members = later.members; is_one = one_behind x later.members xs later.is_one; is_member = later.is_member })
+    | inr later ↦ inr (record { members = later.members; is_one = one_rest x xs later.members later.is_one; is_member = later.is_member })
   ]
 
   -- no number of a class to come was given
@@ -83,3 +83,25 @@ module _ {count : ℕ} {uses : List (ℕ × ℕ)} where
   in_one {given} (x ∷ rest) (next h f) (suc j) zero n xs ys p q a b =
       absurd (not_given rest f j n xs p a (record { members = x; is_one = record { place = length given; stands = stands_next given x [] }; is_member = subst (λ (l : List ℕ). IsOneOf l n) (stands_one (x ∷ rest) 0 ys x q refl) b }))
   in_one (x ∷ rest) (next h f) (suc j) (suc k) n xs ys p q a b = ap suc (in_one rest f j k n xs ys p q a b)
+
+  -- what a number of a class depends on is in the class, was given before, or is in an earlier one
+  pub in_earlier : {given : List (List ℕ)} (blocks : List (List ℕ)) → Follow count uses given blocks → (k a n : ℕ) (xs : List ℕ) → n < count → Stands blocks k xs → IsOneOf xs a → Depends uses a n
+      → IsOneOf xs n ⊎ (IsGiven given n ⊎ IsGiven (take k blocks) n)
+  in_earlier [] (all_given f) k a n xs lt p one d = absurd (stands_none k xs p)
+  in_earlier (x ∷ rest) (next h f) zero a n xs lt p one d =
+      let is : x ≡ xs = stands_one (x ∷ rest) 0 x xs refl p in
+      let there : IsOneOf x a = subst (λ (l : List ℕ). IsOneOf l a) (sym is) one in
+      elim (h.may a there a n same d) [
+        | inl with_it ↦ inl (subst (λ (l : List ℕ). IsOneOf l n) is (h.is_class.all n lt (together_on (h.is_class.only a there) with_it)))
+        | inr before ↦ inr (inl before)
+      ]
+  in_earlier {given} (x ∷ rest) (next h f) (suc k) a n xs lt p one d = elim (in_earlier rest f k a n xs lt p one d) [
+    | inl own ↦ inl own
+    | inr other ↦ elim other [
+      | inl before ↦ elim (one_split given (x ∷ []) before.members before.is_one) [
+        | inl old ↦ inr (inl (record { members = before.members; is_one = old; is_member = before.is_member }))
+        | inr last ↦ inr (inr (record { members = before.members; is_one = one_left (x ∷ []) (take k rest) before.members last; is_member = before.is_member }))
+      ]
+      | inr later ↦ inr (inr (record { members = later.members; is_one = one_rest x (take k rest) later.members later.is_one; is_member = later.is_member }))
+    ]
+  ]

@@ -1,11 +1,12 @@
 mod RowLemmas
 mod WordLemmas
 mod UseLemmas
-mod ClassLemmas
+pub mod ClassLemmas
 mod TableLemmas
 mod WaitLemmas
+mod SlotLemmas
 mod OrderLemmas
 mod DescentLemmas
-mod LawLemmas
-mod ReachLemmas
-mod ExistenceLemmas
+pub mod LawLemmas
+pub mod ReachLemmas
+pub mod ExistenceLemmas

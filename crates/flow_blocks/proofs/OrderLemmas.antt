@@ -3,7 +3,7 @@ use Rattle.std.proofs.Common.{◌≡◌, ◌≢◌, ℕ, zero, suc, ◌<◌, ◌
 use Rattle.std.specs.BTreeSet.{BTreeSet}
 use Rattle.std.proofs.lemmas.Bool.{cases_eq}
 use Rattle.ar_base.specs.Lists.{Stands, IsOneOf}
-use Rattle.ar_base.proofs.Standing.{stands_none, stands_one, stands_left, stands_next, stands_split, stands_within, stands_some}
+use Rattle.ar_base.proofs.Standing.{stands_none, stands_one, stands_left, stands_next, stands_split, stands_within, stands_some, one_first}
 use Rattle.flow_blocks.specs.Blocks.{Depends, directly, through, Together, same, each_other, IsGiven, MayBeGiven, IsNext, AreBelow}
 use Rattle.flow_blocks.specs.Table.{IsClassTable}
 use Rattle.flow_blocks.specs.Waits.{Crosses, IsReady, WasGiven, IsWaiting, IsTaken, AreGivenTogether}
@@ -11,7 +11,6 @@ use Rattle.flow_blocks.specs.declared.giving.Waiting.{Waiting}
 use Rattle.flow_blocks.proofs.ClassLemmas.{together_on, together_back}
 use Rattle.flow_blocks.proofs.TableLemmas.{the_one}
 use Rattle.flow_blocks.proofs.UseLemmas.{set_stands, set_keeps}
-use Rattle.flow_blocks.proofs.WaitLemmas.{front_one}
 
 module _ (count : ℕ) (uses : List (ℕ × ℕ)) (classes : List (List ℕ)) (class_of : List ℕ) (table : IsClassTable count uses classes class_of) (low : AreBelow count uses) where
   -- each number below count has a class
@@ -97,7 +96,7 @@ module _ (count : ℕ) (uses : List (ℕ × ℕ)) (classes : List (List ℕ)) (c
       where
         by : (k : ℕ) → Stands members k n → m ≤ n
         by zero p = let e : m ≡ n = stands_one members 0 m n first p in omega arith
-        by (suc k) p = let lt = (table.are_classes c members st).ascending.less 0 (suc k) m n (omega arith) first p in omega arith
+        by (suc k) p = let lt = (table.are_classes c members st).ascending.ascends 0 (suc k) m n (omega arith) first p in omega arith
 
     pub next_class : (c : ℕ) (members : List ℕ) → Stands classes c members → IsReady w.ready c → ((e : ℕ) → IsReady w.ready e → c ≤ e) → IsNext count uses lists members
     next_class c members st ready least = record {
@@ -148,7 +147,7 @@ module _ (count : ℕ) (uses : List (ℕ × ℕ)) (classes : List (List ℕ)) (c
         long_given = waits.long_given;
         crossed = waits.crossed;
         each = λ e lt free. elim (waits.each e lt free) [
-          | inl r ↦ elim (cases_eq e c) [ inl is ↦ inr (inr (subst (λ (k : ℕ). IsOneOf (c ∷ []) k) (sym is) (front_one c []))) | inr other ↦ inl ((left e).1 (r, other)) ]
+          | inl r ↦ elim (cases_eq e c) [ inl is ↦ inr (inr (subst (λ (k : ℕ). IsOneOf (c ∷ []) k) (sym is) (one_first c []))) | inr other ↦ inl ((left e).1 (r, other)) ]
           | inr more ↦ elim more [ inl waiting ↦ inr (inl waiting) | inr none ↦ absurd (stands_none none.place e none.stands) ]
         ];
         ready = λ e r. waits.ready e ((left e).0 r).0;

@@ -1,11 +1,11 @@
 -- Whether one number depends on another is decided, and what follows.
 use Rattle.std.proofs.Common.{◌≡◌, ℕ, zero, suc, ◌<◌, ◌⊎◌, inl, inr, List, [], ◌∷◌, ◌++◌, length, refl, sym, ap, subst, arith}
 use Rattle.std.proofs.lemmas.Bool.{cases_eq}
+use Rattle.ar_base.specs.Sets.{Ascends}
 use Rattle.ar_base.specs.Lists.{Stands, IsOneOf}
-use Rattle.ar_base.proofs.Standing.{stands_none, stands_left, stands_next, stands_split}
-use Rattle.flow_blocks.specs.Blocks.{Depends, directly, through, Together, same, each_other, IsGiven, AreAscending}
+use Rattle.ar_base.proofs.Standing.{stands_none, stands_left, stands_next, stands_split, one_rest, one_cases, one_first}
+use Rattle.flow_blocks.specs.Blocks.{Depends, directly, through, Together, same, each_other, IsGiven}
 use Rattle.flow_blocks.proofs.ClassLemmas.{depends_on, only_one, ascending_more}
-use Rattle.flow_blocks.proofs.WaitLemmas.{one_of_front, one_behind, front_one}
 
 -- a fact that holds or does not
 abbrev pub IsDecided : Type 0 → Type 0
@@ -28,24 +28,24 @@ decide_either (inr fails) (inr none) = inr (λ s. elim s [ inl a ↦ fails a | i
 module _ (u : ℕ × ℕ) (uses : List (ℕ × ℕ)) where
   -- a dependence by one use more goes by that use or not
   more_uses : {a b : ℕ} → Depends uses a b → Depends (u ∷ uses) a b
-  more_uses {a} {b} (directly one) = directly (one_behind u (a, b) uses one)
-  more_uses {a} {b} (through {b = m} one rest) = through (one_behind u (a, m) uses one) (more_uses rest)
+  more_uses {a} {b} (directly one) = directly (one_rest u uses (a, b) one)
+  more_uses {a} {b} (through {b = m} one rest) = through (one_rest u uses (a, m) one) (more_uses rest)
 
   by_use : {a b : ℕ} → Reaches uses a u.0 → Reaches uses u.1 b → Depends (u ∷ uses) a b
-  by_use {a} {b} (inl e) (inl f) = subst (λ (k : ℕ). Depends (u ∷ uses) k b) (sym e) (subst (λ (k : ℕ). Depends (u ∷ uses) u.0 k) f (directly (front_one u uses)))
-  by_use {a} {b} (inl e) (inr g) = subst (λ (k : ℕ). Depends (u ∷ uses) k b) (sym e) (through (front_one u uses) (more_uses g))
-  by_use {a} {b} (inr d) (inl f) = subst (λ (k : ℕ). Depends (u ∷ uses) a k) f (depends_on (more_uses d) (directly (front_one u uses)))
-  by_use {a} {b} (inr d) (inr g) = depends_on (more_uses d) (through (front_one u uses) (more_uses g))
+  by_use {a} {b} (inl e) (inl f) = subst (λ (k : ℕ). Depends (u ∷ uses) k b) (sym e) (subst (λ (k : ℕ). Depends (u ∷ uses) u.0 k) f (directly (one_first u uses)))
+  by_use {a} {b} (inl e) (inr g) = subst (λ (k : ℕ). Depends (u ∷ uses) k b) (sym e) (through (one_first u uses) (more_uses g))
+  by_use {a} {b} (inr d) (inl f) = subst (λ (k : ℕ). Depends (u ∷ uses) a k) f (depends_on (more_uses d) (directly (one_first u uses)))
+  by_use {a} {b} (inr d) (inr g) = depends_on (more_uses d) (through (one_first u uses) (more_uses g))
 
   without_use : {a b : ℕ} → Depends (u ∷ uses) a b → Depends uses a b ⊎ (Reaches uses a u.0 × Reaches uses u.1 b)
-  without_use {a} {b} (directly one) = elim (one_of_front u (a, b) uses one) [
-    | inl is ↦ inr (inl (ap (λ (p : ℕ × ℕ). p.0) is), inl (ap (λ (p : ℕ × ℕ). p.1) (sym is)))
+  without_use {a} {b} (directly one) = elim (one_cases u uses (a, b) one) [
+    | inl is ↦ inr (inl (ap (λ (p : ℕ × ℕ). p.0) (sym is)), inl (ap (λ (p : ℕ × ℕ). p.1) is))
     | inr old ↦ inl (directly old)
   ]
-  without_use {a} {b} (through {b = m} one rest) = elim (one_of_front u (a, m) uses one) [
+  without_use {a} {b} (through {b = m} one rest) = elim (one_cases u uses (a, m) one) [
     | inl is ↦ elim (without_use rest) [
-      | inl old ↦ inr (inl (ap (λ (p : ℕ × ℕ). p.0) is), inr (subst (λ (k : ℕ). Depends uses k b) (ap (λ (p : ℕ × ℕ). p.1) is) old))
-      | inr both ↦ inr (inl (ap (λ (p : ℕ × ℕ). p.0) is), both.1)
+      | inl old ↦ inr (inl (ap (λ (p : ℕ × ℕ). p.0) (sym is)), inr (subst (λ (k : ℕ). Depends uses k b) (ap (λ (p : ℕ × ℕ). p.1) (sym is)) old))
+      | inr both ↦ inr (inl (ap (λ (p : ℕ × ℕ). p.0) (sym is)), both.1)
     ]
     | inr first ↦ elim (without_use rest) [
       | inl old ↦ inl (through first old)
@@ -81,21 +81,21 @@ decide_together uses a b = elim (cases_eq a b) [
 pub decide_one_of : (xs : List ℕ) (n : ℕ) → IsDecided (IsOneOf xs n)
 decide_one_of [] n = inr (λ one. stands_none one.place n one.stands)
 decide_one_of (x ∷ xs) n = elim (cases_eq n x) [
-  | inl is ↦ inl (subst (λ (k : ℕ). IsOneOf (x ∷ xs) k) (sym is) (front_one x xs))
+  | inl is ↦ inl (subst (λ (k : ℕ). IsOneOf (x ∷ xs) k) (sym is) (one_first x xs))
   | inr other ↦ elim (decide_one_of xs n) [
-    | inl one ↦ inl (one_behind x n xs one)
-    | inr fails ↦ inr (λ one. elim (one_of_front x n xs one) [ inl is ↦ other is | inr rest ↦ fails rest ])
+    | inl one ↦ inl (one_rest x xs n one)
+    | inr fails ↦ inr (λ one. elim (one_cases x xs n one) [ inl is ↦ other (sym is) | inr rest ↦ fails rest ])
   ]
 ]
 
 pub decide_given : (given : List (List ℕ)) (n : ℕ) → IsDecided (IsGiven given n)
 decide_given [] n = inr (λ g. stands_none g.is_one.place g.members g.is_one.stands)
 decide_given (xs ∷ given) n = elim (decide_one_of xs n) [
-  | inl one ↦ inl (record { members = xs; is_one = front_one xs given; is_member = one })
+  | inl one ↦ inl (record { members = xs; is_one = one_first xs given; is_member = one })
   | inr fails ↦ elim (decide_given given n) [
-    | inl g ↦ inl (record { members = g.members; is_one = one_behind xs g.members given g.is_one; is_member = g.is_member })
-    | inr none ↦ inr (λ g. elim (one_of_front xs g.members given g.is_one) [
-      | inl is ↦ fails (subst (λ (l : List ℕ). IsOneOf l n) is g.is_member)
+    | inl g ↦ inl (record { members = g.members; is_one = one_rest xs given g.members g.is_one; is_member = g.is_member })
+    | inr none ↦ inr (λ g. elim (one_cases xs given g.members g.is_one) [
+      | inl is ↦ fails (subst (λ (l : List ℕ). IsOneOf l n) (sym is) g.is_member)
       | inr rest ↦ none (record { members = g.members; is_one = rest; is_member = g.is_member })
     ])
   ]
@@ -118,7 +118,7 @@ pub record IsListOf (P : ℕ → Type 0) (end : ℕ) (xs : List ℕ) : Type 0 wh
   pub below : (n : ℕ) → IsOneOf xs n → n < end
   pub only : (n : ℕ) → IsOneOf xs n → P n
   pub all : (n : ℕ) → n < end → P n → IsOneOf xs n
-  pub ascending : AreAscending xs
+  pub ascending : Ascends xs
 
 pub list_below : (P : ℕ → Type 0) → ((n : ℕ) → IsDecided (P n)) → (end : ℕ) → (xs : List ℕ) × IsListOf P end xs
 list_below P decide zero = (
@@ -127,7 +127,7 @@ list_below P decide zero = (
     below = λ n one. absurd (stands_none one.place n one.stands);
     only = λ n one. absurd (stands_none one.place n one.stands);
     all = λ n lt h. absurd (omega (arith, lt));
-    ascending = record { less = λ j k m n lt p q. absurd (stands_none j m p) };
+    ascending = record { ascends = λ j k m n lt p q. absurd (stands_none j m p) };
   },
 )
 list_below P decide (suc end) =

@@ -1,18 +1,18 @@
 -- The uses so far.
-use Rattle.std.proofs.Common.{◌≡◌, ℕ, zero, suc, ◌+◌, ◌-◌, ◌<◌, ◌≤◌, ◌⊎◌, Bool, true, false, ◌||◌, List, [], ◌∷◌, take, length, get_or, refl, sym, ap, ◌∙◌, subst, arith, inl, inr, true≢false, Some, Contains, set, slice_get, drop, add-one, drop-cons}
+use Rattle.std.proofs.Common.{◌≡◌, ℕ, zero, suc, ◌+◌, ◌-◌, ◌<◌, ◌≤◌, ◌⊎◌, Bool, true, false, ◌||◌, List, [], ◌∷◌, take, length, get_or, refl, sym, ◌∙◌, subst, arith, inl, inr, true≢false, set, slice_get, drop, add-one, drop-cons}
 use Rattle.std.proofs.lemmas.Bool.{cases_lt}
-use Rattle.std.proofs.lemmas.Option.{slice_get-get_or, get_or_from_slice_get}
+use Rattle.std.proofs.lemmas.Option.{slice_get-get_or}
 use Rattle.std.proofs.lemmas.List.Sorted.{Contains-permutation}
 use Rattle.std.specs.List.Sorted.{IsPermutation}
 use Rattle.ar_base.specs.Lists.{Stands, IsOneOf}
-use Rattle.ar_base.proofs.Standing.{stands_within, stands_one}
+use Rattle.ar_base.proofs.Standing.{stands_within, stands_one, one_contains, contains_one}
 
 module _ {A : Type 0} where
   -- what stands at an index is one of the list
   pub one_at : (xs : List A) (k : ℕ) (d : A) → k < length xs → IsOneOf xs (get_or xs k d)
   one_at xs k d lt = record { place = k; stands = slice_get-get_or xs k d lt }
 
-  stands_take : (xs : List A) (k n : ℕ) (x : A) → Stands (take k xs) n x → Stands xs n x
+  pub stands_take : (xs : List A) (k n : ℕ) (x : A) → Stands (take k xs) n x → Stands xs n x
   stands_take xs zero zero x p = cc
   stands_take xs zero (suc n) x p = cc
   stands_take [] (suc k) n x p = p
@@ -25,7 +25,7 @@ module _ {A : Type 0} where
   take_stands (y ∷ xs) (suc k) zero x lt p = p
   take_stands (y ∷ xs) (suc k) (suc n) x lt p = take_stands xs k n x (omega arith) p
 
-  below_take : (xs : List A) (k n : ℕ) (x : A) → Stands (take k xs) n x → n < k
+  pub below_take : (xs : List A) (k n : ℕ) (x : A) → Stands (take k xs) n x → n < k
   below_take xs zero zero x p = cc
   below_take xs zero (suc n) x p = cc
   below_take [] (suc k) zero x p = omega arith
@@ -69,15 +69,9 @@ one_of_both true b r is e = inl refl
 one_of_both false b r is e = inr (sym is ∙ e)
 
 module _ {A : Type 0} where
-  pub one_contains : (xs : List A) (x : A) → IsOneOf xs x → Contains xs x
-  one_contains xs x one = (one.place, stands_within xs one.place x one.stands, get_or_from_slice_get xs one.place x x one.stands)
-
-  pub contains_one : (xs : List A) (x : A) → Contains xs x → IsOneOf xs x
-  contains_one xs x c = record { place = c.0; stands = slice_get-get_or xs c.0 x c.1 ∙ ap (λ (y : A). Some y) c.2 }
-
   -- a list in another order has the same items
   pub one_reordered : (xs ys : List A) (x : A) → IsPermutation xs ys → IsOneOf xs x → IsOneOf ys x
-  one_reordered xs ys x p one = contains_one ys x (Contains-permutation xs ys x p (one_contains xs x one))
+  one_reordered xs ys x p one = one_contains ys x (Contains-permutation xs ys x p (contains_one xs x one))
 
 module _ {A : Type 0} where
   pub set_stands : (xs : List A) (k : ℕ) (x : A) → k < length xs → Stands (set xs k x) k x

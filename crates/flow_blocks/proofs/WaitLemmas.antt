@@ -8,27 +8,13 @@ use Rattle.std.specs.BTreeMap.{is_at}
 use Rattle.std.specs.List.{list_any}
 use Rattle.std.specs.Ordering.{nat_cmp}
 use Rattle.ar_base.specs.Lists.{Stands, IsOneOf}
-use Rattle.ar_base.proofs.Standing.{stands_none, stands_left, stands_next, stands_split}
+use Rattle.ar_base.proofs.Standing.{stands_none, stands_left, stands_next, stands_split, one_rest, one_cases, one_first}
 use Rattle.flow_blocks.specs.Bits.{row_of}
 use Rattle.flow_blocks.specs.Waits.{Crosses, IsReady, WasGiven, IsWaiting, IsTaken}
 use Rattle.flow_blocks.specs.declared.giving.Waiting.{Waiting}
 use Rattle.flow_blocks.proofs.RowLemmas.{row_set_same, row_set_other}
 use Rattle.flow_blocks.proofs.TableLemmas.{the_one}
 use Rattle.flow_blocks.proofs.UseLemmas.{set_stands, set_keeps}
-
--- one of a list with one item in front is that item or one of the rest
-pub one_of_front : {A : Type 0} (a x : A) (xs : List A) → IsOneOf (a ∷ xs) x → (x ≡ a) ⊎ IsOneOf xs x
-one_of_front a x xs one = by one.place one.stands
-  where
-    by : (k : ℕ) → Stands (a ∷ xs) k x → (x ≡ a) ⊎ IsOneOf xs x
-    by zero p = inl (cc)
-    by (suc k) p = inr (record { place = k; stands = p })
-
-pub one_behind : {A : Type 0} (a x : A) (xs : List A) → IsOneOf xs x → IsOneOf (a ∷ xs) x
-one_behind a x xs one = record { place = suc one.place; stands = one.stands }
-
-pub front_one : {A : Type 0} (a : A) (xs : List A) → IsOneOf (a ∷ xs) a
-front_one a xs = record { place = 0; stands = refl }
 
 -- what the targets of a class are when those that were given, and the class itself, may be dropped
 pub record AreTrimmed (old new : List (Vec ℕ Global)) (given : List Bool) : Type 0 where
@@ -39,7 +25,7 @@ pub record AreTrimmed (old new : List (Vec ℕ Global)) (given : List Bool) : Ty
 module _ (count : ℕ) (uses : List (ℕ × ℕ)) (class_of : List ℕ) (w v : Waiting) (class : ℕ) (pending : List ℕ) (waits : IsWaiting count uses class_of w (class ∷ pending))
     (given : v.given.items ≡ w.given.items) (trimmed : AreTrimmed w.targets.items v.targets.items w.given.items) where
   own : (class < count) × (WasGiven w.given.items class → ⊥)
-  own = waits.to_look_at class (front_one class pending)
+  own = waits.to_look_at class (one_first class pending)
 
   back : (e : ℕ) → WasGiven v.given.items e → WasGiven w.given.items e
   back e g = subst (λ (l : List Bool). WasGiven l e) given g
@@ -60,7 +46,7 @@ module _ (count : ℕ) (uses : List (ℕ × ℕ)) (class_of : List ℕ) (w v : W
   closed_on e d g crosses = elim (waits.closed e d (back e g) crosses) [ inl same ↦ inl same | inr there ↦ inr (forth d there) ]
 
   pending_on : (e : ℕ) → IsOneOf pending e → (e < count) × (WasGiven v.given.items e → ⊥)
-  pending_on e one = let h = waits.to_look_at e (one_behind class e pending one) in (h.0, λ g. h.1 (back e g))
+  pending_on e one = let h = waits.to_look_at e (one_rest class pending e one) in (h.0, λ g. h.1 (back e g))
 
   -- the class watches another one
   pub watches_now : (target : ℕ) → IsOneOf (row_of w.targets.items class) target → target ≢ class → (WasGiven w.given.items target → ⊥) → v.ready ≡ w.ready
@@ -76,8 +62,8 @@ module _ (count : ℕ) (uses : List (ℕ × ℕ)) (class_of : List ℕ) (w v : W
       | inl ready ↦ inl (subst (λ r. IsReady r e) (sym same_ready) ready)
       | inr more ↦ elim more [
         | inl waiting ↦ inr (inl (waiting.0, record { watches = kept waiting.0 e waiting.1.watches; not_given = λ g. waiting.1.not_given (back waiting.0 g) }))
-        | inr one ↦ elim (one_of_front class e pending one) [
-          | inl is ↦ inr (inl (target, record { watches = subst (λ (k : ℕ). IsOneOf (row_of v.watchers.items target) k) (sym is) now; not_given = λ g. not_given (back target g) }))
+        | inr one ↦ elim (one_cases class pending e one) [
+          | inl is ↦ inr (inl (target, record { watches = subst (λ (k : ℕ). IsOneOf (row_of v.watchers.items target) k) is now; not_given = λ g. not_given (back target g) }))
           | inr rest ↦ inr (inr rest)
         ]
       ]
@@ -111,8 +97,8 @@ module _ (count : ℕ) (uses : List (ℕ × ℕ)) (class_of : List ℕ) (w v : W
       | inl ready ↦ inl ((added e).1 (inl ready))
       | inr more ↦ elim more [
         | inl waiting ↦ inr (inl (waiting.0, record { watches = subst (λ (l : List (Vec ℕ Global)). IsOneOf (row_of l waiting.0) e) (sym same_watchers) waiting.1.watches; not_given = λ g. waiting.1.not_given (back waiting.0 g) }))
-        | inr one ↦ elim (one_of_front class e pending one) [
-          | inl is ↦ inl ((added e).1 (inr is))
+        | inr one ↦ elim (one_cases class pending e one) [
+          | inl is ↦ inl ((added e).1 (inr (sym is)))
           | inr rest ↦ inr (inr rest)
         ]
       ]
@@ -144,10 +130,10 @@ module _ (count : ℕ) (uses : List (ℕ × ℕ)) (class_of : List ℕ) (w v : W
     (long : length v.watchers.items ≡ length w.watchers.items) (cleared : (e : ℕ) → IsOneOf (row_of v.watchers.items class) e → ⊥)
     (kept : (d e : ℕ) → (d ≡ class → ⊥) → IsOneOf (row_of v.watchers.items d) e ↔ IsOneOf (row_of w.watchers.items d) e) where
   inside : class < length w.given.items
-  inside = let h = (waits.to_look_at class (front_one class [])).0 in omega (arith, h, waits.long_given)
+  inside = let h = (waits.to_look_at class (one_first class [])).0 in omega (arith, h, waits.long_given)
 
   free : WasGiven w.given.items class → ⊥
-  free = (waits.to_look_at class (front_one class [])).1
+  free = (waits.to_look_at class (one_first class [])).1
 
   more_given : (e : ℕ) → WasGiven w.given.items e → WasGiven v.given.items e
   more_given e g = subst (λ (l : List Bool). WasGiven l e) (sym given) (set_keeps w.given.items class e true (λ same. free (subst (λ (k : ℕ). WasGiven w.given.items k) same g)) ∙ g)
@@ -183,8 +169,8 @@ module _ (count : ℕ) (uses : List (ℕ × ℕ)) (class_of : List ℕ) (w v : W
             },
           ))
         ]
-        | inr one ↦ elim (one_of_front class e [] one) [
-          | inl is ↦ absurd (not_now (subst (λ (k : ℕ). WasGiven v.given.items k) (sym is) now_given))
+        | inr one ↦ elim (one_cases class [] e one) [
+          | inl is ↦ absurd (not_now (subst (λ (k : ℕ). WasGiven v.given.items k) is now_given))
           | inr none ↦ absurd (stands_none none.place e none.stands)
         ]
       ]
@@ -280,7 +266,7 @@ after_giving w class empty = record { targets = w.targets; watchers = with_item 
 pub given_state : (count : ℕ) (uses : List (ℕ × ℕ)) (class_of : List ℕ) (w : Waiting) (class : ℕ) (empty : Vec ℕ Global) (watchers : List ℕ) → IsWaiting count uses class_of w (class ∷ []) → IsTaken uses class_of w class
     → empty.items ≡ [] → watchers ≡ row_of w.watchers.items class → IsWaiting count uses class_of (after_giving w class empty) watchers
 given_state count uses class_of w class empty watchers waits taken none is =
-    let lt = (waits.to_look_at class (front_one class [])).0 in
+    let lt = (waits.to_look_at class (one_first class [])).0 in
     let inside : class < length w.watchers.items = omega (arith, lt, waits.long_watchers) in
     subst (λ (l : List ℕ). IsWaiting count uses class_of (after_giving w class empty) l) (sym is)
     (gives_now count uses class_of w (after_giving w class empty) class waits taken refl refl refl (length-set w.watchers.items class empty)

@@ -1,5 +1,6 @@
 -- Which numbers depend on which, their classes, and the order in which the classes are given.
 use Rattle.std.specs.Prelude.{ℕ, ◌<◌, ◌≤◌, ◌⊎◌, List, [], ◌∷◌, ◌++◌}
+use Rattle.ar_base.specs.Sets.{Ascends}
 use Rattle.ar_base.specs.Lists.{Stands, IsOneOf}
 
 -- the first number depends on the second, directly or through others
@@ -12,10 +13,6 @@ pub data Together (uses : List (ℕ × ℕ)) (a : ℕ) : ℕ → Type 0 where
   same : Together uses a a
   each_other : {b : ℕ} → Depends uses a b → Depends uses b a → Together uses a b
 
--- each number is less than all that stand behind it
-pub record AreAscending (numbers : List ℕ) : Type 0 where
-  pub less : (j k m n : ℕ) → j < k → Stands numbers j m → Stands numbers k n → m < n
-
 -- a class of the numbers below count: one of them and all that are together with it, ascending
 pub record IsClass (count : ℕ) (uses : List (ℕ × ℕ)) (members : List ℕ) : Type 0 where
   pub one : ℕ
@@ -23,7 +20,7 @@ pub record IsClass (count : ℕ) (uses : List (ℕ × ℕ)) (members : List ℕ)
   pub below : (n : ℕ) → IsOneOf members n → n < count
   pub only : (n : ℕ) → IsOneOf members n → Together uses one n
   pub all : (n : ℕ) → n < count → Together uses one n → IsOneOf members n
-  pub ascending : AreAscending members
+  pub ascending : Ascends members
 
 -- the number is in one of the classes given so far
 pub record IsGiven (given : List (List ℕ)) (n : ℕ) : Type 0 where

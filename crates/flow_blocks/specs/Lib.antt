@@ -2,3 +2,4 @@ pub mod Blocks
 pub mod Bits
 pub mod Table
 pub mod Waits
+pub mod Slots

@@ -4,10 +4,13 @@ ghost use Rattle.std.specs.Prelude.{◌≡◌, ◌≢◌, ℕ, ◌+◌, ◌<◌,
 ghost use Rattle.ar_base.specs.Lists.{Stands, IsOneOf};
 ghost use Rattle.flow_blocks.specs.Blocks.{Together, IsClass};
 ghost use Rattle.flow_blocks.specs.Bits.{HasBit, AreRows, AreAllDependences};
+ghost use Rattle.ar_base.specs.Sets.{Ascends};
 ghost use Rattle.flow_blocks.specs.Table.{members_of, IsClassTable, IsPartTable, IsSelection};
+ghost use Rattle.flow_blocks.specs.Slots.{AreSlots};
 
 use crate::Block;
 use crate::rows::has;
+use crate::slots::{slot_of, slots};
 use ar_base::Memory;
 use std::alloc::Global;
 
@@ -26,13 +29,14 @@ pub(crate) fn classes(alloc: Global, count: u32, rows: &[Vec<u64>]) -> Result<Cl
     requires { AreRows count rows.now }
     ensures { (uses : List (ℕ × ℕ)) → AreAllDependences count uses rows.now → IfOk result (λ t. IsClassTable count uses (members_of t.blocks.items) t.class_of.items) }
 {
+    let slots = slots(alloc, count, rows)?;
     let class_of = vec![in alloc; NONE; count as usize]?;
     let mut table = ClassTable {
         blocks: Vec::new(alloc),
         class_of,
     };
     for number in 0..count {
-        look_at(alloc, count, rows, number, &mut table)?;
+        look_at(alloc, count, rows, &slots, number, &mut table)?;
     }
     Ok(table)
 }
@@ -42,10 +46,12 @@ fn look_at(
     alloc: Global,
     count: u32,
     rows: &[Vec<u64>],
+    slots: &[Vec<u32>],
     number: u32,
     table: &mut ClassTable,
 ) -> Result<(), Memory>
     requires rows { AreRows count rows.now }
+    requires slots { AreSlots count rows.now count slots.now }
     requires below { number < count }
     requires long { length table.old.class_of.items ≡ count }
     requires few { length table.old.blocks.items ≤ number }
@@ -58,15 +64,22 @@ fn look_at(
     if table.class_of[number as usize] != NONE {
         return Ok(());
     }
-    let members = class_from(alloc, count, rows, number)?;
+    let members = class_from(alloc, count, rows, slots, number)?;
     enroll(&mut table.class_of, &members, table.blocks.len() as u32);
     table.blocks.push(Block { members })?;
     Ok(())
 }
 
 /// The class whose least member is `least`.
-fn class_from(alloc: Global, count: u32, rows: &[Vec<u64>], least: u32) -> Result<Vec<u32>, Memory>
+fn class_from(
+    alloc: Global,
+    count: u32,
+    rows: &[Vec<u64>],
+    slots: &[Vec<u32>],
+    least: u32,
+) -> Result<Vec<u32>, Memory>
     requires rows { AreRows count rows.now }
+    requires slots { AreSlots count rows.now count slots.now }
     requires below { least < count }
     ensures first { IfOk result (λ members. Stands members.items 0 least) }
     ensures within { IfOk result (λ members. (n : ℕ) → IsOneOf members.items n → (least ≤ n) × (n < count)) }
@@ -77,27 +90,42 @@ fn class_from(alloc: Global, count: u32, rows: &[Vec<u64>], least: u32) -> Resul
     if !are_mutual(count, rows, least, least) {
         return Ok(members);
     }
-    add_others(count, rows, least, &mut members)?;
+    let slot = slot_of(count, rows, least);
+    add_others(count, rows, least, &slots[slot as usize], &mut members)?;
     Ok(members)
 }
 
-/// Adds the greater numbers on which `least` depends and that depend on it.
+/// Adds those of the candidates that are greater than `least`, on which it depends and that depend
+/// on it.
 fn add_others(
     count: u32,
     rows: &[Vec<u64>],
     least: u32,
+    candidates: &[u32],
     members: &mut Vec<u32>,
 ) -> Result<(), Memory>
     requires rows { AreRows count rows.now }
     requires below { least < count }
+    requires candidates { (n : ℕ) → IsOneOf candidates.now n → n < count }
+    requires ascend { Ascends candidates.now }
     requires start { members.old.items ≡ least ∷ [] }
-    ensures { IfOk result (λ _. IsSelection rows.now least count members.new.items) }
+    ensures { IfOk result (λ _. IsSelection rows.now least candidates.now members.new.items) }
 {
-    for number in least + 1..count {
-        let is_member = are_mutual(count, rows, least, number);
-        add_if(is_member, number, members)?;
+    for number in candidates {
+        let is_member = is_other(count, rows, least, *number);
+        add_if(is_member, *number, members)?;
     }
     Ok(())
+}
+
+/// Whether a number is greater than `least`, and each of them depends on the other.
+fn is_other(count: u32, rows: &[Vec<u64>], least: u32, number: u32) -> bool
+    requires rows { AreRows count rows.now }
+    requires below { least < count }
+    requires number { number < count }
+    ensures { IsTrue result ↔ ((least < number) × HasBit rows.now least number × HasBit rows.now number least) }
+{
+    least < number && are_mutual(count, rows, least, number)
 }
 
 /// Adds a number where it is a member.

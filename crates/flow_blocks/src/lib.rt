@@ -11,6 +11,7 @@ mod lists;
 mod rows;
 mod schedule;
 mod search;
+mod slots;
 
 pub use graph::{Block, Graph, blocks};
 pub use laws::{one_class_each, one_list};

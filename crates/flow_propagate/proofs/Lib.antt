@@ -1,5 +1,5 @@
+mod Numbered
 mod NamedVariables
-mod Opened
 mod ReaderPairs
 mod FlowUses
 mod Reaching
@@ -13,4 +13,3 @@ mod Missing
 mod Applying
 mod Looking
 mod Worklists
-mod SoundTests

@@ -6,23 +6,21 @@ use Rattle.ar_base.proofs.Standing.{stands_none, stands_one, stands_map_back}
 use Rattle.domains.specs.declared.Value.{Value}
 use Rattle.typed_expr.specs.Yields.{Yields}
 use Rattle.typed_expr.proofs.Facts.{yields_named}
-use Rattle.typed_expr.specs.declared.expr.Expr.{Expr, out-Expr}
+use Rattle.typed_expr.specs.declared.expr.Expr.{out-Expr}
 use Rattle.ar_meaning.specs.Systems as s
-use Rattle.ar_meaning.specs.Facts.{Passes, none, one_and, Allows, IsGiven}
+use Rattle.ar_meaning.specs.Facts.{Passes, Allows, IsGiven}
 use Rattle.ar_meaning.proofs.Least.{least}
 use Rattle.gts_core.specs.View.{assign_of, net_of}
 use Rattle.gts_core.specs.declared.system.Assign.{Assign}
 use Rattle.gts_core.specs.declared.system.GtsParts.{GtsParts}
-use Rattle.flow_propagate.specs.Plan.{Tests, in_this, in_later, Names, AreReaders}
+use Rattle.ar_meaning.specs.Dependence.{Names}
+use Rattle.ar_meaning.proofs.Dependence.{passes_named}
+use Rattle.flow_propagate.specs.Plan.{AreReaders}
 use Rattle.flow_propagate.specs.Table.{Rows, Holds, IsClosed, IsSoundTable, AreFacts}
 use Rattle.flow_propagate.specs.Closing.{Applies, Waits, IsWorklist, Takes, AddsWork, IsSettled, LooksAt, work_left, missing}
 use Rattle.flow_propagate.specs.declared.worklist.Worklist.{Worklist}
 use Rattle.flow_propagate.proofs.ReaderPairs.{pair_eq, pair_same, pair_equiv}
-
--- facts of the variables that the conditions name suffice
-passes_named : {V : Type 0} {P Q : V → Value → Type 0} {cs : List (Expr V × Bool)} → ((x : V) (w : Value) → Tests x cs → P x w → Q x w) → Passes P cs → Passes Q cs
-passes_named k none = none
-passes_named k (one_and y p) = one_and (yields_named (λ x w n h. k x w (in_this n) h) y) (passes_named (λ x w n h. k x w (in_later n) h) p)
+use Rattle.flow_propagate.proofs.Numbered.{read_there}
 
 -- an assignment that does not name the target keeps what it has
 stays : (p : GtsParts) (a b : Assign) (old new : Rows) (changed : Bool) → Applies p a old new changed → (Names (assign_of b) a.target.n → ⊥)
@@ -95,7 +93,7 @@ looks_more p readers most n a old new before after r sa m w = record {
         → ((v : Value) → Passes (Holds old) (assign_of b).conditions → Yields (Holds old) (out-Expr ℕ (assign_of b).value) v → Allows (net_of p) b.target.n v → Holds new b.target.n v) → Waits after k ⊎ IsClosed (net_of p) new (assign_of b)
     again k b st has = elim (one_or_not readers (a.target.n, k)) [
       | inl o ↦ inl (w.adds k o)
-      | inr f ↦ inr (stays p a b old new true m (λ d. f (r.all a.target.n k (record { assign = b; stands = st; names = d }))) has)
+      | inr f ↦ inr (stays p a b old new true m (λ d. f (r.all a.target.n k (read_there p a.target.n k (record { assign = b; stands = st; names = d })))) has)
     ]
 
     mine : (k : ℕ) (b : Assign) → k ≡ n → Stands p.assigns.items k b → (v : Value) → Passes (Holds old) (assign_of b).conditions → Yields (Holds old) (out-Expr ℕ (assign_of b).value) v → Allows (net_of p) b.target.n v → Holds new b.target.n v

@@ -1,61 +1,14 @@
 -- How many facts may still come.
-use Rattle.std.proofs.Common.{◌≡◌, ℕ, zero, suc, ◌+◌, ◌<◌, ◌≤◌, ◌⊎◌, inl, inr, Bool, true, false, cond, ◌||◌, List, [], ◌∷◌, Contains, refl, sym, ap, subst, arith}
-use Rattle.std.specs.Cmp.{unsigned_Decides}
-use Rattle.std.proofs.lemmas.Bool.Decides.{Decides-int_eq}
+use Rattle.std.proofs.Common.{◌≡◌, ℕ, zero, suc, ◌+◌, ◌<◌, ◌≤◌, Bool, true, false, cond, List, [], ◌∷◌, Contains, refl, sym, subst, arith}
 use Rattle.ar_base.specs.Lists.{Stands}
 use Rattle.ar_base.proofs.Standing.{stands_none}
 use Rattle.domains.specs.Domains.{values_of}
+use Rattle.domains.specs.Same.{has_value}
 use Rattle.domains.specs.declared.Value.{Value}
-use Rattle.domains.specs.declared.Value.TheVariants.{Truth, Whole, Symbol}
+use Rattle.domains.proofs.Same.{has_in, in_has}
 use Rattle.gts_core.specs.declared.system.Variable.{Variable}
 use Rattle.flow_propagate.specs.Table.{Rows, row_at, Holds}
-use Rattle.flow_propagate.specs.Closing.{is_same, has_value, lacking, missing_from}
-
-same_is : (v w : Value) → is_same v w ≡ true → v ≡ w
-same_is (Truth true) (Truth true) e = refl
-same_is (Truth true) (Truth false) e = absurd (cc e)
-same_is (Truth false) (Truth true) e = absurd (cc e)
-same_is (Truth false) (Truth false) e = refl
-same_is (Whole m) (Whole n) e = ap Whole ((Decides-int_eq m n).0 e)
-same_is (Symbol m) (Symbol n) e = ap Symbol ((unsigned_Decides m n).0 e)
-same_is (Truth true) (Whole n) e = absurd (cc e)
-same_is (Truth false) (Whole n) e = absurd (cc e)
-same_is (Truth true) (Symbol n) e = absurd (cc e)
-same_is (Truth false) (Symbol n) e = absurd (cc e)
-same_is (Whole m) (Truth b) e = absurd (cc e)
-same_is (Whole m) (Symbol n) e = absurd (cc e)
-same_is (Symbol m) (Truth b) e = absurd (cc e)
-same_is (Symbol m) (Whole n) e = absurd (cc e)
-
-same_self : (v : Value) → is_same v v ≡ true
-same_self (Truth true) = refl
-same_self (Truth false) = refl
-same_self (Whole n) = (Decides-int_eq n n).1 refl
-same_self (Symbol n) = (unsigned_Decides n n).1 refl
-
-or_true : (a b : Bool) → (a || b) ≡ true → (a ≡ true) ⊎ (b ≡ true)
-or_true true b e = inl refl
-or_true false b e = inr e
-
-or_left : (a b : Bool) → a ≡ true → (a || b) ≡ true
-or_left true b e = refl
-or_left false b e = absurd (cc e)
-
-or_right : (a b : Bool) → b ≡ true → (a || b) ≡ true
-or_right true b e = refl
-or_right false b e = e
-
-later : (v w : Value) (ws : List Value) → Contains ws v → Contains (w ∷ ws) v
-later v w ws c = (suc c.0, (let h = c.1 in omega (arith, h)), c.2)
-
-has_in : (v : Value) (row : List Value) → has_value v row ≡ true → Contains row v
-has_in v [] e = absurd (cc e)
-has_in v (w ∷ ws) e = elim (or_true (is_same v w) (has_value v ws) e) [ inl a ↦ (0, omega arith, sym (same_is v w a)) | inr a ↦ later v w ws (has_in v ws a) ]
-
-in_has : (v : Value) (row : List Value) → Contains row v → has_value v row ≡ true
-in_has v [] c = absurd (omega (arith, c.1))
-in_has v (w ∷ ws) (zero, h, e) = or_left (is_same v w) (has_value v ws) (subst (λ (z : Value). is_same v z ≡ true) (sym e) (same_self v))
-in_has v (w ∷ ws) (suc k, h, e) = or_right (is_same v w) (has_value v ws) (in_has v ws (k, omega (arith, h), e))
+use Rattle.flow_propagate.specs.Closing.{lacking, missing_from}
 
 cond_le : (a b : Bool) → (a ≡ true → b ≡ true) → cond {A = ℕ} b 0 1 ≤ cond {A = ℕ} a 0 1
 cond_le true true f = omega arith

@@ -11,8 +11,8 @@ use Rattle.typed_expr.specs.Mentions as m
 use Rattle.typed_expr.specs.declared.expr.Relation.{Relation}
 use Rattle.typed_expr.specs.declared.expr.Expr.{Expr, out-Expr}
 use Rattle.typed_expr.specs.declared.expr.Expr.TheOpen.{Constant, Variable, Not, All, Any, Compare, Sum, Product, Least, Greatest, Count, Choose}
-use Rattle.gts_core.specs.View.{VarId}
-use Rattle.flow_propagate.specs.Plan.{Tests, in_this, in_later}
+use Rattle.ar_base.specs.Numbers.{VarId}
+use Rattle.ar_meaning.specs.Dependence.{Tests, in_this, in_later}
 use Rattle.flow_propagate.specs.Named.{AddsNamed}
 
 pub one_left : {A : Type 0} (xs ys : List A) (x : A) → IsOneOf xs x → IsOneOf (xs ++ ys) x

@@ -8,7 +8,8 @@ use Rattle.typed_expr.specs.Yields.{Yields, facts_of}
 use Rattle.typed_expr.specs.declared.expr.Expr.{Expr, out-Expr}
 use Rattle.ar_meaning.specs.Facts.{Passes, none, one_and}
 use Rattle.ar_meaning.specs.Found.{IsAnswer}
-use Rattle.gts_core.specs.View.{VarId, numbered, condition_of}
+use Rattle.ar_base.specs.Numbers.{VarId}
+use Rattle.gts_core.specs.View.{numbered, condition_of}
 use Rattle.gts_core.proofs.Numbering.{yields_numbered, yields_back}
 use Rattle.flow_propagate.specs.Table.{Rows, row_at, Holds}
 

@@ -1,5 +1,5 @@
 -- The pairs of a variable and an assignment that names it.
-use Rattle.std.proofs.Common.{Ordering, Less, Equal, Greater, ◌≡◌, ℕ, zero, suc, ◌+◌, ◌<◌, ◌≤◌, ◌⊎◌, inl, inr, Bool, true, false, ◌&&◌, nat_eq, List, [], ◌∷◌, map, length, get_or, Contains, Some, refl, sym, ap, ◌∙◌, subst, arith}
+use Rattle.std.proofs.Common.{Ordering, Less, Equal, Greater, ◌≡◌, ℕ, zero, suc, ◌+◌, ◌<◌, ◌≤◌, ◌⊎◌, inl, inr, Bool, true, ◌&&◌, nat_eq, List, [], ◌∷◌, map, length, get_or, Contains, refl, sym, ap, ◌∙◌, subst, arith}
 use Rattle.std.specs.Ordering.{nat_cmp, ordering_then, eq_by_cmp}
 use Rattle.std.specs.Cmp.{IsTotalOrder, IsEquivalence, both_tied, unsigned_ties, unsigned_Decides}
 use Rattle.std.proofs.lemmas.Cmp.{nat_cmp_total, nat_eq_equiv, then_total, on_total, and_equiv, on_equiv, ranked}
@@ -9,20 +9,23 @@ use Rattle.std.specs.List.Retain.{IsFiltered, DiffersFromLast}
 use Rattle.std.proofs.lemmas.List.Sorted.{Contains-permutation, IsPermutation-sym}
 use Rattle.std.proofs.lemmas.List.Filters.{dedup_is}
 use Rattle.std.proofs.lemmas.List.Kept.{Contains-dedup, Contains-from_dedup, IsStrictlySortedBy-dedup}
-use Rattle.std.proofs.lemmas.Option.{slice_get-get_or, get_or_from_slice_get}
+use Rattle.std.proofs.lemmas.Bool.{and_parts}
 use Rattle.ar_base.specs.Lists.{Stands, IsOneOf}
-use Rattle.ar_base.proofs.Standing.{stands_within, stands_one, stands_none}
+use Rattle.ar_base.proofs.Standing.{stands_within, stands_one, stands_none, one_contains, contains_one}
 use Rattle.typed_expr.specs.Pairs.{turned}
 use Rattle.typed_expr.specs.Mentions.{Mentions}
 use Rattle.typed_expr.proofs.Renaming.{mentions_carry, renames_turned}
 use Rattle.typed_expr.specs.declared.expr.Expr.{Expr, out-Expr}
-use Rattle.gts_core.specs.View.{VarId, numbered, condition_of, assign_of}
+use Rattle.ar_base.specs.Numbers.{VarId}
+use Rattle.gts_core.specs.View.{numbered, condition_of, assign_of, net_of}
 use Rattle.gts_core.proofs.Numbering.{IsNumber, renames_numbered}
 use Rattle.gts_core.specs.declared.system.Assign.{Assign}
 use Rattle.gts_core.specs.declared.system.GtsParts.{GtsParts}
-use Rattle.flow_propagate.specs.Plan.{Tests, in_this, in_later, Names, Reads, ComesBefore, AreReaders}
+use Rattle.ar_meaning.specs.Dependence.{Tests, in_this, in_later, Names, Reads}
+use Rattle.flow_propagate.specs.Plan.{ComesBefore, AreReaders}
 use Rattle.flow_propagate.specs.Named.{IsPairFor, AddsNamed, NamesVariable, AreNamed}
 use Rattle.flow_propagate.proofs.Searching.{stands_read}
+use Rattle.flow_propagate.proofs.Numbered.{read_there, read_back}
 
 -- a variable by its plain number
 pub record Typed (P : VarId → Type 0) (x : ℕ) : Type 0 where
@@ -79,16 +82,17 @@ named_more p i a old new h is before adds = record {
     stands : Stands p.assigns.items i a
     stands = stands_read p.assigns.items i a h is
 
-    here : (q : ℕ × ℕ) → IsPairFor i (NamesVariable a) q → Reads p q.0 q.1
-    here q k = subst (λ (z : ℕ). Reads p z q.1) (sym k.first) (subst (λ (z : ℕ). Reads p k.variable.n z) (sym k.second) (record { assign = a; stands = stands; names = names_there a k.variable k.has }))
+    here : (q : ℕ × ℕ) → IsPairFor i (NamesVariable a) q → Reads (net_of p) q.0 q.1
+    here q k = subst (λ (z : ℕ). Reads (net_of p) z q.1) (sym k.first) (subst (λ (z : ℕ). Reads (net_of p) k.variable.n z) (sym k.second) (read_there p k.variable.n i (record { assign = a; stands = stands; names = names_there a k.variable k.has })))
 
-    same : (x n : ℕ) → n ≡ i → Reads p x n → IsOneOf new (x, n)
-    same x n e r =
+    same : (x n : ℕ) → n ≡ i → Reads (net_of p) x n → IsOneOf new (x, n)
+    same x n e h =
+        let r = read_back p x n h in
         let one : r.assign ≡ a = stands_one p.assigns.items i r.assign a (subst (λ (z : ℕ). Stands p.assigns.items z r.assign) e r.stands) stands in
         let t = names_back a x (subst (λ (z : Assign). Names (assign_of z) x) one r.names) in
         subst (λ (z : ℕ). IsOneOf new (z, n)) t.is (subst (λ (z : ℕ). IsOneOf new (t.variable.n, z)) (sym e) (adds.all t.variable t.has))
 
-    at : (x n : ℕ) → Reads p x n → (n < i) ⊎ (n ≡ i) → IsOneOf new (x, n)
+    at : (x n : ℕ) → Reads (net_of p) x n → (n < i) ⊎ (n ≡ i) → IsOneOf new (x, n)
     at x n r (inl l) = adds.grows (x, n) (before.all x n l r)
     at x n r (inr e) = same x n e r
 
@@ -111,13 +115,9 @@ pair_equiv = and_equiv (on_equiv (λ (t : ℕ × ℕ). t.0) nat_eq_equiv) (on_eq
 pair_ties : (x y : ℕ × ℕ) → pair_eq x y ≡ eq_by_cmp pair_cmp x y
 pair_ties x y = both_tied _ _ (nat_cmp x.0 y.0) (nat_cmp x.1 y.1) (unsigned_ties x.0 y.0) (unsigned_ties x.1 y.1)
 
-both_true : (a b : Bool) → (a && b) ≡ true → (a ≡ true) × (b ≡ true)
-both_true true b e = (refl, e)
-both_true false b e = absurd (cc e)
-
 pub pair_same : (x y : ℕ × ℕ) → pair_eq x y ≡ true → x ≡ y
 pair_same x y e =
-    let r = both_true (nat_eq x.0 y.0) (nat_eq x.1 y.1) e in
+    let r = and_parts (nat_eq x.0 y.0) (nat_eq x.1 y.1) e in
     let a : x.0 ≡ y.0 = (unsigned_Decides x.0 y.0).0 r.0 in
     let b : x.1 ≡ y.1 = (unsigned_Decides x.1 y.1).0 r.1 in
     ap (λ (z : ℕ). let q : ℕ × ℕ = (z, x.1) in q) a ∙ ap (λ (z : ℕ). let q : ℕ × ℕ = (y.0, z) in q) b
@@ -147,12 +147,6 @@ strictly (x ∷ xs) zero (suc k) q r s h a b =
     subst (λ (z : ℕ × ℕ). pair_cmp z r ≡ Less) e (all_stand (λ y. pair_cmp x y ≡ Less) xs k r s.0 b)
 strictly (x ∷ xs) (suc j) (suc k) q r s h a b = strictly xs j k q r s.1 (omega arith) a b
 
-pub one_contains : {A : Type 0} (xs : List A) (x : A) → IsOneOf xs x → Contains xs x
-one_contains xs x one = (one.place, stands_within xs one.place x one.stands, get_or_from_slice_get xs one.place x x one.stands)
-
-pub contains_one : {A : Type 0} (xs : List A) (x : A) → Contains xs x → IsOneOf xs x
-contains_one {A} xs x c = record { place = c.0; stands = slice_get-get_or xs c.0 x c.1 ∙ ap (λ (y : A). Some y) c.2 }
-
 -- the pairs, sorted and each once
 pub readers_sorted : (p : GtsParts) (pairs sorted kept : List (ℕ × ℕ)) → AreNamed p (length p.assigns.items) pairs → IsPermutation pairs sorted → IsSorted pair_cmp sorted → IsFiltered (DiffersFromLast pair_eq) [] sorted kept → AreReaders p kept
 readers_sorted p pairs sorted kept a perm order filtered =
@@ -160,15 +154,15 @@ readers_sorted p pairs sorted kept a perm order filtered =
     let P : List (ℕ × ℕ) → Type 0 = λ z. AreReaders p z in
     subst P (sym is) (record {
       only = λ x n o. a.only (x, n) (back (x, n) o);
-      all = λ x n r. there (x, n) (a.all x n (stands_within p.assigns.items n r.assign r.stands) r);
+      all = λ x n r. there (x, n) (let h = read_back p x n r in a.all x n (stands_within p.assigns.items n h.assign h.stands) r);
       ascending = λ j k q r h s t. comes_before q r (strictly (dedup pair_eq sorted) j k q r (IsStrictlySortedBy-dedup pair_total pair_ties sorted order) h s t);
     })
   where
     there : (q : ℕ × ℕ) → IsOneOf pairs q → IsOneOf (dedup pair_eq sorted) q
-    there q o = contains_one (dedup pair_eq sorted) q (Contains-dedup pair_equiv pair_same sorted q (Contains-permutation pairs sorted q perm (one_contains pairs q o)))
+    there q o = one_contains (dedup pair_eq sorted) q (Contains-dedup pair_equiv pair_same sorted q (Contains-permutation pairs sorted q perm (contains_one pairs q o)))
 
     back : (q : ℕ × ℕ) → IsOneOf (dedup pair_eq sorted) q → IsOneOf pairs q
-    back q o = contains_one pairs q (unsort q (Contains-from_dedup pair_eq sorted q (one_contains (dedup pair_eq sorted) q o)))
+    back q o = one_contains pairs q (unsort q (Contains-from_dedup pair_eq sorted q (contains_one (dedup pair_eq sorted) q o)))
       where
         unsort : (q : ℕ × ℕ) → Contains sorted q → Contains pairs q
         unsort q c = Contains-permutation sorted pairs q (IsPermutation-sym pairs sorted perm) c

@@ -15,7 +15,8 @@ use Rattle.flow_propagate.specs.Table.{Rows, row_at, Holds, IsSoundTable, Starts
 nothing : (v : Value) → Contains [] v → ⊥
 nothing v h = omega (arith, h.1)
 
-only_one : (w v : Value) → Contains (w ∷ []) v → w ≡ v
+-- the only value of a list
+pub only_one : (w v : Value) → Contains (w ∷ []) v → w ≡ v
 only_one w v (zero, h, e) = e
 only_one w v (suc k, h, e) = absurd (omega (arith, h))
 

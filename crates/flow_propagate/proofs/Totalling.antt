@@ -1,5 +1,5 @@
 -- Total valuations, and the assignments that do not hold under them.
-use Rattle.std.proofs.Common.{◌≡◌, ℕ, zero, suc, ◌+◌, ◌<◌, ◌≤◌, ◌⊎◌, inl, inr, Bool, true, false, List, [], ◌∷◌, ◌++◌, length, Contains, Some, refl, sym, ap, ◌∙◌, subst, arith, length-append}
+use Rattle.std.proofs.Common.{◌≡◌, ℕ, suc, ◌+◌, ◌<◌, ◌≤◌, ◌⊎◌, inl, inr, Bool, true, false, List, [], ◌∷◌, ◌++◌, length, Contains, Some, refl, sym, ap, ◌∙◌, subst, arith, length-append}
 use Rattle.ar_base.specs.Lists.{Stands, IsFirst, HasNo}
 use Rattle.ar_base.proofs.Standing.{stands_one, stands_map, stands_map_back, stands_within, stands_some, stands_left, stands_next}
 use Rattle.domains.specs.declared.Value.{Value}
@@ -19,7 +19,7 @@ use Rattle.gts_core.specs.declared.system.GtsParts.{GtsParts}
 use Rattle.flow_propagate.specs.Table.{Rows, row_at, Holds, AreFacts, Reaches}
 use Rattle.flow_propagate.specs.Totals.{Completed, completed_value, AreSingle, Breaks}
 use Rattle.flow_propagate.proofs.Searching.{at_most}
-use Rattle.flow_propagate.proofs.Starting.{holds_within, one_there}
+use Rattle.flow_propagate.proofs.Starting.{holds_within, one_there, only_one}
 
 pub completed_more : (vars : List Variable) (values : List Value) (rows : Rows) (i : ℕ) (x : Variable) (v : Value) (total new : List Value) (w : Value)
     → Completed vars values rows i total → Stands vars i x → Stands values i v → w ≡ completed_value x.is_state v (row_at rows i) x.value → new ≡ total ++ w ∷ [] → Completed vars values rows (i + 1) new
@@ -67,10 +67,6 @@ module _ (p : GtsParts) (t : List Value) (rows : Rows) (facts : AreFacts (net_of
   pub completes : (total : List Value) → length t ≡ length p.variables.items → Completed p.variables.items t rows (length p.variables.items) total → Completes (FactOf (net_of p) t) (net_of p).variables t total
   completes total long c = completes_from 0 p.variables.items t total long c.long
       (λ n m x v e sx sv. subst (λ (z : ℕ). Stands total n (completed_value x.is_state v (row_at rows z) x.value)) (let i : n ≡ m = omega (arith, e) in i) (c.value n x v (stands_within p.variables.items n x sx) sx sv))
-
-only_one : (w v : Value) → Contains (w ∷ []) v → w ≡ v
-only_one w v (zero, h, e) = e
-only_one w v (suc k, h, e) = absurd (omega (arith, h))
 
 module _ (p : GtsParts) (total : List Value) (rows : Rows) (long : length total ≡ length p.variables.items) (single : AreSingle total rows (length total)) where
   single_value : (n : ℕ) (v : Value) → Holds rows n v → HasValue (net_of p) total n v

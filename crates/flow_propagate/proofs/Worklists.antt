@@ -6,13 +6,14 @@ use Rattle.std.specs.List.Sorted.{IsNonDecreasingBy, IsPartitionPoint, IsPermuta
 use Rattle.std.proofs.lemmas.List.Sorted.{Contains-permutation, IsPermutation-sym}
 use Rattle.std.proofs.lemmas.Option.{slice_get-get_or, get_or_from_slice_get}
 use Rattle.ar_base.specs.Lists.{Stands, IsOneOf}
-use Rattle.ar_base.proofs.Standing.{stands_one, stands_within, stands_some, stands_map, stands_map_back}
+use Rattle.ar_base.proofs.Standing.{stands_one, stands_within, stands_some, stands_map, stands_map_back, one_contains, contains_one}
 use Rattle.gts_core.specs.declared.system.GtsParts.{GtsParts}
 use Rattle.flow_propagate.specs.Plan.{AreReaders, Reader, plain_pair}
 use Rattle.flow_propagate.specs.Closing.{IsAgain, IsOrder, WaitsAt, Waits, IsWorklist, TakesPlace, Takes, AddsWork}
 use Rattle.flow_propagate.specs.declared.worklist.Worklist.{Worklist}
 use Rattle.flow_propagate.proofs.NamedVariables.{one_left, one_last, one_cases}
-use Rattle.flow_propagate.proofs.ReaderPairs.{cases_below, one_contains, contains_one}
+use Rattle.flow_propagate.proofs.Numbered.{read_back}
+use Rattle.flow_propagate.proofs.ReaderPairs.{cases_below}
 
 module _ {A : Type 0} where
   pub set_here : (xs : List A) (k : ℕ) (x : A) → k < length xs → Stands (set xs k x) k x
@@ -129,7 +130,7 @@ rising p readers a = λ i j d h k. at i j d h k (same_number i j)
 
 pub readers_below : (p : GtsParts) (readers : List Reader) → AreReaders p (map plain_pair readers) → (r : Reader) → IsOneOf readers r → r.1.n < length p.assigns.items
 readers_below p readers a r o =
-    let q = a.only r.0.n r.1.n (record { place = o.place; stands = stands_map plain_pair readers o.place r o.stands }) in
+    let q = read_back p r.0.n r.1.n (a.only r.0.n r.1.n (record { place = o.place; stands = stands_map plain_pair readers o.place r o.stands })) in
     stands_within p.assigns.items r.1.n q.assign q.stands
 
 -- what lies between the pairs of lesser and of greater variables
@@ -165,12 +166,12 @@ module _ (readers : List Reader) (t from to : ℕ) (low : IsPartitionPoint (λ (
 
   pub run_among : (r : Reader) → IsOneOf (take (to - from) (drop from readers)) r → IsOneOf readers r
   run_among r o =
-      let c = one_contains (take (to - from) (drop from readers)) r o in
+      let c = contains_one (take (to - from) (drop from readers)) r o in
       let h : c.0 < to - from = (let k = c.1 in omega (arith, k, run_long)) in
-      contains_one readers r (from + c.0, omega (arith, h, bound), sym (run_item c.0 r h) ∙ c.2)
+      one_contains readers r (from + c.0, omega (arith, h, bound), sym (run_item c.0 r h) ∙ c.2)
 
   pub run_all : (r : Reader) → IsOneOf readers r → r.0.n ≡ t → IsOneOf (take (to - from) (drop from readers)) r
-  run_all r o e = contains_one (take (to - from) (drop from readers)) r (o.place - from, omega (arith, above, below, run_long), run_item (o.place - from) r (omega (arith, above, below)) ∙ ap (λ (z : ℕ). get_or readers z r) back ∙ at)
+  run_all r o e = one_contains (take (to - from) (drop from readers)) r (o.place - from, omega (arith, above, below, run_long), run_item (o.place - from) r (omega (arith, above, below)) ∙ ap (λ (z : ℕ). get_or readers z r) back ∙ at)
     where
       within : o.place < length readers
       within = stands_within readers o.place r o.stands
@@ -212,8 +213,8 @@ numbers_more i old new e a = (
 -- numbers in another order
 pub order_moved : (count : ℕ) (xs ys : List ℕ) → IsPermutation xs ys → IsOrder count xs → IsOrder count ys
 order_moved count xs ys perm o = record {
-  all = λ n h. contains_one ys n (Contains-permutation xs ys n perm (one_contains xs n (o.all n h)));
-  below = λ n h. o.below n (contains_one xs n (Contains-permutation ys xs n (IsPermutation-sym xs ys perm) (one_contains ys n h)));
+  all = λ n h. one_contains ys n (Contains-permutation xs ys n perm (contains_one xs n (o.all n h)));
+  below = λ n h. o.below n (one_contains xs n (Contains-permutation ys xs n (IsPermutation-sym xs ys perm) (contains_one ys n h)));
 }
 
 -- the places of the first so many numbers are right

@@ -1,11 +1,11 @@
 -- How the facts are gathered: which assignments wait to be looked at, and how many facts may still come.
-use Rattle.std.specs.Prelude.{◌≡◌, ℕ, ◌+◌, ◌*◌, ◌<◌, ◌≤◌, ◌⊎◌, Bool, true, false, cond, nat_eq, List, [], ◌∷◌, ◌||◌, ◌-◌, IsTrue, length}
+use Rattle.std.specs.Prelude.{◌≡◌, ℕ, ◌+◌, ◌*◌, ◌<◌, ◌≤◌, ◌⊎◌, Bool, true, false, cond, List, [], ◌∷◌, ◌-◌, IsTrue, length}
 use Rattle.std.specs.BTreeSet.{BTreeSet, contains, btree_set_len}
-use Rattle.std.specs.Ordering.{int_eq, nat_cmp}
+use Rattle.std.specs.Ordering.{nat_cmp}
 use Rattle.ar_base.specs.Lists.{Stands, IsOneOf}
 use Rattle.domains.specs.Domains.{values_of}
+use Rattle.domains.specs.Same.{has_value}
 use Rattle.domains.specs.declared.Value.{Value}
-use Rattle.domains.specs.declared.Value.TheVariants.{Truth, Whole, Symbol}
 use Rattle.typed_expr.specs.Yields.{Yields}
 use Rattle.typed_expr.specs.declared.expr.Expr.{out-Expr}
 use Rattle.ar_meaning.specs.Facts.{Passes, Allows}
@@ -15,24 +15,6 @@ use Rattle.gts_core.specs.declared.system.Assign.{Assign}
 use Rattle.gts_core.specs.declared.system.GtsParts.{GtsParts}
 use Rattle.flow_propagate.specs.Table.{Rows, row_at, Holds, IsClosed, Moves}
 use Rattle.flow_propagate.specs.declared.worklist.Worklist.{Worklist}
-
--- whether two values are the same
-abbrev pub is_same : Value → Value → Bool
-is_same (Truth true) (Truth b) = b
-is_same (Truth false) (Truth b) = cond b false true
-is_same (Whole m) (Whole n) = int_eq m n
-is_same (Symbol m) (Symbol n) = nat_eq m n
-is_same (Truth a) (Whole n) = false
-is_same (Truth a) (Symbol n) = false
-is_same (Whole m) (Truth b) = false
-is_same (Whole m) (Symbol n) = false
-is_same (Symbol m) (Truth b) = false
-is_same (Symbol m) (Whole n) = false
-
--- whether the row has the value
-abbrev pub has_value : Value → List Value → Bool
-has_value v [] = false
-has_value v (w ∷ ws) = is_same v w || has_value v ws
 
 -- how many of the values the row lacks
 abbrev pub lacking : List Value → List Value → ℕ

@@ -6,4 +6,3 @@ pub mod Plan
 pub mod Named
 pub mod Dependence
 pub mod Closing
-pub mod Plain

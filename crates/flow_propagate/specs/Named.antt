@@ -3,10 +3,11 @@ use Rattle.std.specs.Prelude.{◌≡◌, ◌<◌, ℕ, ◌⊎◌, List}
 use Rattle.ar_base.specs.Lists.{IsOneOf}
 use Rattle.typed_expr.specs.Mentions.{Mentions}
 use Rattle.typed_expr.specs.declared.expr.Expr.{out-Expr}
-use Rattle.gts_core.specs.View.{VarId}
+use Rattle.ar_base.specs.Numbers.{VarId}
+use Rattle.gts_core.specs.View.{net_of}
 use Rattle.gts_core.specs.declared.system.Assign.{Assign}
 use Rattle.gts_core.specs.declared.system.GtsParts.{GtsParts}
-use Rattle.flow_propagate.specs.Plan.{Tests, Reads}
+use Rattle.ar_meaning.specs.Dependence.{Tests, Reads}
 
 -- a variable that has P, by its number, with the assignment's
 pub record IsPairFor (n : ℕ) (P : VarId → Type 0) (q : ℕ × ℕ) : Type 0 where
@@ -27,5 +28,5 @@ NamesVariable a x = Mentions x (out-Expr VarId a.value) ⊎ Tests x a.when.items
 
 -- the pairs of a variable and one of the first so many assignments that names it
 pub record AreNamed (p : GtsParts) (count : ℕ) (pairs : List (ℕ × ℕ)) : Type 0 where
-  pub only : (q : ℕ × ℕ) → IsOneOf pairs q → Reads p q.0 q.1
-  pub all : (x n : ℕ) → n < count → Reads p x n → IsOneOf pairs (x, n)
+  pub only : (q : ℕ × ℕ) → IsOneOf pairs q → Reads (net_of p) q.0 q.1
+  pub all : (x n : ℕ) → n < count → Reads (net_of p) x n → IsOneOf pairs (x, n)

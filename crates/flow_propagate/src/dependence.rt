@@ -2,8 +2,10 @@
 
 ghost use Rattle.std.specs.Prelude.{◌≡◌, ◌<◌, ◌+◌, ◌^◌, if◌then◌else◌, length, IfOk};
 ghost use Rattle.gts_core.specs.Sound.{IsSound};
-ghost use Rattle.flow_propagate.specs.Plan.{AreReaders, Reads, flow_count};
-ghost use Rattle.flow_propagate.specs.Dependence.{ArePlaces, AreUses, AddsUse};
+ghost use Rattle.ar_meaning.specs.Dependence.{Reads, AreUses};
+ghost use Rattle.gts_core.specs.View.{net_of};
+ghost use Rattle.flow_propagate.specs.Plan.{AreReaders};
+ghost use Rattle.flow_propagate.specs.Dependence.{flows_in, ArePlaces, AddsUse};
 
 use ar_base::Memory;
 use flow_blocks::Graph;
@@ -21,7 +23,7 @@ pub(crate) struct FlowPlaces {
 pub(crate) fn flow_places(alloc: Global, variables: &[Variable]) -> Result<FlowPlaces, Memory>
     requires { length variables.now < 2 ^ 32 }
     ensures places { IfOk result (λ places. ArePlaces variables.now (length variables.now) places.before.items) }
-    ensures count { IfOk result (λ places. places.count ≡ flow_count variables.now) }
+    ensures count { IfOk result (λ places. places.count ≡ flows_in variables.now) }
 {
     let mut before = Vec::new(alloc);
     let mut count = 0;
@@ -50,7 +52,7 @@ pub(crate) fn dependences(
     requires sound { IsSound parts.now }
     requires places { ArePlaces parts.now.variables.items (length parts.now.variables.items) places.now.before.items }
     requires readers { AreReaders parts.now readers.now }
-    ensures uses { IfOk result (λ graph. AreUses parts.now graph.uses.items) }
+    ensures uses { IfOk result (λ graph. AreUses (net_of parts.now) graph.uses.items) }
     ensures count { IfOk result (λ graph. graph.count ≡ places.now.count) }
 {
     let mut uses = Vec::new(alloc);
@@ -73,7 +75,7 @@ fn add_use(
 ) -> Result<(), Memory>
     requires sound { IsSound parts.now }
     requires places { ArePlaces parts.now.variables.items (length parts.now.variables.items) places.now.before.items }
-    requires reads { Reads parts.now variable assign }
+    requires reads { Reads (net_of parts.now) variable assign }
     ensures { IfOk result (λ _. AddsUse parts.now variable assign uses.old.items uses.new.items) }
 {
     if parts.variables[variable as usize].is_state {

@@ -11,8 +11,6 @@ mod propagation;
 mod readers;
 mod searches;
 mod table;
-#[cfg(test)]
-mod tests;
 mod totals;
 mod worklist;
 

@@ -3,8 +3,8 @@
 ghost use Rattle.std.specs.Prelude.{◌≡◌, ◌++◌, ◌∷◌, [], IfOk};
 ghost use Rattle.typed_expr.specs.Mentions.{Mentions, Some_mentions, Parts_mention, Cases_mention};
 ghost use Rattle.typed_expr.specs.declared.expr.Expr.{out-Expr};
-ghost use Rattle.gts_core.specs.View.{VarId as Numbered};
-ghost use Rattle.flow_propagate.specs.Plan.{Tests};
+ghost use Rattle.ar_base.specs.Numbers.{VarId as Numbered};
+ghost use Rattle.ar_meaning.specs.Dependence.{Tests};
 ghost use Rattle.flow_propagate.specs.Named.{AddsNamed, NamesVariable};
 
 use ar_base::{Memory, VarId};

@@ -3,17 +3,11 @@ use Rattle.std.proofs.Common.{◌≡◌, ◌↔◌, ℕ, zero, suc, ◌+◌, ◌
 use Rattle.std.proofs.lemmas.Bool.{ltb-true}
 use Rattle.std.specs.Prelude.{nat_lt}
 use Rattle.ar_base.specs.Lists.{Stands}
-use Rattle.ar_base.proofs.Standing.{stands_one, stands_within}
+use Rattle.ar_base.proofs.Standing.{stands_one, stands_within, stands_get}
 use Rattle.gts_checks.specs.Each.{EachAt}
 use Rattle.gts_checks.proofs.Tests.{refuted, proved}
 
 module _ {A : Type 0} where
-  -- what a place below the length gives stands there
-  stands_get : (xs : List A) (n : ℕ) (d : A) → n < length xs → Stands xs n (get_or xs n d)
-  stands_get [] n d h = absurd (omega (arith, h))
-  stands_get (x ∷ xs) zero d h = refl
-  stands_get (x ∷ xs) (suc n) d h = stands_get xs n d (omega (arith, h))
-
   -- what was read at a place of a list stands there
   pub stands_read : (xs ys : List A) → ys ≡ xs → (n : ℕ) (a : A) → n < length ys → a ≡ get_or ys n a → Stands xs n a
   stands_read xs ys same n a h is =

@@ -10,7 +10,7 @@ use Rattle.typed_expr.specs.Possible as part
 use Rattle.typed_expr.specs.Possible.{IsPart}
 use Rattle.typed_expr.specs.declared.expr.Expr.{Expr, out-Expr}
 use Rattle.typed_expr.specs.declared.expr.Expr.TheOpen.{Constant}
-use Rattle.gts_core.specs.View.{VarId}
+use Rattle.ar_base.specs.Numbers.{VarId}
 use Rattle.gts_core.specs.Sound.{IsNamed, IsTyped, kind_at}
 use Rattle.typed_expr.specs.Kinds.{HasKind, IsKindOf}
 use Rattle.typed_expr.specs.Kinds.{Each as Every, Each_part as Every_part, Each_case as Every_case}

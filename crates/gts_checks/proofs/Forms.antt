@@ -7,13 +7,13 @@ use Rattle.typed_expr.specs.declared.expr.Expr.{Expr, out-Expr}
 use Rattle.typed_expr.specs.declared.expr.Expr as plain
 use Rattle.typed_expr.specs.declared.expr.Expr.TheOpen.{Constant, Variable, Not, All, Any, Compare, Sum, Product, Least, Greatest, Count, Choose}
 use Rattle.typed_expr.specs.declared.expr.Expr.TheViews as view
-use Rattle.gts_core.specs.View.{VarId}
+use Rattle.ar_base.specs.Numbers.{VarId}
 use Rattle.gts_core.specs.Sound.{IsNamed}
 use Rattle.gts_core.specs.declared.system.GtsParts.{GtsParts}
 use Rattle.gts_checks.specs.Fitting as f
 use Rattle.gts_checks.specs.Fitting.{Fits}
 use Rattle.gts_checks.proofs.Fitted.{EachFits, EachTermFits, EachCaseFits}
-use Rattle.gts_checks.proofs.Opened as opened
+use Rattle.typed_expr.proofs.Opened as opened
 use Rattle.gts_checks.proofs.Tests.{through}
 
 module _ (p : GtsParts) where

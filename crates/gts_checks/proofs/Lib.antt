@@ -1,4 +1,3 @@
-mod Opened
 mod Fitted
 mod Forms
 mod Soundness

@@ -4,7 +4,8 @@ use Rattle.ar_base.specs.Lists.{Stands}
 use Rattle.ar_base.proofs.Standing.{stands_some, stands_map}
 use Rattle.ar_meaning.specs.Systems as s
 use Rattle.ar_meaning.specs.Numbered.{Means_way, leaf, joint, Mean_parts, no_part, part, height, branches_height}
-use Rattle.gts_core.specs.View.{WayId, bodies_of, body_of, of_body, part_of}
+use Rattle.ar_base.specs.Numbers.{WayId}
+use Rattle.gts_core.specs.View.{bodies_of, body_of, of_body, part_of}
 use Rattle.gts_core.specs.declared.system.WayBody.{WayBody}
 use Rattle.gts_core.specs.declared.system.WayBody.TheVariants.{Local, Sync}
 use Rattle.gts_core.specs.declared.system.GtsParts.{GtsParts}

@@ -1,7 +1,7 @@
 -- Ways that are made of ways with lower numbers.
 use Rattle.std.specs.Prelude.{◌≡◌, ℕ, ◌+◌, ◌<◌, List}
 use Rattle.ar_base.specs.Lists.{Stands}
-use Rattle.gts_core.specs.View.{WayId}
+use Rattle.ar_base.specs.Numbers.{WayId}
 use Rattle.gts_core.specs.declared.system.GtsParts.{GtsParts}
 use Rattle.gts_core.specs.declared.system.WayBody.{WayBody}
 use Rattle.gts_core.specs.declared.system.WayBody.TheVariants.{Local, Sync}

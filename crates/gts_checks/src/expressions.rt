@@ -3,7 +3,7 @@
 ghost use Rattle.std.specs.Prelude.{◌≡◌, ◌<◌, ◌↔◌, IsTrue, false, [], length, slice_get};
 ghost use Rattle.domains.specs.declared.Value.TheVariants.{Truth};
 ghost use Rattle.typed_expr.specs.declared.expr.Expr.{out-Expr};
-ghost use Rattle.gts_core.specs.View.{VarId as Numbered};
+ghost use Rattle.ar_base.specs.Numbers.{VarId as Numbered};
 ghost use Rattle.gts_core.specs.Sound.{IsNamed, IsTyped, kind_of_domain, kind_of_found};
 ghost use Rattle.gts_checks.specs.Each.{Each};
 ghost use Rattle.gts_checks.specs.Fitting.{Fits};

@@ -6,8 +6,6 @@ mod checking;
 mod events;
 mod expressions;
 mod lengths;
-#[cfg(test)]
-mod list_tests;
 mod variables;
 mod ways;
 

@@ -20,7 +20,8 @@ use Rattle.gts_core.specs.declared.bound.Act.TheOpen.{Act-F}
 use Rattle.gts_core.specs.declared.bound.Act.TheFolds.{fold_out-Act, map-Act}
 use Rattle.gts_core.specs.declared.bound.Act.TheViews.{If, All, outs-If, outs-All}
 use Rattle.gts_core.specs.declared.system.Assign.{Assign}
-use Rattle.gts_core.specs.View.{VarId, numbered, assign_of}
+use Rattle.ar_base.specs.Numbers.{VarId}
+use Rattle.gts_core.specs.View.{numbered, assign_of}
 use Rattle.gts_core.specs.Copies.{IsCopy}
 use Rattle.gts_core.specs.Bound.{Conditions, act_step, assigns_under, AreNumbers, AreAssigns, Gives, GiveAll, AreConditionCopies, IsUnder}
 use Rattle.gts_core.proofs.Numbering.{IsNumber, renames_numbered, copy_numbered}

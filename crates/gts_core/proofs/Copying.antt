@@ -9,7 +9,7 @@ use Rattle.typed_expr.specs.declared.expr.Relation.{Relation}
 use Rattle.typed_expr.specs.declared.expr.Expr.{Expr, Constant, Variable, out-Expr, roll-Expr, out-roll-Expr}
 use Rattle.typed_expr.specs.declared.expr.Expr.TheOpen as form
 use Rattle.typed_expr.specs.declared.expr.Expr.TheViews.{Not, All, Any, Compare, Sum, Product, Least, Greatest, Count, Choose, outs-Not, outs-All, outs-Any, outs-Compare, outs-Sum, outs-Product, outs-Least, outs-Greatest, outs-Count, outs-Choose}
-use Rattle.gts_core.specs.View.{VarId}
+use Rattle.ar_base.specs.Numbers.{VarId}
 use Rattle.gts_core.specs.Copies.{IsSame, IsCopy, AreCopies, AreTermCopies, AreCaseCopies}
 
 opened_constant : (v : Value) → out-Expr VarId (Constant v) ≡ form.Constant v

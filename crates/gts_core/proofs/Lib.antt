@@ -1,7 +1,10 @@
-mod Going
 mod Texts
 pub mod Numbering
 pub mod Viewing
 mod Systems
 mod Copying
 mod ActForms
+pub mod Tests
+pub mod Reading
+pub mod KindsRenamed
+pub mod Lawfulness

@@ -10,7 +10,8 @@ use Rattle.typed_expr.specs.declared.expr.Expr.{Expr, out-Expr, roll-Expr, out-r
 use Rattle.typed_expr.specs.declared.expr.Expr.TheOpen.{Expr-F, Constant, Variable, Not, All, Any, Compare, Sum, Product, Least, Greatest, Count, Choose}
 use Rattle.typed_expr.specs.declared.expr.Expr.TheFolds.{ind-Expr, map-Expr, fold-roll-Expr}
 use Rattle.ar_base.specs.Lists.{Stands}
-use Rattle.gts_core.specs.View.{VarId, numbered, number_step}
+use Rattle.ar_base.specs.Numbers.{VarId}
+use Rattle.gts_core.specs.View.{numbered, number_step}
 use Rattle.gts_core.specs.Copies.{IsSame, IsCopy}
 
 -- the number stands for the variable

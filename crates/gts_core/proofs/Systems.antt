@@ -6,7 +6,8 @@ use Rattle.ar_base.proofs.Standing.{stands_within}
 use Rattle.typed_expr.specs.declared.expr.Expr.{Expr}
 use Rattle.ar_meaning.specs.Systems.{System, Net, Event as Meant, Way as Ways}
 use Rattle.ar_meaning.proofs.OneRun.{means_same}
-use Rattle.gts_core.specs.View.{WayId, IsWayAt, IsEvent, Views, net_of, bodies_of, observers_of}
+use Rattle.ar_base.specs.Numbers.{WayId}
+use Rattle.gts_core.specs.View.{IsWayAt, IsEvent, Views, net_of, bodies_of, observers_of}
 use Rattle.gts_core.specs.Sound.{IsSound}
 use Rattle.gts_core.specs.declared.system.Event.{Event}
 use Rattle.gts_core.specs.declared.system.GtsParts.{GtsParts}

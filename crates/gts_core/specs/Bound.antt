@@ -8,7 +8,8 @@ use Rattle.ar_meaning.specs.Image.{Conditions_rename, Assign_renames}
 use Rattle.ar_meaning.specs.Expand.{Declared, Member, One, Synchronises}
 use Rattle.ar_base.specs.declared.numbers.Id.{Id}
 use Rattle.ar_base.specs.declared.numbers.EventKind.{EventKind}
-use Rattle.gts_core.specs.View.{VarId, numbered, condition_of, assign_of}
+use Rattle.ar_base.specs.Numbers.{VarId}
+use Rattle.gts_core.specs.View.{numbered, condition_of, assign_of}
 use Rattle.gts_core.specs.Copies.{IsSame}
 use Rattle.gts_core.specs.declared.system.Assign.{Assign}
 use Rattle.gts_core.specs.declared.bound.Act.{Act}

@@ -1,6 +1,7 @@
 pub mod View
 pub mod Sound
 pub mod Printed
-pub mod Goes
 pub mod Copies
 pub mod Bound
+pub mod Readings
+pub mod Lawful

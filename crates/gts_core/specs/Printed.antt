@@ -1,8 +1,8 @@
 -- The text of a flat system.
-use Rattle.std.specs.Prelude.{ℕ, ◌+◌, Bool, true, false, List, [], ◌∷◌, ◌++◌, map, codes, decimal, Option, Some, None, unwrap_or, slice_get, if◌then◌else◌}
+use Rattle.std.specs.Prelude.{ℕ, ◌+◌, Bool, true, false, List, [], ◌∷◌, ◌++◌, length, map, nat_eq, codes, decimal, Option, Some, None, slice_get, if◌then◌else◌}
 use Rattle.std.specs.Fmt.{signed_decimal}
-use Rattle.domains.specs.declared.Value.{Value}
-use Rattle.domains.specs.declared.Value.TheVariants as value
+use Rattle.std.specs.List.{concat}
+use Rattle.ar_base.specs.Texts.{text_at, separated}
 use Rattle.domains.specs.declared.Domain.{Domain}
 use Rattle.domains.specs.declared.Domain.TheVariants as domain
 use Rattle.typed_expr.specs.declared.expr.Relation.{Relation}
@@ -10,7 +10,8 @@ use Rattle.typed_expr.specs.declared.expr.Relation.TheVariants.{Equal, Differs, 
 use Rattle.typed_expr.specs.declared.expr.Expr.{Expr}
 use Rattle.typed_expr.specs.declared.expr.Expr.TheOpen.{Expr-F, Constant, Variable, Not, All, Any, Compare, Sum, Product, Least, Greatest, Count, Choose}
 use Rattle.typed_expr.specs.declared.expr.Expr.TheFolds.{fold-Expr}
-use Rattle.gts_core.specs.View.{VarId, WayId}
+use Rattle.ar_base.specs.Numbers.{VarId, WayId}
+use Rattle.ar_meaning.specs.ValueTexts.{value_text}
 use Rattle.gts_core.specs.declared.system.Variable.{Variable as FlatVariable}
 use Rattle.gts_core.specs.declared.system.Event.{Event}
 use Rattle.gts_core.specs.declared.system.Way.{Way}
@@ -20,10 +21,6 @@ use Rattle.gts_core.specs.declared.system.Assign.{Assign}
 use Rattle.gts_core.specs.declared.system.Observer.{Observer}
 use Rattle.gts_core.specs.declared.system.GtsParts.{GtsParts}
 
--- the text of this number, or none
-abbrev pub text_at : List (List ℕ) → ℕ → List ℕ
-text_at texts n = unwrap_or (slice_get texts n) []
-
 -- the path of a variable that was looked up
 abbrev pub path_of : Option FlatVariable → List ℕ
 path_of (Some x) = x.path
@@ -32,16 +29,6 @@ path_of None = []
 -- the path of the variable of this number
 abbrev pub path_at : GtsParts → ℕ → List ℕ
 path_at p n = path_of (slice_get p.variables.items n)
-
--- the texts with the separator between each two of them
-abbrev pub separated : Bool → List ℕ → List (List ℕ) → List ℕ
-separated first separator [] = []
-separated first separator (t ∷ ts) = (if first then [] else separator) ++ t ++ separated false separator ts
-
--- the texts one behind the other
-abbrev pub joined : List (List ℕ) → List ℕ
-joined [] = []
-joined (t ∷ ts) = t ++ joined ts
 
 -- what stands before a part of a sum
 abbrev pub sign : Bool → Bool → List ℕ
@@ -60,15 +47,17 @@ abbrev pub case_form : Bool → List ℕ × List ℕ → List ℕ
 case_form true c = codes "(if " ++ c.0 ++ codes " then " ++ c.1 ++ codes " else "
 case_form false c = codes "case " ++ c.0 ++ codes ": " ++ c.1 ++ codes " "
 
--- a choice between many
-abbrev pub switch_text : List (List ℕ × List ℕ) → List ℕ → List ℕ
-switch_text cs other = codes "switch {" ++ joined (map (case_form false) cs) ++ codes "default: " ++ other ++ codes "}"
+-- the cases of a choice and what stands round them: of the only one, or of another number of them
+abbrev pub cases_form : Bool → List (List ℕ × List ℕ) → List ℕ
+cases_form one cs = (if one then [] else codes "switch {") ++ concat (map (case_form one) cs) ++ (if one then [] else codes "default: ")
+
+-- a choice, as one with one case or as one with another number of them
+abbrev pub choice_form : Bool → List (List ℕ × List ℕ) → List ℕ → List ℕ
+choice_form one cs other = cases_form one cs ++ other ++ (if one then codes ")" else codes "}")
 
 -- a choice: with one case, or with another number of them
 abbrev pub choice_text : List (List ℕ × List ℕ) → List ℕ → List ℕ
-choice_text [] other = switch_text [] other
-choice_text (c ∷ []) other = case_form true c ++ other ++ codes ")"
-choice_text (c ∷ d ∷ cs) other = switch_text (c ∷ d ∷ cs) other
+choice_text cs other = choice_form (nat_eq (length cs) 1) cs other
 
 -- a relation between the sides of a comparison
 abbrev pub relation_text : Relation → List ℕ
@@ -79,15 +68,9 @@ relation_text AtMost = codes " <= "
 relation_text More = codes " > "
 relation_text AtLeast = codes " >= "
 
--- a value; symbols by their names
-abbrev pub value_text : GtsParts → Value → List ℕ
-value_text p (value.Truth b) = if b then codes "true" else codes "false"
-value_text p (value.Whole n) = signed_decimal n
-value_text p (value.Symbol k) = text_at p.symbols.items k
-
 -- one form, with the texts of its operands in their places
 abbrev pub text_step : GtsParts → Expr-F VarId (List ℕ) → List ℕ
-text_step p (Constant v) = value_text p v
+text_step p (Constant v) = value_text p.symbols.items v
 text_step p (Variable x) = path_at p x.n
 text_step p (Not a) = codes "(not " ++ a.value ++ codes ")"
 text_step p (All es) = codes "(" ++ separated true (codes " and ") es.items ++ codes ")"
@@ -113,7 +96,7 @@ domain_text p (domain.Range low high) = codes "[" ++ signed_decimal low ++ codes
 -- a line for a variable
 abbrev pub variable_line : GtsParts → FlatVariable → List ℕ
 variable_line p x =
-    (if x.is_state then codes "state " else codes "flow ") ++ x.path ++ codes " " ++ domain_text p x.domain ++ codes " = " ++ value_text p x.value ++ codes "\n"
+    (if x.is_state then codes "state " else codes "flow ") ++ x.path ++ codes " " ++ domain_text p x.domain ++ codes " = " ++ value_text p.symbols.items x.value ++ codes "\n"
 
 -- a condition of an assignment
 abbrev pub condition_text : GtsParts → Expr VarId × Bool → List ℕ
@@ -121,7 +104,7 @@ condition_text p c = (if c.1 then codes " when " else codes " unless ") ++ expr_
 
 -- an assignment with its conditions
 abbrev pub set_text : GtsParts → Assign → List ℕ
-set_text p a = path_at p a.target.n ++ codes " := " ++ expr_text p a.value ++ joined (map (condition_text p) a.when.items)
+set_text p a = path_at p a.target.n ++ codes " := " ++ expr_text p a.value ++ concat (map (condition_text p) a.when.items)
 
 -- the assignments of an action
 abbrev pub action_text : GtsParts → List Assign → List ℕ
@@ -162,7 +145,7 @@ line_found p hidden None = []
 
 -- the lines for the ways of an event
 abbrev pub event_lines : GtsParts → Event → List ℕ
-event_lines p e = joined (map (λ (w : WayId). line_found p e.hidden (slice_get p.ways.items w.n)) e.ways.items)
+event_lines p e = concat (map (λ (w : WayId). line_found p e.hidden (slice_get p.ways.items w.n)) e.ways.items)
 
 -- a line for an assignment of an assertion, which are numbered from 1
 abbrev pub assert_line : GtsParts → ℕ → Assign → List ℕ
@@ -179,4 +162,4 @@ observer_line p o = codes "observer " ++ o.path ++ codes " = " ++ expr_text p o.
 
 -- variables come first, then ways by event and number, then assignments, then observers
 abbrev pub flat_text : GtsParts → List ℕ
-flat_text p = joined (map (variable_line p) p.variables.items) ++ joined (map (event_lines p) p.events.items) ++ assert_lines p 0 p.assigns.items ++ joined (map (observer_line p) p.observers.items)
+flat_text p = concat (map (variable_line p) p.variables.items) ++ concat (map (event_lines p) p.events.items) ++ assert_lines p 0 p.assigns.items ++ concat (map (observer_line p) p.observers.items)

@@ -16,7 +16,8 @@ use Rattle.typed_expr.specs.declared.expr.ValueKind.{ValueKind}
 use Rattle.typed_expr.specs.declared.expr.ValueKind.TheVariants as kind
 use Rattle.ar_meaning.specs.Systems as s
 use Rattle.ar_meaning.specs.Numbered.{Means_way, height}
-use Rattle.gts_core.specs.View.{VarId, WayId, bodies_of}
+use Rattle.ar_base.specs.Numbers.{VarId, WayId}
+use Rattle.gts_core.specs.View.{bodies_of}
 use Rattle.gts_core.specs.declared.system.Variable.{Variable}
 use Rattle.gts_core.specs.declared.system.Event.{Event}
 use Rattle.gts_core.specs.declared.system.Way.{Way}

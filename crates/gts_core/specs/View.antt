@@ -1,9 +1,7 @@
 -- The system that a flat system's parts stand for.
 use Rattle.std.specs.Prelude.{◌≡◌, ℕ, ◌+◌, Bool, List, [], ◌∷◌, map}
 use Rattle.ar_base.specs.Lists.{Along}
-use Rattle.ar_base.specs.declared.numbers.Id.{Id}
-use Rattle.ar_base.specs.declared.numbers.VarKind.{VarKind}
-use Rattle.ar_base.specs.declared.numbers.WayKind.{WayKind}
+use Rattle.ar_base.specs.Numbers.{VarId, WayId}
 use Rattle.domains.specs.Domains.{values_of}
 use Rattle.typed_expr.specs.declared.expr.Expr.{Expr, roll-Expr}
 use Rattle.typed_expr.specs.declared.expr.Expr.TheOpen.{Expr-F, Constant, Variable, Not, All, Any, Compare, Sum, Product, Least, Greatest, Count, Choose}
@@ -18,13 +16,6 @@ use Rattle.gts_core.specs.declared.system.WayBody.TheVariants.{Local, Sync}
 use Rattle.gts_core.specs.declared.system.Assign.{Assign}
 use Rattle.gts_core.specs.declared.system.Observer.{Observer}
 use Rattle.gts_core.specs.declared.system.GtsParts.{GtsParts}
-
--- the typed number of a variable, and of a way
-abbrev pub VarId : Type 0
-VarId = Id VarKind
-
-abbrev pub WayId : Type 0
-WayId = Id WayKind
 
 -- one form with each variable's plain number in its place
 abbrev pub number_step : Expr-F VarId (Expr ℕ) → Expr-F ℕ (Expr ℕ)

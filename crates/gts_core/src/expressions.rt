@@ -1,113 +1,168 @@
 // The text of expressions.
 
 ghost use Rattle.std.specs.Prelude.{true, ◌≡◌, ◌++◌, codes, map};
-ghost use Rattle.gts_core.specs.Goes.{Goes};
-ghost use Rattle.gts_core.specs.Printed.{expr_text, separated, summed, joined, case_form};
+ghost use Rattle.ar_io.specs.Writing.{Writes};
+ghost use Rattle.std.specs.List.{concat};
+ghost use Rattle.ar_base.specs.Texts.{separated};
+ghost use Rattle.gts_core.specs.Printed.{expr_text, summed, case_form, cases_form};
 
 use crate::pieces::{either, path_at, put, relation_text, sign, value};
 use crate::system::GtsParts;
 use ar_base::VarId;
-use ar_io::Sink;
+use ar_io::{Sink, SinkFailed};
 use typed_expr::Expr;
 
 // An expression.
 #[cycle(expression)]
 pub(crate) fn expression<K: Sink>(
     out: &mut K,
-    well: bool,
     parts: &GtsParts,
     expr: &Expr<VarId>,
-) -> bool
-    ensures { Goes (K.written out.old) (K.faults out.old) well (K.written out.new) (K.faults out.new) result (expr_text parts.now expr.now) }
+) -> Result<(), SinkFailed>
+    ensures { Writes (K.state out.old) (K.state out.new) (expr_text parts.now expr.now) result }
 {
     match expr {
-        Expr::Constant(v) => value(out, well, parts, *v),
-        Expr::Variable(x) => put(out, well, path_at(parts, x.n)),
-        Expr::Not(a) => {
-            let opened = put(out, well, "(not ");
-            let inner = expression(out, opened, parts, a);
-            put(out, inner, ")")
-        }
-        Expr::All(es) => listed(out, well, parts, "(", es, " and "),
-        Expr::Any(es) => listed(out, well, parts, "(", es, " or "),
+        Expr::Constant(v) => value(out, parts, *v),
+        Expr::Variable(x) => put(out, path_at(parts, x.n)),
+        Expr::Not(a) => opposite(out, parts, a),
+        Expr::All(es) => listed(out, parts, "(", es, " and "),
+        Expr::Any(es) => listed(out, parts, "(", es, " or "),
         Expr::Compare(relation, a, b) => {
-            let opened = put(out, well, "(");
-            let left = expression(out, opened, parts, a);
-            let middle = put(out, left, relation_text(*relation));
-            let right = expression(out, middle, parts, b);
-            put(out, right, ")")
+            put(out, "(")?;
+            expression(out, parts, a)?;
+            put(out, relation_text(*relation))?;
+            expression(out, parts, b)?;
+            put(out, ")")
         }
-        Expr::Sum(terms) => sum(out, well, parts, terms),
-        Expr::Product(es) => listed(out, well, parts, "(", es, " * "),
-        Expr::Least(es) => listed(out, well, parts, "min(", es, ", "),
-        Expr::Greatest(es) => listed(out, well, parts, "max(", es, ", "),
-        Expr::Count(es) => listed(out, well, parts, "count(", es, ", "),
+        Expr::Sum(terms) => sum(out, parts, terms),
+        Expr::Product(es) => listed(out, parts, "(", es, " * "),
+        Expr::Least(es) => listed(out, parts, "min(", es, ", "),
+        Expr::Greatest(es) => listed(out, parts, "max(", es, ", "),
+        Expr::Count(es) => listed(out, parts, "count(", es, ", "),
         Expr::Choose(choices, other) => {
             let one = choices.len() == 1;
-            let opened = put(out, well, either(one, "", "switch {"));
-            let chosen = cases(out, opened, parts, one, choices);
-            let named = put(out, chosen, either(one, "", "default: "));
-            let last = expression(out, named, parts, other);
-            put(out, last, either(one, ")", "}"))
+            chosen(out, parts, one, choices)?;
+            expression(out, parts, other)?;
+            put(out, either(one, ")", "}"))
         }
     }
+}
+
+// The opposite of an expression.
+#[cycle(expression)]
+fn opposite<K: Sink>(out: &mut K, parts: &GtsParts, a: &Expr<VarId>) -> Result<(), SinkFailed>
+    ensures { Writes (K.state out.old) (K.state out.new) (codes "(not " ++ expr_text parts.now a.now ++ codes ")") result }
+{
+    put(out, "(not ")?;
+    expression(out, parts, a)?;
+    put(out, ")")
+}
+
+// The cases of a choice between what stands round them, in the form for one or for another number
+// of them.
+#[cycle(expression)]
+fn chosen<K: Sink>(
+    out: &mut K,
+    parts: &GtsParts,
+    one: bool,
+    choices: &[(Expr<VarId>, Expr<VarId>)],
+) -> Result<(), SinkFailed>
+    ensures { Writes (K.state out.old) (K.state out.new)
+        (cases_form one (map (λ c. (expr_text parts.now c.0, expr_text parts.now c.1)) choices.now)) result }
+{
+    put(out, either(one, "", "switch {"))?;
+    cases(out, parts, one, choices)?;
+    put(out, either(one, "", "default: "))
 }
 
 // Expressions in brackets, with the separator between each two of them.
 #[cycle(expression)]
 fn listed<K: Sink>(
     out: &mut K,
-    well: bool,
     parts: &GtsParts,
     opening: &str,
     es: &[Expr<VarId>],
     separator: &str,
-) -> bool
-    ensures { Goes (K.written out.old) (K.faults out.old) well (K.written out.new) (K.faults out.new) result (opening.now ++ separated true separator.now (map (expr_text parts.now) es.now) ++ codes ")") }
+) -> Result<(), SinkFailed>
+    ensures { Writes (K.state out.old) (K.state out.new)
+        (opening.now ++ separated true separator.now (map (expr_text parts.now) es.now) ++ codes ")") result }
 {
-    let mut still = put(out, well, opening);
+    put(out, opening)?;
+    operands(out, parts, es, separator)?;
+    put(out, ")")
+}
+
+// Expressions with the separator between each two of them.
+#[cycle(expression)]
+fn operands<K: Sink>(
+    out: &mut K,
+    parts: &GtsParts,
+    es: &[Expr<VarId>],
+    separator: &str,
+) -> Result<(), SinkFailed>
+    ensures { Writes (K.state out.old) (K.state out.new)
+        (separated true separator.now (map (expr_text parts.now) es.now)) result }
+{
     let mut first = true;
     for e in es {
-        let led = put(out, still, either(first, "", separator));
-        still = expression(out, led, parts, e);
+        put(out, either(first, "", separator))?;
+        expression(out, parts, e)?;
         first = false;
     }
-    put(out, still, ")")
+    Ok(())
 }
 
 // A sum.
 #[cycle(expression)]
-fn sum<K: Sink>(out: &mut K, well: bool, parts: &GtsParts, terms: &[(bool, Expr<VarId>)]) -> bool
-    ensures { Goes (K.written out.old) (K.faults out.old) well (K.written out.new) (K.faults out.new) result (codes "(" ++ summed true (map (λ p. (p.0, expr_text parts.now p.1)) terms.now) ++ codes ")") }
+fn sum<K: Sink>(
+    out: &mut K,
+    parts: &GtsParts,
+    all: &[(bool, Expr<VarId>)],
+) -> Result<(), SinkFailed>
+    ensures { Writes (K.state out.old) (K.state out.new)
+        (codes "(" ++ summed true (map (λ p. (p.0, expr_text parts.now p.1)) all.now) ++ codes ")") result }
 {
-    let mut still = put(out, well, "(");
-    let mut first = true;
-    for (plus, e) in terms {
-        let led = put(out, still, sign(first, *plus));
-        still = expression(out, led, parts, e);
-        first = false;
-    }
-    put(out, still, ")")
+    put(out, "(")?;
+    terms(out, parts, all)?;
+    put(out, ")")
 }
 
-// The cases of a choice, in the form for one or for many.
+// The terms of a sum, each with what stands before it.
+#[cycle(expression)]
+fn terms<K: Sink>(
+    out: &mut K,
+    parts: &GtsParts,
+    all: &[(bool, Expr<VarId>)],
+) -> Result<(), SinkFailed>
+    ensures { Writes (K.state out.old) (K.state out.new)
+        (summed true (map (λ p. (p.0, expr_text parts.now p.1)) all.now)) result }
+{
+    let mut first = true;
+    for (plus, e) in all {
+        put(out, sign(first, *plus))?;
+        expression(out, parts, e)?;
+        first = false;
+    }
+    Ok(())
+}
+
+// The cases of a choice, in the form for one or for another number of them.
 #[cycle(expression)]
 fn cases<K: Sink>(
     out: &mut K,
-    well: bool,
     parts: &GtsParts,
     one: bool,
     choices: &[(Expr<VarId>, Expr<VarId>)],
-) -> bool
-    ensures { Goes (K.written out.old) (K.faults out.old) well (K.written out.new) (K.faults out.new) result (joined (map (λ c. case_form one (expr_text parts.now c.0, expr_text parts.now c.1)) choices.now)) }
+) -> Result<(), SinkFailed>
+    ensures { Writes (K.state out.old) (K.state out.new)
+        (concat (map (case_form one) (map (λ c. (expr_text parts.now c.0, expr_text parts.now c.1)) choices.now))) result }
 {
-    let mut still = well;
     for (test, value) in choices {
-        let opened = put(out, still, either(one, "(if ", "case "));
-        let tested = expression(out, opened, parts, test);
-        let middle = put(out, tested, either(one, " then ", ": "));
-        let valued = expression(out, middle, parts, value);
-        still = put(out, valued, either(one, " else ", " "));
+        put(out, either(one, "(if ", "case "))?;
+        expression(out, parts, test)?;
+        put(out, either(one, " then ", ": "))?;
+        expression(out, parts, value)?;
+        put(out, either(one, " else ", " "))?;
     }
-    still
+    Ok(())
 }

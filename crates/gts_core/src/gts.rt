@@ -1,7 +1,7 @@
 // Flat systems.
 
-ghost use Rattle.std.specs.Prelude.{◌≡◌, ◌++◌, ◌≤◌, ℕ, List, Some, OnOk, OnErr};
-ghost use Rattle.ar_io.specs.Outside.{IsFront, Rose};
+ghost use Rattle.std.specs.Prelude.{◌≡◌};
+ghost use Rattle.ar_io.specs.Writing.{Writes};
 ghost use Rattle.gts_core.specs.Printed.{flat_text};
 ghost use Rattle.gts_core.specs.Sound.{IsSound};
 
@@ -55,15 +55,8 @@ impl Gts {
     /// Writes the text of the system: its variables, its ways by event and number, its assignments and its observers, a
     /// line each. After a fault of the sink the sink has a first part of the text. Takes no memory.
     pub fn print<K: Sink>(&self, out: &mut K) -> Result<(), SinkFailed>
-        ensures appended { (bytes : List ℕ) → K.written out.old ≡ Some bytes → OnOk result (K.written out.new ≡ Some (bytes ++ flat_text self.now)) }
-        ensures cut { (bytes : List ℕ) → K.written out.old ≡ Some bytes → OnErr result ((front : List ℕ) × IsFront front (flat_text self.now) × (K.written out.new ≡ Some (bytes ++ front))) }
-        ensures failed { OnErr result (Rose (K.faults out.old) (K.faults out.new)) }
-        ensures rises { K.faults out.old ≤ K.faults out.new }
+        ensures { Writes (K.state out.old) (K.state out.new) (flat_text self.now) result }
     {
-        if system(out, true, &self.parts) {
-            Ok(())
-        } else {
-            Err(SinkFailed {})
-        }
+        system(out, &self.parts)
     }
 }

@@ -9,12 +9,12 @@ mod gts;
 pub mod laws;
 mod pieces;
 mod print;
+mod readings;
 mod system;
-#[cfg(test)]
-mod tests;
 
 pub use assigning::assignments;
 pub use bound::{Act, Chain, DeclaredEvent, DeclaredWay};
 pub use copies::copy_expression;
 pub use gts::Gts;
+pub use readings::{Assigned, are_met, is_met, value_in};
 pub use system::{Assign, Event, GtsParts, Observer, Valuation, Variable, Way, WayBody};

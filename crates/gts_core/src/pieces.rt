@@ -2,43 +2,39 @@
 
 ghost use Rattle.std.specs.Prelude.{◌≡◌, decimal, if◌then◌else◌};
 ghost use Rattle.std.specs.Fmt.{signed_decimal};
-ghost use Rattle.gts_core.specs.Goes.{Goes};
-ghost use Rattle.gts_core.specs.Printed.{text_at, path_at, sign, relation_text, value_text};
+ghost use Rattle.ar_io.specs.Writing.{Writes};
+ghost use Rattle.ar_base.specs.Texts.{text_at};
+ghost use Rattle.ar_meaning.specs.ValueTexts.{value_text};
+ghost use Rattle.gts_core.specs.Printed.{path_at, sign, relation_text};
 
 use crate::system::GtsParts;
 use ar_base::Text;
-use ar_io::Sink;
+use ar_io::{Sink, SinkFailed};
 use domains::Value;
 use itoa::Buffer;
 use typed_expr::Relation;
 
-// Writes a piece where all was well so far, and answers whether all is well still.
-pub(crate) fn put<K: Sink>(out: &mut K, well: bool, piece: &str) -> bool
-    ensures { Goes (K.written out.old) (K.faults out.old) well (K.written out.new) (K.faults out.new) result piece.now }
+// Writes a piece.
+pub(crate) fn put<K: Sink>(out: &mut K, piece: &str) -> Result<(), SinkFailed>
+    ensures { Writes (K.state out.old) (K.state out.new) piece.now result }
 {
-    if !well {
-        return false;
-    }
-    match out.put(piece.as_bytes()) {
-        Ok(()) => true,
-        Err(_) => false,
-    }
+    out.put(piece.as_bytes())
 }
 
 // A whole number that is not negative.
-pub(crate) fn count<K: Sink>(out: &mut K, well: bool, n: u32) -> bool
-    ensures { Goes (K.written out.old) (K.faults out.old) well (K.written out.new) (K.faults out.new) result (decimal n) }
+pub(crate) fn count<K: Sink>(out: &mut K, n: u32) -> Result<(), SinkFailed>
+    ensures { Writes (K.state out.old) (K.state out.new) (decimal n) result }
 {
     let mut buffer = Buffer::new();
-    put(out, well, buffer.format(n))
+    put(out, buffer.format(n))
 }
 
 // A whole number.
-pub(crate) fn whole<K: Sink>(out: &mut K, well: bool, n: i64) -> bool
-    ensures { Goes (K.written out.old) (K.faults out.old) well (K.written out.new) (K.faults out.new) result (signed_decimal n) }
+pub(crate) fn whole<K: Sink>(out: &mut K, n: i64) -> Result<(), SinkFailed>
+    ensures { Writes (K.state out.old) (K.state out.new) (signed_decimal n) result }
 {
     let mut buffer = Buffer::new();
-    put(out, well, buffer.format(n))
+    put(out, buffer.format(n))
 }
 
 // The text of this number.
@@ -95,13 +91,13 @@ pub(crate) fn relation_text(relation: Relation) -> &'static str
 }
 
 // A value.
-pub(crate) fn value<K: Sink>(out: &mut K, well: bool, parts: &GtsParts, v: Value) -> bool
-    ensures { Goes (K.written out.old) (K.faults out.old) well (K.written out.new) (K.faults out.new) result (value_text parts.now v) }
+pub(crate) fn value<K: Sink>(out: &mut K, parts: &GtsParts, v: Value) -> Result<(), SinkFailed>
+    ensures { Writes (K.state out.old) (K.state out.new) (value_text parts.now.symbols.items v) result }
 {
     match v {
-        Value::Truth(true) => put(out, well, "true"),
-        Value::Truth(false) => put(out, well, "false"),
-        Value::Whole(n) => whole(out, well, n),
-        Value::Symbol(k) => put(out, well, text_at(&parts.symbols, k)),
+        Value::Truth(true) => put(out, "true"),
+        Value::Truth(false) => put(out, "false"),
+        Value::Whole(n) => whole(out, n),
+        Value::Symbol(k) => put(out, text_at(&parts.symbols, k)),
     }
 }

@@ -8,8 +8,6 @@ pub mod laws;
 mod lines;
 mod numbers;
 mod reading;
-#[cfg(test)]
-mod tests;
 mod verbs;
 
 pub use generator::make_text;

@@ -10,20 +10,23 @@ use Rattle.ar_meaning.specs.Systems as s
 use Rattle.ar_meaning.specs.Facts.{HasValue, Passes}
 use Rattle.ar_meaning.specs.Numbered.{Acts, Means_way, leaf, joint}
 use Rattle.ar_meaning.specs.Ways.{Effects, acts}
-use Rattle.gts_core.specs.View.{VarId, net_of, bodies_of, body_of, of_body, assign_of, numbered}
+use Rattle.ar_base.specs.Numbers.{VarId}
+use Rattle.gts_core.specs.View.{net_of, bodies_of, body_of, of_body, assign_of, numbered}
 use Rattle.gts_core.specs.Sound.{IsSound, kind_of_domain}
 use Rattle.gts_core.specs.declared.system.Assign.{Assign}
 use Rattle.gts_core.specs.declared.system.Way.{Way}
 use Rattle.gts_core.specs.declared.system.WayBody.{WayBody}
 use Rattle.gts_core.specs.declared.system.WayBody.TheVariants as body
 use Rattle.gts_core.specs.declared.system.GtsParts.{GtsParts}
-use Rattle.stepper.specs.Readings.{value_in, is_met}
-use Rattle.stepper.specs.Ways.{IsTotal, flag_at, AreFlags, TakesPart, AreTakers}
+use Rattle.gts_core.specs.Readings.{value_in, is_met}
+use Rattle.gts_core.specs.Readings.{IsTotal}
+use Rattle.stepper.specs.Ways.{flag_at, AreFlags, TakesPart, AreTakers}
 use Rattle.stepper.specs.Ways as takes
 use Rattle.stepper.specs.Effects.{effect_of, action_effects, body_effects, marked_effects, Gives}
 use Rattle.stepper.specs.declared.effects.Effect.{Effect}
-use Rattle.stepper.proofs.Answers.{answer_true, is_true, one_here, one_later}
-use Rattle.stepper.proofs.Reading.{passes_answer, value_yielded, yielded_value}
+use Rattle.gts_core.proofs.Tests.{answer_true, is_true}
+use Rattle.ar_base.proofs.Standing.{one_first, one_rest}
+use Rattle.gts_core.proofs.Reading.{passes_answer, value_yielded, yielded_value}
 use Rattle.stepper.proofs.Taking.{acted, taken_effect}
 
 gives_left : (es fs : List Effect) (x : ℕ) (v : Value) → Gives es x v → Gives (es ++ fs) x v
@@ -73,8 +76,8 @@ reached_from t [] x v h = absurd (gives_none x v h)
 reached_from t (a ∷ more) x v h = elim (gives_split (cond (list_all (is_met t) a.when.items) (effect_of t a ∷ []) []) (action_effects t more) x v h) [
   | inl k ↦ (let w = given_where (list_all (is_met t) a.when.items) (effect_of t a ∷ []) x v k in
       let e = only_effect (effect_of t a) x v w.1 in
-      record { assign = a; is_one = one_here a more; met = w.0; target = e.0; value = e.1 })
-  | inr k ↦ (let r = reached_from t more x v k in record { assign = r.assign; is_one = one_later a more r.assign r.is_one; met = r.met; target = r.target; value = r.value })
+      record { assign = a; is_one = one_first a more; met = w.0; target = e.0; value = e.1 })
+  | inr k ↦ (let r = reached_from t more x v k in record { assign = r.assign; is_one = one_rest a more r.assign r.is_one; met = r.met; target = r.target; value = r.value })
 ]
 
 reached_there : (t : List Value) (action : List Assign) (k : ℕ) (a : Assign) (x : ℕ) (v : Value) → Stands action k a → list_all (is_met t) a.when.items ≡ true → a.target.n ≡ x → value_in t a.value ≡ v → Gives (action_effects t action) x v

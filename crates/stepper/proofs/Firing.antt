@@ -12,16 +12,19 @@ use Rattle.ar_meaning.specs.Found.{IsAnswer}
 use Rattle.ar_meaning.specs.Numbered.{Acts, Joins, Means_way, leaf, joint, Mean_parts, no_part, part}
 use Rattle.ar_meaning.specs.Ways.{Can, guard_holds, all_musts, some_may, Musts_can, Some_can, has_must}
 use Rattle.ar_meaning.specs.Ways as w
-use Rattle.gts_core.specs.View.{WayId, numbered, net_of, bodies_of, body_of, of_body, part_of, assign_of}
+use Rattle.ar_base.specs.Numbers.{WayId}
+use Rattle.gts_core.specs.View.{numbered, net_of, bodies_of, body_of, of_body, part_of, assign_of}
 use Rattle.gts_core.specs.Sound.{IsSound}
 use Rattle.gts_core.specs.declared.system.Way.{Way}
 use Rattle.gts_core.specs.declared.system.WayBody.{WayBody}
 use Rattle.gts_core.specs.declared.system.WayBody.TheVariants as body
 use Rattle.gts_core.specs.declared.system.GtsParts.{GtsParts}
-use Rattle.stepper.specs.Readings.{is_met}
-use Rattle.stepper.specs.Ways.{IsTotal, flag_at, parts_of, can_by, musts_by, some_by, has_must_in}
-use Rattle.stepper.proofs.Answers.{and_answer, or_answer, turned_answer, one_here, one_later}
-use Rattle.stepper.proofs.Reading.{met_answer}
+use Rattle.gts_core.specs.Readings.{is_met}
+use Rattle.gts_core.specs.Readings.{IsTotal}
+use Rattle.stepper.specs.Ways.{flag_at, parts_of, can_by, musts_by, some_by, has_must_in}
+use Rattle.gts_core.proofs.Tests.{and_answer, or_answer, turned_answer}
+use Rattle.ar_base.proofs.Standing.{one_first, one_rest}
+use Rattle.gts_core.proofs.Reading.{met_answer}
 
 module _ (p : GtsParts) (K : ℕ → Value → Type 0) (flags : List Bool) where
   -- the flags of these parts are right
@@ -51,9 +54,9 @@ module _ (p : GtsParts) (K : ℕ → Value → Type 0) (flags : List Bool) where
   musts_answer ((true, id) ∷ ps) s.Empty m right = elim m [ ]
   musts_answer ((true, id) ∷ ps) (s.Branch must u bs) (part m ms) right =
       and_answer (flag_at flags id.n) (musts_by flags ps) (Can K u) (Musts_can K bs) (Musts_can K (s.Branch true u bs)) (λ c k. w.must c k) must_first must_rest
-      (right (true, id) (one_here (true, id) ps) u m) (musts_answer ps bs ms (λ q h. right q (one_later (true, id) ps q h)))
+      (right (true, id) (one_first (true, id) ps) u m) (musts_answer ps bs ms (λ q h. right q (one_rest (true, id) ps q h)))
   musts_answer ((false, id) ∷ ps) (s.Branch must u bs) (part m ms) right =
-      turned_answer (musts_by flags ps) (Musts_can K bs) (Musts_can K (s.Branch false u bs)) (λ k. w.may k) may_rest (musts_answer ps bs ms (λ q h. right q (one_later (false, id) ps q h)))
+      turned_answer (musts_by flags ps) (Musts_can K bs) (Musts_can K (s.Branch false u bs)) (λ k. w.may k) may_rest (musts_answer ps bs ms (λ q h. right q (one_rest (false, id) ps q h)))
 
   pub some_answer : (ps : List (Bool × WayId)) (bs : s.Branches (s.Transition ℕ)) → Mean_parts (bodies_of p) (map part_of ps) bs → AreRight ps → IsAnswer (some_by flags ps) (Some_can K bs)
   some_answer [] s.Empty no_part right = no_some
@@ -61,7 +64,7 @@ module _ (p : GtsParts) (K : ℕ → Value → Type 0) (flags : List Bool) where
   some_answer (q ∷ ps) s.Empty m right = elim m [ ]
   some_answer (q ∷ ps) (s.Branch must u bs) (part m ms) right =
       or_answer (flag_at flags q.1.n) (some_by flags ps) (Can K u) (Some_can K bs) (Some_can K (s.Branch q.0 u bs)) (λ c. w.this c) (λ k. w.later k) none_can
-      (right q (one_here q ps) u m) (some_answer ps bs ms (λ r h. right r (one_later q ps r h)))
+      (right q (one_first q ps) u m) (some_answer ps bs ms (λ r h. right r (one_rest q ps r h)))
 
   pub has_must_same : (ps : List (Bool × WayId)) (bs : s.Branches (s.Transition ℕ)) → Mean_parts (bodies_of p) (map part_of ps) bs → has_must_in ps ≡ has_must bs
   has_must_same [] s.Empty no_part = refl

@@ -5,7 +5,7 @@ use Rattle.ar_base.specs.Lists.{Stands, IsOneOf}
 use Rattle.domains.specs.declared.Value.{Value}
 use Rattle.gts_core.specs.declared.system.GtsParts.{GtsParts}
 use Rattle.stepper.specs.Changes.{restored, below_by}
-use Rattle.stepper.specs.Ways.{IsTotal}
+use Rattle.gts_core.specs.Readings.{IsTotal}
 use Rattle.stepper.specs.declared.changes.Change.{Change}
 
 reverse_last : (cs : List (Vec Change Global)) (c : Vec Change Global) → reverse (cs ++ c ∷ []) ≡ c ∷ reverse cs

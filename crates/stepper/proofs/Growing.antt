@@ -9,7 +9,7 @@ use Rattle.gts_core.specs.View.{variables_from}
 use Rattle.gts_core.specs.declared.system.Variable.{Variable}
 use Rattle.gts_core.specs.declared.system.Assign.{Assign}
 use Rattle.gts_core.specs.declared.system.Way.{Way}
-use Rattle.stepper.specs.Readings.{is_met}
+use Rattle.gts_core.specs.Readings.{is_met}
 use Rattle.stepper.specs.Ways.{flag_at}
 use Rattle.stepper.specs.Changes.{undone, restored, below_by}
 use Rattle.stepper.specs.Effects.{effect_of, action_effects, body_effects, marked_effects, value_after, values_after}
@@ -76,11 +76,6 @@ below_long t [] = refl
 below_long t (c ∷ cs) = ap suc (below_long (restored t c.items) cs)
 
 module _ {A : Type 0} where
-  pub stands_get : (xs : List A) (i : ℕ) (d : A) → i < length xs → Stands xs i (get_or xs i d)
-  stands_get [] i d h = absurd (omega (arith, h))
-  stands_get (x ∷ xs) zero d h = refl
-  stands_get (x ∷ xs) (suc i) d h = stands_get xs i d (omega (arith, h))
-
   pub stands_copies : (n : ℕ) (a : A) (k : ℕ) (b : A) → Stands (replicate n a) k b → b ≡ a
   stands_copies zero a zero b s = cc
   stands_copies zero a (suc k) b s = cc

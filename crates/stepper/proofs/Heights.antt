@@ -5,7 +5,8 @@ use Rattle.ar_base.proofs.Standing.{stands_one, stands_map, stands_none}
 use Rattle.std.proofs.Math.Nat.{le-max_left, le-max_right, le_trans}
 use Rattle.ar_meaning.specs.Systems as s
 use Rattle.ar_meaning.specs.Numbered.{Body, Acts, Joins, Means_way, leaf, joint, Mean_parts, part, height, branches_height}
-use Rattle.gts_core.specs.View.{WayId, IsWayAt, bodies_of, body_of, part_of}
+use Rattle.ar_base.specs.Numbers.{WayId}
+use Rattle.gts_core.specs.View.{IsWayAt, bodies_of, body_of, part_of}
 use Rattle.gts_core.specs.declared.system.Way.{Way}
 use Rattle.gts_core.specs.declared.system.GtsParts.{GtsParts}
 

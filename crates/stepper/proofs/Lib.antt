@@ -1,5 +1,3 @@
-pub mod Answers
-pub mod Reading
 pub mod Firing
 pub mod Taking
 pub mod Lists
@@ -14,4 +12,3 @@ pub mod Growing
 pub mod Acting
 pub mod Stepping
 pub mod Going
-pub mod TinySystem

@@ -1,20 +1,8 @@
 -- Lists of values and of flags.
-use Rattle.std.proofs.Common.{◌≡◌, ◌<◌, ◌≤◌, ◌+◌, ◌⊎◌, ℕ, zero, suc, Bool, true, List, [], ◌∷◌, ◌++◌, length, take, drop, set, get_or, Some, refl, sym, ap, inl, inr, arith}
+use Rattle.std.proofs.Common.{◌≡◌, ◌<◌, ◌≤◌, ◌+◌, ◌⊎◌, ℕ, zero, suc, Bool, true, List, [], ◌∷◌, ◌++◌, length, set, get_or, Some, refl, sym, ap, inl, inr, arith}
 use Rattle.ar_base.specs.Lists.{Stands, IsOneOf}
 use Rattle.ar_base.proofs.Standing.{stands_split, stands_left, stands_next}
-use Rattle.domains.specs.declared.Value.{Value}
-use Rattle.stepper.specs.Readings.{values_at}
 use Rattle.stepper.specs.Ways.{flag_at}
-
-pub one_there : (t : List Value) (n : ℕ) → n < length t → take 1 (drop n t) ≡ values_at t n
-one_there [] n h = absurd (omega (arith, h))
-one_there (v ∷ t) zero h = refl
-one_there (v ∷ t) (suc n) h = one_there t n (omega (arith, h))
-
-pub one_past : (t : List Value) (n : ℕ) → length t ≤ n → [] ≡ values_at t n
-one_past [] n h = refl
-one_past (v ∷ t) zero h = absurd (omega (arith, h))
-one_past (v ∷ t) (suc n) h = one_past t n (omega (arith, h))
 
 -- what was set is set
 pub flag_same : (flags : List Bool) (n : ℕ) (b : Bool) → n < length flags → flag_at (set flags n b) n ≡ b

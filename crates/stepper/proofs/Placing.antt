@@ -1,8 +1,9 @@
 -- Ways that are put in order.
 use Rattle.std.proofs.Common.{◌≡◌, ◌<◌, ◌≤◌, ◌+◌, ◌-◌, ◌⊎◌, ℕ, zero, suc, Bool, true, false, ◌&&◌, List, [], ◌∷◌, ◌++◌, length, set, refl, sym, ap, ◌∙◌, subst, inl, inr, arith, length-set, below_more}
+use Rattle.std.proofs.lemmas.Bool.{and_parts, and_from}
 use Rattle.ar_base.specs.Lists.{Stands, IsOneOf}
 use Rattle.ar_base.proofs.Standing.{stands_left, stands_next, stands_within, stands_one}
-use Rattle.gts_core.specs.View.{WayId}
+use Rattle.ar_base.specs.Numbers.{WayId}
 use Rattle.gts_core.specs.declared.system.Way.{Way}
 use Rattle.gts_core.specs.declared.system.WayBody.{WayBody}
 use Rattle.gts_core.specs.declared.system.WayBody.TheVariants.{Local, Sync}
@@ -10,20 +11,12 @@ use Rattle.gts_core.specs.declared.system.GtsParts.{GtsParts}
 use Rattle.stepper.specs.Ways.{flag_at, parts_of, HasPart, IsOrder, IsPlacing, Keeps, ArePlaced, are_set, are_placed}
 use Rattle.stepper.proofs.Lists.{flag_same, flag_kept, flag_from, one_more}
 
-and_first : (a b : Bool) → (a && b) ≡ true → a ≡ true
-and_first true b h = refl
-and_first false b h = h
-
-and_second : (a b : Bool) → (a && b) ≡ true → b ≡ true
-and_second true b h = h
-and_second false b h = absurd (cc h)
-
 -- each part of a way whose parts are placed is placed
 set_each : (placed : List Bool) (ps : List (Bool × WayId)) → are_set placed ps ≡ true → (k : ℕ) (q : Bool × WayId) → Stands ps k q → flag_at placed q.1.n ≡ true
 set_each placed [] h zero q s = cc
 set_each placed [] h (suc k) q s = cc
-set_each placed (r ∷ ps) h zero q s = let same : r ≡ q = cc in subst (λ (z : Bool × WayId). flag_at placed z.1.n ≡ true) same (and_first (flag_at placed r.1.n) (are_set placed ps) h)
-set_each placed (r ∷ ps) h (suc k) q s = set_each placed ps (and_second (flag_at placed r.1.n) (are_set placed ps) h) k q s
+set_each placed (r ∷ ps) h zero q s = let same : r ≡ q = cc in subst (λ (z : Bool × WayId). flag_at placed z.1.n ≡ true) same (and_parts (flag_at placed r.1.n) (are_set placed ps) h).0
+set_each placed (r ∷ ps) h (suc k) q s = set_each placed ps (and_parts (flag_at placed r.1.n) (are_set placed ps) h).1 k q s
 
 placed_each : (placed : List Bool) (b : WayBody) → are_placed placed b ≡ true → (q : Bool × WayId) → IsOneOf (parts_of b) q → flag_at placed q.1.n ≡ true
 placed_each placed (Local guard action) h q one = set_each placed [] refl one.place q one.stands
@@ -87,11 +80,8 @@ keeps_on old mid new a b = record { keeps = λ n h. b.keeps n (a.keeps n h) }
 pub each_set : (placed : List Bool) (ps : List (Bool × WayId)) (n : ℕ) → length ps ≤ n → ArePlaced placed ps n → are_set placed ps ≡ true
 each_set placed [] n low are = refl
 each_set placed (r ∷ ps) n low are =
-    both (flag_at placed r.1.n) (are_set placed ps) (are.each 0 (omega (arith, low)) r refl)
+    and_from (flag_at placed r.1.n) (are_set placed ps) (are.each 0 (omega (arith, low)) r refl)
     (each_set placed ps (n - 1) (omega (arith, low)) (record { each = λ k below q s. are.each (suc k) (omega (arith, below)) q s }))
-  where
-    both : (a b : Bool) → a ≡ true → b ≡ true → (a && b) ≡ true
-    both a b h k = cc
 
 -- each of the first so many ways is placed, and there are no more
 pub all_ordered : (p : GtsParts) (order : List WayId) (placed : List Bool) (count : ℕ) → length p.ways.items ≤ count → IsPlacing p order placed

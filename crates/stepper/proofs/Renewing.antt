@@ -8,11 +8,13 @@ use Rattle.ar_meaning.specs.Facts.{HasValue}
 use Rattle.ar_meaning.specs.Found.{IsAnswer}
 use Rattle.ar_meaning.specs.Numbered.{Means_way, leaf, joint}
 use Rattle.ar_meaning.specs.Ways.{Can}
-use Rattle.gts_core.specs.View.{WayId, net_of, bodies_of, body_of, IsWayAt}
+use Rattle.ar_base.specs.Numbers.{WayId}
+use Rattle.gts_core.specs.View.{net_of, bodies_of, body_of, IsWayAt}
 use Rattle.gts_core.specs.Sound.{IsSound}
 use Rattle.gts_core.specs.declared.system.Way.{Way}
 use Rattle.gts_core.specs.declared.system.GtsParts.{GtsParts}
-use Rattle.stepper.specs.Ways.{IsTotal, flag_at, parts_of, IsOrder, AreFlags, can_by}
+use Rattle.gts_core.specs.Readings.{IsTotal}
+use Rattle.stepper.specs.Ways.{flag_at, parts_of, IsOrder, AreFlags, can_by}
 use Rattle.stepper.proofs.Lists.{flag_same, flag_other, same_number}
 use Rattle.stepper.proofs.Firing.{can_answer}
 

@@ -11,12 +11,13 @@ use Rattle.ar_meaning.specs.Ways.{Can, Effects}
 use Rattle.gts_core.specs.View.{net_of, bodies_of}
 use Rattle.gts_core.specs.Sound.{IsSound}
 use Rattle.gts_core.specs.declared.system.GtsParts.{GtsParts}
-use Rattle.stepper.specs.Ways.{IsTotal, flag_at, AreFlags, AreTakers}
+use Rattle.gts_core.specs.Readings.{IsTotal}
+use Rattle.stepper.specs.Ways.{flag_at, AreFlags, AreTakers}
 use Rattle.stepper.specs.Effects.{marked_effects, Gives, AreReceived, IsTwo, IsFirstLeaving, values_after}
 use Rattle.stepper.specs.Steps.{IsReady}
 use Rattle.stepper.specs.declared.effects.Effect.{Effect}
 use Rattle.stepper.specs.declared.received.Received.{Received}
-use Rattle.stepper.proofs.Answers.{answer_true}
+use Rattle.gts_core.proofs.Tests.{answer_true}
 use Rattle.stepper.proofs.Receiving.{received_as}
 use Rattle.stepper.proofs.Moving.{AreRows, clash_found, clash_none, range_found, range_none, receives}
 use Rattle.stepper.proofs.Acting.{given_effect, effect_given}

@@ -11,7 +11,8 @@ use Rattle.ar_meaning.specs.Found.{IsAnswer}
 use Rattle.ar_meaning.specs.Numbered.{Acts, Joins, Means_way, leaf, joint, Mean_parts, no_part, part}
 use Rattle.ar_meaning.specs.Ways.{Can, Effects, acts, by_part, Part_effects, by_must, by_may, by_later}
 use Rattle.ar_meaning.proofs.OneRun.{means_same}
-use Rattle.gts_core.specs.View.{VarId, WayId, numbered, bodies_of, body_of, of_body, part_of, assign_of}
+use Rattle.ar_base.specs.Numbers.{VarId, WayId}
+use Rattle.gts_core.specs.View.{numbered, bodies_of, body_of, of_body, part_of, assign_of}
 use Rattle.gts_core.specs.Sound.{IsSound}
 use Rattle.gts_core.specs.declared.system.Assign.{Assign}
 use Rattle.gts_core.specs.declared.system.Way.{Way}
@@ -20,7 +21,8 @@ use Rattle.gts_core.specs.declared.system.WayBody.TheVariants as body
 use Rattle.gts_core.specs.declared.system.GtsParts.{GtsParts}
 use Rattle.stepper.specs.Ways.{flag_at, parts_of, HasPart, takes_part, TakesPart}
 use Rattle.stepper.specs.Ways as takes
-use Rattle.stepper.proofs.Answers.{is_true, answer_true, one_here, one_later}
+use Rattle.gts_core.proofs.Tests.{is_true, answer_true}
+use Rattle.ar_base.proofs.Standing.{one_first, one_rest}
 
 module _ (p : GtsParts) (K : ℕ → Value → Type 0) (flags : List Bool) (top : ℕ)
     (right : (n : ℕ) (u : s.Way ℕ) → Means_way (bodies_of p) n u → IsAnswer (flag_at flags n) (Can K u)) where
@@ -87,9 +89,9 @@ module _ (p : GtsParts) (K : ℕ → Value → Type 0) (flags : List Bool) (top 
     acted_parts [] s.Empty tk no_part e = elim e [ ]
     acted_parts [] (s.Branch must u bs) tk m e = elim m [ ]
     acted_parts (q ∷ ps) s.Empty tk m e = elim e [ ]
-    acted_parts ((true, id) ∷ ps) (s.Branch must u bs) tk (part m ms) (by_must e) = acted id.n (tk (true, id) (one_here (true, id) ps) refl) m e
-    acted_parts ((false, id) ∷ ps) (s.Branch must u bs) tk (part m ms) (by_may c e) = acted id.n (tk (false, id) (one_here (false, id) ps) (is_true (flag_at flags id.n) (Can K u) (right id.n u m) c)) m e
-    acted_parts (q ∷ ps) (s.Branch must u bs) tk (part m ms) (by_later e) = acted_parts ps bs (λ r one h. tk r (one_later q ps r one) h) ms e
+    acted_parts ((true, id) ∷ ps) (s.Branch must u bs) tk (part m ms) (by_must e) = acted id.n (tk (true, id) (one_first (true, id) ps) refl) m e
+    acted_parts ((false, id) ∷ ps) (s.Branch must u bs) tk (part m ms) (by_may c e) = acted id.n (tk (false, id) (one_first (false, id) ps) (is_true (flag_at flags id.n) (Can K u) (right id.n u m) c)) m e
+    acted_parts (q ∷ ps) (s.Branch must u bs) tk (part m ms) (by_later e) = acted_parts ps bs (λ r one h. tk r (one_rest q ps r one) h) ms e
 
   -- the effects of a part that takes part
   part_effect : {x : ℕ} {v : Value} (ps : List (Bool × WayId)) (bs : s.Branches (s.Transition ℕ)) → Mean_parts (bodies_of p) (map part_of ps) bs → (k : ℕ) (q : Bool × WayId) → Stands ps k q → takes_part flags q ≡ true

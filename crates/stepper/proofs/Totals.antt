@@ -15,7 +15,7 @@ use Rattle.gts_core.specs.declared.system.Variable.{Variable}
 use Rattle.gts_core.specs.declared.system.GtsParts.{GtsParts}
 use Rattle.gts_core.proofs.Viewing.{variable_there, are_numbered}
 use Rattle.flow_propagate.specs.Answers.{IsState}
-use Rattle.stepper.specs.Ways.{IsTotal}
+use Rattle.gts_core.specs.Readings.{IsTotal}
 use Rattle.std.proofs.Common.{None}
 use Rattle.stepper.specs.Effects.{IsFirstLeaving, values_after}
 use Rattle.stepper.specs.declared.received.Received.{Received}

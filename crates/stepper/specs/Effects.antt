@@ -9,7 +9,7 @@ use Rattle.gts_core.specs.declared.system.Assign.{Assign}
 use Rattle.gts_core.specs.declared.system.Way.{Way}
 use Rattle.gts_core.specs.declared.system.WayBody.{WayBody}
 use Rattle.gts_core.specs.declared.system.WayBody.TheVariants.{Local, Sync}
-use Rattle.stepper.specs.Readings.{value_in, is_met}
+use Rattle.gts_core.specs.Readings.{value_in, is_met}
 use Rattle.stepper.specs.Ways.{flag_at}
 use Rattle.stepper.specs.declared.effects.Effect.{Effect}
 use Rattle.stepper.specs.declared.received.Received.{Received}

@@ -5,7 +5,8 @@ use Rattle.domains.specs.declared.Value.{Value}
 use Rattle.flow_propagate.specs.Plan.{IsPlan}
 use Rattle.stepper.specs.Changes.{below_by}
 use Rattle.stepper.specs.Steps.{Standing}
-use Rattle.stepper.specs.Ways.{IsOrder, IsTotal, AreFlags}
+use Rattle.gts_core.specs.Readings.{IsTotal}
+use Rattle.stepper.specs.Ways.{IsOrder, AreFlags}
 use Rattle.stepper.specs.declared.stepper.Stepper.TheInside.{Inside}
 
 -- the standing valuations below the present one

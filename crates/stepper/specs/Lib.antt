@@ -1,4 +1,3 @@
-pub mod Readings
 pub mod Ways
 pub mod Marking
 pub mod Effects
@@ -6,4 +5,3 @@ pub mod Receiving
 pub mod Changes
 pub mod Steps
 pub mod Keeping
-pub mod Tiny

@@ -1,7 +1,7 @@
 -- Marking the parts of one way.
 use Rattle.std.specs.Prelude.{◌≡◌, ℕ, ◌<◌, ◌⊎◌, Bool, true, List, length}
 use Rattle.ar_base.specs.Lists.{IsOneOf}
-use Rattle.gts_core.specs.View.{WayId}
+use Rattle.ar_base.specs.Numbers.{WayId}
 use Rattle.gts_core.specs.declared.system.WayBody.{WayBody}
 use Rattle.stepper.specs.Ways.{flag_at, parts_of, takes_part}
 

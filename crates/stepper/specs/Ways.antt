@@ -2,24 +2,18 @@
 use Rattle.std.specs.Prelude.{◌≡◌, ℕ, ◌<◌, Bool, true, false, not, ◌||◌, if◌then◌else◌, List, [], length, slice_get, unwrap_or}
 use Rattle.std.specs.List.{list_all, list_any}
 use Rattle.ar_base.specs.Lists.{Stands, IsOneOf}
-use Rattle.domains.specs.Domains.{Holds}
 use Rattle.domains.specs.declared.Value.{Value}
 use Rattle.ar_meaning.specs.Systems as s
 use Rattle.ar_meaning.specs.Facts.{HasValue}
 use Rattle.ar_meaning.specs.Found.{IsAnswer}
 use Rattle.ar_meaning.specs.Ways.{Can}
-use Rattle.gts_core.specs.View.{WayId, net_of, IsWayAt}
-use Rattle.gts_core.specs.declared.system.Variable.{Variable}
+use Rattle.ar_base.specs.Numbers.{WayId}
+use Rattle.gts_core.specs.View.{net_of, IsWayAt}
 use Rattle.gts_core.specs.declared.system.Way.{Way}
 use Rattle.gts_core.specs.declared.system.WayBody.{WayBody}
 use Rattle.gts_core.specs.declared.system.WayBody.TheVariants.{Local, Sync}
 use Rattle.gts_core.specs.declared.system.GtsParts.{GtsParts}
-use Rattle.stepper.specs.Readings.{is_met}
-
--- a total valuation: a value for each variable, in its domain
-pub record IsTotal (p : GtsParts) (t : List Value) : Type 0 where
-  pub long : length t ≡ length p.variables.items
-  pub in_domain : (n : ℕ) (x : Variable) (v : Value) → Stands p.variables.items n x → Stands t n v → Holds x.domain v
+use Rattle.gts_core.specs.Readings.{is_met}
 
 -- the flag of a number, false past the end
 abbrev pub flag_at : List Bool → ℕ → Bool

@@ -7,10 +7,9 @@ ghost use Rattle.stepper.specs.Marking.{Marks};
 ghost use Rattle.stepper.specs.Effects.{action_effects, body_effects, marked_effects};
 
 use crate::flags::{is_set, unset};
-use crate::readings::{are_met, value_in};
 use ar_base::{Memory, VarId, WayId};
 use domains::Value;
-use gts_core::{Assign, GtsParts, WayBody};
+use gts_core::{Assign, GtsParts, WayBody, are_met, value_in};
 use std::alloc::Global;
 
 /// A value that a variable receives.

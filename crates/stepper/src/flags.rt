@@ -2,12 +2,12 @@
 
 ghost use Rattle.std.specs.Prelude.{◌≡◌, ◌<◌, true, false, length, replicate, IfOk};
 ghost use Rattle.gts_core.specs.Sound.{IsSound};
-ghost use Rattle.stepper.specs.Ways.{flag_at, can_by, musts_by, some_by, has_must_in, IsOrder, IsTotal, AreFlags};
+ghost use Rattle.gts_core.specs.Readings.{IsTotal};
+ghost use Rattle.stepper.specs.Ways.{flag_at, can_by, musts_by, some_by, has_must_in, IsOrder, AreFlags};
 
-use crate::readings::is_met;
 use ar_base::{Memory, WayId};
 use domains::Value;
-use gts_core::{GtsParts, WayBody};
+use gts_core::{GtsParts, WayBody, is_met};
 use std::alloc::Global;
 
 /// So many flags, none of them set.

@@ -7,12 +7,9 @@ mod faults;
 mod flags;
 mod moves;
 mod order;
-mod readings;
 mod received;
 mod sequence;
 mod stepper;
-#[cfg(test)]
-mod tests;
 
 pub use faults::{NoStep, StepFault};
 pub use stepper::Stepper;

@@ -7,7 +7,8 @@ ghost use Rattle.flow_propagate.specs.Answers.{IsState, IsFlowAnswer};
 ghost use Rattle.flow_propagate.specs.Plan.{IsPlan};
 ghost use Rattle.gts_core.specs.View.{net_of, IsWayAt};
 ghost use Rattle.gts_core.specs.Sound.{IsSound};
-ghost use Rattle.stepper.specs.Ways.{IsOrder, IsTotal, AreFlags, flag_at};
+ghost use Rattle.gts_core.specs.Readings.{IsTotal};
+ghost use Rattle.stepper.specs.Ways.{IsOrder, AreFlags, flag_at};
 ghost use Rattle.stepper.specs.Steps.{IsStepFault, IsStartFault, IsStepAnswer, IsReady};
 
 use crate::effects::{effects, takers};

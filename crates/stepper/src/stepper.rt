@@ -10,7 +10,7 @@ ghost use Rattle.ar_meaning.specs.Ways.{Can};
 ghost use Rattle.gts_core.specs.View.{net_of, IsWayAt};
 ghost use Rattle.gts_core.specs.Sound.{IsSound};
 ghost use Rattle.flow_propagate.specs.Plan.{IsPlan};
-ghost use Rattle.stepper.specs.Ways.{IsTotal};
+ghost use Rattle.gts_core.specs.Readings.{IsTotal};
 ghost use Rattle.stepper.specs.Steps.{IsStartFault, IsStepFault};
 
 use crate::changes::{Change, changes, restore};

@@ -18,7 +18,8 @@ use Rattle.typed_expr.specs.declared.value_set.Stop.{Stop}
 use Rattle.typed_expr.specs.declared.value_set.Stop.TheVariants.{TooMany, NoMemory}
 
 -- an error that is passed on
-pub err-same : {T E : Type 0} (Q : Result T E → Type 0) (r : Result T E) (x : E) → IsErrAnd r (λ e. e ≡ x) → Q (Err x) → Q r
+pub err-same : {T E : Type 0} (Q : Result T E → Type 0) (r : Result T E) (x : E) → IsErrAnd r (λ e. e ≡ x) → Q (Err x)
+    → Q r
 err-same Q (Ok v) x h q = elim h [ ]
 err-same {T} {E} Q (Err e) x h q = let P : E → Type 0 = λ z. Q (Err z) in subst P (sym h) q
 
@@ -30,27 +31,35 @@ pub at-limit : (most : Option ℕ) {P Q : ℕ → Type 0} → ((n : ℕ) → P n
 at-limit None f h = h
 at-limit (Some n) f h = f n h
 
-pub stopped-up : (most : Option ℕ) (C D : ℕ → Type 0) → ((n : ℕ) → C n → D n) → (stop : Stop) → Stopped most C stop → Stopped most D stop
+pub stopped-up : (most : Option ℕ) (C D : ℕ → Type 0) → ((n : ℕ) → C n → D n) → (stop : Stop) → Stopped most C stop
+    → Stopped most D stop
 stopped-up None C D f TooMany h = h
 stopped-up (Some n) C D f TooMany h = f n h
 stopped-up most C D f NoMemory h = tt
 
 -- the same gathered under another description
-pub gathers-as : (most : Option ℕ) (r : Result (List Value) Stop) {P Q : Value → Type 0} → ((v : Value) → P v → Q v) → ((v : Value) → Q v → P v) → Gathers most r P → Gathers most r Q
-gathers-as most (Ok set) f g h = (record { sound = λ v m. f v (h.0.sound v m); complete = λ v q. h.0.complete v (g v q) }, h.1)
-gathers-as most (Err TooMany) {P} {Q} f g h = at-limit most {P = λ n. HasMoreThan n P} {Q = λ n. HasMoreThan n Q} (λ n. more-than f) h
+pub gathers-as : (most : Option ℕ) (r : Result (List Value) Stop) {P Q : Value → Type 0} → ((v : Value) → P v → Q v)
+    → ((v : Value) → Q v → P v) → Gathers most r P → Gathers most r Q
+gathers-as most (Ok set) f g h =
+    (record { sound = λ v m. f v (h.0.sound v m); complete = λ v q. h.0.complete v (g v q) }, h.1)
+gathers-as most (Err TooMany) {P} {Q} f g h =
+    at-limit most {P = λ n. HasMoreThan n P} {Q = λ n. HasMoreThan n Q} (λ n. more-than f) h
 gathers-as most (Err NoMemory) f g h = tt
 
 -- where the set has exactly the values of P and another goes in
-pub exactly-put : (set new : List Value) (v : Value) (P Q : Value → Type 0) → HasExactly set P → Adds set v new → ((d : Value) → P d → Q d) → Q v
+pub exactly-put : (set new : List Value) (v : Value) (P Q : Value → Type 0) → HasExactly set P → Adds set v new
+    → ((d : Value) → P d → Q d) → Q v
     → ((d : Value) → Q d → P d ⊎ (d ≡ v)) → HasExactly new Q
 exactly-put set new v P Q h a up here down = record {
   sound = λ d m. elim (a.only d m) [ inl k ↦ up d (h.sound d k) | inr e ↦ subst Q (sym e) here ];
-  complete = λ d q. elim (down d q) [ inl p ↦ a.kept d (h.complete d p) | inr e ↦ subst (λ (z : Value). Contains new z) (sym e) a.added ];
+  complete = λ d q.
+      elim
+      (down d q) [ inl p ↦ a.kept d (h.complete d p) | inr e ↦ subst (λ (z : Value). Contains new z) (sym e) a.added ];
 }
 
 -- where one more is refused, there are too many
-pub refused-put : (most : Option ℕ) (set : List Value) (v : Value) (stop : Stop) (P Q : Value → Type 0) → HasExactly set P → Refuses most set v stop → ((d : Value) → P d → Q d) → Q v
+pub refused-put : (most : Option ℕ) (set : List Value) (v : Value) (stop : Stop) (P Q : Value → Type 0)
+    → HasExactly set P → Refuses most set v stop → ((d : Value) → P d → Q d) → Q v
     → Gathers most (Err stop) Q
 refused-put None set v TooMany P Q h r up here = r
 refused-put (Some n) set v TooMany P Q h (new, a, s, l) up here = record {
@@ -62,23 +71,37 @@ refused-put (Some n) set v TooMany P Q h (new, a, s, l) up here = record {
 refused-put most set v NoMemory P Q h r up here = tt
 
 -- a set of exactly the values of P within the limit: they are not too many
-pub not-more : (most : Option ℕ) (set : List Value) (P : Value → Type 0) → IsAscending set → HasExactly set P → KeepsLimit most set → AtLimit most (λ n. HasMoreThan n P) → ⊥
+pub not-more : (most : Option ℕ) (set : List Value) (P : Value → Type 0) → IsAscending set → HasExactly set P
+    → KeepsLimit most set → AtLimit most (λ n. HasMoreThan n P) → ⊥
 not-more None set P a h k m = m
-not-more (Some n) set P a h k m = let l = ascends-length m.values set (ascends-from m.values m.ascend) (ascends-from set a) (λ d i. h.complete d (m.each d i)) in let g = m.more in absurd (omega arith)
+not-more (Some n) set P a h k m =
+    let l =
+    ascends-length m.values set (ascends-from m.values m.ascend) (ascends-from set a)
+    (λ d i. h.complete d (m.each d i)) in
+    let g = m.more in
+    absurd (omega arith)
 
 -- items of the first places of a list, one place on
-pub take-cases : {X : Type 0} (xs : List X) (i : ℕ) (d x : X) → i < length xs → Contains (take (i + 1) xs) x → Contains (take i xs) x ⊎ (x ≡ get_or xs i d)
+pub take-cases : {X : Type 0} (xs : List X) (i : ℕ) (d x : X) → i < length xs → Contains (take (i + 1) xs) x
+    → Contains (take i xs) x ⊎ (x ≡ get_or xs i d)
 take-cases {X} xs i d x h m =
-    elim (Contains-push_cases (take i xs) (get_or xs i d) x (subst (λ (l : List X). Contains l x) (take_more xs i d h) m)) [ inl k ↦ inl k | inr e ↦ inr (sym e) ]
+    elim
+    (Contains-push_cases (take i xs) (get_or xs i d) x (subst (λ (l : List X). Contains l x) (take_more xs i d h) m)) [ inl k ↦ inl k | inr e ↦ inr (sym e) ]
 
-pub take-keeps : {X : Type 0} (xs : List X) (i : ℕ) (d x : X) → i < length xs → Contains (take i xs) x → Contains (take (i + 1) xs) x
-take-keeps {X} xs i d x h m = subst (λ (l : List X). Contains l x) (sym (take_more xs i d h)) (Contains-append_left (take i xs) (get_or xs i d ∷ []) x m)
+pub take-keeps : {X : Type 0} (xs : List X) (i : ℕ) (d x : X) → i < length xs → Contains (take i xs) x
+    → Contains (take (i + 1) xs) x
+take-keeps {X} xs i d x h m =
+    subst (λ (l : List X). Contains l x) (sym (take_more xs i d h))
+    (Contains-append_left (take i xs) (get_or xs i d ∷ []) x m)
 
 pub take-has : {X : Type 0} (xs : List X) (i : ℕ) (d : X) → i < length xs → Contains (take (i + 1) xs) (get_or xs i d)
-take-has {X} xs i d h = subst (λ (l : List X). Contains l (get_or xs i d)) (sym (take_more xs i d h)) (Contains-push (take i xs) (get_or xs i d))
+take-has {X} xs i d h =
+    subst (λ (l : List X). Contains l (get_or xs i d)) (sym (take_more xs i d h))
+    (Contains-push (take i xs) (get_or xs i d))
 
 pub take-within : {X : Type 0} (xs : List X) (i : ℕ) (x : X) → Contains (take i xs) x → Contains xs x
-take-within {X} xs i x m = subst (λ (l : List X). Contains l x) (take-append-drop i xs) (Contains-append_left (take i xs) (drop i xs) x m)
+take-within {X} xs i x m =
+    subst (λ (l : List X). Contains l x) (take-append-drop i xs) (Contains-append_left (take i xs) (drop i xs) x m)
 
 -- the set has exactly the values of P and keeps the limit
 abbrev pub SoFar : Option ℕ → List Value → (Value → Type 0) → Type 0
@@ -88,10 +111,13 @@ SoFar most set P = HasExactly set P × KeepsLimit most set
 abbrev pub JoinedTo : List Value → List Value → ℕ → Value → Type 0
 JoinedTo set values i v = Contains set v ⊎ Contains (take i values) v
 
-pub joined-start : (most : Option ℕ) (set values : List Value) → KeepsLimit most set → SoFar most set (JoinedTo set values 0)
-joined-start most set values k = (record { sound = λ v m. inl m; complete = λ v m. elim m [ inl h ↦ h | inr h ↦ absurd (nothing-in v h) ] }, k)
+pub joined-start : (most : Option ℕ) (set values : List Value) → KeepsLimit most set
+    → SoFar most set (JoinedTo set values 0)
+joined-start most set values k =
+    (record { sound = λ v m. inl m; complete = λ v m. elim m [ inl h ↦ h | inr h ↦ absurd (nothing-in v h) ] }, k)
 
-pub joined-more : (most : Option ℕ) (old set new values : List Value) (i : ℕ) (d : Value) → i < length values → SoFar most set (JoinedTo old values i)
+pub joined-more : (most : Option ℕ) (old set new values : List Value) (i : ℕ) (d : Value) → i < length values
+    → SoFar most set (JoinedTo old values i)
     → Inserts most set (get_or values i d) new → SoFar most new (JoinedTo old values (i + 1))
 joined-more most old set new values i d h s a = (
   exactly-put set new (get_or values i d) (JoinedTo old values i) (JoinedTo old values (i + 1)) s.0 a.0
@@ -101,47 +127,79 @@ joined-more most old set new values i d h s a = (
   a.1 s.1,
 )
 
-pub joined-refused : (most : Option ℕ) (old set values : List Value) (i : ℕ) (d : Value) (stop : Stop) → i < length values → SoFar most set (JoinedTo old values i)
+pub joined-refused : (most : Option ℕ) (old set values : List Value) (i : ℕ) (d : Value) (stop : Stop)
+    → i < length values → SoFar most set (JoinedTo old values i)
     → Refuses most set (get_or values i d) stop → Gathers most (Err stop) (λ v. Contains old v ⊎ Contains values v)
 joined-refused most old set values i d stop h s r =
-    refused-put most set (get_or values i d) stop (JoinedTo old values i) (λ v. Contains old v ⊎ Contains values v) s.0 r
+    refused-put most set (get_or values i d) stop (JoinedTo old values i)
+    (λ v. Contains old v ⊎ Contains values v) s.0 r
     (λ v m. elim m [ inl k ↦ inl k | inr k ↦ inr (take-within values i v k) ])
     (inr (take-within values (i + 1) (get_or values i d) (take-has values i d h)))
 
-pub joined-end : (most : Option ℕ) (old set values : List Value) (i : ℕ) → length values ≤ i → SoFar most set (JoinedTo old values i)
+pub joined-end : (most : Option ℕ) (old set values : List Value) (i : ℕ) → length values ≤ i
+    → SoFar most set (JoinedTo old values i)
     → Gathers most (Ok set) (λ v. Contains old v ⊎ Contains values v)
-joined-end most old set values i h s = let P : List Value → Type 0 = λ l. SoFar most set (λ v. Contains old v ⊎ Contains l v) in subst P (take_all i values h) s
+joined-end most old set values i h s =
+    let P : List Value → Type 0 = λ l. SoFar most set (λ v. Contains old v ⊎ Contains l v) in
+    subst P (take_all i values h) s
 
 -- one number with the first places of the values
 abbrev pub SteppedTo : Step → Bool → Value → List Value → List Value → ℕ → Value → Type 0
 SteppedTo s first n old values i v = Contains old v ⊎ IsNext s first (n ∷ []) (take i values) v
 
-next-more : (s : Step) (first : Bool) (ns values : List Value) (i : ℕ) (d v : Value) → i < length values → IsNext s first ns (take i values) v → IsNext s first ns (take (i + 1) values) v
-next-more s first ns values i d v h m = record { number = m.number; value = m.value; in_numbers = m.in_numbers; in_values = take-keeps values i d m.value h m.in_values; is = m.is }
+next-more : (s : Step) (first : Bool) (ns values : List Value) (i : ℕ) (d v : Value) → i < length values
+    → IsNext s first ns (take i values) v → IsNext s first ns (take (i + 1) values) v
+next-more s first ns values i d v h m = record {
+  number = m.number;
+  value = m.value;
+  in_numbers = m.in_numbers;
+  in_values = take-keeps values i d m.value h m.in_values;
+  is = m.is;
+}
 
-next-within : (s : Step) (first : Bool) (ns values : List Value) (i : ℕ) (v : Value) → IsNext s first ns (take i values) v → IsNext s first ns values v
-next-within s first ns values i v m = record { number = m.number; value = m.value; in_numbers = m.in_numbers; in_values = take-within values i m.value m.in_values; is = m.is }
+next-within : (s : Step) (first : Bool) (ns values : List Value) (i : ℕ) (v : Value)
+    → IsNext s first ns (take i values) v → IsNext s first ns values v
+next-within s first ns values i v m = record {
+  number = m.number;
+  value = m.value;
+  in_numbers = m.in_numbers;
+  in_values = take-within values i m.value m.in_values;
+  is = m.is;
+}
 
 next-here : (s : Step) (first : Bool) (n : Value) (values : List Value) (i : ℕ) (d : Value) → i < length values
     → IsNext s first (n ∷ []) (take (i + 1) values) (Whole (next_of s first (whole_of n) (get_or values i d)))
-next-here s first n values i d h = record { number = n; value = get_or values i d; in_numbers = contains-head n []; in_values = take-has values i d h; is = refl }
+next-here s first n values i d h = record {
+  number = n;
+  value = get_or values i d;
+  in_numbers = contains-head n [];
+  in_values = take-has values i d h;
+  is = refl;
+}
 
 pub one-item : (n m : Value) → Contains (n ∷ []) m → n ≡ m
 one-item n m h = elim (contains-cases n m [] h) [ inl e ↦ e | inr k ↦ absurd (nothing-in m k) ]
 
-next-cases : (s : Step) (first : Bool) (n : Value) (values : List Value) (i : ℕ) (d v : Value) → i < length values → IsNext s first (n ∷ []) (take (i + 1) values) v
+next-cases : (s : Step) (first : Bool) (n : Value) (values : List Value) (i : ℕ) (d v : Value) → i < length values
+    → IsNext s first (n ∷ []) (take (i + 1) values) v
     → IsNext s first (n ∷ []) (take i values) v ⊎ (v ≡ Whole (next_of s first (whole_of n) (get_or values i d)))
 next-cases s first n values i d v h m =
     elim (take-cases values i d m.value h m.in_values) [
       | inl k ↦ inl (record { number = m.number; value = m.value; in_numbers = m.in_numbers; in_values = k; is = m.is })
-      | inr e ↦ inr (m.is ∙ ap (λ z. Whole (next_of s first (whole_of z) m.value)) (sym (one-item n m.number m.in_numbers)) ∙ ap (λ z. Whole (next_of s first (whole_of n) z)) e)
+      | inr e ↦
+          inr
+          (m.is ∙ ap (λ z. Whole (next_of s first (whole_of z) m.value)) (sym (one-item n m.number m.in_numbers)) ∙ ap (λ z. Whole (next_of s first (whole_of n) z)) e)
     ]
 
-pub stepped-start : (most : Option ℕ) (s : Step) (first : Bool) (n : Value) (set values : List Value) → KeepsLimit most set → SoFar most set (SteppedTo s first n set values 0)
-stepped-start most s first n set values k = (record { sound = λ v m. inl m; complete = λ v m. elim m [ inl h ↦ h | inr h ↦ absurd (nothing-in h.value h.in_values) ] }, k)
+pub stepped-start : (most : Option ℕ) (s : Step) (first : Bool) (n : Value) (set values : List Value)
+    → KeepsLimit most set → SoFar most set (SteppedTo s first n set values 0)
+stepped-start most s first n set values k =
+    (record { sound = λ v m. inl m; complete = λ v m. elim m [ inl h ↦ h | inr h ↦ absurd (nothing-in h.value h.in_values) ] }, k)
 
-pub stepped-more : (most : Option ℕ) (s : Step) (first : Bool) (n x : Value) (old set new values : List Value) (i : ℕ) (d : Value) → i < length values
-    → SoFar most set (SteppedTo s first n old values i) → x ≡ Whole (next_of s first (whole_of n) (get_or values i d)) → Inserts most set x new
+pub stepped-more : (most : Option ℕ) (s : Step) (first : Bool) (n x : Value) (old set new values : List Value) (i : ℕ) (d : Value)
+    → i < length values
+    → SoFar most set (SteppedTo s first n old values i) → x ≡ Whole (next_of s first (whole_of n) (get_or values i d))
+    → Inserts most set x new
     → SoFar most new (SteppedTo s first n old values (i + 1))
 stepped-more most s first n x old set new values i d h t e a = (
   exactly-put set new x (SteppedTo s first n old values i) (SteppedTo s first n old values (i + 1)) t.0 a.0
@@ -151,105 +209,153 @@ stepped-more most s first n x old set new values i d h t e a = (
   a.1 t.1,
 )
 
-pub stepped-refused : (most : Option ℕ) (s : Step) (first : Bool) (n x : Value) (old set values : List Value) (i : ℕ) (d : Value) (stop : Stop) → i < length values
-    → SoFar most set (SteppedTo s first n old values i) → x ≡ Whole (next_of s first (whole_of n) (get_or values i d)) → Refuses most set x stop
+pub stepped-refused : (most : Option ℕ) (s : Step) (first : Bool) (n x : Value) (old set values : List Value) (i : ℕ) (d : Value) (stop : Stop)
+    → i < length values
+    → SoFar most set (SteppedTo s first n old values i) → x ≡ Whole (next_of s first (whole_of n) (get_or values i d))
+    → Refuses most set x stop
     → Gathers most (Err stop) (λ v. Contains old v ⊎ IsNext s first (n ∷ []) values v)
 stepped-refused most s first n x old set values i d stop h t e r =
-    refused-put most set x stop (SteppedTo s first n old values i) (λ v. Contains old v ⊎ IsNext s first (n ∷ []) values v) t.0 r
+    refused-put most set x stop (SteppedTo s first n old values i)
+    (λ v. Contains old v ⊎ IsNext s first (n ∷ []) values v) t.0 r
     (λ v m. elim m [ inl k ↦ inl k | inr k ↦ inr (next-within s first (n ∷ []) values i v k) ])
     (inr (subst (IsNext s first (n ∷ []) values) (sym e) (next-within s first (n ∷ []) values (i + 1) _ (next-here s first n values i d h))))
 
-pub stepped-end : (most : Option ℕ) (s : Step) (first : Bool) (n : Value) (old set values : List Value) (i : ℕ) → length values ≤ i → SoFar most set (SteppedTo s first n old values i)
+pub stepped-end : (most : Option ℕ) (s : Step) (first : Bool) (n : Value) (old set values : List Value) (i : ℕ)
+    → length values ≤ i → SoFar most set (SteppedTo s first n old values i)
     → Gathers most (Ok set) (λ v. Contains old v ⊎ IsNext s first (n ∷ []) values v)
-stepped-end most s first n old set values i h t = let P : List Value → Type 0 = λ l. SoFar most set (λ v. Contains old v ⊎ IsNext s first (n ∷ []) l v) in subst P (take_all i values h) t
+stepped-end most s first n old set values i h t =
+    let P : List Value → Type 0 = λ l. SoFar most set (λ v. Contains old v ⊎ IsNext s first (n ∷ []) l v) in
+    subst P (take_all i values h) t
 
-numbers_up : (s : Step) (first : Bool) (ns values set : List Value) (i : ℕ) (d n : Value) → i < length ns → n ≡ get_or ns i d
-    → ((v : Value) → Contains set v → IsNext s first (take i ns) values v) → (v : Value) → Contains set v ⊎ IsNext s first (n ∷ []) values v
+numbers_up : (s : Step) (first : Bool) (ns values set : List Value) (i : ℕ) (d n : Value) → i < length ns
+    → n ≡ get_or ns i d
+    → ((v : Value) → Contains set v → IsNext s first (take i ns) values v) → (v : Value)
+    → Contains set v ⊎ IsNext s first (n ∷ []) values v
     → IsNext s first (take (i + 1) ns) values v
-numbers_up s first ns values set i d n h e t v (inl k) = let m = t v k in record { number = m.number; value = m.value; in_numbers = take-keeps ns i d m.number h m.in_numbers; in_values = m.in_values; is = m.is }
+numbers_up s first ns values set i d n h e t v (inl k) =
+    let m = t v k in
+    record {
+      number = m.number;
+      value = m.value;
+      in_numbers = take-keeps ns i d m.number h m.in_numbers;
+      in_values = m.in_values;
+      is = m.is;
+    }
 numbers_up s first ns values set i d n h e t v (inr m) = record {
   number = m.number;
   value = m.value;
   in_values = m.in_values;
   is = m.is;
-  in_numbers = subst (λ (z : Value). Contains (take (i + 1) ns) z) (sym e ∙ one-item n m.number m.in_numbers) (take-has ns i d h);
+  in_numbers =
+      subst (λ (z : Value). Contains (take (i + 1) ns) z) (sym e ∙ one-item n m.number m.in_numbers)
+      (take-has ns i d h);
 }
 
-numbers_down : (s : Step) (first : Bool) (ns values set : List Value) (i : ℕ) (d n : Value) → i < length ns → n ≡ get_or ns i d
-    → ((v : Value) → IsNext s first (take i ns) values v → Contains set v) → (v : Value) → IsNext s first (take (i + 1) ns) values v
+numbers_down : (s : Step) (first : Bool) (ns values set : List Value) (i : ℕ) (d n : Value) → i < length ns
+    → n ≡ get_or ns i d
+    → ((v : Value) → IsNext s first (take i ns) values v → Contains set v) → (v : Value)
+    → IsNext s first (take (i + 1) ns) values v
     → Contains set v ⊎ IsNext s first (n ∷ []) values v
 numbers_down s first ns values set i d n h e t v m =
     elim (take-cases ns i d m.number h m.in_numbers) [
-      | inl k ↦ inl (t v (record { number = m.number; value = m.value; in_numbers = k; in_values = m.in_values; is = m.is }))
-      | inr q ↦ inr (record { number = m.number; value = m.value; in_values = m.in_values; is = m.is; in_numbers = subst (λ (z : Value). Contains (n ∷ []) z) (e ∙ sym q) (contains-head n []) })
+      | inl k ↦
+          inl (t v (record { number = m.number; value = m.value; in_numbers = k; in_values = m.in_values; is = m.is }))
+      | inr q ↦
+          inr
+          (record { number = m.number; value = m.value; in_values = m.in_values; is = m.is; in_numbers = subst (λ (z : Value). Contains (n ∷ []) z) (e ∙ sym q) (contains-head n []) })
     ]
 
 -- one more number
-pub numbers-more : (most : Option ℕ) (s : Step) (first : Bool) (ns values set new : List Value) (i : ℕ) (d n : Value) → i < length ns → n ≡ get_or ns i d
-    → HasExactly set (IsNext s first (take i ns) values) → Gathers most (Ok new) (λ v. Contains set v ⊎ IsNext s first (n ∷ []) values v)
+pub numbers-more : (most : Option ℕ) (s : Step) (first : Bool) (ns values set new : List Value) (i : ℕ) (d n : Value)
+    → i < length ns → n ≡ get_or ns i d
+    → HasExactly set (IsNext s first (take i ns) values)
+    → Gathers most (Ok new) (λ v. Contains set v ⊎ IsNext s first (n ∷ []) values v)
     → SoFar most new (IsNext s first (take (i + 1) ns) values)
 numbers-more most s first ns values set new i d n h e t g =
-    gathers-as most (Ok new) {P = λ v. Contains set v ⊎ IsNext s first (n ∷ []) values v} (numbers_up s first ns values set i d n h e t.sound) (numbers_down s first ns values set i d n h e t.complete) g
+    gathers-as most (Ok new) {P = λ v. Contains set v ⊎ IsNext s first (n ∷ []) values v}
+    (numbers_up s first ns values set i d n h e t.sound) (numbers_down s first ns values set i d n h e t.complete) g
 
-pub numbers-refused : (most : Option ℕ) (s : Step) (first : Bool) (ns values set : List Value) (i : ℕ) (d n : Value) (stop : Stop) → i < length ns → n ≡ get_or ns i d
-    → HasExactly set (IsNext s first (take i ns) values) → Gathers most (Err stop) (λ v. Contains set v ⊎ IsNext s first (n ∷ []) values v)
+pub numbers-refused : (most : Option ℕ) (s : Step) (first : Bool) (ns values set : List Value) (i : ℕ) (d n : Value) (stop : Stop)
+    → i < length ns → n ≡ get_or ns i d
+    → HasExactly set (IsNext s first (take i ns) values)
+    → Gathers most (Err stop) (λ v. Contains set v ⊎ IsNext s first (n ∷ []) values v)
     → Gathers most (Err stop) (IsNext s first ns values)
 numbers-refused None s first ns values set i d n TooMany h e t g = g
 numbers-refused (Some k) s first ns values set i d n TooMany h e t g =
     more-than (λ v m. let u = numbers_up s first ns values set i d n h e t.sound v m in
-    record { number = u.number; value = u.value; in_numbers = take-within ns (i + 1) u.number u.in_numbers; in_values = u.in_values; is = u.is }) g
+    record
+    { number = u.number; value = u.value; in_numbers = take-within ns (i + 1) u.number u.in_numbers; in_values = u.in_values; is = u.is }) g
 numbers-refused most s first ns values set i d n NoMemory h e t g = tt
 
-pub numbers-start : (most : Option ℕ) (s : Step) (first : Bool) (ns values set : List Value) → set ≡ [] → SoFar most set (IsNext s first (take 0 ns) values)
+pub numbers-start : (most : Option ℕ) (s : Step) (first : Bool) (ns values set : List Value) → set ≡ []
+    → SoFar most set (IsNext s first (take 0 ns) values)
 numbers-start None s first ns values set e =
     (record { sound = λ v m. absurd (nothing-in v (subst (λ (l : List Value). Contains l v) e m)); complete = λ v m. absurd (nothing-in m.number m.in_numbers) }, tt)
 numbers-start (Some k) s first ns values set e =
     (record { sound = λ v m. absurd (nothing-in v (subst (λ (l : List Value). Contains l v) e m)); complete = λ v m. absurd (nothing-in m.number m.in_numbers) }, rw e (omega arith))
 
-pub numbers-end : (most : Option ℕ) (s : Step) (first : Bool) (ns values set : List Value) (i : ℕ) → length ns ≤ i → SoFar most set (IsNext s first (take i ns) values)
+pub numbers-end : (most : Option ℕ) (s : Step) (first : Bool) (ns values set : List Value) (i : ℕ) → length ns ≤ i
+    → SoFar most set (IsNext s first (take i ns) values)
     → Gathers most (Ok set) (IsNext s first ns values)
-numbers-end most s first ns values set i h t = let P : List Value → Type 0 = λ l. SoFar most set (IsNext s first l values) in subst P (take_all i ns h) t
+numbers-end most s first ns values set i h t =
+    let P : List Value → Type 0 = λ l. SoFar most set (IsNext s first l values) in
+    subst P (take_all i ns h) t
 
 pub keeps-nothing : (most : Option ℕ) (set : List Value) → set ≡ [] → KeepsLimit most set
 keeps-nothing None set e = tt
 keeps-nothing (Some k) set e = rw e (omega arith)
 
 -- what gathers from nothing and a list gathers the list
-pub gathered-as : (most : Option ℕ) (set values : List Value) (r : Result (List Value) Stop) → set ≡ [] → Gathers most r (λ v. Contains set v ⊎ Contains values v) → Gathers most r (Contains values)
+pub gathered-as : (most : Option ℕ) (set values : List Value) (r : Result (List Value) Stop) → set ≡ []
+    → Gathers most r (λ v. Contains set v ⊎ Contains values v) → Gathers most r (Contains values)
 gathered-as most set values r e g = gathers-as most r {P = λ v. Contains set v ⊎ Contains values v}
-    (λ v m. elim m [ inl h ↦ absurd (nothing-in v (subst (λ (l : List Value). Contains l v) e h)) | inr k ↦ k ]) (λ v m. inr m) g
+    (λ v m. elim m [ inl h ↦ absurd (nothing-in v (subst (λ (l : List Value). Contains l v) e h)) | inr k ↦ k ])
+    (λ v m. inr m) g
 
-pub truths-none : (most : Option ℕ) (r : Result (List Value) Stop) → Gathers most r (Contains []) → Gathers most r (IsTruth false false)
-truths-none most r g = gathers-as most r {P = Contains []} (λ v m. absurd (nothing-in v m)) (λ v m. elim m [ inl h ↦ cc | inr h ↦ cc ]) g
+pub truths-none : (most : Option ℕ) (r : Result (List Value) Stop) → Gathers most r (Contains [])
+    → Gathers most r (IsTruth false false)
+truths-none most r g =
+    gathers-as most r {P = Contains []} (λ v m. absurd (nothing-in v m)) (λ v m. elim m [ inl h ↦ cc | inr h ↦ cc ]) g
 
-pub truths-false : (most : Option ℕ) (r : Result (List Value) Stop) → Gathers most r (Contains (Truth false ∷ [])) → Gathers most r (IsTruth true false)
+pub truths-false : (most : Option ℕ) (r : Result (List Value) Stop) → Gathers most r (Contains (Truth false ∷ []))
+    → Gathers most r (IsTruth true false)
 truths-false most r g = gathers-as most r {P = Contains (Truth false ∷ [])}
     (λ v m. inl (refl, sym (one-item (Truth false) v m)))
     (λ v m. elim m [ inl h ↦ subst (λ (z : Value). Contains (Truth false ∷ []) z) (sym h.1) (contains-head (Truth false) []) | inr h ↦ cc ]) g
 
-pub truths-true : (most : Option ℕ) (r : Result (List Value) Stop) → Gathers most r (Contains (Truth true ∷ [])) → Gathers most r (IsTruth false true)
+pub truths-true : (most : Option ℕ) (r : Result (List Value) Stop) → Gathers most r (Contains (Truth true ∷ []))
+    → Gathers most r (IsTruth false true)
 truths-true most r g = gathers-as most r {P = Contains (Truth true ∷ [])}
     (λ v m. inr (refl, sym (one-item (Truth true) v m)))
     (λ v m. elim m [ inl h ↦ cc | inr h ↦ subst (λ (z : Value). Contains (Truth true ∷ []) z) (sym h.1) (contains-head (Truth true) []) ]) g
 
-pub truths-both : (most : Option ℕ) (r : Result (List Value) Stop) → Gathers most r (Contains (Truth false ∷ Truth true ∷ [])) → Gathers most r (IsTruth true true)
+pub truths-both : (most : Option ℕ) (r : Result (List Value) Stop)
+    → Gathers most r (Contains (Truth false ∷ Truth true ∷ [])) → Gathers most r (IsTruth true true)
 truths-both most r g = gathers-as most r {P = Contains (Truth false ∷ Truth true ∷ [])}
     (λ v m. elim (contains-cases (Truth false) v (Truth true ∷ []) m) [ inl e ↦ inl (refl, sym e) | inr k ↦ inr (refl, sym (one-item (Truth true) v k)) ])
     (λ v m. elim m [
-      | inl h ↦ subst (λ (z : Value). Contains (Truth false ∷ Truth true ∷ []) z) (sym h.1) (contains-head (Truth false) (Truth true ∷ []))
-      | inr h ↦ subst (λ (z : Value). Contains (Truth false ∷ Truth true ∷ []) z) (sym h.1) (contains-cons (Truth false) (Truth true) (Truth true ∷ []) (contains-head (Truth true) []))
+      | inl h ↦
+          subst (λ (z : Value). Contains (Truth false ∷ Truth true ∷ []) z) (sym h.1)
+          (contains-head (Truth false) (Truth true ∷ []))
+      | inr h ↦
+          subst (λ (z : Value). Contains (Truth false ∷ Truth true ∷ []) z) (sym h.1)
+          (contains-cons (Truth false) (Truth true) (Truth true ∷ []) (contains-head (Truth true) []))
     ]) g
 
 -- no value so far is so related, and neither is the next
-pub right-more : (r : Relation) (a : Value) (bs : List Value) (wanted b : Bool) (i : ℕ) (d : Value) → i < length bs → (SomeRelated r (a ∷ []) (take i bs) wanted → ⊥)
+pub right-more : (r : Relation) (a : Value) (bs : List Value) (wanted b : Bool) (i : ℕ) (d : Value) → i < length bs
+    → (SomeRelated r (a ∷ []) (take i bs) wanted → ⊥)
     → b ≡ is_related r a (get_or bs i d) → (b ≡ wanted → ⊥) → SomeRelated r (a ∷ []) (take (i + 1) bs) wanted → ⊥
 right-more r a bs wanted b i d h f e n s =
     elim (take-cases bs i d s.right h s.in_right) [
       | inl k ↦ f (record { left = s.left; right = s.right; in_left = s.in_left; in_right = k; related = s.related })
-      | inr q ↦ n (e ∙ ap (λ z. is_related r z (get_or bs i d)) (one-item a s.left s.in_left) ∙ ap (λ z. is_related r s.left z) (sym q) ∙ s.related)
+      | inr q ↦
+          n
+          (e ∙ ap (λ z. is_related r z (get_or bs i d)) (one-item a s.left s.in_left) ∙ ap (λ z. is_related r s.left z) (sym q) ∙ s.related)
     ]
 
-pub left-more : (r : Relation) (us bs : List Value) (wanted : Bool) (i : ℕ) (d : Value) → i < length us → (SomeRelated r (take i us) bs wanted → ⊥)
+pub left-more : (r : Relation) (us bs : List Value) (wanted : Bool) (i : ℕ) (d : Value) → i < length us
+    → (SomeRelated r (take i us) bs wanted → ⊥)
     → (SomeRelated r (get_or us i d ∷ []) bs wanted → ⊥) → SomeRelated r (take (i + 1) us) bs wanted → ⊥
 left-more r us bs wanted i d h f n s =
     elim (take-cases us i d s.left h s.in_left) [
@@ -269,8 +375,10 @@ not_equal true false e i = cc
 not_equal false true e i = cc
 not_equal false false e i = cc
 
-pub wanted-as : (most : Option ℕ) (set more values : List Value) (wanted : Bool) (r : Result (List Value) Stop) → wanted ≡ true → values ≡ more
-    → Gathers most r (λ v. Contains set v ⊎ Contains values v) → Gathers most r (λ v. Contains set v ⊎ (IsTrue wanted × Contains more v))
+pub wanted-as : (most : Option ℕ) (set more values : List Value) (wanted : Bool) (r : Result (List Value) Stop)
+    → wanted ≡ true → values ≡ more
+    → Gathers most r (λ v. Contains set v ⊎ Contains values v)
+    → Gathers most r (λ v. Contains set v ⊎ (IsTrue wanted × Contains more v))
 wanted-as most set more values wanted r w e g = gathers-as most r {P = λ v. Contains set v ⊎ Contains values v}
     (λ v m. elim m [ inl h ↦ inl h | inr k ↦ inr (w, subst (λ (l : List Value). Contains l v) e k) ])
     (λ v m. elim m [ inl h ↦ inl h | inr k ↦ inr (subst (λ (l : List Value). Contains l v) (sym e) k.1) ]) g

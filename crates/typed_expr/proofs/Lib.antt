@@ -3,10 +3,13 @@ mod Folding
 mod Gathering
 mod Forms
 mod Loops
+pub mod Opened
 mod Arms
 pub mod Kinded
 pub mod Valued
 pub mod Renaming
 pub mod Facts
 pub mod OneValue
+pub mod KindsYielded
 pub mod Listing
+pub mod Mentioning

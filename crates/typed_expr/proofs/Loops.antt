@@ -22,7 +22,8 @@ use Rattle.typed_expr.proofs.Gathering.{more-than, stopped-up, take-cases, one-i
 use Rattle.typed_expr.proofs.Forms.{not-more}
 
 -- the first places of a list, one place on
-pub take-next : {X : Type 0} (xs : List X) (i : ℕ) (x : X) → i < length xs → x ≡ get_or xs i x → take (i + 1) xs ≡ take i xs ++ x ∷ []
+pub take-next : {X : Type 0} (xs : List X) (i : ℕ) (x : X) → i < length xs → x ≡ get_or xs i x
+    → take (i + 1) xs ≡ take i xs ++ x ∷ []
 take-next {X} xs i x h is = take_more xs i x h ∙ ap (λ (z : X). take i xs ++ z ∷ []) (sym is)
 
 pub item-in : {X : Type 0} (xs : List X) (i : ℕ) (d : X) → i < length xs → Contains xs (get_or xs i d)
@@ -41,13 +42,15 @@ pub none-nowhere : (most : Option ℕ) (C : ℕ → Type 0) → ((n : ℕ) → C
 none-nowhere None C f h = h
 none-nowhere (Some n) C f h = f n h
 
-pub not-more-at : (most : Option ℕ) (set : List Value) (P : Value → Type 0) → HasExactly set P → KeepsLimit most set → AtLimit most (λ n. HasMoreThan n P) → ⊥
+pub not-more-at : (most : Option ℕ) (set : List Value) (P : Value → Type 0) → HasExactly set P → KeepsLimit most set
+    → AtLimit most (λ n. HasMoreThan n P) → ⊥
 not-more-at None set P h k m = m
 not-more-at (Some n) set P h k m = not-more n set P h k m
 
 module _ {V : Type 0} (facts : V → Value → Type 0) where
   -- operands one after the other
-  pub some-append : (xs ys : List (Expr V)) (v : Value) → Some_yields facts (xs ++ ys) v → Some_yields facts xs v ⊎ Some_yields facts ys v
+  pub some-append : (xs ys : List (Expr V)) (v : Value) → Some_yields facts (xs ++ ys) v
+      → Some_yields facts xs v ⊎ Some_yields facts ys v
   some-append [] ys v d = inr d
   some-append (x ∷ xs) ys v (y.here d) = inl (y.here d)
   some-append (x ∷ xs) ys v (y.later d) = elim (some-append xs ys v d) [ inl h ↦ inl (y.later h) | inr h ↦ inr h ]
@@ -65,7 +68,8 @@ module _ {V : Type 0} (facts : V → Value → Type 0) where
   some_one e v (y.here d) = d
   some_one e v (y.later d) = elim d [ ]
 
-  pub all-append : (xs ys : List (Expr V)) (v : Value) → All_yield facts xs v → All_yield facts ys v → All_yield facts (xs ++ ys) v
+  pub all-append : (xs ys : List (Expr V)) (v : Value) → All_yield facts xs v → All_yield facts ys v
+      → All_yield facts (xs ++ ys) v
   all-append [] ys v y.none e = e
   all-append (x ∷ xs) ys v (y.one_and d ds) e = y.one_and d (all-append xs ys v ds e)
 
@@ -81,7 +85,8 @@ module _ {V : Type 0} (facts : V → Value → Type 0) where
   all_one e v (y.one_and d ds) = d
 
   -- one more operand that is not too wide
-  pub narrow-more : (most : Option ℕ) (es : List (Expr V)) (i : ℕ) (e : Expr V) → i < length es → e ≡ get_or es i e → (AtLimit most (SomeWide facts (take i es)) → ⊥)
+  pub narrow-more : (most : Option ℕ) (es : List (Expr V)) (i : ℕ) (e : Expr V) → i < length es → e ≡ get_or es i e
+      → (AtLimit most (SomeWide facts (take i es)) → ⊥)
       → (AtLimit most (λ n. IsWide facts n (out-Expr V e)) → ⊥) → AtLimit most (SomeWide facts (take (i + 1) es)) → ⊥
   narrow-more None es i e h is p q w = w
   narrow-more (Some n) es i e h is p q w =
@@ -93,21 +98,29 @@ module _ {V : Type 0} (facts : V → Value → Type 0) where
   pub narrow-start : (most : Option ℕ) → AtLimit most (SomeWide facts []) → ⊥
   narrow-start most = none-nowhere most (SomeWide facts []) (λ n w. nothing-in w.expr w.in_list)
 
-  pub narrow-end : (most : Option ℕ) (es : List (Expr V)) (i : ℕ) → length es ≤ i → (AtLimit most (SomeWide facts (take i es)) → ⊥) → AtLimit most (SomeWide facts es) → ⊥
-  narrow-end most es i h p = let P : List (Expr V) → Type 0 = λ l. AtLimit most (SomeWide facts l) → ⊥ in subst P (take_all i es h) p
+  pub narrow-end : (most : Option ℕ) (es : List (Expr V)) (i : ℕ) → length es ≤ i
+      → (AtLimit most (SomeWide facts (take i es)) → ⊥) → AtLimit most (SomeWide facts es) → ⊥
+  narrow-end most es i h p =
+      let P : List (Expr V) → Type 0 = λ l. AtLimit most (SomeWide facts l) → ⊥ in
+      subst P (take_all i es h) p
 
-  pub wide-here : (most : Option ℕ) (es : List (Expr V)) (i : ℕ) (e : Expr V) (stop : Stop) → i < length es → e ≡ get_or es i e
+  pub wide-here : (most : Option ℕ) (es : List (Expr V)) (i : ℕ) (e : Expr V) (stop : Stop) → i < length es
+      → e ≡ get_or es i e
       → Stopped most (λ n. IsWide facts n (out-Expr V e)) stop → Stopped most (SomeWide facts es) stop
   wide-here most es i e stop h is s =
-      stopped-up most (λ n. IsWide facts n (out-Expr V e)) (SomeWide facts es) (λ n w. record { expr = e; in_list = item-is-in es i e h is; wide = w }) stop s
+      stopped-up most (λ n. IsWide facts n (out-Expr V e)) (SomeWide facts es)
+      (λ n w. record { expr = e; in_list = item-is-in es i e h is; wide = w }) stop s
 
   -- tallies
   pub tallied-start : (b : Bool) → Tallied facts b false true []
   tallied-start b = record { one = ((λ h. cc), (λ d. elim d [ ])); all = ((λ h. y.none), (λ d. refl)) }
 
-  pub tallied-more : (b one each one_more each_more other same : Bool) (es : List (Expr V)) (i : ℕ) (e : Expr V) (set : List Value) → i < length es → e ≡ get_or es i e
-      → HasExactly set (Yields facts (out-Expr V e)) → IsTrue other ↔ Contains set (Truth (not b)) → IsTrue same ↔ Contains set (Truth b)
-      → IsTrue one_more ↔ (IsTrue one ⊎ IsTrue other) → IsTrue each_more ↔ (IsTrue each × IsTrue same) → Tallied facts b one each (take i es) → Tallied facts b one_more each_more (take (i + 1) es)
+  pub tallied-more : (b one each one_more each_more other same : Bool) (es : List (Expr V)) (i : ℕ) (e : Expr V) (set : List Value)
+      → i < length es → e ≡ get_or es i e
+      → HasExactly set (Yields facts (out-Expr V e)) → IsTrue other ↔ Contains set (Truth (not b))
+      → IsTrue same ↔ Contains set (Truth b)
+      → IsTrue one_more ↔ (IsTrue one ⊎ IsTrue other) → IsTrue each_more ↔ (IsTrue each × IsTrue same)
+      → Tallied facts b one each (take i es) → Tallied facts b one_more each_more (take (i + 1) es)
   tallied-more b one each one_more each_more other same es i e set h is k p q o a t =
       let T : List (Expr V) → Type 0 = λ l. Tallied facts b one_more each_more l in
       subst T (sym (take-next es i e h is)) (record {
@@ -127,11 +140,15 @@ module _ {V : Type 0} (facts : V → Value → Type 0) where
         );
       })
 
-  pub tallied-end : (b one each : Bool) (es : List (Expr V)) (i : ℕ) → length es ≤ i → Tallied facts b one each (take i es) → Tallied facts b one each es
-  tallied-end b one each es i h t = let T : List (Expr V) → Type 0 = λ l. Tallied facts b one each l in subst T (take_all i es h) t
+  pub tallied-end : (b one each : Bool) (es : List (Expr V)) (i : ℕ) → length es ≤ i
+      → Tallied facts b one each (take i es) → Tallied facts b one each es
+  tallied-end b one each es i h t =
+      let T : List (Expr V) → Type 0 = λ l. Tallied facts b one each l in
+      subst T (take_all i es h) t
 
   -- where one operand decides, the others do not count
-  pub tallied-stops : (b one each : Bool) (es : List (Expr V)) (i : ℕ) → one ≡ true → each ≡ false → Tallied facts b one each (take i es) → Tallied facts b true false es
+  pub tallied-stops : (b one each : Bool) (es : List (Expr V)) (i : ℕ) → one ≡ true → each ≡ false
+      → Tallied facts b one each (take i es) → Tallied facts b true false es
   tallied-stops b one each es i o a t =
       let T : List (Expr V) → Type 0 = λ l. Tallied facts b true false l in
       subst T (take-append-drop i es) (record {
@@ -140,7 +157,8 @@ module _ {V : Type 0} (facts : V → Value → Type 0) where
       })
 
   -- picks
-  pub picks-append : (xs ys : List (Expr V)) (vs ws : List Value) → Picks facts xs vs → Picks facts ys ws → Picks facts (xs ++ ys) (vs ++ ws)
+  pub picks-append : (xs ys : List (Expr V)) (vs ws : List Value) → Picks facts xs vs → Picks facts ys ws
+      → Picks facts (xs ++ ys) (vs ++ ws)
   picks-append [] ys [] ws y.no_operand e = e
   picks-append [] ys (v ∷ vs) ws d e = elim d [ ]
   picks-append (x ∷ xs) ys [] ws d e = elim d [ ]
@@ -160,11 +178,18 @@ module _ {V : Type 0} (facts : V → Value → Type 0) where
 
   pub last-pick : (xs : List (Expr V)) (e : Expr V) (vs : List Value) → Picks facts (xs ++ e ∷ []) vs → LastPick xs e vs
   last-pick [] e [] d = elim d [ ]
-  last-pick [] e (v ∷ vs) (y.operand d ds) = record { before = []; last = v; picks = y.no_operand; yields = d; is = ap (λ (z : List Value). v ∷ z) (picks_none vs ds) }
+  last-pick [] e (v ∷ vs) (y.operand d ds) = record {
+    before = [];
+    last = v;
+    picks = y.no_operand;
+    yields = d;
+    is = ap (λ (z : List Value). v ∷ z) (picks_none vs ds);
+  }
   last-pick (x ∷ xs) e [] d = elim d [ ]
   last-pick (x ∷ xs) e (v ∷ vs) (y.operand d ds) =
       let l = last-pick xs e vs ds in
-      record { before = v ∷ l.before; last = l.last; picks = y.operand d l.picks; yields = l.yields; is = ap (λ (z : List Value). v ∷ z) l.is }
+      record
+      { before = v ∷ l.before; last = l.last; picks = y.operand d l.picks; yields = l.yields; is = ap (λ (z : List Value). v ∷ z) l.is }
 
   pub picks-nil : (xs : List (Expr V)) (vs : List Value) → Picks facts xs vs → is_nil xs ≡ is_nil vs
   picks-nil [] [] y.no_operand = refl
@@ -173,27 +198,36 @@ module _ {V : Type 0} (facts : V → Value → Type 0) where
   picks-nil (x ∷ xs) (v ∷ vs) (y.operand d ds) = refl
 
   -- the fold of no operand
-  pub fold-start : (s : Step) (es : List (Expr V)) (n : ℤ) (set : List Value) → n ≡ fold_of s [] → HasExactly set (Contains (Whole n ∷ [])) → HasExactly set (FoldYields facts s es 0)
+  pub fold-start : (s : Step) (es : List (Expr V)) (n : ℤ) (set : List Value) → n ≡ fold_of s []
+      → HasExactly set (Contains (Whole n ∷ [])) → HasExactly set (FoldYields facts s es 0)
   fold-start s es n set e h = record {
     sound = λ v m. ([], y.no_operand, sym (one-item (Whole n) v (h.sound v m)) ∙ ap Whole e);
     complete = λ v p. let (vs, d, k) = p in
-        h.complete v (subst (λ (z : Value). Contains (Whole n ∷ []) z) (ap Whole (e ∙ ap (fold_of s) (sym (picks_none vs d))) ∙ sym k) (contains-head (Whole n) []));
+        h.complete v
+        (subst (λ (z : Value). Contains (Whole n ∷ []) z) (ap Whole (e ∙ ap (fold_of s) (sym (picks_none vs d))) ∙ sym k) (contains-head (Whole n) []));
   }
 
   -- one more operand of the fold
-  pub fold-up : (s : Step) (first : Bool) (es : List (Expr V)) (i : ℕ) (e : Expr V) (so_far values : List Value) → i < length es → e ≡ get_or es i e → first ≡ is_nil (take i es)
-      → HasExactly so_far (FoldYields facts s es i) → HasExactly values (Yields facts (out-Expr V e)) → (v : Value) → IsNext s first so_far values v → FoldYields facts s es (i + 1) v
+  pub fold-up : (s : Step) (first : Bool) (es : List (Expr V)) (i : ℕ) (e : Expr V) (so_far values : List Value)
+      → i < length es → e ≡ get_or es i e → first ≡ is_nil (take i es)
+      → HasExactly so_far (FoldYields facts s es i) → HasExactly values (Yields facts (out-Expr V e)) → (v : Value)
+      → IsNext s first so_far values v → FoldYields facts s es (i + 1) v
   fold-up s first es i e so_far values h is f p q v m =
       let (vs, d, k) = p.sound m.number m.in_numbers in
       let all : Picks facts (take (i + 1) es) (vs ++ m.value ∷ []) =
-      subst (λ (l : List (Expr V)). Picks facts l (vs ++ m.value ∷ [])) (sym (take-next es i e h is)) (picks-append (take i es) (e ∷ []) vs (m.value ∷ []) d (y.operand (q.sound m.value m.in_values) y.no_operand)) in (
+      subst (λ (l : List (Expr V)). Picks facts l (vs ++ m.value ∷ [])) (sym (take-next es i e h is))
+      (picks-append (take i es) (e ∷ []) vs (m.value ∷ []) d (y.operand (q.sound m.value m.in_values) y.no_operand)) in (
         vs ++ m.value ∷ [],
         all,
-        m.is ∙ ap (λ (z : Value). Whole (next_of s first (whole_of z) m.value)) k ∙ ap (λ b. Whole (next_of s b (fold_of s vs) m.value)) (f ∙ picks-nil (take i es) vs d) ∙ ap Whole (sym (fold_of-push s vs m.value)),
+        m.is ∙ ap (λ (z : Value). Whole (next_of s first (whole_of z) m.value)) k ∙ ap
+            (λ b. Whole (next_of s b (fold_of s vs) m.value)) (f ∙ picks-nil (take i es) vs d) ∙ ap Whole
+            (sym (fold_of-push s vs m.value)),
       )
 
-  pub fold-down : (s : Step) (first : Bool) (es : List (Expr V)) (i : ℕ) (e : Expr V) (so_far values : List Value) → i < length es → e ≡ get_or es i e → first ≡ is_nil (take i es)
-      → HasExactly so_far (FoldYields facts s es i) → HasExactly values (Yields facts (out-Expr V e)) → (v : Value) → FoldYields facts s es (i + 1) v → IsNext s first so_far values v
+  pub fold-down : (s : Step) (first : Bool) (es : List (Expr V)) (i : ℕ) (e : Expr V) (so_far values : List Value)
+      → i < length es → e ≡ get_or es i e → first ≡ is_nil (take i es)
+      → HasExactly so_far (FoldYields facts s es i) → HasExactly values (Yields facts (out-Expr V e)) → (v : Value)
+      → FoldYields facts s es (i + 1) v → IsNext s first so_far values v
   fold-down s first es i e so_far values h is f p q v (vs, d, k) =
       let l = last-pick (take i es) e vs (subst (λ (l : List (Expr V)). Picks facts l vs) (take-next es i e h is) d) in
       record {
@@ -202,35 +236,49 @@ module _ {V : Type 0} (facts : V → Value → Type 0) where
         in_numbers = p.complete (Whole (fold_of s l.before)) (l.before, l.picks, refl);
         in_values = q.complete l.last l.yields;
         is = k ∙ ap (λ (z : List Value). Whole (fold_of s z)) l.is ∙ ap Whole (fold_of-push s l.before l.last)
-            ∙ ap (λ b. Whole (next_of s b (fold_of s l.before) l.last)) (sym (f ∙ picks-nil (take i es) l.before l.picks));
+            ∙ ap (λ b. Whole (next_of s b (fold_of s l.before) l.last))
+            (sym (f ∙ picks-nil (take i es) l.before l.picks));
       }
 
-  pub fold-more : (s : Step) (first : Bool) (es : List (Expr V)) (i : ℕ) (e : Expr V) (so_far values new : List Value) → i < length es → e ≡ get_or es i e → first ≡ is_nil (take i es)
-      → HasExactly so_far (FoldYields facts s es i) → HasExactly values (Yields facts (out-Expr V e)) → HasExactly new (IsNext s first so_far values) → HasExactly new (FoldYields facts s es (i + 1))
+  pub fold-more : (s : Step) (first : Bool) (es : List (Expr V)) (i : ℕ) (e : Expr V) (so_far values new : List Value)
+      → i < length es → e ≡ get_or es i e → first ≡ is_nil (take i es)
+      → HasExactly so_far (FoldYields facts s es i) → HasExactly values (Yields facts (out-Expr V e))
+      → HasExactly new (IsNext s first so_far values) → HasExactly new (FoldYields facts s es (i + 1))
   fold-more s first es i e so_far values new h is f p q g = record {
     sound = λ v m. fold-up s first es i e so_far values h is f p q v (g.sound v m);
     complete = λ v m. g.complete v (fold-down s first es i e so_far values h is f p q v m);
   }
 
-  pub first-more : (es : List (Expr V)) (i : ℕ) (e : Expr V) → i < length es → e ≡ get_or es i e → false ≡ is_nil (take (i + 1) es)
+  pub first-more : (es : List (Expr V)) (i : ℕ) (e : Expr V) → i < length es → e ≡ get_or es i e
+      → false ≡ is_nil (take (i + 1) es)
   first-more es i e h is = sym (ap is_nil (take-next es i e h is) ∙ not_nil (take i es) e) where
     not_nil : (xs : List (Expr V)) (e : Expr V) → is_nil (xs ++ e ∷ []) ≡ false
     not_nil [] e = refl
     not_nil (x ∷ xs) e = refl
 
   -- no step so far has too many values
-  pub steps-more : (most : Option ℕ) (P : ℕ → Value → Type 0) (i : ℕ) (new : List Value) → ((k : ℕ) → k ≤ i → AtLimit most (λ n. HasMoreThan n (P k)) → ⊥)
-      → HasExactly new (P (i + 1)) → KeepsLimit most new → (k : ℕ) → k ≤ i + 1 → AtLimit most (λ n. HasMoreThan n (P k)) → ⊥
+  pub steps-more : (most : Option ℕ) (P : ℕ → Value → Type 0) (i : ℕ) (new : List Value)
+      → ((k : ℕ) → k ≤ i → AtLimit most (λ n. HasMoreThan n (P k)) → ⊥)
+      → HasExactly new (P (i + 1)) → KeepsLimit most new → (k : ℕ) → k ≤ i + 1 → AtLimit most (λ n. HasMoreThan n (P k))
+      → ⊥
   steps-more most P i new f h l k j m =
       elim (cases_lt i k) [
-        | inl a ↦ let e : k ≡ i + 1 = omega arith in let Q : ℕ → Type 0 = λ z. AtLimit most (λ n. HasMoreThan n (P z)) in not-more-at most new (P (i + 1)) h l (subst Q e m)
+        | inl a ↦
+            let e : k ≡ i + 1 =
+            omega arith in let Q : ℕ → Type 0 = λ z. AtLimit most (λ n. HasMoreThan n (P z)) in not-more-at most new
+            (P (i + 1)) h l (subst Q e m)
         | inr a ↦ f k a m
       ]
 
-  pub steps-start : (most : Option ℕ) (P : ℕ → Value → Type 0) (new : List Value) → HasExactly new (P 0) → KeepsLimit most new → (k : ℕ) → k ≤ 0 → AtLimit most (λ n. HasMoreThan n (P k)) → ⊥
-  steps-start most P new h l k j m = let e : k ≡ 0 = omega arith in let Q : ℕ → Type 0 = λ z. AtLimit most (λ n. HasMoreThan n (P z)) in not-more-at most new (P 0) h l (subst Q e m)
+  pub steps-start : (most : Option ℕ) (P : ℕ → Value → Type 0) (new : List Value) → HasExactly new (P 0)
+      → KeepsLimit most new → (k : ℕ) → k ≤ 0 → AtLimit most (λ n. HasMoreThan n (P k)) → ⊥
+  steps-start most P new h l k j m =
+      let e : k ≡ 0 = omega arith in
+      let Q : ℕ → Type 0 = λ z. AtLimit most (λ n. HasMoreThan n (P z)) in
+      not-more-at most new (P 0) h l (subst Q e m)
 
-  steps_end : (most : Option ℕ) (P : ℕ → Value → Type 0) (i : ℕ) → ((k : ℕ) (v : Value) → i ≤ k → P k v → P i v) → ((k : ℕ) → k ≤ i → AtLimit most (λ n. HasMoreThan n (P k)) → ⊥) → AtLimit most (SomeStep P) → ⊥
+  steps_end : (most : Option ℕ) (P : ℕ → Value → Type 0) (i : ℕ) → ((k : ℕ) (v : Value) → i ≤ k → P k v → P i v)
+      → ((k : ℕ) → k ≤ i → AtLimit most (λ n. HasMoreThan n (P k)) → ⊥) → AtLimit most (SomeStep P) → ⊥
   steps_end None P i same f s = s
   steps_end (Some n) P i same f s =
       elim (cases_lt i s.place) [
@@ -238,13 +286,20 @@ module _ {V : Type 0} (facts : V → Value → Type 0) where
         | inr a ↦ f s.place a s.wide
       ]
 
-  fold_same : (s : Step) (es : List (Expr V)) (i k : ℕ) (v : Value) → length es ≤ i → i ≤ k → FoldYields facts s es k v → FoldYields facts s es i v
-  fold_same s es i k v h j m = let P : List (Expr V) → Type 0 = λ l. (vs : List Value) × Picks facts l vs × (v ≡ Whole (fold_of s vs)) in subst P (take_all k es (omega arith) ∙ sym (take_all i es h)) m
+  fold_same : (s : Step) (es : List (Expr V)) (i k : ℕ) (v : Value) → length es ≤ i → i ≤ k → FoldYields facts s es k v
+      → FoldYields facts s es i v
+  fold_same s es i k v h j m =
+      let P : List (Expr V) → Type 0 = λ l. (vs : List Value) × Picks facts l vs × (v ≡ Whole (fold_of s vs)) in
+      subst P (take_all k es (omega arith) ∙ sym (take_all i es h)) m
 
-  pub folds-end : (most : Option ℕ) (s : Step) (es : List (Expr V)) (i : ℕ) (set : List Value) → length es ≤ i → HasExactly set (FoldYields facts s es i) → KeepsLimit most set
-      → (AtLimit most (SomeWide facts (take i es)) → ⊥) → ((k : ℕ) → k ≤ i → AtLimit most (λ n. HasMoreThan n (FoldYields facts s es k)) → ⊥) → Folds facts most s (Ok set) es
+  pub folds-end : (most : Option ℕ) (s : Step) (es : List (Expr V)) (i : ℕ) (set : List Value) → length es ≤ i
+      → HasExactly set (FoldYields facts s es i) → KeepsLimit most set
+      → (AtLimit most (SomeWide facts (take i es)) → ⊥)
+      → ((k : ℕ) → k ≤ i → AtLimit most (λ n. HasMoreThan n (FoldYields facts s es k)) → ⊥)
+      → Folds facts most s (Ok set) es
   folds-end most s es i set h g l w f =
-      let P : List (Expr V) → Type 0 = λ z. HasExactly set (λ v. (vs : List Value) × Picks facts z vs × (v ≡ Whole (fold_of s vs))) in
+      let P : List (Expr V) → Type 0 =
+      λ z. HasExactly set (λ v. (vs : List Value) × Picks facts z vs × (v ≡ Whole (fold_of s vs))) in
       (subst P (take_all i es h) g, l, narrow-end most es i h w, steps_end most (FoldYields facts s es) i (λ k v j m. fold_same s es i k v h j m) f)
 
   -- the sum of no part
@@ -252,14 +307,17 @@ module _ {V : Type 0} (facts : V → Value → Type 0) where
   parts_none [] y.no_part = refl
   parts_none (v ∷ vs) d = elim d [ ]
 
-  pub sum-start : (ps : List (Bool × Expr V)) (n : ℤ) (set : List Value) → n ≡ sum_of [] → HasExactly set (Contains (Whole n ∷ [])) → HasExactly set (SumYields facts ps 0)
+  pub sum-start : (ps : List (Bool × Expr V)) (n : ℤ) (set : List Value) → n ≡ sum_of []
+      → HasExactly set (Contains (Whole n ∷ [])) → HasExactly set (SumYields facts ps 0)
   sum-start ps n set e h = record {
     sound = λ v m. ([], y.no_part, sym (one-item (Whole n) v (h.sound v m)) ∙ ap Whole e);
     complete = λ v p. let (vs, d, k) = p in
-        h.complete v (subst (λ (z : Value). Contains (Whole n ∷ []) z) (ap Whole (e ∙ ap sum_of (sym (parts_none vs d))) ∙ sym k) (contains-head (Whole n) []));
+        h.complete v
+        (subst (λ (z : Value). Contains (Whole n ∷ []) z) (ap Whole (e ∙ ap sum_of (sym (parts_none vs d))) ∙ sym k) (contains-head (Whole n) []));
   }
 
-  parts-append : (xs ys : List (Bool × Expr V)) (vs ws : List (Bool × Value)) → Picks_parts facts xs vs → Picks_parts facts ys ws → Picks_parts facts (xs ++ ys) (vs ++ ws)
+  parts-append : (xs ys : List (Bool × Expr V)) (vs ws : List (Bool × Value)) → Picks_parts facts xs vs
+      → Picks_parts facts ys ws → Picks_parts facts (xs ++ ys) (vs ++ ws)
   parts-append [] ys [] ws y.no_part e = e
   parts-append [] ys (v ∷ vs) ws d e = elim d [ ]
   parts-append (x ∷ xs) ys [] ws d e = elim d [ ]
@@ -272,46 +330,67 @@ module _ {V : Type 0} (facts : V → Value → Type 0) where
     pub yields : Yields facts (out-Expr V p.1) last
     pub is : vs ≡ before ++ (p.0, last) ∷ []
 
-  pub last-part : (xs : List (Bool × Expr V)) (p : Bool × Expr V) (vs : List (Bool × Value)) → Picks_parts facts (xs ++ p ∷ []) vs → LastPart xs p vs
+  pub last-part : (xs : List (Bool × Expr V)) (p : Bool × Expr V) (vs : List (Bool × Value))
+      → Picks_parts facts (xs ++ p ∷ []) vs → LastPart xs p vs
   last-part [] p [] d = elim d [ ]
-  last-part [] p (v ∷ vs) (y.part {v = w} d ds) = record { before = []; last = w; picks = y.no_part; yields = d; is = ap (λ (z : List (Bool × Value)). (p.0, w) ∷ z) (parts_none vs ds) }
+  last-part [] p (v ∷ vs) (y.part {v = w} d ds) = record {
+    before = [];
+    last = w;
+    picks = y.no_part;
+    yields = d;
+    is = ap (λ (z : List (Bool × Value)). (p.0, w) ∷ z) (parts_none vs ds);
+  }
   last-part (x ∷ xs) p [] d = elim d [ ]
   last-part (x ∷ xs) p (v ∷ vs) (y.part d ds) =
       let l = last-part xs p vs ds in
-      record { before = v ∷ l.before; last = l.last; picks = y.part d l.picks; yields = l.yields; is = ap (λ (z : List (Bool × Value)). v ∷ z) l.is }
+      record
+      { before = v ∷ l.before; last = l.last; picks = y.part d l.picks; yields = l.yields; is = ap (λ (z : List (Bool × Value)). v ∷ z) l.is }
 
-  pub sum-up : (ps : List (Bool × Expr V)) (i : ℕ) (p : Bool × Expr V) (so_far values : List Value) → i < length ps → p ≡ get_or ps i p
-      → HasExactly so_far (SumYields facts ps i) → HasExactly values (Yields facts (out-Expr V p.1)) → (v : Value) → IsNext (Part p.0) false so_far values v → SumYields facts ps (i + 1) v
+  pub sum-up : (ps : List (Bool × Expr V)) (i : ℕ) (p : Bool × Expr V) (so_far values : List Value) → i < length ps
+      → p ≡ get_or ps i p
+      → HasExactly so_far (SumYields facts ps i) → HasExactly values (Yields facts (out-Expr V p.1)) → (v : Value)
+      → IsNext (Part p.0) false so_far values v → SumYields facts ps (i + 1) v
   sum-up ps i p so_far values h is g q v m =
       let (vs, d, k) = g.sound m.number m.in_numbers in
       let all : Picks_parts facts (take (i + 1) ps) (vs ++ (p.0, m.value) ∷ []) =
-      subst (λ (l : List (Bool × Expr V)). Picks_parts facts l (vs ++ (p.0, m.value) ∷ [])) (sym (take-next ps i p h is))
+      subst (λ (l : List (Bool × Expr V)). Picks_parts facts l (vs ++ (p.0, m.value) ∷ []))
+      (sym (take-next ps i p h is))
       (parts-append (take i ps) (p ∷ []) vs ((p.0, m.value) ∷ []) d (y.part (q.sound m.value m.in_values) y.no_part)) in (
         vs ++ (p.0, m.value) ∷ [],
         all,
-        m.is ∙ ap (λ (z : Value). Whole (added (whole_of z) (p.0, m.value))) k ∙ ap Whole (sym (fold_push added (pos 0) vs (p.0, m.value))),
+        m.is ∙ ap (λ (z : Value). Whole (added (whole_of z) (p.0, m.value))) k ∙ ap Whole
+            (sym (fold_push added (pos 0) vs (p.0, m.value))),
       )
 
-  pub sum-down : (ps : List (Bool × Expr V)) (i : ℕ) (p : Bool × Expr V) (so_far values : List Value) → i < length ps → p ≡ get_or ps i p
-      → HasExactly so_far (SumYields facts ps i) → HasExactly values (Yields facts (out-Expr V p.1)) → (v : Value) → SumYields facts ps (i + 1) v → IsNext (Part p.0) false so_far values v
+  pub sum-down : (ps : List (Bool × Expr V)) (i : ℕ) (p : Bool × Expr V) (so_far values : List Value) → i < length ps
+      → p ≡ get_or ps i p
+      → HasExactly so_far (SumYields facts ps i) → HasExactly values (Yields facts (out-Expr V p.1)) → (v : Value)
+      → SumYields facts ps (i + 1) v → IsNext (Part p.0) false so_far values v
   sum-down ps i p so_far values h is g q v (vs, d, k) =
-      let l = last-part (take i ps) p vs (subst (λ (l : List (Bool × Expr V)). Picks_parts facts l vs) (take-next ps i p h is) d) in
+      let l =
+      last-part (take i ps) p vs
+      (subst (λ (l : List (Bool × Expr V)). Picks_parts facts l vs) (take-next ps i p h is) d) in
       record {
         number = Whole (sum_of l.before);
         value = l.last;
         in_numbers = g.complete (Whole (sum_of l.before)) (l.before, l.picks, refl);
         in_values = q.complete l.last l.yields;
-        is = k ∙ ap (λ (z : List (Bool × Value)). Whole (sum_of z)) l.is ∙ ap Whole (fold_push added (pos 0) l.before (p.0, l.last));
+        is =
+            k ∙ ap (λ (z : List (Bool × Value)). Whole (sum_of z)) l.is ∙ ap Whole
+            (fold_push added (pos 0) l.before (p.0, l.last));
       }
 
-  pub sum-more : (ps : List (Bool × Expr V)) (i : ℕ) (p : Bool × Expr V) (so_far values new : List Value) → i < length ps → p ≡ get_or ps i p
-      → HasExactly so_far (SumYields facts ps i) → HasExactly values (Yields facts (out-Expr V p.1)) → HasExactly new (IsNext (Part p.0) false so_far values) → HasExactly new (SumYields facts ps (i + 1))
+  pub sum-more : (ps : List (Bool × Expr V)) (i : ℕ) (p : Bool × Expr V) (so_far values new : List Value)
+      → i < length ps → p ≡ get_or ps i p
+      → HasExactly so_far (SumYields facts ps i) → HasExactly values (Yields facts (out-Expr V p.1))
+      → HasExactly new (IsNext (Part p.0) false so_far values) → HasExactly new (SumYields facts ps (i + 1))
   sum-more ps i p so_far values new h is g q n = record {
     sound = λ v m. sum-up ps i p so_far values h is g q v (n.sound v m);
     complete = λ v m. n.complete v (sum-down ps i p so_far values h is g q v m);
   }
 
-  pub part-narrow-more : (most : Option ℕ) (ps : List (Bool × Expr V)) (i : ℕ) (p : Bool × Expr V) → i < length ps → p ≡ get_or ps i p → (AtLimit most (PartWide facts (take i ps)) → ⊥)
+  pub part-narrow-more : (most : Option ℕ) (ps : List (Bool × Expr V)) (i : ℕ) (p : Bool × Expr V) → i < length ps
+      → p ≡ get_or ps i p → (AtLimit most (PartWide facts (take i ps)) → ⊥)
       → (AtLimit most (λ n. IsWide facts n (out-Expr V p.1)) → ⊥) → AtLimit most (PartWide facts (take (i + 1) ps)) → ⊥
   part-narrow-more None ps i p h is f g w = w
   part-narrow-more (Some n) ps i p h is f g w =
@@ -323,32 +402,43 @@ module _ {V : Type 0} (facts : V → Value → Type 0) where
   pub part-narrow-start : (most : Option ℕ) → AtLimit most (PartWide facts []) → ⊥
   part-narrow-start most = none-nowhere most (PartWide facts []) (λ n w. nothing-in w.part w.in_list)
 
-  sum_same : (ps : List (Bool × Expr V)) (i k : ℕ) (v : Value) → length ps ≤ i → i ≤ k → SumYields facts ps k v → SumYields facts ps i v
-  sum_same ps i k v h j m = let P : List (Bool × Expr V) → Type 0 = λ l. (vs : List (Bool × Value)) × Picks_parts facts l vs × (v ≡ Whole (sum_of vs)) in subst P (take_all k ps (omega arith) ∙ sym (take_all i ps h)) m
+  sum_same : (ps : List (Bool × Expr V)) (i k : ℕ) (v : Value) → length ps ≤ i → i ≤ k → SumYields facts ps k v
+      → SumYields facts ps i v
+  sum_same ps i k v h j m =
+      let P : List (Bool × Expr V) → Type 0 =
+      λ l. (vs : List (Bool × Value)) × Picks_parts facts l vs × (v ≡ Whole (sum_of vs)) in
+      subst P (take_all k ps (omega arith) ∙ sym (take_all i ps h)) m
 
-  pub sums-end : (most : Option ℕ) (ps : List (Bool × Expr V)) (i : ℕ) (set : List Value) → length ps ≤ i → HasExactly set (SumYields facts ps i) → KeepsLimit most set
-      → (AtLimit most (PartWide facts (take i ps)) → ⊥) → ((k : ℕ) → k ≤ i → AtLimit most (λ n. HasMoreThan n (SumYields facts ps k)) → ⊥) → Sums facts most (Ok set) ps
+  pub sums-end : (most : Option ℕ) (ps : List (Bool × Expr V)) (i : ℕ) (set : List Value) → length ps ≤ i
+      → HasExactly set (SumYields facts ps i) → KeepsLimit most set
+      → (AtLimit most (PartWide facts (take i ps)) → ⊥)
+      → ((k : ℕ) → k ≤ i → AtLimit most (λ n. HasMoreThan n (SumYields facts ps k)) → ⊥) → Sums facts most (Ok set) ps
   sums-end most ps i set h g l w f =
-      let P : List (Bool × Expr V) → Type 0 = λ z. HasExactly set (λ v. (vs : List (Bool × Value)) × Picks_parts facts z vs × (v ≡ Whole (sum_of vs))) in
+      let P : List (Bool × Expr V) → Type 0 =
+      λ z. HasExactly set (λ v. (vs : List (Bool × Value)) × Picks_parts facts z vs × (v ≡ Whole (sum_of vs))) in
       let W : List (Bool × Expr V) → Type 0 = λ z. AtLimit most (PartWide facts z) → ⊥ in
       (subst P (take_all i ps h) g, l, subst W (take_all i ps h) w, steps_end most (SumYields facts ps) i (λ k v j m. sum_same ps i k v h j m) f)
 
   -- cases one after the other
-  pub took-append : (xs ys : List (Expr V × Expr V)) (v : Value) → Took facts (xs ++ ys) v → Took facts xs v ⊎ (PassesAll facts xs × Took facts ys v)
+  pub took-append : (xs ys : List (Expr V × Expr V)) (v : Value) → Took facts (xs ++ ys) v
+      → Took facts xs v ⊎ (PassesAll facts xs × Took facts ys v)
   took-append [] ys v h = inr (tt, h)
   took-append (c ∷ xs) ys v (inl h) = inl (inl h)
-  took-append (c ∷ xs) ys v (inr h) = elim (took-append xs ys v h.1) [ inl k ↦ inl (inr (h.0, k)) | inr k ↦ inr ((h.0, k.0), k.1) ]
+  took-append (c ∷ xs) ys v (inr h) =
+      elim (took-append xs ys v h.1) [ inl k ↦ inl (inr (h.0, k)) | inr k ↦ inr ((h.0, k.0), k.1) ]
 
   pub took-left : (xs ys : List (Expr V × Expr V)) (v : Value) → Took facts xs v → Took facts (xs ++ ys) v
   took-left [] ys v h = absurd h
   took-left (c ∷ xs) ys v (inl h) = inl h
   took-left (c ∷ xs) ys v (inr h) = inr (h.0, took-left xs ys v h.1)
 
-  pub took-right : (xs ys : List (Expr V × Expr V)) (v : Value) → PassesAll facts xs → Took facts ys v → Took facts (xs ++ ys) v
+  pub took-right : (xs ys : List (Expr V × Expr V)) (v : Value) → PassesAll facts xs → Took facts ys v
+      → Took facts (xs ++ ys) v
   took-right [] ys v p h = h
   took-right (c ∷ xs) ys v p h = inr (p.0, took-right xs ys v p.1 h)
 
-  pub passes-append : (xs ys : List (Expr V × Expr V)) → PassesAll facts xs → PassesAll facts ys → PassesAll facts (xs ++ ys)
+  pub passes-append : (xs ys : List (Expr V × Expr V)) → PassesAll facts xs → PassesAll facts ys
+      → PassesAll facts (xs ++ ys)
   passes-append [] ys p q = q
   passes-append (c ∷ xs) ys p q = (p.0, passes-append xs ys p.1 q)
 
@@ -362,13 +452,16 @@ module _ {V : Type 0} (facts : V → Value → Type 0) where
 
   pub chosen-start : (set : List Value) → set ≡ [] → Chosen facts set true []
   chosen-start set e = record {
-    exact = record { sound = λ v m. absurd (nothing-in v (subst (λ (l : List Value). Contains l v) e m)); complete = λ v h. absurd h };
+    exact =
+        record { sound = λ v m. absurd (nothing-in v (subst (λ (l : List Value). Contains l v) e m)); complete = λ v h. absurd h };
     all = ((λ h. tt), (λ h. refl));
   }
 
   -- one more case, whose test takes it or not
-  pub chosen-more : (cs : List (Expr V × Expr V)) (i : ℕ) (c : Expr V × Expr V) (set new tests : List Value) (passes passes_more can_pass : Bool) → i < length cs → c ≡ get_or cs i c
-      → HasExactly tests (Yields facts (out-Expr V c.0)) → IsTrue can_pass ↔ Contains tests (Truth false) → IsTrue passes_more ↔ (IsTrue passes × IsTrue can_pass)
+  pub chosen-more : (cs : List (Expr V × Expr V)) (i : ℕ) (c : Expr V × Expr V) (set new tests : List Value) (passes passes_more can_pass : Bool)
+      → i < length cs → c ≡ get_or cs i c
+      → HasExactly tests (Yields facts (out-Expr V c.0)) → IsTrue can_pass ↔ Contains tests (Truth false)
+      → IsTrue passes_more ↔ (IsTrue passes × IsTrue can_pass)
       → ((v : Value) → Contains new v → Contains set v ⊎ (PassesAll facts (take i cs) × Took facts (c ∷ []) v))
       → ((v : Value) → Contains set v ⊎ (PassesAll facts (take i cs) × Took facts (c ∷ []) v) → Contains new v)
       → Chosen facts set passes (take i cs) → Chosen facts new passes_more (take (i + 1) cs)
@@ -380,7 +473,9 @@ module _ {V : Type 0} (facts : V → Value → Type 0) where
             | inl n ↦ took-left (take i cs) (c ∷ []) v (k.exact.sound v n)
             | inr n ↦ took-right (take i cs) (c ∷ []) v n.0 n.1
           ];
-          complete = λ v d. elim (took-append (take i cs) (c ∷ []) v d) [ inl n ↦ up v (inl (k.exact.complete v n)) | inr n ↦ up v (inr n) ];
+          complete = λ v d.
+              elim
+              (took-append (take i cs) (c ∷ []) v d) [ inl n ↦ up v (inl (k.exact.complete v n)) | inr n ↦ up v (inr n) ];
         };
         all = (
           (λ g. let m = q.0 g in passes-append (take i cs) (c ∷ []) (k.all.0 m.0) (t.sound (Truth false) (p.0 m.1), tt)),
@@ -388,23 +483,31 @@ module _ {V : Type 0} (facts : V → Value → Type 0) where
         );
       })
 
-  pub chosen-end : (cs : List (Expr V × Expr V)) (i : ℕ) (set : List Value) (passes : Bool) → length cs ≤ i → Chosen facts set passes (take i cs) → Chosen facts set passes cs
-  chosen-end cs i set passes h k = let P : List (Expr V × Expr V) → Type 0 = λ l. Chosen facts set passes l in subst P (take_all i cs h) k
+  pub chosen-end : (cs : List (Expr V × Expr V)) (i : ℕ) (set : List Value) (passes : Bool) → length cs ≤ i
+      → Chosen facts set passes (take i cs) → Chosen facts set passes cs
+  chosen-end cs i set passes h k =
+      let P : List (Expr V × Expr V) → Type 0 = λ l. Chosen facts set passes l in
+      subst P (take_all i cs h) k
 
   -- where a test does not pass, the cases after it do not count
-  pub chosen-stops : (cs : List (Expr V × Expr V)) (i : ℕ) (set : List Value) (passes : Bool) → passes ≡ false → Chosen facts set passes (take i cs) → Chosen facts set false cs
+  pub chosen-stops : (cs : List (Expr V × Expr V)) (i : ℕ) (set : List Value) (passes : Bool) → passes ≡ false
+      → Chosen facts set passes (take i cs) → Chosen facts set false cs
   chosen-stops cs i set passes e k =
       let P : List (Expr V × Expr V) → Type 0 = λ l. Chosen facts set false l in
       subst P (take-append-drop i cs) (record {
         exact = record {
           sound = λ v m. took-left (take i cs) (drop i cs) v (k.exact.sound v m);
-          complete = λ v d. elim (took-append (take i cs) (drop i cs) v d) [ inl n ↦ k.exact.complete v n | inr n ↦ absurd (let z = k.all.1 n.0 in cc) ];
+          complete = λ v d.
+              elim
+              (took-append (take i cs) (drop i cs) v d) [ inl n ↦ k.exact.complete v n | inr n ↦ absurd (let z = k.all.1 n.0 in cc) ];
         };
         all = ((λ g. cc), (λ d. absurd (let z = k.all.1 (passes-left (take i cs) (drop i cs) d) in cc)));
       })
 
-  pub case-narrow-more : (most : Option ℕ) (cs : List (Expr V × Expr V)) (i : ℕ) (c : Expr V × Expr V) → i < length cs → c ≡ get_or cs i c → (AtLimit most (CaseWide facts (take i cs)) → ⊥)
-      → (AtLimit most (λ n. IsWide facts n (out-Expr V c.0)) → ⊥) → (AtLimit most (λ n. IsWide facts n (out-Expr V c.1)) → ⊥) → AtLimit most (CaseWide facts (take (i + 1) cs)) → ⊥
+  pub case-narrow-more : (most : Option ℕ) (cs : List (Expr V × Expr V)) (i : ℕ) (c : Expr V × Expr V) → i < length cs
+      → c ≡ get_or cs i c → (AtLimit most (CaseWide facts (take i cs)) → ⊥)
+      → (AtLimit most (λ n. IsWide facts n (out-Expr V c.0)) → ⊥)
+      → (AtLimit most (λ n. IsWide facts n (out-Expr V c.1)) → ⊥) → AtLimit most (CaseWide facts (take (i + 1) cs)) → ⊥
   case-narrow-more None cs i c h is f g k w = w
   case-narrow-more (Some n) cs i c h is f g k w =
       elim (take-cases cs i c w.case h w.in_list) [
@@ -418,16 +521,21 @@ module _ {V : Type 0} (facts : V → Value → Type 0) where
   pub case-narrow-start : (most : Option ℕ) → AtLimit most (CaseWide facts []) → ⊥
   case-narrow-start most = none-nowhere most (CaseWide facts []) (λ n w. nothing-in w.case w.in_list)
 
-  pub case-narrow-end : (most : Option ℕ) (cs : List (Expr V × Expr V)) (i : ℕ) → length cs ≤ i → (AtLimit most (CaseWide facts (take i cs)) → ⊥) → AtLimit most (CaseWide facts cs) → ⊥
-  case-narrow-end most cs i h p = let P : List (Expr V × Expr V) → Type 0 = λ l. AtLimit most (CaseWide facts l) → ⊥ in subst P (take_all i cs h) p
+  pub case-narrow-end : (most : Option ℕ) (cs : List (Expr V × Expr V)) (i : ℕ) → length cs ≤ i
+      → (AtLimit most (CaseWide facts (take i cs)) → ⊥) → AtLimit most (CaseWide facts cs) → ⊥
+  case-narrow-end most cs i h p =
+      let P : List (Expr V × Expr V) → Type 0 = λ l. AtLimit most (CaseWide facts l) → ⊥ in
+      subst P (take_all i cs h) p
 
 -- what holds of a tally after the first i operands
-pub record TallySoFar {V : Type 0} (facts : V → Value → Type 0) (most : Option ℕ) (b one each : Bool) (es : List (Expr V)) (i : ℕ) : Type 0 where
+pub record TallySoFar {V : Type 0} (facts : V → Value → Type 0) (most : Option ℕ) (b one each : Bool)
+    (es : List (Expr V)) (i : ℕ) : Type 0 where
   pub tallied : Tallied facts b one each (take i es)
   pub narrow : AtLimit most (SomeWide facts (take i es)) → ⊥
 
 -- what holds of a fold after the first i operands
-pub record FoldSoFar {V : Type 0} (facts : V → Value → Type 0) (most : Option ℕ) (s : Step) (first : Bool) (set : List Value) (es : List (Expr V)) (i : ℕ) : Type 0 where
+pub record FoldSoFar {V : Type 0} (facts : V → Value → Type 0) (most : Option ℕ) (s : Step) (first : Bool)
+    (set : List Value) (es : List (Expr V)) (i : ℕ) : Type 0 where
   pub exact : HasExactly set (FoldYields facts s es i)
   pub keeps : KeepsLimit most set
   pub starts : first ≡ is_nil (take i es)
@@ -435,14 +543,16 @@ pub record FoldSoFar {V : Type 0} (facts : V → Value → Type 0) (most : Optio
   pub steps : (k : ℕ) → k ≤ i → AtLimit most (λ n. HasMoreThan n (FoldYields facts s es k)) → ⊥
 
 -- what holds of a sum after the first i parts
-pub record SumSoFar {V : Type 0} (facts : V → Value → Type 0) (most : Option ℕ) (set : List Value) (ps : List (Bool × Expr V)) (i : ℕ) : Type 0 where
+pub record SumSoFar {V : Type 0} (facts : V → Value → Type 0) (most : Option ℕ) (set : List Value)
+    (ps : List (Bool × Expr V)) (i : ℕ) : Type 0 where
   pub exact : HasExactly set (SumYields facts ps i)
   pub keeps : KeepsLimit most set
   pub narrow : AtLimit most (PartWide facts (take i ps)) → ⊥
   pub steps : (k : ℕ) → k ≤ i → AtLimit most (λ n. HasMoreThan n (SumYields facts ps k)) → ⊥
 
 -- what holds of a choice after the first i cases
-pub record ChoiceSoFar {V : Type 0} (facts : V → Value → Type 0) (most : Option ℕ) (set : List Value) (passes : Bool) (cs : List (Expr V × Expr V)) (i : ℕ) : Type 0 where
+pub record ChoiceSoFar {V : Type 0} (facts : V → Value → Type 0) (most : Option ℕ) (set : List Value) (passes : Bool)
+    (cs : List (Expr V × Expr V)) (i : ℕ) : Type 0 where
   pub chosen : Chosen facts set passes (take i cs)
   pub keeps : KeepsLimit most set
   pub narrow : AtLimit most (CaseWide facts (take i cs)) → ⊥
@@ -451,18 +561,24 @@ module _ {V : Type 0} (facts : V → Value → Type 0) (most : Option ℕ) where
   pub tally-begins : (b : Bool) (es : List (Expr V)) → TallySoFar facts most b false true es 0
   tally-begins b es = record { tallied = tallied-start facts b; narrow = narrow-start facts most }
 
-  pub tally-goes-on : (b one each one_more each_more other same : Bool) (es : List (Expr V)) (i : ℕ) (e : Expr V) (set : List Value) → i < length es → e ≡ get_or es i e
-      → TallySoFar facts most b one each es i → Evaluates facts most (Ok set) (out-Expr V e) → IsTrue other ↔ Contains set (Truth (not b)) → IsTrue same ↔ Contains set (Truth b)
-      → IsTrue one_more ↔ (IsTrue one ⊎ IsTrue other) → IsTrue each_more ↔ (IsTrue each × IsTrue same) → TallySoFar facts most b one_more each_more es (i + 1)
+  pub tally-goes-on : (b one each one_more each_more other same : Bool) (es : List (Expr V)) (i : ℕ) (e : Expr V) (set : List Value)
+      → i < length es → e ≡ get_or es i e
+      → TallySoFar facts most b one each es i → Evaluates facts most (Ok set) (out-Expr V e)
+      → IsTrue other ↔ Contains set (Truth (not b)) → IsTrue same ↔ Contains set (Truth b)
+      → IsTrue one_more ↔ (IsTrue one ⊎ IsTrue other) → IsTrue each_more ↔ (IsTrue each × IsTrue same)
+      → TallySoFar facts most b one_more each_more es (i + 1)
   tally-goes-on b one each one_more each_more other same es i e set h is f q p o k a = record {
     tallied = tallied-more facts b one each one_more each_more other same es i e set h is q.0 p o k a f.tallied;
     narrow = narrow-more facts most es i e h is f.narrow q.2;
   }
 
-  pub tally-ends : (b one each : Bool) (es : List (Expr V)) (i : ℕ) → length es ≤ i → TallySoFar facts most b one each es i → Tallies facts most b (Ok (one, each)) es
-  tally-ends b one each es i h f = (tallied-end facts b one each es i h f.tallied, narrow-end facts most es i h f.narrow)
+  pub tally-ends : (b one each : Bool) (es : List (Expr V)) (i : ℕ) → length es ≤ i
+      → TallySoFar facts most b one each es i → Tallies facts most b (Ok (one, each)) es
+  tally-ends b one each es i h f =
+      (tallied-end facts b one each es i h f.tallied, narrow-end facts most es i h f.narrow)
 
-  pub fold-begins : (s : Step) (es : List (Expr V)) (v : Value) (set : List Value) → v ≡ Whole (fold_of s []) → Gathers most (Ok set) (Contains (v ∷ [])) → FoldSoFar facts most s true set es 0
+  pub fold-begins : (s : Step) (es : List (Expr V)) (v : Value) (set : List Value) → v ≡ Whole (fold_of s [])
+      → Gathers most (Ok set) (Contains (v ∷ [])) → FoldSoFar facts most s true set es 0
   fold-begins s es v set e g =
       let P : Value → Type 0 = λ z. HasExactly set (Contains (z ∷ [])) in
       let exact = fold-start facts s es (fold_of s []) set refl (subst P e g.0) in
@@ -474,15 +590,20 @@ module _ {V : Type 0} (facts : V → Value → Type 0) (most : Option ℕ) where
         steps = steps-start facts most (FoldYields facts s es) set exact g.1;
       }
 
-  pub fold-begins-stop : (s : Step) (es : List (Expr V)) (w : Value) (stop : Stop) → w ≡ Whole (fold_of s []) → Gathers most (Err stop) (Contains (w ∷ [])) → Folds facts most s (Err stop) es
+  pub fold-begins-stop : (s : Step) (es : List (Expr V)) (w : Value) (stop : Stop) → w ≡ Whole (fold_of s [])
+      → Gathers most (Err stop) (Contains (w ∷ [])) → Folds facts most s (Err stop) es
   fold-begins-stop s es w stop e g =
-      stopped-up most (λ k. HasMoreThan k (Contains (w ∷ []))) (λ k. SomeWide facts es k ⊎ SomeStep (FoldYields facts s es) k)
+      stopped-up most (λ k. HasMoreThan k (Contains (w ∷ [])))
+      (λ k. SomeWide facts es k ⊎ SomeStep (FoldYields facts s es) k)
       (λ k h. inr (record { place = 0; wide = more-than (λ v m. ([], y.no_operand, sym (one-item w v m) ∙ e)) h })) stop g
 
-  pub fold-goes-on : (s : Step) (first : Bool) (es : List (Expr V)) (i : ℕ) (e : Expr V) (set values new : List Value) → i < length es → e ≡ get_or es i e → FoldSoFar facts most s first set es i
-      → Evaluates facts most (Ok values) (out-Expr V e) → Gathers most (Ok new) (IsNext s first set values) → FoldSoFar facts most s false new es (i + 1)
+  pub fold-goes-on : (s : Step) (first : Bool) (es : List (Expr V)) (i : ℕ) (e : Expr V) (set values new : List Value)
+      → i < length es → e ≡ get_or es i e → FoldSoFar facts most s first set es i
+      → Evaluates facts most (Ok values) (out-Expr V e) → Gathers most (Ok new) (IsNext s first set values)
+      → FoldSoFar facts most s false new es (i + 1)
   fold-goes-on s first es i e set values new h is f q g =
-      let exact : HasExactly new (FoldYields facts s es (i + 1)) = fold-more facts s first es i e set values new h is f.starts f.exact q.0 g.0 in
+      let exact : HasExactly new (FoldYields facts s es (i + 1)) =
+      fold-more facts s first es i e set values new h is f.starts f.exact q.0 g.0 in
       record {
         exact = exact;
         keeps = g.1;
@@ -491,20 +612,28 @@ module _ {V : Type 0} (facts : V → Value → Type 0) (most : Option ℕ) where
         steps = steps-more facts most (FoldYields facts s es) i new f.steps exact g.1;
       }
 
-  pub fold-operand-stop : (s : Step) (es : List (Expr V)) (i : ℕ) (e : Expr V) (stop : Stop) → i < length es → e ≡ get_or es i e → Evaluates facts most (Err stop) (out-Expr V e) → Folds facts most s (Err stop) es
+  pub fold-operand-stop : (s : Step) (es : List (Expr V)) (i : ℕ) (e : Expr V) (stop : Stop) → i < length es
+      → e ≡ get_or es i e → Evaluates facts most (Err stop) (out-Expr V e) → Folds facts most s (Err stop) es
   fold-operand-stop s es i e stop h is q =
-      stopped-up most (λ n. IsWide facts n (out-Expr V e)) (λ n. SomeWide facts es n ⊎ SomeStep (FoldYields facts s es) n) (λ n w. inl (record { expr = e; in_list = item-is-in es i e h is; wide = w })) stop q
+      stopped-up most (λ n. IsWide facts n (out-Expr V e))
+      (λ n. SomeWide facts es n ⊎ SomeStep (FoldYields facts s es) n)
+      (λ n w. inl (record { expr = e; in_list = item-is-in es i e h is; wide = w })) stop q
 
-  pub fold-step-stop : (s : Step) (first : Bool) (es : List (Expr V)) (i : ℕ) (e : Expr V) (set values : List Value) (stop : Stop) → i < length es → e ≡ get_or es i e → FoldSoFar facts most s first set es i
-      → Evaluates facts most (Ok values) (out-Expr V e) → Gathers most (Err stop) (IsNext s first set values) → Folds facts most s (Err stop) es
+  pub fold-step-stop : (s : Step) (first : Bool) (es : List (Expr V)) (i : ℕ) (e : Expr V) (set values : List Value) (stop : Stop)
+      → i < length es → e ≡ get_or es i e → FoldSoFar facts most s first set es i
+      → Evaluates facts most (Ok values) (out-Expr V e) → Gathers most (Err stop) (IsNext s first set values)
+      → Folds facts most s (Err stop) es
   fold-step-stop s first es i e set values stop h is f q g =
-      stopped-up most (λ n. HasMoreThan n (IsNext s first set values)) (λ n. SomeWide facts es n ⊎ SomeStep (FoldYields facts s es) n)
+      stopped-up most (λ n. HasMoreThan n (IsNext s first set values))
+      (λ n. SomeWide facts es n ⊎ SomeStep (FoldYields facts s es) n)
       (λ n m. inr (record { place = i + 1; wide = more-than (fold-up facts s first es i e set values h is f.starts f.exact q.0) m })) stop g
 
-  pub fold-ends : (s : Step) (first : Bool) (es : List (Expr V)) (i : ℕ) (set : List Value) → length es ≤ i → FoldSoFar facts most s first set es i → Folds facts most s (Ok set) es
+  pub fold-ends : (s : Step) (first : Bool) (es : List (Expr V)) (i : ℕ) (set : List Value) → length es ≤ i
+      → FoldSoFar facts most s first set es i → Folds facts most s (Ok set) es
   fold-ends s first es i set h f = folds-end facts most s es i set h f.exact f.keeps f.narrow f.steps
 
-  pub sum-begins : (ps : List (Bool × Expr V)) (n : ℤ) (set : List Value) → n ≡ sum_of [] → Gathers most (Ok set) (Contains (Whole n ∷ [])) → SumSoFar facts most set ps 0
+  pub sum-begins : (ps : List (Bool × Expr V)) (n : ℤ) (set : List Value) → n ≡ sum_of []
+      → Gathers most (Ok set) (Contains (Whole n ∷ [])) → SumSoFar facts most set ps 0
   sum-begins ps n set e g = record {
     exact = sum-start facts ps n set e g.0;
     keeps = g.1;
@@ -512,15 +641,20 @@ module _ {V : Type 0} (facts : V → Value → Type 0) (most : Option ℕ) where
     steps = steps-start facts most (SumYields facts ps) set (sum-start facts ps n set e g.0) g.1;
   }
 
-  pub sum-begins-stop : (ps : List (Bool × Expr V)) (n : ℤ) (stop : Stop) → n ≡ sum_of [] → Gathers most (Err stop) (Contains (Whole n ∷ [])) → Sums facts most (Err stop) ps
+  pub sum-begins-stop : (ps : List (Bool × Expr V)) (n : ℤ) (stop : Stop) → n ≡ sum_of []
+      → Gathers most (Err stop) (Contains (Whole n ∷ [])) → Sums facts most (Err stop) ps
   sum-begins-stop ps n stop e g =
-      stopped-up most (λ k. HasMoreThan k (Contains (Whole n ∷ []))) (λ k. PartWide facts ps k ⊎ SomeStep (SumYields facts ps) k)
+      stopped-up most (λ k. HasMoreThan k (Contains (Whole n ∷ [])))
+      (λ k. PartWide facts ps k ⊎ SomeStep (SumYields facts ps) k)
       (λ k h. inr (record { place = 0; wide = more-than (λ v m. ([], y.no_part, sym (one-item (Whole n) v m) ∙ ap Whole e)) h })) stop g
 
-  pub sum-goes-on : (ps : List (Bool × Expr V)) (i : ℕ) (p : Bool × Expr V) (set values new : List Value) → i < length ps → p ≡ get_or ps i p → SumSoFar facts most set ps i
-      → Evaluates facts most (Ok values) (out-Expr V p.1) → Gathers most (Ok new) (IsNext (Part p.0) false set values) → SumSoFar facts most new ps (i + 1)
+  pub sum-goes-on : (ps : List (Bool × Expr V)) (i : ℕ) (p : Bool × Expr V) (set values new : List Value)
+      → i < length ps → p ≡ get_or ps i p → SumSoFar facts most set ps i
+      → Evaluates facts most (Ok values) (out-Expr V p.1) → Gathers most (Ok new) (IsNext (Part p.0) false set values)
+      → SumSoFar facts most new ps (i + 1)
   sum-goes-on ps i p set values new h is f q g =
-      let exact : HasExactly new (SumYields facts ps (i + 1)) = sum-more facts ps i p set values new h is f.exact q.0 g.0 in
+      let exact : HasExactly new (SumYields facts ps (i + 1)) =
+      sum-more facts ps i p set values new h is f.exact q.0 g.0 in
       record {
         exact = exact;
         keeps = g.1;
@@ -528,43 +662,67 @@ module _ {V : Type 0} (facts : V → Value → Type 0) (most : Option ℕ) where
         steps = steps-more facts most (SumYields facts ps) i new f.steps exact g.1;
       }
 
-  pub sum-operand-stop : (ps : List (Bool × Expr V)) (i : ℕ) (p : Bool × Expr V) (stop : Stop) → i < length ps → p ≡ get_or ps i p → Evaluates facts most (Err stop) (out-Expr V p.1) → Sums facts most (Err stop) ps
+  pub sum-operand-stop : (ps : List (Bool × Expr V)) (i : ℕ) (p : Bool × Expr V) (stop : Stop) → i < length ps
+      → p ≡ get_or ps i p → Evaluates facts most (Err stop) (out-Expr V p.1) → Sums facts most (Err stop) ps
   sum-operand-stop ps i p stop h is q =
-      stopped-up most (λ n. IsWide facts n (out-Expr V p.1)) (λ n. PartWide facts ps n ⊎ SomeStep (SumYields facts ps) n) (λ n w. inl (record { part = p; in_list = item-is-in ps i p h is; wide = w })) stop q
+      stopped-up most (λ n. IsWide facts n (out-Expr V p.1))
+      (λ n. PartWide facts ps n ⊎ SomeStep (SumYields facts ps) n)
+      (λ n w. inl (record { part = p; in_list = item-is-in ps i p h is; wide = w })) stop q
 
-  pub sum-step-stop : (ps : List (Bool × Expr V)) (i : ℕ) (p : Bool × Expr V) (set values : List Value) (stop : Stop) → i < length ps → p ≡ get_or ps i p → SumSoFar facts most set ps i
-      → Evaluates facts most (Ok values) (out-Expr V p.1) → Gathers most (Err stop) (IsNext (Part p.0) false set values) → Sums facts most (Err stop) ps
+  pub sum-step-stop : (ps : List (Bool × Expr V)) (i : ℕ) (p : Bool × Expr V) (set values : List Value) (stop : Stop)
+      → i < length ps → p ≡ get_or ps i p → SumSoFar facts most set ps i
+      → Evaluates facts most (Ok values) (out-Expr V p.1) → Gathers most (Err stop) (IsNext (Part p.0) false set values)
+      → Sums facts most (Err stop) ps
   sum-step-stop ps i p set values stop h is f q g =
-      stopped-up most (λ n. HasMoreThan n (IsNext (Part p.0) false set values)) (λ n. PartWide facts ps n ⊎ SomeStep (SumYields facts ps) n)
+      stopped-up most (λ n. HasMoreThan n (IsNext (Part p.0) false set values))
+      (λ n. PartWide facts ps n ⊎ SomeStep (SumYields facts ps) n)
       (λ n m. inr (record { place = i + 1; wide = more-than (sum-up facts ps i p set values h is f.exact q.0) m })) stop g
 
-  pub sum-ends : (ps : List (Bool × Expr V)) (i : ℕ) (set : List Value) → length ps ≤ i → SumSoFar facts most set ps i → Sums facts most (Ok set) ps
+  pub sum-ends : (ps : List (Bool × Expr V)) (i : ℕ) (set : List Value) → length ps ≤ i → SumSoFar facts most set ps i
+      → Sums facts most (Ok set) ps
   sum-ends ps i set h f = sums-end facts most ps i set h f.exact f.keeps f.narrow f.steps
 
   -- what a case adds: what its value yields, where its test takes it
-  case_down : (cs : List (Expr V × Expr V)) (i : ℕ) (c : Expr V × Expr V) (set tests : List Value) (passes takes : Bool) → ChoiceSoFar facts most set passes cs i
+  case_down : (cs : List (Expr V × Expr V)) (i : ℕ) (c : Expr V × Expr V) (set tests : List Value) (passes takes : Bool)
+      → ChoiceSoFar facts most set passes cs i
       → HasExactly tests (Yields facts (out-Expr V c.0)) → (IsTrue takes → IsTrue passes × Contains tests (Truth true))
-      → (v : Value) → BranchYields facts takes set (out-Expr V c.1) v → Contains set v ⊎ (PassesAll facts (take i cs) × Took facts (c ∷ []) v)
+      → (v : Value) → BranchYields facts takes set (out-Expr V c.1) v
+      → Contains set v ⊎ (PassesAll facts (take i cs) × Took facts (c ∷ []) v)
   case_down cs i c set tests passes takes f t p v (inl m) = inl m
-  case_down cs i c set tests passes takes f t p v (inr m) = let q = p m.0 in inr (f.chosen.all.0 q.0, inl (t.sound (Truth true) q.1, m.1))
+  case_down cs i c set tests passes takes f t p v (inr m) =
+      let q = p m.0 in
+      inr (f.chosen.all.0 q.0, inl (t.sound (Truth true) q.1, m.1))
 
-  took_one : (c : Expr V × Expr V) (v : Value) → Took facts (c ∷ []) v → Yields facts (out-Expr V c.0) (Truth true) × Yields facts (out-Expr V c.1) v
+  took_one : (c : Expr V × Expr V) (v : Value) → Took facts (c ∷ []) v
+      → Yields facts (out-Expr V c.0) (Truth true) × Yields facts (out-Expr V c.1) v
   took_one c v (inl h) = h
   took_one c v (inr h) = absurd h.1
 
-  case_up : (cs : List (Expr V × Expr V)) (i : ℕ) (c : Expr V × Expr V) (set tests : List Value) (passes takes : Bool) → ChoiceSoFar facts most set passes cs i
+  case_up : (cs : List (Expr V × Expr V)) (i : ℕ) (c : Expr V × Expr V) (set tests : List Value) (passes takes : Bool)
+      → ChoiceSoFar facts most set passes cs i
       → HasExactly tests (Yields facts (out-Expr V c.0)) → (IsTrue passes × Contains tests (Truth true) → IsTrue takes)
-      → (v : Value) → Contains set v ⊎ (PassesAll facts (take i cs) × Took facts (c ∷ []) v) → BranchYields facts takes set (out-Expr V c.1) v
+      → (v : Value) → Contains set v ⊎ (PassesAll facts (take i cs) × Took facts (c ∷ []) v)
+      → BranchYields facts takes set (out-Expr V c.1) v
   case_up cs i c set tests passes takes f t p v (inl m) = inl m
-  case_up cs i c set tests passes takes f t p v (inr m) = let k = took_one c v m.1 in inr (p (f.chosen.all.1 m.0, t.complete (Truth true) k.0), k.1)
+  case_up cs i c set tests passes takes f t p v (inr m) =
+      let k = took_one c v m.1 in
+      inr (p (f.chosen.all.1 m.0, t.complete (Truth true) k.0), k.1)
 
-  pub choice-begins : (cs : List (Expr V × Expr V)) (set : List Value) → set ≡ [] → KeepsLimit most set → ChoiceSoFar facts most set true cs 0
-  choice-begins cs set e k = record { chosen = chosen-start facts set e; keeps = k; narrow = case-narrow-start facts most }
+  pub choice-begins : (cs : List (Expr V × Expr V)) (set : List Value) → set ≡ [] → KeepsLimit most set
+      → ChoiceSoFar facts most set true cs 0
+  choice-begins cs set e k = record {
+    chosen = chosen-start facts set e;
+    keeps = k;
+    narrow = case-narrow-start facts most;
+  }
 
-  pub choice-goes-on : (cs : List (Expr V × Expr V)) (i : ℕ) (c : Expr V × Expr V) (set tests new : List Value) (passes takes can_take can_pass passes_more : Bool) → i < length cs → c ≡ get_or cs i c
-      → ChoiceSoFar facts most set passes cs i → Evaluates facts most (Ok tests) (out-Expr V c.0) → Joins facts most (Ok new) takes set (out-Expr V c.1)
+  pub choice-goes-on : (cs : List (Expr V × Expr V)) (i : ℕ) (c : Expr V × Expr V) (set tests new : List Value) (passes takes can_take can_pass passes_more : Bool)
+      → i < length cs → c ≡ get_or cs i c
+      → ChoiceSoFar facts most set passes cs i → Evaluates facts most (Ok tests) (out-Expr V c.0)
+      → Joins facts most (Ok new) takes set (out-Expr V c.1)
       → IsTrue can_take ↔ Contains tests (Truth true) → IsTrue takes ↔ (IsTrue passes × IsTrue can_take)
-      → IsTrue can_pass ↔ Contains tests (Truth false) → IsTrue passes_more ↔ (IsTrue passes × IsTrue can_pass) → ChoiceSoFar facts most new passes_more cs (i + 1)
+      → IsTrue can_pass ↔ Contains tests (Truth false) → IsTrue passes_more ↔ (IsTrue passes × IsTrue can_pass)
+      → ChoiceSoFar facts most new passes_more cs (i + 1)
   choice-goes-on cs i c set tests new passes takes can_take can_pass passes_more h is f t g a p q o = record {
     chosen = chosen-more facts cs i c set new tests passes passes_more can_pass h is t.0 q o
         (λ v m. case_down cs i c set tests passes takes f t.0 (λ k. let z = p.0 k in (z.0, a.0 z.1)) v (g.0.sound v m))
@@ -573,39 +731,52 @@ module _ {V : Type 0} (facts : V → Value → Type 0) (most : Option ℕ) where
     narrow = case-narrow-more facts most cs i c h is f.narrow t.2 g.2;
   }
 
-  pub case-test-stop : (cs : List (Expr V × Expr V)) (i : ℕ) (c : Expr V × Expr V) (stop : Stop) → i < length cs → c ≡ get_or cs i c → Evaluates facts most (Err stop) (out-Expr V c.0) → Chooses facts most (Err stop) cs
+  pub case-test-stop : (cs : List (Expr V × Expr V)) (i : ℕ) (c : Expr V × Expr V) (stop : Stop) → i < length cs
+      → c ≡ get_or cs i c → Evaluates facts most (Err stop) (out-Expr V c.0) → Chooses facts most (Err stop) cs
   case-test-stop cs i c stop h is q =
-      stopped-up most (λ n. IsWide facts n (out-Expr V c.0)) (λ n. CaseWide facts cs n ⊎ HasMoreThan n (Took facts cs)) (λ n w. inl (record { case = c; in_list = item-is-in cs i c h is; wide = inl w })) stop q
+      stopped-up most (λ n. IsWide facts n (out-Expr V c.0)) (λ n. CaseWide facts cs n ⊎ HasMoreThan n (Took facts cs))
+      (λ n w. inl (record { case = c; in_list = item-is-in cs i c h is; wide = inl w })) stop q
 
   took_within : (cs : List (Expr V × Expr V)) (i : ℕ) (v : Value) → Took facts (take i cs) v → Took facts cs v
-  took_within cs i v m = let P : List (Expr V × Expr V) → Type 0 = λ l. Took facts l v in subst P (take-append-drop i cs) (took-left facts (take i cs) (drop i cs) v m)
+  took_within cs i v m =
+      let P : List (Expr V × Expr V) → Type 0 = λ l. Took facts l v in
+      subst P (take-append-drop i cs) (took-left facts (take i cs) (drop i cs) v m)
 
-  pub case-branch-stop : (cs : List (Expr V × Expr V)) (i : ℕ) (c : Expr V × Expr V) (set tests : List Value) (passes takes can_take : Bool) (stop : Stop) → i < length cs → c ≡ get_or cs i c
-      → ChoiceSoFar facts most set passes cs i → Evaluates facts most (Ok tests) (out-Expr V c.0) → IsTrue can_take ↔ Contains tests (Truth true) → IsTrue takes ↔ (IsTrue passes × IsTrue can_take)
+  pub case-branch-stop : (cs : List (Expr V × Expr V)) (i : ℕ) (c : Expr V × Expr V) (set tests : List Value) (passes takes can_take : Bool) (stop : Stop)
+      → i < length cs → c ≡ get_or cs i c
+      → ChoiceSoFar facts most set passes cs i → Evaluates facts most (Ok tests) (out-Expr V c.0)
+      → IsTrue can_take ↔ Contains tests (Truth true) → IsTrue takes ↔ (IsTrue passes × IsTrue can_take)
       → Joins facts most (Err stop) takes set (out-Expr V c.1) → Chooses facts most (Err stop) cs
   case-branch-stop cs i c set tests passes takes can_take stop h is f t a p g =
-      stopped-up most (λ n. IsWide facts n (out-Expr V c.1) ⊎ HasMoreThan n (BranchYields facts takes set (out-Expr V c.1))) (λ n. CaseWide facts cs n ⊎ HasMoreThan n (Took facts cs))
+      stopped-up most
+      (λ n. IsWide facts n (out-Expr V c.1) ⊎ HasMoreThan n (BranchYields facts takes set (out-Expr V c.1)))
+      (λ n. CaseWide facts cs n ⊎ HasMoreThan n (Took facts cs))
       (λ n w. elim w [
         | inl b ↦ inl (record { case = c; in_list = item-is-in cs i c h is; wide = inr b })
         | inr m ↦ inr (more-than (λ v k. took_within cs (i + 1) v
             (let P : List (Expr V × Expr V) → Type 0 = λ l. Took facts l v in
-            subst P (sym (take-next cs i c h is)) (elim (case_down cs i c set tests passes takes f t.0 (λ k. let z = p.0 k in (z.0, a.0 z.1)) v k) [
+            subst P (sym (take-next cs i c h is))
+            (elim (case_down cs i c set tests passes takes f t.0 (λ k. let z = p.0 k in (z.0, a.0 z.1)) v k) [
               | inl b ↦ took-left facts (take i cs) (c ∷ []) v (f.chosen.exact.sound v b)
               | inr b ↦ took-right facts (take i cs) (c ∷ []) v b.0 b.1
             ]))) m)
       ]) stop g
 
-  pub choice-ends : (cs : List (Expr V × Expr V)) (i : ℕ) (set : List Value) (passes : Bool) → length cs ≤ i → ChoiceSoFar facts most set passes cs i → Chooses facts most (Ok (set, passes)) cs
-  choice-ends cs i set passes h f = (chosen-end facts cs i set passes h f.chosen, f.keeps, case-narrow-end facts most cs i h f.narrow)
+  pub choice-ends : (cs : List (Expr V × Expr V)) (i : ℕ) (set : List Value) (passes : Bool) → length cs ≤ i
+      → ChoiceSoFar facts most set passes cs i → Chooses facts most (Ok (set, passes)) cs
+  choice-ends cs i set passes h f =
+      (chosen-end facts cs i set passes h f.chosen, f.keeps, case-narrow-end facts most cs i h f.narrow)
 
 -- without a limit, the cases after one that does not pass are passed over
-pub choice-stops-early : {V : Type 0} (facts : V → Value → Type 0) (most : Option ℕ) (cs : List (Expr V × Expr V)) (i : ℕ) (set : List Value) (passes : Bool) → passes ≡ false → is_some most ≡ false
+pub choice-stops-early : {V : Type 0} (facts : V → Value → Type 0) (most : Option ℕ) (cs : List (Expr V × Expr V)) (i : ℕ) (set : List Value) (passes : Bool)
+    → passes ≡ false → is_some most ≡ false
     → ChoiceSoFar facts most set passes cs i → Chooses facts most (Ok (set, false)) cs
 choice-stops-early facts None cs i set passes e m f = (chosen-stops facts cs i set passes e f.chosen, f.keeps, λ w. w)
 choice-stops-early facts (Some n) cs i set passes e m f = cc
 
 -- without a limit, the operands after one that decides are passed over
-pub tally-stops-early : {V : Type 0} (facts : V → Value → Type 0) (most : Option ℕ) (b one each : Bool) (es : List (Expr V)) (i : ℕ) → one ≡ true → each ≡ false → is_some most ≡ false
+pub tally-stops-early : {V : Type 0} (facts : V → Value → Type 0) (most : Option ℕ) (b one each : Bool) (es : List (Expr V)) (i : ℕ)
+    → one ≡ true → each ≡ false → is_some most ≡ false
     → TallySoFar facts most b one each es i → Tallies facts most b (Ok (true, false)) es
 tally-stops-early facts None b one each es i o a m t = (tallied-stops facts b one each es i o a t.tallied, λ w. w)
 tally-stops-early facts (Some n) b one each es i o a m t = cc

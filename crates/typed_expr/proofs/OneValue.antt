@@ -42,11 +42,13 @@ module _ (V : Type 0) (facts : V → Value → Type 0) (one : (x : V) (v w : Val
     picks_one y.no_operand y.no_operand = refl
     picks_one (y.operand d ds) (y.operand k ks) = let i = yields_one d k in let j = picks_one ds ks in cc
 
-    pub parts_one : {ps : List (Bool × Expr V)} {vs ws : List (Bool × Value)} → Picks_parts facts ps vs → Picks_parts facts ps ws → vs ≡ ws
+    pub parts_one : {ps : List (Bool × Expr V)} {vs ws : List (Bool × Value)} → Picks_parts facts ps vs
+        → Picks_parts facts ps ws → vs ≡ ws
     parts_one y.no_part y.no_part = refl
     parts_one (y.part d ds) (y.part k ks) = let i = yields_one d k in let j = parts_one ds ks in cc
 
-    pub takes_one : {cs : List (Expr V × Expr V)} {e : Level V} {v w : Value} → Takes facts cs e v → Takes facts cs e w → v ≡ w
+    pub takes_one : {cs : List (Expr V × Expr V)} {e : Level V} {v w : Value} → Takes facts cs e v → Takes facts cs e w
+        → v ≡ w
     takes_one (y.otherwise d) (y.otherwise k) = yields_one d k
     takes_one (y.taken t d) (y.taken u k) = yields_one d k
     takes_one (y.taken t d) (y.passed u k) = let i = yields_one t u in cc

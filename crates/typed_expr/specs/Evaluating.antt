@@ -14,7 +14,8 @@ use Rattle.typed_expr.specs.declared.value_set.Stop.{Stop}
 
 -- the set of what the expression yields, with nothing too wide in it; or something in it is too wide
 abbrev pub Evaluates : {V : Type 0} → (V → Value → Type 0) → Option ℕ → Result (List Value) Stop → Level V → Type 0
-Evaluates facts most (Ok set) e = HasExactly set (Yields facts e) × KeepsLimit most set × (AtLimit most (λ n. IsWide facts n e) → ⊥)
+Evaluates facts most (Ok set) e =
+    HasExactly set (Yields facts e) × KeepsLimit most set × (AtLimit most (λ n. IsWide facts n e) → ⊥)
 Evaluates facts most (Err stop) e = Stopped most (λ n. IsWide facts n e) stop
 
 -- false and true, each where it is asked for
@@ -44,11 +45,13 @@ pub record SomeWide {V : Type 0} (facts : V → Value → Type 0) (es : List (Ex
   pub wide : IsWide facts most (out-Expr V expr)
 
 -- one of the operands yields the one truth value, each yields the other
-pub record Tallied {V : Type 0} (facts : V → Value → Type 0) (b one_other each : Bool) (es : List (Expr V)) : Type 0 where
+pub record Tallied {V : Type 0} (facts : V → Value → Type 0) (b one_other each : Bool)
+    (es : List (Expr V)) : Type 0 where
   pub one : IsTrue one_other ↔ Some_yields facts es (Truth (not b))
   pub all : IsTrue each ↔ All_yield facts es (Truth b)
 
-abbrev pub Tallies : {V : Type 0} → (V → Value → Type 0) → Option ℕ → Bool → Result (Bool × Bool) Stop → List (Expr V) → Type 0
+abbrev pub Tallies : {V : Type 0} → (V → Value → Type 0) → Option ℕ → Bool → Result (Bool × Bool) Stop → List (Expr V)
+    → Type 0
 Tallies facts most b (Ok r) es = Tallied facts b r.0 r.1 es × (AtLimit most (SomeWide facts es) → ⊥)
 Tallies facts most b (Err stop) es = Stopped most (SomeWide facts es) stop
 
@@ -62,7 +65,8 @@ pub record SomeStep (yields : ℕ → Value → Type 0) (most : ℕ) : Type 0 wh
   pub wide : HasMoreThan most (yields place)
 
 -- the set of what the fold of the operands comes to, with nothing too wide in them, at no step too
-abbrev pub Folds : {V : Type 0} → (V → Value → Type 0) → Option ℕ → Step → Result (List Value) Stop → List (Expr V) → Type 0
+abbrev pub Folds : {V : Type 0} → (V → Value → Type 0) → Option ℕ → Step → Result (List Value) Stop → List (Expr V)
+    → Type 0
 Folds facts most s (Ok set) es = HasExactly set (λ v. (vs : List Value) × Picks facts es vs × (v ≡ Whole (fold_of s vs)))
     × KeepsLimit most set × (AtLimit most (SomeWide facts es) → ⊥) × (AtLimit most (SomeStep (FoldYields facts s es)) → ⊥)
 Folds facts most s (Err stop) es = Stopped most (λ n. SomeWide facts es n ⊎ SomeStep (FoldYields facts s es) n) stop
@@ -77,7 +81,8 @@ pub record PartWide {V : Type 0} (facts : V → Value → Type 0) (ps : List (Bo
   pub in_list : Contains ps part
   pub wide : IsWide facts most (out-Expr V part.1)
 
-abbrev pub Sums : {V : Type 0} → (V → Value → Type 0) → Option ℕ → Result (List Value) Stop → List (Bool × Expr V) → Type 0
+abbrev pub Sums : {V : Type 0} → (V → Value → Type 0) → Option ℕ → Result (List Value) Stop → List (Bool × Expr V)
+    → Type 0
 Sums facts most (Ok set) ps = HasExactly set (λ v. (vs : List (Bool × Value)) × Picks_parts facts ps vs × (v ≡ Whole (sum_of vs)))
     × KeepsLimit most set × (AtLimit most (PartWide facts ps) → ⊥) × (AtLimit most (SomeStep (SumYields facts ps)) → ⊥)
 Sums facts most (Err stop) ps = Stopped most (λ n. PartWide facts ps n ⊎ SomeStep (SumYields facts ps) n) stop
@@ -99,11 +104,13 @@ PassesAll facts [] = Unit {0}
 PassesAll {V} facts (c ∷ cs) = Yields facts (out-Expr V c.0) (Truth false) × PassesAll facts cs
 
 -- what the cases yield that their tests take, and whether the tests pass them all
-pub record Chosen {V : Type 0} (facts : V → Value → Type 0) (set : List Value) (passes : Bool) (cs : List (Expr V × Expr V)) : Type 0 where
+pub record Chosen {V : Type 0} (facts : V → Value → Type 0) (set : List Value) (passes : Bool)
+    (cs : List (Expr V × Expr V)) : Type 0 where
   pub exact : HasExactly set (Took facts cs)
   pub all : IsTrue passes ↔ PassesAll facts cs
 
-abbrev pub Chooses : {V : Type 0} → (V → Value → Type 0) → Option ℕ → Result (List Value × Bool) Stop → List (Expr V × Expr V) → Type 0
+abbrev pub Chooses : {V : Type 0} → (V → Value → Type 0) → Option ℕ → Result (List Value × Bool) Stop
+    → List (Expr V × Expr V) → Type 0
 Chooses facts most (Ok r) cs = Chosen facts r.0 r.1 cs × KeepsLimit most r.0 × (AtLimit most (CaseWide facts cs) → ⊥)
 Chooses facts most (Err stop) cs = Stopped most (λ n. CaseWide facts cs n ⊎ HasMoreThan n (Took facts cs)) stop
 
@@ -111,6 +118,9 @@ Chooses facts most (Err stop) cs = Stopped most (λ n. CaseWide facts cs n ⊎ H
 abbrev pub BranchYields : {V : Type 0} → (V → Value → Type 0) → Bool → List Value → Level V → Value → Type 0
 BranchYields facts takes set e v = Contains set v ⊎ (IsTrue takes × Yields facts e v)
 
-abbrev pub Joins : {V : Type 0} → (V → Value → Type 0) → Option ℕ → Result (List Value) Stop → Bool → List Value → Level V → Type 0
-Joins facts most (Ok new) takes set e = HasExactly new (BranchYields facts takes set e) × KeepsLimit most new × (AtLimit most (λ n. IsWide facts n e) → ⊥)
-Joins facts most (Err stop) takes set e = Stopped most (λ n. IsWide facts n e ⊎ HasMoreThan n (BranchYields facts takes set e)) stop
+abbrev pub Joins : {V : Type 0} → (V → Value → Type 0) → Option ℕ → Result (List Value) Stop → Bool → List Value
+    → Level V → Type 0
+Joins facts most (Ok new) takes set e =
+    HasExactly new (BranchYields facts takes set e) × KeepsLimit most new × (AtLimit most (λ n. IsWide facts n e) → ⊥)
+Joins facts most (Err stop) takes set e =
+    Stopped most (λ n. IsWide facts n e ⊎ HasMoreThan n (BranchYields facts takes set e)) stop

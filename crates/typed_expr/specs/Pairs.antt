@@ -1,4 +1,4 @@
--- Finitely many facts, and relations one after the other and turned round.
+-- Finitely many facts, and relations turned round.
 use Rattle.std.specs.Prelude.{List, Contains}
 use Rattle.domains.specs.declared.Value.{Value}
 
@@ -15,12 +15,6 @@ pub record Needs (V : Type 0) (P : V → Value → Type 0) (R : (V → Value →
   pub pairs : List (Pair V)
   pub hold : (x : V) (v : Value) → Has pairs x v → P x v
   pub suffice : R (Has pairs)
-
--- some middle is related to both
-pub record Joined {A B C : Type 0} (first : A → B → Type 0) (second : B → C → Type 0) (a : A) (c : C) : Type 0 where
-  pub middle : B
-  pub left : first a middle
-  pub right : second middle c
 
 -- the same pairs, the other way round
 abbrev pub turned : {A B : Type 0} → (A → B → Type 0) → B → A → Type 0

@@ -18,16 +18,24 @@ pub data IsPart {V : Type 0} (p : Level V) : Level V → Type 0 where
   in_any : {es : Vec (Expr V) Global} {e : Expr V} → Contains es.items e → IsPart p (out-Expr V e) → IsPart p (Any es)
   in_left : {r : Relation} {a b : Box (Expr V) Global} → IsPart p (out-Expr V a.value) → IsPart p (Compare r a b)
   in_right : {r : Relation} {a b : Box (Expr V) Global} → IsPart p (out-Expr V b.value) → IsPart p (Compare r a b)
-  in_sum : {ps : Vec (Bool × Expr V) Global} {plus : Bool} {e : Expr V} → Contains ps.items (plus, e) → IsPart p (out-Expr V e) → IsPart p (Sum ps)
-  in_product : {es : Vec (Expr V) Global} {e : Expr V} → Contains es.items e → IsPart p (out-Expr V e) → IsPart p (Product es)
-  in_least : {es : Vec (Expr V) Global} {e : Expr V} → Contains es.items e → IsPart p (out-Expr V e) → IsPart p (Least es)
-  in_greatest : {es : Vec (Expr V) Global} {e : Expr V} → Contains es.items e → IsPart p (out-Expr V e) → IsPart p (Greatest es)
-  in_count : {es : Vec (Expr V) Global} {e : Expr V} → Contains es.items e → IsPart p (out-Expr V e) → IsPart p (Count es)
-  in_test : {cs : Vec (Expr V × Expr V) Global} {other : Box (Expr V) Global} {test value : Expr V} → Contains cs.items (test, value) → IsPart p (out-Expr V test)
+  in_sum : {ps : Vec (Bool × Expr V) Global} {plus : Bool} {e : Expr V} → Contains ps.items (plus, e)
+      → IsPart p (out-Expr V e) → IsPart p (Sum ps)
+  in_product : {es : Vec (Expr V) Global} {e : Expr V} → Contains es.items e → IsPart p (out-Expr V e)
+      → IsPart p (Product es)
+  in_least : {es : Vec (Expr V) Global} {e : Expr V} → Contains es.items e → IsPart p (out-Expr V e)
+      → IsPart p (Least es)
+  in_greatest : {es : Vec (Expr V) Global} {e : Expr V} → Contains es.items e → IsPart p (out-Expr V e)
+      → IsPart p (Greatest es)
+  in_count : {es : Vec (Expr V) Global} {e : Expr V} → Contains es.items e → IsPart p (out-Expr V e)
+      → IsPart p (Count es)
+  in_test : {cs : Vec (Expr V × Expr V) Global} {other : Box (Expr V) Global} {test value : Expr V}
+      → Contains cs.items (test, value) → IsPart p (out-Expr V test)
       → IsPart p (Choose cs other)
-  in_value : {cs : Vec (Expr V × Expr V) Global} {other : Box (Expr V) Global} {test value : Expr V} → Contains cs.items (test, value) → IsPart p (out-Expr V value)
+  in_value : {cs : Vec (Expr V × Expr V) Global} {other : Box (Expr V) Global} {test value : Expr V}
+      → Contains cs.items (test, value) → IsPart p (out-Expr V value)
       → IsPart p (Choose cs other)
-  in_other : {cs : Vec (Expr V × Expr V) Global} {other : Box (Expr V) Global} → IsPart p (out-Expr V other.value) → IsPart p (Choose cs other)
+  in_other : {cs : Vec (Expr V × Expr V) Global} {other : Box (Expr V) Global} → IsPart p (out-Expr V other.value)
+      → IsPart p (Choose cs other)
 
 -- v is what the form's fold may have come to after its first k operands
 abbrev pub StepYields : {V : Type 0} → (V → Value → Type 0) → Level V → ℕ → Value → Type 0
@@ -37,7 +45,8 @@ StepYields facts (Not a) k v = ⊥
 StepYields facts (All es) k v = ⊥
 StepYields facts (Any es) k v = ⊥
 StepYields facts (Compare r a b) k v = ⊥
-StepYields facts (Sum ps) k v = (vs : List (Bool × Value)) × Picks_parts facts (take k ps.items) vs × (v ≡ Whole (sum_of vs))
+StepYields facts (Sum ps) k v =
+    (vs : List (Bool × Value)) × Picks_parts facts (take k ps.items) vs × (v ≡ Whole (sum_of vs))
 StepYields facts (Product es) k v = (vs : List Value) × Picks facts (take k es.items) vs × (v ≡ Whole (product_of vs))
 StepYields facts (Least es) k v = (vs : List Value) × Picks facts (take k es.items) vs × (v ≡ Whole (least_of vs))
 StepYields facts (Greatest es) k v = (vs : List Value) × Picks facts (take k es.items) vs × (v ≡ Whole (greatest_of vs))

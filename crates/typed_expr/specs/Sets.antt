@@ -54,7 +54,8 @@ Inserts most old v new = Adds old v new × (KeepsLimit most old → KeepsLimit m
 
 -- with the value put in, the set would pass the limit
 abbrev pub Refuses : Option ℕ → List Value → Value → Stop → Type 0
-Refuses most old v TooMany = AtLimit most (λ n. (new : List Value) × Adds old v new × IsAscending new × (n < length new))
+Refuses most old v TooMany =
+    AtLimit most (λ n. (new : List Value) × Adds old v new × IsAscending new × (n < length new))
 Refuses most old v NoMemory = Unit {0}
 
 -- the values before the place come before the value, and those from the place on come after it

@@ -25,8 +25,8 @@ pub enum ValueKind {
 ///
 /// `All` is a conjunction and `Any` a disjunction. The bool of a part of a `Sum` is true for plus.
 /// A sum is folded from 0 and a product from 1, from left to right, with clamping at each step.
-/// `Least` and `Greatest` give an operand's value, `Count` the number of true operands.
-/// `Choose` takes the value of the first case whose test is true, and else that of its last expression.
+/// `Least` and `Greatest` give an operand's value, `Count` the number of true operands. `Choose`
+/// takes the value of the first case whose test is true, and else that of its last expression.
 #[derive(Debug, Drop)]
 pub enum Expr<V> {
     Constant(Value),

@@ -7,7 +7,8 @@ ghost use Rattle.typed_expr.specs.Folds.{fold_of, next_of};
 
 use domains::{Value, add, multiply, subtract};
 
-// How an operand goes into a fold: a part of a sum, added or subtracted, or an operand of another fold.
+// How an operand goes into a fold: a part of a sum, added or subtracted, or an operand of another
+// fold.
 #[derive(Clone, Copy, Debug, PartialEq, Eq)]
 pub(crate) enum Step {
     Part(bool),

@@ -10,12 +10,12 @@ use crate::expr::{Expr, Relation, ValueKind};
 use crate::sets::both;
 use domains::Value;
 
-/// The kind of an expression, where its variables have the kinds that the environment gives them, or None where a form
-/// in it is ill typed or a list of operands or cases in it is empty.
+/// The kind of an expression, where its variables have the kinds that the environment gives them,
+/// or None where a form in it is ill typed or a list of operands or cases in it is empty.
 ///
-/// Operands of `All`, `Any`, `Not` and `Count`, and tests, are truth values. Operands of sums, products, `Least`,
-/// `Greatest` and of the comparisons of order are whole numbers. The two sides of `Equal` and `Differs`, and all
-/// branches of a choice, have one kind.
+/// Operands of `All`, `Any`, `Not` and `Count`, and tests, are truth values. Operands of sums,
+/// products, `Least`, `Greatest` and of the comparisons of order are whole numbers. The two sides
+/// of `Equal` and `Differs`, and all branches of a choice, have one kind.
 #[cycle(typed)]
 pub fn typed<V, E: Env<V>>(expr: &Expr<V>, env: &E) -> Option<ValueKind>
     ensures { IsKindOf (E.kind_at env.now) (out-Expr V expr.now) result }
@@ -80,7 +80,8 @@ fn each_part<V, E: Env<V>>(parts: &[(bool, Expr<V>)], env: &E) -> bool
 // Whether there is a case, each test is a truth value, and each value has the kind.
 #[cycle(typed)]
 fn each_case<V, E: Env<V>>(cases: &[(Expr<V>, Expr<V>)], env: &E, kind: ValueKind) -> bool
-    ensures { IsTrue result ↔ ((0 < length cases.now) × Each_case (E.kind_at env.now) cases.now kind) }
+    ensures { IsTrue result
+        ↔ ((0 < length cases.now) × Each_case (E.kind_at env.now) cases.now kind) }
 {
     if cases.is_empty() {
         return false;

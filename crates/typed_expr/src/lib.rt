@@ -1,4 +1,5 @@
-//! Expressions over variables of any kind: their kinds, their values, and the values that they yield from facts.
+//! Expressions over variables of any kind: their kinds, their values, and the values that they
+//! yield from facts.
 #![tactic(auto)]
 
 mod env;
@@ -14,10 +15,7 @@ mod value_set;
 pub use env::Env;
 pub use expr::{Expr, Relation, ValueKind};
 pub use kinds::typed;
-pub use laws::{count_law, expression_laws, renaming_laws};
+pub use laws::{count_law, expression_laws, finite_laws, kind_law, renaming_laws};
 pub use possible::{eval_set, possible_values};
 pub use total::eval_total;
 pub use value_set::ValueSet;
-
-#[cfg(test)]
-mod tests;

@@ -19,11 +19,13 @@ use std::alloc::Global;
 
 /// The values that an expression yields from the environment's facts, ascending and each once.
 ///
-/// The expression is to be well typed. A conjunction or disjunction yields false or true where one operand does, and the
-/// other value where all do; a choice yields what the branches yield that its tests take; any other form yields its
-/// results over all choices of one yielded value for each operand. The error is want of memory.
+/// The expression is to be well typed. A conjunction or disjunction yields false or true where one
+/// operand does, and the other value where all do; a choice yields what the branches yield that its
+/// tests take; any other form yields its results over all choices of one yielded value for each
+/// operand. The error is want of memory.
 pub fn eval_set<V, E: Env<V>>(alloc: Global, expr: &Expr<V>, env: &E) -> Result<ValueSet, Memory>
-    ensures yields { IfOk result (λ set. HasExactly set (Yields (facts_of (E.facts_at env.now)) (out-Expr V expr.now))) }
+    ensures yields { IfOk result
+        (λ set. HasExactly set (Yields (facts_of (E.facts_at env.now)) (out-Expr V expr.now))) }
     ensures ascending { IfOk result IsAscending }
 {
     match yielded(alloc, expr, env, None) {
@@ -32,19 +34,22 @@ pub fn eval_set<V, E: Env<V>>(alloc: Global, expr: &Expr<V>, env: &E) -> Result<
     }
 }
 
-/// The values that an expression may have, where the facts of the environment are the variables' whole domains, or None
-/// where a subexpression or a step of a fold has more than `most`.
+/// The values that an expression may have, where the facts of the environment are the variables'
+/// whole domains, or None where a subexpression or a step of a fold has more than `most`.
 ///
-/// The steps of a fold are what it may have come to after its first operands, none of them included. The error is want of
-/// memory.
+/// The steps of a fold are what it may have come to after its first operands, none of them
+/// included. The error is want of memory.
 pub fn possible_values<V, E: Env<V>>(
     alloc: Global,
     expr: &Expr<V>,
     env: &E,
     most: u32,
 ) -> Result<Option<ValueSet>, Memory>
-    ensures yields { IfOk result (λ found. MatchOption found (IsWide (facts_of (E.facts_at env.now)) most (out-Expr V expr.now)) (λ set. HasExactly set (Yields (facts_of (E.facts_at env.now)) (out-Expr V expr.now)))) }
-    ensures narrow { IfOk result (λ found. MatchOption found ⊤ (λ set. IsWide (facts_of (E.facts_at env.now)) most (out-Expr V expr.now) → ⊥)) }
+    ensures yields { IfOk result (λ found. MatchOption found
+        (IsWide (facts_of (E.facts_at env.now)) most (out-Expr V expr.now))
+        (λ set. HasExactly set (Yields (facts_of (E.facts_at env.now)) (out-Expr V expr.now)))) }
+    ensures narrow { IfOk result (λ found. MatchOption found ⊤
+        (λ set. IsWide (facts_of (E.facts_at env.now)) most (out-Expr V expr.now) → ⊥)) }
     ensures ascending { IfOk result (λ found. MatchOption found ⊤ IsAscending) }
 {
     match yielded(alloc, expr, env, Some(most)) {

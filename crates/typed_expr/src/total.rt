@@ -14,9 +14,9 @@ use domains::Value;
 
 /// The value of an expression under the environment's one value for each variable.
 ///
-/// The expression is to be well typed; in one that is not, an operand of another kind than its form asks for counts as
-/// false or 0. A conjunction stops at its first false operand, a disjunction at its first true one, and a choice reads
-/// the branch that it takes alone.
+/// The expression is to be well typed; in one that is not, an operand of another kind than its form
+/// asks for counts as false or 0. A conjunction stops at its first false operand, a disjunction at
+/// its first true one, and a choice reads the branch that it takes alone.
 #[cycle(total)]
 pub fn eval_total<V, E: Env<V>>(expr: &Expr<V>, env: &E) -> Value
     ensures { result ≡ value_of (E.value_at env.now) expr.now }
@@ -99,7 +99,11 @@ fn fold_total<V, E: Env<V>>(step: Step, es: &[Expr<V>], env: &E) -> i64
 // The value of the first case whose test is true.
 #[cycle(total)]
 fn chosen<V, E: Env<V>>(cases: &[(Expr<V>, Expr<V>)], env: &E) -> Option<Value>
-    ensures { (other : Value) → first_true (map (λ c. (value_of (E.value_at env.now) c.0, value_of (E.value_at env.now) c.1)) cases.now) other ≡ unwrap_or result other }
+    ensures { (other : Value)
+        → first_true (map (λ c. (
+          value_of (E.value_at env.now) c.0,
+          value_of (E.value_at env.now) c.1,
+        )) cases.now) other ≡ unwrap_or result other }
 {
     for (test, value) in cases {
         if truth(eval_total(test, env)) {

@@ -99,7 +99,8 @@ fn place_of(v: Value, values: &[Value]) -> Option<usize>
 fn first_not_before(v: Value, values: &[Value]) -> usize
     requires { IsAscending values.now }
     ensures bound { result ≤ length values.now }
-    ensures place { IsPartitionPoint (λ x. is_before x v ≡ true) (λ x. is_before x v ≡ false) values.now result }
+    ensures place { IsPartitionPoint (λ x. is_before x v ≡ true)
+        (λ x. is_before x v ≡ false) values.now result }
 {
     let mut low = 0;
     let mut high = values.len();

@@ -10,7 +10,7 @@ flip Less = Greater
 flip Equal = Equal
 flip Greater = Less
 
-order-refl : (s : List ℕ) → order s s ≡ Equal
+pub order-refl : (s : List ℕ) → order s s ≡ Equal
 order-refl [] = refl
 order-refl (x ∷ s) = let h : nat_lt x x ≡ false = grind (arith, nat_tests) in
     ap₂ (λ b c. ordering_then (cond b Less (cond c Equal Greater)) (order s s)) h (eq-eqb x x refl) ∙ order-refl s

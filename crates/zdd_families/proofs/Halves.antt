@@ -1,11 +1,13 @@
 -- The halves of a family, from those of its own halves.
-use Rattle.std.proofs.Common.{◌≡◌, ◌≢◌, ℕ, ◌≤◌, Bool, true, false, not, ◌||◌, eqb, List, [], ◌∷◌, refl, sym, ap, ap₂, ◌∙◌, subst, arith, eqb-true, true≢false, cond, map, filter, ◌++◌}
+use Rattle.std.proofs.Common.{◌≡◌, ◌≢◌, ℕ, ◌≤◌, Bool, true, false, not, ◌||◌, eqb, List, [], ◌∷◌, refl, sym, ap, ap₂, ◌∙◌, subst, arith, eqb-true, true≢false, cond, map, filter, ◌++◌, ◌<◌, ◌⊎◌, inl, inr}
 use Rattle.std.specs.List.{AllByRecursion, list_any}
+use Rattle.std.proofs.lemmas.Bool.{cases_lt}
 use Rattle.zdd_families.specs.Families.{Family, holds, node, IsAbove, minimal}
-use Rattle.zdd_families.specs.Sections.{section, IsCounted, IsPart, IsLeast, upper, lower, IsHalf}
+use Rattle.zdd_families.specs.Sections.{section, IsCounted, IsPart, IsLeast, upper, lower, IsHalf, IsSetBelow}
 use Rattle.zdd_families.specs.Sections.IsHalf.{of_minimal, of_halves}
-use Rattle.zdd_families.proofs.Laws.{IsAbove_set, eqb-refl, eqb-above, filter-node, filter-none, filter-all, every, each_of, holds_here, holds-above, minimal-nil}
-use Rattle.zdd_families.proofs.Sections.{AtLeast, section-whole, section-with, section-without, deep, counted_nil}
+use Rattle.zdd_families.proofs.Ascending.{ascends_nil, ascends_cons, ascends_head, ascends_tail}
+use Rattle.zdd_families.proofs.Laws.{IsAbove_set, IsAbove-node, above_less, eqb-refl, eqb-above, filter-node, filter-none, filter-all, every, each_of, holds_here, holds-above, minimal-nil}
+use Rattle.zdd_families.proofs.Sections.{AtLeast, section-whole, section-low, section-above, section-with, section-without, deep, counted_nil}
 use Rattle.zdd_families.proofs.Minimal.{witness, member_of}
 
 holds_bound : (v x : ℕ) (s : List ℕ) → AtLeast v s → holds x s ≡ true → v ≤ x
@@ -54,22 +56,22 @@ module _ (v : ℕ) (f0 f1 : Family) (a0 : IsAbove v f0) (a1 : IsAbove v f1) wher
   pub half_upper : (h : Family) → IsHalf f1 h → IsHalf (node v f0 f1) h
   half_upper h (of_minimal i p u k) =
       let d = deep v i p f1 (section i p f1) a1 u refl (not_nil_minimal (section i p f1) h k) in
-      of_minimal d.at (v ∷ d.taken) ((d.above, d.under.0), (d.after, d.under.1)) (subst (λ x. IsCounted (minimal x) h) (d.is ∙ sym (section-with v d.at d.taken f0 f1 d.after a0)) k)
+      of_minimal d.at (v ∷ d.taken) (ascends_cons v d.taken d.above d.under.0, (d.after, d.under.1)) (subst (λ x. IsCounted (minimal x) h) (d.is ∙ sym (section-with v d.at d.taken f0 f1 d.after a0)) k)
   half_upper h (of_halves i p w u l k) =
       let d = deep v i p f1 (section i p f1) a1 u refl (not_nil_least w (section i p f1) l) in
       let e = d.is ∙ sym (section-with v d.at d.taken f0 f1 d.after a0) in
-      of_halves d.at (v ∷ d.taken) w ((d.above, d.under.0), (d.after, d.under.1)) (subst (IsLeast w) e l) (subst (λ x. IsPart (minimal (upper w x)) (minimal (lower w x)) h) e k)
+      of_halves d.at (v ∷ d.taken) w (ascends_cons v d.taken d.above d.under.0, (d.after, d.under.1)) (subst (IsLeast w) e l) (subst (λ x. IsPart (minimal (upper w x)) (minimal (lower w x)) h) e k)
 
   pub half_whole : (h : Family) → IsCounted (minimal (node v f0 f1)) h → IsHalf (node v f0 f1) h
-  half_whole h k = of_minimal 0 [] (tt, tt) (subst (λ x. IsCounted (minimal x) h) (sym (section-whole (node v f0 f1))) k)
+  half_whole h k = of_minimal 0 [] (ascends_nil, tt) (subst (λ x. IsCounted (minimal x) h) (sym (section-whole (node v f0 f1))) k)
 
-  upper_is_hi : upper v (node v f0 f1) ≡ f1
+  pub upper_is_hi : upper v (node v f0 f1) ≡ f1
   upper_is_hi = ap (map (filter (λ x. not (eqb v x)))) (filter-node v (holds v) f0 f1 ∙ ap₂ (node v)
       (filter-none (holds v) f0 (each_of (IsAbove_set v) (λ s. holds v s ≡ false) (λ s k. holds-above v s k) f0 a0))
       (filter-all (λ s. holds v (v ∷ s)) f1 (every (λ s. holds v (v ∷ s) ≡ true) (λ s. holds_here v s) f1)))
       ∙ taken_off v f1 a1
 
-  lower_is_lo : lower v (node v f0 f1) ≡ f0
+  pub lower_is_lo : lower v (node v f0 f1) ≡ f0
   lower_is_lo = filter-node v (λ s. not (holds v s)) f0 f1 ∙ ap₂ (node v)
       (filter-all (λ s. not (holds v s)) f0 (each_of (IsAbove_set v) (λ s. not (holds v s) ≡ true) (λ s k. ap not (holds-above v s k)) f0 a0))
       (filter-none (λ s. not (holds v (v ∷ s))) f1 (every (λ s. not (holds v (v ∷ s)) ≡ false) (λ s. ap not (holds_here v s)) f1))
@@ -84,5 +86,51 @@ module _ (v : ℕ) (f0 f1 : Family) (a0 : IsAbove v f0) (a1 : IsAbove v f1) wher
   pub half_parts : f1 ≢ [] → (h : Family) → IsPart (minimal f1) (minimal f0) h → IsHalf (node v f0 f1) h
   half_parts n h k =
       let e = sym (section-whole (node v f0 f1)) in
-      of_halves 0 [] v (tt, tt) (subst (IsLeast v) e (least_is n))
+      of_halves 0 [] v (ascends_nil, tt) (subst (IsLeast v) e (least_is n))
       (subst (λ x. IsPart (minimal (upper v x)) (minimal (lower v x)) h) e (subst (λ x. IsPart (minimal x) (minimal (lower v (node v f0 f1))) h) (sym upper_is_hi) (subst (λ x. IsPart (minimal f1) (minimal x) h) (sym lower_is_lo) k)))
+
+  at_least_all : (i : ℕ) → i ≤ v → AllByRecursion (AtLeast i) (node v f0 f1)
+  at_least_all i l = each_of (AtLeast v) (AtLeast i) lower_bound (node v f0 f1) (at_least_node v f0 f1 a0 a1)
+    where
+      lower_bound : (s : List ℕ) → AtLeast v s → AtLeast i s
+      lower_bound [] a = tt
+      lower_bound (x ∷ s) a = (omega (arith, l, a.0), lower_bound s a.1)
+
+  -- a counted section is the whole family, or one of a half
+  pub counted_halves : (h : Family) → IsCounted (node v f0 f1) h → (h ≡ node v f0 f1) ⊎ (IsCounted f0 h ⊎ IsCounted f1 h)
+  counted_halves h c = by c.taken c.taken_below c.is
+    where
+      lower_one : (p : List ℕ) → v < c.at → IsAbove_set v p → IsSetBelow c.at p → h ≡ section c.at p (node v f0 f1) → IsCounted f0 h
+      lower_one p l a u e = record { at = c.at; taken = p; taken_below = u; is = e ∙ section-without v c.at p f0 f1 l a; not_empty = c.not_empty; not_unit = c.not_unit }
+
+      by : (p : List ℕ) → IsSetBelow c.at p → h ≡ section c.at p (node v f0 f1) → (h ≡ node v f0 f1) ⊎ (IsCounted f0 h ⊎ IsCounted f1 h)
+      by [] u e = elim (cases_lt v c.at) [
+        | inl l ↦ inr (inl (lower_one [] l tt u e))
+        | inr l ↦ inl (e ∙ section-low c.at (node v f0 f1) (at_least_all c.at l))
+      ]
+      by (x ∷ p) u e = elim (cases_lt x v) [
+        | inl low ↦ elim (section-above x c.at (x ∷ p) (node v f0 f1) (IsAbove-node x v f0 f1 low a0 a1)) [ inl none ↦ absurd (c.not_empty (e ∙ none)) | inr above ↦ absurd (omega (arith, above.0)) ]
+        | inr not_low ↦ elim (cases_lt v x) [
+          | inl above ↦ inr (inl (lower_one (x ∷ p) (omega (arith, above, u.1.0)) (above, above_less v x p above (ascends_head x p u.0)) u e))
+          | inr not_above ↦
+              let is : x ≡ v = omega (arith, not_low, not_above) in
+              let same_section : h ≡ section c.at (v ∷ p) (node v f0 f1) = e ∙ ap (λ y. section c.at (y ∷ p) (node v f0 f1)) is in
+              inr (inr (record {
+                at = c.at;
+                taken = p;
+                taken_below = (ascends_tail x p u.0, u.1.1);
+                is = same_section ∙ section-with v c.at p f0 f1 (omega (arith, is, u.1.0)) a0;
+                not_empty = c.not_empty;
+                not_unit = c.not_unit;
+              }))
+        ]
+      ]
+
+-- the family of the empty set has no counted section
+pub counted_unit : (h : Family) → IsCounted ([] ∷ []) h → ⊥
+unfolding section
+counted_unit h c = by c.taken c.is
+  where
+    by : (p : List ℕ) → h ≡ section c.at p ([] ∷ []) → ⊥
+    by [] e = c.not_unit e
+    by (x ∷ p) e = c.not_empty e

@@ -4,6 +4,8 @@ use Rattle.std.specs.Ordering.{ordering_then}
 use Rattle.std.proofs.lemmas.List.Elements.{filter-append}
 use Rattle.std.proofs.lemmas.Bool.{and_parts}
 use Rattle.std.proofs.lemmas.Bool.Decides.{nat_tests}
+use Rattle.std.proofs.Math.Bool.{or-false}
+use Rattle.std.proofs.lemmas.List.Folds.{list_any-append}
 use Rattle.zdd_families.specs.Families.{Family, order, same, holds, within, has, node, IsAbove, meet, minus, having, without, minimal, place, union}
 
 abbrev pub IsAbove_set : ℕ → List ℕ → Type 0
@@ -47,10 +49,6 @@ pub each-append : (P : List ℕ → Type 0) (f g : Family) → AllByRecursion P 
 each-append P [] g a b = b
 each-append P (s ∷ f) g a b = (a.0, each-append P f g a.1 b)
 
-pub list_any-append : (p : List ℕ → Bool) (f g : Family) → list_any p (f ++ g) ≡ (list_any p f || list_any p g)
-list_any-append p [] g = refl
-list_any-append p (s ∷ f) g = elim (p s) as (λ b. (b || list_any p (f ++ g)) ≡ ((b || list_any p f) || list_any p g)) [ true ↦ refl | false ↦ list_any-append p f g ]
-
 pub list_any-alike : (p q : List ℕ → Bool) (f : Family) → AllByRecursion (λ s. p s ≡ q s) f → list_any p f ≡ list_any q f
 list_any-alike p q [] h = refl
 list_any-alike p q (s ∷ f) h = ap₂ (λ a b. a || b) h.0 (list_any-alike p q f h.1)
@@ -63,10 +61,6 @@ pub list_any-none : (p : List ℕ → Bool) (f : Family) → AllByRecursion (λ 
 list_any-none p [] h = refl
 list_any-none p (s ∷ f) h = ap₂ (λ a b. a || b) h.0 (list_any-none p f h.1)
 
-pub or-false : (b : Bool) → (b || false) ≡ b
-or-false true = refl
-or-false false = refl
-
 -- ---- what stays above
 pub IsAbove-filter : (v : ℕ) (p : List ℕ → Bool) (f : Family) → IsAbove v f → IsAbove v (filter p f)
 IsAbove-filter v p f a = each-filter (IsAbove_set v) p f a
@@ -75,7 +69,7 @@ IsAbove-map : (v w : ℕ) (f : Family) → v < w → IsAbove v f → IsAbove v (
 IsAbove-map v w [] h a = tt
 IsAbove-map v w (s ∷ f) h a = ((h, a.0), IsAbove-map v w f h a.1)
 
-above_less : (v w : ℕ) (s : List ℕ) → v < w → IsAbove_set w s → IsAbove_set v s
+pub above_less : (v w : ℕ) (s : List ℕ) → v < w → IsAbove_set w s → IsAbove_set v s
 above_less v w [] h a = tt
 above_less v w (x ∷ s) h a = (lt_trans h a.0, above_less v w s h a.1)
 
@@ -164,7 +158,7 @@ order-under v [] t a = refl
 order-under v (x ∷ s) t a = let h : nat_lt x v ≡ false = grind (arith, nat_tests, a.0) in
     ap₂ (λ b c. ordering_then (cond b Less (cond c Equal Greater)) (order s t)) h (eqb-below v x a.0)
 
-order-with : (v : ℕ) (s t : List ℕ) → order (v ∷ s) (v ∷ t) ≡ order s t
+pub order-with : (v : ℕ) (s t : List ℕ) → order (v ∷ s) (v ∷ t) ≡ order s t
 order-with v s t = let h : nat_lt v v ≡ false = grind (arith, nat_tests) in
     ap₂ (λ b c. ordering_then (cond b Less (cond c Equal Greater)) (order s t)) h (eqb-refl v)
 
@@ -262,7 +256,7 @@ same-true (x ∷ s) (y ∷ t) h = let p = and_parts (eqb x y) (same s t) h in ap
 pub any_more : (p : List ℕ → Bool) (t : List ℕ) (f : Family) → list_any p f ≡ true → list_any p (t ∷ f) ≡ true
 any_more p t f h = elim (p t) as (λ b. (b || list_any p f) ≡ true) [ true ↦ refl | false ↦ h ]
 
-has_each : (f : Family) → AllByRecursion (λ s. has f s ≡ true) f
+pub has_each : (f : Family) → AllByRecursion (λ s. has f s ≡ true) f
 has_each [] = tt
 has_each (s ∷ f) = (ap (λ b. b || has f s) (same-refl s), each_of (λ t. has f t ≡ true) (λ t. has (s ∷ f) t ≡ true) (λ t. any_more (same t) s f) f (has_each f))
 

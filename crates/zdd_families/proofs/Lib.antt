@@ -1,6 +1,9 @@
+pub mod Ascending
 pub mod Laws
 pub mod Sections
 pub mod Minimal
 pub mod Halves
 pub mod Gates
 pub mod Members
+pub mod OneList
+pub mod Filters

@@ -1,56 +1,41 @@
 -- The operations set by set, and the order of sets number by number.
-use Rattle.std.proofs.Common.{◌≡◌, ◌↔◌, ℕ, zero, suc, ◌<◌, Bool, true, false, not, cond, ◌&&◌, ◌||◌, eqb, List, [], ◌∷◌, slice_get, Some, filter, refl, sym, ap, ap₂, ◌∙◌, subst, arith, lt_irrefl, lt_trans, ⊎_elim, ◌⊎◌, inl, inr, nat_lt, nat_cmp, Ordering, Less, Equal, Greater, eq-eqb, eqb-true, lt-ltb}
+use Rattle.std.proofs.Common.{◌≡◌, ◌↔◌, ℕ, ◌<◌, Bool, true, false, not, cond, ◌&&◌, ◌||◌, eqb, List, [], ◌∷◌, filter, refl, sym, ap, ap₂, ◌∙◌, subst, arith, lt_irrefl, lt_trans, ⊎_elim, ◌⊎◌, nat_lt, nat_cmp, Ordering, Less, Equal, Greater, eq-eqb, eqb-true, lt-ltb}
 use Rattle.std.specs.List.{AllByRecursion, list_any}
 use Rattle.std.specs.Ordering.{ordering_then}
+use Rattle.std.proofs.Math.Bool.{or-false}
 use Rattle.std.proofs.lemmas.Bool.{and_parts}
 use Rattle.std.proofs.lemmas.Bool.Decides.{nat_tests}
 use Rattle.ar_base.specs.Lists.{IsOneOf}
-use Rattle.zdd_families.specs.Families.{Family, order, Precedes, same, holds, within, has, IsAscending, union, place, meet, minus, having, without, minimal}
-use Rattle.zdd_families.proofs.Laws.{same-true, same-refl, or-false}
+use Rattle.ar_base.specs.Sets.{Ascends, IsBefore}
+use Rattle.ar_base.proofs.Standing.{one_none, one_first, one_rest, one_cases}
+use Rattle.zdd_families.specs.Families.{Family, order, same, holds, within, has, union, place, meet, minus, having, without, minimal}
+use Rattle.zdd_families.proofs.Ascending.{IsAscending, is_ascending}
+use Rattle.zdd_families.proofs.Laws.{same-true, same-refl}
 use Rattle.zdd_families.proofs.Gates.{flip, order-flip, placed}
 
 -- ---- members
-one_head : (x : ℕ) (s : List ℕ) → IsOneOf (x ∷ s) x
-one_head x s = record { place = 0; stands = refl }
-
-one_tail : (x e : ℕ) (s : List ℕ) → IsOneOf s e → IsOneOf (x ∷ s) e
-one_tail x e s i = record { place = suc i.place; stands = i.stands }
-
-one_none : (e : ℕ) → IsOneOf [] e → ⊥
-one_none e i = at i.place i.stands
-  where
-    at : (k : ℕ) → slice_get [] k ≡ Some e → ⊥
-    at k h = cc
-
-one_cases : (x e : ℕ) (s : List ℕ) → IsOneOf (x ∷ s) e → (e ≡ x) ⊎ IsOneOf s e
-one_cases x e s i = at i.place i.stands
-  where
-    at : (k : ℕ) → slice_get (x ∷ s) k ≡ Some e → (e ≡ x) ⊎ IsOneOf s e
-    at zero h = let t : e ≡ x = cc in inl t
-    at (suc k) h = inr (record { place = k; stands = h })
-
 one_above : (x e : ℕ) (s : List ℕ) → AllByRecursion (λ y. x < y) s → IsOneOf s e → x < e
 one_above x e [] a i = absurd (one_none e i)
-one_above x e (y ∷ s) a i = ⊎_elim (λ t. subst (λ z. x < z) (sym t) a.0) (λ j. one_above x e s a.1 j) (one_cases y e s i)
+one_above x e (y ∷ s) a i = ⊎_elim (λ t. subst (λ z. x < z) t a.0) (λ j. one_above x e s a.1 j) (one_cases y s e i)
 
 -- nothing at or below the first number is among the others, nor below it among all
 one_not_below : (x e : ℕ) (s : List ℕ) → AllByRecursion (λ y. x < y) s → e < x → IsOneOf (x ∷ s) e → ⊥
-one_not_below x e s a l i = ⊎_elim (λ t. lt_irrefl x (subst (λ z. z < x) t l)) (λ j. lt_irrefl x (lt_trans (one_above x e s a j) l)) (one_cases x e s i)
+one_not_below x e s a l i = ⊎_elim (λ t. lt_irrefl x (subst (λ z. z < x) (sym t) l)) (λ j. lt_irrefl x (lt_trans (one_above x e s a j) l)) (one_cases x s e i)
 
 holds_one : (x : ℕ) (s : List ℕ) → holds x s ≡ true → IsOneOf s x
 holds_one x [] h = let wrong : ⊥ = cc in absurd wrong
 holds_one x (y ∷ s) h = step (holds_one x s) (eqb x y) refl
   where
     step : (holds x s ≡ true → IsOneOf s x) → (b : Bool) → eqb x y ≡ b → IsOneOf (y ∷ s) x
-    step ih true e = subst (λ z. IsOneOf (z ∷ s) x) (eqb-true x y e) (one_head x s)
-    step ih false e = one_tail y x s (ih (ap (λ b. b || holds x s) (sym e) ∙ h))
+    step ih true e = subst (λ z. IsOneOf (z ∷ s) x) (eqb-true x y e) (one_first x s)
+    step ih false e = one_rest y s x (ih (ap (λ b. b || holds x s) (sym e) ∙ h))
 
 one_holds : (x : ℕ) (s : List ℕ) → IsOneOf s x → holds x s ≡ true
 one_holds x [] i = absurd (one_none x i)
 one_holds x (y ∷ s) i = ⊎_elim
-    (λ t. ap (λ b. b || holds x s) (eq-eqb x y t))
+    (λ t. ap (λ b. b || holds x s) (eq-eqb x y (sym t)))
     (λ j. ap (λ b. eqb x y || b) (one_holds x s j) ∙ or_true (eqb x y))
-    (one_cases y x s i)
+    (one_cases y s x i)
   where
     or_true : (b : Bool) → (b || true) ≡ true
     or_true true = refl
@@ -63,11 +48,11 @@ within_all : (s t : List ℕ) → within s t ≡ true → (x : ℕ) → IsOneOf 
 within_all [] t h x i = absurd (one_none x i)
 within_all (y ∷ s) t h x i =
     let p = and_parts (holds y t) (within s t) h in
-    ⊎_elim (λ e. subst (IsOneOf t) (sym e) (holds_one y t p.0)) (λ j. within_all s t p.1 x j) (one_cases y x s i)
+    ⊎_elim (λ e. subst (IsOneOf t) e (holds_one y t p.0)) (λ j. within_all s t p.1 x j) (one_cases y s x i)
 
 all_within : (s t : List ℕ) → ((x : ℕ) → IsOneOf s x → IsOneOf t x) → within s t ≡ true
 all_within [] t h = refl
-all_within (y ∷ s) t h = ap₂ (λ a b. a && b) (one_holds y t (h y (one_head y s))) (all_within s t (λ x i. h x (one_tail y x s i)))
+all_within (y ∷ s) t h = ap₂ (λ a b. a && b) (one_holds y t (h y (one_first y s))) (all_within s t (λ x i. h x (one_rest y s x i)))
 
 pub within_law : (s t : List ℕ) → (within s t ≡ true) ↔ ((x : ℕ) → IsOneOf s x → IsOneOf t x)
 within_law s t = (within_all s t, all_within s t)
@@ -94,40 +79,40 @@ then_is a b c e = ap (λ o. ordering_then o c) e
 order_same : (x y : ℕ) (s t : List ℕ) → x ≡ y → order (x ∷ s) (y ∷ t) ≡ order s t
 order_same x y s t e = then_is (nat_cmp x y) Equal (order s t) (ap (nat_cmp x) (sym e) ∙ cmp_same x)
 
-precedes_same : (x y : ℕ) (s t : List ℕ) → x ≡ y → AllByRecursion (λ z. x < z) s → Precedes s t → Precedes (x ∷ s) (y ∷ t)
-precedes_same x y s t e a p = record {
+before_same : (x y : ℕ) (s t : List ℕ) → x ≡ y → AllByRecursion (λ z. x < z) s → IsBefore s t → IsBefore (x ∷ s) (y ∷ t)
+before_same x y s t e a p = record {
   least = p.least;
-  in_first = one_tail x p.least s p.in_first;
-  not_in_second = λ i. ⊎_elim (λ h. lt_irrefl x (subst (λ z. x < z) (h ∙ sym e) (one_above x p.least s a p.in_first))) (λ j. p.not_in_second j) (one_cases y p.least t i);
+  in_first = one_rest x s p.least p.in_first;
+  not_in_second = λ i. ⊎_elim (λ h. lt_irrefl x (subst (λ z. x < z) (sym h ∙ sym e) (one_above x p.least s a p.in_first))) (λ j. p.not_in_second j) (one_cases y t p.least i);
   same_below = λ z l. (
-    (λ i. ⊎_elim (λ h. subst (λ w. IsOneOf (y ∷ t) w) (sym (h ∙ e)) (one_head y t)) (λ j. one_tail y z t ((p.same_below z l).0 j)) (one_cases x z s i)),
-    (λ i. ⊎_elim (λ h. subst (λ w. IsOneOf (x ∷ s) w) (sym (h ∙ sym e)) (one_head x s)) (λ j. one_tail x z s ((p.same_below z l).1 j)) (one_cases y z t i)),
+    (λ i. ⊎_elim (λ h. subst (λ w. IsOneOf (y ∷ t) w) (sym (sym h ∙ e)) (one_first y t)) (λ j. one_rest y t z ((p.same_below z l).0 j)) (one_cases x s z i)),
+    (λ i. ⊎_elim (λ h. subst (λ w. IsOneOf (x ∷ s) w) (sym (sym h ∙ sym e)) (one_first x s)) (λ j. one_rest x s z ((p.same_below z l).1 j)) (one_cases y t z i)),
   );
 }
 
-less_precedes : (s t : List ℕ) → IsAscending s → IsAscending t → order s t ≡ Less → Precedes s t
-less_precedes [] [] a b h = let wrong : ⊥ = cc in absurd wrong
-less_precedes [] (y ∷ t) a b h = let wrong : ⊥ = cc in absurd wrong
-less_precedes (x ∷ s) [] a b h = record {
+less_before : (s t : List ℕ) → IsAscending s → IsAscending t → order s t ≡ Less → IsBefore s t
+less_before [] [] a b h = let wrong : ⊥ = cc in absurd wrong
+less_before [] (y ∷ t) a b h = let wrong : ⊥ = cc in absurd wrong
+less_before (x ∷ s) [] a b h = record {
   least = x;
-  in_first = one_head x s;
+  in_first = one_first x s;
   not_in_second = one_none x;
   same_below = λ z l. ((λ i. absurd (one_not_below x z s a.0 l i)), (λ i. absurd (one_none z i)));
 }
-less_precedes (x ∷ s) (y ∷ t) a b h = ⊎_elim below (λ r. ⊎_elim (equal (λ g. less_precedes s t a.1 b.1 g)) above r) (three x y)
+less_before (x ∷ s) (y ∷ t) a b h = ⊎_elim below (λ r. ⊎_elim (equal (λ g. less_before s t a.1 b.1 g)) above r) (three x y)
   where
-    below : x < y → Precedes (x ∷ s) (y ∷ t)
+    below : x < y → IsBefore (x ∷ s) (y ∷ t)
     below l = record {
       least = x;
-      in_first = one_head x s;
+      in_first = one_first x s;
       not_in_second = one_not_below y x t b.0 l;
       same_below = λ z m. ((λ i. absurd (one_not_below x z s a.0 m i)), (λ i. absurd (one_not_below y z t b.0 (lt_trans m l) i)));
     }
 
-    equal : (order s t ≡ Less → Precedes s t) → x ≡ y → Precedes (x ∷ s) (y ∷ t)
-    equal rest e = precedes_same x y s t e a.0 (rest (sym (order_same x y s t e) ∙ h))
+    equal : (order s t ≡ Less → IsBefore s t) → x ≡ y → IsBefore (x ∷ s) (y ∷ t)
+    equal rest e = before_same x y s t e a.0 (rest (sym (order_same x y s t e) ∙ h))
 
-    above : y < x → Precedes (x ∷ s) (y ∷ t)
+    above : y < x → IsBefore (x ∷ s) (y ∷ t)
     above l = let g : order (x ∷ s) (y ∷ t) ≡ Greater = then_is (nat_cmp x y) Greater (order s t) (cmp_greater x y l) in let wrong : ⊥ = cc in absurd wrong
 
 pub order_equal : (s t : List ℕ) → order s t ≡ Equal → s ≡ t
@@ -145,7 +130,7 @@ order_equal (x ∷ s) (y ∷ t) h = ⊎_elim below (λ r. ⊎_elim (equal (λ g.
     above : y < x → x ∷ s ≡ y ∷ t
     above l = let g : order (x ∷ s) (y ∷ t) ≡ Greater = then_is (nat_cmp x y) Greater (order s t) (cmp_greater x y l) in let wrong : ⊥ = cc in absurd wrong
 
-one_way : (s t : List ℕ) → Precedes s t → Precedes t s → ⊥
+one_way : (s t : List ℕ) → IsBefore s t → IsBefore t s → ⊥
 one_way s t p q = ⊎_elim
     (λ l. p.not_in_second ((q.same_below p.least l).1 p.in_first))
     (λ r. ⊎_elim
@@ -154,16 +139,16 @@ one_way s t p q = ⊎_elim
     r)
     (three p.least q.least)
 
-precedes_less : (s t : List ℕ) → IsAscending s → IsAscending t → Precedes s t → order s t ≡ Less
-precedes_less s t a b p = step (order s t) refl
+before_less : (s t : List ℕ) → IsAscending s → IsAscending t → IsBefore s t → order s t ≡ Less
+before_less s t a b p = step (order s t) refl
   where
     step : (o : Ordering) → order s t ≡ o → order s t ≡ Less
     step Less e = e
     step Equal e = absurd (p.not_in_second (subst (λ u. IsOneOf u p.least) (order_equal s t e) p.in_first))
-    step Greater e = absurd (one_way s t p (less_precedes t s b a (order-flip s t ∙ ap flip e)))
+    step Greater e = absurd (one_way s t p (less_before t s b a (order-flip s t ∙ ap flip e)))
 
-pub order_law : (s t : List ℕ) → IsAscending s → IsAscending t → ((order s t ≡ Less) ↔ Precedes s t)
-order_law s t a b = (less_precedes s t a b, precedes_less s t a b)
+pub order_law : (s t : List ℕ) → Ascends s → Ascends t → ((order s t ≡ Less) ↔ IsBefore s t)
+order_law s t a b = (less_before s t (is_ascending s a) (is_ascending t b), before_less s t (is_ascending s a) (is_ascending t b))
 
 -- ---- the operations
 or_both : (a b c : Bool) → (a || (b || c)) ≡ ((a || b) || (a || c))
@@ -194,7 +179,7 @@ unfolding union
 has-union [] g s = refl
 has-union (u ∷ f) g s = has_place s u f (λ h. has-union f h s) g
 
-has-filter : (q : List ℕ → Bool) (s : List ℕ) (f : Family) → has (filter q f) s ≡ (has f s && q s)
+pub has-filter : (q : List ℕ → Bool) (s : List ℕ) (f : Family) → has (filter q f) s ≡ (has f s && q s)
 has-filter q s [] = refl
 has-filter q s (u ∷ f) = step (has-filter q s f) (same s u) refl (q u) refl
   where

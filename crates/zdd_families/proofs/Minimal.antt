@@ -1,8 +1,12 @@
 use Rattle.std.proofs.Common.{◌≡◌, ℕ, zero, suc, ◌<◌, Bool, true, false, not, cond, ◌&&◌, ◌||◌, eqb, List, [], ◌∷◌, length, map, refl, sym, ap, ap₂, ◌∙◌, subst, arith, lt_irrefl, lt_trans, ⊎_elim, ◌⊎◌, inl, inr, filter, eqb-true, true≢false}
 use Rattle.std.specs.List.{AllByRecursion, list_any}
+use Rattle.std.proofs.Math.Bool.{and-true}
 use Rattle.std.proofs.lemmas.Bool.{and_parts}
-use Rattle.zdd_families.specs.Families.{Family, same, holds, within, has, node, IsAbove, IsAscending, without, minimal}
-use Rattle.zdd_families.proofs.Laws.{IsAbove_set, filter-node, filter_alike, every, each_of, same-refl, same-true, list_any-append, list_any-alike, list_any-map, within-more, within-both, within-not, same-with, same-under, any_more, has-filter-yes, within-refl, list_any-none}
+use Rattle.std.proofs.lemmas.List.Folds.{list_any-append}
+use Rattle.ar_base.specs.Sets.{Ascends}
+use Rattle.zdd_families.specs.Families.{Family, same, holds, within, has, node, IsAbove, without, minimal}
+use Rattle.zdd_families.proofs.Ascending.{IsAscending, is_ascending}
+use Rattle.zdd_families.proofs.Laws.{IsAbove_set, filter-node, filter_alike, every, each_of, same-refl, same-true, list_any-alike, list_any-map, within-more, within-both, within-not, same-with, same-under, any_more, has-filter-yes, within-refl, list_any-none}
 
 -- ---- within
 within_parts : (x : ℕ) (s t : List ℕ) → within (x ∷ s) t ≡ true → (holds x t ≡ true) × (within s t ≡ true)
@@ -33,21 +37,24 @@ set_less v w [] h a = tt
 set_less v w (x ∷ s) h a = (lt_trans h a.0, set_less v w s h a.1)
 
 -- an ascending set within another is it, or shorter
-pub within-shorter : (s t : List ℕ) → IsAscending s → IsAscending t → within s t ≡ true → (s ≡ t) ⊎ (length s < length t)
-within-shorter [] [] a b h = inl refl
-within-shorter [] (y ∷ t) a b h = inr (omega arith)
-within-shorter (x ∷ s) [] a b h = absurd (true≢false (sym (within_parts x s [] h).0))
-within-shorter (x ∷ s) (y ∷ t) a b h =
+shorter : (s t : List ℕ) → IsAscending s → IsAscending t → within s t ≡ true → (s ≡ t) ⊎ (length s < length t)
+shorter [] [] a b h = inl refl
+shorter [] (y ∷ t) a b h = inr (omega arith)
+shorter (x ∷ s) [] a b h = absurd (true≢false (sym (within_parts x s [] h).0))
+shorter (x ∷ s) (y ∷ t) a b h =
     let p = within_parts x s (y ∷ t) h in
     let three : (x < y) ⊎ ((x ≡ y) ⊎ (y < x)) = grind arith in
     ⊎_elim (λ l. absurd (not_held_above x (y ∷ t) (l, set_less x y t l b.0) p.0))
     (λ r. ⊎_elim
     (λ e. let a2 : IsAbove_set y s = subst (λ z. IsAbove_set z s) e a.0 in
-    ⊎_elim (λ q. inl (ap₂ (λ (m : ℕ) (n : List ℕ). m ∷ n) e q)) (λ q. inr (omega arith)) (within-shorter s t a.1 b.1 (sym (within-more y s t a2) ∙ p.1)))
+    ⊎_elim (λ q. inl (ap₂ (λ (m : ℕ) (n : List ℕ). m ∷ n) e q)) (λ q. inr (omega arith)) (shorter s t a.1 b.1 (sym (within-more y s t a2) ∙ p.1)))
     (λ l. let a2 : IsAbove_set y (x ∷ s) = (l, set_less y x s l a.0) in
-    ⊎_elim (λ q. inr (omega (arith, ap length q))) (λ q. inr (omega arith)) (within-shorter (x ∷ s) t a b.1 (sym (within-more y (x ∷ s) t a2) ∙ h)))
+    ⊎_elim (λ q. inr (omega (arith, ap length q))) (λ q. inr (omega arith)) (shorter (x ∷ s) t a b.1 (sym (within-more y (x ∷ s) t a2) ∙ h)))
     r)
     three
+
+pub within-shorter : (s t : List ℕ) → Ascends s → Ascends t → within s t ≡ true → (s ≡ t) ⊎ (length s < length t)
+within-shorter s t a b h = shorter s t (is_ascending s a) (is_ascending t b) h
 
 -- ---- witnesses
 pub record Witness (p : List ℕ → Bool) (f : Family) : Type 0 where
@@ -101,7 +108,7 @@ abbrev pub proper : List ℕ → List ℕ → Bool
 proper t s = within t s && not (same t s)
 
 -- ---- each set contains a minimal one
-some_minimal : (f : Family) → AllByRecursion IsAscending f → (n : ℕ) (t : List ℕ) → length t < n → has f t ≡ true → Witness (λ m. within m t) (minimal f)
+some_minimal : (f : Family) → AllByRecursion Ascends f → (n : ℕ) (t : List ℕ) → length t < n → has f t ≡ true → Witness (λ m. within m t) (minimal f)
 unfolding minimal
 some_minimal f a zero t l h = absurd (omega (arith, l))
 some_minimal f a (suc n) t l h = step (some_minimal f a n) (list_any (λ u. proper u t) f) refl
@@ -116,13 +123,13 @@ some_minimal f a (suc n) t l h = step (some_minimal f a n) (list_any (λ u. prop
         (λ q. absurd (true≢false (sym p.1 ∙ ap not (ap (λ z. same w.set z) (sym q) ∙ same-refl w.set))))
         (λ q. let m = ih w.set (omega (arith, q, l)) w.in_family in
         record { set = m.set; in_family = m.in_family; passes = within-through m.set w.set t m.passes p.0 })
-        (within-shorter w.set t (member_of IsAscending f w.set a w.in_family) (member_of IsAscending f t a h) p.0)
+        (within-shorter w.set t (member_of Ascends f w.set a w.in_family) (member_of Ascends f t a h) p.0)
 
 any-minimal : (p : List ℕ → Bool) (f : Family) → list_any p (minimal f) ≡ true → list_any p f ≡ true
 unfolding minimal
 any-minimal p f h = any-filter p (λ s. not (list_any (λ t. proper t s) f)) f h
 
-pub any_within-minimal : (f : Family) → AllByRecursion IsAscending f → (s : List ℕ) → list_any (λ t. within t s) f ≡ list_any (λ t. within t s) (minimal f)
+pub any_within-minimal : (f : Family) → AllByRecursion Ascends f → (s : List ℕ) → list_any (λ t. within t s) f ≡ list_any (λ t. within t s) (minimal f)
 any_within-minimal f a s = bool_same _ _
     (λ h. let w = witness (λ t. within t s) f h in
     let m = some_minimal f a (suc (length w.set)) w.set (omega arith) w.in_family in
@@ -143,10 +150,6 @@ any_proper-under v f0 f1 s a =
     list_any-append (λ t. proper t s) (map (λ t. v ∷ t) f1) f0
     ∙ ap (λ x. x || list_any (λ t. proper t s) f0) (list_any-map v (λ t. proper t s) f1 ∙ list_any-none (λ t. proper (v ∷ t) s) f1 (every (λ t. proper (v ∷ t) s ≡ false) (λ t. ap (λ b. b && not (same (v ∷ t) s)) (within-not v t s a)) f1))
 
-and-true : (b : Bool) → (b && true) ≡ b
-and-true true = refl
-and-true false = refl
-
 any_proper-with : (v : ℕ) (f0 f1 : Family) (s : List ℕ) → IsAbove v f0 → IsAbove v f1 → list_any (λ t. proper t (v ∷ s)) (node v f0 f1) ≡ (list_any (λ t. proper t s) f1 || list_any (λ t. within t s) f0)
 any_proper-with v f0 f1 s a b =
     list_any-append (λ t. proper t (v ∷ s)) (map (λ t. v ∷ t) f1) f0
@@ -154,7 +157,7 @@ any_proper-with v f0 f1 s a b =
     (list_any-map v (λ t. proper t (v ∷ s)) f1 ∙ list_any-alike (λ t. proper (v ∷ t) (v ∷ s)) (λ t. proper t s) f1 (each_of (IsAbove_set v) (λ t. proper (v ∷ t) (v ∷ s) ≡ proper t s) (λ t k. ap₂ (λ x y. x && not y) (within-both v t s k) (same-with v t s)) f1 b))
     (list_any-alike (λ t. proper t (v ∷ s)) (λ t. within t s) f0 (each_of (IsAbove_set v) (λ t. proper t (v ∷ s) ≡ within t s) (λ t k. ap₂ (λ x y. x && not y) (within-more v t s k) (same-under v t s k) ∙ and-true (within t s)) f0 a))
 
-pub minimal-node : (v : ℕ) (f0 f1 : Family) → IsAbove v f0 → IsAbove v f1 → AllByRecursion IsAscending f0 → minimal (node v f0 f1) ≡ node v (minimal f0) (without (minimal f1) (minimal f0))
+pub minimal-node : (v : ℕ) (f0 f1 : Family) → IsAbove v f0 → IsAbove v f1 → AllByRecursion Ascends f0 → minimal (node v f0 f1) ≡ node v (minimal f0) (without (minimal f1) (minimal f0))
 unfolding minimal without
 minimal-node v f0 f1 a b c =
     let f = node v f0 f1 in

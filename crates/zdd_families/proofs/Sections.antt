@@ -2,8 +2,11 @@ use Rattle.std.proofs.Common.{◌≡◌, ◌≢◌, ℕ, suc, ◌<◌, ◌≤◌
 use Rattle.std.proofs.lemmas.Bool.{and_parts}
 use Rattle.std.specs.List.{AllByRecursion}
 use Rattle.std.proofs.lemmas.Bool.Decides.{nat_tests}
-use Rattle.zdd_families.specs.Families.{Family, IsAscending, same, holds, node, IsAbove, without}
-use Rattle.zdd_families.specs.Sections.{below, section, IsSetBelow, IsCounted, IsPart}
+use Rattle.ar_base.specs.Sets.{Ascends}
+use Rattle.std.proofs.lemmas.List.Elements.{All-weaker}
+use Rattle.zdd_families.specs.Families.{Family, same, holds, node, IsAbove, without}
+use Rattle.zdd_families.specs.Sections.{below, section, IsSetBelow, IsCounted, IsPart, IsMoreThan}
+use Rattle.zdd_families.proofs.Ascending.{ascends_nil, ascends_cons}
 use Rattle.zdd_families.proofs.Laws.{IsAbove_set, filter-node, filter_alike, filter-none, filter-all, every, each_of, same-with, same-above, same-under}
 
 abbrev pub AtLeast : ℕ → List ℕ → Type 0
@@ -104,14 +107,14 @@ deep v i p f h a u e n = ⊎_elim (low p e) high split
     split = grind arith
 
     low : (p : List ℕ) → h ≡ section i p f → i ≤ v → Deep v f h
-    low [] e l = record { at = suc v; taken = []; after = omega arith; above = tt; under = (tt, tt); is = e ∙ section-low i f (low_all i v f (omega arith) a) ∙ sym (section-low (suc v) f (low_all (suc v) v f (omega arith) a)) }
+    low [] e l = record { at = suc v; taken = []; after = omega arith; above = tt; under = (ascends_nil, tt); is = e ∙ section-low i f (low_all i v f (omega arith) a) ∙ sym (section-low (suc v) f (low_all (suc v) v f (omega arith) a)) }
     low (x ∷ p) e l = absurd (n (e ∙ section-low_none i x p f (low_all i v f (omega arith) a)))
 
     high : v < i → Deep v f h
     high l = ⊎_elim (λ z. absurd (n (e ∙ z))) (λ k. record { at = i; taken = p; after = l; above = k; under = u; is = e }) (section-above v i p f a)
 
 pub IsCounted-self : (f : Family) → f ≢ [] → f ≢ [] ∷ [] → IsCounted f f
-IsCounted-self f n u = record { at = 0; taken = []; taken_below = (tt, tt); is = sym (section-whole f); not_empty = n; not_unit = u }
+IsCounted-self f n u = record { at = 0; taken = []; taken_below = (ascends_nil, tt); is = sym (section-whole f); not_empty = n; not_unit = u }
 
 pub IsCounted-lower : (v : ℕ) (lo hi h : Family) → IsAbove v lo → IsCounted lo h → IsCounted (node v lo hi) h
 IsCounted-lower v lo hi h a c =
@@ -121,7 +124,7 @@ IsCounted-lower v lo hi h a c =
 pub IsCounted-upper : (v : ℕ) (lo hi h : Family) → IsAbove v lo → IsAbove v hi → IsCounted hi h → IsCounted (node v lo hi) h
 IsCounted-upper v lo hi h a b c =
     let d = deep v c.at c.taken hi h b c.taken_below c.is c.not_empty in
-    record { at = d.at; taken = v ∷ d.taken; taken_below = ((d.above, d.under.0), (d.after, d.under.1)); is = d.is ∙ sym (section-with v d.at d.taken lo hi d.after a); not_empty = c.not_empty; not_unit = c.not_unit }
+    record { at = d.at; taken = v ∷ d.taken; taken_below = (ascends_cons v d.taken d.above d.under.0, (d.after, d.under.1)); is = d.is ∙ sym (section-with v d.at d.taken lo hi d.after a); not_empty = c.not_empty; not_unit = c.not_unit }
 
 -- ---- Parts
 section-nil : (i : ℕ) (p : List ℕ) → section i p [] ≡ []
@@ -159,7 +162,7 @@ pub record DeepPart (v : ℕ) (f g h : Family) : Type 0 where
   pub above : IsAbove_set v taken
   pub fewer_above : IsAbove_set v fewer
   pub under : IsSetBelow at taken
-  pub fewer_ascends : IsAscending fewer
+  pub fewer_ascends : Ascends fewer
   pub among : AllByRecursion (λ x. holds x taken ≡ true) fewer
   pub counted : IsCounted (without (section at taken f) (section at fewer g)) h
 
@@ -173,7 +176,7 @@ deep_part v f g h a b c = ⊎_elim (λ l. low c.taken c.fewer c.among c.counted 
     low [] [] m k l =
         let ef = section-low c.at f (low_all c.at v f (omega arith) a) ∙ sym (section-low (suc v) f (low_all (suc v) v f (omega arith) a)) in
         let eg = section-low c.at g (low_all c.at v g (omega arith) b) ∙ sym (section-low (suc v) g (low_all (suc v) v g (omega arith) b)) in
-        record { at = suc v; taken = []; fewer = []; after = omega arith; above = tt; fewer_above = tt; fewer_ascends = tt; under = (tt, tt); among = tt; counted = subst (λ x. IsCounted x h) (ap₂ without ef eg) k }
+        record { at = suc v; taken = []; fewer = []; after = omega arith; above = tt; fewer_above = tt; fewer_ascends = ascends_nil; under = (ascends_nil, tt); among = tt; counted = subst (λ x. IsCounted x h) (ap₂ without ef eg) k }
     low [] (x ∷ q) m k l = absurd (none_among x q m)
     low (x ∷ p) q m k l = absurd (counted_nil _ h (ap (λ y. without y (section c.at q g)) (section-low_none c.at x p f (low_all c.at v f (omega arith) a)) ∙ without-nil (section c.at q g)) k)
 
@@ -209,7 +212,7 @@ module _ (v : ℕ) (f0 f1 g0 g1 h : Family) (af0 : IsAbove v f0) (af1 : IsAbove 
         taken = v ∷ d.taken;
         fewer = d.fewer;
         fewer_ascends = d.fewer_ascends;
-        taken_below = ((d.above, d.under.0), (d.after, d.under.1));
+        taken_below = (ascends_cons v d.taken d.above d.under.0, (d.after, d.under.1));
         among = still_among v d.taken d.fewer d.among;
         counted = subst (λ x. IsCounted x h) (ap₂ without (sym (section-with v d.at d.taken f0 f1 d.after af0)) (sym (section-without v d.at d.fewer g0 g1 d.after d.fewer_above))) d.counted;
       }
@@ -221,8 +224,8 @@ module _ (v : ℕ) (f0 f1 g0 g1 h : Family) (af0 : IsAbove v f0) (af1 : IsAbove 
         at = d.at;
         taken = v ∷ d.taken;
         fewer = v ∷ d.fewer;
-        fewer_ascends = (d.fewer_above, d.fewer_ascends);
-        taken_below = ((d.above, d.under.0), (d.after, d.under.1));
+        fewer_ascends = ascends_cons v d.fewer d.fewer_above d.fewer_ascends;
+        taken_below = (ascends_cons v d.taken d.above d.under.0, (d.after, d.under.1));
         among = (ap (λ b. b || holds v d.taken) (eq-eqb v v refl), still_among v d.taken d.fewer d.among);
         counted = subst (λ x. IsCounted x h) (ap₂ without (sym (section-with v d.at d.taken f0 f1 d.after af0)) (sym (section-with v d.at d.fewer g0 g1 d.after ag0))) d.counted;
       }
@@ -233,8 +236,12 @@ IsPart-whole f g h c = record {
   at = 0;
   taken = [];
   fewer = [];
-  fewer_ascends = tt;
-  taken_below = (tt, tt);
+  fewer_ascends = ascends_nil;
+  taken_below = (ascends_nil, tt);
   among = tt;
   counted = subst (λ x. IsCounted x h) (ap₂ without (sym (section-whole f)) (sym (section-whole g))) c;
 }
+
+-- ---- counts of families
+pub IsMoreThan-weaker : (n : ℕ) (P Q : Family → Type 0) → ((h : Family) → P h → Q h) → IsMoreThan n P → IsMoreThan n Q
+IsMoreThan-weaker n P Q weaker m = record { members = m.members; different = m.different; all = All-weaker P Q weaker m.members m.all; count = m.count }

@@ -1,6 +1,6 @@
 -- Families of sets of events, and what the operations make of them.
-use Rattle.std.specs.Prelude.{◌≡◌, ◌↔◌, ℕ, ◌<◌, Bool, true, false, not, ◌&&◌, eqb, List, [], ◌∷◌, ◌++◌, map}
-use Rattle.ar_base.specs.Lists.{IsOneOf}
+use Rattle.std.specs.Prelude.{◌≡◌, ℕ, ◌<◌, Bool, true, false, not, ◌&&◌, eqb, List, [], ◌∷◌, ◌++◌, map}
+use Rattle.ar_base.specs.Sets.{Ascends}
 use Rattle.std.specs.List.{filter, list_any, list_all, AllByRecursion}
 use Rattle.std.specs.Ordering.{nat_cmp, ordering_then}
 use Rattle.std.specs.declared.cmp.Ordering.{Ordering}
@@ -11,19 +11,12 @@ use Rattle.std.specs.declared.cmp.Ordering.TheVariants.{Less, Equal, Greater}
 abbrev pub Family : Type 0
 Family = List (List ℕ)
 
--- Less where the first of two ascending sets comes before the second, as `Precedes` says
+-- Less where the first of two ascending sets comes before the second, as `IsBefore` says
 abbrev pub order : List ℕ → List ℕ → Ordering
 order [] [] = Equal
 order [] (y ∷ t) = Greater
 order (x ∷ s) [] = Less
 order (x ∷ s) (y ∷ t) = ordering_then (nat_cmp x y) (order s t)
-
--- the least number that is in just one of the two sets is in the first
-pub record Precedes (s t : List ℕ) : Type 0 where
-  pub least : ℕ
-  pub in_first : IsOneOf s least
-  pub not_in_second : IsOneOf t least → ⊥
-  pub same_below : (e : ℕ) → e < least → (IsOneOf s e ↔ IsOneOf t e)
 
 -- whether the two lists are one
 abbrev pub same : List ℕ → List ℕ → Bool
@@ -52,11 +45,6 @@ node v lo hi = map (λ s. v ∷ s) hi ++ lo
 abbrev pub IsAbove : ℕ → Family → Type 0
 IsAbove v f = AllByRecursion (λ s. AllByRecursion (λ x. v < x) s) f
 
--- the members ascend
-abbrev pub IsAscending : List ℕ → Type 0
-IsAscending [] = Unit {0}
-IsAscending (x ∷ s) = AllByRecursion (λ y. x < y) s × IsAscending s
-
 -- each set comes before those that stand after it
 abbrev pub IsInOrder : Family → Type 0
 IsInOrder [] = Unit {0}
@@ -64,7 +52,7 @@ IsInOrder (s ∷ f) = AllByRecursion (λ t. order s t ≡ Less) f × IsInOrder f
 
 -- a family as it is kept: each set ascending, the sets in order and so without repeats
 pub record IsFamily (f : Family) : Type 0 where
-  pub ascending : AllByRecursion IsAscending f
+  pub ascending : AllByRecursion Ascends f
   pub in_order : IsInOrder f
 
 -- the sets that are in both

@@ -1,3 +1,4 @@
 pub mod Families
 pub mod Sections
+pub mod OneList
 pub mod Worked

@@ -2,7 +2,8 @@
 use Rattle.std.specs.Prelude.{◌≡◌, ◌≢◌, ℕ, ◌+◌, ◌<◌, ◌≤◌, true, not, eqb, List, [], ◌∷◌, length, map, drop, nat_lt}
 use Rattle.std.specs.List.{filter, list_any, AllByRecursion, All}
 use Rattle.ar_base.specs.Lists.{AreDifferent}
-use Rattle.zdd_families.specs.Families.{Family, IsAscending, same, holds, without, minimal}
+use Rattle.ar_base.specs.Sets.{Ascends}
+use Rattle.zdd_families.specs.Families.{Family, same, holds, without, minimal}
 
 -- the members below i
 abbrev pub below : ℕ → List ℕ → List ℕ
@@ -10,7 +11,7 @@ below i s = filter (λ x. nat_lt x i) s
 
 -- p is a set of events below i
 abbrev pub IsSetBelow : ℕ → List ℕ → Type 0
-IsSetBelow i p = IsAscending p × AllByRecursion (λ x. x < i) p
+IsSetBelow i p = Ascends p × AllByRecursion (λ x. x < i) p
 
 -- one set for each set of f whose members below i are exactly p: that set with the members of p taken off
 unfoldable pub section : ℕ → List ℕ → Family → Family
@@ -36,7 +37,7 @@ pub record IsPart (f g h : Family) : Type 0 where
   pub taken : List ℕ
   pub fewer : List ℕ
   pub taken_below : IsSetBelow at taken
-  pub fewer_ascends : IsAscending fewer
+  pub fewer_ascends : Ascends fewer
   pub among : AllByRecursion (λ x. holds x taken ≡ true) fewer
   pub counted : IsCounted (without (section at taken f) (section at fewer g)) h
 

@@ -7,8 +7,10 @@ ghost use Rattle.std.specs.Prelude.{◌≡◌, ◌↔◌, ◌||◌, ◌&&◌, tr
 ghost use Rattle.std.specs.List.{list_any};
 ghost use Rattle.std.specs.declared.cmp.Ordering.TheVariants.{Less, Equal};
 ghost use Rattle.ar_base.specs.Lists.{IsOneOf};
-ghost use Rattle.zdd_families.specs.Families.{Family, Precedes, IsAscending, order, same, within, has, holds, node, union, meet, minus, having, minimal, without};
+ghost use Rattle.ar_base.specs.Sets.{Ascends, IsBefore};
+ghost use Rattle.zdd_families.specs.Families.{Family, order, same, within, has, holds, node, union, meet, minus, having, minimal, without};
 ghost use Rattle.zdd_families.specs.Sections.{section};
+ghost use Rattle.zdd_families.specs.OneList.{OneListEach};
 ghost use Rattle.zdd_families.specs.Worked.{three, one};
 
 /// A worked row: of the families {0}, {0, 1}, {1, 2} and {0} the operations make what they should.
@@ -28,7 +30,7 @@ pub fn worked_families()
 /// a set holds its members and no other number.
 /// One set lies within another where each of its members is one of the other's.
 pub fn order_of_sets()
-    ensures order { (s t : List ℕ) → IsAscending s → IsAscending t → ((order s t ≡ Less) ↔ Precedes s t) }
+    ensures order { (s t : List ℕ) → Ascends s → Ascends t → ((order s t ≡ Less) ↔ IsBefore s t) }
     ensures equal { (s t : List ℕ) → order s t ≡ Equal → s ≡ t }
     ensures holds { (x : ℕ) (s : List ℕ) → ((holds x s ≡ true) ↔ IsOneOf s x) }
     ensures within { (s t : List ℕ) → ((within s t ≡ true) ↔ ((x : ℕ) → IsOneOf s x → IsOneOf t x)) }
@@ -43,4 +45,9 @@ pub fn sets_of_operations()
     ensures having { (f : Family) (e : ℕ) (s : List ℕ) → has (having f e) s ≡ (has f s && holds e s) }
     ensures without { (f g : Family) (s : List ℕ) → has (without f g) s ≡ (has f s && not (list_any (λ t. within t s) g)) }
     ensures minimal { (f : Family) (s : List ℕ) → has (minimal f) s ≡ (has f s && not (list_any (λ t. within t s && not (same t s)) f)) }
+{}
+
+/// Two families with the same sets are the same list.
+pub fn one_list_each()
+    ensures { OneListEach }
 {}

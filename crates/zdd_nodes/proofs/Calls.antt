@@ -1,9 +1,11 @@
 -- What callers of a store see.
 use Rattle.std.proofs.Common.{◌≡◌, ◌≢◌, ℕ, suc, ◌+◌, ◌-◌, ◌<◌, ◌≤◌, Bool, cond, false, true, ◌&&◌, eqb, ap₂, List, [], ◌∷◌, ◌++◌, length, get_or, Some, None, Result, Ok, Err, refl, sym, ap, ◌∙◌, subst, arith, length-append, take, is_ok, is_err, OnOk}
 use Rattle.std.specs.Map.{lookup}
+use Rattle.std.proofs.Math.Bool.{and-true}
 use Rattle.std.proofs.Math.Seq.{take-append_seam}
 use Rattle.std.proofs.lemmas.Option.{slice_get-get_or, slice_get_within}
 use Rattle.std.proofs.lemmas.List.Elements.{All-nil, All-push, All-from_get_or}
+use Rattle.ar_base.proofs.Standing.{stands_some}
 use Rattle.zdd_families.specs.Families.{Family, node}
 use Rattle.zdd_families.specs.Sections.{IsMade}
 use Rattle.zdd_nodes.specs.Nodes.{NodeId, Stored, at, family, IsNumber, IsNode, IsSoundStore, IsFullFor, Draws, HasNoRoom, Makes}
@@ -26,6 +28,12 @@ pub sound_seen : (nodes : List Node) (index : List (Node × NodeId)) (limit : �
 sound_seen nodes index limit v e s = subst IsSoundStore e (record {
   different = s.different;
   families = λ n h. s.families n (omega (arith, h, length-families nodes));
+  nodes = λ n two h.
+      let long = length-families nodes in
+      let kk : n - 2 + 2 ≡ n = omega (arith, two) in
+      let found = stands_some nodes (n - 2) (omega (arith, two, h, long)) in
+      let m = found.0 in
+      record { event = m.event.n; lo = m.lo.n; hi = m.hi.n; halves = subst (λ x. IsNode (families_of nodes) x m.event.n m.lo.n m.hi.n) kk (s.each (n - 2) m found.1) };
   within = omega (arith, length-families nodes, s.within_limit);
 })
 
@@ -145,12 +153,8 @@ module _ (nodes nodes2 : List Node) (index index2 : List (Node × NodeId)) (limi
 abbrev pub derived_eq : Node → Node → Bool
 derived_eq a b = (eqb a.event.n b.event.n && true) && ((eqb a.lo.n b.lo.n && true) && (eqb a.hi.n b.hi.n && true))
 
-and_true : (b : Bool) → (b && true) ≡ b
-and_true true = refl
-and_true false = refl
-
 same_nodes : (a b : Node) → derived_eq a b ≡ node_eq a b
-same_nodes a b = ap₂ (λ x y. x && y) (and_true (eqb a.event.n b.event.n)) (ap₂ (λ x y. x && y) (and_true (eqb a.lo.n b.lo.n)) (and_true (eqb a.hi.n b.hi.n)))
+same_nodes a b = ap₂ (λ x y. x && y) (and-true (eqb a.event.n b.event.n)) (ap₂ (λ x y. x && y) (and-true (eqb a.lo.n b.lo.n)) (and-true (eqb a.hi.n b.hi.n)))
 
 lookup_alike : (p q : Node → Bool) → ((k : Node) → p k ≡ q k) → (es : List (Node × NodeId)) → lookup p es ≡ lookup q es
 lookup_alike p q h [] = refl

@@ -33,7 +33,7 @@ longer P s t a = omega (arith, ap length a.families, length-append s.families a.
 pub still : (P : Family → Type 0) (s t : Stored) (n : ℕ) → Grows P s t → IsNumber s n → IsNumber t n
 still P s t n a h = omega (arith, h, longer P s t a)
 
-full_weaker : (P Q : Family → Type 0) (s : Stored) → ((h : Family) → P h → Q h) → IsFullFor P s → IsFullFor Q s
+pub full_weaker : (P Q : Family → Type 0) (s : Stored) → ((h : Family) → P h → Q h) → IsFullFor P s → IsFullFor Q s
 full_weaker P Q s w f = record { family = f.family; allowed = w f.family f.allowed; missing = f.missing; different = f.different; full = f.full }
 
 pub Draws-stays : (P : Family → Type 0) (made : Family) (v : Stored) (n : NodeId) → IsNumber v n.n → family v n.n ≡ made → Draws P made v v (Ok n)

@@ -6,3 +6,4 @@ pub mod Halved
 pub mod Limits
 pub mod Stored
 pub mod Calls
+pub mod Sectioned

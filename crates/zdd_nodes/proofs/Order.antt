@@ -1,14 +1,10 @@
 -- A node's family is kept in order.
-use Rattle.std.proofs.Common.{◌≡◌, ℕ, ◌<◌, false, cond, eqb, List, [], ◌∷◌, map, refl, ap, ap₂, ◌∙◌, arith, eq-eqb, nat_lt, lt-ltb, Less, Equal, Greater}
+use Rattle.std.proofs.Common.{◌≡◌, ℕ, ◌<◌, cond, eqb, List, [], ◌∷◌, map, refl, ap, ◌∙◌, lt-ltb, Less, Equal, Greater}
 use Rattle.std.specs.List.{AllByRecursion}
 use Rattle.std.specs.Ordering.{ordering_then}
-use Rattle.std.proofs.lemmas.Bool.Decides.{nat_tests}
 use Rattle.zdd_families.specs.Families.{Family, node, IsAbove, IsFamily, order}
-use Rattle.zdd_families.proofs.Laws.{each-append}
-
-order_with : (v : ℕ) (s t : List ℕ) → order (v ∷ s) (v ∷ t) ≡ order s t
-order_with v s t = let h : nat_lt v v ≡ false = grind (arith, nat_tests) in
-    ap₂ (λ b c. ordering_then (cond b Less (cond c Equal Greater)) (order s t)) h (eq-eqb v v refl)
+use Rattle.zdd_families.proofs.Ascending.{ascends_nil, ascends_cons}
+use Rattle.zdd_families.proofs.Laws.{each-append, order-with}
 
 order_above : (v : ℕ) (s t : List ℕ) → AllByRecursion (λ x. v < x) t → order (v ∷ s) t ≡ Less
 order_above v s [] a = refl
@@ -16,7 +12,7 @@ order_above v s (x ∷ t) a = ap (λ b. ordering_then (cond b Less (cond (eqb v 
 
 all_with : (v : ℕ) (s : List ℕ) (hi : Family) → AllByRecursion (λ t. order s t ≡ Less) hi → AllByRecursion (λ t. order (v ∷ s) t ≡ Less) (map (λ t. v ∷ t) hi)
 all_with v s [] a = tt
-all_with v s (t ∷ hi) a = (order_with v s t ∙ a.0, all_with v s hi a.1)
+all_with v s (t ∷ hi) a = (order-with v s t ∙ a.0, all_with v s hi a.1)
 
 all_after : (v : ℕ) (s : List ℕ) (lo : Family) → IsAbove v lo → AllByRecursion (λ t. order (v ∷ s) t ≡ Less) lo
 all_after v s [] a = tt
@@ -27,7 +23,7 @@ IsFamily-node v lo [] a b l h = l
 IsFamily-node v lo (s ∷ hi) a b l h =
     let r = IsFamily-node v lo hi a b.1 l (record { ascending = h.ascending.1; in_order = h.in_order.1 }) in
     record {
-      ascending = ((b.0, h.ascending.0), r.ascending);
+      ascending = (ascends_cons v s b.0 h.ascending.0, r.ascending);
       in_order = (each-append (λ t. order (v ∷ s) t ≡ Less) (map (λ t. v ∷ t) hi) lo (all_with v s hi h.in_order.0) (all_after v s lo a), r.in_order);
     }
 
@@ -35,4 +31,4 @@ pub IsFamily-nil : IsFamily []
 IsFamily-nil = record { ascending = tt; in_order = tt }
 
 pub IsFamily-unit : IsFamily ([] ∷ [])
-IsFamily-unit = record { ascending = (tt, tt); in_order = (tt, tt) }
+IsFamily-unit = record { ascending = (ascends_nil, tt); in_order = (tt, tt) }

@@ -59,7 +59,8 @@ IsStore-new limit h = record {
   limit_small = h;
 }
 
-id_from : {K : Type 0} (a b : Id K) → a.n ≡ b.n → a ≡ b
+-- equal numbers of one kind
+pub id_from : {K : Type 0} (a b : Id K) → a.n ≡ b.n → a ≡ b
 id_from a b e = ap (λ n. record { n = n; of = a.of }) e
 
 node_from : (a b : Node) → a.event ≡ b.event → a.lo ≡ b.lo → a.hi ≡ b.hi → a ≡ b

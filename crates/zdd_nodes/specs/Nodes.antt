@@ -43,10 +43,19 @@ pub record IsNode (fs : List Family) (n event lo hi : ℕ) : Type 0 where
   pub hi_above : IsAbove event (at fs hi)
   pub is : at fs n ≡ node event (at fs lo) (at fs hi)
 
--- what every store keeps: no two numbers stand for one family, each is kept in order, and there are at most limit nodes
+-- the number is that of a node, whose halves have earlier numbers
+pub record HasHalves (fs : List Family) (n : ℕ) : Type 0 where
+  pub event : ℕ
+  pub lo : ℕ
+  pub hi : ℕ
+  pub halves : IsNode fs n event lo hi
+
+-- what every store keeps: no two numbers stand for one family, each is kept in order, each from 2 on is that of a node whose
+-- halves are stored, and there are at most limit nodes
 pub record IsSoundStore (s : Stored) : Type 0 where
   pub different : AreDifferent (all_of s.families)
   pub families : (n : ℕ) → IsNumber s n → IsFamily (family s n)
+  pub nodes : (n : ℕ) → 2 ≤ n → IsNumber s n → HasHalves s.families n
   pub within : length s.families ≤ s.limit
 
 -- nothing has changed but that the nodes of these families came last, and of each of them P holds

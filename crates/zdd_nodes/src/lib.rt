@@ -9,6 +9,7 @@ ghost use Rattle.std.specs.Prelude.{◌≡◌, ◌+◌, ◌<◌, ◌≤◌, ◌�
 ghost use Rattle.zdd_families.specs.Families.{node, IsAbove};
 ghost use Rattle.zdd_families.specs.Sections.{IsMade};
 ghost use Rattle.zdd_nodes.specs.Nodes.{family, IsNumber, IsNode, IsSoundStore, Draws, HasNoRoom, Makes};
+ghost use Rattle.zdd_nodes.specs.Room.{SectionsAreStored, EachTakesANode};
 
 use ar_base::{EventId, Id};
 use std::alloc::Global;
@@ -65,6 +66,7 @@ impl Store {
         requires { limit ≤ 16777216 }
         ensures limit { result.limit ≡ limit }
         ensures families { result.families ≡ [] }
+        ensures sound { IsSoundStore result }
     {
         Store {
             nodes: Vec::new(alloc),
@@ -135,26 +137,12 @@ impl Store {
     }
 }
 
-#[cfg(test)]
-mod tests {
-    use super::*;
-    use std::test::Fail;
+/// Each counted section of a stored family is stored.
+pub fn stored_sections()
+    ensures { SectionsAreStored }
+{}
 
-    #[test]
-    fn holds_no_more_than_its_limit(rt: HostRuntime) -> Result<(), Fail> {
-        let none = NodeId::new(0);
-        let unit = NodeId::new(1);
-        let mut store = Store::new(rt.alloc(), 1);
-        let first = EventId::new(0);
-        assert_eq!(rt; store.node(first, none, unit), Ok(NodeId::new(2)));
-        assert_eq!(rt; store.node(first, none, unit), Ok(NodeId::new(2)));
-        assert_eq!(rt;
-            store.node(EventId::new(1), none, unit),
-            Err(NodeFault::Full)
-        );
-        assert_eq!(rt; store.node(EventId::new(1), unit, none), Ok(unit));
-        assert_eq!(rt; store.len(), 1);
-        assert_eq!(rt; store.split(unit), None);
-        Ok(())
-    }
-}
+/// Different families take different nodes.
+pub fn room_for_families()
+    ensures { EachTakesANode }
+{}

@@ -1,11 +1,12 @@
 -- The results that are held stay right.
 use Rattle.std.proofs.Common.{◌≡◌, ℕ, ◌+◌, ◌<◌, Bool, true, false, cond, ◌&&◌, eqb, List, [], ◌∷◌, length, Some, Result, Ok, Err, OnOk, OnErr, refl, sym, ap, ap₂, ◌∙◌, subst, ⊎_elim, ◌⊎◌, inl, inr, eqb-true}
+use Rattle.std.proofs.Math.Bool.{and-true}
 use Rattle.std.proofs.lemmas.Bool.{and_parts}
 use Rattle.std.specs.Map.{lookup}
-use Rattle.ar_base.specs.declared.numbers.Id.{Id}
 use Rattle.zdd_families.specs.Families.{Family, having, without, minimal}
 use Rattle.zdd_nodes.specs.Nodes.{NodeId, Stored, at, Grows}
 use Rattle.zdd_nodes.proofs.Growing.{kept, still}
+use Rattle.zdd_nodes.proofs.Stored.{id_from}
 use Rattle.zdd_ops.specs.declared.memo.Join.{Join}
 use Rattle.zdd_ops.specs.declared.memo.Join.TheVariants.{Union, Meet, Minus}
 use Rattle.zdd_ops.specs.declared.memo.Operation.{Operation}
@@ -43,9 +44,6 @@ join_same Meet Minus e = let wrong : ⊥ = cc in absurd wrong
 join_same Minus Union e = let wrong : ⊥ = cc in absurd wrong
 join_same Minus Meet e = let wrong : ⊥ = cc in absurd wrong
 join_same Minus Minus e = refl
-
-id_from : {K : Type 0} (a b : Id K) → a.n ≡ b.n → a ≡ b
-id_from a b e = ap (λ n. record { n = n; of = a.of }) e
 
 operation_same : (k q : Operation) → operation_eq k q ≡ true → k ≡ q
 operation_same (Joined j f g) (Joined k h i) e =
@@ -101,10 +99,6 @@ remember_from k n old mid new e r = record { each = λ q m h. ⊎_elim (λ l. in
     back q m l = ⊎_elim (λ x. ap (lookup (operation_eq q)) (sym x) ∙ l) (λ x. let y : lookup (operation_eq q) [] ≡ Some m = ap (lookup (operation_eq q)) (sym x) ∙ l in cc) e
 
 -- ---- the derived `==` of operations
-and_true : (b : Bool) → (b && true) ≡ b
-and_true true = refl
-and_true false = refl
-
 same_joins : (a b : Join) → sameb the_type a b ≡ join_eq a b
 same_joins Union Union = refl
 same_joins Union Meet = refl
@@ -117,13 +111,13 @@ same_joins Minus Meet = refl
 same_joins Minus Minus = refl
 
 both : (a b : Bool) → ((a && true) && (b && true)) ≡ (a && b)
-both a b = ap₂ (λ x y. x && y) (and_true a) (and_true b)
+both a b = ap₂ (λ x y. x && y) (and-true a) (and-true b)
 
 same_operations : (a b : Operation) → (derived.eq-value).it a b ≡ operation_eq a b
 same_operations (Joined j f g) (Joined k h i) = ap₂ (λ x y. x && y) (same_joins j k) (both (eqb f.n h.n) (eqb g.n i.n))
 same_operations (Without f g) (Without h i) = both (eqb f.n h.n) (eqb g.n i.n)
 same_operations (Having f d) (Having h e) = both (eqb f.n h.n) (eqb d.n e.n)
-same_operations (Minimal f) (Minimal h) = and_true (eqb f.n h.n)
+same_operations (Minimal f) (Minimal h) = and-true (eqb f.n h.n)
 same_operations (Joined j f g) (Without h i) = refl
 same_operations (Joined j f g) (Having h i) = refl
 same_operations (Joined j f g) (Minimal h) = refl

@@ -4,3 +4,4 @@ mod Held
 mod Withouts
 mod Havings
 mod Minimals
+mod Passing

@@ -1,7 +1,8 @@
 -- The minimal sets, by halves.
 use Rattle.std.proofs.Common.{◌≡◌, ℕ, zero, suc, ◌<◌, List, Result, Ok, sym, ap, ◌∙◌, subst, arith, lt_trans}
 use Rattle.std.specs.List.{AllByRecursion}
-use Rattle.zdd_families.specs.Families.{Family, node, IsAscending, minimal, without}
+use Rattle.ar_base.specs.Sets.{Ascends}
+use Rattle.zdd_families.specs.Families.{Family, node, minimal, without}
 use Rattle.zdd_families.specs.Sections.{IsCounted, IsPart, IsHalf}
 use Rattle.zdd_families.proofs.Laws.{minimal-nil, minimal-unit, IsAbove-minimal, IsAbove-without}
 use Rattle.zdd_families.proofs.Minimal.{minimal-node}
@@ -16,7 +17,7 @@ minimal_small fs zero h = sym minimal-nil
 minimal_small fs (suc zero) h = sym minimal-unit
 minimal_small fs (suc (suc f)) h = absurd (omega (arith, h))
 
-module _ (s0 : Stored) (f v lo hi : ℕ) (i : IsNode s0.families f v lo hi) (f_in : IsNumber s0 f) (ascending : AllByRecursion IsAscending (family s0 lo)) where
+module _ (s0 : Stored) (f v lo hi : ℕ) (i : IsNode s0.families f v lo hi) (f_in : IsNumber s0 f) (ascending : AllByRecursion Ascends (family s0 lo)) where
   abbrev fam : ℕ → Family
   fam n = family s0 n
 

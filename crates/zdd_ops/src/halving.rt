@@ -3,10 +3,10 @@
 ghost use Rattle.std.specs.Prelude.{◌≤◌, ◌⊎◌, MatchOption};
 ghost use Rattle.zdd_families.specs.Families.{having, without, minimal};
 ghost use Rattle.zdd_families.specs.Sections.{IsCounted, IsPart, IsHalf};
-ghost use Rattle.zdd_nodes.specs.Nodes.{family, IsNumber, Draws};
+ghost use Rattle.zdd_nodes.specs.Nodes.{family, IsNumber, IsSoundStore, Draws};
 ghost use Rattle.zdd_ops.specs.Operations.{join_of, IsSound, IsKnown};
 
-use crate::cut::cut_at;
+use crate::cut::{cut_at, pass, pass_for};
 use crate::memo::{Join, Memo, Operation};
 use ar_base::EventId;
 use zdd_nodes::{NodeFault, NodeId, Store};
@@ -60,7 +60,7 @@ fn known_without(f: NodeId, g: NodeId) -> Option<NodeId>
     None
 }
 
-/// The join of two families.
+/// The join of two families, by the halves of what is left of them.
 pub fn join_in(
     store: &mut Store,
     memo: &mut Memo,
@@ -71,18 +71,21 @@ pub fn join_in(
     requires f_in { IsNumber store.old f.n }
     requires g_in { IsNumber store.old g.n }
     requires sound { IsSound memo.old store.old.families }
+    requires store { IsSoundStore store.old }
     ensures sound { IsSound memo.new store.new.families }
+    ensures store { IsSoundStore store.new }
     ensures drawn { let made = join_of join (family store.old f.n) (family store.old g.n) in
         Draws (IsCounted made) made store.old store.new result }
 {
-    if let Some(number) = known_join(join, f, g) {
+    let left = pass_for(store, join, f, g);
+    if let Some(number) = known_join(join, left.f, left.g) {
         return Ok(number);
     }
-    let operation = Operation::Joined(join, f, g);
+    let operation = Operation::Joined(join, left.f, left.g);
     if let Some(number) = memo.recall(operation) {
         return Ok(number);
     }
-    let cut = cut_at(store, f, g);
+    let cut = cut_at(store, left.f, left.g);
     let lo = join_in(store, memo, join, cut.f0, cut.g0)?;
     let hi = join_in(store, memo, join, cut.f1, cut.g1)?;
     let made = store.node(cut.event, lo, hi)?;
@@ -101,17 +104,20 @@ pub fn without_in(
     requires f_in { IsNumber store.old f.n }
     requires g_in { IsNumber store.old g.n }
     requires sound { IsSound memo.old store.old.families }
+    requires store { IsSoundStore store.old }
     ensures sound { IsSound memo.new store.new.families }
+    ensures store { IsSoundStore store.new }
     ensures drawn { Draws (IsPart (family store.old f.n) (family store.old g.n)) (without (family store.old f.n) (family store.old g.n)) store.old store.new result }
 {
-    if let Some(number) = known_without(f, g) {
+    let left = pass(store, f, g);
+    if let Some(number) = known_without(f, left) {
         return Ok(number);
     }
-    let operation = Operation::Without(f, g);
+    let operation = Operation::Without(f, left);
     if let Some(number) = memo.recall(operation) {
         return Ok(number);
     }
-    let cut = cut_at(store, f, g);
+    let cut = cut_at(store, f, left);
     let lo = without_in(store, memo, cut.f0, cut.g0)?;
     let first = without_in(store, memo, cut.f1, cut.g0)?;
     let second = without_in(store, memo, cut.f1, cut.g1)?;
@@ -130,7 +136,9 @@ pub fn having_in(
 ) -> Result<NodeId, NodeFault>
     requires f_in { IsNumber store.old f.n }
     requires sound { IsSound memo.old store.old.families }
+    requires store { IsSoundStore store.old }
     ensures sound { IsSound memo.new store.new.families }
+    ensures store { IsSoundStore store.new }
     ensures drawn { let made = having (family store.old f.n) event.n in
         Draws (IsCounted made) made store.old store.new result }
 {
@@ -159,7 +167,9 @@ pub fn having_in(
 pub fn minimal_in(store: &mut Store, memo: &mut Memo, f: NodeId) -> Result<NodeId, NodeFault>
     requires f_in { IsNumber store.old f.n }
     requires sound { IsSound memo.old store.old.families }
+    requires store { IsSoundStore store.old }
     ensures sound { IsSound memo.new store.new.families }
+    ensures store { IsSoundStore store.new }
     ensures drawn { Draws (IsHalf (family store.old f.n)) (minimal (family store.old f.n)) store.old store.new result }
 {
     let Some((event, f0, f1)) = store.split(f) else {

@@ -10,6 +10,3 @@ mod memo;
 mod ops;
 
 pub use ops::Ops;
-
-#[cfg(test)]
-mod tests;

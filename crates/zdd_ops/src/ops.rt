@@ -3,7 +3,7 @@
 ghost use Rattle.std.specs.Prelude.{◌≡◌, ◌≤◌, ◌↔◌, ◌⊎◌, [], IfOk, OnErr};
 ghost use Rattle.zdd_families.specs.Families.{node, IsAbove, union, meet, minus, having, minimal, without};
 ghost use Rattle.zdd_families.specs.Sections.{IsMade, IsCounted, IsPart, IsHalf, IsMoreThan};
-ghost use Rattle.zdd_nodes.specs.Nodes.{family, IsNumber, IsStored, Draws, HasNoRoom, Makes};
+ghost use Rattle.zdd_nodes.specs.Nodes.{family, IsNumber, IsStored, IsSoundStore, Draws, HasNoRoom, Makes};
 
 use crate::halving::{having_in, join_in, minimal_in, without_in};
 use crate::memo::{Join, Memo};
@@ -13,7 +13,7 @@ use std::marker::Model;
 use zdd_nodes::{NodeFault, NodeId, Store};
 
 /// A store with operations on its families, seen as the store. Every call only adds nodes, so that a number keeps its
-/// family, also after a refusal.
+/// family, also after a refusal. The store is always a sound one: each call says so.
 #[derive(Drop)]
 pub struct Ops {
     store: Store,
@@ -21,14 +21,14 @@ pub struct Ops {
 }
 
 impl Model for Ops {
-    ghost use Rattle.zdd_nodes.specs.Nodes.{Stored};
+    ghost use Rattle.zdd_nodes.specs.Nodes.{Stored, IsSoundStore};
     ghost use Rattle.zdd_ops.specs.Operations.{IsSound};
 
     ghost Value = { Stored };
 
     ghost view = { λ o. o.store };
 
-    ghost invariant = { λ o. IsSound o.memo o.store.families };
+    ghost invariant = { λ o. IsSound o.memo o.store.families × IsSoundStore o.store };
 }
 
 impl Ops {
@@ -37,6 +37,7 @@ impl Ops {
         requires { limit ≤ 16777216 }
         ensures limit { result.limit ≡ limit }
         ensures families { result.families ≡ [] }
+        ensures sound { IsSoundStore result }
     {
         Ops {
             store: Store::new(alloc, limit),
@@ -57,6 +58,7 @@ impl Ops {
         ensures lo { hi.n ≡ 0 → result ≡ Ok lo }
         ensures drawn { let made = node event.n (family self.old lo.n) (family self.old hi.n) in
             Draws (IsMade made) made self.old self.new result }
+        ensures sound { IsSoundStore self.new }
     {
         self.store.node(event, lo, hi)
     }
@@ -70,6 +72,7 @@ impl Ops {
             Draws (IsCounted made) made self.old self.new result }
         ensures full { result ≡ Err NodeFault.Full → IsMoreThan self.old.limit
             (λ h. IsStored h self.old ⊎ IsCounted (union (family self.old f.n) (family self.old g.n)) h) }
+        ensures sound { IsSoundStore self.new }
     {
         join_in(&mut self.store, &mut self.memo, Join::Union, f, g)
     }
@@ -83,6 +86,7 @@ impl Ops {
             Draws (IsCounted made) made self.old self.new result }
         ensures full { result ≡ Err NodeFault.Full → IsMoreThan self.old.limit
             (λ h. IsStored h self.old ⊎ IsCounted (meet (family self.old f.n) (family self.old g.n)) h) }
+        ensures sound { IsSoundStore self.new }
     {
         join_in(&mut self.store, &mut self.memo, Join::Meet, f, g)
     }
@@ -96,6 +100,7 @@ impl Ops {
             Draws (IsCounted made) made self.old self.new result }
         ensures full { result ≡ Err NodeFault.Full → IsMoreThan self.old.limit
             (λ h. IsStored h self.old ⊎ IsCounted (minus (family self.old f.n) (family self.old g.n)) h) }
+        ensures sound { IsSoundStore self.new }
     {
         join_in(&mut self.store, &mut self.memo, Join::Minus, f, g)
     }
@@ -108,6 +113,7 @@ impl Ops {
             Draws (IsCounted made) made self.old self.new result }
         ensures full { result ≡ Err NodeFault.Full → IsMoreThan self.old.limit
             (λ h. IsStored h self.old ⊎ IsCounted (having (family self.old f.n) event.n) h) }
+        ensures sound { IsSoundStore self.new }
     {
         having_in(&mut self.store, &mut self.memo, f, event)
     }
@@ -119,6 +125,7 @@ impl Ops {
         ensures drawn { Draws (IsHalf (family self.old f.n)) (minimal (family self.old f.n)) self.old self.new result }
         ensures full { result ≡ Err NodeFault.Full → IsMoreThan self.old.limit
             (λ h. IsStored h self.old ⊎ IsHalf (family self.old f.n) h) }
+        ensures sound { IsSoundStore self.new }
     {
         minimal_in(&mut self.store, &mut self.memo, f)
     }
@@ -131,20 +138,23 @@ impl Ops {
         ensures drawn { Draws (IsPart (family self.old f.n) (family self.old g.n)) (without (family self.old f.n) (family self.old g.n)) self.old self.new result }
         ensures full { result ≡ Err NodeFault.Full → IsMoreThan self.old.limit
             (λ h. IsStored h self.old ⊎ IsPart (family self.old f.n) (family self.old g.n) h) }
+        ensures sound { IsSoundStore self.new }
     {
         without_in(&mut self.store, &mut self.memo, f, g)
     }
 
     /// The store. Takes no memory.
     pub fn store(&self) -> &Store
-        ensures { result.now ≡ self.now }
+        ensures same { result.now ≡ self.now }
+        ensures sound { IsSoundStore result.now }
     {
         &self.store
     }
 
     /// The store alone: the memory of the results is given back.
     pub fn into_store(self) -> Store
-        ensures { result ≡ self }
+        ensures same { result ≡ self }
+        ensures sound { IsSoundStore result }
     {
         self.store
     }

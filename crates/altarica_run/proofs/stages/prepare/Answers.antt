@@ -4,7 +4,7 @@ use Rattle.ar_io.specs.Outside.{Rose}
 use Rattle.altarica_run.specs.Reads.{fire_of}
 use Rattle.altarica_run.specs.Says.{Elaborates, Commands}
 use Rattle.altarica_run.specs.Stages.{IsStopped, IsRefusedScript}
-use Rattle.altarica_run.proofs.PlayLemmas.{rose_more}
+use Rattle.ar_io.proofs.Writing.{rose_after}
 use Rattle.altarica_run.proofs.PrepareLemmas.{stop_model, stop_script, stop_text, stop_lines, all_passed, same_file}
 use Rattle.altarica_run.proofs.stages.prepare.Goals as goal
 
@@ -18,7 +18,7 @@ pub returns-in_err-lines : goal.returns-in_err-lines
 returns-in_err-lines g c =
     let p = err_from_is_err_and c.from_residual-in_err-lines.result c.from_residual-in_err-lines.ensures.1 in
     stop_script (g.H.Shelf.holds c.args.shelf.now) (λ name. Rose (g.H.Shelf.faults c.args.shelf.now name) (g.H.Shelf.faults c.load-2.new.shelf name)) c.args.model.now c.args.script.now
-    c.in_ok-text.text.items c.in_ok-text.ensures.loaded _ _ _ _ _ _ p.1 p.2 (c.in_ok-text.ensures.keeps c.args.script.now) (rose_more _ _ _ (c.in_ok-text.ensures.rises c.args.script.now)) c.in_err-lines.ensures.loaded
+    c.in_ok-text.text.items c.in_ok-text.ensures.loaded _ _ _ _ _ _ p.1 p.2 (c.in_ok-text.ensures.keeps c.args.script.now) (rose_after _ _ _ (c.in_ok-text.ensures.rises c.args.script.now)) c.in_err-lines.ensures.loaded
 
 pub returns-in_err-system : goal.returns-in_err-system
 returns-in_err-system g c =

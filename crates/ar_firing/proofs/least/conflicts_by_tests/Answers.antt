@@ -7,23 +7,27 @@ use Rattle.ar_firing.proofs.LeastSets.{least_on, least_back}
 use Rattle.ar_firing.proofs.least.conflicts_by_tests.Goals as goal
 
 pub returns-clause-met : goal.returns-clause-met
-returns-clause-met g c = λ sys dropped keyed static observer wanted conflict top agrees set m. met_is_conflicting sys dropped keyed static observer wanted conflict top agrees m
+returns-clause-met g c =
+    λ sys dropped both observer wanted conflict top agrees set m. met_is_conflicting sys dropped both.keyed both.static observer wanted conflict top agrees m
 
 pub returns-clause-free : goal.returns-clause-free
-returns-clause-free g c = λ sys dropped keyed static observer wanted conflict top agrees calm set m.
-    let f = met_is_conflicting sys dropped keyed static observer wanted conflict top agrees m in
+returns-clause-free g c = λ sys dropped both observer wanted conflict top agrees calm set m.
+    let f = met_is_conflicting sys dropped both.keyed both.static observer wanted conflict top agrees m in
     let e = calm set f.values f.is_firable in let h = f.holds in cc
 
 pub returns-clause-conflict_sets : goal.returns-clause-conflict_sets
-returns-clause-conflict_sets g c = λ sys dropped keyed static observer wanted conflict top agrees set.
-    let on : (s : List ℕ) → MeetsConflict sys dropped s → IsFirableWith sys dropped conflict s = λ s m. met_is_conflicting sys dropped keyed static observer wanted conflict top agrees {set = s} m in
-    let back = conflict_is_met sys dropped keyed static observer wanted conflict top agrees in (
+returns-clause-conflict_sets g c = λ sys dropped both observer wanted conflict top agrees set.
+    let on : (s : List ℕ) → MeetsConflict sys dropped s → IsFirableWith sys dropped conflict s =
+    λ s m. met_is_conflicting sys dropped both.keyed both.static observer wanted conflict top agrees {set = s} m in
+    let back = conflict_is_met sys dropped both.keyed both.static observer wanted conflict top agrees in (
       λ m. least_back (MeetsConflict sys dropped) (IsFirableWith sys dropped conflict) on back m,
       λ f. least_on (MeetsConflict sys dropped) (IsFirableWith sys dropped conflict) on back f,
     )
 
 pub returns-clause-every_order : goal.returns-clause-every_order
-returns-clause-every_order g c = λ sys dropped keyed static observer wanted conflict top agrees set ls m o.
-    let on : (s : List ℕ) → MeetsConflict sys dropped s → IsFirableWith sys dropped conflict s = λ s m. met_is_conflicting sys dropped keyed static observer wanted conflict top agrees {set = s} m in
-    let back = conflict_is_met sys dropped keyed static observer wanted conflict top agrees in
-    legal_meets sys dropped keyed static observer wanted conflict top agrees ls (least_back (MeetsConflict sys dropped) (IsFirableWith sys dropped conflict) on back m) o
+returns-clause-every_order g c = λ sys dropped both observer wanted conflict top agrees set ls m o.
+    let on : (s : List ℕ) → MeetsConflict sys dropped s → IsFirableWith sys dropped conflict s =
+    λ s m. met_is_conflicting sys dropped both.keyed both.static observer wanted conflict top agrees {set = s} m in
+    let back = conflict_is_met sys dropped both.keyed both.static observer wanted conflict top agrees in
+    legal_meets sys dropped both.keyed both.static observer wanted conflict top agrees ls
+    (least_back (MeetsConflict sys dropped) (IsFirableWith sys dropped conflict) on back m) o

@@ -6,7 +6,7 @@ pub returns-clause-exists : goal.returns-clause-exists
 returns-clause-exists g c = λ sys dropped set t f. has_line sys dropped f
 
 pub returns-clause-legal : goal.returns-clause-legal
-returns-clause-legal g c = λ sys dropped keyed static set ls h. line_is_legal sys dropped keyed static h
+returns-clause-legal g c = λ sys dropped both set ls h. line_is_legal sys dropped both.keyed both.static h
 
 pub returns-clause-one : goal.returns-clause-one
-returns-clause-one g c = λ sys dropped keyed static set other ls ks h k a b. one_line sys dropped keyed static h k a b
+returns-clause-one g c = λ sys dropped both set other ls ks h k a b. one_line sys dropped both.keyed both.static h k a b

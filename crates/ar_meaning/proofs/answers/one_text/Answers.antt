@@ -8,4 +8,6 @@ pub returns-clause-texts : goal.returns-clause-texts
 returns-clause-texts g c = λ names sys keyed ms a b d e. trace_one names sys keyed d e
 
 pub returns-clause-runs : goal.returns-clause-runs
-returns-clause-runs g c = λ names sys keyed cs ms ns a b r q d e. trace_one names sys keyed d (subst (λ z. TraceText names sys z b) (sym (runs_same sys r q)) e)
+returns-clause-runs g c =
+    λ names sys keyed cs ms ns a b r q d e. trace_one names sys keyed d
+    (subst (λ z. TraceText names sys z b) (sym (runs_same sys r q)) e)

@@ -10,8 +10,10 @@ pub returns-clause-closed : goal.returns-clause-closed
 returns-clause-closed g c = λ net t a v o p y l. closed net.assertions (Allows net) (IsGiven net t) a v o p y l
 
 pub returns-clause-least : goal.returns-clause-least
-returns-clause-least g c = λ net t holds h k. least net.assertions (Allows net) (IsGiven net t) (λ x v. IsTrue (holds x v)) h k
+returns-clause-least g c =
+    λ net t holds h k. least net.assertions (Allows net) (IsGiven net t) (λ x v. IsTrue (holds x v)) h k
 
 pub returns-clause-more : goal.returns-clause-more
-returns-clause-more g c = λ net t u h. least net.assertions (Allows net) (IsGiven net t) (FactOf net u) (λ x v i. given (h x v i))
+returns-clause-more g c =
+    λ net t u h. least net.assertions (Allows net) (IsGiven net t) (FactOf net u) (λ x v i. given (h x v i))
     (λ a v o p y l. closed net.assertions (Allows net) (IsGiven net u) a v o p y l)

@@ -6,19 +6,24 @@ use Rattle.typed_expr.specs.Pairs.{turned}
 use Rattle.ar_meaning.proofs.images.flat_answers.Goals as goal
 
 pub returns-clause-facts : goal.returns-clause-facts
-returns-clause-facts g c = λ things sys flat f. same_facts (IsNumber things) sys.net flat.net (flat_image things sys flat f).net
+returns-clause-facts g c =
+    λ things sys flat f. same_facts (IsNumber things) sys.net flat.net (flat_image things sys flat f).net
 
 pub returns-clause-flows : goal.returns-clause-flows
-returns-clause-flows g c = λ things sys flat f. same_flows (IsNumber things) sys.net flat.net (flat_image things sys flat f).net
+returns-clause-flows g c =
+    λ things sys flat f. same_flows (IsNumber things) sys.net flat.net (flat_image things sys flat f).net
 
 pub returns-clause-ways : goal.returns-clause-ways
-returns-clause-ways g c = λ things sys flat f. same_ways (IsNumber things) sys.net flat.net (flat_image things sys flat f).net
+returns-clause-ways g c =
+    λ things sys flat f. same_ways (IsNumber things) sys.net flat.net (flat_image things sys flat f).net
 
 pub returns-clause-effects : goal.returns-clause-effects
-returns-clause-effects g c = λ things sys flat f. same_effects (IsNumber things) sys.net flat.net (flat_image things sys flat f).net
+returns-clause-effects g c =
+    λ things sys flat f. same_effects (IsNumber things) sys.net flat.net (flat_image things sys flat f).net
 
 pub returns-clause-steps : goal.returns-clause-steps
-returns-clause-steps g c = λ things sys flat f. same_steps (IsNumber things) sys.net flat.net (flat_image things sys flat f).net
+returns-clause-steps g c =
+    λ things sys flat f. same_steps (IsNumber things) sys.net flat.net (flat_image things sys flat f).net
 
 pub returns-clause-runs : goal.returns-clause-runs
 returns-clause-runs g c = λ things sys flat f. same_runs (IsNumber things) sys flat (flat_image things sys flat f)
@@ -26,7 +31,8 @@ returns-clause-runs g c = λ things sys flat f. same_runs (IsNumber things) sys 
 pub returns-clause-texts : goal.returns-clause-texts
 returns-clause-texts g c = λ things sys flat f names numbers alike ms text. (
   λ d. trace_there (IsNumber things) sys flat (flat_image things sys flat f) names numbers alike d,
-  λ d. trace_there (turned (IsNumber things)) flat sys (flat_back things sys flat f) numbers names (names_back names numbers alike) d,
+  λ d. trace_there (turned (IsNumber things)) flat sys (flat_back things sys flat f) numbers names
+      (names_back names numbers alike) d,
 )
 
 pub returns-clause-keys : goal.returns-clause-keys
@@ -36,4 +42,5 @@ returns-clause-keys g c = λ things sys flat f. (
 )
 
 pub returns-clause-numbers : goal.returns-clause-numbers
-returns-clause-numbers g c = λ things sys flat f. (λ k. numbers_there things sys flat f k, λ k. numbers_back things sys flat f k)
+returns-clause-numbers g c =
+    λ things sys flat f. (λ k. numbers_there things sys flat f k, λ k. numbers_back things sys flat f k)

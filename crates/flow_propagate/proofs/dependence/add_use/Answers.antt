@@ -3,6 +3,7 @@ use Rattle.ar_base.specs.Lists.{Stands}
 use Rattle.gts_core.specs.declared.system.Assign.{Assign}
 use Rattle.flow_propagate.proofs.Putting.{reads_there}
 use Rattle.flow_propagate.proofs.Searching.{stands_read}
+use Rattle.flow_propagate.proofs.Numbered.{read_back}
 use Rattle.flow_propagate.proofs.FlowUses.{reads_below, use_not, use_one, target_below}
 use Rattle.flow_propagate.proofs.dependence.add_use.Goals as goal
 
@@ -18,8 +19,9 @@ returns-then-index c =
 pub index-requires-3 : goal.index-requires-3
 index-requires-3 c =
     let p = c.args.parts.now in
-    let is = reads_there p.assigns.items c.args.assign c.requires.reads.assign c.index-2.result.now c.requires.reads.stands c.index-2.ensures in
-    let st = subst (λ (z : Assign). Stands p.assigns.items c.args.assign z) is c.requires.reads.stands in
+    let r = read_back p c.args.variable c.args.assign c.requires.reads in
+    let is = reads_there p.assigns.items c.args.assign r.assign c.index-2.result.now r.stands c.index-2.ensures in
+    let st = subst (λ (z : Assign). Stands p.assigns.items c.args.assign z) is r.stands in
     let h = target_below p c.args.assign c.index-2.result.now c.requires.sound st in
     let k : c.index-2.result.now.target.n < length c.args.places.now.before.items = omega (arith, h, c.requires.places.long) in search (rules, k)
 
@@ -34,8 +36,9 @@ returns c =
     let x = c.args.variable in
     let n = c.args.assign in
     let below = reads_below p x n c.requires.sound c.requires.reads in
-    let is = reads_there p.assigns.items n c.requires.reads.assign c.index-2.result.now c.requires.reads.stands c.index-2.ensures in
-    let st = subst (λ (z : Assign). Stands p.assigns.items n z) is c.requires.reads.stands in
+    let r = read_back p x n c.requires.reads in
+    let is = reads_there p.assigns.items n r.assign c.index-2.result.now r.stands c.index-2.ensures in
+    let st = subst (λ (z : Assign). Stands p.assigns.items n z) is r.stands in
     let before = c.args.places.now.before.items in
     let h = target_below p n c.index-2.result.now c.requires.sound st in
     let first : c.index-2.result.now.target.n < length before = omega (arith, h, c.requires.places.long) in

@@ -3,9 +3,9 @@ use Rattle.typed_expr.specs.Mentions as m
 use Rattle.typed_expr.specs.Mentions.{Mentions, Some_mentions, Parts_mention, Cases_mention}
 use Rattle.typed_expr.specs.declared.expr.Expr.{Expr, out-Expr}
 use Rattle.typed_expr.specs.declared.expr.Expr.TheOpen.{Variable, Not, All, Any, Compare, Sum, Product, Least, Greatest, Count, Choose}
-use Rattle.gts_core.specs.View.{VarId}
+use Rattle.ar_base.specs.Numbers.{VarId}
 use Rattle.flow_propagate.specs.Named.{AddsNamed}
-use Rattle.flow_propagate.proofs.Opened as opened
+use Rattle.typed_expr.proofs.Opened as opened
 use Rattle.flow_propagate.proofs.NamedVariables as named
 use Rattle.flow_propagate.proofs.naming.+naming.Goals as goal
 

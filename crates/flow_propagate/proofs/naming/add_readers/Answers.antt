@@ -1,8 +1,8 @@
 use Rattle.std.proofs.Common.{inl, inr, Bool, List, subst}
 use Rattle.typed_expr.specs.Mentions.{Mentions}
 use Rattle.typed_expr.specs.declared.expr.Expr.{Expr, out-Expr}
-use Rattle.gts_core.specs.View.{VarId}
-use Rattle.flow_propagate.specs.Plan.{Tests}
+use Rattle.ar_base.specs.Numbers.{VarId}
+use Rattle.ar_meaning.specs.Dependence.{Tests}
 use Rattle.flow_propagate.specs.Named.{AddsNamed, NamesVariable}
 use Rattle.flow_propagate.proofs.NamedVariables as named
 use Rattle.flow_propagate.proofs.naming.add_readers.Goals as goal

@@ -1,5 +1,5 @@
 use Rattle.std.proofs.Common.{drop}
-use Rattle.flow_propagate.specs.Plan.{Tests}
+use Rattle.ar_meaning.specs.Dependence.{Tests}
 use Rattle.flow_propagate.proofs.NamedVariables.{Remains}
 use Rattle.flow_propagate.proofs.naming.add_tests.Given as goal
 

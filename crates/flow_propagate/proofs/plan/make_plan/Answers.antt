@@ -3,25 +3,29 @@ use Rattle.flow_blocks.specs.Blocks.{AreBelow, Follow}
 use Rattle.flow_blocks.specs.declared.graph.Block.{Block}
 use Rattle.gts_core.specs.declared.system.Variable.{Variable}
 use Rattle.gts_core.specs.declared.system.GtsParts.{GtsParts}
-use Rattle.flow_propagate.specs.Plan.{flow_count, AreReaders, IsPlan}
+use Rattle.ar_meaning.specs.Dependence.{flow_count}
+use Rattle.gts_core.specs.View.{net_of}
+use Rattle.flow_propagate.specs.Plan.{AreReaders, IsPlan}
+use Rattle.flow_propagate.specs.Dependence.{flows_in}
+use Rattle.flow_propagate.proofs.Numbered.{count_from}
 use Rattle.flow_propagate.proofs.FlowUses.{uses_below}
 use Rattle.flow_propagate.proofs.plan.make_plan.Goals as goal
 
 pub blocks-requires : goal.blocks-requires
 blocks-requires c =
     let p = c.parts-parts.result.now in
-    let count = c.in_ok-graph.ensures.count ∙ c.in_ok-places.ensures.count ∙ ap (λ (z : List Variable). flow_count z) c.deref.ensures.value in
+    let count = c.in_ok-graph.ensures.count ∙ c.in_ok-places.ensures.count ∙ ap (λ (z : List Variable). flows_in z) c.deref.ensures.value in
     subst (λ (z : ℕ). AreBelow z c.in_ok-graph.graph.uses.items) (sym count) (uses_below p c.in_ok-graph.graph.uses.items c.in_ok-graph.ensures.uses)
 
 pub returns : goal.returns
 returns c =
     let p = c.parts-parts.result.now in
     let uses = c.in_ok-graph.graph.uses.items in
-    let count = c.in_ok-graph.ensures.count ∙ c.in_ok-places.ensures.count ∙ ap (λ (z : List Variable). flow_count z) c.deref.ensures.value in
+    let count = c.in_ok-graph.ensures.count ∙ c.in_ok-places.ensures.count ∙ ap (λ (z : List Variable). flows_in z) c.deref.ensures.value in
     let found : List (List ℕ) = map (λ (b : Block). b.members.items) c.in_ok-blocks.blocks.items in
-    let follow : Follow (flow_count p.variables.items) uses [] found = subst (λ (z : ℕ). Follow z uses [] found) count c.in_ok-blocks.ensures in
+    let follow : Follow (flow_count (net_of p).variables) uses [] found = subst (λ (z : ℕ). Follow z uses [] found) (count ∙ sym (count_from 0 p.variables.items)) c.in_ok-blocks.ensures in
     let readers = subst (λ (z : List (ℕ × ℕ)). AreReaders p z) (sym (c.in_ok-readers.ensures ∙ c.deref-3.ensures.value)) c.in_ok-pairs.ensures in
     subst (λ (z : GtsParts). IsPlan z (record { blocks = c.in_ok-blocks.blocks; readers = c.in_ok-readers.readers })) c.parts-parts.ensures.parts (record {
-      blocks = record { uses = uses; only = c.in_ok-graph.ensures.uses.only; all = c.in_ok-graph.ensures.uses.all; follow = follow };
+      blocks = record { uses = uses; are = c.in_ok-graph.ensures.uses; follow = follow };
       readers = readers;
     })

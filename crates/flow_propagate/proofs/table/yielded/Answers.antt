@@ -1,7 +1,8 @@
 use Rattle.std.proofs.Common.{List, Bool, map, subst}
 use Rattle.typed_expr.specs.declared.expr.Expr.{Expr}
 use Rattle.ar_meaning.specs.Facts.{Passes}
-use Rattle.gts_core.specs.View.{VarId, condition_of}
+use Rattle.ar_base.specs.Numbers.{VarId}
+use Rattle.gts_core.specs.View.{condition_of}
 use Rattle.flow_propagate.specs.Table.{Holds}
 use Rattle.flow_propagate.proofs.Reaching.{tells, holds}
 use Rattle.flow_propagate.proofs.table.yielded.Goals as goal

@@ -2,7 +2,7 @@ use Rattle.std.proofs.Common.{ℕ, Bool, refl}
 use Rattle.std.proofs.lemmas.Bool.{iff_false}
 use Rattle.typed_expr.specs.declared.expr.Expr.{Expr}
 use Rattle.typed_expr.specs.declared.expr.ValueKind.TheVariants.{Truth}
-use Rattle.gts_core.specs.View.{VarId}
+use Rattle.ar_base.specs.Numbers.{VarId}
 use Rattle.gts_core.specs.Sound.{IsTyped}
 use Rattle.gts_core.specs.declared.system.GtsParts.{GtsParts}
 use Rattle.gts_checks.proofs.Each.{each_item, each_passed, each_failed}

@@ -1,5 +1,5 @@
 use Rattle.std.proofs.Common.{◌<◌, ◌↔◌, IsTrue, List, length, subst, arith}
-use Rattle.gts_core.specs.View.{WayId}
+use Rattle.ar_base.specs.Numbers.{WayId}
 use Rattle.gts_core.specs.Sound.{IsListed}
 use Rattle.gts_checks.specs.Each.{EachAt}
 use Rattle.gts_checks.proofs.events.is_event.Goals as goal

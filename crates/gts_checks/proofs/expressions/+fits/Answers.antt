@@ -1,6 +1,6 @@
 use Rattle.std.proofs.Common.{ℕ, refl}
 use Rattle.typed_expr.specs.declared.expr.Expr.{Expr, out-Expr}
-use Rattle.gts_core.specs.View.{VarId}
+use Rattle.ar_base.specs.Numbers.{VarId}
 use Rattle.gts_checks.specs.Fitting.{Fits}
 use Rattle.gts_checks.proofs.Each.{each_passed}
 use Rattle.gts_checks.proofs.Forms as form

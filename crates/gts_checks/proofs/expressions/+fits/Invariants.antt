@@ -1,7 +1,7 @@
 use Rattle.std.proofs.Common.{ℕ, ◌<◌, Bool}
 use Rattle.ar_base.specs.Lists.{Stands}
 use Rattle.typed_expr.specs.declared.expr.Expr.{Expr, out-Expr}
-use Rattle.gts_core.specs.View.{VarId}
+use Rattle.ar_base.specs.Numbers.{VarId}
 use Rattle.gts_checks.specs.Fitting.{Fits}
 use Rattle.gts_checks.proofs.expressions.+fits.Given as goal
 

@@ -1,7 +1,7 @@
 use Rattle.std.proofs.Common.{List, slice_get, subst, Some, None}
 use Rattle.typed_expr.specs.Kinds.{IsKindOf}
 use Rattle.typed_expr.specs.declared.expr.Expr.{out-Expr}
-use Rattle.gts_core.specs.View.{VarId}
+use Rattle.ar_base.specs.Numbers.{VarId}
 use Rattle.gts_core.specs.Sound.{kind_of_found, IsTyped}
 use Rattle.gts_core.specs.declared.system.Variable.{Variable}
 use Rattle.std.proofs.lemmas.Bool.{iff_false}

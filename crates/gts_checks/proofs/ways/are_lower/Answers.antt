@@ -1,5 +1,5 @@
 use Rattle.std.proofs.Common.{ℕ, ◌<◌, ◌≤◌, Bool, refl, arith}
-use Rattle.gts_core.specs.View.{WayId}
+use Rattle.ar_base.specs.Numbers.{WayId}
 use Rattle.gts_checks.proofs.Each.{each_more, each_passed, each_lacking}
 use Rattle.gts_checks.proofs.ways.are_lower.Goals as goal
 

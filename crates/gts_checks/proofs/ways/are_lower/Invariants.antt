@@ -1,6 +1,6 @@
 use Rattle.std.proofs.Common.{ℕ, ◌<◌, Bool}
 use Rattle.ar_base.specs.Lists.{Stands}
-use Rattle.gts_core.specs.View.{WayId}
+use Rattle.ar_base.specs.Numbers.{WayId}
 use Rattle.gts_checks.proofs.ways.are_lower.Given as goal
 
 abbrev pub invariant-loop-part : goal.invariant-loop-part

@@ -1,5 +1,5 @@
 use Rattle.std.proofs.Common.{◌<◌, ◌↔◌, IsTrue, Bool, List, sym, subst}
-use Rattle.gts_core.specs.View.{WayId}
+use Rattle.ar_base.specs.Numbers.{WayId}
 use Rattle.gts_core.specs.declared.system.WayBody.{WayBody}
 use Rattle.gts_checks.specs.Each.{Each}
 use Rattle.gts_checks.specs.Lower.{IsOver}

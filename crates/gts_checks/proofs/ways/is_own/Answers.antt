@@ -1,7 +1,7 @@
 use Rattle.std.proofs.Common.{List, subst, IsTrue, ◌↔◌}
 use Rattle.ar_base.proofs.Standing.{stands_one}
 use Rattle.ar_base.specs.Lists.{Stands}
-use Rattle.gts_core.specs.View.{WayId}
+use Rattle.ar_base.specs.Numbers.{WayId}
 use Rattle.gts_core.specs.declared.system.Event.{Event}
 use Rattle.gts_checks.specs.Lower.{IsPlaceOf}
 use Rattle.gts_checks.proofs.Each.{stands_found}

@@ -1,6 +1,6 @@
 use Rattle.std.proofs.Common.{List, Bool, sym, subst}
 use Rattle.typed_expr.specs.declared.expr.Expr.{Expr}
-use Rattle.gts_core.specs.View.{VarId}
+use Rattle.ar_base.specs.Numbers.{VarId}
 use Rattle.gts_core.specs.Copies.{IsCopy, AreCopies, AreTermCopies, AreCaseCopies}
 use Rattle.gts_core.proofs.Copying.{copy_constant, copy_variable, copy_not, copy_compare, copy_all, copy_any, copy_product, copy_least, copy_greatest, copy_count, copy_sum, copy_choice, copies_next, terms_next, cases_next, all_read, copies_start, terms_start, cases_start}
 use Rattle.gts_core.proofs.copies.+copy_expression.Goals as goal

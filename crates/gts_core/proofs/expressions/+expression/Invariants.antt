@@ -1,23 +1,26 @@
-use Rattle.std.proofs.Common.{true, map, drop, ℕ, Bool, List}
-use Rattle.gts_core.specs.View.{VarId}
+use Rattle.std.proofs.Common.{map, drop, Bool, true}
+use Rattle.std.specs.List.{concat}
+use Rattle.ar_base.specs.Texts.{separated}
 use Rattle.typed_expr.specs.declared.expr.Expr.{Expr}
-use Rattle.gts_core.specs.Goes.{Remains}
-use Rattle.gts_core.specs.Printed.{expr_text, separated, summed, joined, case_form}
+use Rattle.ar_io.specs.Writing.{Leaves}
+use Rattle.ar_base.specs.Numbers.{VarId}
+use Rattle.gts_core.specs.Printed.{expr_text, summed, case_form}
 use Rattle.gts_core.proofs.expressions.+expression.Given as goal
 
 abbrev pub invariant-cases-loop-test : goal.invariant-cases-loop-test
 invariant-cases-loop-test g l =
-    let form = λ (c : Expr VarId × Expr VarId). case_form l.one (expr_text l.parts c.0, expr_text l.parts c.1) in
-    Remains (g.K.Sink.written l.initial.out) (g.K.Sink.faults l.initial.out) l.initial.still (g.K.Sink.written l.out) (g.K.Sink.faults l.out) l.still
-    (joined (map form (drop l.test-index l.choices))) (joined (map form l.choices))
+    Leaves (g.K.Sink.state l.initial.out) (g.K.Sink.state l.out)
+    (concat (map (case_form l.one) (map (λ (d : Expr VarId × Expr VarId). (expr_text l.parts d.0, expr_text l.parts d.1)) (drop l.test-index l.choices))))
+    (concat (map (case_form l.one) (map (λ (d : Expr VarId × Expr VarId). (expr_text l.parts d.0, expr_text l.parts d.1)) l.choices)))
 
-abbrev pub invariant-listed-loop-e : goal.invariant-listed-loop-e
-invariant-listed-loop-e g l =
-    Remains (g.K.Sink.written l.initial.out) (g.K.Sink.faults l.initial.out) l.initial.still (g.K.Sink.written l.out) (g.K.Sink.faults l.out) l.still
-    (separated l.first l.separator (map (expr_text l.parts) (drop l.e-index l.es))) (separated true l.separator (map (expr_text l.parts) l.es))
+abbrev pub invariant-operands-loop-e : goal.invariant-operands-loop-e
+invariant-operands-loop-e g l =
+    Leaves (g.K.Sink.state l.initial.out) (g.K.Sink.state l.out)
+    (separated l.first l.separator (map (expr_text l.parts) (drop l.e-index l.es)))
+    (separated true l.separator (map (expr_text l.parts) l.es))
 
-abbrev pub invariant-sum-loop-plus : goal.invariant-sum-loop-plus
-invariant-sum-loop-plus g l =
-    let form : Bool × Expr VarId → Bool × List ℕ = λ p. (p.0, expr_text l.parts p.1) in
-    Remains (g.K.Sink.written l.initial.out) (g.K.Sink.faults l.initial.out) l.initial.still (g.K.Sink.written l.out) (g.K.Sink.faults l.out) l.still
-    (summed l.first (map form (drop l.plus-index l.terms))) (summed true (map form l.terms))
+abbrev pub invariant-terms-loop-plus : goal.invariant-terms-loop-plus
+invariant-terms-loop-plus g l =
+    Leaves (g.K.Sink.state l.initial.out) (g.K.Sink.state l.out)
+    (summed l.first (map (λ (q : Bool × Expr VarId). (q.0, expr_text l.parts q.1)) (drop l.plus-index l.all)))
+    (summed true (map (λ (q : Bool × Expr VarId). (q.0, expr_text l.parts q.1)) l.all))

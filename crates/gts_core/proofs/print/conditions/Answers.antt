@@ -1,15 +1,25 @@
-use Rattle.std.proofs.Common.{map, Bool, List}
+use Rattle.std.proofs.Common.{map, List, Bool}
+use Rattle.std.specs.List.{concat}
 use Rattle.typed_expr.specs.declared.expr.Expr.{Expr}
-use Rattle.gts_core.specs.View.{VarId}
-use Rattle.gts_core.specs.Printed.{joined, condition_text}
-use Rattle.gts_core.proofs.Going.{remains_start, remains_on, remains_all, next_item, no_item}
+use Rattle.ar_io.proofs.Writing.{writes_exit, leaves_all, leaves_on, leaves_cut, leaves_none, next_item, no_item}
+use Rattle.ar_base.specs.Numbers.{VarId}
+use Rattle.gts_core.specs.Printed.{condition_text}
 use Rattle.gts_core.proofs.print.conditions.Goals as goal
 
 pub loop-condition-init : goal.loop-condition-init
-loop-condition-init g c = remains_start _ _ _ _
+loop-condition-init g c = leaves_all _ _
+
+pub returns-in_err-when : goal.returns-in_err-when
+returns-in_err-when g c =
+    writes_exit _ _ c.from_residual.ensures.1 (leaves_cut _ _ c.loop-condition.invariant c.in_err-when.ensures
+    (next_item (λ (xs : List (Expr VarId × Bool)). concat (map (condition_text c.args.parts.now) xs)) c.args.all.now c.loop-condition.condition-index c.condition-item.result c.loop-condition-test.true c.condition-item.is))
 
 pub loop-condition-preserved : goal.loop-condition-preserved
-loop-condition-preserved g c = remains_on _ c.loop-condition.invariant (c.when-still.ensures) (next_item (λ (xs : List (Expr VarId × Bool)). joined (map (condition_text c.args.parts.now) xs)) c.args.all.now c.loop-condition.condition-index c.condition-item.result c.loop-condition-test.true c.condition-item.is)
+loop-condition-preserved g c =
+    leaves_on _ _ c.loop-condition.invariant c.in_ok-when.ensures
+    (next_item (λ (xs : List (Expr VarId × Bool)). concat (map (condition_text c.args.parts.now) xs)) c.args.all.now c.loop-condition.condition-index c.condition-item.result c.loop-condition-test.true c.condition-item.is)
 
 pub returns : goal.returns
-returns g c = remains_all _ c.loop-condition.invariant (no_item (λ (xs : List (Expr VarId × Bool)). joined (map (condition_text c.args.parts.now) xs)) c.args.all.now c.loop-condition.condition-index c.loop-condition-test.false)
+returns g c =
+    leaves_none _ c.loop-condition.invariant
+    (no_item (λ (xs : List (Expr VarId × Bool)). concat (map (condition_text c.args.parts.now) xs)) c.args.all.now c.loop-condition.condition-index c.loop-condition-test.false)

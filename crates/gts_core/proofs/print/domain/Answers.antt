@@ -1,7 +1,18 @@
-use Rattle.std.proofs.Common.{true, codes, map, ℕ, List, ap, sym}
-use Rattle.gts_core.specs.Printed.{text_at, separated, domain_text}
-use Rattle.gts_core.proofs.Going.{goes_on, goes_as}
+use Rattle.std.proofs.Common.{◌++◌, ◌∙◌, ap, sym, map, codes, List, ℕ, true, rules, SFits, w64}
+use Rattle.ar_base.specs.Texts.{text_at, separated}
+use Rattle.ar_io.proofs.Writing.{writes_as}
+use Rattle.gts_core.specs.Printed.{domain_text}
+use Rattle.std.proofs.lemmas.Int.{to_z-of_z}
 use Rattle.gts_core.proofs.print.domain.Goals as goal
 
 pub returns-in-Symbols : goal.returns-in-Symbols
-returns-in-Symbols g c = goes_as _ _ (ap (domain_text c.args.parts.now) (sym c.in-Symbols.is)) (goes_on (goes_on (c.put-opened.ensures) (goes_as _ _ (ap (λ (ks : List ℕ). separated true (codes ", ") (map (text_at c.args.parts.now.symbols.items) ks)) c.deref.ensures.value) c.symbol_names-named.ensures)) (c.put-in-Symbols.ensures))
+returns-in-Symbols g c =
+    writes_as _ _ (ap (λ (ks : List ℕ). codes "{" ++ separated true (codes ", ") (map (text_at c.args.parts.now.symbols.items) ks) ++ codes "}") c.deref.ensures.value
+    ∙ ap (domain_text c.args.parts.now) (sym c.in-Symbols.is)) c.symbol_set.ensures
+
+pub returns-in-Range : goal.returns-in-Range
+returns-in-Range g c =
+    let low : SFits w64 c.in-Range.low = search rules in
+    let high : SFits w64 c.in-Range.high = search rules in
+    let is = simp to_z-of_z at c.interval.ensures in
+    writes_as _ _ (ap (domain_text c.args.parts.now) (sym c.in-Range.is)) is

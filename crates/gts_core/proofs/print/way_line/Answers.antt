@@ -1,5 +1,31 @@
-use Rattle.gts_core.proofs.Going.{goes_on, goes_as}
+use Rattle.ar_io.proofs.Writing.{writes_on, writes_cut, writes_exit, writes_as}
 use Rattle.gts_core.proofs.print.way_line.Goals as goal
 
+pub returns-in_err-put : goal.returns-in_err-put
+returns-in_err-put g c =
+    writes_exit _ _ c.from_residual.ensures.1
+    (writes_cut _ _ (writes_cut _ _ (writes_cut _ _ (writes_cut _ _ (writes_cut _ _ (writes_as _ _ c.either.ensures c.in_err-put.ensures))))))
+
+pub returns-in_err-put-2 : goal.returns-in_err-put-2
+returns-in_err-put-2 g c =
+    writes_exit _ _ c.from_residual-in_err-put-2.ensures.1
+    (writes_cut _ _ (writes_cut _ _ (writes_cut _ _ (writes_cut _ _ (writes_on (writes_as _ _ c.either.ensures c.in_ok-put.ensures) c.in_err-put-2.ensures)))))
+
+pub returns-in_err-label : goal.returns-in_err-label
+returns-in_err-label g c =
+    writes_exit _ _ c.from_residual-in_err-label.ensures.1
+    (writes_cut _ _ (writes_cut _ _ (writes_cut _ _ (writes_on (writes_on (writes_as _ _ c.either.ensures c.in_ok-put.ensures) c.in_ok-put-2.ensures) c.in_err-label.ensures))))
+
+pub returns-in_err-put-3 : goal.returns-in_err-put-3
+returns-in_err-put-3 g c =
+    writes_exit _ _ c.from_residual-in_err-put-3.ensures.1
+    (writes_cut _ _ (writes_cut _ _ (writes_on (writes_on (writes_on (writes_as _ _ c.either.ensures c.in_ok-put.ensures) c.in_ok-put-2.ensures) c.in_ok-label.ensures) c.in_err-put-3.ensures)))
+
+pub returns-in_err-body : goal.returns-in_err-body
+returns-in_err-body g c =
+    writes_exit _ _ c.from_residual-in_err-body.ensures.1
+    (writes_cut _ _ (writes_on (writes_on (writes_on (writes_on (writes_as _ _ c.either.ensures c.in_ok-put.ensures) c.in_ok-put-2.ensures) c.in_ok-label.ensures) c.in_ok-put-3.ensures) c.in_err-body.ensures))
+
 pub returns : goal.returns
-returns g c = goes_on (goes_on (goes_on (goes_on (goes_on (goes_as _ _ (c.either.ensures) c.put-begun.ensures) (c.put-named.ensures)) (c.label-labelled.ensures)) (c.put-parted.ensures)) (c.body-done.ensures)) (c.put.ensures)
+returns g c =
+    writes_on (writes_on (writes_on (writes_on (writes_on (writes_as _ _ c.either.ensures c.in_ok-put.ensures) c.in_ok-put-2.ensures) c.in_ok-label.ensures) c.in_ok-put-3.ensures) c.in_ok-body.ensures) c.put-4.ensures

@@ -1,5 +1,11 @@
-use Rattle.gts_core.proofs.Going.{goes_on, goes_as}
+use Rattle.ar_io.proofs.Writing.{writes_on, writes_cut, writes_exit, writes_as}
 use Rattle.gts_core.proofs.print.when.Goals as goal
 
+pub returns-in_err-put : goal.returns-in_err-put
+returns-in_err-put g c =
+    writes_exit _ _ c.from_residual.ensures.1
+    (writes_cut _ _ (writes_as _ _ c.either.ensures c.in_err-put.ensures))
+
 pub returns : goal.returns
-returns g c = goes_on (goes_as _ _ (c.either.ensures) c.put-led.ensures) (c.expression.ensures)
+returns g c =
+    writes_on (writes_as _ _ c.either.ensures c.in_ok-put.ensures) c.expression.ensures

@@ -2,11 +2,12 @@ use Rattle.std.proofs.Common.{◌≡◌, ◌<◌, ◌++◌, ◌∷◌, [], List,
 use Rattle.domains.specs.declared.Value.{Value}
 use Rattle.domains.specs.declared.Value.TheVariants.{Truth}
 use Rattle.std.proofs.Common.{false}
+use Rattle.ar_base.proofs.Standing.{stands_get}
 use Rattle.ar_base.specs.Lists.{Stands}
 use Rattle.ar_meaning.proofs.OneAnswer.{same_value}
 use Rattle.stepper.specs.Changes.{restored, undone}
 use Rattle.stepper.specs.declared.changes.Change.{Change}
-use Rattle.stepper.proofs.Growing.{restored_more, set_between, keep_between, stands_get}
+use Rattle.stepper.proofs.Growing.{restored_more, set_between, keep_between}
 use Rattle.stepper.proofs.changes.changes.Goals as goal
 use Rattle.stepper.proofs.changes.changes.Goals.{then-differs+in_ok-push, else-differs}
 

@@ -2,9 +2,9 @@ use Rattle.std.proofs.Common.{◌≡◌, ◌+◌, ◌++◌, ◌∷◌, [], Bool,
 use Rattle.std.specs.List.{list_all}
 use Rattle.domains.specs.declared.Value.{Value}
 use Rattle.typed_expr.specs.declared.expr.Expr.{Expr}
-use Rattle.gts_core.specs.View.{VarId}
+use Rattle.ar_base.specs.Numbers.{VarId}
 use Rattle.gts_core.specs.declared.system.Assign.{Assign}
-use Rattle.stepper.specs.Readings.{is_met}
+use Rattle.gts_core.specs.Readings.{is_met}
 use Rattle.stepper.specs.Effects.{action_effects, effect_of}
 use Rattle.stepper.specs.declared.effects.Effect.{Effect}
 use Rattle.stepper.proofs.Growing.{action_more, one_effect, take_item, add_nothing}

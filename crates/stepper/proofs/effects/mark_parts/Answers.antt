@@ -1,6 +1,6 @@
 use Rattle.std.proofs.Common.{◌≡◌, ◌+◌, ◌++◌, ◌∷◌, [], Bool, List, Vec, Global, take, take_all, get_or, set, sym, ap, ◌∙◌, subst, true, false}
 use Rattle.std.proofs.lemmas.List.{take_more}
-use Rattle.gts_core.specs.View.{WayId}
+use Rattle.ar_base.specs.Numbers.{WayId}
 use Rattle.stepper.specs.Marking.{MarksAll}
 use Rattle.stepper.specs.Ways.{parts_of}
 use Rattle.stepper.proofs.Marked.{marks_none, marks_one, marks_past}

@@ -1,10 +1,11 @@
 use Rattle.std.proofs.Common.{◌≡◌, ◌+◌, ◌-◌, ◌<◌, ℕ, Bool, List, Vec, Global, get_or, true, sym, ap, ◌∙◌, subst, arith, length, replicate, false, vec_len}
+use Rattle.ar_base.proofs.Standing.{stands_get}
 use Rattle.ar_base.specs.Lists.{Stands}
-use Rattle.gts_core.specs.View.{WayId}
+use Rattle.ar_base.specs.Numbers.{WayId}
 use Rattle.stepper.specs.Ways.{flag_at}
 use Rattle.stepper.proofs.Marked.{IsMarked, marked_first, marked_parts, marked_past, marked_all}
 use Rattle.stepper.proofs.Lists.{read_stands}
-use Rattle.stepper.proofs.Growing.{stands_get, copies_long, flag_unset}
+use Rattle.stepper.proofs.Growing.{copies_long, flag_unset}
 use Rattle.stepper.proofs.effects.takers.Goals as goal
 use Rattle.stepper.proofs.effects.takers.Goals.{then-is_set, else-is_set}
 

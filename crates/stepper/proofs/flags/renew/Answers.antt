@@ -1,9 +1,9 @@
 use Rattle.std.proofs.Common.{Bool, List, get_or, ap, ◌∙◌, arith}
+use Rattle.ar_base.proofs.Standing.{stands_get}
 use Rattle.ar_base.specs.Lists.{Stands}
-use Rattle.gts_core.specs.View.{WayId}
+use Rattle.ar_base.specs.Numbers.{WayId}
 use Rattle.stepper.specs.Ways.{can_by}
 use Rattle.stepper.proofs.Lists.{read_stands}
-use Rattle.stepper.proofs.Growing.{stands_get}
 use Rattle.stepper.proofs.Renewing.{renew_more, renewed}
 use Rattle.stepper.proofs.flags.renew.Goals as goal
 

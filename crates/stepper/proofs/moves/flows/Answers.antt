@@ -6,7 +6,7 @@ use Rattle.gts_core.specs.declared.system.GtsParts.{GtsParts}
 use Rattle.gts_core.specs.declared.system.Valuation.{Valuation}
 use Rattle.flow_propagate.specs.Answers.{IsFlowAnswer, IsState}
 use Rattle.flow_propagate.specs.declared.propagation.PropagateFault.{PropagateFault}
-use Rattle.stepper.specs.Ways.{IsTotal}
+use Rattle.gts_core.specs.Readings.{IsTotal}
 use Rattle.stepper.proofs.Totals.{flows_total}
 use Rattle.stepper.proofs.moves.flows.Goals as goal
 

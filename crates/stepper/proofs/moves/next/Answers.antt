@@ -14,7 +14,7 @@ use Rattle.flow_propagate.specs.declared.propagation.PropagateFault.{PropagateFa
 use Rattle.flow_propagate.specs.declared.propagation.PropagateFault.TheVariants as propagates
 use Rattle.stepper.specs.Ways.{flag_at}
 use Rattle.stepper.specs.Steps.{IsReady}
-use Rattle.stepper.proofs.Answers.{answer_false}
+use Rattle.gts_core.proofs.Tests.{answer_false}
 use Rattle.stepper.proofs.moves.next.Goals as goal
 
 fault_found : (net : Net ℕ) (t : List Value) (r : Result Valuation PropagateFault) (e : PropagateFault) (f : FlowFault) → r ≡ Err e → e ≡ propagates.Flow f → IsFlowAnswer net t r → Flows net t (Fails (fault_of f))

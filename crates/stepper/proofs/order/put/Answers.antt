@@ -1,6 +1,6 @@
 use Rattle.std.proofs.Common.{◌≡◌, ◌++◌, ◌∷◌, [], true, false, Bool, List, set, sym, ap, ◌∙◌, subst, arith}
 use Rattle.ar_base.proofs.Standing.{stands_some}
-use Rattle.gts_core.specs.View.{WayId}
+use Rattle.ar_base.specs.Numbers.{WayId}
 use Rattle.stepper.specs.Ways.{IsPlacing, flag_at}
 use Rattle.stepper.proofs.Lists.{flag_kept, flag_same}
 use Rattle.stepper.proofs.Placing.{place_more}

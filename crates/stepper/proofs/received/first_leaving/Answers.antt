@@ -1,12 +1,11 @@
 use Rattle.std.proofs.Common.{◌≡◌, ◌+◌, ◌<◌, inl, inr, ℕ, List, length, get_or, ap, subst, arith}
 use Rattle.ar_base.specs.Lists.{Stands}
-use Rattle.ar_base.proofs.Standing.{stands_one, stands_within}
+use Rattle.ar_base.proofs.Standing.{stands_one, stands_within, stands_get}
 use Rattle.gts_core.specs.declared.system.Variable.{Variable}
 use Rattle.stepper.specs.Effects.{Keeps}
 use Rattle.stepper.specs.declared.received.Received.{Received}
 use Rattle.stepper.specs.declared.received.Received.TheVariants.{Nothing}
 use Rattle.stepper.proofs.Lists.{read_stands, same_number}
-use Rattle.stepper.proofs.Growing.{stands_get}
 use Rattle.stepper.proofs.received.first_leaving.Goals as goal
 
 -- the item that was read stands in the list

@@ -92,7 +92,8 @@ each_has-returns-then-not-is_kind g t c =
 pub each_has-returns : goal.each_has-returns
 each_has-returns g t c =
     let kinds = g.E.Env.kind_at c.args.env.now in
-    kinded.each-ends kinds c.args.es.now c.loop-e.e-index c.args.kind (kinded.not-empty (length c.args.es.now) c.is_empty.result c.is_empty.ensures c.if-is_empty.false) c.loop-e-test.false c.loop-e.invariant
+    kinded.each-ends kinds c.args.es.now c.loop-e.e-index c.args.kind
+    (kinded.not-empty (length c.args.es.now) c.is_empty.result c.is_empty.ensures c.if-is_empty.false) c.loop-e-test.false c.loop-e.invariant
 
 pub each_part-loop-e-init : goal.each_part-loop-e-init
 each_part-loop-e-init g t c =
@@ -112,7 +113,8 @@ each_part-returns-then-not-is_kind g t c =
 pub each_part-returns : goal.each_part-returns
 each_part-returns g t c =
     let kinds = g.E.Env.kind_at c.args.env.now in
-    kinded.parts-end kinds c.args.parts.now c.loop-e.e-index (kinded.not-empty (length c.args.parts.now) c.is_empty.result c.is_empty.ensures c.if-is_empty.false) c.loop-e-test.false c.loop-e.invariant
+    kinded.parts-end kinds c.args.parts.now c.loop-e.e-index
+    (kinded.not-empty (length c.args.parts.now) c.is_empty.result c.is_empty.ensures c.if-is_empty.false) c.loop-e-test.false c.loop-e.invariant
 
 pub each_case-loop-test-init : goal.each_case-loop-test-init
 each_case-loop-test-init g t c =
@@ -138,4 +140,5 @@ each_case-returns-then-not-is_kind-2 g t c =
 pub each_case-returns : goal.each_case-returns
 each_case-returns g t c =
     let kinds = g.E.Env.kind_at c.args.env.now in
-    kinded.cases-end kinds c.args.cases.now c.loop-test.test-index c.args.kind (kinded.not-empty (length c.args.cases.now) c.is_empty.result c.is_empty.ensures c.if-is_empty.false) c.loop-test-test.false c.loop-test.invariant
+    kinded.cases-end kinds c.args.cases.now c.loop-test.test-index c.args.kind
+    (kinded.not-empty (length c.args.cases.now) c.is_empty.result c.is_empty.ensures c.if-is_empty.false) c.loop-test-test.false c.loop-test.invariant

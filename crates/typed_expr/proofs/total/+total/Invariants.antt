@@ -30,4 +30,5 @@ invariant-fold_total-loop-e g l =
 abbrev pub invariant-chosen-loop-test : goal.invariant-chosen-loop-test
 invariant-chosen-loop-test g l =
     let value = value_of (g.E.Env.value_at l.env) in
-    (other : Value) → first_true (map (λ c. (value c.0, value c.1)) (drop l.test-index l.cases)) other ≡ first_true (map (λ c. (value c.0, value c.1)) l.cases) other
+    (other : Value) → first_true (map (λ c. (value c.0, value c.1)) (drop l.test-index l.cases)) other ≡ first_true
+    (map (λ c. (value c.0, value c.1)) l.cases) other

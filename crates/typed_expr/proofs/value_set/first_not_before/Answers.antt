@@ -13,7 +13,9 @@ loop-low-preserved-then-before c =
     record {
       order = omega arith;
       within = within;
-      lower = lower-grows c.args.values.now c.args.v m c.requires (omega arith) (at-any c.args.values.now c.args.v m (Truth false) true (omega arith) (sym c.before-in-loop-low.ensures ∙ c.if-before.true));
+      lower =
+          lower-grows c.args.values.now c.args.v m c.requires (omega arith)
+          (at-any c.args.values.now c.args.v m (Truth false) true (omega arith) (sym c.before-in-loop-low.ensures ∙ c.if-before.true));
       upper = c.loop-low.invariant.upper;
     }
 
@@ -28,5 +30,7 @@ loop-low-preserved c =
       order = omega arith;
       within = omega arith;
       lower = c.loop-low.invariant.lower;
-      upper = upper-grows c.args.values.now c.args.v m c.requires (at-any c.args.values.now c.args.v m (Truth false) false (omega arith) (sym c.before-in-loop-low.ensures ∙ c.if-before.false));
+      upper =
+          upper-grows c.args.values.now c.args.v m c.requires
+          (at-any c.args.values.now c.args.v m (Truth false) false (omega arith) (sym c.before-in-loop-low.ensures ∙ c.if-before.false));
     }

@@ -3,7 +3,8 @@ use Rattle.ar_base.specs.Lists.{IsOneOf}
 use Rattle.domains.specs.declared.Value.{Value}
 use Rattle.gts_core.specs.declared.system.GtsParts.{GtsParts}
 use Rattle.stepper.specs.Changes.{restored, below_by}
-use Rattle.stepper.specs.Ways.{IsTotal, AreFlags}
+use Rattle.gts_core.specs.Readings.{IsTotal}
+use Rattle.stepper.specs.Ways.{AreFlags}
 use Rattle.stepper.proofs.Going.{back_total, back_below}
 use Rattle.stepper.proofs.stepper.Stepper.back.Goals as goal
 

@@ -2,7 +2,8 @@ use Rattle.std.proofs.Common.{◌≡◌, ◌++◌, ◌∷◌, [], List, sym, ap,
 use Rattle.domains.specs.declared.Value.{Value}
 use Rattle.gts_core.specs.declared.system.GtsParts.{GtsParts}
 use Rattle.stepper.specs.Changes.{restored}
-use Rattle.stepper.specs.Ways.{IsTotal, AreFlags}
+use Rattle.gts_core.specs.Readings.{IsTotal}
+use Rattle.stepper.specs.Ways.{AreFlags}
 use Rattle.stepper.specs.Steps.{Standing}
 use Rattle.stepper.proofs.Going.{go_below}
 use Rattle.stepper.proofs.stepper.Stepper.go.Goals as goal

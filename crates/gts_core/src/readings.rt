@@ -1,0 +1,87 @@
+//! What expressions read under a total valuation.
+
+ghost use Rattle.std.specs.Prelude.{◌≡◌, ◌∷◌, [], true};
+ghost use Rattle.std.specs.List.{list_all};
+ghost use Rattle.typed_expr.specs.Kinds.{kind_of};
+ghost use Rattle.gts_core.specs.Readings.{value_at, values_at, value_in, is_truth, is_met};
+
+use ar_base::VarId;
+use domains::Value;
+use typed_expr::{Env, Expr, ValueKind, eval_total};
+
+/// A total valuation, which gives each variable its one value.
+#[derive(Drop)]
+pub struct Assigned<'a> {
+    /// The values of the variables, in their order.
+    pub values: &'a [Value],
+}
+
+impl Env<VarId> for Assigned<'_> {
+    ghost value_at = { λ e x. value_at e.values.now x.n };
+
+    ghost facts_at = { λ e x. values_at e.values.now x.n };
+
+    ghost kind_at = { λ e x. kind_of (value_at e.values.now x.n) };
+
+    fn value(&self, v: &VarId) -> Value {
+        match self.values.get(v.n as usize) {
+            Some(value) => *value,
+            None => Value::Truth(false),
+        }
+    }
+
+    fn facts(&self, v: &VarId) -> &[Value] {
+        let place = v.n as usize;
+        if place < self.values.len() {
+            &self.values[place..place + 1]
+        } else {
+            &[]
+        }
+    }
+
+    fn kind(&self, v: &VarId) -> ValueKind {
+        match self.value(v) {
+            Value::Truth(_) => ValueKind::Truth,
+            Value::Whole(_) => ValueKind::Whole,
+            Value::Symbol(_) => ValueKind::Symbol,
+        }
+    }
+}
+
+/// The value of an expression under these values. Takes no memory.
+pub fn value_in(values: &[Value], expr: &Expr<VarId>) -> Value
+    ensures { result ≡ value_in values.now expr.now }
+{
+    let assigned = Assigned { values };
+    eval_total(expr, &assigned)
+}
+
+// Whether the value is this truth value.
+fn is_truth(v: Value, truth: bool) -> bool
+    ensures { result ≡ is_truth v truth }
+{
+    match v {
+        Value::Truth(b) => { if truth { b } else { !b } }
+        Value::Whole(_) => false,
+        Value::Symbol(_) => false,
+    }
+}
+
+/// Whether a test has the truth value that it must have. Takes no memory.
+pub fn is_met(values: &[Value], test: &Expr<VarId>, truth: bool) -> bool
+    ensures { result ≡ is_met values.now (test.now, truth) }
+{
+    is_truth(value_in(values, test), truth)
+}
+
+/// Whether every condition has the truth value that it must have. Takes no memory.
+pub fn are_met(values: &[Value], conditions: &[(Expr<VarId>, bool)]) -> bool
+    ensures { result ≡ list_all (is_met values.now) conditions.now }
+{
+    for (test, truth) in conditions {
+        if !is_met(values, test, *truth) {
+            return false;
+        }
+    }
+    true
+}

@@ -34,11 +34,6 @@ spans_first {new = new} s = sym (kind_before s.front new) ∙ sym (ap kind_at s.
 
 -- Declarations by their type
 
-form_kind : (f : TypeForm) (next : TokenKind) (ts : Tokens) → IsTypeForm f next ts → (kind_or next ts ≡ Reserved BOOLEAN) ⊎ ((kind_or next ts ≡ Reserved INTEGER) ⊎ (kind_or next ts ≡ Name))
-form_kind type_form.Boolean next ts g = inl (token_kind g)
-form_kind type_form.Integer next ts g = inr (inl (token_kind g))
-form_kind (type_form.Named id) next ts g = inr (inr (ap (kind_or next) g.alone ∙ g.of_kind))
-
 declared_kind : {n : ℕ} {m : Member} {next : TokenKind} {ts : Tokens} → (h : IsDeclared n m next ts) → kind_or next ts ≡ kind_or (kind_or next h.reads.back) h.reads.front
 declared_kind {next = next} h = ap (kind_or next) h.reads.split ∙ kind_join h.reads.front h.reads.back next
 

@@ -324,13 +324,6 @@ each_many One (x ∷ xs) next ts h =
     let more = each_many One xs next h.back h.second in
     (tt ∷ more.0, record { front = h.front; back = h.back; split = h.split; first = (x, h.first); second = more.1 })
 
-pub many_map : (A B : Form) (next : TokenKind) (ts : Tokens) → ((next : TokenKind) (ts : Tokens) → A next ts → B next ts) → many A next ts → many B next ts
-many_map A B next ts f (count, h) = (count, by_count count next ts h)
-  where
-    by_count : (count : List (Unit {0})) (next : TokenKind) (ts : Tokens) → each (λ _. A) count next ts → each (λ _. B) count next ts
-    by_count [] next ts h = h
-    by_count (x ∷ count) next ts h = record { front = h.front; back = h.back; split = h.split; first = f (kind_or next h.back) h.front h.first; second = by_count count next h.back h.second }
-
 pub each_maps : {X : Type 0} (One : X → Form) (B : Form) (xs : List X) (next : TokenKind) (ts : Tokens) → ((x : X) (next : TokenKind) (ts : Tokens) → One x next ts → B next ts) → each One xs next ts → many B next ts
 each_maps One B [] next ts f h = ([], h)
 each_maps One B (x ∷ xs) next ts f h =

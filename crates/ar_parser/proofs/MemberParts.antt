@@ -44,7 +44,7 @@ use Rattle.ar_parser.proofs.ExpressionForms.{then_unassoc}
 use Rattle.ar_parser.proofs.TextParts.{expr_begins}
 use Rattle.ar_parser.proofs.Standing.{begins_map, begins_nothing}
 use Rattle.ar_parser.proofs.Turning.{turns_path}
-use Rattle.ar_parser.proofs.InstrTexts.{May, Moves, moves_of, moves_then, moves_instr, some_path, some_instr}
+use Rattle.ar_parser.proofs.InstrTexts.{May, Moves, moves_of, moves_then, moves_instr, some_instr}
 use Rattle.ar_parser.proofs.UnreadParts.{turns_attribute}
 
 -- a form that stands where it begins
@@ -231,17 +231,6 @@ turns_must false = λ next next' ts h. record { one = h.one; alone = h.alone; pa
 
 pub turns_part : (p : Part) → Turns (IsPart p) part_text
 turns_part p = turns_then (turns_must p.must) (turns_path p.event)
-
-pub some_part : Begins part_text []
-some_part = begins_then (begins_one {test = is_part} (Sign EXCLAMATION) refl) some_path
-
--- a token that begins a part, as either test says it
-pub is_part_from : (k : TokenKind) → begins_part k ≡ true → is_part k ≡ true
-is_part_from k h = by_either (either (is_sign EXCLAMATION k) (is_sign QUESTION k) h)
-  where
-    by_either : (is_sign EXCLAMATION k ≡ true) ⊎ (is_sign QUESTION k ≡ true) → is_part k ≡ true
-    by_either (inl q) = ap is_part (sign_from EXCLAMATION k q)
-    by_either (inr q) = ap is_part (sign_from QUESTION k q)
 
 begins_part_from : (k : TokenKind) → is_part k ≡ true → begins_part k ≡ true
 begins_part_from (Sign s) e = by_either (either (s == EXCLAMATION) (s == QUESTION) e)

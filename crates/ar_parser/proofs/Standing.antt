@@ -49,17 +49,8 @@ passes_token e = passes (spans_token e) (λ m l. turns_token)
 pub passes_expected : {k : TokenKind} {left : ℕ} {old mid : Tokens} {t : Lexeme} → (old ≡ t ∷ mid) × (t.kind ≡ k) → Passes (λ m. token k) left old mid
 passes_expected e = passes (spans_expected e) (λ m l. turns_token)
 
-pub passes_nothing : {A : ℕ → Form} {left : ℕ} {old : Tokens} → Passes (λ m. many (A m)) left old old
-passes_nothing = record { front = []; split = refl; form = λ m l next. ([], refl) }
-
 pub passes_one : {test : TokenKind → Bool} {k : TokenKind} {left : ℕ} {old mid : Tokens} → Eats k old mid → test k ≡ true → Passes (λ m. one_of test) left old mid
 passes_one {test = test} e t = record { front = e.one ∷ []; split = e.split; form = λ m l next. record { one = e.one; alone = refl; passes = ap test e.of_kind ∙ t } }
-
-pub passes_map : {P Q : ℕ → Form} {left : ℕ} {old mid : Tokens} → Passes P left old mid → ((m : ℕ) (next : TokenKind) (ts : Tokens) → P m next ts → Q m next ts) → Passes Q left old mid
-passes_map s f = record { front = s.front; split = s.split; form = λ m l next. f m next s.front (s.form m l next) }
-
-pub passes_at : {P : ℕ → Form} {left : ℕ} {old mid mid' : Tokens} → Passes P left old mid → mid' ≡ mid → Passes P left old mid'
-passes_at {P} {left} {old} s e = subst (λ (t : Tokens). Passes P left old t) (sym e) s
 
 -- Tokens that are still to come
 

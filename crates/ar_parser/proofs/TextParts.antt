@@ -44,10 +44,6 @@ Starts test A = (next : TokenKind) (ts : Tokens) → A next ts → (kind_or next
 pub starts_then : (test : TokenKind → Bool) {A B : Form} → Starts test A → Starts test (A ▸ B)
 starts_then test f = λ next ts h none. ap test (first_of h) ∙ f (kind_or next h.back) h.front h.first (λ z. none (first_of h ∙ z))
 
--- no token of a text is of the kind that no token has
-none_at : (k : TokenKind) → is_sign 256 k ≡ false → k ≡ no_kind → ⊥
-none_at k f e = let q : true ≡ false = sym (ap (is_sign 256) e) ∙ f in absurd (cc)
-
 -- Paths
 
 pub start_first : (test : TokenKind → Bool) → test Name ≡ true → test (Reserved OWNER) ≡ true → test (Reserved MAIN) ≡ true → (next : TokenKind) (ts : Tokens) → Has IsStart next ts → next ≡ Name → test (kind_or next ts) ≡ true

@@ -71,9 +71,6 @@ unread_of_plain (suc n) next ts h = inl h
 pub unread_plain : (n : ℕ) {old new : Tokens} → Eats (kind_at old) old new → goes_unread (kind_at old) ≡ true → kind_at old ≢ Sign OPEN_PARENTHESIS → Spans (unread_piece n) old new
 unread_plain n {old} e g o = spans_map (plain_of (kind_at old) e g o) (unread_of_plain n)
 
-as_token : {k next : TokenKind} {ts : Tokens} → (h : plain_token next ts) → kind_or next ts ≡ k → token k next ts
-as_token {next = next} {ts = ts} h q = record { one = h.one; alone = h.alone; of_kind = sym (plain_kind next ts h) ∙ q }
-
 -- "(" Unread ")"
 
 pub bracketed_in : (n : ℕ) → n ≢ 0 → (next : TokenKind) (ts : Tokens) → (token (Sign OPEN_PARENTHESIS) ▸ unread (n - 1) ▸ token (Sign CLOSE_PARENTHESIS)) next ts → bracketed n next ts

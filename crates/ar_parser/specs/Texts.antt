@@ -266,11 +266,6 @@ pub record FitsNesting (n : ℕ) (front : Tokens) : Type 0 where
   pub more : Tokens
   pub reads : model_text deep n End (front ++ more)
 
--- the tokens with the next one, where there is one
-abbrev pub with_next : Tokens → Tokens → Tokens
-with_next front [] = front
-with_next front (t ∷ rest) = front ++ t ∷ []
-
 -- No text of the grammar goes on so: not with this token, and where there is none the tokens are no text.
 abbrev pub Ends : Tokens → Tokens → Type 0
 Ends front [] = (n : ℕ) → model_text never n End front → ⊥

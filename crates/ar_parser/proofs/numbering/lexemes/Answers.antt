@@ -1,5 +1,5 @@
 use Rattle.std.proofs.Common.{◌≡◌, ◌≤◌, length, arith, ap}
-use Rattle.ar_parser.proofs.NameLemmas.{front_of, last_of, turned_twice, lexical_told, lexemes_made}
+use Rattle.ar_parser.proofs.NameLemmas.{front_of, last_of, turned_twice, lexical_told}
 use Rattle.ar_parser.proofs.numbering.lexemes.Goals as goal
 
 pub returns-in-Err-clause-fault : goal.returns-in-Err-clause-fault

@@ -9,3 +9,5 @@ pub mod OneMember
 pub mod OneBody
 pub mod OneModel
 pub mod SameNumbers
+pub mod OpenedForms
+pub mod OpenedMembers

@@ -5,10 +5,17 @@ ghost use Rattle.ar_lexer.specs.Tokens.{AreTokens, IsFirstFault};
 ghost use Rattle.ar_lexer.specs.declared.token.LexFault.{LexFault};
 ghost use Rattle.ar_lexer.specs.declared.token.Token.{Token};
 ghost use Rattle.ar_syntax.specs.declared.expressions.RawExpr.{RawExpr};
+ghost use Rattle.ar_syntax.specs.declared.expressions.RawForm.{out-RawForm};
 ghost use Rattle.ar_syntax.specs.declared.expressions.RawForm.TheVariants.{Whole};
-ghost use Rattle.ar_readings.specs.Expressions.{SameExpr};
-ghost use Rattle.ar_readings.specs.Models.{HasOneTree};
+ghost use Rattle.ar_syntax.specs.declared.instructions.Instr.{Instr, out-Instr};
+ghost use Rattle.ar_syntax.specs.declared.items.Item.{Item};
+ghost use Rattle.ar_syntax.specs.declared.items.Model.{Model};
+ghost use Rattle.ar_syntax.specs.declared.members.Member.{Member, out-Member};
+ghost use Rattle.ar_readings.specs.Expressions.{SameExpr, SameInstr};
 ghost use Rattle.ar_readings.specs.Keeps.{TreesKeep};
+ghost use Rattle.ar_readings.specs.Members.{SameMember};
+ghost use Rattle.ar_readings.specs.Models.{HasOneTree, SameItem, SameModel};
+ghost use Rattle.ar_readings.specs.Opened.{SameForm, SameItemForm, SameKind, SameModelForm, SameStep};
 
 /// Each text has at most one tree: two readings have the same items, names, places and spans.
 pub fn one_tree()
@@ -27,6 +34,16 @@ pub fn agreement_says()
     ensures place { (e f : RawExpr) → SameExpr e f → e.at ≡ f.at }
     ensures span { (e f : RawExpr) → SameExpr e f → e.span ≡ f.span }
     ensures number { (e f : RawExpr) (n m : ℤ) → SameExpr e f → e.form ≡ Whole n → f.form ≡ Whole m → n ≡ m }
+{}
+
+/// Trees that agree have outermost forms of one kind, whose parts agree: the trees inside at every depth, lists item by item,
+/// and names, places, numbers and words are equal.
+pub fn agreement_opens()
+    ensures form { (e f : RawExpr) → SameExpr e f → SameForm (out-RawForm e.form) (out-RawForm f.form) }
+    ensures step { (i j : Instr) → SameInstr i j → SameStep (out-Instr i) (out-Instr j) }
+    ensures kind { (m n : Member) → SameMember m n → SameKind (out-Member m) (out-Member n) }
+    ensures item { (x y : Item) → SameItem x y → SameItemForm x y }
+    ensures model { (m n : Model) → SameModel m n → SameModelForm m n }
 {}
 
 /// Each name of a text's tree has a number in the tree's table, and no list of the tree has more items than the text has bytes.

@@ -11,3 +11,5 @@ pub mod OneModel
 pub mod SameNumbers
 pub mod OpenedForms
 pub mod OpenedMembers
+pub mod ClosedForms
+pub mod ClosedMembers

@@ -14,6 +14,7 @@ use Rattle.ar_syntax.specs.declared.items.DomainBody.TheVariants as domain
 use Rattle.ar_syntax.specs.declared.items.Item.{Item}
 use Rattle.ar_syntax.specs.declared.items.Item.TheVariants as item
 use Rattle.ar_syntax.specs.declared.items.Model.{Model}
+use Rattle.ar_syntax.specs.declared.members.Member.TheOpen.{Member-F}
 use Rattle.ar_syntax.specs.declared.members.Member.{Member, out-Member, roll-Member, roll-out-Member}
 use Rattle.ar_syntax.specs.declared.members.Member.TheOpen as open_member
 use Rattle.ar_syntax.specs.declared.members.Member.TheVariants as member
@@ -26,7 +27,7 @@ use Rattle.ar_readings.specs.Expressions as agree
 use Rattle.ar_readings.specs.Members.{SameMemberBy, SameMemberToDepth, SameMember}
 use Rattle.ar_readings.specs.Members as agree_member
 use Rattle.ar_readings.specs.Models.{SameDomain, symbols, range, SameItem, domains, classes, blocks, SameModel}
-use Rattle.ar_readings.specs.Opened.{InstrForm, SameStep, MemberForm, SameKind, SameBody, SameItemForm, SameModelForm}
+use Rattle.ar_readings.specs.Opened.{InstrForm, SameStep, SameKind, SameBody, SameItemForm, SameModelForm}
 use Rattle.ar_readings.proofs.Agreeing.{along_map}
 
 -- Instructions
@@ -81,7 +82,7 @@ instr_closed i j s (suc d) = steps_of d i j (out-Instr i) (out-Instr j) refl ref
 
 -- Members
 
-member_rolled : (m : Member) (x : MemberForm) → out-Member m ≡ x → m ≡ roll-Member x
+member_rolled : (m : Member) (x : Member-F Member UnitTree) → out-Member m ≡ x → m ≡ roll-Member x
 member_rolled m x e = sym (roll-out-Member m) ∙ ap roll-Member e
 
 kind-extends : (m : Member) (name : NameId) (at : Place) → out-Member m ≡ open_member.Extends name at
@@ -152,7 +153,7 @@ unfolding roll-Member denote.Hole.Carrier.roll
 kind-assert m i h = member_rolled m (open_member.Assert i) h
 
 module _ (d : ℕ) where
-  kinds_of : (m n : Member) (x y : MemberForm) → out-Member m ≡ x → out-Member n ≡ y → SameKind x y
+  kinds_of : (m n : Member) (x y : Member-F Member UnitTree) → out-Member m ≡ x → out-Member n ≡ y → SameKind x y
       → SameMemberBy (SameMemberToDepth d) m n
   kinds_of m n (open_member.Extends x a) (open_member.Extends y b) p q s =
       agree_member.equal (kind-extends m x a p ∙ ap (λ (z : NameId). member.Extends z a) s.0

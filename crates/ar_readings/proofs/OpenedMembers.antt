@@ -9,6 +9,7 @@ use Rattle.ar_syntax.specs.declared.items.DomainBody.TheVariants as domain
 use Rattle.ar_syntax.specs.declared.items.Item.{Item}
 use Rattle.ar_syntax.specs.declared.items.Item.TheVariants as item
 use Rattle.ar_syntax.specs.declared.items.Model.{Model}
+use Rattle.ar_syntax.specs.declared.members.Member.TheOpen.{Member-F}
 use Rattle.ar_syntax.specs.declared.members.Member.{Member, out-Member}
 use Rattle.ar_syntax.specs.declared.members.Member.TheOpen as member
 use Rattle.ar_syntax.specs.declared.members.Part.{Part}
@@ -20,7 +21,7 @@ use Rattle.ar_readings.specs.Expressions as agree
 use Rattle.ar_readings.specs.Members.{SameSetting, SamePart, SameUnitBy, SameMemberBy, SameMemberToDepth, SameMember}
 use Rattle.ar_readings.specs.Members as agree_member
 use Rattle.ar_readings.specs.Models.{SameDomain, symbols, range, SameItem, domains, classes, blocks, SameModel}
-use Rattle.ar_readings.specs.Opened.{InstrForm, SameStepBy, SameStep, MemberForm, SameKindBy, SameKind, SameBody, SameItemForm, SameModelForm}
+use Rattle.ar_readings.specs.Opened.{InstrForm, SameStepBy, SameStep, SameKindBy, SameKind, SameBody, SameItemForm, SameModelForm}
 use Rattle.ar_readings.proofs.Agreeing.{along_map}
 use Rattle.ar_readings.proofs.OpenedForms.{along_self, along_all, path_self, expr_self}
 
@@ -100,7 +101,7 @@ module _ (Same : Member → Member → Type 0) (self : (m : Member) → Same m m
   unit_self : (u : UnitTree) → SameUnitBy Same u u
   unit_self u = record { name = refl; place = refl; members = along_self self u.members.items }
 
-  kind_self : (m : MemberForm) → SameKindBy Same m m
+  kind_self : (m : Member-F Member UnitTree) → SameKindBy Same m m
   kind_self (member.Extends n a) = (refl, refl)
   kind_self (member.Declare t v s) = (refl, refl, along_self setting_self s.items)
   kind_self (member.Block u) = unit_self u
@@ -115,10 +116,10 @@ module _ (Same : Member → Member → Type 0) (self : (m : Member) → Same m m
   kind_self (member.Sync n a v) = (refl, refl, along_self part_self v.items)
   kind_self (member.Assert i) = same_instr i
 
-  both_kinds : (m n x y : MemberForm) → m ≡ x → n ≡ y → SameKindBy Same x y → SameKindBy Same m n
+  both_kinds : (m n x y : Member-F Member UnitTree) → m ≡ x → n ≡ y → SameKindBy Same x y → SameKindBy Same m n
   both_kinds m n x y p q s =
-      subst (λ (z : MemberForm). SameKindBy Same z n) (sym p)
-      (subst (λ (z : MemberForm). SameKindBy Same x z) (sym q) s)
+      subst (λ (z : Member-F Member UnitTree). SameKindBy Same z n) (sym p)
+      (subst (λ (z : Member-F Member UnitTree). SameKindBy Same x z) (sym q) s)
 
   members_forms : (m n : Member) → SameMemberBy Same m n → SameKindBy Same (out-Member m) (out-Member n)
   members_forms m n (agree_member.equal e) =
@@ -147,7 +148,7 @@ module _ (Same : Member → Member → Type 0) (self : (m : Member) → Same m m
       both_kinds _ _ _ _ (opened.member-assert m i u) (opened.member-assert n j w) s
 
 -- forms that are alike to each depth
-kinds_all : (m n : MemberForm) → ((d : ℕ) → SameKindBy (SameMemberToDepth d) m n) → SameKind m n
+kinds_all : (m n : Member-F Member UnitTree) → ((d : ℕ) → SameKindBy (SameMemberToDepth d) m n) → SameKind m n
 kinds_all (member.Extends x a) (member.Extends y b) h = h 0
 kinds_all (member.Declare t v s) (member.Declare u w r) h = h 0
 kinds_all (member.Block u) (member.Block w) h = record {

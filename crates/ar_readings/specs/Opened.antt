@@ -76,12 +76,9 @@ SameStep = SameStepBy SameInstr
 
 -- Members
 
--- a member with its outermost kind in view
-abbrev pub MemberForm : Type 0
-MemberForm = Member-F Member UnitTree
-
 -- one kind, where the members inside are related
-abbrev pub SameKindBy : (Member → Member → Type 0) → MemberForm → MemberForm → Type 0
+abbrev pub SameKindBy : (Member → Member → Type 0)
+    → Member-F Member UnitTree → Member-F Member UnitTree → Type 0
 SameKindBy Same (member.Extends n a) (member.Extends m b) = (n ≡ m) × (a ≡ b)
 SameKindBy Same (member.Declare t v s) (member.Declare u w r) =
     (t ≡ u) × (v.items ≡ w.items) × Along SameSetting s.items r.items
@@ -103,7 +100,7 @@ SameKindBy Same (member.Assert i) (member.Assert j) = SameInstr i j
 SameKindBy Same _ _ = ⊥
 
 -- one kind, and the members inside agree
-abbrev pub SameKind : MemberForm → MemberForm → Type 0
+abbrev pub SameKind : Member-F Member UnitTree → Member-F Member UnitTree → Type 0
 SameKind = SameKindBy SameMember
 
 -- Items

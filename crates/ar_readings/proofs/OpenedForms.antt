@@ -5,8 +5,11 @@ use Rattle.ar_syntax.specs.declared.paths.Path.{Path}
 use Rattle.ar_syntax.specs.declared.expressions.RawExpr.{RawExpr}
 use Rattle.ar_syntax.specs.declared.expressions.RawForm.{RawForm, out-RawForm}
 use Rattle.ar_syntax.specs.declared.expressions.RawForm.TheOpen as form
-use Rattle.ar_syntax.proofs.Opened.{form-path, form-not, form-minus, form-all, form-any, form-product, form-least, form-greatest, form-count, form-compare, form-sum, form-choice}
-use Rattle.ar_readings.specs.Expressions.{SamePath, Listed, all, any, product, least, greatest, count, form_of, SameParts, equal, path, negation, minus, listed, compared, sum, choice, SameToDepth, SameExpr}
+use Rattle.ar_syntax.proofs.Opened.{form-path, form-not, form-minus, form-all, form-any, form-product, form-least}
+use Rattle.ar_syntax.proofs.Opened.{form-greatest, form-count, form-compare, form-sum, form-choice}
+use Rattle.ar_readings.specs.Expressions.{SamePath, Listed, all, any, product, least, greatest, count, form_of}
+use Rattle.ar_readings.specs.Expressions.{SameParts, equal, path, negation, minus, listed, compared, sum, choice}
+use Rattle.ar_readings.specs.Expressions.{SameToDepth, SameExpr}
 use Rattle.ar_readings.specs.Opened.{ExprForm, SameFormBy, SameForm}
 use Rattle.ar_readings.proofs.Agreeing.{along_map}
 

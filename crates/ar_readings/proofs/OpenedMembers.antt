@@ -21,7 +21,8 @@ use Rattle.ar_readings.specs.Expressions as agree
 use Rattle.ar_readings.specs.Members.{SameSetting, SamePart, SameUnitBy, SameMemberBy, SameMemberToDepth, SameMember}
 use Rattle.ar_readings.specs.Members as agree_member
 use Rattle.ar_readings.specs.Models.{SameDomain, symbols, range, SameItem, domains, classes, blocks, SameModel}
-use Rattle.ar_readings.specs.Opened.{InstrForm, SameStepBy, SameStep, SameKindBy, SameKind, SameBody, SameItemForm, SameModelForm}
+use Rattle.ar_readings.specs.Opened.{InstrForm, SameStepBy, SameStep, SameKindBy, SameKind}
+use Rattle.ar_readings.specs.Opened.{SameBody, SameItemForm, SameModelForm}
 use Rattle.ar_readings.proofs.Agreeing.{along_map}
 use Rattle.ar_readings.proofs.OpenedForms.{along_self, along_all, path_self, expr_self}
 

@@ -9,3 +9,7 @@ pub mod OneMember
 pub mod OneBody
 pub mod OneModel
 pub mod SameNumbers
+pub mod OpenedForms
+pub mod OpenedMembers
+pub mod ClosedForms
+pub mod ClosedMembers

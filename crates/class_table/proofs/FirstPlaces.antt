@@ -1,0 +1,82 @@
+-- The earliest of places.
+use Rattle.std.proofs.Common.{◌≡◌, ℕ, ◌+◌, ◌<◌, ◌≤◌, ◌⊎◌, Option, Some, None, sym, ap, subst, inl, inr, arith}
+use Rattle.std.proofs.lemmas.Bool.{cases_lt}
+use Rattle.ar_base.specs.Breach.{IsEarlier}
+use Rattle.ar_base.specs.declared.places.Place.{Place}
+use Rattle.class_table.specs.Earliest.{IsEarliest, nowhere, there, IsEarlierOf, no_first, no_second, first, second, Until}
+
+-- by equations of what the cases are
+pub of_first : (f g : Option Place) → f ≡ None → IsEarlierOf f g g
+of_first f g e = subst (λ (z : Option Place). IsEarlierOf z g g) (sym e) no_first
+
+pub of_second : (f g : Option Place) (p : Place) → f ≡ Some p → g ≡ None → IsEarlierOf f g (Some p)
+of_second f g p e i =
+    subst (λ (z : Option Place). IsEarlierOf z g (Some p)) (sym e) (subst (λ (z : Option Place). IsEarlierOf (Some p) z (Some p)) (sym i) no_second)
+
+pub of_both : (f g r : Option Place) (p q : Place) → f ≡ Some p → g ≡ Some q → IsEarlierOf (Some p) (Some q) r → IsEarlierOf f g r
+of_both f g r p q e i h =
+    subst (λ (z : Option Place). IsEarlierOf z g r) (sym e) (subst (λ (z : Option Place). IsEarlierOf (Some p) z r) (sym i) h)
+
+-- numbers by cases
+pub lt_or_same : (m n : ℕ) → m ≤ n → (m < n) ⊎ (m ≡ n)
+lt_or_same m n l = elim (cases_lt m n) [ inl a ↦ inl a | inr b ↦ inr (omega (arith, l, b)) ]
+
+-- the order of places
+pub earlier_then : (p q r : Place) → IsEarlier p q → IsEarlier q r → IsEarlier p r
+earlier_then p q r (inl a) (inl b) = inl (omega (arith, a, b))
+earlier_then p q r (inl a) (inr b) = inl (omega (arith, a, b.0))
+earlier_then p q r (inr a) (inl b) = inl (omega (arith, a.0, b))
+earlier_then p q r (inr a) (inr b) = inr (omega (arith, a.0, b.0), omega (arith, a.1, b.1))
+
+-- no place is before itself
+pub not_before : (q p : Place) → IsEarlier q p → q ≡ p → ⊥
+not_before q p b d = let g = ap (λ (z : Place). z.line) d in let i = ap (λ (z : Place). z.column) d in elim b [ inl l ↦ omega (arith, l, g) | inr l ↦ omega (arith, l.1, i) ]
+
+-- what is before the first of two places that are in order is before the second
+pub earlier_not : (p q r : Place) → IsEarlier p q → (IsEarlier r q → ⊥) → IsEarlier p r
+earlier_not p q r h k = by h
+  where
+    lines : q.line ≤ r.line
+    lines = elim (cases_lt r.line q.line) [ inl a ↦ absurd (k (inl a)) | inr b ↦ b ]
+
+    by : IsEarlier p q → IsEarlier p r
+    by (inl a) = inl (omega (arith, a, lines))
+    by (inr a) = by_line (lt_or_same q.line r.line lines)
+      where
+        by_line : (q.line < r.line) ⊎ (q.line ≡ r.line) → IsEarlier p r
+        by_line (inl b) = inl (omega (arith, a.0, b))
+        by_line (inr b) = elim (cases_lt r.column q.column) [ inl c ↦ absurd (k (inr (sym b, c))) | inr c ↦ inr (omega (arith, a.0, b), omega (arith, a.1, c)) ]
+
+module _ {P Q : Place → Type 0} where
+  -- the earliest place of either of two properties
+  pub earliest_both : (f g r : Option Place) → IsEarliest P f → IsEarliest Q g → IsEarlierOf f g r → IsEarliest (λ p. P p ⊎ Q p) r
+  earliest_both f g r (nowhere h) (nowhere k) no_first = nowhere (λ p b. elim b [ inl a ↦ h p a | inr a ↦ k p a ])
+  earliest_both f g r (nowhere h) (there a k) no_first = there (inr a) (λ q e b. elim b [ inl c ↦ h q c | inr c ↦ k q e c ])
+  earliest_both f g r (there a h) (nowhere k) no_second = there (inl a) (λ q e b. elim b [ inl c ↦ h q e c | inr c ↦ k q c ])
+  earliest_both f g r (there {p = p} a h) (there {p = s} b k) (first n) =
+      there (inl a) (λ q e d. elim d [ inl c ↦ h q e c | inr c ↦ k q (earlier_not q p s e n) c ])
+  earliest_both f g r (there {p = p} a h) (there {p = s} b k) (second n) =
+      there (inr b) (λ q e d. elim d [ inl c ↦ h q (earlier_then q s p e n) c | inr c ↦ k q e c ])
+
+  -- the earliest place of a property that holds at the same places
+  pub earliest_same : (f : Option Place) → ((p : Place) → P p → Q p) → ((p : Place) → Q p → P p) → IsEarliest P f → IsEarliest Q f
+  earliest_same f to from (nowhere h) = nowhere (λ p q. h p (from p q))
+  earliest_same f to from (there {p = p} a h) = there (to p a) (λ q e b. h q e (from q b))
+
+module _ {P : ℕ → Place → Type 0} where
+  -- the earliest place so far, and with one number more
+  pub earliest_start : IsEarliest (Until P 0) None
+  earliest_start = nowhere (λ p u. omega (arith, u.below))
+
+  pub earliest_next : (n : ℕ) (f g r : Option Place) → IsEarliest (Until P n) f → IsEarliest (P n) g → IsEarlierOf f g r → IsEarliest (Until P (n + 1)) r
+  earliest_next n f g r h k e = earliest_same r to from (earliest_both f g r h k e)
+    where
+      to : (p : Place) → Until P n p ⊎ P n p → Until P (n + 1) p
+      to p (inl u) = record { k = u.k; below = omega (arith, u.below); holds = u.holds }
+      to p (inr u) = record { k = n; below = omega arith; holds = u }
+
+      last : (k : ℕ) → k < n + 1 → (k < n) ⊎ (k ≡ n)
+      last k l = lt_or_same k n (omega (arith, l))
+
+      from : (p : Place) → Until P (n + 1) p → Until P n p ⊎ P n p
+      from p u = elim (last u.k u.below) [ inl l ↦ inl (record { k = u.k; below = l; holds = u.holds }) | inr e ↦ inr (subst (λ (m : ℕ). P m p) e u.holds) ]

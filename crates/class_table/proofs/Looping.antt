@@ -1,0 +1,34 @@
+-- Loops that look for the earliest place.
+use Rattle.std.proofs.Common.{ℕ, ◌+◌, ◌≤◌, List, length, Option, None, subst, arith}
+use Rattle.ar_base.specs.Lists.{Stands}
+use Rattle.ar_base.specs.declared.places.Place.{Place}
+use Rattle.ar_base.proofs.Standing.{stands_one, stands_within}
+use Rattle.class_table.specs.Earliest.{IsEarliest, IsEarlierOf, Until}
+use Rattle.class_table.proofs.FirstPlaces.{earliest_same, earliest_start, earliest_next}
+
+-- the item at a number has P at the place
+pub record AtItem {A : Type 0} (xs : List A) (P : ℕ → A → Place → Type 0) (k : ℕ) (p : Place) : Type 0 where
+  pub item : A
+  pub stands : Stands xs k item
+  pub has : P k item p
+
+module _ {A : Type 0} (xs : List A) (P : ℕ → A → Place → Type 0) where
+  pub loop_start : IsEarliest (Until (AtItem xs P) 0) None
+  loop_start = earliest_start
+
+  pub loop_next : (i : ℕ) (a : A) (f g r : Option Place) → Stands xs i a → IsEarliest (Until (AtItem xs P) i) f → IsEarliest (P i a) g → IsEarlierOf f g r
+      → IsEarliest (Until (AtItem xs P) (i + 1)) r
+  loop_next i a f g r s h k e = earliest_next i f g r h (earliest_same g to from k) e
+    where
+      to : (p : Place) → P i a p → AtItem xs P i p
+      to p h = record { item = a; stands = s; has = h }
+
+      from : (p : Place) → AtItem xs P i p → P i a p
+      from p h = subst (λ (b : A). P i b p) (stands_one xs i h.item a h.stands s) h.has
+
+  pub loop_end : (Q : Place → Type 0) (i : ℕ) (f : Option Place) → length xs ≤ i → ((k : ℕ) (a : A) (p : Place) → Stands xs k a → P k a p → Q p)
+      → ((p : Place) → Q p → (k : ℕ) × AtItem xs P k p) → IsEarliest (Until (AtItem xs P) i) f → IsEarliest Q f
+  loop_end Q i f l to from h = earliest_same f (λ p u. to u.k u.holds.item p u.holds.stands u.holds.has) back h
+    where
+      back : (p : Place) → Q p → Until (AtItem xs P) i p
+      back p q = let w = from p q in let b = stands_within xs w.0 w.1.item w.1.stands in record { k = w.0; below = omega arith; holds = w.1 }

@@ -1,0 +1,25 @@
+//! The bodies, types and symbols of a model, and the rules that are tested over the whole text.
+#![tactic(auto)]
+
+mod containment;
+mod declaring;
+mod earliest;
+mod falling;
+mod inside;
+mod items;
+mod laws;
+mod laying;
+mod main_block;
+mod members;
+mod misnaming;
+mod naming;
+mod order;
+mod repeats;
+mod symbols;
+mod tables;
+mod tabling;
+mod types;
+
+pub use laws::{inherited_members_come_first, one_declared, one_list_of_members, one_refusal};
+pub use tables::{Body, Classes, Owned, TypeBody};
+pub use tabling::table;

@@ -1,0 +1,89 @@
+// Symbols, numbered in the order of their first appearance in declarations of domains.
+
+ghost use Rattle.std.specs.Prelude.{◌≡◌, ◌∷◌, [], ℕ, List, map, OnOk, IfOk, None, nat_eq};
+ghost use Rattle.std.specs.HashMap.{get};
+ghost use Rattle.ar_base.specs.Lists.{Along, Stands};
+ghost use Rattle.ar_base.specs.Numbers.{NameId as Name};
+ghost use Rattle.ar_base.specs.declared.places.Place.{Place};
+ghost use Rattle.class_table.specs.Declaring.{symbols_in, DomainType};
+ghost use Rattle.class_table.specs.Tables.{IsTypeOf};
+ghost use Rattle.class_table.specs.Symbols.{AreNumbered, UsesMore, list_of};
+
+use crate::tables::TypeBody;
+use ar_base::{Memory, NameId, Place};
+use ar_syntax::DomainBody;
+use domains::Domain;
+use std::alloc::Global;
+use std::collections::HashMap;
+
+/// The symbols so far, and the number of each by its name.
+#[derive(Drop)]
+pub(crate) struct Symbols {
+    pub list: Vec<NameId>,
+    numbers: HashMap<u32, u32>,
+}
+
+impl Symbols {
+    /// No symbols yet. Takes no memory.
+    pub(crate) fn new(alloc: Global) -> Symbols
+        ensures numbered { AreNumbered result }
+        ensures list { list_of result ≡ [] }
+    {
+        Symbols {
+            list: Vec::new(alloc),
+            numbers: HashMap::new(alloc),
+        }
+    }
+
+    // The number of a symbol: its own, or the next one where it is new.
+    fn number(&mut self, name: NameId) -> Result<u32, Memory>
+        ensures { AreNumbered self.old
+            → IfOk result (λ n. UsesMore (name.n ∷ []) self.old self.new × Stands (list_of self.new) n name.n) }
+    {
+        match self.numbers.get(&name.n).copied() {
+            Some(number) => Ok(number),
+            None => self.next_number(name),
+        }
+    }
+
+    // The next number for a new symbol.
+    fn next_number(&mut self, name: NameId) -> Result<u32, Memory>
+        ensures { AreNumbered self.old → get nat_eq self.old.numbers name.n ≡ None
+            → IfOk result (λ n. UsesMore (name.n ∷ []) self.old self.new × Stands (list_of self.new) n name.n) }
+    {
+        let Ok(number) = u32::try_from(self.list.len()) else {
+            return Err(Memory {});
+        };
+        self.numbers.insert(name.n, number)?;
+        self.list.push(name)?;
+        Ok(number)
+    }
+
+    // The numbers of the symbols of a declaration.
+    fn numbers(&mut self, alloc: Global, names: &[(NameId, Place)]) -> Result<Vec<u32>, Memory>
+        ensures { AreNumbered self.old
+            → IfOk result (λ numbers. UsesMore (map (λ n. n.0.n) names.now) self.old self.new
+            × Along (λ n k. Stands (list_of self.new) k n.0.n) names.now numbers.items) }
+    {
+        let mut numbers = Vec::new(alloc);
+        for (name, _) in names {
+            numbers.push(self.number(*name)?)?;
+        }
+        Ok(numbers)
+    }
+
+    /// The type that a declaration of a domain declares.
+    pub(crate) fn domain(&mut self, alloc: Global, body: &DomainBody) -> Result<TypeBody, Memory>
+        ensures { AreNumbered self.old
+            → IfOk result (λ t. UsesMore (symbols_in body.now) self.old self.new
+            × IsTypeOf (list_of self.new) (DomainType body.now) t) }
+    {
+        match body {
+            DomainBody::Range(low, high) => Ok(TypeBody::Domain(Domain::Range(*low, *high))),
+            DomainBody::Symbols(names) => {
+                let numbers = self.numbers(alloc, names)?;
+                Ok(TypeBody::Domain(Domain::Symbols(numbers)))
+            }
+        }
+    }
+}

@@ -1,0 +1,97 @@
+// The table of a model.
+
+ghost use Rattle.std.specs.Prelude.{◌≡◌, option_map};
+ghost use Rattle.ar_base.specs.Stages.{Meets};
+ghost use Rattle.class_table.specs.Tabling.{Tabulates, kept_rule};
+ghost use Rattle.std.specs.Prelude.{IfOk};
+ghost use Rattle.class_table.specs.Declaring.{Declared as Declaration};
+ghost use Rattle.class_table.specs.Earliest.{IsEarliest};
+ghost use Rattle.class_table.specs.Rules.{BreaksContainment};
+ghost use Rattle.class_table.specs.Shown.{Shows, IsListed};
+
+use crate::containment::first_contained;
+use crate::declaring::{Declared, declare};
+use crate::falling::falls;
+use crate::inside::all_inside;
+use crate::items::first_wrong_item;
+use crate::main_block::main_block;
+use crate::members::list_members;
+use crate::misnaming::first_misnamed;
+use crate::naming::first_named_twice;
+use crate::order::{Order, put_in_order};
+use crate::tables::{Body, Classes};
+use crate::types::TypeKinds;
+use ar_base::{BodyId, Memory, Place, RuleFault};
+use ar_syntax::Model;
+use std::alloc::Global;
+
+// The rule is refused where it is broken somewhere.
+fn keep(rule: u8, broken: Option<Place>) -> Result<(), RuleFault>
+    ensures { result ≡ kept_rule rule broken }
+{
+    match broken {
+        Some(place) => Err(RuleFault::Rule(rule, place)),
+        None => Ok(()),
+    }
+}
+
+// The earliest type name in a body whose class has that body inside it, where the order does not show that there is none.
+fn first_inside_itself(
+    alloc: Global,
+    bodies: &[Body],
+    types: &TypeKinds,
+    order: &Order,
+) -> Result<Option<Place>, Memory>
+    ensures { (d : Declaration) → Shows d bodies.now types.now → IfOk result (IsEarliest (BreaksContainment d)) }
+{
+    if falls(bodies, types, &order.ranks) {
+        return Ok(None);
+    }
+    first_contained(alloc, bodies, types)
+}
+
+// The bodies with their members listed.
+fn list_all(
+    alloc: Global,
+    mut bodies: Vec<Body>,
+    types: &TypeKinds,
+    order: &[BodyId],
+) -> Result<Vec<Body>, Memory>
+    ensures { (d : Declaration) → Shows d bodies.items types.now → IfOk result (λ listed. IsListed d listed.items) }
+{
+    list_members(alloc, &mut bodies, types, order)?;
+    Ok(bodies)
+}
+
+/// The table of a model, whose main block is the top-level block of the name `main`, else the last one. Refused with
+/// the least broken rule of L1 to L5, at the earliest place where it is broken; never for a limit.
+pub fn table(alloc: Global, model: Model, main: Option<&str>) -> Result<Classes, RuleFault>
+    ensures { Meets (Tabulates (option_map (λ t. t.now) main.entry)) (λ c answer. answer ≡ c) model result }
+{
+    let Model { names, items, end } = model;
+    let wrong_item = first_wrong_item(alloc, &items)?;
+    let Declared {
+        bodies,
+        types,
+        symbols,
+        blocks,
+    } = declare(alloc, items)?;
+    keep(1, wrong_item)?;
+    let kinds = TypeKinds::new(alloc, &types)?;
+    keep(2, first_misnamed(&bodies, &kinds))?;
+    let rows = all_inside(alloc, &bodies, &kinds)?;
+    let order = put_in_order(alloc, &rows)?;
+    keep(3, first_inside_itself(alloc, &bodies, &kinds, &order)?)?;
+    let listed = list_all(alloc, bodies, &kinds, &order.bodies)?;
+    keep(4, first_named_twice(alloc, &listed, &kinds)?)?;
+    let Some(main) = main_block(&names, &listed, &blocks, main) else {
+        return Err(RuleFault::Rule(5, end));
+    };
+    Ok(Classes {
+        names,
+        bodies: listed,
+        types,
+        symbols,
+        main,
+    })
+}

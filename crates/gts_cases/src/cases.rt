@@ -1,5 +1,6 @@
 // The cases.
 
+use crate::acts;
 use crate::builder::{Builder, symbol, truth, var};
 use crate::trace::{back, class, fire, if_enabled, line, start_fault, values};
 use ar_base::{Memory, WayId};
@@ -50,7 +51,8 @@ pub fn run_all<K: Sink>(alloc: Global, out: &mut K) -> Result<(), Stop> {
     two_values_of_a_flow(alloc, out)?;
     two_ways(alloc, out)?;
     two_values(alloc, out)?;
-    outside(alloc, out)
+    outside(alloc, out)?;
+    acts::run(alloc, out)
 }
 
 // Starts, tells the values, and fires the ways in turn.

@@ -1,6 +1,7 @@
 //! Steps of small systems that are built by hand, printed moment by moment.
 #![tactic(auto)]
 
+mod acts;
 mod builder;
 mod cases;
 mod trace;

@@ -12,6 +12,9 @@ use std::alloc::AllocError;
 use std::io;
 use texts::CASES;
 
+/// The room for a text, in bytes.
+const ROOM: usize = 65_536;
+
 fn no_memory() -> io::Error {
     io::Error::from(io::ErrorKind::OutOfMemory)
 }
@@ -65,6 +68,9 @@ fn print_table(rt: &HostRuntime, classes: &Classes) -> io::Result<()> {
 
 // Prints the answer for a text, whose main block is asked for by a name or, where that is empty, not at all.
 fn print_answer(rt: &HostRuntime, text: &str, main: &str) -> io::Result<()> {
+    if text.len() > ROOM {
+        return println!(rt; "too long");
+    }
     let Ok(model) = parse(rt.alloc(), text.as_bytes()) else {
         return println!(rt; "no model");
     };
@@ -79,6 +85,9 @@ fn print_answer(rt: &HostRuntime, text: &str, main: &str) -> io::Result<()> {
 
 // Prints whether a long text has a table.
 fn print_short(rt: &HostRuntime, text: &str) -> io::Result<()> {
+    if text.len() > ROOM {
+        return println!(rt; "= too long");
+    }
     let Ok(model) = parse(rt.alloc(), text.as_bytes()) else {
         return println!(rt; "= no model");
     };

@@ -7,14 +7,14 @@ ghost use Rattle.class_table.specs.Earliest.{IsEarlierOf};
 use ar_base::Place;
 
 /// Whether the first place comes before the second in the text.
-pub(crate) fn is_earlier(first: Place, second: Place) -> bool
+pub fn is_earlier(first: Place, second: Place) -> bool
     ensures { IsTrue result ↔ IsEarlier first second }
 {
     first.line < second.line || first.line == second.line && first.column < second.column
 }
 
-/// The earlier of two places, as far as there are any.
-pub(crate) fn earliest(found: Option<Place>, other: Option<Place>) -> Option<Place>
+/// The earlier of two places in the text, as far as there are any. Takes no memory.
+pub fn earliest(found: Option<Place>, other: Option<Place>) -> Option<Place>
     ensures { IsEarlierOf found other result }
 {
     match found {

@@ -3,7 +3,7 @@
 
 mod containment;
 mod declaring;
-mod earliest;
+pub mod earliest;
 mod falling;
 mod inside;
 mod items;

@@ -1,0 +1,9 @@
+pub mod Outcomes
+pub mod Lists
+pub mod Outermost
+pub mod Places
+pub mod Finding
+pub mod Apart
+pub mod Things
+pub mod Looking
+pub mod Rooted

@@ -1,0 +1,11 @@
+pub mod Alike
+pub mod EndsLead
+pub mod Looping
+pub mod LookUps
+pub mod TableSteps
+pub mod Stepping
+pub mod Running
+pub mod Fronts
+pub mod ClassNames
+pub mod NameLists
+pub mod Outcomes

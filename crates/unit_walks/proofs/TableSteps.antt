@@ -1,0 +1,285 @@
+-- How a table changes, and what stays true.
+use Rattle.std.proofs.Common.{◌≡◌, ◌<◌, ◌+◌, ◌++◌, ◌⊎◌, inl, inr, ℕ, zero, suc, true, false, List, [], ◌∷◌, Option, Some, None, length, length-append, slice_get, nat_eq, ◌==◌, refl, sym, ◌∙◌, ap, subst, arith, option_map}
+use Rattle.std.proofs.lemmas.Bool.{cases_eq, and_left, and_right}
+use Rattle.std.proofs.lemmas.Bool.Decides.{nat_tests}
+use Rattle.ar_base.specs.Lists.{Stands}
+use Rattle.ar_base.specs.Numbers.{BodyId}
+use Rattle.ar_base.proofs.Standing.{stands_left, stands_one, stands_within, stands_some}
+use Rattle.ar_syntax.specs.declared.paths.PathStart.TheVariants.{Owner}
+use Rattle.class_table.specs.Tables.{site_of}
+use Rattle.hierarchy.specs.Models.{RootedModel}
+use Rattle.hierarchy.specs.Units.{UnitPath, Level, body_of, bodies_of, has, start_of}
+use Rattle.hierarchy.specs.Tie.{IsSetAt, none, some}
+use Rattle.unit_walks.specs.Forms.{same_pair}
+use Rattle.unit_walks.specs.Tables.{known_at, level_of, path_below, path_met, paths_from, paths_of, Above, StandsIf, HasFrame, EndsAt, Means, IsMet, IsTable, IsSet, IsGrown, Extends}
+use Rattle.unit_walks.specs.Walking.{IsFrame, Chain, bottom, above}
+use Rattle.unit_walks.specs.declared.tables.Table.{Table}
+use Rattle.unit_walks.specs.declared.tables.Met.{Met}
+use Rattle.unit_walks.specs.declared.tables.Frame.{Frame}
+use Rattle.unit_walks.specs.declared.tables.Known.{Known}
+use Rattle.unit_walks.specs.declared.tables.Known.TheVariants.{Following, ToUnit, Nothing, Loops}
+use Rattle.unit_walks.proofs.EndsLead.{some_same}
+
+pub stands_last : {A : Type 0} (xs : List A) (x : A) (n : ℕ) → n ≡ length xs → Stands (xs ++ x ∷ []) n x
+stands_last [] x n e = rw e refl
+stands_last (a ∷ xs) x n e = rw e (stands_last xs x (length xs) refl)
+
+pub stands_split : {A : Type 0} (xs : List A) (y : A) (n : ℕ) (a : A) → Stands (xs ++ y ∷ []) n a → Stands xs n a ⊎ ((n ≡ length xs) × (a ≡ y))
+stands_split [] y zero a h = inr (refl, cc)
+stands_split [] y (suc n) a h = cc
+stands_split (x ∷ xs) y zero a h = inl h
+stands_split (x ∷ xs) y (suc n) a h = elim (stands_split xs y n a h) [ inl k ↦ inl k | inr k ↦ inr (ap suc k.0, k.1) ]
+
+pub paths_push : (paths : List UnitPath) (ds : List Met) (d : Met) → paths_from paths (ds ++ d ∷ []) ≡ paths_from paths ds ++ path_met (paths_from paths ds) d.owner (level_of d) ∷ []
+paths_push paths [] d = refl
+paths_push paths (e ∷ ds) d = paths_push (paths ++ path_met paths e.owner (level_of e) ∷ []) ds d
+
+pub paths_length : (paths : List UnitPath) (ds : List Met) → length (paths_from paths ds) ≡ length paths + length ds
+paths_length paths [] = omega arith
+paths_length paths (d ∷ ds) = let h = paths_length (paths ++ path_met paths d.owner (level_of d) ∷ []) ds in let k = length-append paths (path_met paths d.owner (level_of d) ∷ []) in omega arith
+
+pub count_paths : (t : Table) → length (paths_of t) ≡ length t.units.items
+count_paths t = let h = paths_length [] t.units.items in omega arith
+
+-- each unit of the one list is in the other, under its number
+pub record IsWider (paths more : List UnitPath) : Type 0 where
+  pub keeps : (n : ℕ) (u : UnitPath) → Stands paths n u → Stands more n u
+
+pub unit_wide : {s : RootedModel} {paths more : List UnitPath} {u : UnitPath} {x k : ℕ} → IsWider paths more → EndsAt s paths u x k → EndsAt s more u x k
+unit_wide {k = k} w i = record { path = i.path; stands = w.keeps k i.path i.stands; height = i.height; ends = i.ends }
+
+pub means_wide : (s : RootedModel) {paths more : List UnitPath} (u : UnitPath) (a x : ℕ) (frames : List Frame) (c : Known) → IsWider paths more → Means s paths frames a u x c → Means s more frames a u x c
+means_wide s u a x frames (ToUnit k) w m = unit_wide w m
+means_wide s u a x frames Nothing w m = m
+means_wide s u a x frames Loops w m = m
+means_wide s u a x frames Following w m = m
+
+pub means_frames : (s : RootedModel) (paths : List UnitPath) (u : UnitPath) (a x : ℕ) (frames more : List Frame) (c : Known) → (HasFrame frames a x → HasFrame more a x) → Means s paths frames a u x c → Means s paths more a u x c
+means_frames s paths u a x frames more (ToUnit k) f m = m
+means_frames s paths u a x frames more Nothing f m = m
+means_frames s paths u a x frames more Loops f m = m
+means_frames s paths u a x frames more Following f m = f m
+
+pub frame_wide : {s : RootedModel} {paths more : List UnitPath} {f : Frame} {u v : UnitPath} → IsWider paths more → IsFrame s paths f u v → IsFrame s more f u v
+frame_wide {f = f} {u = u} {v = v} w i = record { unit = w.keeps f.unit u i.unit; at = w.keeps f.at v i.at; reached = i.reached }
+
+pub chain_wide : {s : RootedModel} {paths more : List UnitPath} {frames : List Frame} {v : UnitPath} {y : ℕ} → IsWider paths more → Chain s paths frames v y → Chain s more frames v y
+chain_wide w bottom = bottom
+chain_wide w (above e f r c) = above e (frame_wide w f) r (chain_wide w c)
+
+pub above_wide : {paths more : List UnitPath} (u : UnitPath) (o : Option ℕ) → IsWider paths more → Above paths u o → Above more u o
+above_wide [] o w h = h
+above_wide (l ∷ up) o w (n, e, h) = (n, e, w.keeps n up h)
+
+pub set_paths : {old new : Table} {a x k : ℕ} {c : Known} → IsSet old new a x c k → paths_of new ≡ paths_of old
+set_paths i = ap (paths_from []) i.units
+
+pub met_wide : {s : RootedModel} {paths more : List UnitPath} {u : UnitPath} {d : Met} → IsWider paths more → IsMet s paths u d → IsMet s more u d
+met_wide {u = u} {d = d} w i = record { name = i.name; body = i.body; set_at = i.set_at; owner = above_wide u d.owner w i.owner }
+
+pub set_wide : {old new : Table} {a x k : ℕ} {c : Known} → IsSet old new a x c k → IsWider (paths_of old) (paths_of new)
+set_wide i = record { keeps = λ n w p. subst (λ paths. Stands paths n w) (sym (set_paths i)) p }
+
+pub table_set : {s : RootedModel} {old new : Table} {a x k : ℕ} {u : UnitPath} {c : Known} (frames more : List Frame) → IsTable s frames old → IsSet old new a x c k → Stands (paths_of old) a u
+    → Means s (paths_of old) more a u x c → ((b y : ℕ) → ((b ≡ a) × (y ≡ x) → ⊥) → HasFrame frames b y → HasFrame more b y) → IsTable s more new
+table_set {s = s} {old = old} {new = new} {a = a} {x = x} {u = u} {c = c} frames more t i h m f = record {
+  main = (set_wide i).keeps 0 [] t.main;
+  units = λ n d w p q. met_wide (set_wide i) (t.units n d w (subst (λ ds. Stands ds n d) i.units p) (old_at n w q));
+  known = λ b y d w p q. subst (λ paths. Means s paths more b w y d) (sym e) (go b y d w (old_at b w p) q (cases_eq b a) (cases_eq y x));
+  within = λ b y d q. subst (λ ds. b < length ds) (sym i.units) (in_range b y d q (cases_eq b a) (cases_eq y x));
+}
+  where
+    in_range : (b y : ℕ) (d : Known) → known_at new b y ≡ Some d → (b ≡ a) ⊎ (b ≡ a → ⊥) → (y ≡ x) ⊎ (y ≡ x → ⊥) → b < length old.units.items
+    in_range b y d q (inl g) (inl l) = let j = stands_within (paths_of old) a u h in let k = count_paths old in omega arith
+    in_range b y d q (inl g) (inr l) = t.within b y d (sym (i.other b y (λ z. l z.1)) ∙ q)
+    in_range b y d q (inr g) l = t.within b y d (sym (i.other b y (λ z. g z.0)) ∙ q)
+
+    e : paths_of new ≡ paths_of old
+    e = set_paths i
+
+    old_at : (n : ℕ) (w : UnitPath) → Stands (paths_of new) n w → Stands (paths_of old) n w
+    old_at n w p = subst (λ paths. Stands paths n w) e p
+
+    apart : (b y : ℕ) (d : Known) (w : UnitPath) → Stands (paths_of old) b w → known_at new b y ≡ Some d → ((b ≡ a) × (y ≡ x) → ⊥) → Means s (paths_of old) more b w y d
+    apart b y d w p q n = means_frames s (paths_of old) w b y frames more d (f b y n) (t.known b y d w p (sym (i.other b y n) ∙ q))
+
+    same : (b y : ℕ) (d : Known) (w : UnitPath) → Stands (paths_of old) b w → known_at new b y ≡ Some d → b ≡ a → y ≡ x → Means s (paths_of old) more b w y d
+    same b y d w p q g l =
+        let k : w ≡ u = stands_one (paths_of old) a w u (subst (λ b. Stands (paths_of old) b w) g p) h in
+        let r : known_at new a x ≡ Some d = subst (λ y. known_at new a y ≡ Some d) l (subst (λ b. known_at new b y ≡ Some d) g q) in
+        let j : c ≡ d = some_same (sym i.here ∙ r) in
+        let P : ℕ → UnitPath → ℕ → Known → Type 0 = λ b w y d. Means s (paths_of old) more b w y d in
+        subst (λ b. P b w y d) (sym g) (subst (λ w. P a w y d) (sym k) (subst (λ y. P a u y d) (sym l) (subst (λ d. P a u x d) j m)))
+
+    go : (b y : ℕ) (d : Known) (w : UnitPath) → Stands (paths_of old) b w → known_at new b y ≡ Some d → (b ≡ a) ⊎ (b ≡ a → ⊥) → (y ≡ x) ⊎ (y ≡ x → ⊥) → Means s (paths_of old) more b w y d
+    go b y d w p q (inl g) (inl l) = same b y d w p q g l
+    go b y d w p q (inl g) (inr l) = apart b y d w p q (λ z. l z.1)
+    go b y d w p q (inr g) l = apart b y d w p q (λ z. g z.0)
+
+pub set_extends : {old new : Table} {a x k : ℕ} {c : Known} → IsSet old new a x c k → Extends old new
+set_extends {old = old} {new = new} {a = a} {x = x} {c = c} i = record { units = (set_wide i).keeps; known = λ b y d q. go b y d q (cases_eq b a) (cases_eq y x) }
+  where
+    go : (b y : ℕ) (d : Known) → known_at old b y ≡ Some d → (b ≡ a) ⊎ (b ≡ a → ⊥) → (y ≡ x) ⊎ (y ≡ x → ⊥) → (e : Known) × (known_at new b y ≡ Some e)
+    go b y d q (inl g) (inl l) = (c, subst (λ b. known_at new b y ≡ Some c) (sym g) (subst (λ y. known_at new a y ≡ Some c) (sym l) i.here))
+    go b y d q (inl g) (inr l) = (d, i.other b y (λ z. l z.1) ∙ q)
+    go b y d q (inr g) l = (d, i.other b y (λ z. g z.0) ∙ q)
+
+pub extends_none : (t : Table) → Extends t t
+extends_none t = record { units = λ n u p. p; known = λ a x c p. (c, p) }
+
+pub extends_both : {old mid new : Table} → Extends old mid → Extends mid new → Extends old new
+extends_both e f = record { units = λ n u p. f.units n u (e.units n u p); known = λ a x c p. let q = e.known a x c p in f.known a x q.0 q.1 }
+
+pub wider : {old new : Table} → Extends old new → IsWider (paths_of old) (paths_of new)
+wider e = record { keeps = e.units }
+
+-- A unit is added
+
+grown_paths : {old new : Table} {d : Met} {n a : ℕ} (u : UnitPath) → IsGrown old new d n → d.owner ≡ Some a → Stands (paths_of old) a u → paths_of new ≡ paths_of old ++ (level_of d ∷ u) ∷ []
+grown_paths {old = old} {d = d} u g o h =
+    ap (paths_from []) g.units ∙ paths_push [] old.units.items d ∙ ap (λ o. paths_of old ++ path_met (paths_of old) o (level_of d) ∷ []) o
+    ∙ ap (λ o. paths_of old ++ path_below o (level_of d) ∷ []) h
+
+pub grown_wide : {old new : Table} {d : Met} {n a : ℕ} (u : UnitPath) → IsGrown old new d n → d.owner ≡ Some a → Stands (paths_of old) a u → IsWider (paths_of old) (paths_of new)
+grown_wide {old = old} {d = d} u g o h = record { keeps = λ k w p. subst (λ paths. Stands paths k w) (sym (grown_paths u g o h)) (stands_left (paths_of old) ((level_of d ∷ u) ∷ []) k w p) }
+
+pub grown_extends : {old new : Table} {d : Met} {n a : ℕ} (u : UnitPath) → IsGrown old new d n → d.owner ≡ Some a → Stands (paths_of old) a u → Extends old new
+grown_extends u g o h = record { units = (grown_wide u g o h).keeps; known = λ a x c p. (c, g.known a x ∙ p) }
+
+pub grown_stands : {old new : Table} {d : Met} {n a : ℕ} (u : UnitPath) → IsGrown old new d n → d.owner ≡ Some a → Stands (paths_of old) a u → Stands (paths_of new) n (level_of d ∷ u)
+grown_stands {old = old} {d = d} {n = n} u g o h =
+    let l : UnitPath = level_of d ∷ u in
+    subst (λ paths. Stands paths n l) (sym (grown_paths u g o h)) (stands_last (paths_of old) l n (g.at ∙ sym (count_paths old)))
+
+set_at_kept : (at : Option (BodyId × ℕ)) → IsSetAt (option_map site_of at) at
+set_at_kept None = none
+set_at_kept (Some at) = some refl refl
+
+level_met : (s : RootedModel) (paths : List UnitPath) (u : UnitPath) (d : Met) (a : ℕ) → d.owner ≡ Some a → Stands paths a u → IsMet s paths (level_of d ∷ u) d
+level_met s paths u d a o h = record { name = refl; body = refl; set_at = set_at_kept d.set_at; owner = (a, o, h) }
+
+pub table_grown : {s : RootedModel} {old new : Table} {d : Met} {n a : ℕ} (frames : List Frame) (u : UnitPath) → IsTable s frames old → IsGrown old new d n → d.owner ≡ Some a → Stands (paths_of old) a u → IsTable s frames new
+table_grown {s = s} {old = old} {new = new} {d = m} {a = owner} frames u t g o h = record {
+  main = wide.keeps 0 [] t.main;
+  units = λ k d w p q. both k d w (λ r j. met_wide wide (t.units k d w r j))
+      (λ r j. subst (λ w. IsMet s (paths_of new) w d) (sym j) (subst (λ d. IsMet s (paths_of new) l d) (sym r) (level_met s (paths_of new) u m owner o (wide.keeps owner u h)))) p q;
+  known = known;
+  within = λ a x c q. let i = t.within a x c (sym (g.known a x) ∙ q) in subst (λ ds. a < length ds) (sym g.units) (let k = length-append old.units.items (m ∷ []) in omega arith);
+}
+  where
+    wide : IsWider (paths_of old) (paths_of new)
+    wide = grown_wide u g o h
+
+    l : UnitPath
+    l = level_of m ∷ u
+
+    both : (k : ℕ) (d : Met) (w : UnitPath) {P : Type 0} → (Stands old.units.items k d → Stands (paths_of old) k w → P) → (d ≡ m → w ≡ l → P) → Stands new.units.items k d → Stands (paths_of new) k w → P
+    both k d w f j p q =
+        elim (stands_split old.units.items m k d (subst (λ ds. Stands ds k d) g.units p)) [
+          | inl a ↦ elim (stands_split (paths_of old) l k w (subst (λ ws. Stands ws k w) (grown_paths u g o h) q)) [
+            | inl b ↦ f a b
+            | inr b ↦ let i = stands_within old.units.items k d a in let e = count_paths old in absurd (omega (arith, b.0))
+          ]
+          | inr a ↦ elim (stands_split (paths_of old) l k w (subst (λ ws. Stands ws k w) (grown_paths u g o h) q)) [
+            | inl b ↦ let i = stands_within (paths_of old) k w b in let e = count_paths old in absurd (omega (arith, a.0))
+            | inr b ↦ j a.1 b.1
+          ]
+        ]
+
+    known : (a x : ℕ) (c : Known) (w : UnitPath) → Stands (paths_of new) a w → known_at new a x ≡ Some c → Means s (paths_of new) frames a w x c
+    known a x c w p q =
+        elim (stands_split (paths_of old) l a w (subst (λ ws. Stands ws a w) (grown_paths u g o h) p)) [
+          | inl b ↦ means_wide s w a x frames c wide (t.known a x c w b (sym (g.known a x) ∙ q))
+          | inr b ↦ let i = t.within a x c (sym (g.known a x) ∙ q) in let e = count_paths old in absurd (omega (arith, b.0))
+        ]
+
+-- What stands in a table
+
+module _ (s : RootedModel) (frames : List Frame) (t : Table) (k : IsTable s frames t) where
+  pub unit_within : (n : ℕ) (u : UnitPath) → Stands (paths_of t) n u → n < length t.units.items
+  unit_within n u h = let i = stands_within (paths_of t) n u h in let e = count_paths t in omega arith
+
+  pub entry_there : (n : ℕ) (u : UnitPath) → Stands (paths_of t) n u → (d : Met) × Stands t.units.items n d
+  entry_there n u h = stands_some t.units.items n (unit_within n u h)
+
+  pub met_there : (n : ℕ) (u : UnitPath) (d : Met) → Stands (paths_of t) n u → Some d ≡ slice_get t.units.items n → IsMet s (paths_of t) u d
+  met_there n u d h e = k.units n d u (sym e) h
+
+  pub owner_start : (n : ℕ) (u : UnitPath) (d : Met) → Stands (paths_of t) n u → Some d ≡ slice_get t.units.items n → StandsIf (paths_of t) d.owner (start_of Owner u)
+  owner_start n [] d h e = let i = met_there n [] d h e in subst (λ o. StandsIf (paths_of t) o None) (sym i.owner) tt
+  owner_start n (l ∷ up) d h e = let i = met_there n (l ∷ up) d h e in subst (λ o. StandsIf (paths_of t) o (Some up)) (sym i.owner.1) i.owner.2
+
+-- The search for a body in a unit and those above it
+
+-- it has come up to number at
+pub record IsUp (s : RootedModel) (paths : List UnitPath) (u : UnitPath) (at body : ℕ) : Type 0 where
+  pub path : UnitPath
+  pub stands : Stands paths at path
+  pub same : has (bodies_of s u) body ≡ has (bodies_of s path) body
+
+has_here : (s : RootedModel) (w : UnitPath) (b : ℕ) → body_of s w ≡ b → has (bodies_of s w) b ≡ true
+has_here s [] b e = let q : (s.main == b) ≡ true = grind (arith, nat_tests) in rw q refl
+has_here s (l ∷ w) b e = let q : (l.body == b) ≡ true = grind (arith, nat_tests) in rw q refl
+
+has_not : (s : RootedModel) (w : UnitPath) (b : ℕ) → w ≡ [] → (body_of s w ≡ b → ⊥) → has (bodies_of s w) b ≡ false
+has_not s [] b i e = let q : (s.main == b) ≡ false = grind (arith, nat_tests) in rw q refl
+has_not s (l ∷ w) b i e = cc
+
+has_up : (s : RootedModel) (l : Level) (w : UnitPath) (b : ℕ) → (l.body ≡ b → ⊥) → has (bodies_of s (l ∷ w)) b ≡ has (bodies_of s w) b
+has_up s l w b e = let q : (l.body == b) ≡ false = grind (arith, nat_tests) in rw q refl
+
+module _ (s : RootedModel) (frames : List Frame) (t : Table) (k : IsTable s frames t) (u : UnitPath) (at body : ℕ) (d : Met) (up : IsUp s (paths_of t) u at body)
+    (e : Some d ≡ slice_get t.units.items at) where
+  here : IsMet s (paths_of t) up.path d
+  here = met_there s frames t k at up.path d up.stands e
+
+  pub up_found : d.body.n ≡ body → true ≡ has (bodies_of s u) body
+  up_found z = sym (up.same ∙ has_here s up.path body (here.body ∙ z))
+
+  pub up_none : (d.body.n ≡ body → ⊥) → d.owner ≡ None → false ≡ has (bodies_of s u) body
+  up_none n o = sym (up.same ∙ has_not s up.path body (top up.path (subst (λ o. Above (paths_of t) up.path o) o here.owner)) (λ z. n (sym here.body ∙ z)))
+    where
+      top : (w : UnitPath) → Above (paths_of t) w None → w ≡ []
+      top [] h = refl
+      top (l ∷ w) h = cc h.1
+
+  pub up_on : (m : ℕ) → (d.body.n ≡ body → ⊥) → d.owner ≡ Some m → IsUp s (paths_of t) u m body
+  up_on m n o = go up.path up.stands up.same here.body (subst (λ o. Above (paths_of t) up.path o) o here.owner)
+    where
+      go : (w : UnitPath) → Stands (paths_of t) at w → has (bodies_of s u) body ≡ has (bodies_of s w) body → body_of s w ≡ d.body.n → Above (paths_of t) w (Some m) → IsUp s (paths_of t) u m body
+      go [] p q r h = cc
+      go (l ∷ w) p q r (j, z, h) = record { path = w; stands = subst (λ j. Stands (paths_of t) j w) (sym (some_same z)) h; same = q ∙ has_up s l w body (λ y. n (sym r ∙ y)) }
+
+-- Entries
+
+pub pair_apart : (a x b y : ℕ) → ((b ≡ a) × (y ≡ x) → ⊥) → same_pair (a, x) (b, y) ≡ false
+pair_apart a x b y n = go (cases_eq b a) (cases_eq y x)
+  where
+    go : (b ≡ a) ⊎ (b ≡ a → ⊥) → (y ≡ x) ⊎ (y ≡ x → ⊥) → same_pair (a, x) (b, y) ≡ false
+    go (inl g) (inl l) = absurd (n (g, l))
+    go (inl g) (inr l) = let q : nat_eq x y ≡ false = grind (arith, nat_tests) in and_right (nat_eq a b) (nat_eq x y) q
+    go (inr g) l = let q : nat_eq a b ≡ false = grind (arith, nat_tests) in and_left (nat_eq a b) (nat_eq x y) q
+
+pub table_started : (s : RootedModel) (t : Table) (d : Met) → t.units.items ≡ d ∷ [] → d.owner ≡ None → d.body.n ≡ s.main → d.set_at ≡ None → ((a x : ℕ) → known_at t a x ≡ None) → IsTable s [] t
+table_started s t d e o b z f = record {
+  main = subst (λ ds. Stands (paths_from [] ds) 0 []) (sym e) (main_only d o);
+  units = λ n c u p q. let h = one n c u p q in subst (λ u. IsMet s (paths_of t) u c) (sym h.1) (subst (λ c. IsMet s (paths_of t) [] c) (sym h.0) main_met);
+  known = λ a x c u p q. nothing (sym (f a x) ∙ q);
+  within = λ a x c q. nothing (sym (f a x) ∙ q);
+}
+  where
+    main_met : IsMet s (paths_of t) [] d
+    main_met = record { name = tt; body = sym b; set_at = subst (λ at. IsSetAt None at) (sym z) none; owner = o }
+
+    main_only : (d : Met) → d.owner ≡ None → Stands (paths_from [] (d ∷ [])) 0 []
+    main_only d o = ap (λ o. Some (path_met [] o (level_of d))) o
+
+    nothing : {A P : Type 0} {c : A} → None ≡ Some c → P
+    nothing e = cc
+
+    one : (n : ℕ) (c : Met) (u : UnitPath) → Stands t.units.items n c → Stands (paths_of t) n u → (c ≡ d) × (u ≡ [])
+    one n c u p q = both n (subst (λ ds. Stands ds n c) e p) (subst (λ ds. Stands (paths_from [] ds) n u) e q)
+      where
+        both : (n : ℕ) → Stands (d ∷ []) n c → Stands (paths_from [] (d ∷ [])) n u → (c ≡ d) × (u ≡ [])
+        both zero p q = (sym (some_same p), sym (some_same (sym (ap (λ o. Some (path_met [] o (level_of d))) o) ∙ q)))
+        both (suc n) p q = cc

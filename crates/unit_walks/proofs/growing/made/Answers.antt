@@ -1,0 +1,12 @@
+use Rattle.std.proofs.Common.{sym}
+use Rattle.unit_walks.proofs.Fronts.{alias_none, inner_own, clone_own}
+use Rattle.unit_walks.proofs.growing.made.Goals as goal
+
+pub returns-in-Alias : goal.returns-in-Alias
+returns-in-Alias c = λ m u g f t p named kind. alias_none m c.args.table.now u c.args.named.now g t named c.in-Alias.is
+
+pub returns-in-Inner : goal.returns-in-Inner
+returns-in-Inner c = λ m u g f t p named kind. c.inner_unit.ensures m u g f t p (sym named.name) kind (inner_own c.args.named.now g named c.in-Inner.is)
+
+pub returns-in-Clone : goal.returns-in-Clone
+returns-in-Clone c = λ m u g f t p named kind. c.inner_unit-in-Clone.ensures m u g f t p (sym named.name) kind (clone_own c.args.named.now g named c.in-Clone.is)

@@ -1,0 +1,177 @@
+// What walks have found: the units that they came to, and what names lead to in them.
+
+ghost use Rattle.std.specs.Prelude.{◌≡◌, ◌<◌, List, [], IfOk, OnOk, slice_get};
+ghost use Rattle.hierarchy.specs.Models.{RootedModel};
+ghost use Rattle.hierarchy.specs.Units.{UnitPath, bodies_of, has, start_of};
+ghost use Rattle.ar_base.specs.Lists.{Stands};
+ghost use Rattle.unit_walks.specs.declared.tables.Frame.{Frame as Walk};
+ghost use Rattle.unit_walks.specs.Tables.{known_at, paths_of, StandsIf, IsTable, IsSet, IsGrown};
+
+use ar_base::{BodyId, Memory, NameId};
+use ar_syntax::PathStart;
+use std::alloc::Global;
+use std::collections::HashMap;
+
+/// How many names in units are looked at, at most. A model within the limits has fewer.
+const MOST_KNOWN: u32 = 16_777_216;
+
+/// A unit that a walk has come to.
+#[derive(Clone, Copy)]
+pub(crate) struct Met {
+    /// The unit above, by its number in the table, which the main block has none of.
+    pub owner: Option<u32>,
+    /// Its name in the unit above.
+    pub name: NameId,
+    /// Its body.
+    pub body: BodyId,
+    /// The declaration whose settings hold in it.
+    pub set_at: Option<(BodyId, u32)>,
+}
+
+/// What is known of a name in a unit.
+#[derive(Clone, Copy)]
+pub(crate) enum Known {
+    /// Its path is being walked.
+    Following,
+    /// It leads to the unit of this number in the table.
+    ToUnit(u32),
+    /// It leads to nothing.
+    Nothing,
+    /// Its walk loops.
+    Loops,
+}
+
+/// The units that walks have come to, by number, and what is known of the names in them.
+#[derive(Drop)]
+pub(crate) struct Table {
+    /// The units; the main block is the first.
+    pub units: Vec<Met>,
+    /// What is known, by unit and name.
+    pub known: HashMap<(u32, u32), Known>,
+    /// How many names were looked at.
+    pub count: u32,
+}
+
+/// A clone or an alias whose path is being walked.
+#[derive(Clone, Copy)]
+pub(crate) struct Frame<'a> {
+    /// The unit in which it stands.
+    pub unit: u32,
+    /// Its name.
+    pub name: NameId,
+    /// Whether it is a clone.
+    pub is_clone: bool,
+    /// The unit to which its path has led.
+    pub at: u32,
+    /// The names that are to go.
+    pub rest: &'a [NameId],
+}
+
+/// A table with the main block alone.
+pub(crate) fn start_table(alloc: Global, main: BodyId) -> Result<Table, Memory>
+    ensures { (m : RootedModel) → main.n ≡ m.main → IfOk result (IsTable m []) }
+{
+    let mut units = Vec::new(alloc);
+    units.push(Met {
+        owner: None,
+        name: NameId::new(0),
+        body: main,
+        set_at: None,
+    })?;
+    Ok(Table {
+        units,
+        known: HashMap::new(alloc),
+        count: 0,
+    })
+}
+
+impl Table {
+    /// What is known of the name in the unit.
+    pub(crate) fn at(&self, unit: u32, name: NameId) -> Option<Known>
+        ensures { result ≡ known_at self.now unit name.n }
+    {
+        self.known.get(&(unit, name.n)).copied()
+    }
+
+    /// Sets what is known of a name that was looked at before.
+    pub(crate) fn set(&mut self, unit: u32, name: NameId, known: Known) -> Result<(), Memory>
+        ensures { OnOk result (IsSet self.old self.new unit name.n known 0) }
+    {
+        self.known.insert((unit, name.n), known)?;
+        Ok(())
+    }
+
+    /// Sets what is known of a name that is looked at for the first time.
+    pub(crate) fn add(&mut self, unit: u32, name: NameId, known: Known) -> Result<(), Memory>
+        ensures set { OnOk result (IsSet self.old self.new unit name.n known 1) }
+        ensures room { OnOk result (self.old.count < 16777216) }
+    {
+        let count = self.count;
+        if count >= MOST_KNOWN {
+            return Err(Memory {});
+        }
+        self.set(unit, name, known)?;
+        self.count = count + 1;
+        Ok(())
+    }
+
+    /// Adds a unit, and gives its number.
+    pub(crate) fn meet(&mut self, unit: Met) -> Result<u32, Memory>
+        ensures { IfOk result (IsGrown self.old self.new unit) }
+    {
+        let Ok(number) = u32::try_from(self.units.len()) else {
+            return Err(Memory {});
+        };
+        self.units.push(unit)?;
+        Ok(number)
+    }
+
+    /// The unit of a number.
+    pub(crate) fn unit(&self, number: u32) -> Option<Met>
+        ensures { result ≡ slice_get self.now.units.items number }
+    {
+        self.units.get(number as usize).copied()
+    }
+
+    /// Whether the unit or one above it has the body.
+    pub(crate) fn has_body(&self, unit: u32, body: BodyId) -> Result<bool, Memory>
+        ensures { (m : RootedModel) (frames : List Walk) (u : UnitPath) → IsTable m frames self.now
+            → Stands (paths_of self.now) unit u
+            → IfOk result (λ r. r ≡ has (bodies_of m u) body.n) }
+    {
+        let mut at = unit;
+        'up: loop {
+            let Some(met) = self.unit(at) else {
+                return Err(Memory {});
+            };
+            if met.body.n == body.n {
+                return Ok(true);
+            }
+            match met.owner {
+                None => return Ok(false),
+                Some(above) => {
+                    if above >= at {
+                        return Err(Memory {});
+                    }
+                    at = above;
+                }
+            }
+        }
+    }
+
+    /// Where a path begins that is read in the unit.
+    pub(crate) fn start(&self, start: PathStart, unit: u32) -> Result<Option<u32>, Memory>
+        ensures { (m : RootedModel) (frames : List Walk) (u : UnitPath) → IsTable m frames self.now
+            → Stands (paths_of self.now) unit u
+            → IfOk result (λ o. StandsIf (paths_of self.now) o (start_of start u)) }
+    {
+        match start {
+            PathStart::Here => Ok(Some(unit)),
+            PathStart::Main => Ok(Some(0)),
+            PathStart::Owner => match self.unit(unit) {
+                None => Err(Memory {}),
+                Some(met) => Ok(met.owner),
+            },
+        }
+    }
+}

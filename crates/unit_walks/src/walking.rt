@@ -1,0 +1,296 @@
+// Walks along paths. What each name in a unit leads to is found once.
+
+ghost use Rattle.std.specs.Prelude.{◌≡◌, List, [], ◌∷◌, true, IfOk, OnOk, Some};
+ghost use Rattle.ar_base.specs.Lists.{Stands};
+ghost use Rattle.hierarchy.specs.Models.{RootedModel};
+ghost use Rattle.hierarchy.specs.Units.{UnitPath, kind_at};
+ghost use Rattle.unit_walks.specs.Ends.{IsStatement};
+ghost use Rattle.unit_walks.specs.Forms.{IsFormsFor};
+ghost use Rattle.unit_walks.specs.Tables.{paths_of, IsTable, IsSet, IsEntered};
+ghost use Rattle.unit_walks.specs.Walking.{IsStep, IsNameStep, IsStatementStep, Steps, Weighs, IsWalking, IsReady, IsRun, IsKnown};
+ghost use Rattle.unit_walks.specs.declared.tables.Frame.{Frame as Walk};
+
+use crate::forms::{Forms, UnitForm};
+use crate::tables::{Frame, Known, Met, Table};
+use ar_base::{Memory, NameId};
+use ar_syntax::Path;
+use std::alloc::Global;
+
+/// What a step of a walk comes to.
+#[derive(Clone, Copy)]
+pub(crate) enum Step<'a> {
+    /// The walk goes on.
+    On(Frame<'a>),
+    /// Another statement is to be walked first.
+    Into(Frame<'a>),
+    /// It is known what the statement leads to.
+    Done,
+}
+
+// It is known what the top statement leads to.
+fn answer<'a>(table: &mut Table, top: &Frame, known: Known) -> Result<Step<'a>, Memory>
+    ensures { IfOk result (λ r. (r ≡ Step.Done)
+        × IsSet table.old table.new top.now.unit top.now.name.n known 0) }
+{
+    table.set(top.unit, top.name, known)?;
+    Ok(Step::Done)
+}
+
+// The path of a clone has been walked to its end: the unit is of the same body and settings, in the
+// clone's own unit.
+fn copy<'a>(table: &mut Table, top: &Frame) -> Result<Step<'a>, Memory>
+    ensures step { top.now.rest.now ≡ [] → top.now.is_clone ≡ true
+        → IfOk result (IsStep top.now table.old table.new) }
+    ensures weighs { IfOk result (Weighs top.now table.old table.new) }
+{
+    let Some(target) = table.unit(top.at) else {
+        return Err(Memory {});
+    };
+    if table.has_body(top.unit, target.body)? {
+        return answer(table, top, Known::Loops);
+    }
+    let unit = table.meet(Met {
+        owner: Some(top.unit),
+        name: top.name,
+        body: target.body,
+        set_at: target.set_at,
+    })?;
+    answer(table, top, Known::ToUnit(unit))
+}
+
+// The path of the top statement has been walked to its end.
+fn arrive<'a>(table: &mut Table, top: &Frame) -> Result<Step<'a>, Memory>
+    ensures step { top.now.rest.now ≡ [] → IfOk result (IsStep top.now table.old table.new) }
+    ensures weighs { IfOk result (Weighs top.now table.old table.new) }
+{
+    if top.is_clone {
+        copy(table, top)
+    } else {
+        answer(table, top, Known::ToUnit(top.at))
+    }
+}
+
+// A unit that stands in the text, met for the first time.
+fn enter(table: &mut Table, unit: u32, met: Met) -> Result<u32, Memory>
+    ensures { IfOk result (IsEntered table.old table.new unit met) }
+{
+    let number = table.meet(met)?;
+    table.add(unit, met.name, Known::ToUnit(number))?;
+    Ok(number)
+}
+
+// A clone or an alias that is met for the first time.
+fn follow<'a>(
+    table: &mut Table,
+    top: &Frame<'a>,
+    name: NameId,
+    is_clone: bool,
+    path: &'a Path,
+) -> Result<Step<'a>, Memory>
+    ensures step { IfOk result
+        (IsStatementStep top.now name.n is_clone path.now table.old table.new) }
+    ensures weighs { IfOk result (Weighs top.now table.old table.new) }
+{
+    match table.start(path.start, top.at)? {
+        None => {
+            table.add(top.at, name, Known::Nothing)?;
+            Ok(Step::On(*top))
+        }
+        Some(at) => {
+            table.add(top.at, name, Known::Following)?;
+            Ok(Step::Into(Frame {
+                unit: top.at,
+                name,
+                is_clone,
+                at,
+                rest: &path.names,
+            }))
+        }
+    }
+}
+
+// The next name, of which nothing is known.
+fn look<'a>(
+    forms: &Forms<'a>,
+    table: &mut Table,
+    top: &Frame<'a>,
+    name: NameId,
+) -> Result<Step<'a>, Memory>
+    ensures step { IfOk result (IsNameStep forms.now top.now name.n table.old table.new) }
+    ensures weighs { IfOk result (Weighs top.now table.old table.new) }
+{
+    let Some(here) = table.unit(top.at) else {
+        return Err(Memory {});
+    };
+    match forms.form(here.body, name) {
+        None => answer(table, top, Known::Nothing),
+        Some(UnitForm::Inner(body, set_at)) => {
+            let owner = Some(top.at);
+            enter(
+                table,
+                top.at,
+                Met {
+                    owner,
+                    name,
+                    body,
+                    set_at,
+                },
+            )?;
+            Ok(Step::On(*top))
+        }
+        Some(UnitForm::Clone(path)) => follow(table, top, name, true, path),
+        Some(UnitForm::Alias(path)) => follow(table, top, name, false, path),
+    }
+}
+
+// One step of the walk of the top statement.
+fn take_step<'a>(forms: &Forms<'a>, table: &mut Table, top: &Frame<'a>) -> Result<Step<'a>, Memory>
+    ensures step { (m : RootedModel) (below : List Walk) → IsFormsFor m forms.now
+        → IsWalking m below top.now table.old
+        → IfOk result (Steps m below top.now table.old table.new) }
+    ensures weighs { IfOk result (Weighs top.now table.old table.new) }
+{
+    let Some((name, rest)) = top.rest.split_first() else {
+        return arrive(table, top);
+    };
+    match table.at(top.at, *name) {
+        None => look(forms, table, top, *name),
+        Some(Known::ToUnit(at)) => Ok(Step::On(Frame { at, rest, ..*top })),
+        Some(Known::Nothing) => answer(table, top, Known::Nothing),
+        Some(Known::Loops) => answer(table, top, Known::Loops),
+        Some(Known::Following) => answer(table, top, Known::Loops),
+    }
+}
+
+// Walks the first statement, and each that has to be walked before it.
+fn run<'a>(
+    alloc: Global,
+    forms: &Forms<'a>,
+    table: &mut Table,
+    first: Frame<'a>,
+) -> Result<(), Memory>
+    ensures { (m : RootedModel) → IsFormsFor m forms.now → IsWalking m [] first.entry table.old
+        → OnOk result (IsRun m table.old table.new) }
+{
+    let mut below: Vec<Frame<'a>> = Vec::new(alloc);
+    let mut top = first;
+    'walk: loop {
+        match take_step(forms, table, &top)? {
+            Step::On(next) => top = next,
+            Step::Into(next) => {
+                below.push(top)?;
+                top = next;
+            }
+            Step::Done => match below.pop() {
+                None => return Ok(()),
+                Some(next) => top = next,
+            },
+        }
+    }
+}
+
+// Walks a statement that is met for the first time.
+fn walk<'a>(
+    alloc: Global,
+    forms: &Forms<'a>,
+    table: &mut Table,
+    first: Frame<'a>,
+) -> Result<Known, Memory>
+    ensures { (m : RootedModel) → IsFormsFor m forms.now → IsReady m first.entry table.old
+        → IfOk result (IsKnown m table.old table.new first.entry.unit first.entry.name.n) }
+{
+    table.add(first.unit, first.name, Known::Following)?;
+    run(alloc, forms, table, first)?;
+    match table.at(first.unit, first.name) {
+        None => Ok(Known::Nothing),
+        Some(known) => Ok(known),
+    }
+}
+
+// What a clone or an alias of the unit leads to, of which nothing is known.
+fn statement(
+    alloc: Global,
+    forms: &Forms,
+    table: &mut Table,
+    unit: u32,
+    name: NameId,
+    is_clone: bool,
+    path: &Path,
+) -> Result<Known, Memory>
+    ensures { (m : RootedModel) (u : UnitPath) → IsFormsFor m forms.now → IsTable m [] table.old
+        → Stands (paths_of table.old) unit u → IsStatement path.now is_clone (kind_at m u name.n)
+        → IfOk result (IsKnown m table.old table.new unit name.n) }
+{
+    match table.start(path.start, unit)? {
+        None => {
+            table.add(unit, name, Known::Nothing)?;
+            Ok(Known::Nothing)
+        }
+        Some(at) => walk(
+            alloc,
+            forms,
+            table,
+            Frame {
+                unit,
+                name,
+                is_clone,
+                at,
+                rest: &path.names,
+            },
+        ),
+    }
+}
+
+// What the name leads to in the unit, of which nothing is known.
+fn discover(
+    alloc: Global,
+    forms: &Forms,
+    table: &mut Table,
+    unit: u32,
+    name: NameId,
+) -> Result<Known, Memory>
+    ensures { (m : RootedModel) (u : UnitPath) → IsFormsFor m forms.now → IsTable m [] table.old
+        → Stands (paths_of table.old) unit u
+        → IfOk result (IsKnown m table.old table.new unit name.n) }
+{
+    let Some(here) = table.unit(unit) else {
+        return Err(Memory {});
+    };
+    match forms.form(here.body, name) {
+        None => Ok(Known::Nothing),
+        Some(UnitForm::Inner(body, set_at)) => {
+            let owner = Some(unit);
+            let number = enter(
+                table,
+                unit,
+                Met {
+                    owner,
+                    name,
+                    body,
+                    set_at,
+                },
+            )?;
+            Ok(Known::ToUnit(number))
+        }
+        Some(UnitForm::Clone(path)) => statement(alloc, forms, table, unit, name, true, path),
+        Some(UnitForm::Alias(path)) => statement(alloc, forms, table, unit, name, false, path),
+    }
+}
+
+/// What the name leads to in the unit.
+pub(crate) fn known(
+    alloc: Global,
+    forms: &Forms,
+    table: &mut Table,
+    unit: u32,
+    name: NameId,
+) -> Result<Known, Memory>
+    ensures { (m : RootedModel) (u : UnitPath) → IsFormsFor m forms.now → IsTable m [] table.old
+        → Stands (paths_of table.old) unit u
+        → IfOk result (IsKnown m table.old table.new unit name.n) }
+{
+    match table.at(unit, name) {
+        Some(known) => Ok(known),
+        None => discover(alloc, forms, table, unit, name),
+    }
+}

@@ -1,0 +1,16 @@
+pub mod DeclaredLemmas
+pub mod Placed
+pub mod FirstLinks
+pub mod Reaching
+pub mod Capping
+pub mod Choosing
+pub mod LinkLemmas
+pub mod RuleLemmas
+pub mod WaysLemmas
+pub mod KnownLemmas
+pub mod Adding
+pub mod Composing
+pub mod Totals
+pub mod Existing
+pub mod Meaning
+pub mod ByNumber

@@ -1,0 +1,5 @@
+pub mod Plans
+pub mod Expanding
+pub mod Counts
+pub mod Links
+pub mod Planning

@@ -1,0 +1,33 @@
+// The call that expands declared events.
+
+ghost use Rattle.ar_base.specs.Stages.{Meets};
+ghost use Rattle.sync_expand.specs.Expanding.{AreExpandable, Expands};
+ghost use Rattle.sync_expand.specs.Plans.{IsPlan};
+
+use crate::counting::{count_ways, fit_parts};
+use crate::links::keep_rule;
+use crate::planning::{Numbering, plan};
+use crate::plans::WayPlan;
+use crate::search::parts_first;
+use ar_base::RuleFault;
+use gts_core::DeclaredEvent;
+use std::alloc::Global;
+
+/// The ways of declared events, event by event, those of an event in the order of its transitions
+/// and synchronisations, and those of a synchronisation in lexicographic order of the choices of
+/// one way for each part. An event without ways gives none to a synchronisation that names it.
+///
+/// Refused with rule L14 where an event is reached from one of its own synchronisations, at the
+/// earliest place of one; then with `ways` where an event has more than 256; then with `way parts`
+/// where the synchronised ways have more than 1,000,000 parts together. Nothing is expanded before.
+pub fn ways(alloc: Global, events: &[DeclaredEvent]) -> Result<Vec<WayPlan>, RuleFault>
+    requires { AreExpandable events.now }
+    ensures { Meets Expands (λ ways plan. IsPlan events.now ways plan.items) events.now result }
+{
+    let order = parts_first(alloc, events)?;
+    keep_rule(alloc, events, &order.ranks)?;
+    let counts = count_ways(alloc, events, &order.events)?;
+    fit_parts(events, &counts)?;
+    let numbering = Numbering::new(alloc, counts)?;
+    Ok(plan(alloc, events, &numbering)?)
+}

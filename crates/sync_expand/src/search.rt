@@ -1,0 +1,178 @@
+// An order of events in which parts come first, and ranks by which those that lead back to
+// themselves are told.
+//
+// One search through the parts of each event, which opens each event once and holds the events that
+// are open in a list. Events that are reached from one another get one rank; any other event has a
+// greater rank than its parts. Nothing is proved of the order and the ranks: who uses them tests
+// what it rests on, and refuses for want of memory where the test fails.
+
+use ar_base::{EventId, Memory};
+use gts_core::{DeclaredEvent, DeclaredWay};
+use std::alloc::Global;
+
+/// The events, parts first, and the rank of each.
+#[derive(Drop)]
+pub(crate) struct Order {
+    pub events: Vec<EventId>,
+    pub ranks: Vec<u32>,
+}
+
+// An event whose parts are being looked at, with the way and the part that come next.
+#[derive(Clone, Copy)]
+struct Open {
+    event: EventId,
+    way: usize,
+    part: usize,
+}
+
+// When each event was met, counted from 1; the earliest event without a rank that was found to be
+// reached from it; the events that are open; those that were met and have no rank yet; and how many
+// were met and how many ranks were given.
+#[derive(Drop)]
+struct Search {
+    met: Vec<u32>,
+    earliest: Vec<u32>,
+    open: Vec<Open>,
+    waiting: Vec<EventId>,
+    count: u32,
+    rank: u32,
+    order: Order,
+}
+
+/// The order and the ranks of events.
+pub(crate) fn parts_first(alloc: Global, events: &[DeclaredEvent]) -> Result<Order, Memory> {
+    let mut search = Search {
+        met: vec![in alloc; 0; events.len()]?,
+        earliest: vec![in alloc; 0; events.len()]?,
+        open: Vec::new(alloc),
+        waiting: Vec::new(alloc),
+        count: 0,
+        rank: 0,
+        order: Order {
+            events: Vec::new(alloc),
+            ranks: vec![in alloc; 0; events.len()]?,
+        },
+    };
+    for n in 0..events.len() {
+        if let Ok(n) = u32::try_from(n) {
+            search_from(events, EventId::new(n), &mut search)?;
+        }
+    }
+    let Search {
+        met: _,
+        earliest: _,
+        open: _,
+        waiting: _,
+        count: _,
+        rank: _,
+        order,
+    } = search;
+    Ok(order)
+}
+
+fn at(list: &[u32], event: EventId) -> u32 {
+    list.get(event.n as usize).copied().unwrap_or(0)
+}
+
+fn put(list: &mut [u32], event: EventId, value: u32) {
+    if let Some(entry) = list.get_mut(event.n as usize) {
+        *entry = value;
+    }
+}
+
+// Goes through an event and all that are reached from it and were not met before.
+fn search_from(events: &[DeclaredEvent], root: EventId, search: &mut Search) -> Result<(), Memory> {
+    meet(search, root)?;
+    for _turn in 0..u64::MAX {
+        let Some(top) = search.open.pop() else {
+            return Ok(());
+        };
+        match next_part(events, top) {
+            Some((part, next)) => {
+                search.open.push(next)?;
+                look(search, top.event, part)?;
+            }
+            None => leave(search, top.event)?,
+        }
+    }
+    Ok(())
+}
+
+// The part that comes next, and what comes behind it.
+fn next_part(events: &[DeclaredEvent], open: Open) -> Option<(EventId, Open)> {
+    let ways = events.get(open.event.n as usize)?.ways.get(open.way..)?;
+    let mut next = open;
+    for way in ways {
+        if let Some(event) = part_at(way, next.part) {
+            next.part = next.part.saturating_add(1);
+            return Some((event, next));
+        }
+        next.way = next.way.saturating_add(1);
+        next.part = 0;
+    }
+    None
+}
+
+fn part_at(way: &DeclaredWay, place: usize) -> Option<EventId> {
+    match way {
+        DeclaredWay::Sync(parts, _) => {
+            let (_, event) = parts.get(place)?;
+            Some(*event)
+        }
+        DeclaredWay::Local(_, _) => None,
+    }
+}
+
+// Opens an event that was not met before.
+fn meet(search: &mut Search, event: EventId) -> Result<(), Memory> {
+    if event.n as usize >= search.met.len() || at(&search.met, event) > 0 {
+        return Ok(());
+    }
+    search.count = search.count.saturating_add(1);
+    put(&mut search.met, event, search.count);
+    put(&mut search.earliest, event, search.count);
+    search.waiting.push(event)?;
+    search.open.push(Open {
+        event,
+        way: 0,
+        part: 0,
+    })?;
+    Ok(())
+}
+
+// Looks at a part of an event.
+fn look(search: &mut Search, event: EventId, part: EventId) -> Result<(), Memory> {
+    let met = at(&search.met, part);
+    if met == 0 {
+        return meet(search, part);
+    }
+    if at(&search.order.ranks, part) == 0 {
+        let earliest = at(&search.earliest, event).min(met);
+        put(&mut search.earliest, event, earliest);
+    }
+    Ok(())
+}
+
+// Leaves an event whose parts were all looked at.
+fn leave(search: &mut Search, event: EventId) -> Result<(), Memory> {
+    search.order.events.push(event)?;
+    let earliest = at(&search.earliest, event);
+    if earliest == at(&search.met, event) {
+        search.rank = search.rank.saturating_add(1);
+        rank_down_to(search, event);
+    } else if let Some(above) = search.open.last().copied() {
+        let least = at(&search.earliest, above.event).min(earliest);
+        put(&mut search.earliest, above.event, least);
+    }
+    Ok(())
+}
+
+// Gives the rank to the event and to all that were met behind it and have none.
+fn rank_down_to(search: &mut Search, event: EventId) {
+    while let Some(last) = search.waiting.pop() {
+        put(&mut search.order.ranks, last, search.rank);
+        if last.n == event.n {
+            return;
+        }
+    }
+}

@@ -1,0 +1,4 @@
+pub mod Sizes
+pub mod Limits
+pub mod Counting
+pub mod Typing

@@ -1,0 +1,2 @@
+pub mod PartForms
+pub mod RuleForms

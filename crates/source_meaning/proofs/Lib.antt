@@ -1,0 +1,10 @@
+pub mod OneMeaning
+pub mod OneDomain
+pub mod Numbers
+pub mod OneSystem
+pub mod Moving
+pub mod BoundMeaning
+pub mod BoundInstructions
+pub mod RuleCases
+pub mod SoundActs
+pub mod BoundFlows

@@ -1,0 +1,63 @@
+-- What it is that a bound instruction is a written one.
+use Rattle.std.specs.Prelude.{◌≡◌, ℕ, List, [], ◌∷◌, ◌++◌, Option, Box}
+use Rattle.std.specs.Global.{Global}
+use Rattle.std.specs.List.{flat_map}
+use Rattle.ar_base.specs.Lists.{Stands, Along}
+use Rattle.ar_base.specs.declared.places.Place.{Place}
+use Rattle.ar_syntax.specs.declared.expressions.RawExpr.{RawExpr}
+use Rattle.ar_syntax.specs.declared.instructions.Instr.{Instr}
+use Rattle.ar_syntax.specs.declared.instructions.Instr.TheOpen as instr
+use Rattle.ar_syntax.specs.declared.paths.Path.{Path}
+use Rattle.ar_meaning.specs.Image.{Assign_renames}
+use Rattle.gts_core.specs.Bound.{assigns_of_act}
+use Rattle.gts_core.specs.declared.bound.Act.{Act}
+use Rattle.gts_core.specs.declared.bound.Act.TheOpen.{Act-F, Skip, Set, If, All}
+use Rattle.gts_core.specs.declared.bound.Act.TheFolds.{fold-Act}
+use Rattle.bind_expressions.specs.Operands.{level_of, AnyKind, PathIn}
+use Rattle.bind_expressions.specs.Wrong.{IsMistyped}
+use Rattle.bind_expressions.specs.declared.naming.Leaf.{Leaf}
+use Rattle.bind_instructions.specs.Parts.{InstrForm, IsPartOf}
+use Rattle.hierarchy.specs.Models.{RootedModel}
+use Rattle.hierarchy.specs.Units.{UnitPath, Thing}
+use Rattle.hierarchy.specs.Listing.{variables}
+use Rattle.source_meaning.specs.Acts.{Placed, Sets, assigns_of, places_of}
+use Rattle.source_meaning.specs.Kinds.{HasKindAt}
+use Rattle.source_meaning.specs.Tested.{NamesVariable}
+use Rattle.source_meaning.specs.BoundExpressions.{IsLeafFor}
+
+-- the places of the assignments of one form, where those of the instructions in it are given
+abbrev pub place_step : Act-F (List Place) → List Place
+place_step Skip = []
+place_step (Set x e at) = at ∷ []
+place_step (If test first second) = first.value ++ second.value
+place_step (All acts) = flat_map (λ ps. ps) acts.items
+
+-- the places of the assignments of an instruction, in their order
+abbrev pub places_of_act : Act → List Place
+places_of_act = fold-Act (List Place) place_step
+
+-- the expression is that of the instruction itself
+pub data IsExpressionOf (e : RawExpr) : InstrForm → Type 0 where
+  test : {a : Box Instr Global} {b : Option (Box Instr Global)} → IsExpressionOf e (instr.If e a b)
+  value : {p : Path} → IsExpressionOf e (instr.Assign p e)
+
+-- the instruction itself assigns or ties the path
+pub data IsTargetOf (p : Path) : InstrForm → Type 0 where
+  assigned : {e : RawExpr} → IsTargetOf p (instr.Assign p e)
+  left : {q : Path} → IsTargetOf p (instr.Tie p q)
+  right : {q : Path} → IsTargetOf p (instr.Tie q p)
+
+-- of the instruction and of those in it: their targets are variables, what stands for their paths is what these name, and nothing in their
+-- expressions has a wrong kind
+pub record AreLeaves (m : RootedModel) (units : List UnitPath) (u : UnitPath) (leaves : Path → Leaf) (whole : InstrForm) : Type 0 where
+  pub targets : (i : InstrForm) (p : Path) → IsPartOf i whole → IsTargetOf p i → NamesVariable m u p
+  pub of_targets : (i : InstrForm) (p : Path) → IsPartOf i whole → IsTargetOf p i → IsLeafFor m units u p (leaves p)
+  pub of_expressions : (i : InstrForm) (e : RawExpr) (p : Path) → IsPartOf i whole → IsExpressionOf e i → PathIn p (level_of e) → IsLeafFor m units u p (leaves p)
+  pub right : (i : InstrForm) (e : RawExpr) (at : Place) → IsPartOf i whole → IsExpressionOf e i → IsMistyped (HasKindAt m u) AnyKind e at → ⊥
+
+-- the bound instruction has the assignments of the written one in the unit u, with numbers for variables, at the same places
+pub record IsBoundInstruction (m : RootedModel) (units : List UnitPath) (u : UnitPath) (i : InstrForm) (a : Act) : Type 0 where
+  pub placed : List Placed
+  pub sets : Sets m u [] i placed
+  pub numbers : Along (Assign_renames (λ (t : Thing) (n : ℕ). Stands (variables m units) n t)) (assigns_of placed) (assigns_of_act a)
+  pub places : places_of placed ≡ places_of_act a

@@ -1,0 +1,10 @@
+pub mod Means
+pub mod Acts
+pub mod Kinds
+pub mod Tested
+pub mod Rules
+pub mod BoundExpressions
+pub mod BoundActs
+pub mod Systems
+pub mod Binding
+pub mod SoundBound

@@ -1,0 +1,4 @@
+pub mod Counting
+pub mod Renamed
+pub mod ActLemmas
+pub mod Fitted

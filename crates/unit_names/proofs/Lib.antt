@@ -1,0 +1,4 @@
+pub mod Adding
+pub mod Nodes
+pub mod Named
+pub mod Ending

@@ -1,4 +1,4 @@
--- MemberKind an outer unit sets wins over what an inner one sets.
+-- What an outer unit sets wins over what an inner one sets.
 use Rattle.std.proofs.Common.{◌≡◌, ℕ, [], ◌∷◌, Some, None, ap}
 use Rattle.std.specs.Option.{option_or}
 use Rattle.hierarchy.specs.Models.{RootedModel}

@@ -1,4 +1,4 @@
-//! MemberKind follows from the definitions of values.
+//! What follows from the definitions of values.
 
 ghost use Rattle.std.specs.Prelude.{◌≡◌, ◌↔◌, ℕ, ℤ, Bool, List, Some};
 ghost use Rattle.ar_base.specs.Lists.{IsOneOf, AreDifferent};

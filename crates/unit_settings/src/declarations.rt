@@ -16,9 +16,9 @@ ghost use Rattle.unit_sizes.specs.Typing.{KnowsPlaces};
 ghost use Rattle.unit_settings.specs.Rules.{BreaksDeclaration};
 ghost use Rattle.unit_settings.specs.Searched.{BreaksOne, forms_of, IsFirstIn};
 
-use crate::earliest::earliest;
 use ar_base::{BodyId, Memory, Place};
 use ar_syntax::{Member, Setting, Word};
+use class_table::earliest::earliest;
 use class_table::{Body, Classes, Owned};
 use hierarchy::Outline;
 use std::alloc::Global;

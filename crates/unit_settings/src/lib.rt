@@ -2,6 +2,5 @@
 #![tactic(auto)]
 
 mod declarations;
-mod earliest;
 
 pub use declarations::{first_wrong_declaration, is_flow, is_state, owned_at};

@@ -23,7 +23,7 @@ use Rattle.gts_core.specs.declared.system.Assign.{Assign}
 use Rattle.ar_base.specs.Numbers.{VarId}
 use Rattle.gts_core.specs.View.{numbered, assign_of}
 use Rattle.gts_core.specs.Copies.{IsCopy}
-use Rattle.gts_core.specs.Bound.{Conditions, act_step, assigns_under, AreNumbers, AreAssigns, Gives, GiveAll, AreConditionCopies, IsUnder}
+use Rattle.gts_core.specs.Bound.{Conditions, act_step, assigns_under, AreNumbers, AreAssigns, place_step, places_of_act, places_in, Gives, GiveAll, AreConditionCopies, IsUnder}
 use Rattle.gts_core.proofs.Numbering.{IsNumber, renames_numbered, copy_numbered}
 
 arm : (act : Act) (x : Act-F Act) → out-Act act ≡ x → assigns_under act ≡ act_step (map-Act Act (Conditions → List (s.Assign ℕ)) assigns_under x)
@@ -56,6 +56,33 @@ each_is (a ∷ acts) cs = ap (λ z. assigns_under a cs ++ z) (each_is acts cs)
 
 all_is : (act : Act) (es : Vec Act Global) → act ≡ All es → (cs : Conditions) → assigns_under act cs ≡ flat_map (λ (a : Act). assigns_under a cs) es.items
 all_is act es j cs = at_conditions (arm act (form.All es) (ap out-Act j ∙ outs-All es)) cs ∙ each_is es.items cs
+
+-- places
+placed : (act : Act) (x : Act-F Act) → out-Act act ≡ x → places_of_act act ≡ place_step (map-Act Act (List Place) places_of_act x)
+placed act x e = fold_out-Act (List Place) place_step act ∙ ap (λ (y : Act-F Act). place_step (map-Act Act (List Place) places_of_act y)) e
+
+each_placed : (acts : List Act) → flat_map (λ (ps : List Place). ps) (map places_of_act acts) ≡ flat_map places_of_act acts
+each_placed [] = refl
+each_placed (a ∷ acts) = ap (λ z. places_of_act a ++ z) (each_placed acts)
+
+skip_placed : (act : Act) → act ≡ Skip → places_of_act act ≡ []
+skip_placed act e = placed act form.Skip (ap out-Act e ∙ opened_skip)
+
+set_placed : (act : Act) (x : VarId) (e : Expr VarId) (p : Place) → act ≡ Set x e p → places_of_act act ≡ p ∷ []
+set_placed act x e p j = placed act (form.Set x e p) (ap out-Act j ∙ opened_set x e p)
+
+if_placed : (act : Act) (t : Expr VarId) (a b : Box Act Global) → act ≡ If t a b → places_of_act act ≡ places_of_act a.value ++ places_of_act b.value
+if_placed act t a b j = placed act (form.If t a b) (ap out-Act j ∙ outs-If t a b)
+
+all_placed : (act : Act) (es : Vec Act Global) → act ≡ All es → places_of_act act ≡ flat_map places_of_act es.items
+all_placed act es j = placed act (form.All es) (ap out-Act j ∙ outs-All es) ∙ each_placed es.items
+
+places_append : (xs ys : List Assign) → places_in (xs ++ ys) ≡ places_in xs ++ places_in ys
+places_append [] ys = refl
+places_append (x ∷ xs) ys = ap (λ z. x.at ∷ z) (places_append xs ys)
+
+both_placed : (xs ys : List Assign) (ps qs : List Place) → places_in xs ≡ ps → places_in ys ≡ qs → places_in (xs ++ ys) ≡ ps ++ qs
+both_placed xs ys ps qs i j = places_append xs ys ∙ (ap (λ z. z ++ places_in ys) i ∙ ap (λ z. ps ++ z) j)
 
 -- conditions
 same_numbered : (e : Expr VarId) → Renames (λ (m n : ℕ). m ≡ n) (out-Expr ℕ (numbered e)) (out-Expr ℕ (numbered e))
@@ -106,7 +133,7 @@ both_added old mid new first second j k = k ∙ (ap (λ z. z ++ second) j ∙ as
 -- what each form gives
 module _ (act : Act) (when : List (Expr VarId × Bool)) (old : List Assign) where
   pub gives_skip : act ≡ Skip → Gives act when old old
-  gives_skip e = record { added = []; is = sym (append-nil old); are = λ cs k. subst (λ z. AreAssigns z []) (sym (skip_is act e cs)) l.none }
+  gives_skip e = record { added = []; is = sym (append-nil old); are = λ cs k. subst (λ z. AreAssigns z []) (sym (skip_is act e cs)) l.none; places = sym (skip_placed act e) }
 
   pub gives_set : (x : VarId) (e f : Expr VarId) (p : Place) (copies : Vec (Expr VarId × Bool) Global) (new : List Assign) → act ≡ Set x e p → AreConditionCopies when copies.items → IsCopy e f
       → new ≡ old ++ record { target = x; when = copies; value = f; at = p } ∷ [] → Gives act when old new
@@ -115,6 +142,7 @@ module _ (act : Act) (when : List (Expr VarId × Bool)) (old : List Assign) wher
     is = k;
     are = λ cs n. subst (λ z. AreAssigns z (record { target = x; when = copies; value = f; at = p } ∷ [])) (sym (set_is act x e p j cs))
         (l.one_and (record { target = refl; conditions = numbers_copied c n; value = copy_numbered e f d }) l.none);
+    places = sym (set_placed act x e p j);
   }
 
   pub gives_if : (t : Expr VarId) (a b : Box Act Global) (here there : List (Expr VarId × Bool)) (mid new : List Assign) → act ≡ If t a b → IsUnder when t true here → Gives a.value here old mid
@@ -125,6 +153,7 @@ module _ (act : Act) (when : List (Expr VarId × Bool)) (old : List Assign) wher
     are = λ cs n. subst (λ z. AreAssigns z (g.added ++ h.added)) (sym (if_is act t a b j cs))
         (assigns_append g.added h.added (g.are (cs ++ (numbered t, true) ∷ []) (numbers_copied u (numbers_more cs when t true n)))
         (h.are (cs ++ (numbered t, false) ∷ []) (numbers_copied v (numbers_more cs when t false n))));
+    places = both_placed g.added h.added (places_of_act a.value) (places_of_act b.value) g.places h.places ∙ sym (if_placed act t a b j);
   }
 
   pub gives_all : (es : Vec Act Global) (acts : List Act) (new : List Assign) → act ≡ All es → acts ≡ es.items → GiveAll acts when old new → Gives act when old new
@@ -132,10 +161,11 @@ module _ (act : Act) (when : List (Expr VarId × Bool)) (old : List Assign) wher
     added = g.added;
     is = g.is;
     are = λ cs n. subst (λ z. AreAssigns z g.added) (sym (all_is act es j cs)) (subst (λ (xs : List Act). AreAssigns (flat_map (λ (a : Act). assigns_under a cs) xs) g.added) k (g.are cs n));
+    places = g.places ∙ (ap (λ (xs : List Act). flat_map places_of_act xs) k ∙ sym (all_placed act es j));
   }
 
 pub give_none : (when : List (Expr VarId × Bool)) (old : List Assign) → GiveAll [] when old old
-give_none when old = record { added = []; is = sym (append-nil old); are = λ cs k. l.none }
+give_none when old = record { added = []; is = sym (append-nil old); are = λ cs k. l.none; places = refl }
 
 pub give_next : (acts : List Act) (n : ℕ) (act : Act) (when : List (Expr VarId × Bool)) (old mid new : List Assign) → n < length acts → act ≡ get_or acts n act → GiveAll (take n acts) when old mid
     → Gives act when mid new → GiveAll (take (n + 1) acts) when old new
@@ -146,11 +176,16 @@ give_next acts n act when old mid new h e g k =
       are = λ cs m. let F : Act → List (s.Assign ℕ) = λ a. assigns_under a cs in
           subst (λ z. AreAssigns z (g.added ++ k.added)) (sym (flat_map-append F (take n acts) (act ∷ []) ∙ ap (λ z. flat_map F (take n acts) ++ z) (append-nil (assigns_under act cs))))
           (assigns_append g.added k.added (g.are cs m) (k.are cs m));
+      places = both_placed g.added k.added (flat_map places_of_act (take n acts)) (places_of_act act) g.places k.places
+          ∙ sym (flat_map-append places_of_act (take n acts) (act ∷ []) ∙ ap (λ z. flat_map places_of_act (take n acts) ++ z) (append-nil (places_of_act act)));
     })
 
 pub give_whole : (act : Act) (when : List (Expr VarId × Bool)) (old new : List Assign) → when ≡ [] → old ≡ [] → Gives act when old new → AreAssigns (assigns_under act []) new
 give_whole act when old new e j g =
     subst (λ z. AreAssigns (assigns_under act []) z) (sym (g.is ∙ ap (λ z. z ++ g.added) j)) (g.are [] (subst (λ z. AreNumbers [] z) (sym e) i.none))
+
+pub give_places : (act : Act) (when : List (Expr VarId × Bool)) (old new : List Assign) → old ≡ [] → Gives act when old new → places_in new ≡ places_of_act act
+give_places act when old new j g = ap places_in (g.is ∙ ap (λ z. z ++ g.added) j) ∙ g.places
 
 -- the same instruction under the same conditions
 pub gives_as : (x y : Act) (xs ys : List (Expr VarId × Bool)) (old new : List Assign) → x ≡ y → xs ≡ ys → Gives x xs old new → Gives y ys old new

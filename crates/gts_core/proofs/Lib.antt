@@ -1,7 +1,7 @@
 mod Texts
 pub mod Numbering
 pub mod Viewing
-mod Systems
+pub mod Systems
 mod Copying
 mod ActForms
 pub mod Tests

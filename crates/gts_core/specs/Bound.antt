@@ -10,6 +10,7 @@ use Rattle.ar_base.specs.declared.numbers.Id.{Id}
 use Rattle.ar_base.specs.declared.numbers.EventKind.{EventKind}
 use Rattle.ar_base.specs.Numbers.{VarId}
 use Rattle.gts_core.specs.View.{numbered, condition_of, assign_of}
+use Rattle.ar_base.specs.declared.places.Place.{Place}
 use Rattle.gts_core.specs.Copies.{IsSame}
 use Rattle.gts_core.specs.declared.system.Assign.{Assign}
 use Rattle.gts_core.specs.declared.bound.Act.{Act}
@@ -37,6 +38,21 @@ assigns_under = fold-Act (Conditions → List (s.Assign ℕ)) act_step
 -- the assignments of an instruction
 abbrev pub assigns_of_act : Act → List (s.Assign ℕ)
 assigns_of_act act = assigns_under act []
+
+-- the places of the assignments of one form, where those of the instructions in it are given
+abbrev pub place_step : Act-F (List Place) → List Place
+place_step Skip = []
+place_step (Set x e at) = at ∷ []
+place_step (If test first second) = first.value ++ second.value
+place_step (All acts) = flat_map (λ ps. ps) acts.items
+
+-- the places of the assignments of an instruction, in their order
+abbrev pub places_of_act : Act → List Place
+places_of_act = fold-Act (List Place) place_step
+
+-- where these assignments stand
+abbrev pub places_in : List Assign → List Place
+places_in xs = map (λ (a : Assign). a.at) xs
 
 -- a part of a synchronisation by its mark and the plain number of its event
 abbrev pub event_part_of : Bool × Id EventKind → Bool × ℕ
@@ -69,12 +85,14 @@ pub record Gives (act : Act) (when : List (Expr VarId × Bool)) (old new : List 
   pub added : List Assign
   pub is : new ≡ old ++ added
   pub are : (cs : Conditions) → AreNumbers cs when → AreAssigns (assigns_under act cs) added
+  pub places : places_in added ≡ places_of_act act
 
 -- the same of instructions one after the other
 pub record GiveAll (acts : List Act) (when : List (Expr VarId × Bool)) (old new : List Assign) : Type 0 where
   pub added : List Assign
   pub is : new ≡ old ++ added
   pub are : (cs : Conditions) → AreNumbers cs when → AreAssigns (flat_map (λ (a : Act). assigns_under a cs) acts) added
+  pub places : places_in added ≡ flat_map places_of_act acts
 
 -- copies of conditions, item by item
 abbrev pub AreConditionCopies : List (Expr VarId × Bool) → List (Expr VarId × Bool) → Type 0

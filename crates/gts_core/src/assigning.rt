@@ -1,7 +1,7 @@
 // The assignments of instructions.
 
-ghost use Rattle.std.specs.Prelude.{OnOk, IfOk};
-ghost use Rattle.gts_core.specs.Bound.{assigns_of_act, AreAssigns, Gives, GiveAll, AreConditionCopies, IsUnder};
+ghost use Rattle.std.specs.Prelude.{◌≡◌, OnOk, IfOk};
+ghost use Rattle.gts_core.specs.Bound.{assigns_of_act, places_of_act, places_in, AreAssigns, Gives, GiveAll, AreConditionCopies, IsUnder};
 
 use crate::bound::Act;
 use crate::copies::copy_expression;
@@ -10,9 +10,11 @@ use ar_base::{Memory, VarId};
 use std::alloc::Global;
 use typed_expr::Expr;
 
-/// The assignments of an instruction in order, with their conditions from the outermost inward. The error is want of memory.
+/// The assignments of an instruction in order, with their conditions from the outermost inward, each at its place. The error
+/// is want of memory.
 pub fn assignments(alloc: Global, act: &Act) -> Result<Vec<Assign>, Memory>
-    ensures { IfOk result (λ v. AreAssigns (assigns_of_act act.now) v.items) }
+    ensures assigns { IfOk result (λ v. AreAssigns (assigns_of_act act.now) v.items) }
+    ensures places { IfOk result (λ v. places_in v.items ≡ places_of_act act.now) }
 {
     let mut out = Vec::new(alloc);
     assigned(alloc, act, &[], &mut out)?;

@@ -21,7 +21,7 @@ use Rattle.ar_meaning.specs.Image as i
 use Rattle.ar_meaning.proofs.ImageWays.{along_append}
 use Rattle.gts_core.specs.View.{numbered}
 use Rattle.gts_core.specs.Bound as g
-use Rattle.gts_core.specs.Bound.{act_step, assigns_under}
+use Rattle.gts_core.specs.Bound.{act_step, assigns_under, place_step, places_of_act}
 use Rattle.gts_core.proofs.Numbering.{source_numbered}
 use Rattle.gts_core.specs.declared.bound.Act.{Act, out-Act}
 use Rattle.gts_core.specs.declared.bound.Act.TheOpen as act
@@ -44,7 +44,7 @@ use Rattle.source_meaning.specs.Acts as a
 use Rattle.source_meaning.specs.Tested.{NamesVariable}
 use Rattle.source_meaning.specs.BoundExpressions.{IsLeafFor, IsBoundExpression}
 use Rattle.source_meaning.specs.BoundExpressions as stands
-use Rattle.source_meaning.specs.BoundActs.{place_step, places_of_act, IsExpressionOf, test, value, assigned, left, right, AreLeaves, IsBoundInstruction}
+use Rattle.source_meaning.specs.BoundActs.{IsExpressionOf, test, value, assigned, left, right, AreLeaves, IsBoundInstruction}
 use Rattle.source_meaning.proofs.OneMeaning.{leads_same, never_both, no_symbol}
 use Rattle.source_meaning.proofs.BoundMeaning.{bound_meaning}
 

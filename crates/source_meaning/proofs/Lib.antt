@@ -1,4 +1,5 @@
 pub mod OneMeaning
+pub mod Different
 pub mod OneDomain
 pub mod Numbers
 pub mod OneSystem

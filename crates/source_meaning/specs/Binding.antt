@@ -16,7 +16,7 @@ use Rattle.ar_meaning.specs.Systems.{Net}
 use Rattle.ar_meaning.specs.ExpandImage.{Declared_renames}
 use Rattle.ar_meaning.specs.Image.{Expr_renames, IsNetImage}
 use Rattle.gts_core.specs.View.{numbered, variables_from}
-use Rattle.gts_core.specs.Bound.{assigns_of_act, declared_from}
+use Rattle.gts_core.specs.Bound.{assigns_of_act, places_of_act, declared_from}
 use Rattle.gts_core.specs.declared.bound.Act.{Act}
 use Rattle.gts_core.specs.declared.bound.DeclaredEvent.{DeclaredEvent}
 use Rattle.gts_core.specs.declared.bound.DeclaredWay.{DeclaredWay}
@@ -31,7 +31,6 @@ use Rattle.hierarchy.specs.Units.{UnitPath, Thing, kind_at}
 use Rattle.hierarchy.specs.Listing.{Unfolded, variables, events, observers, ways_declared}
 use Rattle.hierarchy.specs.Paths.{name_text, unit_path, thing_path}
 use Rattle.hierarchy.specs.declared.tree.Tree.{Tree}
-use Rattle.source_meaning.specs.BoundActs.{places_of_act}
 use Rattle.source_meaning.specs.Kinds.{kind_of_type}
 use Rattle.source_meaning.specs.Rules.{IsWayOf}
 use Rattle.source_meaning.specs.SoundBound.{IsSoundBound}

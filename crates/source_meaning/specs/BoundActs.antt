@@ -9,10 +9,8 @@ use Rattle.ar_syntax.specs.declared.instructions.Instr.{Instr}
 use Rattle.ar_syntax.specs.declared.instructions.Instr.TheOpen as instr
 use Rattle.ar_syntax.specs.declared.paths.Path.{Path}
 use Rattle.ar_meaning.specs.Image.{Assign_renames}
-use Rattle.gts_core.specs.Bound.{assigns_of_act}
+use Rattle.gts_core.specs.Bound.{assigns_of_act, places_of_act}
 use Rattle.gts_core.specs.declared.bound.Act.{Act}
-use Rattle.gts_core.specs.declared.bound.Act.TheOpen.{Act-F, Skip, Set, If, All}
-use Rattle.gts_core.specs.declared.bound.Act.TheFolds.{fold-Act}
 use Rattle.bind_expressions.specs.Operands.{level_of, AnyKind, PathIn}
 use Rattle.bind_expressions.specs.Wrong.{IsMistyped}
 use Rattle.bind_expressions.specs.declared.naming.Leaf.{Leaf}
@@ -24,17 +22,6 @@ use Rattle.source_meaning.specs.Acts.{Placed, Sets, assigns_of, places_of}
 use Rattle.source_meaning.specs.Kinds.{HasKindAt}
 use Rattle.source_meaning.specs.Tested.{NamesVariable}
 use Rattle.source_meaning.specs.BoundExpressions.{IsLeafFor}
-
--- the places of the assignments of one form, where those of the instructions in it are given
-abbrev pub place_step : Act-F (List Place) → List Place
-place_step Skip = []
-place_step (Set x e at) = at ∷ []
-place_step (If test first second) = first.value ++ second.value
-place_step (All acts) = flat_map (λ ps. ps) acts.items
-
--- the places of the assignments of an instruction, in their order
-abbrev pub places_of_act : Act → List Place
-places_of_act = fold-Act (List Place) place_step
 
 -- the expression is that of the instruction itself
 pub data IsExpressionOf (e : RawExpr) : InstrForm → Type 0 where

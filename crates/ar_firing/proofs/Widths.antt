@@ -85,12 +85,12 @@ module _ {V W : Type 0} (same : V → W → Type 0) where
       (first_or (a, b) cs (test, value) h)
 
   -- the subexpression at the same place
-  record PartThere (e : Level V) (f : Level W) : Type 0 where
+  pub record PartThere (e : Level V) (f : Level W) : Type 0 where
     pub other : Level W
     pub is_part : IsPart other f
     pub renames : Renames same e other
 
-  part_there : {e d : Level V} {f : Level W} → IsPart e d → Renames same d f → PartThere e f
+  pub part_there : {e d : Level V} {f : Level W} → IsPart e d → Renames same d f → PartThere e f
   part_there {f = f} p.itself q = record { other = f; is_part = p.itself; renames = q }
   part_there (p.in_not d) (r.opposite q) =
       let o = part_there d q in

@@ -1,0 +1,3 @@
+pub mod Settables
+pub mod Wrong
+pub mod Repeats

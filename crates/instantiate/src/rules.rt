@@ -1,0 +1,49 @@
+// The rules that the units of a main block keep.
+
+ghost use Rattle.std.specs.Prelude.{◌≡◌, List};
+ghost use Rattle.class_table.specs.Tabling.{kept_rule};
+ghost use Rattle.hierarchy.specs.Models.{RootedModel};
+ghost use Rattle.hierarchy.specs.Units.{UnitPath};
+ghost use Rattle.hierarchy.specs.Tie.{AreOutlines};
+ghost use Rattle.unit_walks.specs.Settling.{AreOutcomes};
+ghost use Rattle.instantiate.specs.Settled.{AnswersRules};
+
+use ar_base::{Place, RuleFault};
+use class_table::Classes;
+use hierarchy::Outline;
+use std::alloc::Global;
+use unit_names::{first_looping, first_lost};
+use unit_settings::first_wrong_declaration;
+use unit_targets::first_wrong_setting;
+use unit_walks::Walks;
+
+// The rule is refused where it is broken somewhere.
+fn keep(rule: u8, broken: Option<Place>) -> Result<(), RuleFault>
+    ensures { result ≡ kept_rule rule broken }
+{
+    match broken {
+        Some(place) => Err(RuleFault::Rule(rule, place)),
+        None => Ok(()),
+    }
+}
+
+/// Tests the rules L6 to L9 in these units: the least that is broken is told, at the earliest place
+/// where it is. Want of memory may be told in place of any answer.
+pub(crate) fn keep_rules(
+    alloc: Global,
+    classes: &Classes,
+    outlines: &[Outline],
+    walks: &Walks,
+) -> Result<(), RuleFault>
+    ensures { (m : RootedModel) (units : List UnitPath)
+        → AreOutlines m units classes.now outlines.now
+        → AreOutcomes m units walks.now → AnswersRules m units result }
+{
+    if outlines.len() > u32::MAX as usize {
+        return Err(RuleFault::Memory);
+    }
+    keep(6, first_lost(classes, outlines, walks))?;
+    keep(7, first_looping(classes, outlines, walks))?;
+    keep(8, first_wrong_declaration(alloc, classes, outlines)?)?;
+    keep(9, first_wrong_setting(alloc, classes, outlines, walks)?)
+}

@@ -1,0 +1,45 @@
+// The call that unfolds the main block.
+
+ghost use Rattle.ar_base.specs.Stages.{Meets};
+ghost use Rattle.hierarchy.specs.Models.{RootedModel, IsKeptTable};
+ghost use Rattle.instantiate.specs.Settled.{IsSettled};
+ghost use Rattle.instantiate.specs.Unfolding.{Instantiates, IsTreeFor};
+
+use crate::listing::{Settled, tree_of};
+use crate::rules::keep_rules;
+use ar_base::RuleFault;
+use class_table::Classes;
+use hierarchy::Tree;
+use std::alloc::Global;
+use unit_sizes::fit;
+use unit_walks::{settle, units};
+
+// The units of the main block, where they are within the limits and keep the rules.
+fn settled_units(alloc: Global, classes: &Classes) -> Result<Settled, RuleFault>
+    ensures { (m : RootedModel) → IsKeptTable m classes.now
+        → Meets Instantiates (IsSettled classes.now) m result }
+{
+    let mut unfolded = units(alloc, classes)?;
+    fit(alloc, classes, &unfolded.outlines)?;
+    let walks = settle(alloc, &mut unfolded)?;
+    keep_rules(alloc, classes, &unfolded.outlines, &walks)?;
+    Ok(Settled {
+        outlines: unfolded.outlines,
+        walks,
+    })
+}
+
+/// The tree of the main block of a table that keeps the rules L1 to L5: its units depth first, and
+/// its variables, parameters, events and observers by unit and member, each with the outermost value
+/// in force.
+///
+/// Refused with the first limit that is passed, of `depth` or `units`, `variables`, `events` and
+/// `tree nodes` in this order; then with the least broken rule of L6 to L9, at the earliest place
+/// where it is broken.
+pub fn instantiate(alloc: Global, classes: Classes) -> Result<Tree, RuleFault>
+    ensures { (m : RootedModel) → IsKeptTable m classes → Meets Instantiates IsTreeFor m result }
+{
+    let settled = settled_units(alloc, &classes)?;
+    let tree = tree_of(alloc, classes, &settled)?;
+    Ok(tree)
+}

@@ -2,3 +2,16 @@ pub mod Counting
 pub mod Renamed
 pub mod ActLemmas
 pub mod Fitted
+pub mod Rows
+pub mod Bodies
+pub mod Runs
+pub mod EventsMade
+pub mod ActsMade
+pub mod Typing
+pub mod Alike
+pub mod Breaches
+pub mod Staged
+pub mod Heights
+pub mod WaysMade
+pub mod Sound
+pub mod Flattened

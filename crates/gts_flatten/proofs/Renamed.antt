@@ -10,7 +10,7 @@ use Rattle.gts_core.specs.View.{numbered}
 use Rattle.gts_core.proofs.Numbering.{renames_numbered}
 use Rattle.gts_flatten.specs.Sizes.{total, total_marked, total_paired, form_nodes, nodes_of}
 
-opened : {V : Type 0} (e : Expr V) → nodes_of e ≡ form_nodes (map-Expr V (Expr V) ℕ nodes_of (out-Expr V e))
+pub opened : {V : Type 0} (e : Expr V) → nodes_of e ≡ form_nodes (map-Expr V (Expr V) ℕ nodes_of (out-Expr V e))
 opened {V = V} e = fold_out-Expr V ℕ form_nodes e
 
 both : {V W : Type 0} (e : Expr V) (f : Expr W) → form_nodes (map-Expr V (Expr V) ℕ nodes_of (out-Expr V e)) ≡ form_nodes (map-Expr W (Expr W) ℕ nodes_of (out-Expr W f)) → nodes_of e ≡ nodes_of f
@@ -47,6 +47,10 @@ module _ {V W : Type 0} {same : V → W → Type 0} where
         → total_paired (map (λ (c : Expr V × Expr V). (nodes_of c.0, nodes_of c.1)) cs) ≡ total_paired (map (λ (c : Expr W × Expr W). (nodes_of c.0, nodes_of c.1)) ds)
     case_nodes no_case = refl
     case_nodes (case_and {a = a} {b = b} {c = c} {d = d} j k ks) = two _ _ _ _ (two _ _ _ _ (both a c (level_nodes j)) (both b d (level_nodes k))) (case_nodes ks)
+
+  -- expressions that differ in their variables alone have as many nodes
+  pub renamed_nodes : (e : Expr V) (f : Expr W) → Renames same (out-Expr V e) (out-Expr W f) → nodes_of e ≡ nodes_of f
+  renamed_nodes e f k = both e f (level_nodes k)
 
 -- an expression over plain numbers has as many nodes
 pub numbered_nodes : (e : Expr VarId) → nodes_of (numbered e) ≡ nodes_of e

@@ -1,2 +1,6 @@
 pub mod Sizes
 pub mod Bounds
+pub mod Elaborating
+pub mod Flat
+pub mod Making
+pub mod Placing

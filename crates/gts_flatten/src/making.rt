@@ -1,0 +1,158 @@
+// The ways, events and assignments of a flat system.
+
+ghost use Rattle.std.specs.Prelude.{◌≡◌, ◌<◌, ◌^◌, ℕ, List, map, length, IfOk, option_copied};
+ghost use Rattle.std.specs.List.{flat_map};
+ghost use Rattle.ar_base.specs.Lists.{Along};
+ghost use Rattle.gts_core.specs.Bound.{assigns_of_act, places_of_act, places_in, declared_from, AreAssigns};
+ghost use Rattle.sync_expand.specs.Counts.{AreCounts};
+ghost use Rattle.sync_expand.specs.Plans.{planned_of, planned_ways, ways_at};
+ghost use Rattle.gts_flatten.specs.Making.{IsTransitionAt, IsMadeOf, IsMadeWay, IsMadeEvent, AreMadeEvents};
+ghost use Rattle.gts_flatten.specs.Placing.{IsWayAt, IsRun};
+
+use crate::copying::copy_text;
+use ar_base::{EventId, Memory, WayId};
+use gts_core::{
+    Act, Assign, DeclaredEvent, DeclaredWay, Event, Way, WayBody, assignments, copy_expression,
+};
+use std::alloc::Global;
+use sync_expand::{PlanBody, WayPlan};
+
+// The transition or synchronisation at this place of an event.
+fn way_at(events: &[DeclaredEvent], event: EventId, place: u32) -> Option<&DeclaredWay>
+    ensures { IsWayAt events.now event.n place (option_copied result) }
+{
+    let declared = events.get(event.n as usize)?;
+    declared.ways.get(place as usize)
+}
+
+// The body of the transition at this place of an event. That there is none is answered as want of memory.
+fn transition(
+    alloc: Global,
+    events: &[DeclaredEvent],
+    event: EventId,
+    place: u32,
+) -> Result<WayBody, Memory>
+    ensures { IfOk result (IsTransitionAt events.now event.n place) }
+{
+    match way_at(events, event, place) {
+        Some(DeclaredWay::Local(guard, action)) => {
+            let guard = copy_expression(alloc, guard)?;
+            let action = assignments(alloc, action)?;
+            Ok(WayBody::Local(guard, action))
+        }
+        _ => Err(Memory {}),
+    }
+}
+
+// The body of a planned way of an event.
+fn body_of(
+    alloc: Global,
+    events: &[DeclaredEvent],
+    event: EventId,
+    body: &PlanBody,
+) -> Result<WayBody, Memory>
+    ensures { IfOk result (IsMadeOf events.now event.n body.now) }
+{
+    match body {
+        PlanBody::Local(place) => transition(alloc, events, event, *place),
+        PlanBody::Sync(parts) => Ok(WayBody::Sync(Vec::from_slice(alloc, parts)?)),
+    }
+}
+
+// The planned way.
+fn way_of(alloc: Global, events: &[DeclaredEvent], planned: &WayPlan) -> Result<Way, Memory>
+    ensures { IfOk result (IsMadeWay events.now planned.now) }
+{
+    let body = body_of(alloc, events, planned.event, &planned.body)?;
+    Ok(Way {
+        event: planned.event,
+        number: planned.number,
+        body,
+    })
+}
+
+/// The planned ways, in their order.
+pub(crate) fn ways_of(
+    alloc: Global,
+    events: &[DeclaredEvent],
+    plan: &[WayPlan],
+) -> Result<Vec<Way>, Memory>
+    ensures { IfOk result (λ v. Along (IsMadeWay events.now) plan.now v.items) }
+{
+    let mut ways = Vec::new(alloc);
+    for planned in plan {
+        let way = way_of(alloc, events, planned)?;
+        ways.push(way)?;
+    }
+    Ok(ways)
+}
+
+// The numbers of the planned ways of the event from this one on, up to the first of another event.
+fn run_of(
+    alloc: Global,
+    plan: &[WayPlan],
+    event: EventId,
+    first: usize,
+) -> Result<Vec<WayId>, Memory>
+    requires { length plan.now < 2 ^ 32 }
+    ensures { IfOk result (λ v. IsRun plan.now event.n first v.items) }
+{
+    let mut numbers = Vec::new(alloc);
+    for number in first..plan.len() {
+        if plan[number].event.n != event.n {
+            break;
+        }
+        numbers.push(WayId::new(number as u32))?;
+    }
+    Ok(numbers)
+}
+
+// The declared event with the numbers of its ways.
+fn event_of(alloc: Global, declared: &DeclaredEvent, ways: Vec<WayId>) -> Result<Event, Memory>
+    ensures { (counts : List ℕ) (n : ℕ) → map (λ w. w.n) ways.items ≡ ways_at counts n
+        → IfOk result (IsMadeEvent counts n declared.now) }
+{
+    let path = copy_text(alloc, &declared.path)?;
+    Ok(Event {
+        path,
+        unit: declared.unit,
+        hidden: declared.hidden,
+        ways,
+    })
+}
+
+/// The declared events, each with the numbers of its ways in the plan.
+pub(crate) fn events_of(
+    alloc: Global,
+    declared: &[DeclaredEvent],
+    plan: &[WayPlan],
+) -> Result<Vec<Event>, Memory>
+    requires few { length declared.now < 2 ^ 32 }
+    requires short { length plan.now < 2 ^ 32 }
+    ensures { (counts : List ℕ) → AreCounts (declared_from 0 declared.now) counts
+        → map planned_of plan.now ≡ planned_ways counts (declared_from 0 declared.now)
+        → IfOk result (λ v. AreMadeEvents counts declared.now v.items) }
+{
+    let mut events = Vec::new(alloc);
+    let mut first = 0;
+    for (number, event) in declared.iter().enumerate() {
+        let ways = run_of(alloc, plan, EventId::new(number as u32), first)?;
+        first += ways.len();
+        let made = event_of(alloc, event, ways)?;
+        events.push(made)?;
+    }
+    Ok(events)
+}
+
+/// The assignments of instructions, one after the other.
+pub(crate) fn assigns_of(alloc: Global, acts: &[Act]) -> Result<Vec<Assign>, Memory>
+    ensures assigns { IfOk result (λ v. AreAssigns (flat_map assigns_of_act acts.now) v.items) }
+    ensures places { IfOk result (λ v. places_in v.items ≡ flat_map places_of_act acts.now) }
+{
+    let mut assigns = Vec::new(alloc);
+    for act in acts {
+        let mut added = assignments(alloc, act)?;
+        assigns.append(&mut added)?;
+    }
+    Ok(assigns)
+}

@@ -1,0 +1,5 @@
+pub mod Moving
+pub mod Eventful
+pub mod Membered
+pub mod Valued
+pub mod Whole

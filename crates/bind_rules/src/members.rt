@@ -1,0 +1,130 @@
+// The members of units, and where they break a rule.
+
+ghost use Rattle.std.specs.Prelude.{◌<◌, List, length, map, Some};
+ghost use Rattle.std.specs.List.{flat_map};
+ghost use Rattle.ar_base.specs.Lists.{Stands};
+ghost use Rattle.ar_syntax.specs.declared.members.Member.{out-Member};
+ghost use Rattle.class_table.specs.Earliest.{IsEarliest};
+ghost use Rattle.class_table.specs.Members.{owned_at as declared_at};
+ghost use Rattle.class_table.specs.Tables.{site_of};
+ghost use Rattle.hierarchy.specs.Models.{RootedModel};
+ghost use Rattle.hierarchy.specs.Units.{UnitPath};
+ghost use Rattle.hierarchy.specs.Listing.{form_of, forms_at};
+ghost use Rattle.hierarchy.specs.Tie.{IsUnit};
+ghost use Rattle.bind_scopes.specs.Scopes.{AreScopes, HasScopes};
+ghost use Rattle.bind_rules.specs.Breaking.{BreaksMember, BreaksOneMember, BreaksUnit};
+
+use crate::events::in_event;
+use crate::expressions::{in_action, in_assertion, in_expression};
+use crate::rules::Rule;
+use ar_base::{BodyId, Place, UnitId};
+use ar_syntax::Member;
+use bind_expressions::earlier;
+use bind_scopes::{Scope, Scopes};
+use class_table::Owned;
+use hierarchy::UnitNode;
+use typed_expr::ValueKind;
+use unit_settings::owned_at;
+
+// The earliest place at which the member breaks the rule.
+fn in_member<'a>(scopes: &'a Scopes<'a>, rule: Rule, unit: UnitId, member: &Member) -> Option<Place>
+    requires scopes { HasScopes scopes.now }
+    requires in_range { unit.n < length scopes.now.tree.now.units.items }
+    ensures { (m : RootedModel) (units : List UnitPath) (u : UnitPath)
+        → AreScopes m units scopes.now → Stands units unit.n u
+        → IsEarliest (BreaksMember m rule u (out-Member member.now)) result }
+{
+    let event = in_event(scopes.tree, rule, unit, member);
+    match member {
+        Member::Local(_, _, guard, action) => {
+            let truth = ValueKind::Truth;
+            let test = in_expression(scopes, rule, unit, Scope::Everything, truth, guard);
+            earlier(event, earlier(test, in_action(scopes, rule, unit, action)))
+        }
+        Member::Assert(instr) => earlier(event, in_assertion(scopes, rule, unit, instr)),
+        _ => event,
+    }
+}
+
+// The earliest place at which a member that is no block breaks the rule.
+fn in_owned<'a>(scopes: &'a Scopes<'a>, rule: Rule, unit: UnitId, owned: &Owned) -> Option<Place>
+    requires scopes { HasScopes scopes.now }
+    requires in_range { unit.n < length scopes.now.tree.now.units.items }
+    ensures { (m : RootedModel) (units : List UnitPath) (u : UnitPath)
+        → AreScopes m units scopes.now → Stands units unit.n u
+        → IsEarliest (BreaksOneMember m rule u (form_of (Some owned.now))) result }
+{
+    match owned {
+        Owned::Nested(_, _, _) => None,
+        Owned::Plain(member) => in_member(scopes, rule, unit, member),
+    }
+}
+
+// The earliest place at which the member at a site breaks the rule.
+fn in_site<'a>(
+    scopes: &'a Scopes<'a>,
+    rule: Rule,
+    unit: UnitId,
+    site: (BodyId, u32),
+) -> Option<Place>
+    requires scopes { HasScopes scopes.now }
+    requires in_range { unit.n < length scopes.now.tree.now.units.items }
+    ensures { (m : RootedModel) (units : List UnitPath) (u : UnitPath)
+        → AreScopes m units scopes.now → Stands units unit.n u
+        → IsEarliest (BreaksOneMember m rule u
+        (form_of (declared_at m.declared (site_of site)))) result }
+{
+    match owned_at(&scopes.tree.classes.bodies, site) {
+        None => None,
+        Some(owned) => in_owned(scopes, rule, unit, owned),
+    }
+}
+
+// The earliest place at which a member at one of these sites breaks the rule.
+fn in_sites<'a>(
+    scopes: &'a Scopes<'a>,
+    rule: Rule,
+    unit: UnitId,
+    sites: &[(BodyId, u32)],
+) -> Option<Place>
+    requires scopes { HasScopes scopes.now }
+    requires in_range { unit.n < length scopes.now.tree.now.units.items }
+    ensures { (m : RootedModel) (units : List UnitPath) (u : UnitPath)
+        → AreScopes m units scopes.now → Stands units unit.n u
+        → IsEarliest (BreaksOneMember m rule u (flat_map (λ s. form_of (declared_at m.declared s))
+        (map site_of sites.now))) result }
+{
+    let mut found = None;
+    for site in sites {
+        found = earlier(found, in_site(scopes, rule, unit, *site));
+    }
+    found
+}
+
+// The earliest place at which a member of the unit breaks the rule.
+fn in_unit<'a>(scopes: &'a Scopes<'a>, rule: Rule, unit: UnitId, node: &UnitNode) -> Option<Place>
+    requires scopes { HasScopes scopes.now }
+    requires in_range { unit.n < length scopes.now.tree.now.units.items }
+    ensures { (m : RootedModel) (units : List UnitPath) (u : UnitPath)
+        → AreScopes m units scopes.now → Stands units unit.n u → IsUnit m units u node.now
+        → IsEarliest (BreaksOneMember m rule u (forms_at m u)) result }
+{
+    match scopes.tree.classes.bodies.get(node.body.n as usize) {
+        None => None,
+        Some(body) => in_sites(scopes, rule, unit, &body.all),
+    }
+}
+
+/// The earliest place at which a member of some unit breaks the rule.
+pub(crate) fn in_units<'a>(scopes: &'a Scopes<'a>, rule: Rule) -> Option<Place>
+    requires { HasScopes scopes.now }
+    ensures { (m : RootedModel) (units : List UnitPath) → AreScopes m units scopes.now
+        → IsEarliest (BreaksUnit m units rule) result }
+{
+    let mut found = None;
+    for (place, node) in scopes.tree.units.iter().enumerate() {
+        let here = in_unit(scopes, rule, UnitId::new(place as u32), node);
+        found = earlier(found, here);
+    }
+    found
+}

@@ -1,0 +1,177 @@
+// The values of variables and parameters and the expressions of observers, and where they break a
+// rule.
+
+ghost use Rattle.std.specs.Prelude.{◌≡◌, List, Some, option_map};
+ghost use Rattle.ar_base.specs.Lists.{Along, Stands};
+ghost use Rattle.class_table.specs.Declaring.{Declared};
+ghost use Rattle.class_table.specs.Members.{owned_at as declared_at};
+ghost use Rattle.class_table.specs.Tables.{IsBodyOf, site_of};
+ghost use Rattle.class_table.specs.Earliest.{IsEarliest};
+ghost use Rattle.hierarchy.specs.Models.{RootedModel};
+ghost use Rattle.hierarchy.specs.Units.{UnitPath, Thing};
+ghost use Rattle.hierarchy.specs.Walks.{Has, is_observer};
+ghost use Rattle.hierarchy.specs.Listing.{variables, parameters, observers};
+ghost use Rattle.hierarchy.specs.Tie.{IsVariable, IsParameter, IsPlainNode, HasAttribute};
+ghost use Rattle.source_meaning.specs.Kinds.{IsOfKind};
+ghost use Rattle.bind_scopes.specs.Scopes.{AreScopes, HasScopes};
+ghost use Rattle.bind_rules.specs.Breaking.{BreaksValue, BreaksParameter, BreaksObserver, BreaksOne};
+ghost use Rattle.bind_scopes.specs.Naming.{kind_of_parameter};
+ghost use Rattle.bind_rules.specs.Owning.{IsOwnScope, scope_by, observed_in};
+
+use crate::expressions::in_expression;
+use crate::rules::Rule;
+use ar_base::Place;
+use ar_syntax::{Member, RawExpr, TypeForm};
+use bind_expressions::earlier;
+use bind_scopes::{Scope, Scopes, kind_of_domain, written};
+use class_table::{Classes, Owned};
+use hierarchy::{Attribute, MemNode, ParNode, Source, VarNode};
+use typed_expr::ValueKind;
+use unit_settings::owned_at;
+
+// The scope of a value by the setting in which it stands, where the first is that of a value that
+// its thing declares itself.
+fn scope_of(own: Scope, setting: Option<u32>) -> Scope
+    ensures { result ≡ scope_by own setting }
+{
+    match setting {
+        None => own,
+        Some(_) => Scope::Constants,
+    }
+}
+
+// The earliest place at which the value breaks the rule, of which this kind is wanted; the scope is
+// that of a value that its thing declares itself.
+fn in_value<'a>(
+    scopes: &'a Scopes<'a>,
+    rule: Rule,
+    own: Scope,
+    kind: ValueKind,
+    value: Attribute,
+) -> Option<Place>
+    requires { HasScopes scopes.now }
+    ensures { (m : RootedModel) (units : List UnitPath) (t : Thing) → AreScopes m units scopes.now
+        → IsOwnScope m units t own → HasAttribute m units t value → IsOfKind m t kind
+        → IsEarliest (BreaksValue m rule t) result }
+{
+    let scope = scope_of(own, value.source.setting);
+    match written(&scopes.tree.classes, value.source) {
+        None => None,
+        Some(expr) => in_expression(scopes, rule, value.from, scope, kind, expr),
+    }
+}
+
+// The earliest place at which the value of a variable breaks the rule.
+fn in_variable<'a>(scopes: &'a Scopes<'a>, rule: Rule, node: &VarNode) -> Option<Place>
+    requires { HasScopes scopes.now }
+    ensures { (m : RootedModel) (units : List UnitPath) (t : Thing) → AreScopes m units scopes.now
+        → IsVariable m units t node.now → IsEarliest (BreaksValue m rule t) result }
+{
+    let kind = kind_of_domain(&node.domain);
+    in_value(scopes, rule, Scope::Constants, kind, node.value)
+}
+
+// The kind of a parameter with a value that is read.
+fn kind_of(node: &ParNode) -> ValueKind
+    ensures { result ≡ kind_of_parameter node.now.domain }
+{
+    match &node.domain {
+        Some(domain) => kind_of_domain(domain),
+        None => ValueKind::Whole,
+    }
+}
+
+// The earliest place at which the value of a parameter, which stands here in the tree's list,
+// breaks the rule.
+fn in_parameter<'a>(scopes: &'a Scopes<'a>, rule: Rule, place: u32, node: &ParNode) -> Option<Place>
+    requires { HasScopes scopes.now }
+    ensures { (m : RootedModel) (units : List UnitPath) (t : Thing) → AreScopes m units scopes.now
+        → Stands (parameters m units) place t → IsParameter m units t node.now
+        → IsEarliest (BreaksParameter m rule t) result }
+{
+    if !scopes.is_read(place) {
+        return None;
+    }
+    in_value(
+        scopes,
+        rule,
+        Scope::Before(place),
+        kind_of(node),
+        node.value,
+    )
+}
+
+// The type and the expression of an observer.
+fn observed(owned: &Owned) -> Option<(TypeForm, &RawExpr)>
+    ensures { option_map (λ o. (o.0, o.1.now)) result ≡ observed_in (Some owned.now) }
+{
+    match owned {
+        Owned::Plain(Member::Observer(type_name, _, _, expr)) => Some((type_name.form, expr)),
+        _ => None,
+    }
+}
+
+// The type and the expression of the observer that stands there.
+fn observed_at(classes: &Classes, source: Source) -> Option<(TypeForm, &RawExpr)>
+    ensures { (d : Declared) → Along IsBodyOf classes.now.bodies.items d.bodies
+        → option_map (λ o. (o.0, o.1.now)) result
+        ≡ observed_in (declared_at d (site_of (source.body, source.member))) }
+{
+    match owned_at(&classes.bodies, (source.body, source.member)) {
+        None => None,
+        Some(owned) => observed(owned),
+    }
+}
+
+// The earliest place at which the expression of an observer breaks the rule.
+fn in_observer<'a>(scopes: &'a Scopes<'a>, rule: Rule, node: &MemNode) -> Option<Place>
+    requires { HasScopes scopes.now }
+    ensures { (m : RootedModel) (units : List UnitPath) (t : Thing) → AreScopes m units scopes.now
+        → IsPlainNode m units t node.now → Has m is_observer t
+        → IsEarliest (BreaksObserver m rule t) result }
+{
+    let (form, expr) = observed_at(&scopes.tree.classes, node.source)?;
+    match scopes.kind_of_type(form) {
+        None => None,
+        Some(kind) => in_expression(scopes, rule, node.unit, Scope::Everything, kind, expr),
+    }
+}
+
+/// The earliest place at which the value of some variable breaks the rule.
+pub(crate) fn in_variables<'a>(scopes: &'a Scopes<'a>, rule: Rule) -> Option<Place>
+    requires { HasScopes scopes.now }
+    ensures { (m : RootedModel) (units : List UnitPath) → AreScopes m units scopes.now
+        → IsEarliest (BreaksOne (variables m units) (BreaksValue m rule)) result }
+{
+    let mut found = None;
+    for node in &scopes.tree.variables {
+        found = earlier(found, in_variable(scopes, rule, node));
+    }
+    found
+}
+
+/// The earliest place at which the value of some parameter breaks the rule.
+pub(crate) fn in_parameters<'a>(scopes: &'a Scopes<'a>, rule: Rule) -> Option<Place>
+    requires { HasScopes scopes.now }
+    ensures { (m : RootedModel) (units : List UnitPath) → AreScopes m units scopes.now
+        → IsEarliest (BreaksOne (parameters m units) (BreaksParameter m rule)) result }
+{
+    let mut found = None;
+    for (place, node) in scopes.tree.parameters.iter().enumerate() {
+        found = earlier(found, in_parameter(scopes, rule, place as u32, node));
+    }
+    found
+}
+
+/// The earliest place at which the expression of some observer breaks the rule.
+pub(crate) fn in_observers<'a>(scopes: &'a Scopes<'a>, rule: Rule) -> Option<Place>
+    requires { HasScopes scopes.now }
+    ensures { (m : RootedModel) (units : List UnitPath) → AreScopes m units scopes.now
+        → IsEarliest (BreaksOne (observers m units) (BreaksObserver m rule)) result }
+{
+    let mut found = None;
+    for node in &scopes.tree.observers {
+        found = earlier(found, in_observer(scopes, rule, node));
+    }
+    found
+}

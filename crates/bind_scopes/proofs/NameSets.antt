@@ -1,0 +1,235 @@
+-- Names of members that are added to a set.
+use Rattle.std.proofs.Common.{◌≡◌, ℕ, ◌+◌, ◌<◌, ◌≤◌, ◌⊎◌, inl, inr, Bool, true, false, cond, nat_eq, ◌==◌, ◌&&◌, List, [], ◌∷◌, ◌++◌, map, length, unwrap_or, slice_get, Option, Some, None, option_map, is_some, Result, Ok, Err, OnOk, refl, sym, ◌∙◌, ap, subst, arith, append_assoc}
+use Rattle.std.proofs.lemmas.Bool.Decides.{nat_tests}
+use Rattle.std.specs.HashMap as hash
+use Rattle.std.specs.HashMap.{HashMap}
+use Rattle.std.specs.HashSet.{HashSet, contains}
+use Rattle.ar_base.specs.Lists.{Stands}
+use Rattle.ar_base.specs.Numbers.{NameId}
+use Rattle.ar_base.specs.declared.places.Place.{Place}
+use Rattle.ar_base.proofs.Standing.{one_none, one_cases, one_first, one_split, one_left, one_right, stands_map, stands_one}
+use Rattle.ar_syntax.specs.declared.members.Setting.{Setting}
+use Rattle.ar_syntax.specs.declared.members.TypeForm.{TypeForm}
+use Rattle.ar_syntax.specs.declared.members.TypeForm.TheVariants as form
+use Rattle.class_table.specs.Declaring.{Declared, NamedType}
+use Rattle.class_table.specs.Members.{Site, NamedMember, MemberKind, declared_kind, all_named, names_of, named_at, owned_at, kind_of, type_named}
+use Rattle.class_table.specs.Shown.{IsDeclaredBy}
+use Rattle.class_table.specs.declared.tables.Body.{Body}
+use Rattle.class_table.specs.declared.tables.Classes.{Classes}
+use Rattle.hierarchy.specs.Models.{RootedModel, IsTableFor, sites_kept}
+use Rattle.hierarchy.proofs.Finding.{same_or_not, side}
+use Rattle.hierarchy.specs.Units.{UnitPath}
+use Rattle.hierarchy.specs.Tie.{IsTreeOf}
+use Rattle.unit_things.proofs.OneName.{members_there, members_past}
+use Rattle.unit_sizes.specs.Typing.{KnowsPlaces}
+use Rattle.bind_scopes.specs.Scopes.{AreScopes}
+use Rattle.bind_scopes.specs.declared.scopes.Scopes.{Scopes}
+use Rattle.bind_scopes.specs.Members.{same_pair, HasName, NamesSo, names_in, AddsNames, HasFirst}
+
+-- a pair is itself and no other
+pub pair_same : (b x : ℕ) → same_pair (b, x) (b, x) ≡ true
+pair_same b x = grind (arith, nat_tests)
+
+pub pair_one : (b x c y : ℕ) → same_pair (b, x) (c, y) ≡ true → (b ≡ c) × (x ≡ y)
+pair_one b x c y e = by (same_or_not b c) (same_or_not x y) e
+  where
+    by : (((b == c) ≡ true) × (b ≡ c)) ⊎ (((b == c) ≡ false) × (b ≡ c → ⊥)) → (((x == y) ≡ true) × (x ≡ y)) ⊎ (((x == y) ≡ false) × (x ≡ y → ⊥)) → ((b == c) && (x == y)) ≡ true → (b ≡ c) × (x ≡ y)
+    by (inl p) (inl q) e = (p.1, q.1)
+    by (inl p) (inr q) e = absurd (let v : (b == c) ≡ true = p.0 in let w : (x == y) ≡ false = q.0 in let r = rw (v, w) at e in cc)
+    by (inr p) q e = absurd (let v : (b == c) ≡ false = p.0 in let r = rw v at e in cc)
+
+so_none : (x : ℕ) → NamesSo [] x → ⊥
+so_none x n = one_none n.member n.is_one
+
+so_left : (gs hs : List NamedMember) (x : ℕ) → NamesSo gs x → NamesSo (gs ++ hs) x
+so_left gs hs x n = record { member = n.member; is_one = one_left gs hs n.member n.is_one; name = n.name }
+
+so_right : (gs hs : List NamedMember) (x : ℕ) → NamesSo hs x → NamesSo (gs ++ hs) x
+so_right gs hs x n = record { member = n.member; is_one = one_right gs hs n.member n.is_one; name = n.name }
+
+so_split : (gs hs : List NamedMember) (x : ℕ) → NamesSo (gs ++ hs) x → NamesSo gs x ⊎ NamesSo hs x
+so_split gs hs x n = elim (one_split gs hs n.member n.is_one) [
+  | inl i ↦ inl (record { member = n.member; is_one = i; name = n.name })
+  | inr i ↦ inr (record { member = n.member; is_one = i; name = n.name })
+]
+
+module _ {S : Type 0} (b : ℕ) where
+  -- nothing is added
+  pub adds_none : (s : HashSet (ℕ × ℕ) S) → AddsNames b [] s s
+  adds_none s = record { kept = λ c x h. h; added = λ x n. absurd (so_none x n); only = λ c x h. inl h }
+
+  -- one name is added
+  pub adds_one : (g : NamedMember) (x : ℕ) → g.name ≡ x → (old new : HashSet (ℕ × ℕ) S) → ((q : ℕ × ℕ) → contains same_pair new q ≡ cond (same_pair (b, x) q) true (contains same_pair old q)) → AddsNames b (g ∷ []) old new
+  adds_one g x e old new u = record { kept = kept; added = added; only = only }
+    where
+      kept : (c y : ℕ) → HasName old c y → HasName new c y
+      kept c y h = by (same_pair (b, x) (c, y)) (u (c, y))
+        where
+          by : (t : Bool) → contains same_pair new (c, y) ≡ cond t true (contains same_pair old (c, y)) → HasName new c y
+          by true f = f
+          by false f = f ∙ h
+
+      here : HasName new b x
+      here = u (b, x) ∙ ap (λ (t : Bool). cond t true (contains same_pair old (b, x))) (pair_same b x)
+
+      added : (y : ℕ) → NamesSo (g ∷ []) y → HasName new b y
+      added y n = elim (one_cases g [] n.member n.is_one) [
+        | inl i ↦ subst (λ (z : ℕ). HasName new b z) (sym e ∙ (ap (λ (z : NamedMember). z.name) i ∙ n.name)) here
+        | inr i ↦ absurd (one_none n.member i)
+      ]
+
+      only : (c y : ℕ) → HasName new c y → HasName old c y ⊎ ((c ≡ b) × NamesSo (g ∷ []) y)
+      only c y h = by (same_pair (b, x) (c, y)) refl (u (c, y))
+        where
+          by : (t : Bool) → same_pair (b, x) (c, y) ≡ t → contains same_pair new (c, y) ≡ cond t true (contains same_pair old (c, y)) → HasName old c y ⊎ ((c ≡ b) × NamesSo (g ∷ []) y)
+          by true f k = let w = pair_one b x c y f in inr (sym w.0, record { member = g; is_one = one_first g []; name = e ∙ w.1 })
+          by false f k = inl (sym k ∙ h)
+
+  -- more names are added
+  pub adds_more : (gs hs : List NamedMember) (old mid new : HashSet (ℕ × ℕ) S) → AddsNames b gs old mid → AddsNames b hs mid new → AddsNames b (gs ++ hs) old new
+  adds_more gs hs old mid new h k = record {
+    kept = λ c x p. k.kept c x (h.kept c x p);
+    added = λ x n. elim (so_split gs hs x n) [ inl i ↦ k.kept b x (h.added x i) | inr i ↦ k.added x i ];
+    only = λ c x p. elim (k.only c x p) [
+      | inl i ↦ elim (h.only c x i) [ inl j ↦ inl j | inr j ↦ inr (j.0, so_left gs hs x j.1) ]
+      | inr i ↦ inr (i.0, so_right gs hs x i.1)
+    ];
+  }
+
+  -- a declaration that declares nothing, or something
+  pub adds_declared : (d : Declared) (s : Site) (f : TypeForm) (settings : List Setting) (names : List (NameId × Place)) (old new : HashSet (ℕ × ℕ) S) → IsDeclaredBy d f true
+      → ((kind : MemberKind) → AddsNames b (all_named s (Some kind) names) old new) → AddsNames b (all_named s (declared_kind d s f settings) names) old new
+  adds_declared d s form.Boolean settings names old new e h = h _
+  adds_declared d s form.Integer settings names old new e h = cc
+  adds_declared d s (form.Named x) settings names old new e h = by (type_named d x.n) e
+    where
+      by : (t : Option NamedType) → true ≡ is_some t → AddsNames b (all_named s (option_map (λ (u : NamedType). kind_of s (form.Named x) u settings) t) names) old new
+      by None i = cc
+      by (Some t) i = h _
+
+  pub adds_nothing : (d : Declared) (s : Site) (f : TypeForm) (settings : List Setting) (names : List (NameId × Place)) (old : HashSet (ℕ × ℕ) S) → IsDeclaredBy d f false
+      → AddsNames b (all_named s (declared_kind d s f settings) names) old old
+  adds_nothing d s form.Boolean settings names old e = cc
+  adds_nothing d s form.Integer settings names old e = adds_none old
+  adds_nothing d s (form.Named x) settings names old e = by (type_named d x.n) e
+    where
+      by : (t : Option NamedType) → false ≡ is_some t → AddsNames b (all_named s (option_map (λ (u : NamedType). kind_of s (form.Named x) u settings) t) names) old old
+      by None i = adds_none old
+      by (Some t) i = cc
+
+-- names of one declaration more, and of one site more
+pub all_next : (s : Site) (kind : MemberKind) (names : List (NameId × Place)) (n : NameId × Place)
+    → all_named s (Some kind) (names ++ n ∷ []) ≡ all_named s (Some kind) names ++ record { name = n.0.n; at = n.1; kind = kind; site = s } ∷ []
+all_next s kind [] n = refl
+all_next s kind (x ∷ xs) n = ap (λ (gs : List NamedMember). record { name = x.0.n; at = x.1; kind = kind; site = s } ∷ gs) (all_next s kind xs n)
+
+pub named_more : (d : Declared) (xs : List Site) (x : Site) → named_at d (xs ++ x ∷ []) ≡ named_at d xs ++ names_of d x (owned_at d x)
+named_more d [] x = end (names_of d x (owned_at d x))
+  where
+    end : (gs : List NamedMember) → gs ++ [] ≡ gs
+    end [] = refl
+    end (g ∷ gs) = ap (λ (hs : List NamedMember). g ∷ hs) (end gs)
+named_more d (y ∷ ys) x = ap (λ (gs : List NamedMember). names_of d y (owned_at d y) ++ gs) (named_more d ys x) ∙ sym (append_assoc (names_of d y (owned_at d y)) (named_at d ys) (names_of d x (owned_at d x)))
+
+-- Bodies
+
+module _ {S : Type 0} (m : RootedModel) where
+  pub first_none : (s : HashSet (ℕ × ℕ) S) → s.keys ≡ [] → HasFirst m 0 s
+  first_none s e = record { there = λ b x l n. absurd (omega (arith, l)); only = λ b x h. absurd (none b x h) }
+    where
+      none : (b x : ℕ) → HasName s b x → ⊥
+      none b x h = let g = rw e at h in cc
+
+  pub first_more : (c : Classes) → IsTableFor m c → (n : ℕ) (body : Body) → Stands c.bodies.items n body → (old new : HashSet (ℕ × ℕ) S) → AddsNames n (named_at m.declared (sites_kept body)) old new
+      → HasFirst m n old → HasFirst m (n + 1) new
+  first_more c t n body s old new a h = record { there = there; only = only }
+    where
+      same : sites_kept body ≡ unwrap_or (slice_get m.members n) []
+      same = members_there m c t n body s
+
+      there : (b x : ℕ) → b < n + 1 → NamesSo (names_in m b) x → HasName new b x
+      there b x l k = by (side n b)
+        where
+          by : (n ≤ b) ⊎ (b < n) → HasName new b x
+          by (inr q) = a.kept b x (h.there b x q k)
+          by (inl q) =
+              let e : b ≡ n = omega (arith, q, l) in
+              subst (λ (z : ℕ). HasName new z x) (sym e)
+              (a.added x (subst (λ (z : List Site). NamesSo (named_at m.declared z) x) (sym same) (subst (λ (z : ℕ). NamesSo (names_in m z) x) e k)))
+
+      only : (b x : ℕ) → HasName new b x → NamesSo (names_in m b) x
+      only b x k = elim (a.only b x k) [
+        | inl i ↦ h.only b x i
+        | inr i ↦ subst (λ (z : ℕ). NamesSo (names_in m z) x) (sym i.0) (subst (λ (z : List Site). NamesSo (named_at m.declared z) x) same i.1)
+      ]
+
+-- what holds where there is memory
+pub on_ok_next : {T E : Type 0} {P Q : Type 0} (r : Result T E) → (P → Q) → OnOk r P → OnOk r Q
+on_ok_next (Ok v) f h = f h
+on_ok_next (Err e) f h = tt
+
+-- Symbols
+
+-- the first n of these names have their places as numbers
+pub record AreNumbersOf {S : Type 0} (list : List NameId) (n : ℕ) (numbers : HashMap ℕ ℕ S) : Type 0 where
+  pub at : (x k : ℕ) → hash.get nat_eq numbers x ≡ Some k → Stands (map (λ (x : NameId). x.n) list) k x
+  pub all : (x k : ℕ) → hash.get nat_eq numbers x ≡ None → k < n → Stands (map (λ (x : NameId). x.n) list) k x → ⊥
+
+module _ {S : Type 0} (list : List NameId) where
+  pub numbers_none : (t : HashMap ℕ ℕ S) → t.entries ≡ [] → AreNumbersOf list 0 t
+  numbers_none t e = record { at = λ x k h. absurd (none x k h); all = λ x k h l s. omega (arith, l) }
+    where
+      none : (x k : ℕ) → hash.get nat_eq t x ≡ Some k → ⊥
+      none x k h = let g = rw e at h in cc
+
+  pub numbers_more : (n : ℕ) (a : NameId) → Stands list n a → (old new : HashMap ℕ ℕ S) → ((q : ℕ) → hash.get nat_eq new q ≡ cond (nat_eq a.n q) (Some n) (hash.get nat_eq old q)) → AreNumbersOf list n old → AreNumbersOf list (n + 1) new
+  numbers_more n a s old new u h = record { at = at; all = all }
+    where
+      here : Stands (map (λ (x : NameId). x.n) list) n a.n
+      here = stands_map (λ (x : NameId). x.n) list n a s
+
+      at : (x k : ℕ) → hash.get nat_eq new x ≡ Some k → Stands (map (λ (x : NameId). x.n) list) k x
+      at x k g = by (nat_eq a.n x) refl (sym (u x) ∙ g)
+        where
+          by : (b : Bool) → nat_eq a.n x ≡ b → cond b (Some n) (hash.get nat_eq old x) ≡ Some k → Stands (map (λ (x : NameId). x.n) list) k x
+          by true e f =
+              let i : a.n ≡ x = grind (arith, nat_tests) in let j : n ≡ k = cc in
+              subst (λ (z : ℕ). Stands (map (λ (x : NameId). x.n) list) k z) i (subst (λ (z : ℕ). Stands (map (λ (x : NameId). x.n) list) z a.n) j here)
+          by false e f = h.at x k f
+
+      all : (x k : ℕ) → hash.get nat_eq new x ≡ None → k < n + 1 → Stands (map (λ (x : NameId). x.n) list) k x → ⊥
+      all x k g l t = by (nat_eq a.n x) refl (sym (u x) ∙ g)
+        where
+          by : (b : Bool) → nat_eq a.n x ≡ b → cond b (Some n) (hash.get nat_eq old x) ≡ None → ⊥
+          by true e f = cc
+          by false e f = below (side n k)
+            where
+              below : (n ≤ k) ⊎ (k < n) → ⊥
+              below (inr q) = h.all x k f q t
+              below (inl q) =
+                  let i : k ≡ n = omega (arith, q, l) in
+                  let j = stands_one (map (λ (x : NameId). x.n) list) n a.n x here (subst (λ (z : ℕ). Stands (map (λ (x : NameId). x.n) list) z x) i t) in
+                  let w : nat_eq a.n x ≡ true = grind (arith, nat_tests) in cc
+
+-- the table is that of the tree
+pub scopes_of : (m : RootedModel) (units : List UnitPath) (s : Scopes) → IsTreeOf m units s.tree.now
+    → ((x k : ℕ) → hash.get nat_eq s.symbols x ≡ Some k → Stands (map (λ (x : NameId). x.n) s.tree.now.classes.symbols.items) k x)
+    → ((x k : ℕ) → hash.get nat_eq s.symbols x ≡ None → Stands (map (λ (x : NameId). x.n) s.tree.now.classes.symbols.items) k x → ⊥)
+    → HasFirst m (length s.tree.now.classes.bodies.items) s.members → KnowsPlaces s.tree.now.classes.types.items s.types → AreScopes m units s
+scopes_of m units s is at all first known = record {
+  types = known;
+  is_tree = is;
+  symbols = λ x k e. subst (λ (z : List ℕ). Stands z k x) is.table.table.holds.symbols (at x k e);
+  no_symbols = λ x k e t. all x k e (subst (λ (z : List ℕ). Stands z k x) (sym is.table.table.holds.symbols) t);
+  names = λ b x n. first.there b x (within b x n) n;
+  only_names = first.only;
+}
+  where
+    within : (b x : ℕ) → NamesSo (names_in m b) x → b < length s.tree.now.classes.bodies.items
+    within b x n = by (side (length s.tree.now.classes.bodies.items) b)
+      where
+        by : (length s.tree.now.classes.bodies.items ≤ b) ⊎ (b < length s.tree.now.classes.bodies.items) → b < length s.tree.now.classes.bodies.items
+        by (inr l) = l
+        by (inl l) =
+            let e = members_past m s.tree.now.classes is.table.table b l in
+            absurd (so_none x (subst (λ (z : List Site). NamesSo (named_at m.declared z) x) e n))

@@ -1,0 +1,5 @@
+pub mod Searching
+pub mod Sites
+pub mod Members
+pub mod Scopes
+pub mod Naming

@@ -1,0 +1,35 @@
+-- The names of members of bodies, as they are kept in a set.
+use Rattle.std.specs.Prelude.{◌≡◌, ◌⊎◌, ◌==◌, ◌&&◌, ◌<◌, ℕ, Bool, true, List, [], slice_get, unwrap_or}
+use Rattle.std.specs.HashSet.{HashSet, contains}
+use Rattle.ar_base.specs.Lists.{IsOneOf}
+use Rattle.class_table.specs.Members.{NamedMember, named_at}
+use Rattle.hierarchy.specs.Models.{RootedModel}
+
+-- a test for one pair
+abbrev pub same_pair : ℕ × ℕ → ℕ × ℕ → Bool
+same_pair a b = (a.0 == b.0) && (a.1 == b.1)
+
+-- the name is in the set, for this body
+abbrev pub HasName : {S : Type 0} → HashSet (ℕ × ℕ) S → ℕ → ℕ → Type 0
+HasName names b x = contains same_pair names (b, x) ≡ true
+
+-- a member of this name
+pub record NamesSo (members : List NamedMember) (x : ℕ) : Type 0 where
+  pub member : NamedMember
+  pub is_one : IsOneOf members member
+  pub name : member.name ≡ x
+
+-- the names of the members of a body, inherited ones included
+abbrev pub names_in : RootedModel → ℕ → List NamedMember
+names_in m b = named_at m.declared (unwrap_or (slice_get m.members b) [])
+
+-- the names of these members were added, for this body
+pub record AddsNames {S : Type 0} (b : ℕ) (members : List NamedMember) (old new : HashSet (ℕ × ℕ) S) : Type 0 where
+  pub kept : (c x : ℕ) → HasName old c x → HasName new c x
+  pub added : (x : ℕ) → NamesSo members x → HasName new b x
+  pub only : (c x : ℕ) → HasName new c x → HasName old c x ⊎ ((c ≡ b) × NamesSo members x)
+
+-- the set has the names of the first n bodies
+pub record HasFirst {S : Type 0} (m : RootedModel) (n : ℕ) (names : HashSet (ℕ × ℕ) S) : Type 0 where
+  pub there : (b x : ℕ) → b < n → NamesSo (names_in m b) x → HasName names b x
+  pub only : (b x : ℕ) → HasName names b x → NamesSo (names_in m b) x

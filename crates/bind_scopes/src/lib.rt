@@ -1,0 +1,14 @@
+//! What paths name where they stand in a tree of units: variables, parameters and symbols, in the
+//! scopes in which expressions may name them, with their kinds.
+#![tactic(auto)]
+
+mod kinds;
+mod members;
+mod naming;
+mod scopes;
+mod sites;
+
+pub use kinds::kind_of_domain;
+pub use naming::{Sort, UnitNames};
+pub use scopes::{Named, Scope, Scopes};
+pub use sites::written;

@@ -1,0 +1,160 @@
+// The names of members of bodies.
+
+ghost use Rattle.std.specs.Prelude.{◌≡◌, ◌+◌, ℕ, List, [], ◌∷◌, map, length, OnOk, IfOk, Some};
+ghost use Rattle.ar_base.specs.Lists.{Along, Stands};
+ghost use Rattle.class_table.specs.Declaring.{Declared};
+ghost use Rattle.class_table.specs.Members.{Site, MemberKind, NamedMember, names_of, named_at, all_named, owned_at as declared_at};
+ghost use Rattle.class_table.specs.Shown.{IsDeclaredBy};
+ghost use Rattle.class_table.specs.Tables.{Holds, IsNamedType, site_of};
+ghost use Rattle.hierarchy.specs.Models.{RootedModel, IsTableFor};
+ghost use Rattle.unit_sizes.specs.Typing.{KnowsPlaces};
+ghost use Rattle.bind_scopes.specs.Members.{AddsNames, HasFirst};
+
+use ar_base::{BodyId, Memory, NameId, Place};
+use ar_syntax::{Member, TypeForm};
+use class_table::{Body, Classes, Owned, TypeBody};
+use std::alloc::Global;
+use std::collections::HashSet;
+use unit_settings::owned_at;
+use unit_sizes::TypePlaces;
+
+/// Names by the numbers of bodies.
+pub(crate) type Names = HashSet<(u32, u32)>;
+
+// Whether a declaration by this type declares anything.
+fn declares(form: TypeForm, types: &[(NameId, TypeBody)], places: &TypePlaces) -> bool
+    ensures { (d : Declared) → Along (IsNamedType d.symbols) types.now d.types
+        → KnowsPlaces types.now places.now → IsDeclaredBy d form result }
+{
+    match form {
+        TypeForm::Boolean => true,
+        TypeForm::Integer => false,
+        TypeForm::Named(name) => places.find(types, name).is_some(),
+    }
+}
+
+// Adds a name for the body.
+fn add(names: &mut Names, body: BodyId, name: NameId) -> Result<(), Memory>
+    ensures { OnOk result ((g : NamedMember) → g.name ≡ name.n
+        → AddsNames body.n (g ∷ []) names.old names.new) }
+{
+    names.insert((body.n, name.n))?;
+    Ok(())
+}
+
+// Adds the names of a declaration for the body.
+fn add_all(names: &mut Names, body: BodyId, list: &[(NameId, Place)]) -> Result<(), Memory>
+    ensures { OnOk result ((s : Site) (kind : MemberKind)
+        → AddsNames body.n (all_named s (Some kind) list.now) names.old names.new) }
+{
+    for (name, _) in list {
+        add(names, body, *name)?;
+    }
+    Ok(())
+}
+
+// Adds the names that a member gives for the body.
+fn add_member(
+    names: &mut Names,
+    body: BodyId,
+    owned: &Owned,
+    types: &[(NameId, TypeBody)],
+    places: &TypePlaces,
+) -> Result<(), Memory>
+    ensures { (d : Declared) (s : Site) → Along (IsNamedType d.symbols) types.now d.types
+        → KnowsPlaces types.now places.now
+        → OnOk result (AddsNames body.n (names_of d s (Some owned.now)) names.old names.new) }
+{
+    let member = match owned {
+        Owned::Nested(name, _, _) => return add(names, body, *name),
+        Owned::Plain(member) => member,
+    };
+    match member {
+        Member::Declare(type_name, list, _) => {
+            if declares(type_name.form, types, places) {
+                add_all(names, body, list)
+            } else {
+                Ok(())
+            }
+        }
+        Member::Clones(_, name, _)
+        | Member::Embeds(_, name, _)
+        | Member::Parameter(_, name, _, _)
+        | Member::Kept(name, _, _)
+        | Member::Event(name, _, _)
+        | Member::Observer(_, name, _, _) => add(names, body, *name),
+        Member::Extends(_, _) => Ok(()),
+        Member::Block(_) => Ok(()),
+        Member::Hide(_) => Ok(()),
+        Member::Local(_, _, _, _) => Ok(()),
+        Member::Sync(_, _, _) => Ok(()),
+        Member::Assert(_) => Ok(()),
+    }
+}
+
+// Adds the names that the member at a site gives for the body.
+fn add_site(
+    names: &mut Names,
+    body: BodyId,
+    classes: &Classes,
+    places: &TypePlaces,
+    site: (BodyId, u32),
+) -> Result<(), Memory>
+    ensures { (d : Declared) → Holds d classes.now → KnowsPlaces classes.now.types.items places.now
+        → OnOk result (AddsNames body.n
+        (names_of d (site_of site) (declared_at d (site_of site))) names.old names.new) }
+{
+    match owned_at(&classes.bodies, site) {
+        None => Ok(()),
+        Some(owned) => add_member(names, body, owned, &classes.types, places),
+    }
+}
+
+// Adds the names of the members at these sites for the body.
+fn add_sites(
+    names: &mut Names,
+    body: BodyId,
+    classes: &Classes,
+    places: &TypePlaces,
+    sites: &[(BodyId, u32)],
+) -> Result<(), Memory>
+    ensures { (d : Declared) → Holds d classes.now → KnowsPlaces classes.now.types.items places.now
+        → OnOk result (AddsNames body.n (named_at d (map site_of sites.now)) names.old names.new) }
+{
+    for site in sites {
+        add_site(names, body, classes, places, *site)?;
+    }
+    Ok(())
+}
+
+// Adds the names of the members of a body.
+fn add_body(
+    names: &mut Names,
+    classes: &Classes,
+    places: &TypePlaces,
+    place: usize,
+    body: &Body,
+) -> Result<(), Memory>
+    ensures { (m : RootedModel) → IsTableFor m classes.now
+        → KnowsPlaces classes.now.types.items places.now
+        → Stands classes.now.bodies.items place body.now → HasFirst m place names.old
+        → OnOk result (HasFirst m (place + 1) names.new) }
+{
+    let Ok(number) = u32::try_from(place) else {
+        return Err(Memory {});
+    };
+    add_sites(names, BodyId::new(number), classes, places, &body.all)
+}
+
+/// The names of the members of all bodies, inherited ones included.
+pub(crate) fn names_of_members(alloc: Global, classes: &Classes) -> Result<Names, Memory>
+    ensures { (m : RootedModel) → IsTableFor m classes.now
+        → IfOk result (HasFirst m (length classes.now.bodies.items)) }
+{
+    let places = TypePlaces::new(alloc, &classes.types)?;
+    let mut names = HashSet::new(alloc);
+    for (place, body) in classes.bodies.iter().enumerate() {
+        add_body(&mut names, classes, &places, place, body)?;
+    }
+    Ok(names)
+}

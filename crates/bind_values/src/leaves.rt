@@ -1,0 +1,54 @@
+// What paths stand for, where the values of parameters are known.
+
+ghost use Rattle.std.specs.Prelude.{◌≡◌};
+ghost use Rattle.bind_values.specs.Leaves.{value_at, leaf_of, leaf_in, IsInTree};
+
+use ar_base::UnitId;
+use ar_syntax::Path;
+use bind_expressions::{Leaf, Leaves};
+use bind_scopes::{Named, Scopes};
+use domains::Value;
+
+/// What paths stand for in the expressions of a unit: variables by their numbers, and the values of
+/// parameters and symbols.
+#[derive(Clone, Copy)]
+pub struct UnitLeaves<'a, 't> {
+    /// What paths name in the tree.
+    pub scopes: &'a Scopes<'t>,
+    /// The unit.
+    pub unit: UnitId,
+    /// The values of parameters, in the tree's order.
+    pub parameters: &'a [Value],
+}
+
+/// The value at this place, or false where there is none.
+pub(crate) fn known(values: &[Value], place: usize) -> Value
+    ensures { result ≡ value_at values.now place }
+{
+    match values.get(place) {
+        Some(value) => *value,
+        None => Value::Truth(false),
+    }
+}
+
+// What stands for what was named.
+fn standing(parameters: &[Value], named: Option<Named>) -> Leaf
+    ensures { result ≡ leaf_of parameters.now named }
+{
+    match named {
+        None => Leaf::Constant(Value::Truth(false)),
+        Some(Named::Variable(variable)) => Leaf::Variable(variable),
+        Some(Named::Parameter(place)) => Leaf::Constant(known(parameters, place as usize)),
+        Some(Named::Symbol(symbol)) => Leaf::Constant(Value::Symbol(symbol)),
+    }
+}
+
+impl<'a, 't> Leaves for UnitLeaves<'a, 't> {
+    ghost is_sound = { λ s. IsInTree s };
+
+    ghost leaf_at = { λ s p. leaf_in s p };
+
+    fn leaf(&self, path: &Path) -> Leaf {
+        standing(self.parameters, self.scopes.named(self.unit, path))
+    }
+}

@@ -1,0 +1,99 @@
+// Values outside their domains.
+
+ghost use Rattle.std.specs.Prelude.{◌↔◌, IsTrue, List};
+ghost use Rattle.ar_base.specs.Lists.{Along, IsOneOf};
+ghost use Rattle.domains.specs.Domains.{Holds};
+ghost use Rattle.class_table.specs.Earliest.{IsEarliest};
+ghost use Rattle.hierarchy.specs.Models.{RootedModel};
+ghost use Rattle.hierarchy.specs.Units.{UnitPath, Thing};
+ghost use Rattle.hierarchy.specs.Listing.{variables, parameters};
+ghost use Rattle.hierarchy.specs.Tie.{HasAttribute, IsParameter, IsVariable};
+ghost use Rattle.source_meaning.specs.Tested.{HasValue};
+ghost use Rattle.bind_scopes.specs.Scopes.{AreScopes};
+ghost use Rattle.bind_values.specs.Values.{IsValue, IsParameterValue, IsDomainAt, BreaksAs, BreaksOne};
+
+use crate::leaves::known;
+use ar_base::Place;
+use bind_expressions::earlier;
+use bind_scopes::{Scopes, written};
+use domains::{Domain, Value};
+use hierarchy::{Attribute, ParNode, VarNode};
+
+// Whether the domain has the value.
+fn holds(domain: &Domain, value: Value) -> bool
+    ensures { IsTrue result ↔ Holds domain.now value }
+{
+    match (domain, value) {
+        (Domain::Boolean, Value::Truth(_)) => true,
+        (Domain::Symbols(symbols), Value::Symbol(symbol)) => symbols.contains(&symbol),
+        (Domain::Range(low, high), Value::Whole(number)) => *low <= number && number <= *high,
+        _ => false,
+    }
+}
+
+// The place of the value of what has this attribute, where the value is outside the domain.
+fn outside(
+    scopes: &Scopes<'_>,
+    domain: &Domain,
+    value: Value,
+    attribute: Attribute,
+) -> Option<Place>
+    ensures { (m : RootedModel) (units : List UnitPath) (t : Thing) → AreScopes m units scopes.now
+        → HasValue m units t → HasAttribute m units t attribute → IsValue m t value
+        → IsDomainAt m t domain.now → IsEarliest (BreaksAs m units t) result }
+{
+    if holds(domain, value) {
+        return None;
+    }
+    match written(&scopes.tree.classes, attribute.source) {
+        Some(expr) => Some(expr.at),
+        None => None,
+    }
+}
+
+// The same of a variable.
+fn outside_variable(scopes: &Scopes<'_>, node: &VarNode, value: Value) -> Option<Place>
+    ensures { (m : RootedModel) (units : List UnitPath) (t : Thing) → AreScopes m units scopes.now
+        → IsOneOf (variables m units) t → IsVariable m units t node.now → IsValue m t value
+        → IsEarliest (BreaksAs m units t) result }
+{
+    outside(scopes, &node.domain, value, node.value)
+}
+
+// The same of a parameter.
+fn outside_parameter(scopes: &Scopes<'_>, node: &ParNode, value: Value) -> Option<Place>
+    ensures { (m : RootedModel) (units : List UnitPath) (t : Thing) → AreScopes m units scopes.now
+        → IsOneOf (parameters m units) t → IsParameter m units t node.now
+        → IsParameterValue m t value → IsEarliest (BreaksAs m units t) result }
+{
+    match &node.domain {
+        Some(domain) => outside(scopes, domain, value, node.value),
+        None => None,
+    }
+}
+
+/// The earliest place of a value of a variable that is outside its domain.
+pub(crate) fn outside_variables(scopes: &Scopes<'_>, values: &[Value]) -> Option<Place>
+    ensures { (m : RootedModel) (units : List UnitPath) → AreScopes m units scopes.now
+        → Along (IsValue m) (variables m units) values.now
+        → IsEarliest (BreaksOne m units (variables m units)) result }
+{
+    let mut found = None;
+    for (place, node) in scopes.tree.variables.iter().enumerate() {
+        found = earlier(found, outside_variable(scopes, node, known(values, place)));
+    }
+    found
+}
+
+/// The earliest place of a value of a parameter that is outside its domain.
+pub(crate) fn outside_parameters(scopes: &Scopes<'_>, values: &[Value]) -> Option<Place>
+    ensures { (m : RootedModel) (units : List UnitPath) → AreScopes m units scopes.now
+        → Along (IsParameterValue m) (parameters m units) values.now
+        → IsEarliest (BreaksOne m units (parameters m units)) result }
+{
+    let mut found = None;
+    for (place, node) in scopes.tree.parameters.iter().enumerate() {
+        found = earlier(found, outside_parameter(scopes, node, known(values, place)));
+    }
+    found
+}

@@ -1,0 +1,13 @@
+pub mod WayLemmas
+pub mod ValueLemmas
+pub mod ListLemmas
+pub mod TotalLemmas
+pub mod FollowLemmas
+pub mod ObeyLemmas
+pub mod PlayLemmas
+pub mod PieceLemmas
+pub mod EventLemmas
+pub mod ScriptLemmas
+pub mod MarkLemmas
+pub mod VisibleLemmas
+pub mod PathLemmas

@@ -1,0 +1,14 @@
+use Rattle.ar_io.proofs.Writing.{writes_exit, writes_on, writes_cut, writes_as}
+use Rattle.gts_core.specs.declared.system.GtsParts.{GtsParts}
+use Rattle.std.proofs.Common.{ap}
+use Rattle.replayer.specs.Printing.{values_text}
+use Rattle.replayer.proofs.trace.started.Goals as goal
+
+pub returns-in_err-put : goal.returns-in_err-put
+returns-in_err-put g c =
+    writes_exit _ _ c.from_residual.ensures.1
+    (writes_cut _ _ c.in_err-put.ensures)
+
+pub returns : goal.returns
+returns g c =
+    writes_on c.in_ok-put.ensures (writes_as _ _ (ap (λ (q : GtsParts). values_text q c.args.values.now) c.parts.ensures.parts) c.all_lines.ensures)

@@ -1,0 +1,9 @@
+pub mod Labels
+pub mod Lines
+pub mod Scripts
+pub mod Replays
+pub mod Flat
+pub mod Printing
+pub mod Listing
+pub mod Playing
+pub mod Reads

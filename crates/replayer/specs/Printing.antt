@@ -1,0 +1,87 @@
+-- The texts of a replay as they are written: the lines of values, of changes and of what can fire, by the parts of a flat
+-- system.
+use Rattle.std.specs.Prelude.{ℕ, ◌+◌, Bool, if◌then◌else◌, List, [], ◌∷◌, ◌++◌, map, codes}
+use Rattle.ar_base.specs.Numbers.{WayId}
+use Rattle.ar_base.specs.Texts.{line}
+use Rattle.domains.specs.declared.Value.{Value}
+use Rattle.domains.specs.Same.{is_same}
+use Rattle.ar_meaning.specs.TraceText.{variable_line, observer_line, all_lines, flow_fault_text, step_fault_text}
+use Rattle.ar_meaning.specs.Steps as steps
+use Rattle.flow_propagate.specs.Answers.{fault_of}
+use Rattle.gts_core.specs.Readings.{value_in}
+use Rattle.gts_core.specs.declared.system.Event.{Event}
+use Rattle.gts_core.specs.declared.system.GtsParts.{GtsParts}
+use Rattle.gts_core.specs.declared.system.Observer.{Observer}
+use Rattle.gts_flatten.specs.Flat.{naming_of_parts}
+use Rattle.stepper.specs.declared.faults.StepFault.{StepFault}
+use Rattle.stepper.specs.declared.faults.StepFault.TheVariants as fault
+use Rattle.replayer.specs.Flat.{way_label, IsInRange}
+
+-- the value of each of these observers under a valuation
+abbrev pub seen_by : List Observer → List Value → List Value
+seen_by observers t = map (λ (o : Observer). value_in t o.value) observers
+
+-- the values of the observers
+abbrev pub seen_in : GtsParts → List Value → List Value
+seen_in p t = seen_by p.observers.items t
+
+-- the lines of all variables and observers
+abbrev pub values_text : GtsParts → List Value → List ℕ
+values_text p t = all_lines (naming_of_parts p) t (seen_in p t)
+
+-- the line of the new value, where it differs from the old one
+abbrev pub change_text : (ℕ → Value → List ℕ) → ℕ → Value → Value → List ℕ
+change_text one n v w = if is_same v w then [] else one n w
+
+-- the lines of those new values that differ from the old ones, numbered from n on
+abbrev pub changes_from : (ℕ → Value → List ℕ) → ℕ → List Value → List Value → List ℕ
+changes_from one n [] ws = []
+changes_from one n (v ∷ vs) [] = []
+changes_from one n (v ∷ vs) (w ∷ ws) = change_text one n v w ++ changes_from one (n + 1) vs ws
+
+-- the lines of those of these observers, numbered from n on, whose value changed
+abbrev pub observer_changes : GtsParts → List Value → List Value → ℕ → List Observer → List ℕ
+observer_changes p old new n [] = []
+observer_changes p old new n (o ∷ os) =
+    change_text (observer_line (naming_of_parts p)) n (value_in old o.value) (value_in new o.value)
+    ++ observer_changes p old new (n + 1) os
+
+-- the lines of these observers, numbered from n on
+abbrev pub observer_lines : GtsParts → List Value → ℕ → List Observer → List ℕ
+observer_lines p t n [] = []
+observer_lines p t n (o ∷ os) = observer_line (naming_of_parts p) n (value_in t o.value) ++ observer_lines p t (n + 1) os
+
+-- the lines of the variables and observers that changed
+abbrev pub changes_text : GtsParts → List Value → List Value → List ℕ
+changes_text p old new =
+    changes_from (variable_line (naming_of_parts p)) 0 old new ++ observer_changes p old new 0 p.observers.items
+
+-- the lines of those of these ways that can fire
+abbrev pub way_lines : GtsParts → (ℕ → Bool) → List WayId → List ℕ
+way_lines p can [] = []
+way_lines p can (w ∷ ws) = (if can w.n then line (codes "  " ++ way_label p w.n) else []) ++ way_lines p can ws
+
+-- the lines of the ways of an event, which has none where it is hidden
+abbrev pub event_lines : GtsParts → (ℕ → Bool) → Event → List ℕ
+event_lines p can e = if e.hidden then [] else way_lines p can e.ways.items
+
+-- the lines of the ways of these events that can fire
+abbrev pub events_lines : GtsParts → (ℕ → Bool) → List Event → List ℕ
+events_lines p can [] = []
+events_lines p can (e ∷ es) = event_lines p can e ++ events_lines p can es
+
+-- a fault of a step by numbers; want of memory has no text
+abbrev pub step_text : GtsParts → StepFault → List ℕ
+step_text p fault.NotEnabled = step_fault_text (naming_of_parts p) steps.NotEnabled
+step_text p (fault.Clash x) = step_fault_text (naming_of_parts p) (steps.Clash x.n)
+step_text p (fault.Range x) = step_fault_text (naming_of_parts p) (steps.Range x.n)
+step_text p (fault.Flow f) = flow_fault_text (naming_of_parts p) (fault_of f)
+step_text p fault.Memory = []
+
+-- the numbers of a fault of a step are in range
+abbrev pub IsFaultInRange : GtsParts → StepFault → Type 0
+IsFaultInRange p fault.NotEnabled = Unit {0}
+IsFaultInRange p (fault.Clash x) = Unit {0}
+IsFaultInRange p (fault.Range x) = Unit {0}
+IsFaultInRange p (fault.Flow f) = IsInRange p f
+IsFaultInRange p fault.Memory = Unit {0}

@@ -1,0 +1,20 @@
+//! Scripts, and the traces of their runs: a script becomes commands, and a replay writes what they do, moment by moment.
+#![tactic(auto)]
+
+mod commands;
+mod enabled;
+mod labels;
+pub mod laws;
+mod lines;
+mod obeying;
+mod paths;
+mod pieces;
+mod replaying;
+mod script_labels;
+mod shown;
+mod trace;
+mod way_numbers;
+
+pub use commands::{Command, ScriptFault, read_script};
+pub use labels::{print_flow_fault, print_label};
+pub use replaying::{End, ReplayFault, replay};

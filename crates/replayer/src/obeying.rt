@@ -1,0 +1,140 @@
+// What each command does.
+
+ghost use Rattle.std.specs.Prelude.{◌≡◌, ◌<◌, ℕ, length, OnOk};
+ghost use Rattle.ar_meaning.specs.Systems.{System};
+ghost use Rattle.gts_core.specs.Sound.{IsSound};
+ghost use Rattle.gts_core.specs.View.{Views};
+ghost use Rattle.gts_flatten.specs.Flat.{naming_of_parts};
+ghost use Rattle.replayer.specs.Flat.{command_of, IsFirable};
+ghost use Rattle.replayer.specs.Playing.{AreTotal, Answers, IsRefusal};
+ghost use Rattle.replayer.specs.Printing.{IsFaultInRange};
+
+use crate::commands::Command;
+use crate::replaying::{End, ReplayFault};
+use crate::trace::{fired, gone_back, listed, no_step, not_fired, shown};
+use ar_base::WayId;
+use ar_io::Sink;
+use gts_core::Gts;
+use std::alloc::Global;
+use stepper::{NoStep, StepFault, Stepper};
+
+/// Obeys a command and writes its lines.
+pub(crate) fn obey<K: Sink>(
+    alloc: Global,
+    gts: &Gts,
+    stepper: &mut Stepper,
+    command: Command,
+    out: &mut K,
+) -> Result<End, ReplayFault>
+    requires sound { IsSound gts.now }
+    requires same { stepper.old.system ≡ gts.now }
+    requires below { AreTotal gts.now stepper.old.below }
+    requires firable { IsFirable gts.now command }
+    ensures system { stepper.new.system ≡ stepper.old.system }
+    ensures below { OnOk result (AreTotal gts.now stepper.new.below) }
+    ensures answers { (system : System ℕ) → Views gts.now system
+        → Answers (naming_of_parts gts.now) system stepper.old stepper.new (command_of gts.now command) (K.state out.old) (K.state out.new) result }
+{
+    match command {
+        Command::Fire(way) => fire(alloc, gts, stepper, way, out),
+        Command::Back => back(alloc, gts, stepper, out),
+        Command::Show => show(gts, stepper, out),
+        Command::Enabled => list(gts, stepper, out),
+    }
+}
+
+// Fires a way.
+fn fire<K: Sink>(
+    alloc: Global,
+    gts: &Gts,
+    stepper: &mut Stepper,
+    way: WayId,
+    out: &mut K,
+) -> Result<End, ReplayFault>
+    requires sound { IsSound gts.now }
+    requires same { stepper.old.system ≡ gts.now }
+    requires below { AreTotal gts.now stepper.old.below }
+    requires inside { way.n < length gts.now.ways.items }
+    ensures system { stepper.new.system ≡ stepper.old.system }
+    ensures below { OnOk result (AreTotal gts.now stepper.new.below) }
+    ensures answers { (system : System ℕ) → Views gts.now system
+        → Answers (naming_of_parts gts.now) system stepper.old stepper.new (command_of gts.now (Command.Fire way)) (K.state out.old) (K.state out.new) result }
+{
+    let old = Vec::from_slice(alloc, &stepper.values().values)?;
+    match stepper.fire(way) {
+        Ok(_) => {
+            fired(out, gts, way, &old, &stepper.values().values)?;
+            Ok(End::Done)
+        }
+        Err(fault) => refuse(gts, way, fault, out),
+    }
+}
+
+// Tells why a way was not fired.
+fn refuse<K: Sink>(gts: &Gts, way: WayId, fault: StepFault, out: &mut K) -> Result<End, ReplayFault>
+    requires inside { way.n < length gts.now.ways.items }
+    requires range { IsFaultInRange gts.now fault }
+    ensures { IsRefusal gts.now way.n fault (K.state out.old) (K.state out.new) result }
+{
+    match fault {
+        StepFault::Memory => Err(ReplayFault::Memory),
+        _ => {
+            not_fired(out, gts, way, fault)?;
+            Ok(End::Fault)
+        }
+    }
+}
+
+// Takes a step back.
+fn back<K: Sink>(
+    alloc: Global,
+    gts: &Gts,
+    stepper: &mut Stepper,
+    out: &mut K,
+) -> Result<End, ReplayFault>
+    requires sound { IsSound gts.now }
+    requires same { stepper.old.system ≡ gts.now }
+    requires below { AreTotal gts.now stepper.old.below }
+    ensures system { stepper.new.system ≡ stepper.old.system }
+    ensures below { OnOk result (AreTotal gts.now stepper.new.below) }
+    ensures answers { (system : System ℕ) → Views gts.now system
+        → Answers (naming_of_parts gts.now) system stepper.old stepper.new (command_of gts.now Command.Back) (K.state out.old) (K.state out.new) result }
+{
+    let old = Vec::from_slice(alloc, &stepper.values().values)?;
+    match stepper.back() {
+        Ok(_) => {
+            gone_back(out, gts, &old, &stepper.values().values)?;
+            Ok(End::Done)
+        }
+        Err(NoStep {}) => {
+            no_step(out)?;
+            Ok(End::Fault)
+        }
+    }
+}
+
+// Shows all values.
+fn show<K: Sink>(gts: &Gts, stepper: &Stepper, out: &mut K) -> Result<End, ReplayFault>
+    requires sound { IsSound gts.now }
+    requires same { stepper.now.system ≡ gts.now }
+    requires below { AreTotal gts.now stepper.now.below }
+    ensures { (system : System ℕ) → Views gts.now system
+        → Answers (naming_of_parts gts.now) system stepper.now stepper.now (command_of gts.now Command.Show) (K.state out.old) (K.state out.new) result }
+{
+    shown(out, gts, &stepper.values().values)?;
+    Ok(End::Done)
+}
+
+// Lists the ways that can fire.
+fn list<K: Sink>(gts: &Gts, stepper: &Stepper, out: &mut K) -> Result<End, ReplayFault>
+    requires sound { IsSound gts.now }
+    requires same { stepper.now.system ≡ gts.now }
+    requires below { AreTotal gts.now stepper.now.below }
+    ensures { (system : System ℕ) → Views gts.now system
+        → Answers (naming_of_parts gts.now) system stepper.now stepper.now (command_of gts.now Command.Enabled) (K.state out.old) (K.state out.new) result }
+{
+    // The present valuation is total, and so the run goes on.
+    let _values = stepper.values();
+    listed(out, gts, stepper)?;
+    Ok(End::Done)
+}

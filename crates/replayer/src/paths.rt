@@ -1,0 +1,115 @@
+// The events that the paths of labels name.
+
+ghost use Rattle.std.specs.Prelude.{◌≡◌, ◌<◌, ◌≤◌, [], ◌∷◌, length, not, IfOk, IfSome, IfNone, MatchOption};
+ghost use Rattle.std.specs.List.{prefix_len};
+ghost use Rattle.ar_base.specs.Lists.{Stands, HasNo, AreDifferent};
+ghost use Rattle.gts_flatten.specs.Elaborating.{Elaborated};
+ghost use Rattle.replayer.specs.Flat.{IsOfTree};
+ghost use Rattle.replayer.specs.Labels.{is_dot, AreTexts};
+ghost use Rattle.replayer.specs.Lines.{pieces};
+ghost use Rattle.replayer.specs.Reads.{AnswersNames, AnswersEvent, AnswersVisible, IsUnlessHidden};
+
+use ar_base::{EventId, Memory, NameId, Names, UnitId};
+use gts_core::{Gts, GtsParts};
+use hierarchy::{First, Tree, event_at};
+use std::alloc::Global;
+use std::str::from_utf8;
+
+/// The visible event that a path names, read from the main block.
+pub(crate) fn visible_at(
+    alloc: Global,
+    tree: &Tree,
+    gts: &Gts,
+    path: &[u8],
+) -> Result<Option<EventId>, Memory>
+    requires { (x : Elaborated) × IsOfTree x tree.now gts.now }
+    ensures { (x : Elaborated) → IsOfTree x tree.now gts.now → AreTexts x.declarations.model.names
+        → IfOk result (AnswersVisible x gts.now path.now) }
+{
+    match event_named(alloc, tree, gts, path)? {
+        Some(event) => Ok(unless_hidden(gts.parts(), event)),
+        None => Ok(None),
+    }
+}
+
+// The event, if it is visible.
+fn unless_hidden(parts: &GtsParts, event: EventId) -> Option<EventId>
+    ensures { IsUnlessHidden parts.now event result }
+{
+    match parts.events.get(event.n as usize) {
+        Some(found) => if found.hidden { None } else { Some(event) },
+        None => None,
+    }
+}
+
+// The event that a path names, read from the main block.
+fn event_named(
+    alloc: Global,
+    tree: &Tree,
+    gts: &Gts,
+    path: &[u8],
+) -> Result<Option<EventId>, Memory>
+    requires { (x : Elaborated) × IsOfTree x tree.now gts.now }
+    ensures { (x : Elaborated) → IsOfTree x tree.now gts.now → AreTexts x.declarations.model.names
+        → IfOk result (AnswersEvent x path.now) }
+{
+    match names_of(alloc, &tree.classes.names, path)? {
+        Some(names) => Ok(event_at(tree, UnitId::new(0), First::Here, &names)),
+        None => Ok(None),
+    }
+}
+
+// The names between the dots of a path.
+fn names_of(alloc: Global, table: &Names, path: &[u8]) -> Result<Option<Vec<NameId>>, Memory>
+    ensures names { AreTexts table.now → IfOk result (AnswersNames table.now path.now) }
+    ensures different { IfOk result (λ names. IfSome names (λ _. AreDifferent table.now)) }
+{
+    let mut names = Vec::new(alloc);
+    let mut rest = Some(path);
+    while let Some(bytes) = rest {
+        let (piece, after) = first_piece(bytes);
+        let Some(name) = name_of(table, piece) else {
+            return Ok(None);
+        };
+        names.push(name)?;
+        rest = after;
+    }
+    Ok(Some(names))
+}
+
+// The name with this text.
+fn name_of(table: &Names, piece: &[u8]) -> Option<NameId>
+    ensures found { IfSome result (λ name. Stands table.now name.n piece.now) }
+    ensures different { IfSome result (λ _. AreDifferent table.now) }
+    ensures none { AreTexts table.now → IfNone result (HasNo table.now (λ t. t ≡ piece.now)) }
+{
+    match from_utf8(piece) {
+        Ok(text) => table.find(text),
+        Err(_) => None,
+    }
+}
+
+// The piece before the first dot, and what stands behind the dot, if there is one.
+fn first_piece(bytes: &[u8]) -> (&[u8], Option<&[u8]>)
+    ensures { MatchOption result.1 (pieces is_dot bytes.now ≡ result.0.now ∷ [])
+        (λ rest. (pieces is_dot bytes.now ≡ result.0.now ∷ pieces is_dot rest.now) × (length rest.now < length bytes.now)) }
+{
+    let len = piece_len(bytes);
+    if len < bytes.len() {
+        (&bytes[..len], Some(&bytes[len + 1..]))
+    } else {
+        (bytes, None)
+    }
+}
+
+// How many bytes stand before the first dot.
+fn piece_len(bytes: &[u8]) -> usize
+    ensures value { result ≡ prefix_len (λ b. not (is_dot b)) bytes.now }
+    ensures within { result ≤ length bytes.now }
+{
+    let mut n = 0;
+    while n < bytes.len() && bytes[n] != b'.' {
+        n += 1;
+    }
+    n
+}

@@ -1,0 +1,165 @@
+// The lines of a trace, moment by moment.
+
+ghost use Rattle.std.specs.Prelude.{◌≡◌, ◌<◌, ◌++◌, ℕ, Bool, codes, decimal, length};
+ghost use Rattle.ar_base.specs.Texts.{text_at, line};
+ghost use Rattle.ar_io.specs.Writing.{Writes};
+ghost use Rattle.ar_meaning.specs.TraceText.{flow_fault_text};
+ghost use Rattle.flow_propagate.specs.Answers.{fault_of};
+ghost use Rattle.gts_flatten.specs.Flat.{naming_of_parts};
+ghost use Rattle.replayer.specs.Flat.{way_label, IsInRange};
+ghost use Rattle.replayer.specs.Listing.{AreAnswers};
+ghost use Rattle.replayer.specs.Printing.{values_text, changes_text, events_lines, step_text, IsFaultInRange};
+
+use crate::enabled::enabled_lines;
+use crate::labels::{print_flow_fault, print_label};
+use crate::pieces::{count, put, variable_path};
+use crate::shown::{all_lines, changed_lines};
+use ar_base::WayId;
+use ar_io::{Sink, SinkFailed};
+use domains::Value;
+use flow_propagate::FlowFault;
+use gts_core::Gts;
+use stepper::{StepFault, Stepper};
+
+/// Writes the lines of a start.
+pub(crate) fn started<K: Sink>(out: &mut K, gts: &Gts, values: &[Value]) -> Result<(), SinkFailed>
+    requires { length values.now ≡ length gts.now.variables.items }
+    ensures { Writes (K.state out.old) (K.state out.new) (line (codes "start") ++ values_text gts.now values.now) result }
+{
+    put(out, "start\n")?;
+    all_lines(out, gts.parts(), values)
+}
+
+/// Writes the line of a fault of the start.
+pub(crate) fn not_started<K: Sink>(
+    out: &mut K,
+    gts: &Gts,
+    fault: FlowFault,
+) -> Result<(), SinkFailed>
+    requires { IsInRange gts.now fault }
+    ensures { Writes (K.state out.old) (K.state out.new)
+        (line (codes "fault: start: " ++ flow_fault_text (naming_of_parts gts.now) (fault_of fault))) result }
+{
+    put(out, "fault: start: ")?;
+    print_flow_fault(gts, fault, out)?;
+    put(out, "\n")
+}
+
+/// Writes the lines of a way that was fired.
+pub(crate) fn fired<K: Sink>(
+    out: &mut K,
+    gts: &Gts,
+    way: WayId,
+    old: &[Value],
+    new: &[Value],
+) -> Result<(), SinkFailed>
+    requires way { way.n < length gts.now.ways.items }
+    requires old { length old.now ≡ length gts.now.variables.items }
+    requires new { length new.now ≡ length gts.now.variables.items }
+    ensures { Writes (K.state out.old) (K.state out.new)
+        (line (codes "fire " ++ way_label gts.now way.n) ++ changes_text gts.now old.now new.now) result }
+{
+    put(out, "fire ")?;
+    print_label(gts, way, out)?;
+    put(out, "\n")?;
+    changed_lines(out, gts.parts(), old, new)
+}
+
+/// Writes the line of a way that meets a fault.
+pub(crate) fn not_fired<K: Sink>(
+    out: &mut K,
+    gts: &Gts,
+    way: WayId,
+    fault: StepFault,
+) -> Result<(), SinkFailed>
+    requires way { way.n < length gts.now.ways.items }
+    requires range { IsFaultInRange gts.now fault }
+    ensures { Writes (K.state out.old) (K.state out.new)
+        (line (codes "fault: " ++ (way_label gts.now way.n ++ (codes ": " ++ step_text gts.now fault)))) result }
+{
+    put(out, "fault: ")?;
+    print_label(gts, way, out)?;
+    put(out, ": ")?;
+    step_fault(out, gts, fault)?;
+    put(out, "\n")
+}
+
+// What a fault of a step is.
+fn step_fault<K: Sink>(out: &mut K, gts: &Gts, fault: StepFault) -> Result<(), SinkFailed>
+    requires { IsFaultInRange gts.now fault }
+    ensures { Writes (K.state out.old) (K.state out.new) (step_text gts.now fault) result }
+{
+    match fault {
+        StepFault::NotEnabled => put(out, "not enabled"),
+        StepFault::Clash(x) => clash(out, gts, x.n),
+        StepFault::Range(x) => outside(out, gts, x.n),
+        StepFault::Flow(flow) => print_flow_fault(gts, flow, out),
+        StepFault::Memory => put(out, ""),
+    }
+}
+
+// That a variable receives two values.
+fn clash<K: Sink>(out: &mut K, gts: &Gts, n: u32) -> Result<(), SinkFailed>
+    ensures { Writes (K.state out.old) (K.state out.new) (codes "two values for " ++ text_at (naming_of_parts gts.now).variables n) result }
+{
+    put(out, "two values for ")?;
+    put(out, variable_path(gts.parts(), n))
+}
+
+// That a variable receives a value outside its domain.
+fn outside<K: Sink>(out: &mut K, gts: &Gts, n: u32) -> Result<(), SinkFailed>
+    ensures { Writes (K.state out.old) (K.state out.new) (text_at (naming_of_parts gts.now).variables n ++ codes " outside its domain") result }
+{
+    put(out, variable_path(gts.parts(), n))?;
+    put(out, " outside its domain")
+}
+
+/// Writes the lines of a step that was taken back.
+pub(crate) fn gone_back<K: Sink>(
+    out: &mut K,
+    gts: &Gts,
+    old: &[Value],
+    new: &[Value],
+) -> Result<(), SinkFailed>
+    requires old { length old.now ≡ length gts.now.variables.items }
+    requires new { length new.now ≡ length gts.now.variables.items }
+    ensures { Writes (K.state out.old) (K.state out.new) (line (codes "back") ++ changes_text gts.now old.now new.now) result }
+{
+    put(out, "back\n")?;
+    changed_lines(out, gts.parts(), old, new)
+}
+
+/// Writes that there is no step to take back.
+pub(crate) fn no_step<K: Sink>(out: &mut K) -> Result<(), SinkFailed>
+    ensures { Writes (K.state out.old) (K.state out.new) (line (codes "fault: back: no step")) result }
+{
+    put(out, "fault: back: no step\n")
+}
+
+/// Writes the lines of all variables and observers.
+pub(crate) fn shown<K: Sink>(out: &mut K, gts: &Gts, values: &[Value]) -> Result<(), SinkFailed>
+    requires { length values.now ≡ length gts.now.variables.items }
+    ensures { Writes (K.state out.old) (K.state out.new) (line (codes "show") ++ values_text gts.now values.now) result }
+{
+    put(out, "show\n")?;
+    all_lines(out, gts.parts(), values)
+}
+
+/// Writes the lines of the ways that can fire.
+pub(crate) fn listed<K: Sink>(out: &mut K, gts: &Gts, stepper: &Stepper) -> Result<(), SinkFailed>
+    requires { stepper.now.system ≡ gts.now }
+    ensures { (can : ℕ → Bool) → AreAnswers gts.now stepper.now.values can
+        → Writes (K.state out.old) (K.state out.new) (line (codes "enabled") ++ events_lines gts.now can gts.now.events.items) result }
+{
+    put(out, "enabled\n")?;
+    enabled_lines(out, gts, stepper)
+}
+
+/// Writes the line of the end, where so many steps stand.
+pub(crate) fn ended<K: Sink>(out: &mut K, steps: usize) -> Result<(), SinkFailed>
+    ensures { Writes (K.state out.old) (K.state out.new) (line (codes "end " ++ decimal steps)) result }
+{
+    put(out, "end ")?;
+    count(out, steps)?;
+    put(out, "\n")
+}

@@ -23,7 +23,7 @@ pub(crate) fn twice_each(rt: &HostRuntime, levels: u32) -> Result<String, AllocE
         let next = format!(in rt.alloc(); " class C{level} C{before} a, b; end")?;
         text.push_str(&next)?;
     }
-    let last = levels - 1;
+    let last = levels.saturating_sub(1);
     let main = format!(in rt.alloc(); " block B C{last} a, b; end")?;
     text.push_str(&main)?;
     Ok(text)

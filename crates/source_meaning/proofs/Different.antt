@@ -73,10 +73,10 @@ module _ (m : RootedModel) (test : MemberKind → Bool) where
   listed (u ∷ us) each a =
       different_joined (things_in test m u) (flat_map (things_in test m) us) (each u) (listed us each (different_rest u us a))
       (λ t p q.
-        let o = flat_origin (things_in test m) us q.place t q.stands in
-        let here : t.unit ≡ u = thing_unit m test u t p in
-        let there : t.unit ≡ o.item = thing_unit m test o.item t o.is_one in
-        not_again u us a (subst (λ (z : UnitPath). IsOneOf us z) (sym there ∙ here) (one_here us o.from o.item o.stands)))
+      let o = flat_origin (things_in test m) us q.place t q.stands in
+      let here : t.unit ≡ u = thing_unit m test u t p in
+      let there : t.unit ≡ o.item = thing_unit m test o.item t o.is_one in
+      not_again u us a (subst (λ (z : UnitPath). IsOneOf us z) (sym there ∙ here) (one_here us o.from o.item o.stands)))
 
   -- nothing of a kind is listed twice
   pub things_different : (units : List UnitPath) → IsKept m → AreUnits m units → AreDifferent (flat_map (things_in test m) units)

@@ -167,7 +167,11 @@ fn main(rt: HostRuntime) -> io::Result<()> {
     }
     for count in 1_023..1_026 {
         print!(rt; "{count} instances of a class with 32 variables = ")?;
-        print_answer(&rt, classes_of(&rt, count, "Boolean", " (init = true)")?.as_str(), false)?;
+        print_answer(
+            &rt,
+            classes_of(&rt, count, "Boolean", " (init = true)")?.as_str(),
+            false,
+        )?;
     }
     for count in 512..514 {
         print!(rt; "{count} instances of a class with 32 events = ")?;

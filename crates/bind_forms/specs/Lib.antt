@@ -1,0 +1,4 @@
+pub mod Full
+pub mod Keeping
+pub mod Settled
+pub mod Typed

@@ -1,0 +1,4 @@
+pub mod Marked
+pub mod Wayed
+pub mod Sited
+pub mod Whole

@@ -1,0 +1,20 @@
+use Rattle.std.proofs.Common.{◌≡◌, List, ◌∙◌, ap, subst}
+use Rattle.std.specs.List.{flat_map}
+use Rattle.ar_base.specs.Lists.{IsOneOf}
+use Rattle.class_table.specs.Declaring.{MemberForm}
+use Rattle.class_table.specs.Members.{Site, owned_at}
+use Rattle.hierarchy.specs.Listing.{form_of, forms_at}
+use Rattle.bind_events.specs.Ways.{AddsWays}
+use Rattle.bind_events.proofs.Wayed.{adds_all}
+use Rattle.bind_events.proofs.Sited.{forms_of_sites}
+use Rattle.bind_events.proofs.ways.ways_of.Goals as goal
+
+pub returns : goal.returns
+returns c = λ m units u st at.
+    let sites = c.in_ok-body.ensures m units u st.are.is_tree at in
+    let e : forms_of_sites m.declared c.deref.result.now ≡ forms_at m u =
+    ap (forms_of_sites m.declared) c.deref.ensures.value ∙ ap (flat_map (λ (s : Site). form_of (owned_at m.declared s))) sites in
+    let added = c.in_ok-add_all.ensures m units u st at (λ f o. subst (λ (fs : List MemberForm). IsOneOf fs f) e o) in
+    let tree = c.args.scopes.now.tree.now in
+    adds_all m units tree u c.args.event.name.n (forms_at m u) c.new-ways.result.items c.add_all.new.ways.items c.new-ways.ensures.items
+    (subst (λ (fs : List MemberForm). AddsWays m units tree u c.args.event.name.n fs c.new-ways.result.items c.add_all.new.ways.items) e added)

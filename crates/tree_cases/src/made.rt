@@ -52,3 +52,24 @@ pub(crate) fn classes_of(
     text.push_str("; end")?;
     Ok(text)
 }
+
+/// A main block with 71 instances of a class whose one observer has so many operands, and then this member.
+pub(crate) fn wide_observers(
+    rt: &HostRuntime,
+    operands: u32,
+    member: &str,
+) -> Result<String, AllocError> {
+    let mut text = String::from_str(rt.alloc(), "class C observer Boolean o = true")?;
+    for _ in 1..operands {
+        text.push_str(" and true")?;
+    }
+    text.push_str("; end block B C u0")?;
+    for place in 1..71 {
+        let next = format!(in rt.alloc(); ", u{place}")?;
+        text.push_str(&next)?;
+    }
+    text.push_str("; ")?;
+    text.push_str(member)?;
+    text.push_str(" end")?;
+    Ok(text)
+}

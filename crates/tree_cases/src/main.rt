@@ -10,7 +10,7 @@ use ar_parser::parse;
 use class_table::table;
 use hierarchy::{Attribute, MemNode, ParNode, Source, Tree, UnitNode, VarNode};
 use instantiate::instantiate;
-use made::{blocks_inside, classes_of, twice_each};
+use made::{blocks_inside, classes_of, twice_each, wide_observers};
 use std::io;
 use texts::CASES;
 
@@ -176,6 +176,10 @@ fn main(rt: HostRuntime) -> io::Result<()> {
     for count in 512..514 {
         print!(rt; "{count} instances of a class with 32 events = ")?;
         print_answer(&rt, classes_of(&rt, count, "event", "")?.as_str(), false)?;
+    }
+    for member in ["", "event e;"] {
+        print!(rt; "71 units of 28,168 nodes, and 72 nodes with {member:?} = ")?;
+        print_answer(&rt, wide_observers(&rt, 28_166, member)?.as_str(), false)?;
     }
     Ok(())
 }

@@ -1,6 +1,6 @@
 // The texts of the cases.
 
-pub(crate) const CASES: [&str; 33] = [
+pub(crate) const CASES: [&str; 40] = [
     "block B end",
     "block B embeds owner.a as b; end",
     "block B block C embeds owner.owner.D as up; end end",
@@ -34,4 +34,11 @@ pub(crate) const CASES: [&str; 33] = [
     "block B Boolean v (init = true); observer Boolean o = v; event e, f; parameter Integer n = 3; end",
     "block B embeds C as A; Boolean v; end",
     "class C Boolean v; end block B embeds X as A; clones A as D; end",
+    "block P Boolean supply (reset = true); block a Boolean up (reset = false); assertion up := owner.supply; end block b Boolean supply (reset = false); clones owner.a as c; assertion supply := false; end assertion supply := true; end",
+    "domain T {X, Y, Z} class C T s (init = X); end class D C c (s.init = Y); end block B D d (c.s.init = Z); end",
+    "block P block a Boolean up (init = true); event fail; transition fail: up -> up := false; end block v embeds owner.a as w; observer Boolean lost = not w.up; end end",
+    "domain M {OK, KO} class Part M m (init = OK); Boolean feed, flow (reset = false); parameter Real lambda = 1.0e-4; event fail (delay = exponential(lambda)); transition fail: m == OK -> m := KO; assertion flow := feed and m == OK; end block Plant Part valve (lambda = 2.0e-5); Part p1, p2; observer Boolean dry = not (p1.flow or p2.flow); assertion valve.feed := true; p1.feed := valve.flow; p2.feed := valve.flow; end",
+    "block B clones x as y; end",
+    "block B block C block D event e; end end clones C as F; embeds F.D as g; clones g as h; end",
+    "block B block A clones main.C.x as y; end block C embeds main.A.z as x; end end",
 ];

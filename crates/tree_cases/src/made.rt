@@ -73,3 +73,28 @@ pub(crate) fn wide_observers(
     text.push_str(" end")?;
     Ok(text)
 }
+
+/// A main block with so many instances of a class without members.
+pub(crate) fn empty_units(rt: &HostRuntime, count: u32) -> Result<String, AllocError> {
+    let mut text = String::from_str(rt.alloc(), "class C end block B C u0")?;
+    for place in 1..count {
+        let next = format!(in rt.alloc(); ", u{place}")?;
+        text.push_str(&next)?;
+    }
+    text.push_str("; end")?;
+    Ok(text)
+}
+
+/// A main block with so many blocks, of which each has two clones of a unit of the one before.
+pub(crate) fn clones_twice(rt: &HostRuntime, count: u32) -> Result<String, AllocError> {
+    let mut text = String::from_str(rt.alloc(), "block B block k0 block x end end")?;
+    for place in 1..count {
+        let before = place - 1;
+        let next = format!(in rt.alloc();
+            " block k{place} clones main.k{before}.x as x; clones main.k{before}.x as y; end"
+        )?;
+        text.push_str(&next)?;
+    }
+    text.push_str(" end")?;
+    Ok(text)
+}

@@ -10,7 +10,7 @@ use ar_parser::parse;
 use class_table::table;
 use hierarchy::{Attribute, MemNode, ParNode, Source, Tree, UnitNode, VarNode};
 use instantiate::instantiate;
-use made::{blocks_inside, classes_of, twice_each, wide_observers};
+use made::{blocks_inside, classes_of, clones_twice, empty_units, twice_each, wide_observers};
 use std::io;
 use texts::CASES;
 
@@ -165,6 +165,12 @@ fn main(rt: HostRuntime) -> io::Result<()> {
         print!(rt; "{levels} classes, each with two of the one before = ")?;
         print_answer(&rt, twice_each(&rt, levels)?.as_str(), false)?;
     }
+    for count in 16_383..16_385 {
+        print!(rt; "{count} instances of a class without members = ")?;
+        print_answer(&rt, empty_units(&rt, count)?.as_str(), false)?;
+    }
+    print!(rt; "40 blocks, each with two clones of a unit of the one before = ")?;
+    print_answer(&rt, clones_twice(&rt, 40)?.as_str(), false)?;
     for count in 1_023..1_026 {
         print!(rt; "{count} instances of a class with 32 variables = ")?;
         print_answer(

@@ -1,6 +1,6 @@
 // The texts of the cases.
 
-pub(crate) const CASES: [&str; 40] = [
+pub(crate) const CASES: [&str; 41] = [
     "block B end",
     "block B embeds owner.a as b; end",
     "block B block C embeds owner.owner.D as up; end end",
@@ -25,6 +25,7 @@ pub(crate) const CASES: [&str; 40] = [
     "class P parameter Integer n = 1; end block B P p (n = 2); P q; end",
     "class P parameter Integer n = 1; end block B P p (n = 2, n = 3); end",
     "class P Boolean v (init = true); end block B P p (v.reset = false); end",
+    "class P Boolean v (reset = true); end block B P p (v.init = false); end",
     "class P Boolean v (init = true); end class Q P p; embeds p as a; end block B Q q (a.v.init = true); end",
     "class P Boolean v (init = true); end block B P p (x = 1); end",
     "class P Boolean v (init = true); end class Q P p (v.init = false); end class R Q q (p.v.init = true); end block B R r (q.p.v.init = false); end",

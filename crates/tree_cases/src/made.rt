@@ -29,12 +29,14 @@ pub(crate) fn twice_each(rt: &HostRuntime, levels: u32) -> Result<String, AllocE
     Ok(text)
 }
 
-/// A main block with so many instances of a class that declares 32 names of this type with these settings.
+/// A main block with so many instances of a class that declares 32 names of this type with these settings, and then
+/// this member.
 pub(crate) fn classes_of(
     rt: &HostRuntime,
     count: u32,
     kind: &str,
     settings: &str,
+    member: &str,
 ) -> Result<String, AllocError> {
     let mut text = String::from_str(rt.alloc(), "class C ")?;
     text.push_str(kind)?;
@@ -49,7 +51,9 @@ pub(crate) fn classes_of(
         let next = format!(in rt.alloc(); ", u{place}")?;
         text.push_str(&next)?;
     }
-    text.push_str("; end")?;
+    text.push_str("; ")?;
+    text.push_str(member)?;
+    text.push_str(" end")?;
     Ok(text)
 }
 

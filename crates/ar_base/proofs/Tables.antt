@@ -1,6 +1,7 @@
 -- What a look-up in the table of texts finds.
-use Rattle.std.proofs.Common.{◌≡◌, ℕ, ◌+◌, ◌≤◌, Bool, true, false, true≢false, List, [], ◌∷◌, ◌++◌, length, get_or, length-append, Some, None, position, slice_get, if◌then◌else◌, refl, sym, ap, ◌∙◌, subst, arith}
+use Rattle.std.proofs.Common.{◌≡◌, ℕ, zero, suc, ◌+◌, ◌≤◌, Bool, true, false, true≢false, List, [], ◌∷◌, ◌++◌, length, get_or, length-append, Some, None, position, slice_get, if◌then◌else◌, inl, inr, refl, sym, ap, ◌∙◌, subst, arith}
 use Rattle.std.specs.String.{string_bytes, string_eq}
+use Rattle.std.specs.Str.{IsUtf8}
 use Rattle.std.specs.declared.string.String.{String}
 use Rattle.std.specs.Str.{bytes_eq}
 use Rattle.std.specs.List.{list_any, position_or_len}
@@ -12,8 +13,8 @@ use Rattle.std.proofs.lemmas.List.Sums.{fails_before_first}
 use Rattle.std.proofs.lemmas.Option.{slice_get-get_or}
 use Rattle.indexmap.specs.IndexSet.{insert_key}
 use Rattle.ar_base.specs.Lists.{Stands, HasNo, AreDifferent}
-use Rattle.ar_base.specs.Texts.{bytes_of_all}
-use Rattle.ar_base.proofs.Standing.{stands_map, stands_map_back, stands_within, stands_one, different_more}
+use Rattle.ar_base.specs.Texts.{bytes_of_all, AreUtf8}
+use Rattle.ar_base.proofs.Standing.{stands_map, stands_map_back, stands_within, stands_one, stands_split, stands_none, different_more}
 
 module _ {Z : Type 0} (t : List ℕ) where
   -- the test of a look-up
@@ -75,3 +76,16 @@ grown {Z} ks ns v n k t e at eq is lacks =
 -- the texts of a grown table differ
 pub different_grown : {Z : Type 0} (ks ns : List (String Z)) (t : List ℕ) (n : ℕ) → IsGrown ks ns t n → AreDifferent (bytes_of_all ks) → HasNo (bytes_of_all ks) (λ x. x ≡ t) → AreDifferent (bytes_of_all ns)
 different_grown ks ns t n g d lacks = subst (λ (l : List (List ℕ)). AreDifferent l) (sym g.texts) (different_more (bytes_of_all ks) t d lacks)
+
+-- the texts of a grown table are in UTF-8
+pub utf8_grown : {Z : Type 0} (ks ns : List (String Z)) (t : List ℕ) (n : ℕ) → IsGrown ks ns t n → AreUtf8 (bytes_of_all ks) → IsUtf8 t → AreUtf8 (bytes_of_all ns)
+utf8_grown ks ns t n g u is = record {
+  each = λ m x p. elim (stands_split (bytes_of_all ks) (t ∷ []) m x (subst (λ (l : List (List ℕ)). Stands l m x) g.texts p)) [
+    | inl q ↦ u.each m x q
+    | inr q ↦ last q.0 x q.2
+  ];
+}
+  where
+    last : (j : ℕ) (x : List ℕ) → Stands (t ∷ []) j x → IsUtf8 x
+    last zero x q = let i : t ≡ x = cc in subst IsUtf8 i is
+    last (suc j) x q = absurd (stands_none j x q)

@@ -1,12 +1,17 @@
 -- Texts as lists of bytes: tables of texts, lines, and texts joined.
-use Rattle.std.specs.Prelude.{◌≡◌, ℕ, Bool, true, false, if◌then◌else◌, List, [], ◌∷◌, ◌++◌, map, codes, slice_get, unwrap_or}
+use Rattle.std.specs.Prelude.{◌≡◌, ℕ, Bool, false, if◌then◌else◌, List, [], ◌∷◌, ◌++◌, map, codes, slice_get, unwrap_or}
+use Rattle.std.specs.Str.{IsUtf8}
 use Rattle.std.specs.String.{string_bytes}
 use Rattle.std.specs.declared.string.String.{String}
-use Rattle.ar_base.specs.Lists.{IsOneOf, HasNo}
+use Rattle.ar_base.specs.Lists.{Stands, IsOneOf, HasNo}
 
 -- the bytes of each text
 abbrev pub bytes_of_all : {Z : Type 0} → List (String Z) → List (List ℕ)
 bytes_of_all texts = map string_bytes texts
+
+-- each text is one in UTF-8
+pub record AreUtf8 (texts : List (List ℕ)) : Type 0 where
+  pub each : (n : ℕ) (t : List ℕ) → Stands texts n t → IsUtf8 t
 
 -- the table `new` is `old` with this text: a text that stands there already changes nothing, another one goes last
 pub data Interns (old : List (List ℕ)) (text : List ℕ) : List (List ℕ) → Type 0 where

@@ -1,6 +1,6 @@
 // The table of names.
 
-ghost use Rattle.std.specs.Prelude.{◌≡◌, ◌^◌, ◌-◌, ◌<◌, [], length, IfOk, IfSome, IfNone, OnErr};
+ghost use Rattle.std.specs.Prelude.{◌≡◌, ◌^◌, ◌-◌, ◌<◌, ◌≤◌, [], length, IfOk, IfSome, IfNone, OnErr};
 ghost use Rattle.ar_base.specs.Lists.{Stands, HasNo, AreDifferent};
 ghost use Rattle.ar_base.specs.Texts.{Interns};
 
@@ -8,6 +8,7 @@ use crate::{Memory, NameId};
 use indexmap::IndexSet;
 use std::alloc::Global;
 use std::marker::Model;
+use std::str::from_utf8;
 
 /// A table of different texts in the order of their first use, seen as the list of their bytes: the
 /// number of a name is its text's place in the table.
@@ -19,13 +20,13 @@ pub struct Names {
 impl Model for Names {
     ghost use Rattle.std.specs.Prelude.{ℕ, ◌<◌, ◌^◌, List, length};
     ghost use Rattle.ar_base.specs.Lists.{AreDifferent};
-    ghost use Rattle.ar_base.specs.Texts.{bytes_of_all};
+    ghost use Rattle.ar_base.specs.Texts.{bytes_of_all, AreUtf8};
 
     ghost Value = { List (List ℕ) };
 
     ghost view = { λ t. bytes_of_all t.texts.keys };
 
-    ghost invariant = { λ t. (length t.texts.keys < 2 ^ 32) × AreDifferent (bytes_of_all t.texts.keys) };
+    ghost invariant = { λ t. (length t.texts.keys < 2 ^ 32) × AreDifferent (bytes_of_all t.texts.keys) × AreUtf8 (bytes_of_all t.texts.keys) };
 }
 
 impl Names {
@@ -63,6 +64,29 @@ impl Names {
     {
         let place = self.texts.get_index_of(text)?;
         Some(NameId::new(place as u32))
+    }
+
+    /// The number of the text with these bytes, or None exactly where the table lacks it; bytes that
+    /// are not UTF-8 are no text of any table. Takes no memory.
+    pub fn find_bytes(&self, bytes: &[u8]) -> Option<NameId>
+        ensures found { IfSome result (λ name. Stands self.now name.n bytes.now) }
+        ensures absent { IfNone result (HasNo self.now (λ t. t ≡ bytes.now)) }
+        ensures different { AreDifferent self.now }
+    {
+        let _ = &self.texts;
+        match from_utf8(bytes) {
+            Ok(text) => self.find(text),
+            Err(_) => None,
+        }
+    }
+
+    /// The text of a number, or None exactly past the end of the table. Takes no memory.
+    pub fn get(&self, name: NameId) -> Option<&str>
+        ensures text { IfSome result (λ text. Stands self.now name.n text.now) }
+        ensures past { IfNone result (length self.now ≤ name.n) }
+    {
+        let text = self.texts.get_index(name.n as usize)?;
+        Some(text.as_str())
     }
 
     /// The text of a number of the table. Takes no memory.

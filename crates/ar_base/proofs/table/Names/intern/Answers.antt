@@ -4,7 +4,7 @@ use Rattle.ar_base.specs.Lists.{HasNo, AreDifferent}
 use Rattle.ar_base.specs.Texts.{bytes_of_all, Interns, known, added}
 use Rattle.std.specs.String.{string_bytes}
 use Rattle.std.proofs.lemmas.List.{length-map}
-use Rattle.ar_base.proofs.Tables.{IsGrown, grown, different_grown}
+use Rattle.ar_base.proofs.Tables.{IsGrown, grown, different_grown, utf8_grown}
 use Rattle.ar_base.proofs.table.Names.intern.Goals as goal
 
 pub returns-in-Some-clause-texts : goal.returns-in-Some-clause-texts
@@ -27,7 +27,7 @@ invariant_of-self-2 c =
     let long = (is_grown c).long in
     let same : length c.args.self.now ≡ length c.self.inside.texts.keys = ap length (sym c.self.view_is) ∙ length-map c.self.inside.texts.keys string_bytes in
     let room = c.requires in
-    (omega arith, differ c)
+    (omega arith, differ c, utf8_grown c.self.inside.texts.keys c.insert_full.new.self.keys c.args.text.now c.in_ok-place.place (is_grown c) c.self.invariant.2 c.utf8.text)
 
 pub returns-clause-number : goal.returns-clause-number
 returns-clause-number c = rw c.new.ensures (is_grown c).stands

@@ -22,13 +22,6 @@ use gts_core::DeclaredEvent;
 use hierarchy::MemNode;
 use std::alloc::Global;
 
-// A copy of a text.
-fn copy_text(alloc: Global, text: &Text) -> Result<Text, Memory>
-    ensures { IfOk result (λ t. t ≡ text.now) }
-{
-    Ok(Text::new(String::from_str(alloc, text.as_str())?))
-}
-
 // An event by numbers, where its path is known, and whether a `hide` clause names it.
 fn event_of(
     alloc: Global,
@@ -49,7 +42,7 @@ fn event_of(
     if ways.len() > u32::MAX as usize {
         return Err(Memory {});
     }
-    let path = copy_text(alloc, path)?;
+    let path = path.copy(alloc)?;
     Ok(DeclaredEvent {
         path,
         unit: node.unit,

@@ -7,4 +7,5 @@ mod ActForms
 pub mod Tests
 pub mod Reading
 pub mod KindsRenamed
+pub mod SameDomains
 pub mod Lawfulness

@@ -1,11 +1,23 @@
-// Copies of expressions.
+// Copies of expressions and domains.
 
 ghost use Rattle.std.specs.Prelude.{IfOk};
-ghost use Rattle.gts_core.specs.Copies.{IsCopy, AreCopies, AreTermCopies, AreCaseCopies};
+ghost use Rattle.gts_core.specs.Copies.{IsCopy, IsSameDomain, AreCopies, AreTermCopies, AreCaseCopies};
 
 use ar_base::{Memory, VarId};
+use domains::Domain;
 use std::alloc::Global;
 use typed_expr::Expr;
+
+/// A copy of a domain: the same values in the same order. The error is want of memory.
+pub fn copy_domain(domain: &Domain) -> Result<Domain, Memory>
+    ensures { IfOk result (IsSameDomain domain.now) }
+{
+    match domain {
+        Domain::Boolean => Ok(Domain::Boolean),
+        Domain::Symbols(symbols) => Ok(Domain::Symbols(symbols.clone()?)),
+        Domain::Range(low, high) => Ok(Domain::Range(*low, *high)),
+    }
+}
 
 /// A copy of an expression, the same form for form. The error is want of memory.
 #[cycle(copy_expression)]
@@ -41,7 +53,7 @@ pub fn copy_expression(alloc: Global, expr: &Expr<VarId>) -> Result<Expr<VarId>,
     }
 }
 
-// Copies of expressions.
+// Copies of expressions and domains.
 #[cycle(copy_expression)]
 fn listed(alloc: Global, es: &[Expr<VarId>]) -> Result<Vec<Expr<VarId>>, Memory>
     ensures { IfOk result (λ v. AreCopies es.now v.items) }

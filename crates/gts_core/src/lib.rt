@@ -14,7 +14,7 @@ mod system;
 
 pub use assigning::assignments;
 pub use bound::{Act, Chain, DeclaredEvent, DeclaredWay};
-pub use copies::copy_expression;
+pub use copies::{copy_domain, copy_expression};
 pub use gts::Gts;
 pub use readings::{Assigned, are_met, is_met, value_in};
 pub use system::{Assign, Event, GtsParts, Observer, Valuation, Variable, Way, WayBody};

@@ -44,7 +44,8 @@ use Rattle.gts_flatten.specs.Flat.{naming_of, naming_of_parts, HasBody, IsPlanne
 use Rattle.gts_flatten.specs.Flat as flat
 use Rattle.gts_flatten.specs.Making.{IsSameVariable, IsSameObserver, AreMadeOf, IsMadeWay, IsMadeOf, acts, joins, IsTransitionOf, transition}
 use Rattle.gts_flatten.proofs.Alike.{lengths_alike}
-use Rattle.gts_flatten.proofs.Sound.{same_values, copied_at, id_at, ids_long}
+use Rattle.gts_core.proofs.SameDomains.{same_values}
+use Rattle.gts_flatten.proofs.Sound.{copied_at, id_at, ids_long}
 use Rattle.gts_flatten.proofs.Staged.{Meant, elaborated}
 use Rattle.gts_flatten.proofs.WaysMade.{same}
 

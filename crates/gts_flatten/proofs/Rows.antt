@@ -7,8 +7,6 @@ use Rattle.gts_core.specs.declared.bound.DeclaredEvent.{DeclaredEvent}
 use Rattle.gts_core.specs.declared.bound.DeclaredWay.{DeclaredWay}
 use Rattle.sync_expand.proofs.Placed.{copied_get}
 use Rattle.domains.specs.declared.Domain.{Domain}
-use Rattle.domains.specs.declared.Domain.TheVariants.{Range}
-use Rattle.gts_flatten.specs.Making.{IsSameDomain, range}
 use Rattle.gts_flatten.specs.Placing.{IsWayAt, nothing, there}
 
 module _ {A B : Type 0} {R : A → B → Type 0} where
@@ -44,7 +42,3 @@ found_way events event place d ways r s e h i = go (option_copied r) (copied_get
     go : (o : Option DeclaredWay) → o ≡ slice_get ways place → IsWayAt events event place o
     go None j = nothing
     go (Some w) j = there d s (subst (λ (ws : List DeclaredWay). Stands ws place w) e (sym j))
-
--- the range of the same numbers
-pub ranges : (d : Domain) (low high least most : ℤ) → d ≡ Range low high → least ≡ low → most ≡ high → IsSameDomain d (Range least most)
-ranges d low high least most e i j = subst (λ (x : Domain). IsSameDomain x (Range least most)) (sym e) (range i j)

@@ -17,6 +17,7 @@ use Rattle.ar_meaning.specs.Image.{Transition_renames}
 use Rattle.ar_meaning.specs.Numbered.{Means_way, joint, leaf, Mean_parts, part, no_part, Joins, height}
 use Rattle.gts_core.specs.Bound.{declared_from, assigns_of_act}
 use Rattle.gts_core.specs.Copies.{IsCopy}
+use Rattle.gts_core.proofs.SameDomains.{domain_there, value_there, value_back}
 use Rattle.gts_core.specs.Sound.{IsSound, AreShort, IsVariable, IsNamed, IsTyped, IsAssignTo, IsListed, IsOwn}
 use Rattle.gts_core.specs.View.{of_body, body_of, bodies_of, part_of, assign_of}
 use Rattle.gts_core.specs.declared.bound.DeclaredWay.{DeclaredWay}
@@ -44,7 +45,7 @@ use Rattle.sync_expand.proofs.KnownLemmas.{first_within, first_below, sum_within
 use Rattle.sync_expand.proofs.Meaning.{way_means, plan_resolved}
 use Rattle.sync_expand.proofs.ByNumber.{stands_by}
 use Rattle.sync_expand.proofs.WaysLemmas.{are_counts}
-use Rattle.gts_flatten.specs.Making.{IsSameDomain, boolean, symbols, range, AreMadeOf, IsMadeOf, acts, joins, IsTransitionAt, IsTransitionOf, transition}
+use Rattle.gts_flatten.specs.Making.{AreMadeOf, IsMadeOf, acts, joins, IsTransitionAt, IsTransitionOf, transition}
 use Rattle.gts_flatten.proofs.EventsMade.{planned_place, plan_long}
 use Rattle.gts_flatten.proofs.Heights.{HasTree, tree_there, height_within, length_range}
 use Rattle.gts_flatten.proofs.Typing.{copy_typed, sound_assigns, sound_all, assigns_sound}
@@ -54,36 +55,6 @@ use Rattle.gts_flatten.proofs.WaysMade.{same, bodies_along, place_one}
 abbrev place_of : PlanBody → ℕ
 place_of (planned.Local k) = k
 place_of (planned.Sync ps) = 0
-
--- Variables
-
-domain_there : {c d : Domain} → IsSameDomain c d → IsDomain c → IsDomain d
-domain_there boolean h = h
-domain_there (symbols e) h = rw e h
-domain_there (range e f) h = rw e (rw f h)
-
-value_there : {c d : Domain} → IsSameDomain c d → (v : Value) → Holds c v → Holds d v
-value_there boolean v h = h
-value_there (symbols e) (value.Truth t) h = h
-value_there (symbols e) (value.Whole n) h = h
-value_there (symbols e) (value.Symbol n) h = rw e h
-value_there (range e f) (value.Truth t) h = h
-value_there (range e f) (value.Whole n) h = rw e (rw f h)
-value_there (range e f) (value.Symbol n) h = h
-
-value_back : {c d : Domain} → IsSameDomain c d → (v : Value) → Holds d v → Holds c v
-value_back boolean v h = h
-value_back (symbols e) (value.Truth t) h = h
-value_back (symbols e) (value.Whole n) h = h
-value_back (symbols e) (value.Symbol n) h = rw e at h
-value_back (range e f) (value.Truth t) h = h
-value_back (range e f) (value.Whole n) h = rw e at (rw f at h)
-value_back (range e f) (value.Symbol n) h = h
-
-pub same_values : {c d : Domain} → IsSameDomain c d → values_of c ≡ values_of d
-same_values boolean = refl
-same_values (symbols e) = ap (map value.Symbol) (sym e)
-same_values (range e f) = rw e (rw f refl)
 
 -- Numbers in a row
 

@@ -40,7 +40,8 @@ use Rattle.gts_core.proofs.Numbering.{IsNumber, renames_numbered, copy_numbered}
 use Rattle.source_meaning.specs.SoundBound.{IsSoundAct}
 use Rattle.source_meaning.specs.SoundBound as sound
 use Rattle.source_meaning.proofs.BoundInstructions.{under, each_under}
-use Rattle.gts_flatten.specs.Making.{IsSameDomain, boolean, symbols, range, IsSameVariable}
+use Rattle.gts_flatten.specs.Making.{IsSameVariable}
+use Rattle.gts_core.proofs.SameDomains.{domain_kind}
 
 -- one number
 abbrev same : ℕ → ℕ → Type 0
@@ -77,11 +78,6 @@ module _ (p : GtsParts) where
   }
 
 -- domains
-pub domain_kind : {c d : Domain} → IsSameDomain c d → kind_of_domain c ≡ kind_of_domain d
-domain_kind boolean = refl
-domain_kind (symbols e) = refl
-domain_kind (range e f) = refl
-
 found_kind : {xs ys : List Variable} → Along IsSameVariable xs ys → (n : ℕ) → kind_of_found (slice_get xs n) ≡ kind_of_found (slice_get ys n)
 found_kind none n = refl
 found_kind (one_and h hs) zero = domain_kind h.domain

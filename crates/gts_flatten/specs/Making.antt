@@ -1,14 +1,12 @@
 -- The parts of a flat system as they are made of bound forms, list by list.
-use Rattle.std.specs.Prelude.{◌≡◌, ℕ, ℤ, Bool, List, map, length, Vec}
+use Rattle.std.specs.Prelude.{◌≡◌, ℕ, Bool, List, map, length, Vec}
 use Rattle.std.specs.Global.{Global}
 use Rattle.std.specs.List.{flat_map}
 use Rattle.ar_base.specs.Lists.{Stands, Along}
 use Rattle.ar_base.specs.Numbers.{VarId, WayId}
-use Rattle.domains.specs.declared.Domain.{Domain}
-use Rattle.domains.specs.declared.Domain.TheVariants.{Boolean, Symbols, Range}
 use Rattle.typed_expr.specs.declared.expr.Expr.{Expr}
 use Rattle.gts_core.specs.Bound.{assigns_of_act, places_of_act, places_in, AreAssigns}
-use Rattle.gts_core.specs.Copies.{IsCopy}
+use Rattle.gts_core.specs.Copies.{IsCopy, IsSameDomain}
 use Rattle.gts_core.specs.declared.bound.Act.{Act}
 use Rattle.gts_core.specs.declared.bound.DeclaredEvent.{DeclaredEvent}
 use Rattle.gts_core.specs.declared.bound.DeclaredWay.{DeclaredWay}
@@ -26,12 +24,6 @@ use Rattle.sync_expand.specs.Plans.{ways_at}
 use Rattle.sync_expand.specs.declared.plans.PlanBody.{PlanBody}
 use Rattle.sync_expand.specs.declared.plans.PlanBody.TheVariants as planned
 use Rattle.sync_expand.specs.declared.plans.WayPlan.{WayPlan}
-
--- the domains have the same values in the same order
-pub data IsSameDomain : Domain → Domain → Type 0 where
-  boolean : IsSameDomain Boolean Boolean
-  symbols : {xs ys : Vec ℕ Global} → ys.items ≡ xs.items → IsSameDomain (Symbols xs) (Symbols ys)
-  range : {low high least most : ℤ} → least ≡ low → most ≡ high → IsSameDomain (Range low high) (Range least most)
 
 -- the second variable is a copy of the first
 pub record IsSameVariable (x y : Variable) : Type 0 where

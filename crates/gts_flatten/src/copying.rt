@@ -2,19 +2,11 @@
 
 ghost use Rattle.std.specs.Prelude.{◌≡◌, IfOk};
 ghost use Rattle.ar_base.specs.Lists.{Along};
-ghost use Rattle.gts_flatten.specs.Making.{IsSameDomain, IsSameVariable, IsSameObserver};
+ghost use Rattle.gts_flatten.specs.Making.{IsSameVariable, IsSameObserver};
 
 use ar_base::{Memory, Text};
-use domains::Domain;
-use gts_core::{Observer, Variable, copy_expression};
+use gts_core::{Observer, Variable, copy_domain, copy_expression};
 use std::alloc::Global;
-
-/// A copy of a text.
-pub(crate) fn copy_text(alloc: Global, text: &Text) -> Result<Text, Memory>
-    ensures { IfOk result (λ t. t ≡ text.now) }
-{
-    Ok(Text::new(String::from_str(alloc, text.as_str())?))
-}
 
 /// Copies of texts, in their order.
 pub(crate) fn copy_texts(alloc: Global, texts: &[Text]) -> Result<Vec<Text>, Memory>
@@ -22,28 +14,17 @@ pub(crate) fn copy_texts(alloc: Global, texts: &[Text]) -> Result<Vec<Text>, Mem
 {
     let mut copies = Vec::new(alloc);
     for text in texts {
-        let copy = copy_text(alloc, text)?;
+        let copy = text.copy(alloc)?;
         copies.push(copy)?;
     }
     Ok(copies)
-}
-
-// A copy of a domain.
-fn copy_domain(domain: &Domain) -> Result<Domain, Memory>
-    ensures { IfOk result (IsSameDomain domain.now) }
-{
-    match domain {
-        Domain::Boolean => Ok(Domain::Boolean),
-        Domain::Symbols(symbols) => Ok(Domain::Symbols(symbols.clone()?)),
-        Domain::Range(low, high) => Ok(Domain::Range(*low, *high)),
-    }
 }
 
 // A copy of a variable.
 fn copy_variable(alloc: Global, variable: &Variable) -> Result<Variable, Memory>
     ensures { IfOk result (IsSameVariable variable.now) }
 {
-    let path = copy_text(alloc, &variable.path)?;
+    let path = variable.path.copy(alloc)?;
     let domain = copy_domain(&variable.domain)?;
     Ok(Variable {
         path,
@@ -70,7 +51,7 @@ pub(crate) fn copy_variables(alloc: Global, variables: &[Variable]) -> Result<Ve
 fn copy_observer(alloc: Global, observer: &Observer) -> Result<Observer, Memory>
     ensures { IfOk result (IsSameObserver observer.now) }
 {
-    let path = copy_text(alloc, &observer.path)?;
+    let path = observer.path.copy(alloc)?;
     let value = copy_expression(alloc, &observer.value)?;
     Ok(Observer {
         path,

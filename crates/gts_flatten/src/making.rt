@@ -9,7 +9,6 @@ ghost use Rattle.sync_expand.specs.Plans.{planned_of, planned_ways, ways_at};
 ghost use Rattle.gts_flatten.specs.Making.{IsTransitionAt, IsMadeOf, IsMadeWay, IsMadeEvent, AreMadeEvents};
 ghost use Rattle.gts_flatten.specs.Placing.{IsWayAt, IsRun};
 
-use crate::copying::copy_text;
 use ar_base::{EventId, Memory, WayId};
 use gts_core::{
     Act, Assign, DeclaredEvent, DeclaredWay, Event, Way, WayBody, assignments, copy_expression,
@@ -112,7 +111,7 @@ fn event_of(alloc: Global, declared: &DeclaredEvent, ways: Vec<WayId>) -> Result
     ensures { (counts : List ℕ) (n : ℕ) → map (λ w. w.n) ways.items ≡ ways_at counts n
         → IfOk result (IsMadeEvent counts n declared.now) }
 {
-    let path = copy_text(alloc, &declared.path)?;
+    let path = declared.path.copy(alloc)?;
     Ok(Event {
         path,
         unit: declared.unit,

@@ -23,7 +23,7 @@ use Rattle.hierarchy.specs.Units.{Thing, numbers}
 use Rattle.hierarchy.specs.Walks.{IsThingAt, is_event}
 use Rattle.hierarchy.specs.declared.tree.Tree.{Tree}
 use Rattle.replayer.specs.Flat.{IsOfTree, label_of, label_found, ways_found}
-use Rattle.replayer.specs.Labels.{Spells, AreTexts, NamesEvent, NamesVisible, IsLabel, path, numbered, NeedsWay}
+use Rattle.replayer.specs.Labels.{Spells, NamesEvent, NamesVisible, IsLabel, path, numbered, NeedsWay}
 use Rattle.replayer.specs.Reads.{has_mark, AnswersEvent, AnswersVisible, IsVisible, AnswersLabel, IsCounted, IsUnlessHidden, IsWayOf, IsNoWayOf}
 use Rattle.replayer.specs.declared.commands.ScriptFault.TheVariants as fault
 use Rattle.replayer.specs.declared.script_labels.Counted.TheVariants as count
@@ -84,9 +84,6 @@ module _ {x : Elaborated} {tree : Tree} {p : GtsParts} (of : IsOfTree x tree p) 
 
   names_alike : tree.classes.names ≡ x.declarations.model.names
   names_alike = of.is_tree.table.table.names
-
-  pub texts_alike : AreTexts x.declarations.model.names → AreTexts tree.classes.names
-  texts_alike h = subst AreTexts (sym names_alike) h
 
   -- the event of the names that a text spells
   pub names_event : (text : List ℕ) (names : List NameId) (answer : Option EventId) → AreDifferent tree.classes.names → Spells tree.classes.names text (numbers names)

@@ -1,6 +1,5 @@
 -- What labels name: paths from the main block, which may pass through aliases, and numbers of ways.
 use Rattle.std.specs.Prelude.{◌≡◌, ℕ, ◌+◌, ◌<◌, ◌≤◌, ◌==◌, Bool, false, List, [], ◌++◌, codes, decimal, length}
-use Rattle.std.specs.Str.{IsUtf8}
 use Rattle.ar_base.specs.Lists.{Stands, Along}
 use Rattle.ar_meaning.specs.Systems.{Event}
 use Rattle.ar_meaning.specs.Runs.{Label}
@@ -53,9 +52,3 @@ pub record NeedsWay (x : Elaborated) (text : List ℕ) : Type 0 where
   pub ways : ℕ
   pub names : NamesVisible x text event ways
   pub many : 2 ≤ ways
-
--- Names that can be read
-
--- each name is a text in UTF-8
-pub record AreTexts (names : List (List ℕ)) : Type 0 where
-  pub each : (n : ℕ) (t : List ℕ) → Stands names n t → IsUtf8 t

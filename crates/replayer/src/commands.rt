@@ -5,7 +5,6 @@ ghost use Rattle.ar_base.specs.Counts.{limit_of};
 ghost use Rattle.ar_base.specs.declared.counts.Count.TheVariants.{ScriptBytes};
 ghost use Rattle.gts_flatten.specs.Elaborating.{Elaborated};
 ghost use Rattle.replayer.specs.Flat.{command_of, AreFirable, IsOfTree, AnswersScript};
-ghost use Rattle.replayer.specs.Labels.{AreTexts};
 ghost use Rattle.replayer.specs.Reads.{Adds, IsBadLine};
 
 use crate::lines::{Line, first_line, line_of};
@@ -63,8 +62,7 @@ impl<T: Drop> From<AllocFailed<T>> for ScriptFault {
     }
 }
 
-/// The commands of the lines of a script on the flat system of a tree, or the first line that is bad. The names of the
-/// model are to be texts in UTF-8, as those of a parsed model are.
+/// The commands of the lines of a script on the flat system of a tree, or the first line that is bad.
 pub fn read_script(
     alloc: Global,
     tree: &Tree,
@@ -73,7 +71,7 @@ pub fn read_script(
 ) -> Result<Vec<Command>, ScriptFault>
     requires tree { (x : Elaborated) × IsOfTree x tree.now gts.now }
     requires short { length text.now ≤ limit_of ScriptBytes }
-    ensures { (x : Elaborated) → IsOfTree x tree.now gts.now → AreTexts x.declarations.model.names
+    ensures { (x : Elaborated) → IsOfTree x tree.now gts.now
         → AnswersScript x gts.now text.now result }
 {
     let mut commands = Vec::new(alloc);
@@ -98,11 +96,11 @@ fn add_line(
     number: u32,
 ) -> Result<(), ScriptFault>
     requires { (x : Elaborated) × IsOfTree x tree.now gts.now }
-    ensures added { (x : Elaborated) → IsOfTree x tree.now gts.now → AreTexts x.declarations.model.names
+    ensures added { (x : Elaborated) → IsOfTree x tree.now gts.now
         → OnOk result (Adds x line.now (map (command_of gts.now) commands.old.items) (map (command_of gts.now) commands.new.items)) }
-    ensures firable { (x : Elaborated) → IsOfTree x tree.now gts.now → AreTexts x.declarations.model.names
+    ensures firable { (x : Elaborated) → IsOfTree x tree.now gts.now
         → AreFirable gts.now commands.old.items → OnOk result (AreFirable gts.now commands.new.items) }
-    ensures bad { (x : Elaborated) → IsOfTree x tree.now gts.now → AreTexts x.declarations.model.names
+    ensures bad { (x : Elaborated) → IsOfTree x tree.now gts.now
         → IfErr result (λ fault. IsBadLine x line.now number fault) }
 {
     let command = match line_of(line) {

@@ -5,7 +5,7 @@ ghost use Rattle.std.specs.List.{prefix_len};
 ghost use Rattle.ar_base.specs.Lists.{Stands, HasNo, AreDifferent};
 ghost use Rattle.gts_flatten.specs.Elaborating.{Elaborated};
 ghost use Rattle.replayer.specs.Flat.{IsOfTree};
-ghost use Rattle.replayer.specs.Labels.{is_dot, AreTexts};
+ghost use Rattle.replayer.specs.Labels.{is_dot};
 ghost use Rattle.replayer.specs.Lines.{pieces};
 ghost use Rattle.replayer.specs.Reads.{AnswersNames, AnswersEvent, AnswersVisible, IsUnlessHidden};
 
@@ -13,7 +13,6 @@ use ar_base::{EventId, Memory, NameId, Names, UnitId};
 use gts_core::{Gts, GtsParts};
 use hierarchy::{First, Tree, event_at};
 use std::alloc::Global;
-use std::str::from_utf8;
 
 /// The visible event that a path names, read from the main block.
 pub(crate) fn visible_at(
@@ -23,7 +22,7 @@ pub(crate) fn visible_at(
     path: &[u8],
 ) -> Result<Option<EventId>, Memory>
     requires { (x : Elaborated) × IsOfTree x tree.now gts.now }
-    ensures { (x : Elaborated) → IsOfTree x tree.now gts.now → AreTexts x.declarations.model.names
+    ensures { (x : Elaborated) → IsOfTree x tree.now gts.now
         → IfOk result (AnswersVisible x gts.now path.now) }
 {
     match event_named(alloc, tree, gts, path)? {
@@ -50,7 +49,7 @@ fn event_named(
     path: &[u8],
 ) -> Result<Option<EventId>, Memory>
     requires { (x : Elaborated) × IsOfTree x tree.now gts.now }
-    ensures { (x : Elaborated) → IsOfTree x tree.now gts.now → AreTexts x.declarations.model.names
+    ensures { (x : Elaborated) → IsOfTree x tree.now gts.now
         → IfOk result (AnswersEvent x path.now) }
 {
     match names_of(alloc, &tree.classes.names, path)? {
@@ -61,32 +60,20 @@ fn event_named(
 
 // The names between the dots of a path.
 fn names_of(alloc: Global, table: &Names, path: &[u8]) -> Result<Option<Vec<NameId>>, Memory>
-    ensures names { AreTexts table.now → IfOk result (AnswersNames table.now path.now) }
+    ensures names { IfOk result (AnswersNames table.now path.now) }
     ensures different { IfOk result (λ names. IfSome names (λ _. AreDifferent table.now)) }
 {
     let mut names = Vec::new(alloc);
     let mut rest = Some(path);
     while let Some(bytes) = rest {
         let (piece, after) = first_piece(bytes);
-        let Some(name) = name_of(table, piece) else {
+        let Some(name) = table.find_bytes(piece) else {
             return Ok(None);
         };
         names.push(name)?;
         rest = after;
     }
     Ok(Some(names))
-}
-
-// The name with this text.
-fn name_of(table: &Names, piece: &[u8]) -> Option<NameId>
-    ensures found { IfSome result (λ name. Stands table.now name.n piece.now) }
-    ensures different { IfSome result (λ _. AreDifferent table.now) }
-    ensures none { AreTexts table.now → IfNone result (HasNo table.now (λ t. t ≡ piece.now)) }
-{
-    match from_utf8(piece) {
-        Ok(text) => table.find(text),
-        Err(_) => None,
-    }
 }
 
 // The piece before the first dot, and what stands behind the dot, if there is one.

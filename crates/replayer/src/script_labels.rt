@@ -4,7 +4,7 @@ ghost use Rattle.std.specs.Prelude.{◌≡◌, ◌+◌, ◌<◌, ℕ, List, leng
 ghost use Rattle.gts_core.specs.Sound.{IsSound};
 ghost use Rattle.gts_flatten.specs.Elaborating.{Elaborated};
 ghost use Rattle.replayer.specs.Flat.{IsOfTree};
-ghost use Rattle.replayer.specs.Labels.{AreTexts, NamesVisible};
+ghost use Rattle.replayer.specs.Labels.{NamesVisible};
 ghost use Rattle.replayer.specs.Reads.{AnswersLabel, IsCounted, IsWayOf, IsNoWayOf};
 
 use crate::commands::ScriptFault;
@@ -25,7 +25,7 @@ pub(crate) fn way_named(
     line: u32,
 ) -> Result<WayId, ScriptFault>
     requires { (x : Elaborated) × IsOfTree x tree.now gts.now }
-    ensures { (x : Elaborated) → IsOfTree x tree.now gts.now → AreTexts x.declarations.model.names
+    ensures { (x : Elaborated) → IsOfTree x tree.now gts.now
         → AnswersLabel x gts.now label.now line result }
 {
     match visible_at(alloc, tree, gts, label)? {
@@ -71,7 +71,7 @@ fn way_numbered(
     line: u32,
 ) -> Result<WayId, ScriptFault>
     requires { (x : Elaborated) × IsOfTree x tree.now gts.now }
-    ensures { (x : Elaborated) → IsOfTree x tree.now gts.now → AreTexts x.declarations.model.names
+    ensures { (x : Elaborated) → IsOfTree x tree.now gts.now
         → ((e ways : ℕ) → NamesVisible x label.now e ways → ways ≡ 0)
         → AnswersLabel x gts.now label.now line result }
 {

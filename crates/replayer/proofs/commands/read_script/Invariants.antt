@@ -1,7 +1,6 @@
 use Rattle.std.proofs.Common.{◌≤◌, ◌+◌, map, length}
 use Rattle.gts_flatten.specs.Elaborating.{Elaborated}
 use Rattle.replayer.specs.Flat.{IsOfTree, AreFirable, command_of}
-use Rattle.replayer.specs.Labels.{AreTexts}
 use Rattle.replayer.specs.Lines.{lines_of}
 use Rattle.replayer.specs.Reads.{lines_left, bytes_left, Reached}
 use Rattle.replayer.proofs.commands.read_script.Given as goal
@@ -10,9 +9,9 @@ use Rattle.replayer.proofs.commands.read_script.Given as goal
 abbrev pub invariant-loop-rest : goal.invariant-loop-rest
 invariant-loop-rest l = record {
   small : l.number + bytes_left l.rest ≤ length l.text + 2;
-  reached : (x : Elaborated) → IsOfTree x l.tree l.gts → AreTexts x.declarations.model.names
+  reached : (x : Elaborated) → IsOfTree x l.tree l.gts
       → Reached x (lines_of l.text) (lines_left l.rest) (map (command_of l.gts) l.commands.items) l.number;
-  firable : (x : Elaborated) → IsOfTree x l.tree l.gts → AreTexts x.declarations.model.names → AreFirable l.gts l.commands.items;
+  firable : (x : Elaborated) → IsOfTree x l.tree l.gts → AreFirable l.gts l.commands.items;
 }
 
 abbrev pub decreases-loop-rest : goal.decreases-loop-rest

@@ -2,9 +2,9 @@ use Rattle.std.proofs.Common.{rules, subst, sym}
 use Rattle.std.specs.List.{each_same}
 use Rattle.domains.specs.declared.Domain.{Domain}
 use Rattle.domains.specs.declared.Domain.TheVariants.{Boolean, Symbols}
-use Rattle.gts_flatten.specs.Making.{IsSameDomain, boolean, symbols}
-use Rattle.gts_flatten.proofs.Rows.{ranges}
-use Rattle.gts_flatten.proofs.copying.copy_domain.Goals as goal
+use Rattle.gts_core.specs.Copies.{IsSameDomain, boolean, symbols}
+use Rattle.gts_core.proofs.SameDomains.{ranges}
+use Rattle.gts_core.proofs.copies.copy_domain.Goals as goal
 
 pub returns-in-Boolean : goal.returns-in-Boolean
 returns-in-Boolean c = subst (λ (d : Domain). IsSameDomain d Boolean) (sym c.in-Boolean.is) boolean

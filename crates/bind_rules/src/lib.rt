@@ -11,3 +11,4 @@ mod rules;
 mod values;
 
 pub use rules::{first_misnamed_in, first_misplaced_in, first_mistyped_in};
+pub use values::observed_at;

@@ -111,8 +111,8 @@ fn observed(owned: &Owned) -> Option<(TypeForm, &RawExpr)>
     }
 }
 
-// The type and the expression of the observer that stands there.
-fn observed_at(classes: &Classes, source: Source) -> Option<(TypeForm, &RawExpr)>
+/// The type and the expression of the observer that stands there, where one does. Takes no memory.
+pub fn observed_at(classes: &Classes, source: Source) -> Option<(TypeForm, &RawExpr)>
     ensures { (d : Declared) → Along IsBodyOf classes.now.bodies.items d.bodies
         → option_map (λ o. (o.0, o.1.now)) result
         ≡ observed_in (declared_at d (site_of (source.body, source.member))) }

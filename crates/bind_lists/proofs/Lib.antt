@@ -1,0 +1,4 @@
+pub mod DomainsKept
+pub mod Varied
+pub mod Asserted
+pub mod Observed

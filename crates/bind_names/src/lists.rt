@@ -1,0 +1,46 @@
+// The lists of bound forms.
+
+ghost use Rattle.std.specs.Prelude.{List, IfOk};
+ghost use Rattle.hierarchy.specs.Models.{RootedModel};
+ghost use Rattle.hierarchy.specs.Units.{UnitPath};
+ghost use Rattle.bind_scopes.specs.Scopes.{HasScopes};
+ghost use Rattle.bind_forms.specs.Settled.{AreSettled};
+ghost use Rattle.bind_names.specs.Whole.{IsBoundOf};
+
+use ar_base::Memory;
+use bind_events::events;
+use bind_lists::{assertions, observers, variables};
+use bind_scopes::Scopes;
+use bind_texts::{event_paths, prefixes, symbol_texts, unit_paths};
+use bind_values::Values;
+use source_meaning::Bound;
+use std::alloc::Global;
+
+/// The bound forms of a tree that keeps the rules of names, kinds, values and targets, where these
+/// are its values. The error is want of memory.
+pub(crate) fn bound_of(alloc: Global, scopes: &Scopes<'_>, values: &Values) -> Result<Bound, Memory>
+    requires { HasScopes scopes.now }
+    ensures { (m : RootedModel) (units : List UnitPath) → AreSettled m units scopes.now values.now
+        → IfOk result (IsBoundOf m units) }
+{
+    let tree = scopes.tree;
+    let symbols = symbol_texts(alloc, tree)?;
+    if symbols.len() > u32::MAX as usize {
+        return Err(Memory {});
+    }
+    let prefixes = prefixes(alloc, tree)?;
+    let units = unit_paths(alloc, tree, &prefixes)?;
+    let variables = variables(alloc, tree, values, &prefixes)?;
+    let paths = event_paths(alloc, tree, &prefixes)?;
+    let events = events(alloc, scopes, values, &paths)?;
+    let assertions = assertions(alloc, scopes, values)?;
+    let observers = observers(alloc, scopes, values, &prefixes)?;
+    Ok(Bound {
+        symbols,
+        units,
+        variables,
+        events,
+        assertions,
+        observers,
+    })
+}

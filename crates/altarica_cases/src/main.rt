@@ -3,12 +3,16 @@
 //! Each line of the file `cases` is a case: its name, the number of the load that is to fail or `-`, the number of
 //! the put that is to fail or `-`, and the words of the job. Words that name a file of the folder stand for its
 //! bytes. For each case its name, the status, how many faults the shelf and the sink counted, and the bytes that
-//! were written are printed.
+//! were written are printed. Then the limits are run, each at its number and one past it, over texts that are made here.
 #![tactic(auto)]
+
+mod limits;
+mod made;
 
 use altarica_run::altarica;
 use ar_base::Memory;
 use ar_io::{MemoryShelf, MemorySink};
+use limits::run_limits;
 use std::io::Write;
 use std::{fs, io};
 
@@ -27,8 +31,26 @@ fn place(rt: &HostRuntime, shelf: &mut MemoryShelf, name: &str) -> io::Result<()
     }
 }
 
-// Runs the job of the words, over a shelf and a sink of which these calls fail, and prints what it answers.
-fn run(rt: &HostRuntime, name: &str, failing: [&str; 2], words: &[String]) -> io::Result<()> {
+// Runs the job of the words, over a shelf and a sink of which this call fails, and prints what it answers.
+fn run(
+    rt: &HostRuntime,
+    name: &str,
+    shelf: &mut MemoryShelf,
+    failing_put: &str,
+    words: &[String],
+) -> io::Result<()> {
+    let mut sink = MemorySink::new(rt.alloc(), ROOM).map_err(no_memory)?;
+    if let Ok(call) = failing_put.parse::<u32>() {
+        sink.fail_at(&[call]).map_err(no_memory)?;
+    }
+    let status = altarica(rt.alloc(), words, shelf, &mut sink).number();
+    let faults = (shelf.fault_count(), sink.fault_count());
+    println!(rt; "{name}: status {status} faults {} {}", faults.0, faults.1)?;
+    io::writer(rt).write_all(sink.bytes())
+}
+
+// Runs the job of the words over the files of the folder that they name.
+fn run_files(rt: &HostRuntime, name: &str, failing: [&str; 2], words: &[String]) -> io::Result<()> {
     let mut shelf = MemoryShelf::new(rt.alloc());
     for word in words {
         place(rt, &mut shelf, word.as_str())?;
@@ -36,14 +58,32 @@ fn run(rt: &HostRuntime, name: &str, failing: [&str; 2], words: &[String]) -> io
     if let Ok(call) = failing[0].parse::<u32>() {
         shelf.fail_at(&[call]).map_err(no_memory)?;
     }
-    let mut sink = MemorySink::new(rt.alloc(), ROOM).map_err(no_memory)?;
-    if let Ok(call) = failing[1].parse::<u32>() {
-        sink.fail_at(&[call]).map_err(no_memory)?;
+    run(rt, name, &mut shelf, failing[1], words)
+}
+
+/// Runs a check of this model, or a replay of this script on it.
+pub(crate) fn run_texts(
+    rt: &HostRuntime,
+    name: &str,
+    model: &str,
+    script: Option<&str>,
+) -> io::Result<()> {
+    let mut shelf = MemoryShelf::new(rt.alloc());
+    shelf.place("model", model.as_bytes()).map_err(no_memory)?;
+    let mut words = Vec::new(rt.alloc());
+    match script {
+        Some(script) => {
+            shelf.place("script", script.as_bytes()).map_err(no_memory)?;
+            words.push(String::from_str(rt.alloc(), "replay")?)?;
+            words.push(String::from_str(rt.alloc(), "model")?)?;
+            words.push(String::from_str(rt.alloc(), "script")?)?;
+        }
+        None => {
+            words.push(String::from_str(rt.alloc(), "check")?)?;
+            words.push(String::from_str(rt.alloc(), "model")?)?;
+        }
     }
-    let status = altarica(rt.alloc(), words, &mut shelf, &mut sink).number();
-    let faults = (shelf.fault_count(), sink.fault_count());
-    println!(rt; "{name}: status {status} faults {} {}", faults.0, faults.1)?;
-    io::writer(rt).write_all(sink.bytes())
+    run(rt, name, &mut shelf, "-", &words)
 }
 
 // Runs the case of a line.
@@ -56,7 +96,7 @@ fn run_line(rt: &HostRuntime, line: &str) -> io::Result<()> {
     for part in parts {
         words.push(String::from_str(rt.alloc(), part)?)?;
     }
-    run(rt, name, [load, put], &words)
+    run_files(rt, name, [load, put], &words)
 }
 
 fn main(rt: HostRuntime) -> io::Result<()> {
@@ -64,5 +104,5 @@ fn main(rt: HostRuntime) -> io::Result<()> {
     for line in cases.lines() {
         run_line(&rt, line)?;
     }
-    Ok(())
+    run_limits(&rt)
 }

@@ -1,172 +1,168 @@
--- A text is one block, a script one list of commands and a replay one text.
-use Rattle.std.proofs.Common.{◌≡◌, ◌+◌, ℕ, true, false, List, [], ◌∷◌, ◌++◌, Some, Ok, Err, length, refl, sym, ◌∙◌, ap, subst, arith, inl, inr, codes}
-use Rattle.std.proofs.lemmas.List.{append_cancel_right}
-use Rattle.std.proofs.lemmas.Bool.{cases_lt}
-use Rattle.ar_base.specs.Lists.{Stands, Along}
-use Rattle.ar_base.specs.Lists as lists
-use Rattle.ar_base.proofs.Standing.{stands_one, stands_right}
-use Rattle.domains.specs.declared.Value.{Value}
-use Rattle.ar_lexer.specs.Spelling.{AllPass, is_word_byte, IsWord}
-use Rattle.ar_lexer.proofs.Laws.{tokens_one, tokens_no_fault}
-use Rattle.ar_meaning.specs.Runs.{Command, Moment}
-use Rattle.ar_base.specs.Texts.{line}
-use Rattle.ar_meaning.specs.TraceText.{Naming, Observed, Changed, ChangedLines, MomentText, TraceText, all_lines, label_text}
-use Rattle.ar_meaning.specs.TraceText as trace
-use Rattle.ar_meaning.proofs.OneRun.{runs_same}
-use Rattle.altarica_run.specs.Words.{words}
-use Rattle.altarica_run.specs.Small.{Block, block_words}
-use Rattle.altarica_run.specs.Sound.{IsSound, states_of}
-use Rattle.altarica_run.specs.Meaning.{system_of, naming_of}
-use Rattle.altarica_run.specs.Scripts.{Line, Skipped, Fires, NoCommand, lines_of, line_said, IsFirable, IsLabel, path, numbered, Gives, IsBad, no_command, no_event, Why, IsNoCommand, NamesNoEvent, IsFirstBad}
-use Rattle.altarica_run.specs.Scripts as scripts
-use Rattle.altarica_run.specs.Reading.{block_at}
-use Rattle.altarica_run.specs.Replays.{IsReplay, status_of_run}
-use Rattle.altarica_run.specs.Says.{IsModel, Elaborates, means, no_tokens, no_model, Commands, gives, bad, bad_line}
+-- Laws of jobs and of their files.
+use Rattle.std.proofs.Common.{◌≡◌, ◌<◌, ◌≤◌, ◌⊎◌, inl, inr, ℕ, Bool, true, false, List, [], ◌∷◌, Option, Some, None, Result, Ok, Err, length, refl, sym, ◌∙◌, ap, subst, arith}
+use Rattle.ar_base.specs.Counts.{limit_of}
+use Rattle.ar_base.specs.declared.counts.Count.TheVariants.{ModelBytes, ScriptBytes}
+use Rattle.ar_io.specs.Outside.{Told, Bytes, Absent, Untold, MayBeLonger, IsFile}
+use Rattle.run_words.specs.declared.jobs.Job.{Job}
+use Rattle.altarica_run.specs.Files.{File, model_file, script_files, files_of, Loaded, none, long, later, whole, Loads, this, next}
+use Rattle.altarica_run.specs.Follows.{Call, Gave, IsKnown, IsQuiet, Wrote, RoseAt, SinkRose}
+use Rattle.altarica_run.specs.Jobs.{IsBuiltJob}
+use Rattle.altarica_run.specs.Refusals.{line_of, status_of}
+use Rattle.altarica_run.specs.Says.{Says, usage, refuses, tells, EndsSo}
+use Rattle.altarica_run.specs.Says as says
+use Rattle.altarica_run.specs.Stages.{Ready, Passes, not_loaded, loaded}
+use Rattle.altarica_run.specs.declared.refusals.FileKind.{FileKind}
+use Rattle.altarica_run.specs.declared.refusals.FileKind.TheVariants.{Model}
 use Rattle.altarica_run.specs.declared.refusals.Refusal.{Refusal}
+use Rattle.altarica_run.specs.declared.refusals.Refusal.TheVariants.{NotRead, Size}
 use Rattle.altarica_run.specs.declared.status.Status.{Status}
-use Rattle.altarica_run.proofs.Spelled.{block_read}
-use Rattle.altarica_run.proofs.ScriptLemmas.{not_bad}
-use Rattle.altarica_run.proofs.TextLemmas.{events_are_words}
+use Rattle.altarica_run.specs.declared.status.Status.TheVariants as status
 
--- Blocks
+-- Files
 
-some_one : {A : Type 0} (x y : A) → Some x ≡ Some y → x ≡ y
-some_one x y e = cc
+-- a file of which something is told is not both within a limit and longer
+apart : (t : Told) (most : ℕ) (text : List ℕ) → IsKnown t → IsFile t most text → MayBeLonger t most → ⊥
+apart (Bytes b) most text k f l = let e = ap length f.held in let s = f.short in absurd (omega (arith, e, s, l))
+apart Absent most text k f l = l
+apart Untold most text k f l = k
 
-same_block : (b c : Block) → block_words b ≡ block_words c → b ≡ c
-same_block b c e =
-    let n = length (block_words b) + 1 in
-    let l : length (block_words b) ≡ length (block_words c) = ap length e in
-    some_one b c (sym (block_read n b (omega arith)) ∙ ap (block_at n) e ∙ block_read n c (omega (arith, l)))
+-- it has one text
+one_text : (t : Told) (most : ℕ) (x y : List ℕ) → IsKnown t → IsFile t most x → IsFile t most y → x ≡ y
+one_text (Bytes b) most x y k f g = f.held ∙ sym g.held
+one_text Absent most x y k f g = absurd f.held
+one_text Untold most x y k f g = absurd k
 
-pub block_one : (text : List ℕ) (b c : Block) → Elaborates text (Ok b) → Elaborates text (Ok c) → b ≡ c
-block_one text b c (means ts a m) (means us d n) = same_block b c (sym m.spelled ∙ ap (words text) (tokens_one text ts us a d) ∙ n.spelled)
+abbrev is_ok : {A B : Type 0} → Result A B → Bool
+is_ok (Ok x) = true
+is_ok (Err e) = false
 
-pub block_not_both : (text : List ℕ) (b : Block) (r : Refusal) → Elaborates text (Ok b) → Elaborates text (Err r) → ⊥
-block_not_both text b r (means ts a m) (no_tokens fault f at) = tokens_no_fault text ts fault a f
-block_not_both text b r (means ts a m) (no_model us d never p) = never b (subst (λ z. IsModel text z b) (tokens_one text ts us a d) m)
+not_ok : {A B : Type 0} {C : Type 0} (e : B) (x : A) → Err e ≡ Ok x → C
+not_ok e x i = let q : false ≡ true = ap is_ok i in absurd cc
 
--- Labels
+abbrev refusal_or : {A : Type 0} → Refusal → Result A Refusal → Refusal
+refusal_or d (Ok x) = d
+refusal_or d (Err r) = r
 
-no_hash : (bs : List ℕ) → AllPass is_word_byte (bs ++ codes "#1") → ⊥
-no_hash [] h = let q : false ≡ true = h.0 in cc
-no_hash (b ∷ bs) h = no_hash bs h.1
+abbrev texts_or : List (List ℕ) → Result (List (List ℕ)) Refusal → List (List ℕ)
+texts_or d (Ok x) = x
+texts_or d (Err e) = d
 
-word_hash : (bs : List ℕ) → IsWord (bs ++ codes "#1") → ⊥
-word_hash [] h = let q : false ≡ true = h.0 in cc
-word_hash (b ∷ bs) h = no_hash bs h.1
+module _ (told : List ℕ → Told) (known : (name : List ℕ) → IsKnown (told name)) where
+  pub loaded_one : (fs : List File) (x y : Result (List (List ℕ)) Refusal) → Loaded told fs x → Loaded told fs y → x ≡ y
+  loaded_one [] x y none none = refl
+  loaded_one (f ∷ fs) x y (long h) (long k) = refl
+  loaded_one (f ∷ fs) x y (long h) (later text g k) = absurd (apart (told f.name) (limit_of f.count) text (known f.name) g h)
+  loaded_one (f ∷ fs) x y (long h) (whole text g k) = absurd (apart (told f.name) (limit_of f.count) text (known f.name) g h)
+  loaded_one (f ∷ fs) x y (later text g k) (long h) = absurd (apart (told f.name) (limit_of f.count) text (known f.name) g h)
+  loaded_one (f ∷ fs) x y (later {r = r} text g k) (later {r = s} other h l) = loaded_one fs (Err r) (Err s) k l
+  loaded_one (f ∷ fs) x y (later {r = r} text g k) (whole {texts = ts} other h l) = not_ok r ts (loaded_one fs (Err r) (Ok ts) k l)
+  loaded_one (f ∷ fs) x y (whole text g k) (long h) = absurd (apart (told f.name) (limit_of f.count) text (known f.name) g h)
+  loaded_one (f ∷ fs) x y (whole {texts = ts} text g k) (later {r = r} other h l) = not_ok r ts (loaded_one fs (Err r) (Ok ts) l k)
+  loaded_one (f ∷ fs) x y (whole {texts = ts} text g k) (whole {texts = us} other h l) =
+      let e = one_text (told f.name) (limit_of f.count) text other (known f.name) g h in
+      let i : ts ≡ us = ap (texts_or ts) (loaded_one fs (Ok ts) (Ok us) k l) in cc
 
-module _ (b : Block) (sound : IsSound b) (names : (k : ℕ) (name : List ℕ) → Stands b.events k name → IsWord name) where
-  same_event : (name : List ℕ) (e f : ℕ) → Stands b.events e name → Stands b.events f name → e ≡ f
-  same_event name e f s t =
-      let n = length (states_of b) in
-      let i = sound.different.one (n + e) (n + f) name (stands_right (states_of b) b.events e (n + e) name refl s) (stands_right (states_of b) b.events f (n + f) name refl t) in
-      omega (arith, i)
+-- Models that are too long
 
-  one_label : (label : List ℕ) (e f : ℕ) → IsLabel b label e → IsLabel b label f → e ≡ f
-  one_label label e f (path p) (path q) = same_event label e f p.stands q.stands
-  one_label label e f (path p) (numbered name i q) = absurd (word_hash name (subst IsWord i (names e label p.stands)))
-  one_label label e f (numbered name i p) (path q) = absurd (word_hash name (subst IsWord i (names f label q.stands)))
-  one_label label e f (numbered name i p) (numbered other j q) =
-      let k : name ≡ other = append_cancel_right name other (codes "#1") (sym i ∙ j) in
-      same_event name e f p.stands (subst (λ z. Stands b.events f z) (sym k) q.stands)
+module _ (files : List ℕ → Told) (job : Job) (text : List ℕ) (is : files job.model ≡ Bytes text) (over : limit_of ModelBytes < length text) where
+  no_file : (other : List ℕ) → IsFile (files job.model) (limit_of ModelBytes) other → ⊥
+  no_file other h = apart (Bytes text) (limit_of ModelBytes) other tt (subst (λ (t : Told). IsFile t (limit_of ModelBytes) other) is h) over
 
-  gives_one : (all : List (List ℕ)) (cs ds : List Command) → Gives b all cs → Gives b all ds → cs ≡ ds
-  gives_one [] cs ds scripts.none scripts.none = refl
-  gives_one (x ∷ all) cs ds (scripts.skips e g) (scripts.skips f h) = gives_one all cs ds g h
-  gives_one (x ∷ all) cs ds (scripts.skips e g) (scripts.fires n f l h) = let k : Skipped ≡ Fires _ = sym e ∙ f in cc
-  gives_one (x ∷ all) cs ds (scripts.fires n e l g) (scripts.skips f h) = let k : Fires _ ≡ Skipped = sym e ∙ f in cc
-  gives_one (x ∷ all) cs ds (scripts.fires {label = label} {cs = more} n e l g) (scripts.fires {label = other} {cs = rest} m f k h) =
-      let i : Fires label ≡ Fires other = sym e ∙ f in
-      let j : label ≡ other = cc in
-      let a : n ≡ m = one_label label n m l (subst (λ z. IsLabel b z m) (sym j) k) in
-      let d : more ≡ rest = gives_one all more rest g h in
-      cc
+  over_refused : (fs : List File) (r : Refusal) → Loaded files (model_file job.model ∷ fs) (Err r) → r ≡ Size ModelBytes
+  over_refused fs r (long h) = refl
+  over_refused fs r (later other h k) = absurd (no_file other h)
 
-  pub commands_one : (script : List ℕ) (cs ds : List Command) → Commands b script (Ok cs) → Commands b script (Ok ds) → cs ≡ ds
-  commands_one script cs ds (gives g) (gives h) = gives_one (lines_of script) cs ds g h
+  over_loaded : (fs : List File) (texts : List (List ℕ)) → Loaded files (model_file job.model ∷ fs) (Ok texts) → ⊥
+  over_loaded fs texts (whole other h k) = no_file other h
 
-pub text_commands : (text : List ℕ) (b : Block) → Elaborates text (Ok b) → (script : List ℕ) (cs ds : List Command) → Commands b script (Ok cs) → Commands b script (Ok ds) → cs ≡ ds
-text_commands text b (means ts a m) script cs ds g h = commands_one b m.sound (events_are_words text ts b a m.spelled) script cs ds g h
+  pub over_passes : (x : Result Ready Refusal) → Passes files job x → x ≡ Err (Size ModelBytes)
+  over_passes x (not_loaded {r = r} h) = ap Err (over_refused _ r h)
+  over_passes x (loaded texts h t s) = absurd (over_loaded _ texts h)
 
--- Bad lines
+-- Scripts that are too long
 
-why_one : {b : Block} (x : List ℕ) (v w : Why) → IsBad b v x → IsBad b w x → v ≡ w
-why_one x v w (no_command e) (no_command f) = refl
-why_one x v w (no_command e) (no_event f n) = let k : NoCommand ≡ Fires _ = sym e ∙ f in cc
-why_one x v w (no_event e n) (no_command f) = let k : Fires _ ≡ NoCommand = sym e ∙ f in cc
-why_one x v w (no_event e n) (no_event f m) = refl
+module _ (files : List ℕ → Told) (name script : List ℕ) (is : files name ≡ Bytes script) (over : limit_of ScriptBytes < length script) where
+  no_script : (other : List ℕ) → IsFile (files name) (limit_of ScriptBytes) other → ⊥
+  no_script other h = apart (Bytes script) (limit_of ScriptBytes) other tt (subst (λ (t : Told). IsFile t (limit_of ScriptBytes) other) is h) over
 
-first_one : {b : Block} (all : List (List ℕ)) (m n : ℕ) (v w : Why) → IsFirstBad b all m v → IsFirstBad b all n w → bad_line m v ≡ bad_line n w
-first_one {b = b} all m n v w p q = elim (cases_lt m n) as (λ _. bad_line m v ≡ bad_line n w) [
-  | inl l ↦ absurd (q.before m p.line v l p.stands p.bad)
-  | inr g ↦ elim (cases_lt n m) as (λ _. bad_line m v ≡ bad_line n w) [
-    | inl l ↦ absurd (p.before n q.line w l q.stands q.bad)
-    | inr h ↦ (
-        let i : m ≡ n = omega (arith, g, h) in
-        let j : p.line ≡ q.line = stands_one all m p.line q.line p.stands (subst (λ z. Stands all z q.line) (sym i) q.stands) in
-        let k : v ≡ w = why_one p.line v w p.bad (subst (λ z. IsBad b w z) (sym j) q.bad) in
-        cc)
-  ]
-]
+  script_refused : (s : Option (List ℕ)) → s ≡ Some name → (x : Result (List (List ℕ)) Refusal) → Loaded files (script_files s) x → x ≡ Err (Size ScriptBytes)
+  script_refused None e x h = cc
+  script_refused (Some n) e x (long h) = refl
+  script_refused (Some n) e x (later other h k) = let i : n ≡ name = cc in absurd (no_script other (subst (λ (z : List ℕ). IsFile (files z) (limit_of ScriptBytes) other) i h))
+  script_refused (Some n) e x (whole other h k) = let i : n ≡ name = cc in absurd (no_script other (subst (λ (z : List ℕ). IsFile (files z) (limit_of ScriptBytes) other) i h))
 
-pub refusal_one : (b : Block) (script : List ℕ) (r s : Refusal) → Commands b script (Err r) → Commands b script (Err s) → r ≡ s
-refusal_one b script r s (bad m v p) (bad n w q) = first_one (lines_of script) m n v w p q
+  module _ (job : Job) (named : job.script ≡ Some name) (model : List ℕ) (held : files job.model ≡ Bytes model) (short : length model ≤ limit_of ModelBytes) where
+    files_refused : (x : Result (List (List ℕ)) Refusal) → Loaded files (files_of job) x → x ≡ Err (Size ScriptBytes)
+    files_refused x (long h) =
+        absurd (apart (Bytes model) (limit_of ModelBytes) model tt (record { held = refl; short = short }) (subst (λ (t : Told). MayBeLonger t (limit_of ModelBytes)) held h))
+    files_refused x (later {r = r} other h k) = let i : r ≡ Size ScriptBytes = ap (refusal_or r) (script_refused job.script named (Err r) k) in ap Err i
+    files_refused x (whole {texts = ts} other h k) = not_ok _ _ (sym (script_refused job.script named (Ok ts) k))
 
-pub commands_not_both : (b : Block) (script : List ℕ) (cs : List Command) (r : Refusal) → Commands b script (Ok cs) → Commands b script (Err r) → ⊥
-commands_not_both b script cs r (gives g) (bad n w q) = not_bad (lines_of script) cs g n q.line w q.stands q.bad
+    pub script_over : (x : Result Ready Refusal) → Passes files job x → x ≡ Err (Size ScriptBytes)
+    script_over x (not_loaded {r = r} h) = let i : r ≡ Size ScriptBytes = ap (refusal_or r) (files_refused (Err r) h) in ap Err i
+    script_over x (loaded texts h t s) = not_ok _ _ (sym (files_refused (Ok texts) h))
 
--- Replays
+module _ (c : Call) (job : Job) (one : (a b : Job) → IsBuiltJob c.words a → IsBuiltJob c.words b → a ≡ b) (is : IsBuiltJob c.words job) where
+  -- the job of the words is this one
+  same_job : (other : Job) → IsBuiltJob c.words other → (P : Job → Type 0) → P other → P job
+  same_job other at P h = subst P (one other job at is) h
 
-changed_same : {one : ℕ → Value → List ℕ} {n : ℕ} (vs ws us : List Value) (text other : List ℕ) → ws ≡ us → Changed one n vs ws text → Changed one n vs us other → text ≡ other
-changed_same vs ws us text other e trace.none trace.none = refl
-changed_same vs ws us text other e (trace.same {vs = old} {ws = new} p) (trace.same {ws = more} q) = let i : new ≡ more = cc in changed_same old new more text other i p q
-changed_same vs ws us text other e (trace.same {v = v} p) (trace.differs {w = w} d q) = let i : v ≡ w = cc in absurd (d i)
-changed_same vs ws us text other e (trace.differs {v = v} {w = w} d p) (trace.same q) = let i : v ≡ w = cc in absurd (d i)
-changed_same {one = one} {n = n} vs ws us text other e (trace.differs {w = w} {vs = old} {ws = new} {text = x} d p) (trace.differs {w = u} {ws = more} {text = y} f q) =
-    let i : w ≡ u = cc in
-    let j : new ≡ more = cc in
-    ap (λ z. one n z ++ x) i ∙ ap (λ z. one n u ++ z) (changed_same old new more x y j p q)
+  module _ (text : List ℕ) (told : c.files job.model ≡ Bytes text) (over : limit_of ModelBytes < length text) where
+    refused_over : (r : Refusal) → Passes c.files job (Err r) → Wrote c (line_of r) → (status_of r ≡ status.Size) × Wrote c (line_of (Size ModelBytes))
+    refused_over r p a =
+        let e : r ≡ Size ModelBytes = ap (refusal_or r) (over_passes c.files job text told over (Err r) p) in
+        (ap status_of e, subst (λ (z : Refusal). Wrote c (line_of z)) e a)
 
-changed_one : {one : ℕ → Value → List ℕ} {n : ℕ} (vs ws : List Value) (text other : List ℕ) → Changed one n vs ws text → Changed one n vs ws other → text ≡ other
-changed_one vs ws text other p q = changed_same vs ws ws text other refl p q
+    over_said : (said : List ℕ) (s : Status) → Says c.files c.words said s → Wrote c said → (s ≡ status.Size) × Wrote c (line_of (Size ModelBytes))
+    over_said said s (usage never) a = absurd (never job is)
+    over_said said s (refuses other r at p) a = refused_over r (same_job other at (λ j. Passes c.files j (Err r)) p) a
+    over_said said s (tells other w at p t) a =
+        not_ok _ _ (sym (over_passes c.files job text told over (Ok w) (same_job other at (λ j. Passes c.files j (Ok w)) p)))
 
-module _ (b : Block) where
-  sees_none : (t seen : List Value) → Observed (system_of b) t seen → seen ≡ []
-  sees_none t seen lists.none = refl
+    module _ (quiet : IsQuiet c) where
+      over_ends : (s : Status) → EndsSo c.files (RoseAt c) c.words c.old c.new (SinkRose c) s → ((s ≡ status.Size) × Wrote c (line_of (Size ModelBytes))) ⊎ (s ≡ status.Memory)
+      over_ends s (says.says {text = said} h a) = inl (over_said said s h a)
+      over_ends s (says.not_read {name = name} other at l r a) = absurd (quiet.read name r)
+      over_ends s (says.not_written b r h) = absurd (quiet.written r)
+      over_ends s (says.no_memory b h) = inr refl
 
-  sees_one : (t seen other : List Value) → Observed (system_of b) t seen → Observed (system_of b) t other → seen ≡ other
-  sees_one t seen other p q = sees_none t seen p ∙ sym (sees_none t other q)
+      pub over_of : (s : Status) → Gave c s → ((s ≡ status.Size) × Wrote c (line_of (Size ModelBytes))) ⊎ (s ≡ status.Memory)
+      over_of s g = over_ends s g.ends
 
-  lines_one : (old new : List Value) (text other : List ℕ) → ChangedLines (naming_of b) (system_of b) old new text → ChangedLines (naming_of b) (system_of b) old new other → text ≡ other
-  lines_one old new text other p q =
-      let i : p.seen ≡ q.seen = sees_one old p.seen q.seen p.is_seen q.is_seen in
-      let j : p.seen_then ≡ q.seen_then = sees_one new p.seen_then q.seen_then p.is_seen_then q.is_seen_then in
-      let v : p.variables ≡ q.variables = changed_one old new p.variables q.variables p.variables_changed q.variables_changed in
-      let o : p.observers ≡ q.observers =
-      changed_one p.seen p.seen_then p.observers q.observers p.observers_changed
-      (subst (λ z. Changed (trace.observer_line (naming_of b)) 0 z p.seen_then q.observers) (sym i) (subst (λ z. Changed (trace.observer_line (naming_of b)) 0 q.seen z q.observers) (sym j) q.observers_changed)) in
-      p.joined ∙ ap (λ z. z ++ p.observers) v ∙ ap (λ z. q.variables ++ z) o ∙ sym q.joined
+  -- Models that are absent
 
-  moment_one : (m : Moment) (text other : List ℕ) → MomentText (naming_of b) (system_of b) m text → MomentText (naming_of b) (system_of b) m other → text ≡ other
-  moment_one m text other (trace.starts {t = t} p) (trace.starts q) = ap (λ z. line (codes "start") ++ all_lines (naming_of b) t z) (sees_one t _ _ p q)
-  moment_one m text other trace.start_fails trace.start_fails = refl
-  moment_one m text other (trace.fires {l = l} {old = old} {new = new} p) (trace.fires q) = ap (λ z. line (codes "fire " ++ label_text (naming_of b) (system_of b) l) ++ z) (lines_one old new _ _ p q)
-  moment_one m text other trace.fire_fails trace.fire_fails = refl
-  moment_one m text other (trace.goes_back {old = old} {new = new} p) (trace.goes_back q) = ap (λ z. line (codes "back") ++ z) (lines_one old new _ _ p q)
-  moment_one m text other trace.no_step trace.no_step = refl
-  moment_one m text other (trace.shows {t = t} p) (trace.shows q) = ap (λ z. line (codes "show") ++ all_lines (naming_of b) t z) (sees_one t _ _ p q)
-  moment_one m text other trace.lists trace.lists = refl
-  moment_one m text other trace.ends trace.ends = refl
+  module _ (absent : c.files job.model ≡ Absent) where
+    not_held : (other : List ℕ) → IsFile (c.files job.model) (limit_of ModelBytes) other → ⊥
+    not_held other h = let f = subst (λ (t : Told). IsFile t (limit_of ModelBytes) other) absent h in f.held
 
-  trace_one : (ms : List Moment) (text other : List ℕ) → TraceText (naming_of b) (system_of b) ms text → TraceText (naming_of b) (system_of b) ms other → text ≡ other
-  trace_one [] text other trace.none trace.none = refl
-  trace_one (m ∷ ms) text other (trace.one_and {text = x} {texts = xs} p ps) (trace.one_and {text = y} {texts = ys} q qs) =
-      ap (λ z. z ++ xs) (moment_one m x y p q) ∙ ap (λ z. y ++ z) (trace_one ms xs ys ps qs)
+    no_loading : (fs : List File) (x : Result (List (List ℕ)) Refusal) → Loaded c.files (model_file job.model ∷ fs) x → ⊥
+    no_loading fs x (long h) = subst (λ (t : Told). MayBeLonger t (limit_of ModelBytes)) absent h
+    no_loading fs x (later other h k) = not_held other h
+    no_loading fs x (whole other h k) = not_held other h
 
-  pub replay_one : (cs : List Command) (text other : List ℕ) (ends end : Status) → IsReplay b cs text ends → IsReplay b cs other end → (text ≡ other) × (ends ≡ end)
-  replay_one cs text other ends end p q =
-      let i : p.moments ≡ q.moments = runs_same (system_of b) p.runs q.runs in (
-        trace_one q.moments text other (subst (λ z. TraceText (naming_of b) (system_of b) z text) i p.trace) q.trace,
-        p.ends ∙ ap status_of_run i ∙ sym q.ends,
-      )
+    no_passing : (x : Result Ready Refusal) → Passes c.files job x → ⊥
+    no_passing x (not_loaded h) = no_loading _ _ h
+    no_passing x (loaded texts h t s) = no_loading _ _ h
+
+    absent_said : (said : List ℕ) (s : Status) → Says c.files c.words said s → ⊥
+    absent_said said s (usage never) = never job is
+    absent_said said s (refuses other r at p) = no_passing (Err r) (same_job other at (λ j. Passes c.files j (Err r)) p)
+    absent_said said s (tells other w at p t) = no_passing (Ok w) (same_job other at (λ j. Passes c.files j (Ok w)) p)
+
+    -- the model alone is asked for
+    model_asked : (fs : List File) (kind : FileKind) (name : List ℕ) → Loads c.files (model_file job.model ∷ fs) kind name → RoseAt c name → Wrote c (line_of (NotRead kind))
+        → RoseAt c job.model × Wrote c (line_of (NotRead Model))
+    model_asked fs kind name this r a = (r, a)
+    model_asked fs kind name (next text h k) r a = absurd (not_held text h)
+
+    absent_ends : (s : Status) → EndsSo c.files (RoseAt c) c.words c.old c.new (SinkRose c) s
+        → ((s ≡ status.Read) × RoseAt c job.model × Wrote c (line_of (NotRead Model))) ⊎ (SinkRose c ⊎ (s ≡ status.Memory))
+    absent_ends s (says.says {text = said} h a) = absurd (absent_said said s h)
+    absent_ends s (says.not_read {kind} {name} other at l r a) =
+        let m = model_asked _ kind name (same_job other at (λ j. Loads c.files (files_of j) kind name) l) r a in
+        inl (refl, m.0, m.1)
+    absent_ends s (says.not_written b r h) = inr (inl r)
+    absent_ends s (says.no_memory b h) = inr (inr refl)
+
+    pub absent_of : (s : Status) → Gave c s → ((s ≡ status.Read) × RoseAt c job.model × Wrote c (line_of (NotRead Model))) ⊎ (SinkRose c ⊎ (s ≡ status.Memory))
+    absent_of s g = absent_ends s g.ends

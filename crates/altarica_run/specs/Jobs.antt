@@ -1,23 +1,40 @@
--- What words ask for.
-use Rattle.std.specs.Prelude.{◌≡◌, ℕ, ◌&&◌, not, Bool, nat_eq, List, [], ◌∷◌, Option, Some, None, codes, if◌then◌else◌}
-use Rattle.std.specs.List.{starts_with}
-use Rattle.std.specs.Str.{bytes_eq}
-use Rattle.altarica_run.specs.declared.jobs.Replay as code
+-- The jobs of the call: those of a command that is built. Words that ask for another command are, until it is built, no job.
+use Rattle.std.specs.Prelude.{◌≡◌, ℕ, Bool, true, false, List, Result, Ok, Err}
+use Rattle.run_words.specs.Jobs.{IsJob}
+use Rattle.run_words.specs.declared.jobs.Job.{Job}
+use Rattle.run_words.specs.declared.verbs.Verb.{Verb}
+use Rattle.run_words.specs.declared.verbs.Verb.TheVariants.{Check, Flat, Replay}
+use Rattle.altarica_run.specs.declared.jobs.Asked.{Asked}
+use Rattle.altarica_run.specs.declared.jobs.Task.{Task}
+use Rattle.altarica_run.specs.declared.jobs.Task.TheVariants as task
+use Rattle.altarica_run.specs.declared.refusals.Refusal.TheVariants.{Usage}
+use Rattle.altarica_run.specs.declared.stops.Stop.{Stop}
+use Rattle.altarica_run.specs.declared.stops.Stop.TheVariants.{Refused, Memory}
 
--- what is to be done, with the names of its files
-pub data Job : Type 0 where
-  Replay : (model script : List ℕ) → Job
+-- the commands that are built
+abbrev pub is_built : Verb → Bool
+is_built Check = true
+is_built Flat = true
+is_built Replay = true
+is_built _ = false
 
--- a word that begins with `-` is no file
-abbrev pub is_file : List ℕ → Bool
-is_file word = not (starts_with nat_eq word (codes "-"))
+-- the words give this job, whose command is built
+pub record IsBuiltJob (words : List (List ℕ)) (job : Job) : Type 0 where
+  pub is_job : IsJob words job
+  pub built : is_built job.command ≡ true
 
--- the words `replay`, a model and a script
-abbrev pub job_of : List (List ℕ) → Option Job
-job_of (command ∷ model ∷ script ∷ []) = if bytes_eq command (codes "replay") && is_file model && is_file script then Some (Replay model script) else None
-job_of words = None
+-- the words give no job whose command is built
+abbrev pub IsNoJob : List (List ℕ) → Type 0
+IsNoJob words = (job : Job) → IsBuiltJob words job → ⊥
 
--- the code's job is this one
-abbrev pub IsJob : Option code.Replay → Option Job → Type 0
-IsJob None meant = meant ≡ None
-IsJob (Some job) meant = meant ≡ Some (Replay job.model.now job.script.now)
+-- the command of a task
+abbrev pub verb_of : Task → Verb
+verb_of task.Check = Check
+verb_of task.Flat = Flat
+verb_of task.Replay = Replay
+
+-- what the reading of words answers: the job with its task, or that there is none, or want of memory
+abbrev pub AnswersJob : List (List ℕ) → Result Asked Stop → Type 0
+AnswersJob words (Ok a) = IsBuiltJob words a.job × (a.job.command ≡ verb_of a.task)
+AnswersJob words (Err (Refused r)) = (r ≡ Usage) × IsNoJob words
+AnswersJob words (Err Memory) = Unit {0}

@@ -1,15 +1,17 @@
--- The lines of refusals.
+-- The line and the status of each refusal.
 use Rattle.std.specs.Prelude.{ℕ, ◌++◌, List, codes, decimal}
 use Rattle.ar_base.specs.Counts.{limit_of}
+use Rattle.ar_base.specs.Texts.{line}
 use Rattle.ar_base.specs.declared.counts.Count.{Count}
 use Rattle.ar_base.specs.declared.counts.Count.TheVariants.{ModelBytes, ScriptBytes, Nesting, Depth, Units, Variables, Events, TreeNodes, Ways, WayParts, ExpressionNodes, Gates, CutLines}
-use Rattle.ar_base.specs.Texts.{line}
+use Rattle.ar_base.specs.declared.places.Place.{Place}
 use Rattle.altarica_run.specs.declared.refusals.FileKind.TheVariants.{Model, Script}
 use Rattle.altarica_run.specs.declared.refusals.Refusal.{Refusal}
-use Rattle.altarica_run.specs.declared.refusals.Refusal.TheVariants.{Usage, NotRead, Size, Syntax, NoCommand, NoEvent}
+use Rattle.altarica_run.specs.declared.refusals.Refusal.TheVariants.{Usage, NotRead, Size, Syntax, Rule, NoCommand, NeedsWay, NoEvent}
 use Rattle.altarica_run.specs.declared.status.Status.{Status}
 use Rattle.altarica_run.specs.declared.status.Status.TheVariants as status
 
+-- what is counted, as a line names it
 abbrev pub count_text : Count → List ℕ
 count_text ModelBytes = codes "model bytes"
 count_text ScriptBytes = codes "script bytes"
@@ -25,14 +27,20 @@ count_text ExpressionNodes = codes "expression nodes"
 count_text Gates = codes "gates"
 count_text CutLines = codes "cut lines"
 
+-- `LINE:COLUMN`
+abbrev pub place_text : Place → List ℕ
+place_text p = decimal p.line ++ (codes ":" ++ decimal p.column)
+
 -- the line that tells a refusal
 abbrev pub line_of : Refusal → List ℕ
 line_of Usage = line (codes "usage: altarica COMMAND FILES [--main B] [--observer O] [--value V] [--nodes N] [--drop EVENTS]")
 line_of (NotRead Model) = line (codes "read: model")
 line_of (NotRead Script) = line (codes "read: script")
 line_of (Size count) = line (codes "size: " ++ (count_text count ++ (codes " " ++ decimal (limit_of count))))
-line_of (Syntax place) = line (codes "syntax: " ++ (decimal place.line ++ (codes ":" ++ decimal place.column)))
+line_of (Syntax place) = line (codes "syntax: " ++ place_text place)
+line_of (Rule rule place) = line (codes "rule: L" ++ (decimal rule ++ (codes " at " ++ place_text place)))
 line_of (NoCommand n) = line (codes "script: line " ++ (decimal n ++ codes " is no command"))
+line_of (NeedsWay n) = line (codes "script: line " ++ (decimal n ++ codes " needs a way"))
 line_of (NoEvent n) = line (codes "script: line " ++ (decimal n ++ codes " names no event"))
 
 -- the status of a refusal
@@ -41,5 +49,7 @@ status_of Usage = status.Usage
 status_of (NotRead file) = status.Read
 status_of (Size count) = status.Size
 status_of (Syntax place) = status.Syntax
+status_of (Rule rule place) = status.Rule
 status_of (NoCommand n) = status.Script
+status_of (NeedsWay n) = status.Script
 status_of (NoEvent n) = status.Script

@@ -1,58 +1,59 @@
--- What the stages of a job answer.
-use Rattle.std.specs.Prelude.{◌≡◌, ◌<◌, ◌^◌, ◌⊎◌, ℕ, List, Some, Result, Ok, Err, Vec, map, length}
-use Rattle.std.specs.Global.{Global}
-use Rattle.ar_base.specs.Counts.{limit_of}
-use Rattle.ar_base.specs.declared.counts.Count.{Count}
-use Rattle.ar_io.specs.Outside.{Told, MayBeLonger, IsFile, Rose}
-use Rattle.altarica_run.specs.Small.{Block}
-use Rattle.altarica_run.specs.Sound.{IsSound, names_of}
-use Rattle.altarica_run.specs.Binding.{IsBound, AreTexts}
-use Rattle.altarica_run.specs.Reads.{fire_of}
-use Rattle.altarica_run.specs.Jobs.{Replay}
-use Rattle.altarica_run.specs.Played.{AreFirable}
-use Rattle.altarica_run.specs.Says.{Elaborates, Commands, Prepares, Loads}
-use Rattle.altarica_run.specs.declared.binding.BlockSystem.{BlockSystem}
-use Rattle.altarica_run.specs.declared.refusals.FileKind.{FileKind}
-use Rattle.altarica_run.specs.declared.refusals.Refusal.TheVariants.{NotRead, Size}
-use Rattle.altarica_run.specs.declared.stages.Stop.{Stop}
-use Rattle.altarica_run.specs.declared.stages.Stop.TheVariants.{Refused, Memory}
-use Rattle.altarica_run.specs.declared.stages.Prepared.{Prepared}
+-- The stages of a job, from its files to what stands ready for its command. The first stage that refuses decides.
+use Rattle.std.specs.Prelude.{◌≡◌, ℕ, Bool, true, false, List, [], ◌∷◌, Result, Ok, Err}
+use Rattle.ar_base.specs.Stages.{Then, Where}
+use Rattle.ar_io.specs.Outside.{Told}
+use Rattle.ar_meaning.specs.Runs.{Command}
+use Rattle.gts_flatten.specs.Elaborating.{Elaborated}
+use Rattle.replayer.specs.Scripts.{BadLine, Commands, Why, IsNoCommand, LacksWay, NamesNoEvent}
+use Rattle.run_words.specs.declared.jobs.Job.{Job}
+use Rattle.run_words.specs.declared.verbs.Verb.{Verb}
+use Rattle.run_words.specs.declared.verbs.Verb.TheVariants.{Replay}
+use Rattle.altarica_run.specs.Elaborates.{Elaborates}
+use Rattle.altarica_run.specs.Files.{files_of, Loaded, IsText}
+use Rattle.altarica_run.specs.declared.refusals.Refusal.{Refusal}
+use Rattle.altarica_run.specs.declared.refusals.Refusal.TheVariants.{NoCommand, NeedsWay, NoEvent}
 
--- a load gives the file, or its count rose, or the file is too long
-abbrev pub IsLoaded : Told → FileKind → Count → ℕ → ℕ → Result (Vec ℕ Global) Stop → Type 0
-IsLoaded told kind count old new (Ok bytes) = IsFile told (limit_of count) bytes.items
-IsLoaded told kind count old new (Err (Refused r)) = ((r ≡ NotRead kind) × Rose old new) ⊎ ((r ≡ Size count) × MayBeLonger told (limit_of count))
-IsLoaded told kind count old new (Err Memory) = Unit {0}
+-- what stands ready: the source's system over paths with its names, and the commands of the script
+pub record Ready : Type 0 where
+  pub source : Elaborated
+  pub commands : List Command
 
--- the system is that of a sound block
-pub record IsSystem (b : Block) (s : BlockSystem) : Type 0 where
-  pub sound : IsSound b
-  pub bound : IsBound b s
-  pub small : length s.names < 2 ^ 32
+-- the system alone
+abbrev pub bare : Elaborated → Ready
+bare x = record { source = x; commands = [] }
 
--- why a text is no block
-abbrev pub IsStopped : List ℕ → Stop → Type 0
-IsStopped text (Refused r) = Elaborates text (Err r)
-IsStopped text Memory = Unit {0}
+-- The script
 
--- the system of the block that the text is, or why it is none
-abbrev pub IsElaborated : List ℕ → Result BlockSystem Stop → Type 0
-IsElaborated text (Ok s) = (b : Block) × Elaborates text (Ok b) × AreTexts (names_of b) × IsSystem b s
-IsElaborated text (Err stop) = IsStopped text stop
+-- the command reads a script
+abbrev pub has_script : Verb → Bool
+has_script Replay = true
+has_script _ = false
 
--- why a script gives no commands
-abbrev pub IsRefusedScript : Block → List ℕ → Stop → Type 0
-IsRefusedScript b script (Refused r) = Commands b script (Err r)
-IsRefusedScript b script Memory = Unit {0}
+-- the refusal of a line of the script
+abbrev pub line_refused : Why → ℕ → Refusal
+line_refused IsNoCommand n = NoCommand n
+line_refused LacksWay n = NeedsWay n
+line_refused NamesNoEvent n = NoEvent n
 
--- the events that a script fires
-abbrev pub IsGiven : Block → List ℕ → Result (Vec ℕ Global) Stop → Type 0
-IsGiven b script (Ok events) = Commands b script (Ok (map fire_of events.items)) × AreFirable b events.items
-IsGiven b script (Err stop) = IsRefusedScript b script stop
+-- the commands of the second file, or its first bad line
+pub data Scripted (texts : List (List ℕ)) (w : Ready) : Result Ready Refusal → Type 0 where
+  gives : {model script : List ℕ} {cs : List Command} → texts ≡ model ∷ script ∷ [] → Commands script w.source (Ok cs)
+      → Scripted texts w (Ok (record w { commands = cs }))
+  bad : {model script : List ℕ} {l : BadLine} → texts ≡ model ∷ script ∷ [] → Commands script w.source (Err l)
+      → Scripted texts w (Err (line_refused l.why l.number))
 
--- what a replay needs, or the first refusal, or a file that was not read
-abbrev pub IsPrepared : (List ℕ → Told) → (List ℕ → Type 0) → List ℕ → List ℕ → Result Prepared Stop → Type 0
-IsPrepared files rose model script (Ok p) = (b : Block) × Prepares (files model) (files script) (Ok (b, map fire_of p.commands.items)) × IsSystem b p.system × AreFirable b p.commands.items
-IsPrepared files rose model script (Err (Refused r)) =
-    Prepares (files model) (files script) (Err r) ⊎ ((kind : FileKind) × (name : List ℕ) × (r ≡ NotRead kind) × Loads files (Some (Replay model script)) kind name × rose name)
-IsPrepared files rose model script (Err Memory) = Unit {0}
+-- what the command asks of the system
+abbrev pub Asks : Verb → List (List ℕ) → Elaborated → Result Ready Refusal → Type 0
+Asks verb texts x = Where (has_script verb) (Scripted texts) (bare x)
+
+-- The stages
+
+-- from the model's text on, where the job's files have these texts
+abbrev pub Stages : Job → List (List ℕ) → List ℕ → Result Ready Refusal → Type 0
+Stages job texts = Then (Elaborates job.main) (Asks job.command texts)
+
+-- what stands ready once all stages of the job are passed, or the first refusal
+pub data Passes (files : List ℕ → Told) (job : Job) : Result Ready Refusal → Type 0 where
+  not_loaded : {r : Refusal} → Loaded files (files_of job) (Err r) → Passes files job (Err r)
+  loaded : {x : Result Ready Refusal} {text : List ℕ} (texts : List (List ℕ)) → Loaded files (files_of job) (Ok texts) → IsText texts text
+      → Stages job texts text x → Passes files job x

@@ -1,5 +1,15 @@
--- The exit status of each way to end.
-use Rattle.std.specs.Prelude.{ℕ}
+-- The exit status of each way to end, and what each means.
+use Rattle.std.specs.Prelude.{◌≡◌, ℕ, List, Ok, Err}
+use Rattle.run_words.specs.declared.jobs.Job.{Job}
+use Rattle.altarica_run.specs.Files.{files_of, Loads}
+use Rattle.altarica_run.specs.Follows.{Call, RoseAt, SinkRose, Wrote}
+use Rattle.altarica_run.specs.Jobs.{IsBuiltJob, IsNoJob}
+use Rattle.altarica_run.specs.Refusals.{line_of, status_of}
+use Rattle.altarica_run.specs.Stages.{Ready, Passes}
+use Rattle.altarica_run.specs.Tells.{Tells}
+use Rattle.altarica_run.specs.declared.refusals.FileKind.{FileKind}
+use Rattle.altarica_run.specs.declared.refusals.Refusal.{Refusal}
+use Rattle.altarica_run.specs.declared.refusals.Refusal.TheVariants as refusal
 use Rattle.altarica_run.specs.declared.status.Status.{Status}
 use Rattle.altarica_run.specs.declared.status.Status.TheVariants.{Done, Usage, Syntax, Rule, Outside, Fault, Nodes, Read, Write, Memory, Size, Script}
 
@@ -16,3 +26,47 @@ number_of Write = 8
 number_of Memory = 9
 number_of Size = 10
 number_of Script = 11
+
+-- all stages of the job are passed, and its whole text was written
+pub record IsTold (c : Call) (status : Status) : Type 0 where
+  pub job : Job
+  pub is_job : IsBuiltJob c.words job
+  pub ready : Ready
+  pub passes : Passes c.files job (Ok ready)
+  pub text : List ℕ
+  pub tells : Tells job ready text status
+  pub wrote : Wrote c text
+
+-- a stage of the job refuses, its line was written, and the status is its own
+pub record IsRefused (c : Call) (status : Status) : Type 0 where
+  pub job : Job
+  pub is_job : IsBuiltJob c.words job
+  pub refusal : Refusal
+  pub stage : Passes c.files job (Err refusal)
+  pub is_status : status ≡ status_of refusal
+  pub wrote : Wrote c (line_of refusal)
+
+-- a file was to be loaded, its own count of faults rose, and the line that says so was written
+pub record IsNotRead (c : Call) : Type 0 where
+  pub job : Job
+  pub is_job : IsBuiltJob c.words job
+  pub kind : FileKind
+  pub name : List ℕ
+  pub loads : Loads c.files (files_of job) kind name
+  pub rose : RoseAt c name
+  pub wrote : Wrote c (line_of (refusal.NotRead kind))
+
+-- what each status means
+abbrev pub Meaning_of : Call → Status → Type 0
+Meaning_of c Done = IsTold c Done
+Meaning_of c Usage = IsNoJob c.words × Wrote c (line_of refusal.Usage)
+Meaning_of c Syntax = IsRefused c Syntax
+Meaning_of c Rule = IsRefused c Rule
+Meaning_of c Outside = ⊥
+Meaning_of c Fault = IsTold c Fault
+Meaning_of c Nodes = ⊥
+Meaning_of c Read = IsNotRead c
+Meaning_of c Write = SinkRose c
+Meaning_of c Memory = Unit {0}
+Meaning_of c Size = IsRefused c Size
+Meaning_of c Script = IsRefused c Script

@@ -1,38 +1,59 @@
-// What the words ask for.
+//! The job of the words.
 
-ghost use Rattle.std.specs.Prelude.{◌≡◌, map, IfSome, IfNone, MatchOption, Some, None};
-ghost use Rattle.std.specs.String.{string_bytes};
-ghost use Rattle.altarica_run.specs.Jobs.{job_of, is_file, IsJob};
+ghost use Rattle.std.specs.Prelude.{◌≡◌, false, MatchOption};
+ghost use Rattle.ar_base.specs.Texts.{bytes_of_all};
+ghost use Rattle.altarica_run.specs.Jobs.{AnswersJob, is_built, verb_of};
 
-/// A replay of a script on a model.
-#[derive(Clone, Copy)]
-pub struct Replay<'a> {
-    /// The name of the model's file.
-    pub model: &'a str,
-    /// The name of the script's file.
-    pub script: &'a str,
+use crate::refusals::Refusal;
+use crate::stops::Stop;
+use run_words::laws::one_job;
+use run_words::{Job, Verb, read_job};
+use std::alloc::Global;
+
+/// A command that is built.
+#[derive(Clone, Copy, Debug, PartialEq, Eq)]
+pub enum Task {
+    /// Says how much the model has.
+    Check,
+    /// Writes the flat system.
+    Flat,
+    /// Writes the trace of a script.
+    Replay,
 }
 
-// Whether a word names a file.
-fn is_file(word: &str) -> bool
-    ensures { result ≡ is_file word.now }
-{
-    !word.as_bytes().starts_with(b"-")
+/// A job with its task.
+#[derive(Drop)]
+pub struct Asked {
+    /// The job.
+    pub job: Job,
+    /// What its command does.
+    pub task: Task,
 }
 
-/// The job of the words after the program's name, or None exactly where they give none.
-pub fn job_of(words: &[String]) -> Option<Replay<'_>>
-    ensures { IsJob result (job_of (map string_bytes words.now)) }
+/// The job of the words behind the program's name. Words that ask for a command that is not built
+/// are refused as words that give no job.
+pub fn job_of(alloc: Global, words: &[String]) -> Result<Asked, Stop>
+    ensures { AnswersJob (bytes_of_all words.now) result }
 {
-    let [command, model, script] = words else {
-        return None;
-    };
-    if command.as_str() == "replay" && is_file(model.as_str()) && is_file(script.as_str()) {
-        Some(Replay {
-            model: model.as_str(),
-            script: script.as_str(),
-        })
-    } else {
-        None
+    let job = read_job(alloc, words)?;
+    match task_of(job.command) {
+        Some(task) => Ok(Asked { job, task }),
+        None => {
+            // The words give no other job.
+            one_job();
+            Err(Stop::Refused(Refusal::Usage))
+        }
+    }
+}
+
+// What a command does, where it is built.
+fn task_of(command: Verb) -> Option<Task>
+    ensures { MatchOption result (is_built command ≡ false) (λ task. command ≡ verb_of task) }
+{
+    match command {
+        Verb::Check => Some(Task::Check),
+        Verb::Flat => Some(Task::Flat),
+        Verb::Replay => Some(Task::Replay),
+        _ => None,
     }
 }

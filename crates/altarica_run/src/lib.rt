@@ -1,20 +1,20 @@
 //! The program's one call: the job of the words, over a shelf of files and a sink for the text.
+//!
+//! The stages are joined here: the words, the files, the grammar, the table, the units, the bound
+//! forms, the flat system and the script, and then the text of the command.
 #![tactic(auto)]
 
-mod binding;
 pub mod following;
 mod jobs;
 pub mod laws;
+mod loading;
+mod pieces;
 mod program;
-mod reading;
 mod refusals;
-mod replaying;
-mod scripts;
 mod stages;
 mod status;
-mod stepping;
-mod trace;
-mod tree;
+mod stops;
+mod telling;
 
 pub use program::altarica;
 pub use status::Status;

@@ -1,12 +1,14 @@
-// Why a job does not run.
+//! Why a job is refused, and the line that says so.
 
-ghost use Rattle.std.specs.Prelude.{◌≡◌, IfOk};
-ghost use Rattle.std.specs.String.{string_bytes};
-ghost use Rattle.altarica_run.specs.Refusals.{count_text, line_of, status_of};
+ghost use Rattle.std.specs.Prelude.{◌≡◌, ◌++◌, codes, decimal};
+ghost use Rattle.ar_base.specs.Texts.{line};
+ghost use Rattle.ar_io.specs.Writing.{Writes};
+ghost use Rattle.altarica_run.specs.Refusals.{count_text, place_text, line_of, status_of};
 
+use crate::pieces::{put, put_number};
 use crate::status::Status;
 use ar_base::{Count, Place};
-use std::alloc::{AllocError, Global};
+use ar_io::{Sink, SinkFailed};
 
 /// A file of a job.
 #[derive(Clone, Copy, Debug, PartialEq, Eq)]
@@ -17,7 +19,7 @@ pub enum FileKind {
     Script,
 }
 
-/// Why a job does not run.
+/// Why a job is refused.
 #[derive(Clone, Copy, Debug, PartialEq, Eq)]
 pub enum Refusal {
     /// The words are no job.
@@ -28,15 +30,71 @@ pub enum Refusal {
     Size(Count),
     /// The model has no reading, as shows at the place.
     Syntax(Place),
+    /// The model breaks the rule of this number at the place.
+    Rule(u8, Place),
     /// The line of the script, from 1, is no command.
     NoCommand(u32),
+    /// The line of the script, from 1, names an event with several ways and not which.
+    NeedsWay(u32),
     /// The line of the script, from 1, names no event.
     NoEvent(u32),
 }
 
-/// The usage line.
-pub const USAGE: &str =
+// The usage line.
+const USAGE: &str =
     "usage: altarica COMMAND FILES [--main B] [--observer O] [--value V] [--nodes N] [--drop EVENTS]\n";
+
+impl Refusal {
+    /// The status with which the refusal ends a job.
+    pub fn status(self) -> Status
+        ensures { result ≡ status_of self }
+    {
+        match self {
+            Refusal::Usage => Status::Usage,
+            Refusal::NotRead(_) => Status::Read,
+            Refusal::Size(_) => Status::Size,
+            Refusal::Syntax(_) => Status::Syntax,
+            Refusal::Rule(_, _) => Status::Rule,
+            Refusal::NoCommand(_) | Refusal::NeedsWay(_) | Refusal::NoEvent(_) => Status::Script,
+        }
+    }
+
+    /// Writes the line that tells it. Takes no memory.
+    pub fn put<K: Sink>(self, out: &mut K) -> Result<(), SinkFailed>
+        ensures { Writes (K.state out.old) (K.state out.new) (line_of self) result }
+    {
+        match self {
+            Refusal::Usage => put(out, USAGE),
+            Refusal::NotRead(kind) => put(out, not_read_line(kind)),
+            Refusal::Size(count) => put_size(out, count),
+            Refusal::Syntax(place) => put_syntax(out, place),
+            Refusal::Rule(rule, place) => put_rule(out, rule, place),
+            Refusal::NoCommand(number) => put_script_line(out, number, " is no command"),
+            Refusal::NeedsWay(number) => put_script_line(out, number, " needs a way"),
+            Refusal::NoEvent(number) => put_script_line(out, number, " names no event"),
+        }
+    }
+}
+
+// The line of a file that was not read.
+fn not_read_line(kind: FileKind) -> &'static str
+    ensures { result.now ≡ line_of (Refusal.NotRead kind) }
+{
+    match kind {
+        FileKind::Model => "read: model\n",
+        FileKind::Script => "read: script\n",
+    }
+}
+
+// Writes a place, and the end of the line.
+fn put_place<K: Sink>(out: &mut K, place: Place) -> Result<(), SinkFailed>
+    ensures { Writes (K.state out.old) (K.state out.new) (line (place_text place)) result }
+{
+    put_number(out, place.line)?;
+    put(out, ":")?;
+    put_number(out, place.column)?;
+    put(out, "\n")
+}
 
 // What is counted, as a line names it.
 fn count_text(count: Count) -> &'static str
@@ -59,85 +117,41 @@ fn count_text(count: Count) -> &'static str
     }
 }
 
-fn size_line(alloc: Global, count: Count) -> Result<String, AllocError>
-    ensures { IfOk result (λ text. string_bytes text ≡ line_of (Refusal.Size count)) }
+// Writes that a count passes its limit.
+fn put_size<K: Sink>(out: &mut K, count: Count) -> Result<(), SinkFailed>
+    ensures { Writes (K.state out.old) (K.state out.new) (line_of (Refusal.Size count)) result }
 {
-    let limit = count.limit();
-    let digits = format!(in alloc; "{limit}")?;
-    let mut text = String::from_str(alloc, "size: ")?;
-    text.push_str(count_text(count))?;
-    text.push_str(" ")?;
-    text.push_str(&digits)?;
-    text.push_str("\n")?;
-    Ok(text)
+    put(out, "size: ")?;
+    put(out, count_text(count))?;
+    put(out, " ")?;
+    put_number(out, count.limit())?;
+    put(out, "\n")
 }
 
-fn syntax_line(alloc: Global, place: Place) -> Result<String, AllocError>
-    ensures { IfOk result (λ text. string_bytes text ≡ line_of (Refusal.Syntax place)) }
+// Writes where the model has no reading.
+fn put_syntax<K: Sink>(out: &mut K, place: Place) -> Result<(), SinkFailed>
+    ensures { Writes (K.state out.old) (K.state out.new) (line_of (Refusal.Syntax place)) result }
 {
-    let line = place.line;
-    let column = place.column;
-    let line = format!(in alloc; "{line}")?;
-    let column = format!(in alloc; "{column}")?;
-    let mut text = String::from_str(alloc, "syntax: ")?;
-    text.push_str(&line)?;
-    text.push_str(":")?;
-    text.push_str(&column)?;
-    text.push_str("\n")?;
-    Ok(text)
+    put(out, "syntax: ")?;
+    put_place(out, place)
 }
 
-fn command_line(alloc: Global, number: u32) -> Result<String, AllocError>
-    ensures { IfOk result (λ text. string_bytes text ≡ line_of (Refusal.NoCommand number)) }
+// Writes that the model breaks a rule.
+fn put_rule<K: Sink>(out: &mut K, rule: u8, place: Place) -> Result<(), SinkFailed>
+    ensures { Writes (K.state out.old) (K.state out.new) (line_of (Refusal.Rule rule place)) result }
 {
-    let digits = format!(in alloc; "{number}")?;
-    let mut text = String::from_str(alloc, "script: line ")?;
-    text.push_str(&digits)?;
-    text.push_str(" is no command")?;
-    text.push_str("\n")?;
-    Ok(text)
+    put(out, "rule: L")?;
+    put_number(out, u32::from(rule))?;
+    put(out, " at ")?;
+    put_place(out, place)
 }
 
-fn event_line(alloc: Global, number: u32) -> Result<String, AllocError>
-    ensures { IfOk result (λ text. string_bytes text ≡ line_of (Refusal.NoEvent number)) }
+// Writes what is wrong with a line of the script.
+fn put_script_line<K: Sink>(out: &mut K, number: u32, wrong: &str) -> Result<(), SinkFailed>
+    ensures { Writes (K.state out.old) (K.state out.new) (line (codes "script: line " ++ (decimal number ++ wrong.now))) result }
 {
-    let digits = format!(in alloc; "{number}")?;
-    let mut text = String::from_str(alloc, "script: line ")?;
-    text.push_str(&digits)?;
-    text.push_str(" names no event")?;
-    text.push_str("\n")?;
-    Ok(text)
-}
-
-impl Refusal {
-    /// The status with which the refusal ends a job.
-    pub fn status(self) -> Status
-        ensures { result ≡ status_of self }
-    {
-        match self {
-            Refusal::Usage => Status::Usage,
-            Refusal::NotRead(_) => Status::Read,
-            Refusal::Size(_) => Status::Size,
-            Refusal::Syntax(_) => Status::Syntax,
-            Refusal::NoCommand(_) => Status::Script,
-            Refusal::NoEvent(_) => Status::Script,
-        }
-    }
-
-    /// The line that tells it.
-    pub fn line(self, alloc: Global) -> Result<String, AllocError>
-        ensures { IfOk result (λ text. string_bytes text ≡ line_of self) }
-    {
-        match self {
-            Refusal::Usage => String::from_str(alloc, USAGE),
-            Refusal::NotRead(kind) => match kind {
-                FileKind::Model => String::from_str(alloc, "read: model\n"),
-                FileKind::Script => String::from_str(alloc, "read: script\n"),
-            },
-            Refusal::Size(count) => size_line(alloc, count),
-            Refusal::Syntax(place) => syntax_line(alloc, place),
-            Refusal::NoCommand(number) => command_line(alloc, number),
-            Refusal::NoEvent(number) => event_line(alloc, number),
-        }
-    }
+    put(out, "script: line ")?;
+    put_number(out, number)?;
+    put(out, wrong)?;
+    put(out, "\n")
 }

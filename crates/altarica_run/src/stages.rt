@@ -1,175 +1,151 @@
-// The stages that a job passes before it runs.
+//! The stages of a job, one after the other, from its words to what stands ready for its text.
 
-ghost use Rattle.std.specs.Prelude.{◌≡◌, ◌≢◌, ◌+◌, ◌≤◌, ℕ, List, Some, length, slice_get};
+ghost use Rattle.std.specs.Prelude.{◌≡◌, ◌≤◌, ℕ, Option, length, option_map};
 ghost use Rattle.ar_base.specs.Counts.{limit_of};
-ghost use Rattle.ar_base.specs.declared.counts.Count.TheVariants.{ModelBytes, ScriptBytes};
+ghost use Rattle.ar_base.specs.Stages.{Meets};
+ghost use Rattle.ar_base.specs.Texts.{bytes_of_all};
+ghost use Rattle.ar_base.specs.declared.counts.Count.TheVariants.{ModelBytes};
 ghost use Rattle.ar_io.specs.Outside.{Rose};
-ghost use Rattle.ar_lexer.specs.Tokens.{AreTokens, IsFirstFault};
-ghost use Rattle.altarica_run.specs.Words.{words};
-ghost use Rattle.altarica_run.specs.Small.{Block};
-ghost use Rattle.altarica_run.specs.Reading.{Refuses, block_at};
-ghost use Rattle.altarica_run.specs.Sound.{IsSound, names_of};
-ghost use Rattle.altarica_run.specs.Binding.{IsBound, AreTexts};
-ghost use Rattle.altarica_run.specs.Scripts.{lines_of};
-ghost use Rattle.altarica_run.specs.Reads.{IsBadScript};
-ghost use Rattle.altarica_run.specs.Says.{IsPlaceIn};
-ghost use Rattle.altarica_run.specs.Stages.{IsLoaded, IsStopped, IsElaborated, IsGiven, IsRefusedScript, IsPrepared};
+ghost use Rattle.hierarchy.specs.Models.{IsKeptTable};
+ghost use Rattle.gts_flatten.specs.Elaborating.{Elaborated};
+ghost use Rattle.altarica_run.specs.Elaborates.{Parses, Tables, Systems, Elaborates};
+ghost use Rattle.altarica_run.specs.Jobs.{verb_of};
+ghost use Rattle.altarica_run.specs.Loading.{texts_of};
+ghost use Rattle.altarica_run.specs.Passing.{IsStageOf, IsFlattened, AreCommands, ReadsScript, IsShort, IsThere, IsReady, AnswersWords};
+ghost use Rattle.altarica_run.specs.Stages.{Stages, has_script};
 
-use crate::binding::{BlockSystem, NoSystem, bind};
-use crate::reading::{NoTree, block};
-use crate::refusals::{FileKind, Refusal};
-use crate::scripts::{ScriptFault, read_script};
-use ar_base::{Count, Place};
-use ar_io::{LoadFault, Shelf};
-use ar_lexer::{LexFault, Token, tokens};
+use crate::jobs::{Asked, Task, job_of};
+use crate::loading::{Texts, load_all};
+use crate::stops::Stop;
+use ar_base::{RuleFault, Text};
+use ar_io::Shelf;
+use ar_parser::parse;
+use ar_syntax::Model;
+use bind_names::bind;
+use class_table::{Classes, one_declared, table};
+use gts_core::Gts;
+use gts_flatten::flatten;
+use hierarchy::Tree;
+use hierarchy::laws::tables_are_rooted;
+use instantiate::instantiate;
+use replayer::{Command, read_script};
 use std::alloc::Global;
 
-/// A refusal, or want of memory.
-#[derive(Clone, Copy, Debug, PartialEq, Eq)]
-pub enum Stop {
-    /// The job is refused.
-    Refused(Refusal),
-    /// Memory was refused.
-    Memory,
-}
-
-/// What a replay needs.
+/// What stands ready for the text of a job.
 #[derive(Drop)]
 pub struct Prepared {
-    /// The model's system.
-    pub system: BlockSystem,
-    /// The events that the script fires.
-    pub commands: Vec<u32>,
+    /// What the command does.
+    pub task: Task,
+    /// The model's flat system.
+    pub system: Gts,
+    /// The commands of the script; none where the job has no script.
+    pub commands: Vec<Command>,
 }
 
-// Loads a file of a job.
-fn load<H: Shelf>(
+/// The tree of a model's main block, and its flat system.
+#[derive(Drop)]
+pub struct Flattened {
+    /// The tree.
+    pub tree: Tree,
+    /// The flat system.
+    pub system: Gts,
+}
+
+/// Passes the stages of the job of the words.
+pub fn prepare<H: Shelf>(alloc: Global, words: &[String], shelf: &mut H) -> Result<Prepared, Stop>
+    ensures { AnswersWords (H.holds shelf.old) (λ name. Rose (H.faults shelf.old name) (H.faults shelf.new name))
+        (bytes_of_all words.now) result }
+{
+    let asked = job_of(alloc, words)?;
+    let texts = load_all(alloc, shelf, &asked.job)?;
+    pass(alloc, &asked, texts)
+}
+
+// Passes the stages behind the files.
+fn pass(alloc: Global, asked: &Asked, texts: Texts) -> Result<Prepared, Stop>
+    requires command { asked.now.job.command ≡ verb_of asked.now.task }
+    requires model { length texts.model.items ≤ limit_of ModelBytes }
+    requires script { IsShort texts.script }
+    requires there { IsThere (has_script asked.now.job.command) texts.script }
+    ensures { IsStageOf (IsReady asked.now.job) (Stages asked.now.job (texts_of texts) texts.model.items) result }
+{
+    let Texts { model, script } = texts;
+    let flattened = elaborate(alloc, model, &asked.job.main)?;
+    let commands = commands_of(alloc, &flattened, &script)?;
+    Ok(Prepared {
+        task: asked.task,
+        system: flattened.system,
+        commands,
+    })
+}
+
+// The system that the text means from the main block of this name, else from the last.
+fn elaborate(alloc: Global, text: Vec<u8>, main: &Option<Text>) -> Result<Flattened, Stop>
+    requires { length text.items ≤ limit_of ModelBytes }
+    ensures { IsStageOf IsFlattened (Elaborates main.now text.items) result }
+{
+    let model = model_of(alloc, text)?;
+    let flattened = system_of(alloc, model, main)?;
+    Ok(flattened)
+}
+
+// The tree of the text, which is let go.
+fn model_of(alloc: Global, text: Vec<u8>) -> Result<Model, Stop>
+    requires { length text.items ≤ limit_of ModelBytes }
+    ensures { IsStageOf (λ m model. model ≡ m) (Parses text.items) result }
+{
+    let model = parse(alloc, &text)?;
+    Ok(model)
+}
+
+// The system that the model means.
+fn system_of(alloc: Global, model: Model, main: &Option<Text>) -> Result<Flattened, RuleFault>
+    ensures { Meets (Systems main.now) IsFlattened model result }
+{
+    let classes = classes_of(alloc, model, main)?;
+    let tree = instantiate(alloc, classes)?;
+    let bound = bind(alloc, &tree)?;
+    let system = flatten(alloc, &bound)?;
+    Ok(Flattened { tree, system })
+}
+
+// The table of the model, seen from its main block.
+fn classes_of(alloc: Global, model: Model, main: &Option<Text>) -> Result<Classes, RuleFault>
+    ensures { Meets (Tables main.now) IsKeptTable model result }
+{
+    // What a model declares is one thing, and its table keeps the model as it is seen from there.
+    one_declared();
+    tables_are_rooted();
+    let classes = table(alloc, model, word_of(main))?;
+    Ok(classes)
+}
+
+// The word of an option.
+fn word_of(text: &Option<Text>) -> Option<&str>
+    ensures { option_map (λ t. t.now) result ≡ text.now }
+{
+    match text {
+        Some(text) => Some(text.as_str()),
+        None => None,
+    }
+}
+
+// The commands of the script, where there is one.
+fn commands_of(
     alloc: Global,
-    shelf: &mut H,
-    name: &str,
-    kind: FileKind,
-    count: Count,
-) -> Result<Vec<u8>, Stop>
-    ensures loaded { IsLoaded (H.holds shelf.old name.now) kind count (H.faults shelf.old name.now) (H.faults shelf.new name.now) result }
-    ensures keeps { (other : List ℕ) → H.holds shelf.new other ≡ H.holds shelf.old other }
-    ensures rises { (other : List ℕ) → H.faults shelf.old other ≤ H.faults shelf.new other }
+    flattened: &Flattened,
+    script: &Option<Vec<u8>>,
+) -> Result<Vec<Command>, Stop>
+    requires source { (x : Elaborated) × IsFlattened x flattened.now }
+    requires short { IsShort script.now }
+    ensures { (x : Elaborated) → IsFlattened x flattened.now
+        → IsStageOf (AreCommands flattened.now.system) (ReadsScript script.now x) result }
 {
-    match shelf.load(alloc, name, count.limit() as usize) {
-        Ok(bytes) => Ok(bytes),
-        Err(LoadFault::Failed) => Err(Stop::Refused(Refusal::NotRead(kind))),
-        Err(LoadFault::TooLong) => Err(Stop::Refused(Refusal::Size(count))),
-        Err(LoadFault::Memory) => Err(Stop::Memory),
+    match script {
+        Some(bytes) => {
+            let commands = read_script(alloc, &flattened.tree, &flattened.system, bytes)?;
+            Ok(commands)
+        }
+        None => Ok(Vec::new(alloc)),
     }
-}
-
-// The token at a place of the list.
-fn token_at(tokens: &[Token], at: usize) -> Option<Token>
-    ensures { result ≡ slice_get tokens.now at }
-{
-    tokens.get(at).copied()
-}
-
-// The place of the first of so many last tokens.
-fn place_before(tokens: &[Token], left: usize) -> Place
-    ensures { (text : List ℕ) → AreTokens text tokens.now → IsPlaceIn text result }
-{
-    match token_at(tokens, tokens.len().saturating_sub(left)) {
-        Some(token) => token.at,
-        None => Place { line: 1, column: 1 },
-    }
-}
-
-// Why a text without tokens is refused.
-fn no_tokens(fault: LexFault) -> Stop
-    ensures { (text : List ℕ) → (fault ≢ LexFault.Memory → IsFirstFault text fault) → IsStopped text result }
-{
-    match fault {
-        LexFault::Byte(place) => Stop::Refused(Refusal::Syntax(place)),
-        LexFault::OpenComment(place) => Stop::Refused(Refusal::Syntax(place)),
-        LexFault::Number(place) => Stop::Refused(Refusal::Syntax(place)),
-        LexFault::Memory => Stop::Memory,
-    }
-}
-
-// Why tokens without a reading are refused.
-fn no_tree(tokens: &[Token], fault: NoTree) -> Stop
-    ensures { (text : List ℕ) → AreTokens text tokens.now → Refuses fault (block_at (length tokens.now + 1) (words text tokens.now)) → IsStopped text result }
-{
-    match fault {
-        NoTree::NoReading(left) => Stop::Refused(Refusal::Syntax(place_before(tokens, left))),
-        NoTree::Memory => Stop::Memory,
-    }
-}
-
-// Why a block that means no system is refused.
-fn no_system(tokens: &[Token], fault: NoSystem) -> Stop
-    ensures { (text : List ℕ) (b : Block) → AreTokens text tokens.now → block_at (length tokens.now + 1) (words text tokens.now) ≡ Some b → (fault ≡ NoSystem.Unsound → IsSound b → ⊥) → IsStopped text result }
-{
-    match fault {
-        NoSystem::Unsound => Stop::Refused(Refusal::Syntax(place_before(tokens, 1))),
-        NoSystem::Memory => Stop::Memory,
-    }
-}
-
-// The system of the block that the tokens spell.
-fn system_of(alloc: Global, text: &[u8], tokens: &[Token]) -> Result<BlockSystem, Stop>
-    requires { AreTokens text.now tokens.now }
-    ensures { IsElaborated text.now result }
-{
-    match block(alloc, tokens) {
-        Ok(tree) => match bind(alloc, text, &tree) {
-            Ok(system) => Ok(system),
-            Err(fault) => Err(no_system(tokens, fault)),
-        },
-        Err(fault) => Err(no_tree(tokens, fault)),
-    }
-}
-
-// The system of the block that the text is.
-fn elaborate(alloc: Global, text: &[u8]) -> Result<BlockSystem, Stop>
-    requires { length text.now ≤ limit_of ModelBytes }
-    ensures { IsElaborated text.now result }
-{
-    match tokens(alloc, text) {
-        Ok(tokens) => system_of(alloc, text, &tokens),
-        Err(fault) => Err(no_tokens(fault)),
-    }
-}
-
-// The events of the script, or why it has none.
-fn commands_of(alloc: Global, system: &BlockSystem, script: &[u8]) -> Result<Vec<u32>, Stop>
-    requires { length script.now ≤ limit_of ScriptBytes }
-    ensures { (b : Block) → IsBound b system.now → AreTexts (names_of b) → IsGiven b script.now result }
-{
-    match read_script(alloc, system, script) {
-        Ok(commands) => Ok(commands),
-        Err(fault) => Err(no_commands(fault)),
-    }
-}
-
-// Why a script without commands is refused.
-fn no_commands(fault: ScriptFault) -> Stop
-    ensures { (b : Block) (script : List ℕ) → IsBadScript b (lines_of script) fault → IsRefusedScript b script result }
-{
-    match fault {
-        ScriptFault::NoCommand(line) => Stop::Refused(Refusal::NoCommand(line)),
-        ScriptFault::NoEvent(line) => Stop::Refused(Refusal::NoEvent(line)),
-        ScriptFault::Memory => Stop::Memory,
-    }
-}
-
-/// Passes the stages of a replay.
-pub fn prepare<H: Shelf>(
-    alloc: Global,
-    shelf: &mut H,
-    model: &str,
-    script: &str,
-) -> Result<Prepared, Stop>
-    ensures { IsPrepared (H.holds shelf.old) (λ name. Rose (H.faults shelf.old name) (H.faults shelf.new name)) model.now script.now result }
-{
-    let text = load(alloc, shelf, model, FileKind::Model, Count::ModelBytes)?;
-    let lines = load(alloc, shelf, script, FileKind::Script, Count::ScriptBytes)?;
-    let system = elaborate(alloc, &text)?;
-    let commands = commands_of(alloc, &system, &lines)?;
-    Ok(Prepared { system, commands })
 }

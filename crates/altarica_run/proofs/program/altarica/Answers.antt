@@ -1,8 +1,31 @@
-use Rattle.altarica_run.proofs.EndingLemmas.{usage_told, at_job}
+use Rattle.std.proofs.Common.{ℕ, List, Err, refl, subst}
+use Rattle.ar_base.specs.Texts.{bytes_of_all}
+use Rattle.ar_io.specs.Outside.{Rose}
+use Rattle.altarica_run.specs.Passing.{AnswersWords}
+use Rattle.altarica_run.specs.declared.stops.Stop.{Stop}
+use Rattle.altarica_run.proofs.EndLemmas.{job_told, refusal_told, memory_told}
 use Rattle.altarica_run.proofs.program.altarica.Goals as goal
 
-pub returns-in-Some : goal.returns-in-Some
-returns-in-Some g c = record { ends = at_job _ _ _ _ _ _ _ _ _ c.in-Some.ensures c.run_replay.ensures }
+pub tell-requires : goal.tell-requires
+tell-requires g c = c.in-Ok.ensures.is_ready.commands.firable
 
-pub returns-in-None : goal.returns-in-None
-returns-in-None g c = record { ends = at_job _ _ _ _ _ _ _ _ _ c.in-None.ensures (usage_told _ _ _ _ _ _ _ c.refuse.ensures) }
+pub returns-in-Ok : goal.returns-in-Ok
+returns-in-Ok g c =
+    let files = g.H.Shelf.holds c.args.shelf.now in
+    let rose : List ℕ → Type 0 = λ name. Rose (g.H.Shelf.faults c.args.shelf.now name) (g.H.Shelf.faults c.prepare.new.shelf name) in
+    let p = c.in-Ok.ensures in
+    record { ends = job_told files rose (bytes_of_all c.args.words.now) _ _ p.job p.ready p.is_job p.passes _ (c.tell.ensures p.job p.ready p.is_ready) }
+
+pub returns-in-Refused : goal.returns-in-Refused
+returns-in-Refused g c =
+    let files = g.H.Shelf.holds c.args.shelf.now in
+    let rose : List ℕ → Type 0 = λ name. Rose (g.H.Shelf.faults c.args.shelf.now name) (g.H.Shelf.faults c.prepare.new.shelf name) in
+    let words = bytes_of_all c.args.words.now in
+    let h = subst (λ (z : Stop). AnswersWords files rose words (Err z)) c.in-Refused.is c.in-Err.ensures in
+    record { ends = refusal_told files rose words _ _ c.in-Refused.refusal h _ c.refuse.ensures }
+
+pub returns-in-Memory : goal.returns-in-Memory
+returns-in-Memory g c =
+    let files = g.H.Shelf.holds c.args.shelf.now in
+    let rose : List ℕ → Type 0 = λ name. Rose (g.H.Shelf.faults c.args.shelf.now name) (g.H.Shelf.faults c.prepare.new.shelf name) in
+    record { ends = memory_told files rose (bytes_of_all c.args.words.now) _ _ refl }

@@ -1,10 +1,22 @@
-use Rattle.std.proofs.Common.{refl}
-use Rattle.altarica_run.specs.Says.{gives}
-use Rattle.altarica_run.proofs.StageLemmas.{all_firable}
+use Rattle.std.proofs.Common.{[]}
+use Rattle.std.proofs.lemmas.Result.{err_from_is_err_and}
+use Rattle.altarica_run.specs.Passing.{no_script}
+use Rattle.altarica_run.proofs.PassLemmas.{script_stops, script_given, no_commands}
 use Rattle.altarica_run.proofs.stages.commands_of.Goals as goal
 
-pub returns-in-Ok : goal.returns-in-Ok
-returns-in-Ok c = λ b bound texts. let h = c.in-Ok.ensures.commands b bound in (gives h, all_firable _ _ _ h refl)
+pub read_script-requires-clause-short : goal.read_script-requires-clause-short
+read_script-requires-clause-short c = rw c.deref.ensures.value (rw c.in-Some.is at c.requires.short)
 
-pub returns-in-Err : goal.returns-in-Err
-returns-in-Err c = λ b bound texts. c.no_commands.ensures b c.args.script.now (c.in-Err.ensures.bad b bound texts)
+pub returns-in_err-commands-in-Some : goal.returns-in_err-commands-in-Some
+returns-in_err-commands-in-Some c = λ x of.
+    let r = err_from_is_err_and c.from_residual.result c.from_residual.ensures.1 in
+    let h = rw c.deref.ensures.value at c.in_err-commands-in-Some.ensures x of in
+    rw c.in-Some.is (script_stops x c.args.flattened.now.system _ _ _ _ r.1 r.2 h)
+
+pub returns-in_ok-commands-in-Some : goal.returns-in_ok-commands-in-Some
+returns-in_ok-commands-in-Some c = λ x of.
+    let h = rw c.deref.ensures.value at c.in_ok-commands-in-Some.ensures x of in
+    rw c.in-Some.is (script_given x c.args.flattened.now.system _ _ h)
+
+pub returns-in-None : goal.returns-in-None
+returns-in-None c = λ x of. ([], no_script c.in-None.is, no_commands c.args.flattened.now.system _ c.new.ensures.items)

@@ -1,50 +1,47 @@
-use Rattle.std.proofs.Common.{Ok, map, subst}
+use Rattle.std.proofs.Common.{ℕ, List}
 use Rattle.std.proofs.lemmas.Result.{err_from_is_err_and}
+use Rattle.ar_base.specs.Texts.{bytes_of_all}
 use Rattle.ar_io.specs.Outside.{Rose}
-use Rattle.altarica_run.specs.Reads.{fire_of}
-use Rattle.altarica_run.specs.Says.{Elaborates, Commands}
-use Rattle.altarica_run.specs.Stages.{IsStopped, IsRefusedScript}
-use Rattle.ar_io.proofs.Writing.{rose_after}
-use Rattle.altarica_run.proofs.PrepareLemmas.{stop_model, stop_script, stop_text, stop_lines, all_passed, same_file}
+use Rattle.altarica_run.proofs.FileLemmas.{loaded_first, loaded_script}
+use Rattle.altarica_run.proofs.PassLemmas.{script_there, words_stop, files_stop, job_passed}
 use Rattle.altarica_run.proofs.stages.prepare.Goals as goal
 
-pub returns-in_err-text : goal.returns-in_err-text
-returns-in_err-text g c =
-    let p = err_from_is_err_and c.from_residual.result c.from_residual.ensures.1 in
-    stop_model (g.H.Shelf.holds c.args.shelf.now) (λ name. Rose (g.H.Shelf.faults c.args.shelf.now name) (g.H.Shelf.faults c.load.new.shelf name)) c.args.model.now c.args.script.now
-    _ _ _ _ _ p.1 p.2 (λ h. h) c.in_err-text.ensures.loaded
+pub returns-in_err-asked : goal.returns-in_err-asked
+returns-in_err-asked g c =
+    let r = err_from_is_err_and c.from_residual.result c.from_residual.ensures.1 in
+    let files = g.H.Shelf.holds c.args.shelf.now in
+    let rose : List ℕ → Type 0 = λ name. Rose (g.H.Shelf.faults c.args.shelf.now name) (g.H.Shelf.faults c.args.shelf.now name) in
+    words_stop files rose (bytes_of_all c.args.words.now) _ _ _ r.1 r.2 c.in_err-asked.ensures
 
-pub returns-in_err-lines : goal.returns-in_err-lines
-returns-in_err-lines g c =
-    let p = err_from_is_err_and c.from_residual-in_err-lines.result c.from_residual-in_err-lines.ensures.1 in
-    stop_script (g.H.Shelf.holds c.args.shelf.now) (λ name. Rose (g.H.Shelf.faults c.args.shelf.now name) (g.H.Shelf.faults c.load-2.new.shelf name)) c.args.model.now c.args.script.now
-    c.in_ok-text.text.items c.in_ok-text.ensures.loaded _ _ _ _ _ _ p.1 p.2 (c.in_ok-text.ensures.keeps c.args.script.now) (rose_after _ _ _ (c.in_ok-text.ensures.rises c.args.script.now)) c.in_err-lines.ensures.loaded
+pub returns-in_err-texts : goal.returns-in_err-texts
+returns-in_err-texts g c =
+    let r = err_from_is_err_and c.from_residual-in_err-texts.result c.from_residual-in_err-texts.ensures.1 in
+    let files = g.H.Shelf.holds c.args.shelf.now in
+    let rose : List ℕ → Type 0 = λ name. Rose (g.H.Shelf.faults c.args.shelf.now name) (g.H.Shelf.faults c.load_all.new.shelf name) in
+    files_stop files rose (bytes_of_all c.args.words.now) c.in_ok-asked.asked.job c.in_ok-asked.ensures.0 _ _ _ r.1 r.2 c.in_err-texts.ensures
 
-pub returns-in_err-system : goal.returns-in_err-system
-returns-in_err-system g c =
-    let p = err_from_is_err_and c.from_residual-in_err-system.result c.from_residual-in_err-system.ensures.1 in
-    stop_text (g.H.Shelf.holds c.args.shelf.now) (λ name. Rose (g.H.Shelf.faults c.args.shelf.now name) (g.H.Shelf.faults c.load-2.new.shelf name)) c.args.model.now c.args.script.now
-    c.in_ok-text.text.items c.in_ok-text.ensures.loaded c.in_ok-lines.lines.items (same_file _ _ _ _ (c.in_ok-text.ensures.keeps c.args.script.now) c.in_ok-lines.ensures.loaded) _ _ _ p.1 p.2
-    (subst (λ z. IsStopped z c.in_err-system.field-0.0) c.deref.ensures.value c.in_err-system.ensures)
+pub pass-requires-clause-command : goal.pass-requires-clause-command
+pass-requires-clause-command g c = c.in_ok-asked.ensures.1
 
-pub returns-in_err-commands : goal.returns-in_err-commands
-returns-in_err-commands g c =
-    let p = err_from_is_err_and c.from_residual-in_err-commands.result c.from_residual-in_err-commands.ensures.1 in
-    let s = c.in_ok-system.ensures in
-    stop_lines (g.H.Shelf.holds c.args.shelf.now) (λ name. Rose (g.H.Shelf.faults c.args.shelf.now name) (g.H.Shelf.faults c.load-2.new.shelf name)) c.args.model.now c.args.script.now
-    c.in_ok-text.text.items c.in_ok-text.ensures.loaded c.in_ok-lines.lines.items (same_file _ _ _ _ (c.in_ok-text.ensures.keeps c.args.script.now) c.in_ok-lines.ensures.loaded) s.0 _ _ _ p.1 p.2
-    (subst (λ z. Elaborates z (Ok s.0)) c.deref.ensures.value s.1)
-    (subst (λ z. IsRefusedScript s.0 z c.in_err-commands.field-0.0) c.deref-2.ensures.value (c.in_err-commands.ensures s.0 s.3.bound s.2))
+pub pass-requires-clause-model : goal.pass-requires-clause-model
+pass-requires-clause-model g c = (loaded_first _ _ _ _ _ c.in_ok-texts.ensures).0.short
+
+pub pass-requires-clause-script : goal.pass-requires-clause-script
+pass-requires-clause-script g c =
+    let files = g.H.Shelf.holds c.args.shelf.now in
+    let rest = (loaded_first files _ _ _ _ c.in_ok-texts.ensures).1 in
+    (loaded_script files c.in_ok-asked.asked.job.script c.in_ok-texts.texts.script rest).short
+
+pub pass-requires-clause-there : goal.pass-requires-clause-there
+pass-requires-clause-there g c =
+    let files = g.H.Shelf.holds c.args.shelf.now in
+    let rest = (loaded_first files _ _ _ _ c.in_ok-texts.ensures).1 in
+    let asked = c.in_ok-asked.asked in
+    script_there (bytes_of_all c.args.words.now) asked.job asked.task c.in_ok-texts.texts.script c.in_ok-asked.ensures.0 c.in_ok-asked.ensures.1
+    (loaded_script files asked.job.script c.in_ok-texts.texts.script rest)
 
 pub returns : goal.returns
 returns g c =
-    let s = c.in_ok-system.ensures in
-    let h = c.in_ok-commands.ensures s.0 s.3.bound s.2 in (
-      s.0,
-      all_passed (g.H.Shelf.holds c.args.shelf.now) (λ name. Rose (g.H.Shelf.faults c.args.shelf.now name) (g.H.Shelf.faults c.load-2.new.shelf name)) c.args.model.now c.args.script.now
-          c.in_ok-text.text.items c.in_ok-text.ensures.loaded c.in_ok-lines.lines.items (same_file _ _ _ _ (c.in_ok-text.ensures.keeps c.args.script.now) c.in_ok-lines.ensures.loaded) s.0 c.in_ok-commands.commands
-          (subst (λ z. Elaborates z (Ok s.0)) c.deref.ensures.value s.1)
-          (subst (λ z. Commands s.0 z (Ok (map fire_of c.in_ok-commands.commands.items))) c.deref-2.ensures.value h.0),
-      s.3,
-      h.1,
-    )
+    let files = g.H.Shelf.holds c.args.shelf.now in
+    let rose : List ℕ → Type 0 = λ name. Rose (g.H.Shelf.faults c.args.shelf.now name) (g.H.Shelf.faults c.load_all.new.shelf name) in
+    job_passed files rose (bytes_of_all c.args.words.now) c.in_ok-asked.asked.job c.in_ok-asked.ensures.0 c.in_ok-texts.texts c.in_ok-texts.ensures _ c.pass.ensures

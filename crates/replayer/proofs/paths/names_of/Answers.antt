@@ -9,7 +9,7 @@ loop-rest-init c = record { spelled = spelled_none _ _ _ (ap (λ (ns : List Name
 
 pub returns-in_default-find_bytes-clause-names : goal.returns-in_default-find_bytes-clause-names
 returns-in_default-find_bytes-clause-names c =
-    spelled_not c.args.path.now _ _ _ _ (left_piece _ _ _ _ c.in-Some.is c.first_piece.ensures) (c.in_default-find_bytes.ensures.none) c.loop-rest.invariant.spelled
+    spelled_not c.args.path.now _ _ _ _ (left_piece _ _ _ _ c.in-Some.is c.first_piece.ensures) (c.in_default-find_bytes.ensures.absent) c.loop-rest.invariant.spelled
 
 pub loop-rest-preserved : goal.loop-rest-preserved
 loop-rest-preserved c = record {

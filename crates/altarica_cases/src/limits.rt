@@ -1,0 +1,87 @@
+//! The limits of texts, of units and of flat systems, each at its number and one past it.
+
+use crate::made::{blocks_inside, instances, names, padded, way_parts, ways, wide};
+use crate::run_texts;
+use std::io;
+
+/// Runs a check of each text, and a replay of each script.
+pub(crate) fn run_limits(rt: &HostRuntime) -> io::Result<()> {
+    texts(rt)?;
+    units(rt)?;
+    things(rt)?;
+    nodes(rt)?;
+    flat_systems(rt)
+}
+
+// Runs a check of this text.
+fn check(rt: &HostRuntime, name: &str, text: &str) -> io::Result<()> {
+    run_texts(rt, name, text, None)
+}
+
+// The bytes of the model and of the script.
+fn texts(rt: &HostRuntime) -> io::Result<()> {
+    let block = "block B end";
+    for length in 4_194_304..4_194_306 {
+        check(rt, "model-bytes", padded(rt, block, length)?.as_str())?;
+    }
+    for length in 1_048_576..1_048_578 {
+        let script = padded(rt, "", length)?;
+        run_texts(rt, "script-bytes", block, Some(script.as_str()))?;
+    }
+    Ok(())
+}
+
+// The depth and the number of units.
+fn units(rt: &HostRuntime) -> io::Result<()> {
+    for count in 63..65 {
+        check(rt, "depth", blocks_inside(rt, count)?.as_str())?;
+    }
+    for count in 16_383..16_385 {
+        check(rt, "units", instances(rt, "", count, "")?.as_str())?;
+    }
+    Ok(())
+}
+
+// The numbers of variables and events.
+fn things(rt: &HostRuntime) -> io::Result<()> {
+    let variables = names(rt, "Boolean", " (init = true)")?;
+    for member in ["", "Boolean w (init = true); "] {
+        let text = instances(rt, variables.as_str(), 1_024, member)?;
+        check(rt, "variables", text.as_str())?;
+    }
+    let events = names(rt, "event", "")?;
+    for member in ["", "event w; "] {
+        check(
+            rt,
+            "events",
+            instances(rt, events.as_str(), 512, member)?.as_str(),
+        )?;
+    }
+    Ok(())
+}
+
+// The nodes of the tree: 71 units of 28,168 and one of 72.
+fn nodes(rt: &HostRuntime) -> io::Result<()> {
+    let parameter = wide(rt, "parameter", 28_166)?;
+    for member in ["", "event e; "] {
+        let text = instances(rt, parameter.as_str(), 71, member)?;
+        check(rt, "tree-nodes", text.as_str())?;
+    }
+    Ok(())
+}
+
+// The ways of an event, the parts of all ways, and the nodes of 1,000 observers of 1,000 nodes each.
+fn flat_systems(rt: &HostRuntime) -> io::Result<()> {
+    for count in 256..258 {
+        check(rt, "ways", ways(rt, count)?.as_str())?;
+    }
+    for member in ["", " event w; transition w: !e1;"] {
+        check(rt, "way-parts", way_parts(rt, member)?.as_str())?;
+    }
+    let observer = wide(rt, "observer", 999)?;
+    for member in ["", "observer Boolean z = true; "] {
+        let text = instances(rt, observer.as_str(), 1_000, member)?;
+        check(rt, "expression-nodes", text.as_str())?;
+    }
+    Ok(())
+}

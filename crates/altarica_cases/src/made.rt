@@ -1,0 +1,111 @@
+//! Long texts.
+
+use std::alloc::AllocError;
+
+/// This text, and behind it spaces up to this length.
+pub(crate) fn padded(rt: &HostRuntime, text: &str, length: usize) -> Result<String, AllocError> {
+    let mut long = String::from_str(rt.alloc(), text)?;
+    for _ in text.len()..length {
+        long.push_str(" ")?;
+    }
+    Ok(long)
+}
+
+/// So many blocks, each inside the one before, the first in the main block.
+pub(crate) fn blocks_inside(rt: &HostRuntime, count: u32) -> Result<String, AllocError> {
+    let mut text = String::from_str(rt.alloc(), "block B")?;
+    for _ in 0..count {
+        text.push_str(" block C")?;
+    }
+    for _ in 0..count {
+        text.push_str(" end")?;
+    }
+    text.push_str(" end")?;
+    Ok(text)
+}
+
+/// A main block with so many instances of a class with this text, and then this member.
+pub(crate) fn instances(
+    rt: &HostRuntime,
+    class: &str,
+    count: u32,
+    member: &str,
+) -> Result<String, AllocError> {
+    let mut text = String::from_str(rt.alloc(), "class C ")?;
+    text.push_str(class)?;
+    text.push_str("end block B C u0")?;
+    for place in 1..count {
+        let next = format!(in rt.alloc(); ", u{place}")?;
+        text.push_str(&next)?;
+    }
+    text.push_str("; ")?;
+    text.push_str(member)?;
+    text.push_str("end")?;
+    Ok(text)
+}
+
+/// A declaration of 32 names of this type with these settings.
+pub(crate) fn names(rt: &HostRuntime, kind: &str, settings: &str) -> Result<String, AllocError> {
+    let mut text = String::from_str(rt.alloc(), kind)?;
+    text.push_str(" v0")?;
+    for place in 1..32 {
+        let next = format!(in rt.alloc(); ", v{place}")?;
+        text.push_str(&next)?;
+    }
+    text.push_str(settings)?;
+    text.push_str("; ")?;
+    Ok(text)
+}
+
+/// A parameter or an observer whose value has so many operands.
+pub(crate) fn wide(rt: &HostRuntime, kind: &str, operands: u32) -> Result<String, AllocError> {
+    let mut text = String::from_str(rt.alloc(), kind)?;
+    text.push_str(" Boolean o = true")?;
+    for _ in 1..operands {
+        text.push_str(" and true")?;
+    }
+    text.push_str("; ")?;
+    Ok(text)
+}
+
+/// A main block whose event has so many ways.
+pub(crate) fn ways(rt: &HostRuntime, count: u32) -> Result<String, AllocError> {
+    let mut text = String::from_str(rt.alloc(), "block B event e; transition")?;
+    for _ in 0..count {
+        text.push_str(" e: true -> skip;")?;
+    }
+    text.push_str(" end")?;
+    Ok(text)
+}
+
+// The parts of a synchronisation of an event with 250 ways and of 999 events with one.
+fn parts(rt: &HostRuntime) -> Result<String, AllocError> {
+    let mut text = String::from_str(rt.alloc(), "!a")?;
+    for place in 1..1_000 {
+        let next = format!(in rt.alloc(); " & !e{place}")?;
+        text.push_str(&next)?;
+    }
+    text.push_str(";")?;
+    Ok(text)
+}
+
+/// A main block with four synchronisations of 250 ways of 1,000 parts each, and then this member.
+pub(crate) fn way_parts(rt: &HostRuntime, member: &str) -> Result<String, AllocError> {
+    let mut text = String::from_str(rt.alloc(), "block B event a, s, t, u, v; transition")?;
+    for _ in 0..250 {
+        text.push_str(" a: true -> skip;")?;
+    }
+    for place in 1..1_000 {
+        let next = format!(in rt.alloc(); " event e{place}; transition e{place}: true -> skip;")?;
+        text.push_str(&next)?;
+    }
+    let all = parts(rt)?;
+    text.push_str(" transition")?;
+    for name in [" s: ", " t: ", " u: ", " v: "] {
+        text.push_str(name)?;
+        text.push_str(&all)?;
+    }
+    text.push_str(member)?;
+    text.push_str(" end")?;
+    Ok(text)
+}

@@ -1,0 +1,37 @@
+-- Words that give a job whose command is built, and words that give none.
+use Rattle.std.proofs.Common.{◌≡◌, ℕ, true, false, List, Result, Err, refl, sym, ◌∙◌, ap, subst}
+use Rattle.run_words.specs.Jobs.{IsJob}
+use Rattle.run_words.specs.declared.jobs.Job.{Job}
+use Rattle.run_words.specs.declared.jobs.JobFault.{JobFault}
+use Rattle.run_words.specs.declared.jobs.JobFault.TheVariants as words
+use Rattle.run_words.specs.declared.verbs.Verb.{Verb}
+use Rattle.altarica_run.specs.Jobs.{is_built, IsNoJob, verb_of, AnswersJob}
+use Rattle.altarica_run.specs.Passing.{stop_of_words}
+use Rattle.altarica_run.specs.declared.jobs.Asked.{Asked}
+use Rattle.altarica_run.specs.declared.jobs.Task.{Task}
+use Rattle.altarica_run.specs.declared.jobs.Task.TheVariants as task
+use Rattle.altarica_run.specs.declared.stops.Stop.{Stop}
+
+-- no words give a job
+pub job_stops : (ws : List (List ℕ)) (r : Result Asked Stop) (d : Stop) (e : JobFault) → r ≡ Err d → d ≡ stop_of_words e
+    → ((let z : Result Job JobFault = Err e in z ≡ Err words.Usage) → (job : Job) → IsJob ws job → ⊥) → AnswersJob ws r
+job_stops ws r d e i j h = subst (AnswersJob ws) (sym (i ∙ ap Err j)) (go e h)
+  where
+    go : (e : JobFault) → ((let z : Result Job JobFault = Err e in z ≡ Err words.Usage) → (job : Job) → IsJob ws job → ⊥) → AnswersJob ws (Err (stop_of_words e))
+    go words.Usage h = (refl, λ job b. h refl job b.is_job)
+    go words.Memory h = tt
+
+-- the command of a task is built
+task_built : (t : Task) → is_built (verb_of t) ≡ true
+task_built task.Check = refl
+task_built task.Flat = refl
+task_built task.Replay = refl
+
+pub command_built : (v : Verb) (t : Task) → v ≡ verb_of t → is_built v ≡ true
+command_built v t e = ap is_built e ∙ task_built t
+
+-- words whose one job has a command that is not built give none whose command is
+pub not_built : (ws : List (List ℕ)) (job : Job) → ((a b : Job) → IsJob ws a → IsJob ws b → a ≡ b) → IsJob ws job → is_built job.command ≡ false → IsNoJob ws
+not_built ws job one is never other b =
+    let e : other ≡ job = one other job b.is_job is in
+    let k : true ≡ false = sym b.built ∙ ap (λ (j : Job). is_built j.command) e ∙ never in cc

@@ -1,0 +1,94 @@
+-- The texts of jobs, as they are written.
+use Rattle.std.proofs.Common.{◌≡◌, ℕ, List, Result, Ok, Err, map, length, refl, sym, ◌∙◌, ap, subst}
+use Rattle.std.proofs.lemmas.List.{length-map}
+use Rattle.ar_io.specs.Writing.{SinkState, Writes}
+use Rattle.ar_io.specs.declared.outside.SinkFailed.{SinkFailed}
+use Rattle.ar_meaning.specs.Runs.{Command}
+use Rattle.ar_meaning.specs.TraceText.{Naming}
+use Rattle.gts_core.specs.declared.system.GtsParts.{GtsParts}
+use Rattle.gts_core.specs.declared.system.Event.{Event}
+use Rattle.gts_core.specs.declared.system.Observer.{Observer}
+use Rattle.gts_core.specs.declared.system.Variable.{Variable}
+use Rattle.gts_core.specs.Printed.{flat_text}
+use Rattle.gts_flatten.specs.Elaborating.{Elaborated}
+use Rattle.gts_flatten.specs.Flat.{IsFlat, naming_of, naming_of_parts}
+use Rattle.hierarchy.specs.Listing.{variables, events, observers}
+use Rattle.hierarchy.specs.Paths.{unit_path, thing_path}
+use Rattle.replayer.specs.Flat.{command_of}
+use Rattle.replayer.specs.Replays.{IsReplay, AnswersReplay}
+use Rattle.replayer.specs.Replays as replays
+use Rattle.replayer.specs.declared.replaying.End.{End}
+use Rattle.replayer.specs.declared.replaying.ReplayFault.{ReplayFault}
+use Rattle.run_words.specs.declared.jobs.Job.{Job}
+use Rattle.run_words.specs.declared.verbs.Verb.TheVariants.{Check, Flat, Replay}
+use Rattle.altarica_run.specs.Passing.{IsReady}
+use Rattle.altarica_run.specs.Stages.{Ready}
+use Rattle.altarica_run.specs.Telling.{status_written, status_replayed, IsWritten, whole, cut, stopped}
+use Rattle.altarica_run.specs.Tells.{counts_line, check_text, status_at, Tells, check, flat, replay}
+use Rattle.altarica_run.specs.declared.stages.Prepared.{Prepared}
+use Rattle.altarica_run.specs.declared.status.Status.{Status}
+use Rattle.altarica_run.specs.declared.status.Status.TheVariants.{Done}
+
+-- a text that was written, or was cut
+pub text_written : {old new : SinkState} (told : List ℕ → Status → Type 0) (text : List ℕ) (ends s : Status) (r : Result (Unit {0}) SinkFailed) → s ≡ status_written ends r → told text ends
+    → Writes old new text r → IsWritten told old new s
+text_written {old} {new} told text ends s r e t w = subst (λ (z : Status). IsWritten told old new z) (sym e) (go r w)
+  where
+    go : (r : Result (Unit {0}) SinkFailed) → Writes old new text r → IsWritten told old new (status_written ends r)
+    go (Ok x) w = whole t w.whole
+    go (Err e) w = cut t w.cut w.rose
+
+-- How much is declared
+
+module _ (x : Elaborated) (p : GtsParts) (is : IsFlat x p) where
+  many_units : length p.units.items ≡ length x.declarations.units
+  many_units = ap length is.units_are ∙ length-map x.declarations.units (unit_path x.declarations.model)
+
+  many_variables : length p.variables.items ≡ length (variables x.declarations.model x.declarations.units)
+  many_variables =
+      sym (length-map p.variables.items (λ (v : Variable). v.path)) ∙ ap (λ (n : Naming). length n.variables) is.names
+      ∙ length-map (variables x.declarations.model x.declarations.units) (thing_path x.declarations.model)
+
+  many_events : length p.events.items ≡ length (events x.declarations.model x.declarations.units)
+  many_events =
+      sym (length-map p.events.items (λ (e : Event). e.path)) ∙ ap (λ (n : Naming). length n.events) is.names
+      ∙ length-map (events x.declarations.model x.declarations.units) (thing_path x.declarations.model)
+
+  many_observers : length p.observers.items ≡ length (observers x.declarations.model x.declarations.units)
+  many_observers =
+      sym (length-map p.observers.items (λ (o : Observer). o.path)) ∙ ap (λ (n : Naming). length n.observers) is.names
+      ∙ length-map (observers x.declarations.model x.declarations.units) (thing_path x.declarations.model)
+
+  counted : counts_line (length p.units.items) (length p.variables.items) (length p.events.items) (length p.observers.items) ≡ check_text x.declarations
+  counted = simp (many_units, many_variables, many_events, many_observers) refl
+
+-- The commands
+
+module _ (job : Job) (w : Ready) (p : Prepared) (is : IsReady job w p) where
+  pub checked : {old new : SinkState} → job.command ≡ Check → (s : Status) (r : Result (Unit {0}) SinkFailed) → s ≡ status_written Done r
+      → Writes old new (counts_line (length p.system.units.items) (length p.system.variables.items) (length p.system.events.items) (length p.system.observers.items)) r
+      → IsWritten (Tells job w) old new s
+  checked e s r k h =
+      let i = counted w.source p.system is.flat in
+      text_written (Tells job w) _ Done s r k (subst (λ (z : List ℕ). Tells job w z Done) (sym i) (check e)) h
+
+  pub flattened : {old new : SinkState} → job.command ≡ Flat → (s : Status) (r : Result (Unit {0}) SinkFailed) → s ≡ status_written Done r → Writes old new (flat_text p.system) r
+      → IsWritten (Tells job w) old new s
+  flattened e s r k h = text_written (Tells job w) (flat_text p.system) Done s r k (flat e (record { parts = p.system; is_flat = is.flat; is_text = refl })) h
+
+  module _ (there : (cs : List Command) (text : List ℕ) (end : End) → IsReplay (naming_of_parts p.system) is.flat.flat cs text end
+      → IsReplay (naming_of w.source.declarations) w.source.system cs text end) (e : job.command ≡ Replay) where
+    said : (text : List ℕ) (end : End) → IsReplay (naming_of_parts p.system) is.flat.flat (map (command_of p.system) p.commands.items) text end → Tells job w text (status_at end)
+    said text end h =
+        replay e (subst (λ (z : List Command). IsReplay (naming_of w.source.declarations) w.source.system z text end) (sym is.commands.are)
+        (there (map (command_of p.system) p.commands.items) text end h))
+
+    pub replayed : {old new : SinkState} (s : Status) (r : Result End ReplayFault) → s ≡ status_replayed r
+        → AnswersReplay (naming_of_parts p.system) is.flat.flat (map (command_of p.system) p.commands.items) old new r → IsWritten (Tells job w) old new s
+    replayed {old} {new} s r i h = subst (λ (z : Status). IsWritten (Tells job w) old new z) (sym i) (go r h)
+      where
+        go : (r : Result End ReplayFault) → AnswersReplay (naming_of_parts p.system) is.flat.flat (map (command_of p.system) p.commands.items) old new r
+            → IsWritten (Tells job w) old new (status_replayed r)
+        go r (replays.whole {text = text} {end = end} h a k) = whole (said text end h) a
+        go r (replays.write {text = text} {end = end} h c k) = cut (said text end h) c k
+        go r (replays.memory {text = text} {end = end} h c k) = stopped (said text end h) c

@@ -1,0 +1,19 @@
+use Rattle.std.proofs.Common.{◌∙◌, ap, sym}
+use Rattle.ar_io.proofs.Writing.{writes_as}
+use Rattle.altarica_run.specs.Refusals.{line_of}
+use Rattle.altarica_run.proofs.refusals.Refusal.put.Goals as goal
+
+pub returns-in-Usage : goal.returns-in-Usage
+returns-in-Usage g c = writes_as _ _ (ap line_of (sym c.in-Usage.is)) c.put.ensures
+
+pub returns-in-NotRead : goal.returns-in-NotRead
+returns-in-NotRead g c = writes_as _ _ (c.not_read_line.ensures ∙ ap line_of (sym c.in-NotRead.is)) c.put-in-NotRead.ensures
+
+pub returns-in-NoCommand : goal.returns-in-NoCommand
+returns-in-NoCommand g c = writes_as _ _ (ap line_of (sym c.in-NoCommand.is)) c.put_script_line.ensures
+
+pub returns-in-NeedsWay : goal.returns-in-NeedsWay
+returns-in-NeedsWay g c = writes_as _ _ (ap line_of (sym c.in-NeedsWay.is)) c.put_script_line-in-NeedsWay.ensures
+
+pub returns-in-NoEvent : goal.returns-in-NoEvent
+returns-in-NoEvent g c = writes_as _ _ (ap line_of (sym c.in-NoEvent.is)) c.put_script_line-in-NoEvent.ensures

@@ -1,0 +1,123 @@
+-- What the calls that stand for the stages of a job answer.
+use Rattle.std.specs.Prelude.{◌≡◌, ◌≤◌, ℕ, Bool, true, false, List, [], Option, Some, None, Result, Ok, Err, map, length, Vec}
+use Rattle.std.specs.Global.{Global}
+use Rattle.ar_base.specs.Counts.{limit_of}
+use Rattle.ar_base.specs.declared.counts.Count.TheVariants.{Nesting, ScriptBytes}
+use Rattle.ar_base.specs.declared.faults.RuleFault.{RuleFault}
+use Rattle.ar_base.specs.declared.faults.RuleFault.TheVariants as rules
+use Rattle.ar_base.specs.Stages.{IsStage}
+use Rattle.ar_io.specs.Outside.{Told}
+use Rattle.ar_meaning.specs.Runs as runs
+use Rattle.ar_parser.specs.declared.lexeme.ParseFault.{ParseFault}
+use Rattle.ar_parser.specs.declared.lexeme.ParseFault.TheVariants as parse
+use Rattle.gts_core.specs.declared.system.GtsParts.{GtsParts}
+use Rattle.gts_flatten.specs.Elaborating.{Elaborated}
+use Rattle.gts_flatten.specs.Flat.{IsFlat}
+use Rattle.replayer.specs.Flat.{command_of, AreFirable, IsOfTree}
+use Rattle.replayer.specs.Scripts.{BadLine, Commands}
+use Rattle.replayer.specs.declared.commands.Command.{Command}
+use Rattle.replayer.specs.declared.commands.ScriptFault.{ScriptFault}
+use Rattle.replayer.specs.declared.commands.ScriptFault.TheVariants as script
+use Rattle.run_words.specs.declared.jobs.Job.{Job}
+use Rattle.run_words.specs.declared.jobs.JobFault.{JobFault}
+use Rattle.run_words.specs.declared.jobs.JobFault.TheVariants as words
+use Rattle.altarica_run.specs.Files.{files_of, Loads}
+use Rattle.altarica_run.specs.Jobs.{IsBuiltJob, IsNoJob, verb_of}
+use Rattle.altarica_run.specs.Stages.{Ready, line_refused, Passes}
+use Rattle.altarica_run.specs.declared.refusals.FileKind.{FileKind}
+use Rattle.altarica_run.specs.declared.refusals.Refusal.{Refusal}
+use Rattle.altarica_run.specs.declared.refusals.Refusal.TheVariants.{Usage, NotRead, Size, Syntax, Rule, NoCommand, NeedsWay, NoEvent}
+use Rattle.altarica_run.specs.declared.stages.Flattened.{Flattened}
+use Rattle.altarica_run.specs.declared.stages.Prepared.{Prepared}
+use Rattle.altarica_run.specs.declared.stops.Stop.{Stop}
+use Rattle.altarica_run.specs.declared.stops.Stop.TheVariants.{Refused, Memory}
+
+-- Faults as stops
+
+abbrev pub stop_of_words : JobFault → Stop
+stop_of_words words.Usage = Refused Usage
+stop_of_words words.Memory = Memory
+
+abbrev pub stop_of_parse : ParseFault → Stop
+stop_of_parse (parse.Lex p) = Refused (Syntax p)
+stop_of_parse (parse.Syntax p) = Refused (Syntax p)
+stop_of_parse (parse.Depth p) = Refused (Size Nesting)
+stop_of_parse parse.Memory = Memory
+
+abbrev pub stop_of_rules : RuleFault → Stop
+stop_of_rules (rules.Rule r p) = Refused (Rule r p)
+stop_of_rules (rules.Limit count) = Refused (Size count)
+stop_of_rules rules.Memory = Memory
+
+abbrev pub stop_of_script : ScriptFault → Stop
+stop_of_script (script.Line n) = Refused (NoCommand n)
+stop_of_script (script.Which n) = Refused (NeedsWay n)
+stop_of_script (script.Unknown n) = Refused (NoEvent n)
+stop_of_script script.Memory = Memory
+
+-- the refusal that a stop tells, none for want of memory
+abbrev pub stop_told : Stop → Option Refusal
+stop_told (Refused r) = Some r
+stop_told Memory = None
+
+-- a call that stands for a stage of a job
+abbrev pub IsStageOf : {B X : Type 0} → (B → X → Type 0) → (Result B Refusal → Type 0) → Result X Stop → Type 0
+IsStageOf stands stage answer = IsStage stop_told stands stage answer
+
+-- From the model to its system
+
+-- the tree and the flat system are those of the source
+abbrev pub IsFlattened : Elaborated → Flattened → Type 0
+IsFlattened x f = IsOfTree x f.tree f.system
+
+-- The script
+
+-- the commands are these, and their ways are those of the system
+pub record AreCommands (p : GtsParts) (cs : List runs.Command) (commands : Vec Command Global) : Type 0 where
+  pub are : cs ≡ map (command_of p) commands.items
+  pub firable : AreFirable p commands.items
+
+-- the commands of the script where there is one, none elsewhere, or the first bad line
+pub data ReadsScript (script : Option (Vec ℕ Global)) (x : Elaborated) : Result (List runs.Command) Refusal → Type 0 where
+  no_script : script ≡ None → ReadsScript script x (Ok [])
+  gives : {cs : List runs.Command} (bytes : Vec ℕ Global) → script ≡ Some bytes → Commands bytes.items x (Ok cs) → ReadsScript script x (Ok cs)
+  bad : {l : BadLine} (bytes : Vec ℕ Global) → script ≡ Some bytes → Commands bytes.items x (Err l) → ReadsScript script x (Err (line_refused l.why l.number))
+
+-- the script, where there is one, is within its limit
+abbrev pub IsShort : Option (Vec ℕ Global) → Type 0
+IsShort None = Unit {0}
+IsShort (Some bytes) = length bytes.items ≤ limit_of ScriptBytes
+
+-- there is a script exactly where it is asked for
+abbrev pub IsThere : Bool → Option (Vec ℕ Global) → Type 0
+IsThere true script = (bytes : Vec ℕ Global) × (script ≡ Some bytes)
+IsThere false script = script ≡ None
+
+-- The job
+
+-- what is prepared is what stands ready for the job
+pub record IsReady (job : Job) (w : Ready) (p : Prepared) : Type 0 where
+  pub command : job.command ≡ verb_of p.task
+  pub flat : IsFlat w.source p.system
+  pub commands : AreCommands p.system w.commands p.commands
+
+-- the words are refused: they are no job, or a stage of the job refuses, or a file was not read
+pub data RefusesWords (files : List ℕ → Told) (rose : List ℕ → Type 0) (words : List (List ℕ)) : Refusal → Type 0 where
+  no_job : IsNoJob words → RefusesWords files rose words Usage
+  stage : {r : Refusal} (job : Job) → IsBuiltJob words job → Passes files job (Err r) → RefusesWords files rose words r
+  not_read : {kind : FileKind} {name : List ℕ} (job : Job) → IsBuiltJob words job → Loads files (files_of job) kind name → rose name
+      → RefusesWords files rose words (NotRead kind)
+
+-- what is prepared stands ready for the job of the words
+pub record IsPrepared (files : List ℕ → Told) (words : List (List ℕ)) (p : Prepared) : Type 0 where
+  pub job : Job
+  pub is_job : IsBuiltJob words job
+  pub ready : Ready
+  pub passes : Passes files job (Ok ready)
+  pub is_ready : IsReady job ready p
+
+-- what stands ready for the job of the words, or why nothing does
+abbrev pub AnswersWords : (List ℕ → Told) → (List ℕ → Type 0) → List (List ℕ) → Result Prepared Stop → Type 0
+AnswersWords files rose words (Ok p) = IsPrepared files words p
+AnswersWords files rose words (Err (Refused r)) = RefusesWords files rose words r
+AnswersWords files rose words (Err Memory) = Unit {0}

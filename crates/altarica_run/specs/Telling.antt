@@ -1,0 +1,28 @@
+-- What the calls that write the text of a job answer.
+use Rattle.std.specs.Prelude.{ℕ, List, Result, Ok, Err}
+use Rattle.ar_io.specs.Outside.{Rose}
+use Rattle.ar_io.specs.Writing.{SinkState, Appended, Cut}
+use Rattle.ar_io.specs.declared.outside.SinkFailed.{SinkFailed}
+use Rattle.replayer.specs.declared.replaying.End.{End}
+use Rattle.replayer.specs.declared.replaying.ReplayFault.{ReplayFault}
+use Rattle.replayer.specs.declared.replaying.ReplayFault.TheVariants as fault
+use Rattle.altarica_run.specs.Tells.{status_at}
+use Rattle.altarica_run.specs.declared.status.Status.{Status}
+use Rattle.altarica_run.specs.declared.status.Status.TheVariants.{Write, Memory}
+
+-- the status of a text that was written, or was not
+abbrev pub status_written : Status → Result (Unit {0}) SinkFailed → Status
+status_written whole (Ok x) = whole
+status_written whole (Err e) = Write
+
+-- the status of a replay
+abbrev pub status_replayed : Result End ReplayFault → Status
+status_replayed (Ok end) = status_at end
+status_replayed (Err fault.Write) = Write
+status_replayed (Err fault.Memory) = Memory
+
+-- one of these texts was written whole, with its status; or first bytes of one, where the sink's count rose or memory was refused
+pub data IsWritten (told : List ℕ → Status → Type 0) (old new : SinkState) : Status → Type 0 where
+  whole : {text : List ℕ} {ends : Status} → told text ends → Appended old.bytes new.bytes text → IsWritten told old new ends
+  cut : {text : List ℕ} {ends : Status} → told text ends → Cut old.bytes new.bytes text → Rose old.faults new.faults → IsWritten told old new Write
+  stopped : {text : List ℕ} {ends : Status} → told text ends → Cut old.bytes new.bytes text → IsWritten told old new Memory

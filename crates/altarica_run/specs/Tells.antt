@@ -1,0 +1,43 @@
+-- What each command writes of a job that has passed its stages.
+use Rattle.std.specs.Prelude.{◌≡◌, ℕ, ◌++◌, List, length, codes, decimal}
+use Rattle.ar_base.specs.Texts.{line}
+use Rattle.gts_core.specs.Printed.{flat_text}
+use Rattle.gts_core.specs.declared.system.GtsParts.{GtsParts}
+use Rattle.gts_flatten.specs.Elaborating.{Elaborated}
+use Rattle.gts_flatten.specs.Flat.{IsFlat, naming_of}
+use Rattle.hierarchy.specs.Listing.{variables, events, observers}
+use Rattle.replayer.specs.Replays.{IsReplay}
+use Rattle.replayer.specs.declared.replaying.End.{End}
+use Rattle.replayer.specs.declared.replaying.End.TheVariants as end
+use Rattle.run_words.specs.declared.jobs.Job.{Job}
+use Rattle.run_words.specs.declared.verbs.Verb.TheVariants.{Check, Flat, Replay}
+use Rattle.source_meaning.specs.Systems.{Declarations}
+use Rattle.altarica_run.specs.Stages.{Ready}
+use Rattle.altarica_run.specs.declared.status.Status.{Status}
+use Rattle.altarica_run.specs.declared.status.Status.TheVariants.{Done, Fault}
+
+-- `ok units U variables V events E observers O`
+abbrev pub counts_line : ℕ → ℕ → ℕ → ℕ → List ℕ
+counts_line u v e o = line (codes "ok units " ++ (decimal u ++ (codes " variables " ++ (decimal v ++ (codes " events " ++ (decimal e ++ (codes " observers " ++ decimal o)))))))
+
+-- how many units, variables, events and observers are declared
+abbrev pub check_text : Declarations → List ℕ
+check_text d = counts_line (length d.units) (length (variables d.model d.units)) (length (events d.model d.units)) (length (observers d.model d.units))
+
+-- the text of the flat system of the source
+pub record IsFlatText (x : Elaborated) (text : List ℕ) : Type 0 where
+  pub parts : GtsParts
+  pub is_flat : IsFlat x parts
+  pub is_text : text ≡ flat_text parts
+
+-- the status of a run that ends so
+abbrev pub status_at : End → Status
+status_at end.Done = Done
+status_at end.Fault = Fault
+
+-- the job, for which this stands ready, has this text and ends so
+pub data Tells (job : Job) (w : Ready) : List ℕ → Status → Type 0 where
+  check : job.command ≡ Check → Tells job w (check_text w.source.declarations) Done
+  flat : {text : List ℕ} → job.command ≡ Flat → IsFlatText w.source text → Tells job w text Done
+  replay : {text : List ℕ} {ends : End} → job.command ≡ Replay → IsReplay (naming_of w.source.declarations) w.source.system w.commands text ends
+      → Tells job w text (status_at ends)

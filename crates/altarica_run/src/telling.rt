@@ -1,0 +1,90 @@
+//! The text of a job that has passed its stages.
+
+ghost use Rattle.std.specs.Prelude.{◌≡◌, ◌++◌, decimal, length};
+ghost use Rattle.ar_io.specs.Writing.{Writes};
+ghost use Rattle.replayer.specs.Flat.{AreFirable};
+ghost use Rattle.run_words.specs.declared.jobs.Job.{Job};
+ghost use Rattle.altarica_run.specs.Passing.{IsReady};
+ghost use Rattle.altarica_run.specs.Refusals.{line_of, status_of};
+ghost use Rattle.altarica_run.specs.Stages.{Ready};
+ghost use Rattle.altarica_run.specs.Telling.{IsWritten, status_written, status_replayed};
+ghost use Rattle.altarica_run.specs.Tells.{counts_line, Tells};
+
+use crate::jobs::Task;
+use crate::pieces::{put, put_count};
+use crate::refusals::Refusal;
+use crate::stages::Prepared;
+use crate::status::Status;
+use ar_io::{Sink, SinkFailed};
+use gts_core::Gts;
+use replayer::laws::replays_of_the_source;
+use replayer::{End, ReplayFault, replay};
+use std::alloc::Global;
+
+/// Writes the text of the job.
+pub fn tell<K: Sink>(alloc: Global, prepared: &Prepared, out: &mut K) -> Status
+    requires { AreFirable prepared.now.system prepared.now.commands.items }
+    ensures { (job : Job) (w : Ready) → IsReady job w prepared.now
+        → IsWritten (Tells job w) (K.state out.old) (K.state out.new) result }
+{
+    match prepared.task {
+        Task::Check => written(Status::Done, check(&prepared.system, out)),
+        Task::Flat => written(Status::Done, prepared.system.print(out)),
+        Task::Replay => {
+            // The replays of the flat system are those of its source.
+            replays_of_the_source();
+            replayed(replay(alloc, &prepared.system, &prepared.commands, out))
+        }
+    }
+}
+
+/// Writes the line of a refusal.
+pub fn refuse<K: Sink>(refusal: Refusal, out: &mut K) -> Status
+    ensures { IsWritten (λ text ends. (text ≡ line_of refusal) × (ends ≡ status_of refusal)) (K.state out.old) (K.state out.new) result }
+{
+    written(refusal.status(), refusal.put(out))
+}
+
+// Writes how much the system has.
+fn check<K: Sink>(system: &Gts, out: &mut K) -> Result<(), SinkFailed>
+    ensures { Writes (K.state out.old) (K.state out.new)
+        (counts_line (length system.now.units.items) (length system.now.variables.items)
+        (length system.now.events.items) (length system.now.observers.items)) result }
+{
+    let parts = system.parts();
+    put_many(out, "ok units ", parts.units.len())?;
+    put_many(out, " variables ", parts.variables.len())?;
+    put_many(out, " events ", parts.events.len())?;
+    put_many(out, " observers ", parts.observers.len())?;
+    put(out, "\n")
+}
+
+// Writes how many there are of what is named.
+fn put_many<K: Sink>(out: &mut K, named: &str, count: usize) -> Result<(), SinkFailed>
+    ensures { Writes (K.state out.old) (K.state out.new) (named.now ++ decimal count) result }
+{
+    put(out, named)?;
+    put_count(out, count)
+}
+
+// The status of a text that was written, or was not.
+fn written(whole: Status, answer: Result<(), SinkFailed>) -> Status
+    ensures { result ≡ status_written whole answer }
+{
+    match answer {
+        Ok(()) => whole,
+        Err(_) => Status::Write,
+    }
+}
+
+// The status of a replay.
+fn replayed(answer: Result<End, ReplayFault>) -> Status
+    ensures { result ≡ status_replayed answer }
+{
+    match answer {
+        Ok(End::Done) => Status::Done,
+        Ok(End::Fault) => Status::Fault,
+        Err(ReplayFault::Write) => Status::Write,
+        Err(ReplayFault::Memory) => Status::Memory,
+    }
+}

@@ -1,7 +1,0 @@
-mod Fitted
-mod Forms
-mod Soundness
-pub mod Each
-pub mod Naming
-pub mod Tests
-pub mod Trees

@@ -1,4 +1,0 @@
-pub mod Each
-pub mod Fitting
-pub mod Listed
-pub mod Lower

@@ -21,36 +21,44 @@ use Rattle.altarica_run.specs.declared.status.Status.TheVariants as status
 
 module _ (files : List ℕ → Told) (rose : List ℕ → Type 0) (words : List (List ℕ)) (old new : SinkState) where
   -- the texts that are written are among those that the words say
-  said : (told : List ℕ → Status → Type 0) → ((text : List ℕ) (ends : Status) → told text ends → Says files words text ends) → (s : Status) → IsWritten told old new s
+  said : (told : List ℕ → Status → Type 0)
+      → ((text : List ℕ) (ends : Status) → told text ends → Says files words text ends) → (s : Status)
+      → IsWritten told old new s
       → EndsSo files rose words old.bytes new.bytes (Rose old.faults new.faults) s
   said told f s (whole {text = text} t a) = says.says (f text s t) a
   said told f s (cut {text = text} {ends = ends} t c k) = says.not_written (says.said (f text ends t)) k c
   said told f s (stopped {text = text} {ends = ends} t c) = says.no_memory (says.said (f text ends t)) c
 
   -- the text of the job was written
-  pub job_told : (job : Job) (w : Ready) → IsBuiltJob words job → Passes files job (Ok w) → (s : Status) → IsWritten (Tells job w) old new s
+  pub job_told : (job : Job) (w : Ready) → IsBuiltJob words job → Passes files job (Ok w) → (s : Status)
+      → IsWritten (Tells job w) old new s
       → EndsSo files rose words old.bytes new.bytes (Rose old.faults new.faults) s
   job_told job w is p s h = said (Tells job w) (λ text ends t. tells job w is p t) s h
 
   -- the line of a file that was not read was written
-  not_read_told : (kind : FileKind) (name : List ℕ) (job : Job) → IsBuiltJob words job → Loads files (files_of job) kind name → rose name → (s : Status)
+  not_read_told : (kind : FileKind) (name : List ℕ) (job : Job) → IsBuiltJob words job
+      → Loads files (files_of job) kind name → rose name → (s : Status)
       → IsWritten (λ text ends. (text ≡ line_of (NotRead kind)) × (ends ≡ status.Read)) old new s
       → EndsSo files rose words old.bytes new.bytes (Rose old.faults new.faults) s
   not_read_told kind name job is l k s (whole t a) =
       subst (λ (z : Status). EndsSo files rose words old.bytes new.bytes (Rose old.faults new.faults) z) (sym t.1)
       (says.not_read job is l k (subst (λ (z : List ℕ). Appended old.bytes new.bytes z) t.0 a))
-  not_read_told kind name job is l k s (cut t c r) = says.not_written (says.not_read job is l k) r (subst (λ (z : List ℕ). Cut old.bytes new.bytes z) t.0 c)
-  not_read_told kind name job is l k s (stopped t c) = says.no_memory (says.not_read job is l k) (subst (λ (z : List ℕ). Cut old.bytes new.bytes z) t.0 c)
+  not_read_told kind name job is l k s (cut t c r) =
+      says.not_written (says.not_read job is l k) r (subst (λ (z : List ℕ). Cut old.bytes new.bytes z) t.0 c)
+  not_read_told kind name job is l k s (stopped t c) =
+      says.no_memory (says.not_read job is l k) (subst (λ (z : List ℕ). Cut old.bytes new.bytes z) t.0 c)
 
   -- the line of what the words say was written
-  line_told : (r : Refusal) → Says files words (line_of r) (status_of r) → (s : Status) → IsWritten (λ text ends. (text ≡ line_of r) × (ends ≡ status_of r)) old new s
+  line_told : (r : Refusal) → Says files words (line_of r) (status_of r) → (s : Status)
+      → IsWritten (λ text ends. (text ≡ line_of r) × (ends ≡ status_of r)) old new s
       → EndsSo files rose words old.bytes new.bytes (Rose old.faults new.faults) s
   line_told r h s k =
       said (λ text ends. (text ≡ line_of r) × (ends ≡ status_of r))
       (λ text ends t. subst (λ (z : Status). Says files words text z) (sym t.1) (subst (λ (z : List ℕ). Says files words z (status_of r)) (sym t.0) h)) s k
 
   -- the line of a refusal was written
-  pub refusal_told : (r : Refusal) → RefusesWords files rose words r → (s : Status) → IsWritten (λ text ends. (text ≡ line_of r) × (ends ≡ status_of r)) old new s
+  pub refusal_told : (r : Refusal) → RefusesWords files rose words r → (s : Status)
+      → IsWritten (λ text ends. (text ≡ line_of r) × (ends ≡ status_of r)) old new s
       → EndsSo files rose words old.bytes new.bytes (Rose old.faults new.faults) s
   refusal_told r (no_job h) s k = line_told r (usage h) s k
   refusal_told r (stage job is p) s k = line_told r (refuses job r is p) s k

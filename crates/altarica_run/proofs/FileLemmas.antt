@@ -17,7 +17,8 @@ use Rattle.altarica_run.specs.declared.stops.Stop.TheVariants.{Refused, Memory}
 
 -- what is told of each name after a load is what was told before it
 module _ (after told : List ℕ → Told) (same : (name : List ℕ) → after name ≡ told name) where
-  is_file_same : (f : File) (text : List ℕ) → IsFile (after f.name) (limit_of f.count) text → IsFile (told f.name) (limit_of f.count) text
+  is_file_same : (f : File) (text : List ℕ) → IsFile (after f.name) (limit_of f.count) text
+      → IsFile (told f.name) (limit_of f.count) text
   is_file_same f text h = subst (λ (t : Told). IsFile t (limit_of f.count) text) (same f.name) h
 
   loaded_same : (fs : List File) (r : Result (List (List ℕ)) Refusal) → Loaded after fs r → Loaded told fs r
@@ -37,7 +38,8 @@ module _ (after told : List ℕ → Told) (same : (name : List ℕ) → after na
     refuses_same fs r (limited h) = limited (loaded_same fs (Err r) h)
     refuses_same fs r (not_read {kind} {name} l k) = not_read (loads_same fs kind name l) (rises name k)
 
-    pub answers_same : {X : Type 0} (texts : X → List (List ℕ)) (fs : List File) (answer : Result X Stop) → AnswersFiles texts after part fs answer
+    pub answers_same : {X : Type 0} (texts : X → List (List ℕ)) (fs : List File) (answer : Result X Stop)
+        → AnswersFiles texts after part fs answer
         → AnswersFiles texts told rose fs answer
     answers_same texts fs (Ok x) h = loaded_same fs (Ok (texts x)) h
     answers_same texts fs (Err (Refused r)) h = refuses_same fs r h
@@ -46,11 +48,13 @@ module _ (after told : List ℕ → Told) (same : (name : List ℕ) → after na
 -- One file after the other
 
 module _ (told : List ℕ → Told) (rose : List ℕ → Type 0) {X : Type 0} (texts : X → List (List ℕ)) where
-  at_stop : (fs : List File) (r : Result X Stop) (d e : Stop) → r ≡ Err d → d ≡ e → AnswersFiles texts told rose fs (Err e) → AnswersFiles texts told rose fs r
+  at_stop : (fs : List File) (r : Result X Stop) (d e : Stop) → r ≡ Err d → d ≡ e
+      → AnswersFiles texts told rose fs (Err e) → AnswersFiles texts told rose fs r
   at_stop fs r d e i j h = subst (λ (z : Result X Stop). AnswersFiles texts told rose fs z) (sym (i ∙ ap Err j)) h
 
   -- the first file is refused, and with it all of them
-  pub first_stops : (f : File) (fs : List File) (r : Result X Stop) (d e : Stop) → r ≡ Err d → d ≡ e → AnswersFile told rose f (Err e)
+  pub first_stops : (f : File) (fs : List File) (r : Result X Stop) (d e : Stop) → r ≡ Err d → d ≡ e
+      → AnswersFile told rose f (Err e)
       → AnswersFiles texts told rose (f ∷ fs) r
   first_stops f fs r d e i j h = at_stop (f ∷ fs) r d e i j (go e h)
     where
@@ -60,8 +64,10 @@ module _ (told : List ℕ → Told) (rose : List ℕ → Type 0) {X : Type 0} (t
       go Memory h = tt
 
   -- the first file is there, and one of the others is refused
-  pub later_stops : {Y : Type 0} (others : Y → List (List ℕ)) (f : File) (fs : List File) (text : List ℕ) → IsFile (told f.name) (limit_of f.count) text
-      → (r : Result X Stop) (d e : Stop) → r ≡ Err d → d ≡ e → AnswersFiles {X = Y} others told rose fs (Err e) → AnswersFiles texts told rose (f ∷ fs) r
+  pub later_stops : {Y : Type 0} (others : Y → List (List ℕ)) (f : File) (fs : List File) (text : List ℕ)
+      → IsFile (told f.name) (limit_of f.count) text
+      → (r : Result X Stop) (d e : Stop) → r ≡ Err d → d ≡ e → AnswersFiles {X = Y} others told rose fs (Err e)
+      → AnswersFiles texts told rose (f ∷ fs) r
   later_stops {Y} others f fs text is r d e i j h = at_stop (f ∷ fs) r d e i j (go e h)
     where
       refused : (r : Refusal) → RefusesFiles told rose fs r → RefusesFiles told rose (f ∷ fs) r
@@ -73,17 +79,21 @@ module _ (told : List ℕ → Told) (rose : List ℕ → Type 0) {X : Type 0} (t
       go Memory h = tt
 
   -- the only file is refused
-  pub only_stops : (fs : List File) (f : File) → fs ≡ f ∷ [] → (r : Result X Stop) (d e : Stop) → r ≡ Err d → d ≡ e → AnswersFile told rose f (Err e)
+  pub only_stops : (fs : List File) (f : File) → fs ≡ f ∷ [] → (r : Result X Stop) (d e : Stop) → r ≡ Err d → d ≡ e
+      → AnswersFile told rose f (Err e)
       → AnswersFiles texts told rose fs r
-  only_stops fs f is r d e i j h = subst (λ (z : List File). AnswersFiles texts told rose z r) (sym is) (first_stops f [] r d e i j h)
+  only_stops fs f is r d e i j h =
+      subst (λ (z : List File). AnswersFiles texts told rose z r) (sym is) (first_stops f [] r d e i j h)
 
 -- What loaded files are
 
-pub only_loaded : (told : List ℕ → Told) (fs : List File) (f : File) (text : List ℕ) → fs ≡ f ∷ [] → IsFile (told f.name) (limit_of f.count) text
+pub only_loaded : (told : List ℕ → Told) (fs : List File) (f : File) (text : List ℕ) → fs ≡ f ∷ []
+    → IsFile (told f.name) (limit_of f.count) text
     → Loaded told fs (Ok (text ∷ []))
 only_loaded told fs f text is h = subst (λ (z : List File). Loaded told z (Ok (text ∷ []))) (sym is) (whole text h none)
 
-pub loaded_first : (told : List ℕ → Told) (f : File) (fs : List File) (text : List ℕ) (texts : List (List ℕ)) → Loaded told (f ∷ fs) (Ok (text ∷ texts))
+pub loaded_first : (told : List ℕ → Told) (f : File) (fs : List File) (text : List ℕ) (texts : List (List ℕ))
+    → Loaded told (f ∷ fs) (Ok (text ∷ texts))
     → IsFile (told f.name) (limit_of f.count) text × Loaded told fs (Ok texts)
 loaded_first told f fs text texts (whole t h k) = (h, k)
 
@@ -99,7 +109,8 @@ pub record IsLoadedScript (name : Option (List ℕ)) (script : Option (Vec ℕ G
   pub none : name ≡ None → script ≡ None
   pub some : (n : List ℕ) → name ≡ Some n → (bytes : Vec ℕ Global) × (script ≡ Some bytes)
 
-pub loaded_script : (told : List ℕ → Told) (name : Option (List ℕ)) (script : Option (Vec ℕ Global)) → Loaded told (script_files name) (Ok (script_texts script))
+pub loaded_script : (told : List ℕ → Told) (name : Option (List ℕ)) (script : Option (Vec ℕ Global))
+    → Loaded told (script_files name) (Ok (script_texts script))
     → IsLoadedScript name script
 loaded_script told None None h = record { short = tt; none = λ e. refl; some = λ n e. cc }
 loaded_script told None (Some bytes) h = absurd (no_texts told bytes.items [] h)
@@ -108,5 +119,6 @@ loaded_script told (Some n) (Some bytes) h =
     record { short = (loaded_first told _ [] bytes.items [] h).0.short; none = λ e. cc; some = λ m e. (bytes, refl) }
 
 -- the script's file, by the name that was looked up
-pub named : (name : Option (List ℕ)) (n word : List ℕ) → name ≡ Some n → word ≡ n → script_files name ≡ record { kind = Script; name = word; count = ScriptBytes } ∷ []
+pub named : (name : Option (List ℕ)) (n word : List ℕ) → name ≡ Some n → word ≡ n
+    → script_files name ≡ record { kind = Script; name = word; count = ScriptBytes } ∷ []
 named name n word e i = ap script_files e ∙ ap (λ (z : List ℕ). script_files (Some z)) (sym i)

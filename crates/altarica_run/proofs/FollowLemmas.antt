@@ -53,7 +53,8 @@ of_line IsNoCommand n = tt
 of_line LacksWay n = tt
 of_line NamesNoEvent n = tt
 
-of_script : (b : Bool) (texts : List (List ℕ)) (w : Ready) (r : Refusal) → Where b (Scripted texts) w (Err r) → IsOfStages r
+of_script : (b : Bool) (texts : List (List ℕ)) (w : Ready) (r : Refusal) → Where b (Scripted texts) w (Err r)
+    → IsOfStages r
 of_script true texts w r (stages.bad {l = l} i h) = of_line l.why l.number
 of_script false texts w r h = cc
 
@@ -65,19 +66,24 @@ of_stages files job r (loaded texts l t (then.passes x p h)) = of_script (has_sc
 -- Meanings
 
 module _ (c : Call) where
-  told : (job : Job) (w : Ready) (text : List ℕ) (s : Status) → IsBuiltJob c.words job → Passes c.files job (Ok w) → Tells job w text s → Wrote c text → IsTold c s
-  told job w text s is p t a = record { job = job; is_job = is; ready = w; passes = p; text = text; tells = t; wrote = a }
+  told : (job : Job) (w : Ready) (text : List ℕ) (s : Status) → IsBuiltJob c.words job → Passes c.files job (Ok w)
+      → Tells job w text s → Wrote c text → IsTold c s
+  told job w text s is p t a =
+      record { job = job; is_job = is; ready = w; passes = p; text = text; tells = t; wrote = a }
 
-  refused : (job : Job) (r : Refusal) → IsBuiltJob c.words job → Passes c.files job (Err r) → Wrote c (line_of r) → IsRefused c (status_of r)
+  refused : (job : Job) (r : Refusal) → IsBuiltJob c.words job → Passes c.files job (Err r) → Wrote c (line_of r)
+      → IsRefused c (status_of r)
   refused job r is p a = record { job = job; is_job = is; refusal = r; stage = p; is_status = refl; wrote = a }
 
-  meant_tells : (job : Job) (w : Ready) (text : List ℕ) (s : Status) → IsBuiltJob c.words job → Passes c.files job (Ok w) → Tells job w text s → Wrote c text → Meaning_of c s
+  meant_tells : (job : Job) (w : Ready) (text : List ℕ) (s : Status) → IsBuiltJob c.words job
+      → Passes c.files job (Ok w) → Tells job w text s → Wrote c text → Meaning_of c s
   meant_tells job w text s is p (check e) a = told job w _ status.Done is p (check e) a
   meant_tells job w text s is p (flat e h) a = told job w text status.Done is p (flat e h) a
   meant_tells job w text s is p (replay {ends = end.Done} e h) a = told job w text status.Done is p (replay e h) a
   meant_tells job w text s is p (replay {ends = end.Fault} e h) a = told job w text status.Fault is p (replay e h) a
 
-  meant_refuses : (job : Job) (r : Refusal) → IsBuiltJob c.words job → Passes c.files job (Err r) → Wrote c (line_of r) → IsOfStages r → Meaning_of c (status_of r)
+  meant_refuses : (job : Job) (r : Refusal) → IsBuiltJob c.words job → Passes c.files job (Err r) → Wrote c (line_of r)
+      → IsOfStages r → Meaning_of c (status_of r)
   meant_refuses job Usage is p a h = absurd h
   meant_refuses job (NotRead kind) is p a h = absurd h
   meant_refuses job (Size count) is p a h = refused job (Size count) is p a
@@ -94,7 +100,8 @@ module _ (c : Call) where
 
   meant : (s : Status) → EndsSo c.files (RoseAt c) c.words c.old c.new (SinkRose c) s → Meaning_of c s
   meant s (says.says {text = text} h a) = meant_says text s h a
-  meant s (says.not_read {kind} {name} job is l r a) = record { job = job; is_job = is; kind = kind; name = name; loads = l; rose = r; wrote = a }
+  meant s (says.not_read {kind} {name} job is l r a) =
+      record { job = job; is_job = is; kind = kind; name = name; loads = l; rose = r; wrote = a }
   meant s (says.not_written b r h) = r
   meant s (says.no_memory b h) = tt
 
@@ -108,7 +115,8 @@ module _ (c : Call) where
 
   fronts : (s : Status) → EndsSo c.files (RoseAt c) c.words c.old c.new (SinkRose c) s → IsPrefix c
   fronts s (says.says {text = text} h a) = record { text = text; begins = says.said h; cut = whole_front text a }
-  fronts s (says.not_read {kind} {name} job is l r a) = record { text = line_of (NotRead kind); begins = says.not_read job is l r; cut = whole_front (line_of (NotRead kind)) a }
+  fronts s (says.not_read {kind} {name} job is l r a) =
+      record { text = line_of (NotRead kind); begins = says.not_read job is l r; cut = whole_front (line_of (NotRead kind)) a }
   fronts s (says.not_written {text = text} b r h) = record { text = text; begins = b; cut = h }
   fronts s (says.no_memory {text = text} b h) = record { text = text; begins = b; cut = h }
 
@@ -123,7 +131,8 @@ module _ (c : Call) where
     usage_said text s (refuses job r is p) = absurd (never job is)
     usage_said text s (tells job w is p t) = absurd (never job is)
 
-    usage_ends : (s : Status) → EndsSo c.files (RoseAt c) c.words c.old c.new (SinkRose c) s → (s ≡ status.Usage) ⊎ (s ≡ status.Memory)
+    usage_ends : (s : Status) → EndsSo c.files (RoseAt c) c.words c.old c.new (SinkRose c) s
+        → (s ≡ status.Usage) ⊎ (s ≡ status.Memory)
     usage_ends s (says.says {text = text} h a) = usage_said text s h
     usage_ends s (says.not_read job is l r a) = absurd (never job is)
     usage_ends s (says.not_written b r h) = absurd (written r)
@@ -135,7 +144,8 @@ module _ (c : Call) where
   -- Calls in which nothing of the outside fails
 
   module _ (quiet : IsQuiet c) where
-    quiet_ends : (s : Status) → EndsSo c.files (RoseAt c) c.words c.old c.new (SinkRose c) s → IsSaid c s ⊎ (s ≡ status.Memory)
+    quiet_ends : (s : Status) → EndsSo c.files (RoseAt c) c.words c.old c.new (SinkRose c) s
+        → IsSaid c s ⊎ (s ≡ status.Memory)
     quiet_ends s (says.says {text = text} h a) = inl (record { text = text; said = h; wrote = a })
     quiet_ends s (says.not_read {name = name} job is l r a) = absurd (quiet.read name r)
     quiet_ends s (says.not_written b r h) = absurd (quiet.written r)
@@ -145,7 +155,8 @@ module _ (c : Call) where
     said_of s g = quiet_ends s g.ends
 
     module _ (job : Job) (is : IsBuiltJob c.words job) where
-      job_said : (text : List ℕ) (s : Status) → Says c.files c.words text s → Wrote c text → IsTold c s ⊎ (IsRefused c s ⊎ (s ≡ status.Memory))
+      job_said : (text : List ℕ) (s : Status) → Says c.files c.words text s → Wrote c text
+          → IsTold c s ⊎ (IsRefused c s ⊎ (s ≡ status.Memory))
       job_said text s (usage never) a = absurd (never job is)
       job_said text s (refuses other r at p) a = inr (inl (refused other r at p a))
       job_said text s (tells other w at p t) a = inl (told other w text s at p t a)

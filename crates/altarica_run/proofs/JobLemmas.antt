@@ -17,7 +17,9 @@ pub job_stops : (ws : List (List ℕ)) (r : Result Asked Stop) (d : Stop) (e : J
     → ((let z : Result Job JobFault = Err e in z ≡ Err words.Usage) → (job : Job) → IsJob ws job → ⊥) → AnswersJob ws r
 job_stops ws r d e i j h = subst (AnswersJob ws) (sym (i ∙ ap Err j)) (go e h)
   where
-    go : (e : JobFault) → ((let z : Result Job JobFault = Err e in z ≡ Err words.Usage) → (job : Job) → IsJob ws job → ⊥) → AnswersJob ws (Err (stop_of_words e))
+    go : (e : JobFault)
+        → ((let z : Result Job JobFault = Err e in z ≡ Err words.Usage) → (job : Job) → IsJob ws job → ⊥)
+        → AnswersJob ws (Err (stop_of_words e))
     go words.Usage h = (refl, λ job b. h refl job b.is_job)
     go words.Memory h = tt
 
@@ -31,7 +33,8 @@ pub command_built : (v : Verb) (t : Task) → v ≡ verb_of t → is_built v ≡
 command_built v t e = ap is_built e ∙ task_built t
 
 -- words whose one job has a command that is not built give none whose command is
-pub not_built : (ws : List (List ℕ)) (job : Job) → ((a b : Job) → IsJob ws a → IsJob ws b → a ≡ b) → IsJob ws job → is_built job.command ≡ false → IsNoJob ws
+pub not_built : (ws : List (List ℕ)) (job : Job) → ((a b : Job) → IsJob ws a → IsJob ws b → a ≡ b) → IsJob ws job
+    → is_built job.command ≡ false → IsNoJob ws
 not_built ws job one is never other b =
     let e : other ≡ job = one other job b.is_job is in
     let k : true ≡ false = sym b.built ∙ ap (λ (j : Job). is_built j.command) e ∙ never in cc

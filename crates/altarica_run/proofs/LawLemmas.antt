@@ -51,22 +51,31 @@ module _ (told : List ℕ → Told) (known : (name : List ℕ) → IsKnown (told
   pub loaded_one : (fs : List File) (x y : Result (List (List ℕ)) Refusal) → Loaded told fs x → Loaded told fs y → x ≡ y
   loaded_one [] x y none none = refl
   loaded_one (f ∷ fs) x y (long h) (long k) = refl
-  loaded_one (f ∷ fs) x y (long h) (later text g k) = absurd (apart (told f.name) (limit_of f.count) text (known f.name) g h)
-  loaded_one (f ∷ fs) x y (long h) (whole text g k) = absurd (apart (told f.name) (limit_of f.count) text (known f.name) g h)
-  loaded_one (f ∷ fs) x y (later text g k) (long h) = absurd (apart (told f.name) (limit_of f.count) text (known f.name) g h)
+  loaded_one (f ∷ fs) x y (long h) (later text g k) =
+      absurd (apart (told f.name) (limit_of f.count) text (known f.name) g h)
+  loaded_one (f ∷ fs) x y (long h) (whole text g k) =
+      absurd (apart (told f.name) (limit_of f.count) text (known f.name) g h)
+  loaded_one (f ∷ fs) x y (later text g k) (long h) =
+      absurd (apart (told f.name) (limit_of f.count) text (known f.name) g h)
   loaded_one (f ∷ fs) x y (later {r = r} text g k) (later {r = s} other h l) = loaded_one fs (Err r) (Err s) k l
-  loaded_one (f ∷ fs) x y (later {r = r} text g k) (whole {texts = ts} other h l) = not_ok r ts (loaded_one fs (Err r) (Ok ts) k l)
-  loaded_one (f ∷ fs) x y (whole text g k) (long h) = absurd (apart (told f.name) (limit_of f.count) text (known f.name) g h)
-  loaded_one (f ∷ fs) x y (whole {texts = ts} text g k) (later {r = r} other h l) = not_ok r ts (loaded_one fs (Err r) (Ok ts) l k)
+  loaded_one (f ∷ fs) x y (later {r = r} text g k) (whole {texts = ts} other h l) =
+      not_ok r ts (loaded_one fs (Err r) (Ok ts) k l)
+  loaded_one (f ∷ fs) x y (whole text g k) (long h) =
+      absurd (apart (told f.name) (limit_of f.count) text (known f.name) g h)
+  loaded_one (f ∷ fs) x y (whole {texts = ts} text g k) (later {r = r} other h l) =
+      not_ok r ts (loaded_one fs (Err r) (Ok ts) l k)
   loaded_one (f ∷ fs) x y (whole {texts = ts} text g k) (whole {texts = us} other h l) =
       let e = one_text (told f.name) (limit_of f.count) text other (known f.name) g h in
       let i : ts ≡ us = ap (texts_or ts) (loaded_one fs (Ok ts) (Ok us) k l) in cc
 
 -- Models that are too long
 
-module _ (files : List ℕ → Told) (job : Job) (text : List ℕ) (is : files job.model ≡ Bytes text) (over : limit_of ModelBytes < length text) where
+module _ (files : List ℕ → Told) (job : Job) (text : List ℕ) (is : files job.model ≡ Bytes text)
+    (over : limit_of ModelBytes < length text) where
   no_file : (other : List ℕ) → IsFile (files job.model) (limit_of ModelBytes) other → ⊥
-  no_file other h = apart (Bytes text) (limit_of ModelBytes) other tt (subst (λ (t : Told). IsFile t (limit_of ModelBytes) other) is h) over
+  no_file other h =
+      apart (Bytes text) (limit_of ModelBytes) other tt
+      (subst (λ (t : Told). IsFile t (limit_of ModelBytes) other) is h) over
 
   over_refused : (fs : List File) (r : Refusal) → Loaded files (model_file job.model ∷ fs) (Err r) → r ≡ Size ModelBytes
   over_refused fs r (long h) = refl
@@ -81,52 +90,70 @@ module _ (files : List ℕ → Told) (job : Job) (text : List ℕ) (is : files j
 
 -- Scripts that are too long
 
-module _ (files : List ℕ → Told) (name script : List ℕ) (is : files name ≡ Bytes script) (over : limit_of ScriptBytes < length script) where
+module _ (files : List ℕ → Told) (name script : List ℕ) (is : files name ≡ Bytes script)
+    (over : limit_of ScriptBytes < length script) where
   no_script : (other : List ℕ) → IsFile (files name) (limit_of ScriptBytes) other → ⊥
-  no_script other h = apart (Bytes script) (limit_of ScriptBytes) other tt (subst (λ (t : Told). IsFile t (limit_of ScriptBytes) other) is h) over
+  no_script other h =
+      apart (Bytes script) (limit_of ScriptBytes) other tt
+      (subst (λ (t : Told). IsFile t (limit_of ScriptBytes) other) is h) over
 
-  script_refused : (s : Option (List ℕ)) → s ≡ Some name → (x : Result (List (List ℕ)) Refusal) → Loaded files (script_files s) x → x ≡ Err (Size ScriptBytes)
+  script_refused : (s : Option (List ℕ)) → s ≡ Some name → (x : Result (List (List ℕ)) Refusal)
+      → Loaded files (script_files s) x → x ≡ Err (Size ScriptBytes)
   script_refused None e x h = cc
   script_refused (Some n) e x (long h) = refl
-  script_refused (Some n) e x (later other h k) = let i : n ≡ name = cc in absurd (no_script other (subst (λ (z : List ℕ). IsFile (files z) (limit_of ScriptBytes) other) i h))
-  script_refused (Some n) e x (whole other h k) = let i : n ≡ name = cc in absurd (no_script other (subst (λ (z : List ℕ). IsFile (files z) (limit_of ScriptBytes) other) i h))
+  script_refused (Some n) e x (later other h k) =
+      let i : n ≡ name = cc in absurd
+      (no_script other (subst (λ (z : List ℕ). IsFile (files z) (limit_of ScriptBytes) other) i h))
+  script_refused (Some n) e x (whole other h k) =
+      let i : n ≡ name = cc in absurd
+      (no_script other (subst (λ (z : List ℕ). IsFile (files z) (limit_of ScriptBytes) other) i h))
 
-  module _ (job : Job) (named : job.script ≡ Some name) (model : List ℕ) (held : files job.model ≡ Bytes model) (short : length model ≤ limit_of ModelBytes) where
+  module _ (job : Job) (named : job.script ≡ Some name) (model : List ℕ) (held : files job.model ≡ Bytes model)
+      (short : length model ≤ limit_of ModelBytes) where
     files_refused : (x : Result (List (List ℕ)) Refusal) → Loaded files (files_of job) x → x ≡ Err (Size ScriptBytes)
     files_refused x (long h) =
-        absurd (apart (Bytes model) (limit_of ModelBytes) model tt (record { held = refl; short = short }) (subst (λ (t : Told). MayBeLonger t (limit_of ModelBytes)) held h))
-    files_refused x (later {r = r} other h k) = let i : r ≡ Size ScriptBytes = ap (refusal_or r) (script_refused job.script named (Err r) k) in ap Err i
+        absurd
+        (apart (Bytes model) (limit_of ModelBytes) model tt (record { held = refl; short = short }) (subst (λ (t : Told). MayBeLonger t (limit_of ModelBytes)) held h))
+    files_refused x (later {r = r} other h k) =
+        let i : r ≡ Size ScriptBytes = ap (refusal_or r) (script_refused job.script named (Err r) k) in ap Err i
     files_refused x (whole {texts = ts} other h k) = not_ok _ _ (sym (script_refused job.script named (Ok ts) k))
 
     pub script_over : (x : Result Ready Refusal) → Passes files job x → x ≡ Err (Size ScriptBytes)
-    script_over x (not_loaded {r = r} h) = let i : r ≡ Size ScriptBytes = ap (refusal_or r) (files_refused (Err r) h) in ap Err i
+    script_over x (not_loaded {r = r} h) =
+        let i : r ≡ Size ScriptBytes = ap (refusal_or r) (files_refused (Err r) h) in ap Err i
     script_over x (loaded texts h t s) = not_ok _ _ (sym (files_refused (Ok texts) h))
 
-module _ (c : Call) (job : Job) (one : (a b : Job) → IsBuiltJob c.words a → IsBuiltJob c.words b → a ≡ b) (is : IsBuiltJob c.words job) where
+module _ (c : Call) (job : Job) (one : (a b : Job) → IsBuiltJob c.words a → IsBuiltJob c.words b → a ≡ b)
+    (is : IsBuiltJob c.words job) where
   -- the job of the words is this one
   same_job : (other : Job) → IsBuiltJob c.words other → (P : Job → Type 0) → P other → P job
   same_job other at P h = subst P (one other job at is) h
 
   module _ (text : List ℕ) (told : c.files job.model ≡ Bytes text) (over : limit_of ModelBytes < length text) where
-    refused_over : (r : Refusal) → Passes c.files job (Err r) → Wrote c (line_of r) → (status_of r ≡ status.Size) × Wrote c (line_of (Size ModelBytes))
+    refused_over : (r : Refusal) → Passes c.files job (Err r) → Wrote c (line_of r)
+        → (status_of r ≡ status.Size) × Wrote c (line_of (Size ModelBytes))
     refused_over r p a =
         let e : r ≡ Size ModelBytes = ap (refusal_or r) (over_passes c.files job text told over (Err r) p) in
         (ap status_of e, subst (λ (z : Refusal). Wrote c (line_of z)) e a)
 
-    over_said : (said : List ℕ) (s : Status) → Says c.files c.words said s → Wrote c said → (s ≡ status.Size) × Wrote c (line_of (Size ModelBytes))
+    over_said : (said : List ℕ) (s : Status) → Says c.files c.words said s → Wrote c said
+        → (s ≡ status.Size) × Wrote c (line_of (Size ModelBytes))
     over_said said s (usage never) a = absurd (never job is)
     over_said said s (refuses other r at p) a = refused_over r (same_job other at (λ j. Passes c.files j (Err r)) p) a
     over_said said s (tells other w at p t) a =
-        not_ok _ _ (sym (over_passes c.files job text told over (Ok w) (same_job other at (λ j. Passes c.files j (Ok w)) p)))
+        not_ok _ _
+        (sym (over_passes c.files job text told over (Ok w) (same_job other at (λ j. Passes c.files j (Ok w)) p)))
 
     module _ (quiet : IsQuiet c) where
-      over_ends : (s : Status) → EndsSo c.files (RoseAt c) c.words c.old c.new (SinkRose c) s → ((s ≡ status.Size) × Wrote c (line_of (Size ModelBytes))) ⊎ (s ≡ status.Memory)
+      over_ends : (s : Status) → EndsSo c.files (RoseAt c) c.words c.old c.new (SinkRose c) s
+          → ((s ≡ status.Size) × Wrote c (line_of (Size ModelBytes))) ⊎ (s ≡ status.Memory)
       over_ends s (says.says {text = said} h a) = inl (over_said said s h a)
       over_ends s (says.not_read {name = name} other at l r a) = absurd (quiet.read name r)
       over_ends s (says.not_written b r h) = absurd (quiet.written r)
       over_ends s (says.no_memory b h) = inr refl
 
-      pub over_of : (s : Status) → Gave c s → ((s ≡ status.Size) × Wrote c (line_of (Size ModelBytes))) ⊎ (s ≡ status.Memory)
+      pub over_of : (s : Status) → Gave c s
+          → ((s ≡ status.Size) × Wrote c (line_of (Size ModelBytes))) ⊎ (s ≡ status.Memory)
       over_of s g = over_ends s g.ends
 
   -- Models that are absent
@@ -135,7 +162,8 @@ module _ (c : Call) (job : Job) (one : (a b : Job) → IsBuiltJob c.words a → 
     not_held : (other : List ℕ) → IsFile (c.files job.model) (limit_of ModelBytes) other → ⊥
     not_held other h = let f = subst (λ (t : Told). IsFile t (limit_of ModelBytes) other) absent h in f.held
 
-    no_loading : (fs : List File) (x : Result (List (List ℕ)) Refusal) → Loaded c.files (model_file job.model ∷ fs) x → ⊥
+    no_loading : (fs : List File) (x : Result (List (List ℕ)) Refusal) → Loaded c.files (model_file job.model ∷ fs) x
+        → ⊥
     no_loading fs x (long h) = subst (λ (t : Told). MayBeLonger t (limit_of ModelBytes)) absent h
     no_loading fs x (later other h k) = not_held other h
     no_loading fs x (whole other h k) = not_held other h
@@ -150,7 +178,8 @@ module _ (c : Call) (job : Job) (one : (a b : Job) → IsBuiltJob c.words a → 
     absent_said said s (tells other w at p t) = no_passing (Ok w) (same_job other at (λ j. Passes c.files j (Ok w)) p)
 
     -- the model alone is asked for
-    model_asked : (fs : List File) (kind : FileKind) (name : List ℕ) → Loads c.files (model_file job.model ∷ fs) kind name → RoseAt c name → Wrote c (line_of (NotRead kind))
+    model_asked : (fs : List File) (kind : FileKind) (name : List ℕ)
+        → Loads c.files (model_file job.model ∷ fs) kind name → RoseAt c name → Wrote c (line_of (NotRead kind))
         → RoseAt c job.model × Wrote c (line_of (NotRead Model))
     model_asked fs kind name this r a = (r, a)
     model_asked fs kind name (next text h k) r a = absurd (not_held text h)
@@ -164,5 +193,6 @@ module _ (c : Call) (job : Job) (one : (a b : Job) → IsBuiltJob c.words a → 
     absent_ends s (says.not_written b r h) = inr (inl r)
     absent_ends s (says.no_memory b h) = inr (inr refl)
 
-    pub absent_of : (s : Status) → Gave c s → ((s ≡ status.Read) × RoseAt c job.model × Wrote c (line_of (NotRead Model))) ⊎ (SinkRose c ⊎ (s ≡ status.Memory))
+    pub absent_of : (s : Status) → Gave c s
+        → ((s ≡ status.Read) × RoseAt c job.model × Wrote c (line_of (NotRead Model))) ⊎ (SinkRose c ⊎ (s ≡ status.Memory))
     absent_of s g = absent_ends s g.ends

@@ -30,8 +30,10 @@ line_counts u v e o =
     let v_line = line_after (decimal v) (codes " events " ++ (decimal e ++ (codes " observers " ++ decimal o))) _ e_all in
     let v_all = line_after (codes " variables ") (decimal v ++ (codes " events " ++ (decimal e ++ (codes " observers " ++ decimal o)))) _ v_line in
     let u_line = line_after (decimal u) (codes " variables " ++ (decimal v ++ (codes " events " ++ (decimal e ++ (codes " observers " ++ decimal o))))) _ v_all in
-    line_after (codes "ok units ") (decimal u ++ (codes " variables " ++ (decimal v ++ (codes " events " ++ (decimal e ++ (codes " observers " ++ decimal o)))))) _ u_line
+    line_after (codes "ok units ")
+    (decimal u ++ (codes " variables " ++ (decimal v ++ (codes " events " ++ (decimal e ++ (codes " observers " ++ decimal o)))))) _ u_line
 
 pub counts_same : {u v e o m n k l : ℕ} → u ≡ m → v ≡ n → e ≡ k → o ≡ l → counts_line u v e o ≡ counts_line m n k l
 counts_same {u = u} {v = v} {e = e} {n = n} {k = k} {l = l} h i j q =
-    ap (λ (z : ℕ). counts_line u v e z) q ∙ ap (λ (z : ℕ). counts_line u v z l) j ∙ ap (λ (z : ℕ). counts_line u z k l) i ∙ ap (λ (z : ℕ). counts_line z n k l) h
+    ap (λ (z : ℕ). counts_line u v e z) q ∙ ap (λ (z : ℕ). counts_line u v z l) j ∙ ap
+    (λ (z : ℕ). counts_line u z k l) i ∙ ap (λ (z : ℕ). counts_line z n k l) h

@@ -30,7 +30,8 @@ use Rattle.altarica_run.specs.declared.status.Status.{Status}
 use Rattle.altarica_run.specs.declared.status.Status.TheVariants.{Done}
 
 -- a text that was written, or was cut
-pub text_written : {old new : SinkState} (told : List ℕ → Status → Type 0) (text : List ℕ) (ends s : Status) (r : Result (Unit {0}) SinkFailed) → s ≡ status_written ends r → told text ends
+pub text_written : {old new : SinkState} (told : List ℕ → Status → Type 0) (text : List ℕ) (ends s : Status) (r : Result (Unit {0}) SinkFailed)
+    → s ≡ status_written ends r → told text ends
     → Writes old new text r → IsWritten told old new s
 text_written {old} {new} told text ends s r e t w = subst (λ (z : Status). IsWritten told old new z) (sym e) (go r w)
   where
@@ -65,29 +66,39 @@ module _ (x : Elaborated) (p : GtsParts) (is : IsFlat x p) where
 -- The commands
 
 module _ (job : Job) (w : Ready) (p : Prepared) (is : IsReady job w p) where
-  pub checked : {old new : SinkState} → job.command ≡ Check → (s : Status) (r : Result (Unit {0}) SinkFailed) → s ≡ status_written Done r
+  pub checked : {old new : SinkState} → job.command ≡ Check → (s : Status) (r : Result (Unit {0}) SinkFailed)
+      → s ≡ status_written Done r
       → Writes old new (counts_line (length p.system.units.items) (length p.system.variables.items) (length p.system.events.items) (length p.system.observers.items)) r
       → IsWritten (Tells job w) old new s
   checked e s r k h =
       let i = counted w.source p.system is.flat in
       text_written (Tells job w) _ Done s r k (subst (λ (z : List ℕ). Tells job w z Done) (sym i) (check e)) h
 
-  pub flattened : {old new : SinkState} → job.command ≡ Flat → (s : Status) (r : Result (Unit {0}) SinkFailed) → s ≡ status_written Done r → Writes old new (flat_text p.system) r
+  pub flattened : {old new : SinkState} → job.command ≡ Flat → (s : Status) (r : Result (Unit {0}) SinkFailed)
+      → s ≡ status_written Done r → Writes old new (flat_text p.system) r
       → IsWritten (Tells job w) old new s
-  flattened e s r k h = text_written (Tells job w) (flat_text p.system) Done s r k (flat e (record { parts = p.system; is_flat = is.flat; is_text = refl })) h
+  flattened e s r k h =
+      text_written (Tells job w) (flat_text p.system) Done s r k
+      (flat e (record { parts = p.system; is_flat = is.flat; is_text = refl })) h
 
-  module _ (there : (cs : List Command) (text : List ℕ) (end : End) → IsReplay (naming_of_parts p.system) is.flat.flat cs text end
+  module _
+      (there : (cs : List Command) (text : List ℕ) (end : End) → IsReplay (naming_of_parts p.system) is.flat.flat cs text end
       → IsReplay (naming_of w.source.declarations) w.source.system cs text end) (e : job.command ≡ Replay) where
-    said : (text : List ℕ) (end : End) → IsReplay (naming_of_parts p.system) is.flat.flat (map (command_of p.system) p.commands.items) text end → Tells job w text (status_at end)
+    said : (text : List ℕ) (end : End)
+        → IsReplay (naming_of_parts p.system) is.flat.flat (map (command_of p.system) p.commands.items) text end
+        → Tells job w text (status_at end)
     said text end h =
-        replay e (subst (λ (z : List Command). IsReplay (naming_of w.source.declarations) w.source.system z text end) (sym is.commands.are)
+        replay e
+        (subst (λ (z : List Command). IsReplay (naming_of w.source.declarations) w.source.system z text end) (sym is.commands.are)
         (there (map (command_of p.system) p.commands.items) text end h))
 
     pub replayed : {old new : SinkState} (s : Status) (r : Result End ReplayFault) → s ≡ status_replayed r
-        → AnswersReplay (naming_of_parts p.system) is.flat.flat (map (command_of p.system) p.commands.items) old new r → IsWritten (Tells job w) old new s
+        → AnswersReplay (naming_of_parts p.system) is.flat.flat (map (command_of p.system) p.commands.items) old new r
+        → IsWritten (Tells job w) old new s
     replayed {old} {new} s r i h = subst (λ (z : Status). IsWritten (Tells job w) old new z) (sym i) (go r h)
       where
-        go : (r : Result End ReplayFault) → AnswersReplay (naming_of_parts p.system) is.flat.flat (map (command_of p.system) p.commands.items) old new r
+        go : (r : Result End ReplayFault)
+            → AnswersReplay (naming_of_parts p.system) is.flat.flat (map (command_of p.system) p.commands.items) old new r
             → IsWritten (Tells job w) old new (status_replayed r)
         go r (replays.whole {text = text} {end = end} h a k) = whole (said text end h) a
         go r (replays.write {text = text} {end = end} h c k) = cut (said text end h) c k

@@ -1,4 +1,5 @@
--- From a text to the system that it means: the grammar, the table, the units, the declarations and the ways, each with its refusals.
+-- From a text to the system that it means: the grammar, the table, the units, the declarations and the ways, each with
+-- its refusals.
 use Rattle.std.specs.Prelude.{ℕ, List, Option, Result, Ok, Err}
 use Rattle.ar_base.specs.Breach.{IsBroken, AreKept}
 use Rattle.ar_base.specs.Stages.{Then}
@@ -27,11 +28,13 @@ pub data Parses (text : List ℕ) : Result Model Refusal → Type 0 where
 
 -- the model seen from the main block that is asked for, where it keeps the rules L1 to L5, or the least that it breaks
 pub data Tables (main : Option (List ℕ)) (model : Model) : Result RootedModel RuleFault → Type 0 where
-  rooted : {m : RootedModel} → IsRootedIn model main m → AreKept text_rules (Breaks model main m.declared) → Tables main model (Ok m)
+  rooted : {m : RootedModel} → IsRootedIn model main m → AreKept text_rules (Breaks model main m.declared)
+      → Tables main model (Ok m)
   breach : {r : ℕ} {p : Place} (d : Declared) → IsDeclared model d → IsBroken text_rules (Breaks model main d) r p
       → Tables main model (Err (fault.Rule r p))
 
--- the system that the model means from its main block: L1 to L5, the limits of units with L6 to L9, L10 to L13, then L14 with the limits of ways
+-- the system that the model means from its main block: L1 to L5, the limits of units with L6 to L9, L10 to L13, then
+-- L14 with the limits of ways
 abbrev pub Systems : Option (List ℕ) → Model → Result Elaborated RuleFault → Type 0
 Systems main = Then (Tables main) (Then Instantiates (Then Binds Flattens))
 

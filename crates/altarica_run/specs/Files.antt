@@ -32,16 +32,20 @@ files_of job = model_file job.model ∷ script_files job.script
 -- the bytes of the files, or the limit of the first one that may be longer; told: what the shelf tells of each name
 pub data Loaded (told : List ℕ → Told) : List File → Result (List (List ℕ)) Refusal → Type 0 where
   none : Loaded told [] (Ok [])
-  long : {f : File} {fs : List File} → MayBeLonger (told f.name) (limit_of f.count) → Loaded told (f ∷ fs) (Err (Size f.count))
-  later : {f : File} {fs : List File} {r : Refusal} (text : List ℕ) → IsFile (told f.name) (limit_of f.count) text → Loaded told fs (Err r)
+  long : {f : File} {fs : List File} → MayBeLonger (told f.name) (limit_of f.count)
+      → Loaded told (f ∷ fs) (Err (Size f.count))
+  later : {f : File} {fs : List File} {r : Refusal} (text : List ℕ) → IsFile (told f.name) (limit_of f.count) text
+      → Loaded told fs (Err r)
       → Loaded told (f ∷ fs) (Err r)
-  whole : {f : File} {fs : List File} {texts : List (List ℕ)} (text : List ℕ) → IsFile (told f.name) (limit_of f.count) text → Loaded told fs (Ok texts)
+  whole : {f : File} {fs : List File} {texts : List (List ℕ)} (text : List ℕ)
+      → IsFile (told f.name) (limit_of f.count) text → Loaded told fs (Ok texts)
       → Loaded told (f ∷ fs) (Ok (text ∷ texts))
 
 -- a file of this kind and name, which is loaded once those before it are
 pub data Loads (told : List ℕ → Told) : List File → FileKind → List ℕ → Type 0 where
   this : {f : File} {fs : List File} → Loads told (f ∷ fs) f.kind f.name
-  next : {f : File} {fs : List File} {kind : FileKind} {name : List ℕ} (text : List ℕ) → IsFile (told f.name) (limit_of f.count) text
+  next : {f : File} {fs : List File} {kind : FileKind} {name : List ℕ} (text : List ℕ)
+      → IsFile (told f.name) (limit_of f.count) text
       → Loads told fs kind name → Loads told (f ∷ fs) kind name
 
 -- the model's text is that of the first file

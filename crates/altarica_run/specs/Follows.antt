@@ -6,7 +6,8 @@ use Rattle.altarica_run.specs.Answers.{Answers}
 use Rattle.altarica_run.specs.Says.{Says, Begins}
 use Rattle.altarica_run.specs.declared.status.Status.{Status}
 
--- a call: its words, what is told of files, and the counts of faults of names, the sink's bytes and the sink's count, each before and after
+-- a call: its words, what is told of files, and the counts of faults of names, the sink's bytes and the sink's count,
+-- each before and after
 pub record Call : Type 0 where
   pub words : List (List ℕ)
   pub files : List ℕ → Told

@@ -1,4 +1,5 @@
--- The jobs of the call: those of a command that is built. Words that ask for another command are, until it is built, no job.
+-- The jobs of the call: those of a command that is built. Words that ask for another command are, until it is built, no
+-- job.
 use Rattle.std.specs.Prelude.{◌≡◌, ℕ, Bool, true, false, List, Result, Ok, Err}
 use Rattle.run_words.specs.Jobs.{IsJob}
 use Rattle.run_words.specs.declared.jobs.Job.{Job}

@@ -78,10 +78,13 @@ pub record AreCommands (p : GtsParts) (cs : List runs.Command) (commands : Vec C
   pub firable : AreFirable p commands.items
 
 -- the commands of the script where there is one, none elsewhere, or the first bad line
-pub data ReadsScript (script : Option (Vec ℕ Global)) (x : Elaborated) : Result (List runs.Command) Refusal → Type 0 where
+pub data ReadsScript (script : Option (Vec ℕ Global)) (x : Elaborated) : Result (List runs.Command) Refusal
+    → Type 0 where
   no_script : script ≡ None → ReadsScript script x (Ok [])
-  gives : {cs : List runs.Command} (bytes : Vec ℕ Global) → script ≡ Some bytes → Commands bytes.items x (Ok cs) → ReadsScript script x (Ok cs)
-  bad : {l : BadLine} (bytes : Vec ℕ Global) → script ≡ Some bytes → Commands bytes.items x (Err l) → ReadsScript script x (Err (line_refused l.why l.number))
+  gives : {cs : List runs.Command} (bytes : Vec ℕ Global) → script ≡ Some bytes → Commands bytes.items x (Ok cs)
+      → ReadsScript script x (Ok cs)
+  bad : {l : BadLine} (bytes : Vec ℕ Global) → script ≡ Some bytes → Commands bytes.items x (Err l)
+      → ReadsScript script x (Err (line_refused l.why l.number))
 
 -- the script, where there is one, is within its limit
 abbrev pub IsShort : Option (Vec ℕ Global) → Type 0
@@ -105,7 +108,8 @@ pub record IsReady (job : Job) (w : Ready) (p : Prepared) : Type 0 where
 pub data RefusesWords (files : List ℕ → Told) (rose : List ℕ → Type 0) (words : List (List ℕ)) : Refusal → Type 0 where
   no_job : IsNoJob words → RefusesWords files rose words Usage
   stage : {r : Refusal} (job : Job) → IsBuiltJob words job → Passes files job (Err r) → RefusesWords files rose words r
-  not_read : {kind : FileKind} {name : List ℕ} (job : Job) → IsBuiltJob words job → Loads files (files_of job) kind name → rose name
+  not_read : {kind : FileKind} {name : List ℕ} (job : Job) → IsBuiltJob words job → Loads files (files_of job) kind name
+      → rose name
       → RefusesWords files rose words (NotRead kind)
 
 -- what is prepared stands ready for the job of the words

@@ -33,7 +33,8 @@ place_text p = decimal p.line ++ (codes ":" ++ decimal p.column)
 
 -- the line that tells a refusal
 abbrev pub line_of : Refusal → List ℕ
-line_of Usage = line (codes "usage: altarica COMMAND FILES [--main B] [--observer O] [--value V] [--nodes N] [--drop EVENTS]")
+line_of Usage =
+    line (codes "usage: altarica COMMAND FILES [--main B] [--observer O] [--value V] [--nodes N] [--drop EVENTS]")
 line_of (NotRead Model) = line (codes "read: model")
 line_of (NotRead Script) = line (codes "read: script")
 line_of (Size count) = line (codes "size: " ++ (count_text count ++ (codes " " ++ decimal (limit_of count))))

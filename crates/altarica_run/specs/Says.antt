@@ -14,25 +14,36 @@ use Rattle.altarica_run.specs.declared.refusals.Refusal.TheVariants.{Usage, NotR
 use Rattle.altarica_run.specs.declared.status.Status.{Status}
 use Rattle.altarica_run.specs.declared.status.Status.TheVariants as status
 
--- the words over these files say this text and end so: they are no job, or a stage of the job refuses, or all stages are passed
+-- the words over these files say this text and end so: they are no job, or a stage of the job refuses, or all stages
+-- are passed
 pub data Says (files : List ℕ → Told) (words : List (List ℕ)) : List ℕ → Status → Type 0 where
   usage : IsNoJob words → Says files words (line_of Usage) (status_of Usage)
-  refuses : (job : Job) (r : Refusal) → IsBuiltJob words job → Passes files job (Err r) → Says files words (line_of r) (status_of r)
-  tells : {text : List ℕ} {ends : Status} (job : Job) (w : Ready) → IsBuiltJob words job → Passes files job (Ok w) → Tells job w text ends
+  refuses : (job : Job) (r : Refusal) → IsBuiltJob words job → Passes files job (Err r)
+      → Says files words (line_of r) (status_of r)
+  tells : {text : List ℕ} {ends : Status} (job : Job) (w : Ready) → IsBuiltJob words job → Passes files job (Ok w)
+      → Tells job w text ends
       → Says files words text ends
 
--- a text of which the call may have written first bytes: nothing, what the words say, or the line of a file that was not read
+-- a text of which the call may have written first bytes: nothing, what the words say, or the line of a file that was
+-- not read
 pub data Begins (files : List ℕ → Told) (rose : List ℕ → Type 0) (words : List (List ℕ)) : List ℕ → Type 0 where
   nothing : Begins files rose words []
   said : {text : List ℕ} {ends : Status} → Says files words text ends → Begins files rose words text
-  not_read : {kind : FileKind} {name : List ℕ} (job : Job) → IsBuiltJob words job → Loads files (files_of job) kind name → rose name
+  not_read : {kind : FileKind} {name : List ℕ} (job : Job) → IsBuiltJob words job → Loads files (files_of job) kind name
+      → rose name
       → Begins files rose words (line_of (NotRead kind))
 
--- How a call ends: it says what its words say; or a file was not read, whose count of faults rose; or the sink's count rose; or memory was refused.
+-- How a call ends: it says what its words say; or a file was not read, whose count of faults rose; or the sink's count
+-- rose; or memory was refused.
 -- In the last two cases the sink has some first bytes of a text that the call may write.
-pub data EndsSo (files : List ℕ → Told) (rose : List ℕ → Type 0) (words : List (List ℕ)) (old new : Option (List ℕ)) (sink_rose : Type 0) : Status → Type 0 where
-  says : {text : List ℕ} {ends : Status} → Says files words text ends → Appended old new text → EndsSo files rose words old new sink_rose ends
-  not_read : {kind : FileKind} {name : List ℕ} (job : Job) → IsBuiltJob words job → Loads files (files_of job) kind name → rose name
+pub data EndsSo (files : List ℕ → Told) (rose : List ℕ → Type 0) (words : List (List ℕ)) (old new : Option (List ℕ)) (sink_rose : Type 0) : Status
+    → Type 0 where
+  says : {text : List ℕ} {ends : Status} → Says files words text ends → Appended old new text
+      → EndsSo files rose words old new sink_rose ends
+  not_read : {kind : FileKind} {name : List ℕ} (job : Job) → IsBuiltJob words job → Loads files (files_of job) kind name
+      → rose name
       → Appended old new (line_of (NotRead kind)) → EndsSo files rose words old new sink_rose status.Read
-  not_written : {text : List ℕ} → Begins files rose words text → sink_rose → Cut old new text → EndsSo files rose words old new sink_rose status.Write
-  no_memory : {text : List ℕ} → Begins files rose words text → Cut old new text → EndsSo files rose words old new sink_rose status.Memory
+  not_written : {text : List ℕ} → Begins files rose words text → sink_rose → Cut old new text
+      → EndsSo files rose words old new sink_rose status.Write
+  no_memory : {text : List ℕ} → Begins files rose words text → Cut old new text
+      → EndsSo files rose words old new sink_rose status.Memory

@@ -55,5 +55,6 @@ Stages job texts = Then (Elaborates job.main) (Asks job.command texts)
 -- what stands ready once all stages of the job are passed, or the first refusal
 pub data Passes (files : List ℕ → Told) (job : Job) : Result Ready Refusal → Type 0 where
   not_loaded : {r : Refusal} → Loaded files (files_of job) (Err r) → Passes files job (Err r)
-  loaded : {x : Result Ready Refusal} {text : List ℕ} (texts : List (List ℕ)) → Loaded files (files_of job) (Ok texts) → IsText texts text
+  loaded : {x : Result Ready Refusal} {text : List ℕ} (texts : List (List ℕ)) → Loaded files (files_of job) (Ok texts)
+      → IsText texts text
       → Stages job texts text x → Passes files job x

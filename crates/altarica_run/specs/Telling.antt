@@ -21,8 +21,12 @@ status_replayed (Ok end) = status_at end
 status_replayed (Err fault.Write) = Write
 status_replayed (Err fault.Memory) = Memory
 
--- one of these texts was written whole, with its status; or first bytes of one, where the sink's count rose or memory was refused
+-- one of these texts was written whole, with its status; or first bytes of one, where the sink's count rose or memory
+-- was refused
 pub data IsWritten (told : List ℕ → Status → Type 0) (old new : SinkState) : Status → Type 0 where
-  whole : {text : List ℕ} {ends : Status} → told text ends → Appended old.bytes new.bytes text → IsWritten told old new ends
-  cut : {text : List ℕ} {ends : Status} → told text ends → Cut old.bytes new.bytes text → Rose old.faults new.faults → IsWritten told old new Write
-  stopped : {text : List ℕ} {ends : Status} → told text ends → Cut old.bytes new.bytes text → IsWritten told old new Memory
+  whole : {text : List ℕ} {ends : Status} → told text ends → Appended old.bytes new.bytes text
+      → IsWritten told old new ends
+  cut : {text : List ℕ} {ends : Status} → told text ends → Cut old.bytes new.bytes text → Rose old.faults new.faults
+      → IsWritten told old new Write
+  stopped : {text : List ℕ} {ends : Status} → told text ends → Cut old.bytes new.bytes text
+      → IsWritten told old new Memory

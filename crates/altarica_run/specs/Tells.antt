@@ -18,11 +18,15 @@ use Rattle.altarica_run.specs.declared.status.Status.TheVariants.{Done, Fault}
 
 -- `ok units U variables V events E observers O`
 abbrev pub counts_line : ℕ → ℕ → ℕ → ℕ → List ℕ
-counts_line u v e o = line (codes "ok units " ++ (decimal u ++ (codes " variables " ++ (decimal v ++ (codes " events " ++ (decimal e ++ (codes " observers " ++ decimal o)))))))
+counts_line u v e o =
+    line
+    (codes "ok units " ++ (decimal u ++ (codes " variables " ++ (decimal v ++ (codes " events " ++ (decimal e ++ (codes " observers " ++ decimal o)))))))
 
 -- how many units, variables, events and observers are declared
 abbrev pub check_text : Declarations → List ℕ
-check_text d = counts_line (length d.units) (length (variables d.model d.units)) (length (events d.model d.units)) (length (observers d.model d.units))
+check_text d =
+    counts_line (length d.units) (length (variables d.model d.units)) (length (events d.model d.units))
+    (length (observers d.model d.units))
 
 -- the text of the flat system of the source
 pub record IsFlatText (x : Elaborated) (text : List ℕ) : Type 0 where
@@ -39,5 +43,6 @@ status_at end.Fault = Fault
 pub data Tells (job : Job) (w : Ready) : List ℕ → Status → Type 0 where
   check : job.command ≡ Check → Tells job w (check_text w.source.declarations) Done
   flat : {text : List ℕ} → job.command ≡ Flat → IsFlatText w.source text → Tells job w text Done
-  replay : {text : List ℕ} {ends : End} → job.command ≡ Replay → IsReplay (naming_of w.source.declarations) w.source.system w.commands text ends
+  replay : {text : List ℕ} {ends : End} → job.command ≡ Replay
+      → IsReplay (naming_of w.source.declarations) w.source.system w.commands text ends
       → Tells job w text (status_at ends)

@@ -20,7 +20,8 @@ pub fn answers_in_words()
 /// Where nothing of the outside fails, the call says what its words say, unless memory is refused:
 /// a job is told to its end, or a stage of it refuses.
 pub fn nothing_gives_up()
-    ensures says { (c : Call) (s : Status) → Gave c s → IsQuiet c → IsSaid c s ⊎ (s ≡ status.Memory) }
-    ensures job { (c : Call) (s : Status) (job : Job) → Gave c s → IsQuiet c → IsBuiltJob c.words job
-        → IsTold c s ⊎ (IsRefused c s ⊎ (s ≡ status.Memory)) }
+    ensures says { (c : Call) (s : Status) → Gave c s → IsQuiet c
+        → IsSaid c s ⊎ (s ≡ status.Memory) }
+    ensures job { (c : Call) (s : Status) (job : Job) → Gave c s → IsQuiet c
+        → IsBuiltJob c.words job → IsTold c s ⊎ (IsRefused c s ⊎ (s ≡ status.Memory)) }
 {}

@@ -18,7 +18,8 @@ ghost use Rattle.altarica_run.specs.declared.status.Status.TheVariants as status
 
 /// Words give at most one job.
 pub fn one_job()
-    ensures { (words : List (List ℕ)) (a b : Job) → IsBuiltJob words a → IsBuiltJob words b → a ≡ b }
+    ensures { (words : List (List ℕ)) (a b : Job) → IsBuiltJob words a → IsBuiltJob words b
+        → a ≡ b }
 {
     run_words::laws::one_job();
 }
@@ -26,15 +27,18 @@ pub fn one_job()
 /// Over files of which something is told, loading comes to one thing: the texts, or one limit.
 pub fn one_loading()
     ensures { (told : List ℕ → Told) → ((name : List ℕ) → IsKnown (told name))
-        → (files : List File) (x y : Result (List (List ℕ)) Refusal) → Loaded told files x → Loaded told files y → x ≡ y }
+        → (files : List File) (x y : Result (List (List ℕ)) Refusal)
+        → Loaded told files x → Loaded told files y → x ≡ y }
 {}
 
 /// A model that is longer than its limit is refused for that alone, whatever it says.
 pub fn long_models_are_refused()
     ensures stages { (files : List ℕ → Told) (job : Job) (text : List ℕ) (x : Result Ready Refusal)
-        → files job.model ≡ Bytes text → limit_of ModelBytes < length text → Passes files job x → x ≡ Err (Size ModelBytes) }
-    ensures call { (c : Call) (s : Status) (job : Job) (text : List ℕ) → Gave c s → IsQuiet c → IsBuiltJob c.words job
-        → c.files job.model ≡ Bytes text → limit_of ModelBytes < length text
+        → files job.model ≡ Bytes text → limit_of ModelBytes < length text
+        → Passes files job x → x ≡ Err (Size ModelBytes) }
+    ensures call { (c : Call) (s : Status) (job : Job) (text : List ℕ) → Gave c s → IsQuiet c
+        → IsBuiltJob c.words job → c.files job.model ≡ Bytes text
+        → limit_of ModelBytes < length text
         → ((s ≡ status.Size) × Wrote c (line_of (Size ModelBytes))) ⊎ (s ≡ status.Memory) }
 {
     one_job();
@@ -43,16 +47,20 @@ pub fn long_models_are_refused()
 /// A script that is longer than its limit, of a model that is not, is refused for that alone,
 /// whatever the two say.
 pub fn long_scripts_are_refused()
-    ensures { (files : List ℕ → Told) (job : Job) (name model script : List ℕ) (x : Result Ready Refusal)
-        → job.script ≡ Some name → files job.model ≡ Bytes model → length model ≤ limit_of ModelBytes
-        → files name ≡ Bytes script → limit_of ScriptBytes < length script → Passes files job x → x ≡ Err (Size ScriptBytes) }
+    ensures { (files : List ℕ → Told) (job : Job) (name model script : List ℕ)
+        (x : Result Ready Refusal) → job.script ≡ Some name
+        → files job.model ≡ Bytes model → length model ≤ limit_of ModelBytes
+        → files name ≡ Bytes script → limit_of ScriptBytes < length script
+        → Passes files job x → x ≡ Err (Size ScriptBytes) }
 {}
 
 /// Where the shelf tells that there is no model, the call says that it was not read, and its own
 /// count of faults rose, unless the sink fails or memory is refused.
 pub fn absent_models_are_not_read()
-    ensures { (c : Call) (s : Status) (job : Job) → Gave c s → IsBuiltJob c.words job → c.files job.model ≡ Absent
-        → ((s ≡ status.Read) × RoseAt c job.model × Wrote c (line_of (NotRead Model))) ⊎ (SinkRose c ⊎ (s ≡ status.Memory)) }
+    ensures { (c : Call) (s : Status) (job : Job) → Gave c s → IsBuiltJob c.words job
+        → c.files job.model ≡ Absent
+        → ((s ≡ status.Read) × RoseAt c job.model × Wrote c (line_of (NotRead Model)))
+        ⊎ (SinkRose c ⊎ (s ≡ status.Memory)) }
 {
     one_job();
 }

@@ -24,7 +24,8 @@ pub struct Texts {
 /// Loads the files of a job, the model first.
 pub fn load_all<H: Shelf>(alloc: Global, shelf: &mut H, job: &Job) -> Result<Texts, Stop>
     ensures { AnswersFiles texts_of (H.holds shelf.old)
-        (λ name. Rose (H.faults shelf.old name) (H.faults shelf.new name)) (files_of job.now) result }
+        (λ name. Rose (H.faults shelf.old name) (H.faults shelf.new name))
+        (files_of job.now) result }
 {
     let name = job.model.as_str();
     let model = load(alloc, shelf, name, FileKind::Model, Count::ModelBytes)?;
@@ -39,7 +40,8 @@ fn load_script<H: Shelf>(
     name: &Option<Text>,
 ) -> Result<Option<Vec<u8>>, Stop>
     ensures { AnswersFiles script_texts (H.holds shelf.old)
-        (λ name. Rose (H.faults shelf.old name) (H.faults shelf.new name)) (script_files name.now) result }
+        (λ name. Rose (H.faults shelf.old name) (H.faults shelf.new name))
+        (script_files name.now) result }
 {
     match name {
         Some(name) => {
@@ -59,7 +61,8 @@ fn load<H: Shelf>(
     kind: FileKind,
     count: Count,
 ) -> Result<Vec<u8>, Stop>
-    ensures loaded { AnswersFile (H.holds shelf.old) (λ name. Rose (H.faults shelf.old name) (H.faults shelf.new name))
+    ensures loaded { AnswersFile (H.holds shelf.old)
+        (λ name. Rose (H.faults shelf.old name) (H.faults shelf.new name))
         (record { kind = kind; name = name.now; count = count }) result }
     ensures keeps { (other : List ℕ) → H.holds shelf.new other ≡ H.holds shelf.old other }
     ensures rises { (other : List ℕ) → H.faults shelf.old other ≤ H.faults shelf.new other }

@@ -19,7 +19,10 @@ pub fn altarica<H: Shelf, K: Sink>(
     shelf: &mut H,
     out: &mut K,
 ) -> Status
-    ensures { Answers (map string_bytes words.now) (H.holds shelf.old) (H.faults shelf.old) (H.faults shelf.new) (K.state out.old).bytes (K.state out.new).bytes (K.state out.old).faults (K.state out.new).faults result }
+    ensures { Answers (map string_bytes words.now)
+        (H.holds shelf.old) (H.faults shelf.old) (H.faults shelf.new)
+        (K.state out.old).bytes (K.state out.new).bytes
+        (K.state out.old).faults (K.state out.new).faults result }
 {
     match prepare(alloc, words, shelf) {
         Ok(prepared) => tell(alloc, &prepared, out),

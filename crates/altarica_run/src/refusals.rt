@@ -138,7 +138,8 @@ fn put_syntax<K: Sink>(out: &mut K, place: Place) -> Result<(), SinkFailed>
 
 // Writes that the model breaks a rule.
 fn put_rule<K: Sink>(out: &mut K, rule: u8, place: Place) -> Result<(), SinkFailed>
-    ensures { Writes (K.state out.old) (K.state out.new) (line_of (Refusal.Rule rule place)) result }
+    ensures { Writes (K.state out.old) (K.state out.new)
+        (line_of (Refusal.Rule rule place)) result }
 {
     put(out, "rule: L")?;
     put_number(out, u32::from(rule))?;
@@ -148,7 +149,8 @@ fn put_rule<K: Sink>(out: &mut K, rule: u8, place: Place) -> Result<(), SinkFail
 
 // Writes what is wrong with a line of the script.
 fn put_script_line<K: Sink>(out: &mut K, number: u32, wrong: &str) -> Result<(), SinkFailed>
-    ensures { Writes (K.state out.old) (K.state out.new) (line (codes "script: line " ++ (decimal number ++ wrong.now))) result }
+    ensures { Writes (K.state out.old) (K.state out.new)
+        (line (codes "script: line " ++ (decimal number ++ wrong.now))) result }
 {
     put(out, "script: line ")?;
     put_number(out, number)?;

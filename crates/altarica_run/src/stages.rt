@@ -53,7 +53,8 @@ pub struct Flattened {
 
 /// Passes the stages of the job of the words.
 pub fn prepare<H: Shelf>(alloc: Global, words: &[String], shelf: &mut H) -> Result<Prepared, Stop>
-    ensures { AnswersWords (H.holds shelf.old) (λ name. Rose (H.faults shelf.old name) (H.faults shelf.new name))
+    ensures { AnswersWords (H.holds shelf.old)
+        (λ name. Rose (H.faults shelf.old name) (H.faults shelf.new name))
         (bytes_of_all words.now) result }
 {
     let asked = job_of(alloc, words)?;
@@ -67,7 +68,8 @@ fn pass(alloc: Global, asked: &Asked, texts: Texts) -> Result<Prepared, Stop>
     requires model { length texts.model.items ≤ limit_of ModelBytes }
     requires script { IsShort texts.script }
     requires there { IsThere (has_script asked.now.job.command) texts.script }
-    ensures { IsStageOf (IsReady asked.now.job) (Stages asked.now.job (texts_of texts) texts.model.items) result }
+    ensures { IsStageOf (IsReady asked.now.job)
+        (Stages asked.now.job (texts_of texts) texts.model.items) result }
 {
     let Texts { model, script } = texts;
     let flattened = elaborate(alloc, model, &asked.job.main)?;

@@ -40,7 +40,8 @@ pub fn tell<K: Sink>(alloc: Global, prepared: &Prepared, out: &mut K) -> Status
 
 /// Writes the line of a refusal.
 pub fn refuse<K: Sink>(refusal: Refusal, out: &mut K) -> Status
-    ensures { IsWritten (λ text ends. (text ≡ line_of refusal) × (ends ≡ status_of refusal)) (K.state out.old) (K.state out.new) result }
+    ensures { IsWritten (λ text ends. (text ≡ line_of refusal) × (ends ≡ status_of refusal))
+        (K.state out.old) (K.state out.new) result }
 {
     written(refusal.status(), refusal.put(out))
 }

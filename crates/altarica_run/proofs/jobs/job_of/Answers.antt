@@ -9,7 +9,9 @@ returns-in_err-job c =
     job_stops _ _ _ _ r.1 r.2 c.in_err-job.ensures.usage
 
 pub returns-in-Some : goal.returns-in-Some
-returns-in-Some c = (record { is_job = c.in_ok-job.ensures.found; built = command_built _ _ c.in-Some.ensures }, c.in-Some.ensures)
+returns-in-Some c =
+    (record { is_job = c.in_ok-job.ensures.found; built = command_built _ _ c.in-Some.ensures }, c.in-Some.ensures)
 
 pub returns-in-None : goal.returns-in-None
-returns-in-None c = (refl, not_built _ c.in_ok-job.job (c.one_job.ensures _) c.in_ok-job.ensures.found c.in-None.ensures)
+returns-in-None c =
+    (refl, not_built _ c.in_ok-job.job (c.one_job.ensures _) c.in_ok-job.ensures.found c.in-None.ensures)

@@ -5,4 +5,5 @@ pub returns-clause-stages : goal.returns-clause-stages
 returns-clause-stages c = λ files job text x told over h. over_passes files job text told over x h
 
 pub returns-clause-call : goal.returns-clause-call
-returns-clause-call c = λ k s job text gave quiet is told over. over_of k job (c.one_job.ensures k.words) is text told over quiet s gave
+returns-clause-call c =
+    λ k s job text gave quiet is told over. over_of k job (c.one_job.ensures k.words) is text told over quiet s gave

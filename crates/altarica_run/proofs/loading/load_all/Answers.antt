@@ -25,7 +25,8 @@ returns-in_err-script g c =
     let part : List ℕ → Type 0 = λ name. Rose (g.H.Shelf.faults c.load.new.shelf name) (g.H.Shelf.faults c.load_script.new.shelf name) in
     let rose : List ℕ → Type 0 = λ name. Rose (g.H.Shelf.faults c.args.shelf.now name) (g.H.Shelf.faults c.load_script.new.shelf name) in
     let is = subst (λ (z : List ℕ). IsFile (told z) (limit_of ModelBytes) c.in_ok-model.model.items) c.as_str-name.ensures c.in_ok-model.ensures.loaded in
-    later_stops told rose texts_of script_texts (model_file c.args.job.now.model) (script_files c.args.job.now.script) c.in_ok-model.model.items is _ _ _ r.1 r.2
+    later_stops told rose texts_of script_texts (model_file c.args.job.now.model)
+    (script_files c.args.job.now.script) c.in_ok-model.model.items is _ _ _ r.1 r.2
     (answers_same after told c.in_ok-model.ensures.keeps part rose (λ name h. rose_after _ _ _ (c.in_ok-model.ensures.rises name) h) script_texts (script_files c.args.job.now.script) (Err c.in_err-script.field-0.0) c.in_err-script.ensures)
 
 pub returns : goal.returns

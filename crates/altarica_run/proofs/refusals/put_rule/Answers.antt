@@ -29,4 +29,5 @@ returns-in_err-put-2 g c =
 
 pub returns : goal.returns
 returns g c =
-    writes_as _ _ (ruled _ _ (place_text c.args.place) c.from.ensures) (writes_on c.in_ok-put.ensures (writes_on c.in_ok-put_number.ensures (writes_on c.in_ok-put-2.ensures c.put_place.ensures)))
+    writes_as _ _ (ruled _ _ (place_text c.args.place) c.from.ensures)
+    (writes_on c.in_ok-put.ensures (writes_on c.in_ok-put_number.ensures (writes_on c.in_ok-put-2.ensures c.put_place.ensures)))

@@ -11,7 +11,8 @@ use Rattle.altarica_run.proofs.stages.elaborate.Goals as goal
 pub returns-in_err-model : goal.returns-in_err-model
 returns-in_err-model c =
     let r = err_from_is_err_and c.from_residual.result c.from_residual.ensures.1 in
-    stage_stops stop_told Parses (Ruled (Systems c.args.main.now)) c.args.text.items (λ (m model : Model). model ≡ m) IsFlattened _ _ _ r.1 r.2 c.in_err-model.ensures
+    stage_stops stop_told Parses (Ruled (Systems c.args.main.now)) c.args.text.items
+    (λ (m model : Model). model ≡ m) IsFlattened _ _ _ r.1 r.2 c.in_err-model.ensures
 
 pub returns-in_err-flattened : goal.returns-in_err-flattened
 returns-in_err-flattened c =
@@ -26,5 +27,6 @@ pub returns : goal.returns
 returns c =
     let p = c.in_ok-model.ensures in
     let h = subst (λ (z : Model). Meets (Systems c.args.main.now) IsFlattened z (Ok c.in_ok-flattened.flattened)) p.2 c.in_ok-flattened.ensures in
-    stage_passes stop_told Parses (Ruled (Systems c.args.main.now)) c.args.text.items (λ (m model : Model). model ≡ m) IsFlattened p.0 (Ok c.in_ok-flattened.flattened) p.1
+    stage_passes stop_told Parses (Ruled (Systems c.args.main.now)) c.args.text.items
+    (λ (m model : Model). model ≡ m) IsFlattened p.0 (Ok c.in_ok-flattened.flattened) p.1
     (ruled_passes (Systems c.args.main.now) IsFlattened p.0 c.in_ok-flattened.flattened h)

@@ -18,7 +18,8 @@ returns-in_err-texts g c =
     let r = err_from_is_err_and c.from_residual-in_err-texts.result c.from_residual-in_err-texts.ensures.1 in
     let files = g.H.Shelf.holds c.args.shelf.now in
     let rose : List ℕ → Type 0 = λ name. Rose (g.H.Shelf.faults c.args.shelf.now name) (g.H.Shelf.faults c.load_all.new.shelf name) in
-    files_stop files rose (bytes_of_all c.args.words.now) c.in_ok-asked.asked.job c.in_ok-asked.ensures.0 _ _ _ r.1 r.2 c.in_err-texts.ensures
+    files_stop files rose
+    (bytes_of_all c.args.words.now) c.in_ok-asked.asked.job c.in_ok-asked.ensures.0 _ _ _ r.1 r.2 c.in_err-texts.ensures
 
 pub pass-requires-clause-command : goal.pass-requires-clause-command
 pass-requires-clause-command g c = c.in_ok-asked.ensures.1
@@ -37,11 +38,13 @@ pass-requires-clause-there g c =
     let files = g.H.Shelf.holds c.args.shelf.now in
     let rest = (loaded_first files _ _ _ _ c.in_ok-texts.ensures).1 in
     let asked = c.in_ok-asked.asked in
-    script_there (bytes_of_all c.args.words.now) asked.job asked.task c.in_ok-texts.texts.script c.in_ok-asked.ensures.0 c.in_ok-asked.ensures.1
+    script_there
+    (bytes_of_all c.args.words.now) asked.job asked.task c.in_ok-texts.texts.script c.in_ok-asked.ensures.0 c.in_ok-asked.ensures.1
     (loaded_script files asked.job.script c.in_ok-texts.texts.script rest)
 
 pub returns : goal.returns
 returns g c =
     let files = g.H.Shelf.holds c.args.shelf.now in
     let rose : List ℕ → Type 0 = λ name. Rose (g.H.Shelf.faults c.args.shelf.now name) (g.H.Shelf.faults c.load_all.new.shelf name) in
-    job_passed files rose (bytes_of_all c.args.words.now) c.in_ok-asked.asked.job c.in_ok-asked.ensures.0 c.in_ok-texts.texts c.in_ok-texts.ensures _ c.pass.ensures
+    job_passed files rose
+    (bytes_of_all c.args.words.now) c.in_ok-asked.asked.job c.in_ok-asked.ensures.0 c.in_ok-texts.texts c.in_ok-texts.ensures _ c.pass.ensures

@@ -9,7 +9,8 @@ returns-in-Check g c = λ job w is.
 
 pub returns-in-Flat : goal.returns-in-Flat
 returns-in-Flat g c = λ job w is.
-    flattened job w c.args.prepared.now is (is.command ∙ ap verb_of c.in-Flat.is) _ _ c.written-in-Flat.ensures c.print.ensures
+    flattened job w c.args.prepared.now is
+    (is.command ∙ ap verb_of c.in-Flat.is) _ _ c.written-in-Flat.ensures c.print.ensures
 
 pub replay-requires : goal.replay-requires
 replay-requires g c = rw c.deref.ensures.value c.requires
@@ -17,5 +18,6 @@ replay-requires g c = rw c.deref.ensures.value c.requires
 pub returns-in-Replay : goal.returns-in-Replay
 returns-in-Replay g c = λ job w is.
     let h = rw c.deref.ensures.value at c.replay.ensures is.flat.flat is.flat.views in
-    replayed job w c.args.prepared.now is (λ cs text end. (c.replays_of_the_source.ensures w.source is.flat.flat c.args.prepared.now.system is.flat is.flat.views cs text end).0)
+    replayed job w c.args.prepared.now is
+    (λ cs text end. (c.replays_of_the_source.ensures w.source is.flat.flat c.args.prepared.now.system is.flat is.flat.views cs text end).0)
     (is.command ∙ ap verb_of c.in-Replay.is) _ _ c.replayed.ensures h

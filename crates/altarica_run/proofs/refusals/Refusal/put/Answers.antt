@@ -7,7 +7,8 @@ pub returns-in-Usage : goal.returns-in-Usage
 returns-in-Usage g c = writes_as _ _ (ap line_of (sym c.in-Usage.is)) c.put.ensures
 
 pub returns-in-NotRead : goal.returns-in-NotRead
-returns-in-NotRead g c = writes_as _ _ (c.not_read_line.ensures ∙ ap line_of (sym c.in-NotRead.is)) c.put-in-NotRead.ensures
+returns-in-NotRead g c =
+    writes_as _ _ (c.not_read_line.ensures ∙ ap line_of (sym c.in-NotRead.is)) c.put-in-NotRead.ensures
 
 pub returns-in-NoCommand : goal.returns-in-NoCommand
 returns-in-NoCommand g c = writes_as _ _ (ap line_of (sym c.in-NoCommand.is)) c.put_script_line.ensures

@@ -3,16 +3,19 @@
 //! Each line of the file `cases` is a case: its name, the number of the load that is to fail or `-`, the number of
 //! the put that is to fail or `-`, and the words of the job. Words that name a file of the folder stand for its
 //! bytes. For each case its name, the status, how many faults the shelf and the sink counted, and the bytes that
-//! were written are printed. Then the limits are run, each at its number and one past it, over texts that are made here.
+//! were written are printed. Then the limits are run, each at its number and one past it, over texts that are made
+//! here, and last the plants of the examples.
 #![tactic(auto)]
 
 mod limits;
 mod made;
+mod plants;
 
 use altarica_run::altarica;
 use ar_base::Memory;
 use ar_io::{MemoryShelf, MemorySink};
 use limits::run_limits;
+use plants::run_plants;
 use std::io::Write;
 use std::{fs, io};
 
@@ -104,5 +107,6 @@ fn main(rt: HostRuntime) -> io::Result<()> {
     for line in cases.lines() {
         run_line(&rt, line)?;
     }
-    run_limits(&rt)
+    run_limits(&rt)?;
+    run_plants(&rt)
 }

@@ -1,9 +1,7 @@
-//! Replays the example plants of its folder over real files, and compares each trace with the one that stands beside
-//! the plant.
-#![tactic(auto)]
+//! The plants of the examples, replayed over real files, each compared with the trace that stands beside it.
 
+use crate::{ROOM, no_memory};
 use altarica_run::altarica;
-use ar_base::Memory;
 use ar_io::{FileShelf, MemorySink};
 use std::io::Write;
 use std::{fs, io};
@@ -20,21 +18,24 @@ const PLANTS: [&str; 8] = [
     "conflict",
 ];
 
-/// The room for the text of a trace, in bytes.
-const ROOM: usize = 65_536;
-
-fn no_memory(_memory: Memory) -> io::Error {
-    io::Error::from(io::ErrorKind::OutOfMemory)
+/// Replays the script of each plant, and prints the status and whether the trace is the expected one, or else the
+/// trace.
+pub(crate) fn run_plants(rt: &HostRuntime) -> io::Result<()> {
+    for plant in PLANTS {
+        replay(rt, plant)?;
+    }
+    Ok(())
 }
 
 // The name of a plant's file with this ending.
 fn file(rt: &HostRuntime, plant: &str, ending: &str) -> io::Result<String> {
-    let mut name = String::from_str(rt.alloc(), plant)?;
+    let mut name = String::from_str(rt.alloc(), "plants/")?;
+    name.push_str(plant)?;
     name.push_str(ending)?;
     Ok(name)
 }
 
-// Replays a plant's script, and prints the status and whether the trace is the expected one, or else the trace.
+// Replays a plant's script.
 fn replay(rt: &HostRuntime, plant: &str) -> io::Result<()> {
     let mut words = Vec::new(rt.alloc());
     words.push(String::from_str(rt.alloc(), "replay")?)?;
@@ -50,11 +51,4 @@ fn replay(rt: &HostRuntime, plant: &str) -> io::Result<()> {
         println!(rt; "{plant}: status {status}, another trace:")?;
         io::writer(rt).write_all(sink.bytes())
     }
-}
-
-fn main(rt: HostRuntime) -> io::Result<()> {
-    for plant in PLANTS {
-        replay(&rt, plant)?;
-    }
-    Ok(())
 }

@@ -1,0 +1,5 @@
+pub mod Reading
+mod LeastVariables
+mod Keeping
+mod FirstStates
+mod Marking

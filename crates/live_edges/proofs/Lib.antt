@@ -1,0 +1,4 @@
+mod Sorting
+mod Usable
+mod Gathering
+mod Noting

@@ -1,0 +1,4 @@
+pub mod Rows
+pub mod Reaches
+pub mod Live
+pub mod Sharing

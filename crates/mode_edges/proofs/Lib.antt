@@ -1,0 +1,3 @@
+mod Fewer
+mod Reaching
+mod Ending

@@ -1,0 +1,2 @@
+mod Allowing
+mod Assigning

@@ -1,7 +1,6 @@
 -- Transitions and synchronisations by numbers.
-use Rattle.std.proofs.Common.{◌≡◌, ℕ, ◌+◌, ◌<◌, ◌≤◌, Bool, true, false, List, [], ◌∷◌, ◌++◌, map, filter, take, take_all, get_or, length, Vec, refl, sym, ◌∙◌, ap, subst, arith, append_assoc}
+use Rattle.std.proofs.Common.{◌≡◌, ℕ, ◌+◌, ◌<◌, ◌≤◌, Bool, true, List, [], ◌∷◌, ◌++◌, map, take, take_all, get_or, length, Vec, refl, sym, subst, arith}
 use Rattle.std.specs.Global.{Global}
-use Rattle.std.proofs.lemmas.List.Elements.{filter-append}
 use Rattle.ar_base.specs.Lists.{Stands, IsOneOf, Along}
 use Rattle.ar_base.specs.Lists as l
 use Rattle.ar_base.specs.Numbers.{NameId, VarId, EventId}
@@ -17,15 +16,13 @@ use Rattle.ar_meaning.specs.Expand.{One, Synchronises}
 use Rattle.ar_meaning.specs.ExpandImage.{Part_renames, transitions, synchronise}
 use Rattle.gts_core.specs.Bound.{event_part_of}
 use Rattle.gts_core.specs.declared.bound.Act.{Act, out-Act}
-use Rattle.gts_core.specs.declared.bound.DeclaredWay.{DeclaredWay}
 use Rattle.gts_core.specs.declared.bound.DeclaredWay.TheVariants.{Local, Sync}
 use Rattle.gts_core.proofs.Numbering.{source_numbered}
-use Rattle.class_table.specs.Declaring.{MemberForm}
-use Rattle.class_table.proofs.Laid.{append_none, along_append}
+use Rattle.class_table.proofs.Laid.{along_append}
 use Rattle.class_table.proofs.Taken.{take_next, item_stands}
 use Rattle.hierarchy.specs.Models.{RootedModel}
 use Rattle.hierarchy.specs.Units.{UnitPath, Thing}
-use Rattle.hierarchy.specs.Listing.{variables, events, is_way_of}
+use Rattle.hierarchy.specs.Listing.{variables, events}
 use Rattle.hierarchy.specs.Tie.{IsTreeOf}
 use Rattle.hierarchy.specs.declared.tree.Tree.{Tree}
 use Rattle.source_meaning.specs.Acts.{assigns_of}
@@ -36,7 +33,7 @@ use Rattle.source_meaning.specs.Rules as way
 use Rattle.source_meaning.specs.Systems.{IsPart}
 use Rattle.source_meaning.specs.Systems as is
 use Rattle.bind_forms.specs.Typed.{IsTypedIn, IsSoundIn}
-use Rattle.bind_events.specs.Ways.{IsBoundPart, IsBoundWay, AddsWays}
+use Rattle.bind_events.specs.Ways.{IsBoundPart, IsBoundWay}
 
 -- Lists that are made item by item from another list
 
@@ -99,38 +96,3 @@ module _ (m : RootedModel) (units : List UnitPath) (tree : Tree) (u : UnitPath) 
             let n = along_length (events m units) tree.events.items t.events_are in
             omega (arith, s, n);
       }
-
-  module _ (x : ℕ) where
-    -- nothing is added, or one
-    pub adds_none : (forms : List MemberForm) (old new : List DeclaredWay) → filter (is_way_of x) forms ≡ [] → new ≡ old → AddsWays m units tree u x forms old new
-    adds_none forms old new e k = record {
-      added = [];
-      is = k ∙ sym (append_none old);
-      are = subst (λ (fs : List MemberForm). Along (IsBoundWay m units tree u) fs []) (sym e) l.none;
-    }
-
-    pub adds_one : (f : MemberForm) (w : DeclaredWay) (old new : List DeclaredWay) → is_way_of x f ≡ true → IsBoundWay m units tree u f w → new ≡ old ++ w ∷ []
-        → AddsWays m units tree u x (f ∷ []) old new
-    adds_one f w old new e h k = record {
-      added = w ∷ [];
-      is = k;
-      are = rw e (l.one_and h l.none);
-    }
-
-    pub adds_not : (f : MemberForm) (old : List DeclaredWay) → is_way_of x f ≡ false → AddsWays m units tree u x (f ∷ []) old old
-    adds_not f old e = record { added = []; is = sym (append_none old); are = rw e l.none }
-
-    -- one after the other
-    pub adds_join : (fs gs hs : List MemberForm) (old mid new : List DeclaredWay) → hs ≡ fs ++ gs → AddsWays m units tree u x fs old mid → AddsWays m units tree u x gs mid new
-        → AddsWays m units tree u x hs old new
-    adds_join fs gs hs old mid new e h k = record {
-      added = h.added ++ k.added;
-      is = k.is ∙ (ap (λ (ws : List DeclaredWay). ws ++ k.added) h.is ∙ append_assoc old h.added k.added);
-      are = subst (λ (zs : List MemberForm). Along (IsBoundWay m units tree u) zs (h.added ++ k.added)) (sym (ap (filter (is_way_of x)) e ∙ filter-append (is_way_of x) fs gs))
-          (along_append _ _ _ _ h.are k.are);
-    }
-
-    -- from no ways on
-    pub adds_all : (forms : List MemberForm) (old new : List DeclaredWay) → old ≡ [] → AddsWays m units tree u x forms old new → Along (IsBoundWay m units tree u) (filter (is_way_of x) forms) new
-    adds_all forms old new e h =
-        subst (λ (ws : List DeclaredWay). Along (IsBoundWay m units tree u) (filter (is_way_of x) forms) ws) (sym (h.is ∙ ap (λ (ws : List DeclaredWay). ws ++ h.added) e)) h.are

@@ -1,3 +1,4 @@
 pub mod Bound
 pub mod Ways
 pub mod Hiding
+pub mod Gathering

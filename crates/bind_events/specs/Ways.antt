@@ -1,6 +1,6 @@
 -- What it is that transitions and synchronisations by numbers are members of a unit.
-use Rattle.std.specs.Prelude.{◌≡◌, ℕ, ◌<◌, Bool, true, List, ◌++◌, filter, length}
-use Rattle.ar_base.specs.Lists.{Stands, IsOneOf, Along}
+use Rattle.std.specs.Prelude.{◌<◌, Bool, true, List, length}
+use Rattle.ar_base.specs.Lists.{Stands, IsOneOf}
 use Rattle.ar_base.specs.Numbers.{EventId}
 use Rattle.ar_syntax.specs.declared.members.Part.{Part}
 use Rattle.typed_expr.specs.declared.expr.ValueKind.TheVariants.{Truth}
@@ -14,7 +14,7 @@ use Rattle.gts_core.specs.declared.bound.DeclaredWay.TheVariants.{Local, Sync}
 use Rattle.class_table.specs.Declaring.{MemberForm}
 use Rattle.hierarchy.specs.Models.{RootedModel}
 use Rattle.hierarchy.specs.Units.{UnitPath, Thing}
-use Rattle.hierarchy.specs.Listing.{forms_at, variables, events, is_way_of}
+use Rattle.hierarchy.specs.Listing.{forms_at, variables, events}
 use Rattle.hierarchy.specs.declared.tree.Tree.{Tree}
 use Rattle.source_meaning.specs.Binding.{HasPlace}
 use Rattle.source_meaning.specs.Systems.{IsMember, IsPart}
@@ -42,10 +42,3 @@ pub record IsBoundWay (m : RootedModel) (units : List UnitPath) (tree : Tree) (u
 -- each of these is a member of the unit u
 abbrev pub AreMembers : RootedModel → UnitPath → List MemberForm → Type 0
 AreMembers m u forms = (f : MemberForm) → IsOneOf forms f → IsOneOf (forms_at m u) f
-
--- those of these members that are of the event x were added
-pub record AddsWays (m : RootedModel) (units : List UnitPath) (tree : Tree) (u : UnitPath) (x : ℕ) (forms : List MemberForm)
-    (old new : List DeclaredWay) : Type 0 where
-  pub added : List DeclaredWay
-  pub is : new ≡ old ++ added
-  pub are : Along (IsBoundWay m units tree u) (filter (is_way_of x) forms) added

@@ -12,14 +12,14 @@ ghost use Rattle.hierarchy.specs.Units.{UnitPath};
 ghost use Rattle.hierarchy.specs.Walks.{Finds, is_event};
 ghost use Rattle.hierarchy.specs.Listing.{events as events_of, form_of};
 ghost use Rattle.hierarchy.specs.Tie.{IsTreeOf};
-ghost use Rattle.hierarchy.specs.Finding.{IsSomeTree};
+ghost use Rattle.bind_scopes.specs.Scopes.{HasScopes};
 ghost use Rattle.bind_events.specs.Hiding.{HidesIn, Marks, AreHidden};
 
 use crate::members::body_of;
 use ar_base::{BodyId, EventId, Memory, UnitId};
 use ar_syntax::{Member, Path};
+use bind_scopes::Scopes;
 use class_table::Owned;
-use hierarchy::{Tree, event_at};
 use std::alloc::Global;
 use unit_settings::owned_at;
 
@@ -45,92 +45,92 @@ fn mark(marks: &mut Vec<bool>, event: EventId)
 }
 
 // Marks the event that a path names.
-fn hide(marks: &mut Vec<bool>, tree: &Tree, unit: UnitId, path: &Path)
-    requires tree { IsSomeTree tree.now }
-    requires in_range { unit.n < length tree.now.units.items }
-    ensures { (m : RootedModel) (units : List UnitPath) (u : UnitPath) → IsTreeOf m units tree.now
-        → Stands units unit.n u
+fn hide(marks: &mut Vec<bool>, scopes: &Scopes<'_>, unit: UnitId, path: &Path)
+    requires scopes { HasScopes scopes.now }
+    requires in_range { unit.n < length scopes.now.tree.now.units.items }
+    ensures { (m : RootedModel) (units : List UnitPath) (u : UnitPath)
+        → IsTreeOf m units scopes.now.tree.now → Stands units unit.n u
         → Marks (events_of m units) (Finds m is_event u path.now) marks.old.items marks.new.items }
 {
-    match event_at(tree, unit, path.start, &path.names) {
+    match scopes.event_at(unit, path.start, &path.names) {
         Some(event) => mark(marks, event),
         None => {}
     }
 }
 
 // Marks the event that a member hides.
-fn hide_by(marks: &mut Vec<bool>, tree: &Tree, unit: UnitId, member: &Member)
-    requires tree { IsSomeTree tree.now }
-    requires in_range { unit.n < length tree.now.units.items }
-    ensures { (m : RootedModel) (units : List UnitPath) (u : UnitPath) → IsTreeOf m units tree.now
-        → Stands units unit.n u
+fn hide_by(marks: &mut Vec<bool>, scopes: &Scopes<'_>, unit: UnitId, member: &Member)
+    requires scopes { HasScopes scopes.now }
+    requires in_range { unit.n < length scopes.now.tree.now.units.items }
+    ensures { (m : RootedModel) (units : List UnitPath) (u : UnitPath)
+        → IsTreeOf m units scopes.now.tree.now → Stands units unit.n u
         → Marks (events_of m units) (HidesIn m u (form_of (Some (Plain member.now))))
         marks.old.items marks.new.items }
 {
     match member {
-        Member::Hide(path) => hide(marks, tree, unit, path),
+        Member::Hide(path) => hide(marks, scopes, unit, path),
         _ => {}
     }
 }
 
 // Marks the event that a member hides, where it is no block.
-fn hide_owned(marks: &mut Vec<bool>, tree: &Tree, unit: UnitId, owned: &Owned)
-    requires tree { IsSomeTree tree.now }
-    requires in_range { unit.n < length tree.now.units.items }
-    ensures { (m : RootedModel) (units : List UnitPath) (u : UnitPath) → IsTreeOf m units tree.now
-        → Stands units unit.n u
+fn hide_owned(marks: &mut Vec<bool>, scopes: &Scopes<'_>, unit: UnitId, owned: &Owned)
+    requires scopes { HasScopes scopes.now }
+    requires in_range { unit.n < length scopes.now.tree.now.units.items }
+    ensures { (m : RootedModel) (units : List UnitPath) (u : UnitPath)
+        → IsTreeOf m units scopes.now.tree.now → Stands units unit.n u
         → Marks (events_of m units) (HidesIn m u (form_of (Some owned.now)))
         marks.old.items marks.new.items }
 {
     match owned {
         Owned::Nested(_, _, _) => {}
-        Owned::Plain(member) => hide_by(marks, tree, unit, member),
+        Owned::Plain(member) => hide_by(marks, scopes, unit, member),
     }
 }
 
 // Marks the event that the member at a site hides.
-fn hide_at(marks: &mut Vec<bool>, tree: &Tree, unit: UnitId, site: (BodyId, u32))
-    requires tree { IsSomeTree tree.now }
-    requires in_range { unit.n < length tree.now.units.items }
-    ensures { (m : RootedModel) (units : List UnitPath) (u : UnitPath) → IsTreeOf m units tree.now
-        → Stands units unit.n u
+fn hide_at(marks: &mut Vec<bool>, scopes: &Scopes<'_>, unit: UnitId, site: (BodyId, u32))
+    requires scopes { HasScopes scopes.now }
+    requires in_range { unit.n < length scopes.now.tree.now.units.items }
+    ensures { (m : RootedModel) (units : List UnitPath) (u : UnitPath)
+        → IsTreeOf m units scopes.now.tree.now → Stands units unit.n u
         → Marks (events_of m units)
         (HidesIn m u (form_of (declared_at m.declared (site_of site))))
         marks.old.items marks.new.items }
 {
-    match owned_at(&tree.classes.bodies, site) {
+    match owned_at(&scopes.tree.classes.bodies, site) {
         None => {}
-        Some(owned) => hide_owned(marks, tree, unit, owned),
+        Some(owned) => hide_owned(marks, scopes, unit, owned),
     }
 }
 
 // Marks the events that the members at these sites hide.
-fn hide_in(marks: &mut Vec<bool>, tree: &Tree, unit: UnitId, sites: &[(BodyId, u32)])
-    requires tree { IsSomeTree tree.now }
-    requires in_range { unit.n < length tree.now.units.items }
-    ensures { (m : RootedModel) (units : List UnitPath) (u : UnitPath) → IsTreeOf m units tree.now
-        → Stands units unit.n u
+fn hide_in(marks: &mut Vec<bool>, scopes: &Scopes<'_>, unit: UnitId, sites: &[(BodyId, u32)])
+    requires scopes { HasScopes scopes.now }
+    requires in_range { unit.n < length scopes.now.tree.now.units.items }
+    ensures { (m : RootedModel) (units : List UnitPath) (u : UnitPath)
+        → IsTreeOf m units scopes.now.tree.now → Stands units unit.n u
         → Marks (events_of m units)
         (HidesIn m u (flat_map (λ s. form_of (declared_at m.declared s)) (map site_of sites.now)))
         marks.old.items marks.new.items }
 {
     for site in sites {
-        hide_at(marks, tree, unit, *site);
+        hide_at(marks, scopes, unit, *site);
     }
 }
 
 /// Of each event of a tree, whether a `hide` clause of some unit names it. The error is want of
 /// memory.
-pub(crate) fn hidden_events(alloc: Global, tree: &Tree) -> Result<Vec<bool>, Memory>
-    requires { IsSomeTree tree.now }
-    ensures { (m : RootedModel) (units : List UnitPath) → IsTreeOf m units tree.now
+pub(crate) fn hidden_events(alloc: Global, scopes: &Scopes<'_>) -> Result<Vec<bool>, Memory>
+    requires { HasScopes scopes.now }
+    ensures { (m : RootedModel) (units : List UnitPath) → IsTreeOf m units scopes.now.tree.now
         → IfOk result (λ v. AreHidden m units v.items) }
 {
-    let mut marks = unset(alloc, tree.events.len())?;
-    for place in 0..tree.units.len() {
+    let mut marks = unset(alloc, scopes.tree.events.len())?;
+    for place in 0..scopes.tree.units.len() {
         let unit = UnitId::new(place as u32);
-        let body = body_of(tree, unit)?;
-        hide_in(&mut marks, tree, unit, &body.all);
+        let body = body_of(scopes.tree, unit)?;
+        hide_in(&mut marks, scopes, unit, &body.all);
     }
     Ok(marks)
 }

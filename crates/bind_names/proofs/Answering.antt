@@ -1,5 +1,5 @@
 -- What the binding of a tree answers.
-use Rattle.std.proofs.Common.{◌≡◌, List, Result, Ok, Err, sym, ◌∙◌, ap, subst}
+use Rattle.std.proofs.Common.{◌≡◌, List, Result, Ok, Err, refl, sym, ◌∙◌, ap, subst}
 use Rattle.ar_base.specs.Stages.{refuses, passes, kept, broken}
 use Rattle.ar_base.specs.declared.faults.RuleFault.{RuleFault}
 use Rattle.ar_base.specs.declared.faults.RuleFault.TheVariants.{Rule, Limit, Memory}
@@ -19,6 +19,10 @@ module _ (m : RootedModel) (units : List UnitPath) where
   abbrev tree : Unfolded
   tree = record { model = m; units = units }
 
+  -- there is no memory
+  pub memory_refuses : (r : Result Bound RuleFault) (d : RuleFault) → r ≡ Err d → d ≡ Memory → BindsTo tree r
+  memory_refuses r d i j = subst (λ (z : Result Bound RuleFault). BindsTo tree z) (sym (i ∙ ap Err j)) (record { meets = tt; no_limit = λ c q. cc; sound = λ b q. cc })
+
   module _ (scopes : Scopes) where
     -- the rules refuse
     pub rules_refuse : (r : Result Bound RuleFault) (d e : RuleFault) → r ≡ Err d → d ≡ e
@@ -28,7 +32,7 @@ module _ (m : RootedModel) (units : List UnitPath) where
         go : (e : RuleFault) → AnswersRules m units scopes (Err e) → BindsTo tree (Err e)
         go (Rule n p) h = record { meets = refuses (broken h); no_limit = λ c q. cc; sound = λ b q. cc }
         go (Limit count) h = absurd h
-        go Memory h = record { meets = tt; no_limit = λ c q. cc; sound = λ b q. cc }
+        go Memory h = memory_refuses (Err Memory) Memory refl refl
 
     -- the bound forms
     pub bound_told : (values : Values) (b : Bound) → KeepsNames m units scopes values → IsBoundOf m units b

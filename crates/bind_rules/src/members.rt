@@ -34,7 +34,7 @@ fn in_member<'a>(scopes: &'a Scopes<'a>, rule: Rule, unit: UnitId, member: &Memb
         → AreScopes m units scopes.now → Stands units unit.n u
         → IsEarliest (BreaksMember m rule u (out-Member member.now)) result }
 {
-    let event = in_event(scopes.tree, rule, unit, member);
+    let event = in_event(scopes, rule, unit, member);
     match member {
         Member::Local(_, _, guard, action) => {
             let truth = ValueKind::Truth;

@@ -1,5 +1,5 @@
 -- Names of members that are added to a set.
-use Rattle.std.proofs.Common.{◌≡◌, ℕ, ◌+◌, ◌<◌, ◌≤◌, ◌⊎◌, inl, inr, Bool, true, false, cond, nat_eq, ◌==◌, ◌&&◌, List, [], ◌∷◌, ◌++◌, map, length, unwrap_or, slice_get, Option, Some, None, option_map, is_some, Result, Ok, Err, OnOk, refl, sym, ◌∙◌, ap, subst, arith, append_assoc}
+use Rattle.std.proofs.Common.{◌≡◌, ℕ, ◌+◌, ◌<◌, ◌≤◌, ◌⊎◌, inl, inr, Bool, true, false, cond, nat_eq, List, [], ◌∷◌, ◌++◌, map, length, unwrap_or, slice_get, Option, Some, None, option_map, is_some, Result, Ok, Err, OnOk, refl, sym, ◌∙◌, ap, subst, arith, append_assoc}
 use Rattle.std.proofs.lemmas.Bool.Decides.{nat_tests}
 use Rattle.std.specs.HashMap as hash
 use Rattle.std.specs.HashMap.{HashMap}
@@ -17,26 +17,16 @@ use Rattle.class_table.specs.Shown.{IsDeclaredBy}
 use Rattle.class_table.specs.declared.tables.Body.{Body}
 use Rattle.class_table.specs.declared.tables.Classes.{Classes}
 use Rattle.hierarchy.specs.Models.{RootedModel, IsTableFor, sites_kept}
-use Rattle.hierarchy.proofs.Finding.{same_or_not, side}
+use Rattle.hierarchy.proofs.Finding.{side}
 use Rattle.hierarchy.specs.Units.{UnitPath}
 use Rattle.hierarchy.specs.Tie.{IsTreeOf}
 use Rattle.unit_things.proofs.OneName.{members_there, members_past}
 use Rattle.unit_sizes.specs.Typing.{KnowsPlaces}
 use Rattle.bind_scopes.specs.Scopes.{AreScopes}
 use Rattle.bind_scopes.specs.declared.scopes.Scopes.{Scopes}
-use Rattle.bind_scopes.specs.Members.{same_pair, HasName, NamesSo, names_in, AddsNames, HasFirst}
-
--- a pair is itself and no other
-pub pair_same : (b x : ℕ) → same_pair (b, x) (b, x) ≡ true
-pair_same b x = grind (arith, nat_tests)
-
-pub pair_one : (b x c y : ℕ) → same_pair (b, x) (c, y) ≡ true → (b ≡ c) × (x ≡ y)
-pair_one b x c y e = by (same_or_not b c) (same_or_not x y) e
-  where
-    by : (((b == c) ≡ true) × (b ≡ c)) ⊎ (((b == c) ≡ false) × (b ≡ c → ⊥)) → (((x == y) ≡ true) × (x ≡ y)) ⊎ (((x == y) ≡ false) × (x ≡ y → ⊥)) → ((b == c) && (x == y)) ≡ true → (b ≡ c) × (x ≡ y)
-    by (inl p) (inl q) e = (p.1, q.1)
-    by (inl p) (inr q) e = absurd (let v : (b == c) ≡ true = p.0 in let w : (x == y) ≡ false = q.0 in let r = rw (v, w) at e in cc)
-    by (inr p) q e = absurd (let v : (b == c) ≡ false = p.0 in let r = rw v at e in cc)
+use Rattle.unit_index.specs.Indexed.{same_pair, IsIndexOf}
+use Rattle.unit_index.proofs.Pairs.{pair_same, pair_one}
+use Rattle.bind_scopes.specs.Members.{HasName, NamesSo, names_in, AddsNames, HasFirst}
 
 so_none : (x : ℕ) → NamesSo [] x → ⊥
 so_none x n = one_none n.member n.is_one
@@ -215,8 +205,10 @@ module _ {S : Type 0} (list : List NameId) where
 pub scopes_of : (m : RootedModel) (units : List UnitPath) (s : Scopes) → IsTreeOf m units s.tree.now
     → ((x k : ℕ) → hash.get nat_eq s.symbols x ≡ Some k → Stands (map (λ (x : NameId). x.n) s.tree.now.classes.symbols.items) k x)
     → ((x k : ℕ) → hash.get nat_eq s.symbols x ≡ None → Stands (map (λ (x : NameId). x.n) s.tree.now.classes.symbols.items) k x → ⊥)
-    → HasFirst m (length s.tree.now.classes.bodies.items) s.members → KnowsPlaces s.tree.now.classes.types.items s.types → AreScopes m units s
-scopes_of m units s is at all first known = record {
+    → HasFirst m (length s.tree.now.classes.bodies.items) s.members → KnowsPlaces s.tree.now.classes.types.items s.types
+    → IsIndexOf s.tree.now s.index → AreScopes m units s
+scopes_of m units s is at all first known index = record {
+  index = index;
   types = known;
   is_tree = is;
   symbols = λ x k e. subst (λ (z : List ℕ). Stands z k x) is.table.table.holds.symbols (at x k e);

@@ -24,7 +24,8 @@ use Rattle.hierarchy.proofs.Looking.{some_unit, main_first}
 use Rattle.hierarchy.proofs.Things.{ComesFrom, flat_origin, listed_has}
 use Rattle.source_meaning.specs.Means.{is_valued, IsSymbol}
 use Rattle.source_meaning.specs.Tested as s
-use Rattle.bind_scopes.specs.Members.{same_pair, NamesSo, names_in}
+use Rattle.unit_index.specs.Indexed.{same_pair}
+use Rattle.bind_scopes.specs.Members.{NamesSo, names_in}
 use Rattle.bind_scopes.specs.Searching.{variable_in, parameter_in}
 use Rattle.bind_scopes.specs.Sites.{owned_in, is_read}
 use Rattle.bind_scopes.specs.Scopes.{AreScopes, IsNamedIn, variable, parameter, symbol, nothing, HasScopes, symbol_by, is_read_in, first_named, named_in, IsScope, everything, constants, before, is_name, allowed, scoped_in}

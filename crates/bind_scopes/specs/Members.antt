@@ -1,13 +1,10 @@
 -- The names of members of bodies, as they are kept in a set.
-use Rattle.std.specs.Prelude.{◌≡◌, ◌⊎◌, ◌==◌, ◌&&◌, ◌<◌, ℕ, Bool, true, List, [], slice_get, unwrap_or}
+use Rattle.std.specs.Prelude.{◌≡◌, ◌⊎◌, ◌<◌, ℕ, true, List, [], slice_get, unwrap_or}
 use Rattle.std.specs.HashSet.{HashSet, contains}
 use Rattle.ar_base.specs.Lists.{IsOneOf}
 use Rattle.class_table.specs.Members.{NamedMember, named_at}
 use Rattle.hierarchy.specs.Models.{RootedModel}
-
--- a test for one pair
-abbrev pub same_pair : ℕ × ℕ → ℕ × ℕ → Bool
-same_pair a b = (a.0 == b.0) && (a.1 == b.1)
+use Rattle.unit_index.specs.Indexed.{same_pair}
 
 -- the name is in the set, for this body
 abbrev pub HasName : {S : Type 0} → HashSet (ℕ × ℕ) S → ℕ → ℕ → Type 0

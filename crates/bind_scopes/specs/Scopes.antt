@@ -18,7 +18,8 @@ use Rattle.hierarchy.specs.declared.tree.Tree.{Tree}
 use Rattle.source_meaning.specs.Means.{is_valued, IsSymbol}
 use Rattle.source_meaning.specs.Tested as s
 use Rattle.unit_sizes.specs.Typing.{KnowsPlaces}
-use Rattle.bind_scopes.specs.Members.{same_pair, HasName, NamesSo, names_in}
+use Rattle.unit_index.specs.Indexed.{same_pair, IsIndexOf}
+use Rattle.bind_scopes.specs.Members.{HasName, NamesSo, names_in}
 use Rattle.bind_scopes.specs.Searching.{variable_in, parameter_in}
 use Rattle.bind_scopes.specs.Sites.{owned_in, is_read}
 use Rattle.bind_scopes.specs.declared.scopes.Named.{Named}
@@ -29,7 +30,8 @@ use Rattle.bind_scopes.specs.declared.scopes.Scopes.{Scopes}
 
 -- The table
 
--- the table is that of the tree of the model: it numbers the symbols, has the names of all members, and knows the types
+-- the table is that of the tree of the model: it numbers the symbols, has the names of all members, knows the types and has
+-- the tree's index
 pub record AreScopes (m : RootedModel) (units : List UnitPath) (s : Scopes) : Type 0 where
   pub is_tree : IsTreeOf m units s.tree.now
   pub symbols : (x k : ℕ) → hash.get nat_eq s.symbols x ≡ Some k → Stands m.declared.symbols k x
@@ -37,6 +39,7 @@ pub record AreScopes (m : RootedModel) (units : List UnitPath) (s : Scopes) : Ty
   pub names : (b x : ℕ) → NamesSo (names_in m b) x → HasName s.members b x
   pub only_names : (b x : ℕ) → HasName s.members b x → NamesSo (names_in m b) x
   pub types : KnowsPlaces s.tree.now.classes.types.items s.types
+  pub index : IsIndexOf s.tree.now s.index
 
 -- the table is that of the tree of some model
 pub record HasScopes (s : Scopes) : Type 0 where

@@ -11,7 +11,7 @@ use ar_base::UnitId;
 use ar_syntax::Path;
 use bind_expressions::Naming;
 use bind_instructions::Targets;
-use hierarchy::{Tree, VarNode, var_at};
+use hierarchy::{Tree, VarNode};
 use typed_expr::ValueKind;
 
 /// Which variables are told from the others.
@@ -82,7 +82,10 @@ impl<'a> Targets for UnitNames<'a> {
 
     fn target(&self, path: &Path) -> Option<bool> {
         let tree = self.scopes.tree;
-        let variable = var_at(tree, self.unit, path.start, &path.names)?;
+        let variable = self
+            .scopes
+            .index
+            .var_at(tree, self.unit, path.start, &path.names)?;
         let node = tree.variables.get(variable.n as usize)?;
         Some(is_of_sort(tree, self.sort, node))
     }

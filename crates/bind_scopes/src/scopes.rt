@@ -3,27 +3,29 @@
 ghost use Rattle.std.specs.Prelude.{◌≡◌, ◌↔◌, IsTrue, ◌<◌, ℕ, nat_eq, if◌then◌else◌, List, map, length, slice_get, option_map, Some, None, IfOk, IfSome, IfNone};
 ghost use Rattle.std.specs.HashMap.{get};
 ghost use Rattle.ar_base.specs.Lists.{Stands};
+ghost use Rattle.ar_base.specs.Numbers.{EventId as EventNumber};
 ghost use Rattle.hierarchy.specs.Models.{RootedModel};
 ghost use Rattle.hierarchy.specs.Units.{UnitPath, Thing, numbers};
-ghost use Rattle.hierarchy.specs.Walks.{Has};
-ghost use Rattle.hierarchy.specs.Listing.{parameters};
+ghost use Rattle.hierarchy.specs.Walks.{Has, is_event};
+ghost use Rattle.hierarchy.specs.Listing.{parameters, events};
 ghost use Rattle.source_meaning.specs.Means.{is_valued};
 ghost use Rattle.source_meaning.specs.Kinds.{kind_of_type};
 ghost use Rattle.source_meaning.specs.Tested.{Scope as Meant, MayName};
-ghost use Rattle.hierarchy.specs.Tie.{IsTreeOf};
+ghost use Rattle.hierarchy.specs.Tie.{IsTreeOf, AnswersThing};
 ghost use Rattle.bind_scopes.specs.Scopes.{AreScopes, HasScopes, IsNamedIn, IsScope, named_in, scoped_in, allowed as allowed_in, name_in, first_named, symbol_by, is_read_in};
 ghost use Rattle.bind_scopes.specs.Searching.{parameter_in};
 
 use crate::kinds::kind_of_domain;
 use crate::members::{Names, names_of_members};
 use crate::sites::is_read;
-use ar_base::{Memory, NameId, UnitId, VarId};
+use ar_base::{EventId, Memory, NameId, UnitId, VarId};
 use ar_syntax::{Path, PathStart, TypeForm};
 use class_table::TypeBody;
-use hierarchy::{Tree, par_at, var_at};
+use hierarchy::Tree;
 use std::alloc::Global;
 use std::collections::HashMap;
 use typed_expr::ValueKind;
+use unit_index::Index;
 use unit_sizes::TypePlaces;
 
 /// What a path in an expression names.
@@ -48,7 +50,7 @@ pub enum Scope {
     Before(u32),
 }
 
-/// The symbols of a tree and the names of its members, to tell what paths name.
+/// The symbols of a tree, the names of its members and its index, to tell what paths name.
 #[derive(Drop)]
 pub struct Scopes<'a> {
     /// The tree.
@@ -56,6 +58,7 @@ pub struct Scopes<'a> {
     symbols: HashMap<u32, u32>,
     members: Names,
     types: TypePlaces,
+    pub(crate) index: Index,
 }
 
 // The numbers of these symbols by their names.
@@ -85,11 +88,13 @@ impl<'a> Scopes<'a> {
         let symbols = numbers_of(alloc, &tree.classes.symbols)?;
         let members = names_of_members(alloc, &tree.classes)?;
         let types = TypePlaces::new(alloc, &tree.classes.types)?;
+        let index = Index::new(alloc, tree)?;
         Ok(Scopes {
             tree,
             symbols,
             members,
             types,
+            index,
         })
     }
 
@@ -157,13 +162,26 @@ impl<'a> Scopes<'a> {
         self.found(unit, path)
     }
 
+    /// The event that the names name, read in the unit. None exactly where they name no event. Takes
+    /// no memory.
+    pub fn event_at(&self, unit: UnitId, start: PathStart, names: &[NameId]) -> Option<EventId>
+        requires scopes { HasScopes self.now }
+        requires in_range { unit.n < length self.now.tree.now.units.items }
+        ensures { (m : RootedModel) (units : List UnitPath) (u : UnitPath)
+            → IsTreeOf m units self.now.tree.now → Stands units unit.n u
+            → AnswersThing m (events m units) is_event u start (numbers names.now)
+            (option_map (λ (e : EventNumber). e.n) result) }
+    {
+        self.index.event_at(self.tree, unit, start, names)
+    }
+
     // What the path names in the unit, as the lists of the tree tell it.
     fn found(&self, unit: UnitId, path: &Path) -> Option<Named>
         requires scopes { HasScopes self.now }
         requires in_range { unit.n < length self.now.tree.now.units.items }
         ensures { result ≡ named_in self.now unit.n path.now }
     {
-        match var_at(self.tree, unit, path.start, &path.names) {
+        match self.index.var_at(self.tree, unit, path.start, &path.names) {
             Some(variable) => Some(Named::Variable(variable)),
             None => self.constant(unit, path),
         }
@@ -178,7 +196,7 @@ impl<'a> Scopes<'a> {
             (symbol_by self.now (slice_get self.now.tree.now.units.items unit.n) path.now.start
             (numbers path.now.names.items)) }
     {
-        match par_at(self.tree, unit, path.start, &path.names) {
+        match self.index.par_at(self.tree, unit, path.start, &path.names) {
             Some(place) => {
                 if self.is_read_at(place) {
                     Some(Named::Parameter(place))

@@ -8,5 +8,5 @@ use Rattle.bind_events.specs.Hiding.{Marks}
 use Rattle.bind_events.proofs.hiding.hidden_events.Given as goal
 
 abbrev pub invariant-loop-place : goal.invariant-loop-place
-invariant-loop-place l = (m : RootedModel) (units : List UnitPath) → IsTreeOf m units l.tree
-    → Marks (events m units) (IsHidden m (take l.place units)) (replicate (length l.tree.events.items) false) l.marks.items
+invariant-loop-place l = (m : RootedModel) (units : List UnitPath) → IsTreeOf m units l.scopes.tree.now
+    → Marks (events m units) (IsHidden m (take l.place units)) (replicate (length l.scopes.tree.now.events.items) false) l.marks.items

@@ -4,7 +4,7 @@ use Rattle.ar_base.specs.Lists.{Stands, IsOneOf}
 use Rattle.ar_base.specs.Numbers.{VarId}
 use Rattle.ar_base.proofs.Standing.{stands_one, stands_within, stands_none, stands_left, stands_right, stands_split, stands_map, stands_map_back}
 use Rattle.kept_ways.proofs.Reading.{at_most}
-use Rattle.mode_edges.specs.declared.searching.Edge.{Edge}
+use Rattle.mode_forests.specs.declared.forests.Edge.{Edge}
 use Rattle.mode_edges.specs.declared.searching.Reach.{Reach}
 use Rattle.live_edges.specs.declared.listing.Live.{Live}
 use Rattle.live_edges.specs.Live.{live_at, AreEdgesApart, IsLiveOf, AreLive}

@@ -2,7 +2,7 @@
 use Rattle.std.specs.Prelude.{◌≡◌, ◌<◌, ◌≤◌, ℕ, List}
 use Rattle.ar_base.specs.Lists.{Stands, IsOneOf}
 use Rattle.ar_base.specs.Numbers.{VarId}
-use Rattle.mode_edges.specs.declared.searching.Edge.{Edge}
+use Rattle.mode_forests.specs.declared.forests.Edge.{Edge}
 use Rattle.mode_edges.specs.declared.searching.Reach.{Reach}
 use Rattle.live_edges.specs.declared.listing.Live.{Live}
 

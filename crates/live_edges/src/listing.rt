@@ -4,7 +4,8 @@ ghost use Rattle.std.specs.Prelude.{◌≡◌, ◌<◌, ◌++◌, ◌^◌, lengt
 ghost use Rattle.live_edges.specs.Live.{AreEdgesApart, AreLive, live_at};
 
 use ar_base::{Memory, VarId};
-use mode_edges::{Edge, Reach};
+use mode_edges::Reach;
+use mode_forests::Edge;
 use std::alloc::Global;
 
 /// A live edge of a variable.

@@ -21,10 +21,10 @@ use Rattle.mode_ways.specs.declared.moves.Move.{Move}
 use Rattle.mode_ways.specs.declared.moves.Move.TheVariants.{Still, To, Wrong}
 use Rattle.kept_ways.specs.Kept.{IsLocal}
 use Rattle.kept_ways.specs.declared.kept.KeptWay.{KeptWay}
-use Rattle.mode_edges.specs.declared.searching.Edge.{Edge}
+use Rattle.mode_forests.specs.declared.forests.Edge.{Edge}
 use Rattle.mode_edges.specs.declared.searching.Reach.{Reach}
 use Rattle.mode_edges.specs.Reached.{Leads, IsMoveOf, Setting, IsEdgeOf, IsReachable, here, along, HasWrong, IsRecorded, Records, IsReaching, IsReachFrom}
-use Rattle.mode_edges.proofs.Fewer.{no_more}
+use Rattle.mode_forests.proofs.Fewer.{no_more}
 
 -- fewer modes are reached than the domain has values
 pub modes_few : (s : Setting) (first : Value) (next i : ℕ) (r : Reach) → IsReaching s first next i r → length r.modes.items ≤ length s.domain

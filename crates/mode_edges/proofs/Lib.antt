@@ -1,3 +1,2 @@
-mod Fewer
 mod Reaching
 mod Ending

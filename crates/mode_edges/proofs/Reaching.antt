@@ -10,7 +10,7 @@ use Rattle.mode_ways.specs.declared.moves.Move.TheVariants.{Still, To, Wrong}
 use Rattle.mode_ways.proofs.Added.{only_item}
 use Rattle.kept_ways.specs.declared.kept.KeptWay.{KeptWay}
 use Rattle.kept_ways.proofs.Reading.{at_most, stands_read}
-use Rattle.mode_edges.specs.declared.searching.Edge.{Edge}
+use Rattle.mode_forests.specs.declared.forests.Edge.{Edge}
 use Rattle.mode_edges.specs.declared.searching.Reach.{Reach}
 use Rattle.mode_edges.specs.Reached.{AreApart, Leads, IsMoveOf, Setting, IsEdgeOf, IsReachable, here, along, EntersAgain, IsAgain, IsStart, AddsEdge, known, fresh, AddsMove, IsDone, IsRecorded, Records, IsFound, IsReaching, Expands}
 

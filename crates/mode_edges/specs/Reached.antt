@@ -19,7 +19,7 @@ use Rattle.mode_ways.specs.declared.moves.Move.{Move}
 use Rattle.mode_ways.specs.declared.moves.Move.TheVariants.{Still, To, Wrong}
 use Rattle.kept_ways.specs.Kept.{IsLocal}
 use Rattle.kept_ways.specs.declared.kept.KeptWay.{KeptWay}
-use Rattle.mode_edges.specs.declared.searching.Edge.{Edge}
+use Rattle.mode_forests.specs.declared.forests.Edge.{Edge}
 use Rattle.mode_edges.specs.declared.searching.Reach.{Reach}
 
 -- each of these is a way of the parts

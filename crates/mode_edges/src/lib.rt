@@ -3,4 +3,4 @@
 
 mod searching;
 
-pub use searching::{Edge, Reach, reached};
+pub use searching::{Reach, reached};

@@ -10,21 +10,9 @@ use ar_base::{EventId, Memory, VarId, WayId};
 use domains::{Domain, Value};
 use gts_core::{GtsParts, WayBody};
 use kept_ways::KeptWay;
+use mode_forests::Edge;
 use mode_ways::{Move, move_at};
 use std::alloc::Global;
-
-/// An edge from one mode of a variable to another, by a way of an event.
-#[derive(Clone, Copy, Debug, PartialEq, Eq)]
-pub struct Edge {
-    /// The mode that it leaves.
-    pub from: Value,
-    /// The event.
-    pub event: EventId,
-    /// The way, one of the event.
-    pub way: WayId,
-    /// The mode that it enters.
-    pub to: Value,
-}
 
 /// What a variable reaches.
 #[derive(Drop)]

@@ -1,6 +1,6 @@
 use Rattle.std.proofs.Common.{◌≡◌, ◌++◌, List, map, subst}
 use Rattle.kept_ways.proofs.Reading.{stands_item}
-use Rattle.mode_edges.specs.declared.searching.Edge.{Edge}
+use Rattle.mode_forests.specs.declared.forests.Edge.{Edge}
 use Rattle.live_edges.specs.Live.{live_at}
 use Rattle.live_edges.proofs.Gathering.{live_start, live_more}
 use Rattle.live_edges.proofs.listing.live_edges.Goals as goal

@@ -1,0 +1,5 @@
+pub mod Ways
+pub mod Naming
+pub mod Leading
+pub mod Listing
+pub mod Entering

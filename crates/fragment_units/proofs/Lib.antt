@@ -1,0 +1,4 @@
+pub mod Labels
+pub mod Units
+pub mod Values
+pub mod Showing

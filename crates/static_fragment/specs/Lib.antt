@@ -1,0 +1,4 @@
+pub mod Recognised
+pub mod Shown
+pub mod Stages
+pub mod Trees

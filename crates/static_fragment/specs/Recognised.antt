@@ -1,0 +1,35 @@
+-- What is answered of a system: its forest, or the first rule that it breaks.
+use Rattle.std.specs.Prelude.{◌≡◌, ℕ, List}
+use Rattle.ar_meaning.specs.Systems.{System}
+use Rattle.ar_firing.specs.Forest.{IsForest}
+use Rattle.ar_firing.specs.Forest as firing
+use Rattle.ar_firing.specs.Rules.{Rule, number_of, IsFirstBroken, KeepsAll, AtEvent, AtUnit, AtVariable, AtObserver, AtWhole}
+use Rattle.ar_firing.specs.Rules as rules
+use Rattle.static_fragment.specs.declared.faults.Spot.{Spot}
+use Rattle.static_fragment.specs.declared.faults.Spot.TheVariants.{Event, Unit as InUnit, Variable, Observer, Whole}
+use Rattle.static_fragment.specs.declared.faults.FragmentFault.{FragmentFault}
+use Rattle.static_fragment.specs.declared.faults.FragmentFault.TheVariants.{Outside, Memory}
+
+-- the spot in the words of the rules
+abbrev pub spot_of : Spot → rules.Spot
+spot_of (Event e) = AtEvent e.n
+spot_of (InUnit u) = AtUnit u.n
+spot_of (Variable x) = AtVariable x.n
+spot_of (Observer k) = AtObserver k
+spot_of Whole = AtWhole
+
+-- the system keeps every rule, and these are the trees of its mode variables
+pub record IsRecognised (system : System ℕ) (dropped : List ℕ) (trees : List firing.ModeTree) : Type 0 where
+  pub keeps : KeepsAll system dropped
+  pub forest : IsForest system dropped trees
+
+-- the rule of this number is the least that the system breaks, and this is the first thing that it is shown with
+pub record IsOutside (system : System ℕ) (dropped : List ℕ) (number : ℕ) (spot : Spot) : Type 0 where
+  pub rule : Rule
+  pub is_rule : number_of rule ≡ number
+  pub first : IsFirstBroken system dropped rule (spot_of spot)
+
+-- why the system was refused; want of memory says nothing of it
+abbrev pub IsRefused : System ℕ → List ℕ → FragmentFault → Type 0
+IsRefused system dropped (Outside number spot) = IsOutside system dropped number spot
+IsRefused system dropped Memory = Unit {0}

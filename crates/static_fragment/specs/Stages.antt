@@ -1,0 +1,77 @@
+-- What is known after each stage, and what a stage answers.
+use Rattle.std.specs.Prelude.{◌<◌, ℕ, List, length, Result, Ok, Err}
+use Rattle.ar_meaning.specs.Systems.{System}
+use Rattle.ar_firing.specs.Rules.{Rule, number_of, Keeps}
+use Rattle.gts_core.specs.View.{Views}
+use Rattle.gts_core.specs.declared.system.GtsParts.{GtsParts}
+use Rattle.kept_ways.specs.declared.kept.KeptWay.{KeptWay}
+use Rattle.mode_edges.specs.declared.searching.Reach.{Reach}
+use Rattle.live_edges.specs.Reaches.{AreListed, AreReaches, IsAgainAt}
+use Rattle.live_edges.specs.Sharing.{IsSharing}
+use Rattle.live_edges.specs.declared.listing.Live.{Live}
+use Rattle.live_edges.specs.declared.sharing.Sharing.{Sharing}
+use Rattle.fragment_units.specs.Units.{AreUnits}
+use Rattle.fragment_edges.specs.Setting.{AreKeptWays, AreReached, AreLiveEdges}
+use Rattle.static_fragment.specs.declared.faults.FragmentFault.{FragmentFault}
+use Rattle.static_fragment.specs.declared.stages.Units.{Units}
+use Rattle.static_fragment.specs.Recognised.{IsRefused}
+
+-- the rules with a lesser number are kept
+abbrev pub KeepsBelow : System ℕ → List ℕ → ℕ → Type 0
+KeepsBelow system dropped number = (rule : Rule) → number_of rule < number → Keeps system dropped rule
+
+-- what holds of a success and of a refusal
+abbrev pub OnResult : {A : Type 0} → (A → Type 0) → (FragmentFault → Type 0) → Result A FragmentFault → Type 0
+OnResult after refused (Ok a) = after a
+OnResult after refused (Err e) = refused e
+
+-- of each system and its dropped events of which the one was known the other is known now, or the system is refused
+abbrev pub Judges : {A : Type 0} → (System ℕ → List ℕ → Type 0) → (System ℕ → List ℕ → A → Type 0)
+    → Result A FragmentFault
+    → Type 0
+Judges before after result = (system : System ℕ) (dropped : List ℕ) → before system dropped
+    → OnResult (after system dropped) (IsRefused system dropped) result
+
+-- its units are known, and the first two rules are kept
+pub record HasUnits (p : GtsParts) (u : Units) (system : System ℕ) (dropped : List ℕ) : Type 0 where
+  pub views : Views p system
+  pub units : AreUnits p dropped u.marks.items u.moving.items u.firsts.items
+  pub keeps : KeepsBelow system dropped 3
+
+-- its kept ways are known, and the first three rules are kept
+pub record HasWays (p : GtsParts) (kept : List KeptWay) (system : System ℕ) (dropped : List ℕ) : Type 0 where
+  pub ways : AreKeptWays p system dropped kept
+  pub keeps : KeepsBelow system dropped 4
+
+-- it is known what its variables reach, and the rules below a number are kept
+pub record HasReaches (number : ℕ) (p : GtsParts) (reaches : List Reach) (system : System ℕ) (dropped : List ℕ) : Type 0
+  where
+    pub kept : List KeptWay
+    pub reached : AreReached p system dropped kept reaches
+    pub keeps : KeepsBelow system dropped number
+
+-- it is known what its live edges share, and the rules below a number are kept
+pub record HasSharing (number : ℕ) (s : Sharing) (system : System ℕ) (dropped : List ℕ) : Type 0 where
+  pub parts : GtsParts
+  pub kept : List KeptWay
+  pub reaches : List Reach
+  pub live : List Live
+  pub edges : AreLiveEdges parts system dropped kept reaches live
+  pub count : ℕ
+  pub sharing : IsSharing count live (length live) s
+  pub keeps : KeepsBelow system dropped number
+
+-- the parts stand for it, and the rules below a number are kept
+pub record IsSeen (number : ℕ) (p : GtsParts) (system : System ℕ) (dropped : List ℕ) : Type 0 where
+  pub views : Views p system
+  pub keeps : KeepsBelow system dropped number
+
+-- this is what the variables of the parts reach by some of its ways
+pub record AreFromWays (p : GtsParts) (reaches : List Reach) : Type 0 where
+  pub kept : List KeptWay
+  pub listed : AreListed p kept
+  pub are : AreReaches p kept (length p.variables.items) reaches
+
+-- no edge enters a mode again
+abbrev pub NoneAgain : List Reach → Type 0
+NoneAgain reaches = (n : ℕ) → IsAgainAt reaches n → ⊥

@@ -1,0 +1,4 @@
+pub mod Gates
+pub mod Values
+pub mod Ordered
+pub mod Views

@@ -1,0 +1,4 @@
+mod Counting
+mod Chain
+pub mod Rounds
+pub mod Faults

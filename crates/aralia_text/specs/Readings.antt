@@ -1,0 +1,59 @@
+-- Which text is that of which table.
+use Rattle.std.specs.Prelude.{◌≡◌, ◌<◌, ℕ, Bool, true, ◌||◌, ◌==◌, List, length}
+use Rattle.std.specs.Char.{is_ascii_digit, is_ascii_alphabetic}
+use Rattle.std.specs.List.{AllByRecursion}
+use Rattle.ar_base.specs.Lists.{Stands, IsOneOf}
+use Rattle.eq_core.specs.Gates.{Operand, Always, Never, EventIs, GateIs, Gate, Table}
+use Rattle.eq_core.specs.Ordered.{IsOrderedTable}
+use Rattle.aralia_text.specs.Texts.{equations_text}
+
+-- a letter, a digit, `_` or `.`
+abbrev pub is_path_byte : ℕ → Bool
+is_path_byte b = is_ascii_alphabetic b || is_ascii_digit b || (b == 95) || (b == 46)
+
+-- letters, digits, `_` and `.`
+abbrev pub IsPath : List ℕ → Type 0
+IsPath = AllByRecursion (λ b. is_path_byte b ≡ true)
+
+-- the event of this number has a text, of letters, digits, `_` and `.`
+pub record IsPathOf (events : List (List ℕ)) (e : ℕ) : Type 0 where
+  pub path : List ℕ
+  pub stands : Stands events e path
+  pub is_path : IsPath path
+
+-- an event that the operand names has such a text
+abbrev pub IsNamed : List (List ℕ) → Operand → Type 0
+IsNamed events Always = Unit {0}
+IsNamed events Never = Unit {0}
+IsNamed events (EventIs e sign) = IsPathOf events e
+IsNamed events (GateIs g sign) = Unit {0}
+
+-- each operand of the gate names such an event, if any
+pub record AreNamed (events : List (List ℕ)) (gate : Gate) : Type 0 where
+  pub each : (o : Operand) → IsOneOf gate.operands o → IsNamed events o
+
+-- the text is that of this table: the table's gates are in order, all its events have texts of letters, digits, `_` and
+-- `.`, and it is written so
+pub record IsTextOf (events : List (List ℕ)) (text : List ℕ) (table : Table) : Type 0 where
+  pub ordered : IsOrderedTable table
+  pub gates : (n : ℕ) (gate : Gate) → Stands table.gates n gate → AreNamed events gate
+  pub conflict : IsNamed events table.conflict
+  pub top : IsNamed events table.top
+  pub is_text : text ≡ equations_text events table
+
+-- the texts are of letters, digits, `_` and `.`
+pub record ArePaths (events : List (List ℕ)) : Type 0 where
+  pub each : (e : ℕ) (path : List ℕ) → Stands events e path → IsPath path
+
+-- an event that the operand names is one of so many
+abbrev pub NamesOneOf : ℕ → Operand → Type 0
+NamesOneOf n Always = Unit {0}
+NamesOneOf n Never = Unit {0}
+NamesOneOf n (EventIs e sign) = e < n
+NamesOneOf n (GateIs g sign) = Unit {0}
+
+-- every event that the table names has a text
+pub record NamesEvents (events : List (List ℕ)) (table : Table) : Type 0 where
+  pub gates : (n : ℕ) (gate : Gate) (o : Operand) → Stands table.gates n gate → IsOneOf gate.operands o → NamesOneOf (length events) o
+  pub conflict : NamesOneOf (length events) table.conflict
+  pub top : NamesOneOf (length events) table.top

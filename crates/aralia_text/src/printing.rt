@@ -1,0 +1,156 @@
+// The text of a table, written.
+
+ghost use Rattle.std.specs.Prelude.{◌≡◌, ◌<◌, ◌^◌, ◌++◌, codes, map};
+ghost use Rattle.ar_io.specs.Writing.{Writes};
+ghost use Rattle.eq_core.specs.Gates as gates;
+ghost use Rattle.eq_core.specs.Views.{all_needed, operand_of, gate_of, table_of};
+ghost use Rattle.aralia_text.specs.Texts.{sign_text, operand_text, joint_text, operands_text, more_text, gate_line, gate_lines, name_text, last_lines, equations_text};
+
+use crate::pieces::{number, put, text_at};
+use ar_base::Text;
+use ar_io::{Sink, SinkFailed};
+use eq_core::{Equations, Gate, Joint, Operand};
+
+/// Writes the equations as text: a line for each gate, as `g1 := -e.a & e.b;`, then `conflict := ` and `top := ` with their
+/// operands. Each event is written by its text, by number; past the last text an event is written by an empty one. Takes
+/// no memory.
+pub fn print<K: Sink>(equations: &Equations, events: &[Text], out: &mut K) -> Result<(), SinkFailed>
+    ensures { Writes (K.state out.old) (K.state out.new) (equations_text events.now (table_of equations.now)) result }
+{
+    lines(out, events, &equations.gates)?;
+    last(out, events, equations.conflict, equations.top)
+}
+
+// The two last lines.
+fn last<K: Sink>(
+    out: &mut K,
+    events: &[Text],
+    conflict: Operand,
+    top: Operand,
+) -> Result<(), SinkFailed>
+    ensures { Writes (K.state out.old) (K.state out.new) (last_lines events.now (operand_of conflict) (operand_of top)) result }
+{
+    put(out, "conflict := ")?;
+    operand(out, events, conflict)?;
+    put(out, ";\ntop := ")?;
+    operand(out, events, top)?;
+    put(out, ";\n")
+}
+
+// The lines of the gates.
+fn lines<K: Sink>(out: &mut K, events: &[Text], gates: &[Gate]) -> Result<(), SinkFailed>
+    ensures { Writes (K.state out.old) (K.state out.new) (gate_lines events.now 0 (map gate_of gates.now)) result }
+{
+    for (n, gate) in gates.iter().enumerate() {
+        line(out, events, n, gate)?;
+    }
+    Ok(())
+}
+
+// The line of a gate.
+fn line<K: Sink>(out: &mut K, events: &[Text], n: usize, gate: &Gate) -> Result<(), SinkFailed>
+    requires { n < 2 ^ 63 }
+    ensures { Writes (K.state out.old) (K.state out.new) (gate_line events.now n (gate_of gate.now)) result }
+{
+    name(out, n)?;
+    put(out, " := ")?;
+    operands(out, events, gate)?;
+    put(out, ";\n")
+}
+
+// The operands of a gate.
+fn operands<K: Sink>(out: &mut K, events: &[Text], gate: &Gate) -> Result<(), SinkFailed>
+    ensures { Writes (K.state out.old) (K.state out.new)
+        (operands_text events.now (all_needed gate.now.joint) (map operand_of gate.now.operands.items)) result }
+{
+    let Some((first, others)) = gate.operands.split_first() else {
+        return Ok(());
+    };
+    operand(out, events, *first)?;
+    more(out, events, gate.joint, others)
+}
+
+// Further operands.
+fn more<K: Sink>(
+    out: &mut K,
+    events: &[Text],
+    joint: Joint,
+    operands: &[Operand],
+) -> Result<(), SinkFailed>
+    ensures { Writes (K.state out.old) (K.state out.new)
+        (more_text events.now (all_needed joint) (map operand_of operands.now)) result }
+{
+    for one in operands {
+        joined(out, events, joint, *one)?;
+    }
+    Ok(())
+}
+
+// An operand with the sign that joins it to those before.
+fn joined<K: Sink>(
+    out: &mut K,
+    events: &[Text],
+    joint: Joint,
+    one: Operand,
+) -> Result<(), SinkFailed>
+    ensures { Writes (K.state out.old) (K.state out.new)
+        (joint_text (all_needed joint) ++ operand_text events.now (operand_of one)) result }
+{
+    put(out, between(joint))?;
+    operand(out, events, one)
+}
+
+// What stands between two operands.
+pub fn between(joint: Joint) -> &'static str
+    ensures { result.now ≡ joint_text (all_needed joint) }
+{
+    match joint {
+        Joint::And => " & ",
+        Joint::Or => " | ",
+    }
+}
+
+// An operand.
+fn operand<K: Sink>(out: &mut K, events: &[Text], operand: Operand) -> Result<(), SinkFailed>
+    ensures { Writes (K.state out.old) (K.state out.new) (operand_text events.now (operand_of operand)) result }
+{
+    match operand {
+        Operand::Always => put(out, "true"),
+        Operand::Never => put(out, "false"),
+        Operand::Event(event, sign) => named(out, sign, text_at(events, event.n)),
+        Operand::Gate(gate, sign) => numbered(out, sign, gate.n),
+    }
+}
+
+// An event with its sign.
+fn named<K: Sink>(out: &mut K, sign: bool, text: &str) -> Result<(), SinkFailed>
+    ensures { Writes (K.state out.old) (K.state out.new) (sign_text sign ++ (codes "e." ++ text.now)) result }
+{
+    put(out, minus(sign))?;
+    put(out, "e.")?;
+    put(out, text)
+}
+
+// A gate with its sign.
+fn numbered<K: Sink>(out: &mut K, sign: bool, gate: u32) -> Result<(), SinkFailed>
+    ensures { Writes (K.state out.old) (K.state out.new) (sign_text sign ++ name_text gate) result }
+{
+    put(out, minus(sign))?;
+    name(out, gate as usize)
+}
+
+// Nothing, or `-` before what is negated.
+fn minus(sign: bool) -> &'static str
+    ensures { result.now ≡ sign_text sign }
+{
+    if sign { "" } else { "-" }
+}
+
+// The name of the gate of this number: numbers are written from 1.
+fn name<K: Sink>(out: &mut K, n: usize) -> Result<(), SinkFailed>
+    requires { n < 2 ^ 63 }
+    ensures { Writes (K.state out.old) (K.state out.new) (name_text n) result }
+{
+    put(out, "g")?;
+    number(out, n + 1)
+}

@@ -11,8 +11,8 @@ ghost use Rattle.zdd_families.specs.Sections.{IsMade};
 ghost use Rattle.zdd_nodes.specs.Nodes.{family, IsNumber, IsNode, IsSoundStore, Draws, HasNoRoom, Makes};
 ghost use Rattle.zdd_nodes.specs.Room.{SectionsAreStored, EachTakesANode};
 
-use ar_base::{EventId, Id};
-use std::alloc::Global;
+use ar_base::{EventId, Id, Memory};
+use std::alloc::{AllocFailed, Global};
 use std::collections::HashMap;
 use std::marker::Model;
 
@@ -38,6 +38,28 @@ pub enum NodeFault {
     Full,
     /// Memory was refused.
     Memory,
+}
+
+impl From<Memory> for NodeFault {
+    ghost use Rattle.std.specs.Prelude.{◌≡◌};
+    ghost use Rattle.zdd_nodes.specs.declared.NodeFault.TheVariants as fault;
+
+    ghost from_gives = { λ _ e. e ≡ fault.Memory };
+
+    fn from(_memory: Memory) -> Self {
+        NodeFault::Memory
+    }
+}
+
+impl<T: Drop> From<AllocFailed<T>> for NodeFault {
+    ghost use Rattle.std.specs.Prelude.{◌≡◌};
+    ghost use Rattle.zdd_nodes.specs.declared.NodeFault.TheVariants as fault;
+
+    ghost from_gives = { λ _ e. e ≡ fault.Memory };
+
+    fn from(_failed: AllocFailed<T>) -> Self {
+        NodeFault::Memory
+    }
 }
 
 /// The nodes that were made, seen as their families in the order of making, and the limit of their number. No two

@@ -1,0 +1,11 @@
+pub mod Listing
+pub mod Walking
+pub mod Merging
+pub mod Whole
+pub mod Trees
+pub mod ModePaths
+pub mod Products
+pub mod Halving
+pub mod InForests
+pub mod Cutting
+pub mod Alike

@@ -1,0 +1,3 @@
+pub mod Firable
+pub mod Entries
+pub mod Walk

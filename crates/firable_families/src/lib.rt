@@ -1,0 +1,63 @@
+//! The sets of events that are firable in trees of modes, and the families that list them.
+//!
+//! The definitions stand in `specs/`. Each function here has an empty body and states a law of them.
+#![tactic(auto)]
+
+ghost use Rattle.std.specs.Prelude.{◌≡◌, ◌+◌, ◌<◌, ◌↔◌, ℕ, Bool, List, [], cond};
+ghost use Rattle.std.specs.List.{AllByRecursion, filter};
+ghost use Rattle.ar_base.specs.Sets.{Ascends};
+ghost use Rattle.domains.specs.declared.Value.{Value};
+ghost use Rattle.ar_meaning.specs.Systems.{System};
+ghost use Rattle.ar_firing.specs.Static.{IsKeyedStatic};
+ghost use Rattle.ar_firing.specs.Cuts.{IsFirable, IsLeast};
+ghost use Rattle.ar_firing.specs.Operands.{IsFirableWith};
+ghost use Rattle.ar_firing.specs.Listed.{AreListed};
+ghost use Rattle.ar_firing.specs.Forest.{ModeTree, IsForest};
+ghost use Rattle.ar_firing.specs.Trees.{IsTree, AreApart, AreTrees};
+ghost use Rattle.mode_forests.specs.declared.forests.Forest.{Forest};
+ghost use Rattle.mode_forests.specs.Views.{trees_of};
+ghost use Rattle.zdd_families.specs.Families.{Family, IsFamily, minimal};
+ghost use Rattle.zdd_families.specs.Sections.{section};
+ghost use Rattle.firable_families.specs.Firable.{IsPathSet, IsFirableOf, IsOfMembers, ListsLeast};
+ghost use Rattle.firable_families.specs.Entries.{AreEntries, HasEntries};
+ghost use Rattle.firable_families.specs.Walk.{left, after, could, AreTreeFamilies, AreEventsBelow};
+
+/// The walk through the events lists the firable sets, and what it has left after some of them is a section of their
+/// family.
+pub fn walk()
+    ensures lists { (trees : List ModeTree) (fs : List Family) → AreTreeFamilies trees fs → (n : ℕ) → AreApart trees
+        → AreEventsBelow n fs → AreListed (IsFirableOf trees) (left n 0 fs) }
+    ensures sections { (m k : ℕ) (p : List ℕ) (fs : List Family) → Ascends p → AllByRecursion (λ x. x < m) p
+        → section m p (left (m + k) 0 fs) ≡ cond (could m 0 p fs) (left k m (after m 0 p fs)) [] }
+{}
+
+/// The family of a tree's modes, each with the events of a path to it, lists the tree's paths.
+pub fn tree_families()
+    ensures { (tree : ModeTree) → IsTree tree → (entries : List (Value × List ℕ)) → AreEntries tree entries
+        → (f : Family) → IsFamily f → HasEntries entries f → AreListed (IsPathSet tree) f }
+{}
+
+/// The minimal sets of the firable ones at which a test is true are the least such sets.
+pub fn least_sets()
+    ensures { (trees : List ModeTree) (test : List ℕ → Bool) → IsOfMembers test → (all : Family)
+        → AreListed (IsFirableOf trees) all → ListsLeast trees test (minimal (filter test all)) }
+{}
+
+/// In the trees of its forest the sets are firable that are so in a static system, and the least of them at which a
+/// test is true are the system's.
+pub fn in_forests<V>()
+    ensures firable { (sys : System V) (dropped : List ℕ) → IsKeyedStatic sys dropped
+        → (trees : List ModeTree) → IsForest sys dropped trees
+        → (set : List ℕ) → (IsFirableOf trees set ↔ ((t : List Value) × IsFirable sys dropped set t)) }
+    ensures least { (sys : System V) (dropped : List ℕ) → IsKeyedStatic sys dropped
+        → (trees : List ModeTree) → IsForest sys dropped trees → (test : List ℕ → Bool) (sets : List (List ℕ))
+        → ListsLeast trees test sets → AreListed (IsLeast (IsFirableWith sys dropped test)) sets }
+{}
+
+/// How the ways of a forest are numbered changes nothing in what is firable in its trees, nor in that they are trees.
+pub fn ways_of_forests()
+    ensures firable { (number other : ℕ → ℕ) (forest : Forest) (set : List ℕ)
+        → (IsFirableOf (trees_of number forest) set ↔ IsFirableOf (trees_of other forest) set) }
+    ensures trees { (number other : ℕ → ℕ) (forest : Forest)
+        → (AreTrees (trees_of number forest) ↔ AreTrees (trees_of other forest)) }
+{}

@@ -1,0 +1,147 @@
+-- From the minimal sets of the two operands to the answer.
+use Rattle.std.proofs.Common.{◌≡◌, ◌≢◌, inl, inr, ℕ, ◌<◌, ◌||◌, List, [], ◌∷◌, ◌++◌, filter, Result, Ok, Err, refl, sym, ap, ◌∙◌, subst, arith, true≢false, length-append}
+use Rattle.std.specs.List.{All, list_any}
+use Rattle.std.proofs.lemmas.List.Elements.{All-append, All-cons, All-nil, All-weaker}
+use Rattle.std.proofs.lemmas.Option.{slice_get_within, get_or_from_slice_get}
+use Rattle.ar_firing.specs.Forest.{ModeTree}
+use Rattle.ar_firing.specs.Listed.{AreListed}
+use Rattle.zdd_families.specs.Families.{Family, within, has, IsFamily, minimal}
+use Rattle.zdd_families.specs.Sections.{IsCounted, IsHalf, IsMoreThan}
+use Rattle.zdd_families.proofs.Filters.{IsFamily-filter}
+use Rattle.zdd_families.proofs.Laws.{same-refl, within-refl}
+use Rattle.zdd_families.proofs.Minimal.{any_within-minimal}
+use Rattle.zdd_families.proofs.Sections.{IsMoreThan-weaker}
+use Rattle.zdd_nodes.specs.Nodes.{NodeId, Stored, family, IsNumber, IsSoundStore, Grows, IsFullFor, Draws}
+use Rattle.zdd_nodes.specs.declared.NodeFault.{NodeFault}
+use Rattle.zdd_nodes.specs.declared.NodeFault.TheVariants.{Full}
+use Rattle.zdd_nodes.proofs.Growing.{Draws-after, kept, full_weaker}
+use Rattle.zdd_nodes.proofs.Lists.{AreDifferent-push, some_sets}
+use Rattle.eq_core.specs.Gates.{Operand, Gate, Table}
+use Rattle.eq_core.specs.Values.{value_at}
+use Rattle.firable_families.specs.Firable.{IsFirableOf, ListsLeast}
+use Rattle.firable_families.proofs.Listing.{true_lists, least_listed}
+use Rattle.gate_diagrams.specs.Needed.{family_at, IsNeeded, IsNeededByBoth, IsConflictAt, NodesMay}
+use Rattle.gate_diagrams.specs.Needed.IsNeeded.{of_firable}
+use Rattle.gate_diagrams.proofs.Filters.{of_members}
+use Rattle.gate_diagrams.proofs.Needing.{minimal_drawn}
+
+pub all_stored : (P : Family → Type 0) (s t : Stored) → All P s.families → Grows P s t → All P t.families
+all_stored P s t a g = subst (All P) (sym g.families) (All-append P s.families g.added a g.all)
+
+-- where the store is full for a needed family, more are needed than its limit
+full_needed : (P : Family → Type 0) (s : Stored) → All P s.families → IsFullFor P s → IsMoreThan s.limit P
+full_needed P s a f = record {
+  members = s.families ++ f.family ∷ [];
+  different = AreDifferent-push s.families f.family f.different (λ k h. f.missing k [] (slice_get_within s.families k f.family h) (get_or_from_slice_get s.families k f.family [] h));
+  all = All-append P s.families (f.family ∷ []) a (All-cons P f.family [] f.allowed (All-nil P));
+  count = omega (arith, length-append s.families (f.family ∷ []), f.full);
+}
+
+-- the minimal sets, once the operand's family is drawn
+pub least_drawn : (all : Family) (gates : List Gate) (o : Operand) (s t u : Stored) (n : NodeId) (r : Result NodeId NodeFault)
+    → Draws (IsNeeded all gates o) (family_at all gates o) s t (Ok n) → Draws (IsHalf (family t n.n)) (minimal (family t n.n)) t u r
+    → Draws (IsNeeded all gates o) (minimal (family_at all gates o)) s u r
+least_drawn all gates o s t u n r a d =
+    Draws-after (IsNeeded all gates o) (minimal (family_at all gates o)) s t u r a.grows
+    (minimal_drawn all gates o t u r (subst (λ z. Draws (IsHalf z) (minimal z) t u r) a.ok.1 d))
+
+minimal_none : (f : Family) → IsFamily f → minimal f ≡ [] → f ≡ []
+minimal_none [] k e = refl
+minimal_none (s ∷ f) k e = absurd (true≢false
+    (sym (ap (λ b. b || list_any (λ t. within t s) f) (within-refl s)) ∙ any_within-minimal (s ∷ f) k.ascending s ∙ ap (list_any (λ t. within t s)) e))
+
+minimal_of_none : minimal [] ≡ []
+unfolding minimal
+minimal_of_none = refl
+
+at_family : (all : Family) (gates : List Gate) (o : Operand) → IsFamily all → IsFamily (family_at all gates o)
+unfolding family_at
+at_family all gates o k = IsFamily-filter (value_at gates o) all k
+
+module _ (trees : List ModeTree) (table : Table) (all : Family) (is_all : AreListed (IsFirableOf trees) all) where
+  lists_least : (o : Operand) → ListsLeast trees (value_at table.gates o) (minimal (family_at all table.gates o))
+  unfolding family_at
+  lists_least o = least_listed trees (value_at table.gates o) (of_members table.gates o) all is_all
+
+  none_so : family_at all table.gates table.conflict ≡ [] → (set : List ℕ) → IsConflictAt trees table set → ⊥
+  unfolding family_at
+  none_so e set t =
+      let w = (true_lists trees (value_at table.gates table.conflict) (of_members table.gates table.conflict) all is_all).whole set t in
+      true≢false (sym w.1 ∙ ap (λ z. has z w.0) e)
+
+  some_so : family_at all table.gates table.conflict ≢ [] → (set : List ℕ) × IsConflictAt trees table set
+  unfolding family_at
+  some_so n = at (filter (value_at table.gates table.conflict) all) refl
+    where
+      at : (f : Family) → filter (value_at table.gates table.conflict) all ≡ f → (set : List ℕ) × IsConflictAt trees table set
+      at [] e = absurd (n e)
+      at (s ∷ f) e = (
+        s,
+        (true_lists trees (value_at table.gates table.conflict) (of_members table.gates table.conflict) all is_all).sound s
+            (ap (λ z. has z s) e ∙ ap (λ b. b || has f s) (same-refl s)),
+      )
+
+module _ (table : Table) (f : ℕ) (s0 s1 : Stored) (sound : IsSoundStore s0) (f_in : IsNumber s0 f) (stored : All (IsCounted (family s0 f)) s0.families) where
+  abbrev all : Family
+  all = family s0 f
+
+  abbrev Conflict : Family → Type 0
+  Conflict = IsNeeded all table.gates table.conflict
+
+  abbrev Both : Family → Type 0
+  Both = IsNeededByBoth all table
+
+  module _ (r : Result NodeId NodeFault) (d : Draws Conflict (minimal (family_at all table.gates table.conflict)) s0 s1 r) where
+    pub conflict_needed : All Conflict s1.families
+    conflict_needed = all_stored Conflict s0 s1 (All-weaker (IsCounted all) Conflict (λ h c. of_firable c) s0.families stored) d.grows
+
+    pub conflict_full : (trees : List ModeTree) → AreListed (IsFirableOf trees) all → r ≡ Err Full → NodesMay trees table s0.limit
+    conflict_full trees is_all e =
+        let m = subst (λ z. IsMoreThan z Conflict) d.grows.limit (full_needed Conflict s1 conflict_needed (d.full e)) in
+        record {
+          all = all;
+          is_all = is_all;
+          where_some = λ set t. m;
+          where_none = λ none. IsMoreThan-weaker s0.limit Conflict Both (λ h x. inl x) m;
+        }
+
+  module _ (n : NodeId) (d : Draws Conflict (minimal (family_at all table.gates table.conflict)) s0 s1 (Ok n)) where
+    pub conflict_sets : IsSoundStore s1 → (n.n ≡ 0 → ⊥) → (trees : List ModeTree) → AreListed (IsFirableOf trees) all
+        → ((set : List ℕ) × IsConflictAt trees table set) × (IsNumber s1 n.n × ListsLeast trees (value_at table.gates table.conflict) (family s1 n.n))
+    conflict_sets k some trees is_all =
+        let positive : 0 < n.n = grind (arith, some) in
+        let there : family s1 n.n ≢ [] = some_sets s1.families k.different n.n positive d.ok.0 in (
+          some_so trees table all is_all (λ e. there (d.ok.1 ∙ ap minimal e ∙ minimal_of_none)),
+          (d.ok.0, subst (ListsLeast trees (value_at table.gates table.conflict)) (sym d.ok.1) (lists_least trees table all is_all table.conflict)),
+        )
+
+    none_at : n.n ≡ 0 → family_at all table.gates table.conflict ≡ []
+    none_at e = minimal_none (family_at all table.gates table.conflict) (at_family all table.gates table.conflict (sound.families f f_in)) (sym d.ok.1 ∙ ap (family s1) e)
+
+    module _ (s2 : Stored) (q : Result NodeId NodeFault) (none : n.n ≡ 0)
+        (t : Draws (IsNeeded (family s1 f) table.gates table.top) (minimal (family_at (family s1 f) table.gates table.top)) s1 s2 q) where
+      top_drawn : Draws (IsNeeded all table.gates table.top) (minimal (family_at all table.gates table.top)) s1 s2 q
+      top_drawn = subst (λ z. Draws (IsNeeded z table.gates table.top) (minimal (family_at z table.gates table.top)) s1 s2 q) (kept Conflict s0 s1 f d.grows f_in) t
+
+      pub both_needed : All Both s2.families
+      both_needed = all_stored Both s1 s2 (All-weaker Conflict Both (λ h x. inl x) s1.families (conflict_needed (Ok n) d))
+          (record { limit = top_drawn.grows.limit; added = top_drawn.grows.added; families = top_drawn.grows.families; all = All-weaker (IsNeeded all table.gates table.top) Both (λ h x. inr x) top_drawn.grows.added top_drawn.grows.all })
+
+      pub both_full : (trees : List ModeTree) → AreListed (IsFirableOf trees) all → q ≡ Err Full → NodesMay trees table s0.limit
+      both_full trees is_all e = record {
+        all = all;
+        is_all = is_all;
+        where_some = λ set x. absurd (none_so trees table all is_all (none_at none) set x);
+        where_none = λ x. subst (λ z. IsMoreThan z Both) (top_drawn.grows.limit ∙ d.grows.limit)
+            (full_needed Both s2 both_needed (full_weaker (IsNeeded all table.gates table.top) Both s2 (λ h y. inr y) (top_drawn.full e)));
+      }
+
+    pub top_sets : (s2 : Stored) (m : NodeId) → n.n ≡ 0
+        → Draws (IsNeeded (family s1 f) table.gates table.top) (minimal (family_at (family s1 f) table.gates table.top)) s1 s2 (Ok m)
+        → (trees : List ModeTree) → AreListed (IsFirableOf trees) all
+        → ((set : List ℕ) → IsConflictAt trees table set → ⊥) × (IsNumber s2 m.n × ListsLeast trees (value_at table.gates table.top) (family s2 m.n))
+    top_sets s2 m none t trees is_all =
+        let d2 = top_drawn s2 (Ok m) none t in (
+          none_so trees table all is_all (none_at none),
+          (d2.ok.0, subst (ListsLeast trees (value_at table.gates table.top)) (sym d2.ok.1) (lists_least trees table all is_all table.top)),
+        )

@@ -1,0 +1,12 @@
+pub mod Filters
+pub mod Needing
+pub mod Operands
+pub mod MoreOperands
+pub mod GateLoop
+pub mod Marking
+pub mod Tables
+pub mod Holding
+pub mod Stepping
+pub mod Going
+pub mod Answering
+pub mod FirableSets

@@ -1,0 +1,30 @@
+-- What the drawing of a table's two operands answers.
+use Rattle.std.specs.Prelude.{ℕ, List}
+use Rattle.std.specs.List.{All}
+use Rattle.ar_firing.specs.Forest.{ModeTree}
+use Rattle.zdd_families.specs.Families.{Family}
+use Rattle.zdd_nodes.specs.Nodes.{Stored, family, IsNumber}
+use Rattle.eq_core.specs.Gates.{Table}
+use Rattle.eq_core.specs.Values.{value_at}
+use Rattle.firable_families.specs.Firable.{ListsLeast}
+use Rattle.gate_diagrams.specs.Needed.{IsNeeded, IsNeededByBoth, IsConflictAt}
+use Rattle.gate_diagrams.specs.declared.answer.Drawn.{Drawn}
+use Rattle.gate_diagrams.specs.declared.answer.Drawn.TheVariants.{Conflicts, Cuts}
+
+-- the least firable sets at which the conflict operand is true, and there are some; else those at which the top operand is
+abbrev pub IsAnswer : List ModeTree → Table → Drawn → Type 0
+IsAnswer trees table (Conflicts f) = ((set : List ℕ) × IsConflictAt trees table set) × IsNumber f.store f.root.n
+    × ListsLeast trees (value_at table.gates table.conflict) (family f.store f.root.n)
+IsAnswer trees table (Cuts f) = ((set : List ℕ) → IsConflictAt trees table set → ⊥) × IsNumber f.store f.root.n
+    × ListsLeast trees (value_at table.gates table.top) (family f.store f.root.n)
+
+-- the store of the answer
+abbrev pub store_of : Drawn → Stored
+store_of (Conflicts f) = f.store
+store_of (Cuts f) = f.store
+
+-- every stored family is needed, where `all` are the firable sets: for the conflict operand, or, where that is true at no
+-- firable set, for it or the top operand
+abbrev pub AreNeeded : Family → Table → Drawn → Type 0
+AreNeeded all table (Conflicts f) = All (IsNeeded all table.gates table.conflict) f.store.families
+AreNeeded all table (Cuts f) = All (IsNeededByBoth all table) f.store.families

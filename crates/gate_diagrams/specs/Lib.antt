@@ -1,0 +1,4 @@
+pub mod Needed
+pub mod Drawing
+pub mod Walked
+pub mod Answers

@@ -1,0 +1,66 @@
+-- What the walk through the firable sets keeps.
+use Rattle.std.specs.Prelude.{◌≡◌, ◌+◌, ◌<◌, ◌≤◌, ℕ, Bool, true, false, ◌&&◌, eqb, List, [], ◌∷◌, map, Vec, Option, Some, None}
+use Rattle.std.specs.Global.{Global}
+use Rattle.std.specs.Map.{lookup}
+use Rattle.std.specs.Cmp.Lexicographic.{pointwise}
+use Rattle.ar_base.specs.Lists.{Stands}
+use Rattle.ar_base.specs.Numbers.{EventId}
+use Rattle.zdd_families.specs.Families.{Family}
+use Rattle.zdd_families.specs.Sections.{lower}
+use Rattle.zdd_nodes.specs.Nodes.{NodeId, Stored, family, IsNumber}
+use Rattle.firable_families.specs.Walk.{occurs, some_occurs, taken, left, AreEventsBelow}
+
+-- whether two lists have the same numbers
+abbrev pub same_numbers : Vec NodeId Global → Vec NodeId Global → Bool
+same_numbers xs ys = pointwise (λ a b. eqb a.n b.n && true) xs.items ys.items
+
+-- the state is held with this number
+abbrev pub IsHeld : List (Vec NodeId Global × NodeId) → Vec NodeId Global → NodeId → Type 0
+IsHeld entries left n = lookup (same_numbers left) entries ≡ Some n
+
+-- a state of the walk has the number of what is left of each tree: these families
+abbrev pub families_left : Stored → List NodeId → List Family
+families_left trees state = map (λ (n : NodeId). family trees n.n) state
+
+-- each is a number of the store
+pub record AreNumbers (trees : Stored) (state : List NodeId) : Type 0 where
+  pub each : (k : ℕ) (n : NodeId) → Stands state k n → IsNumber trees n.n
+
+-- the numbers' sum
+abbrev pub total : List NodeId → ℕ
+total [] = 0
+total (n ∷ ns) = n.n + total ns
+
+-- what is left of a tree's sets where the event is taken, or where it is left out
+abbrev pub half_of : Bool → ℕ → Family → Family
+half_of true e f = taken e f
+half_of false e f = lower e f
+
+-- the number of such a half: it is less where the tree has the event
+pub record IsHalf (trees : Stored) (e : ℕ) (take : Bool) (old new : ℕ) : Type 0 where
+  pub in_store : IsNumber trees new
+  pub is : family trees new ≡ half_of take e (family trees old)
+  pub no_greater : new ≤ old
+  pub smaller : occurs e (family trees old) ≡ true → new < old
+
+-- the halves of a whole state
+pub record AreHalves (trees : Stored) (e : ℕ) (take : Bool) (old new : List NodeId) : Type 0 where
+  pub in_store : AreNumbers trees new
+  pub are : families_left trees new ≡ map (half_of take e) (families_left trees old)
+  pub no_greater : total new ≤ total old
+  pub smaller : some_occurs e (families_left trees old) ≡ true → total new < total old
+
+-- the least event that one of the families has; None where none has one
+abbrev pub IsLeastEvent : List Family → Option EventId → Type 0
+IsLeastEvent fs None = (x : ℕ) → some_occurs x fs ≡ false
+IsLeastEvent fs (Some e) = (some_occurs e.n fs ≡ true) × ((x : ℕ) → x < e.n → some_occurs x fs ≡ false)
+
+-- n is the number of the family that the walk has left in this state
+pub record IsWalked (trees made : Stored) (state : List NodeId) (n : ℕ) : Type 0 where
+  pub in_store : IsNumber made n
+  pub is : (below : ℕ) → AreEventsBelow below (families_left trees state)
+      → family made n ≡ left below 0 (families_left trees state)
+
+-- each state that is held has the number of its family
+abbrev pub AreWalked : Stored → Stored → List (Vec NodeId Global × NodeId) → Type 0
+AreWalked trees made entries = (k : Vec NodeId Global) (n : NodeId) → IsHeld entries k n → IsWalked trees made k.items n.n

@@ -1,0 +1,57 @@
+// The gates that an operand rests on.
+
+ghost use Rattle.std.specs.Prelude.{◌≡◌, ◌<◌, IfOk, map, length, replicate, false, [], ◌∷◌};
+ghost use Rattle.eq_core.specs.Ordered.{AreBelow, AreOrdered};
+ghost use Rattle.eq_core.specs.Values.{IsBelow};
+ghost use Rattle.eq_core.specs.Views.{gate_of, operand_of};
+ghost use Rattle.gate_diagrams.specs.Drawing.{AreMarks, Marks};
+
+use ar_base::Memory;
+use eq_core::{Gate, Operand};
+use std::alloc::Global;
+
+/// For each gate whether it is in the operand's cone: one pass from the last gate to the first.
+pub(crate) fn cone(alloc: Global, gates: &[Gate], root: Operand) -> Result<Vec<bool>, Memory>
+    requires ordered { AreOrdered (map gate_of gates.now) }
+    requires root_in { IsBelow (length gates.now) (operand_of root) }
+    ensures { IfOk result (λ marks. AreMarks (map gate_of gates.now) (operand_of root) marks.items) }
+{
+    let mut marks = unmarked(alloc, gates.len())?;
+    mark(&mut marks, root);
+    let mut left = gates.len();
+    while left > 0 {
+        left -= 1;
+        if marks[left] {
+            mark_all(&mut marks, &gates[left].operands);
+        }
+    }
+    Ok(marks)
+}
+
+// So many marks, none of them set.
+fn unmarked(alloc: Global, count: usize) -> Result<Vec<bool>, Memory>
+    ensures { IfOk result (λ marks. marks.items ≡ replicate count false) }
+{
+    let marks = vec![in alloc; false; count]?;
+    Ok(marks)
+}
+
+// Marks the gate that the operand names.
+fn mark(marks: &mut [bool], operand: Operand)
+    requires { IsBelow (length marks.old) (operand_of operand) }
+    ensures { Marks (operand_of operand ∷ []) marks.old marks.new }
+{
+    if let Operand::Gate(gate, _) = operand {
+        marks[gate.n as usize] = true;
+    }
+}
+
+// Marks the gates that the operands name.
+fn mark_all(marks: &mut [bool], operands: &[Operand])
+    requires { AreBelow (length marks.old) (map operand_of operands.now) }
+    ensures { Marks (map operand_of operands.now) marks.old marks.new }
+{
+    for operand in operands {
+        mark(marks, *operand);
+    }
+}

@@ -1,0 +1,106 @@
+// The families of operands and gates.
+
+ghost use Rattle.std.specs.Prelude.{◌≡◌, ◌<◌, ◌+◌, map, length, take, cond, true};
+ghost use Rattle.zdd_families.specs.Families.{meet, union};
+ghost use Rattle.zdd_families.specs.Sections.{IsCounted};
+ghost use Rattle.zdd_nodes.specs.Nodes.{family, IsNumber, Draws};
+ghost use Rattle.eq_core.specs.Gates.{GateIs};
+ghost use Rattle.eq_core.specs.Views.{all_needed, gate_of, operand_of};
+ghost use Rattle.gate_diagrams.specs.Needed.{family_at, joint_family, IsNamed, IsNeeded};
+ghost use Rattle.gate_diagrams.specs.Drawing.{IsTable, IsReady};
+
+use eq_core::{Gate, Joint, Operand};
+use zdd_nodes::{NodeFault, NodeId};
+use zdd_ops::Ops;
+
+/// The family of an operand of the cone of `root`.
+pub(crate) fn operand(
+    ops: &mut Ops,
+    gates: &[Gate],
+    root: Operand,
+    table: &[NodeId],
+    firable: NodeId,
+    operand: Operand,
+) -> Result<NodeId, NodeFault>
+    requires firable_in { IsNumber ops.old firable.n }
+    requires table { IsTable (family ops.old firable.n) (map gate_of gates.now) table.now ops.old (operand_of operand) }
+    requires named { IsNamed (map gate_of gates.now) (operand_of root) (operand_of operand) }
+    ensures drawn { Draws (IsNeeded (family ops.old firable.n) (map gate_of gates.now) (operand_of root))
+        (family_at (family ops.old firable.n) (map gate_of gates.now) (operand_of operand)) ops.old ops.new result }
+{
+    match operand {
+        Operand::Always => Ok(firable),
+        Operand::Never => Ok(NodeId::new(0)),
+        Operand::Event(event, sign) => {
+            let plain = ops.having(firable, event)?;
+            if sign {
+                return Ok(plain);
+            }
+            ops.minus(firable, plain)
+        }
+        Operand::Gate(gate, sign) => {
+            let plain = table[gate.n as usize];
+            if sign {
+                return Ok(plain);
+            }
+            ops.minus(firable, plain)
+        }
+    }
+}
+
+/// The meet of two families, or their union.
+pub(crate) fn join(ops: &mut Ops, joint: Joint, f: NodeId, g: NodeId) -> Result<NodeId, NodeFault>
+    requires f_in { IsNumber ops.old f.n }
+    requires g_in { IsNumber ops.old g.n }
+    ensures drawn { let made = cond (all_needed joint) (meet (family ops.old f.n) (family ops.old g.n)) (union (family ops.old f.n) (family ops.old g.n)) in
+        Draws (IsCounted made) made ops.old ops.new result }
+{
+    match joint {
+        Joint::And => ops.meet(f, g),
+        Joint::Or => ops.union(f, g),
+    }
+}
+
+/// The family of one more of the first operands of the next gate, one of the cone of `root`.
+pub(crate) fn one_more(
+    ops: &mut Ops,
+    gates: &[Gate],
+    root: Operand,
+    table: &[NodeId],
+    firable: NodeId,
+    gate: &Gate,
+    place: usize,
+    so_far: NodeId,
+) -> Result<NodeId, NodeFault>
+    requires firable_in { IsNumber ops.old firable.n }
+    requires ready { IsReady (family ops.old firable.n) (map gate_of gates.now) (operand_of root) (length table.now) (gate_of gate.now) table.now ops.old }
+    requires place_in { place < length gate.now.operands.items }
+    requires so_far_in { IsNumber ops.old so_far.n }
+    requires so_far_is { family ops.old so_far.n ≡ joint_family (family ops.old firable.n) (map gate_of gates.now) (all_needed gate.now.joint) (take place (map operand_of gate.now.operands.items)) }
+    ensures drawn { Draws (IsNeeded (family ops.old firable.n) (map gate_of gates.now) (operand_of root))
+        (joint_family (family ops.old firable.n) (map gate_of gates.now) (all_needed gate.now.joint) (take (place + 1) (map operand_of gate.now.operands.items))) ops.old ops.new result }
+{
+    let next = operand(ops, gates, root, table, firable, gate.operands[place])?;
+    join(ops, gate.joint, so_far, next)
+}
+
+/// The family of the next gate, one of the cone of `root`, an operand after the other.
+pub(crate) fn gate(
+    ops: &mut Ops,
+    gates: &[Gate],
+    root: Operand,
+    table: &[NodeId],
+    firable: NodeId,
+    gate: &Gate,
+) -> Result<NodeId, NodeFault>
+    requires firable_in { IsNumber ops.old firable.n }
+    requires ready { IsReady (family ops.old firable.n) (map gate_of gates.now) (operand_of root) (length table.now) (gate_of gate.now) table.now ops.old }
+    ensures drawn { Draws (IsNeeded (family ops.old firable.n) (map gate_of gates.now) (operand_of root))
+        (family_at (family ops.old firable.n) (map gate_of gates.now) (GateIs (length table.now) true)) ops.old ops.new result }
+{
+    let mut so_far = operand(ops, gates, root, table, firable, gate.operands[0])?;
+    for place in 1..gate.operands.len() {
+        so_far = one_more(ops, gates, root, table, firable, gate, place, so_far)?;
+    }
+    Ok(so_far)
+}

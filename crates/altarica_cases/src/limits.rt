@@ -1,7 +1,7 @@
-//! The limits of texts, of units and of flat systems, each at its number and one past it.
+//! The limits of texts, of units, of flat systems and of events with an edge, each at its number and one past it.
 
-use crate::made::{blocks_inside, instances, names, padded, way_parts, ways, wide};
-use crate::run_texts;
+use crate::made::{blocks_inside, instances, long_chains, names, padded, way_parts, ways, wide};
+use crate::{end_of_fragment, run_texts};
 use std::io;
 
 /// Runs a check of each text, and a replay of each script.
@@ -10,7 +10,8 @@ pub(crate) fn run_limits(rt: &HostRuntime) -> io::Result<()> {
     units(rt)?;
     things(rt)?;
     nodes(rt)?;
-    flat_systems(rt)
+    flat_systems(rt)?;
+    live_events(rt)
 }
 
 // Runs a check of this text.
@@ -82,6 +83,15 @@ fn flat_systems(rt: &HostRuntime) -> io::Result<()> {
     for member in ["", "observer Boolean z = true; "] {
         let text = instances(rt, observer.as_str(), 1_000, member)?;
         check(rt, "expression-nodes", text.as_str())?;
+    }
+    Ok(())
+}
+
+// The events that have a live edge.
+fn live_events(rt: &HostRuntime) -> io::Result<()> {
+    for more in 8..10 {
+        let text = long_chains(rt, more)?;
+        end_of_fragment(rt, "live-events", text.as_str())?;
     }
     Ok(())
 }

@@ -109,3 +109,28 @@ pub(crate) fn way_parts(rt: &HostRuntime, member: &str) -> Result<String, AllocE
     text.push_str(" end")?;
     Ok(text)
 }
+
+// A state of 256 values, and so many events of these names, each of which leads from a value to the next.
+fn chain(rt: &HostRuntime, state: &str, event: &str, count: u32) -> Result<String, AllocError> {
+    let mut text = format!(in rt.alloc(); "N {state} (init = 0);")?;
+    for place in 0..count {
+        let behind = place + 1;
+        let next = format!(in rt.alloc();
+            " event {event}{place}; transition {event}{place}: {state} == {place} -> {state} := {behind};"
+        )?;
+        text.push_str(&next)?;
+    }
+    Ok(text)
+}
+
+/// A main block with eight instances of a class with 255 events in a row, and so many events more.
+pub(crate) fn long_chains(rt: &HostRuntime, more: u32) -> Result<String, AllocError> {
+    let mut text = String::from_str(rt.alloc(), "domain N [0, 255] class C ")?;
+    let class = chain(rt, "n", "e", 255)?;
+    text.push_str(&class)?;
+    text.push_str(" end block B C u0, u1, u2, u3, u4, u5, u6, u7; ")?;
+    let main = chain(rt, "m", "f", more)?;
+    text.push_str(&main)?;
+    text.push_str(" end")?;
+    Ok(text)
+}

@@ -17,6 +17,7 @@ use ar_io::{MemoryShelf, MemorySink};
 use limits::run_limits;
 use plants::run_plants;
 use std::io::Write;
+use std::str::from_utf8;
 use std::{fs, io};
 
 /// The room for the text of a case, in bytes.
@@ -87,6 +88,21 @@ pub(crate) fn run_texts(
         }
     }
     run(rt, name, &mut shelf, "-", &words)
+}
+
+/// Runs `fragment` on this model, and prints the last line of its text.
+pub(crate) fn end_of_fragment(rt: &HostRuntime, name: &str, model: &str) -> io::Result<()> {
+    let mut shelf = MemoryShelf::new(rt.alloc());
+    shelf.place("model", model.as_bytes()).map_err(no_memory)?;
+    let mut sink = MemorySink::new(rt.alloc(), ROOM).map_err(no_memory)?;
+    let mut words = Vec::new(rt.alloc());
+    words.push(String::from_str(rt.alloc(), "fragment")?)?;
+    words.push(String::from_str(rt.alloc(), "model")?)?;
+    let status = altarica(rt.alloc(), &words, &mut shelf, &mut sink).number();
+    let text = from_utf8(sink.bytes()).unwrap_or("");
+    let last = text.lines().last().unwrap_or("");
+    println!(rt; "{name}: status {status}")?;
+    println!(rt; "{last}")
 }
 
 // Runs the case of a line.

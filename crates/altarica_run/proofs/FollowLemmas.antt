@@ -14,12 +14,12 @@ use Rattle.altarica_run.specs.Jobs.{IsBuiltJob, IsNoJob}
 use Rattle.altarica_run.specs.Refusals.{line_of, status_of}
 use Rattle.altarica_run.specs.Says.{Says, usage, refuses, tells, EndsSo}
 use Rattle.altarica_run.specs.Says as says
-use Rattle.altarica_run.specs.Stages.{Ready, bare, Passes, not_loaded, loaded, line_refused, Scripted, has_script}
+use Rattle.altarica_run.specs.Stages.{Ready, bare, Passes, not_loaded, loaded, line_refused, Scripted, has_script, Drops, Static, is_static}
 use Rattle.altarica_run.specs.Stages as stages
 use Rattle.altarica_run.specs.Statuses.{IsTold, IsRefused, Meaning_of}
-use Rattle.altarica_run.specs.Tells.{Tells, check, flat, replay}
+use Rattle.altarica_run.specs.Tells.{Tells, check, flat, replay, fragment}
 use Rattle.altarica_run.specs.declared.refusals.Refusal.{Refusal}
-use Rattle.altarica_run.specs.declared.refusals.Refusal.TheVariants.{Usage, NotRead, Size, Syntax, Rule, NoCommand, NeedsWay, NoEvent}
+use Rattle.altarica_run.specs.declared.refusals.Refusal.TheVariants.{Usage, NotRead, Size, Syntax, Rule, NoCommand, NeedsWay, NoEvent, NoDropped, Outside}
 use Rattle.altarica_run.specs.declared.status.Status.{Status}
 use Rattle.altarica_run.specs.declared.status.Status.TheVariants as status
 
@@ -35,6 +35,8 @@ IsOfStages (Rule rule place) = Unit {0}
 IsOfStages (NoCommand n) = Unit {0}
 IsOfStages (NeedsWay n) = Unit {0}
 IsOfStages (NoEvent n) = Unit {0}
+IsOfStages NoDropped = Unit {0}
+IsOfStages (Outside rule path) = Unit {0}
 
 of_files : (told : List ℕ → Told) (fs : List File) (r : Refusal) → Loaded told fs (Err r) → IsOfStages r
 of_files told [] r h = elim h [ ]
@@ -58,10 +60,20 @@ of_script : (b : Bool) (texts : List (List ℕ)) (w : Ready) (r : Refusal) → W
 of_script true texts w r (stages.bad {l = l} i h) = of_line l.why l.number
 of_script false texts w r h = cc
 
+of_list : (list : Option (List ℕ)) (w : Ready) (r : Refusal) → Drops list w (Err r) → IsOfStages r
+of_list list w r (stages.names_none i h) = tt
+
+of_fragment : (b : Bool) (w : Ready) (r : Refusal) → Where b Static w (Err r) → IsOfStages r
+of_fragment true w r (stages.outside h) = tt
+of_fragment false w r h = cc
+
 pub of_stages : (files : List ℕ → Told) (job : Job) (r : Refusal) → Passes files job (Err r) → IsOfStages r
 of_stages files job r (not_loaded h) = of_files files (files_of job) r h
 of_stages files job r (loaded texts l t (then.refuses h)) = of_text job.main _ r h
-of_stages files job r (loaded texts l t (then.passes x p h)) = of_script (has_script job.command) texts (bare x) r h
+of_stages files job r (loaded texts l t (then.passes x p (then.refuses (then.refuses h)))) =
+    of_script (has_script job.command) texts (bare x) r h
+of_stages files job r (loaded texts l t (then.passes x p (then.refuses (then.passes w q h)))) = of_list job.dropped w r h
+of_stages files job r (loaded texts l t (then.passes x p (then.passes w q h))) = of_fragment (is_static job.command) w r h
 
 -- Meanings
 
@@ -81,6 +93,7 @@ module _ (c : Call) where
   meant_tells job w text s is p (flat e h) a = told job w text status.Done is p (flat e h) a
   meant_tells job w text s is p (replay {ends = end.Done} e h) a = told job w text status.Done is p (replay e h) a
   meant_tells job w text s is p (replay {ends = end.Fault} e h) a = told job w text status.Fault is p (replay e h) a
+  meant_tells job w text s is p (fragment e h) a = told job w text status.Done is p (fragment e h) a
 
   meant_refuses : (job : Job) (r : Refusal) → IsBuiltJob c.words job → Passes c.files job (Err r) → Wrote c (line_of r)
       → IsOfStages r → Meaning_of c (status_of r)
@@ -92,6 +105,8 @@ module _ (c : Call) where
   meant_refuses job (NoCommand n) is p a h = refused job (NoCommand n) is p a
   meant_refuses job (NeedsWay n) is p a h = refused job (NeedsWay n) is p a
   meant_refuses job (NoEvent n) is p a h = refused job (NoEvent n) is p a
+  meant_refuses job NoDropped is p a h = refused job NoDropped is p a
+  meant_refuses job (Outside rule path) is p a h = refused job (Outside rule path) is p a
 
   meant_says : (text : List ℕ) (s : Status) → Says c.files c.words text s → Wrote c text → Meaning_of c s
   meant_says text s (usage never) a = (never, a)

@@ -28,6 +28,7 @@ task_built : (t : Task) → is_built (verb_of t) ≡ true
 task_built task.Check = refl
 task_built task.Flat = refl
 task_built task.Replay = refl
+task_built task.Fragment = refl
 
 pub command_built : (v : Verb) (t : Task) → v ≡ verb_of t → is_built v ≡ true
 command_built v t e = ap is_built e ∙ task_built t

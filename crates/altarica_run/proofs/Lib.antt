@@ -3,6 +3,7 @@ pub mod JobLemmas
 pub mod FileLemmas
 pub mod ElaborateLemmas
 pub mod PassLemmas
+pub mod ForestLemmas
 pub mod TellLemmas
 pub mod EndLemmas
 pub mod FollowLemmas

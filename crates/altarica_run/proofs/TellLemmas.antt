@@ -9,6 +9,8 @@ use Rattle.gts_core.specs.declared.system.GtsParts.{GtsParts}
 use Rattle.gts_core.specs.declared.system.Event.{Event}
 use Rattle.gts_core.specs.declared.system.Observer.{Observer}
 use Rattle.gts_core.specs.declared.system.Variable.{Variable}
+use Rattle.forest_text.specs.Printed.{forest_text}
+use Rattle.forest_text.specs.Texts.{IsForestText}
 use Rattle.gts_core.specs.Printed.{flat_text}
 use Rattle.gts_flatten.specs.Elaborating.{Elaborated}
 use Rattle.gts_flatten.specs.Flat.{IsFlat, naming_of, naming_of_parts}
@@ -20,11 +22,11 @@ use Rattle.replayer.specs.Replays as replays
 use Rattle.replayer.specs.declared.replaying.End.{End}
 use Rattle.replayer.specs.declared.replaying.ReplayFault.{ReplayFault}
 use Rattle.run_words.specs.declared.jobs.Job.{Job}
-use Rattle.run_words.specs.declared.verbs.Verb.TheVariants.{Check, Flat, Replay}
+use Rattle.run_words.specs.declared.verbs.Verb.TheVariants.{Check, Flat, Replay, Fragment}
 use Rattle.altarica_run.specs.Passing.{IsReady}
 use Rattle.altarica_run.specs.Stages.{Ready}
 use Rattle.altarica_run.specs.Telling.{status_written, status_replayed, IsWritten, whole, cut, stopped}
-use Rattle.altarica_run.specs.Tells.{counts_line, check_text, status_at, Tells, check, flat, replay}
+use Rattle.altarica_run.specs.Tells.{counts_line, check_text, status_at, Tells, check, flat, replay, fragment}
 use Rattle.altarica_run.specs.declared.stages.Prepared.{Prepared}
 use Rattle.altarica_run.specs.declared.status.Status.{Status}
 use Rattle.altarica_run.specs.declared.status.Status.TheVariants.{Done}
@@ -80,6 +82,13 @@ module _ (job : Job) (w : Ready) (p : Prepared) (is : IsReady job w p) where
   flattened e s r k h =
       text_written (Tells job w) (flat_text p.system) Done s r k
       (flat e (record { parts = p.system; is_flat = is.flat; is_text = refl })) h
+
+  pub forest_told : {old new : SinkState} → job.command ≡ Fragment
+      → IsForestText (naming_of w.source.declarations) w.source.system w.dropped (forest_text p.system p.forest)
+      → (s : Status) (r : Result (Unit {0}) SinkFailed) → s ≡ status_written Done r
+      → Writes old new (forest_text p.system p.forest) r → IsWritten (Tells job w) old new s
+  forest_told e t s r k h =
+      text_written (Tells job w) (forest_text p.system p.forest) Done s r k (fragment e t) h
 
   module _
       (there : (cs : List Command) (text : List ℕ) (end : End) → IsReplay (naming_of_parts p.system) is.flat.flat cs text end

@@ -4,7 +4,7 @@ use Rattle.std.specs.Prelude.{◌≡◌, ℕ, Bool, true, false, List, Result, O
 use Rattle.run_words.specs.Jobs.{IsJob}
 use Rattle.run_words.specs.declared.jobs.Job.{Job}
 use Rattle.run_words.specs.declared.verbs.Verb.{Verb}
-use Rattle.run_words.specs.declared.verbs.Verb.TheVariants.{Check, Flat, Replay}
+use Rattle.run_words.specs.declared.verbs.Verb.TheVariants.{Check, Flat, Replay, Fragment}
 use Rattle.altarica_run.specs.declared.jobs.Asked.{Asked}
 use Rattle.altarica_run.specs.declared.jobs.Task.{Task}
 use Rattle.altarica_run.specs.declared.jobs.Task.TheVariants as task
@@ -17,6 +17,7 @@ abbrev pub is_built : Verb → Bool
 is_built Check = true
 is_built Flat = true
 is_built Replay = true
+is_built Fragment = true
 is_built _ = false
 
 -- the words give this job, whose command is built
@@ -33,6 +34,7 @@ abbrev pub verb_of : Task → Verb
 verb_of task.Check = Check
 verb_of task.Flat = Flat
 verb_of task.Replay = Replay
+verb_of task.Fragment = Fragment
 
 -- what the reading of words answers: the job with its task, or that there is none, or want of memory
 abbrev pub AnswersJob : List (List ℕ) → Result Asked Stop → Type 0

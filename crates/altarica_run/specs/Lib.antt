@@ -11,3 +11,4 @@ pub mod Follows
 pub mod Loading
 pub mod Passing
 pub mod Telling
+pub mod Spots

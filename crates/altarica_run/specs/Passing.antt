@@ -5,30 +5,44 @@ use Rattle.ar_base.specs.Counts.{limit_of}
 use Rattle.ar_base.specs.declared.counts.Count.TheVariants.{Nesting, ScriptBytes}
 use Rattle.ar_base.specs.declared.faults.RuleFault.{RuleFault}
 use Rattle.ar_base.specs.declared.faults.RuleFault.TheVariants as rules
+use Rattle.ar_base.specs.Numbers.{EventId}
 use Rattle.ar_base.specs.Stages.{IsStage}
+use Rattle.ar_firing.specs.Forest.{IsForest}
+use Rattle.ar_firing.specs.Rules.{KeepsAll}
 use Rattle.ar_io.specs.Outside.{Told}
 use Rattle.ar_meaning.specs.Runs as runs
+use Rattle.ar_meaning.specs.Systems.{System}
 use Rattle.ar_parser.specs.declared.lexeme.ParseFault.{ParseFault}
 use Rattle.ar_parser.specs.declared.lexeme.ParseFault.TheVariants as parse
+use Rattle.event_lists.specs.Naming.{NamesEvents, HasUnknown, AreEventsOf}
+use Rattle.event_lists.specs.declared.reading.ListFault.{ListFault}
+use Rattle.event_lists.specs.declared.reading.ListFault.TheVariants as list
+use Rattle.forest_text.specs.Printed.{edge_count}
+use Rattle.gts_core.specs.View.{Views}
 use Rattle.gts_core.specs.declared.system.GtsParts.{GtsParts}
 use Rattle.gts_flatten.specs.Elaborating.{Elaborated}
 use Rattle.gts_flatten.specs.Flat.{IsFlat}
+use Rattle.mode_forests.specs.Views.{trees_of, number_in}
+use Rattle.mode_forests.specs.Ways.{OwnTheirWays}
+use Rattle.mode_forests.specs.declared.forests.Forest.{Forest}
 use Rattle.replayer.specs.Flat.{command_of, AreFirable, IsOfTree}
 use Rattle.replayer.specs.Scripts.{BadLine, Commands}
 use Rattle.replayer.specs.declared.commands.Command.{Command}
 use Rattle.replayer.specs.declared.commands.ScriptFault.{ScriptFault}
 use Rattle.replayer.specs.declared.commands.ScriptFault.TheVariants as script
 use Rattle.run_words.specs.declared.jobs.Job.{Job}
+use Rattle.run_words.specs.declared.verbs.Verb.{Verb}
 use Rattle.run_words.specs.declared.jobs.JobFault.{JobFault}
 use Rattle.run_words.specs.declared.jobs.JobFault.TheVariants as words
 use Rattle.altarica_run.specs.Files.{files_of, Loads}
 use Rattle.altarica_run.specs.Jobs.{IsBuiltJob, IsNoJob, verb_of}
-use Rattle.altarica_run.specs.Stages.{Ready, line_refused, Passes}
+use Rattle.altarica_run.specs.Stages.{Ready, line_refused, is_static, Passes}
 use Rattle.altarica_run.specs.declared.refusals.FileKind.{FileKind}
 use Rattle.altarica_run.specs.declared.refusals.Refusal.{Refusal}
-use Rattle.altarica_run.specs.declared.refusals.Refusal.TheVariants.{Usage, NotRead, Size, Syntax, Rule, NoCommand, NeedsWay, NoEvent}
+use Rattle.altarica_run.specs.declared.refusals.Refusal.TheVariants.{Usage, NotRead, Size, Syntax, Rule, NoCommand, NeedsWay, NoEvent, NoDropped}
 use Rattle.altarica_run.specs.declared.stages.Flattened.{Flattened}
 use Rattle.altarica_run.specs.declared.stages.Prepared.{Prepared}
+use Rattle.altarica_run.specs.declared.stages.Wanted.{Wanted}
 use Rattle.altarica_run.specs.declared.stops.Stop.{Stop}
 use Rattle.altarica_run.specs.declared.stops.Stop.TheVariants.{Refused, Memory}
 
@@ -54,6 +68,10 @@ stop_of_script (script.Line n) = Refused (NoCommand n)
 stop_of_script (script.Which n) = Refused (NeedsWay n)
 stop_of_script (script.Unknown n) = Refused (NoEvent n)
 stop_of_script script.Memory = Memory
+
+abbrev pub stop_of_list : ListFault → Stop
+stop_of_list list.NoEvent = Refused NoDropped
+stop_of_list list.Memory = Memory
 
 -- the refusal that a stop tells, none for want of memory
 abbrev pub stop_told : Stop → Option Refusal
@@ -96,6 +114,42 @@ abbrev pub IsThere : Bool → Option (Vec ℕ Global) → Type 0
 IsThere true script = (bytes : Vec ℕ Global) × (script ≡ Some bytes)
 IsThere false script = script ≡ None
 
+-- The dropped events
+
+-- the events of the list where there is one, none elsewhere, or that a part of it names none
+pub data ReadsList (list : Option (List ℕ)) (x : Elaborated) : Result (List ℕ) Refusal → Type 0 where
+  no_list : list ≡ None → ReadsList list x (Ok [])
+  names : {text events : List ℕ} → list ≡ Some text → NamesEvents x text events → ReadsList list x (Ok events)
+  names_none : {text : List ℕ} → list ≡ Some text → HasUnknown x text → ReadsList list x (Err NoDropped)
+
+-- the dropped events are these, and the system has them
+pub record AreDropped (p : GtsParts) (dropped : List ℕ) (events : List EventId) : Type 0 where
+  pub are : dropped ≡ map (λ (e : EventId). e.n) events
+  pub inside : AreEventsOf p events
+
+-- what is wanted is what stands ready of the source
+pub record IsWanted (x : Elaborated) (p : GtsParts) (w : Ready) (wanted : Wanted) : Type 0 where
+  pub source : w.source ≡ x
+  pub commands : AreCommands p w.commands wanted.commands
+  pub dropped : AreDropped p w.dropped wanted.dropped.items
+
+-- The static fragment
+
+-- the forest can be written: its edges have ways of their own events, and are few
+pub record CanBeWritten (p : GtsParts) (forest : Forest) : Type 0 where
+  pub own : OwnTheirWays p forest.trees.items
+  pub few : edge_count forest.trees.items ≤ 2048
+
+-- the system keeps the rules of the static fragment, and the forest is its own
+pub record IsForestOf (p : GtsParts) (dropped : List ℕ) (forest : Forest) : Type 0 where
+  pub keeps : (flat : System ℕ) → Views p flat → KeepsAll flat dropped
+  pub is_forest : (flat : System ℕ) → Views p flat → IsForest flat dropped (trees_of (number_in p) forest)
+
+-- the forest can be written, and is the system's own where the command asks for it
+pub record HasForest (v : Verb) (p : GtsParts) (dropped : List ℕ) (forest : Forest) : Type 0 where
+  pub written : CanBeWritten p forest
+  pub own : is_static v ≡ true → IsForestOf p dropped forest
+
 -- The job
 
 -- what is prepared is what stands ready for the job
@@ -103,6 +157,7 @@ pub record IsReady (job : Job) (w : Ready) (p : Prepared) : Type 0 where
   pub command : job.command ≡ verb_of p.task
   pub flat : IsFlat w.source p.system
   pub commands : AreCommands p.system w.commands p.commands
+  pub forest : HasForest job.command p.system w.dropped p.forest
 
 -- the words are refused: they are no job, or a stage of the job refuses, or a file was not read
 pub data RefusesWords (files : List ℕ → Told) (rose : List ℕ → Type 0) (words : List (List ℕ)) : Refusal → Type 0 where

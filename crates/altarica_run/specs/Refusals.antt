@@ -7,7 +7,7 @@ use Rattle.ar_base.specs.declared.counts.Count.TheVariants.{ModelBytes, ScriptBy
 use Rattle.ar_base.specs.declared.places.Place.{Place}
 use Rattle.altarica_run.specs.declared.refusals.FileKind.TheVariants.{Model, Script}
 use Rattle.altarica_run.specs.declared.refusals.Refusal.{Refusal}
-use Rattle.altarica_run.specs.declared.refusals.Refusal.TheVariants.{Usage, NotRead, Size, Syntax, Rule, NoCommand, NeedsWay, NoEvent}
+use Rattle.altarica_run.specs.declared.refusals.Refusal.TheVariants.{Usage, NotRead, Size, Syntax, Rule, NoCommand, NeedsWay, NoEvent, NoDropped, Outside}
 use Rattle.altarica_run.specs.declared.status.Status.{Status}
 use Rattle.altarica_run.specs.declared.status.Status.TheVariants as status
 
@@ -43,6 +43,8 @@ line_of (Rule rule place) = line (codes "rule: L" ++ (decimal rule ++ (codes " a
 line_of (NoCommand n) = line (codes "script: line " ++ (decimal n ++ codes " is no command"))
 line_of (NeedsWay n) = line (codes "script: line " ++ (decimal n ++ codes " needs a way"))
 line_of (NoEvent n) = line (codes "script: line " ++ (decimal n ++ codes " names no event"))
+line_of NoDropped = line (codes "script: no event")
+line_of (Outside rule path) = line (codes "outside: S" ++ (decimal rule ++ (codes " at " ++ path)))
 
 -- the status of a refusal
 abbrev pub status_of : Refusal → Status
@@ -54,3 +56,5 @@ status_of (Rule rule place) = status.Rule
 status_of (NoCommand n) = status.Script
 status_of (NeedsWay n) = status.Script
 status_of (NoEvent n) = status.Script
+status_of NoDropped = status.Script
+status_of (Outside rule path) = status.Outside

@@ -1,26 +1,33 @@
 -- The stages of a job, from its files to what stands ready for its command. The first stage that refuses decides.
-use Rattle.std.specs.Prelude.{◌≡◌, ℕ, Bool, true, false, List, [], ◌∷◌, Result, Ok, Err}
+use Rattle.std.specs.Prelude.{◌≡◌, ℕ, Bool, true, false, List, [], ◌∷◌, map, codes, Option, Some, None, Result, Ok, Err}
 use Rattle.ar_base.specs.Stages.{Then, Where}
+use Rattle.ar_base.specs.Texts.{text_at}
+use Rattle.ar_firing.specs.Rules.{Rule, number_of, Spot, AtEvent, AtUnit, AtVariable, AtObserver, AtWhole, IsFirstBroken, KeepsAll}
 use Rattle.ar_io.specs.Outside.{Told}
 use Rattle.ar_meaning.specs.Runs.{Command}
+use Rattle.event_lists.specs.Naming.{NamesEvents, HasUnknown}
 use Rattle.gts_flatten.specs.Elaborating.{Elaborated}
+use Rattle.gts_flatten.specs.Flat.{naming_of}
+use Rattle.hierarchy.specs.Paths.{unit_path}
 use Rattle.replayer.specs.Scripts.{BadLine, Commands, Why, IsNoCommand, LacksWay, NamesNoEvent}
 use Rattle.run_words.specs.declared.jobs.Job.{Job}
 use Rattle.run_words.specs.declared.verbs.Verb.{Verb}
-use Rattle.run_words.specs.declared.verbs.Verb.TheVariants.{Replay}
+use Rattle.run_words.specs.declared.verbs.Verb.TheVariants.{Replay, Fragment, Equations, Cuts, Make, CheckCuts, Modules}
 use Rattle.altarica_run.specs.Elaborates.{Elaborates}
 use Rattle.altarica_run.specs.Files.{files_of, Loaded, IsText}
 use Rattle.altarica_run.specs.declared.refusals.Refusal.{Refusal}
-use Rattle.altarica_run.specs.declared.refusals.Refusal.TheVariants.{NoCommand, NeedsWay, NoEvent}
+use Rattle.altarica_run.specs.declared.refusals.Refusal.TheVariants.{NoCommand, NeedsWay, NoEvent, NoDropped, Outside}
 
--- what stands ready: the source's system over paths with its names, and the commands of the script
+-- what stands ready: the source's system over paths with its names, the commands of the script, and the events that are
+-- dropped
 pub record Ready : Type 0 where
   pub source : Elaborated
   pub commands : List Command
+  pub dropped : List ℕ
 
 -- the system alone
 abbrev pub bare : Elaborated → Ready
-bare x = record { source = x; commands = [] }
+bare x = record { source = x; commands = []; dropped = [] }
 
 -- The script
 
@@ -42,15 +49,54 @@ pub data Scripted (texts : List (List ℕ)) (w : Ready) : Result Ready Refusal �
   bad : {model script : List ℕ} {l : BadLine} → texts ≡ model ∷ script ∷ [] → Commands script w.source (Err l)
       → Scripted texts w (Err (line_refused l.why l.number))
 
--- what the command asks of the system
-abbrev pub Asks : Verb → List (List ℕ) → Elaborated → Result Ready Refusal → Type 0
-Asks verb texts x = Where (has_script verb) (Scripted texts) (bare x)
+-- The dropped events
+
+-- the events that the list names, where there is one, or that a part of it names none
+pub data Drops (list : Option (List ℕ)) (w : Ready) : Result Ready Refusal → Type 0 where
+  no_list : list ≡ None → Drops list w (Ok w)
+  names : {text events : List ℕ} → list ≡ Some text → NamesEvents w.source text events
+      → Drops list w (Ok (record w { dropped = events }))
+  names_none : {text : List ℕ} → list ≡ Some text → HasUnknown w.source text → Drops list w (Err NoDropped)
+
+-- what the words and the script ask of the system
+abbrev pub Asks : Job → List (List ℕ) → Elaborated → Result Ready Refusal → Type 0
+Asks job texts x = Then (Where (has_script job.command) (Scripted texts)) (Drops job.dropped) (bare x)
+
+-- The static fragment
+
+-- the command is for systems of the static fragment
+abbrev pub is_static : Verb → Bool
+is_static Fragment = true
+is_static Equations = true
+is_static Cuts = true
+is_static Make = true
+is_static CheckCuts = true
+is_static Modules = true
+is_static _ = false
+
+-- the canonical path of what a broken rule is shown with; `main` for the whole model
+abbrev pub spot_path : Elaborated → Spot → List ℕ
+spot_path x (AtEvent n) = text_at (naming_of x.declarations).events n
+spot_path x (AtUnit n) = text_at (map (unit_path x.declarations.model) x.declarations.units) n
+spot_path x (AtVariable n) = text_at (naming_of x.declarations).variables n
+spot_path x (AtObserver n) = text_at (naming_of x.declarations).observers n
+spot_path x AtWhole = codes "main"
+
+-- the system without the dropped events keeps the rules of the static fragment, or the first that it breaks
+pub data Static (w : Ready) : Result Ready Refusal → Type 0 where
+  keeps : KeepsAll w.source.system w.dropped → Static w (Ok w)
+  outside : {rule : Rule} {spot : Spot} → IsFirstBroken w.source.system w.dropped rule spot
+      → Static w (Err (Outside (number_of rule) (spot_path w.source spot)))
 
 -- The stages
 
+-- from the system on
+abbrev pub Readies : Job → List (List ℕ) → Elaborated → Result Ready Refusal → Type 0
+Readies job texts = Then (Asks job texts) (Where (is_static job.command) Static)
+
 -- from the model's text on, where the job's files have these texts
 abbrev pub Stages : Job → List (List ℕ) → List ℕ → Result Ready Refusal → Type 0
-Stages job texts = Then (Elaborates job.main) (Asks job.command texts)
+Stages job texts = Then (Elaborates job.main) (Readies job texts)
 
 -- what stands ready once all stages of the job are passed, or the first refusal
 pub data Passes (files : List ℕ → Told) (job : Job) : Result Ready Refusal → Type 0 where

@@ -1,6 +1,7 @@
 -- What each command writes of a job that has passed its stages.
 use Rattle.std.specs.Prelude.{◌≡◌, ℕ, ◌++◌, List, length, codes, decimal}
 use Rattle.ar_base.specs.Texts.{line}
+use Rattle.forest_text.specs.Texts.{IsForestText}
 use Rattle.gts_core.specs.Printed.{flat_text}
 use Rattle.gts_core.specs.declared.system.GtsParts.{GtsParts}
 use Rattle.gts_flatten.specs.Elaborating.{Elaborated}
@@ -10,7 +11,7 @@ use Rattle.replayer.specs.Replays.{IsReplay}
 use Rattle.replayer.specs.declared.replaying.End.{End}
 use Rattle.replayer.specs.declared.replaying.End.TheVariants as end
 use Rattle.run_words.specs.declared.jobs.Job.{Job}
-use Rattle.run_words.specs.declared.verbs.Verb.TheVariants.{Check, Flat, Replay}
+use Rattle.run_words.specs.declared.verbs.Verb.TheVariants.{Check, Flat, Replay, Fragment}
 use Rattle.source_meaning.specs.Systems.{Declarations}
 use Rattle.altarica_run.specs.Stages.{Ready}
 use Rattle.altarica_run.specs.declared.status.Status.{Status}
@@ -46,3 +47,5 @@ pub data Tells (job : Job) (w : Ready) : List ℕ → Status → Type 0 where
   replay : {text : List ℕ} {ends : End} → job.command ≡ Replay
       → IsReplay (naming_of w.source.declarations) w.source.system w.commands text ends
       → Tells job w text (status_at ends)
+  fragment : {text : List ℕ} → job.command ≡ Fragment
+      → IsForestText (naming_of w.source.declarations) w.source.system w.dropped text → Tells job w text Done

@@ -19,6 +19,8 @@ pub enum Task {
     Flat,
     /// Writes the trace of a script.
     Replay,
+    /// Writes the trees of modes of a system of the static fragment.
+    Fragment,
 }
 
 /// A job with its task.
@@ -54,6 +56,7 @@ fn task_of(command: Verb) -> Option<Task>
         Verb::Check => Some(Task::Check),
         Verb::Flat => Some(Task::Flat),
         Verb::Replay => Some(Task::Replay),
+        Verb::Fragment => Some(Task::Fragment),
         _ => None,
     }
 }

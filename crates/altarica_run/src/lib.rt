@@ -1,9 +1,11 @@
 //! The program's one call: the job of the words, over a shelf of files and a sink for the text.
 //!
 //! The stages are joined here: the words, the files, the grammar, the table, the units, the bound
-//! forms, the flat system and the script, and then the text of the command.
+//! forms, the flat system, the script, the dropped events and the static fragment, and then the text
+//! of the command.
 #![tactic(auto)]
 
+mod analysing;
 pub mod following;
 mod jobs;
 pub mod laws;
@@ -11,6 +13,7 @@ mod loading;
 mod pieces;
 mod program;
 mod refusals;
+mod spots;
 mod stages;
 mod status;
 mod stops;

@@ -27,7 +27,7 @@ pub fn altarica<H: Shelf, K: Sink>(
     match prepare(alloc, words, shelf) {
         Ok(prepared) => tell(alloc, &prepared, out),
         Err(stop) => match stop {
-            Stop::Refused(refusal) => refuse(refusal, out),
+            Stop::Refused(refusal) => refuse(&refusal, out),
             Stop::Memory => Status::Memory,
         },
     }

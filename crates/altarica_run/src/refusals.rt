@@ -7,7 +7,7 @@ ghost use Rattle.altarica_run.specs.Refusals.{count_text, place_text, line_of, s
 
 use crate::pieces::{put, put_number};
 use crate::status::Status;
-use ar_base::{Count, Place};
+use ar_base::{Count, Place, Text};
 use ar_io::{Sink, SinkFailed};
 
 /// A file of a job.
@@ -20,7 +20,7 @@ pub enum FileKind {
 }
 
 /// Why a job is refused.
-#[derive(Clone, Copy, Debug, PartialEq, Eq)]
+#[derive(Debug, Drop)]
 pub enum Refusal {
     /// The words are no job.
     Usage,
@@ -38,6 +38,10 @@ pub enum Refusal {
     NeedsWay(u32),
     /// The line of the script, from 1, names no event.
     NoEvent(u32),
+    /// A part of the list of dropped events names no event.
+    NoDropped,
+    /// The system breaks the rule of this number of the static fragment, as the thing of this path shows.
+    Outside(u8, Text),
 }
 
 // The usage line.
@@ -46,8 +50,8 @@ const USAGE: &str =
 
 impl Refusal {
     /// The status with which the refusal ends a job.
-    pub fn status(self) -> Status
-        ensures { result ≡ status_of self }
+    pub fn status(&self) -> Status
+        ensures { result ≡ status_of self.now }
     {
         match self {
             Refusal::Usage => Status::Usage,
@@ -56,22 +60,26 @@ impl Refusal {
             Refusal::Syntax(_) => Status::Syntax,
             Refusal::Rule(_, _) => Status::Rule,
             Refusal::NoCommand(_) | Refusal::NeedsWay(_) | Refusal::NoEvent(_) => Status::Script,
+            Refusal::NoDropped => Status::Script,
+            Refusal::Outside(_, _) => Status::Outside,
         }
     }
 
     /// Writes the line that tells it. Takes no memory.
-    pub fn put<K: Sink>(self, out: &mut K) -> Result<(), SinkFailed>
-        ensures { Writes (K.state out.old) (K.state out.new) (line_of self) result }
+    pub fn put<K: Sink>(&self, out: &mut K) -> Result<(), SinkFailed>
+        ensures { Writes (K.state out.old) (K.state out.new) (line_of self.now) result }
     {
         match self {
             Refusal::Usage => put(out, USAGE),
-            Refusal::NotRead(kind) => put(out, not_read_line(kind)),
-            Refusal::Size(count) => put_size(out, count),
-            Refusal::Syntax(place) => put_syntax(out, place),
-            Refusal::Rule(rule, place) => put_rule(out, rule, place),
-            Refusal::NoCommand(number) => put_script_line(out, number, " is no command"),
-            Refusal::NeedsWay(number) => put_script_line(out, number, " needs a way"),
-            Refusal::NoEvent(number) => put_script_line(out, number, " names no event"),
+            Refusal::NotRead(kind) => put(out, not_read_line(*kind)),
+            Refusal::Size(count) => put_size(out, *count),
+            Refusal::Syntax(place) => put_syntax(out, *place),
+            Refusal::Rule(rule, place) => put_rule(out, *rule, *place),
+            Refusal::NoCommand(number) => put_script_line(out, *number, " is no command"),
+            Refusal::NeedsWay(number) => put_script_line(out, *number, " needs a way"),
+            Refusal::NoEvent(number) => put_script_line(out, *number, " names no event"),
+            Refusal::NoDropped => put(out, "script: no event\n"),
+            Refusal::Outside(rule, path) => put_outside(out, *rule, path.as_str()),
         }
     }
 }
@@ -145,6 +153,18 @@ fn put_rule<K: Sink>(out: &mut K, rule: u8, place: Place) -> Result<(), SinkFail
     put_number(out, u32::from(rule))?;
     put(out, " at ")?;
     put_place(out, place)
+}
+
+// Writes that the system breaks a rule of the static fragment.
+fn put_outside<K: Sink>(out: &mut K, rule: u8, path: &str) -> Result<(), SinkFailed>
+    ensures { Writes (K.state out.old) (K.state out.new)
+        (line_of (Refusal.Outside rule path.now)) result }
+{
+    put(out, "outside: S")?;
+    put_number(out, u32::from(rule))?;
+    put(out, " at ")?;
+    put(out, path)?;
+    put(out, "\n")
 }
 
 // Writes what is wrong with a line of the script.

@@ -1,6 +1,6 @@
 //! The stages of a job, one after the other, from its words to what stands ready for its text.
 
-ghost use Rattle.std.specs.Prelude.{◌≡◌, ◌≤◌, ℕ, Option, length, option_map};
+ghost use Rattle.std.specs.Prelude.{◌≡◌, ◌≤◌, ℕ, List, ◌∷◌, length, option_map};
 ghost use Rattle.ar_base.specs.Counts.{limit_of};
 ghost use Rattle.ar_base.specs.Stages.{Meets};
 ghost use Rattle.ar_base.specs.Texts.{bytes_of_all};
@@ -10,14 +10,15 @@ ghost use Rattle.hierarchy.specs.Models.{IsKeptTable};
 ghost use Rattle.gts_flatten.specs.Elaborating.{Elaborated};
 ghost use Rattle.altarica_run.specs.Elaborates.{Parses, Tables, Systems, Elaborates};
 ghost use Rattle.altarica_run.specs.Jobs.{verb_of};
-ghost use Rattle.altarica_run.specs.Loading.{texts_of};
-ghost use Rattle.altarica_run.specs.Passing.{IsStageOf, IsFlattened, AreCommands, ReadsScript, IsShort, IsThere, IsReady, AnswersWords};
-ghost use Rattle.altarica_run.specs.Stages.{Stages, has_script};
+ghost use Rattle.altarica_run.specs.Loading.{texts_of, script_texts};
+ghost use Rattle.altarica_run.specs.Passing.{IsStageOf, IsFlattened, AreCommands, ReadsScript, IsShort, IsThere, IsWanted, IsReady, AnswersWords};
+ghost use Rattle.altarica_run.specs.Stages.{Asks, Readies, Stages, has_script};
 
+use crate::analysing::{dropped_of, forest_of};
 use crate::jobs::{Asked, Task, job_of};
 use crate::loading::{Texts, load_all};
 use crate::stops::Stop;
-use ar_base::{RuleFault, Text};
+use ar_base::{EventId, RuleFault, Text};
 use ar_io::Shelf;
 use ar_parser::parse;
 use ar_syntax::Model;
@@ -28,7 +29,9 @@ use gts_flatten::flatten;
 use hierarchy::Tree;
 use hierarchy::laws::tables_are_rooted;
 use instantiate::instantiate;
+use mode_forests::Forest;
 use replayer::{Command, read_script};
+use run_words::Job;
 use std::alloc::Global;
 
 /// What stands ready for the text of a job.
@@ -40,6 +43,17 @@ pub struct Prepared {
     pub system: Gts,
     /// The commands of the script; none where the job has no script.
     pub commands: Vec<Command>,
+    /// The trees of modes, without the dropped events; none where the command asks for none.
+    pub forest: Forest,
+}
+
+/// What the words and the script ask of a system.
+#[derive(Drop)]
+pub struct Wanted {
+    /// The commands of the script.
+    pub commands: Vec<Command>,
+    /// The dropped events.
+    pub dropped: Vec<EventId>,
 }
 
 /// The tree of a model's main block, and its flat system.
@@ -73,12 +87,51 @@ fn pass(alloc: Global, asked: &Asked, texts: Texts) -> Result<Prepared, Stop>
 {
     let Texts { model, script } = texts;
     let flattened = elaborate(alloc, model, &asked.job.main)?;
-    let commands = commands_of(alloc, &flattened, &script)?;
+    ready(alloc, asked, flattened, &script)
+}
+
+// Passes the stages behind the system.
+fn ready(
+    alloc: Global,
+    asked: &Asked,
+    flattened: Flattened,
+    script: &Option<Vec<u8>>,
+) -> Result<Prepared, Stop>
+    requires command { asked.now.job.command ≡ verb_of asked.now.task }
+    requires source { (x : Elaborated) × IsFlattened x flattened }
+    requires short { IsShort script.now }
+    requires there { IsThere (has_script asked.now.job.command) script.now }
+    ensures { (model : List ℕ) (x : Elaborated) → IsFlattened x flattened
+        → IsStageOf (IsReady asked.now.job)
+        (Readies asked.now.job (model ∷ script_texts script.now) x) result }
+{
+    let wanted = wanted_of(alloc, &asked.job, &flattened, script)?;
+    let forest = forest_of(alloc, asked.task, &flattened.system, &wanted.dropped)?;
     Ok(Prepared {
         task: asked.task,
         system: flattened.system,
-        commands,
+        commands: wanted.commands,
+        forest,
     })
+}
+
+// What the words and the script ask of the system.
+fn wanted_of(
+    alloc: Global,
+    job: &Job,
+    flattened: &Flattened,
+    script: &Option<Vec<u8>>,
+) -> Result<Wanted, Stop>
+    requires source { (x : Elaborated) × IsFlattened x flattened.now }
+    requires short { IsShort script.now }
+    requires there { IsThere (has_script job.now.command) script.now }
+    ensures { (model : List ℕ) (x : Elaborated) → IsFlattened x flattened.now
+        → IsStageOf (IsWanted x flattened.now.system)
+        (Asks job.now (model ∷ script_texts script.now) x) result }
+{
+    let commands = commands_of(alloc, flattened, script)?;
+    let dropped = dropped_of(alloc, flattened, &job.dropped)?;
+    Ok(Wanted { commands, dropped })
 }
 
 // The system that the text means from the main block of this name, else from the last.

@@ -1,13 +1,14 @@
 //! Why a job stops before its text: a refusal, or want of memory.
 
 use crate::refusals::Refusal;
-use ar_base::{Count, RuleFault};
+use ar_base::{Count, Memory, RuleFault};
 use ar_parser::ParseFault;
+use event_lists::ListFault;
 use replayer::ScriptFault;
 use run_words::JobFault;
 
 /// A refusal, or want of memory.
-#[derive(Clone, Copy, Debug, PartialEq, Eq)]
+#[derive(Debug, Drop)]
 pub enum Stop {
     /// The job is refused.
     Refused(Refusal),
@@ -72,5 +73,30 @@ impl From<ScriptFault> for Stop {
             ScriptFault::Unknown(line) => Stop::Refused(Refusal::NoEvent(line)),
             ScriptFault::Memory => Stop::Memory,
         }
+    }
+}
+
+impl From<ListFault> for Stop {
+    ghost use Rattle.std.specs.Prelude.{◌≡◌};
+    ghost use Rattle.altarica_run.specs.Passing.{stop_of_list};
+
+    ghost from_gives = { λ fault stop. stop ≡ stop_of_list fault };
+
+    fn from(fault: ListFault) -> Self {
+        match fault {
+            ListFault::NoEvent => Stop::Refused(Refusal::NoDropped),
+            ListFault::Memory => Stop::Memory,
+        }
+    }
+}
+
+impl From<Memory> for Stop {
+    ghost use Rattle.std.specs.Prelude.{◌≡◌};
+    ghost use Rattle.altarica_run.specs.declared.stops.Stop.TheVariants as stop;
+
+    ghost from_gives = { λ _ s. s ≡ stop.Memory };
+
+    fn from(_memory: Memory) -> Self {
+        Stop::Memory
     }
 }

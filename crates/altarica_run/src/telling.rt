@@ -4,7 +4,7 @@ ghost use Rattle.std.specs.Prelude.{◌≡◌, ◌++◌, decimal, length};
 ghost use Rattle.ar_io.specs.Writing.{Writes};
 ghost use Rattle.replayer.specs.Flat.{AreFirable};
 ghost use Rattle.run_words.specs.declared.jobs.Job.{Job};
-ghost use Rattle.altarica_run.specs.Passing.{IsReady};
+ghost use Rattle.altarica_run.specs.Passing.{CanBeWritten, IsReady};
 ghost use Rattle.altarica_run.specs.Refusals.{line_of, status_of};
 ghost use Rattle.altarica_run.specs.Stages.{Ready};
 ghost use Rattle.altarica_run.specs.Telling.{IsWritten, status_written, status_replayed};
@@ -16,6 +16,8 @@ use crate::refusals::Refusal;
 use crate::stages::Prepared;
 use crate::status::Status;
 use ar_io::{Sink, SinkFailed};
+use forest_text::laws::forests_of_the_source;
+use forest_text::print_forest;
 use gts_core::Gts;
 use replayer::laws::replays_of_the_source;
 use replayer::{End, ReplayFault, replay};
@@ -23,7 +25,8 @@ use std::alloc::Global;
 
 /// Writes the text of the job.
 pub fn tell<K: Sink>(alloc: Global, prepared: &Prepared, out: &mut K) -> Status
-    requires { AreFirable prepared.now.system prepared.now.commands.items }
+    requires commands { AreFirable prepared.now.system prepared.now.commands.items }
+    requires forest { CanBeWritten prepared.now.system prepared.now.forest }
     ensures { (job : Job) (w : Ready) → IsReady job w prepared.now
         → IsWritten (Tells job w) (K.state out.old) (K.state out.new) result }
 {
@@ -35,15 +38,24 @@ pub fn tell<K: Sink>(alloc: Global, prepared: &Prepared, out: &mut K) -> Status
             replays_of_the_source();
             replayed(replay(alloc, &prepared.system, &prepared.commands, out))
         }
+        Task::Fragment => {
+            // The forest of the flat system is that of its source.
+            forests_of_the_source();
+            written(
+                Status::Done,
+                print_forest(&prepared.system, &prepared.forest, out),
+            )
+        }
     }
 }
 
 /// Writes the line of a refusal.
-pub fn refuse<K: Sink>(refusal: Refusal, out: &mut K) -> Status
-    ensures { IsWritten (λ text ends. (text ≡ line_of refusal) × (ends ≡ status_of refusal))
+pub fn refuse<K: Sink>(refusal: &Refusal, out: &mut K) -> Status
+    ensures { IsWritten (λ text ends. (text ≡ line_of refusal.now) × (ends ≡ status_of refusal.now))
         (K.state out.old) (K.state out.new) result }
 {
-    written(refusal.status(), refusal.put(out))
+    let whole = refusal.status();
+    written(whole, refusal.put(out))
 }
 
 // Writes how much the system has.

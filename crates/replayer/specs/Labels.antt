@@ -10,11 +10,11 @@ use Rattle.hierarchy.specs.Units.{Thing}
 use Rattle.hierarchy.specs.Walks.{IsThingAt, is_event}
 use Rattle.hierarchy.specs.Listing.{events}
 use Rattle.gts_flatten.specs.Elaborating.{Elaborated}
-use Rattle.replayer.specs.Lines.{pieces}
+use Rattle.replayer.specs.Lines.{pieces, is_mark}
 
 -- a dot
 abbrev pub is_dot : ℕ → Bool
-is_dot b = b == 46
+is_dot b = is_mark 46 b
 
 -- the pieces of the text between its dots are the texts of these names, which have these texts by number
 abbrev pub Spells : List (List ℕ) → List ℕ → List ℕ → Type 0

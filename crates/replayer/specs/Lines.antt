@@ -15,9 +15,13 @@ abbrev pub pieces : (ℕ → Bool) → List ℕ → List (List ℕ)
 pieces cuts [] = [] ∷ []
 pieces cuts (b ∷ bs) = if cuts b then [] ∷ pieces cuts bs else onto_first b (pieces cuts bs)
 
+-- this mark
+abbrev pub is_mark : ℕ → ℕ → Bool
+is_mark mark b = b == mark
+
 -- a line feed
 abbrev pub ends_line : ℕ → Bool
-ends_line b = b == 10
+ends_line b = is_mark 10 b
 
 -- the lines, each ended by a line feed or by the end of the text
 abbrev pub lines_of : List ℕ → List (List ℕ)

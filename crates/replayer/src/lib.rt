@@ -2,13 +2,14 @@
 #![tactic(auto)]
 
 mod commands;
+mod cutting;
 mod enabled;
 mod labels;
 pub mod laws;
 mod lines;
 mod obeying;
 mod paths;
-mod pieces;
+pub mod pieces;
 mod replaying;
 mod script_labels;
 mod shown;
@@ -16,5 +17,7 @@ mod trace;
 mod way_numbers;
 
 pub use commands::{Command, ScriptFault, read_script};
+pub use cutting::first_piece;
 pub use labels::{print_flow_fault, print_label};
+pub use paths::event_named;
 pub use replaying::{End, ReplayFault, replay};

@@ -2,8 +2,10 @@
 
 ghost use Rattle.std.specs.Prelude.{◌≡◌, ◌+◌, ◌<◌, ◌≤◌, [], ◌∷◌, length, not, MatchOption};
 ghost use Rattle.std.specs.List.{prefix_len};
-ghost use Rattle.replayer.specs.Lines.{ends_line, is_space_or_tab, lines_of, words_of, without_return, word_said, line_said};
+ghost use Rattle.replayer.specs.Lines.{is_space_or_tab, lines_of, words_of, without_return, word_said, line_said};
 ghost use Rattle.replayer.specs.Reads.{IsSaid};
+
+use crate::cutting::first_piece;
 
 /// What a line says.
 pub(crate) enum Line<'a> {
@@ -25,18 +27,6 @@ fn is_space_or_tab(byte: u8) -> bool
     ensures { result ≡ is_space_or_tab byte }
 {
     byte == b' ' || byte == b'\t'
-}
-
-// How many bytes stand before the first line feed.
-fn line_len(bytes: &[u8]) -> usize
-    ensures value { result ≡ prefix_len (λ b. not (ends_line b)) bytes.now }
-    ensures within { result ≤ length bytes.now }
-{
-    let mut n = 0;
-    while n < bytes.len() && bytes[n] != b'\n' {
-        n += 1;
-    }
-    n
 }
 
 // How many blanks stand at the front.
@@ -67,12 +57,7 @@ fn word_len(bytes: &[u8]) -> usize
 pub(crate) fn first_line(bytes: &[u8]) -> (&[u8], Option<&[u8]>)
     ensures { MatchOption result.1 (lines_of bytes.now ≡ result.0.now ∷ []) (λ rest. (lines_of bytes.now ≡ result.0.now ∷ lines_of rest.now) × (length rest.now < length bytes.now)) }
 {
-    let len = line_len(bytes);
-    if len < bytes.len() {
-        (&bytes[..len], Some(&bytes[len + 1..]))
-    } else {
-        (bytes, None)
-    }
+    first_piece(bytes, b'\n')
 }
 
 // The line without a carriage return at its end.

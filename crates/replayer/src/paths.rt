@@ -1,14 +1,12 @@
 // The events that the paths of labels name.
 
-ghost use Rattle.std.specs.Prelude.{◌≡◌, ◌<◌, ◌≤◌, [], ◌∷◌, length, not, IfOk, IfSome, IfNone, MatchOption};
-ghost use Rattle.std.specs.List.{prefix_len};
-ghost use Rattle.ar_base.specs.Lists.{Stands, HasNo, AreDifferent};
+ghost use Rattle.std.specs.Prelude.{IfOk, IfSome};
+ghost use Rattle.ar_base.specs.Lists.{AreDifferent};
 ghost use Rattle.gts_flatten.specs.Elaborating.{Elaborated};
 ghost use Rattle.replayer.specs.Flat.{IsOfTree};
-ghost use Rattle.replayer.specs.Labels.{is_dot};
-ghost use Rattle.replayer.specs.Lines.{pieces};
 ghost use Rattle.replayer.specs.Reads.{AnswersNames, AnswersEvent, AnswersVisible, IsUnlessHidden};
 
+use crate::cutting::first_piece;
 use ar_base::{EventId, Memory, NameId, Names, UnitId};
 use gts_core::{Gts, GtsParts};
 use hierarchy::{First, Tree, event_at};
@@ -41,8 +39,9 @@ fn unless_hidden(parts: &GtsParts, event: EventId) -> Option<EventId>
     }
 }
 
-// The event that a path names, read from the main block.
-fn event_named(
+/// The event that a path names, read from the main block: one that is hidden too, and through aliases too. None exactly
+/// where it names no event. The error is want of memory.
+pub fn event_named(
     alloc: Global,
     tree: &Tree,
     gts: &Gts,
@@ -66,7 +65,7 @@ fn names_of(alloc: Global, table: &Names, path: &[u8]) -> Result<Option<Vec<Name
     let mut names = Vec::new(alloc);
     let mut rest = Some(path);
     while let Some(bytes) = rest {
-        let (piece, after) = first_piece(bytes);
+        let (piece, after) = first_piece(bytes, b'.');
         let Some(name) = table.find_bytes(piece) else {
             return Ok(None);
         };
@@ -74,29 +73,4 @@ fn names_of(alloc: Global, table: &Names, path: &[u8]) -> Result<Option<Vec<Name
         rest = after;
     }
     Ok(Some(names))
-}
-
-// The piece before the first dot, and what stands behind the dot, if there is one.
-fn first_piece(bytes: &[u8]) -> (&[u8], Option<&[u8]>)
-    ensures { MatchOption result.1 (pieces is_dot bytes.now ≡ result.0.now ∷ [])
-        (λ rest. (pieces is_dot bytes.now ≡ result.0.now ∷ pieces is_dot rest.now) × (length rest.now < length bytes.now)) }
-{
-    let len = piece_len(bytes);
-    if len < bytes.len() {
-        (&bytes[..len], Some(&bytes[len + 1..]))
-    } else {
-        (bytes, None)
-    }
-}
-
-// How many bytes stand before the first dot.
-fn piece_len(bytes: &[u8]) -> usize
-    ensures value { result ≡ prefix_len (λ b. not (is_dot b)) bytes.now }
-    ensures within { result ≤ length bytes.now }
-{
-    let mut n = 0;
-    while n < bytes.len() && bytes[n] != b'.' {
-        n += 1;
-    }
-    n
 }

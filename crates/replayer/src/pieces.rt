@@ -1,4 +1,4 @@
-// Pieces of a text that go to a sink one behind the other.
+//! Pieces of a text that go to a sink one behind the other.
 
 ghost use Rattle.std.specs.Prelude.{◌≡◌, ◌++◌, codes, decimal, slice_get};
 ghost use Rattle.std.specs.Fmt.{signed_decimal};
@@ -15,23 +15,23 @@ use domains::Value;
 use gts_core::GtsParts;
 use itoa::Buffer;
 
-// Writes a piece.
-pub(crate) fn put<K: Sink>(out: &mut K, piece: &str) -> Result<(), SinkFailed>
+/// Writes a piece.
+pub fn put<K: Sink>(out: &mut K, piece: &str) -> Result<(), SinkFailed>
     ensures { Writes (K.state out.old) (K.state out.new) piece.now result }
 {
     out.put(piece.as_bytes())
 }
 
-// A number.
-pub(crate) fn number<K: Sink>(out: &mut K, n: u32) -> Result<(), SinkFailed>
+/// Writes a number.
+pub fn number<K: Sink>(out: &mut K, n: u32) -> Result<(), SinkFailed>
     ensures { Writes (K.state out.old) (K.state out.new) (decimal n) result }
 {
     let mut buffer = Buffer::new();
     put(out, buffer.format(n))
 }
 
-// A number of things.
-pub(crate) fn count<K: Sink>(out: &mut K, n: usize) -> Result<(), SinkFailed>
+/// Writes a number of things.
+pub fn count<K: Sink>(out: &mut K, n: usize) -> Result<(), SinkFailed>
     ensures { Writes (K.state out.old) (K.state out.new) (decimal n) result }
 {
     let mut buffer = Buffer::new();
@@ -56,8 +56,8 @@ fn text_at(texts: &[Text], n: u32) -> &str
     }
 }
 
-// The path of the variable of this number.
-pub(crate) fn variable_path(parts: &GtsParts, n: u32) -> &str
+/// The path of the variable of this number; empty where there is none.
+pub fn variable_path(parts: &GtsParts, n: u32) -> &str
     ensures { result.now ≡ text_at (naming_of_parts parts.now).variables n }
 {
     match parts.variables.get(n as usize) {
@@ -66,8 +66,8 @@ pub(crate) fn variable_path(parts: &GtsParts, n: u32) -> &str
     }
 }
 
-// The path of the event of this number.
-pub(crate) fn event_path(parts: &GtsParts, n: u32) -> &str
+/// The path of the event of this number; empty where there is none.
+pub fn event_path(parts: &GtsParts, n: u32) -> &str
     ensures { result.now ≡ text_at (naming_of_parts parts.now).events n }
 {
     match parts.events.get(n as usize) {
@@ -76,8 +76,8 @@ pub(crate) fn event_path(parts: &GtsParts, n: u32) -> &str
     }
 }
 
-// How many ways the event of this number has.
-pub(crate) fn way_count(parts: &GtsParts, n: u32) -> usize
+/// How many ways the event of this number has; 0 where there is none.
+pub fn way_count(parts: &GtsParts, n: u32) -> usize
     ensures { result ≡ ways_found (slice_get parts.now.events.items n) }
 {
     match parts.events.get(n as usize) {
@@ -86,8 +86,8 @@ pub(crate) fn way_count(parts: &GtsParts, n: u32) -> usize
     }
 }
 
-// A value.
-pub(crate) fn value<K: Sink>(out: &mut K, parts: &GtsParts, v: Value) -> Result<(), SinkFailed>
+/// Writes a value, a symbol by its name.
+pub fn value<K: Sink>(out: &mut K, parts: &GtsParts, v: Value) -> Result<(), SinkFailed>
     ensures { Writes (K.state out.old) (K.state out.new) (value_text parts.now.symbols.items v) result }
 {
     match v {
@@ -98,8 +98,8 @@ pub(crate) fn value<K: Sink>(out: &mut K, parts: &GtsParts, v: Value) -> Result<
     }
 }
 
-// A place in the model.
-pub(crate) fn place<K: Sink>(out: &mut K, at: Place) -> Result<(), SinkFailed>
+/// Writes a place in the model.
+pub fn place<K: Sink>(out: &mut K, at: Place) -> Result<(), SinkFailed>
     ensures { Writes (K.state out.old) (K.state out.new) (decimal at.line ++ (codes ":" ++ decimal at.column)) result }
 {
     number(out, at.line)?;

@@ -6,8 +6,11 @@ use Rattle.altarica_run.specs.declared.stops.Stop.{Stop}
 use Rattle.altarica_run.proofs.EndLemmas.{job_told, refusal_told, memory_told}
 use Rattle.altarica_run.proofs.program.altarica.Goals as goal
 
-pub tell-requires : goal.tell-requires
-tell-requires g c = c.in-Ok.ensures.is_ready.commands.firable
+pub tell-requires-clause-commands : goal.tell-requires-clause-commands
+tell-requires-clause-commands g c = c.in-Ok.ensures.is_ready.commands.firable
+
+pub tell-requires-clause-forest : goal.tell-requires-clause-forest
+tell-requires-clause-forest g c = c.in-Ok.ensures.is_ready.forest.written
 
 pub returns-in-Ok : goal.returns-in-Ok
 returns-in-Ok g c =

@@ -1,6 +1,7 @@
-use Rattle.std.proofs.Common.{◌∙◌, ap}
+use Rattle.std.proofs.Common.{◌∙◌, ap, arith}
 use Rattle.altarica_run.specs.Jobs.{verb_of}
-use Rattle.altarica_run.proofs.TellLemmas.{checked, flattened, replayed}
+use Rattle.altarica_run.specs.Stages.{is_static}
+use Rattle.altarica_run.proofs.TellLemmas.{checked, flattened, replayed, forest_told}
 use Rattle.altarica_run.proofs.telling.tell.Goals as goal
 
 pub returns-in-Check : goal.returns-in-Check
@@ -13,7 +14,7 @@ returns-in-Flat g c = λ job w is.
     (is.command ∙ ap verb_of c.in-Flat.is) _ _ c.written-in-Flat.ensures c.print.ensures
 
 pub replay-requires : goal.replay-requires
-replay-requires g c = rw c.deref.ensures.value c.requires
+replay-requires g c = rw c.deref.ensures.value c.requires.commands
 
 pub returns-in-Replay : goal.returns-in-Replay
 returns-in-Replay g c = λ job w is.
@@ -21,3 +22,19 @@ returns-in-Replay g c = λ job w is.
     replayed job w c.args.prepared.now is
     (λ cs text end. (c.replays_of_the_source.ensures w.source is.flat.flat c.args.prepared.now.system is.flat is.flat.views cs text end).0)
     (is.command ∙ ap verb_of c.in-Replay.is) _ _ c.replayed.ensures h
+
+pub returns-in-Fragment : goal.returns-in-Fragment
+returns-in-Fragment g c = λ job w is.
+    let p = c.args.prepared.now in
+    let e = is.command ∙ ap verb_of c.in-Fragment.is in
+    let own = is.forest.own (ap is_static e) in
+    let flat = is.flat.flat in
+    let text = c.forests_of_the_source.ensures.text w.source p.system flat is.flat is.flat.views w.dropped p.forest
+    (own.keeps flat is.flat.views) (own.is_forest flat is.flat.views) is.forest.written.own in
+    forest_told job w p is e text _ _ c.written-in-Fragment.ensures c.print_forest.ensures
+
+pub print_forest-requires-clause-inside : goal.print_forest-requires-clause-inside
+print_forest-requires-clause-inside g c = c.requires.forest.own
+
+pub print_forest-requires-clause-few : goal.print_forest-requires-clause-few
+print_forest-requires-clause-few g c = let few = c.requires.forest.few in omega (arith, few)

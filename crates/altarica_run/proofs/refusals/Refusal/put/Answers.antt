@@ -18,3 +18,6 @@ returns-in-NeedsWay g c = writes_as _ _ (ap line_of (sym c.in-NeedsWay.is)) c.pu
 
 pub returns-in-NoEvent : goal.returns-in-NoEvent
 returns-in-NoEvent g c = writes_as _ _ (ap line_of (sym c.in-NoEvent.is)) c.put_script_line-in-NoEvent.ensures
+
+pub returns-in-NoDropped : goal.returns-in-NoDropped
+returns-in-NoDropped g c = writes_as _ _ (ap line_of (sym c.in-NoDropped.is)) c.put-in-NoDropped.ensures

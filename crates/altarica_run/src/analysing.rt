@@ -1,0 +1,86 @@
+//! What the analyses of a system stand on: the dropped events, and the trees of modes.
+
+ghost use Rattle.std.specs.Prelude.{◌≡◌, map};
+ghost use Rattle.ar_base.specs.Stages.{Where};
+ghost use Rattle.ar_base.specs.Numbers.{EventId as EventNumber};
+ghost use Rattle.event_lists.specs.Naming.{AreEventsOf};
+ghost use Rattle.gts_flatten.specs.Elaborating.{Elaborated};
+ghost use Rattle.gts_flatten.specs.Flat.{IsFlat};
+ghost use Rattle.altarica_run.specs.Passing.{IsStageOf, IsFlattened, AreDropped, ReadsList, HasForest};
+ghost use Rattle.altarica_run.specs.Jobs.{verb_of};
+ghost use Rattle.altarica_run.specs.Stages.{Ready, Static, is_static};
+ghost use Rattle.run_words.specs.declared.verbs.Verb.TheVariants.{Fragment};
+
+use crate::jobs::Task;
+use crate::refusals::Refusal;
+use crate::spots::path_of;
+use crate::stages::Flattened;
+use crate::stops::Stop;
+use ar_base::{EventId, Text};
+use event_lists::read_events;
+use forest_text::laws::forests_of_the_source;
+use gts_core::Gts;
+use mode_forests::Forest;
+use static_fragment::{FragmentFault, recognise};
+use std::alloc::Global;
+
+/// The events that the list names, where there is one.
+pub fn dropped_of(
+    alloc: Global,
+    flattened: &Flattened,
+    list: &Option<Text>,
+) -> Result<Vec<EventId>, Stop>
+    requires { (x : Elaborated) × IsFlattened x flattened.now }
+    ensures { (x : Elaborated) → IsFlattened x flattened.now
+        → IsStageOf (λ dropped events. AreDropped flattened.now.system dropped events.items)
+        (ReadsList list.now x) result }
+{
+    match list {
+        Some(text) => {
+            let bytes = text.as_str().as_bytes();
+            let events = read_events(alloc, &flattened.tree, &flattened.system, bytes)?;
+            Ok(events)
+        }
+        None => Ok(Vec::new(alloc)),
+    }
+}
+
+/// The trees of modes of the system without the dropped events, where the command asks for them.
+pub fn forest_of(
+    alloc: Global,
+    task: Task,
+    system: &Gts,
+    dropped: &[EventId],
+) -> Result<Forest, Stop>
+    requires { AreEventsOf system.now dropped.now }
+    ensures { (w : Ready) → IsFlat w.source system.now → w.dropped ≡ map (λ (e : EventNumber). e.n) dropped.now
+        → IsStageOf (λ (v : Ready). HasForest (verb_of task) system.now v.dropped)
+        (Where (is_static (verb_of task)) Static w) result }
+{
+    match task {
+        Task::Check | Task::Flat | Task::Replay => Ok(Forest {
+            trees: Vec::new(alloc),
+        }),
+        Task::Fragment => recognised(alloc, system, dropped),
+    }
+}
+
+// The trees of modes of a system, or the rule that it breaks.
+fn recognised(alloc: Global, system: &Gts, dropped: &[EventId]) -> Result<Forest, Stop>
+    requires { AreEventsOf system.now dropped.now }
+    ensures { (w : Ready) → IsFlat w.source system.now → w.dropped ≡ map (λ (e : EventNumber). e.n) dropped.now
+        → IsStageOf (λ (v : Ready). HasForest Fragment system.now v.dropped) (Static w) result }
+{
+    match recognise(alloc, system, dropped) {
+        Ok(forest) => {
+            // A forest has few edges.
+            forests_of_the_source();
+            Ok(forest)
+        }
+        Err(FragmentFault::Outside(rule, spot)) => {
+            let path = path_of(alloc, system.parts(), spot)?;
+            Err(Stop::Refused(Refusal::Outside(rule, path)))
+        }
+        Err(FragmentFault::Memory) => Err(Stop::Memory),
+    }
+}

@@ -1,0 +1,54 @@
+//! What a broken rule of the static fragment is shown with.
+
+ghost use Rattle.std.specs.Prelude.{◌≡◌, IfOk};
+ghost use Rattle.ar_base.specs.Texts.{text_at};
+ghost use Rattle.gts_flatten.specs.Flat.{naming_of_parts};
+ghost use Rattle.static_fragment.specs.Recognised.{spot_of};
+ghost use Rattle.altarica_run.specs.Spots.{path_in};
+
+use ar_base::{Memory, Text};
+use gts_core::GtsParts;
+use replayer::pieces::{event_path, variable_path};
+use static_fragment::Spot;
+use std::alloc::Global;
+
+/// The canonical path of what a broken rule is shown with; `main` for the whole model.
+pub fn path_of(alloc: Global, parts: &GtsParts, spot: Spot) -> Result<Text, Memory>
+    ensures { IfOk result (λ path. path ≡ path_in parts.now (spot_of spot)) }
+{
+    let text = String::from_str(alloc, path_at(parts, spot))?;
+    Ok(Text::new(text))
+}
+
+// The same as it stands in the parts.
+fn path_at(parts: &GtsParts, spot: Spot) -> &str
+    ensures { result.now ≡ path_in parts.now (spot_of spot) }
+{
+    match spot {
+        Spot::Event(event) => event_path(parts, event.n),
+        Spot::Unit(unit) => unit_path(parts, unit.n),
+        Spot::Variable(variable) => variable_path(parts, variable.n),
+        Spot::Observer(observer) => observer_path(parts, observer),
+        Spot::Whole => "main",
+    }
+}
+
+// The path of the unit of this number; empty where there is none.
+fn unit_path(parts: &GtsParts, n: u32) -> &str
+    ensures { result.now ≡ text_at parts.now.units.items n }
+{
+    match parts.units.get(n as usize) {
+        Some(path) => path.as_str(),
+        None => "",
+    }
+}
+
+// The path of the observer of this number; empty where there is none.
+fn observer_path(parts: &GtsParts, n: u32) -> &str
+    ensures { result.now ≡ text_at (naming_of_parts parts.now).observers n }
+{
+    match parts.observers.get(n as usize) {
+        Some(observer) => observer.path.as_str(),
+        None => "",
+    }
+}

@@ -1,0 +1,4 @@
+mod EdgeEvents
+mod LiveThere
+mod SameLines
+mod Pieces

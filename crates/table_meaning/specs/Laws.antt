@@ -1,0 +1,41 @@
+-- What the table of a static system tells.
+use Rattle.std.specs.Prelude.{◌↔◌, ℕ, List}
+use Rattle.domains.specs.declared.Value.{Value}
+use Rattle.typed_expr.specs.Kinds.{HasKind}
+use Rattle.typed_expr.specs.declared.expr.ValueKind.{ValueKind}
+use Rattle.typed_expr.specs.declared.expr.Expr.{Expr, out-Expr}
+use Rattle.ar_meaning.specs.Systems.{System}
+use Rattle.ar_firing.specs.Static.{IsKeyedStatic}
+use Rattle.ar_firing.specs.Cuts.{IsLeast, Cut, ConflictSet, IsConflictFree}
+use Rattle.ar_firing.specs.Forest.{ModeTree, IsForest}
+use Rattle.ar_firing.specs.Operands.{Agrees, IsFirableWith}
+use Rattle.gts_core.specs.Lawful.{IsLawful}
+use Rattle.eq_core.specs.Gates.{Table}
+use Rattle.eq_core.specs.Values.{value_at}
+use Rattle.table_steps.specs.Table.{IsTable}
+
+-- the table of a lawful static system with these trees, for a well-typed observer, agrees with the system: at each
+-- firable set its conflict operand is true exactly where the flows of the state are a fault, and where it is false its
+-- top operand is true exactly where the observer has the wanted value
+abbrev pub TableAgrees : Type 0
+TableAgrees = (sys : System ℕ) (dropped : List ℕ) (kinds : ℕ → ValueKind) (kind : ValueKind) (trees : List ModeTree)
+    (observer : Expr ℕ) (wanted : Value) (table : Table) → IsLawful sys.net kinds → IsKeyedStatic sys dropped
+    → IsForest sys dropped trees → HasKind kinds (out-Expr ℕ observer) kind
+    → IsTable sys.net trees observer wanted table
+    → Agrees sys dropped observer wanted (value_at table.gates table.conflict) (value_at table.gates table.top)
+
+-- the conflict sets are the least firable sets at which the table's conflict operand is true; and where no set meets a
+-- conflict, the cuts are the least firable sets at which its top operand is true
+pub record ShowsLeast (sys : System ℕ) (dropped : List ℕ) (observer : Expr ℕ) (wanted : Value) (table : Table)
+    : Type 0 where
+  pub conflict_sets : (set : List ℕ) → (ConflictSet sys dropped set
+      ↔ IsLeast (IsFirableWith sys dropped (value_at table.gates table.conflict)) set)
+  pub cuts : IsConflictFree sys dropped → (set : List ℕ) → (Cut sys dropped observer wanted set
+      ↔ IsLeast (IsFirableWith sys dropped (value_at table.gates table.top)) set)
+
+-- so does the table of a lawful static system with these trees, for a well-typed observer
+abbrev pub TableShowsLeast : Type 0
+TableShowsLeast = (sys : System ℕ) (dropped : List ℕ) (kinds : ℕ → ValueKind) (kind : ValueKind)
+    (trees : List ModeTree) (observer : Expr ℕ) (wanted : Value) (table : Table) → IsLawful sys.net kinds
+    → IsKeyedStatic sys dropped → IsForest sys dropped trees → HasKind kinds (out-Expr ℕ observer) kind
+    → IsTable sys.net trees observer wanted table → ShowsLeast sys dropped observer wanted table

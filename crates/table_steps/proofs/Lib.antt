@@ -1,0 +1,4 @@
+pub mod Blocks
+pub mod Same
+pub mod Uses
+pub mod Existing

@@ -29,7 +29,7 @@ pub all_stored : (P : Family → Type 0) (s t : Stored) → All P s.families →
 all_stored P s t a g = subst (All P) (sym g.families) (All-append P s.families g.added a g.all)
 
 -- where the store is full for a needed family, more are needed than its limit
-full_needed : (P : Family → Type 0) (s : Stored) → All P s.families → IsFullFor P s → IsMoreThan s.limit P
+pub full_needed : (P : Family → Type 0) (s : Stored) → All P s.families → IsFullFor P s → IsMoreThan s.limit P
 full_needed P s a f = record {
   members = s.families ++ f.family ∷ [];
   different = AreDifferent-push s.families f.family f.different (λ k h. f.missing k [] (slice_get_within s.families k f.family h) (get_or_from_slice_get s.families k f.family [] h));

@@ -10,3 +10,7 @@ pub mod Stepping
 pub mod Going
 pub mod Answering
 pub mod FirableSets
+pub mod Adding
+pub mod Tabling
+pub mod TreePaths
+pub mod Whole

@@ -2,3 +2,4 @@ pub mod Needed
 pub mod Drawing
 pub mod Walked
 pub mod Answers
+pub mod Paths

@@ -40,7 +40,7 @@ pub enum Drawn {
 
 /// The least firable sets at which the conflict operand is true, or, where there are none, those at which the top
 /// operand is. The store has the nodes of the firable sets alone.
-pub fn answer(
+pub(crate) fn answer(
     alloc: Global,
     mut ops: Ops,
     equations: &Equations,

@@ -1,6 +1,6 @@
 // The family of the firable sets.
 
-ghost use Rattle.std.specs.Prelude.{◌≡◌, List};
+ghost use Rattle.std.specs.Prelude.{◌≡◌, List, OnOk};
 ghost use Rattle.ar_firing.specs.Forest.{ModeTree};
 ghost use Rattle.ar_firing.specs.Listed.{AreListed};
 ghost use Rattle.ar_firing.specs.Trees.{AreApart};
@@ -19,7 +19,7 @@ use zdd_ops::Ops;
 
 /// The family of the sets that are firable in the trees of which these are the families of paths. Each node that is
 /// added is a counted section of the result.
-pub fn firable_sets(
+pub(crate) fn firable_sets(
     alloc: Global,
     ops: &mut Ops,
     trees: &Store,
@@ -27,6 +27,8 @@ pub fn firable_sets(
 ) -> Result<NodeId, NodeFault>
     requires sound { IsSoundStore trees.now }
     requires in_store { AreNumbers trees.now paths.items }
+    requires made { IsSoundStore ops.old }
+    ensures sound { OnOk result (IsSoundStore ops.new) }
     ensures drawn { (forest : List ModeTree) → AreTreeFamilies forest (families_left trees.now paths.items) → AreApart forest
         → (all : Sets) → AreListed (IsFirableOf forest) all → Draws (IsCounted all) all ops.old ops.new result }
 {

@@ -1,13 +1,17 @@
 //! Families of the firable sets at which a gate is true.
 #![tactic(auto)]
 
-pub mod answer;
+mod answer;
 mod cone;
 mod draw;
-pub mod firable;
+mod firable;
+mod from_forest;
 mod gates;
+mod modes;
+mod paths;
 mod states;
 mod walk;
 mod walked;
 
 pub use answer::{Drawn, Family};
+pub use from_forest::diagrams;

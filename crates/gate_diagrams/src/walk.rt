@@ -1,6 +1,6 @@
 // The walk through the firable sets, event by event.
 
-ghost use Rattle.std.specs.Prelude.{◌≡◌, ℕ};
+ghost use Rattle.std.specs.Prelude.{◌≡◌, ℕ, OnOk};
 ghost use Rattle.zdd_families.specs.Sections.{IsCounted};
 ghost use Rattle.zdd_nodes.specs.Nodes.{Draws, IsSoundStore};
 ghost use Rattle.firable_families.specs.Walk.{left as left_of, AreEventsBelow};
@@ -25,6 +25,8 @@ pub(crate) fn walk(
     requires sound { IsSoundStore trees.now }
     requires in_store { AreNumbers trees.now left.items }
     requires walked { AreWalked trees.now ops.old walked.old }
+    requires made { IsSoundStore ops.old }
+    ensures sound { OnOk result (IsSoundStore ops.new) }
     ensures walked { AreWalked trees.now ops.new walked.new }
     ensures drawn { (n : ℕ) → AreEventsBelow n (families_left trees.now left.items)
         → let made = left_of n 0 (families_left trees.now left.items) in Draws (IsCounted made) made ops.old ops.new result }

@@ -29,7 +29,7 @@ pub walk-requires : goal.walk-requires
 walk-requires t c =
     let l = (subst (λ z. IsLeastEvent (families_left c.args.trees.now z) (Some c.in-Some.event)) c.deref-2.ensures.value c.in-Some.ensures) in
     let w = (subst (λ z. AreHalves c.args.trees.now c.in-Some.event.n false z c.in_ok-without.without.items) c.deref-3.ensures.value c.in_ok-without.ensures) in
-    (omega (arith, c.decreases, w.smaller l.0), (c.requires.sound, (w.in_store, c.requires.walked)))
+    (omega (arith, c.decreases, w.smaller l.0), (c.requires.sound, (w.in_store, (c.requires.walked, c.requires.made))))
 
 pub returns-in_err-lo-clause-drawn : goal.returns-in_err-lo-clause-drawn
 returns-in_err-lo-clause-drawn t c =
@@ -49,7 +49,7 @@ pub walk-requires-2 : goal.walk-requires-2
 walk-requires-2 t c =
     let l = (subst (λ z. IsLeastEvent (families_left c.args.trees.now z) (Some c.in-Some.event)) c.deref-2.ensures.value c.in-Some.ensures) in
     let u = (subst (λ z. AreHalves c.args.trees.now c.in-Some.event.n true z c.in_ok-with.with.items) c.deref-4.ensures.value c.in_ok-with.ensures) in
-    (omega (arith, c.decreases, u.smaller l.0), (c.requires.sound, (u.in_store, c.in_ok-lo.ensures.walked)))
+    (omega (arith, c.decreases, u.smaller l.0), (c.requires.sound, (u.in_store, (c.in_ok-lo.ensures.walked, c.in_ok-lo.ensures.sound))))
 
 pub returns-in_err-hi-clause-drawn : goal.returns-in_err-hi-clause-drawn
 returns-in_err-hi-clause-drawn t c =

@@ -1,0 +1,56 @@
+// The least firable sets of a forest.
+
+ghost use Rattle.std.specs.Prelude.{◌≡◌, ◌≤◌, IfOk, length};
+ghost use Rattle.ar_firing.specs.Listed.{AreListed};
+ghost use Rattle.ar_firing.specs.Trees.{AreTrees};
+ghost use Rattle.mode_forests.specs.Views.{trees_of};
+ghost use Rattle.zdd_families.specs.Families.{Family as Sets};
+ghost use Rattle.eq_core.specs.Ordered.{IsOrderedTable};
+ghost use Rattle.eq_core.specs.Views.{table_of};
+ghost use Rattle.firable_families.specs.Firable.{IsFirableOf};
+ghost use Rattle.gate_diagrams.specs.Needed.{NodesMay};
+ghost use Rattle.gate_diagrams.specs.Answers.{IsAnswer, AreNeeded, store_of};
+
+use crate::answer::{Drawn, answer};
+use crate::firable::firable_sets;
+use crate::paths::forest_paths;
+use eq_core::Equations;
+use mode_forests::Forest;
+use std::alloc::Global;
+use zdd_nodes::NodeFault;
+use zdd_ops::Ops;
+
+// The most nodes that a store may have.
+const MOST_NODES: u32 = 16_777_216;
+
+/// The least sets that are firable in the forest's trees and at which the table's conflict operand
+/// is true, or, where there are none, the least ones at which its top operand is. The answer's
+/// store has what is needed for that and no more, in at most `limit` nodes; Full comes only where
+/// more are needed. The paths of the trees stand in a store of their own, and where that is full
+/// the answer is Memory.
+pub fn diagrams(
+    alloc: Global,
+    equations: &Equations,
+    forest: &Forest,
+    limit: u32,
+) -> Result<Drawn, NodeFault>
+    requires limit { limit ≤ 16777216 }
+    requires table { IsOrderedTable (table_of equations.now) }
+    requires trees { AreTrees (trees_of (λ n. n) forest.now) }
+    ensures sets { IfOk result
+        (λ d. IsAnswer (trees_of (λ n. n) forest.now) (table_of equations.now) d) }
+    ensures needed { (all : Sets) → AreListed (IsFirableOf (trees_of (λ n. n) forest.now)) all
+        → IfOk result (λ d. AreNeeded all (table_of equations.now) d) }
+    ensures within { IfOk result (λ d. length (store_of d).families ≤ limit) }
+    ensures full { result ≡ Err NodeFault.Full
+        → NodesMay (trees_of (λ n. n) forest.now) (table_of equations.now) limit }
+{
+    let mut trees = Ops::new(alloc, MOST_NODES);
+    let Ok(paths) = forest_paths(alloc, &mut trees, &forest.trees) else {
+        return Err(NodeFault::Memory);
+    };
+    let trees = trees.into_store();
+    let mut ops = Ops::new(alloc, limit);
+    let firable = firable_sets(alloc, &mut ops, &trees, paths)?;
+    answer(alloc, ops, equations, firable)
+}

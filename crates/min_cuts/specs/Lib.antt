@@ -1,0 +1,5 @@
+pub mod Lines
+pub mod Sizes
+pub mod Kept
+pub mod Listing
+pub mod Gives

@@ -2,11 +2,11 @@ pub mod Growing
 pub mod Same
 pub mod Renaming
 mod Grouping
-mod Places
+pub mod Places
 mod Rising
-mod Stopping
-mod Reading
-mod Threading
+pub mod Stopping
+pub mod Reading
+pub mod Threading
 mod Operands
 mod Arms
 mod GroupsRise

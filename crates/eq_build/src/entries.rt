@@ -58,8 +58,8 @@ impl<T: Drop> From<AllocFailed<T>> for BuildFault {
     }
 }
 
-// All of the operands, or one of them.
-pub(crate) fn made(
+/// All of the operands, or one of them. Gates comes only where that makes more gates than a table may have.
+pub fn made(
     alloc: Global,
     gates: &mut Vec<Gate>,
     joint: Joint,
@@ -76,8 +76,8 @@ pub(crate) fn made(
     Ok(operand)
 }
 
-// One of the terms, all of its operands.
-pub(crate) fn one_of_alls(
+/// One of the terms, all of its operands. Gates comes only where that makes more gates than a table may have.
+pub fn one_of_alls(
     alloc: Global,
     gates: &mut Vec<Gate>,
     terms: &[Vec<Operand>],
@@ -93,8 +93,8 @@ pub(crate) fn one_of_alls(
     made(alloc, gates, Joint::Or, &all)
 }
 
-// The operand of a value, Never where no entry has it.
-pub(crate) fn operand_for(entries: &[Entry], value: Value) -> Operand
+/// The operand of a value, Never where no entry has it.
+pub fn operand_for(entries: &[Entry], value: Value) -> Operand
     ensures { operand_of result ≡ operand_for (entries_in entries.now) value }
 {
     for entry in entries {

@@ -23,9 +23,9 @@ struct Group {
     terms: Vec<Vec<Operand>>,
 }
 
-// The groups of terms so far, ascending by their values.
+/// Terms, each a value with operands that are all needed for it, in groups by their values, ascending.
 #[derive(Drop)]
-pub(crate) struct Groups {
+pub struct Groups {
     groups: Vec<Group>,
 }
 
@@ -42,8 +42,8 @@ impl Model for Groups {
 }
 
 impl Groups {
-    // No terms.
-    pub(crate) fn new(alloc: Global) -> Groups
+    /// No terms. Takes no memory.
+    pub fn new(alloc: Global) -> Groups
         ensures { result ≡ [] }
     {
         Groups {
@@ -51,8 +51,8 @@ impl Groups {
         }
     }
 
-    // One more term: the value is taken where all of these operands are true.
-    pub(crate) fn put(
+    /// One more term: the value is taken where all of these operands are true. The error is want of memory.
+    pub fn put(
         &mut self,
         alloc: Global,
         value: Value,
@@ -64,8 +64,9 @@ impl Groups {
         put_in(alloc, &mut self.groups, value, operands)
     }
 
-    // An entry for each value of the terms, ascending: one of its terms, all of the term's operands.
-    pub(crate) fn entries(
+    /// An entry for each value of the terms, ascending: one of its terms, all of the term's operands. Gates comes only
+    /// where that makes more gates than a table may have.
+    pub fn entries(
         &self,
         alloc: Global,
         gates: &mut Vec<Gate>,

@@ -1,0 +1,16 @@
+mod Determined
+mod Rising
+mod Each
+mod Giving
+mod Flowing
+mod RowsPut
+mod FirstReading
+mod IndexLemmas
+mod Allowing
+mod AnyWays
+mod Conflicting
+mod LeavingLemmas
+mod SeeingLemmas
+mod Stopping
+mod TwosSeen
+mod Tabling

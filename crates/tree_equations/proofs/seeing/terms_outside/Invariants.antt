@@ -1,0 +1,12 @@
+use Rattle.std.proofs.Common.{◌≡◌, ◌++◌, drop}
+use Rattle.domains.specs.Domains.{values_of}
+use Rattle.eq_build.specs.Views.{entries_in, terms_in}
+use Rattle.table_steps.specs.Steps.{outside_terms}
+use Rattle.tree_equations.specs.Answers.{signs_in, row_in}
+use Rattle.tree_equations.proofs.seeing.terms_outside.Given as goal
+
+abbrev pub invariant-loop-entry : goal.invariant-loop-entry
+invariant-loop-entry l =
+    outside_terms (values_of l.domain) (signs_in l.assigned.conditions) (row_in l.assigned.entries)
+    ≡ terms_in l.terms.items ++ outside_terms (values_of l.domain) (signs_in l.assigned.conditions)
+    (entries_in (drop l.entry-index l.assigned.entries.items))

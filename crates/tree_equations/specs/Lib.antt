@@ -1,0 +1,7 @@
+pub mod Answers
+pub mod Index
+pub mod Rows
+pub mod Seen
+pub mod Gives
+pub mod Faults
+pub mod Blocks

@@ -19,5 +19,5 @@ mod way_numbers;
 pub use commands::{Command, ScriptFault, read_script};
 pub use cutting::first_piece;
 pub use labels::{print_flow_fault, print_label};
-pub use paths::event_named;
+pub use paths::{event_named, names_of};
 pub use replaying::{End, ReplayFault, replay};

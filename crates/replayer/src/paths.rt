@@ -57,8 +57,9 @@ pub fn event_named(
     }
 }
 
-// The names between the dots of a path.
-fn names_of(alloc: Global, table: &Names, path: &[u8]) -> Result<Option<Vec<NameId>>, Memory>
+/// The names between the dots of a path, where each is in the table of names. None exactly where one of them is not. The
+/// error is want of memory.
+pub fn names_of(alloc: Global, table: &Names, path: &[u8]) -> Result<Option<Vec<NameId>>, Memory>
     ensures names { IfOk result (AnswersNames table.now path.now) }
     ensures different { IfOk result (λ names. IfSome names (λ _. AreDifferent table.now)) }
 {

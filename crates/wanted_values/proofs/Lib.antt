@@ -1,0 +1,2 @@
+mod Observers
+mod Words

@@ -24,15 +24,15 @@ use Rattle.eq_build.proofs.GroupsRise.{InGroups, InTerms, terms_were}
 use Rattle.eq_build.proofs.Growing.{each_more, one_more, entries_more, terms_more, chosen_more, builds_more, operands_more, parts_more, cases_more}
 
 -- entries that name no later gates still do when gates are added
-entries_on : {g h : List Gate} (es : List Entry) → Grows g h → EntriesBelow g es → EntriesBelow h es
+pub entries_on : {g h : List Gate} (es : List Entry) → Grows g h → EntriesBelow g es → EntriesBelow h es
 entries_on es w a = record { each = λ e m. below_kept e.operand w (a.each e m) }
 
 -- operands, and the gates so far, in order
-record IsOrderedRow (r : Row) : Type 0 where
+pub record IsOrderedRow (r : Row) : Type 0 where
   pub gates : AreOrdered r.gates
   pub below : AreBelow (length r.gates) r.operands
 
-row_ordered : (g : List Gate) (oss : List (List Operand)) → AreOrdered g → AllBelow g oss
+pub row_ordered : (g : List Gate) (oss : List (List Operand)) → AreOrdered g → AllBelow g oss
     → IsOrderedRow (all_of_each g oss)
 row_ordered g [] a l = record { gates = a; below = record { each = λ o m. absurd (one_none o m) } }
 row_ordered g (os ∷ oss) a l = with_rest (λ h w c. row_ordered h oss c (all_kept oss w others))
@@ -87,10 +87,10 @@ groups_ordered g (p ∷ ps) a l = with_rest (λ h w c. groups_ordered h ps c (be
         }
 
 -- the terms name no later gates
-record TermsBelow (g : List Gate) (ts : List Term) : Type 0 where
+pub record TermsBelow (g : List Gate) (ts : List Term) : Type 0 where
   pub each : (t : Term) → IsOneOf ts t → AreBelow (length g) t.operands
 
-terms_ordered : (g : List Gate) (ts : List Term) → AreOrdered g → TermsBelow g ts → IsOrderedBuilt (entries_for g ts)
+pub terms_ordered : (g : List Gate) (ts : List Term) → AreOrdered g → TermsBelow g ts → IsOrderedBuilt (entries_for g ts)
 terms_ordered g ts a l = groups_ordered g (with_terms ts []) a (record {
   each = λ p m. record {
     each = λ os n.
@@ -105,7 +105,7 @@ terms_ordered g ts a l = groups_ordered g (with_terms ts []) a (record {
     were d os i = terms_were ts [] d os i
 
 -- the operand that is read for a value names no later gate
-read_below : {g : List Gate} (es : List Entry) (d : Value) → EntriesBelow g es → IsBelow (length g) (operand_for es d)
+pub read_below : {g : List Gate} (es : List Entry) (d : Value) → EntriesBelow g es → IsBelow (length g) (operand_for es d)
 read_below [] d a = tt
 read_below {g = g} (e ∷ es) d a =
     go (is_same e.value d) (read_below es d (record { each = λ x m. a.each x (one_rest e es x m) }))
@@ -237,7 +237,7 @@ chosen_ordered g (c ∷ cs) other a l k =
     let b = chosen g cs other in
     case_ordered b.gates c.0 c.1 b.entries r.gates (entries_on c.0 w own.0) (entries_on c.1 w own.1) r.entries
 
-only_below : (g : List Gate) (v : Value) → EntriesBelow g (only v)
+pub only_below : (g : List Gate) (v : Value) → EntriesBelow g (only v)
 only_below g v = record {
   each = λ e m.
       elim (one_cases (record { value = v; operand = Always }) [] e m) [

@@ -52,12 +52,7 @@ impl Groups {
     }
 
     /// One more term: the value is taken where all of these operands are true. The error is want of memory.
-    pub fn put(
-        &mut self,
-        alloc: Global,
-        value: Value,
-        operands: &[Operand],
-    ) -> Result<(), Memory>
+    pub fn put(&mut self, alloc: Global, value: Value, operands: &[Operand]) -> Result<(), Memory>
         ensures { OnOk result (self.new
             ≡ with_term (record { value = value; operands = operands_in operands.now }) self.old) }
     {
@@ -66,11 +61,7 @@ impl Groups {
 
     /// An entry for each value of the terms, ascending: one of its terms, all of the term's operands. Gates comes only
     /// where that makes more gates than a table may have.
-    pub fn entries(
-        &self,
-        alloc: Global,
-        gates: &mut Vec<Gate>,
-    ) -> Result<Vec<Entry>, BuildFault>
+    pub fn entries(&self, alloc: Global, gates: &mut Vec<Gate>) -> Result<Vec<Entry>, BuildFault>
         requires { length gates.old.items ≤ most_gates }
         ensures { MakesEntries (entries_of (gates_in gates.old.items) self.now) result gates.new.items }
     {

@@ -8,6 +8,8 @@ mod ConflictsTell
 mod TotalsTell
 mod OrderOfEntries
 mod ModesTell
+mod StepsOrdered
+mod TableOrdered
 mod FirstReading
 mod FlowCounts
 mod BlocksInOrder

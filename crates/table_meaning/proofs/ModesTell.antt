@@ -56,11 +56,11 @@ not_true true e f = cc
 not_true false e f = cc
 
 -- no two of the rows enter one mode
-abbrev RowsDiffer : List Row → Type 0
+abbrev pub RowsDiffer : List Row → Type 0
 RowsDiffer [] = Unit {0}
 RowsDiffer (r ∷ rs) = ((q : Row) → IsOneOf rs q → r.to ≡ q.to → ⊥) × RowsDiffer rs
 
-rows_differ : (rs : List Row)
+pub rows_differ : (rs : List Row)
     → ((j k : ℕ) (q r : Row) → Stands rs j q → Stands rs k r → q.to ≡ r.to → j ≡ k) → RowsDiffer rs
 rows_differ [] h = tt
 rows_differ (r ∷ rs) h = (

@@ -194,15 +194,51 @@ in_groups g (p ∷ ps) e o n =
       | inr k ↦ entry_rest p.value m.operand (entries_of m.gates ps).entries e (in_groups m.gates ps e k n)
     ]
 
+-- each group of the entries has one term, of one operand
+single : (es : List Entry) → HaveMore (as_terms es) [] (with_terms (as_terms es) [])
+    → AreSingle (with_terms (as_terms es) [])
+single es h = record {
+  each = λ p m. elim (h.only p m) [
+    | inl x ↦
+        let r = own_of es x.0 x.1 in
+        (r.entry.operand, ap (λ (z : Group). z.terms) (sym x.2) ∙ ap (λ (z : Term). z.operands ∷ []) (sym r.is))
+    | inr k ↦ absurd (one_none p k)
+  ];
+}
+
+same_by_group : (f e : Entry) → group f ≡ group e → f ≡ e
+same_by_group f e i =
+    let v : f.value ≡ e.value = ap (λ (z : Group). z.value) i in
+    let w : (f.operand ∷ []) ∷ [] ≡ (e.operand ∷ []) ∷ [] = ap (λ (z : Group). z.terms) i in
+    same_entry f e v (one_operand f.operand e.operand w)
+
+entry_of : {es : List Entry} (e : Entry)
+    → ((t : Term) × IsOneOf (as_terms es) t × (group_of t ≡ group e)) ⊎ IsOneOf [] (group e)
+    → (f : Entry) × IsOneOf es f × (f ≡ e)
+entry_of e (inr k) = absurd (one_none (group e) k)
+entry_of {es = es} e (inl x) =
+    let r = own_of es x.0 x.1 in
+    let i : group r.entry ≡ group e = ap group_of r.is ∙ x.2 in
+    (r.entry, r.is_one, same_by_group r.entry e i)
+
+grouped : (es : List Entry) → Differ es → HaveMore (as_terms es) [] (with_terms (as_terms es) [])
+grouped es d = all_grouped es [] d (λ e o p m i. one_none p m)
+
+-- the entries in order are of the same entries
+pub from_order : (es : List Entry) → Differ es → (e : Entry) → IsOneOf (in_order es) e
+    → (f : Entry) × IsOneOf es f × (f ≡ e)
+from_order es d e o =
+    let h = grouped es d in entry_of e (h.only (group e) (of_groups [] (with_terms (as_terms es) []) (single es h) e o))
+
 -- the entries in order tell of the same
 pub order_tells : {set : List ℕ} {g : List Gate} {es : List Entry} {P : Value → Type 0} → Differ es
     → AreEntries set g es P → AreEntries set g (in_order es) P
 order_tells {set = set} {g = g} {es = es} {P = P} d a =
-    let h = all_grouped es [] d (λ e o p m i. one_none p m) in
+    let h = grouped es d in
     let ps = with_terms (as_terms es) [] in
     record {
       tells = λ e o.
-          let f = entry_of e (h.only (group e) (of_groups [] ps (single h) e o)) in
+          let f = from_order es d e o in
           subst (λ (z : Entry). Tells set g z.operand (P z.value)) f.2 (a.tells f.0 f.1);
       whole = λ v p.
           let x = a.whole v p in
@@ -210,27 +246,3 @@ order_tells {set = set} {g = g} {es = es} {P = P} d a =
           let n = true_somewhere set g x.0.operand (t.so_true (subst P (sym x.2) p)) in
           (x.0, in_groups [] ps x.0 (h.new (own_term x.0) (of_own es x.0 x.1)) n, x.2);
     }
-  where
-    single : HaveMore (as_terms es) [] (with_terms (as_terms es) []) → AreSingle (with_terms (as_terms es) [])
-    single h = record {
-      each = λ p m. elim (h.only p m) [
-        | inl x ↦
-            let r = own_of es x.0 x.1 in
-            (r.entry.operand, ap (λ (z : Group). z.terms) (sym x.2) ∙ ap (λ (z : Term). z.operands ∷ []) (sym r.is))
-        | inr k ↦ absurd (one_none p k)
-      ];
-    }
-
-    entry_of : (e : Entry) → ((t : Term) × IsOneOf (as_terms es) t × (group_of t ≡ group e)) ⊎ IsOneOf [] (group e)
-        → (f : Entry) × IsOneOf es f × (f ≡ e)
-    entry_of e (inr k) = absurd (one_none (group e) k)
-    entry_of e (inl x) =
-        let r = own_of es x.0 x.1 in
-        let i : group r.entry ≡ group e = ap group_of r.is ∙ x.2 in
-        (r.entry, r.is_one, same r.entry i)
-      where
-        same : (f : Entry) → group f ≡ group e → f ≡ e
-        same f i =
-            let v : f.value ≡ e.value = ap (λ (z : Group). z.value) i in
-            let w : (f.operand ∷ []) ∷ [] ≡ (e.operand ∷ []) ∷ [] = ap (λ (z : Group). z.terms) i in
-            same_entry f e v (one_operand f.operand e.operand w)

@@ -4,13 +4,15 @@ use Rattle.domains.specs.declared.Value.{Value}
 use Rattle.typed_expr.specs.Kinds.{HasKind}
 use Rattle.typed_expr.specs.declared.expr.ValueKind.{ValueKind}
 use Rattle.typed_expr.specs.declared.expr.Expr.{Expr, out-Expr}
-use Rattle.ar_meaning.specs.Systems.{System}
+use Rattle.ar_meaning.specs.Systems.{Net, System}
 use Rattle.ar_firing.specs.Static.{IsKeyedStatic}
 use Rattle.ar_firing.specs.Cuts.{IsLeast, Cut, ConflictSet, IsConflictFree}
 use Rattle.ar_firing.specs.Forest.{ModeTree, IsForest}
 use Rattle.ar_firing.specs.Operands.{Agrees, IsFirableWith}
 use Rattle.gts_core.specs.Lawful.{IsLawful}
+use Rattle.ar_firing.specs.Trees.{AreTrees}
 use Rattle.eq_core.specs.Gates.{Table}
+use Rattle.eq_core.specs.Ordered.{IsOrderedTable}
 use Rattle.eq_core.specs.Values.{value_at}
 use Rattle.table_steps.specs.Table.{IsTable}
 
@@ -39,3 +41,8 @@ TableShowsLeast = (sys : System ℕ) (dropped : List ℕ) (kinds : ℕ → Value
     (trees : List ModeTree) (observer : Expr ℕ) (wanted : Value) (table : Table) → IsLawful sys.net kinds
     → IsKeyedStatic sys dropped → IsForest sys dropped trees → HasKind kinds (out-Expr ℕ observer) kind
     → IsTable sys.net trees observer wanted table → ShowsLeast sys dropped observer wanted table
+
+-- the gates of a table by trees are in order, and a gate that its conflict or top operand names is one of them
+abbrev pub TableIsOrdered : Type 0
+TableIsOrdered = (net : Net ℕ) (trees : List ModeTree) (observer : Expr ℕ) (wanted : Value) (table : Table)
+    → AreTrees trees → IsTable net trees observer wanted table → IsOrderedTable table

@@ -1,6 +1,6 @@
 // What the table of a static system tells.
 
-ghost use Rattle.table_meaning.specs.Laws.{TableAgrees, TableShowsLeast};
+ghost use Rattle.table_meaning.specs.Laws.{TableAgrees, TableShowsLeast, TableIsOrdered};
 
 /// At each firable set of a lawful static system the table's conflict operand is true exactly where
 /// the flows of the set's state are a fault, and where it is false the top operand is true exactly
@@ -10,4 +10,9 @@ ghost use Rattle.table_meaning.specs.Laws.{TableAgrees, TableShowsLeast};
 pub fn table_agrees()
     ensures agrees { TableAgrees }
     ensures least { TableShowsLeast }
+{}
+
+/// The gates of a table are in order, whatever the system: each is over at least two operands, events or earlier gates.
+pub fn ordered_table()
+    ensures { TableIsOrdered }
 {}

@@ -1,11 +1,9 @@
 -- What the domains of the variables allow.
-use Rattle.std.proofs.Common.{◌≡◌, ◌<◌, ◌≤◌, ◌+◌, ℕ, ◌⊎◌, inl, inr, Bool, true, false, not, List, [], ◌∷◌, ◌++◌, map, take, take_all, get_or, length, slice_get, Contains, Option, Some, None, MatchOption, Vec, Global, Result, Ok, Err, IfOk, refl, sym, ap, ◌∙◌, subst, arith}
-use Rattle.std.specs.Option.{is_some}
+use Rattle.std.proofs.Common.{◌≡◌, ◌<◌, ◌≤◌, ◌+◌, ℕ, ◌⊎◌, inl, inr, Bool, true, false, List, [], ◌∷◌, ◌++◌, map, take, take_all, get_or, length, slice_get, Contains, Option, Some, None, Vec, Global, refl, sym, ap, ◌∙◌, subst, arith}
 use Rattle.std.specs.List.{range_with_len}
 use Rattle.std.proofs.lemmas.List.{length_push, take_more}
 use Rattle.std.proofs.lemmas.List.Elements.{Contains-push_cases}
 use Rattle.std.proofs.lemmas.List.FromFn.{length-map-range_with_len, take-map-range_with_len, get_or-map-range_with_len}
-use Rattle.ar_base.specs.declared.faults.Memory.{Memory}
 use Rattle.ar_base.specs.Lists.{Stands, IsOneOf}
 use Rattle.ar_base.specs.Numbers.{VarId}
 use Rattle.ar_base.proofs.Standing.{stands_one, stands_within, stands_some, stands_split, stands_get, one_none, one_cases, one_contains}
@@ -15,11 +13,11 @@ use Rattle.domains.proofs.Same.{has_in, in_has}
 use Rattle.domains.proofs.Domains.{held, listed}
 use Rattle.domains.specs.declared.Value.{Value}
 use Rattle.typed_expr.specs.Yields.{facts_of, Yields}
-use Rattle.typed_expr.specs.declared.expr.Expr.{Expr, out-Expr}
+use Rattle.typed_expr.specs.declared.expr.Expr.{out-Expr}
 use Rattle.ar_meaning.specs.Systems as s
 use Rattle.ar_meaning.specs.Facts.{Allows}
 use Rattle.ar_meaning.specs.Found.{IsAnswer}
-use Rattle.gts_core.specs.View.{net_of, variable_of, numbered}
+use Rattle.gts_core.specs.View.{net_of, variable_of}
 use Rattle.gts_core.proofs.Viewing.{variable_there, variable_back}
 use Rattle.gts_core.proofs.Numbering.{yields_numbered, yields_back}
 use Rattle.gts_core.specs.declared.system.Assign.{Assign}
@@ -61,7 +59,6 @@ module _ (p : GtsParts) (rows : List (Vec Value Global)) (a : AreDomains p (leng
 
   abbrev pub RowFacts : VarId → Value → Type 0
   RowFacts = facts_of (λ (x : VarId). row_at rows x.n)
-
 
 -- the one item of a list
 only_item : {A : Type 0} (x y : A) → IsOneOf (x ∷ []) y → x ≡ y
@@ -121,14 +118,13 @@ range_pushed f k found new v i j e =
     let last : get_or xs k v ≡ f k = get_or-map-range_with_len f 0 (k + 1) k k v (omega arith) (omega arith) in
     e ∙ ap (λ (z : List Value). z ++ v ∷ []) (i ∙ sym front) ∙ ap (λ (z : Value). take k xs ++ z ∷ []) (j ∙ sym last) ∙ sym split ∙ all
 
-
 pub each_more : (P : Value → Type 0) (vs : List Value) (i : ℕ) (d : Value) → i < length vs
     → ((v : Value) → Contains (take i vs) v → P v) → P (get_or vs i d) → (v : Value) → Contains (take (i + 1) vs) v → P v
 each_more P vs i d h all p v c = elim (Contains-push_cases (take i vs) (get_or vs i d) v
     (subst (λ (z : List Value). Contains z v) (take_more vs i d h) c)) [
-  | inl a ↦ all v a
-  | inr e ↦ subst P e p
-]
+      | inl a ↦ all v a
+      | inr e ↦ subst P e p
+    ]
 
 pub each_all : (P : Value → Type 0) (vs : List Value) (i : ℕ) → length vs ≤ i
     → ((v : Value) → Contains (take i vs) v → P v) → (v : Value) → Contains vs v → P v

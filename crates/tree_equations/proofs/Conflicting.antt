@@ -1,5 +1,5 @@
 -- The steps from known values to the table.
-use Rattle.std.proofs.Common.{◌≡◌, ℕ, ◌<◌, ◌≤◌, List, [], ◌++◌, length, map, Result, Ok, Err, refl, sym, ap, ◌∙◌, subst}
+use Rattle.std.proofs.Common.{◌≡◌, ℕ, ◌<◌, List, [], ◌++◌, length, refl, sym, ap, ◌∙◌, subst}
 use Rattle.domains.specs.declared.Value.{Value}
 use Rattle.typed_expr.specs.declared.expr.Expr.{Expr, out-Expr}
 use Rattle.ar_meaning.specs.Systems as s
@@ -7,10 +7,9 @@ use Rattle.ar_firing.specs.Forest as firing
 use Rattle.eq_core.specs.Gates.{Operand, Gate, Made, Table, any_of}
 use Rattle.eq_core.specs.Values.{Grows}
 use Rattle.eq_core.proofs.Telling.{grows_on, any_more}
-use Rattle.eq_build.specs.Entries.{Entry, Built, operand_for}
+use Rattle.eq_build.specs.Entries.{Entry, operand_for}
 use Rattle.eq_build.specs.Builds.{Builds, most_gates}
 use Rattle.eq_build.proofs.Growing.{longer_on, builds_more}
-use Rattle.eq_build.proofs.Same.{builds_same}
 use Rattle.table_steps.specs.Steps.{Reading, Threads, Has_modes, first_reading, All_rounds, AreBlocks, Sees_two, AllMayLeave, Sees_outside, Totals_of, Sees_broken, updated, flows_from}
 use Rattle.table_steps.specs.Table.{IsTable, flow_numbers}
 use Rattle.tree_equations.specs.Answers.{TooMany}
@@ -88,46 +87,46 @@ module _ (net : s.Net ℕ) (known : Reading) (g : List Gate) where
         conflict_fourth n r h c = longer_on (from_broken r.0 r.1 h c) (n c.broken c.after_broken (broken_there r h c))
 
         module _ (broken : List Operand) (g5 : List Gate) (d5 : Threads (Sees_broken total) g4 net.assertions broken g5)
-            where
-          abbrev made : Made
-          made = any_of g5 (twos ++ (outs ++ broken))
+          where
+            abbrev made : Made
+            made = any_of g5 (twos ++ (outs ++ broken))
 
-          pub conflict_last : Conflicting net known g (total, made.operand) made.gates
-          conflict_last = record {
-            twos = twos;
-            after_twos = g2;
-            sees_twos = d2;
-            leaving = leaving;
-            all_leave = all;
-            outs = outs;
-            after_outs = g3;
-            sees_outs = d3;
-            totals = totals;
-            after_totals = g4;
-            has_totals = d4;
-            is_total = is;
-            broken = broken;
-            after_broken = g5;
-            sees_broken = d5;
-            is_conflict = refl;
-          }
+            pub conflict_last : Conflicting net known g (total, made.operand) made.gates
+            conflict_last = record {
+              twos = twos;
+              after_twos = g2;
+              sees_twos = d2;
+              leaving = leaving;
+              all_leave = all;
+              outs = outs;
+              after_outs = g3;
+              sees_outs = d3;
+              totals = totals;
+              after_totals = g4;
+              has_totals = d4;
+              is_total = is;
+              broken = broken;
+              after_broken = g5;
+              sees_broken = d5;
+              is_conflict = refl;
+            }
 
-          pub conflict_one : (r : Reading × Operand) (h : List Gate) → Conflicting net known g r h → made.gates ≡ h
-          conflict_one r h c =
-              let two = threads_one (Sees_two known) (two_one known) d2 c.sees_twos in
-              let out = threads_one (Sees_outside known) (out_one known) d3 (outs_there r h c) in
-              let last = threads_one (Sees_broken total) (broken_one total) d5 (broken_there r h c) in
-              ap (λ z. (any_of z (twos ++ (outs ++ broken))).gates) last.1
-              ∙ ap (λ z. (any_of c.after_broken (z ++ (outs ++ broken))).gates) two.0
-              ∙ ap (λ z. (any_of c.after_broken (c.twos ++ (z ++ broken))).gates) out.0
-              ∙ ap (λ z. (any_of c.after_broken (c.twos ++ (c.outs ++ z))).gates) last.0
-              ∙ ap (λ (z : Made). z.gates) c.is_conflict
+            pub conflict_one : (r : Reading × Operand) (h : List Gate) → Conflicting net known g r h → made.gates ≡ h
+            conflict_one r h c =
+                let two = threads_one (Sees_two known) (two_one known) d2 c.sees_twos in
+                let out = threads_one (Sees_outside known) (out_one known) d3 (outs_there r h c) in
+                let last = threads_one (Sees_broken total) (broken_one total) d5 (broken_there r h c) in
+                ap (λ z. (any_of z (twos ++ (outs ++ broken))).gates) last.1
+                ∙ ap (λ z. (any_of c.after_broken (z ++ (outs ++ broken))).gates) two.0
+                ∙ ap (λ z. (any_of c.after_broken (c.twos ++ (z ++ broken))).gates) out.0
+                ∙ ap (λ z. (any_of c.after_broken (c.twos ++ (c.outs ++ z))).gates) last.0
+                ∙ ap (λ (z : Made). z.gates) c.is_conflict
 
-          pub conflict_one_total : (r : Reading × Operand) (h : List Gate) → Conflicting net known g r h
-              → total ≡ r.0
-          conflict_one_total r h c =
-              let same = threads_one (Totals_of known) (total_one known) d4 (totals_there r h c) in
-              is ∙ ap (λ z. updated known (flow_numbers net) z) same.0 ∙ sym c.is_total
+            pub conflict_one_total : (r : Reading × Operand) (h : List Gate) → Conflicting net known g r h
+                → total ≡ r.0
+            conflict_one_total r h c =
+                let same = threads_one (Totals_of known) (total_one known) d4 (totals_there r h c) in
+                is ∙ ap (λ z. updated known (flow_numbers net) z) same.0 ∙ sym c.is_total
 
 -- conflicts have one outcome
 pub conflicts_one : (net : s.Net ℕ) (known : Reading) (g : List Gate) (r q : Reading × Operand) (h k : List Gate)

@@ -1,6 +1,5 @@
 -- Each step has one outcome.
-use Rattle.std.proofs.Common.{◌≡◌, ℕ, suc, Bool, true, false, List, [], ◌∷◌, ◌++◌, refl, sym, ap, ◌∙◌, subst}
-use Rattle.ar_base.specs.Lists.{Stands}
+use Rattle.std.proofs.Common.{◌≡◌, ℕ, Bool, true, false, List, ◌∷◌, ◌++◌, refl, sym, ap, ◌∙◌, subst}
 use Rattle.ar_base.proofs.Standing.{stands_one}
 use Rattle.domains.specs.declared.Value.{Value}
 use Rattle.domains.specs.declared.Value.TheVariants.{Truth}
@@ -9,7 +8,6 @@ use Rattle.ar_meaning.specs.Systems.{Assign, Variable, Net}
 use Rattle.ar_firing.specs.Forest.{ModeTree}
 use Rattle.eq_core.specs.Gates.{Operand, Gate}
 use Rattle.eq_build.specs.Entries.{Entry, Built, operand_for, entries_for, one_of_alls}
-use Rattle.eq_build.specs.Builds.{Builds}
 use Rattle.eq_build.proofs.Same.{builds_same}
 use Rattle.table_steps.specs.Steps.{Reading, Threads, BuiltAssign, Builds_conditions, Builds_assign, Gives_target, RoundOf, Rounds, All_rounds, Sees_two, MayLeave, MayLeaveOf, AllMayLeave, Sees_outside, Totals_of, Sees_broken, Has_modes, given_terms, outside_terms, broken_terms, together, assigns_to, updated, pairs_in, total_of, modes_of}
 use Rattle.table_steps.specs.Steps as t

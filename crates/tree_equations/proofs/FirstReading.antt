@@ -1,18 +1,17 @@
 -- What the variables read before the rounds.
-use Rattle.std.proofs.Common.{◌≡◌, ℕ, zero, suc, ◌+◌, ◌<◌, ◌≤◌, Bool, true, false, if◌then◌else◌, nat_eq, List, [], ◌∷◌, ◌++◌, length, take, set, get_or, map, Some, None, slice_get, Vec, Global, refl, sym, ap, ◌∙◌, subst, arith}
+use Rattle.std.proofs.Common.{◌≡◌, ℕ, zero, suc, ◌+◌, ◌<◌, ◌≤◌, Bool, true, false, if◌then◌else◌, nat_eq, List, [], ◌∷◌, ◌++◌, length, take, set, get_or, map, refl, sym, ap, ◌∙◌, subst, arith}
 use Rattle.std.proofs.lemmas.Bool.Decides.{nat_tests}
 use Rattle.std.proofs.lemmas.List.{take_more, map-append, length_push, length-map, length-take-le}
 use Rattle.ar_base.specs.Lists.{Stands}
 use Rattle.domains.specs.declared.Value.{Value}
-use Rattle.ar_meaning.specs.Systems as s
 use Rattle.ar_firing.specs.Forest as firing
 use Rattle.eq_build.specs.Entries as e
 use Rattle.eq_build.specs.Entries.{only}
-use Rattle.eq_build.specs.Views.{entries_in, lists_in, row_at}
-use Rattle.gts_core.specs.View.{variables_from, variable_of}
+use Rattle.eq_build.specs.Views.{lists_in, row_at}
+use Rattle.gts_core.specs.View.{variables_from}
 use Rattle.gts_core.specs.declared.system.Variable.{Variable}
 use Rattle.mode_forests.specs.declared.forests.ModeTree.{ModeTree}
-use Rattle.table_steps.specs.Steps.{Reading, first_reading, modes_at, in_order, flows_from}
+use Rattle.table_steps.specs.Steps.{Reading, first_reading, modes_at, in_order}
 use Rattle.tree_equations.specs.Answers.{Entries, row_in, trees_in, tree_in, init_of}
 use Rattle.tree_equations.proofs.RowsPut.{row_set}
 

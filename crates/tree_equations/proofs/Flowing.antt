@@ -1,14 +1,17 @@
 -- Assignments and rounds, step by step.
-use Rattle.std.proofs.Common.{◌≡◌, ℕ, suc, zero, ◌+◌, ◌<◌, ◌≤◌, Bool, true, false, if◌then◌else◌, nat_eq, List, [], ◌∷◌, length, drop, map, refl, sym, ap, ◌∙◌, subst, arith, Vec, Global}
+use Rattle.std.proofs.Common.{◌≡◌, ℕ, suc, zero, ◌+◌, ◌<◌, Bool, true, false, if◌then◌else◌, nat_eq, List, [], ◌∷◌, length, drop, map, refl, sym, ap, ◌∙◌, subst, arith, Vec, Global}
 use Rattle.ar_base.specs.Lists.{Stands}
 use Rattle.ar_base.proofs.Standing.{stands_one}
 use Rattle.domains.specs.Domains.{values_of}
 use Rattle.domains.specs.declared.Value.{Value}
-use Rattle.typed_expr.specs.declared.expr.Expr.{Expr, out-Expr}
+use Rattle.typed_expr.specs.declared.expr.Expr.{out-Expr}
 use Rattle.ar_meaning.specs.Systems as s
 use Rattle.ar_meaning.specs.Systems.{Net}
+use Rattle.std.proofs.Common.{◌++◌, append-nil, length-append}
+use Rattle.std.proofs.lemmas.List.{nil_from_length}
 use Rattle.eq_core.specs.Gates.{Operand, Gate}
-use Rattle.eq_build.specs.Entries.{Entry, Built, entries_for}
+use Rattle.eq_core.specs.Values.{Grows}
+use Rattle.eq_build.specs.Entries.{Entry, entries_for}
 use Rattle.eq_build.specs.Builds.{Builds, most_gates}
 use Rattle.eq_build.proofs.Growing.{longer_on, builds_more, terms_more}
 use Rattle.gts_core.specs.View.{net_of, variable_of, assign_of}
@@ -22,8 +25,8 @@ use Rattle.tree_equations.specs.Answers.{TooMany, itself}
 use Rattle.tree_equations.specs.Index.{to_target}
 use Rattle.tree_equations.specs.Blocks.{blocks_in}
 use Rattle.tree_equations.proofs.Determined.{conditions_one, threads_one, round_one, rounds_one}
-use Rattle.tree_equations.proofs.Rising.{rounds_more, all_rounds_more}
-use Rattle.tree_equations.proofs.Giving.{AssignParts, assign_parts}
+use Rattle.tree_equations.proofs.Rising.{threads_more, round_more, rounds_more, all_rounds_more}
+use Rattle.tree_equations.proofs.Giving.{assign_parts}
 
 -- an assignment, without its gates
 abbrev pub Assigned : Reading → List Gate → s.Assign ℕ → List Operand × List Entry → List Gate → Type 0
@@ -148,6 +151,35 @@ module _ (net : Net ℕ) (block : List ℕ) (n : ℕ) (g : List Gate) (first : R
   pub rounds_end : (i : ℕ) (h : List Gate) (read : Reading) → i ≡ n → RoundsSoFar net block n g first i h read
       → Rounds net block n g first read h
   rounds_end i h read e f = f.on 0 read h (omega (arith, e)) t.no_round
+
+-- lists of gates of one length, of which one has only more gates, are one
+same_gates : (h k : List Gate) → Grows h k → length k ≡ length h → k ≡ h
+same_gates h k w l =
+    let e = ap length w.is ∙ length-append h w.more in
+    let none : length w.more ≡ 0 = omega (arith, e, l) in
+    w.is ∙ ap (λ z. h ++ z) (nil_from_length w.more none) ∙ append-nil h
+
+-- a round that makes no gate and changes no row is followed by others like it
+module _ (net : Net ℕ) (block : List ℕ) (n : ℕ) (g : List Gate) (first : Reading) (i : ℕ) (h k : List Gate) (read : Reading)
+    (rows : List (List Entry)) where
+  pub rounds_still : Threads (RoundOf net read) h block rows k → length k ≡ length h → read ≡ updated read block rows
+      → i < n → RoundsSoFar net block n g first i h read → Rounds net block n g first read k
+  rounds_still d l is under f =
+      let same = same_gates h k (threads_more (RoundOf net read) (round_more read net) d) l in
+      let again = subst (λ (z : List Gate). Threads (RoundOf net read) h block rows z) same d in
+      let m = rest n i under in
+      subst (λ (z : List Gate). Rounds net block n g first read z) (sym same) (f.on m.0 read h m.1 (stay again is m.0))
+    where
+      rest : (n i : ℕ) → i < n → (m : ℕ) × (m + i ≡ n)
+      rest n zero l = (n, omega arith)
+      rest zero (suc i) l = absurd (omega (arith, l))
+      rest (suc n) (suc i) l = let r = rest n i (omega (arith, l)) in (r.0, let e = r.1 in omega (arith, e))
+
+      stay : Threads (RoundOf net read) h block rows h → read ≡ updated read block rows → (m : ℕ)
+          → Rounds net block m h read read h
+      stay d is zero = t.no_round
+      stay d is (suc m) =
+          t.round_and d (subst (λ (z : Reading). Rounds net block m h z read h) is (stay d is m))
 
 -- the first block, and the rest
 record BlocksParts (net : Net ℕ) (block : List ℕ) (blocks : List (List ℕ)) (g : List Gate) (read last : Reading)

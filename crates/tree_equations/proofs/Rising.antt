@@ -7,7 +7,7 @@ use Rattle.ar_firing.specs.Forest.{Row, ModeTree}
 use Rattle.eq_core.specs.Gates.{Operand, EventIs, Gate, all_of}
 use Rattle.eq_core.specs.Values.{Grows}
 use Rattle.eq_core.proofs.Telling.{grows_self, grows_on, all_more}
-use Rattle.eq_build.specs.Entries.{Entry, Built}
+use Rattle.eq_build.specs.Entries.{Entry}
 use Rattle.eq_build.proofs.Growing.{longer_on, builds_more, terms_more, one_more}
 use Rattle.table_steps.specs.Steps.{Reading, Threads, BuiltAssign, Builds_conditions, Builds_assign, Gives_target, RoundOf, Rounds, All_rounds, Sees_two, Sees_outside, Totals_of, Sees_broken, Has_modes, given_terms, outside_terms, broken_terms, together, pairs_in, opposites, as_terms, total_of, modes_of, entered, not_left}
 use Rattle.table_steps.specs.Steps as t

@@ -1,9 +1,10 @@
 -- Rows that are put in the places of others.
-use Rattle.std.proofs.Common.{◌≡◌, ℕ, zero, suc, ◌+◌, ◌<◌, ◌≤◌, Bool, true, false, if◌then◌else◌, nat_eq, List, [], ◌∷◌, ◌++◌, length, take, set, get_or, Vec, Global, refl, sym, ap, ◌∙◌, subst, arith}
+use Rattle.std.proofs.Common.{◌≡◌, ℕ, zero, suc, ◌+◌, ◌<◌, ◌≤◌, Bool, true, false, if◌then◌else◌, nat_eq, List, [], ◌∷◌, ◌++◌, length, take, set, get_or, refl, sym, ap, ◌∙◌, arith}
 use Rattle.std.proofs.lemmas.Bool.Decides.{nat_tests}
 use Rattle.std.proofs.lemmas.List.{take_more, map-append, length_push, length-map, length-take-le}
+use Rattle.ar_base.specs.Lists.{Stands}
 use Rattle.eq_build.specs.Entries as e
-use Rattle.eq_build.specs.Views.{entries_in, lists_in, row_at}
+use Rattle.eq_build.specs.Views.{lists_in, row_at}
 use Rattle.table_steps.specs.Steps.{Reading, updated}
 use Rattle.tree_equations.specs.Answers.{Entries, row_in}
 
@@ -85,3 +86,18 @@ pub put_done : (rows : List Entries) (numbers : List ℕ) (left : List Entries) 
     → updated (row_at rows) (take (length left) numbers) (lists_in left) x ≡ row_at rows x
 put_done rows numbers left x e =
     ap (λ (z : List Entries). updated (row_at rows) (take (length z) numbers) (lists_in z) x) e
+
+-- rows that are there already change nothing
+pub put_same : (read : Reading) (ns : List ℕ) (new : List Entries)
+    → ((j n : ℕ) (r : Entries) → Stands new j r → Stands ns j n → read n ≡ row_in r) → (x : ℕ)
+    → read x ≡ updated read ns (lists_in new) x
+put_same read [] new h x = refl
+put_same read (n ∷ ns) [] h x = refl
+put_same read (n ∷ ns) (r ∷ new) h x =
+    by (nat_eq n x) refl (put_same read ns new (λ j m q st su. h (suc j) m q st su) x)
+  where
+    by : (b : Bool) → nat_eq n x ≡ b → read x ≡ updated read ns (lists_in new) x
+        → read x ≡ (if b then row_in r else updated read ns (lists_in new) x)
+    by true t rest =
+        let i : n ≡ x = grind (arith, nat_tests) in ap read (sym i) ∙ h 0 n r refl refl
+    by false t rest = rest

@@ -1,5 +1,5 @@
 -- Terms of entries, one entry at a time.
-use Rattle.std.proofs.Common.{◌≡◌, ℕ, suc, ◌+◌, ◌<◌, Bool, true, false, if◌then◌else◌, List, [], ◌∷◌, ◌++◌, map, length, get_or, drop, Vec, Global, refl, sym, ap, ◌∙◌, subst, add-one, append_assoc}
+use Rattle.std.proofs.Common.{◌≡◌, ℕ, ◌+◌, ◌<◌, Bool, true, false, if◌then◌else◌, List, [], ◌∷◌, ◌++◌, length, get_or, drop, Vec, Global, refl, sym, ap, ◌∙◌, subst, add-one, append_assoc}
 use Rattle.std.proofs.lemmas.List.{map-append}
 use Rattle.domains.specs.Domains.{IsDomain, Holds, values_of}
 use Rattle.domains.specs.Same.{is_same, has_value}
@@ -15,7 +15,7 @@ use Rattle.eq_build.specs.Entries.{Group, with_terms, with_term}
 use Rattle.eq_build.specs.Views.{entry_of, entries_in, operands_in, terms_in}
 use Rattle.eq_build.specs.declared.entries.Entry.{Entry}
 use Rattle.eq_build.proofs.Places.{item_next}
-use Rattle.table_steps.specs.Steps.{others_with, pairs_in, outside_terms, broken_terms, given_terms}
+use Rattle.table_steps.specs.Steps.{others_with, outside_terms, given_terms}
 
 abbrev Terms : Type 0
 Terms = Vec sign.Operand Global

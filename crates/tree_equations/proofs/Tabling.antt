@@ -1,5 +1,5 @@
 -- From the steps to what is promised of the table.
-use Rattle.std.proofs.Common.{◌≡◌, ℕ, ◌<◌, List, length, Option, Some, None, Result, Ok, Err, IfErr, slice_get, sym, ap, ◌∙◌, subst}
+use Rattle.std.proofs.Common.{◌≡◌, ℕ, Option, Some, None, Result, Ok, Err, IfErr, slice_get, sym, subst}
 use Rattle.std.specs.Result.{IsErrAnd}
 use Rattle.ar_base.specs.Lists.{Stands}
 use Rattle.domains.specs.declared.Value.{Value}
@@ -11,7 +11,7 @@ use Rattle.eq_build.proofs.Stopping.{stops_up}
 use Rattle.gts_core.specs.View.{net_of, numbered}
 use Rattle.gts_core.specs.declared.system.Observer.{Observer}
 use Rattle.gts_core.specs.declared.system.GtsParts.{GtsParts}
-use Rattle.mode_forests.specs.Views.{trees_of, number_in}
+use Rattle.mode_forests.specs.Views.{number_in}
 use Rattle.mode_forests.specs.declared.forests.Forest.{Forest}
 use Rattle.table_steps.specs.Table.{IsTable}
 use Rattle.tree_equations.specs.Answers.{plain, trees_in}
@@ -20,7 +20,6 @@ use Rattle.tree_equations.proofs.AnyWays.{table_any}
 use Rattle.tree_equations.proofs.Conflicting.{Needs}
 
 module _ (p q : GtsParts) (same : p ≡ q) (forest : Forest) (wanted : Value) (n : ℕ) where
-
   at_each : (P : Expr ℕ → Type 0) → ((e : Expr ℕ) → P e) → (o : Option Observer) → AtObserver o P
   at_each P f None = tt
   at_each P f (Some o) = f (numbered o.value)

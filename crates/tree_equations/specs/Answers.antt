@@ -1,5 +1,5 @@
 -- What the steps of the table answer.
-use Rattle.std.specs.Prelude.{◌≡◌, ℕ, ◌<◌, Bool, if◌then◌else◌, List, [], ◌∷◌, ◌++◌, map, length, Result, Vec}
+use Rattle.std.specs.Prelude.{ℕ, ◌<◌, if◌then◌else◌, List, [], map, length, Result, Vec}
 use Rattle.std.specs.Global.{Global}
 use Rattle.ar_firing.specs.Forest as firing
 use Rattle.ar_meaning.specs.Systems as s
@@ -10,14 +10,14 @@ use Rattle.eq_core.specs.declared.joints.Gate as flat
 use Rattle.eq_core.specs.declared.joints.Operand as sign
 use Rattle.eq_build.specs.Entries as e
 use Rattle.eq_build.specs.Builds.{Builds, most_gates}
-use Rattle.eq_build.specs.Views.{entries_in, lists_in, operands_in, terms_in, row_at, Makes}
+use Rattle.eq_build.specs.Views.{entries_in, lists_in, operands_in, row_at, Makes}
 use Rattle.eq_build.specs.declared.entries.Entry.{Entry}
 use Rattle.eq_build.specs.declared.entries.BuildFault.{BuildFault}
 use Rattle.gts_core.specs.declared.system.Variable.{Variable}
 use Rattle.mode_forests.specs.Views.{row_of, tree_of}
 use Rattle.mode_forests.specs.declared.forests.Edge.{Edge}
 use Rattle.mode_forests.specs.declared.forests.ModeTree.{ModeTree}
-use Rattle.table_steps.specs.Steps.{Reading, Threads, Builds_assign, Rounds, All_rounds}
+use Rattle.table_steps.specs.Steps.{Reading, Threads, Builds_assign}
 use Rattle.tree_equations.specs.declared.assigning.BuiltAssign.{BuiltAssign}
 
 -- whatever comes out, there are more gates than a table may have
@@ -70,7 +70,6 @@ parts_of r = (signs_in r.conditions, row_in r.entries)
 abbrev pub GivesAssign : Reading → List Gate → s.Assign ℕ → Result BuiltAssign BuildFault → List flat.Gate → Type 0
 GivesAssign read g a = Gives parts_of (λ r h. Builds_assign read g a
     (record { conditions = r.0; entries = r.1; gates = h }))
-
 
 -- an operand is given
 abbrev pub GivesOperand : (Operand → List Gate → Type 0) → Result sign.Operand BuildFault → List flat.Gate → Type 0

@@ -1,12 +1,8 @@
 -- What the promise of the table speaks of.
-use Rattle.std.specs.Prelude.{◌≡◌, ◌<◌, ◌≤◌, ℕ, List, length, Option, Some, None, Result, Ok, Err, IfOk, slice_get}
+use Rattle.std.specs.Prelude.{◌<◌, ℕ, length, Option, Some, None}
 use Rattle.domains.specs.declared.Value.{Value}
 use Rattle.typed_expr.specs.declared.expr.Expr.{Expr}
-use Rattle.ar_meaning.specs.Systems.{Net}
-use Rattle.ar_firing.specs.Forest as firing
 use Rattle.eq_core.specs.Gates.{Table}
-use Rattle.eq_core.specs.Views.{table_of}
-use Rattle.eq_core.specs.declared.joints.Equations.{Equations}
 use Rattle.eq_build.specs.Builds.{most_gates}
 use Rattle.gts_core.specs.View.{net_of, numbered}
 use Rattle.gts_core.specs.declared.system.Observer.{Observer}
@@ -14,8 +10,6 @@ use Rattle.gts_core.specs.declared.system.GtsParts.{GtsParts}
 use Rattle.mode_forests.specs.Views.{trees_of, number_in}
 use Rattle.mode_forests.specs.declared.forests.Forest.{Forest}
 use Rattle.table_steps.specs.Table.{IsTable}
-use Rattle.tree_equations.specs.declared.fault.EqFault.{EqFault}
-use Rattle.tree_equations.specs.declared.fault.EqFault.TheVariants.{Gates, Memory}
 
 -- P holds of the expression of the observer of this number, if there is one
 abbrev pub AtObserver : Option Observer → (Expr ℕ → Type 0) → Type 0

@@ -1,5 +1,5 @@
 -- What is looked up in a system.
-use Rattle.std.specs.Prelude.{◌≡◌, ◌<◌, ℕ, zero, suc, nat_eq, if◌then◌else◌, List, [], ◌∷◌, ◌++◌, map, length, Vec}
+use Rattle.std.specs.Prelude.{◌≡◌, ◌<◌, ℕ, nat_eq, if◌then◌else◌, List, [], ◌∷◌, ◌++◌, length, Vec}
 use Rattle.std.specs.Global.{Global}
 use Rattle.ar_base.specs.Lists.{Stands, Along, IsOneOf}
 use Rattle.ar_meaning.specs.Systems as s
@@ -8,7 +8,7 @@ use Rattle.gts_core.specs.View.{net_of, variable_of, assign_of}
 use Rattle.gts_core.specs.declared.system.Variable.{Variable}
 use Rattle.gts_core.specs.declared.system.Assign.{Assign}
 use Rattle.gts_core.specs.declared.system.GtsParts.{GtsParts}
-use Rattle.table_steps.specs.Steps.{flows_from, AllMayLeave, MayLeaveOf, assigns_to}
+use Rattle.table_steps.specs.Steps.{flows_from, AllMayLeave, MayLeaveOf}
 use Rattle.tree_equations.specs.declared.index.Index.{Index}
 
 -- the assignments to a variable

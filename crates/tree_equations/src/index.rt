@@ -85,11 +85,7 @@ pub(crate) fn blocks(alloc: Global, gts: &Gts, flows: &[u32]) -> Result<Vec<Vec<
 }
 
 // The numbers of the flows of each block.
-fn numbered_blocks(
-    alloc: Global,
-    flows: &[u32],
-    blocks: &[Block],
-) -> Result<Vec<Vec<u32>>, Memory>
+fn numbered_blocks(alloc: Global, flows: &[u32], blocks: &[Block]) -> Result<Vec<Vec<u32>>, Memory>
     requires { (members : List ℕ) → IsOneOf (members_of blocks.now) members → AreUnder (length flows.now) members }
     ensures { IfOk result (λ found. ArePlacedBlocks flows.now (members_of blocks.now) (blocks_in found.items)) }
 {

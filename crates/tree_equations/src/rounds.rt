@@ -15,7 +15,7 @@ ghost use Rattle.tree_equations.specs.Index.{IsIndex, AreNumbersOf, AreUnder};
 
 use crate::assigning::{given, together};
 use crate::index::Index;
-use crate::rows::put_rows;
+use crate::rows::{are_rows, put_rows};
 use domains::Domain;
 use eq_build::{BuildFault, Entry};
 use eq_core::Gate;
@@ -47,7 +47,8 @@ pub(crate) fn all_rounds(
     Ok(())
 }
 
-// As many rounds of a block as it has flows.
+// As many rounds of a block as it has flows. A round that makes no gate and changes no row is followed by others like
+// it, which are not made.
 fn rounds(
     alloc: Global,
     gates: &mut Vec<Gate>,
@@ -66,7 +67,11 @@ fn rounds(
     ensures long { OnOk result (length rows.new.items ≡ length rows.old.items) }
 {
     for _ in 0..block.len() {
+        let before = gates.len();
         let new = round(alloc, gates, parts, index, rows, block)?;
+        if gates.len() == before && are_rows(rows, block, &new) {
+            return Ok(());
+        }
         put_rows(rows, block, new);
     }
     Ok(())

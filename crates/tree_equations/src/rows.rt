@@ -1,6 +1,6 @@
 // Rows of entries by variable.
 
-ghost use Rattle.std.specs.Prelude.{◌≡◌, ℕ, OnOk, length};
+ghost use Rattle.std.specs.Prelude.{◌≡◌, true, length};
 ghost use Rattle.eq_build.specs.Views.{lists_in, row_at};
 ghost use Rattle.table_steps.specs.Steps.{updated};
 ghost use Rattle.tree_equations.specs.Index.{AreUnder};
@@ -19,4 +19,33 @@ pub(crate) fn put_rows(rows: &mut Vec<Vec<Entry>>, numbers: &[u32], new: Vec<Vec
         let number = numbers[new.len()];
         rows[number as usize] = row;
     }
+}
+
+// Whether new rows are the rows of these numbers already.
+pub(crate) fn are_rows(rows: &[Vec<Entry>], numbers: &[u32], new: &[Vec<Entry>]) -> bool
+    requires long { length new.now ≡ length numbers.now }
+    requires under { AreUnder (length rows.now) numbers.now }
+    ensures { result ≡ true → row_at rows.now ≡ updated (row_at rows.now) numbers.now (lists_in new.now) }
+{
+    for k in 0..new.len() {
+        if !same_row(&rows[numbers[k] as usize], &new[k]) {
+            return false;
+        }
+    }
+    true
+}
+
+// Whether two rows are the same.
+fn same_row(first: &[Entry], second: &[Entry]) -> bool
+    ensures { result ≡ true → first.now ≡ second.now }
+{
+    if first.len() != second.len() {
+        return false;
+    }
+    for k in 0..first.len() {
+        if first[k] != second[k] {
+            return false;
+        }
+    }
+    true
 }

@@ -72,7 +72,12 @@ fn table(
     let mut rows = first_rows(alloc, &parts.variables, &forest.trees, modes)?;
     all_rounds(alloc, &mut gates, parts, &index, &mut rows, &blocks)?;
     let conflict = conflicts(alloc, &mut gates, parts, &index, &mut rows)?;
-    let seen = built(alloc, &mut gates, &rows, &parts.observers[observer as usize].value)?;
+    let seen = built(
+        alloc,
+        &mut gates,
+        &rows,
+        &parts.observers[observer as usize].value,
+    )?;
     let top = operand_for(&seen, wanted);
     Ok(Equations {
         gates,

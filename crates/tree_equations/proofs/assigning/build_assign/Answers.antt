@@ -1,7 +1,7 @@
-use Rattle.std.proofs.Common.{ap, subst}
+use Rattle.std.proofs.Common.{subst}
 use Rattle.eq_build.specs.Views.{gates_in, row_at}
 use Rattle.gts_core.specs.View.{assign_of, condition_of}
-use Rattle.std.proofs.Common.{List, ℕ, Bool, map}
+use Rattle.std.proofs.Common.{List, Bool, map}
 use Rattle.ar_base.specs.Numbers.{VarId}
 use Rattle.typed_expr.specs.declared.expr.Expr.{Expr}
 use Rattle.table_steps.specs.Steps.{Builds_conditions}

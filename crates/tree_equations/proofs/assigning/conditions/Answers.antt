@@ -34,8 +34,12 @@ loop-test-preserved c =
           c.loop-test.test-index c.loop-test-item.result c.loop-test.operands.items c.push.new.self.items
           c.operand_for.result
           (item_next xs c.loop-test.test-index c.loop-test-item.result c.loop-test-test.true c.loop-test-item.is)
-          (record { entries = _; builds = made.0; is = sym (c.operand_for.ensures ∙ ap (λ z. operand_for (entries_in z) (Truth c.loop-test-item.result.1))
-          c.deref.ensures.value) }) c.in_ok-push.ensures.items
+          (record {
+            entries = _;
+            builds = made.0;
+            is = sym (c.operand_for.ensures ∙ ap (λ z. operand_for (entries_in z) (Truth c.loop-test-item.result.1))
+                c.deref.ensures.value);
+          }) c.in_ok-push.ensures.items
           c.loop-test.invariant.so_far;
     }
 

@@ -1,7 +1,6 @@
-use Rattle.std.proofs.Common.{[], List, sym, ap, subst}
+use Rattle.std.proofs.Common.{List, subst}
 use Rattle.domains.specs.Domains.{values_of}
-use Rattle.eq_core.specs.Gates.{Gate}
-use Rattle.eq_build.specs.Entries.{Entry, Group, Built, entries_of, entries_for, with_terms}
+use Rattle.eq_build.specs.Entries.{Group, entries_of, entries_for}
 use Rattle.eq_build.specs.Views.{gates_in, row_at, MakesEntries}
 use Rattle.gts_core.specs.View.{assign_of}
 use Rattle.table_steps.specs.Steps.{Gives_target, given_terms}

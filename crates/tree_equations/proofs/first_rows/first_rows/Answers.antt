@@ -1,4 +1,4 @@
-use Rattle.std.proofs.Common.{◌≡◌, ◌<◌, ◌≤◌, ℕ, [], List, length, take, get_or, set, sym, ap, ◌∙◌, subst, refl, rules, arith, take_all, Vec, Global, true, false}
+use Rattle.std.proofs.Common.{◌≡◌, ◌<◌, ◌≤◌, ℕ, [], List, length, take, get_or, set, sym, ap, ◌∙◌, subst, rules, arith, take_all, Vec, Global, true, false}
 use Rattle.std.proofs.Math.Path.{fun_ext}
 use Rattle.std.proofs.lemmas.List.{length_push}
 use Rattle.ar_base.specs.Lists.{Stands}
@@ -46,8 +46,8 @@ loop-entries-preserved c =
     ∙ ap (λ (k : ℕ). get_or trees k tree) size in
     let rows = c.loop-entries.rows.items in
     let step : (new : List Entries) → IsPlaced vs number (row_in es) rows new → (x : ℕ)
-        → first_reading (trees_in trees) (lists_in c.args.modes.items) 0 (variables_from 0 vs) x
-        ≡ reading_or (trees_in (take (length left) trees)) (lists_in left) (row_at new) 0 vs x =
+    → first_reading (trees_in trees) (lists_in c.args.modes.items) 0 (variables_from 0 vs) x
+    ≡ reading_or (trees_in (take (length left) trees)) (lists_in left) (row_at new) 0 vs x =
     λ new p x. c.loop-entries.invariant.same x ∙ first_step vs trees c.loop-entries.modes.items left es tree rows new
     split few at p x in
     elim c.if-number-variables.branch [

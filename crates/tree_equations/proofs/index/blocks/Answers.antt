@@ -1,4 +1,4 @@
-use Rattle.std.proofs.Common.{◌≡◌, ℕ, List, length, Result, Ok, Err, IfOk, Vec, Global, sym, ap, subst, arith}
+use Rattle.std.proofs.Common.{ℕ, List, Result, Ok, Err, IfOk, Vec, Global, subst, arith}
 use Rattle.ar_base.specs.declared.faults.Memory.{Memory}
 use Rattle.ar_base.specs.Lists.{IsOneOf}
 use Rattle.ar_meaning.specs.Dependence.{flow_count}
@@ -7,7 +7,6 @@ use Rattle.flow_blocks.specs.declared.graph.Block.{Block}
 use Rattle.gts_core.specs.View.{net_of}
 use Rattle.table_steps.specs.Steps.{AreBlocks}
 use Rattle.tree_equations.specs.Blocks.{blocks_in, ArePlacedBlocks}
-use Rattle.tree_equations.specs.Index.{AreUnder}
 use Rattle.tree_equations.proofs.IndexLemmas.{are_blocks, follow_under, flows_long}
 use Rattle.tree_equations.proofs.index.blocks.Goals as goal
 

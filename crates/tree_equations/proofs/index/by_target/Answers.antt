@@ -1,4 +1,4 @@
-use Rattle.std.proofs.Common.{◌<◌, length, take, get_or, refl, sym, ap, ◌∙◌, subst, List, ◌++◌, ◌∷◌, [], rules, arith, take_all, set, Vec, Global, ℕ}
+use Rattle.std.proofs.Common.{◌<◌, length, take, refl, sym, ap, ◌∙◌, subst, List, ◌++◌, ◌∷◌, [], rules, arith, take_all, set, Vec, Global, ℕ}
 use Rattle.std.proofs.lemmas.List.{take_more}
 use Rattle.ar_base.proofs.Standing.{one_here}
 use Rattle.gts_core.specs.declared.system.Assign.{Assign}

@@ -1,4 +1,4 @@
-use Rattle.std.proofs.Common.{◌<◌, length, List, subst, rules, ◌∙◌, ◌≡◌, arith}
+use Rattle.std.proofs.Common.{length, List, subst, rules, ◌≡◌, arith}
 use Rattle.ar_base.specs.Lists.{IsOneOf}
 use Rattle.ar_base.proofs.Standing.{stands_within}
 use Rattle.gts_core.specs.declared.system.Assign.{Assign}

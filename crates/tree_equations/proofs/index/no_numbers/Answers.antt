@@ -1,4 +1,4 @@
-use Rattle.std.proofs.Common.{◌≡◌, ℕ, [], List, length, Vec, Global, ◌++◌, ◌∷◌, sym, ap, ◌∙◌, subst, arith}
+use Rattle.std.proofs.Common.{length, ap, ◌∙◌, arith}
 use Rattle.std.proofs.lemmas.List.{length_push}
 use Rattle.flow_blocks.specs.Bits.{row_of}
 use Rattle.tree_equations.proofs.IndexLemmas.{none_more}

@@ -1,4 +1,4 @@
-use Rattle.std.proofs.Common.{ℕ, List, [], ◌∷◌, ◌++◌, ◌+◌, take, get_or, map, sym, ap, ◌∙◌, subst, take_all, Vec, Global}
+use Rattle.std.proofs.Common.{ℕ, List, [], ◌∷◌, ◌++◌, take, sym, ap, ◌∙◌, subst, take_all, Vec, Global}
 use Rattle.std.proofs.lemmas.List.{take_more, map-append}
 use Rattle.ar_base.specs.Lists.{IsOneOf}
 use Rattle.ar_base.specs.Lists as l
@@ -6,7 +6,6 @@ use Rattle.ar_base.proofs.Standing.{one_here, stands_map}
 use Rattle.flow_blocks.specs.Table.{members_of}
 use Rattle.flow_blocks.specs.declared.graph.Block.{Block}
 use Rattle.tree_equations.specs.Blocks.{ArePlaced, ArePlacedBlocks, blocks_in}
-use Rattle.tree_equations.specs.Index.{AreUnder}
 use Rattle.tree_equations.proofs.Allowing.{stands_item}
 use Rattle.tree_equations.proofs.IndexLemmas.{along_push}
 use Rattle.tree_equations.proofs.index.numbered_blocks.Goals as goal

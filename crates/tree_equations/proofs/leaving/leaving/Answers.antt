@@ -1,5 +1,4 @@
-use Rattle.std.proofs.Common.{◌≡◌, ◌<◌, ◌+◌, ℕ, List, [], drop, length, get_or, refl, sym, ap, ◌∙◌, subst, rules, arith, Vec, Global}
-use Rattle.ar_base.proofs.Standing.{stands_within}
+use Rattle.std.proofs.Common.{◌≡◌, ◌<◌, ◌+◌, ℕ, List, [], drop, length, get_or, sym, ap, ◌∙◌, subst, rules, arith, Vec, Global}
 use Rattle.eq_build.proofs.Places.{item_next, nothing_left}
 use Rattle.gts_core.specs.declared.system.Variable.{Variable}
 use Rattle.tree_equations.specs.Index.{AreNumbersOf, to_target}

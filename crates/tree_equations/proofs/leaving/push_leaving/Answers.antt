@@ -1,5 +1,4 @@
-use Rattle.std.proofs.Common.{◌≡◌, ◌<◌, ◌+◌, ℕ, List, length, get_or, map, refl, sym, ap, ◌∙◌, subst, rules, Vec, Global}
-use Rattle.ar_base.specs.Lists.{Stands}
+use Rattle.std.proofs.Common.{◌<◌, ◌+◌, ℕ, length, get_or, sym, subst, rules, Vec, Global}
 use Rattle.ar_base.proofs.Standing.{stands_within, stands_one}
 use Rattle.eq_build.proofs.Places.{any_default, nothing_left}
 use Rattle.gts_core.specs.declared.system.Variable.{Variable}

@@ -1,4 +1,4 @@
-use Rattle.std.proofs.Common.{Ok, Err, refl}
+use Rattle.std.proofs.Common.{Ok, Err}
 use Rattle.eq_build.specs.Views.{gates_in}
 use Rattle.eq_build.proofs.Places.{item_next}
 use Rattle.table_steps.specs.Steps.{Has_modes, modes_of}

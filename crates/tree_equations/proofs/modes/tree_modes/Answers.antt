@@ -1,8 +1,8 @@
-use Rattle.std.proofs.Common.{◌<◌, ◌++◌, ◌∷◌, [], List, suc, true, get_or, length, drop, ap, ◌∙◌, sym, subst}
-use Rattle.eq_core.specs.Gates.{Operand, EventIs, Gate, all_of}
+use Rattle.std.proofs.Common.{◌<◌, ◌∷◌, List, suc, true, get_or, length, drop, ap, ◌∙◌, sym, subst}
+use Rattle.eq_core.specs.Gates.{EventIs, all_of}
 use Rattle.eq_build.specs.Entries.{Built}
 use Rattle.eq_build.specs.Builds.{most_gates}
-use Rattle.eq_build.specs.Views.{gates_in, operands_in}
+use Rattle.eq_build.specs.Views.{gates_in}
 use Rattle.eq_build.proofs.Growing.{longer_on}
 use Rattle.eq_build.proofs.Places.{item_next, any_default}
 use Rattle.eq_build.proofs.Stopping.{stops_up, entries_passed_on}

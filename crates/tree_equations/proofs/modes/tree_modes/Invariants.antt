@@ -1,6 +1,5 @@
 use Rattle.std.proofs.Common.{◌≡◌, ◌≤◌, ◌++◌, drop, length}
-use Rattle.eq_core.specs.Views.{operand_of}
-use Rattle.eq_build.specs.Entries.{Built, with_entry}
+use Rattle.eq_build.specs.Entries.{Built}
 use Rattle.eq_build.specs.Builds.{most_gates}
 use Rattle.eq_build.specs.Views.{entries_in, gates_in}
 use Rattle.table_steps.specs.Steps.{modes_of, entered}

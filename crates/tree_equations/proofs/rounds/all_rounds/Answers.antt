@@ -1,10 +1,9 @@
-use Rattle.std.proofs.Common.{◌≡◌, ◌<◌, ◌≤◌, ◌+◌, ℕ, suc, drop, List, length, refl, sym, ap, ◌∙◌, subst, arith, add-one, Vec, Global}
-use Rattle.ar_base.specs.Lists.{IsOneOf}
+use Rattle.std.proofs.Common.{ℕ, List, length, refl, sym, ◌∙◌, subst, add-one, Vec, Global}
 use Rattle.ar_base.proofs.Standing.{one_here, stands_map}
 use Rattle.eq_build.specs.Views.{gates_in, row_at}
 use Rattle.eq_build.proofs.Places.{item_next, nothing_left}
 use Rattle.gts_core.specs.View.{net_of}
-use Rattle.table_steps.specs.Steps.{Reading, Rounds, All_rounds}
+use Rattle.table_steps.specs.Steps.{Rounds, All_rounds}
 use Rattle.tree_equations.specs.Answers.{TooMany}
 use Rattle.tree_equations.specs.Blocks.{blocks_in}
 use Rattle.tree_equations.specs.Index.{AreUnder}

@@ -1,4 +1,4 @@
-use Rattle.std.proofs.Common.{◌≡◌, ℕ, [], List, length, get_or, sym, ap, ◌∙◌, subst, Vec, Global, map, arith}
+use Rattle.std.proofs.Common.{ℕ, [], List, sym, ap, ◌∙◌, subst, Vec, Global, map, arith}
 use Rattle.domains.specs.Domains.{values_of}
 use Rattle.eq_build.specs.Entries.{Group, entries_of, entries_for, with_terms}
 use Rattle.eq_build.specs.Views.{gates_in, row_at, lists_in, MakesEntries}

@@ -1,10 +1,10 @@
-use Rattle.std.proofs.Common.{◌≡◌, ◌<◌, ◌≤◌, ◌+◌, ℕ, List, length, map, refl, sym, ap, ◌∙◌, subst, arith, add-one}
+use Rattle.std.proofs.Common.{◌≡◌, ℕ, List, length, map, refl, rules, sym, ap, ◌∙◌, subst, arith}
 use Rattle.std.proofs.lemmas.List.{length-map}
 use Rattle.eq_build.specs.Views.{gates_in, row_at, lists_in}
 use Rattle.gts_core.specs.View.{net_of}
-use Rattle.table_steps.specs.Steps.{Reading, Threads, RoundOf, Rounds, updated}
+use Rattle.table_steps.specs.Steps.{Threads, RoundOf, Rounds, updated}
 use Rattle.tree_equations.specs.Answers.{TooMany, Entries, itself}
-use Rattle.tree_equations.proofs.Flowing.{RoundsSoFar, rounds_start, rounds_next, rounds_stop, rounds_end, threads_long, itself_all}
+use Rattle.tree_equations.proofs.Flowing.{rounds_start, rounds_next, rounds_stop, rounds_end, rounds_still, threads_long, itself_all}
 use Rattle.tree_equations.proofs.Giving.{gives_on}
 use Rattle.tree_equations.proofs.rounds.rounds.Goals as goal
 
@@ -75,4 +75,42 @@ returns-clause-rounds c =
       rounds_end net block (length block) (gates_in c.args.gates.now.items) (row_at c.args.rows.now.items) c.loop.counter
           (gates_in c.loop.gates.items) (row_at c.loop.rows.items) (omega (arith, past, within)) c.loop.invariant.so_far,
       c.loop.invariant.few,
+    )
+
+pub are_rows-requires-clause-long : goal.are_rows-requires-clause-long
+are_rows-requires-clause-long c =
+    ap length c.deref-then-len-before-2.ensures.value ∙ sym (length-map c.in_ok-new.new.items _)
+    ∙ threads_long c.in_ok-new.ensures.0 ∙ ap length (itself_all c.args.block.now)
+
+pub are_rows-requires-clause-under : goal.are_rows-requires-clause-under
+are_rows-requires-clause-under c = λ n o.
+    let u = c.requires.under n o in
+    let long = c.loop.invariant.long in
+    let rows = ap length c.deref-then-len-before.ensures.value in
+    let all = c.requires.long in omega (arith, u, long, all, rows)
+
+pub returns-then-are_rows-clause-rounds : goal.returns-then-are_rows-clause-rounds
+returns-then-are_rows-clause-rounds c =
+    let net = net_of c.args.parts.now in
+    let block = c.args.block.now in
+    let g = gates_in c.args.gates.now.items in
+    let h = gates_in c.loop.gates.items in
+    let k = gates_in c.round.new.gates.items in
+    let first = row_at c.args.rows.now.items in
+    let read = row_at c.loop.rows.items in
+    let rows = lists_in c.in_ok-new.new.items in
+    let d = subst (λ (z : List ℕ). Threads (RoundOf net read) h z rows k) (itself_all block)
+    (subst (λ (z : List Entries). Threads (RoundOf net (row_at z)) h (map itself block) rows k)
+    c.deref.ensures.value c.in_ok-new.ensures.0) in
+    let size : length c.round.new.gates.items ≡ length c.loop.gates.items = search rules in
+    let long : length k ≡ length h = length-map c.round.new.gates.items _ ∙ size
+    ∙ sym (length-map c.loop.gates.items _) in
+    let same = c.are_rows.ensures c.if-are_rows.true in
+    let is : read ≡ updated read block rows = ap row_at (sym c.deref-then-len-before.ensures.value) ∙ same
+    ∙ ap (λ (z : List Entries). updated (row_at z) block (lists_in c.deref-then-len-before-2.result.now))
+    c.deref-then-len-before.ensures.value
+    ∙ ap (λ (z : List Entries). updated read block (lists_in z)) c.deref-then-len-before-2.ensures.value in (
+      rounds_still net block (length block) g first c.loop.counter h k read rows d long is c.loop-test.true
+          c.loop.invariant.so_far,
+      c.in_ok-new.ensures.1,
     )

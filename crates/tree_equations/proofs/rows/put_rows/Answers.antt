@@ -1,11 +1,10 @@
-use Rattle.std.proofs.Common.{◌≡◌, ◌<◌, ◌≤◌, ℕ, [], List, length, take, get_or, set, sym, ap, ◌∙◌, subst, refl, rules, arith, take_all, Vec, Global}
+use Rattle.std.proofs.Common.{◌≡◌, ◌<◌, ℕ, [], List, length, get_or, set, sym, ap, ◌∙◌, refl, rules, arith, take_all}
 use Rattle.std.proofs.Math.Path.{fun_ext}
 use Rattle.ar_base.proofs.Standing.{stands_get, one_here}
 use Rattle.std.proofs.lemmas.List.{length_push, length-set}
 use Rattle.eq_build.specs.Views.{row_at, lists_in}
 use Rattle.eq_build.proofs.Places.{any_default}
 use Rattle.table_steps.specs.Steps.{updated}
-use Rattle.tree_equations.specs.Answers.{Entries}
 use Rattle.tree_equations.proofs.RowsPut.{put_step, put_done}
 use Rattle.tree_equations.proofs.rows.put_rows.Goals as goal
 

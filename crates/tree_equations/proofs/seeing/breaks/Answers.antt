@@ -1,4 +1,4 @@
-use Rattle.std.proofs.Common.{◌≡◌, List, sym, ap, ◌∙◌, subst}
+use Rattle.std.proofs.Common.{◌≡◌, List, ap, ◌∙◌, subst}
 use Rattle.eq_core.specs.Views.{operand_of}
 use Rattle.eq_build.specs.Entries.{Entry, one_of_alls}
 use Rattle.eq_build.specs.Views.{gates_in, row_at, entries_in, terms_in, MakesOperand}

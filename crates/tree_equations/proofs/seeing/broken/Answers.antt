@@ -1,4 +1,3 @@
-use Rattle.std.proofs.Common.{refl}
 use Rattle.ar_base.proofs.Standing.{one_here}
 use Rattle.eq_core.specs.Views.{operand_of}
 use Rattle.eq_build.specs.Views.{gates_in, row_at}

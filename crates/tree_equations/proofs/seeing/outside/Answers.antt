@@ -1,6 +1,4 @@
-use Rattle.std.proofs.Common.{◌≡◌, List, sym, ap, ◌∙◌, subst}
-use Rattle.ar_meaning.specs.Systems as s
-use Rattle.domains.specs.Domains.{values_of}
+use Rattle.std.proofs.Common.{List, sym, ap, ◌∙◌, subst}
 use Rattle.domains.specs.declared.Value.{Value}
 use Rattle.eq_core.specs.Views.{operand_of}
 use Rattle.eq_build.specs.Entries.{one_of_alls}

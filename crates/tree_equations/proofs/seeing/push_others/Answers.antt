@@ -1,8 +1,7 @@
-use Rattle.std.proofs.Common.{◌≡◌, ◌<◌, ◌+◌, List, [], ◌∷◌, ◌++◌, length, get_or, drop, rules, refl, sym, ap, ◌∙◌, subst, Vec, Global}
+use Rattle.std.proofs.Common.{◌≡◌, ◌+◌, ◌++◌, get_or, drop, rules, sym, subst, Vec, Global}
 use Rattle.std.proofs.Common.{false}
 use Rattle.domains.specs.declared.Value.TheVariants.{Truth}
 use Rattle.eq_core.specs.declared.joints.Operand.TheVariants.{Always}
-use Rattle.eq_core.specs.Views.{operand_of}
 use Rattle.eq_core.specs.declared.joints.Operand as sign
 use Rattle.eq_build.specs.Views.{operands_in, entries_in, entry_of, terms_in}
 use Rattle.eq_build.specs.declared.entries.Entry.{Entry}

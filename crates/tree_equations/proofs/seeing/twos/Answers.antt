@@ -1,17 +1,14 @@
-use Rattle.std.proofs.Common.{◌≡◌, ◌<◌, List, length, get_or, Ok, Err, sym, ap, ◌∙◌, subst, Vec, Global}
+use Rattle.std.proofs.Common.{◌≡◌, get_or, Ok, Err, ap, ◌∙◌, subst}
 use Rattle.ar_base.proofs.Standing.{stands_get, one_here}
-use Rattle.eq_core.specs.Gates.{Operand, Gate}
 use Rattle.eq_core.specs.Views.{operand_of}
-use Rattle.eq_core.specs.declared.joints.Operand as sign
 use Rattle.eq_build.specs.Entries.{one_of_alls}
 use Rattle.eq_build.specs.Views.{gates_in, row_at, entries_in, terms_in, MakesOperand}
-use Rattle.eq_build.specs.declared.entries.Entry.{Entry}
 use Rattle.eq_build.specs.declared.entries.BuildFault.{BuildFault}
 use Rattle.eq_build.proofs.Places.{item_next, any_default}
 use Rattle.eq_build.proofs.Reading.{row_here}
 use Rattle.table_steps.specs.Steps.{Sees_two, pairs_in}
 use Rattle.table_steps.specs.Steps as t
-use Rattle.tree_equations.specs.Answers.{itself, Entries, GivesOperand, row_in}
+use Rattle.tree_equations.specs.Answers.{itself, row_in}
 use Rattle.tree_equations.proofs.Each.{each_start, each_next, each_stops, each_ends}
 use Rattle.tree_equations.proofs.Determined.{two_one}
 use Rattle.tree_equations.proofs.Rising.{two_more}

@@ -1,18 +1,16 @@
-use Rattle.std.proofs.Common.{◌≡◌, ◌<◌, ◌++◌, ℕ, List, length, map, refl, sym, ap, ◌∙◌, subst, arith}
+use Rattle.std.proofs.Common.{◌++◌, ℕ, List, length, map, sym, ap, ◌∙◌, subst, arith}
 use Rattle.std.proofs.lemmas.List.{length-map}
 use Rattle.ar_base.specs.Lists.{Along, IsOneOf}
 use Rattle.ar_base.proofs.Standing.{stands_within, along_length}
-use Rattle.eq_core.specs.Gates.{Operand, Gate, Made, any_of}
+use Rattle.eq_core.specs.Gates.{Operand, Gate, any_of}
 use Rattle.eq_core.specs.Views.{operand_of}
 use Rattle.eq_core.specs.declared.joints.Operand as sign
-use Rattle.eq_build.specs.Entries as e
 use Rattle.eq_build.specs.Views.{gates_in, row_at, operands_in, lists_in, MakesOperand}
 use Rattle.gts_core.specs.View.{net_of, assign_of, variables_from}
 use Rattle.gts_core.specs.declared.system.Variable.{Variable}
 use Rattle.gts_core.specs.declared.system.Assign.{Assign}
 use Rattle.table_steps.specs.Steps.{Threads, Sees_two, Sees_outside, Totals_of, Sees_broken, updated, flows_from}
-use Rattle.table_steps.specs.Table.{flow_numbers}
-use Rattle.tree_equations.specs.Answers.{TooMany, Entries, signs_in, rows_in, itself}
+use Rattle.tree_equations.specs.Answers.{TooMany, Entries, signs_in, itself}
 use Rattle.tree_equations.specs.Index.{IsLeaving}
 use Rattle.tree_equations.specs.Seen.{Conflicting}
 use Rattle.tree_equations.proofs.Conflicting.{conflict_first, conflict_second, conflict_third, conflict_fourth, conflict_last, conflict_one}

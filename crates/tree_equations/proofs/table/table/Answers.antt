@@ -1,8 +1,8 @@
-use Rattle.std.proofs.Common.{◌≡◌, ◌<◌, ℕ, [], List, length, map, refl, sym, ap, ◌∙◌, subst, arith, Vec, Global}
+use Rattle.std.proofs.Common.{◌<◌, ℕ, List, length, map, sym, ap, ◌∙◌, subst, Vec, Global}
 use Rattle.std.proofs.lemmas.List.{length-map}
 use Rattle.ar_base.specs.Lists.{IsOneOf}
-use Rattle.typed_expr.specs.declared.expr.Expr.{Expr, out-Expr}
-use Rattle.eq_core.specs.Gates.{Operand, Gate, Table}
+use Rattle.typed_expr.specs.declared.expr.Expr.{out-Expr}
+use Rattle.eq_core.specs.Gates.{Operand, Table}
 use Rattle.eq_core.specs.Views.{operand_of}
 use Rattle.eq_core.specs.declared.joints.Gate as flat
 use Rattle.eq_build.specs.Builds.{Builds}
@@ -17,9 +17,8 @@ use Rattle.mode_forests.specs.declared.forests.ModeTree.{ModeTree}
 use Rattle.table_steps.specs.Steps.{Reading, Threads, Has_modes, All_rounds, AreBlocks, first_reading}
 use Rattle.table_steps.specs.Table.{IsTable}
 use Rattle.gts_core.specs.View.{variables_from}
-use Rattle.tree_equations.specs.Answers.{TooMany, Entries, rows_in, row_in, trees_in, tree_in}
+use Rattle.tree_equations.specs.Answers.{TooMany, Entries, row_in, trees_in, tree_in}
 use Rattle.tree_equations.specs.Blocks.{blocks_in}
-use Rattle.tree_equations.specs.Index.{AreUnder}
 use Rattle.tree_equations.specs.Seen.{Conflicting}
 use Rattle.tree_equations.proofs.Allowing.{stands_item}
 use Rattle.tree_equations.proofs.Conflicting.{table_first, table_second, table_third, table_fourth, table_made}

@@ -1,6 +1,5 @@
-use Rattle.std.proofs.Common.{◌<◌, List, [], ◌∷◌, ◌++◌, length, ap, ◌∙◌, subst}
+use Rattle.std.proofs.Common.{◌<◌, [], ◌∷◌, ◌++◌, length, ap, ◌∙◌, subst}
 use Rattle.eq_core.specs.Gates.{all_of}
-use Rattle.eq_core.specs.declared.joints.Operand as sign
 use Rattle.eq_build.specs.Builds.{most_gates}
 use Rattle.eq_build.specs.Views.{gates_in, entries_in, operands_in}
 use Rattle.eq_build.proofs.Growing.{longer_on, terms_more}

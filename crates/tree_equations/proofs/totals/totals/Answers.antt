@@ -1,9 +1,8 @@
-use Rattle.std.proofs.Common.{◌≡◌, ◌<◌, ℕ, List, length, get_or, Ok, Err, refl, sym, ap, ◌∙◌, subst, arith}
+use Rattle.std.proofs.Common.{◌≡◌, ◌<◌, ℕ, List, length, get_or, Ok, Err, sym, ap, ◌∙◌, subst, arith}
 use Rattle.ar_base.proofs.Standing.{stands_within, stands_get, stands_one, one_here}
 use Rattle.ar_meaning.specs.Systems as s
 use Rattle.eq_build.specs.Views.{gates_in, row_at, entries_in, Stops, MakesEntries}
 use Rattle.eq_build.specs.Entries as e
-use Rattle.domains.specs.declared.Value.{Value}
 use Rattle.eq_build.proofs.Places.{any_default}
 use Rattle.eq_build.proofs.Reading.{row_here}
 use Rattle.gts_core.specs.View.{variables_from, variable_of}

@@ -6,6 +6,7 @@ use Rattle.ar_io.specs.Outside.{Told}
 use Rattle.ar_io.specs.Writing.{Cut}
 use Rattle.replayer.specs.Scripts.{Why, IsNoCommand, LacksWay, NamesNoEvent}
 use Rattle.replayer.specs.declared.replaying.End.TheVariants as end
+use Rattle.run_words.specs.Jobs.{needs_observer}
 use Rattle.run_words.specs.declared.jobs.Job.{Job}
 use Rattle.altarica_run.specs.Elaborates.{Elaborates, no_tokens, no_reading, too_deep, breaks, exceeds}
 use Rattle.altarica_run.specs.Files.{File, Loaded, long, later, files_of}
@@ -14,12 +15,12 @@ use Rattle.altarica_run.specs.Jobs.{IsBuiltJob, IsNoJob}
 use Rattle.altarica_run.specs.Refusals.{line_of, status_of}
 use Rattle.altarica_run.specs.Says.{Says, usage, refuses, tells, EndsSo}
 use Rattle.altarica_run.specs.Says as says
-use Rattle.altarica_run.specs.Stages.{Ready, bare, Passes, not_loaded, loaded, line_refused, Scripted, has_script, Drops, Static, is_static}
+use Rattle.altarica_run.specs.Stages.{Ready, bare, Passes, not_loaded, loaded, line_refused, Scripted, has_script, Drops, Wanting, Static, is_static, Tabled, has_table}
 use Rattle.altarica_run.specs.Stages as stages
 use Rattle.altarica_run.specs.Statuses.{IsTold, IsRefused, Meaning_of}
-use Rattle.altarica_run.specs.Tells.{Tells, check, flat, replay, fragment}
+use Rattle.altarica_run.specs.Tells.{Tells, check, flat, replay, fragment, equations}
 use Rattle.altarica_run.specs.declared.refusals.Refusal.{Refusal}
-use Rattle.altarica_run.specs.declared.refusals.Refusal.TheVariants.{Usage, NotRead, Size, Syntax, Rule, NoCommand, NeedsWay, NoEvent, NoDropped, Outside}
+use Rattle.altarica_run.specs.declared.refusals.Refusal.TheVariants.{Usage, NotRead, Size, Syntax, Rule, NoCommand, NeedsWay, NoEvent, NoDropped, NoObserver, NoValue, Outside}
 use Rattle.altarica_run.specs.declared.status.Status.{Status}
 use Rattle.altarica_run.specs.declared.status.Status.TheVariants as status
 
@@ -36,6 +37,8 @@ IsOfStages (NoCommand n) = Unit {0}
 IsOfStages (NeedsWay n) = Unit {0}
 IsOfStages (NoEvent n) = Unit {0}
 IsOfStages NoDropped = Unit {0}
+IsOfStages NoObserver = Unit {0}
+IsOfStages NoValue = Unit {0}
 IsOfStages (Outside rule path) = Unit {0}
 
 of_files : (told : List ℕ → Told) (fs : List File) (r : Refusal) → Loaded told fs (Err r) → IsOfStages r
@@ -63,17 +66,33 @@ of_script false texts w r h = cc
 of_list : (list : Option (List ℕ)) (w : Ready) (r : Refusal) → Drops list w (Err r) → IsOfStages r
 of_list list w r (stages.names_none i h) = tt
 
+of_observer : (b : Bool) (observer word : Option (List ℕ)) (w : Ready) (r : Refusal)
+    → Where b (Wanting observer word) w (Err r) → IsOfStages r
+of_observer true observer word w r (stages.no_observer i h) = tt
+of_observer true observer word w r (stages.no_value i h) = tt
+of_observer false observer word w r h = cc
+
 of_fragment : (b : Bool) (w : Ready) (r : Refusal) → Where b Static w (Err r) → IsOfStages r
 of_fragment true w r (stages.outside h) = tt
 of_fragment false w r h = cc
+
+of_table : (b : Bool) (w : Ready) (r : Refusal) → Where b Tabled w (Err r) → IsOfStages r
+of_table true w r (stages.exceeds e h k) = tt
+of_table false w r h = cc
 
 pub of_stages : (files : List ℕ → Told) (job : Job) (r : Refusal) → Passes files job (Err r) → IsOfStages r
 of_stages files job r (not_loaded h) = of_files files (files_of job) r h
 of_stages files job r (loaded texts l t (then.refuses h)) = of_text job.main _ r h
 of_stages files job r (loaded texts l t (then.passes x p (then.refuses (then.refuses h)))) =
     of_script (has_script job.command) texts (bare x) r h
-of_stages files job r (loaded texts l t (then.passes x p (then.refuses (then.passes w q h)))) = of_list job.dropped w r h
-of_stages files job r (loaded texts l t (then.passes x p (then.passes w q h))) = of_fragment (is_static job.command) w r h
+of_stages files job r (loaded texts l t (then.passes x p (then.refuses (then.passes w q (then.refuses h))))) =
+    of_list job.dropped w r h
+of_stages files job r (loaded texts l t (then.passes x p (then.refuses (then.passes w q (then.passes v k h))))) =
+    of_observer (needs_observer job.command) job.observer job.value v r h
+of_stages files job r (loaded texts l t (then.passes x p (then.passes w q (then.refuses h)))) =
+    of_fragment (is_static job.command) w r h
+of_stages files job r (loaded texts l t (then.passes x p (then.passes w q (then.passes v k h)))) =
+    of_table (has_table job.command) v r h
 
 -- Meanings
 
@@ -94,6 +113,7 @@ module _ (c : Call) where
   meant_tells job w text s is p (replay {ends = end.Done} e h) a = told job w text status.Done is p (replay e h) a
   meant_tells job w text s is p (replay {ends = end.Fault} e h) a = told job w text status.Fault is p (replay e h) a
   meant_tells job w text s is p (fragment e h) a = told job w text status.Done is p (fragment e h) a
+  meant_tells job w text s is p (equations e i h) a = told job w text status.Done is p (equations e i h) a
 
   meant_refuses : (job : Job) (r : Refusal) → IsBuiltJob c.words job → Passes c.files job (Err r) → Wrote c (line_of r)
       → IsOfStages r → Meaning_of c (status_of r)
@@ -106,6 +126,8 @@ module _ (c : Call) where
   meant_refuses job (NeedsWay n) is p a h = refused job (NeedsWay n) is p a
   meant_refuses job (NoEvent n) is p a h = refused job (NoEvent n) is p a
   meant_refuses job NoDropped is p a h = refused job NoDropped is p a
+  meant_refuses job NoObserver is p a h = refused job NoObserver is p a
+  meant_refuses job NoValue is p a h = refused job NoValue is p a
   meant_refuses job (Outside rule path) is p a h = refused job (Outside rule path) is p a
 
   meant_says : (text : List ℕ) (s : Status) → Says c.files c.words text s → Wrote c text → Meaning_of c s

@@ -1,9 +1,11 @@
 -- The dropped events and the forest of a job.
-use Rattle.std.proofs.Common.{◌≡◌, ◌≤◌, ◌⊎◌, ⊎_elim, ℕ, Bool, true, false, List, [], Result, Ok, Err, map, refl, sym, ◌∙◌, ap, subst, arith}
+use Rattle.std.proofs.Common.{◌≡◌, ◌≤◌, ◌⊎◌, ⊎_elim, ℕ, Bool, true, false, List, [], Option, Result, Ok, Err, Vec, map, refl, sym, ◌∙◌, ap, subst, arith}
+use Rattle.std.specs.Global.{Global}
 use Rattle.ar_base.specs.Lists.{IsOneOf}
 use Rattle.ar_base.specs.Numbers.{EventId}
-use Rattle.ar_base.specs.Stages.{Where, IsRefusal}
+use Rattle.ar_base.specs.Stages.{Where}
 use Rattle.ar_base.specs.Texts.{text_at}
+use Rattle.ar_base.proofs.Stages.{stage_stops, stage_passes}
 use Rattle.ar_base.proofs.Standing.{one_none}
 use Rattle.typed_expr.specs.Pairs.{turned}
 use Rattle.ar_meaning.specs.Systems.{System}
@@ -21,15 +23,18 @@ use Rattle.hierarchy.specs.Listing.{variables}
 use Rattle.mode_forests.specs.Views.{trees_of, number_in}
 use Rattle.mode_forests.specs.declared.forests.Forest.{Forest}
 use Rattle.mode_forests.specs.declared.forests.ModeTree.{ModeTree}
+use Rattle.replayer.specs.declared.commands.Command.{Command}
+use Rattle.run_words.specs.Jobs.{needs_observer}
 use Rattle.run_words.specs.declared.jobs.Job.{Job}
 use Rattle.run_words.specs.declared.verbs.Verb.{Verb}
-use Rattle.run_words.specs.declared.verbs.Verb.TheVariants.{Fragment}
+use Rattle.run_words.specs.declared.verbs.Verb.TheVariants.{Check, Flat, Replay, Fragment, Equations, Cuts, Make, Explain, CheckCuts, Modules}
 use Rattle.static_fragment.specs.Recognised.{IsRecognised, IsOutside, spot_of}
 use Rattle.static_fragment.specs.declared.faults.Spot as there
+use Rattle.wanted_values.specs.declared.wanting.Wanted.{Wanted}
 use Rattle.altarica_run.specs.Jobs.{verb_of}
-use Rattle.altarica_run.specs.Passing.{stop_told, IsStageOf, AreCommands, AreDropped, CanBeWritten, HasForest, IsReady}
+use Rattle.altarica_run.specs.Passing.{stop_told, IsStageOf, AreCommands, AreDropped, CanBeWritten, IsForestOf, HasForest, HasTable, IsThere, IsReady}
 use Rattle.altarica_run.specs.Spots.{path_in}
-use Rattle.altarica_run.specs.Stages.{Ready, is_static, Static, keeps, outside, spot_path}
+use Rattle.altarica_run.specs.Stages.{Ready, is_static, Static, keeps, outside, spot_path, has_table, Tabled, fits, Demands}
 use Rattle.altarica_run.specs.declared.jobs.Task.{Task}
 use Rattle.altarica_run.specs.declared.jobs.Task.TheVariants as task
 use Rattle.altarica_run.specs.declared.refusals.Refusal.{Refusal}
@@ -37,6 +42,7 @@ use Rattle.altarica_run.specs.declared.refusals.Refusal.TheVariants.{Outside}
 use Rattle.altarica_run.specs.declared.stages.Prepared.{Prepared}
 use Rattle.altarica_run.specs.declared.stops.Stop.{Stop}
 use Rattle.altarica_run.specs.declared.stops.Stop.TheVariants.{Refused, Memory}
+use Rattle.altarica_run.specs.declared.tabling.TheTable.{TheTable}
 
 -- no dropped events
 pub none_dropped : (p : GtsParts) (events : List EventId) → events ≡ [] → AreDropped p [] events
@@ -52,10 +58,14 @@ none_written p f e = record {
   few = let i = ap edge_count e in omega (arith, i);
 }
 
--- what stands ready is kept by the stage of the static fragment
-pub same_ready : (b : Bool) (w v : Ready) → Where b Static w (Ok v) → v ≡ w
-same_ready true w v (keeps k) = refl
-same_ready false w v e = cc
+-- what stands ready is kept by the stage of the static fragment, and by that of the gate table
+same_static : (b : Bool) (w v : Ready) → Where b Static w (Ok v) → v ≡ w
+same_static true w v (keeps k) = refl
+same_static false w v e = cc
+
+same_tabled : (b : Bool) (w v : Ready) → Where b Tabled w (Ok v) → v ≡ w
+same_tabled true w v (fits e h k) = refl
+same_tabled false w v e = cc
 
 -- the source has the rules that its flat system keeps or breaks, and calls its things alike
 module _ (x : Elaborated) (p : GtsParts) (of : IsFlat x p) (dropped : List ℕ) where
@@ -84,10 +94,10 @@ module _ (w : Ready) (p : GtsParts) (of : IsFlat w.source p) where
   abbrev stands : Verb → Ready → Forest → Type 0
   stands v r f = HasForest v p r.dropped f
 
-  pub forest_given : (f : Forest)
+  pub forest_given : (v : Verb) (f : Forest)
       → ((system : System ℕ) → Views p system → IsRecognised system w.dropped (trees_of (number_in p) f))
-      → CanBeWritten p f → IsStageOf (stands Fragment) (Static w) (Ok f)
-  forest_given f all written = (
+      → CanBeWritten p f → IsStageOf (stands v) (Static w) (Ok f)
+  forest_given v f all written = (
     w,
     keeps (source_keeps w.source p of w.dropped (all of.flat of.views).keeps),
     record {
@@ -96,10 +106,10 @@ module _ (w : Ready) (p : GtsParts) (of : IsFlat w.source p) where
     },
   )
 
-  pub outside_given : (number : ℕ) (path : List ℕ) (s : there.Spot)
+  pub outside_given : (v : Verb) (number : ℕ) (path : List ℕ) (s : there.Spot)
       → IsOutside of.flat w.dropped number s → path ≡ path_in p (spot_of s)
-      → IsStageOf {X = Forest} (stands Fragment) (Static w) (Err (Refused (Outside number path)))
-  outside_given number path s out e =
+      → IsStageOf {X = Forest} (stands v) (Static w) (Err (Refused (Outside number path)))
+  outside_given v number path s out e =
       subst (λ (z : Refusal). Static w (Err z))
       (sym (refusals number (number_of out.rule) path (spot_path w.source (spot_of s)) (sym out.is_rule) (e ∙ same_path w.source p of w.dropped (spot_of s))))
       (outside (source_breaks w.source p of w.dropped out.first))
@@ -113,6 +123,11 @@ asks_none t h =
     ⊎_elim (λ e. ap (λ (z : Task). is_static (verb_of z)) e)
     (λ more. ⊎_elim (λ e. ap (λ (z : Task). is_static (verb_of z)) e) (λ e. ap (λ (z : Task). is_static (verb_of z)) e) more) h
 
+-- a command that asks for one
+pub asks_one : (t : Task) → (t ≡ task.Fragment) ⊎ (t ≡ task.Equations) → is_static (verb_of t) ≡ true
+asks_one t h =
+    ⊎_elim (λ e. ap (λ (z : Task). is_static (verb_of z)) e) (λ e. ap (λ (z : Task). is_static (verb_of z)) e) h
+
 pub none_given : (t : Task) → is_static (verb_of t) ≡ false → (w : Ready) (p : GtsParts) (f : Forest) → f.trees.items ≡ []
     → (v : Ready) × Where (is_static (verb_of t)) Static w (Ok v) × HasForest (verb_of t) p v.dropped f
 none_given t e w p f i = (
@@ -121,37 +136,93 @@ none_given t e w p f i = (
   record { written = none_written p f i; own = λ s. let k : true ≡ false = sym s ∙ e in absurd cc },
 )
 
--- the job's forest, once the words and the script have asked
-module _ (job : Job) (t : Task) (e : job.command ≡ verb_of t) (w : Ready) (p : GtsParts) (of : IsFlat w.source p) where
-  pub forest_refused : (r : Result Prepared Stop) (d s : Stop) → r ≡ Err d → d ≡ s
-      → IsRefusal (Where (is_static (verb_of t)) Static w) (stop_told s)
-      → IsStageOf (IsReady job) (Where (is_static job.command) Static w) r
-  forest_refused r d s i j h =
-      subst (λ (z : Result Prepared Stop). IsStageOf (IsReady job) (Where (is_static job.command) Static w) z)
-      (sym (i ∙ ap Err j))
-      (go s (subst (λ (z : Verb). IsRefusal (Where (is_static z) Static w) (stop_told s)) (sym e) h))
-    where
-      go : (s : Stop) → IsRefusal (Where (is_static job.command) Static w) (stop_told s)
-          → IsStageOf {X = Prepared} (IsReady job) (Where (is_static job.command) Static w) (Err s)
-      go (Refused r) h = h
-      go Memory h = tt
+-- a command that is about the gate table asks for a forest, and for an observer
+table_static : (v : Verb) → has_table v ≡ true → is_static v ≡ true
+table_static Check e = e
+table_static Flat e = e
+table_static Replay e = e
+table_static Fragment e = refl
+table_static Equations e = refl
+table_static Cuts e = refl
+table_static Make e = refl
+table_static Explain e = e
+table_static CheckCuts e = refl
+table_static Modules e = refl
 
-  pub forest_passed : (made : Prepared) → made.task ≡ t → made.system ≡ p → (v : Ready)
-      → Where (is_static (verb_of t)) Static w (Ok v) → HasForest (verb_of t) p v.dropped made.forest
-      → AreCommands p w.commands made.commands
-      → IsStageOf (IsReady job) (Where (is_static job.command) Static w) (Ok made)
-  forest_passed made i j v h f are =
-      let k : v ≡ w = same_ready (is_static (verb_of t)) w v h in
-      let passed = subst (λ (z : Verb). Where (is_static z) Static w (Ok w)) (sym e)
-      (subst (λ (z : Ready). Where (is_static (verb_of t)) Static w (Ok z)) k h) in
-      let own = subst (λ (z : Verb). HasForest z p w.dropped made.forest) (sym e)
-      (subst (λ (z : Ready). HasForest (verb_of t) p z.dropped made.forest) k f) in (
-        w,
-        passed,
-        record {
-          command = e ∙ ap verb_of (sym i);
-          flat = subst (λ (z : GtsParts). IsFlat w.source z) (sym j) of;
-          commands = subst (λ (z : GtsParts). AreCommands z w.commands made.commands) (sym j) are;
-          forest = subst (λ (z : GtsParts). HasForest job.command z w.dropped made.forest) (sym j) own;
-        },
-      )
+task_table : (t : Task) → needs_observer (verb_of t) ≡ has_table (verb_of t)
+task_table task.Check = refl
+task_table task.Flat = refl
+task_table task.Replay = refl
+task_table task.Fragment = refl
+task_table task.Equations = refl
+
+pub table_there : (v : Verb) (t : Task) → v ≡ verb_of t → (given : Option Wanted) → IsThere (needs_observer v) given
+    → IsThere (has_table v) given
+table_there v t e given h =
+    let k : needs_observer v ≡ has_table v = ap needs_observer e ∙ task_table t ∙ ap has_table (sym e) in
+    subst (λ (b : Bool). IsThere b given) k h
+
+pub table_trees : (v : Verb) (p : GtsParts) (w : Ready) (f : Forest) → HasForest v p w.dropped f → has_table v ≡ true
+    → IsForestOf p w.dropped f
+table_trees v p w f h e = h.own (table_static v e)
+
+-- the forest of a task is that of its command
+pub forest_at : (v : Verb) (t : Task) → v ≡ verb_of t → (w : Ready) (p : GtsParts) (r : Result Forest Stop)
+    → IsStageOf (λ (u : Ready). HasForest (verb_of t) p u.dropped) (Where (is_static (verb_of t)) Static w) r
+    → IsStageOf (λ (u : Ready). HasForest v p u.dropped) (Where (is_static v) Static w) r
+forest_at v t e w p r h =
+    subst (λ (z : Verb). IsStageOf (λ (u : Ready). HasForest z p u.dropped) (Where (is_static z) Static w) r) (sym e) h
+
+-- What the command demands of the system, once the words and the script have asked
+
+module _ (job : Job) (w : Ready) (p : GtsParts) where
+  abbrev trees : Ready → Result Ready Refusal → Type 0
+  trees = Where (is_static job.command) Static
+
+  abbrev table : Ready → Result Ready Refusal → Type 0
+  table = Where (has_table job.command) Tabled
+
+  abbrev has_trees : Ready → Forest → Type 0
+  has_trees u f = HasForest job.command p u.dropped f
+
+  pub forest_stops : (r : Result Prepared Stop) (d s : Stop) → r ≡ Err d → d ≡ s
+      → IsStageOf {X = Forest} has_trees (trees w) (Err s) → IsStageOf (IsReady job) (Demands job.command w) r
+  forest_stops r d s i j h = stage_stops stop_told trees table w has_trees (IsReady job) r d s i j h
+
+  -- the system has its forest
+  module _ (f : Forest) (given : IsStageOf has_trees (trees w) (Ok f)) where
+    keeps_ready : given.0 ≡ w
+    keeps_ready = same_static (is_static job.command) w given.0 given.1
+
+    passes_trees : trees w (Ok w)
+    passes_trees = subst (λ (z : Ready). trees w (Ok z)) keeps_ready given.1
+
+    pub forest_here : HasForest job.command p w.dropped f
+    forest_here = subst (λ (z : Ready). HasForest job.command p z.dropped f) keeps_ready given.2
+
+    pub table_stops : (r : Result Prepared Stop) (d s : Stop) → r ≡ Err d → d ≡ s
+        → IsStageOf {X = TheTable} (HasTable job.command p) (table w) (Err s)
+        → IsStageOf (IsReady job) (Demands job.command w) r
+    table_stops r d s i j h =
+        stage_passes stop_told trees table w has_trees (IsReady job) w r passes_trees
+        (subst (λ (z : Result Prepared Stop). IsStageOf (IsReady job) (table w) z) (sym (i ∙ ap Err j)) h)
+
+    pub all_ready : (t : Task) → job.command ≡ verb_of t → IsFlat w.source p → (commands : Vec Command Global)
+        → AreCommands p w.commands commands → (made : TheTable)
+        → IsStageOf (HasTable job.command p) (table w) (Ok made)
+        → IsStageOf (IsReady job) (Demands job.command w)
+        (Ok (record { task = t; system = p; commands = commands; forest = f; table = made }))
+    all_ready t e flat commands are made h =
+        let u : h.0 ≡ w = same_tabled (has_table job.command) w h.0 h.1 in
+        stage_passes stop_told trees table w has_trees (IsReady job) w _ passes_trees
+        (
+          w,
+          subst (λ (z : Ready). table w (Ok z)) u h.1,
+          record {
+            command = e;
+            flat = flat;
+            commands = are;
+            forest = forest_here;
+            table = subst (λ (z : Ready). HasTable job.command p z made) u h.2;
+          },
+        )

@@ -29,6 +29,7 @@ task_built task.Check = refl
 task_built task.Flat = refl
 task_built task.Replay = refl
 task_built task.Fragment = refl
+task_built task.Equations = refl
 
 pub command_built : (v : Verb) (t : Task) → v ≡ verb_of t → is_built v ≡ true
 command_built v t e = ap is_built e ∙ task_built t

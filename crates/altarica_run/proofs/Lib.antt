@@ -4,6 +4,7 @@ pub mod FileLemmas
 pub mod ElaborateLemmas
 pub mod PassLemmas
 pub mod ForestLemmas
+pub mod TableLemmas
 pub mod TellLemmas
 pub mod EndLemmas
 pub mod FollowLemmas

@@ -18,7 +18,7 @@ use Rattle.replayer.specs.declared.commands.Command.{Command}
 use Rattle.replayer.specs.declared.commands.Command.TheVariants.{Fire}
 use Rattle.replayer.specs.declared.commands.ScriptFault.{ScriptFault}
 use Rattle.replayer.specs.declared.commands.ScriptFault.TheVariants as script
-use Rattle.run_words.specs.Jobs.{NamesFiles, form_of, IsJobOf}
+use Rattle.run_words.specs.Jobs.{NamesFiles, form_of, IsJobOf, OptionsFit, needs_observer}
 use Rattle.run_words.specs.Lines.{Line}
 use Rattle.run_words.specs.declared.jobs.Job.{Job}
 use Rattle.run_words.specs.declared.verbs.Verb.{Verb}
@@ -26,15 +26,20 @@ use Rattle.altarica_run.specs.Files.{files_of, first}
 use Rattle.altarica_run.specs.Jobs.{IsBuiltJob, AnswersJob, verb_of}
 use Rattle.altarica_run.specs.Loading.{RefusesFiles, AnswersFiles, texts_of, script_texts}
 use Rattle.altarica_run.specs.Loading as loading
-use Rattle.altarica_run.specs.Passing.{stop_of_script, stop_of_list, stop_told, IsStageOf, AreCommands, ReadsScript, no_script, gives, bad, IsThere, ReadsList, no_list, names, names_none, AreDropped, IsWanted, IsReady, RefusesWords, no_job, stage, not_read, AnswersWords}
-use Rattle.altarica_run.specs.Stages.{Ready, bare, has_script, line_refused, Scripted, Drops, Asks, Stages, Passes, not_loaded, loaded}
+use Rattle.wanted_values.specs.Answers.{AnswersWanted}
+use Rattle.wanted_values.specs.declared.wanting.Wanted.{Wanted}
+use Rattle.wanted_values.specs.declared.wanting.WantedFault.{WantedFault}
+use Rattle.wanted_values.specs.declared.wanting.WantedFault.TheVariants as wanted
+use Rattle.altarica_run.specs.Passing as passing
+use Rattle.altarica_run.specs.Passing.{stop_of_wanted, stop_of_script, stop_of_list, stop_told, IsStageOf, AreCommands, ReadsScript, no_script, gives, bad, IsThere, ReadsList, no_list, names, names_none, AreDropped, ReadsWanted, AreWanted, IsRequested, IsReady, RefusesWords, no_job, stage, not_read, AnswersWords}
+use Rattle.altarica_run.specs.Stages.{Ready, bare, has_script, line_refused, Scripted, Drops, Wanting, Asks, Stages, Passes, not_loaded, loaded}
 use Rattle.altarica_run.specs.Stages as stages
 use Rattle.altarica_run.specs.declared.jobs.Task.{Task}
 use Rattle.altarica_run.specs.declared.jobs.Task.TheVariants as task
 use Rattle.altarica_run.specs.declared.loading.Texts.{Texts}
 use Rattle.altarica_run.specs.declared.refusals.Refusal.{Refusal}
 use Rattle.altarica_run.specs.declared.stages.Prepared.{Prepared}
-use Rattle.altarica_run.specs.declared.stages.Wanted.{Wanted}
+use Rattle.altarica_run.specs.declared.stages.Request.{Request}
 use Rattle.altarica_run.specs.declared.stops.Stop.{Stop}
 use Rattle.altarica_run.specs.declared.stops.Stop.TheVariants.{Refused, Memory}
 use Rattle.altarica_run.proofs.FileLemmas.{IsLoadedScript}
@@ -65,7 +70,7 @@ module _ (x : Elaborated) (p : GtsParts) (bytes : Vec ℕ Global) where
 
 -- the system with the commands of the script
 abbrev with_commands : Elaborated → List runs.Command → Ready
-with_commands x cs = record { source = x; commands = cs; dropped = [] }
+with_commands x cs = record { source = x; commands = cs; dropped = []; wanted = None }
 
 -- the commands of the script are what the command asks, where there is a script exactly where it asks for one
 asks_bad : (b : Bool) (model : List ℕ) (s : Option (Vec ℕ Global)) (x : Elaborated) (r : Refusal) → IsThere b s
@@ -89,24 +94,50 @@ drops_bad : (list : Option (List ℕ)) (x : Elaborated) (cs : List runs.Command)
     → Drops list (with_commands x cs) (Err r)
 drops_bad list x cs r (names_none i h) = stages.names_none i h
 
+-- and with the dropped events
+abbrev with_dropped : Elaborated → List runs.Command → List ℕ → Ready
+with_dropped x cs events = record { source = x; commands = cs; dropped = events; wanted = None }
+
 drops_good : (list : Option (List ℕ)) (x : Elaborated) (cs : List runs.Command) (events : List ℕ)
     → ReadsList list x (Ok events)
-    → Drops list (with_commands x cs) (Ok (record { source = x; commands = cs; dropped = events }))
+    → Drops list (with_commands x cs) (Ok (with_dropped x cs events))
 drops_good list x cs events (no_list i) = stages.no_list i
 drops_good list x cs events (names i h) = stages.names i h
 
--- the script and the list are asked for by the job
+-- the observer and the value are what the command asks, where there is an observer exactly where it asks for one
+wants_bad : (b : Bool) (observer word : Option (List ℕ)) (w : Ready) (r : Refusal) → IsThere b observer
+    → ReadsWanted observer word w.source (Err r) → Where b (Wanting observer word) w (Err r)
+wants_bad true observer word w r there (passing.no_observer i h) = stages.no_observer i h
+wants_bad true observer word w r there (passing.no_value i h) = stages.no_value i h
+wants_bad false observer word w r there (passing.no_observer {path = path} i h) =
+    let k : None ≡ Some path = sym there ∙ i in cc
+wants_bad false observer word w r there (passing.no_value {path = path} i h) =
+    let k : None ≡ Some path = sym there ∙ i in cc
+
+wants_good : (b : Bool) (observer word : Option (List ℕ)) (w : Ready) (given : Option Wanted) → w.wanted ≡ None
+    → IsThere b observer → ReadsWanted observer word w.source (Ok given)
+    → Where b (Wanting observer word) w (Ok (record w { wanted = given })) × IsThere b given
+wants_good true observer word w given e there (passing.not_asked i) =
+    let k : None ≡ Some there.0 = sym i ∙ there.1 in cc
+wants_good true observer word w given e there (passing.wants {w = v} i h) = (stages.wants i h, (v, refl))
+wants_good false observer word w given e there (passing.not_asked i) = (cc, refl)
+wants_good false observer word w given e there (passing.wants {path = path} i h) =
+    let k : None ≡ Some path = sym there ∙ i in cc
+
+-- the script, the list and the observer are asked for by the job
 module _ (job : Job) (model : List ℕ) (x : Elaborated) (p : GtsParts) (s : Option (Vec ℕ Global))
-    (there : IsThere (has_script job.command) s) where
+    (there : IsThere (has_script job.command) s) (seen : IsThere (needs_observer job.command) job.observer) where
   abbrev asks : Result Ready Refusal → Type 0
   asks = Asks job (model ∷ script_texts s) x
 
-  pub script_refused : (r : Result Wanted Stop) (d e : Stop) → r ≡ Err d → d ≡ e
-      → IsRefusal (ReadsScript s x) (stop_told e) → IsStageOf (IsWanted x p) asks r
-  script_refused r d e i j h =
-      subst (λ (z : Result Wanted Stop). IsStageOf (IsWanted x p) asks z) (sym (i ∙ ap Err j)) (go e h)
+  abbrev stands : Ready → Request → Type 0
+  stands = IsRequested job.command x p
+
+  pub script_refused : (r : Result Request Stop) (d e : Stop) → r ≡ Err d → d ≡ e
+      → IsRefusal (ReadsScript s x) (stop_told e) → IsStageOf stands asks r
+  script_refused r d e i j h = subst (λ (z : Result Request Stop). IsStageOf stands asks z) (sym (i ∙ ap Err j)) (go e h)
     where
-      go : (e : Stop) → IsRefusal (ReadsScript s x) (stop_told e) → IsStageOf {X = Wanted} (IsWanted x p) asks (Err e)
+      go : (e : Stop) → IsRefusal (ReadsScript s x) (stop_told e) → IsStageOf {X = Request} stands asks (Err e)
       go (Refused r) h = then.refuses (asks_bad (has_script job.command) model s x r there h)
       go Memory h = tt
 
@@ -114,21 +145,70 @@ module _ (job : Job) (model : List ℕ) (x : Elaborated) (p : GtsParts) (s : Opt
     script_passed : Where (has_script job.command) (Scripted (model ∷ script_texts s)) (bare x) (Ok (with_commands x cs))
     script_passed = asks_good (has_script job.command) model s x cs there given
 
-    pub list_refused : (r : Result Wanted Stop) (d e : Stop) → r ≡ Err d → d ≡ e
-        → IsRefusal (ReadsList job.dropped x) (stop_told e) → IsStageOf (IsWanted x p) asks r
+    pub list_refused : (r : Result Request Stop) (d e : Stop) → r ≡ Err d → d ≡ e
+        → IsRefusal (ReadsList job.dropped x) (stop_told e) → IsStageOf stands asks r
     list_refused r d e i j h =
-        subst (λ (z : Result Wanted Stop). IsStageOf (IsWanted x p) asks z) (sym (i ∙ ap Err j)) (go e h)
+        subst (λ (z : Result Request Stop). IsStageOf stands asks z) (sym (i ∙ ap Err j)) (go e h)
       where
         go : (e : Stop) → IsRefusal (ReadsList job.dropped x) (stop_told e)
-            → IsStageOf {X = Wanted} (IsWanted x p) asks (Err e)
-        go (Refused r) h = then.passes (with_commands x cs) script_passed (drops_bad job.dropped x cs r h)
+            → IsStageOf {X = Request} stands asks (Err e)
+        go (Refused r) h =
+            then.passes (with_commands x cs) script_passed (then.refuses (drops_bad job.dropped x cs r h))
         go Memory h = tt
 
-    pub both_given : (wanted : Wanted) (events : List ℕ) → ReadsList job.dropped x (Ok events)
-        → AreCommands p cs wanted.commands → AreDropped p events wanted.dropped.items
-        → IsStageOf (IsWanted x p) asks (Ok wanted)
-    both_given wanted events h are drops =
-        (record { source = x; commands = cs; dropped = events }, then.passes (with_commands x cs) script_passed (drops_good job.dropped x cs events h), record { source = refl; commands = are; dropped = drops })
+    module _ (events : List ℕ) (named : ReadsList job.dropped x (Ok events)) where
+      pub wanted_refused : (r : Result Request Stop) (d e : Stop) → r ≡ Err d → d ≡ e
+          → IsRefusal (ReadsWanted job.observer job.value x) (stop_told e) → IsStageOf stands asks r
+      wanted_refused r d e i j h =
+          subst (λ (z : Result Request Stop). IsStageOf stands asks z) (sym (i ∙ ap Err j)) (go e h)
+        where
+          go : (e : Stop) → IsRefusal (ReadsWanted job.observer job.value x) (stop_told e)
+              → IsStageOf {X = Request} stands asks (Err e)
+          go (Refused r) h =
+              then.passes (with_commands x cs) script_passed
+              (then.passes (with_dropped x cs events) (drops_good job.dropped x cs events named)
+              (wants_bad (needs_observer job.command) job.observer job.value (with_dropped x cs events) r seen h))
+          go Memory h = tt
+
+      pub all_given : (request : Request) (wanted : Option Wanted) → ReadsWanted job.observer job.value x (Ok wanted)
+          → AreCommands p cs request.commands → AreDropped p events request.dropped.items
+          → AreWanted p wanted request.wanted → IsStageOf stands asks (Ok request)
+      all_given request wanted h are drops wants =
+          let k = wants_good (needs_observer job.command) job.observer job.value (with_dropped x cs events) wanted refl seen h in (
+            record { source = x; commands = cs; dropped = events; wanted = wanted },
+            then.passes (with_commands x cs) script_passed
+            (then.passes (with_dropped x cs events) (drops_good job.dropped x cs events named) k.0),
+            record {
+              source = refl;
+              commands = are;
+              dropped = drops;
+              wanted = wants;
+              there = subst (λ (z : Option Wanted). IsThere (needs_observer job.command) z) wants.are k.1;
+            },
+          )
+
+-- The observer and its value
+
+pub wanted_same : (x : Elaborated) (p : GtsParts) (a b : List ℕ) (word : Option (List ℕ))
+    (r : Result Wanted WantedFault) → a ≡ b → AnswersWanted x p a word r → AnswersWanted x p b word r
+wanted_same x p a b word r e h = subst (λ (z : List ℕ). AnswersWanted x p z word r) e h
+
+module _ (x : Elaborated) (p : GtsParts) (path : List ℕ) (word : Option (List ℕ)) where
+  pub wanted_stops : (r : Result (Option Wanted) Stop) (d : Stop) (e : WantedFault) → r ≡ Err d → d ≡ stop_of_wanted e
+      → AnswersWanted x p path word (Err e) → IsStageOf (AreWanted p) (ReadsWanted (Some path) word x) r
+  wanted_stops r d e i j h =
+      subst (λ (z : Result (Option Wanted) Stop). IsStageOf (AreWanted p) (ReadsWanted (Some path) word x) z)
+      (sym (i ∙ ap Err j)) (go e h)
+    where
+      go : (e : WantedFault) → AnswersWanted x p path word (Err e)
+          → IsStageOf {X = Option Wanted} (AreWanted p) (ReadsWanted (Some path) word x) (Err (stop_of_wanted e))
+      go wanted.NoObserver h = passing.no_observer refl h
+      go wanted.NoValue h = passing.no_value refl h
+      go wanted.Memory h = tt
+
+  pub wanted_given : (w : Wanted) → AnswersWanted x p path word (Ok w)
+      → IsStageOf (AreWanted p) (ReadsWanted (Some path) word x) (Ok (Some w))
+  wanted_given w h = (Some w, passing.wants refl h.0, record { are = refl; inside = h.1 })
 
 -- The list of dropped events
 
@@ -165,6 +245,7 @@ task_asks task.Check files model name n s f l = l.none f.1
 task_asks task.Flat files model name n s f l = l.none f.1
 task_asks task.Replay files model name n s f l = l.some f.0.0 f.0.2
 task_asks task.Fragment files model name n s f l = l.none f.1
+task_asks task.Equations files model name n s f l = l.none f.1
 
 command_asks : (v : Verb) (t : Task) → v ≡ verb_of t
     → (files : List (List ℕ)) (model : List ℕ) (name : Option (List ℕ)) (n : ℕ) (s : Option (Vec ℕ Global))
@@ -182,6 +263,34 @@ pub script_there : (words : List (List ℕ)) (job : Job) (t : Task) (s : Option 
     → job.command ≡ verb_of t
     → IsLoadedScript job.script s → IsThere (has_script job.command) s
 script_there words job t s b e l = line_asks _ job t s b.is_job.job_of e l
+
+-- and an observer exactly where its command asks for one
+observer_given : (o : Option (List ℕ)) → (o ≡ None → ⊥) → IsThere true o
+observer_given None h = absurd (h refl)
+observer_given (Some a) h = (a, refl)
+
+task_sees : (t : Task) (line : Line) → OptionsFit (verb_of t) line → IsThere (needs_observer (verb_of t)) line.observer
+task_sees task.Check line f = f.observer
+task_sees task.Flat line f = f.observer
+task_sees task.Replay line f = f.observer
+task_sees task.Fragment line f = f.observer
+task_sees task.Equations line f = observer_given line.observer (f.observer_needed refl)
+
+command_sees : (v : Verb) (t : Task) → v ≡ verb_of t → (line : Line) → OptionsFit v line
+    → IsThere (needs_observer v) line.observer
+command_sees v t e line f =
+    subst (λ (z : Verb). IsThere (needs_observer z) line.observer) (sym e)
+    (task_sees t line (subst (λ (z : Verb). OptionsFit z line) e f))
+
+line_sees : (line : Line) (job : Job) (t : Task) → IsJobOf line job → job.command ≡ verb_of t
+    → IsThere (needs_observer job.command) job.observer
+line_sees line job t of e =
+    subst (λ (z : Option (List ℕ)). IsThere (needs_observer job.command) z) (sym of.observer)
+    (command_sees job.command t e line of.options)
+
+pub observer_there : (words : List (List ℕ)) (job : Job) (t : Task) → IsBuiltJob words job → job.command ≡ verb_of t
+    → IsThere (needs_observer job.command) job.observer
+observer_there words job t b e = line_sees _ job t b.is_job.job_of e
 
 -- The words
 

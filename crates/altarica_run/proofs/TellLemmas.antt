@@ -2,6 +2,8 @@
 use Rattle.std.proofs.Common.{◌≡◌, ℕ, List, Result, Ok, Err, map, length, refl, sym, ◌∙◌, ap, subst}
 use Rattle.std.proofs.lemmas.List.{length-map}
 use Rattle.ar_io.specs.Writing.{SinkState, Writes}
+use Rattle.aralia_text.specs.Texts.{equations_text}
+use Rattle.eq_core.specs.Views.{table_of}
 use Rattle.ar_io.specs.declared.outside.SinkFailed.{SinkFailed}
 use Rattle.ar_meaning.specs.Runs.{Command}
 use Rattle.ar_meaning.specs.TraceText.{Naming}
@@ -22,11 +24,11 @@ use Rattle.replayer.specs.Replays as replays
 use Rattle.replayer.specs.declared.replaying.End.{End}
 use Rattle.replayer.specs.declared.replaying.ReplayFault.{ReplayFault}
 use Rattle.run_words.specs.declared.jobs.Job.{Job}
-use Rattle.run_words.specs.declared.verbs.Verb.TheVariants.{Check, Flat, Replay, Fragment}
-use Rattle.altarica_run.specs.Passing.{IsReady}
+use Rattle.run_words.specs.declared.verbs.Verb.TheVariants.{Check, Flat, Replay, Fragment, Equations}
+use Rattle.altarica_run.specs.Passing.{IsReady, IsTheTable}
 use Rattle.altarica_run.specs.Stages.{Ready}
 use Rattle.altarica_run.specs.Telling.{status_written, status_replayed, IsWritten, whole, cut, stopped}
-use Rattle.altarica_run.specs.Tells.{counts_line, check_text, status_at, Tells, check, flat, replay, fragment}
+use Rattle.altarica_run.specs.Tells.{counts_line, check_text, status_at, Tells, check, flat, replay, fragment, equations}
 use Rattle.altarica_run.specs.declared.stages.Prepared.{Prepared}
 use Rattle.altarica_run.specs.declared.status.Status.{Status}
 use Rattle.altarica_run.specs.declared.status.Status.TheVariants.{Done}
@@ -89,6 +91,19 @@ module _ (job : Job) (w : Ready) (p : Prepared) (is : IsReady job w p) where
       → Writes old new (forest_text p.system p.forest) r → IsWritten (Tells job w) old new s
   forest_told e t s r k h =
       text_written (Tells job w) (forest_text p.system p.forest) Done s r k (fragment e t) h
+
+  pub table_told : {old new : SinkState} → job.command ≡ Equations → IsTheTable p.system w p.table
+      → (events : List (List ℕ)) → events ≡ p.table.events.items → (s : Status) (r : Result (Unit {0}) SinkFailed)
+      → s ≡ status_written Done r → Writes old new (equations_text events (table_of p.table.equations)) r
+      → IsWritten (Tells job w) old new s
+  table_told e own events same s r k h =
+      let names = same ∙ own.events ∙ ap (λ (n : Naming). n.events) is.flat.names in
+      text_written (Tells job w) _ Done s r k
+      (equations e own.are (record {
+        table = table_of p.table.equations;
+        is_table = own.is_table;
+        is_text = ap (λ (z : List (List ℕ)). equations_text z (table_of p.table.equations)) names;
+      })) h
 
   module _
       (there : (cs : List Command) (text : List ℕ) (end : End) → IsReplay (naming_of_parts p.system) is.flat.flat cs text end

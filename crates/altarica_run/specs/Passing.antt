@@ -1,8 +1,8 @@
 -- What the calls that stand for the stages of a job answer.
-use Rattle.std.specs.Prelude.{◌≡◌, ◌≤◌, ℕ, Bool, true, false, List, [], Option, Some, None, Result, Ok, Err, map, length, Vec}
+use Rattle.std.specs.Prelude.{◌≡◌, ◌<◌, ◌≤◌, ℕ, Bool, true, false, List, [], Option, Some, None, Result, Ok, Err, map, length, Vec}
 use Rattle.std.specs.Global.{Global}
 use Rattle.ar_base.specs.Counts.{limit_of}
-use Rattle.ar_base.specs.declared.counts.Count.TheVariants.{Nesting, ScriptBytes}
+use Rattle.ar_base.specs.declared.counts.Count.TheVariants.{Nesting, ScriptBytes, Gates}
 use Rattle.ar_base.specs.declared.faults.RuleFault.{RuleFault}
 use Rattle.ar_base.specs.declared.faults.RuleFault.TheVariants as rules
 use Rattle.ar_base.specs.Numbers.{EventId}
@@ -14,6 +14,7 @@ use Rattle.ar_meaning.specs.Runs as runs
 use Rattle.ar_meaning.specs.Systems.{System}
 use Rattle.ar_parser.specs.declared.lexeme.ParseFault.{ParseFault}
 use Rattle.ar_parser.specs.declared.lexeme.ParseFault.TheVariants as parse
+use Rattle.eq_core.specs.Views.{table_of}
 use Rattle.event_lists.specs.Naming.{NamesEvents, HasUnknown, AreEventsOf}
 use Rattle.event_lists.specs.declared.reading.ListFault.{ListFault}
 use Rattle.event_lists.specs.declared.reading.ListFault.TheVariants as list
@@ -21,7 +22,7 @@ use Rattle.forest_text.specs.Printed.{edge_count}
 use Rattle.gts_core.specs.View.{Views}
 use Rattle.gts_core.specs.declared.system.GtsParts.{GtsParts}
 use Rattle.gts_flatten.specs.Elaborating.{Elaborated}
-use Rattle.gts_flatten.specs.Flat.{IsFlat}
+use Rattle.gts_flatten.specs.Flat.{IsFlat, naming_of_parts}
 use Rattle.mode_forests.specs.Views.{trees_of, number_in}
 use Rattle.mode_forests.specs.Ways.{OwnTheirWays}
 use Rattle.mode_forests.specs.declared.forests.Forest.{Forest}
@@ -30,21 +31,29 @@ use Rattle.replayer.specs.Scripts.{BadLine, Commands}
 use Rattle.replayer.specs.declared.commands.Command.{Command}
 use Rattle.replayer.specs.declared.commands.ScriptFault.{ScriptFault}
 use Rattle.replayer.specs.declared.commands.ScriptFault.TheVariants as script
+use Rattle.run_words.specs.Jobs.{needs_observer}
 use Rattle.run_words.specs.declared.jobs.Job.{Job}
 use Rattle.run_words.specs.declared.verbs.Verb.{Verb}
 use Rattle.run_words.specs.declared.jobs.JobFault.{JobFault}
 use Rattle.run_words.specs.declared.jobs.JobFault.TheVariants as words
+use Rattle.tree_equations.specs.declared.fault.EqFault.{EqFault}
+use Rattle.tree_equations.specs.declared.fault.EqFault.TheVariants as table
+use Rattle.wanted_values.specs.Wanting as wanting
+use Rattle.wanted_values.specs.declared.wanting.Wanted.{Wanted}
+use Rattle.wanted_values.specs.declared.wanting.WantedFault.{WantedFault}
+use Rattle.wanted_values.specs.declared.wanting.WantedFault.TheVariants as wanted
 use Rattle.altarica_run.specs.Files.{files_of, Loads}
 use Rattle.altarica_run.specs.Jobs.{IsBuiltJob, IsNoJob, verb_of}
-use Rattle.altarica_run.specs.Stages.{Ready, line_refused, is_static, Passes}
+use Rattle.altarica_run.specs.Stages.{Ready, line_refused, is_static, has_table, IsTableOf, Passes}
 use Rattle.altarica_run.specs.declared.refusals.FileKind.{FileKind}
 use Rattle.altarica_run.specs.declared.refusals.Refusal.{Refusal}
-use Rattle.altarica_run.specs.declared.refusals.Refusal.TheVariants.{Usage, NotRead, Size, Syntax, Rule, NoCommand, NeedsWay, NoEvent, NoDropped}
+use Rattle.altarica_run.specs.declared.refusals.Refusal.TheVariants.{Usage, NotRead, Size, Syntax, Rule, NoCommand, NeedsWay, NoEvent, NoDropped, NoObserver, NoValue}
 use Rattle.altarica_run.specs.declared.stages.Flattened.{Flattened}
 use Rattle.altarica_run.specs.declared.stages.Prepared.{Prepared}
-use Rattle.altarica_run.specs.declared.stages.Wanted.{Wanted}
+use Rattle.altarica_run.specs.declared.stages.Request.{Request}
 use Rattle.altarica_run.specs.declared.stops.Stop.{Stop}
 use Rattle.altarica_run.specs.declared.stops.Stop.TheVariants.{Refused, Memory}
+use Rattle.altarica_run.specs.declared.tabling.TheTable.{TheTable}
 
 -- Faults as stops
 
@@ -72,6 +81,15 @@ stop_of_script script.Memory = Memory
 abbrev pub stop_of_list : ListFault → Stop
 stop_of_list list.NoEvent = Refused NoDropped
 stop_of_list list.Memory = Memory
+
+abbrev pub stop_of_wanted : WantedFault → Stop
+stop_of_wanted wanted.NoObserver = Refused NoObserver
+stop_of_wanted wanted.NoValue = Refused NoValue
+stop_of_wanted wanted.Memory = Memory
+
+abbrev pub stop_of_table : EqFault → Stop
+stop_of_table table.Gates = Refused (Size Gates)
+stop_of_table table.Memory = Memory
 
 -- the refusal that a stop tells, none for want of memory
 abbrev pub stop_told : Stop → Option Refusal
@@ -109,10 +127,10 @@ abbrev pub IsShort : Option (Vec ℕ Global) → Type 0
 IsShort None = Unit {0}
 IsShort (Some bytes) = length bytes.items ≤ limit_of ScriptBytes
 
--- there is a script exactly where it is asked for
-abbrev pub IsThere : Bool → Option (Vec ℕ Global) → Type 0
-IsThere true script = (bytes : Vec ℕ Global) × (script ≡ Some bytes)
-IsThere false script = script ≡ None
+-- there is something exactly where it is asked for
+abbrev pub IsThere : {A : Type 0} → Bool → Option A → Type 0
+IsThere {A = A} true given = (a : A) × (given ≡ Some a)
+IsThere false given = given ≡ None
 
 -- The dropped events
 
@@ -127,11 +145,35 @@ pub record AreDropped (p : GtsParts) (dropped : List ℕ) (events : List EventId
   pub are : dropped ≡ map (λ (e : EventId). e.n) events
   pub inside : AreEventsOf p events
 
--- what is wanted is what stands ready of the source
-pub record IsWanted (x : Elaborated) (p : GtsParts) (w : Ready) (wanted : Wanted) : Type 0 where
+-- The observer and its value
+
+-- the observer and the value of the words where there are some, or that there is no such observer, or no such value
+pub data ReadsWanted (observer word : Option (List ℕ)) (x : Elaborated) : Result (Option Wanted) Refusal → Type 0 where
+  not_asked : observer ≡ None → ReadsWanted observer word x (Ok None)
+  wants : {path : List ℕ} {w : Wanted} → observer ≡ Some path → wanting.IsWanted x path word w.observer w.value
+      → ReadsWanted observer word x (Ok (Some w))
+  no_observer : {path : List ℕ} → observer ≡ Some path → wanting.NamesNone x path
+      → ReadsWanted observer word x (Err NoObserver)
+  no_value : {path : List ℕ} → observer ≡ Some path → wanting.WantsNone x path word
+      → ReadsWanted observer word x (Err NoValue)
+
+-- the system has the observer
+abbrev pub HasObserver : GtsParts → Option Wanted → Type 0
+HasObserver p None = Unit {0}
+HasObserver p (Some w) = w.observer < length p.observers.items
+
+-- the observer and the value are these, and the system has the observer
+pub record AreWanted (p : GtsParts) (asked given : Option Wanted) : Type 0 where
+  pub are : asked ≡ given
+  pub inside : HasObserver p given
+
+-- what is requested is what stands ready of the source for the command
+pub record IsRequested (command : Verb) (x : Elaborated) (p : GtsParts) (w : Ready) (request : Request) : Type 0 where
   pub source : w.source ≡ x
-  pub commands : AreCommands p w.commands wanted.commands
-  pub dropped : AreDropped p w.dropped wanted.dropped.items
+  pub commands : AreCommands p w.commands request.commands
+  pub dropped : AreDropped p w.dropped request.dropped.items
+  pub wanted : AreWanted p w.wanted request.wanted
+  pub there : IsThere (needs_observer command) request.wanted
 
 -- The static fragment
 
@@ -150,6 +192,19 @@ pub record HasForest (v : Verb) (p : GtsParts) (dropped : List ℕ) (forest : Fo
   pub written : CanBeWritten p forest
   pub own : is_static v ≡ true → IsForestOf p dropped forest
 
+-- The gate table
+
+-- the gates are those of the source's table, and the events are called by their paths
+pub record IsTheTable (p : GtsParts) (w : Ready) (t : TheTable) : Type 0 where
+  pub wanted : Wanted
+  pub are : w.wanted ≡ Some wanted
+  pub is_table : IsTableOf w.source w.dropped wanted (table_of t.equations)
+  pub events : t.events.items ≡ (naming_of_parts p).events
+
+-- the table is the source's own where the command asks for it
+pub record HasTable (v : Verb) (p : GtsParts) (w : Ready) (t : TheTable) : Type 0 where
+  pub own : has_table v ≡ true → IsTheTable p w t
+
 -- The job
 
 -- what is prepared is what stands ready for the job
@@ -158,6 +213,7 @@ pub record IsReady (job : Job) (w : Ready) (p : Prepared) : Type 0 where
   pub flat : IsFlat w.source p.system
   pub commands : AreCommands p.system w.commands p.commands
   pub forest : HasForest job.command p.system w.dropped p.forest
+  pub table : HasTable job.command p.system w p.table
 
 -- the words are refused: they are no job, or a stage of the job refuses, or a file was not read
 pub data RefusesWords (files : List ℕ → Told) (rose : List ℕ → Type 0) (words : List (List ℕ)) : Refusal → Type 0 where

@@ -7,7 +7,7 @@ use Rattle.ar_base.specs.declared.counts.Count.TheVariants.{ModelBytes, ScriptBy
 use Rattle.ar_base.specs.declared.places.Place.{Place}
 use Rattle.altarica_run.specs.declared.refusals.FileKind.TheVariants.{Model, Script}
 use Rattle.altarica_run.specs.declared.refusals.Refusal.{Refusal}
-use Rattle.altarica_run.specs.declared.refusals.Refusal.TheVariants.{Usage, NotRead, Size, Syntax, Rule, NoCommand, NeedsWay, NoEvent, NoDropped, Outside}
+use Rattle.altarica_run.specs.declared.refusals.Refusal.TheVariants.{Usage, NotRead, Size, Syntax, Rule, NoCommand, NeedsWay, NoEvent, NoDropped, NoObserver, NoValue, Outside}
 use Rattle.altarica_run.specs.declared.status.Status.{Status}
 use Rattle.altarica_run.specs.declared.status.Status.TheVariants as status
 
@@ -44,6 +44,8 @@ line_of (NoCommand n) = line (codes "script: line " ++ (decimal n ++ codes " is 
 line_of (NeedsWay n) = line (codes "script: line " ++ (decimal n ++ codes " needs a way"))
 line_of (NoEvent n) = line (codes "script: line " ++ (decimal n ++ codes " names no event"))
 line_of NoDropped = line (codes "script: no event")
+line_of NoObserver = line (codes "script: no observer")
+line_of NoValue = line (codes "script: no value")
 line_of (Outside rule path) = line (codes "outside: S" ++ (decimal rule ++ (codes " at " ++ path)))
 
 -- the status of a refusal
@@ -57,4 +59,6 @@ status_of (NoCommand n) = status.Script
 status_of (NeedsWay n) = status.Script
 status_of (NoEvent n) = status.Script
 status_of NoDropped = status.Script
+status_of NoObserver = status.Script
+status_of NoValue = status.Script
 status_of (Outside rule path) = status.Outside

@@ -1,33 +1,42 @@
 -- The stages of a job, from its files to what stands ready for its command. The first stage that refuses decides.
-use Rattle.std.specs.Prelude.{◌≡◌, ℕ, Bool, true, false, List, [], ◌∷◌, map, codes, Option, Some, None, Result, Ok, Err}
+use Rattle.std.specs.Prelude.{◌≡◌, ◌<◌, ◌≤◌, ℕ, Bool, true, false, List, [], ◌∷◌, map, length, codes, Option, Some, None, Result, Ok, Err}
+use Rattle.ar_base.specs.Counts.{limit_of}
 use Rattle.ar_base.specs.Stages.{Then, Where}
 use Rattle.ar_base.specs.Texts.{text_at}
+use Rattle.ar_base.specs.declared.counts.Count.TheVariants.{Gates}
 use Rattle.ar_firing.specs.Rules.{Rule, number_of, Spot, AtEvent, AtUnit, AtVariable, AtObserver, AtWhole, IsFirstBroken, KeepsAll}
 use Rattle.ar_io.specs.Outside.{Told}
 use Rattle.ar_meaning.specs.Runs.{Command}
+use Rattle.eq_core.specs.Gates.{Table}
 use Rattle.event_lists.specs.Naming.{NamesEvents, HasUnknown}
 use Rattle.gts_flatten.specs.Elaborating.{Elaborated}
 use Rattle.gts_flatten.specs.Flat.{naming_of}
+use Rattle.hierarchy.specs.Listing.{variables}
 use Rattle.hierarchy.specs.Paths.{unit_path}
 use Rattle.replayer.specs.Scripts.{BadLine, Commands, Why, IsNoCommand, LacksWay, NamesNoEvent}
+use Rattle.run_words.specs.Jobs.{needs_observer}
 use Rattle.run_words.specs.declared.jobs.Job.{Job}
 use Rattle.run_words.specs.declared.verbs.Verb.{Verb}
 use Rattle.run_words.specs.declared.verbs.Verb.TheVariants.{Replay, Fragment, Equations, Cuts, Make, CheckCuts, Modules}
+use Rattle.table_text.specs.Texts.{IsTableFor}
+use Rattle.wanted_values.specs.Wanting.{IsWanted, NamesNone, WantsNone}
+use Rattle.wanted_values.specs.declared.wanting.Wanted.{Wanted}
 use Rattle.altarica_run.specs.Elaborates.{Elaborates}
 use Rattle.altarica_run.specs.Files.{files_of, Loaded, IsText}
 use Rattle.altarica_run.specs.declared.refusals.Refusal.{Refusal}
-use Rattle.altarica_run.specs.declared.refusals.Refusal.TheVariants.{NoCommand, NeedsWay, NoEvent, NoDropped, Outside}
+use Rattle.altarica_run.specs.declared.refusals.Refusal.TheVariants.{NoCommand, NeedsWay, NoEvent, NoDropped, NoObserver, NoValue, Size, Outside}
 
--- what stands ready: the source's system over paths with its names, the commands of the script, and the events that are
--- dropped
+-- what stands ready: the source's system over paths with its names, the commands of the script, the events that are
+-- dropped, and the observer and the value that are asked for
 pub record Ready : Type 0 where
   pub source : Elaborated
   pub commands : List Command
   pub dropped : List ℕ
+  pub wanted : Option Wanted
 
 -- the system alone
 abbrev pub bare : Elaborated → Ready
-bare x = record { source = x; commands = []; dropped = [] }
+bare x = record { source = x; commands = []; dropped = []; wanted = None }
 
 -- The script
 
@@ -58,9 +67,22 @@ pub data Drops (list : Option (List ℕ)) (w : Ready) : Result Ready Refusal →
       → Drops list w (Ok (record w { dropped = events }))
   names_none : {text : List ℕ} → list ≡ Some text → HasUnknown w.source text → Drops list w (Err NoDropped)
 
+-- The observer and its value
+
+-- the observer that the path names with the value of its type that the word writes, or that the path names none, or that
+-- no value is asked for
+pub data Wanting (observer word : Option (List ℕ)) (w : Ready) : Result Ready Refusal → Type 0 where
+  wants : {path : List ℕ} {wanted : Wanted} → observer ≡ Some path
+      → IsWanted w.source path word wanted.observer wanted.value
+      → Wanting observer word w (Ok (record w { wanted = Some wanted }))
+  no_observer : {path : List ℕ} → observer ≡ Some path → NamesNone w.source path → Wanting observer word w (Err NoObserver)
+  no_value : {path : List ℕ} → observer ≡ Some path → WantsNone w.source path word → Wanting observer word w (Err NoValue)
+
 -- what the words and the script ask of the system
 abbrev pub Asks : Job → List (List ℕ) → Elaborated → Result Ready Refusal → Type 0
-Asks job texts x = Then (Where (has_script job.command) (Scripted texts)) (Drops job.dropped) (bare x)
+Asks job texts x =
+    Then (Where (has_script job.command) (Scripted texts))
+    (Then (Drops job.dropped) (Where (needs_observer job.command) (Wanting job.observer job.value))) (bare x)
 
 -- The static fragment
 
@@ -88,11 +110,40 @@ pub data Static (w : Ready) : Result Ready Refusal → Type 0 where
   outside : {rule : Rule} {spot : Spot} → IsFirstBroken w.source.system w.dropped rule spot
       → Static w (Err (Outside (number_of rule) (spot_path w.source spot)))
 
+-- The gate table
+
+-- the command is about the gate table of the system
+abbrev pub has_table : Verb → Bool
+has_table Equations = true
+has_table Cuts = true
+has_table Make = true
+has_table CheckCuts = true
+has_table Modules = true
+has_table _ = false
+
+-- the table of the source without the dropped events, for this observer and this value
+abbrev pub IsTableOf : Elaborated → List ℕ → Wanted → Table → Type 0
+IsTableOf x dropped wanted table =
+    IsTableFor (variables x.declarations.model x.declarations.units) x.system dropped wanted.observer wanted.value table
+
+-- the table has as many gates as it may have, or more
+pub data Tabled (w : Ready) : Result Ready Refusal → Type 0 where
+  fits : {wanted : Wanted} {table : Table} → w.wanted ≡ Some wanted → IsTableOf w.source w.dropped wanted table
+      → length table.gates ≤ limit_of Gates
+      → Tabled w (Ok w)
+  exceeds : {wanted : Wanted} {table : Table} → w.wanted ≡ Some wanted → IsTableOf w.source w.dropped wanted table
+      → limit_of Gates < length table.gates
+      → Tabled w (Err (Size Gates))
+
 -- The stages
+
+-- what the command demands of the system, once the words and the script have asked
+abbrev pub Demands : Verb → Ready → Result Ready Refusal → Type 0
+Demands command = Then (Where (is_static command) Static) (Where (has_table command) Tabled)
 
 -- from the system on
 abbrev pub Readies : Job → List (List ℕ) → Elaborated → Result Ready Refusal → Type 0
-Readies job texts = Then (Asks job texts) (Where (is_static job.command) Static)
+Readies job texts = Then (Asks job texts) (Demands job.command)
 
 -- from the model's text on, where the job's files have these texts
 abbrev pub Stages : Job → List (List ℕ) → List ℕ → Result Ready Refusal → Type 0

@@ -1,5 +1,5 @@
 -- What each command writes of a job that has passed its stages.
-use Rattle.std.specs.Prelude.{◌≡◌, ℕ, ◌++◌, List, length, codes, decimal}
+use Rattle.std.specs.Prelude.{◌≡◌, ℕ, ◌++◌, List, Some, length, codes, decimal}
 use Rattle.ar_base.specs.Texts.{line}
 use Rattle.forest_text.specs.Texts.{IsForestText}
 use Rattle.gts_core.specs.Printed.{flat_text}
@@ -11,8 +11,10 @@ use Rattle.replayer.specs.Replays.{IsReplay}
 use Rattle.replayer.specs.declared.replaying.End.{End}
 use Rattle.replayer.specs.declared.replaying.End.TheVariants as end
 use Rattle.run_words.specs.declared.jobs.Job.{Job}
-use Rattle.run_words.specs.declared.verbs.Verb.TheVariants.{Check, Flat, Replay, Fragment}
+use Rattle.run_words.specs.declared.verbs.Verb.TheVariants.{Check, Flat, Replay, Fragment, Equations}
 use Rattle.source_meaning.specs.Systems.{Declarations}
+use Rattle.table_text.specs.Texts.{IsTableText}
+use Rattle.wanted_values.specs.declared.wanting.Wanted.{Wanted}
 use Rattle.altarica_run.specs.Stages.{Ready}
 use Rattle.altarica_run.specs.declared.status.Status.{Status}
 use Rattle.altarica_run.specs.declared.status.Status.TheVariants.{Done, Fault}
@@ -49,3 +51,6 @@ pub data Tells (job : Job) (w : Ready) : List ℕ → Status → Type 0 where
       → Tells job w text (status_at ends)
   fragment : {text : List ℕ} → job.command ≡ Fragment
       → IsForestText (naming_of w.source.declarations) w.source.system w.dropped text → Tells job w text Done
+  equations : {text : List ℕ} {wanted : Wanted} → job.command ≡ Equations → w.wanted ≡ Some wanted
+      → IsTableText (variables w.source.declarations.model w.source.declarations.units) (naming_of w.source.declarations)
+      w.source.system w.dropped wanted.observer wanted.value text → Tells job w text Done

@@ -9,7 +9,7 @@ ghost use Rattle.gts_flatten.specs.Flat.{IsFlat};
 ghost use Rattle.altarica_run.specs.Passing.{IsStageOf, IsFlattened, AreDropped, ReadsList, HasForest};
 ghost use Rattle.altarica_run.specs.Jobs.{verb_of};
 ghost use Rattle.altarica_run.specs.Stages.{Ready, Static, is_static};
-ghost use Rattle.run_words.specs.declared.verbs.Verb.TheVariants.{Fragment};
+ghost use Rattle.run_words.specs.declared.verbs.Verb.{Verb};
 
 use crate::jobs::Task;
 use crate::refusals::Refusal;
@@ -61,15 +61,16 @@ pub fn forest_of(
         Task::Check | Task::Flat | Task::Replay => Ok(Forest {
             trees: Vec::new(alloc),
         }),
-        Task::Fragment => recognised(alloc, system, dropped),
+        Task::Fragment | Task::Equations => recognised(alloc, system, dropped),
     }
 }
 
 // The trees of modes of a system, or the rule that it breaks.
 fn recognised(alloc: Global, system: &Gts, dropped: &[EventId]) -> Result<Forest, Stop>
     requires { AreEventsOf system.now dropped.now }
-    ensures { (w : Ready) → IsFlat w.source system.now → w.dropped ≡ map (λ (e : EventNumber). e.n) dropped.now
-        → IsStageOf (λ (v : Ready). HasForest Fragment system.now v.dropped) (Static w) result }
+    ensures { (command : Verb) (w : Ready) → IsFlat w.source system.now
+        → w.dropped ≡ map (λ (e : EventNumber). e.n) dropped.now
+        → IsStageOf (λ (v : Ready). HasForest command system.now v.dropped) (Static w) result }
 {
     match recognise(alloc, system, dropped) {
         Ok(forest) => {

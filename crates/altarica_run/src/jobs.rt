@@ -21,6 +21,8 @@ pub enum Task {
     Replay,
     /// Writes the trees of modes of a system of the static fragment.
     Fragment,
+    /// Writes the gate table of an observer of a system of the static fragment.
+    Equations,
 }
 
 /// A job with its task.
@@ -57,6 +59,7 @@ fn task_of(command: Verb) -> Option<Task>
         Verb::Flat => Some(Task::Flat),
         Verb::Replay => Some(Task::Replay),
         Verb::Fragment => Some(Task::Fragment),
+        Verb::Equations => Some(Task::Equations),
         _ => None,
     }
 }

@@ -40,6 +40,10 @@ pub enum Refusal {
     NoEvent(u32),
     /// A part of the list of dropped events names no event.
     NoDropped,
+    /// The path names no observer.
+    NoObserver,
+    /// The word is no value of the observer's type, or there is none and the observer is not Boolean.
+    NoValue,
     /// The system breaks the rule of this number of the static fragment, as the thing of this path shows.
     Outside(u8, Text),
 }
@@ -60,7 +64,7 @@ impl Refusal {
             Refusal::Syntax(_) => Status::Syntax,
             Refusal::Rule(_, _) => Status::Rule,
             Refusal::NoCommand(_) | Refusal::NeedsWay(_) | Refusal::NoEvent(_) => Status::Script,
-            Refusal::NoDropped => Status::Script,
+            Refusal::NoDropped | Refusal::NoObserver | Refusal::NoValue => Status::Script,
             Refusal::Outside(_, _) => Status::Outside,
         }
     }
@@ -79,6 +83,8 @@ impl Refusal {
             Refusal::NeedsWay(number) => put_script_line(out, *number, " needs a way"),
             Refusal::NoEvent(number) => put_script_line(out, *number, " names no event"),
             Refusal::NoDropped => put(out, "script: no event\n"),
+            Refusal::NoObserver => put(out, "script: no observer\n"),
+            Refusal::NoValue => put(out, "script: no value\n"),
             Refusal::Outside(rule, path) => put_outside(out, *rule, path.as_str()),
         }
     }

@@ -8,16 +8,18 @@ ghost use Rattle.ar_base.specs.declared.counts.Count.TheVariants.{ModelBytes};
 ghost use Rattle.ar_io.specs.Outside.{Rose};
 ghost use Rattle.hierarchy.specs.Models.{IsKeptTable};
 ghost use Rattle.gts_flatten.specs.Elaborating.{Elaborated};
+ghost use Rattle.run_words.specs.Jobs.{needs_observer};
 ghost use Rattle.altarica_run.specs.Elaborates.{Parses, Tables, Systems, Elaborates};
 ghost use Rattle.altarica_run.specs.Jobs.{verb_of};
 ghost use Rattle.altarica_run.specs.Loading.{texts_of, script_texts};
-ghost use Rattle.altarica_run.specs.Passing.{IsStageOf, IsFlattened, AreCommands, ReadsScript, IsShort, IsThere, IsWanted, IsReady, AnswersWords};
+ghost use Rattle.altarica_run.specs.Passing.{IsStageOf, IsFlattened, AreCommands, ReadsScript, IsShort, IsThere, IsRequested, IsReady, AnswersWords};
 ghost use Rattle.altarica_run.specs.Stages.{Asks, Readies, Stages, has_script};
 
 use crate::analysing::{dropped_of, forest_of};
 use crate::jobs::{Asked, Task, job_of};
 use crate::loading::{Texts, load_all};
 use crate::stops::Stop;
+use crate::tabling::{TheTable, table_of, wanted_of};
 use ar_base::{EventId, RuleFault, Text};
 use ar_io::Shelf;
 use ar_parser::parse;
@@ -33,6 +35,7 @@ use mode_forests::Forest;
 use replayer::{Command, read_script};
 use run_words::Job;
 use std::alloc::Global;
+use wanted_values::Wanted;
 
 /// What stands ready for the text of a job.
 #[derive(Drop)]
@@ -45,15 +48,19 @@ pub struct Prepared {
     pub commands: Vec<Command>,
     /// The trees of modes, without the dropped events; none where the command asks for none.
     pub forest: Forest,
+    /// The gate table, by the trees; an empty one where the command asks for none.
+    pub table: TheTable,
 }
 
 /// What the words and the script ask of a system.
 #[derive(Drop)]
-pub struct Wanted {
+pub struct Request {
     /// The commands of the script.
     pub commands: Vec<Command>,
     /// The dropped events.
     pub dropped: Vec<EventId>,
+    /// The observer with its value, where the words have one.
+    pub wanted: Option<Wanted>,
 }
 
 /// The tree of a model's main block, and its flat system.
@@ -82,6 +89,7 @@ fn pass(alloc: Global, asked: &Asked, texts: Texts) -> Result<Prepared, Stop>
     requires model { length texts.model.items ≤ limit_of ModelBytes }
     requires script { IsShort texts.script }
     requires there { IsThere (has_script asked.now.job.command) texts.script }
+    requires observer { IsThere (needs_observer asked.now.job.command) asked.now.job.observer }
     ensures { IsStageOf (IsReady asked.now.job)
         (Stages asked.now.job (texts_of texts) texts.model.items) result }
 {
@@ -101,37 +109,46 @@ fn ready(
     requires source { (x : Elaborated) × IsFlattened x flattened }
     requires short { IsShort script.now }
     requires there { IsThere (has_script asked.now.job.command) script.now }
+    requires observer { IsThere (needs_observer asked.now.job.command) asked.now.job.observer }
     ensures { (model : List ℕ) (x : Elaborated) → IsFlattened x flattened
         → IsStageOf (IsReady asked.now.job)
         (Readies asked.now.job (model ∷ script_texts script.now) x) result }
 {
-    let wanted = wanted_of(alloc, &asked.job, &flattened, script)?;
-    let forest = forest_of(alloc, asked.task, &flattened.system, &wanted.dropped)?;
+    let request = request_of(alloc, &asked.job, &flattened, script)?;
+    let forest = forest_of(alloc, asked.task, &flattened.system, &request.dropped)?;
+    let table = table_of(alloc, &flattened.system, &forest, request.wanted)?;
     Ok(Prepared {
         task: asked.task,
         system: flattened.system,
-        commands: wanted.commands,
+        commands: request.commands,
         forest,
+        table,
     })
 }
 
 // What the words and the script ask of the system.
-fn wanted_of(
+fn request_of(
     alloc: Global,
     job: &Job,
     flattened: &Flattened,
     script: &Option<Vec<u8>>,
-) -> Result<Wanted, Stop>
+) -> Result<Request, Stop>
     requires source { (x : Elaborated) × IsFlattened x flattened.now }
     requires short { IsShort script.now }
     requires there { IsThere (has_script job.now.command) script.now }
+    requires observer { IsThere (needs_observer job.now.command) job.now.observer }
     ensures { (model : List ℕ) (x : Elaborated) → IsFlattened x flattened.now
-        → IsStageOf (IsWanted x flattened.now.system)
+        → IsStageOf (IsRequested job.now.command x flattened.now.system)
         (Asks job.now (model ∷ script_texts script.now) x) result }
 {
     let commands = commands_of(alloc, flattened, script)?;
     let dropped = dropped_of(alloc, flattened, &job.dropped)?;
-    Ok(Wanted { commands, dropped })
+    let wanted = wanted_of(alloc, flattened, &job.observer, &job.value)?;
+    Ok(Request {
+        commands,
+        dropped,
+        wanted,
+    })
 }
 
 // The system that the text means from the main block of this name, else from the last.

@@ -6,6 +6,8 @@ use ar_parser::ParseFault;
 use event_lists::ListFault;
 use replayer::ScriptFault;
 use run_words::JobFault;
+use tree_equations::EqFault;
+use wanted_values::WantedFault;
 
 /// A refusal, or want of memory.
 #[derive(Debug, Drop)]
@@ -86,6 +88,35 @@ impl From<ListFault> for Stop {
         match fault {
             ListFault::NoEvent => Stop::Refused(Refusal::NoDropped),
             ListFault::Memory => Stop::Memory,
+        }
+    }
+}
+
+impl From<WantedFault> for Stop {
+    ghost use Rattle.std.specs.Prelude.{◌≡◌};
+    ghost use Rattle.altarica_run.specs.Passing.{stop_of_wanted};
+
+    ghost from_gives = { λ fault stop. stop ≡ stop_of_wanted fault };
+
+    fn from(fault: WantedFault) -> Self {
+        match fault {
+            WantedFault::NoObserver => Stop::Refused(Refusal::NoObserver),
+            WantedFault::NoValue => Stop::Refused(Refusal::NoValue),
+            WantedFault::Memory => Stop::Memory,
+        }
+    }
+}
+
+impl From<EqFault> for Stop {
+    ghost use Rattle.std.specs.Prelude.{◌≡◌};
+    ghost use Rattle.altarica_run.specs.Passing.{stop_of_table};
+
+    ghost from_gives = { λ fault stop. stop ≡ stop_of_table fault };
+
+    fn from(fault: EqFault) -> Self {
+        match fault {
+            EqFault::Gates => Stop::Refused(Refusal::Size(Count::Gates)),
+            EqFault::Memory => Stop::Memory,
         }
     }
 }

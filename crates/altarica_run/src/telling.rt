@@ -16,6 +16,7 @@ use crate::refusals::Refusal;
 use crate::stages::Prepared;
 use crate::status::Status;
 use ar_io::{Sink, SinkFailed};
+use aralia_text::print;
 use forest_text::laws::forests_of_the_source;
 use forest_text::print_forest;
 use gts_core::Gts;
@@ -45,6 +46,10 @@ pub fn tell<K: Sink>(alloc: Global, prepared: &Prepared, out: &mut K) -> Status
                 Status::Done,
                 print_forest(&prepared.system, &prepared.forest, out),
             )
+        }
+        Task::Equations => {
+            let table = &prepared.table;
+            written(Status::Done, print(&table.equations, &table.events, out))
         }
     }
 }

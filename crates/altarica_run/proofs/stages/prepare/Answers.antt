@@ -3,7 +3,7 @@ use Rattle.std.proofs.lemmas.Result.{err_from_is_err_and}
 use Rattle.ar_base.specs.Texts.{bytes_of_all}
 use Rattle.ar_io.specs.Outside.{Rose}
 use Rattle.altarica_run.proofs.FileLemmas.{loaded_first, loaded_script}
-use Rattle.altarica_run.proofs.PassLemmas.{script_there, words_stop, files_stop, job_passed}
+use Rattle.altarica_run.proofs.PassLemmas.{script_there, observer_there, words_stop, files_stop, job_passed}
 use Rattle.altarica_run.proofs.stages.prepare.Goals as goal
 
 pub returns-in_err-asked : goal.returns-in_err-asked
@@ -41,6 +41,11 @@ pass-requires-clause-there g c =
     script_there
     (bytes_of_all c.args.words.now) asked.job asked.task c.in_ok-texts.texts.script c.in_ok-asked.ensures.0 c.in_ok-asked.ensures.1
     (loaded_script files asked.job.script c.in_ok-texts.texts.script rest)
+
+pub pass-requires-clause-observer : goal.pass-requires-clause-observer
+pass-requires-clause-observer g c =
+    let asked = c.in_ok-asked.asked in
+    observer_there (bytes_of_all c.args.words.now) asked.job asked.task c.in_ok-asked.ensures.0 c.in_ok-asked.ensures.1
 
 pub returns : goal.returns
 returns g c =

@@ -1,7 +1,7 @@
 use Rattle.std.proofs.Common.{◌∙◌, ap, arith}
 use Rattle.altarica_run.specs.Jobs.{verb_of}
-use Rattle.altarica_run.specs.Stages.{is_static}
-use Rattle.altarica_run.proofs.TellLemmas.{checked, flattened, replayed, forest_told}
+use Rattle.altarica_run.specs.Stages.{is_static, has_table}
+use Rattle.altarica_run.proofs.TellLemmas.{checked, flattened, replayed, forest_told, table_told}
 use Rattle.altarica_run.proofs.telling.tell.Goals as goal
 
 pub returns-in-Check : goal.returns-in-Check
@@ -38,3 +38,9 @@ print_forest-requires-clause-inside g c = c.requires.forest.own
 
 pub print_forest-requires-clause-few : goal.print_forest-requires-clause-few
 print_forest-requires-clause-few g c = let few = c.requires.forest.few in omega (arith, few)
+
+pub returns-in-Equations : goal.returns-in-Equations
+returns-in-Equations g c = λ job w is.
+    let e = is.command ∙ ap verb_of c.in-Equations.is in
+    table_told job w c.args.prepared.now is e (is.table.own (ap has_table e)) _ c.deref-in-Equations.ensures.value _ _
+    c.written-in-Equations.ensures c.print-in-Equations.ensures

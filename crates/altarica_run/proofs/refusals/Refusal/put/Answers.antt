@@ -21,3 +21,9 @@ returns-in-NoEvent g c = writes_as _ _ (ap line_of (sym c.in-NoEvent.is)) c.put_
 
 pub returns-in-NoDropped : goal.returns-in-NoDropped
 returns-in-NoDropped g c = writes_as _ _ (ap line_of (sym c.in-NoDropped.is)) c.put-in-NoDropped.ensures
+
+pub returns-in-NoObserver : goal.returns-in-NoObserver
+returns-in-NoObserver g c = writes_as _ _ (ap line_of (sym c.in-NoObserver.is)) c.put-in-NoObserver.ensures
+
+pub returns-in-NoValue : goal.returns-in-NoValue
+returns-in-NoValue g c = writes_as _ _ (ap line_of (sym c.in-NoValue.is)) c.put-in-NoValue.ensures

@@ -1,0 +1,92 @@
+//! The observer and the value that a job asks for, and the gate table.
+
+ghost use Rattle.std.specs.Prelude.{◌≡◌, ℕ, true, IfOk};
+ghost use Rattle.ar_base.specs.Stages.{Where};
+ghost use Rattle.gts_flatten.specs.Elaborating.{Elaborated};
+ghost use Rattle.gts_flatten.specs.Flat.{IsFlat};
+ghost use Rattle.run_words.specs.declared.verbs.Verb.{Verb};
+ghost use Rattle.altarica_run.specs.Passing.{IsStageOf, IsFlattened, AreWanted, HasObserver, HasTable, IsForestOf, IsTheTable, IsThere, ReadsWanted};
+ghost use Rattle.altarica_run.specs.Stages.{Ready, Tabled, has_table};
+
+use crate::stages::Flattened;
+use crate::stops::Stop;
+use ar_base::Text;
+use eq_core::{Equations, Operand};
+use gts_core::Gts;
+use mode_forests::Forest;
+use std::alloc::Global;
+use table_text::event_texts;
+use table_text::laws::tables_of_the_source;
+use tree_equations::equations;
+use wanted_values::{Wanted, read_wanted};
+
+/// The gate table of a system, and what its events are called.
+#[derive(Drop)]
+pub struct TheTable {
+    /// The gates, with the operands of the conflict and of the observer's value.
+    pub equations: Equations,
+    /// The canonical paths of the events.
+    pub events: Vec<Text>,
+}
+
+/// The observer and its value that the words ask for, where they have an observer.
+pub fn wanted_of(
+    alloc: Global,
+    flattened: &Flattened,
+    observer: &Option<Text>,
+    value: &Option<Text>,
+) -> Result<Option<Wanted>, Stop>
+    requires { (x : Elaborated) × IsFlattened x flattened.now }
+    ensures { (x : Elaborated) → IsFlattened x flattened.now
+        → IsStageOf (AreWanted flattened.now.system) (ReadsWanted observer.now value.now x) result }
+{
+    match observer {
+        Some(path) => {
+            let bytes = path.as_str().as_bytes();
+            let wanted = read_wanted(alloc, &flattened.tree, &flattened.system, bytes, value)?;
+            Ok(Some(wanted))
+        }
+        None => Ok(None),
+    }
+}
+
+/// The gate table of the system by the trees of its modes, for what is asked for; an empty one where nothing is.
+pub fn table_of(
+    alloc: Global,
+    system: &Gts,
+    forest: &Forest,
+    wanted: Option<Wanted>,
+) -> Result<TheTable, Stop>
+    requires { HasObserver system.now wanted }
+    ensures { (command : Verb) (w : Ready) → IsFlat w.source system.now → w.wanted ≡ wanted
+        → IsThere (has_table command) wanted
+        → (has_table command ≡ true → IsForestOf system.now w.dropped forest.now)
+        → IsStageOf (HasTable command system.now) (Where (has_table command) Tabled w) result }
+{
+    match wanted {
+        Some(wanted) => tabled(alloc, system, forest, wanted),
+        None => Ok(TheTable {
+            equations: Equations {
+                gates: Vec::new(alloc),
+                conflict: Operand::Never,
+                top: Operand::Never,
+            },
+            events: Vec::new(alloc),
+        }),
+    }
+}
+
+// The gate table for an observer and its value.
+fn tabled(alloc: Global, system: &Gts, forest: &Forest, wanted: Wanted) -> Result<TheTable, Stop>
+    requires { HasObserver system.now (Some wanted) }
+    ensures { (command : Verb) (w : Ready) → IsFlat w.source system.now → w.wanted ≡ Some wanted
+        → IsForestOf system.now w.dropped forest.now
+        → IsStageOf (HasTable command system.now) (Tabled w) result }
+{
+    // The system has a table, and it is that of its source.
+    tables_of_the_source();
+    let parts = system.parts();
+    let equations = equations(alloc, system, forest, wanted.observer, wanted.value)?;
+    let events = event_texts(alloc, parts)?;
+    Ok(TheTable { equations, events })
+}

@@ -214,15 +214,13 @@ module _ (job : Job) (w : Ready) (p : GtsParts) where
         (Ok (record { task = t; system = p; commands = commands; forest = f; table = made }))
     all_ready t e flat commands are made h =
         let u : h.0 ≡ w = same_tabled (has_table job.command) w h.0 h.1 in
-        stage_passes stop_told trees table w has_trees (IsReady job) w _ passes_trees
-        (
-          w,
-          subst (λ (z : Ready). table w (Ok z)) u h.1,
-          record {
-            command = e;
-            flat = flat;
-            commands = are;
-            forest = forest_here;
-            table = subst (λ (z : Ready). HasTable job.command p z made) u h.2;
-          },
-        )
+        let done : Prepared = record { task = t; system = p; commands = commands; forest = f; table = made } in
+        let is : IsReady job w done = record {
+          command = e;
+          flat = flat;
+          commands = are;
+          forest = forest_here;
+          table = subst (λ (z : Ready). HasTable job.command p z made) u h.2;
+        } in
+        let passed : table w (Ok w) = subst (λ (z : Ready). table w (Ok z)) u h.1 in
+        stage_passes stop_told trees table w has_trees (IsReady job) w (Ok done) passes_trees (w, passed, is)

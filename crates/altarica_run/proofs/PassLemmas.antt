@@ -120,7 +120,8 @@ wants_good : (b : Bool) (observer word : Option (List ℕ)) (w : Ready) (given :
 wants_good true observer word w given e there (passing.not_asked i) =
     let k : None ≡ Some there.0 = sym i ∙ there.1 in cc
 wants_good true observer word w given e there (passing.wants {w = v} i h) = (stages.wants i h, (v, refl))
-wants_good false observer word w given e there (passing.not_asked i) = (cc, refl)
+wants_good false observer word w given e there (passing.not_asked i) =
+    (subst (λ (z : Option Wanted). (let r : Result Ready Refusal = Ok (record w { wanted = z }) in r ≡ Ok w)) e refl, refl)
 wants_good false observer word w given e there (passing.wants {path = path} i h) =
     let k : None ≡ Some path = sym there ∙ i in cc
 

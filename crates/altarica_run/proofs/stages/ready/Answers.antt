@@ -1,4 +1,4 @@
-use Rattle.std.proofs.Common.{List, [], ◌∷◌, ℕ, sym, subst}
+use Rattle.std.proofs.Common.{List, [], ◌∷◌, ℕ, Ok, Err, sym, subst}
 use Rattle.std.proofs.lemmas.Result.{err_from_is_err_and}
 use Rattle.ar_base.proofs.Stages.{stage_stops, stage_passes}
 use Rattle.gts_flatten.specs.Elaborating.{Elaborated}
@@ -6,6 +6,7 @@ use Rattle.gts_flatten.specs.Flat.{IsFlat}
 use Rattle.altarica_run.specs.Loading.{script_texts}
 use Rattle.altarica_run.specs.Passing.{stop_told, IsRequested, IsReady}
 use Rattle.altarica_run.specs.Stages.{Asks, Demands}
+use Rattle.altarica_run.specs.declared.stages.Prepared.{Prepared}
 use Rattle.altarica_run.proofs.ForestLemmas.{forest_at, forest_stops, forest_here, table_there, table_trees, table_stops, all_ready}
 use Rattle.altarica_run.proofs.stages.ready.Goals as goal
 
@@ -30,7 +31,7 @@ returns-in_err-forest c = λ model x of.
     let f = c.in_ok-request.ensures model x of in
     let flat = subst (λ (z : Elaborated). IsFlat z p) (sym f.2.source) of.flat in
     let h = rw c.deref.ensures.value at c.in_err-forest.ensures f.0 flat in
-    let k = forest_at job.command c.args.asked.now.task c.requires.command f.0 p _ (h f.2.dropped.are) in
+    let k = forest_at job.command c.args.asked.now.task c.requires.command f.0 p (Err c.in_err-forest.field-0.0) (h f.2.dropped.are) in
     stage_passes stop_told (Asks job (model ∷ script_texts c.args.script.now)) (Demands job.command) x
     (IsRequested job.command x p) (IsReady job) f.0 _ f.1 (forest_stops job f.0 p _ _ _ r.1 r.2 k)
 
@@ -49,7 +50,7 @@ returns-in_err-table c = λ model x of.
     let f = c.in_ok-request.ensures model x of in
     let flat = subst (λ (z : Elaborated). IsFlat z p) (sym f.2.source) of.flat in
     let h = rw c.deref.ensures.value at c.in_ok-forest.ensures f.0 flat in
-    let k = forest_at job.command t c.requires.command f.0 p _ (h f.2.dropped.are) in
+    let k = forest_at job.command t c.requires.command f.0 p (Ok c.in_ok-forest.forest) (h f.2.dropped.are) in
     let trees = forest_here job f.0 p c.in_ok-forest.forest k in
     let there = table_there job.command t c.requires.command c.in_ok-request.request.wanted f.2.there in
     let l = c.in_err-table.ensures job.command f.0 flat f.2.wanted.are there (table_trees job.command p f.0 c.in_ok-forest.forest trees) in
@@ -64,10 +65,11 @@ returns c = λ model x of.
     let f = c.in_ok-request.ensures model x of in
     let flat = subst (λ (z : Elaborated). IsFlat z p) (sym f.2.source) of.flat in
     let h = rw c.deref.ensures.value at c.in_ok-forest.ensures f.0 flat in
-    let k = forest_at job.command t c.requires.command f.0 p _ (h f.2.dropped.are) in
+    let k = forest_at job.command t c.requires.command f.0 p (Ok c.in_ok-forest.forest) (h f.2.dropped.are) in
     let trees = forest_here job f.0 p c.in_ok-forest.forest k in
     let there = table_there job.command t c.requires.command c.in_ok-request.request.wanted f.2.there in
+    let made : Prepared = record { task = t; system = p; commands = c.in_ok-request.request.commands; forest = c.in_ok-forest.forest; table = c.in_ok-table.table } in
     let l = c.in_ok-table.ensures job.command f.0 flat f.2.wanted.are there (table_trees job.command p f.0 c.in_ok-forest.forest trees) in
     stage_passes stop_told (Asks job (model ∷ script_texts c.args.script.now)) (Demands job.command) x
-    (IsRequested job.command x p) (IsReady job) f.0 _ f.1
+    (IsRequested job.command x p) (IsReady job) f.0 (Ok made) f.1
     (all_ready job f.0 p c.in_ok-forest.forest k t c.requires.command flat c.in_ok-request.request.commands f.2.commands c.in_ok-table.table l)

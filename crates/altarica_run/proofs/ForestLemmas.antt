@@ -1,5 +1,5 @@
 -- The dropped events and the forest of a job.
-use Rattle.std.proofs.Common.{◌≡◌, ◌≤◌, ◌⊎◌, ⊎_elim, ℕ, Bool, true, false, List, [], Option, Result, Ok, Err, Vec, map, refl, sym, ◌∙◌, ap, subst, arith}
+use Rattle.std.proofs.Common.{◌≡◌, ◌⊎◌, ⊎_elim, ℕ, Bool, true, false, List, [], Option, Result, Ok, Err, Vec, map, refl, sym, ◌∙◌, ap, subst, arith}
 use Rattle.std.specs.Global.{Global}
 use Rattle.ar_base.specs.Lists.{IsOneOf}
 use Rattle.ar_base.specs.Numbers.{EventId}
@@ -9,7 +9,7 @@ use Rattle.ar_base.proofs.Stages.{stage_stops, stage_passes}
 use Rattle.ar_base.proofs.Standing.{one_none}
 use Rattle.typed_expr.specs.Pairs.{turned}
 use Rattle.ar_meaning.specs.Systems.{System}
-use Rattle.ar_meaning.specs.FlatOf.{IsNumber, IsFlatOf}
+use Rattle.ar_meaning.specs.FlatOf.{IsNumber}
 use Rattle.ar_meaning.specs.TraceText.{Naming}
 use Rattle.ar_meaning.proofs.FlatSystems.{flat_back}
 use Rattle.ar_firing.specs.Rules.{Rule, number_of, Spot, AtEvent, AtUnit, AtVariable, AtObserver, AtWhole, IsFirstBroken, KeepsAll}
@@ -41,8 +41,8 @@ use Rattle.altarica_run.specs.declared.refusals.Refusal.{Refusal}
 use Rattle.altarica_run.specs.declared.refusals.Refusal.TheVariants.{Outside}
 use Rattle.altarica_run.specs.declared.stages.Prepared.{Prepared}
 use Rattle.altarica_run.specs.declared.stops.Stop.{Stop}
-use Rattle.altarica_run.specs.declared.stops.Stop.TheVariants.{Refused, Memory}
-use Rattle.altarica_run.specs.declared.tabling.TheTable.{TheTable}
+use Rattle.altarica_run.specs.declared.stops.Stop.TheVariants.{Refused}
+use Rattle.altarica_run.specs.declared.tabling.GateTable.{GateTable}
 
 -- no dropped events
 pub none_dropped : (p : GtsParts) (events : List EventId) → events ≡ [] → AreDropped p [] events
@@ -201,14 +201,14 @@ module _ (job : Job) (w : Ready) (p : GtsParts) where
     forest_here = subst (λ (z : Ready). HasForest job.command p z.dropped f) keeps_ready given.2
 
     pub table_stops : (r : Result Prepared Stop) (d s : Stop) → r ≡ Err d → d ≡ s
-        → IsStageOf {X = TheTable} (HasTable job.command p) (table w) (Err s)
+        → IsStageOf {X = GateTable} (HasTable job.command p) (table w) (Err s)
         → IsStageOf (IsReady job) (Demands job.command w) r
     table_stops r d s i j h =
         stage_passes stop_told trees table w has_trees (IsReady job) w r passes_trees
         (subst (λ (z : Result Prepared Stop). IsStageOf (IsReady job) (table w) z) (sym (i ∙ ap Err j)) h)
 
     pub all_ready : (t : Task) → job.command ≡ verb_of t → IsFlat w.source p → (commands : Vec Command Global)
-        → AreCommands p w.commands commands → (made : TheTable)
+        → AreCommands p w.commands commands → (made : GateTable)
         → IsStageOf (HasTable job.command p) (table w) (Ok made)
         → IsStageOf (IsReady job) (Demands job.command w)
         (Ok (record { task = t; system = p; commands = commands; forest = f; table = made }))

@@ -178,7 +178,7 @@ module _ (job : Job) (model : List ℕ) (x : Elaborated) (p : GtsParts) (s : Opt
           let k = wants_good (needs_observer job.command) job.observer job.value (with_dropped x cs events) wanted refl seen h in (
             record { source = x; commands = cs; dropped = events; wanted = wanted },
             then.passes (with_commands x cs) script_passed
-            (then.passes (with_dropped x cs events) (drops_good job.dropped x cs events named) k.0),
+                (then.passes (with_dropped x cs events) (drops_good job.dropped x cs events named) k.0),
             record {
               source = refl;
               commands = are;

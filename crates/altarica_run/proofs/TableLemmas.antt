@@ -1,5 +1,5 @@
 -- The gate table of a job.
-use Rattle.std.proofs.Common.{◌≡◌, ◌<◌, ◌≤◌, ℕ, Bool, true, false, List, Option, Some, None, Result, Ok, Err, length, slice_get, refl, sym, ◌∙◌, ap, subst, arith}
+use Rattle.std.proofs.Common.{◌≡◌, ◌≤◌, ℕ, Bool, true, false, List, Option, Some, None, Result, Ok, Err, length, slice_get, refl, sym, ◌∙◌, ap, subst, arith}
 use Rattle.std.proofs.lemmas.List.{length-map}
 use Rattle.ar_base.specs.Lists.{Stands}
 use Rattle.ar_base.specs.Stages.{Where}
@@ -26,11 +26,11 @@ use Rattle.tree_equations.specs.Gives as gives
 use Rattle.tree_equations.specs.declared.fault.EqFault.{EqFault}
 use Rattle.tree_equations.specs.declared.fault.EqFault.TheVariants as table
 use Rattle.wanted_values.specs.declared.wanting.Wanted.{Wanted}
-use Rattle.altarica_run.specs.Passing.{stop_of_table, IsStageOf, IsThere, IsForestOf, IsTheTable, HasTable}
+use Rattle.altarica_run.specs.Passing.{stop_of_table, IsStageOf, IsThere, IsForestOf, HasTable}
 use Rattle.altarica_run.specs.Stages.{Ready, Tabled, fits, exceeds, has_table, IsTableOf}
 use Rattle.altarica_run.specs.declared.stops.Stop.{Stop}
 use Rattle.altarica_run.specs.declared.stops.Stop.TheVariants.{Memory}
-use Rattle.altarica_run.specs.declared.tabling.TheTable.{TheTable}
+use Rattle.altarica_run.specs.declared.tabling.GateTable.{GateTable}
 
 -- What is asked for
 
@@ -44,7 +44,7 @@ not_there true given there e = let k : None ≡ Some there.0 = sym e ∙ there.1
 not_there false given there e = refl
 
 -- no table where the command asks for none
-pub none_tabled : (v : Verb) (p : GtsParts) (w : Ready) (made : TheTable) → has_table v ≡ false
+pub none_tabled : (v : Verb) (p : GtsParts) (w : Ready) (made : GateTable) → has_table v ≡ false
     → IsStageOf (HasTable v p) (Where (has_table v) Tabled w) (Ok made)
 none_tabled v p w made e = (
   w,
@@ -79,16 +79,16 @@ module _ (v : Verb) (p : GtsParts) (w : Ready) (f : Forest) (wanted : Wanted) (o
 
   pub table_refused : ((n : ℕ) (o : Observer) → Stands p.observers.items n o → (ts : List ModeTree) (value : Value)
       → SomeTableOf (net_of p) ts (numbered o.value) value)
-      → (r : Result TheTable Stop) (d : Stop) (e : EqFault) → r ≡ Err d → d ≡ stop_of_table e
+      → (r : Result GateTable Stop) (d : Stop) (e : EqFault) → r ≡ Err d → d ≡ stop_of_table e
       → ((let z : Result Equations EqFault = Err e in z ≡ Err table.Gates)
       → AtObserver (slice_get p.observers.items wanted.observer) (NeedsTooMany p f wanted.value))
       → IsStageOf (HasTable v p) (Tabled w) r
   table_refused some r d e i j h =
-      subst (λ (z : Result TheTable Stop). IsStageOf (HasTable v p) (Tabled w) z) (sym (i ∙ ap Err j)) (go e h)
+      subst (λ (z : Result GateTable Stop). IsStageOf (HasTable v p) (Tabled w) z) (sym (i ∙ ap Err j)) (go e h)
     where
       go : (e : EqFault) → ((let z : Result Equations EqFault = Err e in z ≡ Err table.Gates)
           → AtObserver (slice_get p.observers.items wanted.observer) (NeedsTooMany p f wanted.value))
-          → IsStageOf {X = TheTable} (HasTable v p) (Tabled w) (Err (stop_of_table e))
+          → IsStageOf {X = GateTable} (HasTable v p) (Tabled w) (Err (stop_of_table e))
       go table.Gates h =
           let t = some wanted.observer at.0 at.1 (trees_of (number_in p) f) wanted.value in
           let many = at_observer _ at.0 (NeedsTooMany p f wanted.value) at.1 (h refl) in
@@ -97,7 +97,7 @@ module _ (v : Verb) (p : GtsParts) (w : Ready) (f : Forest) (wanted : Wanted) (o
 
   pub table_given : (q : Equations)
       → AtObserver (slice_get p.observers.items wanted.observer) (gives.IsTableOf p f wanted.value (table_of q))
-      → length q.gates.items ≤ most_gates → (made : TheTable) → made.equations ≡ q
+      → length q.gates.items ≤ most_gates → (made : GateTable) → made.equations ≡ q
       → made.events.items ≡ (naming_of_parts p).events
       → IsStageOf (HasTable v p) (Tabled w) (Ok made)
   table_given q h few made e names =
@@ -116,7 +116,7 @@ module _ (v : Verb) (p : GtsParts) (w : Ready) (f : Forest) (wanted : Wanted) (o
       )
 
 -- want of memory
-pub memory_refused : (v : Verb) (p : GtsParts) (w : Ready) (r : Result TheTable Stop) (d : Stop) → r ≡ Err d
+pub memory_refused : (v : Verb) (p : GtsParts) (w : Ready) (r : Result GateTable Stop) (d : Stop) → r ≡ Err d
     → d ≡ Memory → IsStageOf (HasTable v p) (Tabled w) r
 memory_refused v p w r d i j =
-    subst (λ (z : Result TheTable Stop). IsStageOf (HasTable v p) (Tabled w) z) (sym (i ∙ ap Err j)) tt
+    subst (λ (z : Result GateTable Stop). IsStageOf (HasTable v p) (Tabled w) z) (sym (i ∙ ap Err j)) tt

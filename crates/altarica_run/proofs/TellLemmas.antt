@@ -25,7 +25,7 @@ use Rattle.replayer.specs.declared.replaying.End.{End}
 use Rattle.replayer.specs.declared.replaying.ReplayFault.{ReplayFault}
 use Rattle.run_words.specs.declared.jobs.Job.{Job}
 use Rattle.run_words.specs.declared.verbs.Verb.TheVariants.{Check, Flat, Replay, Fragment, Equations}
-use Rattle.altarica_run.specs.Passing.{IsReady, IsTheTable}
+use Rattle.altarica_run.specs.Passing.{IsReady, IsGateTable}
 use Rattle.altarica_run.specs.Stages.{Ready}
 use Rattle.altarica_run.specs.Telling.{status_written, status_replayed, IsWritten, whole, cut, stopped}
 use Rattle.altarica_run.specs.Tells.{counts_line, check_text, status_at, Tells, check, flat, replay, fragment, equations}
@@ -92,7 +92,7 @@ module _ (job : Job) (w : Ready) (p : Prepared) (is : IsReady job w p) where
   forest_told e t s r k h =
       text_written (Tells job w) (forest_text p.system p.forest) Done s r k (fragment e t) h
 
-  pub table_told : {old new : SinkState} → job.command ≡ Equations → IsTheTable p.system w p.table
+  pub table_told : {old new : SinkState} → job.command ≡ Equations → IsGateTable p.system w p.table
       → (events : List (List ℕ)) → events ≡ p.table.events.items → (s : Status) (r : Result (Unit {0}) SinkFailed)
       → s ≡ status_written Done r → Writes old new (equations_text events (table_of p.table.equations)) r
       → IsWritten (Tells job w) old new s

@@ -53,7 +53,7 @@ use Rattle.altarica_run.specs.declared.stages.Prepared.{Prepared}
 use Rattle.altarica_run.specs.declared.stages.Request.{Request}
 use Rattle.altarica_run.specs.declared.stops.Stop.{Stop}
 use Rattle.altarica_run.specs.declared.stops.Stop.TheVariants.{Refused, Memory}
-use Rattle.altarica_run.specs.declared.tabling.TheTable.{TheTable}
+use Rattle.altarica_run.specs.declared.tabling.GateTable.{GateTable}
 
 -- Faults as stops
 
@@ -195,15 +195,15 @@ pub record HasForest (v : Verb) (p : GtsParts) (dropped : List ℕ) (forest : Fo
 -- The gate table
 
 -- the gates are those of the source's table, and the events are called by their paths
-pub record IsTheTable (p : GtsParts) (w : Ready) (t : TheTable) : Type 0 where
+pub record IsGateTable (p : GtsParts) (w : Ready) (t : GateTable) : Type 0 where
   pub wanted : Wanted
   pub are : w.wanted ≡ Some wanted
   pub is_table : IsTableOf w.source w.dropped wanted (table_of t.equations)
   pub events : t.events.items ≡ (naming_of_parts p).events
 
 -- the table is the source's own where the command asks for it
-pub record HasTable (v : Verb) (p : GtsParts) (w : Ready) (t : TheTable) : Type 0 where
-  pub own : has_table v ≡ true → IsTheTable p w t
+pub record HasTable (v : Verb) (p : GtsParts) (w : Ready) (t : GateTable) : Type 0 where
+  pub own : has_table v ≡ true → IsGateTable p w t
 
 -- The job
 

@@ -69,14 +69,16 @@ pub data Drops (list : Option (List ℕ)) (w : Ready) : Result Ready Refusal →
 
 -- The observer and its value
 
--- the observer that the path names with the value of its type that the word writes, or that the path names none, or that
--- no value is asked for
+-- the observer that the path names with the value of its type that the word writes, or that the path names none, or
+-- that no value is asked for
 pub data Wanting (observer word : Option (List ℕ)) (w : Ready) : Result Ready Refusal → Type 0 where
   wants : {path : List ℕ} {wanted : Wanted} → observer ≡ Some path
       → IsWanted w.source path word wanted.observer wanted.value
       → Wanting observer word w (Ok (record w { wanted = Some wanted }))
-  no_observer : {path : List ℕ} → observer ≡ Some path → NamesNone w.source path → Wanting observer word w (Err NoObserver)
-  no_value : {path : List ℕ} → observer ≡ Some path → WantsNone w.source path word → Wanting observer word w (Err NoValue)
+  no_observer : {path : List ℕ} → observer ≡ Some path → NamesNone w.source path
+      → Wanting observer word w (Err NoObserver)
+  no_value : {path : List ℕ} → observer ≡ Some path → WantsNone w.source path word
+      → Wanting observer word w (Err NoValue)
 
 -- what the words and the script ask of the system
 abbrev pub Asks : Job → List (List ℕ) → Elaborated → Result Ready Refusal → Type 0

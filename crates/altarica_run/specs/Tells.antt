@@ -52,5 +52,6 @@ pub data Tells (job : Job) (w : Ready) : List ℕ → Status → Type 0 where
   fragment : {text : List ℕ} → job.command ≡ Fragment
       → IsForestText (naming_of w.source.declarations) w.source.system w.dropped text → Tells job w text Done
   equations : {text : List ℕ} {wanted : Wanted} → job.command ≡ Equations → w.wanted ≡ Some wanted
-      → IsTableText (variables w.source.declarations.model w.source.declarations.units) (naming_of w.source.declarations)
-      w.source.system w.dropped wanted.observer wanted.value text → Tells job w text Done
+      → IsTableText (variables w.source.declarations.model w.source.declarations.units)
+      (naming_of w.source.declarations) w.source.system w.dropped wanted.observer wanted.value text
+      → Tells job w text Done

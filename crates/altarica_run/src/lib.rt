@@ -1,8 +1,8 @@
 //! The program's one call: the job of the words, over a shelf of files and a sink for the text.
 //!
 //! The stages are joined here: the words, the files, the grammar, the table, the units, the bound
-//! forms, the flat system, the script, the dropped events, the observer with its value, the static fragment
-//! and the gate table, and then the text of the command.
+//! forms, the flat system, the script, the dropped events, the observer with its value, the static
+//! fragment and the gate table, and then the text of the command.
 #![tactic(auto)]
 
 mod analysing;

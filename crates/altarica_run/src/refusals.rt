@@ -42,7 +42,7 @@ pub enum Refusal {
     NoDropped,
     /// The path names no observer.
     NoObserver,
-    /// The word is no value of the observer's type, or there is none and the observer is not Boolean.
+    /// The word is no value of the observer's type, or is missing where it is not Boolean.
     NoValue,
     /// The system breaks the rule of this number of the static fragment, as the thing of this path shows.
     Outside(u8, Text),

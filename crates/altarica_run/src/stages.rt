@@ -19,7 +19,7 @@ use crate::analysing::{dropped_of, forest_of};
 use crate::jobs::{Asked, Task, job_of};
 use crate::loading::{Texts, load_all};
 use crate::stops::Stop;
-use crate::tabling::{TheTable, table_of, wanted_of};
+use crate::tabling::{GateTable, table_of, wanted_of};
 use ar_base::{EventId, RuleFault, Text};
 use ar_io::Shelf;
 use ar_parser::parse;
@@ -49,7 +49,7 @@ pub struct Prepared {
     /// The trees of modes, without the dropped events; none where the command asks for none.
     pub forest: Forest,
     /// The gate table, by the trees; an empty one where the command asks for none.
-    pub table: TheTable,
+    pub table: GateTable,
 }
 
 /// What the words and the script ask of a system.

@@ -5,7 +5,7 @@ ghost use Rattle.ar_base.specs.Stages.{Where};
 ghost use Rattle.gts_flatten.specs.Elaborating.{Elaborated};
 ghost use Rattle.gts_flatten.specs.Flat.{IsFlat};
 ghost use Rattle.run_words.specs.declared.verbs.Verb.{Verb};
-ghost use Rattle.altarica_run.specs.Passing.{IsStageOf, IsFlattened, AreWanted, HasObserver, HasTable, IsForestOf, IsTheTable, IsThere, ReadsWanted};
+ghost use Rattle.altarica_run.specs.Passing.{IsStageOf, IsFlattened, AreWanted, HasObserver, HasTable, IsForestOf, IsGateTable, IsThere, ReadsWanted};
 ghost use Rattle.altarica_run.specs.Stages.{Ready, Tabled, has_table};
 
 use crate::stages::Flattened;
@@ -22,7 +22,7 @@ use wanted_values::{Wanted, read_wanted};
 
 /// The gate table of a system, and what its events are called.
 #[derive(Drop)]
-pub struct TheTable {
+pub struct GateTable {
     /// The gates, with the operands of the conflict and of the observer's value.
     pub equations: Equations,
     /// The canonical paths of the events.
@@ -50,13 +50,14 @@ pub fn wanted_of(
     }
 }
 
-/// The gate table of the system by the trees of its modes, for what is asked for; an empty one where nothing is.
+/// The gate table of the system by the trees of its modes, for what is asked for; an empty one
+/// where nothing is.
 pub fn table_of(
     alloc: Global,
     system: &Gts,
     forest: &Forest,
     wanted: Option<Wanted>,
-) -> Result<TheTable, Stop>
+) -> Result<GateTable, Stop>
     requires { HasObserver system.now wanted }
     ensures { (command : Verb) (w : Ready) → IsFlat w.source system.now → w.wanted ≡ wanted
         → IsThere (has_table command) wanted
@@ -65,7 +66,7 @@ pub fn table_of(
 {
     match wanted {
         Some(wanted) => tabled(alloc, system, forest, wanted),
-        None => Ok(TheTable {
+        None => Ok(GateTable {
             equations: Equations {
                 gates: Vec::new(alloc),
                 conflict: Operand::Never,
@@ -77,7 +78,7 @@ pub fn table_of(
 }
 
 // The gate table for an observer and its value.
-fn tabled(alloc: Global, system: &Gts, forest: &Forest, wanted: Wanted) -> Result<TheTable, Stop>
+fn tabled(alloc: Global, system: &Gts, forest: &Forest, wanted: Wanted) -> Result<GateTable, Stop>
     requires { HasObserver system.now (Some wanted) }
     ensures { (command : Verb) (w : Ready) → IsFlat w.source system.now → w.wanted ≡ Some wanted
         → IsForestOf system.now w.dropped forest.now
@@ -88,5 +89,5 @@ fn tabled(alloc: Global, system: &Gts, forest: &Forest, wanted: Wanted) -> Resul
     let parts = system.parts();
     let equations = equations(alloc, system, forest, wanted.observer, wanted.value)?;
     let events = event_texts(alloc, parts)?;
-    Ok(TheTable { equations, events })
+    Ok(GateTable { equations, events })
 }

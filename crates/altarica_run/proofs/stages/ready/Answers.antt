@@ -1,4 +1,4 @@
-use Rattle.std.proofs.Common.{List, [], ◌∷◌, ℕ, Ok, Err, sym, subst}
+use Rattle.std.proofs.Common.{[], ◌∷◌, Ok, Err, sym, subst}
 use Rattle.std.proofs.lemmas.Result.{err_from_is_err_and}
 use Rattle.ar_base.proofs.Stages.{stage_stops, stage_passes}
 use Rattle.gts_flatten.specs.Elaborating.{Elaborated}

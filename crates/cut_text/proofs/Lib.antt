@@ -1,0 +1,10 @@
+mod Pieces
+mod TableLemmas
+mod Firing
+mod Fault
+mod Known
+mod Answering
+mod Relabelled
+mod InSystem
+mod FlatLines
+mod Source

@@ -1,0 +1,112 @@
+//! What follows from the definitions of the texts of cuts and of conflicts.
+
+ghost use Rattle.std.specs.Prelude.{ℕ, Bool, List, [], ◌∷◌, reverse};
+ghost use Rattle.ar_base.specs.Lists.{IsOneOf};
+ghost use Rattle.domains.specs.declared.Value.{Value};
+ghost use Rattle.typed_expr.specs.Yields.{Yields};
+ghost use Rattle.typed_expr.specs.declared.expr.Expr.{Expr, out-Expr};
+ghost use Rattle.ar_meaning.specs.Systems.{System};
+ghost use Rattle.ar_meaning.specs.Facts.{HasValue};
+ghost use Rattle.ar_meaning.specs.Flows.{FlowFault};
+ghost use Rattle.ar_meaning.specs.Runs.{Label};
+ghost use Rattle.ar_meaning.specs.Image.{Expr_renames};
+ghost use Rattle.ar_meaning.specs.FlatOf.{IsNumber};
+ghost use Rattle.ar_firing.specs.Static.{IsKeyedStatic};
+ghost use Rattle.ar_firing.specs.Cuts.{Reaches, Conflicts, Cut, ConflictSet, IsConflictFree};
+ghost use Rattle.ar_firing.specs.Forest.{IsForest, IsLine};
+ghost use Rattle.ar_firing.specs.Listed.{AreListed};
+ghost use Rattle.ar_firing.specs.Operands.{Agrees};
+ghost use Rattle.ar_firing.specs.Trees.{AreTrees};
+ghost use Rattle.gts_core.specs.declared.system.GtsParts.{GtsParts};
+ghost use Rattle.gts_flatten.specs.Elaborating.{Elaborated};
+ghost use Rattle.gts_flatten.specs.Flat.{naming_of};
+ghost use Rattle.hierarchy.specs.Units.{Thing};
+ghost use Rattle.mode_forests.specs.Views.{trees_of};
+ghost use Rattle.mode_forests.specs.declared.forests.Forest.{Forest as TheForest};
+ghost use Rattle.min_cuts.specs.Lines.{AreInFiringOrder};
+ghost use Rattle.min_cuts.specs.Sizes.{count};
+ghost use Rattle.cut_text.specs.Printed.{edges_of, labels_in, cuts_text, conflict_text, things_of};
+ghost use Rattle.cut_text.specs.Printed.{HaveOneWay, AreOfEdges, IsForestOf};
+ghost use Rattle.cut_text.specs.Texts.{IsCutText, IsConflictText};
+
+use gts_core::laws::one_system;
+
+/// In a static system's forest the trees by the numbers of their ways are trees too, edges with one
+/// event have one way, and each event of a set in firing order is that of an edge.
+pub fn edges_of_forests()
+    ensures trees { (system : System ℕ) (dropped : List ℕ) → IsKeyedStatic system dropped
+        → (number : ℕ → ℕ) (f : TheForest) → IsForest system dropped (trees_of number f)
+        → AreTrees (trees_of (λ n. n) f) }
+    ensures one_way { (system : System ℕ) (dropped : List ℕ) → IsKeyedStatic system dropped
+        → (number : ℕ → ℕ) (f : TheForest) → IsForest system dropped (trees_of number f)
+        → HaveOneWay (edges_of f.trees.items) }
+    ensures known { (f : TheForest) (sets lists : List (List ℕ))
+        → AreInFiringOrder (trees_of (λ n. n) f) sets lists
+        → AreOfEdges (edges_of f.trees.items) lists }
+{}
+
+/// The listed cuts of a flat system, each printed in firing order, have the text of the cuts of its
+/// source.
+pub fn cuts_of_the_source()
+    ensures { (x : Elaborated) (p : GtsParts) (flat : System ℕ) (dropped : List ℕ) (f : TheForest)
+        → IsForestOf x p flat dropped f → (observer : Expr Thing) (other : Expr ℕ)
+        → Expr_renames (IsNumber (things_of x)) observer other → (wanted : Value)
+        (sets lists : List (List ℕ)) → AreListed (Cut flat dropped other wanted) sets
+        → AreInFiringOrder (trees_of (λ n. n) f) sets lists
+        → IsCutText (naming_of x.declarations) x.system dropped observer wanted
+        (cuts_text p (edges_of f.trees.items) lists (count sets)) }
+{
+    one_system();
+}
+
+/// The first listed conflict set of a flat system meets a flow fault in firing order, and printed
+/// with this it has the text of the conflict of its source.
+pub fn conflicts_of_the_source()
+    ensures meets { (x : Elaborated) (p : GtsParts) (flat : System ℕ) (dropped : List ℕ)
+        (f : TheForest) → IsForestOf x p flat dropped f → (other : Expr ℕ) (wanted : Value)
+        (conflict top : List ℕ → Bool) → Agrees flat dropped other wanted conflict top
+        → (set : List ℕ) (sets : List (List ℕ)) (events : List ℕ) (lists : List (List ℕ))
+        → AreListed (ConflictSet flat dropped) (set ∷ sets)
+        → AreInFiringOrder (trees_of (λ n. n) f) (set ∷ sets) (events ∷ lists)
+        → (fault : FlowFault)
+        × Conflicts flat dropped (reverse (labels_in p (edges_of f.trees.items) events)) fault }
+    ensures text { (x : Elaborated) (p : GtsParts) (flat : System ℕ) (dropped : List ℕ)
+        (f : TheForest) → IsForestOf x p flat dropped f
+        → (set : List ℕ) (sets : List (List ℕ)) (events : List ℕ) (lists : List (List ℕ))
+        (fault : FlowFault) → AreListed (ConflictSet flat dropped) (set ∷ sets)
+        → AreInFiringOrder (trees_of (λ n. n) f) (set ∷ sets) (events ∷ lists)
+        → Conflicts flat dropped (reverse (labels_in p (edges_of f.trees.items) events)) fault
+        → IsConflictText (naming_of x.declarations) x.system dropped
+        (conflict_text p (edges_of f.trees.items) events fault) }
+{
+    one_system();
+}
+
+/// Fired as they stand on its line, the labels of a cut reach the wanted value, in the system
+/// without the dropped events and in the whole one, where the former is static and no set meets a
+/// conflict in it.
+pub fn lines_replay<V>()
+    ensures { (sys : System V) (dropped : List ℕ) → IsKeyedStatic sys dropped
+        → (observer : Expr V) (wanted : Value) (conflict top : List ℕ → Bool)
+        → Agrees sys dropped observer wanted conflict top → IsConflictFree sys dropped
+        → (sets : List (List ℕ)) → AreListed (Cut sys dropped observer wanted) sets
+        → (set : List ℕ) → IsOneOf sets set → (ls : List Label) → IsLine sys dropped set ls
+        → (t : List Value) × Reaches sys dropped (reverse ls) t × Reaches sys [] (reverse ls) t
+        × Yields (HasValue sys.net t) (out-Expr V observer) wanted }
+{}
+
+/// The same of a source, by tests of its flat system.
+pub fn lines_of_the_source_replay()
+    ensures { (x : Elaborated) (p : GtsParts) (flat : System ℕ) (dropped : List ℕ) (f : TheForest)
+        → IsForestOf x p flat dropped f → (observer : Expr Thing) (other : Expr ℕ)
+        → Expr_renames (IsNumber (things_of x)) observer other
+        → (wanted : Value) (conflict top : List ℕ → Bool)
+        → Agrees flat dropped other wanted conflict top → IsConflictFree flat dropped
+        → (sets : List (List ℕ)) → AreListed (Cut x.system dropped observer wanted) sets
+        → (set : List ℕ) → IsOneOf sets set → (ls : List Label) → IsLine x.system dropped set ls
+        → (t : List Value) × Reaches x.system dropped (reverse ls) t
+        × Reaches x.system [] (reverse ls) t
+        × Yields (HasValue x.system.net t) (out-Expr Thing observer) wanted }
+{
+    one_system();
+}

@@ -1,0 +1,235 @@
+// The lines of sets of events.
+
+ghost use Rattle.std.specs.Prelude.{◌≡◌, ◌++◌, ℕ, List, ◌∷◌, true, false, codes, decimal, reverse};
+ghost use Rattle.ar_base.specs.Texts.{line, separated};
+ghost use Rattle.ar_io.specs.Writing.{Writes};
+ghost use Rattle.ar_meaning.specs.Flows.{FlowFault as MetFault};
+ghost use Rattle.ar_meaning.specs.Systems.{System};
+ghost use Rattle.ar_meaning.specs.TraceText.{flow_fault_text};
+ghost use Rattle.ar_firing.specs.Cuts.{Conflicts};
+ghost use Rattle.flow_propagate.specs.Answers.{fault_of};
+ghost use Rattle.gts_core.specs.View.{Views};
+ghost use Rattle.gts_flatten.specs.Flat.{naming_of_parts};
+ghost use Rattle.mode_forests.specs.Ways.{OwnTheirWays};
+ghost use Rattle.replayer.specs.Flat.{way_label, IsInRange};
+ghost use Rattle.min_cuts.specs.Kept.{numbers};
+ghost use Rattle.cut_text.specs.Answers.{Prints};
+ghost use Rattle.cut_text.specs.Printed.{edges_of, labels_in, cuts_text, conflict_text};
+ghost use Rattle.cut_text.specs.Printed.{HaveOneWay, AreOfEdges};
+ghost use Rattle.cut_text.specs.Texts.{braced, count_line, fault_line};
+ghost use Rattle.cut_text.specs.Tables.{texts_at, lines_at, way_at, HasWay, HaveWays, AllHaveWays};
+
+use crate::conflicts::fault_met;
+use crate::faults::PrintFault;
+use crate::tables::event_ways;
+use ar_base::{EventId, WayId};
+use ar_io::{Sink, SinkFailed};
+use flow_propagate::FlowFault;
+use gts_core::Gts;
+use itoa::Buffer;
+use min_cuts::Lister;
+use mode_forests::Forest;
+use replayer::pieces::put;
+use replayer::{print_flow_fault, print_label};
+use std::alloc::Global;
+
+/// Writes the text of a listing of cuts: for each set of the lister, in its order, a line `{a, b}`
+/// with the labels of its events' edges as they stand in the set, and last `count N` with the number
+/// of cuts. Memory is taken before anything is written.
+pub fn print_cuts<K: Sink>(
+    alloc: Global,
+    gts: &Gts,
+    forest: &Forest,
+    mut lister: Lister,
+    count: u128,
+    out: &mut K,
+) -> Result<(), PrintFault>
+    requires own { OwnTheirWays gts.now forest.now.trees.items }
+    requires one_way { HaveOneWay (edges_of forest.now.trees.items) }
+    requires known { AreOfEdges (edges_of forest.now.trees.items) lister }
+    ensures { Prints (K.state out.old) (K.state out.new)
+        (cuts_text gts.now (edges_of forest.now.trees.items) lister count) result }
+{
+    let ways = event_ways(alloc, gts, forest)?;
+    set_lines(out, gts, &ways, &mut lister)?;
+    print_count(out, count)?;
+    Ok(())
+}
+
+/// Writes the text of the conflict of the lister's first set, `fault: {a, b}: F`: the labels of its
+/// events' edges as they stand in the set, and the flow fault that the last of them meets where they
+/// are fired in this order, or, where the set is empty, that of the start. The lister is to have such
+/// a set. Memory is taken before anything is written.
+pub fn print_conflict<K: Sink>(
+    alloc: Global,
+    gts: &Gts,
+    forest: &Forest,
+    mut lister: Lister,
+    out: &mut K,
+) -> Result<(), PrintFault>
+    requires own { OwnTheirWays gts.now forest.now.trees.items }
+    requires one_way { HaveOneWay (edges_of forest.now.trees.items) }
+    requires known { AreOfEdges (edges_of forest.now.trees.items) lister }
+    ensures { (system : System ℕ) → Views gts.now system → (dropped events : List ℕ)
+        (later : List (List ℕ)) (fault : MetFault) → lister ≡ events ∷ later
+        → Conflicts system dropped
+        (reverse (labels_in gts.now (edges_of forest.now.trees.items) events)) fault
+        → Prints (K.state out.old) (K.state out.new)
+        (conflict_text gts.now (edges_of forest.now.trees.items) events fault) result }
+{
+    let ways = event_ways(alloc, gts, forest)?;
+    // There is a first set, and it meets a fault: with none there would be nothing to write.
+    let Some(events) = lister.next() else {
+        return Ok(());
+    };
+    let Some(fault) = fault_met(alloc, gts, &ways, events)? else {
+        return Ok(());
+    };
+    fault_line(out, gts, &ways, events, fault)?;
+    Ok(())
+}
+
+// The lines of the sets that are left.
+fn set_lines<K: Sink>(
+    out: &mut K,
+    gts: &Gts,
+    ways: &[WayId],
+    lister: &mut Lister,
+) -> Result<(), SinkFailed>
+    requires { AllHaveWays gts.now ways.now lister.old }
+    ensures { Writes (K.state out.old) (K.state out.new)
+        (lines_at gts.now ways.now lister.old) result }
+{
+    while let Some(events) = lister.next() {
+        set_line(out, gts, ways, events)?;
+    }
+    Ok(())
+}
+
+// The line of a set.
+fn set_line<K: Sink>(
+    out: &mut K,
+    gts: &Gts,
+    ways: &[WayId],
+    events: &[EventId],
+) -> Result<(), SinkFailed>
+    requires { HaveWays gts.now ways.now (numbers events.now) }
+    ensures { Writes (K.state out.old) (K.state out.new)
+        (line (braced (texts_at gts.now ways.now (numbers events.now)))) result }
+{
+    set(out, gts, ways, events)?;
+    put(out, "\n")
+}
+
+// The line of a conflict.
+fn fault_line<K: Sink>(
+    out: &mut K,
+    gts: &Gts,
+    ways: &[WayId],
+    events: &[EventId],
+    fault: FlowFault,
+) -> Result<(), SinkFailed>
+    requires ways { HaveWays gts.now ways.now (numbers events.now) }
+    requires range { IsInRange gts.now fault }
+    ensures { Writes (K.state out.old) (K.state out.new)
+        (fault_line (braced (texts_at gts.now ways.now (numbers events.now)))
+        (flow_fault_text (naming_of_parts gts.now) (fault_of fault))) result }
+{
+    put(out, "fault: ")?;
+    set(out, gts, ways, events)?;
+    put(out, ": ")?;
+    print_flow_fault(gts, fault, out)?;
+    put(out, "\n")
+}
+
+// How many sets there are.
+fn print_count<K: Sink>(out: &mut K, count: u128) -> Result<(), SinkFailed>
+    ensures { Writes (K.state out.old) (K.state out.new) (count_line count) result }
+{
+    put(out, "count ")?;
+    number(out, count)?;
+    put(out, "\n")
+}
+
+// A number.
+fn number<K: Sink>(out: &mut K, n: u128) -> Result<(), SinkFailed>
+    ensures { Writes (K.state out.old) (K.state out.new) (decimal n) result }
+{
+    let mut buffer = Buffer::new();
+    put(out, buffer.format(n))
+}
+
+// The labels of a set in braces.
+fn set<K: Sink>(
+    out: &mut K,
+    gts: &Gts,
+    ways: &[WayId],
+    events: &[EventId],
+) -> Result<(), SinkFailed>
+    requires { HaveWays gts.now ways.now (numbers events.now) }
+    ensures { Writes (K.state out.old) (K.state out.new)
+        (braced (texts_at gts.now ways.now (numbers events.now))) result }
+{
+    put(out, "{")?;
+    labels(out, gts, ways, events)?;
+    put(out, "}")
+}
+
+// The labels of these events, with commas between them.
+fn labels<K: Sink>(
+    out: &mut K,
+    gts: &Gts,
+    ways: &[WayId],
+    events: &[EventId],
+) -> Result<(), SinkFailed>
+    requires { HaveWays gts.now ways.now (numbers events.now) }
+    ensures { Writes (K.state out.old) (K.state out.new)
+        (separated true (codes ", ") (texts_at gts.now ways.now (numbers events.now))) result }
+{
+    let Some((first, others)) = events.split_first() else {
+        return Ok(());
+    };
+    label(out, gts, ways, *first)?;
+    more_labels(out, gts, ways, others)
+}
+
+// Further labels.
+fn more_labels<K: Sink>(
+    out: &mut K,
+    gts: &Gts,
+    ways: &[WayId],
+    events: &[EventId],
+) -> Result<(), SinkFailed>
+    requires { HaveWays gts.now ways.now (numbers events.now) }
+    ensures { Writes (K.state out.old) (K.state out.new)
+        (separated false (codes ", ") (texts_at gts.now ways.now (numbers events.now))) result }
+{
+    for event in events {
+        next_label(out, gts, ways, *event)?;
+    }
+    Ok(())
+}
+
+// A label behind another one.
+fn next_label<K: Sink>(
+    out: &mut K,
+    gts: &Gts,
+    ways: &[WayId],
+    event: EventId,
+) -> Result<(), SinkFailed>
+    requires { HasWay gts.now ways.now event.n }
+    ensures { Writes (K.state out.old) (K.state out.new)
+        (codes ", " ++ way_label gts.now (way_at ways.now event.n)) result }
+{
+    put(out, ", ")?;
+    label(out, gts, ways, event)
+}
+
+// The label of an event's edge.
+fn label<K: Sink>(out: &mut K, gts: &Gts, ways: &[WayId], event: EventId) -> Result<(), SinkFailed>
+    requires { HasWay gts.now ways.now event.n }
+    ensures { Writes (K.state out.old) (K.state out.new)
+        (way_label gts.now (way_at ways.now event.n)) result }
+{
+    print_label(gts, ways[event.n as usize], out)
+}

@@ -11,7 +11,7 @@ use Rattle.altarica_run.specs.Refusals.{line_of, status_of}
 use Rattle.altarica_run.specs.Says.{Says, usage, refuses, tells, EndsSo}
 use Rattle.altarica_run.specs.Says as says
 use Rattle.altarica_run.specs.Stages.{Ready, Passes}
-use Rattle.altarica_run.specs.Telling.{IsWritten, whole, cut, stopped}
+use Rattle.altarica_run.specs.Telling.{IsWritten, whole, cut, stopped, nothing}
 use Rattle.altarica_run.specs.Tells.{Tells}
 use Rattle.altarica_run.specs.declared.refusals.FileKind.{FileKind}
 use Rattle.altarica_run.specs.declared.refusals.Refusal.{Refusal}
@@ -28,6 +28,7 @@ module _ (files : List ℕ → Told) (rose : List ℕ → Type 0) (words : List 
   said told f s (whole {text = text} t a) = says.says (f text s t) a
   said told f s (cut {text = text} {ends = ends} t c k) = says.not_written (says.said (f text ends t)) k c
   said told f s (stopped {text = text} {ends = ends} t c) = says.no_memory (says.said (f text ends t)) c
+  said told f s (nothing e) = says.no_memory says.nothing (cut_nothing old.bytes new.bytes (ap (λ (z : SinkState). z.bytes) e))
 
   -- the text of the job was written
   pub job_told : (job : Job) (w : Ready) → IsBuiltJob words job → Passes files job (Ok w) → (s : Status)
@@ -47,6 +48,8 @@ module _ (files : List ℕ → Told) (rose : List ℕ → Type 0) (words : List 
       says.not_written (says.not_read job is l k) r (subst (λ (z : List ℕ). Cut old.bytes new.bytes z) t.0 c)
   not_read_told kind name job is l k s (stopped t c) =
       says.no_memory (says.not_read job is l k) (subst (λ (z : List ℕ). Cut old.bytes new.bytes z) t.0 c)
+  not_read_told kind name job is l k s (nothing e) =
+      says.no_memory says.nothing (cut_nothing old.bytes new.bytes (ap (λ (z : SinkState). z.bytes) e))
 
   -- the line of what the words say was written
   line_told : (r : Refusal) → Says files words (line_of r) (status_of r) → (s : Status)

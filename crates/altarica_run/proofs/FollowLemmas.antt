@@ -18,7 +18,7 @@ use Rattle.altarica_run.specs.Says as says
 use Rattle.altarica_run.specs.Stages.{Ready, bare, Passes, not_loaded, loaded, line_refused, Scripted, has_script, Drops, Wanting, Static, is_static, Tabled, has_table}
 use Rattle.altarica_run.specs.Stages as stages
 use Rattle.altarica_run.specs.Statuses.{IsTold, IsRefused, Meaning_of}
-use Rattle.altarica_run.specs.Tells.{Tells, check, flat, replay, fragment, equations}
+use Rattle.altarica_run.specs.Tells.{Tells, check, flat, replay, fragment, equations, cuts, conflict, nodes}
 use Rattle.altarica_run.specs.declared.refusals.Refusal.{Refusal}
 use Rattle.altarica_run.specs.declared.refusals.Refusal.TheVariants.{Usage, NotRead, Size, Syntax, Rule, NoCommand, NeedsWay, NoEvent, NoDropped, NoObserver, NoValue, Outside}
 use Rattle.altarica_run.specs.declared.status.Status.{Status}
@@ -114,6 +114,9 @@ module _ (c : Call) where
   meant_tells job w text s is p (replay {ends = end.Fault} e h) a = told job w text status.Fault is p (replay e h) a
   meant_tells job w text s is p (fragment e h) a = told job w text status.Done is p (fragment e h) a
   meant_tells job w text s is p (equations e i h) a = told job w text status.Done is p (equations e i h) a
+  meant_tells job w text s is p (cuts e h) a = told job w text status.Done is p (cuts e h) a
+  meant_tells job w text s is p (conflict e h) a = told job w text status.Fault is p (conflict e h) a
+  meant_tells job w text s is p (nodes e h) a = told job w text status.Nodes is p (nodes e h) a
 
   meant_refuses : (job : Job) (r : Refusal) → IsBuiltJob c.words job → Passes c.files job (Err r) → Wrote c (line_of r)
       → IsOfStages r → Meaning_of c (status_of r)

@@ -124,9 +124,10 @@ asks_none t h =
     (λ more. ⊎_elim (λ e. ap (λ (z : Task). is_static (verb_of z)) e) (λ e. ap (λ (z : Task). is_static (verb_of z)) e) more) h
 
 -- a command that asks for one
-pub asks_one : (t : Task) → (t ≡ task.Fragment) ⊎ (t ≡ task.Equations) → is_static (verb_of t) ≡ true
+pub asks_one : (t : Task) → (t ≡ task.Fragment) ⊎ ((t ≡ task.Equations) ⊎ (t ≡ task.Cuts)) → is_static (verb_of t) ≡ true
 asks_one t h =
-    ⊎_elim (λ e. ap (λ (z : Task). is_static (verb_of z)) e) (λ e. ap (λ (z : Task). is_static (verb_of z)) e) h
+    ⊎_elim (λ e. ap (λ (z : Task). is_static (verb_of z)) e)
+    (λ more. ⊎_elim (λ e. ap (λ (z : Task). is_static (verb_of z)) e) (λ e. ap (λ (z : Task). is_static (verb_of z)) e) more) h
 
 pub none_given : (t : Task) → is_static (verb_of t) ≡ false → (w : Ready) (p : GtsParts) (f : Forest) → f.trees.items ≡ []
     → (v : Ready) × Where (is_static (verb_of t)) Static w (Ok v) × HasForest (verb_of t) p v.dropped f
@@ -155,6 +156,7 @@ task_table task.Flat = refl
 task_table task.Replay = refl
 task_table task.Fragment = refl
 task_table task.Equations = refl
+task_table task.Cuts = refl
 
 pub table_there : (v : Verb) (t : Task) → v ≡ verb_of t → (given : Option Wanted) → IsThere (needs_observer v) given
     → IsThere (has_table v) given
@@ -201,7 +203,7 @@ module _ (job : Job) (w : Ready) (p : GtsParts) where
     forest_here = subst (λ (z : Ready). HasForest job.command p z.dropped f) keeps_ready given.2
 
     pub table_stops : (r : Result Prepared Stop) (d s : Stop) → r ≡ Err d → d ≡ s
-        → IsStageOf {X = GateTable} (HasTable job.command p) (table w) (Err s)
+        → IsStageOf {X = GateTable} (HasTable job.command p f) (table w) (Err s)
         → IsStageOf (IsReady job) (Demands job.command w) r
     table_stops r d s i j h =
         stage_passes stop_told trees table w has_trees (IsReady job) w r passes_trees
@@ -209,18 +211,19 @@ module _ (job : Job) (w : Ready) (p : GtsParts) where
 
     pub all_ready : (t : Task) → job.command ≡ verb_of t → IsFlat w.source p → (commands : Vec Command Global)
         → AreCommands p w.commands commands → (made : GateTable)
-        → IsStageOf (HasTable job.command p) (table w) (Ok made)
+        → IsStageOf (HasTable job.command p f) (table w) (Ok made)
         → IsStageOf (IsReady job) (Demands job.command w)
-        (Ok (record { task = t; system = p; commands = commands; forest = f; table = made }))
+        (Ok (record { task = t; system = p; commands = commands; forest = f; table = made; nodes = job.nodes }))
     all_ready t e flat commands are made h =
         let u : h.0 ≡ w = same_tabled (has_table job.command) w h.0 h.1 in
-        let done : Prepared = record { task = t; system = p; commands = commands; forest = f; table = made } in
+        let done : Prepared = record { task = t; system = p; commands = commands; forest = f; table = made; nodes = job.nodes } in
         let is : IsReady job w done = record {
           command = e;
           flat = flat;
           commands = are;
           forest = forest_here;
-          table = subst (λ (z : Ready). HasTable job.command p z made) u h.2;
+          table = subst (λ (z : Ready). HasTable job.command p f z made) u h.2;
+          nodes = refl;
         } in
         let passed : table w (Ok w) = subst (λ (z : Ready). table w (Ok z)) u h.1 in
         stage_passes stop_told trees table w has_trees (IsReady job) w (Ok done) passes_trees (w, passed, is)

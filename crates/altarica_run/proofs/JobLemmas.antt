@@ -1,11 +1,12 @@
 -- Words that give a job whose command is built, and words that give none.
-use Rattle.std.proofs.Common.{◌≡◌, ℕ, true, false, List, Result, Err, refl, sym, ◌∙◌, ap, subst}
-use Rattle.run_words.specs.Jobs.{IsJob}
+use Rattle.std.proofs.Common.{◌≡◌, ◌≤◌, ℕ, true, false, List, Option, Some, None, Result, Err, refl, sym, ◌∙◌, ap, subst, arith}
+use Rattle.run_words.specs.Jobs.{IsJob, IsNodes}
 use Rattle.run_words.specs.declared.jobs.Job.{Job}
 use Rattle.run_words.specs.declared.jobs.JobFault.{JobFault}
 use Rattle.run_words.specs.declared.jobs.JobFault.TheVariants as words
 use Rattle.run_words.specs.declared.verbs.Verb.{Verb}
-use Rattle.altarica_run.specs.Jobs.{is_built, IsNoJob, verb_of, AnswersJob}
+use Rattle.run_words.specs.declared.verbs.Verb.TheVariants.{Check, Flat, Replay, Fragment, Equations, Cuts, Make, Explain, CheckCuts, Modules}
+use Rattle.altarica_run.specs.Jobs.{is_built, IsBuiltJob, IsNoJob, verb_of, AnswersJob}
 use Rattle.altarica_run.specs.Passing.{stop_of_words}
 use Rattle.altarica_run.specs.declared.jobs.Asked.{Asked}
 use Rattle.altarica_run.specs.declared.jobs.Task.{Task}
@@ -30,6 +31,7 @@ task_built task.Flat = refl
 task_built task.Replay = refl
 task_built task.Fragment = refl
 task_built task.Equations = refl
+task_built task.Cuts = refl
 
 pub command_built : (v : Verb) (t : Task) → v ≡ verb_of t → is_built v ≡ true
 command_built v t e = ap is_built e ∙ task_built t
@@ -40,3 +42,20 @@ pub not_built : (ws : List (List ℕ)) (job : Job) → ((a b : Job) → IsJob ws
 not_built ws job one is never other b =
     let e : other ≡ job = one other job b.is_job is in
     let k : true ≡ false = sym b.built ∙ ap (λ (j : Job). is_built j.command) e ∙ never in cc
+
+-- the limit of nodes of a job
+few_given : (v : Verb) (given : Option (List ℕ)) (n : ℕ) → IsNodes v given n → n ≤ 16777216
+few_given Check None n e = omega (arith, e)
+few_given Flat None n e = omega (arith, e)
+few_given Replay None n e = omega (arith, e)
+few_given Fragment None n e = omega (arith, e)
+few_given Equations None n e = omega (arith, e)
+few_given Cuts None n e = omega (arith, e)
+few_given Make None n e = omega (arith, e)
+few_given Explain None n e = omega (arith, e)
+few_given CheckCuts None n e = omega (arith, e)
+few_given Modules None n e = omega (arith, e)
+few_given v (Some text) n h = h.1.at_most
+
+pub few_nodes : (ws : List (List ℕ)) (job : Job) → IsBuiltJob ws job → job.nodes ≤ 16777216
+few_nodes ws job b = few_given job.command _ job.nodes b.is_job.job_of.nodes

@@ -247,6 +247,7 @@ task_asks task.Flat files model name n s f l = l.none f.1
 task_asks task.Replay files model name n s f l = l.some f.0.0 f.0.2
 task_asks task.Fragment files model name n s f l = l.none f.1
 task_asks task.Equations files model name n s f l = l.none f.1
+task_asks task.Cuts files model name n s f l = l.none f.1
 
 command_asks : (v : Verb) (t : Task) → v ≡ verb_of t
     → (files : List (List ℕ)) (model : List ℕ) (name : Option (List ℕ)) (n : ℕ) (s : Option (Vec ℕ Global))
@@ -276,6 +277,7 @@ task_sees task.Flat line f = f.observer
 task_sees task.Replay line f = f.observer
 task_sees task.Fragment line f = f.observer
 task_sees task.Equations line f = observer_given line.observer (f.observer_needed refl)
+task_sees task.Cuts line f = observer_given line.observer (f.observer_needed refl)
 
 command_sees : (v : Verb) (t : Task) → v ≡ verb_of t → (line : Line) → OptionsFit v line
     → IsThere (needs_observer v) line.observer

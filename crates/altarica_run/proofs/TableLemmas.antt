@@ -1,5 +1,5 @@
 -- The gate table of a job.
-use Rattle.std.proofs.Common.{◌≡◌, ◌≤◌, ℕ, Bool, true, false, List, Option, Some, None, Result, Ok, Err, length, slice_get, refl, sym, ◌∙◌, ap, subst, arith}
+use Rattle.std.proofs.Common.{◌≡◌, ◌<◌, ◌≤◌, ℕ, Bool, true, false, List, Option, Some, None, Result, Ok, Err, length, slice_get, refl, sym, ◌∙◌, ap, subst, arith}
 use Rattle.std.proofs.lemmas.List.{length-map}
 use Rattle.ar_base.specs.Lists.{Stands}
 use Rattle.ar_base.specs.Stages.{Where}
@@ -26,7 +26,7 @@ use Rattle.tree_equations.specs.Gives as gives
 use Rattle.tree_equations.specs.declared.fault.EqFault.{EqFault}
 use Rattle.tree_equations.specs.declared.fault.EqFault.TheVariants as table
 use Rattle.wanted_values.specs.declared.wanting.Wanted.{Wanted}
-use Rattle.altarica_run.specs.Passing.{stop_of_table, IsStageOf, IsThere, IsForestOf, HasTable}
+use Rattle.altarica_run.specs.Passing.{stop_of_table, IsStageOf, IsThere, IsForestOf, IsGateTable, HasTable}
 use Rattle.altarica_run.specs.Stages.{Ready, Tabled, fits, exceeds, has_table, IsTableOf}
 use Rattle.altarica_run.specs.declared.stops.Stop.{Stop}
 use Rattle.altarica_run.specs.declared.stops.Stop.TheVariants.{Memory}
@@ -44,9 +44,9 @@ not_there true given there e = let k : None ≡ Some there.0 = sym e ∙ there.1
 not_there false given there e = refl
 
 -- no table where the command asks for none
-pub none_tabled : (v : Verb) (p : GtsParts) (w : Ready) (made : GateTable) → has_table v ≡ false
-    → IsStageOf (HasTable v p) (Where (has_table v) Tabled w) (Ok made)
-none_tabled v p w made e = (
+pub none_tabled : (v : Verb) (p : GtsParts) (f : Forest) (w : Ready) (made : GateTable) → has_table v ≡ false
+    → IsStageOf (HasTable v p f) (Where (has_table v) Tabled w) (Ok made)
+none_tabled v p f w made e = (
   w,
   subst (λ (b : Bool). Where b Tabled w (Ok w)) (sym e) refl,
   record { own = λ s. let k : true ≡ false = sym s ∙ e in absurd cc },
@@ -55,7 +55,7 @@ none_tabled v p w made e = (
 -- The table
 
 -- what an observer in range is asked
-at_observer : (given : Option Observer) (o : Observer) (P : Expr ℕ → Type 0) → given ≡ Some o → AtObserver given P
+pub at_observer : (given : Option Observer) (o : Observer) (P : Expr ℕ → Type 0) → given ≡ Some o → AtObserver given P
     → P (numbered o.value)
 at_observer given o P e h = subst (λ (z : Option Observer). AtObserver z P) e h
 
@@ -82,25 +82,25 @@ module _ (v : Verb) (p : GtsParts) (w : Ready) (f : Forest) (wanted : Wanted) (o
       → (r : Result GateTable Stop) (d : Stop) (e : EqFault) → r ≡ Err d → d ≡ stop_of_table e
       → ((let z : Result Equations EqFault = Err e in z ≡ Err table.Gates)
       → AtObserver (slice_get p.observers.items wanted.observer) (NeedsTooMany p f wanted.value))
-      → IsStageOf (HasTable v p) (Tabled w) r
+      → IsStageOf (HasTable v p f) (Tabled w) r
   table_refused some r d e i j h =
-      subst (λ (z : Result GateTable Stop). IsStageOf (HasTable v p) (Tabled w) z) (sym (i ∙ ap Err j)) (go e h)
+      subst (λ (z : Result GateTable Stop). IsStageOf (HasTable v p f) (Tabled w) z) (sym (i ∙ ap Err j)) (go e h)
     where
       go : (e : EqFault) → ((let z : Result Equations EqFault = Err e in z ≡ Err table.Gates)
           → AtObserver (slice_get p.observers.items wanted.observer) (NeedsTooMany p f wanted.value))
-          → IsStageOf {X = GateTable} (HasTable v p) (Tabled w) (Err (stop_of_table e))
+          → IsStageOf {X = GateTable} (HasTable v p f) (Tabled w) (Err (stop_of_table e))
       go table.Gates h =
           let t = some wanted.observer at.0 at.1 (trees_of (number_in p) f) wanted.value in
           let many = at_observer _ at.0 (NeedsTooMany p f wanted.value) at.1 (h refl) in
           exceeds are (of_source t.table t.is) (many t.table t.is)
       go table.Memory h = tt
 
-  pub table_given : (q : Equations)
+  pub table_given : wanted.observer < length p.observers.items → (q : Equations)
       → AtObserver (slice_get p.observers.items wanted.observer) (gives.IsTableOf p f wanted.value (table_of q))
       → length q.gates.items ≤ most_gates → (made : GateTable) → made.equations ≡ q
       → made.events.items ≡ (naming_of_parts p).events
-      → IsStageOf (HasTable v p) (Tabled w) (Ok made)
-  table_given q h few made e names =
+      → IsStageOf (HasTable v p f) (Tabled w) (Ok made)
+  table_given inside q h few made e names =
       let is = of_source (table_of q) (at_observer _ at.0 (gives.IsTableOf p f wanted.value (table_of q)) at.1 h) in
       let many = length-map q.gates.items gate_of in (
         w,
@@ -109,14 +109,16 @@ module _ (v : Verb) (p : GtsParts) (w : Ready) (f : Forest) (wanted : Wanted) (o
           own = λ s. record {
             wanted = wanted;
             are = are;
+            inside = inside;
             is_table = subst (λ (z : Equations). IsTableOf w.source w.dropped wanted (table_of z)) (sym e) is;
+            by_trees = subst (λ (z : Equations). AtObserver (slice_get p.observers.items wanted.observer) (gives.IsTableOf p f wanted.value (table_of z))) (sym e) h;
             events = names;
           };
         },
       )
 
 -- want of memory
-pub memory_refused : (v : Verb) (p : GtsParts) (w : Ready) (r : Result GateTable Stop) (d : Stop) → r ≡ Err d
-    → d ≡ Memory → IsStageOf (HasTable v p) (Tabled w) r
-memory_refused v p w r d i j =
-    subst (λ (z : Result GateTable Stop). IsStageOf (HasTable v p) (Tabled w) z) (sym (i ∙ ap Err j)) tt
+pub memory_refused : (v : Verb) (p : GtsParts) (f : Forest) (w : Ready) (r : Result GateTable Stop) (d : Stop) → r ≡ Err d
+    → d ≡ Memory → IsStageOf (HasTable v p f) (Tabled w) r
+memory_refused v p f w r d i j =
+    subst (λ (z : Result GateTable Stop). IsStageOf (HasTable v p f) (Tabled w) z) (sym (i ∙ ap Err j)) tt

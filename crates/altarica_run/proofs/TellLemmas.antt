@@ -92,7 +92,7 @@ module _ (job : Job) (w : Ready) (p : Prepared) (is : IsReady job w p) where
   forest_told e t s r k h =
       text_written (Tells job w) (forest_text p.system p.forest) Done s r k (fragment e t) h
 
-  pub table_told : {old new : SinkState} → job.command ≡ Equations → IsGateTable p.system w p.table
+  pub table_told : {old new : SinkState} → job.command ≡ Equations → IsGateTable p.system w p.forest p.table
       → (events : List (List ℕ)) → events ≡ p.table.events.items → (s : Status) (r : Result (Unit {0}) SinkFailed)
       → s ≡ status_written Done r → Writes old new (equations_text events (table_of p.table.equations)) r
       → IsWritten (Tells job w) old new s

@@ -4,7 +4,7 @@ use Rattle.std.specs.Prelude.{◌≡◌, ℕ, Bool, true, false, List, Result, O
 use Rattle.run_words.specs.Jobs.{IsJob}
 use Rattle.run_words.specs.declared.jobs.Job.{Job}
 use Rattle.run_words.specs.declared.verbs.Verb.{Verb}
-use Rattle.run_words.specs.declared.verbs.Verb.TheVariants.{Check, Flat, Replay, Fragment, Equations}
+use Rattle.run_words.specs.declared.verbs.Verb.TheVariants.{Check, Flat, Replay, Fragment, Equations, Cuts}
 use Rattle.altarica_run.specs.declared.jobs.Asked.{Asked}
 use Rattle.altarica_run.specs.declared.jobs.Task.{Task}
 use Rattle.altarica_run.specs.declared.jobs.Task.TheVariants as task
@@ -19,6 +19,7 @@ is_built Flat = true
 is_built Replay = true
 is_built Fragment = true
 is_built Equations = true
+is_built Cuts = true
 is_built _ = false
 
 -- the words give this job, whose command is built
@@ -37,6 +38,7 @@ verb_of task.Flat = Flat
 verb_of task.Replay = Replay
 verb_of task.Fragment = Fragment
 verb_of task.Equations = Equations
+verb_of task.Cuts = Cuts
 
 -- what the reading of words answers: the job with its task, or that there is none, or want of memory
 abbrev pub AnswersJob : List (List ℕ) → Result Asked Stop → Type 0

@@ -1,5 +1,5 @@
 -- What the calls that stand for the stages of a job answer.
-use Rattle.std.specs.Prelude.{◌≡◌, ◌<◌, ◌≤◌, ℕ, Bool, true, false, List, [], Option, Some, None, Result, Ok, Err, map, length, Vec}
+use Rattle.std.specs.Prelude.{◌≡◌, ◌<◌, ◌≤◌, ℕ, Bool, true, false, List, [], Option, Some, None, Result, Ok, Err, map, length, slice_get, Vec}
 use Rattle.std.specs.Global.{Global}
 use Rattle.ar_base.specs.Counts.{limit_of}
 use Rattle.ar_base.specs.declared.counts.Count.TheVariants.{Nesting, ScriptBytes, Gates}
@@ -36,6 +36,8 @@ use Rattle.run_words.specs.declared.jobs.Job.{Job}
 use Rattle.run_words.specs.declared.verbs.Verb.{Verb}
 use Rattle.run_words.specs.declared.jobs.JobFault.{JobFault}
 use Rattle.run_words.specs.declared.jobs.JobFault.TheVariants as words
+use Rattle.tree_equations.specs.Gives.{AtObserver}
+use Rattle.tree_equations.specs.Gives as gate_tables
 use Rattle.tree_equations.specs.declared.fault.EqFault.{EqFault}
 use Rattle.tree_equations.specs.declared.fault.EqFault.TheVariants as table
 use Rattle.wanted_values.specs.Wanting as wanting
@@ -194,16 +196,20 @@ pub record HasForest (v : Verb) (p : GtsParts) (dropped : List ℕ) (forest : Fo
 
 -- The gate table
 
--- the gates are those of the source's table, and the events are called by their paths
-pub record IsGateTable (p : GtsParts) (w : Ready) (t : GateTable) : Type 0 where
+-- the gates are those of the source's table, as the trees of the forest give them to the flat system, and the events are
+-- called by their paths
+pub record IsGateTable (p : GtsParts) (w : Ready) (forest : Forest) (t : GateTable) : Type 0 where
   pub wanted : Wanted
   pub are : w.wanted ≡ Some wanted
+  pub inside : HasObserver p (Some wanted)
   pub is_table : IsTableOf w.source w.dropped wanted (table_of t.equations)
+  pub by_trees : AtObserver (slice_get p.observers.items wanted.observer)
+      (gate_tables.IsTableOf p forest wanted.value (table_of t.equations))
   pub events : t.events.items ≡ (naming_of_parts p).events
 
 -- the table is the source's own where the command asks for it
-pub record HasTable (v : Verb) (p : GtsParts) (w : Ready) (t : GateTable) : Type 0 where
-  pub own : has_table v ≡ true → IsGateTable p w t
+pub record HasTable (v : Verb) (p : GtsParts) (forest : Forest) (w : Ready) (t : GateTable) : Type 0 where
+  pub own : has_table v ≡ true → IsGateTable p w forest t
 
 -- The job
 
@@ -213,7 +219,8 @@ pub record IsReady (job : Job) (w : Ready) (p : Prepared) : Type 0 where
   pub flat : IsFlat w.source p.system
   pub commands : AreCommands p.system w.commands p.commands
   pub forest : HasForest job.command p.system w.dropped p.forest
-  pub table : HasTable job.command p.system w p.table
+  pub table : HasTable job.command p.system p.forest w p.table
+  pub nodes : p.nodes ≡ job.nodes
 
 -- the words are refused: they are no job, or a stage of the job refuses, or a file was not read
 pub data RefusesWords (files : List ℕ → Told) (rose : List ℕ → Type 0) (words : List (List ℕ)) : Refusal → Type 0 where

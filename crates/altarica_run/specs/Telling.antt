@@ -1,8 +1,10 @@
 -- What the calls that write the text of a job answer.
-use Rattle.std.specs.Prelude.{ℕ, List, Result, Ok, Err}
+use Rattle.std.specs.Prelude.{◌≡◌, ℕ, List, Result, Ok, Err}
 use Rattle.ar_io.specs.Outside.{Rose}
 use Rattle.ar_io.specs.Writing.{SinkState, Appended, Cut}
 use Rattle.ar_io.specs.declared.outside.SinkFailed.{SinkFailed}
+use Rattle.cut_text.specs.declared.faults.PrintFault.{PrintFault}
+use Rattle.cut_text.specs.declared.faults.PrintFault.TheVariants as print
 use Rattle.replayer.specs.declared.replaying.End.{End}
 use Rattle.replayer.specs.declared.replaying.ReplayFault.{ReplayFault}
 use Rattle.replayer.specs.declared.replaying.ReplayFault.TheVariants as fault
@@ -21,8 +23,14 @@ status_replayed (Ok end) = status_at end
 status_replayed (Err fault.Write) = Write
 status_replayed (Err fault.Memory) = Memory
 
+-- the status of a text that was broken off, or was not
+abbrev pub status_printed : Result Status PrintFault → Status
+status_printed (Ok ends) = ends
+status_printed (Err print.Write) = Write
+status_printed (Err print.Memory) = Memory
+
 -- one of these texts was written whole, with its status; or first bytes of one, where the sink's count rose or memory
--- was refused
+-- was refused; or nothing, where memory was refused before
 pub data IsWritten (told : List ℕ → Status → Type 0) (old new : SinkState) : Status → Type 0 where
   whole : {text : List ℕ} {ends : Status} → told text ends → Appended old.bytes new.bytes text
       → IsWritten told old new ends
@@ -30,3 +38,4 @@ pub data IsWritten (told : List ℕ → Status → Type 0) (old new : SinkState)
       → IsWritten told old new Write
   stopped : {text : List ℕ} {ends : Status} → told text ends → Cut old.bytes new.bytes text
       → IsWritten told old new Memory
+  nothing : new ≡ old → IsWritten told old new Memory

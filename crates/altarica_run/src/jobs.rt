@@ -23,6 +23,8 @@ pub enum Task {
     Fragment,
     /// Writes the gate table of an observer of a system of the static fragment.
     Equations,
+    /// Lists the cuts of an observer's value of a system of the static fragment.
+    Cuts,
 }
 
 /// A job with its task.
@@ -60,6 +62,7 @@ fn task_of(command: Verb) -> Option<Task>
         Verb::Replay => Some(Task::Replay),
         Verb::Fragment => Some(Task::Fragment),
         Verb::Equations => Some(Task::Equations),
+        Verb::Cuts => Some(Task::Cuts),
         _ => None,
     }
 }

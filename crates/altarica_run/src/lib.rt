@@ -2,10 +2,11 @@
 //!
 //! The stages are joined here: the words, the files, the grammar, the table, the units, the bound
 //! forms, the flat system, the script, the dropped events, the observer with its value, the static
-//! fragment and the gate table, and then the text of the command.
+//! fragment and the gate table, and then the text of the command, for the cuts by way of diagrams.
 #![tactic(auto)]
 
 mod analysing;
+mod cutting;
 pub mod following;
 mod jobs;
 pub mod laws;

@@ -50,6 +50,8 @@ pub struct Prepared {
     pub forest: Forest,
     /// The gate table, by the trees; an empty one where the command asks for none.
     pub table: GateTable,
+    /// How many nodes a diagram may have.
+    pub nodes: u32,
 }
 
 /// What the words and the script ask of a system.
@@ -123,6 +125,7 @@ fn ready(
         commands: request.commands,
         forest,
         table,
+        nodes: asked.job.nodes,
     })
 }
 

@@ -62,7 +62,7 @@ pub fn table_of(
     ensures { (command : Verb) (w : Ready) → IsFlat w.source system.now → w.wanted ≡ wanted
         → IsThere (has_table command) wanted
         → (has_table command ≡ true → IsForestOf system.now w.dropped forest.now)
-        → IsStageOf (HasTable command system.now) (Where (has_table command) Tabled w) result }
+        → IsStageOf (HasTable command system.now forest.now) (Where (has_table command) Tabled w) result }
 {
     match wanted {
         Some(wanted) => tabled(alloc, system, forest, wanted),
@@ -82,7 +82,7 @@ fn tabled(alloc: Global, system: &Gts, forest: &Forest, wanted: Wanted) -> Resul
     requires { HasObserver system.now (Some wanted) }
     ensures { (command : Verb) (w : Ready) → IsFlat w.source system.now → w.wanted ≡ Some wanted
         → IsForestOf system.now w.dropped forest.now
-        → IsStageOf (HasTable command system.now) (Tabled w) result }
+        → IsStageOf (HasTable command system.now forest.now) (Tabled w) result }
 {
     // The system has a table, and it is that of its source.
     tables_of_the_source();

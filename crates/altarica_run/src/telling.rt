@@ -1,15 +1,16 @@
 //! The text of a job that has passed its stages.
 
-ghost use Rattle.std.specs.Prelude.{◌≡◌, ◌++◌, decimal, length};
+ghost use Rattle.std.specs.Prelude.{◌≡◌, ◌≤◌, ◌++◌, decimal, length};
 ghost use Rattle.ar_io.specs.Writing.{Writes};
 ghost use Rattle.replayer.specs.Flat.{AreFirable};
 ghost use Rattle.run_words.specs.declared.jobs.Job.{Job};
 ghost use Rattle.altarica_run.specs.Passing.{CanBeWritten, IsReady};
 ghost use Rattle.altarica_run.specs.Refusals.{line_of, status_of};
 ghost use Rattle.altarica_run.specs.Stages.{Ready};
-ghost use Rattle.altarica_run.specs.Telling.{IsWritten, status_written, status_replayed};
+ghost use Rattle.altarica_run.specs.Telling.{IsWritten, status_written, status_replayed, status_printed};
 ghost use Rattle.altarica_run.specs.Tells.{counts_line, Tells};
 
+use crate::cutting::cuts;
 use crate::jobs::Task;
 use crate::pieces::{put, put_count};
 use crate::refusals::Refusal;
@@ -17,6 +18,7 @@ use crate::stages::Prepared;
 use crate::status::Status;
 use ar_io::{Sink, SinkFailed};
 use aralia_text::print;
+use cut_text::PrintFault;
 use forest_text::laws::forests_of_the_source;
 use forest_text::print_forest;
 use gts_core::Gts;
@@ -28,6 +30,8 @@ use std::alloc::Global;
 pub fn tell<K: Sink>(alloc: Global, prepared: &Prepared, out: &mut K) -> Status
     requires commands { AreFirable prepared.now.system prepared.now.commands.items }
     requires forest { CanBeWritten prepared.now.system prepared.now.forest }
+    requires ready { (job : Job) × (w : Ready) × IsReady job w prepared.now }
+    requires nodes { prepared.now.nodes ≤ 16777216 }
     ensures { (job : Job) (w : Ready) → IsReady job w prepared.now
         → IsWritten (Tells job w) (K.state out.old) (K.state out.new) result }
 {
@@ -51,6 +55,7 @@ pub fn tell<K: Sink>(alloc: Global, prepared: &Prepared, out: &mut K) -> Status
             let table = &prepared.table;
             written(Status::Done, print(&table.equations, &table.events, out))
         }
+        Task::Cuts => printed(cuts(alloc, prepared, out)),
     }
 }
 
@@ -104,5 +109,16 @@ fn replayed(answer: Result<End, ReplayFault>) -> Status
         Ok(End::Fault) => Status::Fault,
         Err(ReplayFault::Write) => Status::Write,
         Err(ReplayFault::Memory) => Status::Memory,
+    }
+}
+
+// The status of a text that was broken off, or was not.
+fn printed(answer: Result<Status, PrintFault>) -> Status
+    ensures { result ≡ status_printed answer }
+{
+    match answer {
+        Ok(status) => status,
+        Err(PrintFault::Write) => Status::Write,
+        Err(PrintFault::Memory) => Status::Memory,
     }
 }

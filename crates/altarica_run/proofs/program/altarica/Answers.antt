@@ -1,9 +1,10 @@
-use Rattle.std.proofs.Common.{ℕ, List, Err, refl, subst}
+use Rattle.std.proofs.Common.{ℕ, List, Err, refl, subst, arith}
 use Rattle.ar_base.specs.Texts.{bytes_of_all}
 use Rattle.ar_io.specs.Outside.{Rose}
 use Rattle.altarica_run.specs.Passing.{AnswersWords}
 use Rattle.altarica_run.specs.declared.stops.Stop.{Stop}
 use Rattle.altarica_run.proofs.EndLemmas.{job_told, refusal_told, memory_told}
+use Rattle.altarica_run.proofs.JobLemmas.{few_nodes}
 use Rattle.altarica_run.proofs.program.altarica.Goals as goal
 
 pub tell-requires-clause-commands : goal.tell-requires-clause-commands
@@ -11,6 +12,16 @@ tell-requires-clause-commands g c = c.in-Ok.ensures.is_ready.commands.firable
 
 pub tell-requires-clause-forest : goal.tell-requires-clause-forest
 tell-requires-clause-forest g c = c.in-Ok.ensures.is_ready.forest.written
+
+pub tell-requires-clause-ready : goal.tell-requires-clause-ready
+tell-requires-clause-ready g c = let p = c.in-Ok.ensures in (p.job, p.ready, p.is_ready)
+
+pub tell-requires-clause-nodes : goal.tell-requires-clause-nodes
+tell-requires-clause-nodes g c =
+    let p = c.in-Ok.ensures in
+    let few = few_nodes _ p.job p.is_job in
+    let same = p.is_ready.nodes in
+    omega (arith, few, same)
 
 pub returns-in-Ok : goal.returns-in-Ok
 returns-in-Ok g c =

@@ -68,7 +68,7 @@ returns c = λ model x of.
     let k = forest_at job.command t c.requires.command f.0 p (Ok c.in_ok-forest.forest) (h f.2.dropped.are) in
     let trees = forest_here job f.0 p c.in_ok-forest.forest k in
     let there = table_there job.command t c.requires.command c.in_ok-request.request.wanted f.2.there in
-    let made : Prepared = record { task = t; system = p; commands = c.in_ok-request.request.commands; forest = c.in_ok-forest.forest; table = c.in_ok-table.table } in
+    let made : Prepared = record { task = t; system = p; commands = c.in_ok-request.request.commands; forest = c.in_ok-forest.forest; table = c.in_ok-table.table; nodes = job.nodes } in
     let l = c.in_ok-table.ensures job.command f.0 flat f.2.wanted.are there (table_trees job.command p f.0 c.in_ok-forest.forest trees) in
     stage_passes stop_told (Asks job (model ∷ script_texts c.args.script.now)) (Demands job.command) x
     (IsRequested job.command x p) (IsReady job) f.0 (Ok made) f.1

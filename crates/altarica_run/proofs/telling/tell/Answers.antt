@@ -1,7 +1,10 @@
-use Rattle.std.proofs.Common.{◌∙◌, ap, arith}
+use Rattle.std.proofs.Common.{◌∙◌, sym, ap, subst, arith}
 use Rattle.altarica_run.specs.Jobs.{verb_of}
 use Rattle.altarica_run.specs.Stages.{is_static, has_table}
 use Rattle.altarica_run.proofs.TellLemmas.{checked, flattened, replayed, forest_told, table_told}
+use Rattle.altarica_run.specs.Telling.{IsWritten}
+use Rattle.altarica_run.specs.Tells.{Tells}
+use Rattle.altarica_run.specs.declared.status.Status.{Status}
 use Rattle.altarica_run.proofs.telling.tell.Goals as goal
 
 pub returns-in-Check : goal.returns-in-Check
@@ -44,3 +47,13 @@ returns-in-Equations g c = λ job w is.
     let e = is.command ∙ ap verb_of c.in-Equations.is in
     table_told job w c.args.prepared.now is e (is.table.own (ap has_table e)) _ c.deref-in-Equations.ensures.value _ _
     c.written-in-Equations.ensures c.print-in-Equations.ensures
+
+pub cuts-requires-clause-ready : goal.cuts-requires-clause-ready
+cuts-requires-clause-ready g c =
+    let r = c.requires.ready in
+    (r.0, r.1, r.2, r.2.command ∙ ap verb_of c.in-Cuts.is)
+
+pub returns-in-Cuts : goal.returns-in-Cuts
+returns-in-Cuts g c = λ job w is.
+    subst (λ (z : Status). IsWritten (Tells job w) (g.K.Sink.state c.args.out.now) (g.K.Sink.state c.cuts.new.out) z) (sym c.printed.ensures)
+    (c.cuts.ensures job w is (is.command ∙ ap verb_of c.in-Cuts.is))

@@ -1,0 +1,86 @@
+use Rattle.std.proofs.Common.{◌≡◌, ℕ, Err, sym, subst}
+use Rattle.std.proofs.lemmas.Result.{err_from_is_err_and}
+use Rattle.ar_io.specs.Writing.{SinkState}
+use Rattle.mode_forests.specs.Views.{trees_of, number_in}
+use Rattle.eq_core.specs.Views.{table_of}
+use Rattle.gate_diagrams.specs.declared.answer.Drawn.TheVariants.{Cuts}
+use Rattle.drawn_cuts.specs.Drawn.{sets_of}
+use Rattle.min_cuts.specs.Sizes.{count}
+use Rattle.cut_text.specs.Answers.{Prints}
+use Rattle.cut_text.specs.Printed.{edges_of, cuts_text}
+use Rattle.altarica_run.specs.Tells.{Tells}
+use Rattle.altarica_run.specs.declared.status.Status.TheVariants.{Done}
+use Rattle.altarica_run.proofs.CutLemmas.{both, counted_text, own_forest, forest_is, table, observed, are_drawn, few_counted, cuts_told, none_printed, printed_partly, printed_whole}
+use Rattle.altarica_run.proofs.cutting.listing.Goals as goal
+
+pub counts-requires : goal.counts-requires
+counts-requires g c = record { root = c.requires.answer.1 }
+
+pub open-requires-clause-root : goal.open-requires-clause-root
+open-requires-clause-root g c = c.requires.answer.1
+
+pub open-requires-clause-trees : goal.open-requires-clause-trees
+open-requires-clause-trees g c =
+    let r = c.requires.ready in
+    let p = c.args.prepared.now in
+    c.edges_of_forests.ensures.trees r.2.flat.flat r.1.dropped (both r.0 r.1 p r.2 r.3)
+    (number_in p.system) p.forest (own_forest r.0 r.1 p r.2 r.3)
+
+pub open-requires-clause-firable : goal.open-requires-clause-firable
+open-requires-clause-firable g c =
+    let p = c.args.prepared.now in
+    c.drawn_sets.ensures.firable (trees_of (λ n. n) p.forest) (table_of p.table.equations) (Cuts c.args.family) c.requires.answer
+
+pub returns-in_err-counted : goal.returns-in_err-counted
+returns-in_err-counted g c = λ job w is e.
+    let r = err_from_is_err_and c.from_residual.result c.from_residual.ensures.1 in
+    none_printed (Tells job w) _ _ r.1 r.2
+
+pub returns-in_err-lister : goal.returns-in_err-lister
+returns-in_err-lister g c = λ job w is e.
+    let r = err_from_is_err_and c.from_residual-in_err-lister.result c.from_residual-in_err-lister.ensures.1 in
+    none_printed (Tells job w) _ _ r.1 r.2
+
+pub print_cuts-requires-clause-own : goal.print_cuts-requires-clause-own
+print_cuts-requires-clause-own g c = c.requires.ready.2.forest.written.own
+
+pub print_cuts-requires-clause-one_way : goal.print_cuts-requires-clause-one_way
+print_cuts-requires-clause-one_way g c =
+    let r = c.requires.ready in
+    let p = c.args.prepared.now in
+    c.edges_of_forests.ensures.one_way r.2.flat.flat r.1.dropped (both r.0 r.1 p r.2 r.3)
+    (number_in p.system) p.forest (own_forest r.0 r.1 p r.2 r.3)
+
+pub print_cuts-requires-clause-known : goal.print_cuts-requires-clause-known
+print_cuts-requires-clause-known g c =
+    c.edges_of_forests.ensures.known c.args.prepared.now.forest (sets_of c.args.family) _ c.in_ok-lister.ensures.lines
+
+pub returns-in_err-print_cuts : goal.returns-in_err-print_cuts
+returns-in_err-print_cuts g c = λ job w is e.
+    let r = err_from_is_err_and c.from_residual-in_err-print_cuts.result c.from_residual-in_err-print_cuts.ensures.1 in
+    let p = c.args.prepared.now in
+    let f = c.args.family in
+    let sound = c.parts-sound_parts.ensures.sound in
+    let kinds = c.lawful_systems.ensures.net p.system sound in
+    let d = are_drawn job w p is e kinds (λ o h. c.lawful_systems.ensures.observers p.system o sound h) c.drawn_sets.ensures.meant (Cuts f) c.requires.answer in
+    let few = few_counted c.stored_sections.ensures c.room_for_families.ensures f.store f.root.n p.nodes c.len-sound_store.ensures.sound c.requires.answer.1 c.requires.within in
+    let t = cuts_told job w p is e (sets_of f) _ d.0 d.1
+        (λ o q. c.cuts_of_the_source.ensures w.source p.system is.flat.flat w.dropped p.forest (forest_is job w p is e) o (observed job w p is e) q (table job w p is e).wanted.value (sets_of f) _ d.1 c.in_ok-lister.ensures.lines)
+        few in
+    let h = counted_text (g.K.Sink.state c.args.out.now) (g.K.Sink.state c.print_cuts.new.out) p.system
+        (edges_of p.forest.trees.items) c.in_ok-lister.lister _ _ c.in_ok-counted.ensures.sets
+        (Err c.in_err-print_cuts.field-0.0) c.in_err-print_cuts.ensures in
+    printed_partly (Tells job w) _ Done t _ h _ _ r.1 r.2
+
+pub returns : goal.returns
+returns g c = λ job w is e.
+    let p = c.args.prepared.now in
+    let f = c.args.family in
+    let sound = c.parts-sound_parts.ensures.sound in
+    let kinds = c.lawful_systems.ensures.net p.system sound in
+    let d = are_drawn job w p is e kinds (λ o h. c.lawful_systems.ensures.observers p.system o sound h) c.drawn_sets.ensures.meant (Cuts f) c.requires.answer in
+    let few = few_counted c.stored_sections.ensures c.room_for_families.ensures f.store f.root.n p.nodes c.len-sound_store.ensures.sound c.requires.answer.1 c.requires.within in
+    let t = cuts_told job w p is e (sets_of f) _ d.0 d.1
+        (λ o q. c.cuts_of_the_source.ensures w.source p.system is.flat.flat w.dropped p.forest (forest_is job w p is e) o (observed job w p is e) q (table job w p is e).wanted.value (sets_of f) _ d.1 c.in_ok-lister.ensures.lines)
+        few in
+    printed_whole (Tells job w) _ Done t tt (rw c.in_ok-counted.ensures.sets at c.in_ok-print_cuts.ensures)

@@ -1,0 +1,146 @@
+//! The cuts of an observer's value, or the conflict that stands before them.
+
+ghost use Rattle.std.specs.Prelude.{◌≡◌, ◌≤◌, ◌++◌, ℕ, length};
+ghost use Rattle.ar_io.specs.Writing.{Writes};
+ghost use Rattle.eq_core.specs.Views.{table_of};
+ghost use Rattle.gate_diagrams.specs.Answers.{IsAnswer, store_of};
+ghost use Rattle.mode_forests.specs.Views.{trees_of};
+ghost use Rattle.run_words.specs.declared.jobs.Job.{Job};
+ghost use Rattle.run_words.specs.declared.verbs.Verb.TheVariants.{Cuts as CutsAsked};
+ghost use Rattle.altarica_run.specs.Passing.{IsReady};
+ghost use Rattle.altarica_run.specs.Stages.{Ready};
+ghost use Rattle.altarica_run.specs.Telling.{IsWritten, status_printed};
+ghost use Rattle.altarica_run.specs.Tells.{nodes_line, Tells};
+
+use crate::pieces::{put, put_number};
+use crate::stages::Prepared;
+use crate::status::Status;
+use ar_io::{Sink, SinkFailed};
+use cut_text::laws::{conflicts_of_the_source, cuts_of_the_source, edges_of_forests};
+use cut_text::{PrintFault, print_conflict, print_cuts};
+use drawn_cuts::drawn_sets;
+use gate_diagrams::{Drawn, Family, diagrams};
+use gts_core::laws::lawful_systems;
+use min_cuts::{Lister, counts};
+use std::alloc::Global;
+use table_meaning::{ordered_table, table_agrees};
+use zdd_nodes::{NodeFault, room_for_families, stored_sections};
+
+/// Writes the cuts, or the first conflict where there is one, or that the diagrams need more nodes
+/// than they may have.
+pub(crate) fn cuts<K: Sink>(
+    alloc: Global,
+    prepared: &Prepared,
+    out: &mut K,
+) -> Result<Status, PrintFault>
+    requires ready { (job : Job) × (w : Ready) × IsReady job w prepared.now
+        × (job.command ≡ CutsAsked) }
+    requires nodes { prepared.now.nodes ≤ 16777216 }
+    ensures { (job : Job) (w : Ready) → IsReady job w prepared.now → job.command ≡ CutsAsked
+        → IsWritten (Tells job w) (K.state out.old) (K.state out.new) (status_printed result) }
+{
+    // The table's gates are in order, the trees of a static system's forest are trees, and which
+    // nodes may be needed does not rest on the numbers of ways.
+    ordered_table();
+    edges_of_forests();
+    drawn_sets();
+    let equations = &prepared.table.equations;
+    match diagrams(alloc, equations, &prepared.forest, prepared.nodes) {
+        Ok(drawn) => listed(alloc, prepared, drawn, out),
+        Err(NodeFault::Full) => {
+            put_nodes(out, prepared.nodes)?;
+            Ok(Status::Nodes)
+        }
+        Err(NodeFault::Memory) => Err(PrintFault::Memory),
+    }
+}
+
+// Writes what was drawn.
+fn listed<K: Sink>(
+    alloc: Global,
+    prepared: &Prepared,
+    drawn: Drawn,
+    out: &mut K,
+) -> Result<Status, PrintFault>
+    requires ready { (job : Job) × (w : Ready) × IsReady job w prepared.now
+        × (job.command ≡ CutsAsked) }
+    requires answer { IsAnswer (trees_of (λ n. n) prepared.now.forest)
+        (table_of prepared.now.table.equations) drawn }
+    requires within { length (store_of drawn).families ≤ prepared.now.nodes }
+    ensures { (job : Job) (w : Ready) → IsReady job w prepared.now → job.command ≡ CutsAsked
+        → IsWritten (Tells job w) (K.state out.old) (K.state out.new) (status_printed result) }
+{
+    match drawn {
+        Drawn::Conflicts(family) => conflict(alloc, prepared, family, out),
+        Drawn::Cuts(family) => listing(alloc, prepared, family, out),
+    }
+}
+
+// Writes the first of the conflict sets.
+fn conflict<K: Sink>(
+    alloc: Global,
+    prepared: &Prepared,
+    family: Family,
+    out: &mut K,
+) -> Result<Status, PrintFault>
+    requires ready { (job : Job) × (w : Ready) × IsReady job w prepared.now
+        × (job.command ≡ CutsAsked) }
+    requires answer { IsAnswer (trees_of (λ n. n) prepared.now.forest)
+        (table_of prepared.now.table.equations) (Drawn.Conflicts family) }
+    ensures { (job : Job) (w : Ready) → IsReady job w prepared.now → job.command ≡ CutsAsked
+        → IsWritten (Tells job w) (K.state out.old) (K.state out.new) (status_printed result) }
+{
+    // What is drawn are the conflict sets, and the first of them has the text of the source's
+    // conflict.
+    lawful_systems();
+    table_agrees();
+    drawn_sets();
+    edges_of_forests();
+    conflicts_of_the_source();
+    let system = &prepared.system;
+    let _sound_parts = system.parts();
+    let lister = Lister::open(alloc, family, &prepared.forest)?;
+    print_conflict(alloc, system, &prepared.forest, lister, out)?;
+    Ok(Status::Fault)
+}
+
+// Writes the cuts, and how many there are.
+fn listing<K: Sink>(
+    alloc: Global,
+    prepared: &Prepared,
+    family: Family,
+    out: &mut K,
+) -> Result<Status, PrintFault>
+    requires ready { (job : Job) × (w : Ready) × IsReady job w prepared.now
+        × (job.command ≡ CutsAsked) }
+    requires answer { IsAnswer (trees_of (λ n. n) prepared.now.forest)
+        (table_of prepared.now.table.equations) (Drawn.Cuts family) }
+    requires within { length family.store.families ≤ prepared.now.nodes }
+    ensures { (job : Job) (w : Ready) → IsReady job w prepared.now → job.command ≡ CutsAsked
+        → IsWritten (Tells job w) (K.state out.old) (K.state out.new) (status_printed result) }
+{
+    // What is drawn are the cuts, they have the text of the source's, and what is stored has room
+    // for their sections.
+    lawful_systems();
+    drawn_sets();
+    edges_of_forests();
+    cuts_of_the_source();
+    stored_sections();
+    room_for_families();
+    let system = &prepared.system;
+    let _sound_parts = system.parts();
+    let _sound_store = family.store.len();
+    let counted = counts(alloc, &family)?;
+    let lister = Lister::open(alloc, family, &prepared.forest)?;
+    print_cuts(alloc, system, &prepared.forest, lister, counted.sets, out)?;
+    Ok(Status::Done)
+}
+
+// Writes that the diagrams need more nodes than so many.
+fn put_nodes<K: Sink>(out: &mut K, nodes: u32) -> Result<(), SinkFailed>
+    ensures { Writes (K.state out.old) (K.state out.new) (nodes_line nodes) result }
+{
+    put(out, "nodes: ")?;
+    put_number(out, nodes)?;
+    put(out, "\n")
+}

@@ -188,28 +188,28 @@ module _ (job : Job) (w : Ready) (p : Prepared) (is : IsReady job w p) (e : job.
 
   module _ (kinds : IsLawful (net_of p.system) (kind_by_number p.system))
       (typed : (o : Observer) → l.IsOneOf p.system.observers.items o → HasKind (kind_by_number p.system) (out-Expr ℕ (numbered o.value)) o.kind)
-      where
-    -- the table agrees with the system
-    pub agrees : TableAgrees → Agrees flat w.dropped (numbered seen.0.value) table.wanted.value
-        (value_at (table_of p.table.equations).gates (table_of p.table.equations).conflict)
-        (value_at (table_of p.table.equations).gates (table_of p.table.equations).top)
-    agrees law =
-        law flat w.dropped (kind_by_number p.system) seen.0.kind (trees_of (number_in p.system) p.forest)
-        (numbered seen.0.value) table.wanted.value (table_of p.table.equations)
-        (subst (λ (z : Net ℕ). IsLawful z (kind_by_number p.system)) (sym is.flat.views.net) kinds) both
-        own_forest (typed seen.0 (one_here _ _ seen.0 seen.1))
-        (subst (λ (z : Net ℕ). IsTable z (trees_of (number_in p.system) p.forest) (numbered seen.0.value) table.wanted.value (table_of p.table.equations)) (sym is.flat.views.net) by_trees)
+    where
+      -- the table agrees with the system
+      pub agrees : TableAgrees → Agrees flat w.dropped (numbered seen.0.value) table.wanted.value
+          (value_at (table_of p.table.equations).gates (table_of p.table.equations).conflict)
+          (value_at (table_of p.table.equations).gates (table_of p.table.equations).top)
+      agrees law =
+          law flat w.dropped (kind_by_number p.system) seen.0.kind (trees_of (number_in p.system) p.forest)
+          (numbered seen.0.value) table.wanted.value (table_of p.table.equations)
+          (subst (λ (z : Net ℕ). IsLawful z (kind_by_number p.system)) (sym is.flat.views.net) kinds) both
+          own_forest (typed seen.0 (one_here _ _ seen.0 seen.1))
+          (subst (λ (z : Net ℕ). IsTable z (trees_of (number_in p.system) p.forest) (numbered seen.0.value) table.wanted.value (table_of p.table.equations)) (sym is.flat.views.net) by_trees)
 
-    -- what is drawn
-    pub are_drawn : DrawnAreMeant → (d : Drawn) → IsAnswer (trees_of (λ n. n) p.forest) (table_of p.table.equations) d
-        → AreDrawn flat w.dropped (numbered seen.0.value) table.wanted.value d
-    are_drawn meant d h =
-        meant flat w.dropped (kind_by_number p.system) seen.0.kind (number_in p.system) p.forest (numbered seen.0.value)
-        table.wanted.value (table_of p.table.equations) d
-        (subst (λ (z : Net ℕ). IsLawful z (kind_by_number p.system)) (sym is.flat.views.net) kinds) both
-        (own.is_forest flat is.flat.views) (typed seen.0 (one_here _ _ seen.0 seen.1))
-        (subst (λ (z : Net ℕ). IsTable z (trees_of (number_in p.system) p.forest) (numbered seen.0.value) table.wanted.value (table_of p.table.equations)) (sym is.flat.views.net) by_trees)
-        h
+      -- what is drawn
+      pub are_drawn : DrawnAreMeant → (d : Drawn) → IsAnswer (trees_of (λ n. n) p.forest) (table_of p.table.equations) d
+          → AreDrawn flat w.dropped (numbered seen.0.value) table.wanted.value d
+      are_drawn meant d h =
+          meant flat w.dropped (kind_by_number p.system) seen.0.kind (number_in p.system) p.forest (numbered seen.0.value)
+          table.wanted.value (table_of p.table.equations) d
+          (subst (λ (z : Net ℕ). IsLawful z (kind_by_number p.system)) (sym is.flat.views.net) kinds) both
+          (own.is_forest flat is.flat.views) (typed seen.0 (one_here _ _ seen.0 seen.1))
+          (subst (λ (z : Net ℕ). IsTable z (trees_of (number_in p.system) p.forest) (numbered seen.0.value) table.wanted.value (table_of p.table.equations)) (sym is.flat.views.net) by_trees)
+          h
 
   -- the source's observer
   sourced : (o : Expr Thing) × Stands w.source.system.observers table.wanted.observer o
@@ -231,10 +231,10 @@ module _ (job : Job) (w : Ready) (p : Prepared) (is : IsReady job w p) (e : job.
       let there = flat_image things w.source.system flat flat_is in
       let t = says o q in
       let same : t.sets ≡ sets = listed_same t.sets sets (Cut w.source.system w.dropped o table.wanted.value) t.are_listed
-          (listed_as
-          (λ s c. cut_back (IsNumber things) w.source.system flat there w.dropped o (numbered seen.0.value) q table.wanted.value s c)
-          (λ s c. cut_there (IsNumber things) w.source.system flat there w.dropped o (numbered seen.0.value) q table.wanted.value s c)
-          listed) in
+      (listed_as
+      (λ s c. cut_back (IsNumber things) w.source.system flat there w.dropped o (numbered seen.0.value) q table.wanted.value s c)
+      (λ s c. cut_there (IsNumber things) w.source.system flat there w.dropped o (numbered seen.0.value) q table.wanted.value s c)
+      listed) in
       cuts e
       (record {
         wanted = table.wanted;

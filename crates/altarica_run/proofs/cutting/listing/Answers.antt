@@ -65,11 +65,11 @@ returns-in_err-print_cuts g c = λ job w is e.
     let d = are_drawn job w p is e kinds (λ o h. c.lawful_systems.ensures.observers p.system o sound h) c.drawn_sets.ensures.meant (Cuts f) c.requires.answer in
     let few = few_counted c.stored_sections.ensures c.room_for_families.ensures f.store f.root.n p.nodes c.len-sound_store.ensures.sound c.requires.answer.1 c.requires.within in
     let t = cuts_told job w p is e (sets_of f) _ d.0 d.1
-        (λ o q. c.cuts_of_the_source.ensures w.source p.system is.flat.flat w.dropped p.forest (forest_is job w p is e) o (observed job w p is e) q (table job w p is e).wanted.value (sets_of f) _ d.1 c.in_ok-lister.ensures.lines)
-        few in
+    (λ o q. c.cuts_of_the_source.ensures w.source p.system is.flat.flat w.dropped p.forest (forest_is job w p is e) o (observed job w p is e) q (table job w p is e).wanted.value (sets_of f) _ d.1 c.in_ok-lister.ensures.lines)
+    few in
     let h = counted_text (g.K.Sink.state c.args.out.now) (g.K.Sink.state c.print_cuts.new.out) p.system
-        (edges_of p.forest.trees.items) c.in_ok-lister.lister _ _ c.in_ok-counted.ensures.sets
-        (Err c.in_err-print_cuts.field-0.0) c.in_err-print_cuts.ensures in
+    (edges_of p.forest.trees.items) c.in_ok-lister.lister _ _ c.in_ok-counted.ensures.sets
+    (Err c.in_err-print_cuts.field-0.0) c.in_err-print_cuts.ensures in
     printed_partly (Tells job w) _ Done t _ h _ _ r.1 r.2
 
 pub returns : goal.returns
@@ -81,6 +81,6 @@ returns g c = λ job w is e.
     let d = are_drawn job w p is e kinds (λ o h. c.lawful_systems.ensures.observers p.system o sound h) c.drawn_sets.ensures.meant (Cuts f) c.requires.answer in
     let few = few_counted c.stored_sections.ensures c.room_for_families.ensures f.store f.root.n p.nodes c.len-sound_store.ensures.sound c.requires.answer.1 c.requires.within in
     let t = cuts_told job w p is e (sets_of f) _ d.0 d.1
-        (λ o q. c.cuts_of_the_source.ensures w.source p.system is.flat.flat w.dropped p.forest (forest_is job w p is e) o (observed job w p is e) q (table job w p is e).wanted.value (sets_of f) _ d.1 c.in_ok-lister.ensures.lines)
-        few in
+    (λ o q. c.cuts_of_the_source.ensures w.source p.system is.flat.flat w.dropped p.forest (forest_is job w p is e) o (observed job w p is e) q (table job w p is e).wanted.value (sets_of f) _ d.1 c.in_ok-lister.ensures.lines)
+    few in
     printed_whole (Tells job w) _ Done t tt (rw c.in_ok-counted.ensures.sets at c.in_ok-print_cuts.ensures)

@@ -1,5 +1,5 @@
 -- The cuts of a job, as they are written.
-use Rattle.std.proofs.Common.{◌≡◌, ◌≢◌, ◌<◌, ◌≤◌, ℕ, zero, suc, List, [], ◌∷◌, Result, Ok, Err, length, reverse, refl, sym, ◌∙◌, ap, subst, arith}
+use Rattle.std.proofs.Common.{◌≡◌, ◌≢◌, ◌≤◌, ℕ, zero, suc, List, [], ◌∷◌, Result, Ok, Err, length, reverse, refl, sym, ◌∙◌, ap, subst, arith}
 use Rattle.ar_base.specs.Lists.{Stands}
 use Rattle.ar_base.specs.Lists as l
 use Rattle.ar_base.proofs.Standing.{stands_some, stands_map, one_here, along_back}
@@ -12,12 +12,11 @@ use Rattle.ar_meaning.specs.Facts.{AreKeyed}
 use Rattle.ar_meaning.specs.Flows.{FlowFault}
 use Rattle.ar_meaning.specs.FlatOf.{IsNumber, IsFlatOf}
 use Rattle.ar_meaning.specs.Image.{Expr_renames}
-use Rattle.ar_meaning.specs.TraceText.{Naming}
 use Rattle.ar_meaning.proofs.ByNumber.{keyed}
 use Rattle.ar_meaning.proofs.FlatSystems.{flat_image, flat_back}
 use Rattle.ar_firing.specs.Static.{IsKeyedStatic}
 use Rattle.ar_firing.specs.Cuts.{Conflicts, Cut, ConflictSet, IsConflictFree}
-use Rattle.ar_firing.specs.Forest.{ModeTree, IsForest}
+use Rattle.ar_firing.specs.Forest.{IsForest}
 use Rattle.ar_firing.specs.Listed.{AreListed}
 use Rattle.ar_firing.specs.Operands.{Agrees}
 use Rattle.ar_firing.proofs.RulesHold.{all_static}
@@ -41,7 +40,6 @@ use Rattle.zdd_families.proofs.Sections.{counted_nil, IsMoreThan-weaker}
 use Rattle.zdd_families.proofs.Halves.{counted_unit}
 use Rattle.zdd_nodes.specs.Nodes.{Stored, family, IsNumber as IsNode, IsSoundStore, IsStored}
 use Rattle.zdd_nodes.specs.Room.{SectionsAreStored, EachTakesANode}
-use Rattle.eq_core.specs.Gates.{Table}
 use Rattle.eq_core.specs.Ordered.{IsOrderedTable}
 use Rattle.eq_core.specs.Values.{value_at}
 use Rattle.eq_core.specs.Views.{table_of}
@@ -51,8 +49,7 @@ use Rattle.tree_equations.specs.Gives as gives
 use Rattle.gate_diagrams.specs.Answers.{IsAnswer}
 use Rattle.gate_diagrams.specs.Needed.{NodesMay}
 use Rattle.gate_diagrams.specs.declared.answer.Drawn.{Drawn}
-use Rattle.gate_diagrams.specs.declared.answer.Family.{Family}
-use Rattle.drawn_cuts.specs.Drawn.{AreDrawn, sets_of}
+use Rattle.drawn_cuts.specs.Drawn.{AreDrawn}
 use Rattle.drawn_cuts.specs.Laws.{DrawnAreMeant, NodesByNumbers}
 use Rattle.min_cuts.specs.Lines.{AreInFiringOrder}
 use Rattle.cut_text.specs.Answers.{Prints}
@@ -66,7 +63,7 @@ use Rattle.altarica_run.specs.Passing.{IsReady, IsGateTable}
 use Rattle.altarica_run.specs.Passing as passing
 use Rattle.altarica_run.specs.Stages.{Ready, is_static as asks_static, has_table}
 use Rattle.altarica_run.specs.Telling.{IsWritten, whole, cut, nothing, status_printed}
-use Rattle.altarica_run.specs.Tells.{Tells, cuts, conflict, nodes, nodes_line, IsCutsText, MayNeedMore}
+use Rattle.altarica_run.specs.Tells.{Tells, cuts, conflict, nodes, nodes_line}
 use Rattle.altarica_run.specs.declared.stages.Prepared.{Prepared}
 use Rattle.altarica_run.specs.declared.status.Status.{Status}
 use Rattle.altarica_run.specs.declared.status.Status.TheVariants.{Done, Fault, Nodes}

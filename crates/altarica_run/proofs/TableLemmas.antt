@@ -26,7 +26,7 @@ use Rattle.tree_equations.specs.Gives as gives
 use Rattle.tree_equations.specs.declared.fault.EqFault.{EqFault}
 use Rattle.tree_equations.specs.declared.fault.EqFault.TheVariants as table
 use Rattle.wanted_values.specs.declared.wanting.Wanted.{Wanted}
-use Rattle.altarica_run.specs.Passing.{stop_of_table, IsStageOf, IsThere, IsForestOf, IsGateTable, HasTable}
+use Rattle.altarica_run.specs.Passing.{stop_of_table, IsStageOf, IsThere, IsForestOf, HasTable}
 use Rattle.altarica_run.specs.Stages.{Ready, Tabled, fits, exceeds, has_table, IsTableOf}
 use Rattle.altarica_run.specs.declared.stops.Stop.{Stop}
 use Rattle.altarica_run.specs.declared.stops.Stop.TheVariants.{Memory}

@@ -1,13 +1,10 @@
-use Rattle.std.proofs.Common.{◌≡◌, ℕ, Err, sym, subst}
+use Rattle.std.proofs.Common.{Err}
 use Rattle.std.proofs.lemmas.Result.{err_from_is_err_and}
-use Rattle.ar_io.specs.Writing.{SinkState}
 use Rattle.mode_forests.specs.Views.{trees_of, number_in}
 use Rattle.eq_core.specs.Views.{table_of}
 use Rattle.gate_diagrams.specs.declared.answer.Drawn.TheVariants.{Cuts}
 use Rattle.drawn_cuts.specs.Drawn.{sets_of}
-use Rattle.min_cuts.specs.Sizes.{count}
-use Rattle.cut_text.specs.Answers.{Prints}
-use Rattle.cut_text.specs.Printed.{edges_of, cuts_text}
+use Rattle.cut_text.specs.Printed.{edges_of}
 use Rattle.altarica_run.specs.Tells.{Tells}
 use Rattle.altarica_run.specs.declared.status.Status.TheVariants.{Done}
 use Rattle.altarica_run.proofs.CutLemmas.{both, counted_text, own_forest, forest_is, table, observed, are_drawn, few_counted, cuts_told, none_printed, printed_partly, printed_whole}

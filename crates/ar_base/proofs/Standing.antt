@@ -172,3 +172,22 @@ module _ {A B : Type 0} {R : A → B → Type 0} where
   along_length [] (y ∷ ys) h = elim h [ ]
   along_length (x ∷ xs) [] h = elim h [ ]
   along_length (x ∷ xs) (y ∷ ys) (one_and r rest) = ap suc (along_length xs ys rest)
+
+-- below the next place is below this one or at it
+pub at_most : (k i : ℕ) → k < i + 1 → (k < i) ⊎ (k ≡ i)
+at_most zero zero h = inr refl
+at_most zero (suc i) h = inl (omega arith)
+at_most (suc k) zero h = absurd (omega arith)
+at_most (suc k) (suc i) h = elim (at_most k i (omega arith)) [ inl a ↦ inl (omega arith) | inr a ↦ inr (ap suc a) ]
+
+-- the item that was read below the length stands there
+pub stands_item : {A : Type 0} (xs : List A) (i : ℕ) (a : A) → i < length xs → a ≡ get_or xs i a → Stands xs i a
+stands_item xs i a h is = subst (λ z. Stands xs i z) (sym is) (stands_get xs i a h)
+
+-- the one item of a list
+pub only_item : {A : Type 0} (x y : A) → IsOneOf (x ∷ []) y → x ≡ y
+only_item {A} x y o = go o.place o.stands
+  where
+    go : (k : ℕ) → Stands (x ∷ []) k y → x ≡ y
+    go zero s = cc
+    go (suc k) s = absurd (stands_none k y s)

@@ -5,3 +5,4 @@ pub mod Breach
 pub mod Counts
 pub mod Texts
 pub mod Stages
+pub mod Least

@@ -22,3 +22,4 @@ pub mod Lengths
 pub mod Answering
 pub mod Moments
 pub mod Completing
+pub mod Found

@@ -13,7 +13,8 @@ use Rattle.ar_syntax.specs.declared.members.TypeForm.{TypeForm}
 use Rattle.ar_syntax.specs.declared.members.TypeForm.TheVariants as type_form
 use Rattle.ar_parser.specs.declared.lexeme.Refusal.{Refusal}
 use Rattle.ar_parser.specs.declared.lexeme.Refusal.TheVariants.{Syntax, Depth, Memory}
-use Rattle.ar_parser.specs.Words.{NameId, Form, Tokens, kind_or, token, no_kind, deep, ◌▸◌, ◌∣◌, nothing, between, each, many, groups, concat}
+use Rattle.ar_base.specs.Numbers.{NameId}
+use Rattle.ar_parser.specs.Words.{Form, Tokens, kind_or, token, no_kind, deep, ◌▸◌, ◌∣◌, nothing, between, each, many, groups, concat}
 use Rattle.ar_parser.specs.Members.{IsTypeForm, IsDeclared, IsSingle, boolean, IsMember, named, IsSection, IsLater, AreSections, none, some, IsBody}
 use Rattle.ar_parser.specs.Texts.{list_of, path_text, is_type, expr_text, instr_text, declared_rest, body_text}
 use Rattle.ar_parser.specs.Texts as text

@@ -15,7 +15,8 @@ use Rattle.ar_syntax.specs.declared.members.TypeForm.{TypeForm}
 use Rattle.ar_syntax.specs.declared.members.TypeForm.TheVariants as type_form
 use Rattle.ar_syntax.specs.declared.members.Word.{Word}
 use Rattle.ar_syntax.specs.declared.members.Word.TheVariants as word
-use Rattle.ar_parser.specs.Words.{NameId, Form, Tokens, kind_or, token, deep, ◌▸◌, nothing, each, many, separated, standing, StandsAt, place_at, between, ◌∣◌}
+use Rattle.ar_base.specs.Numbers.{NameId}
+use Rattle.ar_parser.specs.Words.{Form, Tokens, kind_or, token, deep, ◌▸◌, nothing, each, many, separated, standing, StandsAt, place_at, between, ◌∣◌}
 use Rattle.ar_parser.specs.Paths.{IsName, IsPlacedName, AreNames}
 use Rattle.ar_parser.specs.Expressions.{Node, IsExpr}
 use Rattle.ar_parser.specs.Members.{IsType, IsTypeForm, IsWord, IsSetting, AreSettings}

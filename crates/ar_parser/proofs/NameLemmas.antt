@@ -24,7 +24,8 @@ use Rattle.ar_lexer.proofs.Laws.{tokens_one, tokens_no_fault, fault_one}
 use Rattle.ar_parser.specs.declared.lexeme.Lexeme.{Lexeme}
 use Rattle.ar_parser.specs.declared.lexeme.ParseFault.{ParseFault}
 use Rattle.ar_parser.specs.declared.lexeme.ParseFault.TheVariants.{Lex, Memory}
-use Rattle.ar_parser.specs.Words.{NameId, Tokens}
+use Rattle.ar_base.specs.Numbers.{NameId}
+use Rattle.ar_parser.specs.Words.{Tokens}
 use Rattle.ar_parser.specs.Names.{IsSpelled, AreSpelled, lexeme_of}
 use Rattle.ar_parser.specs.Models.{token_of, text_of, IsNumbered, name, other, AreNumbered, AreLexemes, HasFaultAt, IsPlaceOf}
 use Rattle.ar_parser.specs.Names.{fault_of}

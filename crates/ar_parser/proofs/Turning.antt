@@ -14,7 +14,8 @@ use Rattle.ar_syntax.specs.declared.expressions.RawForm.{RawForm}
 use Rattle.ar_syntax.specs.declared.expressions.RawForm.TheVariants as form
 use Rattle.ar_parser.specs.declared.terms.Chain.{Chain}
 use Rattle.ar_parser.specs.declared.terms.Chain.TheVariants.{Any, All, Product}
-use Rattle.ar_parser.specs.Words.{NameId, Form, Tokens, token, deep, ◌▸◌, between, each, many, separated, Has}
+use Rattle.ar_base.specs.Numbers.{NameId}
+use Rattle.ar_parser.specs.Words.{Form, Tokens, token, deep, ◌▸◌, between, each, many, separated, Has}
 use Rattle.ar_parser.specs.Paths.{IsName, IsPlacedName, IsStart, IsPath}
 use Rattle.ar_parser.specs.Expressions.{Node, OneOrMore, one, more, IsProduct, IsTerm, AreTerms, IsSum, IsCompare, two, IsAnd, negated, plain, choice, IsCase, IsSwitch, IsIf, IsPrimary, truth, falsehood, whole, real, path, brackets, least, greatest, count, switch, AreOperands, IsExpr, IsNot, IsMinus}
 use Rattle.ar_parser.specs.Chains.{operand_form}

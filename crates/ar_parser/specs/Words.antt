@@ -2,15 +2,9 @@
 use Rattle.std.specs.Prelude.{◌≡◌, ◌≢◌, ℕ, ◌⊎◌, List, [], ◌∷◌, ◌++◌}
 use Rattle.ar_base.specs.declared.places.Place.{Place}
 use Rattle.ar_base.specs.declared.places.Span.{Span}
-use Rattle.ar_base.specs.declared.numbers.Id.{Id}
-use Rattle.ar_base.specs.declared.numbers.NameKind.{NameKind}
 use Rattle.ar_lexer.specs.declared.token.TokenKind.{TokenKind}
 use Rattle.ar_lexer.specs.declared.token.TokenKind.TheVariants.{Sign}
 use Rattle.ar_parser.specs.declared.lexeme.Lexeme.{Lexeme}
-
--- the number of a name
-abbrev pub NameId : Type 0
-NameId = Id NameKind
 
 abbrev pub Tokens : Type 0
 Tokens = List Lexeme

@@ -13,7 +13,8 @@ use Rattle.ar_syntax.specs.declared.paths.Path.{Path}
 use Rattle.ar_syntax.specs.declared.expressions.RawExpr.{RawExpr}
 use Rattle.ar_syntax.specs.declared.expressions.RawForm.{RawForm}
 use Rattle.ar_parser.specs.declared.lexeme.Lexeme.{Lexeme}
-use Rattle.ar_parser.specs.Words.{NameId, Form, Tokens, kind_or, token, ◌▸◌, between, each, separated, standing, StandsAt}
+use Rattle.ar_base.specs.Numbers.{NameId}
+use Rattle.ar_parser.specs.Words.{Form, Tokens, kind_or, token, ◌▸◌, between, each, separated, standing, StandsAt}
 use Rattle.ar_parser.specs.Paths.{IsName, IsPlacedName, AreNames, IsStart, IsPath}
 use Rattle.ar_parser.specs.Expressions as tree
 use Rattle.ar_parser.specs.Expressions.{Node, OneOrMore, IsProduct, IsTerm, AreTerms, IsSum, IsCompare, IsNegation, IsAnd, IsOr, IsIf, IsChoice, IsCase, IsSwitch, AreOperands, IsPrimary, IsMinusOf, IsExpr, IsNot, IsMinus}

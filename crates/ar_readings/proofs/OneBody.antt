@@ -16,7 +16,8 @@ use Rattle.ar_syntax.specs.declared.members.TypeForm.{TypeForm}
 use Rattle.ar_syntax.specs.declared.members.TypeForm.TheVariants as type_form
 use Rattle.ar_syntax.specs.declared.members.TypeName.{TypeName}
 use Rattle.ar_syntax.specs.declared.members.Unit.{Unit as UnitTree}
-use Rattle.ar_parser.specs.Words.{NameId, Form, Tokens, kind_or, token, ◌▸◌, between, groups, covering}
+use Rattle.ar_base.specs.Numbers.{NameId}
+use Rattle.ar_parser.specs.Words.{Form, Tokens, kind_or, token, ◌▸◌, between, groups, covering}
 use Rattle.ar_parser.specs.Paths.{IsPlacedName, IsPath}
 use Rattle.ar_parser.specs.Expressions.{Node, IsExpr}
 use Rattle.ar_parser.specs.Members.{IsTypeForm, IsType, IsEvent, IsDeclared, IsTransition, IsAssertion, IsSection, IsHidden, IsUnit, IsSingle, extends, boolean, clones, embeds, kept_value, parameter, observer, IsKeyed, single, block, event, hide, IsMember, keyed, named, IsLater, AreSections, some, IsBodyOf, IsBody, kept}

@@ -20,7 +20,8 @@ use Rattle.ar_syntax.specs.declared.members.TypeForm.TheVariants as type_form
 use Rattle.ar_syntax.specs.declared.members.TypeName.{TypeName}
 use Rattle.ar_syntax.specs.declared.members.Word.{Word}
 use Rattle.ar_syntax.specs.declared.members.Word.TheVariants as word
-use Rattle.ar_parser.specs.Words.{NameId, Form, Tokens, token, ◌▸◌, separated, between}
+use Rattle.ar_base.specs.Numbers.{NameId}
+use Rattle.ar_parser.specs.Words.{Form, Tokens, token, ◌▸◌, separated, between}
 use Rattle.ar_parser.specs.Paths.{IsPlacedName}
 use Rattle.ar_parser.specs.Expressions.{Node, IsExpr}
 use Rattle.ar_parser.specs.Instructions.{IsInstr}

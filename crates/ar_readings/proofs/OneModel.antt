@@ -14,7 +14,8 @@ use Rattle.ar_syntax.specs.declared.items.DomainBody.TheVariants as domain
 use Rattle.ar_syntax.specs.declared.items.DomainDecl.{DomainDecl}
 use Rattle.ar_syntax.specs.declared.items.Item.{Item}
 use Rattle.ar_syntax.specs.declared.items.Item.TheVariants as item
-use Rattle.ar_parser.specs.Words.{NameId, Form, Tokens, kind_or, token, nothing, ◌▸◌, ◌∣◌}
+use Rattle.ar_base.specs.Numbers.{NameId}
+use Rattle.ar_parser.specs.Words.{Form, Tokens, kind_or, token, nothing, ◌▸◌, ◌∣◌}
 use Rattle.ar_parser.specs.Models.{IsWhole, IsBound, whole, negated, IsDomainBody, IsDomain, IsItem, AreItems, text_of, IsNumbered, name, other, AreNumbered}
 use Rattle.ar_parser.specs.Results.{kind_at, anything, is_sign, is_word, ends_item, is_end}
 use Rattle.ar_parser.proofs.Finding.{fails, token_kind, then_kind}

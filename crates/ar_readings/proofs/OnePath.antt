@@ -9,7 +9,8 @@ use Rattle.ar_syntax.specs.declared.paths.Path.{Path}
 use Rattle.ar_syntax.specs.declared.paths.PathStart.{PathStart}
 use Rattle.ar_syntax.specs.declared.paths.PathStart.TheVariants.{Here, Owner, Main}
 use Rattle.ar_parser.specs.declared.lexeme.Lexeme.{Lexeme}
-use Rattle.ar_parser.specs.Words.{NameId, Form, Tokens, kind_or, separated}
+use Rattle.ar_base.specs.Numbers.{NameId}
+use Rattle.ar_parser.specs.Words.{Form, Tokens, kind_or, separated}
 use Rattle.ar_parser.specs.Paths.{IsName, IsPlacedName, AreNames, IsStart, IsPath}
 use Rattle.ar_parser.specs.Results.{anything, is_name, is_word, ends_path, ends_names}
 use Rattle.ar_parser.proofs.Finding.{cons_head, fails}

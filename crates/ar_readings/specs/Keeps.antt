@@ -26,7 +26,7 @@ use Rattle.ar_syntax.specs.declared.items.DomainBody.TheVariants as domain
 use Rattle.ar_syntax.specs.declared.items.Item.{Item}
 use Rattle.ar_syntax.specs.declared.items.Item.TheVariants as item
 use Rattle.ar_syntax.specs.declared.items.Model.{Model}
-use Rattle.ar_parser.specs.Words.{NameId}
+use Rattle.ar_base.specs.Numbers.{NameId}
 use Rattle.ar_parser.specs.Models.{Reads}
 use Rattle.ar_readings.specs.Expressions.{Listed, form_of}
 

@@ -3,7 +3,7 @@ use Rattle.std.specs.Prelude.{◌≡◌, ℕ, zero, suc, Vec}
 use Rattle.std.specs.declared.alloc.Global.{Global}
 use Rattle.ar_base.specs.Lists.{Along}
 use Rattle.ar_base.specs.declared.places.Place.{Place}
-use Rattle.ar_parser.specs.Words.{NameId}
+use Rattle.ar_base.specs.Numbers.{NameId}
 use Rattle.ar_syntax.specs.declared.paths.Path.{Path}
 use Rattle.ar_syntax.specs.declared.expressions.RawExpr.{RawExpr}
 use Rattle.ar_syntax.specs.declared.instructions.Instr.{Instr}

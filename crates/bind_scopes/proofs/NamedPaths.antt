@@ -10,7 +10,7 @@ use Rattle.ar_syntax.specs.declared.paths.PathStart.{PathStart}
 use Rattle.ar_syntax.specs.declared.paths.PathStart.TheVariants.{Here, Owner, Main}
 use Rattle.class_table.specs.Members.{NamedMember, MemberKind, Variable, Parameter, Kept, Event, Observer, Inner, Clone, Alias, member_named}
 use Rattle.hierarchy.specs.Models.{RootedModel}
-use Rattle.hierarchy.specs.Units.{UnitPath, Thing, names_at, name_at, kind_at, numbers, body_of, start_of}
+use Rattle.hierarchy.specs.Units.{UnitPath, Thing, names_at, name_at, kind_at, numbers, body_of, start_of, names_in}
 use Rattle.hierarchy.specs.Walks.{Finds, Has, LeadsTo, thing, is_variable, is_parameter, arrives, NamesLead, Reaches}
 use Rattle.hierarchy.specs.Listing.{variables, parameters, things_in}
 use Rattle.hierarchy.specs.Tie.{IsTreeOf, IsVariable, IsParameter, AnswersThing}
@@ -25,7 +25,7 @@ use Rattle.hierarchy.proofs.Things.{ComesFrom, flat_origin, listed_has}
 use Rattle.source_meaning.specs.Means.{is_valued, IsSymbol}
 use Rattle.source_meaning.specs.Tested as s
 use Rattle.unit_index.specs.Indexed.{same_pair}
-use Rattle.bind_scopes.specs.Members.{NamesSo, names_in}
+use Rattle.bind_scopes.specs.Members.{NamesSo}
 use Rattle.bind_scopes.specs.Searching.{variable_in, parameter_in}
 use Rattle.bind_scopes.specs.Sites.{owned_in, is_read}
 use Rattle.bind_scopes.specs.Scopes.{AreScopes, IsNamedIn, variable, parameter, symbol, nothing, HasScopes, symbol_by, is_read_in, first_named, named_in, IsScope, everything, constants, before, is_name, allowed, scoped_in}

@@ -4,6 +4,7 @@ use Rattle.std.specs.HashSet.{HashSet, contains}
 use Rattle.ar_base.specs.Lists.{IsOneOf}
 use Rattle.class_table.specs.Members.{NamedMember, named_at}
 use Rattle.hierarchy.specs.Models.{RootedModel}
+use Rattle.hierarchy.specs.Units.{names_in}
 use Rattle.unit_index.specs.Indexed.{same_pair}
 
 -- the name is in the set, for this body
@@ -15,10 +16,6 @@ pub record NamesSo (members : List NamedMember) (x : ℕ) : Type 0 where
   pub member : NamedMember
   pub is_one : IsOneOf members member
   pub name : member.name ≡ x
-
--- the names of the members of a body, inherited ones included
-abbrev pub names_in : RootedModel → ℕ → List NamedMember
-names_in m b = named_at m.declared (unwrap_or (slice_get m.members b) [])
 
 -- the names of these members were added, for this body
 pub record AddsNames {S : Type 0} (b : ℕ) (members : List NamedMember) (old new : HashSet (ℕ × ℕ) S) : Type 0 where

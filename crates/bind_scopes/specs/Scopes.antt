@@ -8,7 +8,7 @@ use Rattle.ar_syntax.specs.declared.paths.Path.{Path}
 use Rattle.ar_syntax.specs.declared.paths.PathStart.{PathStart}
 use Rattle.ar_syntax.specs.declared.paths.PathStart.TheVariants.{Here}
 use Rattle.hierarchy.specs.Models.{RootedModel}
-use Rattle.hierarchy.specs.Units.{UnitPath, Thing, numbers}
+use Rattle.hierarchy.specs.Units.{UnitPath, Thing, numbers, names_in}
 use Rattle.hierarchy.specs.Walks.{Finds, thing, is_variable}
 use Rattle.hierarchy.specs.Listing.{variables, parameters}
 use Rattle.hierarchy.specs.Tie.{IsTreeOf}
@@ -19,7 +19,7 @@ use Rattle.source_meaning.specs.Means.{is_valued, IsSymbol}
 use Rattle.source_meaning.specs.Tested as s
 use Rattle.unit_sizes.specs.Typing.{KnowsPlaces}
 use Rattle.unit_index.specs.Indexed.{same_pair, IsIndexOf}
-use Rattle.bind_scopes.specs.Members.{HasName, NamesSo, names_in}
+use Rattle.bind_scopes.specs.Members.{HasName, NamesSo}
 use Rattle.bind_scopes.specs.Searching.{variable_in, parameter_in}
 use Rattle.bind_scopes.specs.Sites.{owned_in, is_read}
 use Rattle.bind_scopes.specs.declared.scopes.Named.{Named}

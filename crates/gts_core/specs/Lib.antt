@@ -5,3 +5,4 @@ pub mod Copies
 pub mod Bound
 pub mod Readings
 pub mod Lawful
+pub mod Named

@@ -2,7 +2,7 @@
 use Rattle.std.proofs.Common.{◌≡◌, ℕ, ◌+◌, inl, inr, Bool, true, false, List, length, set, Option, Some, None, refl, sym, ap, ◌∙◌, subst, arith}
 use Rattle.ar_base.specs.Lists.{Stands}
 use Rattle.ar_base.specs.Numbers.{VarId}
-use Rattle.ar_base.proofs.Standing.{stands_one, stands_within}
+use Rattle.ar_base.proofs.Standing.{stands_one, stands_within, at_most}
 use Rattle.ar_meaning.specs.Systems as s
 use Rattle.ar_meaning.specs.Found.{IsFirstOrNone}
 use Rattle.ar_firing.specs.Fragment.{IsStateOf}
@@ -12,7 +12,7 @@ use Rattle.gts_core.specs.declared.system.Variable.{Variable}
 use Rattle.gts_core.specs.declared.system.GtsParts.{GtsParts}
 use Rattle.mode_ways.specs.Modes.{IsStateAt, number_in}
 use Rattle.kept_ways.specs.Events.{IsFirstBelow, AreFirstStates, first_with}
-use Rattle.kept_ways.proofs.Reading.{at_most, told, stands_set_other, stands_set_same, long_set}
+use Rattle.kept_ways.proofs.Reading.{told, stands_set_other, stands_set_same, long_set}
 
 module _ (p : GtsParts) where
   state_back : (unit k : ℕ) (y : s.Variable ℕ) → Stands (net_of p).variables k y → IsStateOf unit y → IsStateAt p unit k

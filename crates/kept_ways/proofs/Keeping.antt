@@ -3,7 +3,7 @@ use Rattle.std.proofs.Common.{◌≡◌, ℕ, ◌+◌, ◌<◌, ◌≤◌, ◌�
 use Rattle.std.proofs.lemmas.List.{append-nil}
 use Rattle.ar_base.specs.Lists.{Stands, IsOneOf, HasNo, Along, none, one_and}
 use Rattle.ar_base.specs.Numbers.{EventId, WayId}
-use Rattle.ar_base.proofs.Standing.{stands_one, stands_within, stands_none, stands_split, one_left, one_right, one_first}
+use Rattle.ar_base.proofs.Standing.{stands_one, stands_within, stands_none, stands_split, one_left, one_right, one_first, at_most}
 use Rattle.ar_meaning.specs.Runs.{Label}
 use Rattle.ar_firing.specs.Fragment.{IsStateOf}
 use Rattle.gts_core.specs.View.{net_of}
@@ -11,7 +11,6 @@ use Rattle.gts_core.specs.declared.system.Event.{Event}
 use Rattle.gts_core.specs.declared.system.GtsParts.{GtsParts}
 use Rattle.kept_ways.specs.declared.kept.KeptWay.{KeptWay}
 use Rattle.kept_ways.specs.Kept.{IsLocal, IsKeptOf, IsNoKept, items_of, ComesBefore, IsKeptAt, IsToKeep, AreKept, Extends, Continues}
-use Rattle.kept_ways.proofs.Reading.{at_most}
 
 abbrev pub at_label : ℕ → ℕ → Label
 at_label event way = record { event = event; way = way }

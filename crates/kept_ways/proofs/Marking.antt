@@ -3,14 +3,14 @@ use Rattle.std.proofs.Common.{◌≡◌, ◌==◌, ℕ, suc, ◌+◌, ◌<◌, �
 use Rattle.std.proofs.lemmas.Bool.Decides.{nat_tests}
 use Rattle.ar_base.specs.Lists.{Stands, IsOneOf}
 use Rattle.ar_base.specs.Numbers.{EventId, WayId}
-use Rattle.ar_base.proofs.Standing.{stands_one, stands_none, stands_map, stands_map_back}
+use Rattle.ar_base.proofs.Standing.{stands_one, stands_none, stands_map, stands_map_back, at_most}
 use Rattle.ar_meaning.specs.Found.{IsAnswer}
 use Rattle.gts_core.specs.declared.system.Event.{Event}
 use Rattle.gts_core.specs.declared.system.Way.{Way}
 use Rattle.gts_core.specs.declared.system.GtsParts.{GtsParts}
 use Rattle.mode_ways.proofs.Added.{taken_cases, taken_here, taken_more, any_default}
 use Rattle.kept_ways.specs.Events.{AreMarks, numbers_of, IsSync, IsJoint, HasJoint, IsJointAt, Moves, AreMoving, StillMoves}
-use Rattle.kept_ways.proofs.Reading.{flags_put, answer_as, at_most, long_set}
+use Rattle.kept_ways.proofs.Reading.{flags_put, answer_as, long_set}
 
 -- a number is one of those of events
 one_number : (events : List EventId) (e : EventId) → IsOneOf events e → IsOneOf (numbers_of events) e.n

@@ -2,23 +2,13 @@
 use Rattle.std.proofs.Common.{◌≡◌, ℕ, zero, suc, ◌+◌, ◌<◌, ◌⊎◌, inl, inr, Bool, true, false, List, [], ◌∷◌, length, get_or, set, replicate, Result, Ok, Err, IfOk, refl, sym, ap, subst, arith}
 use Rattle.ar_base.specs.declared.faults.Memory.{Memory}
 use Rattle.ar_base.specs.Lists.{Stands}
-use Rattle.ar_base.proofs.Standing.{stands_one, stands_none}
+use Rattle.ar_base.proofs.Standing.{stands_one, stands_none, at_most}
 use Rattle.ar_meaning.specs.Found.{IsAnswer}
-
-pub at_most : (k i : ℕ) → k < i + 1 → (k < i) ⊎ (k ≡ i)
-at_most zero zero h = inr refl
-at_most zero (suc i) h = inl (omega arith)
-at_most (suc k) zero h = absurd (omega arith)
-at_most (suc k) (suc i) h = elim (at_most k i (omega arith)) [ inl a ↦ inl (omega arith) | inr a ↦ inr (ap suc a) ]
 
 pub stands_read : {A : Type 0} (xs : List A) (i : ℕ) (d : A) → i < length xs → Stands xs i (get_or xs i d)
 stands_read [] i d h = absurd (omega arith)
 stands_read (x ∷ xs) zero d h = refl
 stands_read (x ∷ xs) (suc i) d h = stands_read xs i d (omega arith)
-
--- the item that was read stands there
-pub stands_item : {A : Type 0} (xs : List A) (i : ℕ) (a : A) → i < length xs → a ≡ get_or xs i a → Stands xs i a
-stands_item xs i a h is = subst (λ z. Stands xs i z) (sym is) (stands_read xs i a h)
 
 -- one item more that has not P
 pub before_more : {A : Type 0} (xs : List A) (i : ℕ) (a : A) (P : ℕ → A → Type 0) → ((k : ℕ) (x : A) → k < i → Stands xs k x → P k x → ⊥) → Stands xs i a → (P i a → ⊥)

@@ -2,8 +2,7 @@
 use Rattle.std.proofs.Common.{◌≡◌, ◌<◌, ◌≤◌, ◌+◌, ℕ, ◌⊎◌, inl, inr, List, [], ◌++◌, map, length, refl, sym, ap, ◌∙◌, subst, arith}
 use Rattle.ar_base.specs.Lists.{Stands, IsOneOf}
 use Rattle.ar_base.specs.Numbers.{VarId}
-use Rattle.ar_base.proofs.Standing.{stands_one, stands_within, stands_none, stands_left, stands_right, stands_split, stands_map, stands_map_back}
-use Rattle.kept_ways.proofs.Reading.{at_most}
+use Rattle.ar_base.proofs.Standing.{stands_one, stands_within, stands_none, stands_left, stands_right, stands_split, stands_map, stands_map_back, at_most}
 use Rattle.mode_forests.specs.declared.forests.Edge.{Edge}
 use Rattle.mode_edges.specs.declared.searching.Reach.{Reach}
 use Rattle.live_edges.specs.declared.listing.Live.{Live}

@@ -3,9 +3,9 @@ use Rattle.std.proofs.Common.{◌≡◌, ◌<◌, ◌≤◌, ◌+◌, ℕ, zero,
 use Rattle.std.proofs.lemmas.Bool.Decides.{nat_tests}
 use Rattle.ar_base.specs.Lists.{Stands}
 use Rattle.ar_base.specs.Numbers.{EventId}
-use Rattle.ar_base.proofs.Standing.{stands_one, stands_none, stands_left, stands_split, stands_next}
+use Rattle.ar_base.proofs.Standing.{stands_one, stands_none, stands_left, stands_split, stands_next, at_most}
 use Rattle.kept_ways.specs.Events.{IsLeast}
-use Rattle.kept_ways.proofs.Reading.{at_most, told, stands_read, stands_set_other, stands_set_same, long_set, stands_repeat, long_repeat}
+use Rattle.kept_ways.proofs.Reading.{told, stands_read, stands_set_other, stands_set_same, long_set, stands_repeat, long_repeat}
 use Rattle.live_edges.specs.declared.listing.Live.{Live}
 use Rattle.live_edges.specs.declared.sharing.Sharing.{Sharing}
 use Rattle.live_edges.specs.Sharing.{IsFirstOf, HasFirst, IsKnown, IsShared, lesser_of, IsLiveIn, IsSharing, IsEmptySharing, Notes, again, fresh}

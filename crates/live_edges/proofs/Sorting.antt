@@ -4,8 +4,7 @@ use Rattle.std.proofs.lemmas.Bool.Decides.{nat_tests}
 use Rattle.std.proofs.lemmas.List.{append-nil, take_more, length_push}
 use Rattle.std.proofs.lemmas.List.Elements.{filter-append}
 use Rattle.ar_base.specs.Lists.{Stands}
-use Rattle.ar_base.proofs.Standing.{stands_none, stands_split}
-use Rattle.mode_ways.proofs.Added.{only_item}
+use Rattle.ar_base.proofs.Standing.{stands_none, stands_split, only_item}
 use Rattle.kept_ways.specs.declared.kept.KeptWay.{KeptWay}
 use Rattle.kept_ways.proofs.Reading.{told, stands_set_other, stands_set_same, long_set, stands_read}
 use Rattle.live_edges.specs.Rows.{is_of, ways_of, AreBelow, AreRows, Puts}

@@ -4,7 +4,7 @@ use Rattle.std.specs.List.{filter}
 use Rattle.std.proofs.lemmas.List.{length_push}
 use Rattle.ar_base.specs.Lists.{Stands}
 use Rattle.ar_base.specs.Numbers.{WayId}
-use Rattle.ar_base.proofs.Standing.{stands_one, stands_within, stands_none, stands_split, along_back}
+use Rattle.ar_base.proofs.Standing.{stands_one, stands_within, stands_none, stands_split, along_back, at_most, only_item}
 use Rattle.ar_meaning.specs.Systems.{System, Leaf, Way as Ways}
 use Rattle.ar_meaning.specs.Runs.{Label}
 use Rattle.ar_firing.specs.Fragment.{IsModeOf}
@@ -15,10 +15,8 @@ use Rattle.gts_core.proofs.Viewing.{variables_long}
 use Rattle.gts_core.specs.declared.system.Way.{Way}
 use Rattle.gts_core.specs.declared.system.GtsParts.{GtsParts}
 use Rattle.mode_ways.specs.Modes.{transition_of}
-use Rattle.mode_ways.proofs.Added.{only_item}
 use Rattle.kept_ways.specs.Kept.{ComesBefore, IsKeptAt}
 use Rattle.kept_ways.specs.declared.kept.KeptWay.{KeptWay}
-use Rattle.kept_ways.proofs.Reading.{at_most}
 use Rattle.mode_edges.specs.Reached.{AreInside, AreApart, IsReach}
 use Rattle.mode_edges.specs.declared.searching.Reach.{Reach}
 use Rattle.live_edges.specs.Rows.{is_of, ways_of, AreBelow}

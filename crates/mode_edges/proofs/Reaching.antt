@@ -2,14 +2,13 @@
 use Rattle.std.proofs.Common.{◌≡◌, ℕ, zero, suc, ◌+◌, ◌<◌, ◌≤◌, ◌⊎◌, inl, inr, Bool, true, false, List, [], ◌∷◌, ◌++◌, map, length, get_or, Contains, refl, sym, ap, ◌∙◌, subst, arith}
 use Rattle.std.proofs.lemmas.List.{append-nil, map-append}
 use Rattle.ar_base.specs.Lists.{Stands, IsOneOf, AreDifferent}
-use Rattle.ar_base.proofs.Standing.{stands_one, stands_within, stands_none, stands_left, stands_split, stands_next, stands_map_back, one_here, one_first, one_none, one_cases, one_split, one_left, one_right, different_more}
+use Rattle.ar_base.proofs.Standing.{stands_one, stands_within, stands_none, stands_left, stands_split, stands_next, stands_map_back, one_here, one_first, one_none, one_cases, one_split, one_left, one_right, different_more, at_most, only_item}
 use Rattle.domains.specs.declared.Value.{Value}
 use Rattle.gts_core.specs.declared.system.GtsParts.{GtsParts}
 use Rattle.mode_ways.specs.declared.moves.Move.{Move}
 use Rattle.mode_ways.specs.declared.moves.Move.TheVariants.{Still, To, Wrong}
-use Rattle.mode_ways.proofs.Added.{only_item}
 use Rattle.kept_ways.specs.declared.kept.KeptWay.{KeptWay}
-use Rattle.kept_ways.proofs.Reading.{at_most, stands_read}
+use Rattle.kept_ways.proofs.Reading.{stands_read}
 use Rattle.mode_forests.specs.declared.forests.Edge.{Edge}
 use Rattle.mode_edges.specs.declared.searching.Reach.{Reach}
 use Rattle.mode_edges.specs.Reached.{AreApart, Leads, IsMoveOf, Setting, IsEdgeOf, IsReachable, here, along, EntersAgain, IsAgain, IsStart, AddsEdge, known, fresh, AddsMove, IsDone, IsRecorded, Records, IsFound, IsReaching, Expands}

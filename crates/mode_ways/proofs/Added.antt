@@ -2,17 +2,10 @@
 use Rattle.std.proofs.Common.{◌≡◌, ℕ, zero, suc, ◌+◌, ◌<◌, ◌≤◌, ◌⊎◌, inl, inr, List, [], ◌∷◌, ◌++◌, length, drop, take, take_all, get_or, refl, sym, ap, ◌∙◌, subst, arith}
 use Rattle.std.proofs.lemmas.List.{at_drop_more, at_drop_all, take_more}
 use Rattle.ar_base.specs.Lists.{Stands, IsOneOf}
-use Rattle.ar_base.proofs.Standing.{stands_none, one_none, one_here, one_first, one_split, one_left, one_right}
+use Rattle.ar_base.proofs.Standing.{stands_none, one_none, one_here, one_first, one_split, one_left, one_right, only_item}
 use Rattle.mode_ways.specs.Adding.{Adds, HasThose, SomeHas, in_this, in_later}
 
 module _ {A : Type 0} where
-  pub only_item : (x y : A) → IsOneOf (x ∷ []) y → x ≡ y
-  only_item x y o = go o.place o.stands
-    where
-      go : (k : ℕ) → Stands (x ∷ []) k y → x ≡ y
-      go zero s = cc
-      go (suc k) s = absurd (stands_none k y s)
-
   pub adds_none : (P : A → Type 0) (xs : List A) → ((x : A) → P x → ⊥) → Adds P xs xs
   adds_none P xs lacks = record { grows = λ q o. o; only = λ q o. inl o; all = λ x p. absurd (lacks x p) }
 

@@ -3,7 +3,7 @@ use Rattle.std.proofs.Common.{◌≡◌, ℕ, ◌+◌, ◌<◌, ◌≤◌, Bool,
 use Rattle.std.proofs.lemmas.Bool.Decides.{nat_tests}
 use Rattle.ar_base.specs.Lists.{IsOneOf}
 use Rattle.ar_base.specs.Numbers.{VarId}
-use Rattle.ar_base.proofs.Standing.{one_contains, contains_one, one_first}
+use Rattle.ar_base.proofs.Standing.{one_contains, contains_one, one_first, only_item}
 use Rattle.domains.specs.declared.Value.{Value}
 use Rattle.domains.specs.declared.Value.TheVariants.{Truth}
 use Rattle.typed_expr.specs.Sets.{HasExactly}
@@ -17,7 +17,7 @@ use Rattle.gts_core.proofs.Numbering.{yields_numbered, yields_back}
 use Rattle.gts_core.specs.declared.system.Assign.{Assign}
 use Rattle.mode_ways.specs.Adding.{Adds}
 use Rattle.mode_ways.specs.Moves.{values_at, HasAt, GivesValue}
-use Rattle.mode_ways.proofs.Added.{only_item, next_left, none_left, adds_none, adds_these}
+use Rattle.mode_ways.proofs.Added.{next_left, none_left, adds_none, adds_these}
 
 same : (m n : ℕ) → nat_eq m n ≡ true → m ≡ n
 same m n e = grind (arith, nat_tests)
@@ -83,13 +83,3 @@ module _ (x : ℕ) (values : List Value) where
   pub gives_set : (a : Assign) (set old new : List Value) → a.target.n ≡ x → Passes (HasAt x values) (assign_of a).conditions × HasExactly set (Yields (HasAt x values) (out-Expr ℕ (assign_of a).value)) → new ≡ old ++ set → Adds (GivesValue (HasAt x values) x a) old new
   gives_set a set old new t h e = adds_these (GivesValue (HasAt x values) x a) set old new
       (λ v o. record { target = t; passes = h.0; yields = h.1.sound v (contains_one set v o) }) (λ v g. one_contains set v (h.1.complete v g.yields)) e
-
--- the test says that P holds
-pub holds : (P : Type 0) (b : Bool) → b ≡ true → IsAnswer b P → P
-holds P true e h = h
-holds P false e h = absurd (cc e)
-
--- the test says that P does not hold
-pub fails : (P : Type 0) (b : Bool) → b ≡ false → IsAnswer b P → P → ⊥
-fails P true e h = absurd (cc e)
-fails P false e h = h

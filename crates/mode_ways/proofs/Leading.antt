@@ -1,6 +1,6 @@
 -- Where transitions lead.
 use Rattle.std.proofs.Common.{◌≡◌, ℕ, true, List, [], ◌∷◌, Contains, slice_get, Some, None, refl, sym, ap, ◌∙◌, subst, arith}
-use Rattle.ar_base.specs.Lists.{IsOneOf}
+use Rattle.ar_base.specs.Lists.{IsOneOf, HasOther}
 use Rattle.ar_base.specs.Numbers.{VarId}
 use Rattle.ar_base.proofs.Standing.{one_contains, contains_one, one_none, stands_map, stands_map_back}
 use Rattle.domains.specs.declared.Value.{Value}
@@ -22,7 +22,7 @@ use Rattle.mode_ways.specs.declared.moves.Move.{Move}
 use Rattle.mode_ways.specs.declared.moves.Move.TheVariants.{Still, To, Wrong}
 use Rattle.mode_ways.specs.Adding.{HasThose, SomeHas}
 use Rattle.mode_ways.specs.Modes.{transition_of}
-use Rattle.mode_ways.specs.Moves.{HasAt, GivesValue, IsMove, IsJudged, HasOther}
+use Rattle.mode_ways.specs.Moves.{HasAt, GivesValue, IsMove, IsJudged}
 use Rattle.mode_ways.proofs.Added.{some_item, some_here}
 use Rattle.mode_ways.proofs.FactsAt.{at_there, at_back}
 

@@ -14,7 +14,8 @@ use Rattle.ar_firing.specs.Fragment.{Involves, as_target, as_source, GuardNames,
 use Rattle.gts_core.specs.View.{numbered, condition_of, assign_of}
 use Rattle.gts_core.proofs.Numbering.{IsNumber, renames_numbered}
 use Rattle.gts_core.specs.declared.system.Assign.{Assign}
-use Rattle.mode_ways.specs.Named.{ReadsVariable, NamesVariable, OneNames}
+use Rattle.gts_core.specs.Named.{ReadsVariable}
+use Rattle.mode_ways.specs.Named.{NamesVariable, OneNames}
 use Rattle.mode_ways.specs.Modes.{transition_of}
 use Rattle.mode_ways.proofs.Added.{some_item, some_here}
 

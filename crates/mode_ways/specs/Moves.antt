@@ -20,11 +20,6 @@ use Rattle.mode_ways.specs.declared.moves.Move.TheVariants.{Still, To, Wrong}
 abbrev pub values_at : ℕ → List Value → VarId → List Value
 values_at x values y = if nat_eq y.n x then values else []
 
--- the first value of a list; false in an empty one
-abbrev pub first_of : List Value → Value
-first_of [] = Truth false
-first_of (v ∷ vs) = v
-
 -- the facts where the variable of number x alone has these values
 abbrev pub HasAt : ℕ → List Value → ℕ → Value → Type 0
 HasAt x values n v = Contains (if nat_eq n x then values else []) v
@@ -57,12 +52,6 @@ abbrev pub IsMove : (ℕ → Value → Type 0) → Transition ℕ → ℕ → Li
 IsMove facts d x domain Still = Can facts (Leaf d) → ⊥
 IsMove facts d x domain (To v) = IsStep facts d x domain v
 IsMove facts d x domain Wrong = IsWrong facts d x domain
-
--- a value of the list that is not this one
-pub record HasOther (values : List Value) (v : Value) : Type 0 where
-  pub other : Value
-  pub has : Contains values other
-  pub differs : other ≡ v → ⊥
 
 -- the one of these values that the domain has, or that they are none, two, or one that it has not
 abbrev pub IsJudged : List Value → List Value → Move → Type 0

@@ -8,7 +8,8 @@ ghost use Rattle.ar_firing.specs.Fragment.{At};
 ghost use Rattle.gts_core.specs.View.{assign_of, condition_of};
 ghost use Rattle.mode_ways.specs.Adding.{Adds, HasThose, SomeHas};
 ghost use Rattle.mode_ways.specs.Modes.{transition_of};
-ghost use Rattle.mode_ways.specs.Moves.{HasAt, IsMove, IsJudged, HasOther, Reaches, GivesValue};
+ghost use Rattle.ar_base.specs.Lists.{HasOther};
+ghost use Rattle.mode_ways.specs.Moves.{HasAt, IsMove, IsJudged, Reaches, GivesValue};
 
 use ar_base::{Memory, VarId};
 use domains::{Domain, Value};
@@ -38,7 +39,8 @@ impl Env<VarId> for AtMode<'_> {
     ghost use Rattle.std.specs.Prelude.{slice_get};
     ghost use Rattle.domains.specs.declared.Value.TheVariants.{Truth};
     ghost use Rattle.typed_expr.specs.Kinds.{kind_of};
-    ghost use Rattle.mode_ways.specs.Moves.{values_at, first_of};
+    ghost use Rattle.typed_expr.specs.Rows.{first_of};
+    ghost use Rattle.mode_ways.specs.Moves.{values_at};
 
     ghost value_at = { λ e x. first_of (values_at e.variable.n e.values.now x) };
 

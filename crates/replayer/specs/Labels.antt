@@ -1,12 +1,12 @@
 -- What labels name: paths from the main block, which may pass through aliases, and numbers of ways.
-use Rattle.std.specs.Prelude.{◌≡◌, ℕ, ◌+◌, ◌<◌, ◌≤◌, ◌==◌, Bool, false, List, [], ◌++◌, codes, decimal, length}
+use Rattle.std.specs.Prelude.{◌≡◌, ℕ, ◌+◌, ◌<◌, ◌≤◌, Bool, false, List, [], ◌++◌, codes, decimal, length}
 use Rattle.ar_base.specs.Lists.{Stands, Along}
 use Rattle.ar_meaning.specs.Systems.{Event}
 use Rattle.ar_meaning.specs.Runs.{Label}
 use Rattle.ar_syntax.specs.declared.paths.PathStart.TheVariants.{Here}
 use Rattle.class_table.specs.Members.{MemberKind}
 use Rattle.hierarchy.specs.Models.{RootedModel}
-use Rattle.hierarchy.specs.Units.{Thing}
+use Rattle.hierarchy.specs.Units.{UnitPath, Thing}
 use Rattle.hierarchy.specs.Walks.{IsThingAt, is_event}
 use Rattle.hierarchy.specs.Listing.{events}
 use Rattle.gts_flatten.specs.Elaborating.{Elaborated}
@@ -26,11 +26,15 @@ pub record TextNames (m : RootedModel) (test : MemberKind → Bool) (text : List
   pub spells : Spells m.names text names
   pub is_thing : IsThingAt m test [] Here names t
 
--- the text names the event of this number
-pub record NamesEvent (x : Elaborated) (text : List ℕ) (e : ℕ) : Type 0 where
+-- the text names a thing that passes the test, the one of this number in this listing of the units' things
+pub record NamesOne (x : Elaborated) (test : MemberKind → Bool) (listing : RootedModel → List UnitPath → List Thing) (text : List ℕ) (n : ℕ) : Type 0 where
   pub thing : Thing
-  pub is_thing : TextNames x.declarations.model is_event text thing
-  pub number : Stands (events x.declarations.model x.declarations.units) e thing
+  pub is_thing : TextNames x.declarations.model test text thing
+  pub number : Stands (listing x.declarations.model x.declarations.units) n thing
+
+-- the text names the event of this number
+abbrev pub NamesEvent : Elaborated → List ℕ → ℕ → Type 0
+NamesEvent x = NamesOne x is_event events
 
 -- the text names the event of this number, which is not hidden and has so many ways
 pub record NamesVisible (x : Elaborated) (text : List ℕ) (e ways : ℕ) : Type 0 where

@@ -13,7 +13,8 @@ use Rattle.gts_core.specs.declared.system.GtsParts.{GtsParts}
 use Rattle.kept_ways.specs.Events.{IsLeast, AreMarks, AreMoving, AreFirstStates, IsJointAt, IsStateless}
 use Rattle.kept_ways.specs.Kept.{AreKept, OtherInGuard, OtherInAction}
 use Rattle.kept_ways.specs.declared.kept.KeptWay.{KeptWay}
-use Rattle.kept_ways.proofs.Reading.{at_most, told}
+use Rattle.kept_ways.proofs.Reading.{told}
+use Rattle.ar_base.proofs.Standing.{at_most}
 use Rattle.mode_edges.specs.declared.searching.Reach.{Reach}
 use Rattle.live_edges.specs.Reaches.{IsWrongAt, IsAgainAt}
 use Rattle.live_edges.specs.Sharing.{IsShared, IsSharing}

@@ -11,7 +11,7 @@ use Rattle.gts_core.specs.declared.system.GtsParts.{GtsParts}
 use Rattle.table_steps.specs.Steps.{MayLeave, MayLeaveOf, AllMayLeave, assigns_to}
 use Rattle.table_steps.specs.Steps as t
 use Rattle.tree_equations.specs.Index.{to_target, IsLeaving, AreLeaving, AddsLeaving}
-use Rattle.tree_equations.specs.Rows.{MayGiveOutside}
+use Rattle.tree_equations.specs.Leaving.{MayGiveOutside}
 use Rattle.tree_equations.proofs.Flowing.{targets_seen}
 
 along_both : {A B : Type 0} {R : A → B → Type 0} {xs : List A} {ys : List B} {vs : List A} {ws : List B}

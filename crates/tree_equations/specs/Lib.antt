@@ -1,6 +1,6 @@
 pub mod Answers
 pub mod Index
-pub mod Rows
+pub mod Leaving
 pub mod Seen
 pub mod Gives
 pub mod Faults

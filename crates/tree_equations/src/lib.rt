@@ -5,7 +5,6 @@
 #![tactic(auto)]
 
 mod assigning;
-mod domains_of;
 mod fault;
 mod first_rows;
 mod index;

@@ -9,3 +9,4 @@ pub mod Mentions
 pub mod Folds
 pub mod Possible
 pub mod Evaluating
+pub mod Rows

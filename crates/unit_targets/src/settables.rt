@@ -9,10 +9,9 @@ ghost use Rattle.ar_syntax.specs.declared.members.Member.{out-Member};
 ghost use Rattle.class_table.specs.Members.{Site, names_of, names_of_form, named_at, declared_kind, owned_at as declared_at};
 ghost use Rattle.class_table.specs.Tables.{Holds, site_of};
 ghost use Rattle.hierarchy.specs.Models.{RootedModel, IsTableFor};
-ghost use Rattle.hierarchy.specs.Units.{UnitPath};
+ghost use Rattle.hierarchy.specs.Units.{UnitPath, names_in};
 ghost use Rattle.hierarchy.specs.Tie.{AreOutlines};
 ghost use Rattle.unit_sizes.specs.Typing.{KnowsPlaces};
-ghost use Rattle.unit_walks.specs.Forms.{names_in};
 ghost use Rattle.unit_targets.specs.Settables.{settable_of, variable_of, one_entry, entries_of, kept_at, Adds, AreSettables};
 
 use ar_base::{BodyId, Memory, NameId, Place};

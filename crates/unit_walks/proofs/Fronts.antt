@@ -11,14 +11,14 @@ use Rattle.ar_base.specs.declared.faults.RuleFault.TheVariants.{Rule, Limit, Mem
 use Rattle.ar_base.proofs.Standing.{stands_left, stands_one, stands_none, stands_get, along_on, along_length}
 use Rattle.class_table.specs.Members.{MemberKind, NamedMember, Inner, Clone, Alias}
 use Rattle.hierarchy.specs.Models.{RootedModel}
-use Rattle.hierarchy.specs.Units.{UnitPath, Level, Thing, body_of, set_at_of, bodies_of, has, kind_at, names_at}
+use Rattle.hierarchy.specs.Units.{UnitPath, Level, Thing, body_of, set_at_of, bodies_of, has, kind_at, names_at, names_in}
 use Rattle.hierarchy.specs.Walks.{Outcome, Reaches, NameLeads, clones, inner, no_unit, cloned, is_unitless}
 use Rattle.hierarchy.specs.Walks as g
 use Rattle.hierarchy.specs.Listing.{Lists, Insides, Makes, MakesNone, is_inner, unit, none, cut, makes, makes_cut, passes}
 use Rattle.hierarchy.specs.Listing as h
 use Rattle.hierarchy.specs.Tie.{IsOwner, IsOutline, of_main, of_unit, IsName, IsSetAt}
 use Rattle.unit_walks.specs.Ends.{AreHigher, AreEndless}
-use Rattle.unit_walks.specs.Forms.{names_in, may_be_unit, only_units, IsUnitName, IsFormOf, IsFormsFor, list_at}
+use Rattle.unit_walks.specs.Forms.{may_be_unit, only_units, IsUnitName, IsFormOf, IsFormsFor, list_at}
 use Rattle.unit_walks.specs.Forms as f
 use Rattle.unit_walks.specs.Tables.{paths_of, IsTable, Means, EndsAt, EndsNowhere}
 use Rattle.unit_walks.specs.Walking.{IsRun, IsKnown}

@@ -19,8 +19,9 @@ use Rattle.class_table.specs.Tables.{site_of}
 use Rattle.class_table.proofs.Taken.{map_next, item_stands}
 use Rattle.class_table.proofs.Laid.{append_none}
 use Rattle.hierarchy.specs.Models.{RootedModel, IsKept, sites_kept}
+use Rattle.hierarchy.specs.Units.{names_in}
 use Rattle.unit_walks.specs.Classes.{ClassBodies, instance_in, AreClasses}
-use Rattle.unit_walks.specs.Forms.{names_in, may_be_unit, only_units, instances, IsUnitName, IsUnitList, same_pair, HasName, AreIndexed, AreOnce, IsFormsFor, inner}
+use Rattle.unit_walks.specs.Forms.{may_be_unit, only_units, instances, IsUnitName, IsUnitList, same_pair, HasName, AreIndexed, AreOnce, IsFormsFor, inner}
 use Rattle.unit_walks.specs.declared.forms.Forms.{Forms}
 use Rattle.unit_walks.specs.declared.forms.UnitForm.TheVariants as unit
 use Rattle.unit_walks.specs.declared.forms.UnitName.{UnitName}

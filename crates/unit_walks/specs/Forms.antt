@@ -11,14 +11,11 @@ use Rattle.class_table.specs.Declaring.{Declared}
 use Rattle.class_table.specs.Members.{Site, MemberKind, Inner, Clone, Alias, NamedMember, named_at, member_named, all_named}
 use Rattle.class_table.specs.Tables.{site_of}
 use Rattle.hierarchy.specs.Models.{RootedModel}
+use Rattle.hierarchy.specs.Units.{names_in}
 use Rattle.unit_walks.specs.declared.forms.UnitForm.{UnitForm}
 use Rattle.unit_walks.specs.declared.forms.UnitForm.TheVariants as form
 use Rattle.unit_walks.specs.declared.forms.UnitName.{UnitName}
 use Rattle.unit_walks.specs.declared.forms.Forms.{Forms}
-
--- the names of a body, inherited ones included
-abbrev pub names_in : RootedModel → ℕ → List NamedMember
-names_in m b = named_at m.declared (unwrap_or (slice_get m.members b) [])
 
 -- what the name x is in a body
 abbrev pub kind_in : RootedModel → ℕ → ℕ → Option MemberKind

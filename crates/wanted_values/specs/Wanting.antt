@@ -17,13 +17,11 @@ use Rattle.hierarchy.specs.Listing.{observers}
 use Rattle.source_meaning.specs.Kinds.{kind_of_type}
 use Rattle.gts_flatten.specs.Elaborating.{Elaborated}
 use Rattle.gts_flatten.specs.Flat.{naming_of}
-use Rattle.replayer.specs.Labels.{TextNames}
+use Rattle.replayer.specs.Labels.{NamesOne}
 
 -- the text is a path from the main block that names the observer of this number
-pub record NamesObserver (x : Elaborated) (text : List ℕ) (n : ℕ) : Type 0 where
-  pub thing : Thing
-  pub is_thing : TextNames x.declarations.model is_observer text thing
-  pub number : Stands (observers x.declarations.model x.declarations.units) n thing
+abbrev pub NamesObserver : Elaborated → List ℕ → ℕ → Type 0
+NamesObserver x = NamesOne x is_observer observers
 
 -- the observer of this number is declared with a type whose values are of this kind
 pub record IsOfKind (x : Elaborated) (n : ℕ) (kind : ValueKind) : Type 0 where

@@ -3,7 +3,7 @@ use Rattle.std.proofs.Common.{◌≡◌, ◌≤◌, ◌+◌, ◌⊎◌, inl, inr
 use Rattle.std.proofs.lemmas.Bool.Decides.{nat_tests}
 use Rattle.ar_base.specs.Lists.{Stands, IsOneOf}
 use Rattle.ar_base.specs.declared.faults.Memory.{Memory}
-use Rattle.ar_base.proofs.Standing.{stands_one, stands_within, stands_map, stands_map_back}
+use Rattle.ar_base.proofs.Standing.{stands_one, stands_within, stands_map, stands_map_back, at_most}
 use Rattle.typed_expr.specs.Possible.{IsWide}
 use Rattle.typed_expr.specs.declared.expr.Expr.{Expr, out-Expr}
 use Rattle.ar_meaning.specs.Systems as s
@@ -13,9 +13,9 @@ use Rattle.ar_firing.specs.Rules.{AssignIsWide, by_value, by_condition}
 use Rattle.gts_core.specs.View.{net_of, numbered, condition_of, assign_of}
 use Rattle.gts_core.specs.declared.system.Assign.{Assign}
 use Rattle.gts_core.specs.declared.system.GtsParts.{GtsParts}
-use Rattle.kept_ways.proofs.Reading.{at_most}
 use Rattle.kept_ways.specs.Events.{IsLeast}
-use Rattle.wide_values.specs.Wide.{IsSomeWide, IsWideFlow, IsObserverFound, IsFirstWide, least_with}
+use Rattle.wide_values.specs.Wide.{IsSomeWide, IsWideFlow, IsObserverFound, IsFirstWide}
+use Rattle.ar_base.specs.Least.{least_with}
 use Rattle.wide_values.specs.declared.searches.Wide.{Wide}
 use Rattle.wide_values.specs.declared.searches.Wide.TheVariants as wide
 

@@ -45,9 +45,3 @@ abbrev pub IsFirstWide : GtsParts → Option Wide → Type 0
 IsFirstWide p None = ((count n : ℕ) → IsWideFlow p count n → ⊥) × ((n : ℕ) → IsWideObserver p n → ⊥)
 IsFirstWide p (Some (wide.Flow n)) = ((count : ℕ) × IsWideFlow p count n) × ((count k : ℕ) → IsWideFlow p count k → n ≤ k)
 IsFirstWide p (Some (wide.Observer n)) = ((count k : ℕ) → IsWideFlow p count k → ⊥) × IsWideObserver p n × ((k : ℕ) → IsWideObserver p k → n ≤ k)
-
--- the lesser of what was found and the number, where it counts
-abbrev pub least_with : Option ℕ → Bool → ℕ → Option ℕ
-least_with least false n = least
-least_with None true n = Some n
-least_with (Some m) true n = Some (if nat_lt n m then n else m)

@@ -1,7 +1,6 @@
 //! The first flow or observer of a flat system with too many possible values.
 #![tactic(auto)]
 
-mod domains_of;
 mod searches;
 
 pub use searches::{Wide, first_wide};

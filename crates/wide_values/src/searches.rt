@@ -7,12 +7,13 @@ ghost use Rattle.ar_meaning.specs.Facts.{Allows};
 ghost use Rattle.ar_firing.specs.Rules.{AssignIsWide};
 ghost use Rattle.gts_core.specs.View.{net_of, numbered, assign_of};
 ghost use Rattle.gts_core.specs.Sound.{IsSound};
-ghost use Rattle.wide_values.specs.Rows.{AreDomains, Says};
+ghost use Rattle.domain_rows.specs.Rows.{AreDomains, Says};
 ghost use Rattle.kept_ways.specs.Events.{IsLeast};
-ghost use Rattle.wide_values.specs.Wide.{IsSomeWide, IsWideFlow, IsWideObserver, IsObserverFound, IsFirstWide, least_with};
+ghost use Rattle.wide_values.specs.Wide.{IsSomeWide, IsWideFlow, IsWideObserver, IsObserverFound, IsFirstWide};
+ghost use Rattle.ar_base.specs.Least.{least_with};
 
-use crate::domains_of::{Domains, domains_of};
 use ar_base::{Memory, VarId};
+use domain_rows::{Domains, domains_of};
 use gts_core::{Assign, GtsParts};
 use std::alloc::Global;
 use typed_expr::{Expr, possible_values};

@@ -1,8 +1,7 @@
 use Rattle.std.proofs.Common.{◌≤◌, subst, List, length, arith}
 use Rattle.ar_base.specs.Lists.{Stands}
-use Rattle.ar_base.proofs.Standing.{stands_within}
+use Rattle.ar_base.proofs.Standing.{stands_within, stands_item}
 use Rattle.gts_core.specs.declared.system.Way.{Way}
-use Rattle.kept_ways.proofs.Reading.{stands_item}
 use Rattle.kept_ways.proofs.Marking.{joint_of}
 use Rattle.kept_ways.proofs.events.is_joint.Goals as goal
 

@@ -3,7 +3,8 @@ use Rattle.ar_base.specs.Numbers.{WayId}
 use Rattle.ar_meaning.specs.Found.{IsAnswer}
 use Rattle.gts_core.specs.declared.system.Event.{Event}
 use Rattle.kept_ways.specs.Events.{StillMoves}
-use Rattle.kept_ways.proofs.Reading.{stands_item, stands_read}
+use Rattle.kept_ways.proofs.Reading.{stands_read}
+use Rattle.ar_base.proofs.Standing.{stands_item}
 use Rattle.kept_ways.proofs.Marking.{moving_more}
 use Rattle.kept_ways.proofs.events.moving_units.Goals as goal
 

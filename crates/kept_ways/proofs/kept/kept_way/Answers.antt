@@ -1,13 +1,12 @@
 use Rattle.std.proofs.Common.{◌≡◌, ◌∙◌, List, Option, MatchOption, refl, sym, ap, subst}
 use Rattle.ar_base.specs.Lists.{HasNo}
-use Rattle.ar_base.proofs.Standing.{stands_one}
+use Rattle.ar_base.proofs.Standing.{stands_one, stands_item}
 use Rattle.ar_firing.specs.Fragment.{IsStateOf}
 use Rattle.gts_core.specs.View.{net_of}
 use Rattle.gts_core.specs.declared.system.Assign.{Assign}
 use Rattle.gts_core.specs.declared.system.Way.{Way}
 use Rattle.mode_ways.specs.Modes.{IsWayMode, transition_of}
 use Rattle.mode_ways.specs.declared.modes.WayMode.{WayMode}
-use Rattle.kept_ways.proofs.Reading.{stands_item}
 use Rattle.kept_ways.proofs.kept.kept_way.Goals as goal
 
 pub returns-in-Some : goal.returns-in-Some

@@ -3,7 +3,7 @@ use Rattle.ar_base.specs.Lists.{Stands}
 use Rattle.gts_core.specs.declared.system.Event.{Event}
 use Rattle.kept_ways.specs.Kept.{AreKept}
 use Rattle.kept_ways.specs.declared.kept.KeptWay.{KeptWay}
-use Rattle.kept_ways.proofs.Reading.{stands_item}
+use Rattle.ar_base.proofs.Standing.{stands_item}
 use Rattle.kept_ways.proofs.Keeping.{kept_start}
 use Rattle.kept_ways.proofs.kept.kept_ways.Goals as goal
 

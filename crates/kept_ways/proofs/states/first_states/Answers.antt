@@ -1,6 +1,6 @@
 use Rattle.std.proofs.Common.{◌≡◌, ◌<◌, List, length, get_or, subst, arith}
 use Rattle.gts_core.specs.declared.system.Variable.{Variable}
-use Rattle.kept_ways.proofs.Reading.{stands_item}
+use Rattle.ar_base.proofs.Standing.{stands_item}
 use Rattle.kept_ways.proofs.FirstStates.{states_more}
 use Rattle.kept_ways.proofs.states.first_states.Goals as goal
 

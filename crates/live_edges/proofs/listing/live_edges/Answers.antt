@@ -1,5 +1,5 @@
 use Rattle.std.proofs.Common.{◌≡◌, ◌++◌, List, map, subst}
-use Rattle.kept_ways.proofs.Reading.{stands_item}
+use Rattle.ar_base.proofs.Standing.{stands_item}
 use Rattle.mode_forests.specs.declared.forests.Edge.{Edge}
 use Rattle.live_edges.specs.Live.{live_at}
 use Rattle.live_edges.proofs.Gathering.{live_start, live_more}

@@ -1,6 +1,6 @@
 use Rattle.std.proofs.Common.{◌≡◌, ◌<◌, ◌≤◌, ℕ, List, Vec, Global, length, get_or, subst, sym, ◌∙◌, arith}
 use Rattle.kept_ways.specs.declared.kept.KeptWay.{KeptWay}
-use Rattle.kept_ways.proofs.Reading.{stands_item}
+use Rattle.ar_base.proofs.Standing.{stands_item}
 use Rattle.mode_edges.specs.Reached.{AreInside, AreApart, IsReach}
 use Rattle.live_edges.specs.Rows.{ways_of, AreBelow}
 use Rattle.live_edges.specs.Reaches.{AreReaches}

@@ -1,6 +1,5 @@
 use Rattle.std.proofs.Common.{ap, arith}
-use Rattle.ar_base.proofs.Standing.{stands_one, stands_within}
-use Rattle.kept_ways.proofs.Reading.{stands_item}
+use Rattle.ar_base.proofs.Standing.{stands_one, stands_within, stands_item}
 use Rattle.mode_edges.specs.declared.searching.Reach.{Reach}
 use Rattle.live_edges.specs.Reaches.{IsAgainAt}
 use Rattle.live_edges.proofs.Usable.{first_place, place_more}

@@ -1,4 +1,4 @@
-use Rattle.kept_ways.proofs.Reading.{stands_item}
+use Rattle.ar_base.proofs.Standing.{stands_item}
 use Rattle.live_edges.proofs.Sorting.{puts_hidden, puts_visible, not_true, not_false}
 use Rattle.live_edges.proofs.rows.put.Goals as goal
 

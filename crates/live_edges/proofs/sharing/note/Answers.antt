@@ -1,6 +1,6 @@
 use Rattle.std.proofs.Common.{ℕ, Option, Some, refl, ap, subst}
 use Rattle.ar_base.specs.Lists.{Stands}
-use Rattle.kept_ways.proofs.Reading.{stands_item}
+use Rattle.ar_base.proofs.Standing.{stands_item}
 use Rattle.live_edges.specs.Sharing.{again, fresh}
 use Rattle.live_edges.proofs.sharing.note.Goals as goal
 

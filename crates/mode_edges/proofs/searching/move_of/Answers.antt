@@ -1,12 +1,11 @@
 use Rattle.std.proofs.Common.{◌≡◌, ◌∙◌, List, sym, ap, subst}
-use Rattle.ar_base.proofs.Standing.{stands_one}
+use Rattle.ar_base.proofs.Standing.{stands_one, stands_item}
 use Rattle.domains.specs.Domains.{values_of}
 use Rattle.gts_core.specs.declared.system.Way.{Way}
 use Rattle.gts_core.specs.declared.system.Assign.{Assign}
 use Rattle.ar_firing.specs.Fragment.{At}
 use Rattle.mode_ways.specs.Modes.{transition_of}
 use Rattle.mode_ways.specs.Moves.{IsMove}
-use Rattle.kept_ways.proofs.Reading.{stands_item}
 use Rattle.mode_edges.proofs.Ending.{led_is}
 use Rattle.mode_edges.proofs.searching.move_of.Goals as goal
 

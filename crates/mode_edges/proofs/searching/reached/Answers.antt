@@ -1,7 +1,7 @@
 use Rattle.std.proofs.Common.{arith}
 use Rattle.domains.specs.Domains.{values_of}
 use Rattle.domains.proofs.Domains.{listed}
-use Rattle.kept_ways.proofs.Reading.{stands_item}
+use Rattle.ar_base.proofs.Standing.{stands_item}
 use Rattle.mode_edges.specs.Reached.{Setting}
 use Rattle.mode_edges.proofs.Reaching.{start_reaching, reaching_next}
 use Rattle.mode_edges.proofs.Ending.{modes_few, reached_end}

@@ -4,7 +4,8 @@ use Rattle.ar_meaning.specs.Facts.{Passes}
 use Rattle.ar_base.specs.Numbers.{VarId}
 use Rattle.gts_core.specs.View.{condition_of}
 use Rattle.mode_ways.specs.Moves.{HasAt}
-use Rattle.mode_ways.proofs.FactsAt.{tells, holds}
+use Rattle.mode_ways.proofs.FactsAt.{tells}
+use Rattle.ar_meaning.proofs.Found.{holds}
 use Rattle.mode_ways.proofs.moves.yielded.Goals as goal
 
 pub returns : goal.returns

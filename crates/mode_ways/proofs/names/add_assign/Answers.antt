@@ -4,7 +4,8 @@ use Rattle.typed_expr.specs.declared.expr.Expr.{Expr, out-Expr}
 use Rattle.ar_base.specs.Numbers.{VarId}
 use Rattle.ar_meaning.specs.Dependence.{Tests}
 use Rattle.mode_ways.specs.Adding.{Adds}
-use Rattle.mode_ways.specs.Named.{ReadsVariable, NamesVariable}
+use Rattle.gts_core.specs.Named.{ReadsVariable}
+use Rattle.mode_ways.specs.Named.{NamesVariable}
 use Rattle.mode_ways.proofs.Added as added
 use Rattle.mode_ways.proofs.NamedVariables.{ok_as}
 use Rattle.mode_ways.proofs.names.add_assign.Goals as goal

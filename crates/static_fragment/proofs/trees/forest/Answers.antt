@@ -1,6 +1,6 @@
 use Rattle.std.proofs.Common.{◌≡◌, ◌<◌, List, length, get_or, subst, arith}
 use Rattle.gts_core.specs.declared.system.Variable.{Variable}
-use Rattle.kept_ways.proofs.Reading.{stands_item}
+use Rattle.ar_base.proofs.Standing.{stands_item}
 use Rattle.static_fragment.proofs.Growing.{trees_more}
 use Rattle.static_fragment.proofs.Forests.{all_once}
 use Rattle.static_fragment.proofs.trees.forest.Goals as goal

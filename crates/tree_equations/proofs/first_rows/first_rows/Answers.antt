@@ -2,7 +2,7 @@ use Rattle.std.proofs.Common.{◌≡◌, ◌<◌, ◌≤◌, ℕ, [], List, leng
 use Rattle.std.proofs.Math.Path.{fun_ext}
 use Rattle.std.proofs.lemmas.List.{length_push}
 use Rattle.ar_base.specs.Lists.{Stands}
-use Rattle.ar_base.proofs.Standing.{stands_one, stands_within}
+use Rattle.ar_base.proofs.Standing.{stands_one, stands_within, stands_item}
 use Rattle.eq_build.specs.Views.{row_at, lists_in, entries_in}
 use Rattle.eq_build.specs.declared.entries.Entry.{Entry}
 use Rattle.eq_build.proofs.Places.{any_default}
@@ -11,7 +11,6 @@ use Rattle.gts_core.specs.View.{variables_from}
 use Rattle.mode_forests.specs.declared.forests.ModeTree.{ModeTree}
 use Rattle.table_steps.specs.Steps.{first_reading, in_order}
 use Rattle.tree_equations.specs.Answers.{Entries, row_in, trees_in}
-use Rattle.tree_equations.proofs.Allowing.{stands_item}
 use Rattle.tree_equations.proofs.Rising.{long_set}
 use Rattle.tree_equations.proofs.FirstReading.{reading_or, first_from, first_step, first_done, IsPlaced, placed_put, placed_skip}
 use Rattle.tree_equations.proofs.first_rows.first_rows.Goals as goal

@@ -1,9 +1,8 @@
 use Rattle.std.proofs.Common.{◌<◌, length, take, refl, sym, ap, ◌∙◌, subst, List, ◌++◌, ◌∷◌, [], rules, arith, take_all, set, Vec, Global, ℕ}
 use Rattle.std.proofs.lemmas.List.{take_more}
-use Rattle.ar_base.proofs.Standing.{one_here}
+use Rattle.ar_base.proofs.Standing.{one_here, stands_item}
 use Rattle.gts_core.specs.declared.system.Assign.{Assign}
 use Rattle.tree_equations.specs.Index.{AreByTarget}
-use Rattle.tree_equations.proofs.Allowing.{stands_item}
 use Rattle.tree_equations.proofs.IndexLemmas.{target_start, target_next, row_got}
 use Rattle.tree_equations.proofs.index.by_target.Goals as goal
 

@@ -1,7 +1,7 @@
 use Rattle.std.proofs.Common.{refl, sym, subst, rules, ◌+◌}
 use Rattle.std.proofs.Common.{Vec, Global, ℕ}
 use Rattle.eq_build.proofs.Places.{item_next, nothing_left}
-use Rattle.tree_equations.proofs.Allowing.{stands_item}
+use Rattle.ar_base.proofs.Standing.{stands_item}
 use Rattle.tree_equations.proofs.IndexLemmas.{FlowsSoFar, flows_state, flows_flow, flows_end}
 use Rattle.tree_equations.proofs.index.flow_numbers.Goals as goal
 use Rattle.tree_equations.proofs.index.flow_numbers.Goals.{then-not-variable+in_ok-push, else-not-variable}

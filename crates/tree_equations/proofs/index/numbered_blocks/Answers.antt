@@ -2,11 +2,10 @@ use Rattle.std.proofs.Common.{ℕ, List, [], ◌∷◌, ◌++◌, take, sym, ap,
 use Rattle.std.proofs.lemmas.List.{take_more, map-append}
 use Rattle.ar_base.specs.Lists.{IsOneOf}
 use Rattle.ar_base.specs.Lists as l
-use Rattle.ar_base.proofs.Standing.{one_here, stands_map}
+use Rattle.ar_base.proofs.Standing.{one_here, stands_map, stands_item}
 use Rattle.flow_blocks.specs.Table.{members_of}
 use Rattle.flow_blocks.specs.declared.graph.Block.{Block}
 use Rattle.tree_equations.specs.Blocks.{ArePlaced, ArePlacedBlocks, blocks_in}
-use Rattle.tree_equations.proofs.Allowing.{stands_item}
 use Rattle.tree_equations.proofs.IndexLemmas.{along_push}
 use Rattle.tree_equations.proofs.index.numbered_blocks.Goals as goal
 

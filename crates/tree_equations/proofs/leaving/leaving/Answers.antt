@@ -2,7 +2,7 @@ use Rattle.std.proofs.Common.{◌≡◌, ◌<◌, ◌+◌, ℕ, List, [], drop, 
 use Rattle.eq_build.proofs.Places.{item_next, nothing_left}
 use Rattle.gts_core.specs.declared.system.Variable.{Variable}
 use Rattle.tree_equations.specs.Index.{AreNumbersOf, to_target}
-use Rattle.tree_equations.proofs.Allowing.{stands_item}
+use Rattle.ar_base.proofs.Standing.{stands_item}
 use Rattle.tree_equations.proofs.IndexLemmas.{row_got}
 use Rattle.tree_equations.proofs.LeavingLemmas.{AllSoFar, all_start, all_state, all_flow, all_end}
 use Rattle.tree_equations.proofs.leaving.leaving.Goals as goal

@@ -1,11 +1,11 @@
 use Rattle.std.proofs.Common.{◌<◌, ◌+◌, ℕ, length, get_or, sym, subst, rules, Vec, Global}
-use Rattle.ar_base.proofs.Standing.{stands_within, stands_one}
+use Rattle.ar_base.proofs.Standing.{stands_within, stands_one, stands_item}
 use Rattle.eq_build.proofs.Places.{any_default, nothing_left}
 use Rattle.gts_core.specs.declared.system.Variable.{Variable}
 use Rattle.gts_core.specs.declared.system.Assign.{Assign}
 use Rattle.tree_equations.specs.Index.{to_target}
-use Rattle.tree_equations.specs.Rows.{MayGiveOutside}
-use Rattle.tree_equations.proofs.Allowing.{stands_item, holds, fails}
+use Rattle.tree_equations.specs.Leaving.{MayGiveOutside}
+use Rattle.ar_meaning.proofs.Found.{holds, fails}
 use Rattle.tree_equations.proofs.Giving.{along_at, along_end}
 use Rattle.tree_equations.proofs.LeavingLemmas.{OneSoFar, one_start, one_leaves, one_stays, one_end}
 use Rattle.tree_equations.proofs.leaving.push_leaving.Goals as goal

@@ -1,5 +1,5 @@
 use Rattle.std.proofs.Common.{ℕ, List, length, refl, sym, ◌∙◌, subst, add-one, Vec, Global}
-use Rattle.ar_base.proofs.Standing.{one_here, stands_map}
+use Rattle.ar_base.proofs.Standing.{one_here, stands_map, stands_item}
 use Rattle.eq_build.specs.Views.{gates_in, row_at}
 use Rattle.eq_build.proofs.Places.{item_next, nothing_left}
 use Rattle.gts_core.specs.View.{net_of}
@@ -7,7 +7,6 @@ use Rattle.table_steps.specs.Steps.{Rounds, All_rounds}
 use Rattle.tree_equations.specs.Answers.{TooMany}
 use Rattle.tree_equations.specs.Blocks.{blocks_in}
 use Rattle.tree_equations.specs.Index.{AreUnder}
-use Rattle.tree_equations.proofs.Allowing.{stands_item}
 use Rattle.tree_equations.proofs.Flowing.{BlocksSoFar, blocks_start, blocks_next, blocks_stop, blocks_end}
 use Rattle.tree_equations.proofs.Giving.{gives_on}
 use Rattle.tree_equations.proofs.rounds.all_rounds.Goals as goal

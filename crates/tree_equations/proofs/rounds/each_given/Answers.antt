@@ -1,5 +1,5 @@
 use Rattle.std.proofs.Common.{get_or, subst}
-use Rattle.ar_base.proofs.Standing.{stands_within, stands_one}
+use Rattle.ar_base.proofs.Standing.{stands_within, stands_one, stands_item}
 use Rattle.domains.specs.Domains.{values_of}
 use Rattle.eq_build.specs.Views.{gates_in, row_at, Stops}
 use Rattle.eq_build.proofs.Places.{any_default}
@@ -11,7 +11,6 @@ use Rattle.tree_equations.proofs.Each.{each_start, each_next, each_stops, each_e
 use Rattle.tree_equations.proofs.Determined.{given_one}
 use Rattle.tree_equations.proofs.Rising.{given_more}
 use Rattle.tree_equations.proofs.Giving.{along_at, along_end}
-use Rattle.tree_equations.proofs.Allowing.{stands_item}
 use Rattle.tree_equations.proofs.rounds.each_given.Goals as goal
 
 pub loop-number-init : goal.loop-number-init

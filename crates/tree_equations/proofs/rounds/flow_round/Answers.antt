@@ -7,7 +7,7 @@ use Rattle.gts_core.specs.declared.system.Assign.{Assign}
 use Rattle.table_steps.specs.Steps.{Threads, Gives_target, RoundOf, together}
 use Rattle.tree_equations.specs.Answers.{TooMany, row_in, Entries}
 use Rattle.tree_equations.specs.Index.{to_target, AreNumbersOf}
-use Rattle.tree_equations.proofs.Allowing.{stands_item}
+use Rattle.ar_base.proofs.Standing.{stands_item}
 use Rattle.tree_equations.proofs.Determined.{round_one}
 use Rattle.tree_equations.proofs.Giving.{gives_on, entries_give}
 use Rattle.tree_equations.proofs.IndexLemmas.{row_got}

@@ -1,11 +1,10 @@
 use Rattle.std.proofs.Common.{◌<◌, ℕ, inl, inr, length, get_or, sym, ap, ◌∙◌, subst, arith}
 use Rattle.std.proofs.Math.Path.{fun_ext}
 use Rattle.ar_base.specs.Lists.{Stands}
-use Rattle.ar_base.proofs.Standing.{stands_get, stands_within, stands_one, one_here}
+use Rattle.ar_base.proofs.Standing.{stands_get, stands_within, stands_one, one_here, stands_item, at_most}
 use Rattle.eq_build.specs.Views.{row_at, entries_in}
 use Rattle.eq_build.proofs.Reading.{row_here}
 use Rattle.tree_equations.specs.Answers.{row_in}
-use Rattle.tree_equations.proofs.Allowing.{stands_item, at_most}
 use Rattle.tree_equations.proofs.RowsPut.{put_same}
 use Rattle.tree_equations.proofs.rows.are_rows.Goals as goal
 

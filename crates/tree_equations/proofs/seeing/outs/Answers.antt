@@ -1,6 +1,6 @@
 use Rattle.std.proofs.Common.{◌<◌, ℕ, List, length, get_or, refl, sym, ap, ◌∙◌, subst, rules}
 use Rattle.ar_base.specs.Lists.{Stands}
-use Rattle.ar_base.proofs.Standing.{stands_within, stands_one}
+use Rattle.ar_base.proofs.Standing.{stands_within, stands_one, stands_item}
 use Rattle.ar_meaning.specs.Systems as s
 use Rattle.eq_core.specs.Views.{operand_of}
 use Rattle.eq_build.specs.Views.{gates_in, row_at, Stops}
@@ -10,7 +10,6 @@ use Rattle.gts_core.specs.declared.system.Variable.{Variable}
 use Rattle.gts_core.specs.declared.system.Assign.{Assign}
 use Rattle.table_steps.specs.Steps.{Threads, Sees_outside}
 use Rattle.tree_equations.specs.Answers.{TooMany, Gives, signs_in}
-use Rattle.tree_equations.proofs.Allowing.{stands_item}
 use Rattle.tree_equations.proofs.Each.{as_is, all_as_is, each_start, each_next, each_stops, each_ends}
 use Rattle.tree_equations.proofs.Determined.{out_one}
 use Rattle.tree_equations.proofs.Rising.{out_more}

@@ -20,7 +20,7 @@ use Rattle.gts_core.specs.View.{variables_from}
 use Rattle.tree_equations.specs.Answers.{TooMany, Entries, row_in, trees_in, tree_in}
 use Rattle.tree_equations.specs.Blocks.{blocks_in}
 use Rattle.tree_equations.specs.Seen.{Conflicting}
-use Rattle.tree_equations.proofs.Allowing.{stands_item}
+use Rattle.ar_base.proofs.Standing.{stands_item}
 use Rattle.tree_equations.proofs.Conflicting.{table_first, table_second, table_third, table_fourth, table_made}
 use Rattle.tree_equations.proofs.Flowing.{threads_long}
 use Rattle.tree_equations.proofs.IndexLemmas.{blocks_under}

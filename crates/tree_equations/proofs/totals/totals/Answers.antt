@@ -1,5 +1,5 @@
 use Rattle.std.proofs.Common.{◌≡◌, ◌<◌, ℕ, List, length, get_or, Ok, Err, sym, ap, ◌∙◌, subst, arith}
-use Rattle.ar_base.proofs.Standing.{stands_within, stands_get, stands_one, one_here}
+use Rattle.ar_base.proofs.Standing.{stands_within, stands_get, stands_one, one_here, stands_item}
 use Rattle.ar_meaning.specs.Systems as s
 use Rattle.eq_build.specs.Views.{gates_in, row_at, entries_in, Stops, MakesEntries}
 use Rattle.eq_build.specs.Entries as e
@@ -10,7 +10,6 @@ use Rattle.gts_core.specs.declared.system.Variable.{Variable}
 use Rattle.table_steps.specs.Steps.{Threads, Totals_of, total_of, flows_from}
 use Rattle.table_steps.specs.Steps as t
 use Rattle.tree_equations.specs.Answers.{TooMany, Gives, row_in, rows_in}
-use Rattle.tree_equations.proofs.Allowing.{stands_item}
 use Rattle.tree_equations.proofs.Each.{as_is, all_as_is, each_start, each_next, each_stops, each_ends}
 use Rattle.tree_equations.proofs.Determined.{total_one}
 use Rattle.tree_equations.proofs.Rising.{total_more}

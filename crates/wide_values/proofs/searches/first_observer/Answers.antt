@@ -3,12 +3,12 @@ use Rattle.ar_base.specs.Lists.{Stands}
 use Rattle.typed_expr.specs.Possible.{IsWide}
 use Rattle.typed_expr.specs.declared.expr.Expr.{out-Expr}
 use Rattle.ar_meaning.specs.Facts.{Allows}
-use Rattle.ar_base.proofs.Standing.{stands_one, stands_within}
+use Rattle.ar_base.proofs.Standing.{stands_one, stands_within, stands_item, at_most}
 use Rattle.gts_core.specs.View.{net_of, numbered}
 use Rattle.gts_core.specs.declared.system.Observer.{Observer}
-use Rattle.kept_ways.proofs.Reading.{stands_item, at_most}
 use Rattle.wide_values.specs.Wide.{IsWideObserver}
-use Rattle.wide_values.proofs.Allowing.{holds, fails, first_place}
+use Rattle.wide_values.proofs.Allowing.{first_place}
+use Rattle.ar_meaning.proofs.Found.{holds, fails}
 use Rattle.wide_values.proofs.searches.first_observer.Goals as goal
 
 pub returns-then-wide : goal.returns-then-wide

@@ -4,7 +4,8 @@ use Rattle.typed_expr.specs.declared.expr.Expr.{Expr}
 use Rattle.ar_meaning.specs.Found.{IsAnswer}
 use Rattle.ar_firing.specs.Rules.{by_value}
 use Rattle.wide_values.specs.Wide.{IsSomeWide}
-use Rattle.wide_values.proofs.Allowing.{holds, fails, says_as}
+use Rattle.wide_values.proofs.Allowing.{says_as}
+use Rattle.ar_meaning.proofs.Found.{holds, fails}
 use Rattle.wide_values.proofs.Assigning.{assign_wide}
 use Rattle.wide_values.proofs.searches.is_assign_wide.Goals as goal
 

@@ -3,11 +3,10 @@ use Rattle.ar_base.specs.Numbers.{VarId}
 use Rattle.typed_expr.specs.Possible.{IsWide}
 use Rattle.typed_expr.specs.declared.expr.Expr.{Expr, out-Expr}
 use Rattle.ar_meaning.specs.Facts.{Allows}
-use Rattle.ar_base.proofs.Standing.{one_none, one_here}
+use Rattle.ar_base.proofs.Standing.{one_none, one_here, stands_item}
 use Rattle.gts_core.specs.View.{net_of, numbered}
 use Rattle.mode_ways.proofs.Added.{each_more, each_all}
-use Rattle.kept_ways.proofs.Reading.{stands_item}
-use Rattle.wide_values.proofs.Allowing.{holds, fails}
+use Rattle.ar_meaning.proofs.Found.{holds, fails}
 use Rattle.wide_values.proofs.searches.is_some_wide.Goals as goal
 
 pub loop-test-init : goal.loop-test-init

@@ -6,7 +6,7 @@ use Rattle.typed_expr.specs.declared.expr.Expr.{Expr, out-Expr}
 use Rattle.ar_meaning.specs.Facts.{Allows}
 use Rattle.gts_core.specs.View.{net_of, numbered}
 use Rattle.gts_core.specs.declared.system.GtsParts.{GtsParts}
-use Rattle.wide_values.specs.Rows.{AreDomains}
+use Rattle.domain_rows.specs.Rows.{AreDomains}
 use Rattle.wide_values.proofs.searches.is_some_wide.Given as goal
 
 abbrev pub invariant-loop-test : goal.invariant-loop-test

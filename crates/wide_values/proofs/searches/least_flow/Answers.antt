@@ -1,6 +1,6 @@
 use Rattle.std.proofs.Common.{◌≡◌, ◌<◌, ◌≤◌, ℕ, List, length, get_or, subst, arith}
 use Rattle.gts_core.specs.declared.system.Assign.{Assign}
-use Rattle.kept_ways.proofs.Reading.{stands_item}
+use Rattle.ar_base.proofs.Standing.{stands_item}
 use Rattle.kept_ways.specs.Events.{IsLeast}
 use Rattle.wide_values.specs.Wide.{IsWideFlow}
 use Rattle.wide_values.proofs.Assigning.{flows_start, flows_more}

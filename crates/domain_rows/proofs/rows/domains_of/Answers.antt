@@ -1,9 +1,9 @@
 use Rattle.std.proofs.Common.{◌≡◌, ◌<◌, ◌≤◌, ℕ, List, length, get_or, subst, arith}
 use Rattle.gts_core.specs.declared.system.Variable.{Variable}
-use Rattle.tree_equations.proofs.Allowing.{stands_item}
-use Rattle.tree_equations.specs.Rows.{AreDomains}
-use Rattle.tree_equations.proofs.Allowing.{domains_start, domains_more}
-use Rattle.tree_equations.proofs.domains_of.domains_of.Goals as goal
+use Rattle.ar_base.proofs.Standing.{stands_item}
+use Rattle.domain_rows.specs.Rows.{AreDomains}
+use Rattle.domain_rows.proofs.Gathering.{domains_start, domains_more}
+use Rattle.domain_rows.proofs.rows.domains_of.Goals as goal
 
 pub loop-variable-init : goal.loop-variable-init
 loop-variable-init c = domains_start c.args.parts.now c.new-rows.result.items c.new-rows.ensures.items

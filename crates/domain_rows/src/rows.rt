@@ -5,7 +5,7 @@ ghost use Rattle.std.specs.List.{range_with_len};
 ghost use Rattle.domains.specs.Domains.{IsDomain, values_of};
 ghost use Rattle.domains.specs.declared.Value.TheVariants.{Truth, Whole, Symbol};
 ghost use Rattle.gts_core.specs.Sound.{IsSound};
-ghost use Rattle.tree_equations.specs.Rows.{AreDomains};
+ghost use Rattle.domain_rows.specs.Rows.{AreDomains};
 
 use ar_base::{Memory, VarId};
 use domains::{Domain, Value};
@@ -13,16 +13,16 @@ use gts_core::GtsParts;
 use std::alloc::Global;
 use typed_expr::{Env, ValueKind};
 
-// The values of the domain of each variable, by number.
+/// The values of the domain of each variable, by number. As facts, each variable has all values of its domain.
 #[derive(Drop)]
-pub(crate) struct Domains {
-    pub(crate) rows: Vec<Vec<Value>>,
+pub struct Domains {
+    /// A row for each variable: the values of its domain, in the domain's order.
+    pub rows: Vec<Vec<Value>>,
 }
 
 impl Env<VarId> for Domains {
     ghost use Rattle.typed_expr.specs.Kinds.{kind_of};
-    ghost use Rattle.tree_equations.specs.Rows.{first_of};
-    ghost use Rattle.tree_equations.specs.Rows.{row_at};
+    ghost use Rattle.typed_expr.specs.Rows.{first_of, row_at};
 
     ghost value_at = { λ t x. first_of (row_at t.rows.items x.n) };
 
@@ -53,8 +53,8 @@ impl Env<VarId> for Domains {
     }
 }
 
-// The values of the domains of all variables.
-pub(crate) fn domains_of(alloc: Global, parts: &GtsParts) -> Result<Domains, Memory>
+/// The values of the domains of all variables, in time and memory linear in their number. The error is want of memory.
+pub fn domains_of(alloc: Global, parts: &GtsParts) -> Result<Domains, Memory>
     requires { IsSound parts.now }
     ensures { IfOk result (λ found. AreDomains parts.now (length parts.now.variables.items)
         found.rows.items) }

@@ -1,5 +1,5 @@
-use Rattle.wide_values.specs.Rows.{AreDomains}
-use Rattle.wide_values.proofs.domains_of.domains_of.Given as goal
+use Rattle.domain_rows.specs.Rows.{AreDomains}
+use Rattle.domain_rows.proofs.rows.domains_of.Given as goal
 
 abbrev pub invariant-loop-variable : goal.invariant-loop-variable
 invariant-loop-variable l = AreDomains l.parts l.variable-index l.rows.items

@@ -1,0 +1,23 @@
+-- Tables of values as facts: a row of values for each variable, by its number.
+use Rattle.std.specs.Prelude.{ℕ, false, List, [], ◌∷◌, Option, Some, None, slice_get, Vec}
+use Rattle.std.specs.Global.{Global}
+use Rattle.domains.specs.declared.Value.{Value}
+use Rattle.domains.specs.declared.Value.TheVariants.{Truth}
+
+-- a table: the values known of each variable, by number
+abbrev pub Rows : Type 0
+Rows = List (Vec Value Global)
+
+-- the row that was looked up
+abbrev pub items_of : Option (Vec Value Global) → List Value
+items_of (Some row) = row.items
+items_of None = []
+
+-- the values known of the variable of this number
+abbrev pub row_at : Rows → ℕ → List Value
+row_at rows n = items_of (slice_get rows n)
+
+-- the first value of a row; false in an empty one
+abbrev pub first_of : List Value → Value
+first_of [] = Truth false
+first_of (v ∷ vs) = v

@@ -14,7 +14,8 @@ use Rattle.gts_core.proofs.Viewing.{variable_there, are_numbered}
 use Rattle.gts_core.specs.declared.system.Variable.{Variable}
 use Rattle.gts_core.specs.declared.system.Assign.{Assign}
 use Rattle.gts_core.specs.declared.system.GtsParts.{GtsParts}
-use Rattle.flow_propagate.specs.Table.{Rows, Holds, PutsAll, Moves, Reaches}
+use Rattle.typed_expr.specs.Rows.{Rows}
+use Rattle.flow_propagate.specs.Table.{Holds, PutsAll, Moves, Reaches}
 use Rattle.flow_propagate.specs.Closing.{Applies}
 use Rattle.flow_propagate.proofs.Missing.{missing_less}
 

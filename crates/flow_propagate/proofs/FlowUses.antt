@@ -18,7 +18,7 @@ use Rattle.flow_propagate.specs.Dependence.{flows_in, ArePlaces, AddsUse, AreUse
 use Rattle.flow_propagate.proofs.Numbered.{ReadHere, flow_there, flow_back, read_back}
 use Rattle.flow_propagate.proofs.NamedVariables.{one_left, one_last, one_cases}
 use Rattle.flow_propagate.proofs.ReaderPairs.{cases_below, names_back}
-use Rattle.flow_propagate.specs.Named.{NamesVariable}
+use Rattle.gts_core.specs.Named.{ReadsVariable}
 
 -- one variable more
 pub count_more : (xs : List Variable) (i : ℕ) (x : Variable) (n : ℕ) → i < length xs → x ≡ get_or xs i x → n ≡ flows_in (take i xs) → n + cond x.is_state 0 1 ≡ flows_in (take (i + 1) xs)
@@ -94,7 +94,7 @@ reads_below p x n s h =
     typed : IsAssignTo p false r.assign
     typed = s.assertions r.assign (record { place = n; stands = r.stands })
 
-    at : (v : VarId) → NamesVariable r.assign v → v.n < length p.variables.items
+    at : (v : VarId) → ReadsVariable r.assign v → v.n < length p.variables.items
     at v (inl d) = typed.value.variables v d
     at v (inr d) = let o = tests_one v r.assign.when.items d in (typed.conditions o.0 o.1).variables v o.2
 

@@ -16,7 +16,8 @@ use Rattle.gts_core.specs.declared.system.GtsParts.{GtsParts}
 use Rattle.ar_meaning.specs.Dependence.{Names}
 use Rattle.ar_meaning.proofs.Dependence.{passes_named}
 use Rattle.flow_propagate.specs.Plan.{AreReaders}
-use Rattle.flow_propagate.specs.Table.{Rows, Holds, IsClosed, IsSoundTable, AreFacts}
+use Rattle.typed_expr.specs.Rows.{Rows}
+use Rattle.flow_propagate.specs.Table.{Holds, IsClosed, IsSoundTable, AreFacts}
 use Rattle.flow_propagate.specs.Closing.{Applies, Waits, IsWorklist, Takes, AddsWork, IsSettled, LooksAt, work_left, missing}
 use Rattle.flow_propagate.specs.declared.worklist.Worklist.{Worklist}
 use Rattle.flow_propagate.proofs.ReaderPairs.{pair_eq, pair_same, pair_equiv}

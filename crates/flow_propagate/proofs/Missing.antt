@@ -7,7 +7,8 @@ use Rattle.domains.specs.Same.{has_value}
 use Rattle.domains.specs.declared.Value.{Value}
 use Rattle.domains.proofs.Same.{has_in, in_has}
 use Rattle.gts_core.specs.declared.system.Variable.{Variable}
-use Rattle.flow_propagate.specs.Table.{Rows, row_at, Holds}
+use Rattle.typed_expr.specs.Rows.{Rows, row_at}
+use Rattle.flow_propagate.specs.Table.{Holds}
 use Rattle.flow_propagate.specs.Closing.{lacking, missing_from}
 
 cond_le : (a b : Bool) → (a ≡ true → b ≡ true) → cond {A = ℕ} b 0 1 ≤ cond {A = ℕ} a 0 1

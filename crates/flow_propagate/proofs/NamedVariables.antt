@@ -1,9 +1,9 @@
 -- The variables that expressions and assignments name, gathered as pairs.
-use Rattle.std.proofs.Common.{◌≡◌, ℕ, zero, suc, ◌+◌, ◌<◌, ◌≤◌, ◌⊎◌, inl, inr, Bool, List, [], ◌∷◌, ◌++◌, length, drop, get_or, Box, Vec, Global, Result, Ok, Err, IfOk, refl, sym, ap, ◌∙◌, subst}
+use Rattle.std.proofs.Common.{◌≡◌, ℕ, ◌+◌, ◌<◌, ◌≤◌, ◌⊎◌, inl, inr, Bool, List, [], ◌∷◌, ◌++◌, length, drop, get_or, Box, Vec, Global, Result, Ok, Err, IfOk, refl, sym, ap, ◌∙◌, subst}
 use Rattle.std.proofs.lemmas.List.{at_drop_more, at_drop_all}
 use Rattle.ar_base.specs.declared.faults.Memory.{Memory}
-use Rattle.ar_base.specs.Lists.{Stands, IsOneOf}
-use Rattle.ar_base.proofs.Standing.{stands_left, stands_next, stands_split, stands_none}
+use Rattle.ar_base.specs.Lists.{IsOneOf}
+use Rattle.ar_base.proofs.Standing.{stands_left, stands_next, stands_split, only_item}
 use Rattle.domains.specs.declared.Value.{Value}
 use Rattle.typed_expr.specs.Yields.{Level}
 use Rattle.typed_expr.specs.Mentions.{Mentions, Some_mentions, Parts_mention, Cases_mention}
@@ -20,13 +20,6 @@ one_left xs ys x o = record { place = o.place; stands = stands_left xs ys o.plac
 
 pub one_last : {A : Type 0} (xs : List A) (x : A) → IsOneOf (xs ++ x ∷ []) x
 one_last xs x = record { place = length xs; stands = stands_next xs x [] }
-
-only_item : {A : Type 0} (x y : A) → IsOneOf (x ∷ []) y → x ≡ y
-only_item {A} x y o = go o.place o.stands
-  where
-    go : (k : ℕ) → Stands (x ∷ []) k y → x ≡ y
-    go zero s = cc
-    go (suc k) s = absurd (stands_none k y s)
 
 pub one_cases : {A : Type 0} (xs : List A) (x y : A) → IsOneOf (xs ++ x ∷ []) y → IsOneOf xs y ⊎ (x ≡ y)
 one_cases xs x y o = elim (stands_split xs (x ∷ []) o.place y o.stands) [

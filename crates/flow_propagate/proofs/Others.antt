@@ -3,7 +3,8 @@ use Rattle.std.proofs.Common.{◌≡◌, Bool, true, false, List, Contains, sym,
 use Rattle.domains.specs.declared.Value.{Value}
 use Rattle.ar_meaning.specs.Found.{IsAnswer}
 use Rattle.ar_meaning.proofs.OneAnswer.{same_value}
-use Rattle.flow_propagate.specs.Searches.{HasOther, IsTwo}
+use Rattle.ar_base.specs.Lists.{HasOther}
+use Rattle.flow_propagate.specs.Searches.{IsTwo}
 use Rattle.flow_propagate.proofs.Searching.{two_of_other}
 
 pub two_answer : (is_state : Bool) (row : List Value) (v : Value) (b : Bool) → is_state ≡ false → Contains row v → IsAnswer b (HasOther row v) → IsAnswer b (IsTwo is_state row)

@@ -10,7 +10,8 @@ use Rattle.gts_core.specs.Sound.{IsSound}
 use Rattle.gts_core.specs.declared.system.Variable.{Variable}
 use Rattle.gts_core.specs.declared.system.Assign.{Assign}
 use Rattle.gts_core.specs.declared.system.GtsParts.{GtsParts}
-use Rattle.flow_propagate.specs.Table.{Rows, row_at, Holds, Puts, PutsAll}
+use Rattle.typed_expr.specs.Rows.{Rows, row_at}
+use Rattle.flow_propagate.specs.Table.{Holds, Puts, PutsAll}
 
 module _ (new : Vec Value Global) where
   set_grows : (rows : Rows) (t : ℕ) → ((w : Value) → Contains (row_at rows t) w → Contains new.items w) → (n : ℕ) (w : Value) → Holds rows n w → Holds (set rows t new) n w

@@ -1,5 +1,5 @@
 -- What tables make of conditions and of expressions.
-use Rattle.std.proofs.Common.{◌≡◌, ℕ, ◌+◌, ◌<◌, ◌≤◌, Bool, true, false, List, [], ◌∷◌, map, length, drop, get_or, sym, ap, ◌∙◌, subst}
+use Rattle.std.proofs.Common.{◌≡◌, ℕ, ◌+◌, ◌<◌, ◌≤◌, Bool, List, [], ◌∷◌, map, length, drop, get_or, sym, ap, ◌∙◌, subst}
 use Rattle.std.proofs.lemmas.List.{at_drop_more, at_drop_all}
 use Rattle.domains.specs.declared.Value.{Value}
 use Rattle.domains.specs.declared.Value.TheVariants.{Truth}
@@ -7,11 +7,11 @@ use Rattle.typed_expr.specs.Sets.{HasExactly}
 use Rattle.typed_expr.specs.Yields.{Yields, facts_of}
 use Rattle.typed_expr.specs.declared.expr.Expr.{Expr, out-Expr}
 use Rattle.ar_meaning.specs.Facts.{Passes, none, one_and}
-use Rattle.ar_meaning.specs.Found.{IsAnswer}
 use Rattle.ar_base.specs.Numbers.{VarId}
 use Rattle.gts_core.specs.View.{numbered, condition_of}
 use Rattle.gts_core.proofs.Numbering.{yields_numbered, yields_back}
-use Rattle.flow_propagate.specs.Table.{Rows, row_at, Holds}
+use Rattle.typed_expr.specs.Rows.{Rows, row_at}
+use Rattle.flow_propagate.specs.Table.{Holds}
 
 -- the set of what the expression yields is that of its form over plain numbers
 pub tells : (rows : Rows) (e : Expr VarId) (set : List Value) → HasExactly set (Yields (facts_of (λ (x : VarId). row_at rows x.n)) (out-Expr VarId e)) → HasExactly set (Yields (Holds rows) (out-Expr ℕ (numbered e)))
@@ -51,13 +51,3 @@ pub decides_all : (rows : Rows) (cs : List (Expr VarId × Bool)) (i : ℕ) → l
 decides_all rows cs i h r =
     let e : drop i cs ≡ [] = at_drop_all (λ (xs : List (Expr VarId × Bool)). xs) cs i h in
     r.on (subst (λ (xs : List (Expr VarId × Bool)). Passes (Holds rows) (map condition_of xs)) (sym e) none)
-
--- the test says that P holds
-pub holds : (P : Type 0) (b : Bool) → b ≡ true → IsAnswer b P → P
-holds P true e h = h
-holds P false e h = absurd (cc e)
-
--- the test says that P does not hold
-pub fails : (P : Type 0) (b : Bool) → b ≡ false → IsAnswer b P → P → ⊥
-fails P true e h = absurd (cc e)
-fails P false e h = h

@@ -23,7 +23,8 @@ use Rattle.gts_core.specs.declared.system.Assign.{Assign}
 use Rattle.gts_core.specs.declared.system.GtsParts.{GtsParts}
 use Rattle.ar_meaning.specs.Dependence.{Tests, in_this, in_later, Names, Reads}
 use Rattle.flow_propagate.specs.Plan.{ComesBefore, AreReaders}
-use Rattle.flow_propagate.specs.Named.{IsPairFor, AddsNamed, NamesVariable, AreNamed}
+use Rattle.gts_core.specs.Named.{ReadsVariable}
+use Rattle.flow_propagate.specs.Named.{IsPairFor, AddsNamed, AreNamed}
 use Rattle.flow_propagate.proofs.Searching.{stands_read}
 use Rattle.flow_propagate.proofs.Numbered.{read_there, read_back}
 
@@ -55,11 +56,11 @@ tests_back x (c ∷ cs) d = elim (tests_head x (condition_of c) (map condition_o
   | inr h ↦ (let r = tests_back x cs h in record { variable = r.variable; is = r.is; has = in_later r.has })
 ]
 
-names_there : (a : Assign) (v : VarId) → NamesVariable a v → Names (assign_of a) v.n
+names_there : (a : Assign) (v : VarId) → ReadsVariable a v → Names (assign_of a) v.n
 names_there a v (inl d) = inl (mentions_there v a.value d)
 names_there a v (inr d) = inr (tests_there v a.when.items d)
 
-pub names_back : (a : Assign) (x : ℕ) → Names (assign_of a) x → Typed (NamesVariable a) x
+pub names_back : (a : Assign) (x : ℕ) → Names (assign_of a) x → Typed (ReadsVariable a) x
 names_back a x (inl d) = let r = mentions_back x a.value d in record { variable = r.variable; is = r.is; has = inl r.has }
 names_back a x (inr d) = let r = tests_back x a.when.items d in record { variable = r.variable; is = r.is; has = inr r.has }
 
@@ -73,7 +74,7 @@ pub named_start : (p : GtsParts) → AreNamed p 0 []
 named_start p = record { only = λ q o. absurd (stands_none o.place q o.stands); all = λ x n h r. absurd (omega arith) }
 
 -- one assignment more
-pub named_more : (p : GtsParts) (i : ℕ) (a : Assign) (old new : List (ℕ × ℕ)) → i < length p.assigns.items → a ≡ get_or p.assigns.items i a → AreNamed p i old → AddsNamed i (NamesVariable a) old new → AreNamed p (i + 1) new
+pub named_more : (p : GtsParts) (i : ℕ) (a : Assign) (old new : List (ℕ × ℕ)) → i < length p.assigns.items → a ≡ get_or p.assigns.items i a → AreNamed p i old → AddsNamed i (ReadsVariable a) old new → AreNamed p (i + 1) new
 named_more p i a old new h is before adds = record {
   only = λ q o. elim (adds.only q o) [ inl k ↦ before.only q k | inr k ↦ here q k ];
   all = λ x n below r. at x n r (cases_below n i below);
@@ -82,7 +83,7 @@ named_more p i a old new h is before adds = record {
     stands : Stands p.assigns.items i a
     stands = stands_read p.assigns.items i a h is
 
-    here : (q : ℕ × ℕ) → IsPairFor i (NamesVariable a) q → Reads (net_of p) q.0 q.1
+    here : (q : ℕ × ℕ) → IsPairFor i (ReadsVariable a) q → Reads (net_of p) q.0 q.1
     here q k = subst (λ (z : ℕ). Reads (net_of p) z q.1) (sym k.first) (subst (λ (z : ℕ). Reads (net_of p) k.variable.n z) (sym k.second) (read_there p k.variable.n i (record { assign = a; stands = stands; names = names_there a k.variable k.has })))
 
     same : (x n : ℕ) → n ≡ i → Reads (net_of p) x n → IsOneOf new (x, n)

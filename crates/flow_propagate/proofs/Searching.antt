@@ -1,8 +1,8 @@
 -- The searches for faults find what they look for.
 use Rattle.std.proofs.Common.{◌≡◌, ℕ, zero, suc, ◌+◌, ◌<◌, ◌≤◌, ◌⊎◌, inl, inr, Bool, true, false, cond, nat_lt, List, [], ◌∷◌, length, get_or, Contains, Option, Some, None, refl, sym, ap, ◌∙◌, subst, arith}
 use Rattle.std.proofs.lemmas.Bool.Decides.{nat_tests}
-use Rattle.ar_base.specs.Lists.{Stands, IsOneOf, IsFirst, HasNo}
-use Rattle.ar_base.proofs.Standing.{stands_one, stands_map, stands_map_back, stands_within}
+use Rattle.ar_base.specs.Lists.{Stands, IsOneOf, IsFirst, HasNo, HasOther}
+use Rattle.ar_base.proofs.Standing.{stands_one, stands_map, stands_map_back, stands_within, at_most}
 use Rattle.domains.proofs.Domains.{held, listed}
 use Rattle.domains.specs.declared.Value.{Value}
 use Rattle.domains.specs.declared.Domain.{Domain}
@@ -20,14 +20,10 @@ use Rattle.gts_core.proofs.Viewing.{variable_there, variable_back}
 use Rattle.gts_core.specs.declared.system.Variable.{Variable}
 use Rattle.gts_core.specs.declared.system.Assign.{Assign}
 use Rattle.gts_core.specs.declared.system.GtsParts.{GtsParts}
-use Rattle.flow_propagate.specs.Table.{Rows, row_at, Holds, AreFacts}
-use Rattle.flow_propagate.specs.Searches.{AreTwo, HasOther, IsTwo, Leaves, LeavesDomain, IsLeast, least_with}
-
-pub at_most : (k i : ℕ) → k < i + 1 → (k < i) ⊎ (k ≡ i)
-at_most zero zero h = inr refl
-at_most zero (suc i) h = inl (omega arith)
-at_most (suc k) zero h = absurd (omega arith)
-at_most (suc k) (suc i) h = elim (at_most k i (omega arith)) [ inl a ↦ inl (omega arith) | inr a ↦ inr (ap suc a) ]
+use Rattle.typed_expr.specs.Rows.{Rows, row_at}
+use Rattle.flow_propagate.specs.Table.{Holds, AreFacts}
+use Rattle.ar_base.specs.Least.{least_with}
+use Rattle.flow_propagate.specs.Searches.{AreTwo, IsTwo, Leaves, LeavesDomain, IsLeast}
 
 pub stands_read : {A : Type 0} (xs : List A) (i : ℕ) (a : A) → i < length xs → a ≡ get_or xs i a → Stands xs i a
 stands_read [] zero a h is = absurd (omega arith)

@@ -10,7 +10,8 @@ use Rattle.gts_core.specs.View.{net_of, variable_of}
 use Rattle.gts_core.proofs.Viewing.{variable_there, variable_back, are_numbered}
 use Rattle.gts_core.specs.declared.system.Variable.{Variable}
 use Rattle.gts_core.specs.declared.system.GtsParts.{GtsParts}
-use Rattle.flow_propagate.specs.Table.{Rows, row_at, Holds, IsSoundTable, Starts}
+use Rattle.typed_expr.specs.Rows.{Rows, row_at}
+use Rattle.flow_propagate.specs.Table.{Holds, IsSoundTable, Starts}
 
 nothing : (v : Value) → Contains [] v → ⊥
 nothing v h = omega (arith, h.1)

@@ -1,7 +1,7 @@
 -- Total valuations, and the assignments that do not hold under them.
 use Rattle.std.proofs.Common.{◌≡◌, ℕ, suc, ◌+◌, ◌<◌, ◌≤◌, ◌⊎◌, inl, inr, Bool, true, false, List, [], ◌∷◌, ◌++◌, length, Contains, Some, refl, sym, ap, ◌∙◌, subst, arith, length-append}
 use Rattle.ar_base.specs.Lists.{Stands, IsFirst, HasNo}
-use Rattle.ar_base.proofs.Standing.{stands_one, stands_map, stands_map_back, stands_within, stands_some, stands_left, stands_next}
+use Rattle.ar_base.proofs.Standing.{stands_one, stands_map, stands_map_back, stands_within, stands_some, stands_left, stands_next, at_most}
 use Rattle.domains.specs.declared.Value.{Value}
 use Rattle.typed_expr.proofs.Facts.{yields_more}
 use Rattle.ar_meaning.specs.Systems as s
@@ -16,9 +16,9 @@ use Rattle.gts_core.proofs.Viewing.{variable_there, are_numbered}
 use Rattle.gts_core.specs.declared.system.Variable.{Variable}
 use Rattle.gts_core.specs.declared.system.Assign.{Assign}
 use Rattle.gts_core.specs.declared.system.GtsParts.{GtsParts}
-use Rattle.flow_propagate.specs.Table.{Rows, row_at, Holds, AreFacts, Reaches}
+use Rattle.typed_expr.specs.Rows.{Rows, row_at}
+use Rattle.flow_propagate.specs.Table.{Holds, AreFacts, Reaches}
 use Rattle.flow_propagate.specs.Totals.{Completed, completed_value, AreSingle, Breaks}
-use Rattle.flow_propagate.proofs.Searching.{at_most}
 use Rattle.flow_propagate.proofs.Starting.{holds_within, one_there, only_one}
 
 pub completed_more : (vars : List Variable) (values : List Value) (rows : Rows) (i : ℕ) (x : Variable) (v : Value) (total new : List Value) (w : Value)

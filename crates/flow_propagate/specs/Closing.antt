@@ -13,7 +13,8 @@ use Rattle.gts_core.specs.View.{assign_of, net_of}
 use Rattle.gts_core.specs.declared.system.Variable.{Variable}
 use Rattle.gts_core.specs.declared.system.Assign.{Assign}
 use Rattle.gts_core.specs.declared.system.GtsParts.{GtsParts}
-use Rattle.flow_propagate.specs.Table.{Rows, row_at, Holds, IsClosed, Moves}
+use Rattle.typed_expr.specs.Rows.{Rows, row_at}
+use Rattle.flow_propagate.specs.Table.{Holds, IsClosed, Moves}
 use Rattle.flow_propagate.specs.declared.worklist.Worklist.{Worklist}
 
 -- how many of the values the row lacks

@@ -1,13 +1,10 @@
 -- The pairs that are gathered for the variables that an assignment names.
 use Rattle.std.specs.Prelude.{◌≡◌, ◌<◌, ℕ, ◌⊎◌, List}
 use Rattle.ar_base.specs.Lists.{IsOneOf}
-use Rattle.typed_expr.specs.Mentions.{Mentions}
-use Rattle.typed_expr.specs.declared.expr.Expr.{out-Expr}
 use Rattle.ar_base.specs.Numbers.{VarId}
 use Rattle.gts_core.specs.View.{net_of}
-use Rattle.gts_core.specs.declared.system.Assign.{Assign}
 use Rattle.gts_core.specs.declared.system.GtsParts.{GtsParts}
-use Rattle.ar_meaning.specs.Dependence.{Tests, Reads}
+use Rattle.ar_meaning.specs.Dependence.{Reads}
 
 -- a variable that has P, by its number, with the assignment's
 pub record IsPairFor (n : ℕ) (P : VarId → Type 0) (q : ℕ × ℕ) : Type 0 where
@@ -21,10 +18,6 @@ pub record AddsNamed (n : ℕ) (P : VarId → Type 0) (old new : List (ℕ × �
   pub grows : (q : ℕ × ℕ) → IsOneOf old q → IsOneOf new q
   pub only : (q : ℕ × ℕ) → IsOneOf new q → IsOneOf old q ⊎ IsPairFor n P q
   pub all : (x : VarId) → P x → IsOneOf new (x.n, n)
-
--- the assignment names the variable in its value or in a condition
-abbrev pub NamesVariable : Assign → VarId → Type 0
-NamesVariable a x = Mentions x (out-Expr VarId a.value) ⊎ Tests x a.when.items
 
 -- the pairs of a variable and one of the first so many assignments that names it
 pub record AreNamed (p : GtsParts) (count : ℕ) (pairs : List (ℕ × ℕ)) : Type 0 where

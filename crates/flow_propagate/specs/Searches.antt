@@ -1,5 +1,5 @@
 -- What the searches for faults look for.
-use Rattle.std.specs.Prelude.{◌≡◌, ℕ, ◌<◌, ◌≤◌, Bool, true, false, nat_lt, if◌then◌else◌, List, Contains, Option, Some, None}
+use Rattle.std.specs.Prelude.{◌≡◌, ℕ, ◌<◌, ◌≤◌, Bool, false, List, Contains, Option, Some, None}
 use Rattle.ar_base.specs.Lists.{Stands}
 use Rattle.domains.specs.Domains as domains
 use Rattle.domains.specs.declared.Domain.{Domain}
@@ -11,7 +11,8 @@ use Rattle.gts_core.specs.View.{assign_of}
 use Rattle.gts_core.specs.declared.system.Variable.{Variable}
 use Rattle.gts_core.specs.declared.system.Assign.{Assign}
 use Rattle.gts_core.specs.declared.system.GtsParts.{GtsParts}
-use Rattle.flow_propagate.specs.Table.{Rows, Holds}
+use Rattle.typed_expr.specs.Rows.{Rows}
+use Rattle.flow_propagate.specs.Table.{Holds}
 
 -- two different values in a list
 pub record AreTwo (values : List Value) : Type 0 where
@@ -20,12 +21,6 @@ pub record AreTwo (values : List Value) : Type 0 where
   pub has_first : Contains values first
   pub has_second : Contains values second
   pub differ : first ≡ second → ⊥
-
--- a value of the list that is not this one
-pub record HasOther (values : List Value) (v : Value) : Type 0 where
-  pub other : Value
-  pub has : Contains values other
-  pub differs : other ≡ v → ⊥
 
 -- a flow with two values
 abbrev pub IsTwo : Bool → List Value → Type 0
@@ -49,9 +44,3 @@ abbrev pub IsLeast : List Assign → ℕ → (Assign → Type 0) → Option ℕ 
 IsLeast all count P None = (k : ℕ) (a : Assign) → k < count → Stands all k a → P a → ⊥
 IsLeast all count P (Some n) =
     ((k : ℕ) × (a : Assign) × Stands all k a × P a × (a.target.n ≡ n)) × ((k : ℕ) (a : Assign) → k < count → Stands all k a → P a → n ≤ a.target.n)
-
--- the lesser of what was found and a target, where it counts
-abbrev pub least_with : Option ℕ → Bool → ℕ → Option ℕ
-least_with least false target = least
-least_with None true target = Some target
-least_with (Some n) true target = Some (if nat_lt target n then target else n)

@@ -1,35 +1,16 @@
 -- Tables of facts: a row of values for each variable.
-use Rattle.std.specs.Prelude.{◌≡◌, ◌<◌, if◌then◌else◌, ℕ, ◌⊎◌, Bool, true, false, List, [], ◌∷◌, length, Option, Some, None, slice_get, Contains, Vec}
-use Rattle.std.specs.Global.{Global}
+use Rattle.std.specs.Prelude.{◌≡◌, ◌<◌, if◌then◌else◌, ℕ, ◌⊎◌, Bool, true, false, List, [], ◌∷◌, length, Option, Some, None, Contains}
 use Rattle.ar_base.specs.Lists.{Stands}
 use Rattle.gts_core.specs.declared.system.Variable.{Variable}
 use Rattle.domains.specs.Domains as domains
 use Rattle.domains.specs.declared.Domain.{Domain}
 use Rattle.domains.specs.declared.Value.{Value}
-use Rattle.domains.specs.declared.Value.TheVariants.{Truth}
+use Rattle.typed_expr.specs.Rows.{Rows, row_at}
 use Rattle.typed_expr.specs.Sets.{HasExactly}
 use Rattle.typed_expr.specs.Yields.{Yields}
 use Rattle.typed_expr.specs.declared.expr.Expr.{out-Expr}
 use Rattle.ar_meaning.specs.Systems.{Assign, Net}
 use Rattle.ar_meaning.specs.Facts.{Passes, Allows, FactOf}
-
--- a table: the values known of each variable, by number
-abbrev pub Rows : Type 0
-Rows = List (Vec Value Global)
-
--- the row that was looked up
-abbrev pub items_of : Option (Vec Value Global) → List Value
-items_of (Some row) = row.items
-items_of None = []
-
--- the values known of the variable of this number
-abbrev pub row_at : Rows → ℕ → List Value
-row_at rows n = items_of (slice_get rows n)
-
--- the first value of a row; false in an empty one
-abbrev pub first_of : List Value → Value
-first_of [] = Truth false
-first_of (v ∷ vs) = v
 
 -- the table has the value for the variable
 abbrev pub Holds : Rows → ℕ → Value → Type 0

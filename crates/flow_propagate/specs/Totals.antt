@@ -8,7 +8,8 @@ use Rattle.ar_meaning.specs.Facts.{Passes}
 use Rattle.gts_core.specs.View.{assign_of}
 use Rattle.gts_core.specs.declared.system.Variable.{Variable}
 use Rattle.gts_core.specs.declared.system.Assign.{Assign}
-use Rattle.flow_propagate.specs.Table.{Rows, row_at, Holds}
+use Rattle.typed_expr.specs.Rows.{Rows, row_at}
+use Rattle.flow_propagate.specs.Table.{Holds}
 
 -- a state variable keeps its own value, and a flow has its first fact or its reset
 abbrev pub completed_value : Bool → Value → List Value → Value → Value

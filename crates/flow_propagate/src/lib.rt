@@ -15,5 +15,6 @@ mod totals;
 mod worklist;
 
 pub use flows::{propagate, propagate_by};
+pub use naming::add_named;
 pub use plan::{Plan, make_plan};
 pub use propagation::{FlowFault, PropagateFault};

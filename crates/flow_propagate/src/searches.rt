@@ -1,7 +1,7 @@
 // The searches for faults.
 
 ghost use Rattle.std.specs.Prelude.{true, false, ◌≡◌, ◌<◌, ◌≤◌, ℕ, List, length, map, IfOk, IsTrue, Contains};
-ghost use Rattle.ar_base.specs.Lists.{IsOneOf, Stands};
+ghost use Rattle.ar_base.specs.Lists.{IsOneOf, Stands, HasOther};
 ghost use Rattle.gts_core.specs.declared.system.Variable.{Variable as Variables};
 ghost use Rattle.domains.specs.Domains.{IsDomain, Holds as DomainHolds};
 ghost use Rattle.domains.specs.declared.Value.{Value};
@@ -10,8 +10,10 @@ ghost use Rattle.ar_meaning.specs.Facts.{FactOf};
 ghost use Rattle.ar_meaning.specs.Found.{IsAnswer, IsFirstOrNone};
 ghost use Rattle.gts_core.specs.View.{net_of, assign_of};
 ghost use Rattle.gts_core.specs.Sound.{IsSound};
-ghost use Rattle.flow_propagate.specs.Table.{Holds, AreFacts, row_at};
-ghost use Rattle.flow_propagate.specs.Searches.{AreTwo, HasOther, IsTwo, Leaves, LeavesDomain, IsLeast, least_with};
+ghost use Rattle.typed_expr.specs.Rows.{row_at};
+ghost use Rattle.flow_propagate.specs.Table.{Holds, AreFacts};
+ghost use Rattle.ar_base.specs.Least.{least_with};
+ghost use Rattle.flow_propagate.specs.Searches.{AreTwo, IsTwo, Leaves, LeavesDomain, IsLeast};
 
 use crate::table::{Table, has, yielded};
 use ar_base::Memory;

@@ -8,7 +8,8 @@ ghost use Rattle.typed_expr.specs.Kinds.{kind_of};
 ghost use Rattle.ar_meaning.specs.Facts.{Passes};
 ghost use Rattle.ar_meaning.specs.Found.{IsAnswer};
 ghost use Rattle.gts_core.specs.View.{assign_of, condition_of};
-ghost use Rattle.flow_propagate.specs.Table.{Holds, Reaches, row_at, first_of};
+ghost use Rattle.typed_expr.specs.Rows.{row_at, first_of};
+ghost use Rattle.flow_propagate.specs.Table.{Holds, Reaches};
 
 use ar_base::{Memory, VarId};
 use domains::{Domain, Value};

@@ -6,7 +6,8 @@ ghost use Rattle.domains.specs.declared.Value.{Value};
 ghost use Rattle.ar_meaning.specs.Found.{IsAnswer, IsFirstOrNone};
 ghost use Rattle.gts_core.specs.View.{net_of, assign_of};
 ghost use Rattle.gts_core.specs.Sound.{IsSound};
-ghost use Rattle.flow_propagate.specs.Table.{Holds, row_at};
+ghost use Rattle.typed_expr.specs.Rows.{row_at};
+ghost use Rattle.flow_propagate.specs.Table.{Holds};
 ghost use Rattle.flow_propagate.specs.Totals.{Completed, completed_value, AreSingle, Breaks};
 
 use crate::table::{Table, yielded};

@@ -11,3 +11,7 @@ pub mod ScriptLemmas
 pub mod MarkLemmas
 pub mod VisibleLemmas
 pub mod PathLemmas
+pub mod RunLemmas
+pub mod TouchLemmas
+pub mod ChangeLemmas
+pub mod ObservingLemmas

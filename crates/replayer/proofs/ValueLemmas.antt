@@ -63,7 +63,7 @@ module _ (p : GtsParts) where
   observers_alike t n (o ∷ os) =
       ap (λ z. observer_line (naming_of_parts p) n (value_in t o.value) ++ z) (observers_alike t (n + 1) os)
 
-  changes_alike : (old new : List Value) (n : ℕ) (os : List Observer)
+  pub changes_alike : (old new : List Value) (n : ℕ) (os : List Observer)
       → changes_from (observer_line (naming_of_parts p)) n (seen_by os old) (seen_by os new)
       ≡ observer_changes p old new n os
   changes_alike old new n [] = refl

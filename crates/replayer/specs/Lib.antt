@@ -3,6 +3,7 @@ pub mod Lines
 pub mod Scripts
 pub mod Replays
 pub mod Flat
+pub mod Observing
 pub mod Printing
 pub mod Listing
 pub mod Playing

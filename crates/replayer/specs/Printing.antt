@@ -1,9 +1,10 @@
 -- The texts of a replay as they are written: the lines of values, of changes and of what can fire, by the parts of a flat
 -- system.
-use Rattle.std.specs.Prelude.{ℕ, ◌+◌, Bool, if◌then◌else◌, List, [], ◌∷◌, ◌++◌, map, codes}
+use Rattle.std.specs.Prelude.{ℕ, ◌+◌, Bool, if◌then◌else◌, List, [], ◌∷◌, ◌++◌, map, codes, slice_get, Option, Some, None, false}
 use Rattle.ar_base.specs.Numbers.{WayId}
 use Rattle.ar_base.specs.Texts.{line}
 use Rattle.domains.specs.declared.Value.{Value}
+use Rattle.domains.specs.declared.Value.TheVariants.{Truth}
 use Rattle.domains.specs.Same.{is_same}
 use Rattle.ar_meaning.specs.TraceText.{variable_line, observer_line, all_lines, flow_fault_text, step_fault_text}
 use Rattle.ar_meaning.specs.Steps as steps
@@ -28,6 +29,20 @@ seen_in p t = seen_by p.observers.items t
 -- the lines of all variables and observers
 abbrev pub values_text : GtsParts → List Value → List ℕ
 values_text p t = all_lines (naming_of_parts p) t (seen_in p t)
+
+-- the value of an observer that was looked up, false where there is none
+abbrev pub observed_value : Option Observer → List Value → Value
+observed_value (Some o) t = value_in t o.value
+observed_value None t = Truth false
+
+-- the value of the observer of this number
+abbrev pub observer_value : GtsParts → List Value → ℕ → Value
+observer_value p t n = observed_value (slice_get p.observers.items n) t
+
+-- the texts of these numbers
+abbrev pub texts_of : (ℕ → List ℕ) → List ℕ → List ℕ
+texts_of text [] = []
+texts_of text (n ∷ ns) = text n ++ texts_of text ns
 
 -- the line of the new value, where it differs from the old one
 abbrev pub change_text : (ℕ → Value → List ℕ) → ℕ → Value → Value → List ℕ

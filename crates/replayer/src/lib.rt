@@ -5,6 +5,7 @@ mod commands;
 mod cutting;
 mod enabled;
 mod labels;
+mod latest;
 pub mod laws;
 mod lines;
 mod obeying;
@@ -13,6 +14,7 @@ pub mod pieces;
 mod replaying;
 mod script_labels;
 mod shown;
+mod touched;
 mod trace;
 mod way_numbers;
 

@@ -1,16 +1,20 @@
 // What each command does.
 
-ghost use Rattle.std.specs.Prelude.{◌≡◌, ◌<◌, ℕ, length, OnOk};
+ghost use Rattle.std.specs.Prelude.{◌≡◌, ◌<◌, ℕ, length, OnOk, IfOk};
 ghost use Rattle.ar_meaning.specs.Systems.{System};
 ghost use Rattle.gts_core.specs.Sound.{IsSound};
 ghost use Rattle.gts_core.specs.View.{Views};
 ghost use Rattle.gts_flatten.specs.Flat.{naming_of_parts};
 ghost use Rattle.replayer.specs.Flat.{command_of, IsFirable};
+ghost use Rattle.replayer.specs.Observing.{IsLatest};
 ghost use Rattle.replayer.specs.Playing.{AreTotal, Answers, IsRefusal};
 ghost use Rattle.replayer.specs.Printing.{IsFaultInRange};
+ghost use Rattle.replayer.specs.declared.replaying.End.TheVariants.{Done};
 
 use crate::commands::Command;
+use crate::latest::{Latest, follow};
 use crate::replaying::{End, ReplayFault};
+use crate::touched::touched;
 use crate::trace::{fired, gone_back, listed, no_step, not_fired, shown};
 use ar_base::WayId;
 use ar_io::Sink;
@@ -23,21 +27,24 @@ pub(crate) fn obey<K: Sink>(
     alloc: Global,
     gts: &Gts,
     stepper: &mut Stepper,
+    latest: &mut Latest,
     command: Command,
     out: &mut K,
 ) -> Result<End, ReplayFault>
     requires sound { IsSound gts.now }
     requires same { stepper.old.system ≡ gts.now }
     requires below { AreTotal gts.now stepper.old.below }
+    requires latest { IsLatest gts.now stepper.old.values latest.old }
     requires firable { IsFirable gts.now command }
     ensures system { stepper.new.system ≡ stepper.old.system }
     ensures below { OnOk result (AreTotal gts.now stepper.new.below) }
+    ensures latest { IfOk result (λ end. end ≡ Done → IsLatest gts.now stepper.new.values latest.new) }
     ensures answers { (system : System ℕ) → Views gts.now system
         → Answers (naming_of_parts gts.now) system stepper.old stepper.new (command_of gts.now command) (K.state out.old) (K.state out.new) result }
 {
     match command {
-        Command::Fire(way) => fire(alloc, gts, stepper, way, out),
-        Command::Back => back(alloc, gts, stepper, out),
+        Command::Fire(way) => fire(alloc, gts, stepper, latest, way, out),
+        Command::Back => back(alloc, gts, stepper, latest, out),
         Command::Show => show(gts, stepper, out),
         Command::Enabled => list(gts, stepper, out),
     }
@@ -48,22 +55,28 @@ fn fire<K: Sink>(
     alloc: Global,
     gts: &Gts,
     stepper: &mut Stepper,
+    latest: &mut Latest,
     way: WayId,
     out: &mut K,
 ) -> Result<End, ReplayFault>
     requires sound { IsSound gts.now }
     requires same { stepper.old.system ≡ gts.now }
     requires below { AreTotal gts.now stepper.old.below }
+    requires latest { IsLatest gts.now stepper.old.values latest.old }
     requires inside { way.n < length gts.now.ways.items }
     ensures system { stepper.new.system ≡ stepper.old.system }
     ensures below { OnOk result (AreTotal gts.now stepper.new.below) }
+    ensures latest { IfOk result (λ end. end ≡ Done → IsLatest gts.now stepper.new.values latest.new) }
     ensures answers { (system : System ℕ) → Views gts.now system
         → Answers (naming_of_parts gts.now) system stepper.old stepper.new (command_of gts.now (Command.Fire way)) (K.state out.old) (K.state out.new) result }
 {
-    let old = Vec::from_slice(alloc, &stepper.values().values)?;
     match stepper.fire(way) {
         Ok(_) => {
-            fired(out, gts, way, &old, &stepper.values().values)?;
+            let new = &stepper.values().values;
+            let changed = stepper.changed();
+            let touched = touched(alloc, &latest.observed, changed)?;
+            fired(out, gts, way, &latest.values, new, changed, &touched)?;
+            follow(&mut latest.values, changed, new);
             Ok(End::Done)
         }
         Err(fault) => refuse(gts, way, fault, out),
@@ -90,20 +103,26 @@ fn back<K: Sink>(
     alloc: Global,
     gts: &Gts,
     stepper: &mut Stepper,
+    latest: &mut Latest,
     out: &mut K,
 ) -> Result<End, ReplayFault>
     requires sound { IsSound gts.now }
     requires same { stepper.old.system ≡ gts.now }
     requires below { AreTotal gts.now stepper.old.below }
+    requires latest { IsLatest gts.now stepper.old.values latest.old }
     ensures system { stepper.new.system ≡ stepper.old.system }
     ensures below { OnOk result (AreTotal gts.now stepper.new.below) }
+    ensures latest { IfOk result (λ end. end ≡ Done → IsLatest gts.now stepper.new.values latest.new) }
     ensures answers { (system : System ℕ) → Views gts.now system
         → Answers (naming_of_parts gts.now) system stepper.old stepper.new (command_of gts.now Command.Back) (K.state out.old) (K.state out.new) result }
 {
-    let old = Vec::from_slice(alloc, &stepper.values().values)?;
     match stepper.back() {
         Ok(_) => {
-            gone_back(out, gts, &old, &stepper.values().values)?;
+            let new = &stepper.values().values;
+            let changed = stepper.changed();
+            let touched = touched(alloc, &latest.observed, changed)?;
+            gone_back(out, gts, &latest.values, new, changed, &touched)?;
+            follow(&mut latest.values, changed, new);
             Ok(End::Done)
         }
         Err(NoStep {}) => {

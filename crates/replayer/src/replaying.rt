@@ -11,12 +11,14 @@ ghost use Rattle.replayer.specs.Replays.{AnswersReplay};
 ghost use Rattle.stepper.specs.Steps.{IsStartFault};
 
 use crate::commands::Command;
+use crate::latest::at_start;
 use crate::obeying::obey;
 use crate::trace::{ended, not_started, started};
+use ar_base::Memory;
 use ar_io::{Sink, SinkFailed};
 use flow_propagate::PropagateFault;
 use gts_core::Gts;
-use std::alloc::{AllocError, Global};
+use std::alloc::Global;
 use stepper::Stepper;
 
 /// How a run ends.
@@ -48,13 +50,13 @@ impl From<SinkFailed> for ReplayFault {
     }
 }
 
-impl From<AllocError> for ReplayFault {
+impl From<Memory> for ReplayFault {
     ghost use Rattle.std.specs.Prelude.{◌≡◌};
     ghost use Rattle.replayer.specs.declared.replaying.ReplayFault.TheVariants as fault;
 
     ghost from_gives = { λ _ e. e ≡ fault.Memory };
 
-    fn from(_error: AllocError) -> Self {
+    fn from(_memory: Memory) -> Self {
         ReplayFault::Memory
     }
 }
@@ -110,9 +112,10 @@ fn play<K: Sink>(
     ensures { (system : System ℕ) → Views gts.now system
         → AnswersReplay (naming_of_parts gts.now) system (map (command_of gts.now) commands.now) (K.state out.old) (K.state out.new) result }
 {
+    let mut latest = at_start(alloc, gts.parts(), &stepper.values().values)?;
     started(out, gts, &stepper.values().values)?;
     for command in commands {
-        match obey(alloc, gts, &mut stepper, *command, out)? {
+        match obey(alloc, gts, &mut stepper, &mut latest, *command, out)? {
             End::Done => {}
             End::Fault => return Ok(End::Fault),
         }

@@ -1,4 +1,5 @@
-// The lines of variables and observers. A step's lines look at all variables and observers, each once.
+// The lines of variables and observers. A step's lines look at the variables that changed, and at the observers that name one
+// of them, and at no others.
 
 ghost use Rattle.std.specs.Prelude.{◌≡◌, ◌≢◌, ◌<◌, ◌≤◌, ◌^◌, ◌++◌, codes, length, map, slice_get, Some};
 ghost use Rattle.ar_base.specs.Texts.{text_at, line};
@@ -6,12 +7,15 @@ ghost use Rattle.ar_io.specs.Writing.{Writes};
 ghost use Rattle.ar_meaning.specs.TraceText.{variable_line, observer_line, lines_from};
 ghost use Rattle.ar_meaning.specs.ValueTexts.{value_text};
 ghost use Rattle.domains.specs.Same.{is_same};
-ghost use Rattle.gts_core.specs.Readings.{IsTotal};
+ghost use Rattle.gts_core.specs.Readings.{IsTotal, value_at};
 ghost use Rattle.gts_core.specs.Sound.{IsSound};
 ghost use Rattle.gts_flatten.specs.Flat.{naming_of_parts};
-ghost use Rattle.replayer.specs.Printing.{values_text, change_text, changes_from, observer_changes, observer_lines, changes_text};
+ghost use Rattle.stepper.specs.Changes.{numbers, AreChanges};
+ghost use Rattle.replayer.specs.Observing.{AreTouched};
+ghost use Rattle.replayer.specs.Printing.{values_text, change_text, observer_lines, observer_value, texts_of, changes_text};
 
 use crate::pieces::{put, value, variable_path};
+use ar_base::VarId;
 use ar_io::{Sink, SinkFailed};
 use domains::Value;
 use gts_core::{GtsParts, Observer, value_in};
@@ -30,20 +34,25 @@ pub(crate) fn all_lines<K: Sink>(
     observer_lines(out, parts, values, &parts.observers)
 }
 
-/// Writes the lines of those variables and observers whose value changed.
+/// Writes the lines of those variables and observers whose value changed: of these variables, and of those of these observers,
+/// which name one of them, whose value is another one.
 pub(crate) fn changed_lines<K: Sink>(
     out: &mut K,
     parts: &GtsParts,
     old: &[Value],
     new: &[Value],
+    changed: &[VarId],
+    touched: &[u32],
 ) -> Result<(), SinkFailed>
     requires sound { IsSound parts.now }
-    requires old { length old.now ≡ length parts.now.variables.items }
-    requires new { length new.now ≡ length parts.now.variables.items }
+    requires old { IsTotal parts.now old.now }
+    requires new { IsTotal parts.now new.now }
+    requires changed { AreChanges old.now new.now changed.now }
+    requires touched { AreTouched parts.now changed.now touched.now }
     ensures { Writes (K.state out.old) (K.state out.new) (changes_text parts.now old.now new.now) result }
 {
-    variable_changes(out, parts, old, new)?;
-    observer_changes(out, parts, old, new, &parts.observers)
+    variable_changes(out, parts, new, changed)?;
+    observer_changes(out, parts, old, new, touched)
 }
 
 // The lines of all variables.
@@ -63,40 +72,29 @@ fn variable_lines<K: Sink>(
     Ok(())
 }
 
-// The lines of the variables that changed.
+// The lines of these variables.
 fn variable_changes<K: Sink>(
     out: &mut K,
     parts: &GtsParts,
-    old: &[Value],
     new: &[Value],
+    changed: &[VarId],
 ) -> Result<(), SinkFailed>
-    requires short { length old.now < 2 ^ 32 }
-    requires long { length old.now ≡ length new.now }
     ensures { Writes (K.state out.old) (K.state out.new)
-        (changes_from (variable_line (naming_of_parts parts.now)) 0 old.now new.now) result }
+        (texts_of (λ n. variable_line (naming_of_parts parts.now) n (value_at new.now n)) (numbers changed.now)) result }
 {
-    let mut number = 0;
-    for (place, v) in old.iter().enumerate() {
-        variable_change(out, parts, number, *v, new[place])?;
-        number += 1;
+    for variable in changed {
+        variable_line(out, parts, variable.n, value_at(new, variable.n))?;
     }
     Ok(())
 }
 
-// The line of a variable, where its value changed.
-fn variable_change<K: Sink>(
-    out: &mut K,
-    parts: &GtsParts,
-    n: u32,
-    old: Value,
-    new: Value,
-) -> Result<(), SinkFailed>
-    ensures { Writes (K.state out.old) (K.state out.new) (change_text (variable_line (naming_of_parts parts.now)) n old new) result }
+// The value of the variable of this number.
+fn value_at(values: &[Value], n: u32) -> Value
+    ensures { result ≡ value_at values.now n }
 {
-    if is_same(old, new) {
-        put(out, "")
-    } else {
-        variable_line(out, parts, n, new)
+    match values.get(n as usize) {
+        Some(value) => *value,
+        None => Value::Truth(false),
     }
 }
 
@@ -141,22 +139,19 @@ fn observer_lines<K: Sink>(
     Ok(())
 }
 
-// The lines of the observers whose value changed.
+// The lines of those of these observers whose value changed.
 fn observer_changes<K: Sink>(
     out: &mut K,
     parts: &GtsParts,
     old: &[Value],
     new: &[Value],
-    all: &[Observer],
+    touched: &[u32],
 ) -> Result<(), SinkFailed>
-    requires { length all.now < 2 ^ 32 }
-    ensures { Writes (K.state out.old) (K.state out.new) (observer_changes parts.now old.now new.now 0 all.now) result }
+    ensures { Writes (K.state out.old) (K.state out.new)
+        (texts_of (λ n. change_text (observer_line (naming_of_parts parts.now)) n (observer_value parts.now old.now n) (observer_value parts.now new.now n)) touched.now) result }
 {
-    let mut number = 0;
-    for observer in all {
-        let was = value_in(old, &observer.value);
-        observer_change(out, parts, number, was, value_in(new, &observer.value))?;
-        number += 1;
+    for number in touched {
+        observer_change(out, parts, old, new, *number)?;
     }
     Ok(())
 }
@@ -165,16 +160,29 @@ fn observer_changes<K: Sink>(
 fn observer_change<K: Sink>(
     out: &mut K,
     parts: &GtsParts,
+    old: &[Value],
+    new: &[Value],
     n: u32,
-    old: Value,
-    new: Value,
 ) -> Result<(), SinkFailed>
-    ensures { Writes (K.state out.old) (K.state out.new) (change_text (observer_line (naming_of_parts parts.now)) n old new) result }
+    ensures { Writes (K.state out.old) (K.state out.new)
+        (change_text (observer_line (naming_of_parts parts.now)) n (observer_value parts.now old.now n) (observer_value parts.now new.now n)) result }
 {
-    if is_same(old, new) {
+    let was = observer_value(parts, old, n);
+    let is = observer_value(parts, new, n);
+    if is_same(was, is) {
         put(out, "")
     } else {
-        observer_line(out, parts, n, new)
+        observer_line(out, parts, n, is)
+    }
+}
+
+// The value of the observer of this number.
+fn observer_value(parts: &GtsParts, values: &[Value], n: u32) -> Value
+    ensures { result ≡ observer_value parts.now values.now n }
+{
+    match parts.observers.get(n as usize) {
+        Some(observer) => value_in(values, &observer.value),
+        None => Value::Truth(false),
     }
 }
 

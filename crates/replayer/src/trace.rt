@@ -5,16 +5,19 @@ ghost use Rattle.ar_base.specs.Texts.{text_at, line};
 ghost use Rattle.ar_io.specs.Writing.{Writes};
 ghost use Rattle.ar_meaning.specs.TraceText.{flow_fault_text};
 ghost use Rattle.flow_propagate.specs.Answers.{fault_of};
+ghost use Rattle.gts_core.specs.Readings.{IsTotal};
 ghost use Rattle.gts_flatten.specs.Flat.{naming_of_parts};
 ghost use Rattle.replayer.specs.Flat.{way_label, IsInRange};
 ghost use Rattle.replayer.specs.Listing.{AreAnswers};
+ghost use Rattle.stepper.specs.Changes.{AreChanges};
+ghost use Rattle.replayer.specs.Observing.{AreTouched};
 ghost use Rattle.replayer.specs.Printing.{values_text, changes_text, events_lines, step_text, IsFaultInRange};
 
 use crate::enabled::enabled_lines;
 use crate::labels::{print_flow_fault, print_label};
 use crate::pieces::{count, put, variable_path};
 use crate::shown::{all_lines, changed_lines};
-use ar_base::WayId;
+use ar_base::{VarId, WayId};
 use ar_io::{Sink, SinkFailed};
 use domains::Value;
 use flow_propagate::FlowFault;
@@ -52,17 +55,21 @@ pub(crate) fn fired<K: Sink>(
     way: WayId,
     old: &[Value],
     new: &[Value],
+    changed: &[VarId],
+    touched: &[u32],
 ) -> Result<(), SinkFailed>
     requires way { way.n < length gts.now.ways.items }
-    requires old { length old.now ≡ length gts.now.variables.items }
-    requires new { length new.now ≡ length gts.now.variables.items }
+    requires old { IsTotal gts.now old.now }
+    requires new { IsTotal gts.now new.now }
+    requires changed { AreChanges old.now new.now changed.now }
+    requires touched { AreTouched gts.now changed.now touched.now }
     ensures { Writes (K.state out.old) (K.state out.new)
         (line (codes "fire " ++ way_label gts.now way.n) ++ changes_text gts.now old.now new.now) result }
 {
     put(out, "fire ")?;
     print_label(gts, way, out)?;
     put(out, "\n")?;
-    changed_lines(out, gts.parts(), old, new)
+    changed_lines(out, gts.parts(), old, new, changed, touched)
 }
 
 /// Writes the line of a way that meets a fault.
@@ -120,13 +127,17 @@ pub(crate) fn gone_back<K: Sink>(
     gts: &Gts,
     old: &[Value],
     new: &[Value],
+    changed: &[VarId],
+    touched: &[u32],
 ) -> Result<(), SinkFailed>
-    requires old { length old.now ≡ length gts.now.variables.items }
-    requires new { length new.now ≡ length gts.now.variables.items }
+    requires old { IsTotal gts.now old.now }
+    requires new { IsTotal gts.now new.now }
+    requires changed { AreChanges old.now new.now changed.now }
+    requires touched { AreTouched gts.now changed.now touched.now }
     ensures { Writes (K.state out.old) (K.state out.new) (line (codes "back") ++ changes_text gts.now old.now new.now) result }
 {
     put(out, "back\n")?;
-    changed_lines(out, gts.parts(), old, new)
+    changed_lines(out, gts.parts(), old, new, changed, touched)
 }
 
 /// Writes that there is no step to take back.

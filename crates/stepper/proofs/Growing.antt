@@ -1,8 +1,10 @@
 -- What is made of one more item.
-use Rattle.std.proofs.Common.{◌≡◌, ◌<◌, ◌+◌, ℕ, zero, suc, Bool, true, false, cond, List, [], ◌∷◌, ◌++◌, length, take, drop, set, get_or, replicate, Vec, Global, refl, sym, ap, ◌∙◌, arith, append_assoc}
+use Rattle.std.proofs.Common.{◌≡◌, ◌<◌, ◌+◌, ℕ, zero, suc, Bool, true, false, cond, List, [], ◌∷◌, ◌++◌, length, take, drop, set, get_or, replicate, refl, sym, ap, ◌∙◌, arith, append_assoc}
 use Rattle.std.specs.List.{list_all}
 use Rattle.std.proofs.lemmas.List.{take_more}
 use Rattle.ar_base.specs.Lists.{Stands}
+use Rattle.ar_base.specs.Numbers.{VarId}
+use Rattle.ar_base.proofs.Standing.{stands_within, stands_one, stands_get}
 use Rattle.domains.specs.declared.Value.{Value}
 use Rattle.ar_meaning.specs.Runs.{first_values}
 use Rattle.gts_core.specs.View.{variables_from}
@@ -11,15 +13,36 @@ use Rattle.gts_core.specs.declared.system.Assign.{Assign}
 use Rattle.gts_core.specs.declared.system.Way.{Way}
 use Rattle.gts_core.specs.Readings.{is_met}
 use Rattle.stepper.specs.Ways.{flag_at}
-use Rattle.stepper.specs.Changes.{undone, restored, below_by}
+use Rattle.stepper.specs.Changes.{before, restored, below_by}
 use Rattle.stepper.specs.Effects.{effect_of, action_effects, body_effects, marked_effects, value_after, values_after}
-use Rattle.stepper.specs.declared.changes.Change.{Change}
+use Rattle.stepper.specs.declared.changes.StepChanges.{StepChanges}
 use Rattle.stepper.specs.declared.effects.Effect.{Effect}
 use Rattle.stepper.specs.declared.received.Received.{Received}
 
-pub restored_more : (t : List Value) (cs : List Change) (c : Change) → restored t (cs ++ c ∷ []) ≡ undone (restored t cs) c
-restored_more t [] c = refl
-restored_more t (d ∷ cs) c = restored_more (undone t d) cs c
+pub take_same : {A B : Type 0} (i : ℕ) (xs : List A) (ys : List B) → length xs ≡ length ys → length (take i xs) ≡ length (take i ys)
+take_same zero xs ys e = refl
+take_same (suc i) [] [] e = refl
+take_same (suc i) [] (y ∷ ys) e = absurd (omega (arith, e))
+take_same (suc i) (x ∷ xs) [] e = absurd (omega (arith, e))
+take_same (suc i) (x ∷ xs) (y ∷ ys) e = ap suc (take_same i xs ys (omega (arith, e)))
+
+-- the first items and the next one
+take_stands : {A : Type 0} (xs : List A) (i : ℕ) (x : A) → Stands xs i x → take (i + 1) xs ≡ take i xs ++ x ∷ []
+take_stands xs i x s = take_more xs i x (stands_within xs i x s) ∙ ap (λ z. take i xs ++ z ∷ []) (stands_one xs i (get_or xs i x) x (stands_get xs i x (stands_within xs i x s)) s)
+
+pub restored_more : (t : List Value) (xs : List VarId) (vs : List Value) (x : VarId) (v : Value) → length xs ≡ length vs
+    → restored t (xs ++ x ∷ []) (vs ++ v ∷ []) ≡ set (restored t xs vs) x.n v
+restored_more t [] [] x v e = refl
+restored_more t [] (w ∷ vs) x v e = absurd (omega (arith, e))
+restored_more t (y ∷ xs) [] x v e = absurd (omega (arith, e))
+restored_more t (y ∷ xs) (w ∷ vs) x v e = restored_more (set t y.n w) xs vs x v (omega (arith, e))
+
+-- the first old values and the next one
+pub restored_next : (t : List Value) (xs : List VarId) (vs : List Value) (i : ℕ) (x : VarId) (v : Value) → length xs ≡ length vs → Stands xs i x → Stands vs i v
+    → restored t (take (i + 1) xs) (take (i + 1) vs) ≡ set (restored t (take i xs) (take i vs)) x.n v
+restored_next t xs vs i x v e s w =
+    ap (λ (z : List VarId). restored t z (take (i + 1) vs)) (take_stands xs i x s) ∙ ap (λ (z : List Value). restored t (take i xs ++ x ∷ []) z) (take_stands vs i v w)
+    ∙ restored_more t (take i xs) (take i vs) x v (take_same i xs vs e)
 
 -- a first part of one list, and the rest of the other, with one item of the first more
 pub set_between : (xs ys : List Value) (i : ℕ) (v : Value) → length xs ≡ length ys → Stands xs i v → set (take i xs ++ drop i ys) i v ≡ take (suc i) xs ++ drop (suc i) ys
@@ -51,9 +74,9 @@ after_more (w ∷ vs) (s ∷ rows) v r l = ap (λ (z : List Value). value_after 
 abbrev pub one_effect : List Value → Assign → List Effect
 one_effect t a = cond (list_all (is_met t) a.when.items) (effect_of t a ∷ []) []
 
-pub add_nothing : (es : List Effect) → es ++ [] ≡ es
-add_nothing [] = refl
-add_nothing (e ∷ es) = ap (λ (z : List Effect). e ∷ z) (add_nothing es)
+pub add_nothing : {A : Type 0} (xs : List A) → xs ++ [] ≡ xs
+add_nothing {A = A} [] = refl
+add_nothing {A = A} (x ∷ xs) = ap (λ (z : List A). x ∷ z) (add_nothing xs)
 
 pub action_more : (t : List Value) (more : List Assign) (a : Assign) → action_effects t (more ++ a ∷ []) ≡ action_effects t more ++ one_effect t a
 action_more t [] a = add_nothing (one_effect t a)
@@ -71,9 +94,9 @@ marked_more t marks n (v ∷ ws) w m e =
     ap (λ (z : List Effect). way_effects t (flag_at marks n) v ++ z) (marked_more t marks (n + 1) ws w m (omega (arith, e)))
     ∙ sym (append_assoc (way_effects t (flag_at marks n) v) (marked_effects t marks (n + 1) ws) (way_effects t (flag_at marks m) w))
 
-pub below_long : (t : List Value) (cs : List (Vec Change Global)) → length (below_by t cs) ≡ length cs
+pub below_long : (t : List Value) (cs : List StepChanges) → length (below_by t cs) ≡ length cs
 below_long t [] = refl
-below_long t (c ∷ cs) = ap suc (below_long (restored t c.items) cs)
+below_long t (c ∷ cs) = ap suc (below_long (before t c) cs)
 
 module _ {A : Type 0} where
   pub stands_copies : (n : ℕ) (a : A) (k : ℕ) (b : A) → Stands (replicate n a) k b → b ≡ a
@@ -94,13 +117,6 @@ flag_unset (suc n) (suc m) h = flag_unset n m h
 -- the first items with the one that was read
 pub take_item : {A : Type 0} (xs : List A) (i : ℕ) (x : A) → i < length xs → x ≡ get_or xs i x → take (i + 1) xs ≡ take i xs ++ x ∷ []
 take_item xs i x h e = take_more xs i x h ∙ ap (λ z. take i xs ++ z ∷ []) (sym e)
-
-pub take_same : {A B : Type 0} (i : ℕ) (xs : List A) (ys : List B) → length xs ≡ length ys → length (take i xs) ≡ length (take i ys)
-take_same zero xs ys e = refl
-take_same (suc i) [] [] e = refl
-take_same (suc i) [] (y ∷ ys) e = absurd (omega (arith, e))
-take_same (suc i) (x ∷ xs) [] e = absurd (omega (arith, e))
-take_same (suc i) (x ∷ xs) (y ∷ ys) e = ap suc (take_same i xs ys (omega (arith, e)))
 
 pub take_long : {A : Type 0} (i : ℕ) (xs : List A) → i < length xs → length (take i xs) ≡ i
 take_long zero xs h = refl

@@ -12,3 +12,4 @@ pub mod Growing
 pub mod Acting
 pub mod Stepping
 pub mod Going
+pub mod Changing

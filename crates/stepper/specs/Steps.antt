@@ -7,6 +7,7 @@ use Rattle.ar_meaning.specs.Steps as steps
 use Rattle.ar_meaning.specs.Facts.{HasValue}
 use Rattle.ar_meaning.specs.Ways.{Can, Effects}
 use Rattle.ar_base.specs.Lists.{HasNo}
+use Rattle.ar_base.specs.Numbers.{VarId}
 use Rattle.gts_core.specs.declared.system.Valuation.{Valuation}
 use Rattle.gts_core.specs.declared.system.GtsParts.{GtsParts}
 use Rattle.flow_propagate.specs.Answers.{fault_of}
@@ -15,11 +16,12 @@ use Rattle.flow_propagate.specs.declared.propagation.PropagateFault.TheVariants 
 use Rattle.stepper.specs.declared.faults.StepFault.{StepFault}
 use Rattle.stepper.specs.declared.faults.StepFault.TheVariants as fault
 
--- the system, the present valuation, and the standing valuations below it, the nearest first
+-- the system, the present valuation, the standing valuations below it, the nearest first, and the variables that the last step or the last way back changed
 pub record Standing : Type 0 where
   pub system : GtsParts
   pub values : List Value
   pub below : List (List Value)
+  pub changed : List VarId
 
 -- the fault is the one of the start; want of memory says nothing
 abbrev pub IsStartFault : s.Net ℕ → PropagateFault → Type 0

@@ -2,37 +2,39 @@
 
 ghost use Rattle.std.specs.Prelude.{◌≡◌, ◌<◌, ◌^◌, length, IfOk};
 ghost use Rattle.ar_meaning.specs.Found.{IsAnswer};
-ghost use Rattle.stepper.specs.Changes.{restored};
+ghost use Rattle.stepper.specs.Changes.{restored, Tells};
 
 use ar_base::{Memory, VarId};
 use domains::Value;
 use std::alloc::Global;
 
-/// The old value of a variable that a step changed.
-#[derive(Clone, Copy)]
-pub(crate) struct Change {
-    /// The variable.
-    pub variable: VarId,
-    /// Its value before the step.
-    pub old: Value,
+/// The variables that a step changed, ascending, and beside them their values before the step.
+#[derive(Drop)]
+pub(crate) struct StepChanges {
+    /// The variables.
+    pub variables: Vec<VarId>,
+    /// Their values before the step.
+    pub old: Vec<Value>,
 }
 
 /// What differs between two valuations, with the old values.
-pub(crate) fn changes(alloc: Global, old: &[Value], new: &[Value]) -> Result<Vec<Change>, Memory>
+pub(crate) fn changes(alloc: Global, old: &[Value], new: &[Value]) -> Result<StepChanges, Memory>
     requires long { length old.now ≡ length new.now }
     requires short { length old.now < 2 ^ 32 }
-    ensures { IfOk result (λ all. restored new.now all.items ≡ old.now) }
+    ensures { IfOk result (Tells old.now new.now) }
 {
-    let mut all = Vec::new(alloc);
+    let mut variables = Vec::new(alloc);
+    let mut values = Vec::new(alloc);
     for (place, value) in old.iter().enumerate() {
         if differs(new[place], *value) {
-            all.push(Change {
-                variable: VarId::new(place as u32),
-                old: *value,
-            })?;
+            variables.push(VarId::new(place as u32))?;
+            values.push(*value)?;
         }
     }
-    Ok(all)
+    Ok(StepChanges {
+        variables,
+        old: values,
+    })
 }
 
 // Whether two values are different.
@@ -43,13 +45,14 @@ fn differs(a: Value, b: Value) -> bool
 }
 
 /// Writes the old values back. Takes no memory.
-pub(crate) fn restore(values: &mut Vec<Value>, changes: &[Change])
-    ensures { values.new.items ≡ restored values.old.items changes.now }
+pub(crate) fn restore(values: &mut Vec<Value>, changes: &StepChanges)
+    requires { length changes.now.variables.items ≡ length changes.now.old.items }
+    ensures { values.new.items ≡ restored values.old.items changes.now.variables.items changes.now.old.items }
 {
-    for change in changes {
-        let n = change.variable.n as usize;
+    for (place, variable) in changes.variables.iter().enumerate() {
+        let n = variable.n as usize;
         if n < values.len() {
-            values[n] = change.old;
+            values[n] = changes.old[place];
         }
     }
 }

@@ -11,24 +11,25 @@ ghost use Rattle.gts_core.specs.View.{net_of, IsWayAt};
 ghost use Rattle.gts_core.specs.Sound.{IsSound};
 ghost use Rattle.flow_propagate.specs.Plan.{IsPlan};
 ghost use Rattle.gts_core.specs.Readings.{IsTotal};
+ghost use Rattle.stepper.specs.Changes.{AreChanges};
 ghost use Rattle.stepper.specs.Steps.{IsStartFault, IsStepFault};
 
-use crate::changes::{Change, changes, restore};
+use crate::changes::{StepChanges, changes, restore};
 use crate::faults::{NoStep, StepFault};
 use crate::flags::{is_set, renew, unset};
 use crate::moves::{first, next};
 use crate::order::way_order;
-use ar_base::{Memory, WayId};
+use ar_base::{Memory, VarId, WayId};
 use flow_propagate::{Plan, PropagateFault, make_plan};
 use gts_core::{Gts, Valuation};
 use std::alloc::Global;
 use std::marker::Model;
 
-/// A run of a flat system, step by step: seen as the system's parts, the present total valuation, and the standing
-/// valuations below it, the nearest first.
+/// A run of a flat system, step by step: seen as the system's parts, the present total valuation, the standing valuations
+/// below it, the nearest first, and the variables that the last step or way back changed.
 ///
 /// The present valuation has a value of its domain for each variable. What each standing step changed is kept, and not the
-/// valuation before it. All ways are looked at again after a step, each once: this takes as long as the propagation that a
+/// valuation before it; so is what the last step back undid. All ways are looked at again after a step, each once: this takes as long as the propagation that a
 /// step needs anyway, and no index from variables to guards has to be kept.
 #[derive(Drop)]
 pub struct Stepper<'a> {
@@ -38,7 +39,8 @@ pub struct Stepper<'a> {
     order: Vec<WayId>,
     values: Valuation,
     can: Vec<bool>,
-    steps: Vec<Vec<Change>>,
+    steps: Vec<StepChanges>,
+    undone: Option<StepChanges>,
 }
 
 impl<'a> Model for Stepper<'a> {
@@ -63,6 +65,7 @@ impl<'a> Stepper<'a> {
         ensures system { IfOk result (λ stepper. stepper.system ≡ gts.now) }
         ensures starts { IfOk result (λ stepper. Start (net_of gts.now) stepper.values) }
         ensures no_step { IfOk result (λ stepper. stepper.below ≡ []) }
+        ensures none_changed { IfOk result (λ stepper. stepper.changed ≡ []) }
         ensures fault { IfErr result (IsStartFault (net_of gts.now)) }
     {
         let plan = make_plan(alloc, gts)?;
@@ -79,7 +82,7 @@ impl<'a> Stepper<'a> {
     ) -> Result<Stepper<'a>, Memory>
         requires plan { IsPlan gts.now plan }
         requires total { IsTotal gts.now values.values.items }
-        ensures { IfOk result (λ stepper. stepper ≡ record { system = gts.now; values = values.values.items; below = [] }) }
+        ensures { IfOk result (λ stepper. stepper ≡ record { system = gts.now; values = values.values.items; below = []; changed = [] }) }
     {
         let parts = gts.parts();
         let order = way_order(alloc, parts)?;
@@ -93,6 +96,7 @@ impl<'a> Stepper<'a> {
             values,
             can,
             steps: Vec::new(alloc),
+            undone: None,
         })
     }
 
@@ -111,6 +115,7 @@ impl<'a> Stepper<'a> {
         ensures step { OnOk result ((w : Way ℕ) → IsWayAt self.old.system way.n w
             → Step (net_of self.old.system) self.old.values w (Next self.new.values)) }
         ensures below { OnOk result (self.new.below ≡ self.old.values ∷ self.old.below) }
+        ensures changed { OnOk result (AreChanges self.old.values self.new.values self.new.changed) }
         ensures fault { IfErr result (λ f. (w : Way ℕ) → IsWayAt self.old.system way.n w
             → IsStepFault (net_of self.old.system) self.old.values w f) }
         ensures err { OnErr result (self.new ≡ self.old) }
@@ -132,13 +137,17 @@ impl<'a> Stepper<'a> {
     // Goes to this valuation, and keeps what changed. Memory comes first, so that a refusal changes nothing.
     fn go(&mut self, values: Valuation) -> Result<(), Memory>
         requires { IsTotal self.old.system values.values.items }
-        ensures ok { OnOk result (self.new ≡ record { system = self.old.system; values = values.values.items; below = self.old.values ∷ self.old.below }) }
+        ensures values { OnOk result (self.new.values ≡ values.values.items) }
+        ensures below { OnOk result (self.new.below ≡ self.old.values ∷ self.old.below) }
+        ensures changed { OnOk result (AreChanges self.old.values self.new.values self.new.changed) }
         ensures err { OnErr result (self.new ≡ self.old) }
+        ensures system { self.new.system ≡ self.old.system }
     {
         let gts = self.gts;
         let parts = gts.parts();
         let changed = changes(self.alloc, &self.values.values, &values.values)?;
         self.steps.push(changed)?;
+        self.undone = None;
         self.values = values;
         renew(parts, &self.order, &self.values.values, &mut self.can);
         Ok(())
@@ -147,6 +156,7 @@ impl<'a> Stepper<'a> {
     /// Takes the last standing step back, or says that there is none. Takes no memory.
     pub fn back(&mut self) -> Result<(), NoStep>
         ensures back { OnOk result (self.old.below ≡ self.new.values ∷ self.new.below) }
+        ensures changed { OnOk result (AreChanges self.old.values self.new.values self.new.changed) }
         ensures none { OnErr result (self.old.below ≡ []) }
         ensures err { OnErr result (self.new ≡ self.old) }
         ensures system { self.new.system ≡ self.old.system }
@@ -155,6 +165,7 @@ impl<'a> Stepper<'a> {
             return Err(NoStep {});
         };
         restore(&mut self.values.values, &changed);
+        self.undone = Some(changed);
         renew(
             self.gts.parts(),
             &self.order,
@@ -170,6 +181,19 @@ impl<'a> Stepper<'a> {
         ensures total { IsTotal self.now.system self.now.values }
     {
         &self.values
+    }
+
+    /// The variables that the last step or `back` changed, ascending; none at the start. Takes no memory.
+    pub fn changed(&self) -> &[VarId]
+        ensures { result.now ≡ self.now.changed }
+    {
+        if let Some(step) = &self.undone {
+            return &step.variables;
+        }
+        match self.steps.last() {
+            Some(step) => &step.variables,
+            None => &[],
+        }
     }
 
     /// How many steps stand. Takes no memory.

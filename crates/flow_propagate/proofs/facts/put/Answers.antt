@@ -1,7 +1,7 @@
 use Rattle.std.proofs.Common.{rules, List, Contains, subst, sym, ◌∙◌}
 use Rattle.domains.specs.Domains.{Holds}
 use Rattle.flow_propagate.proofs.Putting.{puts_new, row_here}
-use Rattle.flow_propagate.proofs.Reaching.{fails}
+use Rattle.ar_meaning.proofs.Found.{fails}
 use Rattle.domains.specs.declared.Value.{Value}
 use Rattle.flow_propagate.proofs.facts.put.Goals as goal
 

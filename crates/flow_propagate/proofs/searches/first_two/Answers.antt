@@ -1,7 +1,7 @@
 use Rattle.std.proofs.Common.{◌≡◌, ◌<◌, ◌≤◌, ℕ, List, length, get_or, subst, sym, ◌∙◌, arith}
 use Rattle.domains.specs.declared.Value.{Value}
 use Rattle.gts_core.specs.declared.system.Variable.{Variable}
-use Rattle.flow_propagate.specs.Table.{row_at}
+use Rattle.typed_expr.specs.Rows.{row_at}
 use Rattle.flow_propagate.specs.Searches.{IsTwo}
 use Rattle.flow_propagate.proofs.Putting.{row_here}
 use Rattle.flow_propagate.proofs.Searching.{two_found, two_none, stands_read, before_more}

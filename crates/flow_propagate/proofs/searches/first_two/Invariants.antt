@@ -1,7 +1,7 @@
 use Rattle.std.proofs.Common.{◌<◌, ℕ}
 use Rattle.ar_base.specs.Lists.{Stands}
 use Rattle.gts_core.specs.declared.system.Variable.{Variable}
-use Rattle.flow_propagate.specs.Table.{row_at}
+use Rattle.typed_expr.specs.Rows.{row_at}
 use Rattle.flow_propagate.specs.Searches.{IsTwo}
 use Rattle.flow_propagate.proofs.searches.first_two.Given as goal
 

@@ -1,5 +1,5 @@
 use Rattle.std.proofs.Common.{take}
-use Rattle.flow_propagate.specs.Searches.{HasOther}
+use Rattle.ar_base.specs.Lists.{HasOther}
 use Rattle.flow_propagate.proofs.searches.has_other.Given as goal
 
 abbrev pub invariant-loop-w : goal.invariant-loop-w

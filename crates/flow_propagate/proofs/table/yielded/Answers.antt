@@ -4,7 +4,8 @@ use Rattle.ar_meaning.specs.Facts.{Passes}
 use Rattle.ar_base.specs.Numbers.{VarId}
 use Rattle.gts_core.specs.View.{condition_of}
 use Rattle.flow_propagate.specs.Table.{Holds}
-use Rattle.flow_propagate.proofs.Reaching.{tells, holds}
+use Rattle.flow_propagate.proofs.Reaching.{tells}
+use Rattle.ar_meaning.proofs.Found.{holds}
 use Rattle.flow_propagate.proofs.table.yielded.Goals as goal
 
 pub returns : goal.returns

@@ -3,7 +3,7 @@ use Rattle.domains.specs.declared.Value.{Value}
 use Rattle.domains.specs.declared.Value.TheVariants.{Truth}
 use Rattle.std.proofs.Common.{false}
 use Rattle.gts_core.specs.declared.system.Variable.{Variable}
-use Rattle.flow_propagate.specs.Table.{row_at}
+use Rattle.typed_expr.specs.Rows.{row_at}
 use Rattle.flow_propagate.specs.Totals.{completed_value}
 use Rattle.flow_propagate.proofs.Putting.{row_here, same_read}
 use Rattle.flow_propagate.proofs.Searching.{stands_read}

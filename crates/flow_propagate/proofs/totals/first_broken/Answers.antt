@@ -1,7 +1,7 @@
 use Rattle.std.proofs.Common.{◌≡◌, ◌<◌, ◌≤◌, ℕ, List, length, get_or, subst}
 use Rattle.gts_core.specs.declared.system.Assign.{Assign}
 use Rattle.flow_propagate.specs.Totals.{Breaks}
-use Rattle.flow_propagate.proofs.Reaching.{holds, fails}
+use Rattle.ar_meaning.proofs.Found.{holds, fails}
 use Rattle.flow_propagate.proofs.Searching.{stands_read, before_more}
 use Rattle.flow_propagate.proofs.Totalling.{no_items}
 use Rattle.flow_propagate.proofs.totals.first_broken.Goals as goal

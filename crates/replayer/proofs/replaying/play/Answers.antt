@@ -9,6 +9,7 @@ use Rattle.gts_core.specs.Readings.{IsTotal}
 use Rattle.gts_core.specs.declared.system.GtsParts.{GtsParts}
 use Rattle.gts_flatten.specs.Flat.{naming_of_parts}
 use Rattle.replayer.specs.Flat.{command_of}
+use Rattle.replayer.specs.Observing.{AreInOrder}
 use Rattle.replayer.specs.Playing.{AreTotal, Answers}
 use Rattle.replayer.specs.Printing.{values_text}
 use Rattle.replayer.specs.declared.commands.Command.{Command}
@@ -16,20 +17,25 @@ use Rattle.replayer.specs.declared.commands.Command.TheVariants as code
 use Rattle.replayer.specs.declared.replaying.End.{End}
 use Rattle.replayer.proofs.FollowLemmas.{total_none}
 use Rattle.replayer.proofs.WayLemmas.{fires_ways, firable_at}
-use Rattle.replayer.proofs.PlayLemmas.{started_on, started_cut, obeyed_on, obeyed_stop, obeyed_err, ended_whole, ended_cut, replay_as}
+use Rattle.replayer.proofs.PlayLemmas.{no_memory, started_on, started_cut, obeyed_on, obeyed_stop, obeyed_err, ended_whole, ended_cut, replay_as}
 use Rattle.replayer.proofs.replaying.play.Goals as goal
 
 -- what is read past the end
 abbrev none : Command
 none = code.Fire (record { n = 0; of = record {} })
 
+pub returns-in_err-latest : goal.returns-in_err-latest
+returns-in_err-latest g c = λ system views.
+    let r = err_from_is_err_and c.from_residual.result c.from_residual.ensures.1 in
+    replay_as (r.1 ∙ ap Err r.2) (no_memory c.args.gts.now c.requires.sound system views _ (fires_ways c.args.gts.now system views c.requires.sound c.args.commands.now c.requires.firable) _)
+
 pub returns-in_err-started : goal.returns-in_err-started
 returns-in_err-started g c = λ system views.
     let p = c.args.gts.now in
     let t = c.args.stepper.values in
     let total = subst (λ (q : GtsParts). IsTotal q t) c.requires.same c.values.ensures.total in
-    let e = ap (λ (u : List Value). line (codes "start") ++ values_text p u) (c.deref.ensures.value ∙ c.values.ensures.values) in
-    let r = err_from_is_err_and c.from_residual.result c.from_residual.ensures.1 in
+    let e = ap (λ (u : List Value). line (codes "start") ++ values_text p u) (c.deref-2.ensures.value ∙ c.values-2.ensures.values) in
+    let r = err_from_is_err_and c.from_residual-in_err-started.result c.from_residual-in_err-started.ensures.1 in
     replay_as (r.1 ∙ ap Err r.2)
     (started_cut p c.requires.sound system views t _ c.requires.starts total (fires_ways p system views c.requires.sound c.args.commands.now c.requires.firable) (writes_as _ _ e c.in_err-started.ensures))
 
@@ -37,10 +43,15 @@ pub loop-command-init : goal.loop-command-init
 loop-command-init g c =
     let p = c.args.gts.now in
     let total = subst (λ (q : GtsParts). IsTotal q c.args.stepper.values) c.requires.same c.values.ensures.total in
-    let e = ap (λ (u : List Value). line (codes "start") ++ values_text p u) (c.deref.ensures.value ∙ c.values.ensures.values) in
+    let e = ap (λ (u : List Value). line (codes "start") ++ values_text p u) (c.deref-2.ensures.value ∙ c.values-2.ensures.values) in
     record {
       same = c.requires.same;
       totals = subst (AreTotal p) (sym c.requires.no_step) (total_none p);
+      latest = record {
+        values = c.in_ok-latest.ensures.values ∙ c.deref.ensures.value ∙ c.values.ensures.values;
+        total = total;
+        observed = subst (λ (q : GtsParts). AreInOrder q c.in_ok-latest.latest.observed.items) c.parts.ensures.parts c.in_ok-latest.ensures.observed;
+      };
       played = λ system views.
           started_on p c.requires.sound system views c.args.stepper _ c.requires.starts c.requires.no_step total
           (fires_ways p system views c.requires.sound c.args.commands.now c.requires.firable) (writes_as _ _ e c.in_ok-started.ensures);
@@ -80,6 +91,7 @@ loop-command-preserved g c =
     record {
       same = c.in_ok-obey.ensures.system ∙ c.loop-command.invariant.same;
       totals = c.in_ok-obey.ensures.below;
+      latest = c.in_ok-obey.ensures.latest c.in-Done.is;
       played = λ system views.
           let a = subst (λ (z : End). Answers (naming_of_parts p) system c.loop-command.stepper c.obey.new.stepper (command_of p (get_or cs i none)) (g.K.Sink.state c.loop-command.out) (g.K.Sink.state c.obey.new.out) (Ok z))
           c.in-Done.is (c.in_ok-obey.ensures.answers system views) in

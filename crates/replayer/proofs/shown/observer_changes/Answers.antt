@@ -1,30 +1,24 @@
-use Rattle.std.proofs.Common.{List, ◌+◌, ◌∙◌, ap, refl}
-use Rattle.ar_io.proofs.Writing.{writes_exit, writes_as, leaves_all, leaves_on, leaves_cut, leaves_none, next_item, no_item}
-use Rattle.replayer.specs.Printing.{observer_changes}
-use Rattle.gts_core.specs.declared.system.Observer.{Observer}
-use Rattle.gts_flatten.specs.Flat.{naming_of_parts}
-use Rattle.gts_core.specs.Readings.{value_in}
-use Rattle.ar_meaning.specs.TraceText.{observer_line}
-use Rattle.replayer.specs.Printing.{change_text}
+use Rattle.std.proofs.Common.{ℕ, List}
+use Rattle.ar_io.proofs.Writing.{writes_exit, leaves_all, leaves_on, leaves_cut, leaves_none, next_read, no_item}
+use Rattle.replayer.specs.Printing.{texts_of}
+use Rattle.replayer.proofs.ObservingLemmas.{observer_text}
 use Rattle.replayer.proofs.shown.observer_changes.Goals as goal
 
-pub loop-observer-init : goal.loop-observer-init
-loop-observer-init g c = record { leaves = leaves_all _ _; numbered = refl }
+pub loop-number-init : goal.loop-number-init
+loop-number-init g c = leaves_all _ _
 
 pub returns-in_err-observer_change : goal.returns-in_err-observer_change
 returns-in_err-observer_change g c =
     writes_exit _ _ c.from_residual.ensures.1
-    (leaves_cut _ _ c.loop-observer.invariant.leaves (writes_as _ _ (ap (λ n. change_text (observer_line (naming_of_parts c.args.parts.now)) n c.value_in-was.result c.value_in.result) c.loop-observer.invariant.numbered ∙ ap (λ z. change_text (observer_line (naming_of_parts c.args.parts.now)) c.loop-observer.observer-index z c.value_in.result) c.value_in-was.ensures ∙ ap (λ z. change_text (observer_line (naming_of_parts c.args.parts.now)) c.loop-observer.observer-index (value_in c.args.old.now c.observer-item.result.value) z) c.value_in.ensures) c.in_err-observer_change.ensures)
-    (next_item (λ (xs : List Observer). observer_changes c.args.parts.now c.args.old.now c.args.new.now c.loop-observer.observer-index xs) c.args.all.now c.loop-observer.observer-index c.observer-item.result c.loop-observer-test.true c.observer-item.is))
+    (leaves_cut _ _ c.loop-number.invariant c.in_err-observer_change.ensures
+    (next_read (λ (xs : List ℕ). texts_of (observer_text c.args.parts.now c.args.old.now c.args.new.now) xs) c.args.touched.now c.loop-number.number-index 0 c.loop-number-test.true))
 
-pub loop-observer-preserved : goal.loop-observer-preserved
-loop-observer-preserved g c = record {
-  leaves = leaves_on _ _ c.loop-observer.invariant.leaves (writes_as _ _ (ap (λ n. change_text (observer_line (naming_of_parts c.args.parts.now)) n c.value_in-was.result c.value_in.result) c.loop-observer.invariant.numbered ∙ ap (λ z. change_text (observer_line (naming_of_parts c.args.parts.now)) c.loop-observer.observer-index z c.value_in.result) c.value_in-was.ensures ∙ ap (λ z. change_text (observer_line (naming_of_parts c.args.parts.now)) c.loop-observer.observer-index (value_in c.args.old.now c.observer-item.result.value) z) c.value_in.ensures) c.in_ok-observer_change.ensures)
-      (next_item (λ (xs : List Observer). observer_changes c.args.parts.now c.args.old.now c.args.new.now c.loop-observer.observer-index xs) c.args.all.now c.loop-observer.observer-index c.observer-item.result c.loop-observer-test.true c.observer-item.is);
-  numbered = ap (λ n. n + 1) c.loop-observer.invariant.numbered;
-}
+pub loop-number-preserved : goal.loop-number-preserved
+loop-number-preserved g c =
+    leaves_on _ _ c.loop-number.invariant c.in_ok-observer_change.ensures
+    (next_read (λ (xs : List ℕ). texts_of (observer_text c.args.parts.now c.args.old.now c.args.new.now) xs) c.args.touched.now c.loop-number.number-index 0 c.loop-number-test.true)
 
 pub returns : goal.returns
 returns g c =
-    leaves_none _ c.loop-observer.invariant.leaves
-    (no_item (λ (xs : List Observer). observer_changes c.args.parts.now c.args.old.now c.args.new.now c.loop-observer.observer-index xs) c.args.all.now c.loop-observer.observer-index c.loop-observer-test.false)
+    leaves_none _ c.loop-number.invariant
+    (no_item (λ (xs : List ℕ). texts_of (observer_text c.args.parts.now c.args.old.now c.args.new.now) xs) c.args.touched.now c.loop-number.number-index c.loop-number-test.false)

@@ -1,36 +1,37 @@
-use Rattle.std.proofs.Common.{◌+◌, ℕ, false, get_or, ap, refl}
-use Rattle.ar_io.proofs.Writing.{writes_exit, writes_as, leaves_all, leaves_on, leaves_cut, leaves_none}
+use Rattle.std.proofs.Common.{List, get_or, ap}
+use Rattle.ar_base.specs.Numbers.{VarId}
+use Rattle.ar_io.proofs.Writing.{writes_exit, writes_as, leaves_all, leaves_on, leaves_cut, leaves_none, next_read, no_item}
 use Rattle.ar_meaning.specs.TraceText.{variable_line}
-use Rattle.domains.specs.declared.Value.TheVariants.{Truth}
+use Rattle.gts_core.specs.Readings.{value_at}
 use Rattle.gts_flatten.specs.Flat.{naming_of_parts}
-use Rattle.replayer.specs.Printing.{change_text}
-use Rattle.replayer.proofs.ValueLemmas.{next_change, no_change}
+use Rattle.stepper.specs.Changes.{numbers}
+use Rattle.replayer.specs.Printing.{texts_of}
 use Rattle.replayer.proofs.shown.variable_changes.Goals as goal
 
-pub loop-place-init : goal.loop-place-init
-loop-place-init g c = record { leaves = leaves_all _ _; numbered = refl }
+-- what is read past the end
+abbrev none : VarId
+none = record { n = 0; of = record {} }
 
-pub returns-in_err-variable_change : goal.returns-in_err-variable_change
-returns-in_err-variable_change g c =
+pub loop-variable-init : goal.loop-variable-init
+loop-variable-init g c = leaves_all _ _
+
+pub returns-in_err-variable_line : goal.returns-in_err-variable_line
+returns-in_err-variable_line g c =
     let one = variable_line (naming_of_parts c.args.parts.now) in
-    let v = get_or c.args.old.now c.loop-place.place (Truth false) in
-    let w = get_or c.args.new.now c.loop-place.place (Truth false) in
+    let x = get_or c.args.changed.now c.loop-variable.variable-index none in
     writes_exit _ _ c.from_residual.ensures.1
-    (leaves_cut _ _ c.loop-place.invariant.leaves (writes_as _ _ (ap (λ (n : ℕ). change_text one n v w) c.loop-place.invariant.numbered) c.in_err-variable_change.ensures)
-    (next_change one c.args.old.now c.args.new.now c.loop-place.place (Truth false) (Truth false) c.loop-place-test.true c.requires.long))
+    (leaves_cut _ _ c.loop-variable.invariant (writes_as _ _ (ap (λ v. one x.n v) c.value_at.ensures) c.in_err-variable_line.ensures)
+    (next_read (λ (xs : List VarId). texts_of (λ n. one n (value_at c.args.new.now n)) (numbers xs)) c.args.changed.now c.loop-variable.variable-index none c.loop-variable-test.true))
 
-pub loop-place-preserved : goal.loop-place-preserved
-loop-place-preserved g c =
+pub loop-variable-preserved : goal.loop-variable-preserved
+loop-variable-preserved g c =
     let one = variable_line (naming_of_parts c.args.parts.now) in
-    let v = get_or c.args.old.now c.loop-place.place (Truth false) in
-    let w = get_or c.args.new.now c.loop-place.place (Truth false) in
-    record {
-      leaves = leaves_on _ _ c.loop-place.invariant.leaves (writes_as _ _ (ap (λ (n : ℕ). change_text one n v w) c.loop-place.invariant.numbered) c.in_ok-variable_change.ensures)
-          (next_change one c.args.old.now c.args.new.now c.loop-place.place (Truth false) (Truth false) c.loop-place-test.true c.requires.long);
-      numbered = ap (λ n. n + 1) c.loop-place.invariant.numbered;
-    }
+    let x = get_or c.args.changed.now c.loop-variable.variable-index none in
+    leaves_on _ _ c.loop-variable.invariant (writes_as _ _ (ap (λ v. one x.n v) c.value_at.ensures) c.in_ok-variable_line.ensures)
+    (next_read (λ (xs : List VarId). texts_of (λ n. one n (value_at c.args.new.now n)) (numbers xs)) c.args.changed.now c.loop-variable.variable-index none c.loop-variable-test.true)
 
 pub returns : goal.returns
 returns g c =
     let one = variable_line (naming_of_parts c.args.parts.now) in
-    leaves_none _ c.loop-place.invariant.leaves (no_change one c.args.old.now c.args.new.now c.loop-place.place c.loop-place-test.false)
+    leaves_none _ c.loop-variable.invariant
+    (no_item (λ (xs : List VarId). texts_of (λ n. one n (value_at c.args.new.now n)) (numbers xs)) c.args.changed.now c.loop-variable.variable-index c.loop-variable-test.false)

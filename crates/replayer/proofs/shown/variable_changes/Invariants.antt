@@ -1,13 +1,14 @@
-use Rattle.std.proofs.Common.{◌≡◌, drop}
+use Rattle.std.proofs.Common.{drop}
 use Rattle.ar_io.specs.Writing.{Leaves}
 use Rattle.ar_meaning.specs.TraceText.{variable_line}
+use Rattle.gts_core.specs.Readings.{value_at}
 use Rattle.gts_flatten.specs.Flat.{naming_of_parts}
-use Rattle.replayer.specs.Printing.{changes_from}
+use Rattle.stepper.specs.Changes.{numbers}
+use Rattle.replayer.specs.Printing.{texts_of}
 use Rattle.replayer.proofs.shown.variable_changes.Given as goal
 
-abbrev pub invariant-loop-place : goal.invariant-loop-place
-invariant-loop-place g l = record {
-  leaves : Leaves (g.K.Sink.state l.initial.out) (g.K.Sink.state l.out)
-      (changes_from (variable_line (naming_of_parts l.parts)) l.place (drop l.place l.old) (drop l.place l.new)) (changes_from (variable_line (naming_of_parts l.parts)) 0 l.old l.new);
-  numbered : l.number ≡ l.place;
-}
+abbrev pub invariant-loop-variable : goal.invariant-loop-variable
+invariant-loop-variable g l =
+    Leaves (g.K.Sink.state l.initial.out) (g.K.Sink.state l.out)
+    (texts_of (λ n. variable_line (naming_of_parts l.parts) n (value_at l.new n)) (numbers (drop l.variable-index l.changed)))
+    (texts_of (λ n. variable_line (naming_of_parts l.parts) n (value_at l.new n)) (numbers l.changed))

@@ -1,8 +1,19 @@
 use Rattle.ar_io.proofs.Writing.{writes_exit, writes_on, writes_cut, writes_as}
 use Rattle.gts_core.specs.declared.system.GtsParts.{GtsParts}
-use Rattle.std.proofs.Common.{ap}
+use Rattle.std.proofs.Common.{ap, sym, subst}
+use Rattle.gts_core.specs.Readings.{IsTotal}
+use Rattle.replayer.specs.Observing.{AreTouched}
 use Rattle.replayer.specs.Printing.{changes_text}
 use Rattle.replayer.proofs.trace.fired.Goals as goal
+
+pub changed_lines-requires-clause-old : goal.changed_lines-requires-clause-old
+changed_lines-requires-clause-old g c = subst (λ (q : GtsParts). IsTotal q c.args.old.now) (sym c.parts.ensures.parts) c.requires.old
+
+pub changed_lines-requires-clause-new : goal.changed_lines-requires-clause-new
+changed_lines-requires-clause-new g c = subst (λ (q : GtsParts). IsTotal q c.args.new.now) (sym c.parts.ensures.parts) c.requires.new
+
+pub changed_lines-requires-clause-touched : goal.changed_lines-requires-clause-touched
+changed_lines-requires-clause-touched g c = subst (λ (q : GtsParts). AreTouched q c.args.changed.now c.args.touched.now) (sym c.parts.ensures.parts) c.requires.touched
 
 pub returns-in_err-put : goal.returns-in_err-put
 returns-in_err-put g c =

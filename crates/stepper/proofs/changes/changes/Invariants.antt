@@ -1,6 +1,5 @@
-use Rattle.std.proofs.Common.{◌≡◌, ◌++◌, take, drop}
-use Rattle.stepper.specs.Changes.{restored}
+use Rattle.stepper.proofs.Changing.{IsFound}
 use Rattle.stepper.proofs.changes.changes.Given as goal
 
 abbrev pub invariant-loop-place : goal.invariant-loop-place
-invariant-loop-place l = restored l.new l.all.items ≡ take l.place l.old ++ drop l.place l.new
+invariant-loop-place l = IsFound l.place l.old l.new l.variables.items l.values.items

@@ -1,0 +1,23 @@
+use Rattle.std.proofs.Common.{◌≡◌, ◌<◌, ◌≤◌, List, ℕ, length, get_or, subst, sym}
+use Rattle.ar_base.specs.Lists.{Stands}
+use Rattle.ar_base.proofs.Standing.{stands_get}
+use Rattle.gts_core.specs.declared.system.Observer.{Observer}
+use Rattle.replayer.specs.Observing.{AreObserved}
+use Rattle.replayer.proofs.ObservingLemmas.{observed_start, observed_more, observed_all}
+use Rattle.replayer.proofs.latest.all_named.Goals as goal
+
+pub loop-place-init : goal.loop-place-init
+loop-place-init c = subst (λ (z : List (ℕ × ℕ)). AreObserved c.args.parts.now 0 z) (sym c.new-pairs.ensures.items) (observed_start c.args.parts.now)
+
+pub loop-place-preserved : goal.loop-place-preserved
+loop-place-preserved c =
+    let items = c.deref-observer-items.ensures.value in
+    let i = c.loop-place.place in
+    let o = c.observer-item.result in
+    let below = subst (λ (z : List Observer). i < length z) items c.loop-place-test.true in
+    let is = subst (λ (z : List Observer). o ≡ get_or z i o) items c.observer-item.is in
+    let st : Stands c.args.parts.now.observers.items i o = subst (λ (z : Observer). Stands c.args.parts.now.observers.items i z) (sym is) (stands_get c.args.parts.now.observers.items i o below) in
+    observed_more c.args.parts.now i o c.loop-place.pairs.items c.add_named.new.found.items st c.loop-place.invariant c.in_ok-add_named.ensures
+
+pub returns : goal.returns
+returns c = observed_all c.args.parts.now c.loop-place.place c.loop-place.pairs.items (subst (λ (z : List Observer). length z ≤ c.loop-place.place) c.deref-observer-items.ensures.value c.loop-place-test.false) c.loop-place.invariant

@@ -1,0 +1,60 @@
+-- Which observers name which variable, and which of them are looked at after a step.
+use Rattle.std.specs.Prelude.{◌↔◌, ◌⊎◌, ◌≡◌, ◌<◌, ℕ, List}
+use Rattle.std.specs.List.Sorted.{IsNonDecreasingBy}
+use Rattle.ar_base.specs.Lists.{Stands, IsOneOf}
+use Rattle.ar_base.specs.Numbers.{VarId}
+use Rattle.ar_base.specs.Sets.{Ascends}
+use Rattle.typed_expr.specs.Mentions.{Mentions}
+use Rattle.typed_expr.specs.declared.expr.Expr.{out-Expr}
+use Rattle.domains.specs.declared.Value.{Value}
+use Rattle.gts_core.specs.Readings.{IsTotal}
+use Rattle.gts_core.specs.declared.system.GtsParts.{GtsParts}
+use Rattle.gts_core.specs.declared.system.Observer.{Observer}
+use Rattle.stepper.specs.Changes.{numbers}
+use Rattle.replayer.specs.declared.latest.Latest.{Latest}
+
+-- observer n names variable x
+pub record Observes (p : GtsParts) (x n : ℕ) : Type 0 where
+  pub observer : Observer
+  pub stands : Stands p.observers.items n observer
+  pub variable : VarId
+  pub is : variable.n ≡ x
+  pub names : Mentions variable (out-Expr VarId observer.value)
+
+-- the pairs of a variable and one of the first so many observers that names it
+pub record AreObserved (p : GtsParts) (count : ℕ) (pairs : List (ℕ × ℕ)) : Type 0 where
+  pub only : (q : ℕ × ℕ) → IsOneOf pairs q → Observes p q.0 q.1
+  pub all : (x n : ℕ) → n < count → Observes p x n → IsOneOf pairs (x, n)
+
+-- the pairs of a variable and an observer that names it, by ascending variables
+pub record AreInOrder (p : GtsParts) (pairs : List (ℕ × ℕ)) : Type 0 where
+  pub only : (q : ℕ × ℕ) → IsOneOf pairs q → Observes p q.0 q.1
+  pub all : (x n : ℕ) → Observes p x n → IsOneOf pairs (x, n)
+  pub ascending : IsNonDecreasingBy (λ (q : ℕ × ℕ). q.0) pairs
+
+-- one of these variables stands in a pair with the number
+pub record IsPaired (pairs : List (ℕ × ℕ)) (variables : List VarId) (n : ℕ) : Type 0 where
+  pub variable : ℕ
+  pub is_one : IsOneOf (numbers variables) variable
+  pub pair : IsOneOf pairs (variable, n)
+
+-- the list got the numbers that stand in pairs with the variable
+pub record AddsRun (pairs : List (ℕ × ℕ)) (variable : ℕ) (old new : List ℕ) : Type 0 where
+  pub each : (n : ℕ) → (IsOneOf new n ↔ (IsOneOf old n ⊎ IsOneOf pairs (variable, n)))
+
+-- observer n names one of these variables
+pub record NamesOne (p : GtsParts) (variables : List VarId) (n : ℕ) : Type 0 where
+  pub variable : ℕ
+  pub is_one : IsOneOf (numbers variables) variable
+  pub observes : Observes p variable n
+
+-- the observers that name one of these variables, ascending
+pub record AreTouched (p : GtsParts) (variables : List VarId) (all : List ℕ) : Type 0 where
+  pub ascend : Ascends all
+  pub each : (n : ℕ) → (IsOneOf all n ↔ NamesOne p variables n)
+
+-- the valuation that was told last is the present one, and each variable's observers are known
+pub record IsLatest (p : GtsParts) (t : List Value) (latest : Latest) : Type 0 where
+  pub values : latest.values.items ≡ t
+  pub total : IsTotal p t
+  pub observed : AreInOrder p latest.observed.items

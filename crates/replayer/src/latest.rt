@@ -1,0 +1,67 @@
+// What the lines of changes are told from.
+
+ghost use Rattle.std.specs.Prelude.{◌≡◌, length, IfOk};
+ghost use Rattle.gts_core.specs.Sound.{IsSound};
+ghost use Rattle.stepper.specs.Changes.{AreChanges};
+ghost use Rattle.replayer.specs.Observing.{AreObserved, AreInOrder};
+
+use ar_base::{Memory, VarId};
+use domains::Value;
+use flow_propagate::add_named;
+use gts_core::GtsParts;
+use std::alloc::Global;
+
+/// What the lines of changes are told from: the valuation that was told last, so that no valuation is copied at a step, and
+/// which observers name which variable, so that no others are looked at.
+#[derive(Drop)]
+pub(crate) struct Latest {
+    /// The valuation that was told last.
+    pub values: Vec<Value>,
+    /// The pairs of a variable and an observer that names it, by ascending variables.
+    pub observed: Vec<(u32, u32)>,
+}
+
+/// The valuation of a start, and the observers.
+pub(crate) fn at_start(alloc: Global, parts: &GtsParts, values: &[Value]) -> Result<Latest, Memory>
+    requires { IsSound parts.now }
+    ensures values { IfOk result (λ latest. latest.values.items ≡ values.now) }
+    ensures observed { IfOk result (λ latest. AreInOrder parts.now latest.observed.items) }
+{
+    let values = Vec::from_slice(alloc, values)?;
+    let observed = observed(alloc, parts)?;
+    Ok(Latest { values, observed })
+}
+
+// The pairs of a variable and an observer that names it, by ascending variables.
+fn observed(alloc: Global, parts: &GtsParts) -> Result<Vec<(u32, u32)>, Memory>
+    requires { IsSound parts.now }
+    ensures { IfOk result (λ pairs. AreInOrder parts.now pairs.items) }
+{
+    let mut pairs = all_named(alloc, parts)?;
+    pairs.sort_unstable_by_key(|pair| pair.0);
+    Ok(pairs)
+}
+
+// The same in any order, and as often as the observers name them.
+fn all_named(alloc: Global, parts: &GtsParts) -> Result<Vec<(u32, u32)>, Memory>
+    requires { IsSound parts.now }
+    ensures { IfOk result (λ pairs. AreObserved parts.now (length parts.now.observers.items) pairs.items) }
+{
+    let mut pairs = Vec::new(alloc);
+    for (place, observer) in parts.observers.iter().enumerate() {
+        add_named(&observer.value, place as u32, &mut pairs)?;
+    }
+    Ok(pairs)
+}
+
+/// Goes on to the next valuation, which differs in these variables alone. Takes no memory.
+pub(crate) fn follow(values: &mut Vec<Value>, changed: &[VarId], next: &[Value])
+    requires long { length values.old.items ≡ length next.now }
+    requires changed { AreChanges values.old.items next.now changed.now }
+    ensures { values.new.items ≡ next.now }
+{
+    for variable in changed {
+        let n = variable.n as usize;
+        values[n] = next[n];
+    }
+}

@@ -1,8 +1,13 @@
 mod Runs
+mod Stuck
+mod Events
+mod Numbers
 mod Operands
+mod Joints
 mod GateLines
 mod Results
 mod Tables
 mod TableLines
 mod Interning
 mod Printed
+mod Places

@@ -1,7 +1,10 @@
 -- What a result tells, told otherwise.
-use Rattle.std.proofs.Common.{◌≡◌, length, vec_len, Result, Ok, Err, OnErr, IfOk, IfErr, rules, arith}
+use Rattle.std.proofs.Common.{◌≡◌, length, vec_len, Result, Ok, Err, IfOk, IfErr, IsErrAnd, subst, sym, ◌∙◌, rules, arith}
 use Rattle.std.specs.declared.vec.Vec.{Vec}
 use Rattle.std.proofs.lemmas.Grind.{common_steps}
+use Rattle.aralia_text.specs.declared.fronts.Stuck.{Stuck}
+use Rattle.aralia_text.specs.declared.gates.Stop.{Stop}
+use Rattle.aralia_text.specs.declared.gates.Stop.TheVariants as stop
 
 pub ok_map : {A E : Type 0} {P Q : A → Type 0} (r : Result A E) → ((a : A) → P a → Q a) → IfOk r P → IfOk r Q
 ok_map (Ok a) f h = f a h
@@ -11,17 +14,19 @@ pub err_map : {A E : Type 0} {P Q : E → Type 0} (r : Result A E) → ((e : E) 
 err_map (Ok a) f h = tt
 err_map (Err e) f h = f e h
 
-pub on_err_map : {A E P Q : Type 0} (r : Result A E) → (P → Q) → OnErr r P → OnErr r Q
-on_err_map (Ok a) f h = tt
-on_err_map (Err e) f h = f h
+-- the error is this one
+pub err_is : {A E : Type 0} (P : E → Type 0) (r : Result A E) (x : E) → IsErrAnd r (λ e. e ≡ x) → P x → IfErr r P
+err_is P (Ok a) x h p = tt
+err_is P (Err e) x h p = subst P (sym h) p
 
-pub err_all : {A E : Type 0} {P : E → Type 0} (r : Result A E) → ((e : E) → P e) → IfErr r P
-err_all (Ok a) f = tt
-err_all (Err e) f = f e
+-- the error is this one, said of a reading
+pub stop_is : {A : Type 0} (P : Stuck → Type 0) (r : Result A Stop) (x : Stuck) → IsErrAnd r (λ e. e ≡ stop.Stuck x) → P x
+    → IfErr r (λ e. (stuck : Stuck) → e ≡ stop.Stuck stuck → P stuck)
+stop_is P (Ok a) x h p = tt
+stop_is P (Err e) x h p = λ stuck i. let j : ◌≡◌ {A = Stop} (stop.Stuck x) (stop.Stuck stuck) = sym h ∙ i in let same : ◌≡◌ {A = Stuck} x stuck = cc in subst P same p
 
-pub on_err_all : {A E P : Type 0} (r : Result A E) → P → OnErr r P
-on_err_all (Ok a) h = tt
-on_err_all (Err e) h = h
+pub stuck_same : (P : Stuck → Type 0) (x : Stuck) → P x → (stuck : Stuck) → ◌≡◌ {A = Stop} (stop.Stuck x) (stop.Stuck stuck) → P stuck
+stuck_same P x p stuck e = let same : ◌≡◌ {A = Stuck} x stuck = cc in subst P same p
 
 -- how many items a vector has
 pub vec_len-items : {X Z : Type 0} (v : Vec X Z) → vec_len v ≡ length v.items

@@ -24,7 +24,7 @@ stop_len [] h = refl
 stop_len (b ∷ back) h = ap (λ r. cond r (1 + prefix_len is_path_byte back) 0) h
 
 -- a path before a stop is the run
-run_exact : (front back : List ℕ) → IsPath front → Stops back → prefix_len is_path_byte (front ++ back) ≡ length front
+pub run_exact : (front back : List ℕ) → IsPath front → Stops back → prefix_len is_path_byte (front ++ back) ≡ length front
 run_exact [] back h f = stop_len back f
 run_exact (b ∷ front) back h f =
     let more : prefix_len is_path_byte (front ++ back) ≡ length front = run_exact front back h.1 f in
@@ -44,6 +44,36 @@ run_only rest run left path back r p s e =
     let same : path ≡ run =
     sym (take_at path back (length path) refl) ∙ ap (take (length path)) (sym e) ∙ ap (λ (k : ℕ). take k rest) (sym n) ∙ sym r.run_is in
     (same, append_cancel_left path back left (sym e ∙ r.joined ∙ ap (λ (z : List ℕ). z ++ left) (sym same)))
+
+run_stops : (bs : List ℕ) → Stops (drop (prefix_len is_path_byte bs) bs)
+run_stops [] = tt
+run_stops (b ∷ bs) = by (is_path_byte b) refl (run_stops bs)
+  where
+    by : (r : Bool) → is_path_byte b ≡ r → Stops (drop (prefix_len is_path_byte bs) bs) → Stops (drop (cond r (1 + prefix_len is_path_byte bs) 0) (b ∷ bs))
+    by true e h =
+        let q : 1 + prefix_len is_path_byte bs ≡ suc (prefix_len is_path_byte bs) = omega arith in
+        subst (λ n. Stops (drop n (b ∷ bs))) (sym q) h
+    by false e h = e
+
+-- no path goes on behind the run
+pub run_left : (rest run left : List ℕ) → IsRun rest run left → Stops left
+run_left rest run left r =
+    let whole : run ++ drop (prefix_len is_path_byte rest) rest ≡ run ++ left =
+    ap (λ (z : List ℕ). z ++ drop (prefix_len is_path_byte rest) rest) r.run_is ∙ take-append-drop (prefix_len is_path_byte rest) rest ∙ r.joined in
+    subst Stops (append_cancel_left run (drop (prefix_len is_path_byte rest) rest) left whole) (run_stops rest)
+
+-- a text is cut in one way into a path and what stops it
+pub path_unique : (one two left back : List ℕ) → IsPath one → IsPath two → Stops left → Stops back → one ++ left ≡ two ++ back → (two ≡ one) × (back ≡ left)
+path_unique one two left back p q s t e =
+    run_only (one ++ left) one left two back (record {
+      run_is = sym (ap (λ (k : ℕ). take k (one ++ left)) (run_exact one left p s) ∙ take_at one left (length one) refl);
+      joined = refl;
+    }) q t e
+
+-- each byte of a path
+pub path_byte : (front : List ℕ) (b : ℕ) (back : List ℕ) → IsPath (front ++ b ∷ back) → is_path_byte b ≡ true
+path_byte [] b back h = h.0
+path_byte (c ∷ front) b back h = path_byte front b back h.1
 
 -- fixed texts
 

@@ -1,8 +1,10 @@
 -- Which text is that of which table.
-use Rattle.std.specs.Prelude.{◌≡◌, ◌<◌, ℕ, Bool, true, ◌||◌, ◌==◌, List, length}
+use Rattle.std.specs.Prelude.{◌≡◌, ◌<◌, ◌≤◌, ℕ, ◌+◌, Bool, true, ◌||◌, ◌==◌, List, ◌++◌, length, take}
 use Rattle.std.specs.Char.{is_ascii_digit, is_ascii_alphabetic}
 use Rattle.std.specs.List.{AllByRecursion}
+use Rattle.ar_base.specs.declared.places.Place.{Place}
 use Rattle.ar_base.specs.Lists.{Stands, IsOneOf}
+use Rattle.ar_lexer.specs.Tokens.{place_after}
 use Rattle.eq_core.specs.Gates.{Operand, Always, Never, EventIs, GateIs, Gate, Table}
 use Rattle.eq_core.specs.Ordered.{IsOrderedTable}
 use Rattle.aralia_text.specs.Texts.{equations_text}
@@ -40,6 +42,24 @@ pub record IsTextOf (events : List (List ℕ)) (text : List ℕ) (table : Table)
   pub conflict : IsNamed events table.conflict
   pub top : IsNamed events table.top
   pub is_text : text ≡ equations_text events table
+
+-- some text of a table has this first part
+abbrev pub Begins : List (List ℕ) → List ℕ → Type 0
+Begins events front = (table : Table) × (more : List ℕ) × IsTextOf events (front ++ more) table
+
+-- The first so many bytes of the text are the first part of a text of a table. With the next byte they are that of none,
+-- or the text ends there and is that of no table.
+pub record IsFirstWrong (events : List (List ℕ)) (text : List ℕ) (k : ℕ) : Type 0 where
+  pub within : k ≤ length text
+  pub begins : Begins events (take k text)
+  pub wrong : k < length text → Begins events (take (k + 1) text) → ⊥
+  pub open_end : k ≡ length text → (table : Table) → IsTextOf events text table → ⊥
+
+-- the place of the first byte with which no text of a table goes on, or of the end where only that is wrong
+pub record IsWrongPlace (events : List (List ℕ)) (text : List ℕ) (place : Place) : Type 0 where
+  pub at : ℕ
+  pub first : IsFirstWrong events text at
+  pub place_is : place ≡ place_after (take at text)
 
 -- the texts are of letters, digits, `_` and `.`
 pub record ArePaths (events : List (List ℕ)) : Type 0 where

@@ -1,21 +1,31 @@
 // What stands at the front of a text: a fixed text, an event's path, a gate's number, an operand.
 
-ghost use Rattle.std.specs.Prelude.{◌≡◌, ◌≤◌, ◌<◌, ◌^◌, ◌++◌, ◌∷◌, ℕ, List, true, decimal, length, IfOk, IfErr, IfSome, IfNone, OnErr};
+ghost use Rattle.std.specs.Prelude.{◌≡◌, ◌≤◌, ◌<◌, ◌++◌, codes, ℕ, true, false, length, IfOk, IfErr, IfSome, IfNone};
 ghost use Rattle.std.specs.List.{prefix_len};
-ghost use Rattle.ar_base.specs.Lists.{AreDifferent};
 ghost use Rattle.eq_core.specs.Views.{operand_of};
-ghost use Rattle.aralia_text.specs.Texts.{sign_text, operand_text};
-ghost use Rattle.aralia_text.specs.Readings.{is_path_byte};
-ghost use Rattle.aralia_text.specs.Fronts.{IsRead, IsNotRead, IsPathOf, IsOperandAt, path_text, number_text, IsBelowGate, HasNoMinus, Stops};
+ghost use Rattle.aralia_text.specs.Texts.{sign_text, operand_text, name_text};
+ghost use Rattle.aralia_text.specs.Readings.{is_path_byte, IsPath};
+ghost use Rattle.aralia_text.specs.Fronts.{AreEvents, IsRead, IsStuck, IsStuckIn, AreCommon, IsPathOf, event_text, HasNoEvent, IsEventPart, IsBelowGate, IsNumberWith, AreDigits, IsOperandAt, HasOperand, HasNoMinus, Stops, begins_with};
 
-use ar_base::{EventId, GateId, Names};
+use ar_base::{EventId, GateId, NameId, Names};
 use eq_core::Operand;
-use itoa::Buffer;
-use std::str::from_utf8;
 
 // What is sought does not stand at the front.
 #[derive(Clone, Copy)]
-pub struct NotThere {}
+pub struct Stuck {
+    // How many bytes are left from the first one with which nothing that is sought goes on.
+    pub left: usize,
+}
+
+// Whether the byte stands first.
+pub fn begins_with(rest: &[u8], byte: u8) -> bool
+    ensures { result ≡ begins_with byte rest.now }
+{
+    match rest.first() {
+        Some(first) => *first == byte,
+        None => false,
+    }
+}
 
 // A letter, a digit, `_` or `.`.
 fn is_path_byte(b: u8) -> bool
@@ -36,69 +46,151 @@ fn path_len(bytes: &[u8]) -> usize
     n
 }
 
+// How many bytes at the front of both are the same.
+fn common(a: &[u8], b: &[u8]) -> usize
+    ensures { AreCommon a.now b.now result }
+{
+    let mut n = 0;
+    while n < a.len() && n < b.len() && a[n] == b[n] {
+        n += 1;
+    }
+    n
+}
+
 // What stands behind this text.
-pub fn literal<'a>(rest: &'a [u8], text: &[u8]) -> Result<&'a [u8], NotThere>
+pub fn literal<'a>(rest: &'a [u8], text: &[u8]) -> Result<&'a [u8], Stuck>
     ensures found { IfOk result (λ left. rest.now ≡ text.now ++ left.now) }
-    ensures refused { OnErr result ((back : List ℕ) → rest.now ≡ text.now ++ back → ⊥) }
+    ensures stuck { IfErr result (λ stuck. IsStuckIn text.now rest.now stuck.left) }
 {
     match rest.strip_prefix(text) {
         Some(left) => Ok(left),
-        None => Err(NotThere {}),
+        None => Err(Stuck {
+            left: rest.len() - common(rest, text),
+        }),
     }
 }
 
-// The path of an event at the front, the longest run of its bytes.
-fn path<'a>(rest: &'a [u8], names: &Names) -> Result<(EventId, &'a [u8]), NotThere>
-    requires { AreDifferent names.now }
-    ensures found { IfOk result (λ r. IsRead (IsPathOf names.now) (path_text names.now) rest.now r.0.n r.1.now) }
-    ensures refused { OnErr result (IsNotRead (IsPathOf names.now) (path_text names.now) rest.now) }
+// The event at the front: `e.` and its path, the longest run of its bytes.
+fn found_event<'a>(rest: &'a [u8], names: &Names) -> Option<(EventId, &'a [u8])>
+    requires { AreEvents names.now }
+    ensures found { IfSome result (λ r. IsRead (IsPathOf names.now) (event_text names.now) Stops rest.now r.0.n r.1.now) }
+    ensures none { IfNone result (HasNoEvent names.now rest.now) }
 {
-    let (run, left) = rest.split_at(path_len(rest));
+    let Ok(behind) = literal(rest, b"e.") else {
+        return None;
+    };
+    let (run, left) = behind.split_at(path_len(behind));
     match names.find_bytes(run) {
-        Some(name) => Ok((EventId::new(name.n), left)),
-        None => Err(NotThere {}),
+        Some(name) => Some((EventId::new(name.n), left)),
+        None => None,
     }
 }
 
-// The number that these digits write without a leading zero.
-fn number_of(digits: &[u8]) -> Option<u32>
-    ensures found { IfSome result (λ k. digits.now ≡ decimal k) }
-    ensures none { IfNone result ((k : ℕ) → k < 2 ^ 32 → digits.now ≡ decimal k → ⊥) }
+// Whether the text is a path.
+fn is_path(text: &[u8]) -> bool
+    ensures yes { result ≡ true → IsPath text.now }
+    ensures no { IsPath text.now → result ≡ true }
 {
-    let Ok(text) = from_utf8(digits) else {
-        return None;
-    };
-    let Ok(k) = text.parse::<u32>() else {
-        return None;
-    };
-    if is_written(k, digits) { Some(k) } else { None }
+    path_len(text) == text.len()
 }
 
-// Whether the number is written so.
-fn is_written(k: u32, digits: &[u8]) -> bool
-    ensures yes { result ≡ true → digits.now ≡ decimal k }
-    ensures no { digits.now ≡ decimal k → result ≡ true }
+// How many bytes at the front are the same as in `e.` with this path behind it.
+fn event_common(rest: &[u8], path: &[u8]) -> usize
+    ensures { AreCommon rest.now (codes "e." ++ path.now) result }
 {
-    let mut buffer = Buffer::new();
-    let text = buffer.format(k);
-    text.as_bytes() == digits
+    match literal(rest, b"e.") {
+        Ok(behind) => 2 + common(behind, path),
+        Err(_) => common(rest, b"e."),
+    }
 }
 
-// The number, from 1, of one of so many gates.
-fn gate<'a>(rest: &'a [u8], gates: u32) -> Result<(GateId, &'a [u8]), NotThere>
-    ensures found { IfOk result (λ r. IsRead (IsBelowGate gates) number_text rest.now r.0.n r.1.now) }
-    ensures refused { OnErr result (IsNotRead (IsBelowGate gates) number_text rest.now) }
+// How many bytes at the front are a first part of the name of an event.
+fn event_part(rest: &[u8], names: &Names) -> usize
+    requires { AreEvents names.now }
+    ensures { IsEventPart names.now rest.now result }
 {
-    let (run, left) = rest.split_at(path_len(rest));
-    match number_of(run) {
-        Some(k) => {
-            if k == 0 || k > gates {
-                return Err(NotThere {});
-            }
-            Ok((GateId::new(k - 1), left))
+    let mut most: usize = 0;
+    let mut n = 0;
+    while let Some(path) = names.get(NameId::new(n)) {
+        if is_path(path.as_bytes()) {
+            most = most.max(event_common(rest, path.as_bytes()));
         }
-        None => Err(NotThere {}),
+        n += 1;
     }
+    most
+}
+
+// The event at the front.
+fn event<'a>(rest: &'a [u8], names: &Names) -> Result<(EventId, &'a [u8]), Stuck>
+    requires { AreEvents names.now }
+    ensures found { IfOk result (λ r. IsRead (IsPathOf names.now) (event_text names.now) Stops rest.now r.0.n r.1.now) }
+    ensures stuck { IfErr result (λ stuck. IsStuck (IsPathOf names.now) (event_text names.now) Stops rest.now stuck.left) }
+{
+    match found_event(rest, names) {
+        Some(read) => Ok(read),
+        None => Err(Stuck {
+            left: rest.len() - event_part(rest, names),
+        }),
+    }
+}
+
+// The number with this digit behind it, where it is above 0 and at most so great.
+fn number_with(value: u32, byte: u8, gates: u32) -> Option<u32>
+    ensures found { IfSome result (λ more. IsNumberWith gates value byte more) }
+    ensures none { IfNone result ((more : ℕ) → IsNumberWith gates value byte more → ⊥) }
+{
+    if byte < b'0' || byte > b'9' {
+        return None;
+    }
+    let more = value as u64 * 10 + (byte - b'0') as u64;
+    if more == 0 || more > gates as u64 {
+        return None;
+    }
+    Some(more as u32)
+}
+
+// The number at the front and how many digits write it.
+fn digits(rest: &[u8], gates: u32) -> (u32, usize)
+    ensures { AreDigits gates rest.now result.0 result.1 }
+{
+    let mut value = 0;
+    let mut n = 0;
+    while n < rest.len() {
+        match number_with(value, rest[n], gates) {
+            Some(more) => value = more,
+            None => return (value, n),
+        }
+        n += 1;
+    }
+    (value, n)
+}
+
+// Whether a path goes on here.
+fn goes_on(rest: &[u8]) -> bool
+    ensures yes { result ≡ true → Stops rest.now → ⊥ }
+    ensures no { result ≡ false → Stops rest.now }
+{
+    match rest.first() {
+        Some(byte) => is_path_byte(*byte),
+        None => false,
+    }
+}
+
+// One of so many gates: `g` and its number, from 1.
+fn gate<'a>(rest: &'a [u8], gates: u32) -> Result<(GateId, &'a [u8]), Stuck>
+    ensures found { IfOk result (λ r. IsRead (IsBelowGate gates) name_text Stops rest.now r.0.n r.1.now) }
+    ensures stuck { IfErr result (λ stuck. IsStuck (IsBelowGate gates) name_text Stops rest.now stuck.left) }
+{
+    if gates == 0 {
+        return Err(Stuck { left: rest.len() });
+    }
+    let behind = literal(rest, b"g")?;
+    let (value, n) = digits(behind, gates);
+    let left = behind.split_at(n).1;
+    if n == 0 || goes_on(left) {
+        return Err(Stuck { left: left.len() });
+    }
+    Ok((GateId::new(value - 1), left))
 }
 
 // Whether no `-` stands at the front, and what stands behind it.
@@ -112,22 +204,43 @@ fn sign(rest: &[u8]) -> (bool, &[u8])
     }
 }
 
-// An operand that is an event or one of so many gates.
-pub fn operand<'a>(
-    rest: &'a [u8],
-    gates: u32,
-    names: &Names,
-) -> Result<(Operand, &'a [u8]), NotThere>
-    requires { AreDifferent names.now }
-    ensures found { IfOk result (λ r. IsRead (IsOperandAt gates names.now) (operand_text names.now) rest.now (operand_of r.0) r.1.now) }
-    ensures refused { OnErr result (IsNotRead (IsOperandAt gates names.now) (operand_text names.now) rest.now) }
+// Whether there is an operand for a gate behind so many others.
+pub fn has_operand(gates: u32, names: &Names) -> bool
+    requires { AreEvents names.now }
+    ensures yes { result ≡ true → HasOperand gates names.now }
+    ensures no { result ≡ false → HasOperand gates names.now → ⊥ }
+{
+    gates > 0 || event_part(b"e", names) > 0
+}
+
+// An operand that is an event or one of so many gates, where there is one.
+fn signed<'a>(rest: &'a [u8], gates: u32, names: &Names) -> Result<(Operand, &'a [u8]), Stuck>
+    requires { AreEvents names.now }
+    ensures found { IfOk result (λ r. IsRead (IsOperandAt gates names.now) (operand_text names.now) Stops rest.now (operand_of r.0) r.1.now) }
+    ensures stuck { IfErr result (λ stuck. HasOperand gates names.now → IsStuck (IsOperandAt gates names.now) (operand_text names.now) Stops rest.now stuck.left) }
 {
     let (sign, named) = sign(rest);
-    if let Ok(behind) = literal(named, b"e.") {
-        let (event, left) = path(behind, names)?;
-        return Ok((Operand::Event(event, sign), left));
+    if begins_with(named, b'g') {
+        let (gate, left) = gate(named, gates)?;
+        return Ok((Operand::Gate(gate, sign), left));
     }
-    let behind = literal(named, b"g")?;
-    let (gate, left) = gate(behind, gates)?;
-    Ok((Operand::Gate(gate, sign), left))
+    let (event, left) = event(named, names)?;
+    Ok((Operand::Event(event, sign), left))
+}
+
+// An operand that is an event or one of so many gates.
+pub fn operand<'a>(rest: &'a [u8], gates: u32, names: &Names) -> Result<(Operand, &'a [u8]), Stuck>
+    requires { AreEvents names.now }
+    ensures found { IfOk result (λ r. IsRead (IsOperandAt gates names.now) (operand_text names.now) Stops rest.now (operand_of r.0) r.1.now) }
+    ensures stuck { IfErr result (λ stuck. IsStuck (IsOperandAt gates names.now) (operand_text names.now) Stops rest.now stuck.left) }
+{
+    match signed(rest, gates, names) {
+        Ok(read) => Ok(read),
+        Err(stuck) => {
+            if has_operand(gates, names) {
+                return Err(stuck);
+            }
+            Err(Stuck { left: rest.len() })
+        }
+    }
 }

@@ -1,12 +1,11 @@
 // The operands of a gate, and its line.
 
-ghost use Rattle.std.specs.Prelude.{◌≡◌, ◌≢◌, ◌++◌, ℕ, List, codes, IfOk, IfErr, OnErr};
-ghost use Rattle.ar_base.specs.Lists.{AreDifferent};
+ghost use Rattle.std.specs.Prelude.{◌≡◌, ◌++◌, ℕ, IfOk, IfErr};
 ghost use Rattle.eq_core.specs.Views.{all_needed, operand_of, gate_of};
-ghost use Rattle.aralia_text.specs.Texts.{name_text, gate_line};
-ghost use Rattle.aralia_text.specs.Fronts.{IsRead, IsNotRead, IsOperandAt, next_text, IsJointOf, IsGateAt, operands_line, IsReadWhole, IsNotThere};
+ghost use Rattle.aralia_text.specs.Texts.{joint_text, gate_line};
+ghost use Rattle.aralia_text.specs.Fronts.{AreEvents, IsRead, IsStuck, IsStuckIn, IsAny, Stops, IsOperandAt, HasOperand, IsJoint, next_text, IsGateAt, header_text, operands_line};
 
-use crate::fronts::{NotThere, literal, operand};
+use crate::fronts::{Stuck, begins_with, literal, operand};
 use crate::printing::between;
 use ar_base::{Memory, Names};
 use eq_core::{Gate, Joint, Operand};
@@ -17,19 +16,19 @@ use std::alloc::{AllocFailed, Global};
 #[derive(Clone, Copy)]
 pub enum Stop {
     // What is sought does not stand there.
-    NotThere,
+    Stuck(Stuck),
     // Memory was refused.
     Memory,
 }
 
-impl From<NotThere> for Stop {
+impl From<Stuck> for Stop {
     ghost use Rattle.std.specs.Prelude.{◌≡◌};
-    ghost use Rattle.aralia_text.specs.declared.gates.Stop.TheVariants.{NotThere};
+    ghost use Rattle.aralia_text.specs.declared.gates.Stop.TheVariants.{Stuck};
 
-    ghost from_gives = { λ _ e. e ≡ NotThere };
+    ghost from_gives = { λ stuck e. e ≡ Stuck stuck };
 
-    fn from(_missing: NotThere) -> Self {
-        Stop::NotThere
+    fn from(stuck: Stuck) -> Self {
+        Stop::Stuck(stuck)
     }
 }
 
@@ -55,14 +54,18 @@ impl<T: Drop> From<AllocFailed<T>> for Stop {
     }
 }
 
-// How the operand at the front is joined to those before.
-fn joint_at(rest: &[u8]) -> Joint
-    ensures { IsJointOf rest.now (all_needed result) }
+// How the operand behind the front is joined to those before.
+fn joint(rest: &[u8]) -> Result<(Joint, &[u8]), Stuck>
+    ensures found { IfOk result (λ r. IsRead IsJoint joint_text IsAny rest.now (all_needed r.0) r.1.now) }
+    ensures stuck { IfErr result (λ stuck. IsStuck IsJoint joint_text IsAny rest.now stuck.left) }
 {
-    match literal(rest, b" & ") {
-        Ok(_) => Joint::And,
-        Err(_) => Joint::Or,
+    let behind = literal(rest, b" ")?;
+    if begins_with(behind, b'&') {
+        let left = literal(behind, b"& ")?;
+        return Ok((Joint::And, left));
     }
+    let left = literal(behind, b"| ")?;
+    Ok((Joint::Or, left))
 }
 
 // A further operand of a gate.
@@ -71,10 +74,11 @@ fn next<'a>(
     joint: Joint,
     gates: u32,
     names: &Names,
-) -> Result<(Operand, &'a [u8]), NotThere>
-    requires { AreDifferent names.now }
-    ensures found { IfOk result (λ r. IsRead (IsOperandAt gates names.now) (next_text names.now (all_needed joint)) rest.now (operand_of r.0) r.1.now) }
-    ensures refused { OnErr result (IsNotRead (IsOperandAt gates names.now) (next_text names.now (all_needed joint)) rest.now) }
+) -> Result<(Operand, &'a [u8]), Stuck>
+    requires events { AreEvents names.now }
+    requires some { HasOperand gates names.now }
+    ensures found { IfOk result (λ r. IsRead (IsOperandAt gates names.now) (next_text names.now (all_needed joint)) Stops rest.now (operand_of r.0) r.1.now) }
+    ensures stuck { IfErr result (λ stuck. IsStuck (IsOperandAt gates names.now) (next_text names.now (all_needed joint)) Stops rest.now stuck.left) }
 {
     let behind = literal(rest, between(joint).as_bytes())?;
     operand(behind, gates, names)
@@ -87,18 +91,20 @@ fn operands<'a>(
     gates: u32,
     names: &Names,
 ) -> Result<(Gate, &'a [u8]), Stop>
-    requires { AreDifferent names.now }
-    ensures found { IfOk result (λ r. IsReadWhole (IsGateAt gates names.now) (operands_line names.now) rest.now (gate_of r.0) r.1.now) }
-    ensures refused { IfErr result (λ stop. stop ≢ Stop.Memory → IsNotThere (IsGateAt gates names.now) (operands_line names.now) rest.now) }
+    requires events { AreEvents names.now }
+    requires some { HasOperand gates names.now }
+    ensures found { IfOk result (λ r. IsRead (IsGateAt gates names.now) (operands_line names.now) IsAny rest.now (gate_of r.0) r.1.now) }
+    ensures stuck { IfErr result (λ stop. (stuck : _) → stop ≡ Stop.Stuck stuck → IsStuck (IsGateAt gates names.now) (operands_line names.now) IsAny rest.now stuck.left) }
 {
     let (first, behind) = operand(rest, gates, names)?;
-    let joint = joint_at(behind);
-    let (second, mut left) = next(behind, joint, gates, names)?;
+    let (joint, behind) = joint(behind)?;
+    let (second, mut left) = operand(behind, gates, names)?;
     let mut operands = Vec::new(alloc);
     operands.push(first)?;
     operands.push(second)?;
     loop {
-        if let Ok(behind) = literal(left, b";\n") {
+        if begins_with(left, b';') {
+            let behind = literal(left, b";\n")?;
             return Ok((Gate { joint, operands }, behind));
         }
         let (one, behind) = next(left, joint, gates, names)?;
@@ -108,13 +114,14 @@ fn operands<'a>(
 }
 
 // The name of a gate and `:=` behind it.
-fn header<'a>(rest: &'a [u8], gates: u32) -> Result<&'a [u8], NotThere>
-    ensures found { IfOk result (λ left. rest.now ≡ name_text gates ++ (codes " := " ++ left.now)) }
-    ensures refused { OnErr result ((back : List ℕ) → rest.now ≡ name_text gates ++ (codes " := " ++ back) → ⊥) }
+fn header<'a>(rest: &'a [u8], gates: u32) -> Result<&'a [u8], Stuck>
+    ensures found { IfOk result (λ left. rest.now ≡ header_text gates ++ left.now) }
+    ensures stuck { IfErr result (λ stuck. IsStuckIn (header_text gates) rest.now stuck.left) }
 {
     let mut buffer = Buffer::new();
     let digits = buffer.format(gates as usize + 1).as_bytes();
-    let behind = literal(literal(rest, b"g")?, digits)?;
+    let behind = literal(rest, b"g")?;
+    let behind = literal(behind, digits)?;
     literal(behind, b" := ")
 }
 
@@ -125,9 +132,10 @@ pub fn gate<'a>(
     gates: u32,
     names: &Names,
 ) -> Result<(Gate, &'a [u8]), Stop>
-    requires { AreDifferent names.now }
-    ensures found { IfOk result (λ r. IsReadWhole (IsGateAt gates names.now) (gate_line names.now gates) rest.now (gate_of r.0) r.1.now) }
-    ensures refused { IfErr result (λ stop. stop ≢ Stop.Memory → IsNotThere (IsGateAt gates names.now) (gate_line names.now gates) rest.now) }
+    requires events { AreEvents names.now }
+    requires some { HasOperand gates names.now }
+    ensures found { IfOk result (λ r. IsRead (IsGateAt gates names.now) (gate_line names.now gates) IsAny rest.now (gate_of r.0) r.1.now) }
+    ensures stuck { IfErr result (λ stop. (stuck : _) → stop ≡ Stop.Stuck stuck → IsStuck (IsGateAt gates names.now) (gate_line names.now gates) IsAny rest.now stuck.left) }
 {
     let behind = header(rest, gates)?;
     operands(alloc, behind, gates, names)

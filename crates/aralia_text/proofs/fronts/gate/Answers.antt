@@ -1,18 +1,29 @@
-use Rattle.std.proofs.Common.{◌∙◌, ap, take, arith, ◌⊎◌, ◌≡◌, ◌<◌, inl, inr}
-use Rattle.aralia_text.proofs.Operands.{number_read, number_not_read, number_outside}
+use Rattle.std.proofs.Common.{rules, inl, inr, arith}
+use Rattle.aralia_text.specs.Texts.{name_text}
+use Rattle.aralia_text.specs.Fronts.{IsStuck, IsBelowGate, Stops}
+use Rattle.aralia_text.proofs.Stuck.{stuck_at_once}
+use Rattle.aralia_text.proofs.Numbers.{no_mark, stuck_at, read_at}
 use Rattle.aralia_text.proofs.fronts.gate.Goals as goal
+use Rattle.aralia_text.proofs.fronts.gate.Goals.{then-n-eq0-via-then-n-eq0, then-n-eq0-via-else-n-eq0+then-goes_on}
 
-pub returns-then-k-eq0-clause-refused : goal.returns-then-k-eq0-clause-refused
-returns-then-k-eq0-clause-refused c =
-    number_outside c.args.gates _ _ c.split_at.result.1.now (omega arith) (record { run_is = c.split_at.ensures.front ∙ ap (λ k. take k c.args.rest.now) c.path_len.ensures.value; joined = c.split_at.ensures.by_index.0 })
-    c.in-Some.k c.in-Some.ensures.found (omega arith) (elim c.then-k-eq0.either as (λ _. (c.in-Some.k ≡ 0) ⊎ (c.args.gates < c.in-Some.k)) [ inl z ↦ inl z | inr z ↦ inr z.1 ])
+pub returns-then-gates-eq0-clause-stuck : goal.returns-then-gates-eq0-clause-stuck
+returns-then-gates-eq0-clause-stuck c = stuck_at_once (IsBelowGate c.args.gates) name_text Stops _ (λ a is. let z = c.if-gates-eq0.true in omega (arith, is, z))
 
-pub returns-else-k-gates-clause-found : goal.returns-else-k-gates-clause-found
-returns-else-k-gates-clause-found c =
-    number_read c.args.gates _ _ _ (omega arith) (record { run_is = c.split_at.ensures.front ∙ ap (λ k. take k c.args.rest.now) c.path_len.ensures.value; joined = c.split_at.ensures.by_index.0 })
-    c.in-Some.k _ c.in-Some.ensures.found (let h = c.if-k-eq0.false in omega (arith, h)) (let h = c.if-k-gates.false in omega (arith, h)) c.new.ensures
+pub returns-in_err-behind-clause-stuck : goal.returns-in_err-behind-clause-stuck
+returns-in_err-behind-clause-stuck c =
+    let k : IsStuck (IsBelowGate c.args.gates) name_text Stops c.args.rest.now c.in_err-behind.field-0.0.left =
+    no_mark c.args.gates _ _ (let z = c.if-gates-eq0.false in omega (arith, z)) c.in_err-behind.ensures.stuck in
+    search rules
 
-pub returns-in-None-clause-refused : goal.returns-in-None-clause-refused
-returns-in-None-clause-refused c =
-    number_not_read c.args.gates _ _ c.split_at.result.1.now (omega arith) (record { run_is = c.split_at.ensures.front ∙ ap (λ k. take k c.args.rest.now) c.path_len.ensures.value; joined = c.split_at.ensures.by_index.0 })
-    c.in-None.ensures.none
+pub returns-then-n-eq0-clause-stuck : goal.returns-then-n-eq0-clause-stuck
+returns-then-n-eq0-clause-stuck c =
+    stuck_at c.args.gates _ _ _ _ _ c.in_ok-behind.ensures.found (let f = c.ranges.gates.fits in omega (arith, f)) (let z = c.if-gates-eq0.false in omega (arith, z)) c.digits-value.ensures c.split_at.ensures.back
+    (elim c.then-n-eq0.branch [
+      | then-n-eq0-via-then-n-eq0 w ↦ inl w.if-n-eq0.true
+      | then-n-eq0-via-else-n-eq0+then-goes_on w ↦ inr (w.goes_on.ensures.yes w.if-goes_on.true)
+    ])
+
+pub returns-clause-found : goal.returns-clause-found
+returns-clause-found c =
+    read_at c.args.gates _ _ _ _ _ c.in_ok-behind.ensures.found (let f = c.ranges.gates.fits in omega (arith, f)) c.digits-value.ensures c.split_at.ensures.back
+    (let z = c.if-n-eq0.false in omega (arith, z)) (c.goes_on.ensures.no c.if-goes_on.false) _ c.new.ensures

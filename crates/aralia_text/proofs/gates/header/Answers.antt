@@ -1,16 +1,25 @@
-use Rattle.std.proofs.Common.{◌≡◌, ◌+◌, ℕ, List, ◌++◌, codes, decimal, sym, ap, ◌∙◌}
-use Rattle.std.proofs.lemmas.List.{append_cancel_left}
-use Rattle.aralia_text.proofs.Results.{on_err_map}
-use Rattle.aralia_text.specs.Texts.{name_text}
+use Rattle.std.proofs.Common.{◌+◌, ℕ, List, ◌++◌, codes, decimal, ap, ◌∙◌, subst}
+use Rattle.aralia_text.specs.Fronts.{IsStuckIn}
+use Rattle.aralia_text.proofs.Results.{err_is, err_map}
+use Rattle.aralia_text.proofs.Stuck.{text_first, text_next}
 use Rattle.aralia_text.proofs.gates.header.Goals as goal
 
-left_behind : (rest one digits behind back : List ℕ) (n : ℕ) → rest ≡ codes "g" ++ one → one ≡ digits ++ behind → digits ≡ decimal (n + 1)
-    → rest ≡ name_text n ++ (codes " := " ++ back) → behind ≡ codes " := " ++ back
-left_behind rest one digits behind back n e f d h =
-    let same : one ≡ decimal (n + 1) ++ (codes " := " ++ back) = append_cancel_left (codes "g") one (decimal (n + 1) ++ (codes " := " ++ back)) (sym e ∙ h) in
-    append_cancel_left (decimal (n + 1)) behind (codes " := " ++ back) (ap (λ (z : List ℕ). z ++ behind) (sym d) ∙ sym f ∙ same)
+pub returns-in_err-behind-clause-stuck : goal.returns-in_err-behind-clause-stuck
+returns-in_err-behind-clause-stuck c =
+    err_is _ c.from_residual.result c.in_err-behind.field-0.0 c.from_residual.ensures.1
+    (text_first (codes "g") (decimal (c.args.gates + 1) ++ codes " := ") c.args.rest.now _ c.in_err-behind.ensures.stuck)
 
-pub returns-clause-refused : goal.returns-clause-refused
-returns-clause-refused c =
-    on_err_map c.literal-3.result (λ none back h. none back (left_behind c.args.rest.now c.in_ok-literal.field-0.now _ c.in_ok-behind.behind.now back c.args.gates
-    c.in_ok-literal.ensures.found c.in_ok-behind.ensures.found (c.as_bytes-digits.ensures.value ∙ c.format.ensures.text) h)) c.literal-3.ensures.refused
+pub returns-in_err-behind-2-clause-stuck : goal.returns-in_err-behind-2-clause-stuck
+returns-in_err-behind-2-clause-stuck c =
+    err_is _ c.from_residual-in_err-behind-2.result c.in_err-behind-2.field-0.0 c.from_residual-in_err-behind-2.ensures.1
+    (text_next (codes "g") (decimal (c.args.gates + 1) ++ codes " := ") c.args.rest.now c.in_ok-behind.behind.now _ c.in_ok-behind.ensures.found
+    (text_first (decimal (c.args.gates + 1)) (codes " := ") c.in_ok-behind.behind.now _
+    (subst (λ (z : List ℕ). IsStuckIn z c.in_ok-behind.behind.now c.in_err-behind-2.field-0.0.left) (c.as_bytes-digits.ensures.value ∙ c.format.ensures.text) c.in_err-behind-2.ensures.stuck)))
+
+pub returns-clause-stuck : goal.returns-clause-stuck
+returns-clause-stuck c =
+    err_map c.literal-3.result
+    (λ stuck k.
+    text_next (codes "g") (decimal (c.args.gates + 1) ++ codes " := ") c.args.rest.now c.in_ok-behind.behind.now stuck.left c.in_ok-behind.ensures.found
+    (text_next (decimal (c.args.gates + 1)) (codes " := ") c.in_ok-behind.behind.now c.in_ok-behind-2.behind.now stuck.left
+    (c.in_ok-behind-2.ensures.found ∙ ap (λ (z : List ℕ). z ++ c.in_ok-behind-2.behind.now) (c.as_bytes-digits.ensures.value ∙ c.format.ensures.text)) k)) c.literal-3.ensures.stuck

@@ -3,18 +3,21 @@
 //! Each line of the file `cases` is a case: its name, the number of the load that is to fail or `-`, the number of
 //! the put that is to fail or `-`, and the words of the job. Words that name a file of the folder stand for its
 //! bytes. For each case its name, the status, how many faults the shelf and the sink counted, and the bytes that
-//! were written are printed. Then the limits are run, each at its number and one past it, over texts that are made
+//! were written are printed; behind a listing of cuts also how many of its orders, fired as a script, end with the
+//! wanted value. Then the limits are run, each at its number and one past it, over texts that are made
 //! here, and last the plants of the examples.
 #![tactic(auto)]
 
 mod limits;
 mod made;
+mod orders;
 mod plants;
 
 use altarica_run::altarica;
 use ar_base::Memory;
 use ar_io::{MemoryShelf, MemorySink};
 use limits::run_limits;
+use orders::run_orders;
 use plants::run_plants;
 use std::io::Write;
 use std::str::from_utf8;
@@ -50,7 +53,19 @@ fn run(
     let status = altarica(rt.alloc(), words, shelf, &mut sink).number();
     let faults = (shelf.fault_count(), sink.fault_count());
     println!(rt; "{name}: status {status} faults {} {}", faults.0, faults.1)?;
-    io::writer(rt).write_all(sink.bytes())
+    io::writer(rt).write_all(sink.bytes())?;
+    if status == 0 && is_listing(words) {
+        run_orders(rt, name, words, sink.bytes())?;
+    }
+    Ok(())
+}
+
+// Whether the words ask for a listing of cuts.
+fn is_listing(words: &[String]) -> bool {
+    match words.first() {
+        Some(command) => command.as_str() == "cuts",
+        None => false,
+    }
 }
 
 // Runs the job of the words over the files of the folder that they name.

@@ -1,28 +1,32 @@
 -- The cuts of a job, as they are written.
-use Rattle.std.proofs.Common.{◌≡◌, ◌≢◌, ◌≤◌, ℕ, zero, suc, List, [], ◌∷◌, Result, Ok, Err, length, reverse, refl, sym, ◌∙◌, ap, subst, arith}
+use Rattle.std.proofs.Common.{◌≡◌, ◌≢◌, ◌≤◌, ◌⊎◌, inl, inr, true, false, ℕ, zero, suc, List, [], ◌∷◌, Result, Ok, Err, length, reverse, refl, sym, ◌∙◌, ap, subst, arith}
 use Rattle.ar_base.specs.Lists.{Stands}
 use Rattle.ar_base.specs.Lists as l
-use Rattle.ar_base.proofs.Standing.{stands_some, stands_map, one_here, along_back}
+use Rattle.ar_base.proofs.Standing.{stands_one, stands_some, stands_map, one_here, along_on, along_back}
 use Rattle.ar_io.specs.Writing.{SinkState}
+use Rattle.domains.specs.declared.Value.{Value}
 use Rattle.typed_expr.specs.Pairs.{turned}
+use Rattle.typed_expr.specs.Yields.{Yields}
 use Rattle.typed_expr.specs.Kinds.{HasKind}
 use Rattle.typed_expr.specs.declared.expr.Expr.{Expr, out-Expr}
 use Rattle.ar_meaning.specs.Systems.{Net, System}
-use Rattle.ar_meaning.specs.Facts.{AreKeyed}
+use Rattle.ar_meaning.specs.Facts.{AreKeyed, HasValue}
 use Rattle.ar_meaning.specs.Flows.{FlowFault}
+use Rattle.ar_meaning.specs.Runs.{Label}
 use Rattle.ar_meaning.specs.FlatOf.{IsNumber, IsFlatOf}
-use Rattle.ar_meaning.specs.Image.{Expr_renames}
+use Rattle.ar_meaning.specs.Image.{Expr_renames, IsImage}
 use Rattle.ar_meaning.proofs.ByNumber.{keyed}
 use Rattle.ar_meaning.proofs.FlatSystems.{flat_image, flat_back}
 use Rattle.ar_firing.specs.Static.{IsKeyedStatic}
-use Rattle.ar_firing.specs.Cuts.{Conflicts, Cut, ConflictSet, IsConflictFree}
-use Rattle.ar_firing.specs.Forest.{IsForest}
+use Rattle.ar_firing.specs.Cuts.{AreEvents, Conflicts, Cut, ConflictSet, IsConflictFree, Reaches}
+use Rattle.ar_firing.specs.Forest.{IsForest, IsLine}
 use Rattle.ar_firing.specs.Listed.{AreListed}
 use Rattle.ar_firing.specs.Operands.{Agrees}
 use Rattle.ar_firing.proofs.RulesHold.{all_static}
 use Rattle.ar_firing.proofs.Shapes.{are_trees}
 use Rattle.ar_firing.proofs.ImageCuts.{meets_there, cut_there, cut_back}
-use Rattle.ar_firing.proofs.ImageModes.{forest_there}
+use Rattle.ar_firing.proofs.ImageModes.{forest_there, line_there}
+use Rattle.ar_firing.proofs.Lines.{line_is_legal}
 use Rattle.ar_firing.proofs.OneListing.{listed_as, listed_same}
 use Rattle.gts_core.proofs.Viewing.{are_numbered}
 use Rattle.gts_core.specs.Lawful.{IsLawful, kind_by_number}
@@ -52,22 +56,29 @@ use Rattle.gate_diagrams.specs.declared.answer.Drawn.{Drawn}
 use Rattle.drawn_cuts.specs.Drawn.{AreDrawn}
 use Rattle.drawn_cuts.specs.Laws.{DrawnAreMeant, NodesByNumbers}
 use Rattle.min_cuts.specs.Lines.{AreInFiringOrder}
+use Rattle.min_cuts.specs.Sizes.{count, largest}
 use Rattle.cut_text.specs.Answers.{Prints}
 use Rattle.cut_text.specs.Printed.{edges_of, labels_in, cuts_text, conflict_text, IsForestOf}
 use Rattle.cut_text.specs.Texts.{IsCutText, IsConflictText}
 use Rattle.cut_text.specs.declared.faults.PrintFault.{PrintFault}
 use Rattle.cut_text.specs.declared.faults.PrintFault.TheVariants as print
 use Rattle.run_words.specs.declared.jobs.Job.{Job}
-use Rattle.run_words.specs.declared.verbs.Verb.TheVariants.{Cuts}
+use Rattle.run_words.specs.declared.verbs.Verb.{Verb}
+use Rattle.run_words.specs.declared.verbs.Verb.TheVariants.{Check, Flat, Replay, Fragment, Equations, Cuts, Make, Explain, CheckCuts, Modules}
+use Rattle.altarica_run.specs.Jobs.{makes_model, verb_of}
 use Rattle.altarica_run.specs.Passing.{IsReady, IsGateTable}
 use Rattle.altarica_run.specs.Passing as passing
-use Rattle.altarica_run.specs.Stages.{Ready, is_static as asks_static, has_table}
+use Rattle.altarica_run.specs.Stages.{Ready, is_static as asks_static, has_table, lists_cuts}
 use Rattle.altarica_run.specs.Telling.{IsWritten, whole, cut, nothing, status_printed}
-use Rattle.altarica_run.specs.Tells.{Tells, cuts, conflict, nodes, nodes_line}
+use Rattle.altarica_run.specs.Tells.{HasCuts, make_lines, Tells, cuts, make, conflict, nodes, nodes_line}
+use Rattle.altarica_run.specs.declared.jobs.Task.{Task}
+use Rattle.altarica_run.specs.declared.jobs.Task.TheVariants as task
 use Rattle.altarica_run.specs.declared.stages.Prepared.{Prepared}
 use Rattle.altarica_run.specs.declared.status.Status.{Status}
 use Rattle.altarica_run.specs.declared.status.Status.TheVariants.{Done, Fault, Nodes}
+use Rattle.altarica_run.proofs.LineLemmas.{made_same}
 use Rattle.altarica_run.proofs.TableLemmas.{at_observer}
+use Rattle.altarica_run.proofs.TellLemmas.{many_units, many_events}
 
 -- Texts that were printed, or broken off
 
@@ -114,9 +125,48 @@ few_counted sections room s n limit sound is few more =
     let k = room s limit (IsMoreThan-weaker limit (IsCounted (family s n)) (λ h. IsStored h s) (λ h c. counted_stored sections s n sound is h c) more) in
     absurd (omega (arith, k, few))
 
+-- a command that lists cuts, or tells of them, asks for a static system and is about the gate table
+lists_static : (v : Verb) → lists_cuts v ≡ true → asks_static v ≡ true
+lists_static Check e = e
+lists_static Flat e = e
+lists_static Replay e = e
+lists_static Fragment e = refl
+lists_static Equations e = refl
+lists_static Cuts e = refl
+lists_static Make e = refl
+lists_static Explain e = e
+lists_static CheckCuts e = refl
+lists_static Modules e = refl
+
+lists_table : (v : Verb) → lists_cuts v ≡ true → has_table v ≡ true
+lists_table Check e = e
+lists_table Flat e = e
+lists_table Replay e = e
+lists_table Fragment e = e
+lists_table Equations e = refl
+lists_table Cuts e = refl
+lists_table Make e = refl
+lists_table Explain e = e
+lists_table CheckCuts e = refl
+lists_table Modules e = refl
+
+-- the tasks that list cuts, or tell of them, are these two
+pub task_lists : (t : Task) → (t ≡ task.Cuts) ⊎ (t ≡ task.Make) → lists_cuts (verb_of t) ≡ true
+task_lists t (inl e) = ap (λ (z : Task). lists_cuts (verb_of z)) e
+task_lists t (inr e) = ap (λ (z : Task). lists_cuts (verb_of z)) e
+
+pub task_cuts : (t : Task) → lists_cuts (verb_of t) ≡ true → makes_model (verb_of t) ≡ false → verb_of t ≡ Cuts
+task_cuts task.Check e m = let k : false ≡ true = e in absurd cc
+task_cuts task.Flat e m = let k : false ≡ true = e in absurd cc
+task_cuts task.Replay e m = let k : false ≡ true = e in absurd cc
+task_cuts task.Fragment e m = let k : false ≡ true = e in absurd cc
+task_cuts task.Equations e m = let k : false ≡ true = e in absurd cc
+task_cuts task.Cuts e m = refl
+task_cuts task.Make e m = let k : true ≡ false = m in absurd cc
+
 -- What stands ready
 
-module _ (job : Job) (w : Ready) (p : Prepared) (is : IsReady job w p) (e : job.command ≡ Cuts) where
+module _ (job : Job) (w : Ready) (p : Prepared) (is : IsReady job w p) (e : lists_cuts job.command ≡ true) where
   abbrev flat : System ℕ
   flat = is.flat.flat
 
@@ -124,10 +174,10 @@ module _ (job : Job) (w : Ready) (p : Prepared) (is : IsReady job w p) (e : job.
   things = variables w.source.declarations.model w.source.declarations.units
 
   own : passing.IsForestOf p.system w.dropped p.forest
-  own = is.forest.own (ap asks_static e)
+  own = is.forest.own (lists_static job.command e)
 
   pub table : IsGateTable p.system w p.forest p.table
-  table = is.table.own (ap has_table e)
+  table = is.table.own (lists_table job.command e)
 
   pub forest_is : IsForestOf w.source p.system flat w.dropped p.forest
   forest_is = record {
@@ -209,7 +259,7 @@ module _ (job : Job) (w : Ready) (p : Prepared) (is : IsReady job w p) (e : job.
           h
 
   -- the source's observer
-  sourced : (o : Expr Thing) × Stands w.source.system.observers table.wanted.observer o
+  pub sourced : (o : Expr Thing) × Stands w.source.system.observers table.wanted.observer o
       × Expr_renames (IsNumber things) o (numbered seen.0.value)
   sourced =
       along_back _ _ flat_is.observers table.wanted.observer (numbered seen.0.value)
@@ -217,32 +267,77 @@ module _ (job : Job) (w : Ready) (p : Prepared) (is : IsReady job w p) (e : job.
       (stands_map (λ (z : Observer). numbered z.value) p.system.observers.items table.wanted.observer seen.0 seen.1))
 
   -- the cuts
-  pub cuts_told : (sets : Sets) (text : List ℕ) → IsConflictFree flat w.dropped
+  there : IsImage (IsNumber things) w.source.system flat
+  there = flat_image things w.source.system flat flat_is
+
+  abbrev pub source_observer : Expr Thing
+  source_observer = sourced.0
+
+  pub renamed : Expr_renames (IsNumber things) source_observer (numbered seen.0.value)
+  renamed = sourced.2
+
+  abbrev has_cuts : IsConflictFree flat w.dropped → HasCuts w
+  has_cuts free = record {
+    wanted = table.wanted;
+    are_wanted = table.are;
+    observed = source_observer;
+    is_observed = sourced.1;
+    conflict_free = λ set m. free set (meets_there (IsNumber things) w.source.system flat there w.dropped m);
+  }
+
+  -- the source's cuts are those of the flat system
+  pub listed_of_source : (sets : Sets)
       → AreListed (Cut flat w.dropped (numbered seen.0.value) table.wanted.value) sets
-      → ((o : Expr Thing) → Expr_renames (IsNumber things) o (numbered seen.0.value)
-      → IsCutText (naming_of w.source.declarations) w.source.system w.dropped o table.wanted.value text)
+      → AreListed (Cut w.source.system w.dropped source_observer table.wanted.value) sets
+  listed_of_source sets listed =
+      listed_as
+      (λ s c. cut_back (IsNumber things) w.source.system flat there w.dropped source_observer (numbered seen.0.value) renamed table.wanted.value s c)
+      (λ s c. cut_there (IsNumber things) w.source.system flat there w.dropped source_observer (numbered seen.0.value) renamed table.wanted.value s c)
+      listed
+
+  few_of : (sets : Sets) → (IsMoreThan p.nodes (IsCounted sets) → ⊥) → IsMoreThan job.nodes (IsCounted sets) → ⊥
+  few_of sets few more = few (subst (λ (n : ℕ). IsMoreThan n (IsCounted sets)) (sym is.nodes) more)
+
+  -- the events of a line of the source are those of its set
+  line_events : (set : List ℕ) (ls : List Label) → IsLine w.source.system w.dropped set ls → AreEvents (reverse ls) set
+  line_events set ls h =
+      (line_is_legal flat w.dropped both.keyed both.static (line_there (IsNumber things) w.source.system flat there w.dropped h)).events
+
+  pub cuts_told : job.command ≡ Cuts → (sets : Sets) (text : List ℕ) → (free : IsConflictFree flat w.dropped)
+      → AreListed (Cut flat w.dropped (numbered seen.0.value) table.wanted.value) sets
+      → IsCutText (naming_of w.source.declarations) w.source.system w.dropped source_observer table.wanted.value text
+      → ((sets : List (List ℕ)) → AreListed (Cut w.source.system w.dropped source_observer table.wanted.value) sets
+      → (set : List ℕ) → l.IsOneOf sets set → (ls : List Label) → IsLine w.source.system w.dropped set ls
+      → (t : List Value) × Reaches w.source.system w.dropped (reverse ls) t × Reaches w.source.system [] (reverse ls) t
+      × Yields (HasValue w.source.system.net t) (out-Expr Thing source_observer) table.wanted.value)
       → (IsMoreThan p.nodes (IsCounted sets) → ⊥) → Tells job w text Done
-  cuts_told sets text free listed says few =
-      let o = sourced.0 in
-      let q = sourced.2 in
-      let there = flat_image things w.source.system flat flat_is in
-      let t = says o q in
-      let same : t.sets ≡ sets = listed_same t.sets sets (Cut w.source.system w.dropped o table.wanted.value) t.are_listed
-      (listed_as
-      (λ s c. cut_back (IsNumber things) w.source.system flat there w.dropped o (numbered seen.0.value) q table.wanted.value s c)
-      (λ s c. cut_there (IsNumber things) w.source.system flat there w.dropped o (numbered seen.0.value) q table.wanted.value s c)
-      listed) in
-      cuts e
+  cuts_told i sets text free listed t replays few =
+      let same : t.sets ≡ sets = listed_same t.sets sets (Cut w.source.system w.dropped source_observer table.wanted.value) t.are_listed (listed_of_source sets listed) in
+      cuts i
       (record {
-        wanted = table.wanted;
-        are_wanted = table.are;
-        observed = o;
-        is_observed = sourced.1;
-        conflict_free = λ set m. free set (meets_there (IsNumber things) w.source.system flat there w.dropped m);
+        has = has_cuts free;
         is_text = t;
-        few = λ more. few
-            (subst (λ (n : ℕ). IsMoreThan n (IsCounted sets)) (sym is.nodes)
-            (subst (λ (z : Sets). IsMoreThan job.nodes (IsCounted z)) same more));
+        few = λ more. few_of sets few (subst (λ (z : Sets). IsMoreThan job.nodes (IsCounted z)) same more);
+        replay = λ k set ls s h.
+            let g = along_on _ _ t.are_lines k set s in
+            let line = subst (λ (z : List Label). IsLine w.source.system w.dropped set z) (stands_one t.lines k g.0 ls g.1 h) g.2 in
+            let run = replays t.sets t.are_listed set (one_here t.sets k set s) ls line in
+            record { events = line_events set ls line; values = run.0; reaches = run.2; shows = run.3 };
+      })
+
+  -- how many there are
+  pub make_told : job.command ≡ Make → (sets : Sets) (text : List ℕ) → IsConflictFree flat w.dropped
+      → AreListed (Cut flat w.dropped (numbered seen.0.value) table.wanted.value) sets
+      → text ≡ make_lines p.number (length p.system.units.items) (length p.system.events.items) (count sets) (largest sets)
+      → (IsMoreThan p.nodes (IsCounted sets) → ⊥) → Tells job w text Done
+  make_told i sets text free listed t few =
+      make i
+      (record {
+        has = has_cuts free;
+        sets = sets;
+        are_listed = listed_of_source sets listed;
+        is_text = t ∙ made_same is.number (many_units w.source p.system is.flat) (many_events w.source p.system is.flat) (count sets) (largest sets);
+        few = few_of sets few;
       })
 
   -- the conflict

@@ -1,12 +1,16 @@
 -- Files that are loaded one after the other.
-use Rattle.std.proofs.Common.{◌≡◌, ℕ, List, [], ◌∷◌, Option, Some, None, Result, Ok, Err, Vec, refl, sym, ◌∙◌, ap, subst, inl, inr}
+use Rattle.std.proofs.Common.{◌≡◌, ◌≤◌, ℕ, Bool, true, false, length, List, [], ◌∷◌, Option, Some, None, Result, Ok, Err, Vec, refl, sym, ◌∙◌, ap, subst, inl, inr}
 use Rattle.std.specs.Global.{Global}
 use Rattle.ar_base.specs.Counts.{limit_of}
 use Rattle.ar_io.specs.Outside.{Told, MayBeLonger, IsFile}
-use Rattle.altarica_run.specs.Files.{File, Loaded, none, long, later, whole, Loads, this, next, script_files}
-use Rattle.altarica_run.specs.Loading.{AnswersFile, RefusesFiles, limited, not_read, AnswersFiles, script_texts}
+use Rattle.run_words.specs.Generator.{generated}
+use Rattle.run_words.specs.declared.jobs.Job.{Job}
+use Rattle.altarica_run.specs.Files.{File, Loaded, none, long, later, whole, Loads, this, next, script_files, files_where, IsText, first, made}
+use Rattle.altarica_run.specs.Jobs.{makes_model}
+use Rattle.altarica_run.specs.Loading.{AnswersFile, RefusesFiles, limited, not_read, AnswersFiles, AnswersTexts, AreTexts, script_texts, texts_of, texts_where}
 use Rattle.altarica_run.specs.Passing.{IsShort}
-use Rattle.ar_base.specs.declared.counts.Count.TheVariants.{ScriptBytes}
+use Rattle.ar_base.specs.declared.counts.Count.TheVariants.{ModelBytes, ScriptBytes}
+use Rattle.altarica_run.specs.declared.loading.Texts.{Texts}
 use Rattle.altarica_run.specs.declared.refusals.FileKind.{FileKind}
 use Rattle.altarica_run.specs.declared.refusals.FileKind.TheVariants.{Script}
 use Rattle.altarica_run.specs.declared.refusals.Refusal.{Refusal}
@@ -122,3 +126,40 @@ loaded_script told (Some n) (Some bytes) h =
 pub named : (name : Option (List ℕ)) (n word : List ℕ) → name ≡ Some n → word ≡ n
     → script_files name ≡ record { kind = Script; name = word; count = ScriptBytes } ∷ []
 named name n word e i = ap script_files e ∙ ap (λ (z : List ℕ). script_files (Some z)) (sym i)
+
+-- The texts of a job
+
+module _ (told : List ℕ → Told) (rose : List ℕ → Type 0) (job : Job) where
+  -- the model is made, and nothing is loaded
+  pub made_told : makes_model job.command ≡ true → job.script ≡ None → (t : Texts) → t.script ≡ None
+      → t.model.items ≡ generated job.number → length t.model.items ≤ limit_of ModelBytes
+      → AnswersTexts told rose job (Ok t)
+  made_told e no_name t no_script is short = record {
+    loaded = subst (λ (b : Bool). Loaded told (files_where b job) (Ok (texts_where b t))) (sym e)
+        (subst (λ (s : Option (List ℕ)). Loaded told (script_files s) (Ok (script_texts t.script))) (sym no_name)
+        (subst (λ (s : Option (Vec ℕ Global)). Loaded told [] (Ok (script_texts s))) (sym no_script) none));
+    is_text = subst (λ (z : List ℕ). IsText job (texts_of job t) z) (sym is) (made e);
+    short = short;
+  }
+
+  -- the files are loaded
+  pub files_told : makes_model job.command ≡ false → (r : Result Texts Stop)
+      → AnswersFiles (texts_where false) told rose (files_where false job) r → AnswersTexts told rose job r
+  files_told e (Ok t) h = record {
+    loaded = subst (λ (b : Bool). Loaded told (files_where b job) (Ok (texts_where b t))) (sym e) h;
+    is_text = subst (λ (b : Bool). IsText job (texts_where b t) t.model.items) (sym e) (first e);
+    short = (loaded_first told _ _ _ _ h).0.short;
+  }
+  files_told e (Err (Refused r)) h =
+      subst (λ (b : Bool). RefusesFiles told rose (files_where b job) r) (sym e) h
+  files_told e (Err Memory) h = tt
+
+  -- the script is loaded in both cases
+  pub script_loaded : (t : Texts) → AreTexts told job t
+      → Loaded told (script_files job.script) (Ok (script_texts t.script))
+  script_loaded t h = go (makes_model job.command) h.loaded
+    where
+      go : (b : Bool) → Loaded told (files_where b job) (Ok (texts_where b t))
+          → Loaded told (script_files job.script) (Ok (script_texts t.script))
+      go true l = l
+      go false l = (loaded_first told _ _ _ _ l).1

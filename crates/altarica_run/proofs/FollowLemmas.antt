@@ -6,7 +6,6 @@ use Rattle.ar_io.specs.Outside.{Told}
 use Rattle.ar_io.specs.Writing.{Cut}
 use Rattle.replayer.specs.Scripts.{Why, IsNoCommand, LacksWay, NamesNoEvent}
 use Rattle.replayer.specs.declared.replaying.End.TheVariants as end
-use Rattle.run_words.specs.Jobs.{needs_observer}
 use Rattle.run_words.specs.declared.jobs.Job.{Job}
 use Rattle.altarica_run.specs.Elaborates.{Elaborates, no_tokens, no_reading, too_deep, breaks, exceeds}
 use Rattle.altarica_run.specs.Files.{File, Loaded, long, later, files_of}
@@ -15,10 +14,10 @@ use Rattle.altarica_run.specs.Jobs.{IsBuiltJob, IsNoJob}
 use Rattle.altarica_run.specs.Refusals.{line_of, status_of}
 use Rattle.altarica_run.specs.Says.{Says, usage, refuses, tells, EndsSo}
 use Rattle.altarica_run.specs.Says as says
-use Rattle.altarica_run.specs.Stages.{Ready, bare, Passes, not_loaded, loaded, line_refused, Scripted, has_script, Drops, Wanting, Static, is_static, Tabled, has_table}
+use Rattle.altarica_run.specs.Stages.{Ready, bare, Passes, not_loaded, loaded, line_refused, Scripted, has_script, Drops, Wanting, Static, is_static, Tabled, has_table, observer_asked}
 use Rattle.altarica_run.specs.Stages as stages
 use Rattle.altarica_run.specs.Statuses.{IsTold, IsRefused, Meaning_of}
-use Rattle.altarica_run.specs.Tells.{Tells, check, flat, replay, fragment, equations, cuts, conflict, nodes}
+use Rattle.altarica_run.specs.Tells.{Tells, check, flat, replay, fragment, equations, cuts, make, conflict, nodes}
 use Rattle.altarica_run.specs.declared.refusals.Refusal.{Refusal}
 use Rattle.altarica_run.specs.declared.refusals.Refusal.TheVariants.{Usage, NotRead, Size, Syntax, Rule, NoCommand, NeedsWay, NoEvent, NoDropped, NoObserver, NoValue, Outside}
 use Rattle.altarica_run.specs.declared.status.Status.{Status}
@@ -88,7 +87,7 @@ of_stages files job r (loaded texts l t (then.passes x p (then.refuses (then.ref
 of_stages files job r (loaded texts l t (then.passes x p (then.refuses (then.passes w q (then.refuses h))))) =
     of_list job.dropped w r h
 of_stages files job r (loaded texts l t (then.passes x p (then.refuses (then.passes w q (then.passes v k h))))) =
-    of_observer (needs_observer job.command) job.observer job.value v r h
+    of_observer (has_table job.command) (observer_asked job) job.value v r h
 of_stages files job r (loaded texts l t (then.passes x p (then.passes w q (then.refuses h)))) =
     of_fragment (is_static job.command) w r h
 of_stages files job r (loaded texts l t (then.passes x p (then.passes w q (then.passes v k h)))) =
@@ -115,6 +114,7 @@ module _ (c : Call) where
   meant_tells job w text s is p (fragment e h) a = told job w text status.Done is p (fragment e h) a
   meant_tells job w text s is p (equations e i h) a = told job w text status.Done is p (equations e i h) a
   meant_tells job w text s is p (cuts e h) a = told job w text status.Done is p (cuts e h) a
+  meant_tells job w text s is p (make e h) a = told job w text status.Done is p (make e h) a
   meant_tells job w text s is p (conflict e h) a = told job w text status.Fault is p (conflict e h) a
   meant_tells job w text s is p (nodes e h) a = told job w text status.Nodes is p (nodes e h) a
 

@@ -1,5 +1,5 @@
 -- The dropped events and the forest of a job.
-use Rattle.std.proofs.Common.{◌≡◌, ◌⊎◌, ⊎_elim, ℕ, Bool, true, false, List, [], Option, Result, Ok, Err, Vec, map, refl, sym, ◌∙◌, ap, subst, arith}
+use Rattle.std.proofs.Common.{◌≡◌, ◌⊎◌, ⊎_elim, inl, inr, ℕ, Bool, true, false, List, [], Result, Ok, Err, Vec, map, refl, sym, ◌∙◌, ap, subst, arith}
 use Rattle.std.specs.Global.{Global}
 use Rattle.ar_base.specs.Lists.{IsOneOf}
 use Rattle.ar_base.specs.Numbers.{EventId}
@@ -24,15 +24,13 @@ use Rattle.mode_forests.specs.Views.{trees_of, number_in}
 use Rattle.mode_forests.specs.declared.forests.Forest.{Forest}
 use Rattle.mode_forests.specs.declared.forests.ModeTree.{ModeTree}
 use Rattle.replayer.specs.declared.commands.Command.{Command}
-use Rattle.run_words.specs.Jobs.{needs_observer}
 use Rattle.run_words.specs.declared.jobs.Job.{Job}
 use Rattle.run_words.specs.declared.verbs.Verb.{Verb}
 use Rattle.run_words.specs.declared.verbs.Verb.TheVariants.{Check, Flat, Replay, Fragment, Equations, Cuts, Make, Explain, CheckCuts, Modules}
 use Rattle.static_fragment.specs.Recognised.{IsRecognised, IsOutside, spot_of}
 use Rattle.static_fragment.specs.declared.faults.Spot as there
-use Rattle.wanted_values.specs.declared.wanting.Wanted.{Wanted}
 use Rattle.altarica_run.specs.Jobs.{verb_of}
-use Rattle.altarica_run.specs.Passing.{stop_told, IsStageOf, AreCommands, AreDropped, CanBeWritten, IsForestOf, HasForest, HasTable, IsThere, IsReady}
+use Rattle.altarica_run.specs.Passing.{stop_told, IsStageOf, AreCommands, AreDropped, CanBeWritten, IsForestOf, HasForest, HasTable, IsReady}
 use Rattle.altarica_run.specs.Spots.{path_in}
 use Rattle.altarica_run.specs.Stages.{Ready, is_static, Static, keeps, outside, spot_path, has_table, Tabled, fits, Demands}
 use Rattle.altarica_run.specs.declared.jobs.Task.{Task}
@@ -124,10 +122,13 @@ asks_none t h =
     (λ more. ⊎_elim (λ e. ap (λ (z : Task). is_static (verb_of z)) e) (λ e. ap (λ (z : Task). is_static (verb_of z)) e) more) h
 
 -- a command that asks for one
-pub asks_one : (t : Task) → (t ≡ task.Fragment) ⊎ ((t ≡ task.Equations) ⊎ (t ≡ task.Cuts)) → is_static (verb_of t) ≡ true
-asks_one t h =
-    ⊎_elim (λ e. ap (λ (z : Task). is_static (verb_of z)) e)
-    (λ more. ⊎_elim (λ e. ap (λ (z : Task). is_static (verb_of z)) e) (λ e. ap (λ (z : Task). is_static (verb_of z)) e) more) h
+pub asks_one : (t : Task)
+    → (t ≡ task.Fragment) ⊎ ((t ≡ task.Equations) ⊎ ((t ≡ task.Cuts) ⊎ (t ≡ task.Make)))
+    → is_static (verb_of t) ≡ true
+asks_one t (inl e) = ap (λ (z : Task). is_static (verb_of z)) e
+asks_one t (inr (inl e)) = ap (λ (z : Task). is_static (verb_of z)) e
+asks_one t (inr (inr (inl e))) = ap (λ (z : Task). is_static (verb_of z)) e
+asks_one t (inr (inr (inr e))) = ap (λ (z : Task). is_static (verb_of z)) e
 
 pub none_given : (t : Task) → is_static (verb_of t) ≡ false → (w : Ready) (p : GtsParts) (f : Forest) → f.trees.items ≡ []
     → (v : Ready) × Where (is_static (verb_of t)) Static w (Ok v) × HasForest (verb_of t) p v.dropped f
@@ -137,7 +138,7 @@ none_given t e w p f i = (
   record { written = none_written p f i; own = λ s. let k : true ≡ false = sym s ∙ e in absurd cc },
 )
 
--- a command that is about the gate table asks for a forest, and for an observer
+-- a command that is about the gate table asks for a forest
 table_static : (v : Verb) → has_table v ≡ true → is_static v ≡ true
 table_static Check e = e
 table_static Flat e = e
@@ -149,20 +150,6 @@ table_static Make e = refl
 table_static Explain e = e
 table_static CheckCuts e = refl
 table_static Modules e = refl
-
-task_table : (t : Task) → needs_observer (verb_of t) ≡ has_table (verb_of t)
-task_table task.Check = refl
-task_table task.Flat = refl
-task_table task.Replay = refl
-task_table task.Fragment = refl
-task_table task.Equations = refl
-task_table task.Cuts = refl
-
-pub table_there : (v : Verb) (t : Task) → v ≡ verb_of t → (given : Option Wanted) → IsThere (needs_observer v) given
-    → IsThere (has_table v) given
-table_there v t e given h =
-    let k : needs_observer v ≡ has_table v = ap needs_observer e ∙ task_table t ∙ ap has_table (sym e) in
-    subst (λ (b : Bool). IsThere b given) k h
 
 pub table_trees : (v : Verb) (p : GtsParts) (w : Ready) (f : Forest) → HasForest v p w.dropped f → has_table v ≡ true
     → IsForestOf p w.dropped f
@@ -213,10 +200,10 @@ module _ (job : Job) (w : Ready) (p : GtsParts) where
         → AreCommands p w.commands commands → (made : GateTable)
         → IsStageOf (HasTable job.command p f) (table w) (Ok made)
         → IsStageOf (IsReady job) (Demands job.command w)
-        (Ok (record { task = t; system = p; commands = commands; forest = f; table = made; nodes = job.nodes }))
+        (Ok (record { task = t; system = p; commands = commands; forest = f; table = made; nodes = job.nodes; number = job.number }))
     all_ready t e flat commands are made h =
         let u : h.0 ≡ w = same_tabled (has_table job.command) w h.0 h.1 in
-        let done : Prepared = record { task = t; system = p; commands = commands; forest = f; table = made; nodes = job.nodes } in
+        let done : Prepared = record { task = t; system = p; commands = commands; forest = f; table = made; nodes = job.nodes; number = job.number } in
         let is : IsReady job w done = record {
           command = e;
           flat = flat;
@@ -224,6 +211,7 @@ module _ (job : Job) (w : Ready) (p : GtsParts) where
           forest = forest_here;
           table = subst (λ (z : Ready). HasTable job.command p f z made) u h.2;
           nodes = refl;
+          number = refl;
         } in
         let passed : table w (Ok w) = subst (λ (z : Ready). table w (Ok z)) u h.1 in
         stage_passes stop_told trees table w has_trees (IsReady job) w (Ok done) passes_trees (w, passed, is)

@@ -1,12 +1,13 @@
 -- Words that give a job whose command is built, and words that give none.
 use Rattle.std.proofs.Common.{◌≡◌, ◌≤◌, ℕ, true, false, List, Option, Some, None, Result, Err, refl, sym, ◌∙◌, ap, subst, arith}
-use Rattle.run_words.specs.Jobs.{IsJob, IsNodes}
+use Rattle.run_words.specs.Jobs.{IsJob, IsJobOf, IsNodes, NamesFiles, form_of}
+use Rattle.run_words.specs.Lines.{Line}
 use Rattle.run_words.specs.declared.jobs.Job.{Job}
 use Rattle.run_words.specs.declared.jobs.JobFault.{JobFault}
 use Rattle.run_words.specs.declared.jobs.JobFault.TheVariants as words
 use Rattle.run_words.specs.declared.verbs.Verb.{Verb}
 use Rattle.run_words.specs.declared.verbs.Verb.TheVariants.{Check, Flat, Replay, Fragment, Equations, Cuts, Make, Explain, CheckCuts, Modules}
-use Rattle.altarica_run.specs.Jobs.{is_built, IsBuiltJob, IsNoJob, verb_of, AnswersJob}
+use Rattle.altarica_run.specs.Jobs.{is_built, IsBuiltJob, IsNoJob, makes_model, verb_of, AnswersJob}
 use Rattle.altarica_run.specs.Passing.{stop_of_words}
 use Rattle.altarica_run.specs.declared.jobs.Asked.{Asked}
 use Rattle.altarica_run.specs.declared.jobs.Task.{Task}
@@ -32,6 +33,7 @@ task_built task.Replay = refl
 task_built task.Fragment = refl
 task_built task.Equations = refl
 task_built task.Cuts = refl
+task_built task.Make = refl
 
 pub command_built : (v : Verb) (t : Task) → v ≡ verb_of t → is_built v ≡ true
 command_built v t e = ap is_built e ∙ task_built t
@@ -59,3 +61,32 @@ few_given v (Some text) n h = h.1.at_most
 
 pub few_nodes : (ws : List (List ℕ)) (job : Job) → IsBuiltJob ws job → job.nodes ≤ 16777216
 few_nodes ws job b = few_given job.command _ job.nodes b.is_job.job_of.nodes
+
+-- a command that makes its model
+pub makes : (v : Verb) → makes_model v ≡ true → v ≡ Make
+makes Check e = let k : false ≡ true = e in absurd cc
+makes Flat e = let k : false ≡ true = e in absurd cc
+makes Replay e = let k : false ≡ true = e in absurd cc
+makes Fragment e = let k : false ≡ true = e in absurd cc
+makes Equations e = let k : false ≡ true = e in absurd cc
+makes Cuts e = let k : false ≡ true = e in absurd cc
+makes Make e = refl
+makes Explain e = let k : false ≡ true = e in absurd cc
+makes CheckCuts e = let k : false ≡ true = e in absurd cc
+makes Modules e = let k : false ≡ true = e in absurd cc
+
+-- the words of such a command have a number from 1 to 200 and no script
+pub record IsMade (job : Job) : Type 0 where
+  pub at_least : 1 ≤ job.number
+  pub at_most : job.number ≤ 200
+  pub script : job.script ≡ None
+
+made_line : (line : Line) (job : Job) → IsJobOf line job → makes_model job.command ≡ true → IsMade job
+made_line line job of e =
+    let f =
+    subst (λ (v : Verb). NamesFiles (form_of v) line.files job.model job.script job.number) (makes job.command e)
+    of.files in
+    record { at_least = f.0.2.at_least; at_most = f.0.2.at_most; script = f.2 }
+
+pub made_job : (ws : List (List ℕ)) (job : Job) → IsBuiltJob ws job → makes_model job.command ≡ true → IsMade job
+made_job ws job b e = made_line _ job b.is_job.job_of e

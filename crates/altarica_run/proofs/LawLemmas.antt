@@ -4,19 +4,22 @@ use Rattle.ar_base.specs.Counts.{limit_of}
 use Rattle.ar_base.specs.declared.counts.Count.TheVariants.{ModelBytes, ScriptBytes}
 use Rattle.ar_io.specs.Outside.{Told, Bytes, Absent, Untold, MayBeLonger, IsFile}
 use Rattle.run_words.specs.declared.jobs.Job.{Job}
-use Rattle.altarica_run.specs.Files.{File, model_file, script_files, files_of, Loaded, none, long, later, whole, Loads, this, next}
+use Rattle.altarica_run.specs.Files.{File, model_file, script_files, files_where, files_of, Loaded, none, long, later, whole, Loads, this, next}
 use Rattle.altarica_run.specs.Follows.{Call, Gave, IsKnown, IsQuiet, Wrote, RoseAt, SinkRose}
-use Rattle.altarica_run.specs.Jobs.{IsBuiltJob}
+use Rattle.altarica_run.specs.Jobs.{IsBuiltJob, makes_model}
 use Rattle.altarica_run.specs.Refusals.{line_of, status_of}
 use Rattle.altarica_run.specs.Says.{Says, usage, refuses, tells, EndsSo}
 use Rattle.altarica_run.specs.Says as says
 use Rattle.altarica_run.specs.Stages.{Ready, Passes, not_loaded, loaded}
+use Rattle.altarica_run.specs.Statuses.{Meaning_of}
 use Rattle.altarica_run.specs.declared.refusals.FileKind.{FileKind}
 use Rattle.altarica_run.specs.declared.refusals.FileKind.TheVariants.{Model}
 use Rattle.altarica_run.specs.declared.refusals.Refusal.{Refusal}
 use Rattle.altarica_run.specs.declared.refusals.Refusal.TheVariants.{NotRead, Size}
 use Rattle.altarica_run.specs.declared.status.Status.{Status}
 use Rattle.altarica_run.specs.declared.status.Status.TheVariants as status
+use Rattle.altarica_run.proofs.FollowLemmas.{meaning_of}
+use Rattle.altarica_run.proofs.JobLemmas.{made_job}
 
 -- Files
 
@@ -70,8 +73,13 @@ module _ (told : List ℕ → Told) (known : (name : List ℕ) → IsKnown (told
 
 -- Models that are too long
 
-module _ (files : List ℕ → Told) (job : Job) (text : List ℕ) (is : files job.model ≡ Bytes text)
-    (over : limit_of ModelBytes < length text) where
+-- the files of a job whose model is one
+model_first : (files : List ℕ → Told) (job : Job) → makes_model job.command ≡ false → (x : Result (List (List ℕ)) Refusal)
+    → Loaded files (files_of job) x → Loaded files (files_where false job) x
+model_first files job e x h = subst (λ (b : Bool). Loaded files (files_where b job) x) e h
+
+module _ (files : List ℕ → Told) (job : Job) (loads : makes_model job.command ≡ false) (text : List ℕ)
+    (is : files job.model ≡ Bytes text) (over : limit_of ModelBytes < length text) where
   no_file : (other : List ℕ) → IsFile (files job.model) (limit_of ModelBytes) other → ⊥
   no_file other h =
       apart (Bytes text) (limit_of ModelBytes) other tt
@@ -85,8 +93,8 @@ module _ (files : List ℕ → Told) (job : Job) (text : List ℕ) (is : files j
   over_loaded fs texts (whole other h k) = no_file other h
 
   pub over_passes : (x : Result Ready Refusal) → Passes files job x → x ≡ Err (Size ModelBytes)
-  over_passes x (not_loaded {r = r} h) = ap Err (over_refused _ r h)
-  over_passes x (loaded texts h t s) = absurd (over_loaded _ texts h)
+  over_passes x (not_loaded {r = r} h) = ap Err (over_refused _ r (model_first files job loads (Err r) h))
+  over_passes x (loaded texts h t s) = absurd (over_loaded _ texts (model_first files job loads (Ok texts) h))
 
 -- Scripts that are too long
 
@@ -108,9 +116,10 @@ module _ (files : List ℕ → Told) (name script : List ℕ) (is : files name �
       let i : n ≡ name = cc in absurd
       (no_script other (subst (λ (z : List ℕ). IsFile (files z) (limit_of ScriptBytes) other) i h))
 
-  module _ (job : Job) (named : job.script ≡ Some name) (model : List ℕ) (held : files job.model ≡ Bytes model)
-      (short : length model ≤ limit_of ModelBytes) where
-    files_refused : (x : Result (List (List ℕ)) Refusal) → Loaded files (files_of job) x → x ≡ Err (Size ScriptBytes)
+  module _ (job : Job) (loads : makes_model job.command ≡ false) (named : job.script ≡ Some name) (model : List ℕ)
+      (held : files job.model ≡ Bytes model) (short : length model ≤ limit_of ModelBytes) where
+    files_refused : (x : Result (List (List ℕ)) Refusal) → Loaded files (files_where false job) x
+        → x ≡ Err (Size ScriptBytes)
     files_refused x (long h) =
         absurd
         (apart (Bytes model) (limit_of ModelBytes) model tt (record { held = refl; short = short }) (subst (λ (t : Told). MayBeLonger t (limit_of ModelBytes)) held h))
@@ -120,8 +129,8 @@ module _ (files : List ℕ → Told) (name script : List ℕ) (is : files name �
 
     pub script_over : (x : Result Ready Refusal) → Passes files job x → x ≡ Err (Size ScriptBytes)
     script_over x (not_loaded {r = r} h) =
-        let i : r ≡ Size ScriptBytes = ap (refusal_or r) (files_refused (Err r) h) in ap Err i
-    script_over x (loaded texts h t s) = not_ok _ _ (sym (files_refused (Ok texts) h))
+        let i : r ≡ Size ScriptBytes = ap (refusal_or r) (files_refused (Err r) (model_first files job loads (Err r) h)) in ap Err i
+    script_over x (loaded texts h t s) = not_ok _ _ (sym (files_refused (Ok texts) (model_first files job loads (Ok texts) h)))
 
 module _ (c : Call) (job : Job) (one : (a b : Job) → IsBuiltJob c.words a → IsBuiltJob c.words b → a ≡ b)
     (is : IsBuiltJob c.words job) where
@@ -129,11 +138,12 @@ module _ (c : Call) (job : Job) (one : (a b : Job) → IsBuiltJob c.words a → 
   same_job : (other : Job) → IsBuiltJob c.words other → (P : Job → Type 0) → P other → P job
   same_job other at P h = subst P (one other job at is) h
 
-  module _ (text : List ℕ) (told : c.files job.model ≡ Bytes text) (over : limit_of ModelBytes < length text) where
+  module _ (loads : makes_model job.command ≡ false) (text : List ℕ) (told : c.files job.model ≡ Bytes text)
+      (over : limit_of ModelBytes < length text) where
     refused_over : (r : Refusal) → Passes c.files job (Err r) → Wrote c (line_of r)
         → (status_of r ≡ status.Size) × Wrote c (line_of (Size ModelBytes))
     refused_over r p a =
-        let e : r ≡ Size ModelBytes = ap (refusal_or r) (over_passes c.files job text told over (Err r) p) in
+        let e : r ≡ Size ModelBytes = ap (refusal_or r) (over_passes c.files job loads text told over (Err r) p) in
         (ap status_of e, subst (λ (z : Refusal). Wrote c (line_of z)) e a)
 
     over_said : (said : List ℕ) (s : Status) → Says c.files c.words said s → Wrote c said
@@ -142,7 +152,7 @@ module _ (c : Call) (job : Job) (one : (a b : Job) → IsBuiltJob c.words a → 
     over_said said s (refuses other r at p) a = refused_over r (same_job other at (λ j. Passes c.files j (Err r)) p) a
     over_said said s (tells other w at p t) a =
         not_ok _ _
-        (sym (over_passes c.files job text told over (Ok w) (same_job other at (λ j. Passes c.files j (Ok w)) p)))
+        (sym (over_passes c.files job loads text told over (Ok w) (same_job other at (λ j. Passes c.files j (Ok w)) p)))
 
     module _ (quiet : IsQuiet c) where
       over_ends : (s : Status) → EndsSo c.files (RoseAt c) c.words c.old c.new (SinkRose c) s
@@ -158,7 +168,7 @@ module _ (c : Call) (job : Job) (one : (a b : Job) → IsBuiltJob c.words a → 
 
   -- Models that are absent
 
-  module _ (absent : c.files job.model ≡ Absent) where
+  module _ (loads : makes_model job.command ≡ false) (absent : c.files job.model ≡ Absent) where
     not_held : (other : List ℕ) → IsFile (c.files job.model) (limit_of ModelBytes) other → ⊥
     not_held other h = let f = subst (λ (t : Told). IsFile t (limit_of ModelBytes) other) absent h in f.held
 
@@ -169,8 +179,8 @@ module _ (c : Call) (job : Job) (one : (a b : Job) → IsBuiltJob c.words a → 
     no_loading fs x (whole other h k) = not_held other h
 
     no_passing : (x : Result Ready Refusal) → Passes c.files job x → ⊥
-    no_passing x (not_loaded h) = no_loading _ _ h
-    no_passing x (loaded texts h t s) = no_loading _ _ h
+    no_passing x (not_loaded {r = r} h) = no_loading _ _ (model_first c.files job loads (Err r) h)
+    no_passing x (loaded texts h t s) = no_loading _ _ (model_first c.files job loads (Ok texts) h)
 
     absent_said : (said : List ℕ) (s : Status) → Says c.files c.words said s → ⊥
     absent_said said s (usage never) = never job is
@@ -188,7 +198,8 @@ module _ (c : Call) (job : Job) (one : (a b : Job) → IsBuiltJob c.words a → 
         → ((s ≡ status.Read) × RoseAt c job.model × Wrote c (line_of (NotRead Model))) ⊎ (SinkRose c ⊎ (s ≡ status.Memory))
     absent_ends s (says.says {text = said} h a) = absurd (absent_said said s h)
     absent_ends s (says.not_read {kind} {name} other at l r a) =
-        let m = model_asked _ kind name (same_job other at (λ j. Loads c.files (files_of j) kind name) l) r a in
+        let asked = same_job other at (λ j. Loads c.files (files_of j) kind name) l in
+        let m = model_asked _ kind name (subst (λ (b : Bool). Loads c.files (files_where b job) kind name) loads asked) r a in
         inl (refl, m.0, m.1)
     absent_ends s (says.not_written b r h) = inr (inl r)
     absent_ends s (says.no_memory b h) = inr (inr refl)
@@ -196,3 +207,21 @@ module _ (c : Call) (job : Job) (one : (a b : Job) → IsBuiltJob c.words a → 
     pub absent_of : (s : Status) → Gave c s
         → ((s ≡ status.Read) × RoseAt c job.model × Wrote c (line_of (NotRead Model))) ⊎ (SinkRose c ⊎ (s ≡ status.Memory))
     absent_of s g = absent_ends s g.ends
+
+  -- Models that are made
+
+  module _ (made : makes_model job.command ≡ true) where
+    nothing_loaded : (s : Option (List ℕ)) → s ≡ None → (kind : FileKind) (name : List ℕ)
+        → Loads c.files (script_files s) kind name → ⊥
+    nothing_loaded None e kind name h = elim h [ ]
+    nothing_loaded (Some n) e kind name h = cc
+
+    not_asked : (kind : FileKind) (name : List ℕ) → Loads c.files (files_of job) kind name → ⊥
+    not_asked kind name h =
+        nothing_loaded job.script (made_job c.words job is made).script kind name
+        (subst (λ (b : Bool). Loads c.files (files_where b job) kind name) made h)
+
+    pub never_read : (s : Status) → Gave c s → s ≡ status.Read → ⊥
+    never_read s g e =
+        let m = subst (Meaning_of c) e (meaning_of c s g) in
+        not_asked m.kind m.name (same_job m.job m.is_job (λ j. Loads c.files (files_of j) m.kind m.name) m.loads)

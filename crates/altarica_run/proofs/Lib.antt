@@ -10,3 +10,4 @@ pub mod CutLemmas
 pub mod EndLemmas
 pub mod FollowLemmas
 pub mod LawLemmas
+mod ListingLemmas

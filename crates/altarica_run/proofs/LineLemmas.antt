@@ -1,7 +1,8 @@
 -- Lines in pieces.
-use Rattle.std.proofs.Common.{◌≡◌, ℕ, List, [], ◌∷◌, ◌++◌, codes, decimal, append_assoc, sym, ◌∙◌, ap}
+use Rattle.std.proofs.Common.{◌≡◌, ℕ, List, [], ◌∷◌, ◌++◌, codes, decimal, length, append_assoc, sym, ◌∙◌, ap}
 use Rattle.ar_base.specs.Texts.{line}
-use Rattle.altarica_run.specs.Tells.{counts_line}
+use Rattle.gts_core.specs.declared.system.GtsParts.{GtsParts}
+use Rattle.altarica_run.specs.Tells.{counts_line, make_lines}
 
 -- a piece before the rest of its line
 line_after : (a t rest : List ℕ) → rest ≡ line t → a ++ rest ≡ line (a ++ t)
@@ -37,3 +38,22 @@ pub counts_same : {u v e o m n k l : ℕ} → u ≡ m → v ≡ n → e ≡ k �
 counts_same {u = u} {v = v} {e = e} {n = n} {k = k} {l = l} h i j q =
     ap (λ (z : ℕ). counts_line u v e z) q ∙ ap (λ (z : ℕ). counts_line u v z l) j ∙ ap
     (λ (z : ℕ). counts_line u z k l) i ∙ ap (λ (z : ℕ). counts_line z n k l) h
+
+pub made_same : {n u e m v f : ℕ} → n ≡ m → u ≡ v → e ≡ f → (k l : ℕ) → make_lines n u e k l ≡ make_lines m v f k l
+made_same {u = u} {e = e} {m = m} {v = v} h i j k l =
+    ap (λ (z : ℕ). make_lines z u e k l) h ∙ ap (λ (z : ℕ). make_lines m z e k l) i ∙ ap
+    (λ (z : ℕ). make_lines m v z k l) j
+
+-- the lines of `make`, by the parts of a system
+pub made_text : {p q : GtsParts} → p ≡ q → (n : ℕ) → {k l m o : ℕ} → k ≡ m → l ≡ o
+    → make_lines n (length p.units.items) (length p.events.items) k l
+    ≡ make_lines n (length q.units.items) (length q.events.items) m o
+made_text {p = p} {q = q} e n {k = k} {l = l} {m = m} i j =
+    ap (λ (z : GtsParts). make_lines n (length z.units.items) (length z.events.items) k l) e
+    ∙ ap (λ (z : ℕ). make_lines n (length q.units.items) (length q.events.items) z l) i
+    ∙ ap (λ (z : ℕ). make_lines n (length q.units.items) (length q.events.items) m z) j
+
+-- the lines of `make`, by numbers as they are passed
+pub made_put : {n u e l m v f o : ℕ} (k : ℕ) → n ≡ m → u ≡ v → e ≡ f → l ≡ o
+    → make_lines n u e k l ≡ make_lines m v f k o
+made_put {l = l} {m = m} {v = v} {f = f} k h i j q = made_same h i j k l ∙ ap (λ (z : ℕ). make_lines m v f k z) q

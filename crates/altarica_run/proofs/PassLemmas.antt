@@ -1,5 +1,5 @@
 -- The stages of a job, as their calls answer.
-use Rattle.std.proofs.Common.{◌≡◌, ℕ, Bool, true, false, List, [], ◌∷◌, Option, Some, None, Result, Ok, Err, Vec, map, refl, sym, ◌∙◌, ap, subst}
+use Rattle.std.proofs.Common.{◌≡◌, ℕ, Bool, true, false, List, [], ◌∷◌, Option, Some, None, Result, Ok, Err, Vec, map, codes, refl, sym, ◌∙◌, ap, subst}
 use Rattle.std.specs.Global.{Global}
 use Rattle.ar_base.specs.Numbers.{EventId}
 use Rattle.ar_base.specs.Stages.{IsRefusal, Where}
@@ -18,21 +18,22 @@ use Rattle.replayer.specs.declared.commands.Command.{Command}
 use Rattle.replayer.specs.declared.commands.Command.TheVariants.{Fire}
 use Rattle.replayer.specs.declared.commands.ScriptFault.{ScriptFault}
 use Rattle.replayer.specs.declared.commands.ScriptFault.TheVariants as script
-use Rattle.run_words.specs.Jobs.{NamesFiles, form_of, IsJobOf, OptionsFit, needs_observer}
+use Rattle.run_words.specs.Jobs.{NamesFiles, form_of, IsJobOf, OptionsFit}
 use Rattle.run_words.specs.Lines.{Line}
 use Rattle.run_words.specs.declared.jobs.Job.{Job}
 use Rattle.run_words.specs.declared.verbs.Verb.{Verb}
-use Rattle.altarica_run.specs.Files.{files_of, first}
-use Rattle.altarica_run.specs.Jobs.{IsBuiltJob, AnswersJob, verb_of}
-use Rattle.altarica_run.specs.Loading.{RefusesFiles, AnswersFiles, texts_of, script_texts}
+use Rattle.run_words.specs.declared.verbs.Verb.TheVariants.{Check, Flat, Replay, Fragment, Equations, Cuts, Make, Explain, CheckCuts, Modules}
+use Rattle.altarica_run.specs.Files.{files_of}
+use Rattle.altarica_run.specs.Jobs.{IsBuiltJob, AnswersJob, makes_model, verb_of}
+use Rattle.altarica_run.specs.Loading.{RefusesFiles, AnswersTexts, AreTexts, texts_of, texts_where, script_texts}
 use Rattle.altarica_run.specs.Loading as loading
 use Rattle.wanted_values.specs.Answers.{AnswersWanted}
 use Rattle.wanted_values.specs.declared.wanting.Wanted.{Wanted}
 use Rattle.wanted_values.specs.declared.wanting.WantedFault.{WantedFault}
 use Rattle.wanted_values.specs.declared.wanting.WantedFault.TheVariants as wanted
 use Rattle.altarica_run.specs.Passing as passing
-use Rattle.altarica_run.specs.Passing.{stop_of_wanted, stop_of_script, stop_of_list, stop_told, IsStageOf, AreCommands, ReadsScript, no_script, gives, bad, IsThere, ReadsList, no_list, names, names_none, AreDropped, ReadsWanted, AreWanted, IsRequested, IsReady, RefusesWords, no_job, stage, not_read, AnswersWords}
-use Rattle.altarica_run.specs.Stages.{Ready, bare, has_script, line_refused, Scripted, Drops, Wanting, Asks, Stages, Passes, not_loaded, loaded}
+use Rattle.altarica_run.specs.Passing.{stop_of_wanted, stop_of_script, stop_of_list, stop_told, IsStageOf, AreCommands, ReadsScript, no_script, gives, bad, IsSecond, IsThere, ReadsList, no_list, names, names_none, AreDropped, ReadsWanted, AreWanted, IsRequested, IsReady, RefusesWords, no_job, stage, not_read, AnswersWords}
+use Rattle.altarica_run.specs.Stages.{Ready, bare, has_script, has_table, line_refused, path_asked, observer_asked, Scripted, Drops, Wanting, Asks, Stages, Passes, not_loaded, loaded}
 use Rattle.altarica_run.specs.Stages as stages
 use Rattle.altarica_run.specs.declared.jobs.Task.{Task}
 use Rattle.altarica_run.specs.declared.jobs.Task.TheVariants as task
@@ -73,21 +74,20 @@ abbrev with_commands : Elaborated → List runs.Command → Ready
 with_commands x cs = record { source = x; commands = cs; dropped = []; wanted = None }
 
 -- the commands of the script are what the command asks, where there is a script exactly where it asks for one
-asks_bad : (b : Bool) (model : List ℕ) (s : Option (Vec ℕ Global)) (x : Elaborated) (r : Refusal) → IsThere b s
-    → ReadsScript s x (Err r) → Where b (Scripted (model ∷ script_texts s)) (bare x) (Err r)
-asks_bad true model s x r there (bad bytes i h) =
-    stages.bad (ap (λ (z : Option (Vec ℕ Global)). model ∷ script_texts z) i) h
-asks_bad false model s x r there (bad bytes i h) = let k : None ≡ Some bytes = sym there ∙ i in cc
+asks_bad : (b : Bool) (texts : List (List ℕ)) (s : Option (Vec ℕ Global)) (x : Elaborated) (r : Refusal)
+    → IsSecond b texts s → IsThere b s → ReadsScript s x (Err r) → Where b (Scripted texts) (bare x) (Err r)
+asks_bad true texts s x r second there (bad bytes i h) =
+    stages.bad (second.1 ∙ ap (λ (z : Option (Vec ℕ Global)). second.0 ∷ script_texts z) i) h
+asks_bad false texts s x r second there (bad bytes i h) = let k : None ≡ Some bytes = sym there ∙ i in cc
 
-asks_good : (b : Bool) (model : List ℕ) (s : Option (Vec ℕ Global)) (x : Elaborated) (cs : List runs.Command)
-    → IsThere b s
-    → ReadsScript s x (Ok cs)
-    → Where b (Scripted (model ∷ script_texts s)) (bare x) (Ok (with_commands x cs))
-asks_good true model s x cs there (no_script i) = let k : None ≡ Some there.0 = sym i ∙ there.1 in cc
-asks_good true model s x cs there (gives bytes i h) =
-    stages.gives (ap (λ (z : Option (Vec ℕ Global)). model ∷ script_texts z) i) h
-asks_good false model s x cs there (no_script i) = refl
-asks_good false model s x cs there (gives bytes i h) = let k : None ≡ Some bytes = sym there ∙ i in cc
+asks_good : (b : Bool) (texts : List (List ℕ)) (s : Option (Vec ℕ Global)) (x : Elaborated) (cs : List runs.Command)
+    → IsSecond b texts s → IsThere b s → ReadsScript s x (Ok cs)
+    → Where b (Scripted texts) (bare x) (Ok (with_commands x cs))
+asks_good true texts s x cs second there (no_script i) = let k : None ≡ Some there.0 = sym i ∙ there.1 in cc
+asks_good true texts s x cs second there (gives bytes i h) =
+    stages.gives (second.1 ∙ ap (λ (z : Option (Vec ℕ Global)). second.0 ∷ script_texts z) i) h
+asks_good false texts s x cs second there (no_script i) = refl
+asks_good false texts s x cs second there (gives bytes i h) = let k : None ≡ Some bytes = sym there ∙ i in cc
 
 -- the events of the list are those that are dropped
 drops_bad : (list : Option (List ℕ)) (x : Elaborated) (cs : List runs.Command) (r : Refusal) → ReadsList list x (Err r)
@@ -126,10 +126,11 @@ wants_good false observer word w given e there (passing.wants {path = path} i h)
     let k : None ≡ Some path = sym there ∙ i in cc
 
 -- the script, the list and the observer are asked for by the job
-module _ (job : Job) (model : List ℕ) (x : Elaborated) (p : GtsParts) (s : Option (Vec ℕ Global))
-    (there : IsThere (has_script job.command) s) (seen : IsThere (needs_observer job.command) job.observer) where
+module _ (job : Job) (texts : List (List ℕ)) (x : Elaborated) (p : GtsParts) (s : Option (Vec ℕ Global))
+    (second : IsSecond (has_script job.command) texts s) (there : IsThere (has_script job.command) s)
+    (seen : IsThere (has_table job.command) (observer_asked job)) where
   abbrev asks : Result Ready Refusal → Type 0
-  asks = Asks job (model ∷ script_texts s) x
+  asks = Asks job texts x
 
   abbrev stands : Ready → Request → Type 0
   stands = IsRequested job.command x p
@@ -139,12 +140,12 @@ module _ (job : Job) (model : List ℕ) (x : Elaborated) (p : GtsParts) (s : Opt
   script_refused r d e i j h = subst (λ (z : Result Request Stop). IsStageOf stands asks z) (sym (i ∙ ap Err j)) (go e h)
     where
       go : (e : Stop) → IsRefusal (ReadsScript s x) (stop_told e) → IsStageOf {X = Request} stands asks (Err e)
-      go (Refused r) h = then.refuses (asks_bad (has_script job.command) model s x r there h)
+      go (Refused r) h = then.refuses (asks_bad (has_script job.command) texts s x r second there h)
       go Memory h = tt
 
   module _ (cs : List runs.Command) (given : ReadsScript s x (Ok cs)) where
-    script_passed : Where (has_script job.command) (Scripted (model ∷ script_texts s)) (bare x) (Ok (with_commands x cs))
-    script_passed = asks_good (has_script job.command) model s x cs there given
+    script_passed : Where (has_script job.command) (Scripted texts) (bare x) (Ok (with_commands x cs))
+    script_passed = asks_good (has_script job.command) texts s x cs second there given
 
     pub list_refused : (r : Result Request Stop) (d e : Stop) → r ≡ Err d → d ≡ e
         → IsRefusal (ReadsList job.dropped x) (stop_told e) → IsStageOf stands asks r
@@ -159,23 +160,23 @@ module _ (job : Job) (model : List ℕ) (x : Elaborated) (p : GtsParts) (s : Opt
 
     module _ (events : List ℕ) (named : ReadsList job.dropped x (Ok events)) where
       pub wanted_refused : (r : Result Request Stop) (d e : Stop) → r ≡ Err d → d ≡ e
-          → IsRefusal (ReadsWanted job.observer job.value x) (stop_told e) → IsStageOf stands asks r
+          → IsRefusal (ReadsWanted (observer_asked job) job.value x) (stop_told e) → IsStageOf stands asks r
       wanted_refused r d e i j h =
           subst (λ (z : Result Request Stop). IsStageOf stands asks z) (sym (i ∙ ap Err j)) (go e h)
         where
-          go : (e : Stop) → IsRefusal (ReadsWanted job.observer job.value x) (stop_told e)
+          go : (e : Stop) → IsRefusal (ReadsWanted (observer_asked job) job.value x) (stop_told e)
               → IsStageOf {X = Request} stands asks (Err e)
           go (Refused r) h =
               then.passes (with_commands x cs) script_passed
               (then.passes (with_dropped x cs events) (drops_good job.dropped x cs events named)
-              (wants_bad (needs_observer job.command) job.observer job.value (with_dropped x cs events) r seen h))
+              (wants_bad (has_table job.command) (observer_asked job) job.value (with_dropped x cs events) r seen h))
           go Memory h = tt
 
-      pub all_given : (request : Request) (wanted : Option Wanted) → ReadsWanted job.observer job.value x (Ok wanted)
+      pub all_given : (request : Request) (wanted : Option Wanted) → ReadsWanted (observer_asked job) job.value x (Ok wanted)
           → AreCommands p cs request.commands → AreDropped p events request.dropped.items
           → AreWanted p wanted request.wanted → IsStageOf stands asks (Ok request)
       all_given request wanted h are drops wants =
-          let k = wants_good (needs_observer job.command) job.observer job.value (with_dropped x cs events) wanted refl seen h in (
+          let k = wants_good (has_table job.command) (observer_asked job) job.value (with_dropped x cs events) wanted refl seen h in (
             record { source = x; commands = cs; dropped = events; wanted = wanted },
             then.passes (with_commands x cs) script_passed
                 (then.passes (with_dropped x cs events) (drops_good job.dropped x cs events named) k.0),
@@ -184,7 +185,7 @@ module _ (job : Job) (model : List ℕ) (x : Elaborated) (p : GtsParts) (s : Opt
               commands = are;
               dropped = drops;
               wanted = wants;
-              there = subst (λ (z : Option Wanted). IsThere (needs_observer job.command) z) wants.are k.1;
+              there = subst (λ (z : Option Wanted). IsThere (has_table job.command) z) wants.are k.1;
             },
           )
 
@@ -248,6 +249,7 @@ task_asks task.Replay files model name n s f l = l.some f.0.0 f.0.2
 task_asks task.Fragment files model name n s f l = l.none f.1
 task_asks task.Equations files model name n s f l = l.none f.1
 task_asks task.Cuts files model name n s f l = l.none f.1
+task_asks task.Make files model name n s f l = l.none f.2
 
 command_asks : (v : Verb) (t : Task) → v ≡ verb_of t
     → (files : List (List ℕ)) (model : List ℕ) (name : Option (List ℕ)) (n : ℕ) (s : Option (Vec ℕ Global))
@@ -271,29 +273,44 @@ observer_given : (o : Option (List ℕ)) → (o ≡ None → ⊥) → IsThere tr
 observer_given None h = absurd (h refl)
 observer_given (Some a) h = (a, refl)
 
-task_sees : (t : Task) (line : Line) → OptionsFit (verb_of t) line → IsThere (needs_observer (verb_of t)) line.observer
+task_sees : (t : Task) (line : Line) → OptionsFit (verb_of t) line
+    → IsThere (has_table (verb_of t)) (path_asked (verb_of t) line.observer)
 task_sees task.Check line f = f.observer
 task_sees task.Flat line f = f.observer
 task_sees task.Replay line f = f.observer
 task_sees task.Fragment line f = f.observer
 task_sees task.Equations line f = observer_given line.observer (f.observer_needed refl)
 task_sees task.Cuts line f = observer_given line.observer (f.observer_needed refl)
+task_sees task.Make line f = (codes "lost", refl)
 
 command_sees : (v : Verb) (t : Task) → v ≡ verb_of t → (line : Line) → OptionsFit v line
-    → IsThere (needs_observer v) line.observer
+    → IsThere (has_table v) (path_asked v line.observer)
 command_sees v t e line f =
-    subst (λ (z : Verb). IsThere (needs_observer z) line.observer) (sym e)
+    subst (λ (z : Verb). IsThere (has_table z) (path_asked z line.observer)) (sym e)
     (task_sees t line (subst (λ (z : Verb). OptionsFit z line) e f))
 
 line_sees : (line : Line) (job : Job) (t : Task) → IsJobOf line job → job.command ≡ verb_of t
-    → IsThere (needs_observer job.command) job.observer
+    → IsThere (has_table job.command) (observer_asked job)
 line_sees line job t of e =
-    subst (λ (z : Option (List ℕ)). IsThere (needs_observer job.command) z) (sym of.observer)
+    subst (λ (z : Option (List ℕ)). IsThere (has_table job.command) (path_asked job.command z)) (sym of.observer)
     (command_sees job.command t e line of.options)
 
 pub observer_there : (words : List (List ℕ)) (job : Job) (t : Task) → IsBuiltJob words job → job.command ≡ verb_of t
-    → IsThere (needs_observer job.command) job.observer
+    → IsThere (has_table job.command) (observer_asked job)
 observer_there words job t b e = line_sees _ job t b.is_job.job_of e
+
+-- a script that a command reads is the second of the texts
+pub second_of : (v : Verb) (t : Texts) → IsSecond (has_script v) (texts_where (makes_model v) t) t.script
+second_of Check t = tt
+second_of Flat t = tt
+second_of Replay t = (t.model.items, refl)
+second_of Fragment t = tt
+second_of Equations t = tt
+second_of Cuts t = tt
+second_of Make t = tt
+second_of Explain t = tt
+second_of CheckCuts t = tt
+second_of Modules t = tt
 
 -- The words
 
@@ -312,23 +329,22 @@ module _ (files : List ℕ → Told) (rose : List ℕ → Type 0) (words : List 
 
   module _ (job : Job) (is : IsBuiltJob words job) where
     pub files_stop : (r : Result Prepared Stop) (d e : Stop) → r ≡ Err d → d ≡ e
-        → AnswersFiles texts_of files rose (files_of job) (Err e) → AnswersWords files rose words r
+        → AnswersTexts files rose job (Err e) → AnswersWords files rose words r
     files_stop r d e i j h = at_stop r d e i j (go e h)
       where
         refused : (r : Refusal) → RefusesFiles files rose (files_of job) r → RefusesWords files rose words r
         refused r (loading.limited l) = stage job is (not_loaded l)
         refused r (loading.not_read l k) = not_read job is l k
 
-        go : (e : Stop) → AnswersFiles texts_of files rose (files_of job) (Err e)
-            → AnswersWords files rose words (Err e)
+        go : (e : Stop) → AnswersTexts files rose job (Err e) → AnswersWords files rose words (Err e)
         go (Refused r) h = refused r h
         go Memory h = tt
 
-    pub job_passed : (t : Texts) → AnswersFiles texts_of files rose (files_of job) (Ok t) → (r : Result Prepared Stop)
-        → IsStageOf (IsReady job) (Stages job (texts_of t) t.model.items) r → AnswersWords files rose words r
+    pub job_passed : (t : Texts) → AreTexts files job t → (r : Result Prepared Stop)
+        → IsStageOf (IsReady job) (Stages job (texts_of job t) t.model.items) r → AnswersWords files rose words r
     job_passed t l (Ok p) h =
-        record { job = job; is_job = is; ready = h.0; passes = loaded (texts_of t) l first h.1; is_ready = h.2 }
-    job_passed t l (Err (Refused r)) h = stage job is (loaded (texts_of t) l first h)
+        record { job = job; is_job = is; ready = h.0; passes = loaded (texts_of job t) l.loaded l.is_text h.1; is_ready = h.2 }
+    job_passed t l (Err (Refused r)) h = stage job is (loaded (texts_of job t) l.loaded l.is_text h)
     job_passed t l (Err Memory) h = tt
 
 -- no commands
@@ -339,3 +355,8 @@ no_commands p commands e =
       firable =
           record { each = λ w h. absurd (stands_none h.place (Fire w) (subst (λ (z : List Command). Stands z h.place (Fire w)) e h.stands)) };
     }
+
+-- a script behind a model is the second of the texts
+pub second_here : (b : Bool) (model : List ℕ) (s : Option (Vec ℕ Global)) → IsSecond b (model ∷ script_texts s) s
+second_here true model s = (model, refl)
+second_here false model s = tt

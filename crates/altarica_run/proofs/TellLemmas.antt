@@ -46,7 +46,7 @@ text_written {old} {new} told text ends s r e t w = subst (λ (z : Status). IsWr
 -- How much is declared
 
 module _ (x : Elaborated) (p : GtsParts) (is : IsFlat x p) where
-  many_units : length p.units.items ≡ length x.declarations.units
+  pub many_units : length p.units.items ≡ length x.declarations.units
   many_units = ap length is.units_are ∙ length-map x.declarations.units (unit_path x.declarations.model)
 
   many_variables : length p.variables.items ≡ length (variables x.declarations.model x.declarations.units)
@@ -54,7 +54,7 @@ module _ (x : Elaborated) (p : GtsParts) (is : IsFlat x p) where
       sym (length-map p.variables.items (λ (v : Variable). v.path)) ∙ ap (λ (n : Naming). length n.variables) is.names
       ∙ length-map (variables x.declarations.model x.declarations.units) (thing_path x.declarations.model)
 
-  many_events : length p.events.items ≡ length (events x.declarations.model x.declarations.units)
+  pub many_events : length p.events.items ≡ length (events x.declarations.model x.declarations.units)
   many_events =
       sym (length-map p.events.items (λ (e : Event). e.path)) ∙ ap (λ (n : Naming). length n.events) is.names
       ∙ length-map (events x.declarations.model x.declarations.units) (thing_path x.declarations.model)

@@ -4,7 +4,7 @@ use Rattle.std.specs.Prelude.{◌≡◌, ℕ, Bool, true, false, List, Result, O
 use Rattle.run_words.specs.Jobs.{IsJob}
 use Rattle.run_words.specs.declared.jobs.Job.{Job}
 use Rattle.run_words.specs.declared.verbs.Verb.{Verb}
-use Rattle.run_words.specs.declared.verbs.Verb.TheVariants.{Check, Flat, Replay, Fragment, Equations, Cuts}
+use Rattle.run_words.specs.declared.verbs.Verb.TheVariants.{Check, Flat, Replay, Fragment, Equations, Cuts, Make}
 use Rattle.altarica_run.specs.declared.jobs.Asked.{Asked}
 use Rattle.altarica_run.specs.declared.jobs.Task.{Task}
 use Rattle.altarica_run.specs.declared.jobs.Task.TheVariants as task
@@ -20,6 +20,7 @@ is_built Replay = true
 is_built Fragment = true
 is_built Equations = true
 is_built Cuts = true
+is_built Make = true
 is_built _ = false
 
 -- the words give this job, whose command is built
@@ -39,6 +40,12 @@ verb_of task.Replay = Replay
 verb_of task.Fragment = Fragment
 verb_of task.Equations = Equations
 verb_of task.Cuts = Cuts
+verb_of task.Make = Make
+
+-- the command makes its model; those of the others are files
+abbrev pub makes_model : Verb → Bool
+makes_model Make = true
+makes_model _ = false
 
 -- what the reading of words answers: the job with its task, or that there is none, or want of memory
 abbrev pub AnswersJob : List (List ℕ) → Result Asked Stop → Type 0

@@ -8,6 +8,7 @@ pub mod Says
 pub mod Answers
 pub mod Statuses
 pub mod Follows
+pub mod Listings
 pub mod Loading
 pub mod Passing
 pub mod Telling

@@ -1,9 +1,12 @@
 -- What the calls that load files answer.
-use Rattle.std.specs.Prelude.{◌≡◌, ◌⊎◌, ℕ, List, [], ◌∷◌, Option, Some, None, Result, Ok, Err, Vec}
+use Rattle.std.specs.Prelude.{◌≡◌, ◌⊎◌, ◌≤◌, ℕ, Bool, true, false, List, [], ◌∷◌, Option, Some, None, Result, Ok, Err, Vec, length}
 use Rattle.std.specs.Global.{Global}
 use Rattle.ar_base.specs.Counts.{limit_of}
+use Rattle.ar_base.specs.declared.counts.Count.TheVariants.{ModelBytes}
 use Rattle.ar_io.specs.Outside.{Told, MayBeLonger, IsFile}
-use Rattle.altarica_run.specs.Files.{File, Loaded, Loads}
+use Rattle.run_words.specs.declared.jobs.Job.{Job}
+use Rattle.altarica_run.specs.Files.{File, files_of, Loaded, Loads, IsText}
+use Rattle.altarica_run.specs.Jobs.{makes_model}
 use Rattle.altarica_run.specs.declared.loading.Texts.{Texts}
 use Rattle.altarica_run.specs.declared.refusals.FileKind.{FileKind}
 use Rattle.altarica_run.specs.declared.refusals.Refusal.{Refusal}
@@ -36,6 +39,22 @@ abbrev pub script_texts : Option (Vec ℕ Global) → List (List ℕ)
 script_texts None = []
 script_texts (Some bytes) = bytes.items ∷ []
 
--- the texts of a job's files
-abbrev pub texts_of : Texts → List (List ℕ)
-texts_of t = t.model.items ∷ script_texts t.script
+-- the texts of the files of a job: the model's, unless the command makes it, and the script's
+abbrev pub texts_where : Bool → Texts → List (List ℕ)
+texts_where true t = script_texts t.script
+texts_where false t = t.model.items ∷ script_texts t.script
+
+abbrev pub texts_of : Job → Texts → List (List ℕ)
+texts_of job t = texts_where (makes_model job.command) t
+
+-- the texts with which a job goes on: its files are loaded, and the model's text is that of the first, or is made
+pub record AreTexts (told : List ℕ → Told) (job : Job) (t : Texts) : Type 0 where
+  pub loaded : Loaded told (files_of job) (Ok (texts_of job t))
+  pub is_text : IsText job (texts_of job t) t.model.items
+  pub short : length t.model.items ≤ limit_of ModelBytes
+
+-- the texts with which a job goes on, or a refusal, or want of memory
+abbrev pub AnswersTexts : (List ℕ → Told) → (List ℕ → Type 0) → Job → Result Texts Stop → Type 0
+AnswersTexts told rose job (Ok t) = AreTexts told job t
+AnswersTexts told rose job (Err (Refused r)) = RefusesFiles told rose (files_of job) r
+AnswersTexts told rose job (Err Memory) = Unit {0}

@@ -1,5 +1,5 @@
 -- What the calls that stand for the stages of a job answer.
-use Rattle.std.specs.Prelude.{◌≡◌, ◌<◌, ◌≤◌, ℕ, Bool, true, false, List, [], Option, Some, None, Result, Ok, Err, map, length, slice_get, Vec}
+use Rattle.std.specs.Prelude.{◌≡◌, ◌<◌, ◌≤◌, ℕ, Bool, true, false, List, [], ◌∷◌, Option, Some, None, Result, Ok, Err, map, length, slice_get, Vec}
 use Rattle.std.specs.Global.{Global}
 use Rattle.ar_base.specs.Counts.{limit_of}
 use Rattle.ar_base.specs.declared.counts.Count.TheVariants.{Nesting, ScriptBytes, Gates}
@@ -31,7 +31,6 @@ use Rattle.replayer.specs.Scripts.{BadLine, Commands}
 use Rattle.replayer.specs.declared.commands.Command.{Command}
 use Rattle.replayer.specs.declared.commands.ScriptFault.{ScriptFault}
 use Rattle.replayer.specs.declared.commands.ScriptFault.TheVariants as script
-use Rattle.run_words.specs.Jobs.{needs_observer}
 use Rattle.run_words.specs.declared.jobs.Job.{Job}
 use Rattle.run_words.specs.declared.verbs.Verb.{Verb}
 use Rattle.run_words.specs.declared.jobs.JobFault.{JobFault}
@@ -46,6 +45,7 @@ use Rattle.wanted_values.specs.declared.wanting.WantedFault.{WantedFault}
 use Rattle.wanted_values.specs.declared.wanting.WantedFault.TheVariants as wanted
 use Rattle.altarica_run.specs.Files.{files_of, Loads}
 use Rattle.altarica_run.specs.Jobs.{IsBuiltJob, IsNoJob, verb_of}
+use Rattle.altarica_run.specs.Loading.{script_texts}
 use Rattle.altarica_run.specs.Stages.{Ready, line_refused, is_static, has_table, IsTableOf, Passes}
 use Rattle.altarica_run.specs.declared.refusals.FileKind.{FileKind}
 use Rattle.altarica_run.specs.declared.refusals.Refusal.{Refusal}
@@ -129,6 +129,11 @@ abbrev pub IsShort : Option (Vec ℕ Global) → Type 0
 IsShort None = Unit {0}
 IsShort (Some bytes) = length bytes.items ≤ limit_of ScriptBytes
 
+-- a script that is asked for is the second of the texts
+abbrev pub IsSecond : Bool → List (List ℕ) → Option (Vec ℕ Global) → Type 0
+IsSecond true texts script = (model : List ℕ) × (texts ≡ model ∷ script_texts script)
+IsSecond false texts script = Unit {0}
+
 -- there is something exactly where it is asked for
 abbrev pub IsThere : {A : Type 0} → Bool → Option A → Type 0
 IsThere {A = A} true given = (a : A) × (given ≡ Some a)
@@ -175,7 +180,7 @@ pub record IsRequested (command : Verb) (x : Elaborated) (p : GtsParts) (w : Rea
   pub commands : AreCommands p w.commands request.commands
   pub dropped : AreDropped p w.dropped request.dropped.items
   pub wanted : AreWanted p w.wanted request.wanted
-  pub there : IsThere (needs_observer command) request.wanted
+  pub there : IsThere (has_table command) request.wanted
 
 -- The static fragment
 
@@ -221,6 +226,7 @@ pub record IsReady (job : Job) (w : Ready) (p : Prepared) : Type 0 where
   pub forest : HasForest job.command p.system w.dropped p.forest
   pub table : HasTable job.command p.system p.forest w p.table
   pub nodes : p.nodes ≡ job.nodes
+  pub number : p.number ≡ job.number
 
 -- the words are refused: they are no job, or a stage of the job refuses, or a file was not read
 pub data RefusesWords (files : List ℕ → Told) (rose : List ℕ → Type 0) (words : List (List ℕ)) : Refusal → Type 0 where

@@ -14,7 +14,6 @@ use Rattle.gts_flatten.specs.Flat.{naming_of}
 use Rattle.hierarchy.specs.Listing.{variables}
 use Rattle.hierarchy.specs.Paths.{unit_path}
 use Rattle.replayer.specs.Scripts.{BadLine, Commands, Why, IsNoCommand, LacksWay, NamesNoEvent}
-use Rattle.run_words.specs.Jobs.{needs_observer}
 use Rattle.run_words.specs.declared.jobs.Job.{Job}
 use Rattle.run_words.specs.declared.verbs.Verb.{Verb}
 use Rattle.run_words.specs.declared.verbs.Verb.TheVariants.{Replay, Fragment, Equations, Cuts, Make, CheckCuts, Modules}
@@ -80,11 +79,28 @@ pub data Wanting (observer word : Option (List ℕ)) (w : Ready) : Result Ready 
   no_value : {path : List ℕ} → observer ≡ Some path → WantsNone w.source path word
       → Wanting observer word w (Err NoValue)
 
--- what the words and the script ask of the system
+-- the command is about the gate table of the system, for an observer and a value
+abbrev pub has_table : Verb → Bool
+has_table Equations = true
+has_table Cuts = true
+has_table Make = true
+has_table CheckCuts = true
+has_table Modules = true
+has_table _ = false
+
+-- the path of the observer that is asked for: that of the words, or for `make` that of the generated models
+abbrev pub path_asked : Verb → Option (List ℕ) → Option (List ℕ)
+path_asked Make given = Some (codes "lost")
+path_asked _ given = given
+
+abbrev pub observer_asked : Job → Option (List ℕ)
+observer_asked job = path_asked job.command job.observer
+
+-- what the words, the script and the command ask of the system
 abbrev pub Asks : Job → List (List ℕ) → Elaborated → Result Ready Refusal → Type 0
 Asks job texts x =
     Then (Where (has_script job.command) (Scripted texts))
-    (Then (Drops job.dropped) (Where (needs_observer job.command) (Wanting job.observer job.value))) (bare x)
+    (Then (Drops job.dropped) (Where (has_table job.command) (Wanting (observer_asked job) job.value))) (bare x)
 
 -- The static fragment
 
@@ -114,15 +130,6 @@ pub data Static (w : Ready) : Result Ready Refusal → Type 0 where
 
 -- The gate table
 
--- the command is about the gate table of the system
-abbrev pub has_table : Verb → Bool
-has_table Equations = true
-has_table Cuts = true
-has_table Make = true
-has_table CheckCuts = true
-has_table Modules = true
-has_table _ = false
-
 -- the table of the source without the dropped events, for this observer and this value
 abbrev pub IsTableOf : Elaborated → List ℕ → Wanted → Table → Type 0
 IsTableOf x dropped wanted table =
@@ -136,6 +143,16 @@ pub data Tabled (w : Ready) : Result Ready Refusal → Type 0 where
   exceeds : {wanted : Wanted} {table : Table} → w.wanted ≡ Some wanted → IsTableOf w.source w.dropped wanted table
       → limit_of Gates < length table.gates
       → Tabled w (Err (Size Gates))
+
+-- The cuts
+
+-- the command lists the cuts of the observer's value, or tells of them
+abbrev pub lists_cuts : Verb → Bool
+lists_cuts Cuts = true
+lists_cuts Make = true
+lists_cuts CheckCuts = true
+lists_cuts Modules = true
+lists_cuts _ = false
 
 -- The stages
 
@@ -155,5 +172,5 @@ Stages job texts = Then (Elaborates job.main) (Readies job texts)
 pub data Passes (files : List ℕ → Told) (job : Job) : Result Ready Refusal → Type 0 where
   not_loaded : {r : Refusal} → Loaded files (files_of job) (Err r) → Passes files job (Err r)
   loaded : {x : Result Ready Refusal} {text : List ℕ} (texts : List (List ℕ)) → Loaded files (files_of job) (Ok texts)
-      → IsText texts text
+      → IsText job texts text
       → Stages job texts text x → Passes files job x

@@ -1,10 +1,15 @@
 -- What each command writes of a job that has passed its stages.
-use Rattle.std.specs.Prelude.{◌≡◌, ℕ, ◌++◌, List, Some, length, codes, decimal}
+use Rattle.std.specs.Prelude.{◌≡◌, ℕ, ◌++◌, true, List, [], Some, length, reverse, codes, decimal}
 use Rattle.ar_base.specs.Lists.{Stands}
 use Rattle.ar_base.specs.Texts.{line}
-use Rattle.ar_firing.specs.Cuts.{IsConflictFree}
+use Rattle.ar_firing.specs.Cuts.{AreEvents, Cut, IsConflictFree, Reaches}
 use Rattle.ar_firing.specs.Forest.{ModeTree, IsForest}
+use Rattle.ar_firing.specs.Listed.{AreListed}
+use Rattle.ar_meaning.specs.Facts.{HasValue}
+use Rattle.ar_meaning.specs.Runs.{Label}
+use Rattle.ar_meaning.specs.Systems.{System}
 use Rattle.cut_text.specs.Texts.{IsCutText, IsConflictText}
+use Rattle.domains.specs.declared.Value.{Value}
 use Rattle.eq_core.specs.Gates.{Table}
 use Rattle.forest_text.specs.Texts.{IsForestText}
 use Rattle.gate_diagrams.specs.Needed.{NodesMay}
@@ -14,17 +19,19 @@ use Rattle.gts_flatten.specs.Elaborating.{Elaborated}
 use Rattle.gts_flatten.specs.Flat.{IsFlat, naming_of}
 use Rattle.hierarchy.specs.Listing.{variables, events, observers}
 use Rattle.hierarchy.specs.Units.{Thing}
+use Rattle.min_cuts.specs.Sizes.{count, largest}
 use Rattle.replayer.specs.Replays.{IsReplay}
 use Rattle.replayer.specs.declared.replaying.End.{End}
 use Rattle.replayer.specs.declared.replaying.End.TheVariants as end
 use Rattle.run_words.specs.declared.jobs.Job.{Job}
-use Rattle.run_words.specs.declared.verbs.Verb.TheVariants.{Check, Flat, Replay, Fragment, Equations, Cuts}
+use Rattle.run_words.specs.declared.verbs.Verb.TheVariants.{Check, Flat, Replay, Fragment, Equations, Cuts, Make}
 use Rattle.source_meaning.specs.Systems.{Declarations}
 use Rattle.table_text.specs.Texts.{IsTableText}
-use Rattle.typed_expr.specs.declared.expr.Expr.{Expr}
+use Rattle.typed_expr.specs.Yields.{Yields}
+use Rattle.typed_expr.specs.declared.expr.Expr.{Expr, out-Expr}
 use Rattle.wanted_values.specs.declared.wanting.Wanted.{Wanted}
 use Rattle.zdd_families.specs.Sections.{IsCounted, IsMoreThan}
-use Rattle.altarica_run.specs.Stages.{Ready, IsTableOf}
+use Rattle.altarica_run.specs.Stages.{Ready, IsTableOf, lists_cuts}
 use Rattle.altarica_run.specs.declared.status.Status.{Status}
 use Rattle.altarica_run.specs.declared.status.Status.TheVariants.{Done, Fault, Nodes}
 
@@ -46,16 +53,47 @@ pub record IsFlatText (x : Elaborated) (text : List ℕ) : Type 0 where
   pub is_flat : IsFlat x parts
   pub is_text : text ≡ flat_text parts
 
--- the text of the cuts of the observer's value that are asked for, where no set meets a conflict; the family of the cuts
--- itself has at most so many counted sections
-pub record IsCutsText (w : Ready) (limit : ℕ) (text : List ℕ) : Type 0 where
+-- an observer and its value are asked for, and no set of events that are not dropped meets a conflict
+pub record HasCuts (w : Ready) : Type 0 where
   pub wanted : Wanted
   pub are_wanted : w.wanted ≡ Some wanted
   pub observed : Expr Thing
   pub is_observed : Stands w.source.system.observers wanted.observer observed
   pub conflict_free : IsConflictFree w.source.system w.dropped
-  pub is_text : IsCutText (naming_of w.source.declarations) w.source.system w.dropped observed wanted.value text
+
+-- the labels have the events of the set, each once; fired as they stand in the whole system, dropped events included,
+-- they meet no fault, and the observer then has the wanted value
+pub record Replays {V : Type 0} (sys : System V) (observer : Expr V) (wanted : Value) (set : List ℕ) (ls : List Label)
+    : Type 0 where
+  pub events : AreEvents (reverse ls) set
+  pub values : List Value
+  pub reaches : Reaches sys [] (reverse ls) values
+  pub shows : Yields (HasValue sys.net values) (out-Expr V observer) wanted
+
+-- the text of the listing of the cuts, each in an order that replays; their family itself has at most so many counted
+-- sections
+pub record IsCutsText (w : Ready) (limit : ℕ) (text : List ℕ) : Type 0 where
+  pub has : HasCuts w
+  pub is_text : IsCutText (naming_of w.source.declarations) w.source.system w.dropped has.observed has.wanted.value text
   pub few : IsMoreThan limit (IsCounted is_text.sets) → ⊥
+  pub replay : (k : ℕ) (set : List ℕ) (ls : List Label) → Stands is_text.sets k set → Stands is_text.lines k ls
+      → Replays w.source.system has.observed has.wanted.value set ls
+
+-- `make N`, `units U`, `events E`, `cuts K` and `largest L`, each on a line
+abbrev pub make_lines : ℕ → ℕ → ℕ → ℕ → ℕ → List ℕ
+make_lines n u e k l =
+    line (codes "make " ++ decimal n) ++ (line (codes "units " ++ decimal u) ++ (line (codes "events " ++ decimal e)
+    ++ (line (codes "cuts " ++ decimal k) ++ line (codes "largest " ++ decimal l))))
+
+-- the text of `make` for so many components: how many units and events the model has, how many cuts, and how many
+-- events the largest of them; their family itself has at most so many counted sections
+pub record IsMakeText (w : Ready) (number limit : ℕ) (text : List ℕ) : Type 0 where
+  pub has : HasCuts w
+  pub sets : List (List ℕ)
+  pub are_listed : AreListed (Cut w.source.system w.dropped has.observed has.wanted.value) sets
+  pub is_text : text ≡ make_lines number (length w.source.declarations.units)
+      (length (events w.source.declarations.model w.source.declarations.units)) (count sets) (largest sets)
+  pub few : IsMoreThan limit (IsCounted sets) → ⊥
 
 -- more nodes than so many may be needed for the gate table of the source, by the trees of its modes
 pub record MayNeedMore (w : Ready) (limit : ℕ) : Type 0 where
@@ -89,6 +127,7 @@ pub data Tells (job : Job) (w : Ready) : List ℕ → Status → Type 0 where
       → IsTableText (variables w.source.declarations.model w.source.declarations.units) (naming_of w.source.declarations)
       w.source.system w.dropped wanted.observer wanted.value text → Tells job w text Done
   cuts : {text : List ℕ} → job.command ≡ Cuts → IsCutsText w job.nodes text → Tells job w text Done
-  conflict : {text : List ℕ} → job.command ≡ Cuts
+  make : {text : List ℕ} → job.command ≡ Make → IsMakeText w job.number job.nodes text → Tells job w text Done
+  conflict : {text : List ℕ} → lists_cuts job.command ≡ true
       → IsConflictText (naming_of w.source.declarations) w.source.system w.dropped text → Tells job w text Fault
-  nodes : job.command ≡ Cuts → MayNeedMore w job.nodes → Tells job w (nodes_line job.nodes) Nodes
+  nodes : lists_cuts job.command ≡ true → MayNeedMore w job.nodes → Tells job w (nodes_line job.nodes) Nodes

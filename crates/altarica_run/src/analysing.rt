@@ -61,7 +61,9 @@ pub fn forest_of(
         Task::Check | Task::Flat | Task::Replay => Ok(Forest {
             trees: Vec::new(alloc),
         }),
-        Task::Fragment | Task::Equations | Task::Cuts => recognised(alloc, system, dropped),
+        Task::Fragment | Task::Equations | Task::Cuts | Task::Make => {
+            recognised(alloc, system, dropped)
+        }
     }
 }
 

@@ -1,6 +1,6 @@
 //! The cuts of an observer's value, or the conflict that stands before them.
 
-ghost use Rattle.std.specs.Prelude.{◌≡◌, ◌≤◌, ◌++◌, ℕ, length};
+ghost use Rattle.std.specs.Prelude.{◌≡◌, ◌≤◌, ◌++◌, ℕ, true, length};
 ghost use Rattle.ar_io.specs.Writing.{Writes};
 ghost use Rattle.eq_core.specs.Views.{table_of};
 ghost use Rattle.gate_diagrams.specs.Answers.{IsAnswer, store_of};
@@ -8,15 +8,18 @@ ghost use Rattle.mode_forests.specs.Views.{trees_of};
 ghost use Rattle.run_words.specs.declared.jobs.Job.{Job};
 ghost use Rattle.run_words.specs.declared.verbs.Verb.TheVariants.{Cuts as CutsAsked};
 ghost use Rattle.altarica_run.specs.Passing.{IsReady};
-ghost use Rattle.altarica_run.specs.Stages.{Ready};
+ghost use Rattle.altarica_run.specs.Stages.{Ready, lists_cuts};
 ghost use Rattle.altarica_run.specs.Telling.{IsWritten, status_printed};
 ghost use Rattle.altarica_run.specs.Tells.{nodes_line, Tells};
 
+use crate::making::made;
 use crate::pieces::{put, put_number};
 use crate::stages::Prepared;
 use crate::status::Status;
 use ar_io::{Sink, SinkFailed};
-use cut_text::laws::{conflicts_of_the_source, cuts_of_the_source, edges_of_forests};
+use cut_text::laws::{
+    conflicts_of_the_source, cuts_of_the_source, edges_of_forests, lines_of_the_source_replay,
+};
 use cut_text::{PrintFault, print_conflict, print_cuts};
 use drawn_cuts::drawn_sets;
 use gate_diagrams::{Drawn, Family, diagrams};
@@ -26,17 +29,17 @@ use std::alloc::Global;
 use table_meaning::{ordered_table, table_agrees};
 use zdd_nodes::{NodeFault, room_for_families, stored_sections};
 
-/// Writes the cuts, or the first conflict where there is one, or that the diagrams need more nodes
-/// than they may have.
+/// Writes the cuts, or for `make` how many there are; or the first conflict where there is one; or
+/// that the diagrams need more nodes than they may have.
 pub(crate) fn cuts<K: Sink>(
     alloc: Global,
     prepared: &Prepared,
     out: &mut K,
 ) -> Result<Status, PrintFault>
     requires ready { (job : Job) × (w : Ready) × IsReady job w prepared.now
-        × (job.command ≡ CutsAsked) }
+        × (lists_cuts job.command ≡ true) }
     requires nodes { prepared.now.nodes ≤ 16777216 }
-    ensures { (job : Job) (w : Ready) → IsReady job w prepared.now → job.command ≡ CutsAsked
+    ensures { (job : Job) (w : Ready) → IsReady job w prepared.now → lists_cuts job.command ≡ true
         → IsWritten (Tells job w) (K.state out.old) (K.state out.new) (status_printed result) }
 {
     // The table's gates are in order, the trees of a static system's forest are trees, and which
@@ -63,16 +66,21 @@ fn listed<K: Sink>(
     out: &mut K,
 ) -> Result<Status, PrintFault>
     requires ready { (job : Job) × (w : Ready) × IsReady job w prepared.now
-        × (job.command ≡ CutsAsked) }
+        × (lists_cuts job.command ≡ true) }
     requires answer { IsAnswer (trees_of (λ n. n) prepared.now.forest)
         (table_of prepared.now.table.equations) drawn }
     requires within { length (store_of drawn).families ≤ prepared.now.nodes }
-    ensures { (job : Job) (w : Ready) → IsReady job w prepared.now → job.command ≡ CutsAsked
+    ensures { (job : Job) (w : Ready) → IsReady job w prepared.now → lists_cuts job.command ≡ true
         → IsWritten (Tells job w) (K.state out.old) (K.state out.new) (status_printed result) }
 {
     match drawn {
         Drawn::Conflicts(family) => conflict(alloc, prepared, family, out),
-        Drawn::Cuts(family) => listing(alloc, prepared, family, out),
+        Drawn::Cuts(family) => {
+            if prepared.task.makes_model() {
+                return made(alloc, prepared, &family, out);
+            }
+            listing(alloc, prepared, family, out)
+        }
     }
 }
 
@@ -84,10 +92,10 @@ fn conflict<K: Sink>(
     out: &mut K,
 ) -> Result<Status, PrintFault>
     requires ready { (job : Job) × (w : Ready) × IsReady job w prepared.now
-        × (job.command ≡ CutsAsked) }
+        × (lists_cuts job.command ≡ true) }
     requires answer { IsAnswer (trees_of (λ n. n) prepared.now.forest)
         (table_of prepared.now.table.equations) (Drawn.Conflicts family) }
-    ensures { (job : Job) (w : Ready) → IsReady job w prepared.now → job.command ≡ CutsAsked
+    ensures { (job : Job) (w : Ready) → IsReady job w prepared.now → lists_cuts job.command ≡ true
         → IsWritten (Tells job w) (K.state out.old) (K.state out.new) (status_printed result) }
 {
     // What is drawn are the conflict sets, and the first of them has the text of the source's
@@ -104,7 +112,7 @@ fn conflict<K: Sink>(
     Ok(Status::Fault)
 }
 
-// Writes the cuts, and how many there are.
+// Writes the cuts, each in an order that replays, and how many there are.
 fn listing<K: Sink>(
     alloc: Global,
     prepared: &Prepared,
@@ -119,12 +127,14 @@ fn listing<K: Sink>(
     ensures { (job : Job) (w : Ready) → IsReady job w prepared.now → job.command ≡ CutsAsked
         → IsWritten (Tells job w) (K.state out.old) (K.state out.new) (status_printed result) }
 {
-    // What is drawn are the cuts, they have the text of the source's, and what is stored has room
-    // for their sections.
+    // What is drawn are the cuts, they have the text of the source's, each line of it replays, and
+    // what is stored has room for their sections.
     lawful_systems();
+    table_agrees();
     drawn_sets();
     edges_of_forests();
     cuts_of_the_source();
+    lines_of_the_source_replay();
     stored_sections();
     room_for_families();
     let system = &prepared.system;

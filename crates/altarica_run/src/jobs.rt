@@ -2,7 +2,7 @@
 
 ghost use Rattle.std.specs.Prelude.{◌≡◌, false, MatchOption};
 ghost use Rattle.ar_base.specs.Texts.{bytes_of_all};
-ghost use Rattle.altarica_run.specs.Jobs.{AnswersJob, is_built, verb_of};
+ghost use Rattle.altarica_run.specs.Jobs.{AnswersJob, is_built, makes_model, verb_of};
 
 use crate::refusals::Refusal;
 use crate::stops::Stop;
@@ -25,6 +25,17 @@ pub enum Task {
     Equations,
     /// Lists the cuts of an observer's value of a system of the static fragment.
     Cuts,
+    /// Makes a model, and says how many cuts it has.
+    Make,
+}
+
+impl Task {
+    /// Whether the command makes its model; those of the others are files.
+    pub fn makes_model(self) -> bool
+        ensures { result ≡ makes_model (verb_of self) }
+    {
+        matches!(self, Task::Make)
+    }
 }
 
 /// A job with its task.
@@ -63,6 +74,7 @@ fn task_of(command: Verb) -> Option<Task>
         Verb::Fragment => Some(Task::Fragment),
         Verb::Equations => Some(Task::Equations),
         Verb::Cuts => Some(Task::Cuts),
+        Verb::Make => Some(Task::Make),
         _ => None,
     }
 }

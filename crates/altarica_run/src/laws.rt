@@ -1,13 +1,15 @@
 //! Laws of jobs and of their files. Each function has an empty body.
 
-ghost use Rattle.std.specs.Prelude.{◌≡◌, ◌<◌, ◌≤◌, ◌⊎◌, ℕ, List, Some, Result, Err, length};
+ghost use Rattle.std.specs.Prelude.{◌≡◌, ◌≢◌, ◌<◌, ◌≤◌, ◌⊎◌, ℕ, false, true, List, Some, Result, Err, length};
 ghost use Rattle.ar_base.specs.Counts.{limit_of};
 ghost use Rattle.ar_base.specs.declared.counts.Count.TheVariants.{ModelBytes, ScriptBytes};
 ghost use Rattle.ar_io.specs.Outside.{Told, Bytes, Absent};
 ghost use Rattle.run_words.specs.declared.jobs.Job.{Job};
+ghost use Rattle.run_words.specs.declared.verbs.Verb.TheVariants.{Cuts};
 ghost use Rattle.altarica_run.specs.Files.{File, Loaded};
 ghost use Rattle.altarica_run.specs.Follows.{Call, Gave, IsKnown, IsQuiet, Wrote, RoseAt, SinkRose};
-ghost use Rattle.altarica_run.specs.Jobs.{IsBuiltJob};
+ghost use Rattle.altarica_run.specs.Jobs.{IsBuiltJob, makes_model};
+ghost use Rattle.altarica_run.specs.Listings.{IsListing};
 ghost use Rattle.altarica_run.specs.Refusals.{line_of};
 ghost use Rattle.altarica_run.specs.Stages.{Ready, Passes};
 ghost use Rattle.altarica_run.specs.declared.refusals.FileKind.TheVariants.{Model};
@@ -31,13 +33,15 @@ pub fn one_loading()
         → Loaded told files x → Loaded told files y → x ≡ y }
 {}
 
-/// A model that is longer than its limit is refused for that alone, whatever it says.
+/// A model file that is longer than its limit is refused for that alone, whatever it says.
 pub fn long_models_are_refused()
     ensures stages { (files : List ℕ → Told) (job : Job) (text : List ℕ) (x : Result Ready Refusal)
+        → makes_model job.command ≡ false
         → files job.model ≡ Bytes text → limit_of ModelBytes < length text
         → Passes files job x → x ≡ Err (Size ModelBytes) }
     ensures call { (c : Call) (s : Status) (job : Job) (text : List ℕ) → Gave c s → IsQuiet c
-        → IsBuiltJob c.words job → c.files job.model ≡ Bytes text
+        → IsBuiltJob c.words job → makes_model job.command ≡ false
+        → c.files job.model ≡ Bytes text
         → limit_of ModelBytes < length text
         → ((s ≡ status.Size) × Wrote c (line_of (Size ModelBytes))) ⊎ (s ≡ status.Memory) }
 {
@@ -48,19 +52,37 @@ pub fn long_models_are_refused()
 /// whatever the two say.
 pub fn long_scripts_are_refused()
     ensures { (files : List ℕ → Told) (job : Job) (name model script : List ℕ)
-        (x : Result Ready Refusal) → job.script ≡ Some name
+        (x : Result Ready Refusal) → makes_model job.command ≡ false → job.script ≡ Some name
         → files job.model ≡ Bytes model → length model ≤ limit_of ModelBytes
         → files name ≡ Bytes script → limit_of ScriptBytes < length script
         → Passes files job x → x ≡ Err (Size ScriptBytes) }
 {}
 
-/// Where the shelf tells that there is no model, the call says that it was not read, and its own
-/// count of faults rose, unless the sink fails or memory is refused.
+/// Where the shelf tells that there is no model file, the call says that it was not read, and its
+/// own count of faults rose, unless the sink fails or memory is refused.
 pub fn absent_models_are_not_read()
     ensures { (c : Call) (s : Status) (job : Job) → Gave c s → IsBuiltJob c.words job
-        → c.files job.model ≡ Absent
+        → makes_model job.command ≡ false → c.files job.model ≡ Absent
         → ((s ≡ status.Read) × RoseAt c job.model × Wrote c (line_of (NotRead Model)))
         ⊎ (SinkRose c ⊎ (s ≡ status.Memory)) }
+{
+    one_job();
+}
+
+/// A command that makes its model loads nothing: it never says that a file was not read.
+pub fn made_models_are_not_loaded()
+    ensures { (c : Call) (s : Status) (job : Job) → Gave c s → IsBuiltJob c.words job
+        → makes_model job.command ≡ true → s ≢ status.Read }
+{
+    one_job();
+}
+
+/// A listing of cuts that ends well names every cut of the observer's value, each once, and nothing
+/// else. Each is listed in an order that replays in the whole model, dropped events included: fired
+/// as they stand, its labels meet no fault, and the observer then has the wanted value.
+pub fn listings_are_whole()
+    ensures { (c : Call) (job : Job) → Gave c status.Done → IsBuiltJob c.words job
+        → job.command ≡ Cuts → IsListing c job }
 {
     one_job();
 }

@@ -11,6 +11,7 @@ pub mod following;
 mod jobs;
 pub mod laws;
 mod loading;
+mod making;
 mod pieces;
 mod program;
 mod refusals;

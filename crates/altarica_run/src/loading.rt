@@ -1,18 +1,21 @@
-//! The files of a job.
+//! The texts of a job: those of its files, or the model that its command makes.
 
-ghost use Rattle.std.specs.Prelude.{◌≡◌, ◌≤◌, ℕ, List, Option};
+ghost use Rattle.std.specs.Prelude.{◌≡◌, ◌≤◌, ℕ, true, false, List, Option};
 ghost use Rattle.ar_io.specs.Outside.{Rose};
-ghost use Rattle.altarica_run.specs.Files.{files_of, script_files};
-ghost use Rattle.altarica_run.specs.Loading.{AnswersFile, AnswersFiles, texts_of, script_texts};
+ghost use Rattle.altarica_run.specs.Files.{files_where, script_files};
+ghost use Rattle.altarica_run.specs.Jobs.{IsBuiltJob, makes_model, verb_of};
+ghost use Rattle.altarica_run.specs.Loading.{AnswersFile, AnswersFiles, AnswersTexts, texts_where, script_texts};
 
+use crate::jobs::Asked;
 use crate::refusals::{FileKind, Refusal};
 use crate::stops::Stop;
 use ar_base::{Count, Text};
 use ar_io::{LoadFault, Shelf};
-use run_words::Job;
+use run_words::laws::generated_models_are_short;
+use run_words::{Job, make_text};
 use std::alloc::Global;
 
-/// The texts of a job's files.
+/// The texts of a job.
 #[derive(Drop)]
 pub struct Texts {
     /// The model.
@@ -21,11 +24,32 @@ pub struct Texts {
     pub script: Option<Vec<u8>>,
 }
 
-/// Loads the files of a job, the model first.
-pub fn load_all<H: Shelf>(alloc: Global, shelf: &mut H, job: &Job) -> Result<Texts, Stop>
-    ensures { AnswersFiles texts_of (H.holds shelf.old)
+/// The texts of a job: those of its files, the model first; the model of `make` is made, and then
+/// nothing is loaded.
+pub fn job_texts<H: Shelf>(alloc: Global, shelf: &mut H, asked: &Asked) -> Result<Texts, Stop>
+    requires job { (words : List (List ℕ)) × IsBuiltJob words asked.now.job }
+    requires command { asked.now.job.command ≡ verb_of asked.now.task }
+    ensures { AnswersTexts (H.holds shelf.old)
         (λ name. Rose (H.faults shelf.old name) (H.faults shelf.new name))
-        (files_of job.now) result }
+        asked.now.job result }
+{
+    // A made model is short.
+    generated_models_are_short();
+    if asked.task.makes_model() {
+        let model = make_text(alloc, asked.job.number)?;
+        return Ok(Texts {
+            model,
+            script: None,
+        });
+    }
+    load_all(alloc, shelf, &asked.job)
+}
+
+// Loads the files of a job, the model first.
+fn load_all<H: Shelf>(alloc: Global, shelf: &mut H, job: &Job) -> Result<Texts, Stop>
+    ensures { AnswersFiles (texts_where false) (H.holds shelf.old)
+        (λ name. Rose (H.faults shelf.old name) (H.faults shelf.new name))
+        (files_where false job.now) result }
 {
     let name = job.model.as_str();
     let model = load(alloc, shelf, name, FileKind::Model, Count::ModelBytes)?;

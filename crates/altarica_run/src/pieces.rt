@@ -28,3 +28,11 @@ pub fn put_count<K: Sink>(out: &mut K, count: usize) -> Result<(), SinkFailed>
     let mut buffer = Buffer::new();
     put(out, buffer.format(count))
 }
+
+/// Writes a number of up to 128 bits.
+pub fn put_wide<K: Sink>(out: &mut K, number: u128) -> Result<(), SinkFailed>
+    ensures { Writes (K.state out.old) (K.state out.new) (decimal number) result }
+{
+    let mut buffer = Buffer::new();
+    put(out, buffer.format(number))
+}

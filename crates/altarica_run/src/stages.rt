@@ -1,6 +1,6 @@
 //! The stages of a job, one after the other, from its words to what stands ready for its text.
 
-ghost use Rattle.std.specs.Prelude.{◌≡◌, ◌≤◌, ℕ, List, ◌∷◌, length, option_map};
+ghost use Rattle.std.specs.Prelude.{◌≡◌, ◌≤◌, ℕ, List, length, option_map};
 ghost use Rattle.ar_base.specs.Counts.{limit_of};
 ghost use Rattle.ar_base.specs.Stages.{Meets};
 ghost use Rattle.ar_base.specs.Texts.{bytes_of_all};
@@ -8,16 +8,15 @@ ghost use Rattle.ar_base.specs.declared.counts.Count.TheVariants.{ModelBytes};
 ghost use Rattle.ar_io.specs.Outside.{Rose};
 ghost use Rattle.hierarchy.specs.Models.{IsKeptTable};
 ghost use Rattle.gts_flatten.specs.Elaborating.{Elaborated};
-ghost use Rattle.run_words.specs.Jobs.{needs_observer};
 ghost use Rattle.altarica_run.specs.Elaborates.{Parses, Tables, Systems, Elaborates};
 ghost use Rattle.altarica_run.specs.Jobs.{verb_of};
-ghost use Rattle.altarica_run.specs.Loading.{texts_of, script_texts};
-ghost use Rattle.altarica_run.specs.Passing.{IsStageOf, IsFlattened, AreCommands, ReadsScript, IsShort, IsThere, IsRequested, IsReady, AnswersWords};
-ghost use Rattle.altarica_run.specs.Stages.{Asks, Readies, Stages, has_script};
+ghost use Rattle.altarica_run.specs.Loading.{texts_of};
+ghost use Rattle.altarica_run.specs.Passing.{IsStageOf, IsFlattened, AreCommands, ReadsScript, IsSecond, IsShort, IsThere, IsRequested, IsReady, AnswersWords};
+ghost use Rattle.altarica_run.specs.Stages.{Asks, Readies, Stages, has_script, has_table, observer_asked};
 
 use crate::analysing::{dropped_of, forest_of};
 use crate::jobs::{Asked, Task, job_of};
-use crate::loading::{Texts, load_all};
+use crate::loading::{Texts, job_texts};
 use crate::stops::Stop;
 use crate::tabling::{GateTable, table_of, wanted_of};
 use ar_base::{EventId, RuleFault, Text};
@@ -33,7 +32,7 @@ use hierarchy::laws::tables_are_rooted;
 use instantiate::instantiate;
 use mode_forests::Forest;
 use replayer::{Command, read_script};
-use run_words::Job;
+use run_words::{Job, Verb};
 use std::alloc::Global;
 use wanted_values::Wanted;
 
@@ -52,16 +51,18 @@ pub struct Prepared {
     pub table: GateTable,
     /// How many nodes a diagram may have.
     pub nodes: u32,
+    /// How many components the model of `make` has; 0 for the other commands.
+    pub number: u32,
 }
 
-/// What the words and the script ask of a system.
+/// What the words, the script and the command ask of a system.
 #[derive(Drop)]
 pub struct Request {
     /// The commands of the script.
     pub commands: Vec<Command>,
     /// The dropped events.
     pub dropped: Vec<EventId>,
-    /// The observer with its value, where the words have one.
+    /// The observer with its value, where the command is about one.
     pub wanted: Option<Wanted>,
 }
 
@@ -81,7 +82,7 @@ pub fn prepare<H: Shelf>(alloc: Global, words: &[String], shelf: &mut H) -> Resu
         (bytes_of_all words.now) result }
 {
     let asked = job_of(alloc, words)?;
-    let texts = load_all(alloc, shelf, &asked.job)?;
+    let texts = job_texts(alloc, shelf, &asked)?;
     pass(alloc, &asked, texts)
 }
 
@@ -91,9 +92,9 @@ fn pass(alloc: Global, asked: &Asked, texts: Texts) -> Result<Prepared, Stop>
     requires model { length texts.model.items ≤ limit_of ModelBytes }
     requires script { IsShort texts.script }
     requires there { IsThere (has_script asked.now.job.command) texts.script }
-    requires observer { IsThere (needs_observer asked.now.job.command) asked.now.job.observer }
+    requires observer { IsThere (has_table asked.now.job.command) (observer_asked asked.now.job) }
     ensures { IsStageOf (IsReady asked.now.job)
-        (Stages asked.now.job (texts_of texts) texts.model.items) result }
+        (Stages asked.now.job (texts_of asked.now.job texts) texts.model.items) result }
 {
     let Texts { model, script } = texts;
     let flattened = elaborate(alloc, model, &asked.job.main)?;
@@ -111,10 +112,9 @@ fn ready(
     requires source { (x : Elaborated) × IsFlattened x flattened }
     requires short { IsShort script.now }
     requires there { IsThere (has_script asked.now.job.command) script.now }
-    requires observer { IsThere (needs_observer asked.now.job.command) asked.now.job.observer }
-    ensures { (model : List ℕ) (x : Elaborated) → IsFlattened x flattened
-        → IsStageOf (IsReady asked.now.job)
-        (Readies asked.now.job (model ∷ script_texts script.now) x) result }
+    requires observer { IsThere (has_table asked.now.job.command) (observer_asked asked.now.job) }
+    ensures { (texts : List (List ℕ)) (x : Elaborated) → IsSecond (has_script asked.now.job.command) texts script.now
+        → IsFlattened x flattened → IsStageOf (IsReady asked.now.job) (Readies asked.now.job texts x) result }
 {
     let request = request_of(alloc, &asked.job, &flattened, script)?;
     let forest = forest_of(alloc, asked.task, &flattened.system, &request.dropped)?;
@@ -126,10 +126,11 @@ fn ready(
         forest,
         table,
         nodes: asked.job.nodes,
+        number: asked.job.number,
     })
 }
 
-// What the words and the script ask of the system.
+// What the words, the script and the command ask of the system.
 fn request_of(
     alloc: Global,
     job: &Job,
@@ -139,19 +140,29 @@ fn request_of(
     requires source { (x : Elaborated) × IsFlattened x flattened.now }
     requires short { IsShort script.now }
     requires there { IsThere (has_script job.now.command) script.now }
-    requires observer { IsThere (needs_observer job.now.command) job.now.observer }
-    ensures { (model : List ℕ) (x : Elaborated) → IsFlattened x flattened.now
-        → IsStageOf (IsRequested job.now.command x flattened.now.system)
-        (Asks job.now (model ∷ script_texts script.now) x) result }
+    requires observer { IsThere (has_table job.now.command) (observer_asked job.now) }
+    ensures { (texts : List (List ℕ)) (x : Elaborated) → IsSecond (has_script job.now.command) texts script.now
+        → IsFlattened x flattened.now
+        → IsStageOf (IsRequested job.now.command x flattened.now.system) (Asks job.now texts x) result }
 {
     let commands = commands_of(alloc, flattened, script)?;
     let dropped = dropped_of(alloc, flattened, &job.dropped)?;
-    let wanted = wanted_of(alloc, flattened, &job.observer, &job.value)?;
+    let wanted = wanted_of(alloc, flattened, observer_of(job), &job.value)?;
     Ok(Request {
         commands,
         dropped,
         wanted,
     })
+}
+
+// The path of the observer that is asked for: that of the words, or for `make` that of its models.
+fn observer_of(job: &Job) -> Option<&str>
+    ensures { option_map (λ t. t.now) result ≡ observer_asked job.now }
+{
+    match job.command {
+        Verb::Make => Some("lost"),
+        _ => word_of(&job.observer),
+    }
 }
 
 // The system that the text means from the main block of this name, else from the last.

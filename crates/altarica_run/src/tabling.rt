@@ -1,6 +1,6 @@
 //! The observer and the value that a job asks for, and the gate table.
 
-ghost use Rattle.std.specs.Prelude.{◌≡◌, ℕ, true, IfOk};
+ghost use Rattle.std.specs.Prelude.{◌≡◌, ℕ, true, option_map};
 ghost use Rattle.ar_base.specs.Stages.{Where};
 ghost use Rattle.gts_flatten.specs.Elaborating.{Elaborated};
 ghost use Rattle.gts_flatten.specs.Flat.{IsFlat};
@@ -29,20 +29,20 @@ pub struct GateTable {
     pub events: Vec<Text>,
 }
 
-/// The observer and its value that the words ask for, where they have an observer.
+/// The observer and its value that are asked for, where the path of one is given.
 pub fn wanted_of(
     alloc: Global,
     flattened: &Flattened,
-    observer: &Option<Text>,
+    observer: Option<&str>,
     value: &Option<Text>,
 ) -> Result<Option<Wanted>, Stop>
     requires { (x : Elaborated) × IsFlattened x flattened.now }
     ensures { (x : Elaborated) → IsFlattened x flattened.now
-        → IsStageOf (AreWanted flattened.now.system) (ReadsWanted observer.now value.now x) result }
+        → IsStageOf (AreWanted flattened.now.system) (ReadsWanted (option_map (λ t. t.now) observer.entry) value.now x) result }
 {
     match observer {
         Some(path) => {
-            let bytes = path.as_str().as_bytes();
+            let bytes = path.as_bytes();
             let wanted = read_wanted(alloc, &flattened.tree, &flattened.system, bytes, value)?;
             Ok(Some(wanted))
         }

@@ -55,7 +55,7 @@ pub fn tell<K: Sink>(alloc: Global, prepared: &Prepared, out: &mut K) -> Status
             let table = &prepared.table;
             written(Status::Done, print(&table.equations, &table.events, out))
         }
-        Task::Cuts => printed(cuts(alloc, prepared, out)),
+        Task::Cuts | Task::Make => printed(cuts(alloc, prepared, out)),
     }
 }
 

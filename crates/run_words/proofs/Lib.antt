@@ -2,3 +2,4 @@ mod Digits
 mod Pieces
 mod Program
 mod OneJob
+mod Lengths

@@ -1,9 +1,6 @@
 -- The text of the generated model of so many components.
 use Rattle.std.specs.Prelude.{◌+◌, ◌*◌, ◌-◌, ◌/◌, ◌%◌, ◌==◌, nat_le, if◌then◌else◌, ℕ, zero, suc, List, [], ◌∷◌, ◌++◌, codes, decimal}
-
--- a text as a line, with the line feed that ends it
-abbrev pub line : List ℕ → List ℕ
-line text = text ++ 10 ∷ []
+use Rattle.ar_base.specs.Texts.{line}
 
 -- the lines of these texts
 abbrev pub lines : List (List ℕ) → List ℕ

@@ -1,14 +1,37 @@
-use Rattle.std.proofs.Common.{◌≤◌, length, subst}
+use Rattle.std.proofs.Common.{◌≤◌, ◌∙◌, length, sym, ap, subst}
 use Rattle.mode_forests.specs.Views.{trees_of}
 use Rattle.eq_core.specs.Views.{table_of}
 use Rattle.gate_diagrams.specs.Answers.{IsAnswer, store_of}
 use Rattle.gate_diagrams.specs.declared.answer.Drawn.{Drawn}
+use Rattle.altarica_run.specs.Jobs.{makes_model}
+use Rattle.altarica_run.specs.Stages.{lists_cuts}
+use Rattle.altarica_run.proofs.CutLemmas.{task_cuts}
+use Rattle.altarica_run.proofs.JobLemmas.{makes}
 use Rattle.altarica_run.proofs.cutting.listed.Goals as goal
 
 pub conflict-requires-clause-answer : goal.conflict-requires-clause-answer
 conflict-requires-clause-answer g c =
     let p = c.args.prepared.now in
     subst (λ (d : Drawn). IsAnswer (trees_of (λ n. n) p.forest) (table_of p.table.equations) d) c.in-Conflicts.is c.requires.answer
+
+pub made-requires-clause-ready : goal.made-requires-clause-ready
+made-requires-clause-ready g c =
+    let r = c.requires.ready in
+    (r.0, r.1, r.2, makes r.0.command (ap makes_model r.2.command ∙ (sym c.makes_model.ensures ∙ c.if-makes_model.true)))
+
+pub made-requires-clause-answer : goal.made-requires-clause-answer
+made-requires-clause-answer g c =
+    let p = c.args.prepared.now in
+    subst (λ (d : Drawn). IsAnswer (trees_of (λ n. n) p.forest) (table_of p.table.equations) d) c.in-Cuts.is c.requires.answer
+
+pub made-requires-clause-within : goal.made-requires-clause-within
+made-requires-clause-within g c =
+    subst (λ (d : Drawn). length (store_of d).families ≤ c.args.prepared.now.nodes) c.in-Cuts.is c.requires.within
+
+pub listing-requires-clause-ready : goal.listing-requires-clause-ready
+listing-requires-clause-ready g c =
+    let r = c.requires.ready in
+    (r.0, r.1, r.2, r.2.command ∙ task_cuts _ (ap lists_cuts (sym r.2.command) ∙ r.3) (sym c.makes_model.ensures ∙ c.if-makes_model.false))
 
 pub listing-requires-clause-answer : goal.listing-requires-clause-answer
 listing-requires-clause-answer g c =

@@ -1,13 +1,14 @@
-use Rattle.std.proofs.Common.{Err}
+use Rattle.std.proofs.Common.{Err, ap}
 use Rattle.std.proofs.lemmas.Result.{err_from_is_err_and}
 use Rattle.mode_forests.specs.Views.{trees_of, number_in}
 use Rattle.eq_core.specs.Views.{table_of}
 use Rattle.gate_diagrams.specs.declared.answer.Drawn.TheVariants.{Cuts}
 use Rattle.drawn_cuts.specs.Drawn.{sets_of}
 use Rattle.cut_text.specs.Printed.{edges_of}
+use Rattle.altarica_run.specs.Stages.{lists_cuts}
 use Rattle.altarica_run.specs.Tells.{Tells}
 use Rattle.altarica_run.specs.declared.status.Status.TheVariants.{Done}
-use Rattle.altarica_run.proofs.CutLemmas.{both, counted_text, own_forest, forest_is, table, observed, are_drawn, few_counted, cuts_told, none_printed, printed_partly, printed_whole}
+use Rattle.altarica_run.proofs.CutLemmas.{agrees, both, counted_text, own_forest, forest_is, table, observed, source_observer, renamed, are_drawn, few_counted, cuts_told, none_printed, printed_partly, printed_whole}
 use Rattle.altarica_run.proofs.cutting.listing.Goals as goal
 
 pub counts-requires : goal.counts-requires
@@ -20,8 +21,8 @@ pub open-requires-clause-trees : goal.open-requires-clause-trees
 open-requires-clause-trees g c =
     let r = c.requires.ready in
     let p = c.args.prepared.now in
-    c.edges_of_forests.ensures.trees r.2.flat.flat r.1.dropped (both r.0 r.1 p r.2 r.3)
-    (number_in p.system) p.forest (own_forest r.0 r.1 p r.2 r.3)
+    c.edges_of_forests.ensures.trees r.2.flat.flat r.1.dropped (both r.0 r.1 p r.2 (ap lists_cuts r.3))
+    (number_in p.system) p.forest (own_forest r.0 r.1 p r.2 (ap lists_cuts r.3))
 
 pub open-requires-clause-firable : goal.open-requires-clause-firable
 open-requires-clause-firable g c =
@@ -45,8 +46,8 @@ pub print_cuts-requires-clause-one_way : goal.print_cuts-requires-clause-one_way
 print_cuts-requires-clause-one_way g c =
     let r = c.requires.ready in
     let p = c.args.prepared.now in
-    c.edges_of_forests.ensures.one_way r.2.flat.flat r.1.dropped (both r.0 r.1 p r.2 r.3)
-    (number_in p.system) p.forest (own_forest r.0 r.1 p r.2 r.3)
+    c.edges_of_forests.ensures.one_way r.2.flat.flat r.1.dropped (both r.0 r.1 p r.2 (ap lists_cuts r.3))
+    (number_in p.system) p.forest (own_forest r.0 r.1 p r.2 (ap lists_cuts r.3))
 
 pub print_cuts-requires-clause-known : goal.print_cuts-requires-clause-known
 print_cuts-requires-clause-known g c =
@@ -59,10 +60,17 @@ returns-in_err-print_cuts g c = λ job w is e.
     let f = c.args.family in
     let sound = c.parts-sound_parts.ensures.sound in
     let kinds = c.lawful_systems.ensures.net p.system sound in
-    let d = are_drawn job w p is e kinds (λ o h. c.lawful_systems.ensures.observers p.system o sound h) c.drawn_sets.ensures.meant (Cuts f) c.requires.answer in
+    let i = ap lists_cuts e in
+    let d = are_drawn job w p is i kinds (λ o h. c.lawful_systems.ensures.observers p.system o sound h) c.drawn_sets.ensures.meant (Cuts f) c.requires.answer in
+    let a = agrees job w p is i kinds (λ o h. c.lawful_systems.ensures.observers p.system o sound h) c.table_agrees.ensures.agrees in
+    let forest = forest_is job w p is i in
+    let o = source_observer job w p is i in
+    let q = renamed job w p is i in
+    let v = (table job w p is i).wanted.value in
     let few = few_counted c.stored_sections.ensures c.room_for_families.ensures f.store f.root.n p.nodes c.len-sound_store.ensures.sound c.requires.answer.1 c.requires.within in
-    let t = cuts_told job w p is e (sets_of f) _ d.0 d.1
-    (λ o q. c.cuts_of_the_source.ensures w.source p.system is.flat.flat w.dropped p.forest (forest_is job w p is e) o (observed job w p is e) q (table job w p is e).wanted.value (sets_of f) _ d.1 c.in_ok-lister.ensures.lines)
+    let t = cuts_told job w p is i e (sets_of f) _ d.0 d.1
+    (c.cuts_of_the_source.ensures w.source p.system is.flat.flat w.dropped p.forest forest o (observed job w p is i) q v (sets_of f) _ d.1 c.in_ok-lister.ensures.lines)
+    (λ sets listed set one ls line. c.lines_of_the_source_replay.ensures w.source p.system is.flat.flat w.dropped p.forest forest o (observed job w p is i) q v _ _ a d.0 sets listed set one ls line)
     few in
     let h = counted_text (g.K.Sink.state c.args.out.now) (g.K.Sink.state c.print_cuts.new.out) p.system
     (edges_of p.forest.trees.items) c.in_ok-lister.lister _ _ c.in_ok-counted.ensures.sets
@@ -75,9 +83,16 @@ returns g c = λ job w is e.
     let f = c.args.family in
     let sound = c.parts-sound_parts.ensures.sound in
     let kinds = c.lawful_systems.ensures.net p.system sound in
-    let d = are_drawn job w p is e kinds (λ o h. c.lawful_systems.ensures.observers p.system o sound h) c.drawn_sets.ensures.meant (Cuts f) c.requires.answer in
+    let i = ap lists_cuts e in
+    let d = are_drawn job w p is i kinds (λ o h. c.lawful_systems.ensures.observers p.system o sound h) c.drawn_sets.ensures.meant (Cuts f) c.requires.answer in
+    let a = agrees job w p is i kinds (λ o h. c.lawful_systems.ensures.observers p.system o sound h) c.table_agrees.ensures.agrees in
+    let forest = forest_is job w p is i in
+    let o = source_observer job w p is i in
+    let q = renamed job w p is i in
+    let v = (table job w p is i).wanted.value in
     let few = few_counted c.stored_sections.ensures c.room_for_families.ensures f.store f.root.n p.nodes c.len-sound_store.ensures.sound c.requires.answer.1 c.requires.within in
-    let t = cuts_told job w p is e (sets_of f) _ d.0 d.1
-    (λ o q. c.cuts_of_the_source.ensures w.source p.system is.flat.flat w.dropped p.forest (forest_is job w p is e) o (observed job w p is e) q (table job w p is e).wanted.value (sets_of f) _ d.1 c.in_ok-lister.ensures.lines)
+    let t = cuts_told job w p is i e (sets_of f) _ d.0 d.1
+    (c.cuts_of_the_source.ensures w.source p.system is.flat.flat w.dropped p.forest forest o (observed job w p is i) q v (sets_of f) _ d.1 c.in_ok-lister.ensures.lines)
+    (λ sets listed set one ls line. c.lines_of_the_source_replay.ensures w.source p.system is.flat.flat w.dropped p.forest forest o (observed job w p is i) q v _ _ a d.0 sets listed set one ls line)
     few in
     printed_whole (Tells job w) _ Done t tt (rw c.in_ok-counted.ensures.sets at c.in_ok-print_cuts.ensures)

@@ -4,6 +4,7 @@ use Rattle.altarica_run.specs.Elaborates.{Elaborates}
 use Rattle.altarica_run.specs.Loading.{texts_of}
 use Rattle.altarica_run.specs.Passing.{stop_told, IsFlattened, IsReady}
 use Rattle.altarica_run.specs.Stages.{Readies}
+use Rattle.altarica_run.proofs.PassLemmas.{second_of}
 use Rattle.altarica_run.proofs.stages.pass.Goals as goal
 
 pub returns-in_err-flattened : goal.returns-in_err-flattened
@@ -11,7 +12,7 @@ returns-in_err-flattened c =
     let r = err_from_is_err_and c.from_residual.result c.from_residual.ensures.1 in
     let job = c.args.asked.now.job in
     let t = c.args.texts in
-    stage_stops stop_told (Elaborates job.main) (Readies job (texts_of t)) t.model.items IsFlattened
+    stage_stops stop_told (Elaborates job.main) (Readies job (texts_of job t)) t.model.items IsFlattened
     (IsReady job) _ _ _ r.1 r.2 c.in_err-flattened.ensures
 
 pub ready-requires-clause-source : goal.ready-requires-clause-source
@@ -22,5 +23,5 @@ returns c =
     let job = c.args.asked.now.job in
     let t = c.args.texts in
     let f = c.in_ok-flattened.ensures in
-    stage_passes stop_told (Elaborates job.main) (Readies job (texts_of t)) t.model.items IsFlattened
-    (IsReady job) f.0 _ f.1 (c.ready.ensures t.model.items f.0 f.2)
+    stage_passes stop_told (Elaborates job.main) (Readies job (texts_of job t)) t.model.items IsFlattened
+    (IsReady job) f.0 _ f.1 (c.ready.ensures (texts_of job t) f.0 (second_of job.command t) f.2)

@@ -2,7 +2,7 @@ use Rattle.std.proofs.Common.{ℕ, List}
 use Rattle.std.proofs.lemmas.Result.{err_from_is_err_and}
 use Rattle.ar_base.specs.Texts.{bytes_of_all}
 use Rattle.ar_io.specs.Outside.{Rose}
-use Rattle.altarica_run.proofs.FileLemmas.{loaded_first, loaded_script}
+use Rattle.altarica_run.proofs.FileLemmas.{loaded_script, script_loaded}
 use Rattle.altarica_run.proofs.PassLemmas.{script_there, observer_there, words_stop, files_stop, job_passed}
 use Rattle.altarica_run.proofs.stages.prepare.Goals as goal
 
@@ -17,7 +17,7 @@ pub returns-in_err-texts : goal.returns-in_err-texts
 returns-in_err-texts g c =
     let r = err_from_is_err_and c.from_residual-in_err-texts.result c.from_residual-in_err-texts.ensures.1 in
     let files = g.H.Shelf.holds c.args.shelf.now in
-    let rose : List ℕ → Type 0 = λ name. Rose (g.H.Shelf.faults c.args.shelf.now name) (g.H.Shelf.faults c.load_all.new.shelf name) in
+    let rose : List ℕ → Type 0 = λ name. Rose (g.H.Shelf.faults c.args.shelf.now name) (g.H.Shelf.faults c.job_texts.new.shelf name) in
     files_stop files rose
     (bytes_of_all c.args.words.now) c.in_ok-asked.asked.job c.in_ok-asked.ensures.0 _ _ _ r.1 r.2 c.in_err-texts.ensures
 
@@ -25,19 +25,22 @@ pub pass-requires-clause-command : goal.pass-requires-clause-command
 pass-requires-clause-command g c = c.in_ok-asked.ensures.1
 
 pub pass-requires-clause-model : goal.pass-requires-clause-model
-pass-requires-clause-model g c = (loaded_first _ _ _ _ _ c.in_ok-texts.ensures).0.short
+pass-requires-clause-model g c = c.in_ok-texts.ensures.short
 
 pub pass-requires-clause-script : goal.pass-requires-clause-script
 pass-requires-clause-script g c =
     let files = g.H.Shelf.holds c.args.shelf.now in
-    let rest = (loaded_first files _ _ _ _ c.in_ok-texts.ensures).1 in
-    (loaded_script files c.in_ok-asked.asked.job.script c.in_ok-texts.texts.script rest).short
+    let rose : List ℕ → Type 0 = λ name. Rose (g.H.Shelf.faults c.args.shelf.now name) (g.H.Shelf.faults c.job_texts.new.shelf name) in
+    let job = c.in_ok-asked.asked.job in
+    let rest = script_loaded files rose job c.in_ok-texts.texts c.in_ok-texts.ensures in
+    (loaded_script files job.script c.in_ok-texts.texts.script rest).short
 
 pub pass-requires-clause-there : goal.pass-requires-clause-there
 pass-requires-clause-there g c =
     let files = g.H.Shelf.holds c.args.shelf.now in
-    let rest = (loaded_first files _ _ _ _ c.in_ok-texts.ensures).1 in
+    let rose : List ℕ → Type 0 = λ name. Rose (g.H.Shelf.faults c.args.shelf.now name) (g.H.Shelf.faults c.job_texts.new.shelf name) in
     let asked = c.in_ok-asked.asked in
+    let rest = script_loaded files rose asked.job c.in_ok-texts.texts c.in_ok-texts.ensures in
     script_there
     (bytes_of_all c.args.words.now) asked.job asked.task c.in_ok-texts.texts.script c.in_ok-asked.ensures.0 c.in_ok-asked.ensures.1
     (loaded_script files asked.job.script c.in_ok-texts.texts.script rest)
@@ -50,6 +53,6 @@ pass-requires-clause-observer g c =
 pub returns : goal.returns
 returns g c =
     let files = g.H.Shelf.holds c.args.shelf.now in
-    let rose : List ℕ → Type 0 = λ name. Rose (g.H.Shelf.faults c.args.shelf.now name) (g.H.Shelf.faults c.load_all.new.shelf name) in
+    let rose : List ℕ → Type 0 = λ name. Rose (g.H.Shelf.faults c.args.shelf.now name) (g.H.Shelf.faults c.job_texts.new.shelf name) in
     job_passed files rose
     (bytes_of_all c.args.words.now) c.in_ok-asked.asked.job c.in_ok-asked.ensures.0 c.in_ok-texts.texts c.in_ok-texts.ensures _ c.pass.ensures

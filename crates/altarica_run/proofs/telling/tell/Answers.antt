@@ -1,6 +1,7 @@
 use Rattle.std.proofs.Common.{◌∙◌, sym, ap, subst, arith}
 use Rattle.altarica_run.specs.Jobs.{verb_of}
-use Rattle.altarica_run.specs.Stages.{is_static, has_table}
+use Rattle.altarica_run.specs.Stages.{is_static, has_table, lists_cuts}
+use Rattle.altarica_run.proofs.CutLemmas.{task_lists}
 use Rattle.altarica_run.proofs.TellLemmas.{checked, flattened, replayed, forest_told, table_told}
 use Rattle.altarica_run.specs.Telling.{IsWritten}
 use Rattle.altarica_run.specs.Tells.{Tells}
@@ -51,9 +52,9 @@ returns-in-Equations g c = λ job w is.
 pub cuts-requires-clause-ready : goal.cuts-requires-clause-ready
 cuts-requires-clause-ready g c =
     let r = c.requires.ready in
-    (r.0, r.1, r.2, r.2.command ∙ ap verb_of c.in-Cuts.is)
+    (r.0, r.1, r.2, ap lists_cuts r.2.command ∙ task_lists _ c.in-Cuts.is)
 
 pub returns-in-Cuts : goal.returns-in-Cuts
 returns-in-Cuts g c = λ job w is.
     subst (λ (z : Status). IsWritten (Tells job w) (g.K.Sink.state c.args.out.now) (g.K.Sink.state c.cuts.new.out) z) (sym c.printed.ensures)
-    (c.cuts.ensures job w is (is.command ∙ ap verb_of c.in-Cuts.is))
+    (c.cuts.ensures job w is (ap lists_cuts is.command ∙ task_lists _ c.in-Cuts.is))

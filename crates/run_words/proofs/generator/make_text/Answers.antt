@@ -1,5 +1,6 @@
 use Rattle.std.proofs.Common.{◌∙◌, ◌++◌, ◌-◌, ap, codes}
-use Rattle.run_words.specs.Generator.{classes, component, first_link, flow, line, lines, link, observer, pairs, up_to}
+use Rattle.ar_base.specs.Texts.{line}
+use Rattle.run_words.specs.Generator.{classes, component, first_link, flow, lines, link, observer, pairs, up_to}
 use Rattle.run_words.proofs.Pieces.{eight}
 use Rattle.run_words.proofs.generator.make_text.Goals as goal
 

@@ -1,0 +1,81 @@
+//! The text of `make`.
+
+ghost use Rattle.std.specs.Prelude.{◌≡◌, ◌≤◌, ◌++◌, decimal, length};
+ghost use Rattle.ar_base.specs.Texts.{line};
+ghost use Rattle.ar_io.specs.Writing.{Writes};
+ghost use Rattle.eq_core.specs.Views.{table_of};
+ghost use Rattle.gate_diagrams.specs.Answers.{IsAnswer};
+ghost use Rattle.mode_forests.specs.Views.{trees_of};
+ghost use Rattle.run_words.specs.declared.jobs.Job.{Job};
+ghost use Rattle.run_words.specs.declared.verbs.Verb.TheVariants.{Make as MakeAsked};
+ghost use Rattle.altarica_run.specs.Passing.{IsReady};
+ghost use Rattle.altarica_run.specs.Stages.{Ready};
+ghost use Rattle.altarica_run.specs.Telling.{IsWritten, status_printed};
+ghost use Rattle.altarica_run.specs.Tells.{make_lines, Tells};
+
+use crate::pieces::{put, put_wide};
+use crate::stages::Prepared;
+use crate::status::Status;
+use ar_io::{Sink, SinkFailed};
+use cut_text::PrintFault;
+use drawn_cuts::drawn_sets;
+use gate_diagrams::{Drawn, Family};
+use gts_core::GtsParts;
+use gts_core::laws::lawful_systems;
+use min_cuts::{Counted, counts};
+use std::alloc::Global;
+use zdd_nodes::{room_for_families, stored_sections};
+
+/// Writes how large the made model is, how many cuts it has, and how large the largest is.
+pub(crate) fn made<K: Sink>(
+    alloc: Global,
+    prepared: &Prepared,
+    family: &Family,
+    out: &mut K,
+) -> Result<Status, PrintFault>
+    requires ready { (job : Job) × (w : Ready) × IsReady job w prepared.now
+        × (job.command ≡ MakeAsked) }
+    requires answer { IsAnswer (trees_of (λ n. n) prepared.now.forest)
+        (table_of prepared.now.table.equations) (Drawn.Cuts family.now) }
+    requires within { length family.now.store.families ≤ prepared.now.nodes }
+    ensures { (job : Job) (w : Ready) → IsReady job w prepared.now → job.command ≡ MakeAsked
+        → IsWritten (Tells job w) (K.state out.old) (K.state out.new) (status_printed result) }
+{
+    // What is drawn are the cuts, and what is stored has room for their sections.
+    lawful_systems();
+    drawn_sets();
+    stored_sections();
+    room_for_families();
+    let parts = prepared.system.parts();
+    let _sound_store = family.store.len();
+    let counted = counts(alloc, family)?;
+    put_made(out, prepared.number, parts, counted)?;
+    Ok(Status::Done)
+}
+
+// Writes the numbers of components, units, events and cuts, and the size of the largest cut.
+fn put_made<K: Sink>(
+    out: &mut K,
+    number: u32,
+    parts: &GtsParts,
+    counted: Counted,
+) -> Result<(), SinkFailed>
+    ensures { Writes (K.state out.old) (K.state out.new)
+        (make_lines number (length parts.now.units.items) (length parts.now.events.items)
+        counted.sets counted.largest) result }
+{
+    put_line(out, "make ", u128::from(number))?;
+    put_line(out, "units ", parts.units.len() as u128)?;
+    put_line(out, "events ", parts.events.len() as u128)?;
+    put_line(out, "cuts ", counted.sets)?;
+    put_line(out, "largest ", u128::from(counted.largest))
+}
+
+// Writes a line with a number.
+fn put_line<K: Sink>(out: &mut K, named: &str, number: u128) -> Result<(), SinkFailed>
+    ensures { Writes (K.state out.old) (K.state out.new) (line (named.now ++ decimal number)) result }
+{
+    put(out, named)?;
+    put_wide(out, number)?;
+    put(out, "\n")
+}

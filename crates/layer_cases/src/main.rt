@@ -9,6 +9,7 @@ mod families;
 mod jobs;
 mod names;
 mod rows;
+mod table_texts;
 
 use ar_base::Memory;
 use std::io;
@@ -24,5 +25,6 @@ fn main(rt: HostRuntime) -> io::Result<()> {
     expressions::run(&rt)?;
     classes::run(&rt)?;
     families::run(&rt)?;
+    table_texts::run(&rt)?;
     jobs::run(&rt)
 }

@@ -15,3 +15,6 @@ pub mod RunLemmas
 pub mod TouchLemmas
 pub mod ChangeLemmas
 pub mod ObservingLemmas
+pub mod SettleLemmas
+pub mod CutLineLemmas
+pub mod CutListLemmas

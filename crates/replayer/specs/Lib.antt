@@ -8,3 +8,8 @@ pub mod Printing
 pub mod Listing
 pub mod Playing
 pub mod Reads
+pub mod Settles
+pub mod Settling
+pub mod CutLines
+pub mod CutLists
+pub mod CutReads

@@ -2,6 +2,8 @@
 #![tactic(auto)]
 
 mod commands;
+mod cut_lines;
+mod cut_lists;
 mod cutting;
 mod enabled;
 mod labels;
@@ -13,13 +15,16 @@ mod paths;
 pub mod pieces;
 mod replaying;
 mod script_labels;
+mod settling;
 mod shown;
 mod touched;
 mod trace;
 mod way_numbers;
 
 pub use commands::{Command, ScriptFault, read_script};
+pub use cut_lists::read_cuts;
 pub use cutting::first_piece;
 pub use labels::{print_flow_fault, print_label};
 pub use paths::{event_named, names_of};
 pub use replaying::{End, ReplayFault, replay};
+pub use settling::settle;

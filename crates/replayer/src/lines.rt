@@ -8,6 +8,7 @@ ghost use Rattle.replayer.specs.Reads.{IsSaid};
 use crate::cutting::first_piece;
 
 /// What a line says.
+#[derive(Drop)]
 pub(crate) enum Line<'a> {
     /// Nothing.
     Skipped,
@@ -23,14 +24,15 @@ pub(crate) enum Line<'a> {
     NoCommand,
 }
 
-fn is_space_or_tab(byte: u8) -> bool
+/// Whether a byte is a space or a tab.
+pub(crate) fn is_space_or_tab(byte: u8) -> bool
     ensures { result ≡ is_space_or_tab byte }
 {
     byte == b' ' || byte == b'\t'
 }
 
-// How many blanks stand at the front.
-fn blanks_len(bytes: &[u8]) -> usize
+/// How many blanks stand at the front.
+pub(crate) fn blanks_len(bytes: &[u8]) -> usize
     ensures value { result ≡ prefix_len is_space_or_tab bytes.now }
     ensures within { result ≤ length bytes.now }
 {
@@ -60,8 +62,8 @@ pub(crate) fn first_line(bytes: &[u8]) -> (&[u8], Option<&[u8]>)
     first_piece(bytes, b'\n')
 }
 
-// The line without a carriage return at its end.
-fn without_return(line: &[u8]) -> &[u8]
+/// The line without a carriage return at its end.
+pub(crate) fn without_return(line: &[u8]) -> &[u8]
     ensures { result.now ≡ without_return line.now }
 {
     if let Some((last, rest)) = line.split_last() {

@@ -83,8 +83,13 @@ fn fire<K: Sink>(
     }
 }
 
-// Tells why a way was not fired.
-fn refuse<K: Sink>(gts: &Gts, way: WayId, fault: StepFault, out: &mut K) -> Result<End, ReplayFault>
+/// Tells why a way was not fired.
+pub(crate) fn refuse<K: Sink>(
+    gts: &Gts,
+    way: WayId,
+    fault: StepFault,
+    out: &mut K,
+) -> Result<End, ReplayFault>
     requires inside { way.n < length gts.now.ways.items }
     requires range { IsFaultInRange gts.now fault }
     ensures { IsRefusal gts.now way.n fault (K.state out.old) (K.state out.new) result }

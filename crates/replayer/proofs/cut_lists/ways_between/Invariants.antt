@@ -1,0 +1,20 @@
+use Rattle.std.proofs.Common.{map}
+use Rattle.gts_flatten.specs.Elaborating.{Elaborated}
+use Rattle.replayer.specs.CutLines.{is_comma, trimmed}
+use Rattle.replayer.specs.CutLists.{labels_of}
+use Rattle.replayer.specs.CutReads.{AreKnownWays, AreReached, commas_left}
+use Rattle.replayer.specs.Flat.{IsOfTree}
+use Rattle.replayer.specs.Lines.{pieces}
+use Rattle.replayer.specs.Reads.{bytes_left}
+use Rattle.replayer.proofs.cut_lists.ways_between.Given as goal
+
+-- the texts so far are labels of the ways so far
+abbrev pub invariant-loop-rest : goal.invariant-loop-rest
+invariant-loop-rest l = record {
+  reached : (x : Elaborated) → IsOfTree x l.tree l.gts
+      → AreReached x (map trimmed (pieces is_comma l.inner)) (map trimmed (commas_left l.rest)) (labels_of l.gts l.ways.items);
+  known : (x : Elaborated) → IsOfTree x l.tree l.gts → AreKnownWays l.gts l.ways.items;
+}
+
+abbrev pub decreases-loop-rest : goal.decreases-loop-rest
+decreases-loop-rest l = bytes_left l.rest

@@ -1,0 +1,30 @@
+use Rattle.std.proofs.Common.{◌∙◌, Err, ap, subst}
+use Rattle.std.proofs.lemmas.Result.{err_from_is_err_and}
+use Rattle.flow_propagate.specs.Answers.{fault_of}
+use Rattle.flow_propagate.specs.declared.propagation.PropagateFault.{PropagateFault}
+use Rattle.gts_core.specs.View.{net_of}
+use Rattle.gts_flatten.specs.Flat.{naming_of_parts}
+use Rattle.stepper.specs.Steps.{IsStartFault}
+use Rattle.replayer.proofs.ObeyLemmas.{flows_inside}
+use Rattle.replayer.proofs.SettleLemmas.{unstarted, settles_as}
+use Rattle.replayer.proofs.settling.unstarted.Goals as goal
+
+pub not_started-requires : goal.not_started-requires
+not_started-requires g c =
+    let p = c.args.gts.now in
+    let fails = subst (λ (f : PropagateFault). IsStartFault (net_of p) f) c.in-Flow.is c.requires.fault in
+    flows_inside p _ c.in-Flow.flow fails
+
+pub returns-in_err-not_started-in-Flow-clause-answers : goal.returns-in_err-not_started-in-Flow-clause-answers
+returns-in_err-not_started-in-Flow-clause-answers g c = λ system views commands.
+    let p = c.args.gts.now in
+    let fails = subst (λ (f : PropagateFault). IsStartFault (net_of p) f) c.in-Flow.is c.requires.fault in
+    let r = err_from_is_err_and c.from_residual.result c.from_residual.ensures.1 in
+    settles_as (naming_of_parts p) system commands _ _ (r.1 ∙ ap Err r.2)
+    (_, unstarted p c.requires.sound system views (fault_of c.in-Flow.flow) commands fails, c.in_err-not_started-in-Flow.ensures)
+
+pub returns-in_ok-not_started-in-Flow-clause-answers : goal.returns-in_ok-not_started-in-Flow-clause-answers
+returns-in_ok-not_started-in-Flow-clause-answers g c = λ system views commands.
+    let p = c.args.gts.now in
+    let fails = subst (λ (f : PropagateFault). IsStartFault (net_of p) f) c.in-Flow.is c.requires.fault in
+    (_, unstarted p c.requires.sound system views (fault_of c.in-Flow.flow) commands fails, c.in_ok-not_started-in-Flow.ensures)

@@ -4,4 +4,4 @@
 mod values;
 mod wanting;
 
-pub use wanting::{Wanted, WantedFault, read_wanted};
+pub use wanting::{Wanted, WantedFault, observer_named, read_wanted};

@@ -76,8 +76,14 @@ pub fn read_wanted(
     })
 }
 
-// The observer that a path names, read from the main block.
-fn observer_named(alloc: Global, tree: &Tree, gts: &Gts, path: &[u8]) -> Result<Option<u32>, Memory>
+/// The observer that a path names, read from the main block and through aliases too; None exactly where it names none. The
+/// error is want of memory.
+pub fn observer_named(
+    alloc: Global,
+    tree: &Tree,
+    gts: &Gts,
+    path: &[u8],
+) -> Result<Option<u32>, Memory>
     requires { (x : Elaborated) × IsOfTree x tree.now gts.now }
     ensures { (x : Elaborated) → IsOfTree x tree.now gts.now
         → IfOk result (AnswersObserver x path.now) }

@@ -1,0 +1,15 @@
+mod Sections
+mod Numbers
+mod Answering
+mod Tables
+mod Ending
+mod Splitting
+mod Exchange
+mod Criterion
+mod Entering
+mod Parting
+mod Deciding
+mod Once
+mod Forming
+mod Walking
+mod Choosing

@@ -1,0 +1,7 @@
+use Rattle.std.proofs.Common.{subst}
+use Rattle.gate_modules.specs.Entries.{node_numbers, Adds}
+use Rattle.gate_modules.proofs.Entering.{entries_from}
+use Rattle.gate_modules.proofs.entries.entries_of.Goals as goal
+
+pub returns : goal.returns
+returns c = entries_from c.args.store.now c.args.from c.args.root.n (node_numbers c.collect.new.entries.items) c.in_ok-collect.ensures.covered (subst (λ z. Adds c.args.store.now c.args.from c.args.root.n (node_numbers z) (node_numbers c.collect.new.entries.items)) c.new-entries.ensures.items c.in_ok-collect.ensures.added)

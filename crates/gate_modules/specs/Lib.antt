@@ -1,0 +1,9 @@
+pub mod Modules
+pub mod Shortened
+pub mod Ends
+pub mod Walked
+pub mod Entries
+pub mod Parts
+pub mod Deciding
+pub mod Forms
+pub mod Choosing

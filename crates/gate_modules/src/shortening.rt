@@ -1,0 +1,129 @@
+//! A family in short.
+
+ghost use Rattle.std.specs.Prelude.{◌≡◌, ◌+◌, IfOk, OnOk, length, map, true, false, []};
+ghost use Rattle.zdd_nodes.specs.Nodes.{family as family_of, IsNumber, IsSoundStore};
+ghost use Rattle.gate_modules.specs.Choosing.{IsWithin, IsWithinNone, Considers, AreChosenSoFar};
+ghost use Rattle.gate_modules.specs.Modules.{AreRanges, Covers};
+ghost use Rattle.gate_modules.specs.Shortened.{Shortens, module_of};
+ghost use Rattle.gate_modules.specs.Walked.{AreTwins};
+
+use crate::forms::add_forms;
+use crate::modules::module_sets;
+use crate::ranges::{Module, Range, Short};
+use crate::twins::{Twin, no_twin};
+use ar_base::Memory;
+use gate_diagrams::Family;
+use std::alloc::Global;
+use zdd_nodes::{NodeId, Store};
+
+/// The family in short: of the units of these ranges those that are chosen, by number, each with its parts, and the short
+/// forms of the family's sets, each once, in the order of the first set that has it. It makes no node of a diagram.
+pub fn shorten(alloc: Global, family: &Family, ranges: &[Range]) -> Result<Short, Memory>
+    requires root { IsNumber family.now.store family.now.root.n }
+    requires ranges { AreRanges ranges.now }
+    ensures { IfOk result (λ s. Shortens (family_of family.now.store family.now.root.n) ranges.now s) }
+{
+    let mut chosen = Vec::new(alloc);
+    let mut modules = Vec::new(alloc);
+    let mut sets = Vec::new(alloc);
+    let store = &family.store;
+    let room = store.len() as usize + 2;
+    let mut twins = vec![in alloc; no_twin(); room]?;
+    choose(
+        alloc,
+        store,
+        family.root,
+        ranges,
+        &mut twins,
+        &mut chosen,
+        &mut modules,
+    )?;
+    add_forms(alloc, store, &chosen, family.root, &[], &mut sets)?;
+    Ok(Short { modules, sets })
+}
+
+// The chosen units of these ranges, and these as modules.
+fn choose(
+    alloc: Global,
+    store: &Store,
+    root: NodeId,
+    ranges: &[Range],
+    twins: &mut [Twin],
+    chosen: &mut Vec<Range>,
+    modules: &mut Vec<Module>,
+) -> Result<(), Memory>
+    requires sound { IsSoundStore store.now }
+    requires root { IsNumber store.now root.n }
+    requires ranges { AreRanges ranges.now }
+    requires room { length twins.old ≡ length store.now.families + 2 }
+    requires known { AreTwins store.now twins.old }
+    requires no_range { chosen.old.items ≡ [] }
+    requires no_module { modules.old.items ≡ [] }
+    ensures { OnOk result (AreChosenSoFar (family_of store.now root.n) ranges.now ranges.now
+        chosen.new.items (map module_of modules.new.items)) }
+{
+    for range in ranges {
+        consider(alloc, store, root, *range, twins, chosen, modules)?;
+    }
+    Ok(())
+}
+
+// Chooses the unit of the range where it is a module and lies within no chosen one.
+fn consider(
+    alloc: Global,
+    store: &Store,
+    root: NodeId,
+    range: Range,
+    twins: &mut [Twin],
+    chosen: &mut Vec<Range>,
+    modules: &mut Vec<Module>,
+) -> Result<(), Memory>
+    requires sound { IsSoundStore store.now }
+    requires root { IsNumber store.now root.n }
+    requires room { length twins.old ≡ length store.now.families + 2 }
+    requires known { AreTwins store.now twins.old }
+    ensures considers { OnOk result (Considers (family_of store.now root.n) range chosen.old.items
+        (map module_of modules.old.items) chosen.new.items (map module_of modules.new.items)) }
+    ensures known { OnOk result (AreTwins store.now twins.new) }
+    ensures long { OnOk result (length twins.new ≡ length twins.old) }
+{
+    if is_within(chosen, range) {
+        return Ok(());
+    }
+    let Some(sets) = module_sets(alloc, store, root, range, twins)? else {
+        return Ok(());
+    };
+    chosen.push(range)?;
+    modules.push(Module {
+        unit: range.unit,
+        sets,
+    })?;
+    Ok(())
+}
+
+// Whether the range lies within one of these.
+fn is_within(chosen: &[Range], range: Range) -> bool
+    ensures yes { result ≡ true → IsWithin chosen.now range }
+    ensures no { result ≡ false → IsWithinNone chosen.now range }
+{
+    for outer in chosen {
+        if covers(*outer, range) {
+            return true;
+        }
+    }
+    false
+}
+
+// Whether the events of the second range are among those of the first.
+fn covers(outer: Range, inner: Range) -> bool
+    ensures yes { result ≡ true → Covers outer inner }
+    ensures no { result ≡ false → Covers outer inner → ⊥ }
+{
+    if outer.from > inner.from {
+        return false;
+    }
+    if inner.to > outer.to {
+        return false;
+    }
+    true
+}

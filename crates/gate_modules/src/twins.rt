@@ -1,0 +1,165 @@
+// Whether two families have the same sets of events below a bound, each with one family that follows.
+
+ghost use Rattle.std.specs.Prelude.{◌≡◌, ◌↔◌, ◌<◌, MatchOption, length, true, ◌⊎◌};
+ghost use Rattle.zdd_nodes.specs.Nodes.{Stored, IsNumber, IsSoundStore};
+ghost use Rattle.gate_modules.specs.Walked.{AreTwins, EndsBelow, HasBelow, IsAsked, AreEnds, Answers, Agrees, AgreesSome};
+
+use ar_base::EventId;
+use zdd_nodes::{NodeId, Store};
+
+/// Two families that were found to agree: the number of the second, and those of what follows.
+#[derive(Clone, Copy, Debug)]
+pub(crate) struct Twin {
+    pub(crate) to: u32,
+    pub(crate) node: NodeId,
+    pub(crate) end: NodeId,
+    pub(crate) node_end: NodeId,
+}
+
+/// An entry that tells nothing. Takes no memory.
+pub(crate) fn no_twin() -> Twin
+    ensures { result.node.n ≡ 0 }
+{
+    let none = NodeId::new(0);
+    Twin {
+        to: 0,
+        node: none,
+        end: none,
+        node_end: none,
+    }
+}
+
+/// What is asked of two families: the bound, and what follows the events below it, in the first and in the second.
+#[derive(Clone, Copy, Debug)]
+pub(crate) struct Question {
+    pub(crate) to: u32,
+    pub(crate) end: NodeId,
+    pub(crate) node_end: NodeId,
+}
+
+/// The event and the halves of a number whose family has an event below the bound. Takes no memory.
+pub(crate) fn below(store: &Store, to: u32, number: NodeId) -> Option<(EventId, NodeId, NodeId)>
+    requires { IsNumber store.now number.n }
+    ensures halves { MatchOption result (EndsBelow store.now to number.n)
+        (λ t. HasBelow store.now to number.n t.0.n t.1.n t.2.n) }
+    ensures sound { IsSoundStore store.now }
+{
+    match store.split(number) {
+        Some((event, lo, hi)) if event.n < to => Some((event, lo, hi)),
+        _ => None,
+    }
+}
+
+// Whether the table tells that the families agree as asked.
+fn is_known(twins: &[Twin], asked: Question, first: NodeId, second: NodeId) -> bool
+    requires room { first.n < length twins.now }
+    ensures { (s : Stored) → AreTwins s twins.now → result ≡ true → Agrees s asked first.n second.n }
+{
+    let known = twins[first.n as usize];
+    known.node.n > 0 && is_asked(known, asked, second)
+}
+
+// Whether the entry is about this number and what is asked.
+fn is_asked(known: Twin, asked: Question, second: NodeId) -> bool
+    ensures { result ≡ true → IsAsked known asked second.n }
+{
+    if known.node.n != second.n || known.to != asked.to {
+        return false;
+    }
+    if known.end.n != asked.end.n || known.node_end.n != asked.node_end.n {
+        return false;
+    }
+    true
+}
+
+// Whether both families are empty, or what is to follow.
+fn both_end(asked: Question, first: NodeId, second: NodeId) -> bool
+    ensures { (result ≡ true) ↔ (((first.n ≡ 0) × (second.n ≡ 0)) ⊎ ((first.n ≡ asked.end.n) × (second.n ≡ asked.node_end.n))) }
+{
+    (first.n == 0 && second.n == 0) || (first.n == asked.end.n && second.n == asked.node_end.n)
+}
+
+/// Whether both families have the same sets of events below the bound, where after each of these the first goes on as
+/// asked, and the second too. Takes no memory.
+pub(crate) fn agree(
+    store: &Store,
+    twins: &mut [Twin],
+    asked: Question,
+    first: NodeId,
+    second: NodeId,
+) -> bool
+    requires first_in { IsNumber store.now first.n }
+    requires second_in { IsNumber store.now second.n }
+    requires room { first.n < length twins.old }
+    requires ends { AreEnds store.now asked }
+    requires known { AreTwins store.now twins.old }
+    ensures is { Answers result (Agrees store.now asked first.n second.n) }
+    ensures known { AreTwins store.now twins.new }
+    ensures long { length twins.new ≡ length twins.old }
+{
+    if is_known(twins, asked, first, second) {
+        return true;
+    }
+    match (
+        below(store, asked.to, first),
+        below(store, asked.to, second),
+    ) {
+        (Some((event, lo, hi)), Some((other, other_lo, other_hi))) => {
+            if event.n != other.n {
+                return false;
+            }
+            if !agree(store, twins, asked, hi, other_hi) {
+                return false;
+            }
+            if !agree(store, twins, asked, lo, other_lo) {
+                return false;
+            }
+            twins[first.n as usize] = Twin {
+                to: asked.to,
+                node: second,
+                end: asked.end,
+                node_end: asked.node_end,
+            };
+            true
+        }
+        (None, None) => both_end(asked, first, second),
+        (Some(_), None) => false,
+        (None, Some(_)) => false,
+    }
+}
+
+/// The same but for the empty set: whether both families have the same nonempty sets of events below the bound.
+pub(crate) fn agree_some(
+    store: &Store,
+    twins: &mut [Twin],
+    asked: Question,
+    first: NodeId,
+    second: NodeId,
+) -> bool
+    requires first_in { IsNumber store.now first.n }
+    requires second_in { IsNumber store.now second.n }
+    requires room { first.n < length twins.old }
+    requires ends { AreEnds store.now asked }
+    requires known { AreTwins store.now twins.old }
+    ensures is { Answers result (AgreesSome store.now asked first.n second.n) }
+    ensures known { AreTwins store.now twins.new }
+    ensures long { length twins.new ≡ length twins.old }
+{
+    match (
+        below(store, asked.to, first),
+        below(store, asked.to, second),
+    ) {
+        (Some((event, lo, hi)), Some((other, other_lo, other_hi))) => {
+            if event.n != other.n {
+                return false;
+            }
+            if !agree(store, twins, asked, hi, other_hi) {
+                return false;
+            }
+            agree_some(store, twins, asked, lo, other_lo)
+        }
+        (None, None) => true,
+        (Some(_), None) => false,
+        (None, Some(_)) => false,
+    }
+}

@@ -2,5 +2,5 @@ pub mod Rounding
 pub mod Sufficing
 pub mod Ascending
 pub mod Standing
-mod Totals
+pub mod Totals
 pub mod ImageRounds

@@ -1,0 +1,15 @@
+mod Placing
+mod Runs
+mod Pairing
+mod Knowing
+mod Gathering
+mod Readers
+mod Marking
+mod Standing
+mod Counting
+mod Rounding
+mod RestRows
+mod Totals
+mod ReasonList
+mod SeenLists
+mod Followed

@@ -1,0 +1,132 @@
+// What is known of the facts of a standing valuation after some rounds.
+
+ghost use Rattle.std.specs.Prelude.{◌≡◌, ◌<◌, ◌∷◌, [], true, length, map, slice_get, IfOk, Contains};
+ghost use Rattle.domains.specs.declared.Value.{Value};
+ghost use Rattle.typed_expr.specs.Kinds.{kind_of};
+ghost use Rattle.ar_meaning.specs.Facts.{Passes};
+ghost use Rattle.ar_meaning.specs.Found.{IsAnswer};
+ghost use Rattle.gts_core.specs.View.{condition_of};
+ghost use Rattle.gts_core.specs.Readings.{value_at};
+ghost use Rattle.flow_reasons.specs.Marks.{Known as IsKnown, known_at, is_fact_found};
+ghost use Rattle.flow_reasons.specs.Bringing.{Brings};
+
+use ar_base::{AssignId, Memory, VarId};
+use domains::Value;
+use gts_core::Assign;
+use std::alloc::Global;
+use typed_expr::{Env, Expr, ValueKind, eval_set};
+
+/// What is known of the fact of a variable.
+#[derive(Clone, Copy)]
+pub enum Mark {
+    /// It has none so far.
+    Unknown,
+    /// The state gives it.
+    Given,
+    /// It came in this round by this assignment.
+    Added(u32, AssignId),
+}
+
+/// The values of the variables that have their facts.
+#[derive(Drop)]
+pub struct Known<'a> {
+    /// The values of all variables, by number.
+    pub values: &'a [Value],
+    /// The marks of all variables, by number.
+    pub marks: &'a [Mark],
+}
+
+impl Env<VarId> for Known<'_> {
+    ghost value_at = { λ e x. value_at e.values.now x.n };
+
+    ghost facts_at = { λ e x. known_at e.values.now e.marks.now x.n };
+
+    ghost kind_at = { λ e x. kind_of (value_at e.values.now x.n) };
+
+    fn value(&self, v: &VarId) -> Value {
+        match self.values.get(v.n as usize) {
+            Some(value) => *value,
+            None => Value::Truth(false),
+        }
+    }
+
+    fn facts(&self, v: &VarId) -> &[Value] {
+        if !is_known(self.marks, v.n) {
+            return &[];
+        }
+        let place = v.n as usize;
+        if place < self.values.len() {
+            &self.values[place..place + 1]
+        } else {
+            &[]
+        }
+    }
+
+    fn kind(&self, v: &VarId) -> ValueKind {
+        match self.value(v) {
+            Value::Truth(_) => ValueKind::Truth,
+            Value::Whole(_) => ValueKind::Whole,
+            Value::Symbol(_) => ValueKind::Symbol,
+        }
+    }
+}
+
+// Whether the variable of this number has its fact.
+pub(crate) fn is_known(marks: &[Mark], n: u32) -> bool
+    ensures { result ≡ is_fact_found (slice_get marks.now n) }
+{
+    match marks.get(n as usize) {
+        Some(Mark::Given) => true,
+        Some(Mark::Added(_, _)) => true,
+        _ => false,
+    }
+}
+
+// Whether every condition yields the truth value that it must have.
+fn reached(
+    alloc: Global,
+    conditions: &[(Expr<VarId>, bool)],
+    known: &Known<'_>,
+) -> Result<bool, Memory>
+    ensures { IfOk result (λ b. IsAnswer b (Passes (IsKnown known.now.values.now known.now.marks.now) (map condition_of conditions.now))) }
+{
+    for (test, must) in conditions {
+        let set = eval_set(alloc, test, known)?;
+        if !has(set.values(), Value::Truth(*must)) {
+            return Ok(false);
+        }
+    }
+    Ok(true)
+}
+
+// Whether the value is one of these.
+fn has(values: &[Value], v: Value) -> bool
+    ensures { IsAnswer result (Contains values.now v) }
+{
+    values.contains(&v)
+}
+
+// Whether the assignment's target has no fact yet, and the assignment is reached from what is known and yields the target's
+// value.
+pub(crate) fn brings(
+    alloc: Global,
+    assign: &Assign,
+    values: &[Value],
+    marks: &[Mark],
+) -> Result<bool, Memory>
+    requires marks { assign.now.target.n < length marks.now }
+    requires values { assign.now.target.n < length values.now }
+    ensures { IfOk result (λ b. IsAnswer b (Brings values.now marks.now assign.now)) }
+{
+    if is_known(marks, assign.target.n) {
+        return Ok(false);
+    }
+    let known = Known { values, marks };
+    let reaches = reached(alloc, &assign.when, &known)?;
+    if !reaches {
+        return Ok(false);
+    }
+    let set = eval_set(alloc, &assign.value, &known)?;
+    let yields = has(set.values(), values[assign.target.n as usize]);
+    Ok(yields)
+}

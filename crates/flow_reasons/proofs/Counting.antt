@@ -1,5 +1,5 @@
 -- How many variables have no fact yet.
-use Rattle.std.proofs.Common.{◌≡◌, ◌<◌, ◌≤◌, ◌+◌, ℕ, zero, suc, Bool, true, false, List, [], ◌∷◌, length, if◌then◌else◌, refl, sym, ap, subst, arith}
+use Rattle.std.proofs.Common.{◌≡◌, ◌<◌, ◌≤◌, ℕ, zero, suc, Bool, true, false, List, [], ◌∷◌, length, if◌then◌else◌, refl, sym, ap, subst, arith}
 use Rattle.ar_base.specs.Lists.{Stands}
 use Rattle.ar_base.proofs.Standing.{stands_none}
 use Rattle.flow_reasons.specs.declared.known.Mark.{Mark}
@@ -66,5 +66,5 @@ fewer (x ∷ old) (y ∷ new) e k zero o c =
     go false e = absurd (c (record { mark = y; stands = refl; is = e }))
 fewer (x ∷ old) (y ∷ new) e k (suc n) o c =
     let h = fewer old new (omega (arith, e)) (λ n m s i. k (suc n) m s i) n (record { mark = o.mark; stands = o.stands; is = o.is })
-        (λ q. c (record { mark = q.mark; stands = q.stands; is = q.is })) in
+    (λ q. c (record { mark = q.mark; stands = q.stands; is = q.is })) in
     let i = one_less x y (λ i. (let s = k 0 x refl i in cc (s))) in omega (arith, h, i)

@@ -1,10 +1,10 @@
 -- The reasons that are followed from some variables.
-use Rattle.std.proofs.Common.{◌≡◌, ◌↔◌, ◌<◌, ◌≤◌, ◌+◌, ◌⊎◌, inl, inr, ℕ, zero, suc, Bool, true, false, List, [], ◌∷◌, ◌++◌, map, length, get_or, refl, sym, ap, ◌∙◌, subst, arith, ltb, ◌==◌, if◌then◌else◌, eq-eqb}
+use Rattle.std.proofs.Common.{◌≡◌, ◌↔◌, ◌<◌, ◌≤◌, ◌+◌, ◌⊎◌, inl, inr, ℕ, zero, suc, Bool, true, false, List, [], map, length, get_or, refl, sym, ap, ◌∙◌, subst, arith, ltb, ◌==◌, if◌then◌else◌, eq-eqb}
 use Rattle.std.proofs.lemmas.Bool.{ltb-true, ltb-false, cases_eq, eqb-true}
 use Rattle.std.specs.List.Sorted.{IsPartitionPoint, IsNonDecreasingBy}
 use Rattle.ar_base.specs.Lists.{Stands, IsOneOf}
 use Rattle.ar_base.specs.Numbers.{VarId}
-use Rattle.ar_base.proofs.Standing.{at_most, stands_one, stands_none, stands_within, stands_some, stands_map, stands_map_back, stands_get, one_none, one_here, one_cases}
+use Rattle.ar_base.proofs.Standing.{at_most, stands_one, stands_none, stands_within, stands_some, stands_map, stands_map_back, stands_get, one_none, one_here}
 use Rattle.domains.specs.declared.Value.{Value}
 use Rattle.typed_expr.specs.Mentions.{Mentions}
 use Rattle.typed_expr.specs.Pairs.{turned}
@@ -13,14 +13,14 @@ use Rattle.typed_expr.proofs.Renaming.{mentions_carry, renames_turned}
 use Rattle.ar_meaning.specs.Systems as s
 use Rattle.flow_rounds.specs.Reasons.{IsReason, derived, reset, AreReasonsFrom, AreReasons, none, state, flow, InCone, named, rested_on, IsCone}
 use Rattle.flow_rounds.specs.Reasons as rounds
-use Rattle.flow_rounds.proofs.Standing.{ReasonAt, reason_at}
+use Rattle.flow_rounds.proofs.Standing.{reason_at}
 use Rattle.gts_core.specs.Sound.{IsSound}
 use Rattle.gts_core.specs.View.{net_of, numbered, variable_of}
 use Rattle.gts_core.specs.declared.system.Observer.{Observer}
 use Rattle.gts_core.specs.declared.system.GtsParts.{GtsParts}
 use Rattle.gts_core.proofs.Numbering.{IsNumber, renames_numbered}
-use Rattle.gts_core.proofs.Viewing.{variable_there, variables_long, are_numbered}
-use Rattle.flow_propagate.specs.Named.{AddsNamed, IsPairFor}
+use Rattle.gts_core.proofs.Viewing.{variable_there, are_numbered}
+use Rattle.flow_propagate.specs.Named.{AddsNamed}
 use Rattle.flow_reasons.specs.Answers.{numbers_of, reason_of, reasons_of}
 use Rattle.flow_reasons.specs.Cones.{AreSeen, SeesAll, RestsUpon, AreOrderly, IsReached, begins, follows, AreReached, AreMembers, AreRestsUpon, AreNumbersOf, NamesNumber}
 use Rattle.flow_reasons.specs.declared.reason.Reason.{Reason}
@@ -35,11 +35,11 @@ module _ (reasons : List Reason) (x from count : ℕ) (orderly : AreOrderly coun
       let here : (get_or reasons k r).flow.n ≡ x = ap (λ (z : Reason). z.flow.n) is ∙ e in
       let early : k < from → ⊥ = λ h. (let a = ltb-true _ _ (low.0 k r (omega arith) h) in omega (arith, a, here)) in
       let late : from < k → ⊥ = λ h. (
-          let q = stands_some reasons from (omega (arith, l, h)) in
-          let i = stands_one reasons from (get_or reasons from q.0) q.0 (stands_get reasons from q.0 (omega (arith, l, h))) q.1 in
-          let a = ltb-false _ _ (low.1 from q.0 (omega arith) (omega (arith, l, h))) in
-          let b = orderly.ascend from k (reason_of q.0) (reason_of r) h (stands_map reason_of reasons from q.0 q.1) (stands_map reason_of reasons k r st) in
-          let j = ap (λ (z : Reason). z.flow.n) i in omega (arith, a, b, j, e)) in
+      let q = stands_some reasons from (omega (arith, l, h)) in
+      let i = stands_one reasons from (get_or reasons from q.0) q.0 (stands_get reasons from q.0 (omega (arith, l, h))) q.1 in
+      let a = ltb-false _ _ (low.1 from q.0 (omega arith) (omega (arith, l, h))) in
+      let b = orderly.ascend from k (reason_of q.0) (reason_of r) h (stands_map reason_of reasons from q.0 q.1) (stands_map reason_of reasons k r st) in
+      let j = ap (λ (z : Reason). z.flow.n) i in omega (arith, a, b, j, e)) in
       omega (arith, early, late)
 
   -- a variable that the reason rests on, by the list
@@ -219,6 +219,6 @@ flows_rise reasons count order = λ i j d l h. go i j d l h (cases_eq i j)
     go i j d l h (inr n) =
         let less : i < j = omega (arith, l, n) in
         let k = order.ascend i j (reason_of (get_or reasons i d)) (reason_of (get_or reasons j d)) less
-            (stands_map reason_of reasons i (get_or reasons i d) (stands_get reasons i d (omega (arith, h, less))))
-            (stands_map reason_of reasons j (get_or reasons j d) (stands_get reasons j d h)) in
+        (stands_map reason_of reasons i (get_or reasons i d) (stands_get reasons i d (omega (arith, h, less))))
+        (stands_map reason_of reasons j (get_or reasons j d) (stands_get reasons j d h)) in
         omega (arith, k)

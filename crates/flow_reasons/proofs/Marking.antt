@@ -1,5 +1,5 @@
 -- Marks that are set one after the other.
-use Rattle.std.proofs.Common.{◌≡◌, ◌<◌, ◌≤◌, ◌+◌, ◌⊎◌, inl, inr, ℕ, Bool, true, false, List, [], ◌∷◌, ◌++◌, length, set, get_or, take, refl, sym, ap, ◌∙◌, subst, arith, length-set}
+use Rattle.std.proofs.Common.{◌≡◌, ◌<◌, ◌≤◌, ◌+◌, ◌⊎◌, inl, inr, ℕ, true, false, List, [], ◌∷◌, ◌++◌, length, set, get_or, take, refl, sym, ap, ◌∙◌, subst, arith, length-set}
 use Rattle.std.proofs.lemmas.List.{take_more, take_all}
 use Rattle.ar_base.specs.Lists.{Stands, IsOneOf}
 use Rattle.ar_base.specs.Numbers.{AssignId}
@@ -11,7 +11,7 @@ use Rattle.flow_reasons.specs.declared.known.Mark.{Mark}
 use Rattle.flow_reasons.specs.declared.known.Mark.TheVariants.{Added}
 use Rattle.flow_reasons.specs.Marks.{is_fact}
 use Rattle.flow_reasons.specs.Bringing.{IsOpen, IsTo, IsMarkedBy, MarksAll}
-use Rattle.flow_reasons.proofs.Placing.{set_here, set_other, set_back, pushed_cases, pushed_old, pushed_last}
+use Rattle.flow_reasons.proofs.Placing.{set_other, set_back, pushed_cases, pushed_old, pushed_last}
 use Rattle.flow_reasons.proofs.Gathering.{before_next}
 
 pub open_not : {marks : List Mark} {n : ℕ} {m : Mark} → IsOpen marks n → Stands marks n m → is_fact m ≡ true → ⊥
@@ -102,9 +102,9 @@ module _ (p : GtsParts) (round : ℕ) (old : List Mark) where
             let here : P a.target.n m = inr (was_open, (pushed_last fresh a.target.n, marked_now)) in
             subst (λ k. P k x) (sym e.0) (subst (λ (z : Mark). P a.target.n z) e.1 here))
         | inr q ↦ (elim (d.only n x q.1) [
-            | inl k ↦ inl k
-            | inr k ↦ inr (k.0, (pushed_old fresh a.target.n n k.1.0, marked_more n x k.1.1))
-          ])
+          | inl k ↦ inl k
+          | inr k ↦ inr (k.0, (pushed_old fresh a.target.n n k.1.0, marked_more n x k.1.1))
+        ])
       ]
 
       still_open : (n : ℕ) → IsOpen new n → (n ≡ a.target.n → ⊥) × IsOpen marks n

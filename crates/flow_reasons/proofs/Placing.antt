@@ -1,5 +1,5 @@
 -- Places in lists that change, and ascending lists that grow.
-use Rattle.std.proofs.Common.{◌≡◌, ◌<◌, ◌≤◌, ◌+◌, ◌⊎◌, inl, inr, ℕ, zero, suc, Bool, true, false, List, [], ◌∷◌, ◌++◌, length, get_or, set, take, drop, Result, Ok, Err, IfOk, refl, sym, ap, ◌∙◌, subst, arith}
+use Rattle.std.proofs.Common.{◌≡◌, ◌<◌, ◌+◌, ◌⊎◌, inl, inr, ℕ, zero, suc, List, [], ◌∷◌, ◌++◌, length, set, take, drop, Result, Ok, Err, IfOk, refl, ap, ◌∙◌, subst, arith}
 use Rattle.std.proofs.lemmas.Bool.{cases_eq}
 use Rattle.ar_base.specs.declared.faults.Memory.{Memory}
 use Rattle.ar_base.specs.Lists.{Stands, IsOneOf}
@@ -73,18 +73,18 @@ member_told [] m = inr (λ o. one_none m o)
 member_told (n ∷ ns) m = elim (cases_eq n m) [
   | inl e ↦ inl (subst (λ z. IsOneOf (n ∷ ns) z) e (one_first n ns))
   | inr f ↦ (elim (member_told ns m) [
-      | inl o ↦ inl (one_rest n ns m o)
-      | inr g ↦ inr (λ o. elim (one_cases n ns m o) [ inl e ↦ f e | inr r ↦ g r ])
-    ])
+    | inl o ↦ inl (one_rest n ns m o)
+    | inr g ↦ inr (λ o. elim (one_cases n ns m o) [ inl e ↦ f e | inr r ↦ g r ])
+  ])
 ]
 
 pub pair_told : (p q : ℕ × ℕ) → (p ≡ q) ⊎ (p ≡ q → ⊥)
 pair_told (a, b) (c, d) = elim (cases_eq a c) [
   | inl e ↦ (elim (cases_eq b d) [
-      | inl f ↦ inl (let P : ℕ → ℕ → Type 0 = λ x y. ◌≡◌ {A = ℕ × ℕ} (a, b) (x, y) in
-          subst (λ y. P c y) f (subst (λ x. P x b) e refl))
-      | inr n ↦ inr (λ e. n (ap (λ (z : ℕ × ℕ). z.1) e))
-    ])
+    | inl f ↦ inl (let P : ℕ → ℕ → Type 0 = λ x y. ◌≡◌ {A = ℕ × ℕ} (a, b) (x, y) in
+        subst (λ y. P c y) f (subst (λ x. P x b) e refl))
+    | inr n ↦ inr (λ e. n (ap (λ (z : ℕ × ℕ). z.1) e))
+  ])
   | inr n ↦ inr (λ e. n (ap (λ (z : ℕ × ℕ). z.0) e))
 ]
 
@@ -93,9 +93,9 @@ pairs_told [] q = inr (λ o. one_none q o)
 pairs_told (p ∷ ps) q = elim (pair_told p q) [
   | inl e ↦ inl (let P : ℕ × ℕ → Type 0 = λ z. IsOneOf (p ∷ ps) z in subst P e (one_first p ps))
   | inr f ↦ (elim (pairs_told ps q) [
-      | inl o ↦ inl (one_rest p ps q o)
-      | inr g ↦ inr (λ o. elim (one_cases p ps q o) [ inl e ↦ f e | inr r ↦ g r ])
-    ])
+    | inl o ↦ inl (one_rest p ps q o)
+    | inr g ↦ inr (λ o. elim (one_cases p ps q o) [ inl e ↦ f e | inr r ↦ g r ])
+  ])
 ]
 
 -- a list that was written back over another one as long

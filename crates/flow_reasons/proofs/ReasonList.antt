@@ -1,36 +1,33 @@
 -- The reasons that marks make.
-use Rattle.std.proofs.Common.{◌≡◌, ◌↔◌, ◌<◌, ◌≤◌, ◌+◌, ◌⊎◌, inl, inr, ℕ, zero, suc, Bool, true, false, nat_lt, List, [], ◌∷◌, ◌++◌, map, length, take, get_or, Vec, Global, Some, refl, sym, ap, ◌∙◌, subst, arith}
+use Rattle.std.proofs.Common.{◌≡◌, ◌<◌, ◌≤◌, ◌+◌, inr, ℕ, suc, true, false, List, [], ◌∷◌, ◌++◌, length, take, get_or, Vec, Global, refl, sym, ap, ◌∙◌, subst, arith}
 use Rattle.std.proofs.lemmas.Bool.{ltb-true}
 use Rattle.std.proofs.lemmas.Bool.Decides.{nat_tests}
 use Rattle.std.proofs.lemmas.List.{take_more, take_all, map-append, length-take-le}
-use Rattle.ar_base.specs.Lists.{Stands, IsOneOf, IsFirst}
+use Rattle.ar_base.specs.Lists.{Stands, IsOneOf}
 use Rattle.ar_base.specs.Numbers.{VarId, AssignId}
-use Rattle.ar_base.specs.Sets.{Ascends}
 use Rattle.ar_base.proofs.Standing.{stands_one, stands_within, stands_some, stands_map_back, stands_get, one_here}
 use Rattle.domains.specs.declared.Value.{Value}
 use Rattle.ar_meaning.specs.Systems as s
 use Rattle.ar_meaning.specs.Dependence.{Names}
 use Rattle.ar_meaning.specs.Facts.{FactOf}
 use Rattle.ar_meaning.proofs.ByNumber.{given_from}
-use Rattle.flow_rounds.specs.Rounds.{Round, Adds}
+use Rattle.flow_rounds.specs.Rounds.{Round}
 use Rattle.flow_rounds.specs.Reasons.{IsNamedFact, RestsOn, IsDerived, IsReset, IsReason, derived, reset, AreReasonsFrom, AreReasons, none, state, flow}
 use Rattle.flow_rounds.specs.Reasons as rounds
 use Rattle.flow_rounds.proofs.Rounding.{round_grows, round_fact}
 use Rattle.gts_core.specs.Sound.{IsSound}
 use Rattle.gts_core.specs.View.{net_of, assign_of, variable_of, variables_from}
-use Rattle.gts_core.specs.declared.system.Assign.{Assign}
 use Rattle.gts_core.specs.declared.system.Variable.{Variable}
 use Rattle.gts_core.specs.declared.system.GtsParts.{GtsParts}
 use Rattle.gts_core.proofs.Viewing.{variable_there, variables_long, are_numbered}
 use Rattle.flow_propagate.specs.Plan.{AreReaders}
 use Rattle.flow_reasons.specs.Answers.{numbers_of, reason_of, reasons_of}
-use Rattle.flow_reasons.specs.Bringing.{IsTo}
-use Rattle.flow_reasons.specs.Marks.{is_fact, Known, IsStanding, IsAddedIn, Says, AreMarks, AreLastMarks}
-use Rattle.flow_reasons.specs.Resting.{came_before, IsRest, HasRest, IsRestRow, AreRests, HaveRests, reason_made}
+use Rattle.flow_reasons.specs.Marks.{is_fact, IsStanding, IsAddedIn, Says, AreLastMarks}
+use Rattle.flow_reasons.specs.Resting.{came_before, IsRestRow, HaveRests, reason_made}
 use Rattle.flow_reasons.specs.declared.known.Mark.{Mark}
 use Rattle.flow_reasons.specs.declared.known.Mark.TheVariants.{Unknown, Given, Added}
 use Rattle.flow_reasons.specs.declared.reason.Reason.{Reason}
-use Rattle.flow_reasons.proofs.Standing.{fact_stands, reset_value, at_number}
+use Rattle.flow_reasons.proofs.Standing.{reset_value}
 
 -- lists of reasons that grow
 module _ {V : Type 0} (net : s.Net V) (t : List Value) where
@@ -144,8 +141,8 @@ module _ (p : GtsParts) (sound : IsSound p) (values : List Value) (standing : Is
       go : (m : Mark) → Stands marks n m → Says p values n x v m → IsReason net values (variable_of n x) (reason_made n v m row.items)
       go Unknown sm says =
           let nothing : (w : Value) → FactOf net values n w → ⊥ = λ w g.
-              (let k = last.facts n w g in let e = stands_one marks n k.mark Unknown k.stands sm in
-              let i : is_fact Unknown ≡ true = subst (λ (z : Mark). is_fact z ≡ true) e k.is in absurd (cc i)) in
+          (let k = last.facts n w g in let e = stands_one marks n k.mark Unknown k.stands sm in
+          let i : is_fact Unknown ≡ true = subst (λ (z : Mark). is_fact z ≡ true) e k.is in absurd (cc i)) in
           reset (record {
             no_fact = nothing;
             value = reset_value p sound values standing n x v sx f sv nothing;
@@ -194,7 +191,7 @@ module _ (p : GtsParts) (sound : IsSound p) (values : List Value) (standing : Is
       let long = length-take-le i p.variables.items (omega (arith, l)) in
       let count = variables_long 0 (take i p.variables.items) in
       let w : IsReason net values (variable_of i x) (reason_of r) = subst (λ z. IsReason net values (variable_of i x) z) (sym e)
-          (is_reason i x v m row sx f sv sm have.pairs have.readers (have.are.each i row sr)) in
+      (is_reason i x v m row sx f sv sm have.pairs have.readers (have.are.each i row sr)) in
       let number : r.flow.n ≡ i = ap (λ (z : rounds.Reason). z.flow) e ∙ made_flow i v m row.items in
       subst (λ (z : List rounds.Reason). AreReasonsFrom net values 0 (variables_from 0 (take (i + 1) p.variables.items)) z) (sym (map-append reason_of found (r ∷ [])))
       (subst (λ (z : List (s.Variable ℕ)). AreReasonsFrom net values 0 z (reasons_of found ++ reason_of r ∷ [])) (sym (listed_split i x sx))

@@ -1,21 +1,20 @@
 -- The variables that reasons rest on, as they are gathered pair by pair.
-use Rattle.std.proofs.Common.{◌≡◌, ◌↔◌, ◌<◌, ◌≤◌, ◌+◌, ◌⊎◌, inl, inr, ℕ, Bool, true, false, List, [], ◌∷◌, ◌++◌, map, length, get_or, set, take, Vec, Global, refl, sym, ap, ◌∙◌, subst, arith, length-set, length-append}
+use Rattle.std.proofs.Common.{◌≡◌, ◌<◌, ◌≤◌, ◌+◌, ◌⊎◌, inl, inr, ℕ, Bool, true, false, List, [], ◌∷◌, ◌++◌, length, get_or, set, take, Vec, Global, refl, sym, ap, ◌∙◌, subst, arith, length-set, length-append}
 use Rattle.std.proofs.lemmas.Bool.{cases_eq}
 use Rattle.std.proofs.lemmas.List.{take_more, take_all, map-append}
 use Rattle.ar_base.specs.Lists.{Stands, IsOneOf}
 use Rattle.ar_base.specs.Numbers.{VarId, AssignId}
-use Rattle.ar_base.specs.Sets.{Ascends}
-use Rattle.ar_base.proofs.Standing.{stands_one, stands_within, stands_some, stands_get, stands_none, one_none, one_here}
+use Rattle.ar_base.proofs.Standing.{stands_one, stands_some, stands_get, stands_none, one_none, one_here}
 use Rattle.ar_meaning.specs.Found.{IsAnswer}
 use Rattle.gts_core.specs.declared.system.Assign.{Assign}
 use Rattle.gts_core.specs.declared.system.GtsParts.{GtsParts}
-use Rattle.flow_propagate.specs.Plan.{AreReaders, ComesBefore}
+use Rattle.flow_propagate.specs.Plan.{AreReaders}
 use Rattle.flow_reasons.specs.Answers.{numbers_of}
 use Rattle.flow_reasons.specs.Bringing.{IsTo}
 use Rattle.flow_reasons.specs.declared.known.Mark.{Mark}
 use Rattle.flow_reasons.specs.declared.known.Mark.TheVariants.{Unknown, Given, Added}
-use Rattle.flow_reasons.specs.Resting.{came_before, IsRest, HasRest, IsRestRow, AreRests, IsMarkedRest, added, AreEmpty, IsRowThen, AddsRest}
-use Rattle.flow_reasons.proofs.Placing.{set_here, set_other, set_back, take_stands, pushed_cases, pushed_old, pushed_last, ascends_none, ascends_push}
+use Rattle.flow_reasons.specs.Resting.{came_before, IsRest, HasRest, IsRestRow, AreRests, IsMarkedRest, added, AreEmpty, AddsRest}
+use Rattle.flow_reasons.proofs.Placing.{set_here, set_back, take_stands, pushed_cases, pushed_old, pushed_last, ascends_none, ascends_push}
 
 -- whether the assignment added the first fact and the other one came before
 pub rest_told : (m : Mark) (a : ℕ) (o : Mark) → IsMarkedRest m a o ⊎ (IsMarkedRest m a o → ⊥)
@@ -128,7 +127,7 @@ module _ (p : GtsParts) (marks : List Mark) where
                 );
               }))
           | inr k ↦ (let e = row.left (λ m' o' sm so h. k (subst (λ (z : Mark). IsMarkedRest z a o.0) (stands_one marks assign.target.n m' m.0 sm m.1)
-                (subst (λ (z : Mark). IsMarkedRest m' a z) (stands_one marks x o' o.0 so o.1) h))) in
+              (subst (λ (z : Mark). IsMarkedRest m' a z) (stands_one marks x o' o.0 so o.1) h))) in
               subst (λ (z : List VarId). IsRestRow p marks (done ++ (x, a) ∷ []) assign.target.n (numbers_of z)) (sym e) (record {
                 ascends = r.ascends;
                 each = λ y. (

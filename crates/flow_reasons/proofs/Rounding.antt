@@ -1,19 +1,18 @@
 -- What is known round by round.
-use Rattle.std.proofs.Common.{◌≡◌, ◌<◌, ◌≤◌, ◌+◌, ◌⊎◌, ◌↔◌, inl, inr, ⊎_elim, ℕ, zero, suc, Bool, true, false, List, [], ◌∷◌, map, length, if◌then◌else◌, refl, sym, ap, ◌∙◌, subst, arith}
+use Rattle.std.proofs.Common.{◌≡◌, ◌<◌, ◌⊎◌, inl, inr, ℕ, suc, Bool, true, false, List, if◌then◌else◌, refl, sym, ap, ◌∙◌, subst, arith}
 use Rattle.std.proofs.lemmas.List.{length-map}
-use Rattle.ar_base.specs.Lists.{Stands, IsOneOf, IsFirst}
-use Rattle.ar_base.specs.Numbers.{AssignId}
-use Rattle.ar_base.proofs.Standing.{stands_one, stands_within, stands_some, stands_map, stands_map_back, one_here, one_none}
+use Rattle.ar_base.specs.Lists.{Stands, IsOneOf}
+use Rattle.ar_base.proofs.Standing.{stands_one, stands_within, stands_some, stands_map, stands_map_back, one_here}
 use Rattle.domains.specs.declared.Value.{Value}
 use Rattle.typed_expr.specs.Yields.{Yields}
 use Rattle.typed_expr.specs.declared.expr.Expr.{out-Expr}
 use Rattle.typed_expr.proofs.Facts.{yields_more, yields_named}
 use Rattle.ar_meaning.specs.Systems as s
-use Rattle.ar_meaning.specs.Dependence.{Names, Reads}
-use Rattle.ar_meaning.specs.Facts.{Passes, FactOf, Allows, IsGiven}
+use Rattle.ar_meaning.specs.Dependence.{Names}
+use Rattle.ar_meaning.specs.Facts.{Passes, Allows, IsGiven}
 use Rattle.ar_meaning.proofs.ByNumber.{given_from}
 use Rattle.ar_meaning.proofs.Dependence.{passes_named}
-use Rattle.ar_meaning.proofs.Least.{least, closed, passes_more}
+use Rattle.ar_meaning.proofs.Least.{least, passes_more}
 use Rattle.ar_meaning.proofs.Outcomes.{one_told}
 use Rattle.flow_rounds.specs.Rounds.{Round, Adds}
 use Rattle.flow_rounds.proofs.Rounding.{round_grows, round_fact, added_fact}
@@ -27,7 +26,7 @@ use Rattle.flow_propagate.specs.Plan.{AreReaders}
 use Rattle.flow_reasons.specs.declared.known.Mark.{Mark}
 use Rattle.flow_reasons.specs.declared.known.Mark.TheVariants.{Unknown, Given, Added}
 use Rattle.flow_reasons.specs.Marks.{is_fact, unknown_count, Known, IsStanding, IsAddedIn, Says, AreMarks, AreLastMarks, first_mark_of, first_marks_of}
-use Rattle.flow_reasons.specs.Bringing.{IsOpen, Brings, BringsAt, BringAll, IsTo, IsMarkedBy, MarksAll, NameOne}
+use Rattle.flow_reasons.specs.Bringing.{IsOpen, Brings, BringsAt, BringAll, IsMarkedBy, MarksAll, NameOne}
 use Rattle.flow_reasons.proofs.Counting.{fewer}
 use Rattle.flow_reasons.proofs.Marking.{open_not}
 use Rattle.flow_reasons.proofs.Placing.{pairs_told}
@@ -106,7 +105,7 @@ module _ (p : GtsParts) (sound : IsSound p) (values : List Value) (standing : Is
     adds_brings j a st n v h o =
         let e : a.target.n ≡ n = h.is_target in
         let fact = added_fact net values (Round net values k) (round_fact net values k) n v
-            (record { assign = assign_of a; is_one = one_here net.assertions j (assign_of a) (stands_map assign_of p.assigns.items j a st); adds = h }) in
+        (record { assign = assign_of a; is_one = one_here net.assertions j (assign_of a) (stands_map assign_of p.assigns.items j a st); adds = h }) in
         record {
           assign = a;
           stands = st;
@@ -151,9 +150,12 @@ module _ (p : GtsParts) (sound : IsSound p) (values : List Value) (standing : Is
           let e = stands_one p.assigns.items q.by.n b.assign q.is_to.assign b.stands q.is_to.stands in
           let t : b.assign.target.n ≡ n = ap (λ (z : Assign). z.target.n) e ∙ q.is_to.is in
           let i : b.brings.value ≡ v = stands_one values n b.brings.value v (subst (λ z. Stands values z b.brings.value) t b.brings.is_value) sv in
-          let h = brings_adds b.assign b.brings in
-          (b.assign, b.stands, subst (λ z. Adds net (Round net values k) n z (assign_of b.assign)) i
-          (subst (λ z. Adds net (Round net values k) z b.brings.value (assign_of b.assign)) t h))
+          let h = brings_adds b.assign b.brings in (
+            b.assign,
+            b.stands,
+            subst (λ z. Adds net (Round net values k) n z (assign_of b.assign)) i
+                (subst (λ z. Adds net (Round net values k) z b.brings.value (assign_of b.assign)) t h),
+          )
 
       sound_next : (n : ℕ) (v : Value) → Known values new n v → Round net values (suc k) n v
       sound_next n v h = elim (d.only n h.mark h.stands) [
@@ -257,7 +259,7 @@ module _ (p : GtsParts) (sound : IsSound p) (values : List Value) (standing : Is
               allowed = l;
             } in
             let sv = fact_stands p sound values standing a.target v
-                (added_fact net values (Round net values k) (round_fact net values k) a.target v (record { assign = a; is_one = o; adds = adds })) in
+            (added_fact net values (Round net values k) (round_fact net values k) a.target v (record { assign = a; is_one = o; adds = adds })) in
             let w = stands_within values a.target v sv in
             let m = stands_some old a.target (omega (arith, w, are.long, standing.total.long)) in
             elim (fact_or_open old a.target m.0 m.1) [

@@ -1,10 +1,9 @@
 -- Variables that were seen.
-use Rattle.std.proofs.Common.{◌≡◌, ◌↔◌, ◌<◌, ◌≤◌, ◌+◌, ◌⊎◌, inl, inr, ℕ, zero, suc, Bool, true, false, List, [], ◌∷◌, ◌++◌, length, set, get_or, take, map, if◌then◌else◌, refl, sym, ap, ◌∙◌, subst, arith, length-set, length-append}
-use Rattle.std.proofs.lemmas.List.{take_more, take_all, map-append}
+use Rattle.std.proofs.Common.{◌≡◌, ◌<◌, ◌+◌, inl, inr, ℕ, zero, suc, Bool, true, false, List, [], ◌∷◌, ◌++◌, length, set, get_or, take, if◌then◌else◌, refl, sym, ap, ◌∙◌, subst, arith, length-set, length-append}
+use Rattle.std.proofs.lemmas.List.{take_more, map-append}
 use Rattle.ar_base.specs.Lists.{Stands, IsOneOf}
 use Rattle.ar_base.specs.Numbers.{VarId}
-use Rattle.ar_base.specs.Sets.{Ascends}
-use Rattle.ar_base.proofs.Standing.{at_most, stands_one, stands_none, stands_within, stands_left, stands_get, one_none, one_cases, one_rest, one_first, only_item}
+use Rattle.ar_base.proofs.Standing.{at_most, stands_one, stands_none, stands_left, one_none, one_first, only_item}
 use Rattle.flow_reasons.specs.Answers.{numbers_of}
 use Rattle.flow_reasons.specs.Cones.{unseen, AreSeen, SeesAll, Sees, AreMembers}
 use Rattle.flow_reasons.proofs.Placing.{set_here, set_other, set_back, pushed_cases, pushed_old, pushed_last, ascends_none, ascends_push}
@@ -85,9 +84,9 @@ sees_next xs ys x seen next last found more all e a b = subst (λ (z : List ℕ)
     λ h. elim h [
       | inl k ↦ (b.each n).1 (inl ((a.each n).1 (inl k)))
       | inr k ↦ (elim (pushed_cases xs x n k) [
-          | inl m ↦ (b.each n).1 (inl ((a.each n).1 (inr m)))
-          | inr i ↦ (b.each n).1 (inr (subst (λ z. IsOneOf (x ∷ []) z) i (one_first x [])))
-        ])
+        | inl m ↦ (b.each n).1 (inl ((a.each n).1 (inr m)))
+        | inr i ↦ (b.each n).1 (inr (subst (λ z. IsOneOf (x ∷ []) z) i (one_first x [])))
+      ])
     ],
   );
   left = b.left ∙ a.left;

@@ -1,6 +1,6 @@
 -- A valuation that determines itself: its facts are its values.
-use Rattle.std.proofs.Common.{◌≡◌, ◌<◌, ℕ, true, false, List, length, Contains, refl, sym, ap, ◌∙◌, subst, arith}
-use Rattle.ar_base.specs.Lists.{Stands, IsOneOf, HasNo}
+use Rattle.std.proofs.Common.{◌≡◌, ◌<◌, ℕ, false, List, length, refl, sym, ◌∙◌, subst, arith}
+use Rattle.ar_base.specs.Lists.{Stands, HasNo}
 use Rattle.ar_base.proofs.Standing.{stands_within, stands_some, stands_one, one_here}
 use Rattle.domains.specs.declared.Value.{Value}
 use Rattle.domains.proofs.Domains.{listed}
@@ -8,14 +8,14 @@ use Rattle.ar_meaning.specs.Systems as s
 use Rattle.ar_meaning.specs.Facts.{FactOf, given, assigned, Allows}
 use Rattle.ar_meaning.specs.Dependence.{IsFlow}
 use Rattle.ar_meaning.specs.Flows.{HasTwo, Completes, Flows, Total, all_hold}
-use Rattle.ar_meaning.proofs.Completing.{Stays, as_state, as_known, as_reset, stays_at}
+use Rattle.ar_meaning.proofs.Completing.{as_state, as_known, as_reset, stays_at}
 use Rattle.flow_rounds.proofs.Standing.{no_two, one_fact}
 use Rattle.gts_core.specs.Sound.{IsSound}
 use Rattle.gts_core.specs.View.{net_of, variable_of}
 use Rattle.gts_core.specs.declared.system.Assign.{Assign}
 use Rattle.gts_core.specs.declared.system.Variable.{Variable}
 use Rattle.gts_core.specs.declared.system.GtsParts.{GtsParts}
-use Rattle.gts_core.proofs.Viewing.{variable_there, variable_back, are_numbered}
+use Rattle.gts_core.proofs.Viewing.{variable_there, are_numbered}
 use Rattle.gts_core.proofs.Lawfulness.{system_lawful}
 use Rattle.flow_reasons.specs.Marks.{IsStanding}
 

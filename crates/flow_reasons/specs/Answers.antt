@@ -1,5 +1,5 @@
 -- What reasons answer.
-use Rattle.std.specs.Prelude.{◌≡◌, ℕ, ⊤, List, map, Option, Result, Ok, Err, Vec}
+use Rattle.std.specs.Prelude.{ℕ, ⊤, List, map, Result, Ok, Err, Vec}
 use Rattle.std.specs.Option.{option_map}
 use Rattle.std.specs.Global.{Global}
 use Rattle.ar_base.specs.Numbers.{VarId, AssignId}

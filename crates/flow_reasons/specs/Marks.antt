@@ -1,7 +1,6 @@
 -- What is known of the facts of a standing valuation after some rounds: a mark for each variable.
-use Rattle.std.specs.Prelude.{◌≡◌, ◌+◌, ℕ, suc, Bool, true, false, cond, List, [], ◌∷◌, length, map, Option, Some, None, slice_get, if◌then◌else◌}
-use Rattle.ar_base.specs.Lists.{Stands, IsOneOf, IsFirst}
-use Rattle.ar_base.specs.Numbers.{AssignId}
+use Rattle.std.specs.Prelude.{◌≡◌, ◌+◌, ℕ, suc, Bool, true, false, List, [], ◌∷◌, length, map, Option, Some, None, slice_get, if◌then◌else◌}
+use Rattle.ar_base.specs.Lists.{Stands, IsFirst}
 use Rattle.domains.specs.declared.Value.{Value}
 use Rattle.ar_meaning.specs.Facts.{FactOf}
 use Rattle.ar_meaning.specs.Flows.{Flows, Total}

@@ -13,5 +13,5 @@ mod rounds;
 mod seeing;
 
 pub use cones::cone;
-pub use reason::Reason;
 pub use listing::reasons;
+pub use reason::Reason;

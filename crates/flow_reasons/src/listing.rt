@@ -26,11 +26,7 @@ use std::alloc::Global;
 ///
 /// The state has one value for each variable, those of state variables in their domains; its flow values are not read. The
 /// error is the fault of its flows, exactly where [`flow_propagate::propagate`] answers it, or want of memory.
-pub fn reasons(
-    alloc: Global,
-    gts: &Gts,
-    state: &Valuation,
-) -> Result<Vec<Reason>, PropagateFault>
+pub fn reasons(alloc: Global, gts: &Gts, state: &Valuation) -> Result<Vec<Reason>, PropagateFault>
     requires { IsState gts.now state.now.values.items }
     ensures { IsReasonsAnswer (net_of gts.now) state.now.values.items result }
 {
@@ -75,7 +71,13 @@ fn listed(
     let mut found = Vec::new(alloc);
     for (place, variable) in parts.variables.iter().enumerate() {
         if !variable.is_state {
-            let reason = reason_by(alloc, place as u32, values[place], marks[place], &rests[place])?;
+            let reason = reason_by(
+                alloc,
+                place as u32,
+                values[place],
+                marks[place],
+                &rests[place],
+            )?;
             found.push(reason)?;
         }
     }

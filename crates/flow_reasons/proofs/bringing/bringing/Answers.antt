@@ -1,7 +1,5 @@
-use Rattle.std.proofs.Common.{◌≡◌, ◌<◌, ◌+◌, ℕ, List, [], take, length, get_or, rules, sym, ap, ◌∙◌, subst, arith}
-use Rattle.ar_base.specs.Lists.{Stands}
+use Rattle.std.proofs.Common.{◌+◌, ℕ, List, [], take, get_or, rules, sym, ap, ◌∙◌, subst, arith}
 use Rattle.ar_base.proofs.Standing.{stands_get, one_here, stands_item}
-use Rattle.gts_core.specs.declared.system.Assign.{Assign}
 use Rattle.flow_reasons.specs.Bringing.{AreBringing}
 use Rattle.ar_meaning.proofs.Found.{holds, fails}
 use Rattle.flow_reasons.proofs.Standing.{target_below}

@@ -1,4 +1,4 @@
-use Rattle.std.proofs.Common.{◌↔◌, ◌<◌, ℕ, List, [], arith, subst, sym}
+use Rattle.std.proofs.Common.{◌↔◌, ◌<◌, ℕ, List, arith, subst, sym}
 use Rattle.ar_base.specs.Lists.{IsOneOf}
 use Rattle.ar_base.specs.Sets.{Ascends}
 use Rattle.flow_reasons.proofs.Placing.{ascends_none, ascends_push}

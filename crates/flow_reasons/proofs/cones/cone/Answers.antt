@@ -1,4 +1,4 @@
-use Rattle.std.proofs.Common.{◌≡◌, ◌↔◌, ◌<◌, ℕ, Bool, List, [], length, get_or, rules, sym, ap, ◌∙◌, subst, arith}
+use Rattle.std.proofs.Common.{◌≡◌, Bool, List, [], length, get_or, rules, sym, ap, ◌∙◌, subst, arith}
 use Rattle.ar_base.specs.Lists.{Stands, IsOneOf}
 use Rattle.ar_base.specs.Numbers.{VarId}
 use Rattle.ar_base.proofs.Standing.{stands_item, stands_one, one_here}
@@ -8,7 +8,7 @@ use Rattle.gts_core.specs.declared.system.GtsParts.{GtsParts}
 use Rattle.gts_core.proofs.Viewing.{variables_long}
 use Rattle.flow_rounds.specs.Reasons.{IsCone}
 use Rattle.flow_reasons.specs.Answers.{numbers_of, reasons_of}
-use Rattle.flow_reasons.specs.Cones.{AreOrderly, AreMembers, AreReached, NamesNumber}
+use Rattle.flow_reasons.specs.Cones.{AreOrderly, AreMembers, AreReached}
 use Rattle.flow_reasons.proofs.Gathering.{variables_as}
 use Rattle.flow_reasons.proofs.Followed.{orderly, first_below, is_cone}
 use Rattle.flow_reasons.proofs.cones.cone.Goals as goal
@@ -18,7 +18,7 @@ reached-requires-clause-orderly c =
     let p = c.args.gts.now in
     let whole : c.len.result ≡ length c.parts-parts.result.now.variables.items = search rules in
     let e : length (net_of p).variables ≡ c.len.result =
-        variables_long 0 p.variables.items ∙ (ap (λ (z : GtsParts). length z.variables.items) (sym c.parts-parts.ensures.parts) ∙ sym whole) in
+    variables_long 0 p.variables.items ∙ (ap (λ (z : GtsParts). length z.variables.items) (sym c.parts-parts.ensures.parts) ∙ sym whole) in
     subst (λ n. AreOrderly n (reasons_of c.args.reasons.now)) e (orderly (net_of p) c.requires.reasons.values (reasons_of c.args.reasons.now) c.requires.reasons.are)
 
 pub reached-requires-clause-below : goal.reached-requires-clause-below
@@ -28,9 +28,9 @@ reached-requires-clause-below c = λ n i.
     let whole : c.len.result ≡ length c.parts-parts.result.now.variables.items = search rules in
     let e = ap (λ (z : GtsParts). length z.variables.items) c.parts-parts.ensures.parts in
     let st : Stands p.observers.items c.args.observer o = stands_item p.observers.items c.args.observer o c.requires.range
-        (subst (λ (z : GtsParts). o ≡ get_or z.observers.items c.args.observer o) c.parts-parts.ensures.parts c.index.ensures) in
+    (subst (λ (z : GtsParts). o ≡ get_or z.observers.items c.args.observer o) c.parts-parts.ensures.parts c.index.ensures) in
     let h = first_below p c.parts-parts.ensures.sound o (one_here p.observers.items c.args.observer o st) [] (numbers_of c.in_ok-first.first.items) c.in_ok-first.ensures n
-        (subst (λ (z : List VarId). IsOneOf (numbers_of z) n) c.deref.ensures.value i) in
+    (subst (λ (z : List VarId). IsOneOf (numbers_of z) n) c.deref.ensures.value i) in
     omega (arith, h, whole, e)
 
 pub returns : goal.returns
@@ -43,7 +43,7 @@ returns c = λ one so.
     let whole : c.len.result ≡ length c.parts-parts.result.now.variables.items = search rules in
     let e : c.len.result ≡ length p.variables.items = whole ∙ ap (λ (z : GtsParts). length z.variables.items) c.parts-parts.ensures.parts in
     let st : Stands p.observers.items c.args.observer o = stands_item p.observers.items c.args.observer o c.requires.range
-        (subst (λ (z : GtsParts). o ≡ get_or z.observers.items c.args.observer o) c.parts-parts.ensures.parts c.index.ensures) in
+    (subst (λ (z : GtsParts). o ≡ get_or z.observers.items c.args.observer o) c.parts-parts.ensures.parts c.index.ensures) in
     let order = subst (λ n. AreOrderly n rs) (variables_long 0 p.variables.items) (orderly (net_of p) c.requires.reasons.values rs c.requires.reasons.are) in
     let reached = subst (λ (z : List VarId). AreReached rs (numbers_of z) seen) c.deref.ensures.value c.in_ok-seen.ensures.reached in
     variables_as _ _ c.members.result

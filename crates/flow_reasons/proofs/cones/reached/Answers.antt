@@ -1,5 +1,4 @@
 use Rattle.std.proofs.Common.{◌≡◌, ◌<◌, ◌≤◌, ◌+◌, ℕ, Bool, List, [], take, drop, ◌++◌, length, rules, sym, ap, ◌∙◌, subst, arith}
-use Rattle.ar_base.specs.Lists.{Stands, IsOneOf}
 use Rattle.ar_base.proofs.Standing.{stands_item}
 use Rattle.flow_reasons.specs.Answers.{numbers_of, reasons_of}
 use Rattle.flow_reasons.specs.Cones.{SeesAll}
@@ -20,7 +19,7 @@ follow-init c =
     let l : length seen ≡ c.args.count = search rules in
     let first = numbers_of c.args.first.now in
     let h = subst (λ (z : List Bool). SeesAll first z new [] c.see_all.new.found.items) c.deref_mut.ensures.value
-        (subst (λ (z : List ℕ). SeesAll first c.deref_mut.result.now new z c.see_all.new.found.items) c.new-found.ensures.items c.in_ok-see_all.ensures) in
+    (subst (λ (z : List ℕ). SeesAll first c.deref_mut.result.now new z c.see_all.new.found.items) c.new-found.ensures.items c.in_ok-see_all.ensures) in
     let e : take c.in_ok-seen.seen.len (new ++ drop (length new) seen) ≡ new = written new seen c.in_ok-seen.seen.len h.long c.in_ok-seen.seen.ok.0 in
     record {
       long = ap (λ (z : List Bool). length z) e ∙ (h.long ∙ l);

@@ -1,4 +1,4 @@
-use Rattle.std.proofs.Common.{◌≡◌, ◌∙◌, Bool, false, List, Contains, get_or, map, sym, subst}
+use Rattle.std.proofs.Common.{◌∙◌, Bool, false, List, Contains, get_or, map, sym, subst}
 use Rattle.ar_base.specs.Numbers.{VarId}
 use Rattle.ar_base.proofs.Standing.{stands_get}
 use Rattle.domains.specs.declared.Value.{Value}

@@ -1,13 +1,10 @@
-use Rattle.std.proofs.Common.{◌≡◌, ◌<◌, ◌≤◌, ◌+◌, ℕ, false, List, [], take, length, get_or, Vec, Global, sym, ap, ◌∙◌, subst, arith}
+use Rattle.std.proofs.Common.{◌≡◌, ◌<◌, ◌≤◌, ◌+◌, false, List, length, get_or, sym, ap, ◌∙◌, subst, arith}
 use Rattle.ar_base.specs.Lists.{Stands}
 use Rattle.ar_base.specs.Numbers.{VarId}
 use Rattle.ar_base.proofs.Standing.{stands_get, stands_item}
-use Rattle.domains.specs.declared.Value.{Value}
 use Rattle.domains.specs.declared.Value.TheVariants.{Truth}
 use Rattle.gts_core.specs.declared.system.Variable.{Variable}
-use Rattle.flow_reasons.specs.Answers.{reason_of}
 use Rattle.flow_reasons.specs.Resting.{reason_made}
-use Rattle.flow_reasons.specs.declared.known.Mark.{Mark}
 use Rattle.flow_reasons.specs.declared.known.Mark.TheVariants.{Unknown}
 use Rattle.flow_reasons.specs.declared.reason.Reason.{Reason}
 use Rattle.flow_reasons.proofs.ReasonList.{AreListed, listed_none, listed_state, listed_flow, listed_done}

@@ -1,4 +1,4 @@
-use Rattle.std.proofs.Common.{List, sym, ap, ◌∙◌, subst}
+use Rattle.std.proofs.Common.{List, sym, subst}
 use Rattle.domains.specs.declared.Value.{Value}
 use Rattle.flow_rounds.specs.Reasons.{AreReasons}
 use Rattle.gts_core.specs.View.{net_of}

@@ -1,4 +1,4 @@
-use Rattle.std.proofs.Common.{◌↔◌, ℕ, List, [], sym, subst, take}
+use Rattle.std.proofs.Common.{◌↔◌, ℕ, List, [], sym, subst}
 use Rattle.std.proofs.lemmas.List.{take_all}
 use Rattle.ar_base.specs.Lists.{IsOneOf}
 use Rattle.flow_reasons.specs.Pairing.{IsPaired}

@@ -1,7 +1,6 @@
-use Rattle.std.proofs.Common.{◌≡◌, ◌<◌, ℕ, length, get_or, rules, sym, subst, arith}
-use Rattle.ar_base.specs.Lists.{Stands, IsOneOf}
+use Rattle.std.proofs.Common.{ℕ, get_or, rules, arith}
+use Rattle.ar_base.specs.Lists.{Stands}
 use Rattle.ar_base.proofs.Standing.{stands_get, stands_item, one_here}
-use Rattle.gts_core.specs.View.{net_of}
 use Rattle.flow_reasons.proofs.Readers.{reader_below, read_below}
 use Rattle.flow_reasons.proofs.Standing.{target_below}
 use Rattle.flow_reasons.proofs.RestRows.{rests_more}

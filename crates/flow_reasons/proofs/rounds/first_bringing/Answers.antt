@@ -1,7 +1,6 @@
-use Rattle.std.proofs.Common.{◌≡◌, ℕ, List, length, Result, Ok, Err, IfOk, Vec, Global, rules, sym, subst, arith}
+use Rattle.std.proofs.Common.{◌≡◌, ℕ, List, length, rules, sym, subst, arith}
 use Rattle.ar_base.specs.Lists.{IsOneOf}
 use Rattle.ar_base.proofs.Standing.{stands_within}
-use Rattle.flow_reasons.specs.Bringing.{AreBringing}
 use Rattle.flow_reasons.proofs.Gathering.{bring_all, found_as}
 use Rattle.flow_reasons.proofs.rounds.first_bringing.Goals as goal
 

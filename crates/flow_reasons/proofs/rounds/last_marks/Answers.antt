@@ -1,9 +1,9 @@
-use Rattle.std.proofs.Common.{◌≡◌, ◌<◌, ◌≤◌, ◌+◌, ◌^◌, ℕ, suc, List, [], take, drop, ◌++◌, length, add-one, rules, sym, ap, ◌∙◌, subst, arith}
+use Rattle.std.proofs.Common.{◌≡◌, ◌<◌, ◌≤◌, ◌+◌, ◌^◌, ℕ, List, take, drop, ◌++◌, length, add-one, rules, sym, ◌∙◌, subst, arith}
 use Rattle.ar_base.specs.Lists.{IsOneOf}
 use Rattle.ar_base.proofs.Standing.{stands_some, stands_within, one_here}
 use Rattle.flow_reasons.specs.declared.known.Mark.{Mark}
 use Rattle.flow_reasons.specs.Marks.{AreMarks, unknown_count}
-use Rattle.flow_reasons.specs.Bringing.{BringsAt, BringAll, MarksAll, NameOne}
+use Rattle.flow_reasons.specs.Bringing.{BringsAt, BringAll, NameOne}
 use Rattle.flow_reasons.proofs.Placing.{written}
 use Rattle.flow_reasons.proofs.Counting.{count_most, open_counts}
 use Rattle.flow_reasons.proofs.Rounding.{marks_zero, marks_more, names_fresh, marks_last, round_fewer, marked_as}
@@ -15,7 +15,7 @@ all_rounds-init c =
     let marks = c.in_ok-marks.marks.items in
     let h = count_most marks in
     let are : AreMarks p c.args.values.now 0 marks =
-        subst (λ (z : List Mark). AreMarks p c.args.values.now 0 z) (sym c.in_ok-marks.ensures) (marks_zero p c.requires.sound c.args.values.now c.requires.standing) in
+    subst (λ (z : List Mark). AreMarks p c.args.values.now 0 z) (sym c.in_ok-marks.ensures) (marks_zero p c.requires.sound c.args.values.now c.requires.standing) in
     record {
       are = are;
       all = subst (λ (z : List Mark). BringAll p c.args.values.now z c.in_ok-found.found.items) c.deref.ensures.value c.in_ok-found.ensures;
@@ -75,7 +75,7 @@ all_rounds-preserved c =
     let less = round_fewer p c.args.values.now marks new found c.in_ok-fresh.fresh.items (c.all_rounds.round + 1) x.0 c.all_rounds.invariant.all d (one_here found 0 x.0 x.1) in
     let few : c.all_rounds.round + 1 + unknown_count new ≤ length p.variables.items = omega (arith, less, c.all_rounds.invariant.few) in
     let are = marks_more p c.requires.sound c.args.values.now c.requires.standing c.all_rounds.round marks c.all_rounds.invariant.are found c.all_rounds.invariant.all
-        (c.all_rounds.round + 1) (add-one c.all_rounds.round) new c.in_ok-fresh.fresh.items d in
+    (c.all_rounds.round + 1) (add-one c.all_rounds.round) new c.in_ok-fresh.fresh.items d in
     record {
       are = subst (λ (z : List Mark). AreMarks p c.args.values.now (c.all_rounds.round + 1) z) (sym e) are;
       all = subst (λ (z : List Mark). BringAll p c.args.values.now z c.in_ok-found-2.found.items) c.deref-in-all_rounds-3.ensures.value c.in_ok-found-2.ensures;

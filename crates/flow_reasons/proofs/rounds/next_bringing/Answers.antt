@@ -1,4 +1,4 @@
-use Rattle.std.proofs.Common.{◌≡◌, ◌<◌, ℕ, List, length, rules, sym, subst, arith}
+use Rattle.std.proofs.Common.{ℕ, List, sym, subst}
 use Rattle.ar_base.specs.Lists.{IsOneOf}
 use Rattle.flow_reasons.proofs.Gathering.{bring_all, found_as}
 use Rattle.flow_reasons.proofs.Readers.{rising, reader_below}

@@ -1,6 +1,4 @@
 mod Placing
-mod Runs
-mod Pairing
 mod Knowing
 mod Gathering
 mod Readers

@@ -11,10 +11,10 @@ ghost use Rattle.flow_reasons.specs.Bringing.{BringsAt, BringAll, MarksAll, Name
 
 use crate::bringing::{bringing, numbers_below};
 use crate::known::{Mark, is_known};
-use crate::pairs::readers_of;
 use ar_base::{AssignId, Memory};
 use domains::Value;
 use gts_core::GtsParts;
+use number_pairs::paired;
 use std::alloc::Global;
 
 // The marks after all rounds.
@@ -93,7 +93,7 @@ fn next_bringing(
     requires named { (n : ℕ) → BringsAt parts.now values.now marks.now n → NameOne parts.now fresh.now n }
     ensures { IfOk result (λ found. BringAll parts.now values.now marks.now found.items) }
 {
-    let readers = readers_of(alloc, pairs, fresh)?;
+    let readers = paired(alloc, pairs, fresh)?;
     bringing(alloc, parts, values, marks, &readers)
 }
 

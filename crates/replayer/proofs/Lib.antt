@@ -11,7 +11,6 @@ pub mod ScriptLemmas
 pub mod MarkLemmas
 pub mod VisibleLemmas
 pub mod PathLemmas
-pub mod RunLemmas
 pub mod TouchLemmas
 pub mod ChangeLemmas
 pub mod ObservingLemmas

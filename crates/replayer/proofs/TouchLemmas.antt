@@ -1,122 +1,23 @@
--- The numbers that stand with some variables in pairs.
-use Rattle.std.proofs.Common.{◌≡◌, ◌↔◌, ℕ, zero, suc, ◌+◌, ◌<◌, ◌≤◌, ◌⊎◌, inl, inr, Less, List, [], ◌∷◌, ◌++◌, map, length, get_or, take, Result, Ok, Err, IfOk, nat_eq, refl, sym, ap, ◌∙◌, subst, arith}
-use Rattle.std.specs.Ordering.{nat_cmp}
-use Rattle.std.specs.Cmp.{unsigned_ties, unsigned_Decides}
-use Rattle.std.proofs.lemmas.Cmp.{nat_cmp_total, nat_eq_equiv, ranked}
-use Rattle.std.specs.List.{AllByRecursion, dedup}
-use Rattle.std.specs.List.Sorted.{IsSorted, IsPermutation, IsStrictlySortedBy}
-use Rattle.std.specs.List.Retain.{IsFiltered, DiffersFromLast}
-use Rattle.std.proofs.lemmas.List.{take_more, take_all, map-append}
-use Rattle.std.proofs.lemmas.List.Sorted.{Contains-permutation, IsPermutation-sym}
-use Rattle.std.proofs.lemmas.List.Filters.{dedup_is}
-use Rattle.std.proofs.lemmas.List.Kept.{Contains-dedup, Contains-from_dedup, IsStrictlySortedBy-dedup}
-use Rattle.ar_base.specs.declared.faults.Memory.{Memory}
-use Rattle.ar_base.specs.Lists.{Stands, IsOneOf}
+-- The observers that name some variables.
+use Rattle.std.proofs.Common.{◌↔◌, ℕ, List}
+use Rattle.ar_base.specs.Lists.{IsOneOf}
 use Rattle.ar_base.specs.Numbers.{VarId}
-use Rattle.ar_base.proofs.Standing.{stands_none, stands_map, stands_map_back, one_here, one_none, one_split, one_left, one_right, one_contains, contains_one}
+use Rattle.ar_base.specs.Sets.{Ascends}
 use Rattle.stepper.specs.Changes.{numbers}
-use Rattle.replayer.specs.Observing.{IsPaired, AddsRun, AreInOrder, NamesOne, AreTouched}
 use Rattle.gts_core.specs.declared.system.GtsParts.{GtsParts}
+use Rattle.number_pairs.specs.Pairing.{IsPaired}
+use Rattle.replayer.specs.Observing.{AreInOrder, NamesOne, AreTouched}
 
-pub ok_as : (P Q : Type 0) (r : Result (Unit {0}) Memory) → (P → Q) → IfOk r (λ _. P) → IfOk r (λ _. Q)
-ok_as P Q (Ok x) f h = f h
-ok_as P Q (Err e) f h = tt
-
--- the pairs of a variable give their numbers
-pub run_added : (pairs : List (ℕ × ℕ)) (variable : ℕ) (run : List (ℕ × ℕ)) (old new : List ℕ) → new ≡ old ++ map (λ (q : ℕ × ℕ). q.1) run
-    → ((q : ℕ × ℕ) → IsOneOf run q → IsOneOf pairs q × (q.0 ≡ variable)) → ((n : ℕ) → IsOneOf pairs (variable, n) → IsOneOf run (variable, n)) → AddsRun pairs variable old new
-run_added pairs variable run old new e among all = record { each = λ n. subst (λ (z : List ℕ). IsOneOf z n ↔ (IsOneOf old n ⊎ IsOneOf pairs (variable, n))) (sym e) (on n, off n) }
+-- the numbers that stand in pairs with the variables are those of the observers
+pub paired_touched : (pairs : List (ℕ × ℕ)) (xs : List VarId) (all : List ℕ) → Ascends all
+    → ((n : ℕ) → (IsOneOf all n ↔ IsPaired pairs (numbers xs) n)) → (p : GtsParts) → AreInOrder p pairs → AreTouched p xs all
+paired_touched pairs xs all ascends each p known = record {
+  ascend = ascends;
+  each = λ n. (λ o. on n ((each n).0 o), λ q. (each n).1 (off n q));
+}
   where
-    seconds : List ℕ
-    seconds = map (λ (q : ℕ × ℕ). q.1) run
+    on : (n : ℕ) → IsPaired pairs (numbers xs) n → NamesOne p xs n
+    on n q = record { variable = q.first; is_one = q.is_one; observes = known.only (q.first, n) q.pair }
 
-    found : (n : ℕ) → IsOneOf seconds n → IsOneOf pairs (variable, n)
-    found n o =
-        let b = stands_map_back (λ (q : ℕ × ℕ). q.1) run o.place n o.stands in
-        let a = among b.0 (one_here run o.place b.0 b.1) in
-        let at : IsOneOf pairs (b.0.0, n) = subst (λ (z : ℕ). IsOneOf pairs (b.0.0, z)) b.2 a.0 in
-        subst (λ (z : ℕ). IsOneOf pairs (z, n)) a.1 at
-
-    on : (n : ℕ) → IsOneOf (old ++ seconds) n → IsOneOf old n ⊎ IsOneOf pairs (variable, n)
-    on n o = elim (one_split old seconds n o) [ inl k ↦ inl k | inr k ↦ inr (found n k) ]
-
-    off : (n : ℕ) → IsOneOf old n ⊎ IsOneOf pairs (variable, n) → IsOneOf (old ++ seconds) n
-    off n (inl o) = one_left old seconds n o
-    off n (inr o) = let r = all n o in one_right old seconds n (one_here seconds r.place n (stands_map (λ (q : ℕ × ℕ). q.1) run r.place (variable, n) r.stands))
-
--- no variable has pairs
-pub paired_none : (pairs : List (ℕ × ℕ)) (n : ℕ) → IsOneOf [] n ↔ IsPaired pairs [] n
-paired_none pairs n = (λ h. absurd (one_none n h), λ h. absurd (one_none h.variable h.is_one))
-
-numbers_more : (xs : List VarId) (i : ℕ) (d : VarId) → i < length xs → numbers (take (i + 1) xs) ≡ numbers (take i xs) ++ (get_or xs i d).n ∷ []
-numbers_more xs i d h = ap numbers (take_more xs i d h) ∙ map-append (λ (x : VarId). x.n) (take i xs) (get_or xs i d ∷ [])
-
-last_one : (xs : List ℕ) (a b : ℕ) → IsOneOf (xs ++ a ∷ []) b → IsOneOf xs b ⊎ (a ≡ b)
-last_one xs a b o = elim (one_split xs (a ∷ []) b o) [ inl k ↦ inl k | inr k ↦ inr (only k.place k.stands) ]
-  where
-    only : (k : ℕ) → Stands (a ∷ []) k b → a ≡ b
-    only zero s = cc
-    only (suc zero) s = cc
-    only (suc (suc k)) s = cc
-
--- one variable more
-pub paired_more : (pairs : List (ℕ × ℕ)) (xs : List VarId) (i : ℕ) (d : VarId) (old new : List ℕ) → i < length xs
-    → ((n : ℕ) → (IsOneOf old n ↔ IsPaired pairs (take i xs) n)) → AddsRun pairs (get_or xs i d).n old new
-    → (n : ℕ) → (IsOneOf new n ↔ IsPaired pairs (take (i + 1) xs) n)
-paired_more pairs xs i d old new h before adds n = (on, off)
-  where
-    x : ℕ
-    x = (get_or xs i d).n
-
-    split : numbers (take (i + 1) xs) ≡ numbers (take i xs) ++ x ∷ []
-    split = numbers_more xs i d h
-
-    now : (y : ℕ) → IsOneOf (numbers (take i xs) ++ x ∷ []) y → IsOneOf (numbers (take (i + 1) xs)) y
-    now y o = subst (λ (z : List ℕ). IsOneOf z y) (sym split) o
-
-    on : IsOneOf new n → IsPaired pairs (take (i + 1) xs) n
-    on o = elim ((adds.each n).0 o) [
-      | inl k ↦ let p = (before n).0 k in record { variable = p.variable; is_one = now p.variable (one_left (numbers (take i xs)) (x ∷ []) p.variable p.is_one); pair = p.pair }
-      | inr k ↦ record { variable = x; is_one = now x (one_right (numbers (take i xs)) (x ∷ []) x (one_here (x ∷ []) 0 x refl)); pair = k }
-    ]
-
-    off : IsPaired pairs (take (i + 1) xs) n → IsOneOf new n
-    off p = elim (last_one (numbers (take i xs)) x p.variable (subst (λ (z : List ℕ). IsOneOf z p.variable) split p.is_one)) [
-      | inl k ↦ (adds.each n).1 (inl ((before n).1 (record { variable = p.variable; is_one = k; pair = p.pair })))
-      | inr e ↦ (adds.each n).1 (inr (subst (λ (z : ℕ). IsOneOf pairs (z, n)) (sym e) p.pair))
-    ]
-
-less_all : (P : ℕ → Type 0) (xs : List ℕ) (k r : ℕ) → AllByRecursion P xs → Stands xs k r → P r
-less_all P [] k r a s = absurd (stands_none k r s)
-less_all P (x ∷ xs) zero r a s = let e : x ≡ r = cc in subst P e a.0
-less_all P (x ∷ xs) (suc k) r a s = less_all P xs k r a.1 s
-
-strictly : (xs : List ℕ) (j k q r : ℕ) → IsStrictlySortedBy nat_cmp xs → j < k → Stands xs j q → Stands xs k r → q < r
-unfolding IsStrictlySortedBy
-strictly [] j k q r s h a b = absurd (stands_none j q a)
-strictly (x ∷ xs) j zero q r s h a b = absurd (omega arith)
-strictly (x ∷ xs) zero (suc k) q r s h a b =
-    let e : x ≡ q = cc in
-    ranked q r Less (sym (subst (λ (z : ℕ). nat_cmp z r ≡ Less) e (less_all (λ y. nat_cmp x y ≡ Less) xs k r s.0 b)))
-strictly (x ∷ xs) (suc j) (suc k) q r s h a b = strictly xs j k q r s.1 (omega arith) a b
-
--- the numbers, sorted and each once, are those of the observers
-pub paired_sorted : (pairs : List (ℕ × ℕ)) (xs : List VarId) (i : ℕ) (all sorted kept : List ℕ) → length xs ≤ i → ((n : ℕ) → (IsOneOf all n ↔ IsPaired pairs (take i xs) n))
-    → IsPermutation all sorted → IsSorted nat_cmp sorted → IsFiltered (DiffersFromLast nat_eq) [] sorted kept → (p : GtsParts) → AreInOrder p pairs → AreTouched p xs kept
-paired_sorted pairs xs i all sorted kept h are perm order filtered p known =
-    subst (AreTouched p xs) (sym (dedup_is nat_eq sorted kept filtered)) (record {
-      ascend = record { ascends = λ j k a b l s t. strictly (dedup nat_eq sorted) j k a b (IsStrictlySortedBy-dedup nat_cmp_total unsigned_ties sorted order) l s t };
-      each = λ n. (λ o. whole n ((are n).0 (back n o)), λ q. there n ((are n).1 (first n q)));
-    })
-  where
-    there : (n : ℕ) → IsOneOf all n → IsOneOf (dedup nat_eq sorted) n
-    there n o = one_contains (dedup nat_eq sorted) n (Contains-dedup nat_eq_equiv (λ x y. (unsigned_Decides x y).0) sorted n (Contains-permutation all sorted n perm (contains_one all n o)))
-
-    back : (n : ℕ) → IsOneOf (dedup nat_eq sorted) n → IsOneOf all n
-    back n o = one_contains all n (Contains-permutation sorted all n (IsPermutation-sym all sorted perm) (Contains-from_dedup nat_eq sorted n (contains_one (dedup nat_eq sorted) n o)))
-
-    whole : (n : ℕ) → IsPaired pairs (take i xs) n → NamesOne p xs n
-    whole n q = record { variable = q.variable; is_one = subst (λ (z : List VarId). IsOneOf (numbers z) q.variable) (take_all i xs h) q.is_one; observes = known.only (q.variable, n) q.pair }
-
-    first : (n : ℕ) → NamesOne p xs n → IsPaired pairs (take i xs) n
-    first n q = record { variable = q.variable; is_one = subst (λ (z : List VarId). IsOneOf (numbers z) q.variable) (sym (take_all i xs h)) q.is_one; pair = known.all q.variable n q.observes }
+    off : (n : ℕ) → NamesOne p xs n → IsPaired pairs (numbers xs) n
+    off n q = record { first = q.variable; is_one = q.is_one; pair = known.all q.variable n q.observes }

@@ -32,16 +32,6 @@ pub record AreInOrder (p : GtsParts) (pairs : List (ℕ × ℕ)) : Type 0 where
   pub all : (x n : ℕ) → Observes p x n → IsOneOf pairs (x, n)
   pub ascending : IsNonDecreasingBy (λ (q : ℕ × ℕ). q.0) pairs
 
--- one of these variables stands in a pair with the number
-pub record IsPaired (pairs : List (ℕ × ℕ)) (variables : List VarId) (n : ℕ) : Type 0 where
-  pub variable : ℕ
-  pub is_one : IsOneOf (numbers variables) variable
-  pub pair : IsOneOf pairs (variable, n)
-
--- the list got the numbers that stand in pairs with the variable
-pub record AddsRun (pairs : List (ℕ × ℕ)) (variable : ℕ) (old new : List ℕ) : Type 0 where
-  pub each : (n : ℕ) → (IsOneOf new n ↔ (IsOneOf old n ⊎ IsOneOf pairs (variable, n)))
-
 -- observer n names one of these variables
 pub record NamesOne (p : GtsParts) (variables : List VarId) (n : ℕ) : Type 0 where
   pub variable : ℕ

@@ -1,4 +1,4 @@
--- The pairs of a variable among pairs in order.
+-- The pairs with a first among pairs in order.
 use Rattle.std.proofs.Common.{◌≡◌, ℕ, zero, suc, ◌+◌, ◌-◌, ◌<◌, ◌≤◌, ◌⊎◌, inl, inr, true, false, List, length, get_or, take, drop, sym, ap, ◌∙◌, arith, length-drop, ltb, leb}
 use Rattle.std.proofs.lemmas.Bool.{ltb-true, leb-false, ltb-false, leb-true}
 use Rattle.std.proofs.lemmas.List.{get_or-drop, get_or-take, length-take-le}
@@ -15,7 +15,7 @@ side zero n = inl (omega arith)
 side (suc m) zero = inr (omega arith)
 side (suc m) (suc n) = elim (side m n) [ inl h ↦ inl (omega arith) | inr h ↦ inr (omega arith) ]
 
--- what lies between the pairs of lesser and of greater variables
+-- what lies between the pairs of lesser and of greater firsts
 module _ (pairs : List Pair) (t from to : ℕ) (low : IsPartitionPoint (λ (r : Pair). ltb r.0 t ≡ true) (λ (r : Pair). ltb r.0 t ≡ false) pairs from)
     (high : IsPartitionPoint (λ (r : Pair). leb r.0 t ≡ true) (λ (r : Pair). leb r.0 t ≡ false) pairs to) (bound : to ≤ length pairs) (bound' : from ≤ length pairs) where
   pub in_order : from ≤ to

@@ -1,5 +1,5 @@
--- The numbers that stand with some variables in pairs.
-use Rattle.std.proofs.Common.{◌≡◌, ◌↔◌, ℕ, zero, suc, ◌+◌, ◌<◌, ◌⊎◌, inl, inr, Less, List, [], ◌∷◌, ◌++◌, map, length, get_or, take, nat_eq, refl, sym, subst, arith}
+-- The numbers that stand in pairs with some firsts.
+use Rattle.std.proofs.Common.{◌≡◌, ◌↔◌, ℕ, zero, suc, ◌+◌, ◌<◌, ◌⊎◌, inl, inr, Less, List, [], ◌∷◌, ◌++◌, map, length, get_or, take, Result, Ok, Err, IfOk, nat_eq, refl, sym, subst, arith}
 use Rattle.std.specs.Ordering.{nat_cmp}
 use Rattle.std.specs.Cmp.{unsigned_ties, unsigned_Decides}
 use Rattle.std.proofs.lemmas.Cmp.{nat_cmp_total, nat_eq_equiv, ranked}
@@ -10,36 +10,41 @@ use Rattle.std.proofs.lemmas.List.{take_more}
 use Rattle.std.proofs.lemmas.List.Sorted.{Contains-permutation, IsPermutation-sym}
 use Rattle.std.proofs.lemmas.List.Filters.{dedup_is}
 use Rattle.std.proofs.lemmas.List.Kept.{Contains-dedup, Contains-from_dedup, IsStrictlySortedBy-dedup}
+use Rattle.ar_base.specs.declared.faults.Memory.{Memory}
 use Rattle.ar_base.specs.Lists.{Stands, IsOneOf}
 use Rattle.ar_base.proofs.Standing.{stands_none, stands_map, stands_map_back, one_here, one_none, one_split, one_left, one_right, one_contains, contains_one}
 use Rattle.ar_base.specs.Sets.{Ascends}
-use Rattle.flow_reasons.specs.Pairing.{IsPaired, AddsRun}
+use Rattle.number_pairs.specs.Pairing.{IsPaired, AddsRun}
 
--- the pairs of a variable give their numbers
-pub run_added : (pairs : List (ℕ × ℕ)) (variable : ℕ) (run : List (ℕ × ℕ)) (old new : List ℕ) → new ≡ old ++ map (λ (q : ℕ × ℕ). q.1) run
-    → ((q : ℕ × ℕ) → IsOneOf run q → IsOneOf pairs q × (q.0 ≡ variable)) → ((n : ℕ) → IsOneOf pairs (variable, n) → IsOneOf run (variable, n)) → AddsRun pairs variable old new
-run_added pairs variable run old new e among all = record { each = λ n. subst (λ (z : List ℕ). IsOneOf z n ↔ (IsOneOf old n ⊎ IsOneOf pairs (variable, n))) (sym e) (on n, off n) }
+pub ok_as : (P Q : Type 0) (r : Result (Unit {0}) Memory) → (P → Q) → IfOk r (λ _. P) → IfOk r (λ _. Q)
+ok_as P Q (Ok x) f h = f h
+ok_as P Q (Err e) f h = tt
+
+-- the pairs with a first give their numbers
+pub run_added : (pairs : List (ℕ × ℕ)) (first : ℕ) (run : List (ℕ × ℕ)) (old new : List ℕ) → new ≡ old ++ map (λ (q : ℕ × ℕ). q.1) run
+    → ((q : ℕ × ℕ) → IsOneOf run q → IsOneOf pairs q × (q.0 ≡ first)) → ((n : ℕ) → IsOneOf pairs (first, n) → IsOneOf run (first, n)) → AddsRun pairs first old new
+run_added pairs first run old new e among all = record { each = λ n. subst (λ (z : List ℕ). IsOneOf z n ↔ (IsOneOf old n ⊎ IsOneOf pairs (first, n))) (sym e) (on n, off n) }
   where
     seconds : List ℕ
     seconds = map (λ (q : ℕ × ℕ). q.1) run
 
-    found : (n : ℕ) → IsOneOf seconds n → IsOneOf pairs (variable, n)
+    found : (n : ℕ) → IsOneOf seconds n → IsOneOf pairs (first, n)
     found n o =
         let b = stands_map_back (λ (q : ℕ × ℕ). q.1) run o.place n o.stands in
         let a = among b.0 (one_here run o.place b.0 b.1) in
         let at : IsOneOf pairs (b.0.0, n) = subst (λ (z : ℕ). IsOneOf pairs (b.0.0, z)) b.2 a.0 in
         subst (λ (z : ℕ). IsOneOf pairs (z, n)) a.1 at
 
-    on : (n : ℕ) → IsOneOf (old ++ seconds) n → IsOneOf old n ⊎ IsOneOf pairs (variable, n)
+    on : (n : ℕ) → IsOneOf (old ++ seconds) n → IsOneOf old n ⊎ IsOneOf pairs (first, n)
     on n o = elim (one_split old seconds n o) [ inl k ↦ inl k | inr k ↦ inr (found n k) ]
 
-    off : (n : ℕ) → IsOneOf old n ⊎ IsOneOf pairs (variable, n) → IsOneOf (old ++ seconds) n
+    off : (n : ℕ) → IsOneOf old n ⊎ IsOneOf pairs (first, n) → IsOneOf (old ++ seconds) n
     off n (inl o) = one_left old seconds n o
-    off n (inr o) = let r = all n o in one_right old seconds n (one_here seconds r.place n (stands_map (λ (q : ℕ × ℕ). q.1) run r.place (variable, n) r.stands))
+    off n (inr o) = let r = all n o in one_right old seconds n (one_here seconds r.place n (stands_map (λ (q : ℕ × ℕ). q.1) run r.place (first, n) r.stands))
 
--- no variable has pairs
+-- no first has pairs
 pub paired_none : (pairs : List (ℕ × ℕ)) (n : ℕ) → IsOneOf [] n ↔ IsPaired pairs [] n
-paired_none pairs n = (λ h. absurd (one_none n h), λ h. absurd (one_none h.variable h.is_one))
+paired_none pairs n = (λ h. absurd (one_none n h), λ h. absurd (one_none h.first h.is_one))
 
 last_one : (xs : List ℕ) (a b : ℕ) → IsOneOf (xs ++ a ∷ []) b → IsOneOf xs b ⊎ (a ≡ b)
 last_one xs a b o = elim (one_split xs (a ∷ []) b o) [ inl k ↦ inl k | inr k ↦ inr (only k.place k.stands) ]
@@ -49,7 +54,7 @@ last_one xs a b o = elim (one_split xs (a ∷ []) b o) [ inl k ↦ inl k | inr k
     only (suc zero) s = cc
     only (suc (suc k)) s = cc
 
--- one variable more
+-- one first more
 pub paired_more : (pairs : List (ℕ × ℕ)) (xs : List ℕ) (i : ℕ) (d : ℕ) (old new : List ℕ) → i < length xs
     → ((n : ℕ) → (IsOneOf old n ↔ IsPaired pairs (take i xs) n)) → AddsRun pairs (get_or xs i d) old new
     → (n : ℕ) → (IsOneOf new n ↔ IsPaired pairs (take (i + 1) xs) n)
@@ -66,13 +71,13 @@ paired_more pairs xs i d old new h before adds n = (on, off)
 
     on : IsOneOf new n → IsPaired pairs (take (i + 1) xs) n
     on o = elim ((adds.each n).0 o) [
-      | inl k ↦ let p = (before n).0 k in record { variable = p.variable; is_one = now p.variable (one_left (take i xs) (x ∷ []) p.variable p.is_one); pair = p.pair }
-      | inr k ↦ record { variable = x; is_one = now x (one_right (take i xs) (x ∷ []) x (one_here (x ∷ []) 0 x refl)); pair = k }
+      | inl k ↦ let p = (before n).0 k in record { first = p.first; is_one = now p.first (one_left (take i xs) (x ∷ []) p.first p.is_one); pair = p.pair }
+      | inr k ↦ record { first = x; is_one = now x (one_right (take i xs) (x ∷ []) x (one_here (x ∷ []) 0 x refl)); pair = k }
     ]
 
     off : IsPaired pairs (take (i + 1) xs) n → IsOneOf new n
-    off p = elim (last_one (take i xs) x p.variable (subst (λ (z : List ℕ). IsOneOf z p.variable) split p.is_one)) [
-      | inl k ↦ (adds.each n).1 (inl ((before n).1 (record { variable = p.variable; is_one = k; pair = p.pair })))
+    off p = elim (last_one (take i xs) x p.first (subst (λ (z : List ℕ). IsOneOf z p.first) split p.is_one)) [
+      | inl k ↦ (adds.each n).1 (inl ((before n).1 (record { first = p.first; is_one = k; pair = p.pair })))
       | inr e ↦ (adds.each n).1 (inr (subst (λ (z : ℕ). IsOneOf pairs (z, n)) (sym e) p.pair))
     ]
 

@@ -1,6 +1,6 @@
 -- The same by the numbers of a flat system's ways.
-use Rattle.std.specs.Prelude.{◌≡◌, ◌<◌, ℕ, List, map, length}
-use Rattle.ar_base.specs.Lists.{Stands, IsOneOf}
+use Rattle.std.specs.Prelude.{◌≡◌, ℕ, List, map, length}
+use Rattle.ar_base.specs.Lists.{Stands}
 use Rattle.ar_base.specs.Numbers.{EventId}
 use Rattle.domains.specs.declared.Value.{Value}
 use Rattle.typed_expr.specs.declared.expr.Expr.{Expr}

@@ -1,0 +1,4 @@
+mod Pieces
+mod Marks
+mod ToldLines
+mod Source

@@ -84,6 +84,6 @@ module _ (p : GtsParts) (sound : IsSound p) (t : List Value) where
   pub reasons_back : (total : List Value) (found : List Reason) → Flows (net_of p) t (Total total) → AreReasons (net_of p) total (reasons_of found)
       → AreReasonsOf (net_of p) t found
   reasons_back total found f are = record {
-    flows = record { total = total; flows = f };
+    flows = record { values = total; flows = f };
     are = reasons_same (net_of p) total t (states_turned (states_of f)) are;
   }

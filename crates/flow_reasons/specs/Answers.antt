@@ -5,7 +5,8 @@ use Rattle.std.specs.Global.{Global}
 use Rattle.ar_base.specs.Numbers.{VarId, AssignId}
 use Rattle.domains.specs.declared.Value.{Value}
 use Rattle.ar_meaning.specs.Systems.{Net}
-use Rattle.ar_meaning.specs.Flows.{Flows, Total, Fails}
+use Rattle.ar_meaning.specs.Flows.{Flows, Fails}
+use Rattle.ar_firing.specs.Operands.{HasFlows}
 use Rattle.flow_rounds.specs.Reasons.{AreReasons}
 use Rattle.flow_rounds.specs.Reasons as rounds
 use Rattle.gts_core.specs.View.{net_of}
@@ -32,11 +33,6 @@ reason_of r = record {
 -- these reasons by plain numbers
 abbrev pub reasons_of : List Reason → List rounds.Reason
 reasons_of rs = map reason_of rs
-
--- the state has flows, which are no fault
-pub record HasFlows {V : Type 0} (net : Net V) (t : List Value) : Type 0 where
-  pub total : List Value
-  pub flows : Flows net t (Total total)
 
 -- the reasons of the state, which has flows
 pub record AreReasonsOf (net : Net ℕ) (t : List Value) (reasons : List Reason) : Type 0 where

@@ -11,7 +11,7 @@ use Rattle.ar_meaning.proofs.FlatSystems.{flat_image, flat_back}
 use Rattle.flow_rounds.specs.Reasons.{Reason, AreReasons, InCone}
 use Rattle.flow_rounds.proofs.ImageRounds.{reasons_there, cone_there}
 use Rattle.flow_rounds.proofs.Standing.{no_two, reasons_one}
-use Rattle.flow_reasons.specs.Answers.{HasFlows}
+use Rattle.ar_firing.specs.Operands.{HasFlows}
 use Rattle.gts_core.specs.View.{Views, net_of}
 use Rattle.gts_core.specs.declared.system.GtsParts.{GtsParts}
 use Rattle.gts_flatten.specs.Elaborating.{Elaborated}

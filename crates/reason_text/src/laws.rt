@@ -11,7 +11,7 @@ ghost use Rattle.gts_flatten.specs.Elaborating.{Elaborated};
 ghost use Rattle.gts_flatten.specs.Flat.{IsFlat, naming_of, naming_of_parts};
 ghost use Rattle.hierarchy.specs.Listing.{variables};
 ghost use Rattle.hierarchy.specs.Units.{Thing};
-ghost use Rattle.flow_reasons.specs.Answers.{HasFlows};
+ghost use Rattle.ar_firing.specs.Operands.{HasFlows};
 ghost use Rattle.reason_text.specs.Answers.{AreSameObserver};
 ghost use Rattle.reason_text.specs.Texts.{IsReasonText};
 

@@ -4,7 +4,8 @@ ghost use Rattle.std.specs.Prelude.{◌≡◌, length, IfOk};
 ghost use Rattle.gts_core.specs.View.{net_of};
 ghost use Rattle.gts_flatten.specs.Flat.{naming_of_parts};
 ghost use Rattle.flow_propagate.specs.Answers.{IsState};
-ghost use Rattle.flow_reasons.specs.Answers.{HasFlows, AreReasonsOf};
+ghost use Rattle.ar_firing.specs.Operands.{HasFlows};
+ghost use Rattle.flow_reasons.specs.Answers.{AreReasonsOf};
 ghost use Rattle.reason_text.specs.Answers.{Explains, IsObserverOf, observed};
 ghost use Rattle.reason_text.specs.Texts.{IsReasonText};
 

@@ -1,12 +1,11 @@
 -- Marks of variables, and the flows that are told.
-use Rattle.std.proofs.Common.{◌≡◌, ◌<◌, ◌≤◌, ◌+◌, ◌⊎◌, inl, inr, ℕ, zero, suc, Bool, true, false, List, [], ◌∷◌, ◌++◌, length, set, get_or, take, Option, Some, None, slice_get, unwrap_or, Result, Ok, Err, IfOk, Vec, Global, refl, sym, ap, ◌∙◌, subst, arith, length-set}
+use Rattle.std.proofs.Common.{◌≡◌, ◌<◌, ◌≤◌, ◌+◌, inl, inr, ℕ, zero, suc, Bool, true, false, List, [], ◌∷◌, ◌++◌, length, set, get_or, take, Option, Some, None, Result, Ok, Err, IfOk, Vec, Global, refl, sym, ap, ◌∙◌, subst, arith, length-set}
 use Rattle.std.proofs.lemmas.Bool.{cases_eq}
 use Rattle.std.proofs.lemmas.List.{take_more, take_all, map-append}
 use Rattle.ar_base.specs.declared.faults.Memory.{Memory}
 use Rattle.ar_base.specs.Lists.{Stands, IsOneOf}
 use Rattle.ar_base.specs.Numbers.{VarId}
-use Rattle.ar_base.proofs.Standing.{stands_some, stands_one, stands_none, one_none, one_split, one_left, one_right, one_first, only_item}
-use Rattle.domains.specs.declared.Value.{Value}
+use Rattle.ar_base.proofs.Standing.{one_none, one_split, one_left, one_right, one_first, only_item}
 use Rattle.typed_expr.specs.declared.expr.Expr.{Expr}
 use Rattle.ar_meaning.specs.Found.{IsAnswer}
 use Rattle.flow_rounds.specs.Reasons.{InCone, IsCone}
@@ -17,7 +16,6 @@ use Rattle.gts_core.specs.declared.system.GtsParts.{GtsParts}
 use Rattle.gts_core.proofs.Tests.{turned_answer}
 use Rattle.flow_reasons.specs.Answers.{numbers_of}
 use Rattle.reason_text.specs.Answers.{told_at, AreTold, AreAll, AreMarked, observed, value_found}
-use Rattle.reason_text.specs.Texts.{IsTold}
 
 at_here : (marks : List Bool) (n : ℕ) → n < length marks → told_at (set marks n true) n ≡ true
 at_here [] n l = absurd (omega (arith, l))

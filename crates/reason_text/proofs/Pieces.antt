@@ -1,5 +1,5 @@
 -- Lines in pieces.
-use Rattle.std.proofs.Common.{◌≡◌, ◌+◌, ℕ, true, false, List, [], ◌∷◌, ◌++◌, codes, decimal, map, Option, slice_get, append_assoc, refl, sym, ◌∙◌, ap}
+use Rattle.std.proofs.Common.{◌≡◌, ◌+◌, ℕ, false, List, [], ◌∷◌, ◌++◌, codes, decimal, Option, slice_get, append_assoc, refl, sym, ◌∙◌, ap}
 use Rattle.ar_base.specs.Lists.{Stands}
 use Rattle.ar_base.specs.Numbers.{VarId}
 use Rattle.ar_base.specs.Texts.{line, separated, text_at}

@@ -1,5 +1,5 @@
 -- The text of a flat system is that of its source, and there is one.
-use Rattle.std.proofs.Common.{◌≡◌, ◌↔◌, ℕ, List, [], ◌∷◌, ◌++◌, Option, Some, None, refl, sym, ap, ◌∙◌, subst}
+use Rattle.std.proofs.Common.{◌≡◌, ℕ, List, ◌++◌, Option, Some, None, refl, sym, ap, subst}
 use Rattle.domains.specs.declared.Value.{Value}
 use Rattle.typed_expr.specs.Pairs.{turned}
 use Rattle.typed_expr.specs.declared.expr.Expr.{Expr}
@@ -8,11 +8,11 @@ use Rattle.ar_meaning.specs.Systems.{Net, System}
 use Rattle.ar_meaning.specs.FlatOf.{IsNumber, IsFlatOf}
 use Rattle.ar_meaning.specs.TraceText.{Naming}
 use Rattle.ar_meaning.proofs.FlatSystems.{flat_image, flat_back}
-use Rattle.flow_rounds.specs.Reasons.{Reason, AreReasons, InCone}
+use Rattle.flow_rounds.specs.Reasons.{Reason, AreReasons}
 use Rattle.flow_rounds.proofs.ImageRounds.{reasons_there, cone_there}
 use Rattle.flow_rounds.proofs.Standing.{no_two, reasons_one}
 use Rattle.ar_firing.specs.Operands.{HasFlows}
-use Rattle.gts_core.specs.View.{Views, net_of}
+use Rattle.gts_core.specs.View.{net_of}
 use Rattle.gts_core.specs.declared.system.GtsParts.{GtsParts}
 use Rattle.gts_flatten.specs.Elaborating.{Elaborated}
 use Rattle.gts_flatten.specs.Flat.{IsFlat, naming_of, naming_of_parts}

@@ -1,8 +1,8 @@
 -- The lines that are told, as they are written and as they are meant.
-use Rattle.std.proofs.Common.{◌≡◌, ◌<◌, ◌+◌, ℕ, Bool, true, false, List, [], ◌∷◌, ◌++◌, map, length, Option, Some, None, Result, Ok, Err, if◌then◌else◌, refl, sym, ap, ◌∙◌, subst, arith}
-use Rattle.ar_base.specs.Lists.{Stands, IsOneOf}
-use Rattle.ar_base.specs.Numbers.{VarId, AssignId}
-use Rattle.ar_base.proofs.Standing.{stands_within, stands_map, stands_map_back, one_none, one_here, one_first, one_rest}
+use Rattle.std.proofs.Common.{◌≡◌, ◌<◌, ℕ, Bool, true, false, List, [], ◌∷◌, ◌++◌, length, Option, Some, None, Result, Err, if◌then◌else◌, refl, sym, ap, ◌∙◌, subst, arith}
+use Rattle.ar_base.specs.Lists.{IsOneOf}
+use Rattle.ar_base.specs.Numbers.{AssignId}
+use Rattle.ar_base.proofs.Standing.{stands_within, stands_map, stands_map_back, one_here, one_first, one_rest}
 use Rattle.ar_io.specs.Writing.{SinkState, Writes}
 use Rattle.ar_io.specs.declared.outside.SinkFailed.{SinkFailed}
 use Rattle.domains.specs.declared.Value.{Value}
@@ -11,16 +11,16 @@ use Rattle.ar_meaning.specs.Found.{IsAnswer}
 use Rattle.ar_meaning.specs.TraceText.{Naming}
 use Rattle.flow_rounds.specs.Reasons.{IsReason, derived, reset, AreReasons}
 use Rattle.flow_rounds.specs.Reasons as rounds
-use Rattle.flow_rounds.proofs.Standing.{ReasonAt, reason_at}
+use Rattle.flow_rounds.proofs.Standing.{reason_at}
 use Rattle.gts_core.specs.View.{net_of, assign_of}
 use Rattle.gts_core.specs.declared.system.GtsParts.{GtsParts}
 use Rattle.gts_core.proofs.Viewing.{variables_long}
 use Rattle.gts_flatten.specs.Flat.{naming_of_parts}
 use Rattle.replayer.specs.declared.replaying.ReplayFault.{ReplayFault}
 use Rattle.replayer.specs.declared.replaying.ReplayFault.TheVariants.{Write, Memory}
-use Rattle.flow_reasons.specs.Answers.{reason_of, reasons_of, AreReasonsOf, AreOfState}
+use Rattle.flow_reasons.specs.Answers.{reason_of, reasons_of}
 use Rattle.flow_reasons.specs.declared.reason.Reason.{Reason}
-use Rattle.reason_text.specs.Answers.{Explains, told_at, told_line, told_lines, AreTold, HasAssign, HaveAssigns}
+use Rattle.reason_text.specs.Answers.{Explains, told_at, told_line, told_lines, AreTold, HaveAssigns}
 use Rattle.reason_text.specs.Texts.{reason_line, ReasonLines, none, tells, leaves, IsTold}
 
 -- a test that decides the flow

@@ -1,4 +1,4 @@
-use Rattle.std.proofs.Common.{Option, List, ℕ, Some, sym, ap, ◌∙◌}
+use Rattle.std.proofs.Common.{Option, List, sym, ap, ◌∙◌}
 use Rattle.ar_base.specs.Numbers.{VarId, AssignId}
 use Rattle.std.specs.Option.{option_map}
 use Rattle.ar_io.proofs.Writing.{writes_as}

@@ -1,4 +1,4 @@
-use Rattle.std.proofs.Common.{List, ℕ, get_or, subst}
+use Rattle.std.proofs.Common.{List, subst}
 use Rattle.ar_base.specs.Numbers.{VarId}
 use Rattle.ar_base.proofs.Standing.{stands_some}
 use Rattle.flow_reasons.specs.Answers.{numbers_of, reasons_of}

@@ -1,4 +1,4 @@
-use Rattle.std.proofs.Common.{◌≡◌, ℕ, Option, Some, None, length, rules, sym, ap, ◌∙◌, subst}
+use Rattle.std.proofs.Common.{◌≡◌, ℕ, Option, length, rules, sym, ap, ◌∙◌, subst}
 use Rattle.gts_core.specs.declared.system.GtsParts.{GtsParts}
 use Rattle.flow_reasons.specs.Answers.{reasons_of}
 use Rattle.reason_text.specs.Answers.{AreTold, IsObserverOf, observed}

@@ -1,0 +1,6 @@
+use Rattle.std.proofs.Common.{◌≡◌, take}
+use Rattle.stepper.specs.Changes.{numbers}
+use Rattle.replayer.proofs.touched.plain_numbers.Given as goal
+
+abbrev pub invariant-loop-variable : goal.invariant-loop-variable
+invariant-loop-variable l = l.all.items ≡ numbers (take l.variable-index l.variables)

@@ -1,0 +1,3 @@
+mod Source
+mod Pieces
+mod Exits

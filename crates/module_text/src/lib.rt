@@ -1,0 +1,8 @@
+//! The text of cuts in short: the units whose sets of events may be exchanged, and the short forms of the cuts.
+#![tactic(auto)]
+
+mod arranging;
+pub mod laws;
+mod printing;
+
+pub use printing::print_modules;

@@ -1,0 +1,198 @@
+// The lines of cuts in short.
+
+ghost use Rattle.std.specs.Prelude.{◌≡◌, ◌++◌, true, false, codes, map};
+ghost use Rattle.ar_base.specs.Texts.{line, separated, text_at};
+ghost use Rattle.ar_io.specs.Writing.{Writes};
+ghost use Rattle.cut_text.specs.Answers.{Prints};
+ghost use Rattle.cut_text.specs.Texts.{braced};
+ghost use Rattle.mode_forests.specs.Ways.{OwnTheirWays};
+ghost use Rattle.module_text.specs.Arranged.{piece_text, line_text, part_lines as texts_of_parts, group_lines as text_of_group};
+ghost use Rattle.module_text.specs.Arranged.{groups_lines, form_lines as texts_of_forms, IsInside, AreInside, LinesInside, GroupsInside};
+ghost use Rattle.module_text.specs.Printed.{short_lines};
+ghost use Rattle.module_text.specs.Texts.{module_line, part_line, unit_mark, lines_line};
+
+use crate::arranging::{Group, Line, Piece, groups_of, lines_of_forms};
+use ar_base::UnitId;
+use ar_io::{Sink, SinkFailed};
+use cut_text::PrintFault;
+use gate_modules::Short;
+use gts_core::{Gts, GtsParts};
+use mode_forests::Forest;
+use replayer::pieces::{count, put};
+use replayer::print_label;
+use std::alloc::Global;
+
+/// Writes the text of cuts in short: for each module `module PATH` and then each of its sets on a line of two spaces and
+/// `{a, b}`, with the labels of its events' edges in firing order; then the short forms, each `{[PATH], a}` with its units and
+/// the labels of its other events in firing order; and last `lines N` with the number of short forms. Memory is taken before
+/// anything is written.
+pub fn print_modules<K: Sink>(
+    alloc: Global,
+    gts: &Gts,
+    forest: &Forest,
+    short: &Short,
+    out: &mut K,
+) -> Result<(), PrintFault>
+    requires { OwnTheirWays gts.now forest.now.trees.items }
+    ensures { Prints (K.state out.old) (K.state out.new) (short_lines gts.now forest.now short.now) result }
+{
+    let groups = groups_of(alloc, forest, &short.modules)?;
+    let lines = lines_of_forms(alloc, forest, &short.sets)?;
+    all_groups(out, gts, &groups)?;
+    forms(out, gts, &lines)?;
+    last(out, lines.len())?;
+    Ok(())
+}
+
+// The lines of modules.
+fn all_groups<K: Sink>(out: &mut K, gts: &Gts, groups: &[Group]) -> Result<(), SinkFailed>
+    requires { GroupsInside gts.now groups.now }
+    ensures { Writes (K.state out.old) (K.state out.new) (groups_lines gts.now groups.now) result }
+{
+    for one in groups {
+        group(out, gts, one)?;
+    }
+    Ok(())
+}
+
+// The lines of a module.
+fn group<K: Sink>(out: &mut K, gts: &Gts, group: &Group) -> Result<(), SinkFailed>
+    requires { LinesInside gts.now group.now.lines.items }
+    ensures { Writes (K.state out.old) (K.state out.new) (text_of_group gts.now group.now) result }
+{
+    head(out, gts.parts(), group.unit)?;
+    parts(out, gts, &group.lines)
+}
+
+// The line of a module's unit.
+fn head<K: Sink>(out: &mut K, parts: &GtsParts, unit: UnitId) -> Result<(), SinkFailed>
+    ensures { Writes (K.state out.old) (K.state out.new) (module_line (text_at parts.now.units.items unit.n)) result }
+{
+    put(out, "module ")?;
+    put(out, unit_path(parts, unit))?;
+    put(out, "\n")
+}
+
+// The lines of a module's sets.
+fn parts<K: Sink>(out: &mut K, gts: &Gts, lines: &[Line]) -> Result<(), SinkFailed>
+    requires { LinesInside gts.now lines.now }
+    ensures { Writes (K.state out.old) (K.state out.new) (texts_of_parts gts.now lines.now) result }
+{
+    for one in lines {
+        part(out, gts, one)?;
+    }
+    Ok(())
+}
+
+// The line of a set.
+fn part<K: Sink>(out: &mut K, gts: &Gts, line: &Line) -> Result<(), SinkFailed>
+    requires { AreInside gts.now line.now.pieces.items }
+    ensures { Writes (K.state out.old) (K.state out.new) (part_line (line_text gts.now line.now)) result }
+{
+    put(out, "  ")?;
+    between_braces(out, gts, line)?;
+    put(out, "\n")
+}
+
+// The lines of short forms.
+fn forms<K: Sink>(out: &mut K, gts: &Gts, lines: &[Line]) -> Result<(), SinkFailed>
+    requires { LinesInside gts.now lines.now }
+    ensures { Writes (K.state out.old) (K.state out.new) (texts_of_forms gts.now lines.now) result }
+{
+    for one in lines {
+        form(out, gts, one)?;
+    }
+    Ok(())
+}
+
+// The line of a short form.
+fn form<K: Sink>(out: &mut K, gts: &Gts, form: &Line) -> Result<(), SinkFailed>
+    requires { AreInside gts.now form.now.pieces.items }
+    ensures { Writes (K.state out.old) (K.state out.new) (line (line_text gts.now form.now)) result }
+{
+    between_braces(out, gts, form)?;
+    put(out, "\n")
+}
+
+// How many short forms there are.
+fn last<K: Sink>(out: &mut K, n: usize) -> Result<(), SinkFailed>
+    ensures { Writes (K.state out.old) (K.state out.new) (lines_line n) result }
+{
+    put(out, "lines ")?;
+    count(out, n)?;
+    put(out, "\n")
+}
+
+// What stands in a line, in braces.
+fn between_braces<K: Sink>(out: &mut K, gts: &Gts, line: &Line) -> Result<(), SinkFailed>
+    requires { AreInside gts.now line.now.pieces.items }
+    ensures { Writes (K.state out.old) (K.state out.new) (line_text gts.now line.now) result }
+{
+    put(out, "{")?;
+    pieces(out, gts, &line.pieces)?;
+    put(out, "}")
+}
+
+// Pieces, with commas between them.
+fn pieces<K: Sink>(out: &mut K, gts: &Gts, pieces: &[Piece]) -> Result<(), SinkFailed>
+    requires { AreInside gts.now pieces.now }
+    ensures { Writes (K.state out.old) (K.state out.new)
+        (separated true (codes ", ") (map (piece_text gts.now) pieces.now)) result }
+{
+    let Some((first, others)) = pieces.split_first() else {
+        return Ok(());
+    };
+    piece(out, gts, *first)?;
+    more_pieces(out, gts, others)
+}
+
+// Further pieces.
+fn more_pieces<K: Sink>(out: &mut K, gts: &Gts, pieces: &[Piece]) -> Result<(), SinkFailed>
+    requires { AreInside gts.now pieces.now }
+    ensures { Writes (K.state out.old) (K.state out.new)
+        (separated false (codes ", ") (map (piece_text gts.now) pieces.now)) result }
+{
+    for one in pieces {
+        next_piece(out, gts, *one)?;
+    }
+    Ok(())
+}
+
+// A piece behind another one.
+fn next_piece<K: Sink>(out: &mut K, gts: &Gts, next: Piece) -> Result<(), SinkFailed>
+    requires { IsInside gts.now next }
+    ensures { Writes (K.state out.old) (K.state out.new) (codes ", " ++ piece_text gts.now next) result }
+{
+    put(out, ", ")?;
+    piece(out, gts, next)
+}
+
+// A piece.
+fn piece<K: Sink>(out: &mut K, gts: &Gts, piece: Piece) -> Result<(), SinkFailed>
+    requires { IsInside gts.now piece }
+    ensures { Writes (K.state out.old) (K.state out.new) (piece_text gts.now piece) result }
+{
+    match piece {
+        Piece::Unit(unit) => mark(out, gts.parts(), unit),
+        Piece::Way(way) => print_label(gts, way, out),
+    }
+}
+
+// A unit in a line.
+fn mark<K: Sink>(out: &mut K, parts: &GtsParts, unit: UnitId) -> Result<(), SinkFailed>
+    ensures { Writes (K.state out.old) (K.state out.new) (unit_mark (text_at parts.now.units.items unit.n)) result }
+{
+    put(out, "[")?;
+    put(out, unit_path(parts, unit))?;
+    put(out, "]")
+}
+
+// The path of the unit; empty where there is none of this number.
+fn unit_path(parts: &GtsParts, unit: UnitId) -> &str
+    ensures { result.now ≡ text_at parts.now.units.items unit.n }
+{
+    match parts.units.get(unit.n as usize) {
+        Some(path) => path.as_str(),
+        None => "",
+    }
+}

@@ -4,7 +4,9 @@ ghost use Rattle.std.specs.Prelude.{◌≡◌, ◌<◌, ℕ, IfOk, OnOk, MatchOp
 ghost use Rattle.ar_base.specs.Lists.{Stands};
 ghost use Rattle.zdd_nodes.specs.Nodes.{NodeId, family, IsNumber};
 ghost use Rattle.gate_modules.specs.Walked.{AreTwins, EndsBelow};
-ghost use Rattle.gate_modules.specs.Entries.{node_numbers, AreSeen, IsCovered, Adds, AreEntries, AllEnd, IsReference, IsExit, IsEntryExit, EntryAnswers, EntriesAnswer, HasEvent};
+ghost use Rattle.gate_modules.specs.Entries.{node_numbers, AreSeen, IsCovered, Adds, AreEntries, AllEnd};
+ghost use Rattle.gate_modules.specs.Entries.{IsReference, IsExit, IsEntryExit, EntryAnswers, EntriesAnswer};
+ghost use Rattle.gate_modules.specs.Entries.{HasEvent};
 
 use crate::twins::{Question, Twin, agree_some, below};
 use ar_base::Memory;
@@ -46,8 +48,10 @@ fn collect(
     requires room { number.n < length seen.old }
     requires known { AreSeen store.now from seen.old (node_numbers entries.old.items) }
     ensures known { OnOk result (AreSeen store.now from seen.new (node_numbers entries.new.items)) }
-    ensures covered { OnOk result (IsCovered store.now from (node_numbers entries.new.items) (family store.now number.n)) }
-    ensures added { OnOk result (Adds store.now from number.n (node_numbers entries.old.items) (node_numbers entries.new.items)) }
+    ensures covered { OnOk result
+        (IsCovered store.now from (node_numbers entries.new.items) (family store.now number.n)) }
+    ensures added { OnOk result
+        (Adds store.now from number.n (node_numbers entries.old.items) (node_numbers entries.new.items)) }
     ensures long { OnOk result (length seen.new ≡ length seen.old) }
 {
     if seen[number.n as usize] {

@@ -4,7 +4,8 @@ ghost use Rattle.std.specs.Prelude.{◌≡◌, ◌<◌, ◌++◌, ◌∷◌, [],
 ghost use Rattle.std.specs.List.{filter};
 ghost use Rattle.zdd_nodes.specs.Nodes.{family, IsNumber};
 ghost use Rattle.gate_modules.specs.Modules.{lies as lies_in};
-ghost use Rattle.gate_modules.specs.Shortened.{numbers, touches as has_touched, is_covered as covered_by, short_form, units_where, form_of as form_made};
+ghost use Rattle.gate_modules.specs.Shortened.{numbers, touches as has_touched, is_covered as covered_by};
+ghost use Rattle.gate_modules.specs.Shortened.{short_form, units_where, form_of as form_made};
 ghost use Rattle.gate_modules.specs.Forms.{AreOfDifferentUnits, IsFit, AddsForms, IsSkip, IsHeld};
 
 use crate::entries::exit;
@@ -62,7 +63,8 @@ fn add_leaf(
 ) -> Result<(), Memory>
     requires { number.n < 2 }
     ensures none { OnOk result (number.n ≡ 0 → map form_made forms.new.items ≡ map form_made forms.old.items) }
-    ensures one { OnOk result (number.n ≡ 1 → map form_made forms.new.items ≡ map form_made forms.old.items ++ short_form chosen.now (numbers taken.now) ∷ []) }
+    ensures one { OnOk result (number.n ≡ 1
+        → map form_made forms.new.items ≡ map form_made forms.old.items ++ short_form chosen.now (numbers taken.now) ∷ []) }
 {
     if number.n == 0 {
         return Ok(());
@@ -94,7 +96,8 @@ fn form_of(alloc: Global, chosen: &[Range], taken: &[EventId]) -> Result<ShortSe
 
 // The units of these ranges of which one of the events is.
 fn units_of(alloc: Global, chosen: &[Range], taken: &[EventId]) -> Result<Vec<UnitId>, Memory>
-    ensures { IfOk result (λ units. map (λ u. u.n) units.items ≡ units_where (has_touched (numbers taken.now)) chosen.now) }
+    ensures { IfOk result
+        (λ units. map (λ u. u.n) units.items ≡ units_where (has_touched (numbers taken.now)) chosen.now) }
 {
     let mut units = Vec::new(alloc);
     for range in chosen {
@@ -107,7 +110,8 @@ fn units_of(alloc: Global, chosen: &[Range], taken: &[EventId]) -> Result<Vec<Un
 
 // Those of the events that are of none of these ranges.
 fn free_events(alloc: Global, chosen: &[Range], taken: &[EventId]) -> Result<Vec<EventId>, Memory>
-    ensures { IfOk result (λ events. numbers events.items ≡ filter (λ e. not (covered_by chosen.now e)) (numbers taken.now)) }
+    ensures { IfOk result
+        (λ events. numbers events.items ≡ filter (λ e. not (covered_by chosen.now e)) (numbers taken.now)) }
 {
     let mut events = Vec::new(alloc);
     for event in taken {

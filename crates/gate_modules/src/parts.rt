@@ -35,7 +35,8 @@ fn add_some_parts(
     sets: &mut Vec<EventSet>,
 ) -> Result<(), Memory>
     requires { IsNumber store.now number.n }
-    ensures { OnOk result (AddsSomeHeads store.now to number.n (map set_of sets.old.items) (map set_of sets.new.items)) }
+    ensures { OnOk result
+        (AddsSomeHeads store.now to number.n (map set_of sets.old.items) (map set_of sets.new.items)) }
 {
     match below(store, to, number) {
         Some((event, lo, hi)) => {
@@ -58,7 +59,8 @@ fn add_parts(
     sets: &mut Vec<EventSet>,
 ) -> Result<(), Memory>
     requires { IsNumber store.now number.n }
-    ensures { OnOk result (AddsHeads store.now to number.n (numbers taken.now) (map set_of sets.old.items) (map set_of sets.new.items)) }
+    ensures { OnOk result
+        (AddsHeads store.now to number.n (numbers taken.now) (map set_of sets.old.items) (map set_of sets.new.items)) }
 {
     match below(store, to, number) {
         Some((event, lo, hi)) => {

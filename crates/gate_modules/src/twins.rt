@@ -2,7 +2,8 @@
 
 ghost use Rattle.std.specs.Prelude.{◌≡◌, ◌↔◌, ◌<◌, MatchOption, length, true, ◌⊎◌};
 ghost use Rattle.zdd_nodes.specs.Nodes.{Stored, IsNumber, IsSoundStore};
-ghost use Rattle.gate_modules.specs.Walked.{AreTwins, EndsBelow, HasBelow, IsAsked, AreEnds, Answers, Agrees, AgreesSome};
+ghost use Rattle.gate_modules.specs.Walked.{AreTwins, EndsBelow, HasBelow, IsAsked, AreEnds, Answers, Agrees};
+ghost use Rattle.gate_modules.specs.Walked.{AgreesSome};
 
 use ar_base::EventId;
 use zdd_nodes::{NodeId, Store};
@@ -74,7 +75,8 @@ fn is_asked(known: Twin, asked: Question, second: NodeId) -> bool
 
 // Whether both families are empty, or what is to follow.
 fn both_end(asked: Question, first: NodeId, second: NodeId) -> bool
-    ensures { (result ≡ true) ↔ (((first.n ≡ 0) × (second.n ≡ 0)) ⊎ ((first.n ≡ asked.end.n) × (second.n ≡ asked.node_end.n))) }
+    ensures { (result ≡ true) ↔ (((first.n ≡ 0) × (second.n ≡ 0))
+        ⊎ ((first.n ≡ asked.end.n) × (second.n ≡ asked.node_end.n))) }
 {
     (first.n == 0 && second.n == 0) || (first.n == asked.end.n && second.n == asked.node_end.n)
 }

@@ -6,7 +6,8 @@ ghost use Rattle.ar_base.specs.Lists.{Along};
 ghost use Rattle.gate_modules.specs.Shortened.{numbers, form_of};
 ghost use Rattle.zdd_families.specs.Families.{holds};
 ghost use Rattle.cut_text.specs.Printed.{edges_of};
-ghost use Rattle.module_text.specs.Arranged.{way_pieces, line_pieces, part_pieces, form_pieces, IsGroupOf, pieces_of, unit_pieces};
+ghost use Rattle.module_text.specs.Arranged.{way_pieces, line_pieces, part_pieces, form_pieces, IsGroupOf};
+ghost use Rattle.module_text.specs.Arranged.{pieces_of, unit_pieces};
 
 use ar_base::{EventId, Memory, UnitId, WayId};
 use gate_modules::{EventSet, Module, ShortSet};
@@ -56,7 +57,8 @@ pub(crate) fn groups_of(
 
 // The lines of sets.
 fn lines_of_sets(alloc: Global, forest: &Forest, sets: &[EventSet]) -> Result<Vec<Line>, Memory>
-    ensures { IfOk result (λ lines. map pieces_of lines.items ≡ map (part_pieces (edges_of forest.now.trees.items)) sets.now) }
+    ensures { IfOk result
+        (λ lines. map pieces_of lines.items ≡ map (part_pieces (edges_of forest.now.trees.items)) sets.now) }
 {
     let mut lines = Vec::new(alloc);
     for set in sets {
@@ -71,7 +73,8 @@ pub(crate) fn lines_of_forms(
     forest: &Forest,
     forms: &[ShortSet],
 ) -> Result<Vec<Line>, Memory>
-    ensures { IfOk result (λ lines. map pieces_of lines.items ≡ map (form_pieces (edges_of forest.now.trees.items)) forms.now) }
+    ensures { IfOk result
+        (λ lines. map pieces_of lines.items ≡ map (form_pieces (edges_of forest.now.trees.items)) forms.now) }
 {
     let mut lines = Vec::new(alloc);
     for form in forms {

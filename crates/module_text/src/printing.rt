@@ -6,8 +6,10 @@ ghost use Rattle.ar_io.specs.Writing.{Writes};
 ghost use Rattle.cut_text.specs.Answers.{Prints};
 ghost use Rattle.cut_text.specs.Texts.{braced};
 ghost use Rattle.mode_forests.specs.Ways.{OwnTheirWays};
-ghost use Rattle.module_text.specs.Arranged.{piece_text, line_text, part_lines as texts_of_parts, group_lines as text_of_group};
-ghost use Rattle.module_text.specs.Arranged.{groups_lines, form_lines as texts_of_forms, IsInside, AreInside, LinesInside, GroupsInside};
+ghost use Rattle.module_text.specs.Arranged.{piece_text, line_text, part_lines as texts_of_parts};
+ghost use Rattle.module_text.specs.Arranged.{group_lines as text_of_group};
+ghost use Rattle.module_text.specs.Arranged.{groups_lines, form_lines as texts_of_forms, IsInside, AreInside};
+ghost use Rattle.module_text.specs.Arranged.{LinesInside, GroupsInside};
 ghost use Rattle.module_text.specs.Printed.{short_lines};
 ghost use Rattle.module_text.specs.Texts.{module_line, part_line, unit_mark, lines_line};
 

@@ -1,3 +1,5 @@
 mod Source
 mod Pieces
 mod Exits
+mod Spanning
+mod UnitSpans

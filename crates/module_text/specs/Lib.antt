@@ -2,3 +2,4 @@ pub mod Ranges
 pub mod Texts
 pub mod Printed
 pub mod Arranged
+pub mod Spans

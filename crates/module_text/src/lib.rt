@@ -4,5 +4,7 @@
 mod arranging;
 pub mod laws;
 mod printing;
+mod spans;
 
 pub use printing::print_modules;
+pub use spans::ranges;

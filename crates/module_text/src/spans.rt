@@ -1,0 +1,102 @@
+// The events of each unit.
+
+ghost use Rattle.std.specs.Prelude.{◌+◌, ◌<◌, ◌≡◌, ◌^◌, ℕ, List, length, IfOk, OnOk};
+ghost use Rattle.hierarchy.specs.Finding.{IsSomeTree};
+ghost use Rattle.hierarchy.specs.Models.{RootedModel};
+ghost use Rattle.hierarchy.specs.Tie.{IsTreeOf};
+ghost use Rattle.hierarchy.specs.Units.{UnitPath};
+ghost use Rattle.gate_modules.specs.Modules.{AreRanges};
+ghost use Rattle.module_text.specs.Ranges.{AreRangesOf};
+ghost use Rattle.module_text.specs.Spans.{AreBelow, AreEmpty, Gains, AllGain, IsAt, IsAtOver};
+
+use ar_base::{Memory, UnitId};
+use gate_modules::Range;
+use hierarchy::{Tree, UnitNode};
+use std::alloc::Global;
+
+/// The events of each unit but the main block, with those of the units within it: a run of numbers. The error is want of
+/// memory.
+pub fn ranges(alloc: Global, tree: &Tree) -> Result<Vec<Range>, Memory>
+    requires { IsSomeTree tree.now }
+    ensures are_ranges { IfOk result (λ ranges. AreRanges ranges.items) }
+    ensures of_units { (m : RootedModel) (units : List UnitPath) → IsTreeOf m units tree.now
+        → IfOk result (λ ranges. AreRangesOf m units ranges.items) }
+{
+    let mut ranges = empty_ranges(alloc, &tree.units)?;
+    for (number, event) in tree.events.iter().enumerate() {
+        add_event(&tree.units, event.unit, number as u32, &mut ranges)?;
+    }
+    Ok(ranges)
+}
+
+// Ranges without events of the units but the main block, which is the first of them.
+fn empty_ranges(alloc: Global, units: &[UnitNode]) -> Result<Vec<Range>, Memory>
+    requires { length units.now < 2 ^ 32 }
+    ensures { IfOk result (λ ranges. AreEmpty (length units.now) ranges.items) }
+{
+    let mut ranges = Vec::new(alloc);
+    for number in 1..units.len() as u32 {
+        ranges.push(Range {
+            unit: UnitId::new(number),
+            from: 0,
+            to: 0,
+        })?;
+    }
+    Ok(ranges)
+}
+
+// Adds an event of this unit to the ranges of the unit and of those above it but the main block.
+fn add_event(
+    units: &[UnitNode],
+    unit: UnitId,
+    event: u32,
+    ranges: &mut [Range],
+) -> Result<(), Memory>
+    requires owners { AreBelow units.now }
+    requires small { event + 1 < 2 ^ 32 }
+    ensures { OnOk result (AllGain (IsAtOver units.now unit.n event) ranges.old ranges.new) }
+{
+    let Some(node) = units.get(unit.n as usize) else {
+        return Err(Memory {});
+    };
+    let Some(owner) = node.owner else {
+        return Ok(());
+    };
+    add_at(ranges, (unit.n - 1) as usize, event)?;
+    add_event(units, owner, event, ranges)
+}
+
+// Adds the event to the range at this place.
+fn add_at(ranges: &mut [Range], place: usize, event: u32) -> Result<(), Memory>
+    requires { event + 1 < 2 ^ 32 }
+    ensures { OnOk result (AllGain (IsAt place event) ranges.old ranges.new) }
+{
+    let Some(range) = ranges.get(place) else {
+        return Err(Memory {});
+    };
+    ranges[place] = with_event(*range, event)?;
+    Ok(())
+}
+
+// The range with the event besides, where that is right behind the others. What cannot happen, that events of other units
+// stand between, is answered as want of memory.
+fn with_event(range: Range, event: u32) -> Result<Range, Memory>
+    requires { event + 1 < 2 ^ 32 }
+    ensures { IfOk result (λ longer. Gains (λ x. x ≡ event) range longer) }
+{
+    if range.from >= range.to {
+        return Ok(Range {
+            unit: range.unit,
+            from: event,
+            to: event + 1,
+        });
+    }
+    if range.to != event {
+        return Err(Memory {});
+    }
+    Ok(Range {
+        unit: range.unit,
+        from: range.from,
+        to: event + 1,
+    })
+}

@@ -1,0 +1,8 @@
+use Rattle.std.proofs.Common.{take}
+use Rattle.ar_base.specs.Lists.{IsOneOf}
+use Rattle.replayer.specs.CutLists.{labels_of}
+use Rattle.cut_check.specs.Verdicts.{events_of}
+use Rattle.cut_check.proofs.listed.has_event.Given as goal
+
+abbrev pub invariant-loop-way : goal.invariant-loop-way
+invariant-loop-way l = IsOneOf (events_of (labels_of l.parts (take l.way-index l.ways))) l.event → ⊥

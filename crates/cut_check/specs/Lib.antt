@@ -1,0 +1,4 @@
+pub mod Verdicts
+pub mod Flat
+pub mod Rows
+pub mod Truths

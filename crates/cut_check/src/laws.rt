@@ -1,0 +1,48 @@
+//! What follows from the definitions of checks of lists.
+
+ghost use Rattle.std.specs.Prelude.{◌≡◌, ◌↔◌, ℕ, List};
+ghost use Rattle.domains.specs.declared.Value.{Value};
+ghost use Rattle.typed_expr.specs.declared.expr.Expr.{Expr};
+ghost use Rattle.ar_meaning.specs.Systems.{System};
+ghost use Rattle.ar_meaning.specs.Runs.{Label};
+ghost use Rattle.ar_meaning.specs.Image.{Expr_renames};
+ghost use Rattle.ar_meaning.specs.FlatOf.{IsNumber, IsFlatOf};
+ghost use Rattle.cut_check.specs.Verdicts.{IsTrueLine, Said, IsSaid, IsMissing, IsRight, AreTheCuts};
+
+/// A flat system's lines are true, and its cuts missing, exactly as those of its system; and the same
+/// is said of each line.
+pub fn flat_checks<V>()
+    ensures lines { (things : List V) (sys : System V) (flat : System ℕ) → IsFlatOf things sys flat
+        → (dropped : List ℕ) (observer : Expr V) (other : Expr ℕ)
+        → Expr_renames (IsNumber things) observer other → (wanted : Value) (ls : List Label)
+        → (IsTrueLine sys dropped observer wanted ls ↔ IsTrueLine flat dropped other wanted ls) }
+    ensures said { (things : List V) (sys : System V) (flat : System ℕ) → IsFlatOf things sys flat
+        → (dropped : List ℕ) (observer : Expr V) (other : Expr ℕ)
+        → Expr_renames (IsNumber things) observer other → (wanted : Value)
+        (lines : List (List Label)) (n : ℕ) (said : Said)
+        → (IsSaid sys dropped observer wanted lines n said
+        ↔ IsSaid flat dropped other wanted lines n said) }
+    ensures missing { (things : List V) (sys : System V) (flat : System ℕ) → IsFlatOf things sys flat
+        → (dropped : List ℕ) (observer : Expr V) (other : Expr ℕ)
+        → Expr_renames (IsNumber things) observer other → (wanted : Value)
+        (lines : List (List Label)) (set : List ℕ)
+        → (IsMissing sys dropped observer wanted lines set
+        ↔ IsMissing flat dropped other wanted lines set) }
+{}
+
+/// One thing is said of a line.
+pub fn one_verdict<V>()
+    ensures { (sys : System V) (dropped : List ℕ) (observer : Expr V) (wanted : Value)
+        (lines : List (List Label)) (n : ℕ) (a b : Said)
+        → IsSaid sys dropped observer wanted lines n a → IsSaid sys dropped observer wanted lines n b
+        → a ≡ b }
+{}
+
+/// Each line is good and no cut is missing exactly where the sets of the lines are the cuts, each
+/// once, and each line is an order of its events that ends with the wanted value. This rests on a set
+/// that makes the value having a cut within it.
+pub fn right_lists<V>()
+    ensures { (sys : System V) (dropped : List ℕ) (observer : Expr V) (wanted : Value)
+        (lines : List (List Label))
+        → (IsRight sys dropped observer wanted lines ↔ AreTheCuts sys dropped observer wanted lines) }
+{}

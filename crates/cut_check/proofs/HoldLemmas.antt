@@ -1,6 +1,6 @@
 -- Which lines may be held, by rows.
-use Rattle.std.proofs.Common.{◌≡◌, ℕ, zero, suc, ◌+◌, ◌<◌, ◌≤◌, Bool, true, false, not, List, [], ◌∷◌, ◌++◌, length, inl, inr, refl, sym, ap, ◌∙◌, subst, arith}
-use Rattle.ar_base.specs.Lists.{Stands, IsOneOf}
+use Rattle.std.proofs.Common.{◌≡◌, ℕ, zero, suc, ◌+◌, ◌<◌, ◌≤◌, Bool, true, false, not, List, [], ◌∷◌, ◌++◌, length, inl, inr, refl, subst, arith}
+use Rattle.ar_base.specs.Lists.{Stands}
 use Rattle.ar_base.specs.Sets.{Within}
 use Rattle.ar_base.proofs.Standing.{stands_none, stands_split, stands_within, stands_some}
 use Rattle.domains.specs.declared.Value.{Value}
@@ -10,7 +10,7 @@ use Rattle.ar_meaning.specs.Runs.{Label}
 use Rattle.ar_meaning.specs.Systems.{System}
 use Rattle.flow_blocks.specs.Bits.{IsSet}
 use Rattle.gts_core.specs.declared.bound.Chain.{Chain}
-use Rattle.cut_check.specs.Flat.{Tells, IsVerdict}
+use Rattle.cut_check.specs.Flat.{IsVerdict}
 use Rattle.cut_check.specs.Rows.{HaveBits}
 use Rattle.cut_check.specs.Truths.{AreTruths}
 use Rattle.cut_check.specs.Verdicts.{events_of, MayHold, HoldsLine, Said, IsGood, Fails, Holds, IsSaid}

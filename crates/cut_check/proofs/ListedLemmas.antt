@@ -1,10 +1,10 @@
 -- Whether a set is listed, item by item.
-use Rattle.std.proofs.Common.{◌≡◌, ℕ, ◌+◌, ◌<◌, ◌≤◌, List, [], ◌∷◌, ◌++◌, map, take, length, get_or, refl, sym, ap, ◌∙◌, subst, arith, inl, inr}
-use Rattle.std.proofs.lemmas.List.{map-append, take_more, take_all}
+use Rattle.std.proofs.Common.{◌≡◌, ℕ, ◌+◌, ◌<◌, List, [], ◌∷◌, ◌++◌, take, length, get_or, sym, ap, ◌∙◌, subst, inl, inr}
+use Rattle.std.proofs.lemmas.List.{map-append, take_more}
 use Rattle.ar_base.specs.Lists.{Stands, IsOneOf}
 use Rattle.ar_base.specs.Numbers.{EventId, WayId}
 use Rattle.ar_base.specs.Sets.{Within}
-use Rattle.ar_base.proofs.Standing.{one_here, stands_map, one_none, one_split, one_cases, one_left, one_right, one_first}
+use Rattle.ar_base.proofs.Standing.{one_here, stands_map, one_none, one_split, one_cases, one_right, one_first}
 use Rattle.ar_meaning.specs.Runs.{Label}
 use Rattle.gts_core.specs.declared.bound.Chain.{Chain}
 use Rattle.gts_core.specs.declared.system.GtsParts.{GtsParts}

@@ -1,11 +1,11 @@
 -- The rows of lines.
-use Rattle.std.proofs.Common.{◌≡◌, ℕ, zero, suc, ◌+◌, ◌/◌, ◌<◌, ◌≤◌, ◌⊎◌, ◌↔◌, ◌&&◌, inl, inr, Bool, true, false, not, List, [], ◌∷◌, ◌++◌, map, take, length, set, get_or, slice_get, Some, refl, sym, ap, ◌∙◌, subst, arith, get_or-set_same, get_or-set_other}
-use Rattle.std.proofs.lemmas.List.{length-append, length-set, length-map, map-append, take_more}
+use Rattle.std.proofs.Common.{◌≡◌, ℕ, zero, suc, ◌+◌, ◌<◌, ◌⊎◌, ◌↔◌, ◌&&◌, inl, inr, Bool, true, false, List, [], ◌∷◌, ◌++◌, length, set, get_or, sym, ap, ◌∙◌, subst, arith, get_or-set_same, get_or-set_other}
+use Rattle.std.proofs.lemmas.List.{length-append, length-set, length-map, map-append}
 use Rattle.std.proofs.lemmas.Option.{get_or_from_slice_get}
 use Rattle.std.proofs.lemmas.Bool.{cases_eq}
-use Rattle.ar_base.specs.Lists.{Stands, IsOneOf, AreDifferent, HasNo}
-use Rattle.ar_base.specs.Numbers.{EventId, WayId}
-use Rattle.ar_base.proofs.Standing.{stands_one, stands_within, stands_some, stands_left, stands_split, stands_none, stands_next, stands_map, stands_map_back, stands_get, one_here, one_none, one_cases, one_split, one_left, one_right, one_first, different_more}
+use Rattle.ar_base.specs.Lists.{Stands, IsOneOf, AreDifferent}
+use Rattle.ar_base.specs.Numbers.{WayId}
+use Rattle.ar_base.proofs.Standing.{stands_one, stands_within, stands_some, stands_left, stands_split, stands_none, stands_next, stands_map_back, stands_get, one_here, one_none, one_cases, one_split, one_left, one_right, one_first, different_more}
 use Rattle.ar_firing.proofs.LeastSets.{one_of}
 use Rattle.ar_meaning.specs.Found.{IsAnswer}
 use Rattle.ar_meaning.specs.Runs.{Label}
@@ -19,7 +19,7 @@ use Rattle.gts_core.proofs.Tests.{and_answer, turned_answer}
 use Rattle.replayer.specs.CutLists.{labels_of, HaveKnownWays}
 use Rattle.replayer.specs.CutReads.{AreKnownWays}
 use Rattle.replayer.specs.Flat.{label_of, label_found}
-use Rattle.cut_check.specs.Flat.{numbers_of, chain_lines}
+use Rattle.cut_check.specs.Flat.{chain_lines}
 use Rattle.cut_check.specs.Rows.{IsOpenEvent, AreOpenEvents, AreVisible, IsFit, IsFreshEvent, IsRow, AreRows, HaveBits, AreWide}
 use Rattle.cut_check.specs.Verdicts.{events_of}
 use Rattle.cut_check.specs.declared.rows.Row.{Row}

@@ -1,10 +1,10 @@
 -- How far lines are fired, and which are true.
-use Rattle.std.proofs.Common.{◌≡◌, ℕ, zero, suc, ◌+◌, ◌-◌, ◌<◌, ◌≤◌, Bool, true, false, List, [], ◌∷◌, ◌++◌, map, take, drop, reverse, length, get_or, Option, Some, None, Result, Ok, Err, IfOk, OnOk, Vec, Global, refl, sym, ap, ◌∙◌, subst, arith, append_assoc, inl, inr}
+use Rattle.std.proofs.Common.{◌≡◌, ℕ, zero, suc, ◌+◌, ◌<◌, Bool, true, false, List, [], ◌∷◌, ◌++◌, take, drop, reverse, length, get_or, Result, Ok, Err, IfOk, OnOk, Vec, Global, refl, sym, ap, ◌∙◌, subst, arith, inl, inr}
 use Rattle.std.proofs.lemmas.List.{map-append, reverse-append, take_more, take-append-drop}
-use Rattle.ar_base.specs.Lists.{Stands, IsOneOf, Along}
+use Rattle.ar_base.specs.Lists.{Stands, IsOneOf}
 use Rattle.ar_base.specs.Numbers.{WayId}
 use Rattle.ar_base.specs.declared.faults.Memory.{Memory}
-use Rattle.ar_base.proofs.Standing.{stands_one, stands_some, stands_none, stands_within, stands_map, stands_map_back, stands_next, stands_get, stands_split, along_on, along_back, one_here}
+use Rattle.ar_base.proofs.Standing.{stands_one, stands_none, stands_map, stands_map_back, stands_split, along_on, along_back, one_here}
 use Rattle.domains.specs.Same.{is_same}
 use Rattle.domains.specs.declared.Value.{Value}
 use Rattle.domains.proofs.Same.{same_is, same_self}
@@ -12,9 +12,9 @@ use Rattle.typed_expr.specs.Yields.{Yields}
 use Rattle.typed_expr.specs.declared.expr.Expr.{Expr, out-Expr}
 use Rattle.ar_meaning.specs.Systems as s
 use Rattle.ar_meaning.specs.Facts.{HasValue}
-use Rattle.ar_meaning.specs.Flows.{FlowFault, Flows, Outcome, Fails, Total}
+use Rattle.ar_meaning.specs.Flows.{FlowFault, Outcome, Fails, Total}
 use Rattle.ar_meaning.specs.Found.{IsAnswer}
-use Rattle.ar_meaning.specs.Runs.{Label, IsWay, Start, StartFails, first_values}
+use Rattle.ar_meaning.specs.Runs.{Label, IsWay, Start, StartFails}
 use Rattle.ar_meaning.specs.Steps.{Answer, Step, Next, Refused}
 use Rattle.ar_meaning.specs.Steps as steps
 use Rattle.ar_meaning.proofs.OneAnswer.{flows_same, step_same}
@@ -28,9 +28,8 @@ use Rattle.ar_firing.proofs.RunsTold.{reaches_same}
 use Rattle.flow_propagate.specs.Answers.{fault_of}
 use Rattle.gts_core.specs.Readings.{IsTotal, value_in}
 use Rattle.gts_core.specs.Sound.{IsSound}
-use Rattle.gts_core.specs.View.{Views, IsEvent, IsWayAt, net_of, numbered}
+use Rattle.gts_core.specs.View.{Views, IsWayAt, net_of, numbered}
 use Rattle.gts_core.specs.declared.bound.Chain.{Chain}
-use Rattle.gts_core.specs.declared.system.Event.{Event}
 use Rattle.gts_core.specs.declared.system.GtsParts.{GtsParts}
 use Rattle.gts_core.specs.declared.system.Observer.{Observer}
 use Rattle.gts_core.proofs.Reading.{yielded_value, value_yielded}
@@ -198,11 +197,13 @@ module _ (p : GtsParts) (sound : IsSound p) (sys : s.System ℕ) (views : Views 
   open_way way inside o =
       let named = way_named p sys views sound way.n inside in
       let mid = along_on p.events.items sys.events views.events (label_of p way.n).event o.event o.stands in
-      let same : named.is_way.event ≡ mid.0 = stands_one sys.events (label_of p way.n).event named.is_way.event mid.0 named.is_way.is_event mid.1 in
-      (named.way, record {
-        is_kept = record { is_way = named.is_way; stays = o.stays };
-        visible = ap (λ (z : s.Event ℕ). z.hidden) same ∙ mid.2.hidden ∙ o.visible;
-      })
+      let same : named.is_way.event ≡ mid.0 = stands_one sys.events (label_of p way.n).event named.is_way.event mid.0 named.is_way.is_event mid.1 in (
+        named.way,
+        record {
+          is_kept = record { is_way = named.is_way; stays = o.stays };
+          visible = ap (λ (z : s.Event ℕ). z.hidden) same ∙ mid.2.hidden ∙ o.visible;
+        },
+      )
 
   pub are_open : (ways : List WayId) → AreKnownWays p ways → IsFit p dropped (labels_of p ways) → AreOpen sys dropped (labels_of p ways)
   are_open ways known f = record {

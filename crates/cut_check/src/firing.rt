@@ -101,7 +101,15 @@ fn fired_lines(
     let mut truths = Vec::new(alloc);
     for (n, chain) in chains.iter().enumerate() {
         let fit = rows[n].fit;
-        let is = is_true(gts, &mut stepper, &mut fired, fit, observer, wanted, &chain.ways)?;
+        let is = is_true(
+            gts,
+            &mut stepper,
+            &mut fired,
+            fit,
+            observer,
+            wanted,
+            &chain.ways,
+        )?;
         truths.push(is)?;
     }
     Ok(truths)

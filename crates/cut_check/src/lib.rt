@@ -10,7 +10,5 @@ pub mod laws;
 mod listed;
 mod rows;
 
-
 pub use checking::{Verdict, verdicts};
 pub use listed::is_listed;
-

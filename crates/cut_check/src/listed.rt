@@ -32,7 +32,11 @@ fn has_events(parts: &GtsParts, ways: &[WayId], cut: &[EventId]) -> bool
     ensures { IsAnswer result (Within (events_of (labels_of parts.now ways.now)) (numbers_of cut.now)
         × Within (numbers_of cut.now) (events_of (labels_of parts.now ways.now))) }
 {
-    if are_among(parts, ways, cut) { has_all(parts, ways, cut) } else { false }
+    if are_among(parts, ways, cut) {
+        has_all(parts, ways, cut)
+    } else {
+        false
+    }
 }
 
 // Whether each event of a line is one of these.

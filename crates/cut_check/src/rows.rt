@@ -76,12 +76,7 @@ pub(crate) fn rows_of(
 }
 
 // The row of a line.
-fn row_of(
-    alloc: Global,
-    parts: &GtsParts,
-    allowed: &[bool],
-    ways: &[WayId],
-) -> Result<Row, Memory>
+fn row_of(alloc: Global, parts: &GtsParts, allowed: &[bool], ways: &[WayId]) -> Result<Row, Memory>
     requires sound { IsSound parts.now }
     requires known { AreKnownWays parts.now ways.now }
     requires allowed { length allowed.now ≡ length parts.now.events.items }
@@ -134,7 +129,11 @@ fn is_fresh(row: &[u64], allowed: &[bool], event: u32) -> bool
     requires { event < length allowed.now }
     ensures { IsAnswer result (IsFreshEvent allowed.now row.now event) }
 {
-    if has(row, event) { false } else { allowed[event as usize] }
+    if has(row, event) {
+        false
+    } else {
+        allowed[event as usize]
+    }
 }
 
 // Whether a bit is set. Those past the row's end are not.

@@ -1,4 +1,4 @@
-use Rattle.std.proofs.Common.{◌≡◌, ℕ, List, true, false, length, nat_lt, sym, ap, ◌∙◌, subst, arith}
+use Rattle.std.proofs.Common.{true, false, length, sym, ap, ◌∙◌, subst}
 use Rattle.std.proofs.lemmas.Bool.{lt-ltb}
 use Rattle.ar_base.proofs.Standing.{stands_item}
 use Rattle.ar_meaning.specs.Found.{IsAnswer}

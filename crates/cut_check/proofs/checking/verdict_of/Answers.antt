@@ -1,6 +1,6 @@
-use Rattle.std.proofs.Common.{◌≡◌, Bool, true, false, get_or, subst, sym, arith}
+use Rattle.std.proofs.Common.{Bool, false, get_or, subst, arith}
 use Rattle.ar_base.specs.Lists.{Stands}
-use Rattle.ar_base.proofs.Standing.{stands_item, stands_get}
+use Rattle.ar_base.proofs.Standing.{stands_get}
 use Rattle.cut_check.proofs.HoldLemmas.{says_fails, says_holds, says_good}
 use Rattle.cut_check.proofs.checking.verdict_of.Goals as goal
 

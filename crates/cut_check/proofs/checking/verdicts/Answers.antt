@@ -1,5 +1,4 @@
 use Rattle.std.proofs.Common.{◌≡◌, ◌<◌, ◌∙◌, ◌∷◌, [], ℕ, Bool, List, length, ap, sym, subst, arith, length-append}
-use Rattle.domains.specs.declared.Value.{Value}
 use Rattle.ar_base.specs.Lists.{Stands}
 use Rattle.ar_base.proofs.Standing.{stands_one}
 use Rattle.gts_core.specs.View.{numbered}

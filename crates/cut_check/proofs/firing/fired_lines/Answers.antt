@@ -1,4 +1,4 @@
-use Rattle.std.proofs.Common.{◌≡◌, ◌∙◌, ◌∷◌, [], List, get_or, length, ap, sym, subst, arith, length-append}
+use Rattle.std.proofs.Common.{◌∙◌, ◌∷◌, [], List, get_or, length, ap, sym, subst, arith, length-append}
 use Rattle.ar_base.specs.Numbers.{WayId}
 use Rattle.ar_base.proofs.Standing.{stands_get, stands_item}
 use Rattle.gts_core.specs.View.{numbered}

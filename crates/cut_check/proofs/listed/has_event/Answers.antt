@@ -1,13 +1,8 @@
-use Rattle.std.proofs.Common.{◌≡◌, ℕ, get_or, ap, sym, ◌∙◌, arith}
-use Rattle.ar_base.specs.Lists.{Stands}
+use Rattle.std.proofs.Common.{get_or, sym, ◌∙◌, arith}
 use Rattle.ar_base.specs.Numbers.{WayId}
-use Rattle.ar_base.proofs.Standing.{one_here, stands_get}
-use Rattle.gts_core.specs.declared.system.Way.{Way}
-use Rattle.replayer.specs.CutLists.{labels_of}
-use Rattle.replayer.specs.Flat.{label_of}
+use Rattle.ar_base.proofs.Standing.{stands_get}
 use Rattle.replayer.proofs.WayLemmas.{read_stands}
-use Rattle.cut_check.specs.Verdicts.{events_of}
-use Rattle.cut_check.proofs.ListedLemmas.{events_more, not_more, event_there, within_more}
+use Rattle.cut_check.proofs.ListedLemmas.{events_more, not_more, event_there}
 use Rattle.cut_check.proofs.RowLemmas.{event_read, known_at}
 use Rattle.cut_check.proofs.listed.has_event.Goals as goal
 

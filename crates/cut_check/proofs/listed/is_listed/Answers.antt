@@ -1,5 +1,3 @@
-use Rattle.std.proofs.Common.{List, get_or, ap, sym, subst, ◌∙◌}
-use Rattle.gts_core.specs.declared.bound.Chain.{Chain}
 use Rattle.cut_check.specs.Flat.{numbers_of}
 use Rattle.cut_check.proofs.ListedLemmas.{listed_step}
 use Rattle.cut_check.proofs.listed.is_listed.Goals as goal

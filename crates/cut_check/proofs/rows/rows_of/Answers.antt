@@ -1,4 +1,4 @@
-use Rattle.std.proofs.Common.{◌≡◌, ◌∙◌, ◌∷◌, ◌++◌, [], ℕ, List, get_or, take, ap, sym, subst, arith}
+use Rattle.std.proofs.Common.{◌≡◌, ◌∙◌, ◌∷◌, ◌++◌, [], List, take, ap, sym, subst, arith}
 use Rattle.std.proofs.lemmas.List.{take_all, take_more}
 use Rattle.ar_base.specs.Numbers.{WayId}
 use Rattle.ar_base.proofs.Standing.{stands_item}
@@ -6,7 +6,7 @@ use Rattle.gts_core.specs.declared.bound.Chain.{Chain}
 use Rattle.replayer.specs.CutLists.{labels_of}
 use Rattle.replayer.specs.CutReads.{AreKnownWays}
 use Rattle.cut_check.specs.Rows.{IsRow, AreRows}
-use Rattle.cut_check.proofs.RowLemmas.{chain_known, rows_none, rows_more}
+use Rattle.cut_check.proofs.RowLemmas.{chain_known, rows_more}
 use Rattle.cut_check.proofs.rows.rows_of.Goals as goal
 
 pub row_of-requires-clause-known : goal.row_of-requires-clause-known

@@ -1,0 +1,7 @@
+//! The text of a check of a list of cuts.
+#![tactic(auto)]
+
+mod printing;
+mod tables;
+
+pub use printing::print_check;

@@ -6,3 +6,7 @@ mod Relabelled
 mod InSystem
 mod FlatLines
 mod Listing
+mod SourceLines
+mod MissingLemmas
+mod SaidLemmas
+mod YesLemmas

@@ -78,3 +78,8 @@ pub record IsCheckText {V : Type 0} (names : Naming) (sys : System V) (dropped :
   pub lines : List (List Label)
   pub are_lines : Along (IsLine sys dropped) missing lines
   pub is_text : text ≡ said_lines cuts cuts said ++ (missing_lines names sys lines ++ last_line (all_good said && is_none missing))
+
+-- the text's last line is `yes`
+pub record EndsYes (text : List ℕ) : Type 0 where
+  pub front : List ℕ
+  pub is : text ≡ front ++ last_line true

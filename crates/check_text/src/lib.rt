@@ -1,6 +1,7 @@
 //! The text of a check of a list of cuts.
 #![tactic(auto)]
 
+pub mod laws;
 mod printing;
 mod tables;
 

@@ -12,7 +12,8 @@ ghost use Rattle.cut_text.specs.Answers.{Prints};
 ghost use Rattle.cut_text.specs.Printed.{edges_of, HaveOneWay, AreOfEdges};
 ghost use Rattle.cut_text.specs.Tables.{texts_at, way_at, HasWay, HaveWays, AllHaveWays};
 ghost use Rattle.cut_text.specs.Texts.{braced};
-ghost use Rattle.check_text.specs.Printed.{verdict_text, verdict_line, verdict_lines, listed_in, all_listed, all_verdicts_good, missing_one, missing_at, check_text};
+ghost use Rattle.check_text.specs.Printed.{verdict_text, verdict_line, verdict_lines, all_verdicts_good};
+ghost use Rattle.check_text.specs.Printed.{listed_in, all_listed, missing_one, missing_at, check_text};
 ghost use Rattle.check_text.specs.Texts.{last_line};
 
 use crate::tables::event_ways;

@@ -1,0 +1,12 @@
+mod Pieces
+mod TableLemmas
+mod Known
+mod Answering
+mod Relabelled
+mod InSystem
+mod FlatLines
+mod Listing
+mod SourceLines
+mod MissingLemmas
+mod SaidLemmas
+mod YesLemmas

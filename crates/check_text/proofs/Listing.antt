@@ -1,0 +1,125 @@
+-- Whether sets are listed, as tests.
+use Rattle.std.proofs.Common.{◌≡◌, ◌<◌, ◌+◌, ℕ, length, drop, get_or, arith, Bool, true, false, ◌&&◌, inl, inr, if◌then◌else◌, List, [], ◌∷◌, ◌++◌, nat_eq, eq-eqb, codes, append_assoc, Result, Ok, Err, OnOk, refl, sym, ◌∙◌, ap, subst}
+use Rattle.std.proofs.lemmas.Bool.{eqb-true}
+use Rattle.std.proofs.lemmas.List.{at_drop_more}
+use Rattle.ar_base.specs.Lists.{IsOneOf}
+use Rattle.ar_base.specs.Numbers.{WayId}
+use Rattle.ar_base.specs.Sets.{Within}
+use Rattle.ar_base.specs.Texts.{line}
+use Rattle.ar_base.proofs.Standing.{one_none, one_cases, one_first, one_rest}
+use Rattle.ar_meaning.specs.Found.{IsAnswer}
+use Rattle.ar_meaning.specs.Runs.{Label}
+use Rattle.ar_io.specs.declared.outside.SinkFailed.{SinkFailed}
+use Rattle.gts_core.specs.declared.bound.Chain.{Chain}
+use Rattle.gts_core.specs.declared.system.GtsParts.{GtsParts}
+use Rattle.gts_core.proofs.Tests.{and_answer, or_answer}
+use Rattle.cut_check.specs.Flat.{chain_lines}
+use Rattle.cut_check.specs.Verdicts.{events_of, IsListed}
+use Rattle.cut_check.specs.declared.checking.Verdict.{Verdict}
+use Rattle.mode_forests.specs.declared.forests.Edge.{Edge}
+use Rattle.replayer.specs.Flat.{way_label}
+use Rattle.cut_text.specs.Printed.{HaveOneWay, AreOfEdges, events_text}
+use Rattle.cut_text.specs.Tables.{AreWaysOf, texts_at}
+use Rattle.cut_text.specs.Texts.{braced}
+use Rattle.check_text.specs.Printed.{among, all_among, listed_in, missing_one, missing_at, missing_text, verdict_line, verdict_lines, all_verdicts_good, all_listed, check_text}
+use Rattle.check_text.specs.Texts.{last_line}
+use Rattle.check_text.proofs.Known.{same_map}
+
+eq_answer : (a b : ℕ) (r : Bool) → nat_eq a b ≡ r → IsAnswer r (a ≡ b)
+eq_answer a b true e = eqb-true a b e
+eq_answer a b false e = λ i. let h : nat_eq a b ≡ true = eq-eqb a b i in let z : false ≡ true = sym e ∙ h in cc
+
+pub among_answer : (xs : List ℕ) (e : ℕ) → IsAnswer (among xs e) (IsOneOf xs e)
+among_answer [] e = λ o. one_none e o
+among_answer (x ∷ xs) e =
+    or_answer (nat_eq x e) (among xs e) (x ≡ e) (IsOneOf xs e) (IsOneOf (x ∷ xs) e)
+    (λ i. subst (λ (z : ℕ). IsOneOf (x ∷ xs) z) i (one_first x xs)) (one_rest x xs e)
+    (λ n m o. elim (one_cases x xs e o) [ inl i ↦ n i | inr q ↦ m q ]) (eq_answer x e (nat_eq x e) refl) (among_answer xs e)
+
+pub all_answer : (xs ys : List ℕ) → IsAnswer (all_among xs ys) (Within xs ys)
+all_answer [] ys = record { each = λ e o. absurd (one_none e o) }
+all_answer (x ∷ xs) ys =
+    and_answer (among ys x) (all_among xs ys) (IsOneOf ys x) (Within xs ys) (Within (x ∷ xs) ys)
+    (λ o w. record { each = λ e q. elim (one_cases x xs e q) [ inl i ↦ subst (λ (z : ℕ). IsOneOf ys z) i o | inr r ↦ w.each e r ] })
+    (λ w. w.each x (one_first x xs)) (λ w. record { each = λ e o. w.each e (one_rest x xs e o) }) (among_answer ys x) (all_answer xs ys)
+
+pub listed_answer : (lines : List (List Label)) (set : List ℕ) → IsAnswer (listed_in lines set) (IsListed lines set)
+listed_answer [] set = λ h. one_none h.line h.is_line
+listed_answer (ls ∷ lines) set =
+    or_answer (all_among (events_of ls) set && all_among set (events_of ls)) (listed_in lines set) (Within (events_of ls) set × Within set (events_of ls)) (IsListed lines set) (IsListed (ls ∷ lines) set)
+    (λ w. record { line = ls; is_line = one_first ls lines; within = w.0; whole = w.1 })
+    (λ h. record { line = h.line; is_line = one_rest ls lines h.line h.is_line; within = h.within; whole = h.whole })
+    (λ n m h. elim (one_cases ls lines h.line h.is_line) [
+      | inl e ↦ n (subst (λ (z : List Label). Within (events_of z) set) (sym e) h.within, subst (λ (z : List Label). Within set (events_of z)) (sym e) h.whole)
+      | inr o ↦ m (record { line = h.line; is_line = o; within = h.within; whole = h.whole })
+    ])
+    (and_answer (all_among (events_of ls) set) (all_among set (events_of ls)) (Within (events_of ls) set) (Within set (events_of ls)) (Within (events_of ls) set × Within set (events_of ls))
+    (λ a b. (a, b)) (λ w. w.0) (λ w. w.1) (all_answer (events_of ls) set) (all_answer set (events_of ls)))
+    (listed_answer lines set)
+
+-- two tests of one fact answer alike
+pub same_answer : (a b : Bool) (P : Type 0) → IsAnswer a P → IsAnswer b P → a ≡ b
+same_answer true true P h k = refl
+same_answer true false P h k = absurd (k h)
+same_answer false true P h k = absurd (h k)
+same_answer false false P h k = refl
+
+-- a set that is listed, or not
+pub listed_yes : (lines : List (List Label)) (set : List ℕ) → IsListed lines set → listed_in lines set ≡ true
+listed_yes lines set h = same_answer (listed_in lines set) true (IsListed lines set) (listed_answer lines set) h
+
+pub listed_not : (lines : List (List Label)) (set : List ℕ) → (IsListed lines set → ⊥) → listed_in lines set ≡ false
+listed_not lines set h = same_answer (listed_in lines set) false (IsListed lines set) (listed_answer lines set) h
+
+-- what is written of a set
+pub missing_none : (p : GtsParts) (ways : List WayId) (lines : List (List Label)) (set : List ℕ) → IsListed lines set → ◌≡◌ {A = List ℕ} [] (missing_one p ways lines set)
+missing_none p ways lines set h = sym (ap (λ (b : Bool). if b then [] else line (codes "missing " ++ braced (texts_at p ways set))) (listed_yes lines set h))
+
+pub missing_some : (p : GtsParts) (ways : List WayId) (lines : List (List Label)) (set : List ℕ) → (IsListed lines set → ⊥)
+    → codes "missing " ++ (braced (texts_at p ways set) ++ 10 ∷ []) ≡ missing_one p ways lines set
+missing_some p ways lines set h =
+    sym (append_assoc (codes "missing ") (braced (texts_at p ways set)) (10 ∷ []))
+    ∙ sym (ap (λ (b : Bool). if b then [] else line (codes "missing " ++ braced (texts_at p ways set))) (listed_not lines set h))
+
+-- joints of tests
+pub and_true : (b : Bool) → b ≡ (b && true)
+and_true true = refl
+and_true false = refl
+
+pub and_false : (b : Bool) → false ≡ (b && false)
+and_false true = refl
+and_false false = refl
+
+pub and_then : (a b c : Bool) → ((a && b) && c) ≡ (a && (b && c))
+and_then true b c = refl
+and_then false b c = refl
+
+pub on_ok : (P : Type 0) (r : Result (Unit {0}) SinkFailed) → P → OnOk r P
+on_ok P (Ok u) h = h
+on_ok P (Err e) h = tt
+
+-- the missing lines by the edges
+pub same_missing : (edges : List Edge) → HaveOneWay edges → (ways : List WayId) → AreWaysOf edges ways → (p : GtsParts) (lines : List (List Label)) (sets : List (List ℕ)) → AreOfEdges edges sets
+    → missing_at p ways lines sets ≡ missing_text p edges lines sets
+same_missing edges one ways are p lines [] h = refl
+same_missing edges one ways are p lines (s ∷ ss) h =
+    ap (λ (z : List (List ℕ)). (if listed_in lines s then [] else line (codes "missing " ++ braced z)) ++ missing_at p ways lines ss)
+    (same_map edges one ways are (way_label p) s (h.each s (one_first s ss)))
+    ∙ ap (λ (z : List ℕ). (if listed_in lines s then [] else line (codes "missing " ++ events_text p edges s)) ++ z)
+    (same_missing edges one ways are p lines ss (record { each = λ x o. h.each x (one_rest s ss x o) }))
+
+-- what is left of the verdicts begins with the next one
+pub next_verdict : (chains : List Chain) (vs : List Verdict) (i : ℕ) (c : Chain) (v : Verdict) → i < length chains → c ≡ get_or chains i c → length vs ≡ length chains
+    → verdict_lines (drop i chains) (drop i vs) ≡ verdict_line c.line (get_or vs i v) ++ verdict_lines (drop (i + 1) chains) (drop (i + 1) vs)
+next_verdict chains vs i c v lt is long =
+    at_drop_more (λ (xs : List Chain). verdict_lines xs (drop i vs)) chains i c lt
+    ∙ at_drop_more (λ (xs : List Verdict). verdict_lines (get_or chains i c ∷ drop (i + 1) chains) xs) vs i v (omega (arith, lt, long))
+    ∙ ap (λ (d : Chain). verdict_line d.line (get_or vs i v) ++ verdict_lines (drop (i + 1) chains) (drop (i + 1) vs)) (sym is)
+
+-- the whole text by the table of ways
+pub whole_text : (edges : List Edge) → HaveOneWay edges → (ways : List WayId) → AreWaysOf edges ways → (p : GtsParts) (chains : List Chain) (vs : List Verdict) (sets : List (List ℕ)) → AreOfEdges edges sets
+    → (b : Bool) → b ≡ (all_verdicts_good vs && all_listed (chain_lines p chains) sets)
+    → verdict_lines chains vs ++ (missing_at p ways (chain_lines p chains) sets ++ last_line b) ≡ check_text p edges chains vs sets
+whole_text edges one ways are p chains vs sets h b e =
+    ap (λ (z : List ℕ). verdict_lines chains vs ++ (z ++ last_line b)) (same_missing edges one ways are p (chain_lines p chains) sets h)
+    ∙ ap (λ (z : Bool). verdict_lines chains vs ++ (missing_text p edges (chain_lines p chains) sets ++ last_line z)) e

@@ -1,0 +1,94 @@
+-- The lines and labels of the sets of a flat system are those of its source.
+use Rattle.std.proofs.Common.{◌≡◌, ℕ, zero, suc, List, [], ◌∷◌, map, slice_get, refl, sym, ◌∙◌, ap, subst}
+use Rattle.ar_base.specs.Lists.{Stands, IsOneOf, Along}
+use Rattle.ar_base.specs.Lists as l
+use Rattle.ar_base.specs.Texts.{text_at}
+use Rattle.ar_base.proofs.Standing.{along_length}
+use Rattle.typed_expr.specs.Pairs.{turned}
+use Rattle.ar_meaning.specs.Systems.{System, Event, Net}
+use Rattle.ar_meaning.specs.Facts.{AreKeyed}
+use Rattle.ar_meaning.specs.TraceText.{Naming, label_text, way_text, ways_of}
+use Rattle.ar_meaning.specs.FlatOf.{IsNumber, IsFlatOf}
+use Rattle.ar_meaning.specs.Image.{Event_renames}
+use Rattle.ar_meaning.proofs.ByNumber.{keyed}
+use Rattle.ar_meaning.proofs.FlatSystems.{flat_back}
+use Rattle.ar_firing.specs.Static.{IsStatic}
+use Rattle.ar_firing.specs.Forest.{IsLine}
+use Rattle.ar_firing.proofs.ImageModes.{line_there}
+use Rattle.ar_firing.proofs.RulesHold.{all_static}
+use Rattle.gts_core.specs.View.{Views, net_of}
+use Rattle.gts_core.specs.declared.system.GtsParts.{GtsParts}
+use Rattle.gts_core.proofs.Viewing.{are_numbered}
+use Rattle.gts_flatten.specs.Elaborating.{Elaborated}
+use Rattle.gts_flatten.specs.Flat.{naming_of}
+use Rattle.hierarchy.specs.Units.{Thing}
+use Rattle.mode_forests.specs.Views.{trees_of}
+use Rattle.mode_forests.specs.declared.forests.Edge.{Edge}
+use Rattle.mode_forests.specs.declared.forests.Forest.{Forest}
+use Rattle.min_cuts.specs.Lines.{IsInFiringOrder}
+use Rattle.replayer.specs.Flat.{label_of, way_label}
+use Rattle.replayer.proofs.WayLemmas.{label_alike}
+use Rattle.cut_text.specs.Printed.{edges_of, way_in, labels_in, events_text, things_of, IsForestOf}
+use Rattle.cut_text.specs.Texts.{braced, labels_text}
+use Rattle.check_text.proofs.FlatLines.{flat_line}
+
+-- events that rename each other have as many ways
+ways_count : {V W : Type 0} (same : V → W → Type 0) {es : List (Event V)} {fs : List (Event W)}
+    → Along (Event_renames same) es fs → (n : ℕ) → ways_of (slice_get es n) ≡ ways_of (slice_get fs n)
+ways_count same l.none zero = refl
+ways_count same l.none (suc n) = refl
+ways_count same (l.one_and r rs) zero = along_length _ _ r.ways
+ways_count same (l.one_and r rs) (suc n) = ways_count same rs n
+
+pub keyed_by : (p : GtsParts) (flat : System ℕ) → Views p flat → AreKeyed flat.net
+keyed_by p flat views = subst (λ (net : Net ℕ). AreKeyed net) (sym views.net) (keyed (net_of p) (are_numbered p))
+
+module _ (x : Elaborated) (p : GtsParts) (flat : System ℕ) (dropped : List ℕ) (f : Forest)
+    (one : (a b : System ℕ) → Views p a → Views p b → a ≡ b) (h : IsForestOf x p flat dropped f) where
+  abbrev things : List Thing
+  things = things_of x
+
+  abbrev names : Naming
+  names = naming_of x.declarations
+
+  abbrev edges : List Edge
+  edges = edges_of f.trees.items
+
+  pub is_flat_of : IsFlatOf things x.system flat
+  is_flat_of = subst (λ (z : System ℕ). IsFlatOf things x.system z)
+      (one h.is_flat.flat flat h.is_flat.views h.views) h.is_flat.is_flat
+
+  pub is_keyed : AreKeyed flat.net
+  is_keyed = keyed_by p flat h.views
+
+  pub is_static : IsStatic flat dropped
+  is_static = all_static flat dropped h.keeps
+
+  -- the line of a set
+  flat_set : (set events : List ℕ) → IsInFiringOrder (trees_of (λ n. n) f) set events
+      → IsLine flat dropped set (labels_in p edges events)
+  flat_set set events g = flat_line p flat dropped is_keyed is_static f.trees.items h.own h.is_forest set events g
+
+  pub source_set : (set events : List ℕ) → IsInFiringOrder (trees_of (λ n. n) f) set events
+      → IsLine x.system dropped set (labels_in p edges events)
+  source_set set events g =
+      line_there (turned (IsNumber things)) flat x.system (flat_back things x.system flat is_flat_of) dropped
+      (flat_set set events g)
+
+  -- the labels
+  label_is : (n : ℕ) → way_label p n ≡ label_text names x.system (label_of p n)
+  label_is n =
+      sym (label_alike p flat h.views n)
+      ∙ ap (λ (z : Naming). label_text z flat (label_of p n)) h.is_flat.names
+      ∙ ap (λ (z : ℕ). way_text (text_at names.events (label_of p n).event) z (label_of p n).way)
+      (sym (ways_count (IsNumber things) is_flat_of.events (label_of p n).event))
+
+  labels_are : (events : List ℕ)
+      → map (λ e. way_label p (way_in edges e)) events ≡ map (label_text names x.system) (labels_in p edges events)
+  labels_are [] = refl
+  labels_are (e ∷ es) =
+      ap (λ (z : List ℕ). z ∷ map (λ e. way_label p (way_in edges e)) es) (label_is (way_in edges e))
+      ∙ ap (λ (z : List (List ℕ)). label_text names x.system (label_of p (way_in edges e)) ∷ z) (labels_are es)
+
+  pub text_is : (events : List ℕ) → events_text p edges events ≡ labels_text names x.system (labels_in p edges events)
+  text_is events = ap braced (labels_are events)

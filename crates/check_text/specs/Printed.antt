@@ -1,0 +1,79 @@
+-- The text of a check as it is written, by the parts of a flat system and the edges of its forest.
+use Rattle.std.specs.Prelude.{ℕ, Bool, true, false, if◌then◌else◌, ◌&&◌, ◌||◌, List, [], ◌∷◌, ◌++◌, codes, decimal, nat_eq}
+use Rattle.ar_base.specs.Numbers.{WayId}
+use Rattle.ar_base.specs.Texts.{line}
+use Rattle.ar_meaning.specs.Runs.{Label}
+use Rattle.gts_core.specs.declared.bound.Chain.{Chain}
+use Rattle.gts_core.specs.declared.system.GtsParts.{GtsParts}
+use Rattle.mode_forests.specs.declared.forests.Edge.{Edge}
+use Rattle.cut_text.specs.Printed.{events_text}
+use Rattle.cut_text.specs.Tables.{texts_at}
+use Rattle.cut_text.specs.Texts.{braced}
+use Rattle.cut_check.specs.Flat.{chain_lines}
+use Rattle.cut_check.specs.Verdicts.{events_of}
+use Rattle.cut_check.specs.declared.checking.Verdict.{Verdict}
+use Rattle.cut_check.specs.declared.checking.Verdict.TheVariants.{Good, Fails, Holds}
+use Rattle.check_text.specs.Texts.{last_line}
+
+-- a verdict
+abbrev pub verdict_text : Verdict → List ℕ
+verdict_text Good = codes "good"
+verdict_text Fails = codes "fails"
+verdict_text (Holds n) = codes "holds line " ++ decimal n
+
+-- the line of the verdict of the line of this number
+abbrev pub verdict_line : ℕ → Verdict → List ℕ
+verdict_line n v = line (codes "line " ++ (decimal n ++ (codes " " ++ verdict_text v)))
+
+-- the lines of these verdicts
+abbrev pub verdict_lines : List Chain → List Verdict → List ℕ
+verdict_lines [] vs = []
+verdict_lines (c ∷ cs) [] = []
+verdict_lines (c ∷ cs) (v ∷ vs) = verdict_line c.line v ++ verdict_lines cs vs
+
+-- whether a number is one of these
+abbrev pub among : List ℕ → ℕ → Bool
+among [] e = false
+among (x ∷ xs) e = nat_eq x e || among xs e
+
+-- whether each of these numbers is one of the others
+abbrev pub all_among : List ℕ → List ℕ → Bool
+all_among [] ys = true
+all_among (x ∷ xs) ys = among ys x && all_among xs ys
+
+-- whether the set has the events of one of the lines
+abbrev pub listed_in : List (List Label) → List ℕ → Bool
+listed_in [] set = false
+listed_in (ls ∷ lines) set = (all_among (events_of ls) set && all_among set (events_of ls)) || listed_in lines set
+
+-- whether each of these sets is listed
+abbrev pub all_listed : List (List Label) → List (List ℕ) → Bool
+all_listed lines [] = true
+all_listed lines (events ∷ more) = listed_in lines events && all_listed lines more
+
+-- whether each verdict is good
+abbrev pub all_verdicts_good : List Verdict → Bool
+all_verdicts_good [] = true
+all_verdicts_good (Good ∷ vs) = all_verdicts_good vs
+all_verdicts_good (Fails ∷ vs) = false
+all_verdicts_good (Holds n ∷ vs) = false
+
+-- the lines of those of these sets that are not listed
+abbrev pub missing_text : GtsParts → List Edge → List (List Label) → List (List ℕ) → List ℕ
+missing_text p edges lines [] = []
+missing_text p edges lines (events ∷ more) =
+    (if listed_in lines events then [] else line (codes "missing " ++ events_text p edges events)) ++ missing_text p edges lines more
+
+-- the same by a table of the ways of events
+abbrev pub missing_one : GtsParts → List WayId → List (List Label) → List ℕ → List ℕ
+missing_one p ways lines events = if listed_in lines events then [] else line (codes "missing " ++ braced (texts_at p ways events))
+
+abbrev pub missing_at : GtsParts → List WayId → List (List Label) → List (List ℕ) → List ℕ
+missing_at p ways lines [] = []
+missing_at p ways lines (events ∷ more) = missing_one p ways lines events ++ missing_at p ways lines more
+
+-- the whole text
+abbrev pub check_text : GtsParts → List Edge → List Chain → List Verdict → List (List ℕ) → List ℕ
+check_text p edges chains verdicts lists =
+    verdict_lines chains verdicts ++ (missing_text p edges (chain_lines p chains) lists
+    ++ last_line (all_verdicts_good verdicts && all_listed (chain_lines p chains) lists))

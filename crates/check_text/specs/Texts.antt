@@ -1,0 +1,85 @@
+-- The text of a check of a list of cuts.
+use Rattle.std.specs.Prelude.{◌≡◌, ℕ, Bool, true, false, if◌then◌else◌, ◌&&◌, List, [], ◌∷◌, ◌++◌, map, codes, decimal, length, Option, Some, None, slice_get}
+use Rattle.ar_base.specs.Lists.{Stands, Along}
+use Rattle.ar_base.specs.Texts.{line}
+use Rattle.domains.specs.declared.Value.{Value}
+use Rattle.typed_expr.specs.declared.expr.Expr.{Expr}
+use Rattle.ar_meaning.specs.Systems.{System}
+use Rattle.ar_meaning.specs.Runs.{Label}
+use Rattle.ar_meaning.specs.TraceText.{Naming}
+use Rattle.ar_firing.specs.Forest.{IsLine}
+use Rattle.ar_firing.specs.Listed.{AreListed}
+use Rattle.replayer.specs.CutLists.{CutLine}
+use Rattle.cut_text.specs.Texts.{labels_text}
+use Rattle.cut_check.specs.Verdicts.{Said, IsGood, Fails, Holds, IsSaid, IsMissing}
+
+-- the labels of each cut line
+abbrev pub lines_in : List CutLine → List (List Label)
+lines_in cuts = map (λ (c : CutLine). c.labels) cuts
+
+-- the number of a cut line that was looked up
+abbrev pub number_found : Option CutLine → ℕ
+number_found (Some c) = c.number
+number_found None = 0
+
+-- `good`, `fails` or `holds line K`, by the cut lines of the list
+abbrev pub said_text : List CutLine → Said → List ℕ
+said_text cuts IsGood = codes "good"
+said_text cuts Fails = codes "fails"
+said_text cuts (Holds k) = codes "holds line " ++ decimal (number_found (slice_get cuts k))
+
+-- `line N` and what is said of it
+abbrev pub said_line : List CutLine → CutLine → Said → List ℕ
+said_line cuts c said = line (codes "line " ++ (decimal c.number ++ (codes " " ++ said_text cuts said)))
+
+-- the lines of what is said of these cut lines
+abbrev pub said_lines : List CutLine → List CutLine → List Said → List ℕ
+said_lines cuts [] all = []
+said_lines cuts (c ∷ cs) [] = []
+said_lines cuts (c ∷ cs) (said ∷ all) = said_line cuts c said ++ said_lines cuts cs all
+
+-- the labels of each missing cut on a line of its own
+abbrev pub missing_lines : {V : Type 0} → Naming → System V → List (List Label) → List ℕ
+missing_lines names sys [] = []
+missing_lines names sys (ls ∷ more) = line (codes "missing " ++ labels_text names sys ls) ++ missing_lines names sys more
+
+-- whether the line is good
+abbrev pub is_good : Said → Bool
+is_good IsGood = true
+is_good Fails = false
+is_good (Holds k) = false
+
+-- whether each of these is good
+abbrev pub all_good : List Said → Bool
+all_good [] = true
+all_good (said ∷ all) = is_good said && all_good all
+
+-- whether there is none of these
+abbrev pub is_none : {A : Type 0} → List A → Bool
+is_none [] = true
+is_none (a ∷ more) = false
+
+-- `yes` or `no`
+abbrev pub last_line : Bool → List ℕ
+last_line right = line (if right then codes "yes" else codes "no")
+
+-- what is said of each line, in order
+pub record AreSaid {V : Type 0} (sys : System V) (dropped : List ℕ) (observer : Expr V) (wanted : Value) (lines : List (List Label)) (all : List Said) : Type 0 where
+  pub long : length all ≡ length lines
+  pub each : (n : ℕ) (said : Said) → Stands all n said → IsSaid sys dropped observer wanted lines n said
+
+-- the text of the check of these cut lines: what is said of each line; then, in the order of a listing, each missing cut
+-- with its labels in firing order; and last `yes` where each line is good and no cut is missing, else `no`
+pub record IsCheckText {V : Type 0} (names : Naming) (sys : System V) (dropped : List ℕ) (observer : Expr V) (wanted : Value) (cuts : List CutLine) (text : List ℕ) : Type 0 where
+  pub said : List Said
+  pub are_said : AreSaid sys dropped observer wanted (lines_in cuts) said
+  pub missing : List (List ℕ)
+  pub are_missing : AreListed (IsMissing sys dropped observer wanted (lines_in cuts)) missing
+  pub lines : List (List Label)
+  pub are_lines : Along (IsLine sys dropped) missing lines
+  pub is_text : text ≡ said_lines cuts cuts said ++ (missing_lines names sys lines ++ last_line (all_good said && is_none missing))
+
+-- the text's last line is `yes`
+pub record EndsYes (text : List ℕ) : Type 0 where
+  pub front : List ℕ
+  pub is : text ≡ front ++ last_line true

@@ -1,0 +1,8 @@
+//! The text of a check of a list of cuts.
+#![tactic(auto)]
+
+pub mod laws;
+mod printing;
+mod tables;
+
+pub use printing::print_check;

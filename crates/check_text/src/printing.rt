@@ -1,0 +1,255 @@
+// The lines of verdicts and of missing cuts.
+
+ghost use Rattle.std.specs.Prelude.{◌≡◌, ◌++◌, ◌&&◌, true, false, codes, length, OnOk};
+ghost use Rattle.ar_base.specs.Texts.{separated};
+ghost use Rattle.ar_io.specs.Writing.{Writes};
+ghost use Rattle.mode_forests.specs.Ways.{OwnTheirWays};
+ghost use Rattle.min_cuts.specs.Kept.{numbers};
+ghost use Rattle.replayer.specs.CutLists.{HaveKnownWays};
+ghost use Rattle.replayer.specs.Flat.{way_label};
+ghost use Rattle.cut_check.specs.Flat.{chain_lines};
+ghost use Rattle.cut_text.specs.Answers.{Prints};
+ghost use Rattle.cut_text.specs.Printed.{edges_of, HaveOneWay, AreOfEdges};
+ghost use Rattle.cut_text.specs.Tables.{texts_at, way_at, HasWay, HaveWays, AllHaveWays};
+ghost use Rattle.cut_text.specs.Texts.{braced};
+ghost use Rattle.check_text.specs.Printed.{verdict_text, verdict_line, verdict_lines, all_verdicts_good};
+ghost use Rattle.check_text.specs.Printed.{listed_in, all_listed, missing_one, missing_at, check_text};
+ghost use Rattle.check_text.specs.Texts.{last_line};
+
+use crate::tables::event_ways;
+use ar_base::{EventId, WayId};
+use ar_io::{Sink, SinkFailed};
+use cut_check::{Verdict, is_listed};
+use cut_text::PrintFault;
+use gts_core::{Chain, Gts};
+use min_cuts::Lister;
+use mode_forests::Forest;
+use replayer::pieces::{number, put};
+use replayer::print_label;
+use std::alloc::Global;
+
+/// Writes the text of a check of a list of cuts: for each line of the list its verdict; then
+/// `missing ` and the labels of each cut of the lister that no line has, in its order; and last `yes`
+/// where each line is good and no cut is missing, else `no`. Memory is taken before anything is
+/// written.
+pub fn print_check<K: Sink>(
+    alloc: Global,
+    gts: &Gts,
+    forest: &Forest,
+    mut lister: Lister,
+    chains: &[Chain],
+    verdicts: &[Verdict],
+    out: &mut K,
+) -> Result<(), PrintFault>
+    requires own { OwnTheirWays gts.now forest.now.trees.items }
+    requires one_way { HaveOneWay (edges_of forest.now.trees.items) }
+    requires known { AreOfEdges (edges_of forest.now.trees.items) lister }
+    requires ways { HaveKnownWays gts.now chains.now }
+    requires long { length verdicts.now ≡ length chains.now }
+    ensures { Prints (K.state out.old) (K.state out.new)
+        (check_text gts.now (edges_of forest.now.trees.items) chains.now verdicts.now lister) result }
+{
+    let ways = event_ways(alloc, gts, forest)?;
+    let good = all_good(verdicts);
+    let mut whole = true;
+    verdict_lines(out, chains, verdicts)?;
+    missing_lines(out, gts, &ways, chains, &mut lister, &mut whole)?;
+    answer(out, both(good, whole))?;
+    Ok(())
+}
+
+// Whether each verdict is good.
+fn all_good(verdicts: &[Verdict]) -> bool
+    ensures { result ≡ all_verdicts_good verdicts.now }
+{
+    for verdict in verdicts {
+        match *verdict {
+            Verdict::Good => {}
+            _ => return false,
+        }
+    }
+    true
+}
+
+// Whether both hold.
+fn both(a: bool, b: bool) -> bool
+    ensures { result ≡ (a && b) }
+{
+    a && b
+}
+
+// The last line.
+fn answer<K: Sink>(out: &mut K, right: bool) -> Result<(), SinkFailed>
+    ensures { Writes (K.state out.old) (K.state out.new) (last_line right) result }
+{
+    if right {
+        put(out, "yes\n")
+    } else {
+        put(out, "no\n")
+    }
+}
+
+// The lines of verdicts.
+fn verdict_lines<K: Sink>(
+    out: &mut K,
+    chains: &[Chain],
+    verdicts: &[Verdict],
+) -> Result<(), SinkFailed>
+    requires { length verdicts.now ≡ length chains.now }
+    ensures { Writes (K.state out.old) (K.state out.new) (verdict_lines chains.now verdicts.now) result }
+{
+    for (n, chain) in chains.iter().enumerate() {
+        verdict_line(out, chain.line, verdicts[n])?;
+    }
+    Ok(())
+}
+
+// The line of a verdict.
+fn verdict_line<K: Sink>(out: &mut K, line: u32, verdict: Verdict) -> Result<(), SinkFailed>
+    ensures { Writes (K.state out.old) (K.state out.new) (verdict_line line verdict) result }
+{
+    put(out, "line ")?;
+    number(out, line)?;
+    put(out, " ")?;
+    said(out, verdict)?;
+    put(out, "\n")
+}
+
+// What is said of a line.
+fn said<K: Sink>(out: &mut K, verdict: Verdict) -> Result<(), SinkFailed>
+    ensures { Writes (K.state out.old) (K.state out.new) (verdict_text verdict) result }
+{
+    match verdict {
+        Verdict::Good => put(out, "good"),
+        Verdict::Fails => put(out, "fails"),
+        Verdict::Holds(line) => held(out, line),
+    }
+}
+
+// That a line holds the line of this number.
+fn held<K: Sink>(out: &mut K, line: u32) -> Result<(), SinkFailed>
+    ensures { Writes (K.state out.old) (K.state out.new) (verdict_text (Verdict.Holds line)) result }
+{
+    put(out, "holds line ")?;
+    number(out, line)
+}
+
+// The lines of those of the sets that are left that are not listed; whether there is none of them.
+fn missing_lines<K: Sink>(
+    out: &mut K,
+    gts: &Gts,
+    ways: &[WayId],
+    chains: &[Chain],
+    lister: &mut Lister,
+    whole: &mut bool,
+) -> Result<(), SinkFailed>
+    requires ways { AllHaveWays gts.now ways.now lister.old }
+    requires known { HaveKnownWays gts.now chains.now }
+    ensures text { Writes (K.state out.old) (K.state out.new)
+        (missing_at gts.now ways.now (chain_lines gts.now chains.now) lister.old) result }
+    ensures whole { OnOk result (whole.new ≡ (whole.old && all_listed (chain_lines gts.now chains.now) lister.old)) }
+{
+    while let Some(events) = lister.next() {
+        missing_line(out, gts, ways, chains, events, whole)?;
+    }
+    Ok(())
+}
+
+// The line of a set that is not listed; and that there is one.
+fn missing_line<K: Sink>(
+    out: &mut K,
+    gts: &Gts,
+    ways: &[WayId],
+    chains: &[Chain],
+    events: &[EventId],
+    whole: &mut bool,
+) -> Result<(), SinkFailed>
+    requires ways { HaveWays gts.now ways.now (numbers events.now) }
+    requires known { HaveKnownWays gts.now chains.now }
+    ensures text { Writes (K.state out.old) (K.state out.new)
+        (missing_one gts.now ways.now (chain_lines gts.now chains.now) (numbers events.now)) result }
+    ensures whole { OnOk result (whole.new ≡ (whole.old && listed_in (chain_lines gts.now chains.now) (numbers events.now))) }
+{
+    if is_listed(gts, chains, events) {
+        return put(out, "");
+    }
+    *whole = false;
+    put(out, "missing ")?;
+    set(out, gts, ways, events)?;
+    put(out, "\n")
+}
+
+// The labels of a set in braces.
+fn set<K: Sink>(
+    out: &mut K,
+    gts: &Gts,
+    ways: &[WayId],
+    events: &[EventId],
+) -> Result<(), SinkFailed>
+    requires { HaveWays gts.now ways.now (numbers events.now) }
+    ensures { Writes (K.state out.old) (K.state out.new)
+        (braced (texts_at gts.now ways.now (numbers events.now))) result }
+{
+    put(out, "{")?;
+    labels(out, gts, ways, events)?;
+    put(out, "}")
+}
+
+// The labels of these events, with commas between them.
+fn labels<K: Sink>(
+    out: &mut K,
+    gts: &Gts,
+    ways: &[WayId],
+    events: &[EventId],
+) -> Result<(), SinkFailed>
+    requires { HaveWays gts.now ways.now (numbers events.now) }
+    ensures { Writes (K.state out.old) (K.state out.new)
+        (separated true (codes ", ") (texts_at gts.now ways.now (numbers events.now))) result }
+{
+    let Some((first, others)) = events.split_first() else {
+        return Ok(());
+    };
+    label(out, gts, ways, *first)?;
+    more_labels(out, gts, ways, others)
+}
+
+// Further labels.
+fn more_labels<K: Sink>(
+    out: &mut K,
+    gts: &Gts,
+    ways: &[WayId],
+    events: &[EventId],
+) -> Result<(), SinkFailed>
+    requires { HaveWays gts.now ways.now (numbers events.now) }
+    ensures { Writes (K.state out.old) (K.state out.new)
+        (separated false (codes ", ") (texts_at gts.now ways.now (numbers events.now))) result }
+{
+    for event in events {
+        next_label(out, gts, ways, *event)?;
+    }
+    Ok(())
+}
+
+// A label behind another one.
+fn next_label<K: Sink>(
+    out: &mut K,
+    gts: &Gts,
+    ways: &[WayId],
+    event: EventId,
+) -> Result<(), SinkFailed>
+    requires { HasWay gts.now ways.now event.n }
+    ensures { Writes (K.state out.old) (K.state out.new)
+        (codes ", " ++ way_label gts.now (way_at ways.now event.n)) result }
+{
+    put(out, ", ")?;
+    label(out, gts, ways, event)
+}
+
+// The label of an event's edge.
+fn label<K: Sink>(out: &mut K, gts: &Gts, ways: &[WayId], event: EventId) -> Result<(), SinkFailed>
+    requires { HasWay gts.now ways.now event.n }
+    ensures { Writes (K.state out.old) (K.state out.new)
+        (way_label gts.now (way_at ways.now event.n)) result }
+{
+    print_label(gts, ways[event.n as usize], out)
+}

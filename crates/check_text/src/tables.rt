@@ -1,0 +1,36 @@
+// The way of each event.
+
+ghost use Rattle.std.specs.Prelude.{◌≡◌, ◌<◌, length, IfOk};
+ghost use Rattle.ar_base.specs.Lists.{IsOneOf};
+ghost use Rattle.mode_forests.specs.declared.forests.Edge.{Edge as TheEdge};
+ghost use Rattle.mode_forests.specs.Ways.{OwnTheirWays};
+ghost use Rattle.cut_text.specs.Printed.{edges_of, HaveOneWay};
+ghost use Rattle.cut_text.specs.Tables.{AreWaysOf, with_ways};
+
+use ar_base::{Memory, WayId};
+use gts_core::Gts;
+use mode_forests::{Edge, Forest};
+use std::alloc::Global;
+
+/// For each event that has an edge its way; for another one, some way.
+pub(crate) fn event_ways(alloc: Global, gts: &Gts, forest: &Forest) -> Result<Vec<WayId>, Memory>
+    requires own { OwnTheirWays gts.now forest.now.trees.items }
+    requires one_way { HaveOneWay (edges_of forest.now.trees.items) }
+    ensures { IfOk result (λ ways. AreWaysOf (edges_of forest.now.trees.items) ways.items) }
+{
+    let mut ways = vec![in alloc; WayId::new(0); gts.parts().events.len()]?;
+    for tree in &forest.trees {
+        set_ways(&mut ways, &tree.edges);
+    }
+    Ok(ways)
+}
+
+// Puts the way of each of these edges at the number of its event.
+fn set_ways(ways: &mut [WayId], edges: &[Edge])
+    requires { (x : TheEdge) → IsOneOf edges.now x → x.event.n < length ways.old }
+    ensures { ways.new ≡ with_ways edges.now ways.old }
+{
+    for edge in edges {
+        ways[edge.event.n as usize] = edge.way;
+    }
+}

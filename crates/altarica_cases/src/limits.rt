@@ -1,7 +1,9 @@
 //! The limits of texts, of units, of flat systems and of events with an edge, each at its number and one past it.
 
-use crate::made::{blocks_inside, instances, long_chains, names, padded, way_parts, ways, wide};
-use crate::{end_of_fragment, run_texts};
+use crate::made::{
+    blocks_inside, counting_flows, instances, long_chains, names, padded, way_parts, ways, wide,
+};
+use crate::{end_of_job, run_job};
 use std::io;
 
 /// Runs a check of each text, and a replay of each script.
@@ -11,12 +13,13 @@ pub(crate) fn run_limits(rt: &HostRuntime) -> io::Result<()> {
     things(rt)?;
     nodes(rt)?;
     flat_systems(rt)?;
-    live_events(rt)
+    live_events(rt)?;
+    gates(rt)
 }
 
 // Runs a check of this text.
 fn check(rt: &HostRuntime, name: &str, text: &str) -> io::Result<()> {
-    run_texts(rt, name, text, None)
+    run_job(rt, name, [text, ""], "check model")
 }
 
 // The bytes of the model and of the script.
@@ -27,7 +30,8 @@ fn texts(rt: &HostRuntime) -> io::Result<()> {
     }
     for length in 1_048_576..1_048_578 {
         let script = padded(rt, "", length)?;
-        run_texts(rt, "script-bytes", block, Some(script.as_str()))?;
+        let texts = [block, script.as_str()];
+        run_job(rt, "script-bytes", texts, "replay model script")?;
     }
     Ok(())
 }
@@ -91,7 +95,17 @@ fn flat_systems(rt: &HostRuntime) -> io::Result<()> {
 fn live_events(rt: &HostRuntime) -> io::Result<()> {
     for more in 8..10 {
         let text = long_chains(rt, more)?;
-        end_of_fragment(rt, "live-events", text.as_str())?;
+        end_of_job(rt, "live-events", [text.as_str(), ""], "fragment model")?;
+    }
+    Ok(())
+}
+
+// The gates of a table: those of 122 flows that count 60 states each, and of some that count fewer.
+fn gates(rt: &HostRuntime) -> io::Result<()> {
+    for fewer in ["34 1 1", "33 5 3 3 3 3"] {
+        let text = counting_flows(rt, 122, fewer)?;
+        let texts = [text.as_str(), ""];
+        run_job(rt, "gates", texts, "cuts model --observer o --nodes 1")?;
     }
     Ok(())
 }

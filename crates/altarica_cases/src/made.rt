@@ -134,3 +134,54 @@ pub(crate) fn long_chains(rt: &HostRuntime, more: u32) -> Result<String, AllocEr
     text.push_str(" end")?;
     Ok(text)
 }
+
+// The assignment of a flow that counts the first so many states.
+fn counted(rt: &HostRuntime, flow: u32, states: u32) -> Result<String, AllocError> {
+    let mut text = format!(in rt.alloc(); " f{flow} := count(s1")?;
+    for place in 2..=states {
+        let next = format!(in rt.alloc(); ", s{place}")?;
+        text.push_str(&next)?;
+    }
+    text.push_str(");")?;
+    Ok(text)
+}
+
+// Sixty states, each with an event that turns it.
+fn turning_states(rt: &HostRuntime) -> Result<String, AllocError> {
+    let mut text = String::new(rt.alloc());
+    for place in 1..=60 {
+        let next = format!(in rt.alloc();
+            " Boolean s{place} (init = true); event e{place};"
+        )?;
+        text.push_str(&next)?;
+    }
+    text.push_str(" transition")?;
+    for place in 1..=60 {
+        let next = format!(in rt.alloc(); " e{place}: s{place} -> s{place} := false;")?;
+        text.push_str(&next)?;
+    }
+    Ok(text)
+}
+
+/// A main block with 60 states, so many flows that count them all, and flows that count so many of
+/// them each.
+pub(crate) fn counting_flows(
+    rt: &HostRuntime,
+    whole: u32,
+    fewer: &str,
+) -> Result<String, AllocError> {
+    let mut flows = String::from_str(rt.alloc(), "N f0")?;
+    let mut assertions = counted(rt, 0, 60)?;
+    let parts = fewer.split(' ').filter_map(|part| part.parse::<u32>().ok());
+    for (place, states) in (1..whole).map(|_| 60).chain(parts).enumerate() {
+        let flow = place as u32 + 1;
+        let next = format!(in rt.alloc(); ", f{flow}")?;
+        flows.push_str(&next)?;
+        let next = counted(rt, flow, states)?;
+        assertions.push_str(&next)?;
+    }
+    let states = turning_states(rt)?;
+    format!(in rt.alloc();
+        "domain N [0, 60] block B {flows} (reset = 0); observer Boolean o = s1;{states} assertion{assertions} end"
+    )
+}

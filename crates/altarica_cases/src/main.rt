@@ -26,6 +26,9 @@ use std::{fs, io};
 /// The room for the text of a case, in bytes.
 const ROOM: usize = 65_536;
 
+/// The room for a text of which the last line alone is printed, in bytes.
+const LONG: usize = 262_144;
+
 fn no_memory(_memory: Memory) -> io::Error {
     io::Error::from(io::ErrorKind::OutOfMemory)
 }
@@ -80,39 +83,42 @@ fn run_files(rt: &HostRuntime, name: &str, failing: [&str; 2], words: &[String])
     run(rt, name, &mut shelf, failing[1], words)
 }
 
-/// Runs a check of this model, or a replay of this script on it.
-pub(crate) fn run_texts(
+/// Runs the job of these words, where `model` and `script` name these texts.
+pub(crate) fn run_job(
     rt: &HostRuntime,
     name: &str,
-    model: &str,
-    script: Option<&str>,
+    texts: [&str; 2],
+    job: &str,
 ) -> io::Result<()> {
     let mut shelf = MemoryShelf::new(rt.alloc());
-    shelf.place("model", model.as_bytes()).map_err(no_memory)?;
-    let mut words = Vec::new(rt.alloc());
-    match script {
-        Some(script) => {
-            shelf.place("script", script.as_bytes()).map_err(no_memory)?;
-            words.push(String::from_str(rt.alloc(), "replay")?)?;
-            words.push(String::from_str(rt.alloc(), "model")?)?;
-            words.push(String::from_str(rt.alloc(), "script")?)?;
-        }
-        None => {
-            words.push(String::from_str(rt.alloc(), "check")?)?;
-            words.push(String::from_str(rt.alloc(), "model")?)?;
-        }
+    for (file, text) in ["model", "script"].iter().zip(texts) {
+        shelf.place(file, text.as_bytes()).map_err(no_memory)?;
     }
-    run(rt, name, &mut shelf, "-", &words)
+    run(rt, name, &mut shelf, "-", &words_of(rt, job)?)
 }
 
-/// Runs `fragment` on this model, and prints the last line of its text.
-pub(crate) fn end_of_fragment(rt: &HostRuntime, name: &str, model: &str) -> io::Result<()> {
-    let mut shelf = MemoryShelf::new(rt.alloc());
-    shelf.place("model", model.as_bytes()).map_err(no_memory)?;
-    let mut sink = MemorySink::new(rt.alloc(), ROOM).map_err(no_memory)?;
+// The words of a line.
+fn words_of(rt: &HostRuntime, line: &str) -> io::Result<Vec<String>> {
     let mut words = Vec::new(rt.alloc());
-    words.push(String::from_str(rt.alloc(), "fragment")?)?;
-    words.push(String::from_str(rt.alloc(), "model")?)?;
+    for word in line.split(' ') {
+        words.push(String::from_str(rt.alloc(), word)?)?;
+    }
+    Ok(words)
+}
+
+/// Runs the job of these words, where `model` and `script` name these texts, and prints the last line of its text.
+pub(crate) fn end_of_job(
+    rt: &HostRuntime,
+    name: &str,
+    texts: [&str; 2],
+    job: &str,
+) -> io::Result<()> {
+    let mut shelf = MemoryShelf::new(rt.alloc());
+    for (file, text) in ["model", "script"].iter().zip(texts) {
+        shelf.place(file, text.as_bytes()).map_err(no_memory)?;
+    }
+    let mut sink = MemorySink::new(rt.alloc(), LONG).map_err(no_memory)?;
+    let words = words_of(rt, job)?;
     let status = altarica(rt.alloc(), &words, &mut shelf, &mut sink).number();
     let text = from_utf8(sink.bytes()).unwrap_or("");
     let last = text.lines().last().unwrap_or("");
@@ -122,14 +128,14 @@ pub(crate) fn end_of_fragment(rt: &HostRuntime, name: &str, model: &str) -> io::
 
 // Runs the case of a line.
 fn run_line(rt: &HostRuntime, line: &str) -> io::Result<()> {
-    let mut parts = line.split(' ');
+    let mut parts = line.splitn(4, ' ');
     let name = parts.next().unwrap_or("");
     let load = parts.next().unwrap_or("-");
     let put = parts.next().unwrap_or("-");
-    let mut words = Vec::new(rt.alloc());
-    for part in parts {
-        words.push(String::from_str(rt.alloc(), part)?)?;
-    }
+    let words = match parts.next() {
+        Some(job) => words_of(rt, job)?,
+        None => Vec::new(rt.alloc()),
+    };
     run_files(rt, name, [load, put], &words)
 }
 

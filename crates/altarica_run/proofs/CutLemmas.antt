@@ -65,14 +65,12 @@ use Rattle.cut_text.specs.declared.faults.PrintFault.TheVariants as print
 use Rattle.run_words.specs.declared.jobs.Job.{Job}
 use Rattle.run_words.specs.declared.verbs.Verb.{Verb}
 use Rattle.run_words.specs.declared.verbs.Verb.TheVariants.{Check, Flat, Replay, Fragment, Equations, Cuts, Make, Explain, CheckCuts, Modules}
-use Rattle.altarica_run.specs.Jobs.{makes_model, verb_of}
+use Rattle.altarica_run.specs.Jobs.{is_built, makes_model}
 use Rattle.altarica_run.specs.Passing.{IsReady, IsGateTable}
 use Rattle.altarica_run.specs.Passing as passing
 use Rattle.altarica_run.specs.Stages.{Ready, is_static as asks_static, has_table, lists_cuts}
 use Rattle.altarica_run.specs.Telling.{IsWritten, whole, cut, nothing, status_printed}
 use Rattle.altarica_run.specs.Tells.{HasCuts, make_lines, Tells, cuts, make, conflict, nodes, nodes_line}
-use Rattle.altarica_run.specs.declared.jobs.Task.{Task}
-use Rattle.altarica_run.specs.declared.jobs.Task.TheVariants as task
 use Rattle.altarica_run.specs.declared.stages.Prepared.{Prepared}
 use Rattle.altarica_run.specs.declared.status.Status.{Status}
 use Rattle.altarica_run.specs.declared.status.Status.TheVariants.{Done, Fault, Nodes}
@@ -150,19 +148,26 @@ lists_table Explain e = e
 lists_table CheckCuts e = refl
 lists_table Modules e = refl
 
--- the tasks that list cuts, or tell of them, are these two
-pub task_lists : (t : Task) → (t ≡ task.Cuts) ⊎ (t ≡ task.Make) → lists_cuts (verb_of t) ≡ true
-task_lists t (inl e) = ap (λ (z : Task). lists_cuts (verb_of z)) e
-task_lists t (inr e) = ap (λ (z : Task). lists_cuts (verb_of z)) e
+-- these commands list cuts, or tell of them
+pub one_lists : (v : Verb) → is_built v ≡ true → (v ≡ Cuts) ⊎ ((v ≡ Make) ⊎ ((v ≡ CheckCuts) ⊎ (v ≡ Modules)))
+    → lists_cuts v ≡ true
+one_lists v b (inl e) = ap lists_cuts e
+one_lists v b (inr (inl e)) = ap lists_cuts e
+one_lists v b (inr (inr (inl e))) = let k : true ≡ false = sym b ∙ ap is_built e in cc
+one_lists v b (inr (inr (inr e))) = let k : true ≡ false = sym b ∙ ap is_built e in cc
 
-pub task_cuts : (t : Task) → lists_cuts (verb_of t) ≡ true → makes_model (verb_of t) ≡ false → verb_of t ≡ Cuts
-task_cuts task.Check e m = let k : false ≡ true = e in absurd cc
-task_cuts task.Flat e m = let k : false ≡ true = e in absurd cc
-task_cuts task.Replay e m = let k : false ≡ true = e in absurd cc
-task_cuts task.Fragment e m = let k : false ≡ true = e in absurd cc
-task_cuts task.Equations e m = let k : false ≡ true = e in absurd cc
-task_cuts task.Cuts e m = refl
-task_cuts task.Make e m = let k : true ≡ false = m in absurd cc
+-- and the command that lists them makes no model
+pub only_cuts : (v : Verb) → lists_cuts v ≡ true → makes_model v ≡ false → v ≡ Cuts
+only_cuts Check e m = let k : false ≡ true = e in absurd cc
+only_cuts Flat e m = let k : false ≡ true = e in absurd cc
+only_cuts Replay e m = let k : false ≡ true = e in absurd cc
+only_cuts Fragment e m = let k : false ≡ true = e in absurd cc
+only_cuts Equations e m = let k : false ≡ true = e in absurd cc
+only_cuts Cuts e m = refl
+only_cuts Make e m = let k : true ≡ false = m in absurd cc
+only_cuts Explain e m = let k : false ≡ true = e in absurd cc
+only_cuts CheckCuts e m = let k : false ≡ true = e in absurd cc
+only_cuts Modules e m = let k : false ≡ true = e in absurd cc
 
 -- What stands ready
 

@@ -4,8 +4,8 @@ use Rattle.ar_io.specs.Outside.{Told, Rose}
 use Rattle.ar_io.specs.Writing.{SinkState, Appended, Cut}
 use Rattle.ar_io.proofs.Writing.{cut_nothing}
 use Rattle.run_words.specs.declared.jobs.Job.{Job}
-use Rattle.altarica_run.specs.Files.{files_of, Loads}
 use Rattle.altarica_run.specs.Jobs.{IsBuiltJob}
+use Rattle.altarica_run.specs.Files.{files_of, Loads}
 use Rattle.altarica_run.specs.Passing.{RefusesWords, no_job, stage, not_read}
 use Rattle.altarica_run.specs.Refusals.{line_of, status_of}
 use Rattle.altarica_run.specs.Says.{Says, usage, refuses, tells, EndsSo}

@@ -14,12 +14,13 @@ use Rattle.altarica_run.specs.Jobs.{IsBuiltJob, IsNoJob}
 use Rattle.altarica_run.specs.Refusals.{line_of, status_of}
 use Rattle.altarica_run.specs.Says.{Says, usage, refuses, tells, EndsSo}
 use Rattle.altarica_run.specs.Says as says
-use Rattle.altarica_run.specs.Stages.{Ready, bare, Passes, not_loaded, loaded, line_refused, Scripted, has_script, Drops, Wanting, Static, is_static, Tabled, has_table, observer_asked}
+use Rattle.altarica_run.specs.Stages.{Ready, bare, Passes, not_loaded, loaded, line_refused, cut_refused, Scripted, has_script, ListsCuts, has_list, Drops, Wanting, Showing, explains, Static, is_static, Tabled, has_table, observer_asked}
 use Rattle.altarica_run.specs.Stages as stages
 use Rattle.altarica_run.specs.Statuses.{IsTold, IsRefused, Meaning_of}
-use Rattle.altarica_run.specs.Tells.{Tells, check, flat, replay, fragment, equations, cuts, make, conflict, nodes}
+use Rattle.altarica_run.specs.Tells.{Tells, check, flat, replay, fragment, equations, cuts, make, unsettled, conflict, nodes}
+use Rattle.altarica_run.specs.Tells as tells
 use Rattle.altarica_run.specs.declared.refusals.Refusal.{Refusal}
-use Rattle.altarica_run.specs.declared.refusals.Refusal.TheVariants.{Usage, NotRead, Size, Syntax, Rule, NoCommand, NeedsWay, NoEvent, NoDropped, NoObserver, NoValue, Outside}
+use Rattle.altarica_run.specs.declared.refusals.Refusal.TheVariants.{Usage, NotRead, Size, Syntax, Rule, NoCommand, NoCut, NeedsWay, NoEvent, NoDropped, NoObserver, NoValue, Outside}
 use Rattle.altarica_run.specs.declared.status.Status.{Status}
 use Rattle.altarica_run.specs.declared.status.Status.TheVariants as status
 
@@ -33,6 +34,7 @@ IsOfStages (Size count) = Unit {0}
 IsOfStages (Syntax place) = Unit {0}
 IsOfStages (Rule rule place) = Unit {0}
 IsOfStages (NoCommand n) = Unit {0}
+IsOfStages (NoCut n) = Unit {0}
 IsOfStages (NeedsWay n) = Unit {0}
 IsOfStages (NoEvent n) = Unit {0}
 IsOfStages NoDropped = Unit {0}
@@ -62,6 +64,16 @@ of_script : (b : Bool) (texts : List (List ℕ)) (w : Ready) (r : Refusal) → W
 of_script true texts w r (stages.bad {l = l} i h) = of_line l.why l.number
 of_script false texts w r h = cc
 
+of_cut : (why : Why) (n : ℕ) → IsOfStages (cut_refused why n)
+of_cut IsNoCommand n = tt
+of_cut LacksWay n = tt
+of_cut NamesNoEvent n = tt
+
+of_cuts : (b : Bool) (texts : List (List ℕ)) (w : Ready) (r : Refusal) → Where b (ListsCuts texts) w (Err r) → IsOfStages r
+of_cuts true texts w r (stages.bad_line {l = l} i h) = of_cut l.why l.number
+of_cuts true texts w r (stages.exceeds_lines i h k) = tt
+of_cuts false texts w r h = cc
+
 of_list : (list : Option (List ℕ)) (w : Ready) (r : Refusal) → Drops list w (Err r) → IsOfStages r
 of_list list w r (stages.names_none i h) = tt
 
@@ -70,6 +82,10 @@ of_observer : (b : Bool) (observer word : Option (List ℕ)) (w : Ready) (r : Re
 of_observer true observer word w r (stages.no_observer i h) = tt
 of_observer true observer word w r (stages.no_value i h) = tt
 of_observer false observer word w r h = cc
+
+of_shown : (b : Bool) (path : Option (List ℕ)) (w : Ready) (r : Refusal) → Where b (Showing path) w (Err r) → IsOfStages r
+of_shown true path w r (stages.shows_none i h) = tt
+of_shown false path w r h = cc
 
 of_fragment : (b : Bool) (w : Ready) (r : Refusal) → Where b Static w (Err r) → IsOfStages r
 of_fragment true w r (stages.outside h) = tt
@@ -85,9 +101,13 @@ of_stages files job r (loaded texts l t (then.refuses h)) = of_text job.main _ r
 of_stages files job r (loaded texts l t (then.passes x p (then.refuses (then.refuses h)))) =
     of_script (has_script job.command) texts (bare x) r h
 of_stages files job r (loaded texts l t (then.passes x p (then.refuses (then.passes w q (then.refuses h))))) =
-    of_list job.dropped w r h
-of_stages files job r (loaded texts l t (then.passes x p (then.refuses (then.passes w q (then.passes v k h))))) =
-    of_observer (has_table job.command) (observer_asked job) job.value v r h
+    of_cuts (has_list job.command) texts w r h
+of_stages files job r (loaded texts l t (then.passes x p (then.refuses (then.passes w q (then.passes v k (then.refuses h)))))) =
+    of_list job.dropped v r h
+of_stages files job r (loaded texts l t (then.passes x p (then.refuses (then.passes w q (then.passes v k (then.passes u m (then.refuses h))))))) =
+    of_observer (has_table job.command) (observer_asked job) job.value u r h
+of_stages files job r (loaded texts l t (then.passes x p (then.refuses (then.passes w q (then.passes v k (then.passes u m (then.passes y n h))))))) =
+    of_shown (explains job.command) job.observer y r h
 of_stages files job r (loaded texts l t (then.passes x p (then.passes w q (then.refuses h)))) =
     of_fragment (is_static job.command) w r h
 of_stages files job r (loaded texts l t (then.passes x p (then.passes w q (then.passes v k h)))) =
@@ -115,6 +135,8 @@ module _ (c : Call) where
   meant_tells job w text s is p (equations e i h) a = told job w text status.Done is p (equations e i h) a
   meant_tells job w text s is p (cuts e h) a = told job w text status.Done is p (cuts e h) a
   meant_tells job w text s is p (make e h) a = told job w text status.Done is p (make e h) a
+  meant_tells job w text s is p (tells.explains e h) a = told job w text status.Done is p (tells.explains e h) a
+  meant_tells job w text s is p (unsettled e h) a = told job w text status.Fault is p (unsettled e h) a
   meant_tells job w text s is p (conflict e h) a = told job w text status.Fault is p (conflict e h) a
   meant_tells job w text s is p (nodes e h) a = told job w text status.Nodes is p (nodes e h) a
 
@@ -126,6 +148,7 @@ module _ (c : Call) where
   meant_refuses job (Syntax place) is p a h = refused job (Syntax place) is p a
   meant_refuses job (Rule rule place) is p a h = refused job (Rule rule place) is p a
   meant_refuses job (NoCommand n) is p a h = refused job (NoCommand n) is p a
+  meant_refuses job (NoCut n) is p a h = refused job (NoCut n) is p a
   meant_refuses job (NeedsWay n) is p a h = refused job (NeedsWay n) is p a
   meant_refuses job (NoEvent n) is p a h = refused job (NoEvent n) is p a
   meant_refuses job NoDropped is p a h = refused job NoDropped is p a

@@ -1,6 +1,5 @@
 -- The dropped events and the forest of a job.
-use Rattle.std.proofs.Common.{◌≡◌, ◌⊎◌, ⊎_elim, inl, inr, ℕ, Bool, true, false, List, [], Result, Ok, Err, Vec, map, refl, sym, ◌∙◌, ap, subst, arith}
-use Rattle.std.specs.Global.{Global}
+use Rattle.std.proofs.Common.{◌≡◌, ℕ, Bool, true, false, List, [], Result, Ok, Err, map, refl, sym, ◌∙◌, ap, subst, arith}
 use Rattle.ar_base.specs.Lists.{IsOneOf}
 use Rattle.ar_base.specs.Numbers.{EventId}
 use Rattle.ar_base.specs.Stages.{Where}
@@ -23,18 +22,16 @@ use Rattle.hierarchy.specs.Listing.{variables}
 use Rattle.mode_forests.specs.Views.{trees_of, number_in}
 use Rattle.mode_forests.specs.declared.forests.Forest.{Forest}
 use Rattle.mode_forests.specs.declared.forests.ModeTree.{ModeTree}
-use Rattle.replayer.specs.declared.commands.Command.{Command}
 use Rattle.run_words.specs.declared.jobs.Job.{Job}
 use Rattle.run_words.specs.declared.verbs.Verb.{Verb}
 use Rattle.run_words.specs.declared.verbs.Verb.TheVariants.{Check, Flat, Replay, Fragment, Equations, Cuts, Make, Explain, CheckCuts, Modules}
 use Rattle.static_fragment.specs.Recognised.{IsRecognised, IsOutside, spot_of}
 use Rattle.static_fragment.specs.declared.faults.Spot as there
-use Rattle.altarica_run.specs.Jobs.{verb_of}
-use Rattle.altarica_run.specs.Passing.{stop_told, IsStageOf, AreCommands, AreDropped, CanBeWritten, IsForestOf, HasForest, HasTable, IsReady}
+use Rattle.altarica_run.specs.Jobs.{is_built}
+use Rattle.altarica_run.specs.Passing.{stop_told, IsStageOf, AreDropped, CanBeWritten, IsForestOf, HasForest, HasTable, IsRequested, IsReady}
 use Rattle.altarica_run.specs.Spots.{path_in}
 use Rattle.altarica_run.specs.Stages.{Ready, is_static, Static, keeps, outside, spot_path, has_table, Tabled, fits, Demands}
-use Rattle.altarica_run.specs.declared.jobs.Task.{Task}
-use Rattle.altarica_run.specs.declared.jobs.Task.TheVariants as task
+use Rattle.altarica_run.specs.declared.requesting.Request.{Request}
 use Rattle.altarica_run.specs.declared.refusals.Refusal.{Refusal}
 use Rattle.altarica_run.specs.declared.refusals.Refusal.TheVariants.{Outside}
 use Rattle.altarica_run.specs.declared.stages.Prepared.{Prepared}
@@ -115,24 +112,9 @@ module _ (w : Ready) (p : GtsParts) (of : IsFlat w.source p) where
       refusals : (m n : ℕ) (a b : List ℕ) → m ≡ n → a ≡ b → Outside m a ≡ Outside n b
       refusals m n a b i j = cc
 
--- a command that asks for no forest
-pub asks_none : (t : Task) → (t ≡ task.Check) ⊎ ((t ≡ task.Flat) ⊎ (t ≡ task.Replay)) → is_static (verb_of t) ≡ false
-asks_none t h =
-    ⊎_elim (λ e. ap (λ (z : Task). is_static (verb_of z)) e)
-    (λ more. ⊎_elim (λ e. ap (λ (z : Task). is_static (verb_of z)) e) (λ e. ap (λ (z : Task). is_static (verb_of z)) e) more) h
-
--- a command that asks for one
-pub asks_one : (t : Task)
-    → (t ≡ task.Fragment) ⊎ ((t ≡ task.Equations) ⊎ ((t ≡ task.Cuts) ⊎ (t ≡ task.Make)))
-    → is_static (verb_of t) ≡ true
-asks_one t (inl e) = ap (λ (z : Task). is_static (verb_of z)) e
-asks_one t (inr (inl e)) = ap (λ (z : Task). is_static (verb_of z)) e
-asks_one t (inr (inr (inl e))) = ap (λ (z : Task). is_static (verb_of z)) e
-asks_one t (inr (inr (inr e))) = ap (λ (z : Task). is_static (verb_of z)) e
-
-pub none_given : (t : Task) → is_static (verb_of t) ≡ false → (w : Ready) (p : GtsParts) (f : Forest) → f.trees.items ≡ []
-    → (v : Ready) × Where (is_static (verb_of t)) Static w (Ok v) × HasForest (verb_of t) p v.dropped f
-none_given t e w p f i = (
+pub none_given : (v : Verb) → is_static v ≡ false → (w : Ready) (p : GtsParts) (f : Forest) → f.trees.items ≡ []
+    → (u : Ready) × Where (is_static v) Static w (Ok u) × HasForest v p u.dropped f
+none_given v e w p f i = (
   w,
   subst (λ (b : Bool). Where b Static w (Ok w)) (sym e) refl,
   record { written = none_written p f i; own = λ s. let k : true ≡ false = sym s ∙ e in absurd cc },
@@ -154,13 +136,6 @@ table_static Modules e = refl
 pub table_trees : (v : Verb) (p : GtsParts) (w : Ready) (f : Forest) → HasForest v p w.dropped f → has_table v ≡ true
     → IsForestOf p w.dropped f
 table_trees v p w f h e = h.own (table_static v e)
-
--- the forest of a task is that of its command
-pub forest_at : (v : Verb) (t : Task) → v ≡ verb_of t → (w : Ready) (p : GtsParts) (r : Result Forest Stop)
-    → IsStageOf (λ (u : Ready). HasForest (verb_of t) p u.dropped) (Where (is_static (verb_of t)) Static w) r
-    → IsStageOf (λ (u : Ready). HasForest v p u.dropped) (Where (is_static v) Static w) r
-forest_at v t e w p r h =
-    subst (λ (z : Verb). IsStageOf (λ (u : Ready). HasForest z p u.dropped) (Where (is_static z) Static w) r) (sym e) h
 
 -- What the command demands of the system, once the words and the script have asked
 
@@ -196,18 +171,19 @@ module _ (job : Job) (w : Ready) (p : GtsParts) where
         stage_passes stop_told trees table w has_trees (IsReady job) w r passes_trees
         (subst (λ (z : Result Prepared Stop). IsStageOf (IsReady job) (table w) z) (sym (i ∙ ap Err j)) h)
 
-    pub all_ready : (t : Task) → job.command ≡ verb_of t → IsFlat w.source p → (commands : Vec Command Global)
-        → AreCommands p w.commands commands → (made : GateTable)
+    pub all_ready : is_built job.command ≡ true → IsFlat w.source p → (request : Request) → IsRequested job.command w.source p w request
+        → (made : GateTable)
         → IsStageOf (HasTable job.command p f) (table w) (Ok made)
         → IsStageOf (IsReady job) (Demands job.command w)
-        (Ok (record { task = t; system = p; commands = commands; forest = f; table = made; nodes = job.nodes; number = job.number }))
-    all_ready t e flat commands are made h =
+        (Ok (record { command = job.command; system = p; request = request; forest = f; table = made; nodes = job.nodes; number = job.number }))
+    all_ready built flat request are made h =
         let u : h.0 ≡ w = same_tabled (has_table job.command) w h.0 h.1 in
-        let done : Prepared = record { task = t; system = p; commands = commands; forest = f; table = made; nodes = job.nodes; number = job.number } in
+        let done : Prepared = record { command = job.command; system = p; request = request; forest = f; table = made; nodes = job.nodes; number = job.number } in
         let is : IsReady job w done = record {
-          command = e;
+          command = refl;
+          built = built;
           flat = flat;
-          commands = are;
+          requested = are;
           forest = forest_here;
           table = subst (λ (z : Ready). HasTable job.command p f z made) u h.2;
           nodes = refl;

@@ -1,4 +1,4 @@
--- Words that give a job whose command is built, and words that give none.
+-- Words that give a job, and words that give none.
 use Rattle.std.proofs.Common.{◌≡◌, ◌≤◌, ℕ, true, false, List, Option, Some, None, Result, Err, refl, sym, ◌∙◌, ap, subst, arith}
 use Rattle.run_words.specs.Jobs.{IsJob, IsJobOf, IsNodes, NamesFiles, form_of}
 use Rattle.run_words.specs.Lines.{Line}
@@ -7,15 +7,12 @@ use Rattle.run_words.specs.declared.jobs.JobFault.{JobFault}
 use Rattle.run_words.specs.declared.jobs.JobFault.TheVariants as words
 use Rattle.run_words.specs.declared.verbs.Verb.{Verb}
 use Rattle.run_words.specs.declared.verbs.Verb.TheVariants.{Check, Flat, Replay, Fragment, Equations, Cuts, Make, Explain, CheckCuts, Modules}
-use Rattle.altarica_run.specs.Jobs.{is_built, IsBuiltJob, IsNoJob, makes_model, verb_of, AnswersJob}
+use Rattle.altarica_run.specs.Jobs.{is_built, IsBuiltJob, IsNoJob, makes_model, AnswersJob}
 use Rattle.altarica_run.specs.Passing.{stop_of_words}
-use Rattle.altarica_run.specs.declared.jobs.Asked.{Asked}
-use Rattle.altarica_run.specs.declared.jobs.Task.{Task}
-use Rattle.altarica_run.specs.declared.jobs.Task.TheVariants as task
 use Rattle.altarica_run.specs.declared.stops.Stop.{Stop}
 
 -- no words give a job
-pub job_stops : (ws : List (List ℕ)) (r : Result Asked Stop) (d : Stop) (e : JobFault) → r ≡ Err d → d ≡ stop_of_words e
+pub job_stops : (ws : List (List ℕ)) (r : Result Job Stop) (d : Stop) (e : JobFault) → r ≡ Err d → d ≡ stop_of_words e
     → ((let z : Result Job JobFault = Err e in z ≡ Err words.Usage) → (job : Job) → IsJob ws job → ⊥) → AnswersJob ws r
 job_stops ws r d e i j h = subst (AnswersJob ws) (sym (i ∙ ap Err j)) (go e h)
   where
@@ -24,19 +21,6 @@ job_stops ws r d e i j h = subst (AnswersJob ws) (sym (i ∙ ap Err j)) (go e h)
         → AnswersJob ws (Err (stop_of_words e))
     go words.Usage h = (refl, λ job b. h refl job b.is_job)
     go words.Memory h = tt
-
--- the command of a task is built
-task_built : (t : Task) → is_built (verb_of t) ≡ true
-task_built task.Check = refl
-task_built task.Flat = refl
-task_built task.Replay = refl
-task_built task.Fragment = refl
-task_built task.Equations = refl
-task_built task.Cuts = refl
-task_built task.Make = refl
-
-pub command_built : (v : Verb) (t : Task) → v ≡ verb_of t → is_built v ≡ true
-command_built v t e = ap is_built e ∙ task_built t
 
 -- words whose one job has a command that is not built give none whose command is
 pub not_built : (ws : List (List ℕ)) (job : Job) → ((a b : Job) → IsJob ws a → IsJob ws b → a ≡ b) → IsJob ws job

@@ -11,3 +11,4 @@ pub mod EndLemmas
 pub mod FollowLemmas
 pub mod LawLemmas
 mod ListingLemmas
+pub mod ExplainLemmas

@@ -10,12 +10,12 @@ use Rattle.cut_text.specs.Texts.{count_line, label_lists}
 use Rattle.gts_flatten.specs.Flat.{naming_of}
 use Rattle.run_words.specs.declared.jobs.Job.{Job}
 use Rattle.run_words.specs.declared.verbs.Verb.{Verb}
-use Rattle.run_words.specs.declared.verbs.Verb.TheVariants.{Check, Flat, Replay, Fragment, Equations, Cuts, Make}
-use Rattle.altarica_run.specs.Follows.{Call, Gave, Wrote}
+use Rattle.run_words.specs.declared.verbs.Verb.TheVariants.{Check, Flat, Replay, Fragment, Equations, Cuts, Make, Explain}
 use Rattle.altarica_run.specs.Jobs.{IsBuiltJob}
+use Rattle.altarica_run.specs.Follows.{Call, Gave, Wrote}
 use Rattle.altarica_run.specs.Listings.{IsCut, IsCutOrder, IsListing}
 use Rattle.altarica_run.specs.Stages.{Ready, Passes}
-use Rattle.altarica_run.specs.Tells.{IsCutsText, Tells, check, flat, replay, fragment, equations, cuts, make, conflict, nodes}
+use Rattle.altarica_run.specs.Tells.{IsCutsText, Tells, check, flat, replay, fragment, equations, cuts, make, explains, unsettled, conflict, nodes}
 use Rattle.altarica_run.specs.declared.status.Status.{Status}
 use Rattle.altarica_run.specs.declared.status.Status.TheVariants as status
 use Rattle.altarica_run.proofs.FollowLemmas.{meaning_of}
@@ -43,6 +43,8 @@ cuts_text job w text s j d (fragment e h) = other_verb job.command Fragment e re
 cuts_text job w text s j d (equations e i h) = other_verb job.command Equations e refl j
 cuts_text job w text s j d (cuts e h) = h
 cuts_text job w text s j d (make e h) = other_verb job.command Make e refl j
+cuts_text job w text s j d (explains e h) = other_verb job.command Explain e refl j
+cuts_text job w text s j d (unsettled e h) = let k : false ≡ true = ap is_done d in absurd cc
 cuts_text job w text s j d (conflict e h) = let k : false ≡ true = ap is_done d in absurd cc
 cuts_text job w text s j d (nodes e h) = let k : false ≡ true = ap is_done d in absurd cc
 

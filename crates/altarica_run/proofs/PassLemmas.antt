@@ -1,18 +1,26 @@
 -- The stages of a job, as their calls answer.
-use Rattle.std.proofs.Common.{◌≡◌, ℕ, Bool, true, false, List, [], ◌∷◌, Option, Some, None, Result, Ok, Err, Vec, map, codes, refl, sym, ◌∙◌, ap, subst}
+use Rattle.std.proofs.Common.{length, vec_len, rules, arith, ◌≡◌, ◌<◌, ◌≤◌, ℕ, Bool, true, false, List, [], ◌∷◌, Option, Some, None, Result, Ok, Err, Vec, map, codes, refl, sym, ◌∙◌, ap, subst}
+use Rattle.std.proofs.lemmas.Grind.{common_steps}
+use Rattle.std.proofs.lemmas.List.{length-map}
 use Rattle.std.specs.Global.{Global}
+use Rattle.ar_base.specs.Counts.{limit_of}
 use Rattle.ar_base.specs.Numbers.{EventId}
+use Rattle.ar_base.specs.declared.counts.Count.TheVariants.{CutLines}
 use Rattle.ar_base.specs.Stages.{IsRefusal, Where}
 use Rattle.ar_base.specs.Stages as then
 use Rattle.ar_base.specs.Lists.{Stands}
-use Rattle.ar_base.proofs.Standing.{stands_none}
+use Rattle.ar_base.proofs.Standing.{stands_none, stands_within}
 use Rattle.ar_io.specs.Outside.{Told}
 use Rattle.ar_meaning.specs.Runs as runs
 use Rattle.event_lists.specs.Naming.{AnswersEvents}
 use Rattle.event_lists.specs.declared.reading.ListFault.{ListFault}
 use Rattle.event_lists.specs.declared.reading.ListFault.TheVariants as list
+use Rattle.gts_core.specs.declared.bound.Chain.{Chain}
 use Rattle.gts_core.specs.declared.system.GtsParts.{GtsParts}
 use Rattle.gts_flatten.specs.Elaborating.{Elaborated}
+use Rattle.gts_flatten.specs.Flat.{IsFlat}
+use Rattle.hierarchy.specs.Listing.{observers}
+use Rattle.replayer.specs.CutLists.{CutLine, cut_of, AnswersCuts}
 use Rattle.replayer.specs.Flat.{command_of, AnswersScript, IsBadScript}
 use Rattle.replayer.specs.declared.commands.Command.{Command}
 use Rattle.replayer.specs.declared.commands.Command.TheVariants.{Fire}
@@ -24,26 +32,27 @@ use Rattle.run_words.specs.declared.jobs.Job.{Job}
 use Rattle.run_words.specs.declared.verbs.Verb.{Verb}
 use Rattle.run_words.specs.declared.verbs.Verb.TheVariants.{Check, Flat, Replay, Fragment, Equations, Cuts, Make, Explain, CheckCuts, Modules}
 use Rattle.altarica_run.specs.Files.{files_of}
-use Rattle.altarica_run.specs.Jobs.{IsBuiltJob, AnswersJob, makes_model, verb_of}
+use Rattle.altarica_run.specs.Jobs.{IsBuiltJob, AnswersJob, makes_model}
 use Rattle.altarica_run.specs.Loading.{RefusesFiles, AnswersTexts, AreTexts, texts_of, texts_where, script_texts}
 use Rattle.altarica_run.specs.Loading as loading
-use Rattle.wanted_values.specs.Answers.{AnswersWanted}
+use Rattle.wanted_values.specs.Answers.{AnswersWanted, AnswersObserver}
+use Rattle.wanted_values.specs.Wanting.{NamesNone, NamesObserver}
 use Rattle.wanted_values.specs.declared.wanting.Wanted.{Wanted}
 use Rattle.wanted_values.specs.declared.wanting.WantedFault.{WantedFault}
 use Rattle.wanted_values.specs.declared.wanting.WantedFault.TheVariants as wanted
 use Rattle.altarica_run.specs.Passing as passing
-use Rattle.altarica_run.specs.Passing.{stop_of_wanted, stop_of_script, stop_of_list, stop_told, IsStageOf, AreCommands, ReadsScript, no_script, gives, bad, IsSecond, IsThere, ReadsList, no_list, names, names_none, AreDropped, ReadsWanted, AreWanted, IsRequested, IsReady, RefusesWords, no_job, stage, not_read, AnswersWords}
-use Rattle.altarica_run.specs.Stages.{Ready, bare, has_script, has_table, line_refused, path_asked, observer_asked, Scripted, Drops, Wanting, Asks, Stages, Passes, not_loaded, loaded}
+use Rattle.altarica_run.specs.Passing.{stop_of_wanted, stop_of_script, stop_of_cuts, stop_of_list, stop_told, IsStageOf, AreCommands, ReadsScript, no_script, gives, bad, AreLines, ReadsCuts, no_cuts, lists, bad_line, too_many, IsSecond, IsThere, has_second, where_asked, ReadsList, no_list, names, names_none, AreDropped, ReadsWanted, AreWanted, ReadsShown, no_path, shows, shows_none, IsShown, IsRequested, IsReady, RefusesWords, no_job, stage, not_read, AnswersWords}
+use Rattle.altarica_run.specs.Stages.{Ready, bare, has_script, has_list, has_table, explains, line_refused, cut_refused, path_asked, observer_asked, Scripted, ListsCuts, Drops, Wanting, Showing, AsksByWords, Asks, Readies, Stages, Passes, not_loaded, loaded}
 use Rattle.altarica_run.specs.Stages as stages
-use Rattle.altarica_run.specs.declared.jobs.Task.{Task}
-use Rattle.altarica_run.specs.declared.jobs.Task.TheVariants as task
 use Rattle.altarica_run.specs.declared.loading.Texts.{Texts}
 use Rattle.altarica_run.specs.declared.refusals.Refusal.{Refusal}
+use Rattle.altarica_run.specs.declared.refusals.Refusal.TheVariants.{NoObserver, Size}
 use Rattle.altarica_run.specs.declared.stages.Prepared.{Prepared}
-use Rattle.altarica_run.specs.declared.stages.Request.{Request}
+use Rattle.altarica_run.specs.declared.requesting.Request.{Request}
 use Rattle.altarica_run.specs.declared.stops.Stop.{Stop}
 use Rattle.altarica_run.specs.declared.stops.Stop.TheVariants.{Refused, Memory}
 use Rattle.altarica_run.proofs.FileLemmas.{IsLoadedScript}
+use Rattle.altarica_run.proofs.TellLemmas.{many_observers}
 
 -- The script
 
@@ -69,9 +78,76 @@ module _ (x : Elaborated) (p : GtsParts) (bytes : Vec ℕ Global) where
 
 -- What a command asks
 
--- the system with the commands of the script
+-- the system with the commands of the script, the cut lines of the list, the events that are dropped and the observer with
+-- its value
+abbrev asked_so_far : Elaborated → List runs.Command → List CutLine → List ℕ → Option Wanted → Option ℕ → Ready
+asked_so_far x cs cuts events wanted shown =
+    record { source = x; commands = cs; lines = cuts; dropped = events; wanted = wanted; shown = shown }
+
 abbrev with_commands : Elaborated → List runs.Command → Ready
-with_commands x cs = record { source = x; commands = cs; dropped = []; wanted = None }
+with_commands x cs = asked_so_far x cs [] [] None None
+
+abbrev with_lines : Elaborated → List runs.Command → List CutLine → Ready
+with_lines x cs cuts = asked_so_far x cs cuts [] None None
+
+abbrev with_dropped : Elaborated → List runs.Command → List CutLine → List ℕ → Ready
+with_dropped x cs cuts events = asked_so_far x cs cuts events None None
+
+abbrev with_wanted : Elaborated → List runs.Command → List CutLine → List ℕ → Option Wanted → Ready
+with_wanted x cs cuts events wanted = asked_so_far x cs cuts events wanted None
+
+-- where a second file is read, the script is there, and so is the list
+script_second : (v : Verb) (texts : List (List ℕ)) (s : Option (Vec ℕ Global)) → IsSecond (has_second v) texts s
+    → IsSecond (has_script v) texts (where_asked (has_script v) s)
+script_second Check texts s h = tt
+script_second Flat texts s h = tt
+script_second Replay texts s h = h
+script_second Fragment texts s h = tt
+script_second Equations texts s h = tt
+script_second Cuts texts s h = tt
+script_second Make texts s h = tt
+script_second Explain texts s h = h
+script_second CheckCuts texts s h = tt
+script_second Modules texts s h = tt
+
+script_given_there : (v : Verb) (s : Option (Vec ℕ Global)) → IsThere (has_second v) s
+    → IsThere (has_script v) (where_asked (has_script v) s)
+script_given_there Check s h = refl
+script_given_there Flat s h = refl
+script_given_there Replay s h = h
+script_given_there Fragment s h = refl
+script_given_there Equations s h = refl
+script_given_there Cuts s h = refl
+script_given_there Make s h = refl
+script_given_there Explain s h = h
+script_given_there CheckCuts s h = refl
+script_given_there Modules s h = refl
+
+list_second : (v : Verb) (texts : List (List ℕ)) (s : Option (Vec ℕ Global)) → IsSecond (has_second v) texts s
+    → IsSecond (has_list v) texts (where_asked (has_list v) s)
+list_second Check texts s h = tt
+list_second Flat texts s h = tt
+list_second Replay texts s h = tt
+list_second Fragment texts s h = tt
+list_second Equations texts s h = tt
+list_second Cuts texts s h = tt
+list_second Make texts s h = tt
+list_second Explain texts s h = tt
+list_second CheckCuts texts s h = h
+list_second Modules texts s h = tt
+
+list_given_there : (v : Verb) (s : Option (Vec ℕ Global)) → IsThere (has_second v) s
+    → IsThere (has_list v) (where_asked (has_list v) s)
+list_given_there Check s h = refl
+list_given_there Flat s h = refl
+list_given_there Replay s h = refl
+list_given_there Fragment s h = refl
+list_given_there Equations s h = refl
+list_given_there Cuts s h = refl
+list_given_there Make s h = refl
+list_given_there Explain s h = refl
+list_given_there CheckCuts s h = h
+list_given_there Modules s h = refl
 
 -- the commands of the script are what the command asks, where there is a script exactly where it asks for one
 asks_bad : (b : Bool) (texts : List (List ℕ)) (s : Option (Vec ℕ Global)) (x : Elaborated) (r : Refusal)
@@ -89,20 +165,34 @@ asks_good true texts s x cs second there (gives bytes i h) =
 asks_good false texts s x cs second there (no_script i) = refl
 asks_good false texts s x cs second there (gives bytes i h) = let k : None ≡ Some bytes = sym there ∙ i in cc
 
+-- the cut lines of the list are what the command asks, where there is a list exactly where it asks for one
+lists_bad : (b : Bool) (texts : List (List ℕ)) (s : Option (Vec ℕ Global)) (w : Ready) (r : Refusal)
+    → IsSecond b texts s → IsThere b s → ReadsCuts s w.source (Err r) → Where b (ListsCuts texts) w (Err r)
+lists_bad true texts s w r second there (bad_line bytes i h) =
+    stages.bad_line (second.1 ∙ ap (λ (z : Option (Vec ℕ Global)). second.0 ∷ script_texts z) i) h
+lists_bad true texts s w r second there (too_many bytes i h k) =
+    stages.exceeds_lines (second.1 ∙ ap (λ (z : Option (Vec ℕ Global)). second.0 ∷ script_texts z) i) h k
+lists_bad false texts s w r second there (bad_line bytes i h) = let k : None ≡ Some bytes = sym there ∙ i in cc
+lists_bad false texts s w r second there (too_many bytes i h k) = let e : None ≡ Some bytes = sym there ∙ i in cc
+
+lists_good : (b : Bool) (texts : List (List ℕ)) (s : Option (Vec ℕ Global)) (x : Elaborated) (cs : List runs.Command)
+    (cuts : List CutLine) → IsSecond b texts s → IsThere b s → ReadsCuts s x (Ok cuts)
+    → Where b (ListsCuts texts) (with_commands x cs) (Ok (with_lines x cs cuts))
+lists_good true texts s x cs cuts second there (no_cuts i) = let k : None ≡ Some there.0 = sym i ∙ there.1 in cc
+lists_good true texts s x cs cuts second there (lists bytes i h k) =
+    stages.lists (second.1 ∙ ap (λ (z : Option (Vec ℕ Global)). second.0 ∷ script_texts z) i) h k
+lists_good false texts s x cs cuts second there (no_cuts i) = refl
+lists_good false texts s x cs cuts second there (lists bytes i h k) = let e : None ≡ Some bytes = sym there ∙ i in cc
+
 -- the events of the list are those that are dropped
-drops_bad : (list : Option (List ℕ)) (x : Elaborated) (cs : List runs.Command) (r : Refusal) → ReadsList list x (Err r)
-    → Drops list (with_commands x cs) (Err r)
-drops_bad list x cs r (names_none i h) = stages.names_none i h
+drops_bad : (list : Option (List ℕ)) (w : Ready) (r : Refusal) → ReadsList list w.source (Err r) → Drops list w (Err r)
+drops_bad list w r (names_none i h) = stages.names_none i h
 
--- and with the dropped events
-abbrev with_dropped : Elaborated → List runs.Command → List ℕ → Ready
-with_dropped x cs events = record { source = x; commands = cs; dropped = events; wanted = None }
-
-drops_good : (list : Option (List ℕ)) (x : Elaborated) (cs : List runs.Command) (events : List ℕ)
+drops_good : (list : Option (List ℕ)) (x : Elaborated) (cs : List runs.Command) (cuts : List CutLine) (events : List ℕ)
     → ReadsList list x (Ok events)
-    → Drops list (with_commands x cs) (Ok (with_dropped x cs events))
-drops_good list x cs events (no_list i) = stages.no_list i
-drops_good list x cs events (names i h) = stages.names i h
+    → Drops list (with_lines x cs cuts) (Ok (with_dropped x cs cuts events))
+drops_good list x cs cuts events (no_list i) = stages.no_list i
+drops_good list x cs cuts events (names i h) = stages.names i h
 
 -- the observer and the value are what the command asks, where there is an observer exactly where it asks for one
 wants_bad : (b : Bool) (observer word : Option (List ℕ)) (w : Ready) (r : Refusal) → IsThere b observer
@@ -125,9 +215,24 @@ wants_good false observer word w given e there (passing.not_asked i) =
 wants_good false observer word w given e there (passing.wants {path = path} i h) =
     let k : None ≡ Some path = sym there ∙ i in cc
 
--- the script, the list and the observer are asked for by the job
+-- the observer is the one to explain, where one is asked for
+shows_bad : (b : Bool) (path : Option (List ℕ)) (w : Ready) (r : Refusal) → ReadsShown (where_asked b path) w.source (Err r)
+    → Where b (Showing path) w (Err r)
+shows_bad true path w r (shows_none i h) = stages.shows_none i h
+shows_bad false path w r (shows_none {text = text} i h) = let k : None ≡ Some text = i in cc
+
+shows_good : (b : Bool) (path : Option (List ℕ)) (w : Ready) (given : Option ℕ) → w.shown ≡ None
+    → ReadsShown (where_asked b path) w.source (Ok given) → Where b (Showing path) w (Ok (record w { shown = given }))
+shows_good true path w given e (no_path i) =
+    subst (λ (z : Option ℕ). Showing path w (Ok (record w { shown = z }))) e (stages.no_path i)
+shows_good true path w given e (shows i h) = stages.shows i h
+shows_good false path w given e (no_path i) =
+    subst (λ (z : Option ℕ). (let r : Result Ready Refusal = Ok (record w { shown = z }) in r ≡ Ok w)) e refl
+shows_good false path w given e (shows {text = text} i h) = let k : None ≡ Some text = i in cc
+
+-- what the words, the script, the list and the command ask for
 module _ (job : Job) (texts : List (List ℕ)) (x : Elaborated) (p : GtsParts) (s : Option (Vec ℕ Global))
-    (second : IsSecond (has_script job.command) texts s) (there : IsThere (has_script job.command) s)
+    (second : IsSecond (has_second job.command) texts s) (there : IsThere (has_second job.command) s)
     (seen : IsThere (has_table job.command) (observer_asked job)) where
   abbrev asks : Result Ready Refusal → Type 0
   asks = Asks job texts x
@@ -135,59 +240,154 @@ module _ (job : Job) (texts : List (List ℕ)) (x : Elaborated) (p : GtsParts) (
   abbrev stands : Ready → Request → Type 0
   stands = IsRequested job.command x p
 
-  pub script_refused : (r : Result Request Stop) (d e : Stop) → r ≡ Err d → d ≡ e
-      → IsRefusal (ReadsScript s x) (stop_told e) → IsStageOf stands asks r
-  script_refused r d e i j h = subst (λ (z : Result Request Stop). IsStageOf stands asks z) (sym (i ∙ ap Err j)) (go e h)
+  abbrev the_script : Option (Vec ℕ Global)
+  the_script = where_asked (has_script job.command) s
+
+  abbrev the_list : Option (Vec ℕ Global)
+  the_list = where_asked (has_list job.command) s
+
+  -- a refusal at a stage, or want of memory
+  refused_at : {A : Type 0} (Q : Result A Refusal → Type 0) → ((e : Refusal) → Q (Err e) → asks (Err e))
+      → (r : Result Request Stop) (d e : Stop) → r ≡ Err d → d ≡ e → IsRefusal Q (stop_told e) → IsStageOf stands asks r
+  refused_at Q on r d e i j h = subst (λ (z : Result Request Stop). IsStageOf stands asks z) (sym (i ∙ ap Err j)) (go e h)
     where
-      go : (e : Stop) → IsRefusal (ReadsScript s x) (stop_told e) → IsStageOf {X = Request} stands asks (Err e)
-      go (Refused r) h = then.refuses (asks_bad (has_script job.command) texts s x r second there h)
+      go : (e : Stop) → IsRefusal Q (stop_told e) → IsStageOf {X = Request} stands asks (Err e)
+      go (Refused f) h = on f h
       go Memory h = tt
 
-  module _ (cs : List runs.Command) (given : ReadsScript s x (Ok cs)) where
+  pub script_refused : (r : Result Request Stop) (d e : Stop) → r ≡ Err d → d ≡ e
+      → IsRefusal (ReadsScript the_script x) (stop_told e) → IsStageOf stands asks r
+  script_refused = refused_at (ReadsScript the_script x) (λ f h.
+      then.refuses (asks_bad (has_script job.command) texts the_script x f (script_second job.command texts s second)
+      (script_given_there job.command s there) h))
+
+  module _ (cs : List runs.Command) (given : ReadsScript the_script x (Ok cs)) where
     script_passed : Where (has_script job.command) (Scripted texts) (bare x) (Ok (with_commands x cs))
-    script_passed = asks_good (has_script job.command) texts s x cs second there given
+    script_passed =
+        asks_good (has_script job.command) texts the_script x cs (script_second job.command texts s second)
+        (script_given_there job.command s there) given
 
-    pub list_refused : (r : Result Request Stop) (d e : Stop) → r ≡ Err d → d ≡ e
-        → IsRefusal (ReadsList job.dropped x) (stop_told e) → IsStageOf stands asks r
-    list_refused r d e i j h =
-        subst (λ (z : Result Request Stop). IsStageOf stands asks z) (sym (i ∙ ap Err j)) (go e h)
-      where
-        go : (e : Stop) → IsRefusal (ReadsList job.dropped x) (stop_told e)
-            → IsStageOf {X = Request} stands asks (Err e)
-        go (Refused r) h =
-            then.passes (with_commands x cs) script_passed (then.refuses (drops_bad job.dropped x cs r h))
-        go Memory h = tt
+    pub lines_refused : (r : Result Request Stop) (d e : Stop) → r ≡ Err d → d ≡ e
+        → IsRefusal (ReadsCuts the_list x) (stop_told e) → IsStageOf stands asks r
+    lines_refused = refused_at (ReadsCuts the_list x) (λ f h.
+        then.passes (with_commands x cs) script_passed
+        (then.refuses (lists_bad (has_list job.command) texts the_list (with_commands x cs) f (list_second job.command texts s second)
+        (list_given_there job.command s there) h)))
 
-    module _ (events : List ℕ) (named : ReadsList job.dropped x (Ok events)) where
-      pub wanted_refused : (r : Result Request Stop) (d e : Stop) → r ≡ Err d → d ≡ e
-          → IsRefusal (ReadsWanted (observer_asked job) job.value x) (stop_told e) → IsStageOf stands asks r
-      wanted_refused r d e i j h =
-          subst (λ (z : Result Request Stop). IsStageOf stands asks z) (sym (i ∙ ap Err j)) (go e h)
-        where
-          go : (e : Stop) → IsRefusal (ReadsWanted (observer_asked job) job.value x) (stop_told e)
-              → IsStageOf {X = Request} stands asks (Err e)
-          go (Refused r) h =
-              then.passes (with_commands x cs) script_passed
-              (then.passes (with_dropped x cs events) (drops_good job.dropped x cs events named)
-              (wants_bad (has_table job.command) (observer_asked job) job.value (with_dropped x cs events) r seen h))
-          go Memory h = tt
+    module _ (cuts : List CutLine) (listed : ReadsCuts the_list x (Ok cuts)) where
+      -- what the words ask for comes once the files are read
+      behind : (answer : Result Ready Refusal) → AsksByWords job (with_lines x cs cuts) answer → asks answer
+      behind answer h =
+          then.passes (with_commands x cs) script_passed
+          (then.passes (with_lines x cs cuts)
+          (lists_good (has_list job.command) texts the_list x cs cuts (list_second job.command texts s second)
+          (list_given_there job.command s there) listed) h)
 
-      pub all_given : (request : Request) (wanted : Option Wanted) → ReadsWanted (observer_asked job) job.value x (Ok wanted)
-          → AreCommands p cs request.commands → AreDropped p events request.dropped.items
-          → AreWanted p wanted request.wanted → IsStageOf stands asks (Ok request)
-      all_given request wanted h are drops wants =
-          let k = wants_good (has_table job.command) (observer_asked job) job.value (with_dropped x cs events) wanted refl seen h in (
-            record { source = x; commands = cs; dropped = events; wanted = wanted },
-            then.passes (with_commands x cs) script_passed
-                (then.passes (with_dropped x cs events) (drops_good job.dropped x cs events named) k.0),
+      pub dropped_refused : (r : Result Request Stop) (d e : Stop) → r ≡ Err d → d ≡ e
+          → IsRefusal (ReadsList job.dropped x) (stop_told e) → IsStageOf stands asks r
+      dropped_refused = refused_at (ReadsList job.dropped x) (λ f h.
+          behind (Err f) (then.refuses (drops_bad job.dropped (with_lines x cs cuts) f h)))
+
+      module _ (events : List ℕ) (named : ReadsList job.dropped x (Ok events)) where
+        abbrev dropped : Ready
+        dropped = with_dropped x cs cuts events
+
+        pub wanted_refused : (r : Result Request Stop) (d e : Stop) → r ≡ Err d → d ≡ e
+            → IsRefusal (ReadsWanted (observer_asked job) job.value x) (stop_told e) → IsStageOf stands asks r
+        wanted_refused = refused_at (ReadsWanted (observer_asked job) job.value x) (λ f h.
+            behind (Err f) (then.passes dropped (drops_good job.dropped x cs cuts events named)
+            (then.refuses (wants_bad (has_table job.command) (observer_asked job) job.value dropped f seen h))))
+
+        module _ (wanted : Option Wanted) (wants : ReadsWanted (observer_asked job) job.value x (Ok wanted)) where
+          wants_passed : Where (has_table job.command) (Wanting (observer_asked job) job.value) dropped (Ok (with_wanted x cs cuts events wanted))
+              × IsThere (has_table job.command) wanted
+          wants_passed = wants_good (has_table job.command) (observer_asked job) job.value dropped wanted refl seen wants
+
+          -- the observer to explain comes last
+          last : (answer : Result Ready Refusal)
+              → Where (explains job.command) (Showing job.observer) (with_wanted x cs cuts events wanted) answer → asks answer
+          last answer h =
+              behind answer (then.passes dropped (drops_good job.dropped x cs cuts events named)
+              (then.passes (with_wanted x cs cuts events wanted) wants_passed.0 h))
+
+          pub shown_refused : (r : Result Request Stop) (d e : Stop) → r ≡ Err d → d ≡ e
+              → IsRefusal (ReadsShown (where_asked (explains job.command) job.observer) x) (stop_told e) → IsStageOf stands asks r
+          shown_refused = refused_at (ReadsShown (where_asked (explains job.command) job.observer) x) (λ f h.
+              last (Err f) (shows_bad (explains job.command) job.observer (with_wanted x cs cuts events wanted) f h))
+
+          pub all_given : (request : Request) (shown : Option ℕ)
+              → ReadsShown (where_asked (explains job.command) job.observer) x (Ok shown)
+              → AreCommands p cs request.commands → AreLines p cuts request.chains → AreDropped p events request.dropped.items
+              → AreWanted p wanted request.wanted → IsShown p shown request.shown → IsStageOf stands asks (Ok request)
+          all_given request shown h are_commands are_lines drops wants one = (
+            asked_so_far x cs cuts events wanted shown,
+            last (Ok (asked_so_far x cs cuts events wanted shown))
+                (shows_good (explains job.command) job.observer (with_wanted x cs cuts events wanted) shown refl h),
             record {
               source = refl;
-              commands = are;
+              commands = are_commands;
+              lines = are_lines;
+              shown = one;
               dropped = drops;
               wanted = wants;
-              there = subst (λ (z : Option Wanted). IsThere (has_table job.command) z) wants.are k.1;
+              there = subst (λ (z : Option Wanted). IsThere (has_table job.command) z) wants.are wants_passed.1;
             },
           )
+
+-- The list of cuts
+
+vec_len-items : {X Z : Type 0} (v : Vec X Z) → vec_len v ≡ length v.items
+vec_len-items v = first_of (search rules, grind (arith, common_steps))
+
+module _ (x : Elaborated) (p : GtsParts) (bytes : Vec ℕ Global) where
+  -- a bad line, or want of memory
+  pub cuts_stop : (r : Result (Vec Chain Global) Stop) (d : Stop) (e : ScriptFault) → r ≡ Err d
+      → d ≡ stop_of_cuts e → AnswersCuts x p bytes.items (Err e)
+      → IsStageOf (AreLines p) (ReadsCuts (Some bytes) x) r
+  cuts_stop r d e i j h =
+      subst (λ (z : Result (Vec Chain Global) Stop). IsStageOf (AreLines p) (ReadsCuts (Some bytes) x) z)
+      (sym (i ∙ ap Err j)) (go e h)
+    where
+      go : (e : ScriptFault) → AnswersCuts x p bytes.items (Err e)
+          → IsStageOf {X = Vec Chain Global} (AreLines p) (ReadsCuts (Some bytes) x) (Err (stop_of_cuts e))
+      go (script.Line n) h = bad_line bytes refl h
+      go (script.Which n) h = bad_line bytes refl h
+      go (script.Unknown n) h = bad_line bytes refl h
+      go script.Memory h = tt
+
+  pub cuts_many : (chains : Vec Chain Global) → AnswersCuts x p bytes.items (Ok chains)
+      → limit_of CutLines < vec_len chains → IsStageOf (AreLines p) (ReadsCuts (Some bytes) x) (Err (Refused (Size CutLines)))
+  cuts_many chains h k =
+      too_many bytes refl h.0 (subst (λ (n : ℕ). limit_of CutLines < n) (vec_len-items chains ∙ sym (length-map chains.items (cut_of p))) k)
+
+  pub cuts_given : (chains : Vec Chain Global) → AnswersCuts x p bytes.items (Ok chains)
+      → vec_len chains ≤ limit_of CutLines → IsStageOf (AreLines p) (ReadsCuts (Some bytes) x) (Ok chains)
+  cuts_given chains h k = (
+    map (cut_of p) chains.items,
+    lists bytes refl h.0 (subst (λ (n : ℕ). n ≤ limit_of CutLines) (vec_len-items chains ∙ sym (length-map chains.items (cut_of p))) k),
+    record { are = refl; known = h.1 },
+  )
+
+-- The observer to explain
+
+-- a number of an observer of the source is one of an observer of its flat system
+pub observer_known : (x : Elaborated) (p : GtsParts) → IsFlat x p → (text : List ℕ) (n : ℕ) → NamesObserver x text n
+    → n < length p.observers.items
+observer_known x p is text n h =
+    let k = stands_within (observers x.declarations.model x.declarations.units) n h.thing h.number in
+    let e = many_observers x p is in
+    omega (arith, k, e)
+
+pub shown_here : (x : Elaborated) (p : GtsParts) → IsFlat x p → (a b : List ℕ) → a ≡ b → (o : Option ℕ) (n : ℕ)
+    → o ≡ Some n → AnswersObserver x a o → IsStageOf {X = Option ℕ} (IsShown p) (ReadsShown (Some b) x) (Ok (Some n))
+shown_here x p of a b e o n i h =
+    let k : NamesObserver x b n = subst (λ (z : List ℕ). NamesObserver x z n) e (subst (λ (z : Option ℕ). AnswersObserver x a z) i h) in
+    (Some n, shows refl k, record { are = refl; inside = observer_known x p of b n k })
+
+pub shown_none : (x : Elaborated) (p : GtsParts) (a b : List ℕ) → a ≡ b → (o : Option ℕ) → o ≡ None → AnswersObserver x a o
+    → IsStageOf {X = Option ℕ} (IsShown p) (ReadsShown (Some b) x) (Err (Refused NoObserver))
+shown_none x p a b e o i h =
+    shows_none refl (subst (λ (z : List ℕ). NamesNone x z) e (subst (λ (z : Option ℕ). AnswersObserver x a z) i h))
 
 -- The observer and its value
 
@@ -239,68 +439,51 @@ module _ (x : Elaborated) (p : GtsParts) (text : List ℕ) where
       → IsStageOf (λ dropped (given : Vec EventId Global). AreDropped p dropped given.items) (ReadsList (Some text) x) (Ok events)
   list_given events h = (map (λ (e : EventId). e.n) events.items, names refl h.0, record { are = refl; inside = h.1 })
 
--- a job whose command is built names a script exactly where its command reads one
-task_asks : (t : Task) (files : List (List ℕ)) (model : List ℕ) (name : Option (List ℕ)) (n : ℕ) (s : Option (Vec ℕ Global))
-    → NamesFiles (form_of (verb_of t)) files model name n
-    → IsLoadedScript name s → IsThere (has_script (verb_of t)) s
-task_asks task.Check files model name n s f l = l.none f.1
-task_asks task.Flat files model name n s f l = l.none f.1
-task_asks task.Replay files model name n s f l = l.some f.0.0 f.0.2
-task_asks task.Fragment files model name n s f l = l.none f.1
-task_asks task.Equations files model name n s f l = l.none f.1
-task_asks task.Cuts files model name n s f l = l.none f.1
-task_asks task.Make files model name n s f l = l.none f.2
+-- a job names a second file exactly where its command reads one
+command_asks : (v : Verb) (files : List (List ℕ)) (model : List ℕ) (name : Option (List ℕ)) (n : ℕ) (s : Option (Vec ℕ Global))
+    → NamesFiles (form_of v) files model name n → IsLoadedScript name s → IsThere (has_second v) s
+command_asks Check files model name n s f l = l.none f.1
+command_asks Flat files model name n s f l = l.none f.1
+command_asks Replay files model name n s f l = l.some f.0.0 f.0.2
+command_asks Fragment files model name n s f l = l.none f.1
+command_asks Equations files model name n s f l = l.none f.1
+command_asks Cuts files model name n s f l = l.none f.1
+command_asks Make files model name n s f l = l.none f.2
+command_asks Explain files model name n s f l = l.some f.0.0 f.0.2
+command_asks CheckCuts files model name n s f l = l.some f.0.0 f.0.2
+command_asks Modules files model name n s f l = l.none f.1
 
-command_asks : (v : Verb) (t : Task) → v ≡ verb_of t
-    → (files : List (List ℕ)) (model : List ℕ) (name : Option (List ℕ)) (n : ℕ) (s : Option (Vec ℕ Global))
-    → NamesFiles (form_of v) files model name n
-    → IsLoadedScript name s → IsThere (has_script v) s
-command_asks v t e files model name n s f l =
-    subst (λ (z : Verb). IsThere (has_script z) s) (sym e)
-    (task_asks t files model name n s (subst (λ (z : Verb). NamesFiles (form_of z) files model name n) e f) l)
-
-line_asks : (line : Line) (job : Job) (t : Task) (s : Option (Vec ℕ Global)) → IsJobOf line job
-    → job.command ≡ verb_of t → IsLoadedScript job.script s → IsThere (has_script job.command) s
-line_asks line job t s of e l = command_asks job.command t e line.files job.model job.script job.number s of.files l
-
-pub script_there : (words : List (List ℕ)) (job : Job) (t : Task) (s : Option (Vec ℕ Global)) → IsBuiltJob words job
-    → job.command ≡ verb_of t
-    → IsLoadedScript job.script s → IsThere (has_script job.command) s
-script_there words job t s b e l = line_asks _ job t s b.is_job.job_of e l
+pub script_there : (words : List (List ℕ)) (job : Job) (s : Option (Vec ℕ Global)) → IsBuiltJob words job
+    → IsLoadedScript job.script s → IsThere (has_second job.command) s
+script_there words job s b l = command_asks job.command _ job.model job.script job.number s b.is_job.job_of.files l
 
 -- and an observer exactly where its command asks for one
 observer_given : (o : Option (List ℕ)) → (o ≡ None → ⊥) → IsThere true o
 observer_given None h = absurd (h refl)
 observer_given (Some a) h = (a, refl)
 
-task_sees : (t : Task) (line : Line) → OptionsFit (verb_of t) line
-    → IsThere (has_table (verb_of t)) (path_asked (verb_of t) line.observer)
-task_sees task.Check line f = f.observer
-task_sees task.Flat line f = f.observer
-task_sees task.Replay line f = f.observer
-task_sees task.Fragment line f = f.observer
-task_sees task.Equations line f = observer_given line.observer (f.observer_needed refl)
-task_sees task.Cuts line f = observer_given line.observer (f.observer_needed refl)
-task_sees task.Make line f = (codes "lost", refl)
+command_sees : (v : Verb) (line : Line) → OptionsFit v line → IsThere (has_table v) (path_asked v line.observer)
+command_sees Check line f = f.observer
+command_sees Flat line f = f.observer
+command_sees Replay line f = f.observer
+command_sees Fragment line f = f.observer
+command_sees Equations line f = observer_given line.observer (f.observer_needed refl)
+command_sees Cuts line f = observer_given line.observer (f.observer_needed refl)
+command_sees Make line f = (codes "lost", refl)
+command_sees Explain line f = refl
+command_sees CheckCuts line f = observer_given line.observer (f.observer_needed refl)
+command_sees Modules line f = observer_given line.observer (f.observer_needed refl)
 
-command_sees : (v : Verb) (t : Task) → v ≡ verb_of t → (line : Line) → OptionsFit v line
-    → IsThere (has_table v) (path_asked v line.observer)
-command_sees v t e line f =
-    subst (λ (z : Verb). IsThere (has_table z) (path_asked z line.observer)) (sym e)
-    (task_sees t line (subst (λ (z : Verb). OptionsFit z line) e f))
-
-line_sees : (line : Line) (job : Job) (t : Task) → IsJobOf line job → job.command ≡ verb_of t
-    → IsThere (has_table job.command) (observer_asked job)
-line_sees line job t of e =
+line_sees : (line : Line) (job : Job) → IsJobOf line job → IsThere (has_table job.command) (observer_asked job)
+line_sees line job of =
     subst (λ (z : Option (List ℕ)). IsThere (has_table job.command) (path_asked job.command z)) (sym of.observer)
-    (command_sees job.command t e line of.options)
+    (command_sees job.command line of.options)
 
-pub observer_there : (words : List (List ℕ)) (job : Job) (t : Task) → IsBuiltJob words job → job.command ≡ verb_of t
-    → IsThere (has_table job.command) (observer_asked job)
-observer_there words job t b e = line_sees _ job t b.is_job.job_of e
+pub observer_there : (words : List (List ℕ)) (job : Job) → IsBuiltJob words job → IsThere (has_table job.command) (observer_asked job)
+observer_there words job b = line_sees _ job b.is_job.job_of
 
 -- a script that a command reads is the second of the texts
-pub second_of : (v : Verb) (t : Texts) → IsSecond (has_script v) (texts_where (makes_model v) t) t.script
+pub second_of : (v : Verb) (t : Texts) → IsSecond (has_second v) (texts_where (makes_model v) t) t.script
 second_of Check t = tt
 second_of Flat t = tt
 second_of Replay t = (t.model.items, refl)
@@ -308,8 +491,8 @@ second_of Fragment t = tt
 second_of Equations t = tt
 second_of Cuts t = tt
 second_of Make t = tt
-second_of Explain t = tt
-second_of CheckCuts t = tt
+second_of Explain t = (t.model.items, refl)
+second_of CheckCuts t = (t.model.items, refl)
 second_of Modules t = tt
 
 -- The words
@@ -346,6 +529,16 @@ module _ (files : List ℕ → Told) (rose : List ℕ → Type 0) (words : List 
         record { job = job; is_job = is; ready = h.0; passes = loaded (texts_of job t) l.loaded l.is_text h.1; is_ready = h.2 }
     job_passed t l (Err (Refused r)) h = stage job is (loaded (texts_of job t) l.loaded l.is_text h)
     job_passed t l (Err Memory) h = tt
+
+-- want of memory says nothing
+pub memory_ready : (job : Job) (texts : List (List ℕ)) (x : Elaborated) (r : Result Prepared Stop) (d : Stop) → r ≡ Err d
+    → d ≡ Memory → IsStageOf (IsReady job) (Readies job texts x) r
+memory_ready job texts x r d i j =
+    subst (λ (z : Result Prepared Stop). IsStageOf (IsReady job) (Readies job texts x) z) (sym (i ∙ ap Err j)) tt
+
+-- no cut lines
+pub no_lines : (p : GtsParts) (chains : Vec Chain Global) → chains.items ≡ [] → AreLines p [] chains
+no_lines p chains e = record { are = sym (ap (map (cut_of p)) e); known = record { each = λ chain one w way. absurd (stands_none one.place chain (subst (λ (z : List Chain). Stands z one.place chain) e one.stands)) } }
 
 -- no commands
 pub no_commands : (p : GtsParts) (commands : Vec Command Global) → commands.items ≡ [] → AreCommands p [] commands

@@ -59,7 +59,7 @@ module _ (x : Elaborated) (p : GtsParts) (is : IsFlat x p) where
       sym (length-map p.events.items (λ (e : Event). e.path)) ∙ ap (λ (n : Naming). length n.events) is.names
       ∙ length-map (events x.declarations.model x.declarations.units) (thing_path x.declarations.model)
 
-  many_observers : length p.observers.items ≡ length (observers x.declarations.model x.declarations.units)
+  pub many_observers : length p.observers.items ≡ length (observers x.declarations.model x.declarations.units)
   many_observers =
       sym (length-map p.observers.items (λ (o : Observer). o.path)) ∙ ap (λ (n : Naming). length n.observers) is.names
       ∙ length-map (observers x.declarations.model x.declarations.units) (thing_path x.declarations.model)
@@ -109,20 +109,20 @@ module _ (job : Job) (w : Ready) (p : Prepared) (is : IsReady job w p) where
       (there : (cs : List Command) (text : List ℕ) (end : End) → IsReplay (naming_of_parts p.system) is.flat.flat cs text end
       → IsReplay (naming_of w.source.declarations) w.source.system cs text end) (e : job.command ≡ Replay) where
     said : (text : List ℕ) (end : End)
-        → IsReplay (naming_of_parts p.system) is.flat.flat (map (command_of p.system) p.commands.items) text end
+        → IsReplay (naming_of_parts p.system) is.flat.flat (map (command_of p.system) p.request.commands.items) text end
         → Tells job w text (status_at end)
     said text end h =
         replay e
-        (subst (λ (z : List Command). IsReplay (naming_of w.source.declarations) w.source.system z text end) (sym is.commands.are)
-        (there (map (command_of p.system) p.commands.items) text end h))
+        (subst (λ (z : List Command). IsReplay (naming_of w.source.declarations) w.source.system z text end) (sym is.requested.commands.are)
+        (there (map (command_of p.system) p.request.commands.items) text end h))
 
     pub replayed : {old new : SinkState} (s : Status) (r : Result End ReplayFault) → s ≡ status_replayed r
-        → AnswersReplay (naming_of_parts p.system) is.flat.flat (map (command_of p.system) p.commands.items) old new r
+        → AnswersReplay (naming_of_parts p.system) is.flat.flat (map (command_of p.system) p.request.commands.items) old new r
         → IsWritten (Tells job w) old new s
     replayed {old} {new} s r i h = subst (λ (z : Status). IsWritten (Tells job w) old new z) (sym i) (go r h)
       where
         go : (r : Result End ReplayFault)
-            → AnswersReplay (naming_of_parts p.system) is.flat.flat (map (command_of p.system) p.commands.items) old new r
+            → AnswersReplay (naming_of_parts p.system) is.flat.flat (map (command_of p.system) p.request.commands.items) old new r
             → IsWritten (Tells job w) old new (status_replayed r)
         go r (replays.whole {text = text} {end = end} h a k) = whole (said text end h) a
         go r (replays.write {text = text} {end = end} h c k) = cut (said text end h) c k

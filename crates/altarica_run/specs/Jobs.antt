@@ -4,24 +4,16 @@ use Rattle.std.specs.Prelude.{◌≡◌, ℕ, Bool, true, false, List, Result, O
 use Rattle.run_words.specs.Jobs.{IsJob}
 use Rattle.run_words.specs.declared.jobs.Job.{Job}
 use Rattle.run_words.specs.declared.verbs.Verb.{Verb}
-use Rattle.run_words.specs.declared.verbs.Verb.TheVariants.{Check, Flat, Replay, Fragment, Equations, Cuts, Make}
-use Rattle.altarica_run.specs.declared.jobs.Asked.{Asked}
-use Rattle.altarica_run.specs.declared.jobs.Task.{Task}
-use Rattle.altarica_run.specs.declared.jobs.Task.TheVariants as task
+use Rattle.run_words.specs.declared.verbs.Verb.TheVariants.{Make, CheckCuts, Modules}
 use Rattle.altarica_run.specs.declared.refusals.Refusal.TheVariants.{Usage}
 use Rattle.altarica_run.specs.declared.stops.Stop.{Stop}
 use Rattle.altarica_run.specs.declared.stops.Stop.TheVariants.{Refused, Memory}
 
 -- the commands that are built
 abbrev pub is_built : Verb → Bool
-is_built Check = true
-is_built Flat = true
-is_built Replay = true
-is_built Fragment = true
-is_built Equations = true
-is_built Cuts = true
-is_built Make = true
-is_built _ = false
+is_built CheckCuts = false
+is_built Modules = false
+is_built _ = true
 
 -- the words give this job, whose command is built
 pub record IsBuiltJob (words : List (List ℕ)) (job : Job) : Type 0 where
@@ -32,23 +24,13 @@ pub record IsBuiltJob (words : List (List ℕ)) (job : Job) : Type 0 where
 abbrev pub IsNoJob : List (List ℕ) → Type 0
 IsNoJob words = (job : Job) → IsBuiltJob words job → ⊥
 
--- the command of a task
-abbrev pub verb_of : Task → Verb
-verb_of task.Check = Check
-verb_of task.Flat = Flat
-verb_of task.Replay = Replay
-verb_of task.Fragment = Fragment
-verb_of task.Equations = Equations
-verb_of task.Cuts = Cuts
-verb_of task.Make = Make
-
 -- the command makes its model; those of the others are files
 abbrev pub makes_model : Verb → Bool
 makes_model Make = true
 makes_model _ = false
 
--- what the reading of words answers: the job with its task, or that there is none, or want of memory
-abbrev pub AnswersJob : List (List ℕ) → Result Asked Stop → Type 0
-AnswersJob words (Ok a) = IsBuiltJob words a.job × (a.job.command ≡ verb_of a.task)
+-- what the reading of words answers: the job, or that there is none, or want of memory
+abbrev pub AnswersJob : List (List ℕ) → Result Job Stop → Type 0
+AnswersJob words (Ok job) = IsBuiltJob words job
 AnswersJob words (Err (Refused r)) = (r ≡ Usage) × IsNoJob words
 AnswersJob words (Err Memory) = Unit {0}

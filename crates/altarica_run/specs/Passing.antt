@@ -2,7 +2,7 @@
 use Rattle.std.specs.Prelude.{◌≡◌, ◌<◌, ◌≤◌, ℕ, Bool, true, false, List, [], ◌∷◌, Option, Some, None, Result, Ok, Err, map, length, slice_get, Vec}
 use Rattle.std.specs.Global.{Global}
 use Rattle.ar_base.specs.Counts.{limit_of}
-use Rattle.ar_base.specs.declared.counts.Count.TheVariants.{Nesting, ScriptBytes, Gates}
+use Rattle.ar_base.specs.declared.counts.Count.TheVariants.{Nesting, ScriptBytes, Gates, CutLines}
 use Rattle.ar_base.specs.declared.faults.RuleFault.{RuleFault}
 use Rattle.ar_base.specs.declared.faults.RuleFault.TheVariants as rules
 use Rattle.ar_base.specs.Numbers.{EventId}
@@ -20,12 +20,14 @@ use Rattle.event_lists.specs.declared.reading.ListFault.{ListFault}
 use Rattle.event_lists.specs.declared.reading.ListFault.TheVariants as list
 use Rattle.forest_text.specs.Printed.{edge_count}
 use Rattle.gts_core.specs.View.{Views}
+use Rattle.gts_core.specs.declared.bound.Chain.{Chain}
 use Rattle.gts_core.specs.declared.system.GtsParts.{GtsParts}
 use Rattle.gts_flatten.specs.Elaborating.{Elaborated}
 use Rattle.gts_flatten.specs.Flat.{IsFlat, naming_of_parts}
 use Rattle.mode_forests.specs.Views.{trees_of, number_in}
 use Rattle.mode_forests.specs.Ways.{OwnTheirWays}
 use Rattle.mode_forests.specs.declared.forests.Forest.{Forest}
+use Rattle.replayer.specs.CutLists.{CutLine, CutList, cut_of, HaveKnownWays}
 use Rattle.replayer.specs.Flat.{command_of, AreFirable, IsOfTree}
 use Rattle.replayer.specs.Scripts.{BadLine, Commands}
 use Rattle.replayer.specs.declared.commands.Command.{Command}
@@ -33,6 +35,7 @@ use Rattle.replayer.specs.declared.commands.ScriptFault.{ScriptFault}
 use Rattle.replayer.specs.declared.commands.ScriptFault.TheVariants as script
 use Rattle.run_words.specs.declared.jobs.Job.{Job}
 use Rattle.run_words.specs.declared.verbs.Verb.{Verb}
+use Rattle.run_words.specs.declared.verbs.Verb.TheVariants.{Replay, Explain, CheckCuts}
 use Rattle.run_words.specs.declared.jobs.JobFault.{JobFault}
 use Rattle.run_words.specs.declared.jobs.JobFault.TheVariants as words
 use Rattle.tree_equations.specs.Gives.{AtObserver}
@@ -44,15 +47,15 @@ use Rattle.wanted_values.specs.declared.wanting.Wanted.{Wanted}
 use Rattle.wanted_values.specs.declared.wanting.WantedFault.{WantedFault}
 use Rattle.wanted_values.specs.declared.wanting.WantedFault.TheVariants as wanted
 use Rattle.altarica_run.specs.Files.{files_of, Loads}
-use Rattle.altarica_run.specs.Jobs.{IsBuiltJob, IsNoJob, verb_of}
+use Rattle.altarica_run.specs.Jobs.{is_built, IsBuiltJob, IsNoJob}
 use Rattle.altarica_run.specs.Loading.{script_texts}
-use Rattle.altarica_run.specs.Stages.{Ready, line_refused, is_static, has_table, IsTableOf, Passes}
+use Rattle.altarica_run.specs.Stages.{Ready, line_refused, cut_refused, is_static, has_table, IsTableOf, Passes}
 use Rattle.altarica_run.specs.declared.refusals.FileKind.{FileKind}
 use Rattle.altarica_run.specs.declared.refusals.Refusal.{Refusal}
-use Rattle.altarica_run.specs.declared.refusals.Refusal.TheVariants.{Usage, NotRead, Size, Syntax, Rule, NoCommand, NeedsWay, NoEvent, NoDropped, NoObserver, NoValue}
+use Rattle.altarica_run.specs.declared.refusals.Refusal.TheVariants.{Usage, NotRead, Size, Syntax, Rule, NoCommand, NoCut, NeedsWay, NoEvent, NoDropped, NoObserver, NoValue}
 use Rattle.altarica_run.specs.declared.stages.Flattened.{Flattened}
 use Rattle.altarica_run.specs.declared.stages.Prepared.{Prepared}
-use Rattle.altarica_run.specs.declared.stages.Request.{Request}
+use Rattle.altarica_run.specs.declared.requesting.Request.{Request}
 use Rattle.altarica_run.specs.declared.stops.Stop.{Stop}
 use Rattle.altarica_run.specs.declared.stops.Stop.TheVariants.{Refused, Memory}
 use Rattle.altarica_run.specs.declared.tabling.GateTable.{GateTable}
@@ -79,6 +82,12 @@ stop_of_script (script.Line n) = Refused (NoCommand n)
 stop_of_script (script.Which n) = Refused (NeedsWay n)
 stop_of_script (script.Unknown n) = Refused (NoEvent n)
 stop_of_script script.Memory = Memory
+
+abbrev pub stop_of_cuts : ScriptFault → Stop
+stop_of_cuts (script.Line n) = Refused (NoCut n)
+stop_of_cuts (script.Which n) = Refused (NeedsWay n)
+stop_of_cuts (script.Unknown n) = Refused (NoEvent n)
+stop_of_cuts script.Memory = Memory
 
 abbrev pub stop_of_list : ListFault → Stop
 stop_of_list list.NoEvent = Refused NoDropped
@@ -107,6 +116,20 @@ IsStageOf stands stage answer = IsStage stop_told stands stage answer
 -- the tree and the flat system are those of the source
 abbrev pub IsFlattened : Elaborated → Flattened → Type 0
 IsFlattened x f = IsOfTree x f.tree f.system
+
+-- The second file
+
+-- the command reads a second file, a script or a list
+abbrev pub has_second : Verb → Bool
+has_second Replay = true
+has_second Explain = true
+has_second CheckCuts = true
+has_second _ = false
+
+-- what is given, where it is asked for
+abbrev pub where_asked : {A : Type 0} → Bool → Option A → Option A
+where_asked true given = given
+where_asked false given = None
 
 -- The script
 
@@ -138,6 +161,23 @@ IsSecond false texts script = Unit {0}
 abbrev pub IsThere : {A : Type 0} → Bool → Option A → Type 0
 IsThere {A = A} true given = (a : A) × (given ≡ Some a)
 IsThere false given = given ≡ None
+
+-- The list of cuts
+
+-- the cut lines are these, and their ways are those of the system
+pub record AreLines (p : GtsParts) (cuts : List CutLine) (chains : Vec Chain Global) : Type 0 where
+  pub are : cuts ≡ map (cut_of p) chains.items
+  pub known : HaveKnownWays p chains.items
+
+-- the cut lines of the list where there is one, none elsewhere, or the first bad line, or that there are too many
+pub data ReadsCuts (list : Option (Vec ℕ Global)) (x : Elaborated) : Result (List CutLine) Refusal → Type 0 where
+  no_cuts : list ≡ None → ReadsCuts list x (Ok [])
+  lists : {cuts : List CutLine} (bytes : Vec ℕ Global) → list ≡ Some bytes → CutList bytes.items x (Ok cuts)
+      → length cuts ≤ limit_of CutLines → ReadsCuts list x (Ok cuts)
+  bad_line : {l : BadLine} (bytes : Vec ℕ Global) → list ≡ Some bytes → CutList bytes.items x (Err l)
+      → ReadsCuts list x (Err (cut_refused l.why l.number))
+  too_many : {cuts : List CutLine} (bytes : Vec ℕ Global) → list ≡ Some bytes → CutList bytes.items x (Ok cuts)
+      → limit_of CutLines < length cuts → ReadsCuts list x (Err (Size CutLines))
 
 -- The dropped events
 
@@ -174,10 +214,32 @@ pub record AreWanted (p : GtsParts) (asked given : Option Wanted) : Type 0 where
   pub are : asked ≡ given
   pub inside : HasObserver p given
 
+-- The observer to explain
+
+-- the observer that the path names where there is a path, none elsewhere, or that it names none
+pub data ReadsShown (path : Option (List ℕ)) (x : Elaborated) : Result (Option ℕ) Refusal → Type 0 where
+  no_path : path ≡ None → ReadsShown path x (Ok None)
+  shows : {text : List ℕ} {n : ℕ} → path ≡ Some text → wanting.NamesObserver x text n → ReadsShown path x (Ok (Some n))
+  shows_none : {text : List ℕ} → path ≡ Some text → wanting.NamesNone x text → ReadsShown path x (Err NoObserver)
+
+-- the observer, where there is one, is one of the system's
+abbrev pub IsKnown : GtsParts → Option ℕ → Type 0
+IsKnown p None = Unit {0}
+IsKnown p (Some n) = n < length p.observers.items
+
+-- the observer is this one, and the system has it
+pub record IsShown (p : GtsParts) (asked given : Option ℕ) : Type 0 where
+  pub are : asked ≡ given
+  pub inside : IsKnown p given
+
+-- The request
+
 -- what is requested is what stands ready of the source for the command
 pub record IsRequested (command : Verb) (x : Elaborated) (p : GtsParts) (w : Ready) (request : Request) : Type 0 where
   pub source : w.source ≡ x
   pub commands : AreCommands p w.commands request.commands
+  pub lines : AreLines p w.lines request.chains
+  pub shown : IsShown p w.shown request.shown
   pub dropped : AreDropped p w.dropped request.dropped.items
   pub wanted : AreWanted p w.wanted request.wanted
   pub there : IsThere (has_table command) request.wanted
@@ -220,9 +282,10 @@ pub record HasTable (v : Verb) (p : GtsParts) (forest : Forest) (w : Ready) (t :
 
 -- what is prepared is what stands ready for the job
 pub record IsReady (job : Job) (w : Ready) (p : Prepared) : Type 0 where
-  pub command : job.command ≡ verb_of p.task
+  pub command : job.command ≡ p.command
+  pub built : is_built job.command ≡ true
   pub flat : IsFlat w.source p.system
-  pub commands : AreCommands p.system w.commands p.commands
+  pub requested : IsRequested job.command w.source p.system w p.request
   pub forest : HasForest job.command p.system w.dropped p.forest
   pub table : HasTable job.command p.system p.forest w p.table
   pub nodes : p.nodes ≡ job.nodes

@@ -7,7 +7,7 @@ use Rattle.ar_base.specs.declared.counts.Count.TheVariants.{ModelBytes, ScriptBy
 use Rattle.ar_base.specs.declared.places.Place.{Place}
 use Rattle.altarica_run.specs.declared.refusals.FileKind.TheVariants.{Model, Script}
 use Rattle.altarica_run.specs.declared.refusals.Refusal.{Refusal}
-use Rattle.altarica_run.specs.declared.refusals.Refusal.TheVariants.{Usage, NotRead, Size, Syntax, Rule, NoCommand, NeedsWay, NoEvent, NoDropped, NoObserver, NoValue, Outside}
+use Rattle.altarica_run.specs.declared.refusals.Refusal.TheVariants.{Usage, NotRead, Size, Syntax, Rule, NoCommand, NoCut, NeedsWay, NoEvent, NoDropped, NoObserver, NoValue, Outside}
 use Rattle.altarica_run.specs.declared.status.Status.{Status}
 use Rattle.altarica_run.specs.declared.status.Status.TheVariants as status
 
@@ -41,6 +41,7 @@ line_of (Size count) = line (codes "size: " ++ (count_text count ++ (codes " " +
 line_of (Syntax place) = line (codes "syntax: " ++ place_text place)
 line_of (Rule rule place) = line (codes "rule: L" ++ (decimal rule ++ (codes " at " ++ place_text place)))
 line_of (NoCommand n) = line (codes "script: line " ++ (decimal n ++ codes " is no command"))
+line_of (NoCut n) = line (codes "script: line " ++ (decimal n ++ codes " is no cut"))
 line_of (NeedsWay n) = line (codes "script: line " ++ (decimal n ++ codes " needs a way"))
 line_of (NoEvent n) = line (codes "script: line " ++ (decimal n ++ codes " names no event"))
 line_of NoDropped = line (codes "script: no event")
@@ -56,6 +57,7 @@ status_of (Size count) = status.Size
 status_of (Syntax place) = status.Syntax
 status_of (Rule rule place) = status.Rule
 status_of (NoCommand n) = status.Script
+status_of (NoCut n) = status.Script
 status_of (NeedsWay n) = status.Script
 status_of (NoEvent n) = status.Script
 status_of NoDropped = status.Script

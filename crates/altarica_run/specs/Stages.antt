@@ -3,7 +3,7 @@ use Rattle.std.specs.Prelude.{◌≡◌, ◌<◌, ◌≤◌, ℕ, Bool, true, fa
 use Rattle.ar_base.specs.Counts.{limit_of}
 use Rattle.ar_base.specs.Stages.{Then, Where}
 use Rattle.ar_base.specs.Texts.{text_at}
-use Rattle.ar_base.specs.declared.counts.Count.TheVariants.{Gates}
+use Rattle.ar_base.specs.declared.counts.Count.TheVariants.{Gates, CutLines}
 use Rattle.ar_firing.specs.Rules.{Rule, number_of, Spot, AtEvent, AtUnit, AtVariable, AtObserver, AtWhole, IsFirstBroken, KeepsAll}
 use Rattle.ar_io.specs.Outside.{Told}
 use Rattle.ar_meaning.specs.Runs.{Command}
@@ -13,35 +13,40 @@ use Rattle.gts_flatten.specs.Elaborating.{Elaborated}
 use Rattle.gts_flatten.specs.Flat.{naming_of}
 use Rattle.hierarchy.specs.Listing.{variables}
 use Rattle.hierarchy.specs.Paths.{unit_path}
+use Rattle.replayer.specs.CutLists.{CutLine, CutList}
 use Rattle.replayer.specs.Scripts.{BadLine, Commands, Why, IsNoCommand, LacksWay, NamesNoEvent}
 use Rattle.run_words.specs.declared.jobs.Job.{Job}
 use Rattle.run_words.specs.declared.verbs.Verb.{Verb}
-use Rattle.run_words.specs.declared.verbs.Verb.TheVariants.{Replay, Fragment, Equations, Cuts, Make, CheckCuts, Modules}
+use Rattle.run_words.specs.declared.verbs.Verb.TheVariants.{Replay, Fragment, Equations, Cuts, Make, Explain, CheckCuts, Modules}
 use Rattle.table_text.specs.Texts.{IsTableFor}
-use Rattle.wanted_values.specs.Wanting.{IsWanted, NamesNone, WantsNone}
+use Rattle.wanted_values.specs.Wanting.{IsWanted, NamesObserver, NamesNone, WantsNone}
 use Rattle.wanted_values.specs.declared.wanting.Wanted.{Wanted}
 use Rattle.altarica_run.specs.Elaborates.{Elaborates}
 use Rattle.altarica_run.specs.Files.{files_of, Loaded, IsText}
 use Rattle.altarica_run.specs.declared.refusals.Refusal.{Refusal}
-use Rattle.altarica_run.specs.declared.refusals.Refusal.TheVariants.{NoCommand, NeedsWay, NoEvent, NoDropped, NoObserver, NoValue, Size, Outside}
+use Rattle.altarica_run.specs.declared.refusals.Refusal.TheVariants.{NoCommand, NoCut, NeedsWay, NoEvent, NoDropped, NoObserver, NoValue, Size, Outside}
 
--- what stands ready: the source's system over paths with its names, the commands of the script, the events that are
--- dropped, and the observer and the value that are asked for
+-- what stands ready: the source's system over paths with its names, the commands of the script, the cut lines of the
+-- list, the events that are dropped, the observer and the value that are asked for, and the observer alone whose cone is
+-- to be explained
 pub record Ready : Type 0 where
   pub source : Elaborated
   pub commands : List Command
+  pub lines : List CutLine
   pub dropped : List ℕ
   pub wanted : Option Wanted
+  pub shown : Option ℕ
 
 -- the system alone
 abbrev pub bare : Elaborated → Ready
-bare x = record { source = x; commands = []; dropped = []; wanted = None }
+bare x = record { source = x; commands = []; lines = []; dropped = []; wanted = None; shown = None }
 
 -- The script
 
 -- the command reads a script
 abbrev pub has_script : Verb → Bool
 has_script Replay = true
+has_script Explain = true
 has_script _ = false
 
 -- the refusal of a line of the script
@@ -56,6 +61,30 @@ pub data Scripted (texts : List (List ℕ)) (w : Ready) : Result Ready Refusal �
       → Scripted texts w (Ok (record w { commands = cs }))
   bad : {model script : List ℕ} {l : BadLine} → texts ≡ model ∷ script ∷ [] → Commands script w.source (Err l)
       → Scripted texts w (Err (line_refused l.why l.number))
+
+-- The list of cuts
+
+-- the command reads a list of cuts
+abbrev pub has_list : Verb → Bool
+has_list CheckCuts = true
+has_list _ = false
+
+-- the refusal of a line of the list
+abbrev pub cut_refused : Why → ℕ → Refusal
+cut_refused IsNoCommand n = NoCut n
+cut_refused LacksWay n = NeedsWay n
+cut_refused NamesNoEvent n = NoEvent n
+
+-- the cut lines of the second file, or its first bad line, or that there are more than there may be
+pub data ListsCuts (texts : List (List ℕ)) (w : Ready) : Result Ready Refusal → Type 0 where
+  lists : {model list : List ℕ} {cuts : List CutLine} → texts ≡ model ∷ list ∷ [] → CutList list w.source (Ok cuts)
+      → length cuts ≤ limit_of CutLines
+      → ListsCuts texts w (Ok (record w { lines = cuts }))
+  bad_line : {model list : List ℕ} {l : BadLine} → texts ≡ model ∷ list ∷ [] → CutList list w.source (Err l)
+      → ListsCuts texts w (Err (cut_refused l.why l.number))
+  exceeds_lines : {model list : List ℕ} {cuts : List CutLine} → texts ≡ model ∷ list ∷ [] → CutList list w.source (Ok cuts)
+      → limit_of CutLines < length cuts
+      → ListsCuts texts w (Err (Size CutLines))
 
 -- The dropped events
 
@@ -88,19 +117,42 @@ has_table CheckCuts = true
 has_table Modules = true
 has_table _ = false
 
--- the path of the observer that is asked for: that of the words, or for `make` that of the generated models
+-- the path of the observer whose value is asked for: that of the words, or for `make` that of the generated models; an
+-- explanation asks for no value
 abbrev pub path_asked : Verb → Option (List ℕ) → Option (List ℕ)
 path_asked Make given = Some (codes "lost")
+path_asked Explain given = None
 path_asked _ given = given
 
 abbrev pub observer_asked : Job → Option (List ℕ)
 observer_asked job = path_asked job.command job.observer
 
--- what the words, the script and the command ask of the system
+-- The observer to explain
+
+-- the command explains the values of flows
+abbrev pub explains : Verb → Bool
+explains Explain = true
+explains _ = false
+
+-- the observer that the path names, where there is one, or that it names none
+pub data Showing (observer : Option (List ℕ)) (w : Ready) : Result Ready Refusal → Type 0 where
+  no_path : observer ≡ None → Showing observer w (Ok w)
+  shows : {path : List ℕ} {n : ℕ} → observer ≡ Some path → NamesObserver w.source path n
+      → Showing observer w (Ok (record w { shown = Some n }))
+  shows_none : {path : List ℕ} → observer ≡ Some path → NamesNone w.source path
+      → Showing observer w (Err NoObserver)
+
+-- what the words ask for, once the files are read
+abbrev pub AsksByWords : Job → Ready → Result Ready Refusal → Type 0
+AsksByWords job =
+    Then (Drops job.dropped)
+    (Then (Where (has_table job.command) (Wanting (observer_asked job) job.value)) (Where (explains job.command) (Showing job.observer)))
+
+-- what the words, the script, the list and the command ask of the system
 abbrev pub Asks : Job → List (List ℕ) → Elaborated → Result Ready Refusal → Type 0
 Asks job texts x =
     Then (Where (has_script job.command) (Scripted texts))
-    (Then (Drops job.dropped) (Where (has_table job.command) (Wanting (observer_asked job) job.value))) (bare x)
+    (Then (Where (has_list job.command) (ListsCuts texts)) (AsksByWords job)) (bare x)
 
 -- The static fragment
 
@@ -150,8 +202,6 @@ pub data Tabled (w : Ready) : Result Ready Refusal → Type 0 where
 abbrev pub lists_cuts : Verb → Bool
 lists_cuts Cuts = true
 lists_cuts Make = true
-lists_cuts CheckCuts = true
-lists_cuts Modules = true
 lists_cuts _ = false
 
 -- The stages

@@ -29,6 +29,12 @@ status_printed (Ok ends) = ends
 status_printed (Err print.Write) = Write
 status_printed (Err print.Memory) = Memory
 
+-- the status of an explanation that was broken off, or was not
+abbrev pub status_explained : Result Status ReplayFault → Status
+status_explained (Ok ends) = ends
+status_explained (Err fault.Write) = Write
+status_explained (Err fault.Memory) = Memory
+
 -- one of these texts was written whole, with its status; or first bytes of one, where the sink's count rose or memory
 -- was refused; or nothing, where memory was refused before
 pub data IsWritten (told : List ℕ → Status → Type 0) (old new : SinkState) : Status → Type 0 where

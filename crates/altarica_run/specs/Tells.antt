@@ -1,5 +1,5 @@
 -- What each command writes of a job that has passed its stages.
-use Rattle.std.specs.Prelude.{◌≡◌, ℕ, ◌++◌, true, List, [], Some, length, reverse, codes, decimal}
+use Rattle.std.specs.Prelude.{◌≡◌, ℕ, ◌++◌, true, List, [], Option, Some, None, length, reverse, codes, decimal}
 use Rattle.ar_base.specs.Lists.{Stands}
 use Rattle.ar_base.specs.Texts.{line}
 use Rattle.ar_firing.specs.Cuts.{AreEvents, Cut, IsConflictFree, Reaches}
@@ -20,11 +20,13 @@ use Rattle.gts_flatten.specs.Flat.{IsFlat, naming_of}
 use Rattle.hierarchy.specs.Listing.{variables, events, observers}
 use Rattle.hierarchy.specs.Units.{Thing}
 use Rattle.min_cuts.specs.Sizes.{count, largest}
+use Rattle.reason_text.specs.Texts.{IsReasonText}
 use Rattle.replayer.specs.Replays.{IsReplay}
+use Rattle.replayer.specs.Settles.{Settles, IsFaultLine}
 use Rattle.replayer.specs.declared.replaying.End.{End}
 use Rattle.replayer.specs.declared.replaying.End.TheVariants as end
 use Rattle.run_words.specs.declared.jobs.Job.{Job}
-use Rattle.run_words.specs.declared.verbs.Verb.TheVariants.{Check, Flat, Replay, Fragment, Equations, Cuts, Make}
+use Rattle.run_words.specs.declared.verbs.Verb.TheVariants.{Check, Flat, Replay, Fragment, Equations, Cuts, Make, Explain}
 use Rattle.source_meaning.specs.Systems.{Declarations}
 use Rattle.table_text.specs.Texts.{IsTableText}
 use Rattle.typed_expr.specs.Yields.{Yields}
@@ -79,6 +81,20 @@ pub record IsCutsText (w : Ready) (limit : ℕ) (text : List ℕ) : Type 0 where
   pub replay : (k : ℕ) (set : List ℕ) (ls : List Label) → Stands is_text.sets k set → Stands is_text.lines k ls
       → Replays w.source.system has.observed has.wanted.value set ls
 
+-- the observer of the number, where there is one
+abbrev pub IsObserverOf : {V : Type 0} → System V → Option ℕ → Option (Expr V) → Type 0
+IsObserverOf sys None observer = observer ≡ None
+IsObserverOf {V = V} sys (Some n) observer = (one : Expr V) × (observer ≡ Some one) × Stands sys.observers n one
+
+-- the text of why the flows have their values where the run of the script ends: all flows, or those of the cone of the
+-- observer that is asked for
+pub record IsExplained (w : Ready) (text : List ℕ) : Type 0 where
+  pub values : List Value
+  pub settles : Settles w.source.system w.commands values
+  pub observer : Option (Expr Thing)
+  pub is_observer : IsObserverOf w.source.system w.shown observer
+  pub is_text : IsReasonText (naming_of w.source.declarations) w.source.system.net values observer text
+
 -- `make N`, `units U`, `events E`, `cuts K` and `largest L`, each on a line
 abbrev pub make_lines : ℕ → ℕ → ℕ → ℕ → ℕ → List ℕ
 make_lines n u e k l =
@@ -128,6 +144,9 @@ pub data Tells (job : Job) (w : Ready) : List ℕ → Status → Type 0 where
       w.source.system w.dropped wanted.observer wanted.value text → Tells job w text Done
   cuts : {text : List ℕ} → job.command ≡ Cuts → IsCutsText w job.nodes text → Tells job w text Done
   make : {text : List ℕ} → job.command ≡ Make → IsMakeText w job.number job.nodes text → Tells job w text Done
+  explains : {text : List ℕ} → job.command ≡ Explain → IsExplained w text → Tells job w text Done
+  unsettled : {text : List ℕ} → job.command ≡ Explain
+      → IsFaultLine (naming_of w.source.declarations) w.source.system w.commands text → Tells job w text Fault
   conflict : {text : List ℕ} → lists_cuts job.command ≡ true
       → IsConflictText (naming_of w.source.declarations) w.source.system w.dropped text → Tells job w text Fault
   nodes : lists_cuts job.command ≡ true → MayNeedMore w job.nodes → Tells job w (nodes_line job.nodes) Nodes

@@ -7,11 +7,9 @@ ghost use Rattle.event_lists.specs.Naming.{AreEventsOf};
 ghost use Rattle.gts_flatten.specs.Elaborating.{Elaborated};
 ghost use Rattle.gts_flatten.specs.Flat.{IsFlat};
 ghost use Rattle.altarica_run.specs.Passing.{IsStageOf, IsFlattened, AreDropped, ReadsList, HasForest};
-ghost use Rattle.altarica_run.specs.Jobs.{verb_of};
 ghost use Rattle.altarica_run.specs.Stages.{Ready, Static, is_static};
-ghost use Rattle.run_words.specs.declared.verbs.Verb.{Verb};
+ghost use Rattle.run_words.specs.declared.verbs.Verb.{Verb as Command};
 
-use crate::jobs::Task;
 use crate::refusals::Refusal;
 use crate::spots::path_of;
 use crate::stages::Flattened;
@@ -21,6 +19,7 @@ use event_lists::read_events;
 use forest_text::laws::forests_of_the_source;
 use gts_core::Gts;
 use mode_forests::Forest;
+use run_words::Verb;
 use static_fragment::{FragmentFault, recognise};
 use std::alloc::Global;
 
@@ -48,29 +47,38 @@ pub fn dropped_of(
 /// The trees of modes of the system without the dropped events, where the command asks for them.
 pub fn forest_of(
     alloc: Global,
-    task: Task,
+    command: Verb,
     system: &Gts,
     dropped: &[EventId],
 ) -> Result<Forest, Stop>
     requires { AreEventsOf system.now dropped.now }
     ensures { (w : Ready) → IsFlat w.source system.now → w.dropped ≡ map (λ (e : EventNumber). e.n) dropped.now
-        → IsStageOf (λ (v : Ready). HasForest (verb_of task) system.now v.dropped)
-        (Where (is_static (verb_of task)) Static w) result }
+        → IsStageOf (λ (v : Ready). HasForest command system.now v.dropped)
+        (Where (is_static command) Static w) result }
 {
-    match task {
-        Task::Check | Task::Flat | Task::Replay => Ok(Forest {
-            trees: Vec::new(alloc),
-        }),
-        Task::Fragment | Task::Equations | Task::Cuts | Task::Make => {
-            recognised(alloc, system, dropped)
-        }
+    if is_static(command) {
+        return recognised(alloc, system, dropped);
+    }
+    Ok(Forest {
+        trees: Vec::new(alloc),
+    })
+}
+
+// Whether a command is for systems of the static fragment.
+fn is_static(command: Verb) -> bool
+    ensures { result ≡ is_static command }
+{
+    match command {
+        Verb::Check | Verb::Flat | Verb::Replay | Verb::Explain => false,
+        Verb::Fragment | Verb::Equations | Verb::Cuts => true,
+        Verb::Make | Verb::CheckCuts | Verb::Modules => true,
     }
 }
 
 // The trees of modes of a system, or the rule that it breaks.
 fn recognised(alloc: Global, system: &Gts, dropped: &[EventId]) -> Result<Forest, Stop>
     requires { AreEventsOf system.now dropped.now }
-    ensures { (command : Verb) (w : Ready) → IsFlat w.source system.now
+    ensures { (command : Command) (w : Ready) → IsFlat w.source system.now
         → w.dropped ≡ map (λ (e : EventNumber). e.n) dropped.now
         → IsStageOf (λ (v : Ready). HasForest command system.now v.dropped) (Static w) result }
 {

@@ -12,6 +12,7 @@ ghost use Rattle.altarica_run.specs.Stages.{Ready, lists_cuts};
 ghost use Rattle.altarica_run.specs.Telling.{IsWritten, status_printed};
 ghost use Rattle.altarica_run.specs.Tells.{nodes_line, Tells};
 
+use crate::jobs::makes_model;
 use crate::making::made;
 use crate::pieces::{put, put_number};
 use crate::stages::Prepared;
@@ -29,7 +30,7 @@ use std::alloc::Global;
 use table_meaning::{ordered_table, table_agrees};
 use zdd_nodes::{NodeFault, room_for_families, stored_sections};
 
-/// Writes the cuts, or for `make` how many there are; or the first conflict where there is one; or
+/// Writes the cuts, or what the command tells of them; or the first conflict where there is one; or
 /// that the diagrams need more nodes than they may have.
 pub(crate) fn cuts<K: Sink>(
     alloc: Global,
@@ -76,7 +77,7 @@ fn listed<K: Sink>(
     match drawn {
         Drawn::Conflicts(family) => conflict(alloc, prepared, family, out),
         Drawn::Cuts(family) => {
-            if prepared.task.makes_model() {
+            if makes_model(prepared.command) {
                 return made(alloc, prepared, &family, out);
             }
             listing(alloc, prepared, family, out)

@@ -3,10 +3,10 @@
 ghost use Rattle.std.specs.Prelude.{◌≡◌, ◌≤◌, ℕ, true, false, List, Option};
 ghost use Rattle.ar_io.specs.Outside.{Rose};
 ghost use Rattle.altarica_run.specs.Files.{files_where, script_files};
-ghost use Rattle.altarica_run.specs.Jobs.{IsBuiltJob, makes_model, verb_of};
+ghost use Rattle.altarica_run.specs.Jobs.{IsBuiltJob, makes_model};
 ghost use Rattle.altarica_run.specs.Loading.{AnswersFile, AnswersFiles, AnswersTexts, texts_where, script_texts};
 
-use crate::jobs::Asked;
+use crate::jobs::makes_model;
 use crate::refusals::{FileKind, Refusal};
 use crate::stops::Stop;
 use ar_base::{Count, Text};
@@ -26,23 +26,22 @@ pub struct Texts {
 
 /// The texts of a job: those of its files, the model first; the model of `make` is made, and then
 /// nothing is loaded.
-pub fn job_texts<H: Shelf>(alloc: Global, shelf: &mut H, asked: &Asked) -> Result<Texts, Stop>
-    requires job { (words : List (List ℕ)) × IsBuiltJob words asked.now.job }
-    requires command { asked.now.job.command ≡ verb_of asked.now.task }
+pub fn job_texts<H: Shelf>(alloc: Global, shelf: &mut H, job: &Job) -> Result<Texts, Stop>
+    requires { (words : List (List ℕ)) × IsBuiltJob words job.now }
     ensures { AnswersTexts (H.holds shelf.old)
         (λ name. Rose (H.faults shelf.old name) (H.faults shelf.new name))
-        asked.now.job result }
+        job.now result }
 {
     // A made model is short.
     generated_models_are_short();
-    if asked.task.makes_model() {
-        let model = make_text(alloc, asked.job.number)?;
+    if makes_model(job.command) {
+        let model = make_text(alloc, job.number)?;
         return Ok(Texts {
             model,
             script: None,
         });
     }
-    load_all(alloc, shelf, &asked.job)
+    load_all(alloc, shelf, job)
 }
 
 // Loads the files of a job, the model first.

@@ -34,9 +34,11 @@ pub enum Refusal {
     Rule(u8, Place),
     /// The line of the script, from 1, is no command.
     NoCommand(u32),
-    /// The line of the script, from 1, names an event with several ways and not which.
+    /// The line of the list, from 1, is no cut.
+    NoCut(u32),
+    /// The line of the script or the list, from 1, names an event with several ways and not which.
     NeedsWay(u32),
-    /// The line of the script, from 1, names no event.
+    /// The line of the script or the list, from 1, names no event.
     NoEvent(u32),
     /// A part of the list of dropped events names no event.
     NoDropped,
@@ -63,7 +65,8 @@ impl Refusal {
             Refusal::Size(_) => Status::Size,
             Refusal::Syntax(_) => Status::Syntax,
             Refusal::Rule(_, _) => Status::Rule,
-            Refusal::NoCommand(_) | Refusal::NeedsWay(_) | Refusal::NoEvent(_) => Status::Script,
+            Refusal::NoCommand(_) | Refusal::NoCut(_) => Status::Script,
+            Refusal::NeedsWay(_) | Refusal::NoEvent(_) => Status::Script,
             Refusal::NoDropped | Refusal::NoObserver | Refusal::NoValue => Status::Script,
             Refusal::Outside(_, _) => Status::Outside,
         }
@@ -80,6 +83,7 @@ impl Refusal {
             Refusal::Syntax(place) => put_syntax(out, *place),
             Refusal::Rule(rule, place) => put_rule(out, *rule, *place),
             Refusal::NoCommand(number) => put_script_line(out, *number, " is no command"),
+            Refusal::NoCut(number) => put_script_line(out, *number, " is no cut"),
             Refusal::NeedsWay(number) => put_script_line(out, *number, " needs a way"),
             Refusal::NoEvent(number) => put_script_line(out, *number, " names no event"),
             Refusal::NoDropped => put(out, "script: no event\n"),

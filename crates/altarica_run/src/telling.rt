@@ -7,11 +7,11 @@ ghost use Rattle.run_words.specs.declared.jobs.Job.{Job};
 ghost use Rattle.altarica_run.specs.Passing.{CanBeWritten, IsReady};
 ghost use Rattle.altarica_run.specs.Refusals.{line_of, status_of};
 ghost use Rattle.altarica_run.specs.Stages.{Ready};
-ghost use Rattle.altarica_run.specs.Telling.{IsWritten, status_written, status_replayed, status_printed};
+ghost use Rattle.altarica_run.specs.Telling.{IsWritten, status_written, status_replayed, status_printed, status_explained};
 ghost use Rattle.altarica_run.specs.Tells.{counts_line, Tells};
 
 use crate::cutting::cuts;
-use crate::jobs::Task;
+use crate::explaining::explain;
 use crate::pieces::{put, put_count};
 use crate::refusals::Refusal;
 use crate::stages::Prepared;
@@ -24,26 +24,27 @@ use forest_text::print_forest;
 use gts_core::Gts;
 use replayer::laws::replays_of_the_source;
 use replayer::{End, ReplayFault, replay};
+use run_words::Verb;
 use std::alloc::Global;
 
 /// Writes the text of the job.
 pub fn tell<K: Sink>(alloc: Global, prepared: &Prepared, out: &mut K) -> Status
-    requires commands { AreFirable prepared.now.system prepared.now.commands.items }
+    requires commands { AreFirable prepared.now.system prepared.now.request.commands.items }
     requires forest { CanBeWritten prepared.now.system prepared.now.forest }
     requires ready { (job : Job) × (w : Ready) × IsReady job w prepared.now }
     requires nodes { prepared.now.nodes ≤ 16777216 }
     ensures { (job : Job) (w : Ready) → IsReady job w prepared.now
         → IsWritten (Tells job w) (K.state out.old) (K.state out.new) result }
 {
-    match prepared.task {
-        Task::Check => written(Status::Done, check(&prepared.system, out)),
-        Task::Flat => written(Status::Done, prepared.system.print(out)),
-        Task::Replay => {
+    match prepared.command {
+        Verb::Check => written(Status::Done, check(&prepared.system, out)),
+        Verb::Flat => written(Status::Done, prepared.system.print(out)),
+        Verb::Replay => {
             // The replays of the flat system are those of its source.
             replays_of_the_source();
-            replayed(replay(alloc, &prepared.system, &prepared.commands, out))
+            replayed(replay(alloc, &prepared.system, &prepared.request.commands, out))
         }
-        Task::Fragment => {
+        Verb::Fragment => {
             // The forest of the flat system is that of its source.
             forests_of_the_source();
             written(
@@ -51,11 +52,14 @@ pub fn tell<K: Sink>(alloc: Global, prepared: &Prepared, out: &mut K) -> Status
                 print_forest(&prepared.system, &prepared.forest, out),
             )
         }
-        Task::Equations => {
+        Verb::Equations => {
             let table = &prepared.table;
             written(Status::Done, print(&table.equations, &table.events, out))
         }
-        Task::Cuts | Task::Make => printed(cuts(alloc, prepared, out)),
+        Verb::Explain => explained(explain(alloc, prepared, out)),
+        Verb::Cuts | Verb::Make | Verb::CheckCuts | Verb::Modules => {
+            printed(cuts(alloc, prepared, out))
+        }
     }
 }
 
@@ -120,5 +124,16 @@ fn printed(answer: Result<Status, PrintFault>) -> Status
         Ok(status) => status,
         Err(PrintFault::Write) => Status::Write,
         Err(PrintFault::Memory) => Status::Memory,
+    }
+}
+
+// The status of an explanation that was broken off, or was not.
+fn explained(answer: Result<Status, ReplayFault>) -> Status
+    ensures { result ≡ status_explained answer }
+{
+    match answer {
+        Ok(status) => status,
+        Err(ReplayFault::Write) => Status::Write,
+        Err(ReplayFault::Memory) => Status::Memory,
     }
 }

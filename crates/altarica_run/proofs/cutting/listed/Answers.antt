@@ -5,7 +5,7 @@ use Rattle.gate_diagrams.specs.Answers.{IsAnswer, store_of}
 use Rattle.gate_diagrams.specs.declared.answer.Drawn.{Drawn}
 use Rattle.altarica_run.specs.Jobs.{makes_model}
 use Rattle.altarica_run.specs.Stages.{lists_cuts}
-use Rattle.altarica_run.proofs.CutLemmas.{task_cuts}
+use Rattle.altarica_run.proofs.CutLemmas.{only_cuts}
 use Rattle.altarica_run.proofs.JobLemmas.{makes}
 use Rattle.altarica_run.proofs.cutting.listed.Goals as goal
 
@@ -31,7 +31,7 @@ made-requires-clause-within g c =
 pub listing-requires-clause-ready : goal.listing-requires-clause-ready
 listing-requires-clause-ready g c =
     let r = c.requires.ready in
-    (r.0, r.1, r.2, r.2.command ∙ task_cuts _ (ap lists_cuts (sym r.2.command) ∙ r.3) (sym c.makes_model.ensures ∙ c.if-makes_model.false))
+    (r.0, r.1, r.2, r.2.command ∙ only_cuts _ (ap lists_cuts (sym r.2.command) ∙ r.3) (sym c.makes_model.ensures ∙ c.if-makes_model.false))
 
 pub listing-requires-clause-answer : goal.listing-requires-clause-answer
 listing-requires-clause-answer g c =

@@ -8,7 +8,7 @@ use Rattle.altarica_run.proofs.JobLemmas.{few_nodes}
 use Rattle.altarica_run.proofs.program.altarica.Goals as goal
 
 pub tell-requires-clause-commands : goal.tell-requires-clause-commands
-tell-requires-clause-commands g c = c.in-Ok.ensures.is_ready.commands.firable
+tell-requires-clause-commands g c = c.in-Ok.ensures.is_ready.requested.commands.firable
 
 pub tell-requires-clause-forest : goal.tell-requires-clause-forest
 tell-requires-clause-forest g c = c.in-Ok.ensures.is_ready.forest.written

@@ -10,7 +10,7 @@ use Rattle.altarica_run.proofs.stages.pass.Goals as goal
 pub returns-in_err-flattened : goal.returns-in_err-flattened
 returns-in_err-flattened c =
     let r = err_from_is_err_and c.from_residual.result c.from_residual.ensures.1 in
-    let job = c.args.asked.now.job in
+    let job = c.args.job.now in
     let t = c.args.texts in
     stage_stops stop_told (Elaborates job.main) (Readies job (texts_of job t)) t.model.items IsFlattened
     (IsReady job) _ _ _ r.1 r.2 c.in_err-flattened.ensures
@@ -20,7 +20,7 @@ ready-requires-clause-source c = let f = c.in_ok-flattened.ensures in (f.0, f.2)
 
 pub returns : goal.returns
 returns c =
-    let job = c.args.asked.now.job in
+    let job = c.args.job.now in
     let t = c.args.texts in
     let f = c.in_ok-flattened.ensures in
     stage_passes stop_told (Elaborates job.main) (Readies job (texts_of job t)) t.model.items IsFlattened

@@ -6,12 +6,12 @@ use Rattle.altarica_run.proofs.FileLemmas.{loaded_script, script_loaded}
 use Rattle.altarica_run.proofs.PassLemmas.{script_there, observer_there, words_stop, files_stop, job_passed}
 use Rattle.altarica_run.proofs.stages.prepare.Goals as goal
 
-pub returns-in_err-asked : goal.returns-in_err-asked
-returns-in_err-asked g c =
+pub returns-in_err-job : goal.returns-in_err-job
+returns-in_err-job g c =
     let r = err_from_is_err_and c.from_residual.result c.from_residual.ensures.1 in
     let files = g.H.Shelf.holds c.args.shelf.now in
     let rose : List ℕ → Type 0 = λ name. Rose (g.H.Shelf.faults c.args.shelf.now name) (g.H.Shelf.faults c.args.shelf.now name) in
-    words_stop files rose (bytes_of_all c.args.words.now) _ _ _ r.1 r.2 c.in_err-asked.ensures
+    words_stop files rose (bytes_of_all c.args.words.now) _ _ _ r.1 r.2 c.in_err-job.ensures
 
 pub returns-in_err-texts : goal.returns-in_err-texts
 returns-in_err-texts g c =
@@ -19,10 +19,7 @@ returns-in_err-texts g c =
     let files = g.H.Shelf.holds c.args.shelf.now in
     let rose : List ℕ → Type 0 = λ name. Rose (g.H.Shelf.faults c.args.shelf.now name) (g.H.Shelf.faults c.job_texts.new.shelf name) in
     files_stop files rose
-    (bytes_of_all c.args.words.now) c.in_ok-asked.asked.job c.in_ok-asked.ensures.0 _ _ _ r.1 r.2 c.in_err-texts.ensures
-
-pub pass-requires-clause-command : goal.pass-requires-clause-command
-pass-requires-clause-command g c = c.in_ok-asked.ensures.1
+    (bytes_of_all c.args.words.now) c.in_ok-job.job c.in_ok-job.ensures _ _ _ r.1 r.2 c.in_err-texts.ensures
 
 pub pass-requires-clause-model : goal.pass-requires-clause-model
 pass-requires-clause-model g c = c.in_ok-texts.ensures.short
@@ -31,7 +28,7 @@ pub pass-requires-clause-script : goal.pass-requires-clause-script
 pass-requires-clause-script g c =
     let files = g.H.Shelf.holds c.args.shelf.now in
     let rose : List ℕ → Type 0 = λ name. Rose (g.H.Shelf.faults c.args.shelf.now name) (g.H.Shelf.faults c.job_texts.new.shelf name) in
-    let job = c.in_ok-asked.asked.job in
+    let job = c.in_ok-job.job in
     let rest = script_loaded files rose job c.in_ok-texts.texts c.in_ok-texts.ensures in
     (loaded_script files job.script c.in_ok-texts.texts.script rest).short
 
@@ -39,20 +36,21 @@ pub pass-requires-clause-there : goal.pass-requires-clause-there
 pass-requires-clause-there g c =
     let files = g.H.Shelf.holds c.args.shelf.now in
     let rose : List ℕ → Type 0 = λ name. Rose (g.H.Shelf.faults c.args.shelf.now name) (g.H.Shelf.faults c.job_texts.new.shelf name) in
-    let asked = c.in_ok-asked.asked in
-    let rest = script_loaded files rose asked.job c.in_ok-texts.texts c.in_ok-texts.ensures in
+    let rest = script_loaded files rose c.in_ok-job.job c.in_ok-texts.texts c.in_ok-texts.ensures in
     script_there
-    (bytes_of_all c.args.words.now) asked.job asked.task c.in_ok-texts.texts.script c.in_ok-asked.ensures.0 c.in_ok-asked.ensures.1
-    (loaded_script files asked.job.script c.in_ok-texts.texts.script rest)
+    (bytes_of_all c.args.words.now) c.in_ok-job.job c.in_ok-texts.texts.script c.in_ok-job.ensures
+    (loaded_script files c.in_ok-job.job.script c.in_ok-texts.texts.script rest)
 
 pub pass-requires-clause-observer : goal.pass-requires-clause-observer
 pass-requires-clause-observer g c =
-    let asked = c.in_ok-asked.asked in
-    observer_there (bytes_of_all c.args.words.now) asked.job asked.task c.in_ok-asked.ensures.0 c.in_ok-asked.ensures.1
+    observer_there (bytes_of_all c.args.words.now) c.in_ok-job.job c.in_ok-job.ensures
+
+pub pass-requires-clause-built : goal.pass-requires-clause-built
+pass-requires-clause-built g c = c.in_ok-job.ensures.built
 
 pub returns : goal.returns
 returns g c =
     let files = g.H.Shelf.holds c.args.shelf.now in
     let rose : List ℕ → Type 0 = λ name. Rose (g.H.Shelf.faults c.args.shelf.now name) (g.H.Shelf.faults c.job_texts.new.shelf name) in
     job_passed files rose
-    (bytes_of_all c.args.words.now) c.in_ok-asked.asked.job c.in_ok-asked.ensures.0 c.in_ok-texts.texts c.in_ok-texts.ensures _ c.pass.ensures
+    (bytes_of_all c.args.words.now) c.in_ok-job.job c.in_ok-job.ensures c.in_ok-texts.texts c.in_ok-texts.ensures _ c.pass.ensures

@@ -1,57 +1,57 @@
-use Rattle.std.proofs.Common.{[], ◌∷◌, Ok, Err, sym, subst}
+use Rattle.std.proofs.Common.{[], ◌∷◌, Ok, sym, subst}
 use Rattle.std.proofs.lemmas.Result.{err_from_is_err_and}
 use Rattle.ar_base.proofs.Stages.{stage_stops, stage_passes}
 use Rattle.gts_flatten.specs.Elaborating.{Elaborated}
 use Rattle.gts_flatten.specs.Flat.{IsFlat}
 use Rattle.altarica_run.specs.Loading.{script_texts}
 use Rattle.altarica_run.specs.Passing.{stop_told, IsRequested, IsReady}
-use Rattle.altarica_run.specs.Stages.{Asks, Demands, has_script}
+use Rattle.altarica_run.specs.Passing.{has_second}
+use Rattle.altarica_run.specs.Stages.{Asks, Demands}
 use Rattle.altarica_run.specs.declared.stages.Prepared.{Prepared}
-use Rattle.altarica_run.proofs.ForestLemmas.{forest_at, forest_stops, forest_here, table_trees, table_stops, all_ready}
+use Rattle.altarica_run.proofs.ForestLemmas.{forest_stops, forest_here, table_trees, table_stops, all_ready}
 use Rattle.altarica_run.proofs.PassLemmas.{second_here}
 use Rattle.altarica_run.proofs.stages.ready.Goals as goal
 
 pub returns-in_err-request : goal.returns-in_err-request
 returns-in_err-request c = λ texts x second of.
     let r = err_from_is_err_and c.from_residual.result c.from_residual.ensures.1 in
-    let job = c.args.asked.now.job in
+    let job = c.args.job.now in
     stage_stops stop_told (Asks job texts) (Demands job.command) x
     (IsRequested job.command x c.args.flattened.system) (IsReady job) _ _ _ r.1 r.2 (c.in_err-request.ensures texts x second of)
 
 pub forest_of-requires : goal.forest_of-requires
 forest_of-requires c =
     let source = c.requires.source in
-    let f = c.in_ok-request.ensures ([] ∷ script_texts c.args.script.now) source.0 (second_here (has_script c.args.asked.now.job.command) [] c.args.script.now) source.1 in
+    let f = c.in_ok-request.ensures ([] ∷ script_texts c.args.script.now) source.0 (second_here (has_second c.args.job.now.command) [] c.args.script.now) source.1 in
     rw c.deref.ensures.value f.2.dropped.inside
 
 pub returns-in_err-forest : goal.returns-in_err-forest
 returns-in_err-forest c = λ texts x second of.
     let r = err_from_is_err_and c.from_residual-in_err-forest.result c.from_residual-in_err-forest.ensures.1 in
-    let job = c.args.asked.now.job in
+    let job = c.args.job.now in
     let p = c.args.flattened.system in
     let f = c.in_ok-request.ensures texts x second of in
     let flat = subst (λ (z : Elaborated). IsFlat z p) (sym f.2.source) of.flat in
     let h = rw c.deref.ensures.value at c.in_err-forest.ensures f.0 flat in
-    let k = forest_at job.command c.args.asked.now.task c.requires.command f.0 p (Err c.in_err-forest.field-0.0) (h f.2.dropped.are) in
+    let k = h f.2.dropped.are in
     stage_passes stop_told (Asks job texts) (Demands job.command) x
     (IsRequested job.command x p) (IsReady job) f.0 _ f.1 (forest_stops job f.0 p _ _ _ r.1 r.2 k)
 
 pub table_of-requires : goal.table_of-requires
 table_of-requires c =
     let source = c.requires.source in
-    let f = c.in_ok-request.ensures ([] ∷ script_texts c.args.script.now) source.0 (second_here (has_script c.args.asked.now.job.command) [] c.args.script.now) source.1 in
+    let f = c.in_ok-request.ensures ([] ∷ script_texts c.args.script.now) source.0 (second_here (has_second c.args.job.now.command) [] c.args.script.now) source.1 in
     f.2.wanted.inside
 
 pub returns-in_err-table : goal.returns-in_err-table
 returns-in_err-table c = λ texts x second of.
     let r = err_from_is_err_and c.from_residual-in_err-table.result c.from_residual-in_err-table.ensures.1 in
-    let job = c.args.asked.now.job in
-    let t = c.args.asked.now.task in
+    let job = c.args.job.now in
     let p = c.args.flattened.system in
     let f = c.in_ok-request.ensures texts x second of in
     let flat = subst (λ (z : Elaborated). IsFlat z p) (sym f.2.source) of.flat in
     let h = rw c.deref.ensures.value at c.in_ok-forest.ensures f.0 flat in
-    let k = forest_at job.command t c.requires.command f.0 p (Ok c.in_ok-forest.forest) (h f.2.dropped.are) in
+    let k = h f.2.dropped.are in
     let trees = forest_here job f.0 p c.in_ok-forest.forest k in
     let l = c.in_err-table.ensures job.command f.0 flat f.2.wanted.are f.2.there (table_trees job.command p f.0 c.in_ok-forest.forest trees) in
     stage_passes stop_told (Asks job texts) (Demands job.command) x
@@ -59,16 +59,17 @@ returns-in_err-table c = λ texts x second of.
 
 pub returns : goal.returns
 returns c = λ texts x second of.
-    let job = c.args.asked.now.job in
-    let t = c.args.asked.now.task in
+    let job = c.args.job.now in
     let p = c.args.flattened.system in
     let f = c.in_ok-request.ensures texts x second of in
     let flat = subst (λ (z : Elaborated). IsFlat z p) (sym f.2.source) of.flat in
     let h = rw c.deref.ensures.value at c.in_ok-forest.ensures f.0 flat in
-    let k = forest_at job.command t c.requires.command f.0 p (Ok c.in_ok-forest.forest) (h f.2.dropped.are) in
+    let k = h f.2.dropped.are in
     let trees = forest_here job f.0 p c.in_ok-forest.forest k in
-    let made : Prepared = record { task = t; system = p; commands = c.in_ok-request.request.commands; forest = c.in_ok-forest.forest; table = c.in_ok-table.table; nodes = job.nodes; number = job.number } in
+    let request = c.in_ok-request.request in
+    let asked = subst (λ (z : Elaborated). IsRequested job.command z p f.0 request) (sym f.2.source) f.2 in
+    let made : Prepared = record { command = job.command; system = p; request = request; forest = c.in_ok-forest.forest; table = c.in_ok-table.table; nodes = job.nodes; number = job.number } in
     let l = c.in_ok-table.ensures job.command f.0 flat f.2.wanted.are f.2.there (table_trees job.command p f.0 c.in_ok-forest.forest trees) in
     stage_passes stop_told (Asks job texts) (Demands job.command) x
     (IsRequested job.command x p) (IsReady job) f.0 (Ok made) f.1
-    (all_ready job f.0 p c.in_ok-forest.forest k t c.requires.command flat c.in_ok-request.request.commands f.2.commands c.in_ok-table.table l)
+    (all_ready job f.0 p c.in_ok-forest.forest k c.requires.built flat request asked c.in_ok-table.table l)

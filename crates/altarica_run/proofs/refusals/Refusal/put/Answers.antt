@@ -13,6 +13,9 @@ returns-in-NotRead g c =
 pub returns-in-NoCommand : goal.returns-in-NoCommand
 returns-in-NoCommand g c = writes_as _ _ (ap line_of (sym c.in-NoCommand.is)) c.put_script_line.ensures
 
+pub returns-in-NoCut : goal.returns-in-NoCut
+returns-in-NoCut g c = writes_as _ _ (ap line_of (sym c.in-NoCut.is)) c.put_script_line-in-NoCut.ensures
+
 pub returns-in-NeedsWay : goal.returns-in-NeedsWay
 returns-in-NeedsWay g c = writes_as _ _ (ap line_of (sym c.in-NeedsWay.is)) c.put_script_line-in-NeedsWay.ensures
 

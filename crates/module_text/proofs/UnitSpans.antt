@@ -23,25 +23,32 @@ IsBefore us i w = (j : ℕ) × (j < i) × Stands us j w
 
 mutual
   -- the unit above a unit stands before it
-  lists_before : {m : RootedModel} {u : UnitPath} {us : List UnitPath} → Lists m true u us → (i : ℕ) (l : Level) (w : UnitPath) → Stands us i (l ∷ w) → (l ∷ w ≡ u) ⊎ IsBefore us i w
+  lists_before : {m : RootedModel} {u : UnitPath} {us : List UnitPath} → Lists m true u us
+      → (i : ℕ) (l : Level) (w : UnitPath) → Stands us i (l ∷ w) → (l ∷ w ≡ u) ⊎ IsBefore us i w
   lists_before {u = u} (unit {us = us} d) zero l w s = inl (sym (stands_one (u ∷ us) 0 u (l ∷ w) refl s))
   lists_before {u = u} (unit {us = us} d) (suc i) l w s = elim (insides_before d i l w s) [
     | inl e ↦ inr (0, omega arith, subst (λ (z : UnitPath). Stands (u ∷ us) 0 z) (sym e) refl)
     | inr b ↦ inr (suc b.0, (let h = b.1 in omega (arith, h)), b.2)
   ]
 
-  insides_before : {m : RootedModel} {u : UnitPath} {gs : List NamedMember} {us : List UnitPath} → Insides m true u gs us → (i : ℕ) (l : Level) (w : UnitPath) → Stands us i (l ∷ w) → (w ≡ u) ⊎ IsBefore us i w
+  insides_before : {m : RootedModel} {u : UnitPath} {gs : List NamedMember} {us : List UnitPath}
+      → Insides m true u gs us → (i : ℕ) (l : Level) (w : UnitPath) → Stands us i (l ∷ w) → (w ≡ u) ⊎ IsBefore us i w
   insides_before none i l w s = absurd (stands_none i (l ∷ w) s)
-  insides_before {m = m} {u = u} (makes {v = v} {g = g} {us = us} {vs = vs} k d ds) i l w s = elim (stands_split us vs i (l ∷ w) s) [
-    | inl p ↦ elim (lists_before d i l w p) [
-      | inl e ↦ (let n = made_named m u v g k in let q : l ∷ w ≡ n.level ∷ u = e ∙ n.is in inl cc)
-      | inr b ↦ inr (b.0, b.1, stands_left us vs b.0 w b.2)
-    ]
-    | inr p ↦ elim (insides_before ds p.0 l w p.2) [
-      | inl e ↦ inl e
-      | inr b ↦ inr (length us + b.0, (let h = b.1 in let q = p.1 in omega (arith, h, q)), stands_right us vs b.0 (length us + b.0) w refl b.2)
-    ]
-  ]
+  insides_before {m = m} {u = u} (makes {v = v} {g = g} {us = us} {vs = vs} k d ds) i l w s =
+      elim (stands_split us vs i (l ∷ w) s) [
+        | inl p ↦ elim (lists_before d i l w p) [
+          | inl e ↦ (let n = made_named m u v g k in let q : l ∷ w ≡ n.level ∷ u = e ∙ n.is in inl cc)
+          | inr b ↦ inr (b.0, b.1, stands_left us vs b.0 w b.2)
+        ]
+        | inr p ↦ elim (insides_before ds p.0 l w p.2) [
+          | inl e ↦ inl e
+          | inr b ↦ inr (
+            length us + b.0,
+            (let h = b.1 in let q = p.1 in omega (arith, h, q)),
+            stands_right us vs b.0 (length us + b.0) w refl b.2,
+          )
+        ]
+      ]
   insides_before (passes n ds) i l w s = insides_before ds i l w s
 
 first_unit : {m : RootedModel} {u : UnitPath} {us : List UnitPath} → Lists m true u us → Stands us 0 u
@@ -54,7 +61,8 @@ record IsOwned (units : List UnitPath) (w : UnitPath) (o : UnitId) : Type 0 wher
   is : w ≡ level ∷ rest
   stands : Stands units o.n rest
 
-owned : (units : List UnitPath) (w : UnitPath) (p : Option UnitId) (o : UnitId) → IsOwner units w p → p ≡ Some o → IsOwned units w o
+owned : (units : List UnitPath) (w : UnitPath) (p : Option UnitId) (o : UnitId) → IsOwner units w p → p ≡ Some o
+    → IsOwned units w o
 owned units w p o of_main e = cc
 owned units w p o (of_unit {l = l} {above = rest} {id = id} s) e =
     let q : id ≡ o = cc in
@@ -66,7 +74,8 @@ record HasAbove (units : List UnitPath) (rest : UnitPath) (p : Option UnitId) : 
   is : p ≡ Some id
   stands : Stands units id.n rest
 
-has_above : (units : List UnitPath) (l : Level) (rest : UnitPath) (p : Option UnitId) → IsOwner units (l ∷ rest) p → HasAbove units rest p
+has_above : (units : List UnitPath) (l : Level) (rest : UnitPath) (p : Option UnitId) → IsOwner units (l ∷ rest) p
+    → HasAbove units rest p
 has_above units l rest p (of_unit {id = id} s) = record { id = id; is = refl; stands = s }
 
 module _ (m : RootedModel) (units : List UnitPath) (tree : Tree) (is : IsTreeOf m units tree) where
@@ -80,13 +89,17 @@ module _ (m : RootedModel) (units : List UnitPath) (tree : Tree) (is : IsTreeOf 
   owner_of u d s = let b = along_back units nodes is.units_are u d s in (b.0, b.1, b.2.owner)
 
   pub are_below : AreBelow nodes
-  are_below = record { each = λ u d o s e. go u o (owner_of u d s).0 (owner_of u d s).1 (owned units (owner_of u d s).0 d.owner o (owner_of u d s).2 e) }
+  are_below = record {
+    each = λ u d o s e. go u o (owner_of u d s).0 (owner_of u d s).1
+        (owned units (owner_of u d s).0 d.owner o (owner_of u d s).2 e);
+  }
     where
       go : (u : ℕ) (o : UnitId) (w : UnitPath) → Stands units u w → IsOwned units w o → o.n < u
-      go u o w t n = elim (lists_before is.are_units u n.level n.rest (subst (λ (z : UnitPath). Stands units u z) n.is t)) [
-        | inl e ↦ cc
-        | inr b ↦ (let q : o.n ≡ b.0 = different.one o.n b.0 n.rest n.stands b.2 in let h = b.1 in omega (arith, q, h))
-      ]
+      go u o w t n = elim (lists_before is.are_units u n.level n.rest
+          (subst (λ (z : UnitPath). Stands units u z) n.is t)) [
+            | inl e ↦ cc
+            | inr b ↦ (let q : o.n ≡ b.0 = different.one o.n b.0 n.rest n.stands b.2 in let h = b.1 in omega (arith, q, h))
+          ]
 
   -- a unit and one above it
   record IsWithin (k : ℕ) (w : UnitPath) : Type 0 where
@@ -102,12 +115,18 @@ module _ (m : RootedModel) (units : List UnitPath) (tree : Tree) (is : IsTreeOf 
       let n = owned units b.0 d.owner o b.2 f in
       let same : w ≡ n.level ∷ n.rest = stands_one units u w b.0 s b.1 ∙ n.is in
       let i = over_within h n.rest n.stands in
-      record { outer = i.outer; stands = i.stands; levels = n.level ∷ i.levels; is_within = same ∙ ap (λ (z : UnitPath). n.level ∷ z) i.is_within }
+      record {
+        outer = i.outer;
+        stands = i.stands;
+        levels = n.level ∷ i.levels;
+        is_within = same ∙ ap (λ (z : UnitPath). n.level ∷ z) i.is_within;
+      }
 
   no_main : (k : ℕ) → Stands units (suc k) [] → ⊥
   no_main k s = let e = different.one (suc k) 0 [] s (first_unit is.are_units) in omega (arith, e)
 
-  within_over : (k : ℕ) (v : UnitPath) → Stands units (suc k) v → (levels : List Level) (u : ℕ) → Stands units u (levels ++ v) → IsOver nodes (suc k) u
+  within_over : (k : ℕ) (v : UnitPath) → Stands units (suc k) v → (levels : List Level) (u : ℕ)
+      → Stands units u (levels ++ v) → IsOver nodes (suc k) u
   within_over k [] s levels u t = absurd (no_main k s)
   within_over k (l ∷ v) s [] u t =
       let same : u ≡ suc k = different.one u (suc k) (l ∷ v) t s in
@@ -131,7 +150,8 @@ module _ (m : RootedModel) (units : List UnitPath) (tree : Tree) (is : IsTreeOf 
       record {
         event = a.0;
         is_event = a.1;
-        over = within_over k h.unit h.is_unit h.within a.0.unit.n (subst (λ (z : UnitPath). Stands units a.0.unit.n z) h.is_within a.2.node.unit);
+        over = within_over k h.unit h.is_unit h.within a.0.unit.n
+            (subst (λ (z : UnitPath). Stands units a.0.unit.n z) h.is_within a.2.node.unit);
       }
 
   pub spans_of_units : (ranges : List Range) → AreSpans nodes tree.events.items ranges → AreRangesOf m units ranges

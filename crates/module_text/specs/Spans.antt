@@ -14,7 +14,8 @@ pub record AreBelow (nodes : List UnitNode) : Type 0 where
 -- unit number k has a unit above it, and is number u or above it
 pub data IsOver (nodes : List UnitNode) (k : ℕ) : ℕ → Type 0 where
   here : {d : UnitNode} {o : UnitId} → Stands nodes k d → d.owner ≡ Some o → IsOver nodes k k
-  above : {u : ℕ} {d : UnitNode} {o : UnitId} → Stands nodes u d → d.owner ≡ Some o → IsOver nodes k o.n → IsOver nodes k u
+  above : {u : ℕ} {d : UnitNode} {o : UnitId} → Stands nodes u d → d.owner ≡ Some o → IsOver nodes k o.n
+      → IsOver nodes k u
 
 -- event number e is one of unit number k, which has a unit above it, or of a unit below that
 pub record IsOf (nodes : List UnitNode) (events : List MemNode) (k e : ℕ) : Type 0 where

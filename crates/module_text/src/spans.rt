@@ -14,8 +14,8 @@ use gate_modules::Range;
 use hierarchy::{Tree, UnitNode};
 use std::alloc::Global;
 
-/// The events of each unit but the main block, with those of the units within it: a run of numbers. The error is want of
-/// memory.
+/// The events of each unit but the main block, with those of the units within it: a run of numbers. The error is want
+/// of memory.
 pub fn ranges(alloc: Global, tree: &Tree) -> Result<Vec<Range>, Memory>
     requires { IsSomeTree tree.now }
     ensures are_ranges { IfOk result (λ ranges. AreRanges ranges.items) }
@@ -78,8 +78,8 @@ fn add_at(ranges: &mut [Range], place: usize, event: u32) -> Result<(), Memory>
     Ok(())
 }
 
-// The range with the event besides, where that is right behind the others. What cannot happen, that events of other units
-// stand between, is answered as want of memory.
+// The range with the event besides, where that is right behind the others. What cannot happen, that events of other
+// units stand between, is answered as want of memory.
 fn with_event(range: Range, event: u32) -> Result<Range, Memory>
     requires { event + 1 < 2 ^ 32 }
     ensures { IfOk result (λ longer. Gains (λ x. x ≡ event) range longer) }

@@ -34,9 +34,13 @@ loop-number-preserved c =
     let d = get_or c.deref-event-items.result.now n no_node in
     let there = stands_get c.deref-event-items.result.now n no_node c.loop-number-test.true in
     let s = subst (λ (ds : List MemNode). Stands ds n d) c.deref-event-items.ensures.value there in
-    let added = subst (λ (z : List UnitNode). AllGain (IsAtOver z d.unit.n n) old new) c.deref-in-loop-number.ensures.value
-    (subst (λ (z : List Range). AllGain (IsAtOver c.deref-in-loop-number.result.now d.unit.n n) z new) c.deref_mut.ensures.value c.in_ok-add_event.ensures) in
-    let written = take_at new (drop (length new) old) c.loop-number.ranges.len (c.add_event.auto.ranges ∙ c.deref_mut.ensures.len) in
+    let kept = c.deref-in-loop-number.result.now in
+    let added = subst (λ (z : List UnitNode). AllGain (IsAtOver z d.unit.n n) old new)
+    c.deref-in-loop-number.ensures.value
+    (subst (λ (z : List Range). AllGain (IsAtOver kept d.unit.n n) z new) c.deref_mut.ensures.value
+    c.in_ok-add_event.ensures) in
+    let written = take_at new (drop (length new) old) c.loop-number.ranges.len
+    (c.add_event.auto.ranges ∙ c.deref_mut.ensures.len) in
     subst (λ (z : List Range). AllGain (IsAtFirst nodes events (n + 1)) start z) (sym written)
     (gathered_next nodes events n d start old new s c.loop-number.invariant added)
 
@@ -48,7 +52,8 @@ returns-clause-are_ranges c =
     let n = c.loop-number.number in
     let start = c.in_ok-ranges.ranges.items in
     let made = c.loop-number.ranges.items in
-    let all : length events ≤ n = subst (λ (z : List MemNode). length z ≤ n) c.deref-event-items.ensures.value c.loop-number-test.false in
+    let all : length events ≤ n = subst (λ (z : List MemNode). length z ≤ n) c.deref-event-items.ensures.value
+    c.loop-number-test.false in
     let empty = subst (λ (z : List UnitNode). AreEmpty (length z) start) c.deref.ensures.value c.in_ok-ranges.ensures in
     spans_are_ranges nodes events (are_below c.requires.model c.requires.units tree c.requires.is_tree) made
     (all_gathered nodes events n start made all empty c.loop-number.invariant)
@@ -61,6 +66,7 @@ returns-clause-of_units c = λ m units is.
     let n = c.loop-number.number in
     let start = c.in_ok-ranges.ranges.items in
     let made = c.loop-number.ranges.items in
-    let all : length events ≤ n = subst (λ (z : List MemNode). length z ≤ n) c.deref-event-items.ensures.value c.loop-number-test.false in
+    let all : length events ≤ n = subst (λ (z : List MemNode). length z ≤ n) c.deref-event-items.ensures.value
+    c.loop-number-test.false in
     let empty = subst (λ (z : List UnitNode). AreEmpty (length z) start) c.deref.ensures.value c.in_ok-ranges.ensures in
     spans_of_units m units tree is made (all_gathered nodes events n start made all empty c.loop-number.invariant)

@@ -150,9 +150,7 @@ fn counted(rt: &HostRuntime, flow: u32, states: u32) -> Result<String, AllocErro
 fn turning_states(rt: &HostRuntime) -> Result<String, AllocError> {
     let mut text = String::new(rt.alloc());
     for place in 1..=60 {
-        let next = format!(in rt.alloc();
-            " Boolean s{place} (init = true); event e{place};"
-        )?;
+        let next = format!(in rt.alloc(); " Boolean s{place} (init = true); event e{place};")?;
         text.push_str(&next)?;
     }
     text.push_str(" transition")?;

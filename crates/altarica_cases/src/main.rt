@@ -84,12 +84,7 @@ fn run_files(rt: &HostRuntime, name: &str, failing: [&str; 2], words: &[String])
 }
 
 /// Runs the job of these words, where `model` and `script` name these texts.
-pub(crate) fn run_job(
-    rt: &HostRuntime,
-    name: &str,
-    texts: [&str; 2],
-    job: &str,
-) -> io::Result<()> {
+pub(crate) fn run_job(rt: &HostRuntime, name: &str, texts: [&str; 2], job: &str) -> io::Result<()> {
     let mut shelf = MemoryShelf::new(rt.alloc());
     for (file, text) in ["model", "script"].iter().zip(texts) {
         shelf.place(file, text.as_bytes()).map_err(no_memory)?;

@@ -14,7 +14,8 @@ pub(crate) fn run_limits(rt: &HostRuntime) -> io::Result<()> {
     nodes(rt)?;
     flat_systems(rt)?;
     live_events(rt)?;
-    gates(rt)
+    gates(rt)?;
+    cut_lines(rt)
 }
 
 // Runs a check of this text.
@@ -106,6 +107,22 @@ fn gates(rt: &HostRuntime) -> io::Result<()> {
         let text = counting_flows(rt, 122, fewer)?;
         let texts = [text.as_str(), ""];
         run_job(rt, "gates", texts, "cuts model --observer o --nodes 1")?;
+    }
+    Ok(())
+}
+
+// The cut lines of a list.
+fn cut_lines(rt: &HostRuntime) -> io::Result<()> {
+    let model =
+        "block B Boolean s (init = true); event e; transition e: s -> s := false; observer Boolean o = not s; end";
+    for count in 4_096..4_098 {
+        let list = "{e}\n".repeat(count)?;
+        end_of_job(
+            rt,
+            "cut-lines",
+            [model, list.as_str()],
+            "checkcuts model script --observer o",
+        )?;
     }
     Ok(())
 }

@@ -4,10 +4,11 @@
 //! the put that is to fail or `-`, and the words of the job. Words that name a file of the folder stand for its
 //! bytes. For each case its name, the status, how many faults the shelf and the sink counted, and the bytes that
 //! were written are printed; behind a listing of cuts also how many of its orders, fired as a script, end with the
-//! wanted value. Then the limits are run, each at its number and one past it, over texts that are made
-//! here, and last the plants of the examples.
+//! wanted value, and what is said of it where it is given back to be checked. Then the limits are run, each at its
+//! number and one past it, over texts that are made here, and last the plants of the examples.
 #![tactic(auto)]
 
+mod checked;
 mod limits;
 mod made;
 mod orders;
@@ -16,6 +17,7 @@ mod plants;
 use altarica_run::altarica;
 use ar_base::Memory;
 use ar_io::{MemoryShelf, MemorySink};
+use checked::run_checks;
 use limits::run_limits;
 use orders::run_orders;
 use plants::run_plants;
@@ -59,6 +61,7 @@ fn run(
     io::writer(rt).write_all(sink.bytes())?;
     if status == 0 && is_listing(words) {
         run_orders(rt, name, words, sink.bytes())?;
+        run_checks(rt, name, shelf, words, sink.bytes())?;
     }
     Ok(())
 }

@@ -1,10 +1,11 @@
 //! The plants of the examples over real files: the script of each is replayed and compared with the trace that stands
 //! beside it, and its cuts are listed, compared with the listing that stands beside it, and fired.
 
+use crate::checked::run_checks;
 use crate::orders::run_orders;
 use crate::{ROOM, no_memory};
 use altarica_run::altarica;
-use ar_io::{FileShelf, MemorySink};
+use ar_io::{FileShelf, MemoryShelf, MemorySink};
 use std::io::Write;
 use std::{fs, io};
 
@@ -63,8 +64,8 @@ const PLANTS: [Plant; 8] = [
     },
 ];
 
-/// Replays the script of each plant and lists its cuts. Prints the status, and whether the text is the expected one, or
-/// else the text.
+/// Replays the script of each plant, lists its cuts, and gives these back to be checked. Prints the status, and
+/// whether the text is the expected one, or else the text.
 pub(crate) fn run_plants(rt: &HostRuntime) -> io::Result<()> {
     for plant in PLANTS {
         replay(rt, plant.name)?;
@@ -133,6 +134,11 @@ fn list(rt: &HostRuntime, plant: &Plant) -> io::Result<()> {
     compare(rt, plant.name, ".cuts", status, sink.bytes())?;
     if status == 0 {
         run_orders(rt, plant.name, &words, sink.bytes())?;
+        let mut models = MemoryShelf::new(rt.alloc());
+        let name = file(rt, plant.name, ".alt")?;
+        let model = fs::read(rt, name.as_str())?;
+        models.place(name.as_str(), &model).map_err(no_memory)?;
+        run_checks(rt, plant.name, &mut models, &words, sink.bytes())?;
     }
     Ok(())
 }

@@ -1,5 +1,5 @@
 -- The cuts of a job, as they are written.
-use Rattle.std.proofs.Common.{◌≡◌, ◌≢◌, ◌≤◌, ◌⊎◌, inl, inr, true, false, ℕ, zero, suc, List, [], ◌∷◌, Result, Ok, Err, length, reverse, refl, sym, ◌∙◌, ap, subst, arith}
+use Rattle.std.proofs.Common.{◌≡◌, ◌≢◌, ◌≤◌, ◌⊎◌, inl, inr, true, false, ℕ, zero, suc, List, [], ◌∷◌, Result, Ok, Err, length, map, reverse, refl, sym, ◌∙◌, ap, subst, arith}
 use Rattle.ar_base.specs.Lists.{Stands}
 use Rattle.ar_base.specs.Lists as l
 use Rattle.ar_base.proofs.Standing.{stands_one, stands_some, stands_map, one_here, along_on, along_back}
@@ -31,6 +31,7 @@ use Rattle.ar_firing.proofs.OneListing.{listed_as, listed_same}
 use Rattle.gts_core.proofs.Viewing.{are_numbered}
 use Rattle.gts_core.specs.Lawful.{IsLawful, kind_by_number}
 use Rattle.gts_core.specs.View.{Views, net_of, numbered}
+use Rattle.gts_core.specs.declared.bound.Chain.{Chain}
 use Rattle.gts_core.specs.declared.system.GtsParts.{GtsParts}
 use Rattle.gts_core.specs.declared.system.Observer.{Observer}
 use Rattle.gts_flatten.specs.Flat.{naming_of}
@@ -59,18 +60,20 @@ use Rattle.min_cuts.specs.Lines.{AreInFiringOrder}
 use Rattle.min_cuts.specs.Sizes.{count, largest}
 use Rattle.cut_text.specs.Answers.{Prints}
 use Rattle.cut_text.specs.Printed.{edges_of, labels_in, cuts_text, conflict_text, IsForestOf}
+use Rattle.check_text.specs.Texts.{IsCheckText}
 use Rattle.cut_text.specs.Texts.{IsCutText, IsConflictText}
+use Rattle.module_text.specs.Texts.{IsModuleText}
+use Rattle.replayer.specs.CutLists.{CutLine, cut_of}
 use Rattle.cut_text.specs.declared.faults.PrintFault.{PrintFault}
 use Rattle.cut_text.specs.declared.faults.PrintFault.TheVariants as print
 use Rattle.run_words.specs.declared.jobs.Job.{Job}
 use Rattle.run_words.specs.declared.verbs.Verb.{Verb}
 use Rattle.run_words.specs.declared.verbs.Verb.TheVariants.{Check, Flat, Replay, Fragment, Equations, Cuts, Make, Explain, CheckCuts, Modules}
-use Rattle.altarica_run.specs.Jobs.{is_built, makes_model}
 use Rattle.altarica_run.specs.Passing.{IsReady, IsGateTable}
 use Rattle.altarica_run.specs.Passing as passing
 use Rattle.altarica_run.specs.Stages.{Ready, is_static as asks_static, has_table, lists_cuts}
 use Rattle.altarica_run.specs.Telling.{IsWritten, whole, cut, nothing, status_printed}
-use Rattle.altarica_run.specs.Tells.{HasCuts, make_lines, Tells, cuts, make, conflict, nodes, nodes_line}
+use Rattle.altarica_run.specs.Tells.{HasCuts, make_lines, Tells, cuts, make, checks, in_short, conflict, nodes, nodes_line}
 use Rattle.altarica_run.specs.declared.stages.Prepared.{Prepared}
 use Rattle.altarica_run.specs.declared.status.Status.{Status}
 use Rattle.altarica_run.specs.declared.status.Status.TheVariants.{Done, Fault, Nodes}
@@ -149,25 +152,24 @@ lists_table CheckCuts e = refl
 lists_table Modules e = refl
 
 -- these commands list cuts, or tell of them
-pub one_lists : (v : Verb) → is_built v ≡ true → (v ≡ Cuts) ⊎ ((v ≡ Make) ⊎ ((v ≡ CheckCuts) ⊎ (v ≡ Modules)))
-    → lists_cuts v ≡ true
-one_lists v b (inl e) = ap lists_cuts e
-one_lists v b (inr (inl e)) = ap lists_cuts e
-one_lists v b (inr (inr (inl e))) = let k : true ≡ false = sym b ∙ ap is_built e in cc
-one_lists v b (inr (inr (inr e))) = let k : true ≡ false = sym b ∙ ap is_built e in cc
+pub one_lists : (v : Verb) → (v ≡ Cuts) ⊎ ((v ≡ Make) ⊎ ((v ≡ CheckCuts) ⊎ (v ≡ Modules))) → lists_cuts v ≡ true
+one_lists v (inl e) = ap lists_cuts e
+one_lists v (inr (inl e)) = ap lists_cuts e
+one_lists v (inr (inr (inl e))) = ap lists_cuts e
+one_lists v (inr (inr (inr e))) = ap lists_cuts e
 
--- and the command that lists them makes no model
-pub only_cuts : (v : Verb) → lists_cuts v ≡ true → makes_model v ≡ false → v ≡ Cuts
-only_cuts Check e m = let k : false ≡ true = e in absurd cc
-only_cuts Flat e m = let k : false ≡ true = e in absurd cc
-only_cuts Replay e m = let k : false ≡ true = e in absurd cc
-only_cuts Fragment e m = let k : false ≡ true = e in absurd cc
-only_cuts Equations e m = let k : false ≡ true = e in absurd cc
-only_cuts Cuts e m = refl
-only_cuts Make e m = let k : true ≡ false = m in absurd cc
-only_cuts Explain e m = let k : false ≡ true = e in absurd cc
-only_cuts CheckCuts e m = let k : false ≡ true = e in absurd cc
-only_cuts Modules e m = let k : false ≡ true = e in absurd cc
+-- and the command that lists them is the only one but these
+pub only_cuts : (v : Verb) → lists_cuts v ≡ true → (v ≡ Make → ⊥) → (v ≡ CheckCuts → ⊥) → (v ≡ Modules → ⊥) → v ≡ Cuts
+only_cuts Check e a b c = let k : false ≡ true = e in absurd cc
+only_cuts Flat e a b c = let k : false ≡ true = e in absurd cc
+only_cuts Replay e a b c = let k : false ≡ true = e in absurd cc
+only_cuts Fragment e a b c = let k : false ≡ true = e in absurd cc
+only_cuts Equations e a b c = let k : false ≡ true = e in absurd cc
+only_cuts Cuts e a b c = refl
+only_cuts Make e a b c = absurd (a refl)
+only_cuts Explain e a b c = let k : false ≡ true = e in absurd cc
+only_cuts CheckCuts e a b c = absurd (b refl)
+only_cuts Modules e a b c = absurd (c refl)
 
 -- What stands ready
 
@@ -328,6 +330,37 @@ module _ (job : Job) (w : Ready) (p : Prepared) (is : IsReady job w p) (e : list
             let line = subst (λ (z : List Label). IsLine w.source.system w.dropped set z) (stands_one t.lines k g.0 ls g.1 h) g.2 in
             let run = replays t.sets t.are_listed set (one_here t.sets k set s) ls line in
             record { events = line_events set ls line; values = run.0; reaches = run.2; shows = run.3 };
+      })
+
+  -- what is to be said of the lines of a list
+  pub checks_told : job.command ≡ CheckCuts → (chains : List Chain) → chains ≡ p.request.chains.items
+      → (sets : Sets) (text : List ℕ) → IsConflictFree flat w.dropped
+      → AreListed (Cut flat w.dropped (numbered seen.0.value) table.wanted.value) sets
+      → IsCheckText (naming_of w.source.declarations) w.source.system w.dropped source_observer table.wanted.value (map (cut_of p.system) chains) text
+      → (IsMoreThan p.nodes (IsCounted sets) → ⊥) → Tells job w text Done
+  checks_told i chains same sets text free listed t few =
+      checks i
+      (record {
+        has = has_cuts free;
+        is_text = subst (λ (z : List CutLine). IsCheckText (naming_of w.source.declarations) w.source.system w.dropped source_observer table.wanted.value z text)
+            (ap (λ (z : List Chain). map (cut_of p.system) z) same ∙ sym is.requested.lines.are) t;
+        sets = sets;
+        are_listed = listed_of_source sets listed;
+        few = few_of sets few;
+      })
+
+  -- the cuts in short
+  pub short_told : job.command ≡ Modules → (sets : Sets) (text : List ℕ) → IsConflictFree flat w.dropped
+      → AreListed (Cut flat w.dropped (numbered seen.0.value) table.wanted.value) sets
+      → IsModuleText w.source w.dropped source_observer table.wanted.value text
+      → (IsMoreThan p.nodes (IsCounted sets) → ⊥) → Tells job w text Done
+  short_told i sets text free listed t few =
+      let same : t.cuts ≡ sets = listed_same t.cuts sets (Cut w.source.system w.dropped source_observer table.wanted.value) t.are_listed (listed_of_source sets listed) in
+      in_short i
+      (record {
+        has = has_cuts free;
+        is_text = t;
+        few = λ more. few_of sets few (subst (λ (z : Sets). IsMoreThan job.nodes (IsCounted z)) same more);
       })
 
   -- how many there are

@@ -4,7 +4,7 @@ use Rattle.ar_io.specs.Outside.{Told, Rose}
 use Rattle.ar_io.specs.Writing.{SinkState, Appended, Cut}
 use Rattle.ar_io.proofs.Writing.{cut_nothing}
 use Rattle.run_words.specs.declared.jobs.Job.{Job}
-use Rattle.altarica_run.specs.Jobs.{IsBuiltJob}
+use Rattle.run_words.specs.Jobs.{IsJob}
 use Rattle.altarica_run.specs.Files.{files_of, Loads}
 use Rattle.altarica_run.specs.Passing.{RefusesWords, no_job, stage, not_read}
 use Rattle.altarica_run.specs.Refusals.{line_of, status_of}
@@ -31,13 +31,13 @@ module _ (files : List ℕ → Told) (rose : List ℕ → Type 0) (words : List 
   said told f s (nothing e) = says.no_memory says.nothing (cut_nothing old.bytes new.bytes (ap (λ (z : SinkState). z.bytes) e))
 
   -- the text of the job was written
-  pub job_told : (job : Job) (w : Ready) → IsBuiltJob words job → Passes files job (Ok w) → (s : Status)
+  pub job_told : (job : Job) (w : Ready) → IsJob words job → Passes files job (Ok w) → (s : Status)
       → IsWritten (Tells job w) old new s
       → EndsSo files rose words old.bytes new.bytes (Rose old.faults new.faults) s
   job_told job w is p s h = said (Tells job w) (λ text ends t. tells job w is p t) s h
 
   -- the line of a file that was not read was written
-  not_read_told : (kind : FileKind) (name : List ℕ) (job : Job) → IsBuiltJob words job
+  not_read_told : (kind : FileKind) (name : List ℕ) (job : Job) → IsJob words job
       → Loads files (files_of job) kind name → rose name → (s : Status)
       → IsWritten (λ text ends. (text ≡ line_of (NotRead kind)) × (ends ≡ status.Read)) old new s
       → EndsSo files rose words old.bytes new.bytes (Rose old.faults new.faults) s

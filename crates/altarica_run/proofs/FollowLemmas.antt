@@ -7,17 +7,18 @@ use Rattle.ar_io.specs.Writing.{Cut}
 use Rattle.replayer.specs.Scripts.{Why, IsNoCommand, LacksWay, NamesNoEvent}
 use Rattle.replayer.specs.declared.replaying.End.TheVariants as end
 use Rattle.run_words.specs.declared.jobs.Job.{Job}
+use Rattle.run_words.specs.Jobs.{IsJob}
 use Rattle.altarica_run.specs.Elaborates.{Elaborates, no_tokens, no_reading, too_deep, breaks, exceeds}
 use Rattle.altarica_run.specs.Files.{File, Loaded, long, later, files_of}
 use Rattle.altarica_run.specs.Follows.{Call, Gave, SinkRose, RoseAt, Wrote, IsQuiet, IsSaid, IsPrefix}
-use Rattle.altarica_run.specs.Jobs.{IsBuiltJob, IsNoJob}
+use Rattle.altarica_run.specs.Jobs.{IsNoJob}
 use Rattle.altarica_run.specs.Refusals.{line_of, status_of}
 use Rattle.altarica_run.specs.Says.{Says, usage, refuses, tells, EndsSo}
 use Rattle.altarica_run.specs.Says as says
 use Rattle.altarica_run.specs.Stages.{Ready, bare, Passes, not_loaded, loaded, line_refused, cut_refused, Scripted, has_script, ListsCuts, has_list, Drops, Wanting, Showing, explains, Static, is_static, Tabled, has_table, observer_asked}
 use Rattle.altarica_run.specs.Stages as stages
 use Rattle.altarica_run.specs.Statuses.{IsTold, IsRefused, Meaning_of}
-use Rattle.altarica_run.specs.Tells.{Tells, check, flat, replay, fragment, equations, cuts, make, unsettled, conflict, nodes}
+use Rattle.altarica_run.specs.Tells.{Tells, check, flat, replay, fragment, equations, cuts, make, unsettled, checks, in_short, conflict, nodes}
 use Rattle.altarica_run.specs.Tells as tells
 use Rattle.altarica_run.specs.declared.refusals.Refusal.{Refusal}
 use Rattle.altarica_run.specs.declared.refusals.Refusal.TheVariants.{Usage, NotRead, Size, Syntax, Rule, NoCommand, NoCut, NeedsWay, NoEvent, NoDropped, NoObserver, NoValue, Outside}
@@ -116,16 +117,16 @@ of_stages files job r (loaded texts l t (then.passes x p (then.passes w q (then.
 -- Meanings
 
 module _ (c : Call) where
-  told : (job : Job) (w : Ready) (text : List ℕ) (s : Status) → IsBuiltJob c.words job → Passes c.files job (Ok w)
+  told : (job : Job) (w : Ready) (text : List ℕ) (s : Status) → IsJob c.words job → Passes c.files job (Ok w)
       → Tells job w text s → Wrote c text → IsTold c s
   told job w text s is p t a =
       record { job = job; is_job = is; ready = w; passes = p; text = text; tells = t; wrote = a }
 
-  refused : (job : Job) (r : Refusal) → IsBuiltJob c.words job → Passes c.files job (Err r) → Wrote c (line_of r)
+  refused : (job : Job) (r : Refusal) → IsJob c.words job → Passes c.files job (Err r) → Wrote c (line_of r)
       → IsRefused c (status_of r)
   refused job r is p a = record { job = job; is_job = is; refusal = r; stage = p; is_status = refl; wrote = a }
 
-  meant_tells : (job : Job) (w : Ready) (text : List ℕ) (s : Status) → IsBuiltJob c.words job
+  meant_tells : (job : Job) (w : Ready) (text : List ℕ) (s : Status) → IsJob c.words job
       → Passes c.files job (Ok w) → Tells job w text s → Wrote c text → Meaning_of c s
   meant_tells job w text s is p (check e) a = told job w _ status.Done is p (check e) a
   meant_tells job w text s is p (flat e h) a = told job w text status.Done is p (flat e h) a
@@ -137,10 +138,12 @@ module _ (c : Call) where
   meant_tells job w text s is p (make e h) a = told job w text status.Done is p (make e h) a
   meant_tells job w text s is p (tells.explains e h) a = told job w text status.Done is p (tells.explains e h) a
   meant_tells job w text s is p (unsettled e h) a = told job w text status.Fault is p (unsettled e h) a
+  meant_tells job w text s is p (checks e h) a = told job w text status.Done is p (checks e h) a
+  meant_tells job w text s is p (in_short e h) a = told job w text status.Done is p (in_short e h) a
   meant_tells job w text s is p (conflict e h) a = told job w text status.Fault is p (conflict e h) a
   meant_tells job w text s is p (nodes e h) a = told job w text status.Nodes is p (nodes e h) a
 
-  meant_refuses : (job : Job) (r : Refusal) → IsBuiltJob c.words job → Passes c.files job (Err r) → Wrote c (line_of r)
+  meant_refuses : (job : Job) (r : Refusal) → IsJob c.words job → Passes c.files job (Err r) → Wrote c (line_of r)
       → IsOfStages r → Meaning_of c (status_of r)
   meant_refuses job Usage is p a h = absurd h
   meant_refuses job (NotRead kind) is p a h = absurd h
@@ -217,7 +220,7 @@ module _ (c : Call) where
     pub said_of : (s : Status) → Gave c s → IsSaid c s ⊎ (s ≡ status.Memory)
     said_of s g = quiet_ends s g.ends
 
-    module _ (job : Job) (is : IsBuiltJob c.words job) where
+    module _ (job : Job) (is : IsJob c.words job) where
       job_said : (text : List ℕ) (s : Status) → Says c.files c.words text s → Wrote c text
           → IsTold c s ⊎ (IsRefused c s ⊎ (s ≡ status.Memory))
       job_said text s (usage never) a = absurd (never job is)

@@ -1,11 +1,12 @@
 -- The dropped events and the forest of a job.
-use Rattle.std.proofs.Common.{◌≡◌, ℕ, Bool, true, false, List, [], Result, Ok, Err, map, refl, sym, ◌∙◌, ap, subst, arith}
-use Rattle.ar_base.specs.Lists.{IsOneOf}
+use Rattle.std.proofs.Common.{◌≡◌, ℕ, Bool, true, false, List, [], Result, Ok, Err, map, refl, sym, ◌∙◌, ap, subst, arith, Vec}
+use Rattle.std.specs.Global.{Global}
+use Rattle.ar_base.specs.Lists.{IsOneOf, Stands}
 use Rattle.ar_base.specs.Numbers.{EventId}
 use Rattle.ar_base.specs.Stages.{Where}
 use Rattle.ar_base.specs.Texts.{text_at}
 use Rattle.ar_base.proofs.Stages.{stage_stops, stage_passes}
-use Rattle.ar_base.proofs.Standing.{one_none}
+use Rattle.ar_base.proofs.Standing.{one_none, stands_none}
 use Rattle.typed_expr.specs.Pairs.{turned}
 use Rattle.ar_meaning.specs.Systems.{System}
 use Rattle.ar_meaning.specs.FlatOf.{IsNumber}
@@ -14,6 +15,7 @@ use Rattle.ar_meaning.proofs.FlatSystems.{flat_back}
 use Rattle.ar_firing.specs.Rules.{Rule, number_of, Spot, AtEvent, AtUnit, AtVariable, AtObserver, AtWhole, IsFirstBroken, KeepsAll}
 use Rattle.ar_firing.proofs.ImageRules.{first_broken_there, keeps_all_there}
 use Rattle.forest_text.specs.Printed.{edge_count}
+use Rattle.gate_modules.specs.declared.ranges.Range.{Range}
 use Rattle.gts_core.specs.View.{Views}
 use Rattle.gts_core.specs.declared.system.GtsParts.{GtsParts}
 use Rattle.gts_flatten.specs.Elaborating.{Elaborated}
@@ -27,8 +29,7 @@ use Rattle.run_words.specs.declared.verbs.Verb.{Verb}
 use Rattle.run_words.specs.declared.verbs.Verb.TheVariants.{Check, Flat, Replay, Fragment, Equations, Cuts, Make, Explain, CheckCuts, Modules}
 use Rattle.static_fragment.specs.Recognised.{IsRecognised, IsOutside, spot_of}
 use Rattle.static_fragment.specs.declared.faults.Spot as there
-use Rattle.altarica_run.specs.Jobs.{is_built}
-use Rattle.altarica_run.specs.Passing.{stop_told, IsStageOf, AreDropped, CanBeWritten, IsForestOf, HasForest, HasTable, IsRequested, IsReady}
+use Rattle.altarica_run.specs.Passing.{stop_told, IsStageOf, AreDropped, CanBeWritten, IsForestOf, HasForest, HasTable, HasRanges, IsRequested, IsReady}
 use Rattle.altarica_run.specs.Spots.{path_in}
 use Rattle.altarica_run.specs.Stages.{Ready, is_static, Static, keeps, outside, spot_path, has_table, Tabled, fits, Demands}
 use Rattle.altarica_run.specs.declared.requesting.Request.{Request}
@@ -137,6 +138,16 @@ pub table_trees : (v : Verb) (p : GtsParts) (w : Ready) (f : Forest) → HasFore
     → IsForestOf p w.dropped f
 table_trees v p w f h e = h.own (table_static v e)
 
+-- no units, where the command does not speak of units
+pub no_ranges : (v : Verb) (x : Elaborated) (ranges : List Range) → ranges ≡ [] → (v ≡ Modules → ⊥) → HasRanges v x ranges
+no_ranges v x ranges e other = record {
+  are = record {
+    ascend = λ j k a b h s t. absurd (stands_none j a (subst (λ (z : List Range). Stands z j a) e s));
+    nested = λ j k a b h s t m n. absurd (stands_none j a (subst (λ (z : List Range). Stands z j a) e s));
+  };
+  own = λ i. absurd (other i);
+}
+
 -- What the command demands of the system, once the words and the script have asked
 
 module _ (job : Job) (w : Ready) (p : GtsParts) where
@@ -171,19 +182,19 @@ module _ (job : Job) (w : Ready) (p : GtsParts) where
         stage_passes stop_told trees table w has_trees (IsReady job) w r passes_trees
         (subst (λ (z : Result Prepared Stop). IsStageOf (IsReady job) (table w) z) (sym (i ∙ ap Err j)) h)
 
-    pub all_ready : is_built job.command ≡ true → IsFlat w.source p → (request : Request) → IsRequested job.command w.source p w request
-        → (made : GateTable)
+    pub all_ready : IsFlat w.source p → (request : Request) → IsRequested job.command w.source p w request
+        → (ranges : Vec Range Global) → HasRanges job.command w.source ranges.items → (made : GateTable)
         → IsStageOf (HasTable job.command p f) (table w) (Ok made)
         → IsStageOf (IsReady job) (Demands job.command w)
-        (Ok (record { command = job.command; system = p; request = request; forest = f; table = made; nodes = job.nodes; number = job.number }))
-    all_ready built flat request are made h =
+        (Ok (record { command = job.command; system = p; request = request; forest = f; table = made; ranges = ranges; nodes = job.nodes; number = job.number }))
+    all_ready flat request are ranges units made h =
         let u : h.0 ≡ w = same_tabled (has_table job.command) w h.0 h.1 in
-        let done : Prepared = record { command = job.command; system = p; request = request; forest = f; table = made; nodes = job.nodes; number = job.number } in
+        let done : Prepared = record { command = job.command; system = p; request = request; forest = f; table = made; ranges = ranges; nodes = job.nodes; number = job.number } in
         let is : IsReady job w done = record {
           command = refl;
-          built = built;
           flat = flat;
           requested = are;
+          ranges = units;
           forest = forest_here;
           table = subst (λ (z : Ready). HasTable job.command p f z made) u h.2;
           nodes = refl;

@@ -7,7 +7,7 @@ use Rattle.run_words.specs.declared.jobs.JobFault.{JobFault}
 use Rattle.run_words.specs.declared.jobs.JobFault.TheVariants as words
 use Rattle.run_words.specs.declared.verbs.Verb.{Verb}
 use Rattle.run_words.specs.declared.verbs.Verb.TheVariants.{Check, Flat, Replay, Fragment, Equations, Cuts, Make, Explain, CheckCuts, Modules}
-use Rattle.altarica_run.specs.Jobs.{is_built, IsBuiltJob, IsNoJob, makes_model, AnswersJob}
+use Rattle.altarica_run.specs.Jobs.{IsNoJob, makes_model, AnswersJob}
 use Rattle.altarica_run.specs.Passing.{stop_of_words}
 use Rattle.altarica_run.specs.declared.stops.Stop.{Stop}
 
@@ -19,15 +19,8 @@ job_stops ws r d e i j h = subst (AnswersJob ws) (sym (i ∙ ap Err j)) (go e h)
     go : (e : JobFault)
         → ((let z : Result Job JobFault = Err e in z ≡ Err words.Usage) → (job : Job) → IsJob ws job → ⊥)
         → AnswersJob ws (Err (stop_of_words e))
-    go words.Usage h = (refl, λ job b. h refl job b.is_job)
+    go words.Usage h = (refl, λ job b. h refl job b)
     go words.Memory h = tt
-
--- words whose one job has a command that is not built give none whose command is
-pub not_built : (ws : List (List ℕ)) (job : Job) → ((a b : Job) → IsJob ws a → IsJob ws b → a ≡ b) → IsJob ws job
-    → is_built job.command ≡ false → IsNoJob ws
-not_built ws job one is never other b =
-    let e : other ≡ job = one other job b.is_job is in
-    let k : true ≡ false = sym b.built ∙ ap (λ (j : Job). is_built j.command) e ∙ never in cc
 
 -- the limit of nodes of a job
 few_given : (v : Verb) (given : Option (List ℕ)) (n : ℕ) → IsNodes v given n → n ≤ 16777216
@@ -43,8 +36,8 @@ few_given CheckCuts None n e = omega (arith, e)
 few_given Modules None n e = omega (arith, e)
 few_given v (Some text) n h = h.1.at_most
 
-pub few_nodes : (ws : List (List ℕ)) (job : Job) → IsBuiltJob ws job → job.nodes ≤ 16777216
-few_nodes ws job b = few_given job.command _ job.nodes b.is_job.job_of.nodes
+pub few_nodes : (ws : List (List ℕ)) (job : Job) → IsJob ws job → job.nodes ≤ 16777216
+few_nodes ws job b = few_given job.command _ job.nodes b.job_of.nodes
 
 -- a command that makes its model
 pub makes : (v : Verb) → makes_model v ≡ true → v ≡ Make
@@ -72,5 +65,5 @@ made_line line job of e =
     of.files in
     record { at_least = f.0.2.at_least; at_most = f.0.2.at_most; script = f.2 }
 
-pub made_job : (ws : List (List ℕ)) (job : Job) → IsBuiltJob ws job → makes_model job.command ≡ true → IsMade job
-made_job ws job b e = made_line _ job b.is_job.job_of e
+pub made_job : (ws : List (List ℕ)) (job : Job) → IsJob ws job → makes_model job.command ≡ true → IsMade job
+made_job ws job b e = made_line _ job b.job_of e

@@ -4,9 +4,10 @@ use Rattle.ar_base.specs.Counts.{limit_of}
 use Rattle.ar_base.specs.declared.counts.Count.TheVariants.{ModelBytes, ScriptBytes}
 use Rattle.ar_io.specs.Outside.{Told, Bytes, Absent, Untold, MayBeLonger, IsFile}
 use Rattle.run_words.specs.declared.jobs.Job.{Job}
+use Rattle.run_words.specs.Jobs.{IsJob}
 use Rattle.altarica_run.specs.Files.{File, model_file, script_files, files_where, files_of, Loaded, none, long, later, whole, Loads, this, next}
 use Rattle.altarica_run.specs.Follows.{Call, Gave, IsKnown, IsQuiet, Wrote, RoseAt, SinkRose}
-use Rattle.altarica_run.specs.Jobs.{IsBuiltJob, makes_model}
+use Rattle.altarica_run.specs.Jobs.{makes_model}
 use Rattle.altarica_run.specs.Refusals.{line_of, status_of}
 use Rattle.altarica_run.specs.Says.{Says, usage, refuses, tells, EndsSo}
 use Rattle.altarica_run.specs.Says as says
@@ -132,10 +133,10 @@ module _ (files : List ℕ → Told) (name script : List ℕ) (is : files name �
         let i : r ≡ Size ScriptBytes = ap (refusal_or r) (files_refused (Err r) (model_first files job loads (Err r) h)) in ap Err i
     script_over x (loaded texts h t s) = not_ok _ _ (sym (files_refused (Ok texts) (model_first files job loads (Ok texts) h)))
 
-module _ (c : Call) (job : Job) (one : (a b : Job) → IsBuiltJob c.words a → IsBuiltJob c.words b → a ≡ b)
-    (is : IsBuiltJob c.words job) where
+module _ (c : Call) (job : Job) (one : (a b : Job) → IsJob c.words a → IsJob c.words b → a ≡ b)
+    (is : IsJob c.words job) where
   -- the job of the words is this one
-  same_job : (other : Job) → IsBuiltJob c.words other → (P : Job → Type 0) → P other → P job
+  same_job : (other : Job) → IsJob c.words other → (P : Job → Type 0) → P other → P job
   same_job other at P h = subst P (one other job at is) h
 
   module _ (loads : makes_model job.command ≡ false) (text : List ℕ) (told : c.files job.model ≡ Bytes text)

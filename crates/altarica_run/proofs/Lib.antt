@@ -12,3 +12,4 @@ pub mod FollowLemmas
 pub mod LawLemmas
 mod ListingLemmas
 pub mod ExplainLemmas
+pub mod CheckLemmas

@@ -10,12 +10,12 @@ use Rattle.cut_text.specs.Texts.{count_line, label_lists}
 use Rattle.gts_flatten.specs.Flat.{naming_of}
 use Rattle.run_words.specs.declared.jobs.Job.{Job}
 use Rattle.run_words.specs.declared.verbs.Verb.{Verb}
-use Rattle.run_words.specs.declared.verbs.Verb.TheVariants.{Check, Flat, Replay, Fragment, Equations, Cuts, Make, Explain}
-use Rattle.altarica_run.specs.Jobs.{IsBuiltJob}
+use Rattle.run_words.specs.declared.verbs.Verb.TheVariants.{Check, Flat, Replay, Fragment, Equations, Cuts, Make, Explain, CheckCuts, Modules}
+use Rattle.run_words.specs.Jobs.{IsJob}
 use Rattle.altarica_run.specs.Follows.{Call, Gave, Wrote}
 use Rattle.altarica_run.specs.Listings.{IsCut, IsCutOrder, IsListing}
 use Rattle.altarica_run.specs.Stages.{Ready, Passes}
-use Rattle.altarica_run.specs.Tells.{IsCutsText, Tells, check, flat, replay, fragment, equations, cuts, make, explains, unsettled, conflict, nodes}
+use Rattle.altarica_run.specs.Tells.{IsCutsText, Tells, check, flat, replay, fragment, equations, cuts, make, explains, unsettled, checks, in_short, conflict, nodes}
 use Rattle.altarica_run.specs.declared.status.Status.{Status}
 use Rattle.altarica_run.specs.declared.status.Status.TheVariants as status
 use Rattle.altarica_run.proofs.FollowLemmas.{meaning_of}
@@ -45,6 +45,8 @@ cuts_text job w text s j d (cuts e h) = h
 cuts_text job w text s j d (make e h) = other_verb job.command Make e refl j
 cuts_text job w text s j d (explains e h) = other_verb job.command Explain e refl j
 cuts_text job w text s j d (unsettled e h) = let k : false ≡ true = ap is_done d in absurd cc
+cuts_text job w text s j d (checks e h) = other_verb job.command CheckCuts e refl j
+cuts_text job w text s j d (in_short e h) = other_verb job.command Modules e refl j
 cuts_text job w text s j d (conflict e h) = let k : false ≡ true = ap is_done d in absurd cc
 cuts_text job w text s j d (nodes e h) = let k : false ≡ true = ap is_done d in absurd cc
 
@@ -137,8 +139,8 @@ module _ (c : Call) (job : Job) (w : Ready) (passes : Passes c.files job (Ok w))
 
 -- the job of the words is this one
 pub listing_of : (c : Call) (job : Job)
-    → ((a b : Job) → IsBuiltJob c.words a → IsBuiltJob c.words b → a ≡ b)
-    → IsBuiltJob c.words job → job.command ≡ Cuts → Gave c status.Done → IsListing c job
+    → ((a b : Job) → IsJob c.words a → IsJob c.words b → a ≡ b)
+    → IsJob c.words job → job.command ≡ Cuts → Gave c status.Done → IsListing c job
 listing_of c job one is e gave =
     let m = meaning_of c status.Done gave in
     let same = one m.job job m.is_job is in

@@ -26,13 +26,13 @@ use Rattle.replayer.specs.declared.commands.Command.{Command}
 use Rattle.replayer.specs.declared.commands.Command.TheVariants.{Fire}
 use Rattle.replayer.specs.declared.commands.ScriptFault.{ScriptFault}
 use Rattle.replayer.specs.declared.commands.ScriptFault.TheVariants as script
-use Rattle.run_words.specs.Jobs.{NamesFiles, form_of, IsJobOf, OptionsFit}
+use Rattle.run_words.specs.Jobs.{IsJob, NamesFiles, form_of, IsJobOf, OptionsFit}
 use Rattle.run_words.specs.Lines.{Line}
 use Rattle.run_words.specs.declared.jobs.Job.{Job}
 use Rattle.run_words.specs.declared.verbs.Verb.{Verb}
 use Rattle.run_words.specs.declared.verbs.Verb.TheVariants.{Check, Flat, Replay, Fragment, Equations, Cuts, Make, Explain, CheckCuts, Modules}
 use Rattle.altarica_run.specs.Files.{files_of}
-use Rattle.altarica_run.specs.Jobs.{IsBuiltJob, AnswersJob, makes_model}
+use Rattle.altarica_run.specs.Jobs.{AnswersJob, makes_model}
 use Rattle.altarica_run.specs.Loading.{RefusesFiles, AnswersTexts, AreTexts, texts_of, texts_where, script_texts}
 use Rattle.altarica_run.specs.Loading as loading
 use Rattle.wanted_values.specs.Answers.{AnswersWanted, AnswersObserver}
@@ -453,9 +453,9 @@ command_asks Explain files model name n s f l = l.some f.0.0 f.0.2
 command_asks CheckCuts files model name n s f l = l.some f.0.0 f.0.2
 command_asks Modules files model name n s f l = l.none f.1
 
-pub script_there : (words : List (List ℕ)) (job : Job) (s : Option (Vec ℕ Global)) → IsBuiltJob words job
+pub script_there : (words : List (List ℕ)) (job : Job) (s : Option (Vec ℕ Global)) → IsJob words job
     → IsLoadedScript job.script s → IsThere (has_second job.command) s
-script_there words job s b l = command_asks job.command _ job.model job.script job.number s b.is_job.job_of.files l
+script_there words job s b l = command_asks job.command _ job.model job.script job.number s b.job_of.files l
 
 -- and an observer exactly where its command asks for one
 observer_given : (o : Option (List ℕ)) → (o ≡ None → ⊥) → IsThere true o
@@ -479,8 +479,8 @@ line_sees line job of =
     subst (λ (z : Option (List ℕ)). IsThere (has_table job.command) (path_asked job.command z)) (sym of.observer)
     (command_sees job.command line of.options)
 
-pub observer_there : (words : List (List ℕ)) (job : Job) → IsBuiltJob words job → IsThere (has_table job.command) (observer_asked job)
-observer_there words job b = line_sees _ job b.is_job.job_of
+pub observer_there : (words : List (List ℕ)) (job : Job) → IsJob words job → IsThere (has_table job.command) (observer_asked job)
+observer_there words job b = line_sees _ job b.job_of
 
 -- a script that a command reads is the second of the texts
 pub second_of : (v : Verb) (t : Texts) → IsSecond (has_second v) (texts_where (makes_model v) t) t.script
@@ -510,7 +510,7 @@ module _ (files : List ℕ → Told) (rose : List ℕ → Type 0) (words : List 
       go (Refused r) h = subst (λ (z : Refusal). RefusesWords files rose words z) (sym h.0) (no_job h.1)
       go Memory h = tt
 
-  module _ (job : Job) (is : IsBuiltJob words job) where
+  module _ (job : Job) (is : IsJob words job) where
     pub files_stop : (r : Result Prepared Stop) (d e : Stop) → r ≡ Err d → d ≡ e
         → AnswersTexts files rose job (Err e) → AnswersWords files rose words r
     files_stop r d e i j h = at_stop r d e i j (go e h)

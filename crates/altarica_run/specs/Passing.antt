@@ -19,6 +19,8 @@ use Rattle.event_lists.specs.Naming.{NamesEvents, HasUnknown, AreEventsOf}
 use Rattle.event_lists.specs.declared.reading.ListFault.{ListFault}
 use Rattle.event_lists.specs.declared.reading.ListFault.TheVariants as list
 use Rattle.forest_text.specs.Printed.{edge_count}
+use Rattle.gate_modules.specs.Modules.{AreRanges}
+use Rattle.gate_modules.specs.declared.ranges.Range.{Range}
 use Rattle.gts_core.specs.View.{Views}
 use Rattle.gts_core.specs.declared.bound.Chain.{Chain}
 use Rattle.gts_core.specs.declared.system.GtsParts.{GtsParts}
@@ -27,6 +29,7 @@ use Rattle.gts_flatten.specs.Flat.{IsFlat, naming_of_parts}
 use Rattle.mode_forests.specs.Views.{trees_of, number_in}
 use Rattle.mode_forests.specs.Ways.{OwnTheirWays}
 use Rattle.mode_forests.specs.declared.forests.Forest.{Forest}
+use Rattle.module_text.specs.Ranges.{AreRangesOf}
 use Rattle.replayer.specs.CutLists.{CutLine, CutList, cut_of, HaveKnownWays}
 use Rattle.replayer.specs.Flat.{command_of, AreFirable, IsOfTree}
 use Rattle.replayer.specs.Scripts.{BadLine, Commands}
@@ -35,7 +38,7 @@ use Rattle.replayer.specs.declared.commands.ScriptFault.{ScriptFault}
 use Rattle.replayer.specs.declared.commands.ScriptFault.TheVariants as script
 use Rattle.run_words.specs.declared.jobs.Job.{Job}
 use Rattle.run_words.specs.declared.verbs.Verb.{Verb}
-use Rattle.run_words.specs.declared.verbs.Verb.TheVariants.{Replay, Explain, CheckCuts}
+use Rattle.run_words.specs.declared.verbs.Verb.TheVariants.{Replay, Explain, CheckCuts, Modules}
 use Rattle.run_words.specs.declared.jobs.JobFault.{JobFault}
 use Rattle.run_words.specs.declared.jobs.JobFault.TheVariants as words
 use Rattle.tree_equations.specs.Gives.{AtObserver}
@@ -46,8 +49,9 @@ use Rattle.wanted_values.specs.Wanting as wanting
 use Rattle.wanted_values.specs.declared.wanting.Wanted.{Wanted}
 use Rattle.wanted_values.specs.declared.wanting.WantedFault.{WantedFault}
 use Rattle.wanted_values.specs.declared.wanting.WantedFault.TheVariants as wanted
+use Rattle.run_words.specs.Jobs.{IsJob}
 use Rattle.altarica_run.specs.Files.{files_of, Loads}
-use Rattle.altarica_run.specs.Jobs.{is_built, IsBuiltJob, IsNoJob}
+use Rattle.altarica_run.specs.Jobs.{IsNoJob}
 use Rattle.altarica_run.specs.Loading.{script_texts}
 use Rattle.altarica_run.specs.Stages.{Ready, line_refused, cut_refused, is_static, has_table, IsTableOf, Passes}
 use Rattle.altarica_run.specs.declared.refusals.FileKind.{FileKind}
@@ -278,14 +282,21 @@ pub record IsGateTable (p : GtsParts) (w : Ready) (forest : Forest) (t : GateTab
 pub record HasTable (v : Verb) (p : GtsParts) (forest : Forest) (w : Ready) (t : GateTable) : Type 0 where
   pub own : has_table v ≡ true → IsGateTable p w forest t
 
+-- The units
+
+-- the ranges are those of units, and those of the source's own units where the command asks for them
+pub record HasRanges (v : Verb) (x : Elaborated) (ranges : List Range) : Type 0 where
+  pub are : AreRanges ranges
+  pub own : v ≡ Modules → AreRangesOf x.declarations.model x.declarations.units ranges
+
 -- The job
 
 -- what is prepared is what stands ready for the job
 pub record IsReady (job : Job) (w : Ready) (p : Prepared) : Type 0 where
   pub command : job.command ≡ p.command
-  pub built : is_built job.command ≡ true
   pub flat : IsFlat w.source p.system
   pub requested : IsRequested job.command w.source p.system w p.request
+  pub ranges : HasRanges job.command w.source p.ranges.items
   pub forest : HasForest job.command p.system w.dropped p.forest
   pub table : HasTable job.command p.system p.forest w p.table
   pub nodes : p.nodes ≡ job.nodes
@@ -294,15 +305,15 @@ pub record IsReady (job : Job) (w : Ready) (p : Prepared) : Type 0 where
 -- the words are refused: they are no job, or a stage of the job refuses, or a file was not read
 pub data RefusesWords (files : List ℕ → Told) (rose : List ℕ → Type 0) (words : List (List ℕ)) : Refusal → Type 0 where
   no_job : IsNoJob words → RefusesWords files rose words Usage
-  stage : {r : Refusal} (job : Job) → IsBuiltJob words job → Passes files job (Err r) → RefusesWords files rose words r
-  not_read : {kind : FileKind} {name : List ℕ} (job : Job) → IsBuiltJob words job → Loads files (files_of job) kind name
+  stage : {r : Refusal} (job : Job) → IsJob words job → Passes files job (Err r) → RefusesWords files rose words r
+  not_read : {kind : FileKind} {name : List ℕ} (job : Job) → IsJob words job → Loads files (files_of job) kind name
       → rose name
       → RefusesWords files rose words (NotRead kind)
 
 -- what is prepared stands ready for the job of the words
 pub record IsPrepared (files : List ℕ → Told) (words : List (List ℕ)) (p : Prepared) : Type 0 where
   pub job : Job
-  pub is_job : IsBuiltJob words job
+  pub is_job : IsJob words job
   pub ready : Ready
   pub passes : Passes files job (Ok ready)
   pub is_ready : IsReady job ready p

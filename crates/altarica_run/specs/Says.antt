@@ -3,8 +3,9 @@ use Rattle.std.specs.Prelude.{ℕ, List, [], Option, Ok, Err}
 use Rattle.ar_io.specs.Outside.{Told}
 use Rattle.ar_io.specs.Writing.{Appended, Cut}
 use Rattle.run_words.specs.declared.jobs.Job.{Job}
+use Rattle.run_words.specs.Jobs.{IsJob}
 use Rattle.altarica_run.specs.Files.{files_of, Loads}
-use Rattle.altarica_run.specs.Jobs.{IsBuiltJob, IsNoJob}
+use Rattle.altarica_run.specs.Jobs.{IsNoJob}
 use Rattle.altarica_run.specs.Refusals.{line_of, status_of}
 use Rattle.altarica_run.specs.Stages.{Ready, Passes}
 use Rattle.altarica_run.specs.Tells.{Tells}
@@ -18,9 +19,9 @@ use Rattle.altarica_run.specs.declared.status.Status.TheVariants as status
 -- are passed
 pub data Says (files : List ℕ → Told) (words : List (List ℕ)) : List ℕ → Status → Type 0 where
   usage : IsNoJob words → Says files words (line_of Usage) (status_of Usage)
-  refuses : (job : Job) (r : Refusal) → IsBuiltJob words job → Passes files job (Err r)
+  refuses : (job : Job) (r : Refusal) → IsJob words job → Passes files job (Err r)
       → Says files words (line_of r) (status_of r)
-  tells : {text : List ℕ} {ends : Status} (job : Job) (w : Ready) → IsBuiltJob words job → Passes files job (Ok w)
+  tells : {text : List ℕ} {ends : Status} (job : Job) (w : Ready) → IsJob words job → Passes files job (Ok w)
       → Tells job w text ends
       → Says files words text ends
 
@@ -29,7 +30,7 @@ pub data Says (files : List ℕ → Told) (words : List (List ℕ)) : List ℕ �
 pub data Begins (files : List ℕ → Told) (rose : List ℕ → Type 0) (words : List (List ℕ)) : List ℕ → Type 0 where
   nothing : Begins files rose words []
   said : {text : List ℕ} {ends : Status} → Says files words text ends → Begins files rose words text
-  not_read : {kind : FileKind} {name : List ℕ} (job : Job) → IsBuiltJob words job → Loads files (files_of job) kind name
+  not_read : {kind : FileKind} {name : List ℕ} (job : Job) → IsJob words job → Loads files (files_of job) kind name
       → rose name
       → Begins files rose words (line_of (NotRead kind))
 
@@ -40,7 +41,7 @@ pub data EndsSo (files : List ℕ → Told) (rose : List ℕ → Type 0) (words 
     → Type 0 where
   says : {text : List ℕ} {ends : Status} → Says files words text ends → Appended old new text
       → EndsSo files rose words old new sink_rose ends
-  not_read : {kind : FileKind} {name : List ℕ} (job : Job) → IsBuiltJob words job → Loads files (files_of job) kind name
+  not_read : {kind : FileKind} {name : List ℕ} (job : Job) → IsJob words job → Loads files (files_of job) kind name
       → rose name
       → Appended old new (line_of (NotRead kind)) → EndsSo files rose words old new sink_rose status.Read
   not_written : {text : List ℕ} → Begins files rose words text → sink_rose → Cut old new text

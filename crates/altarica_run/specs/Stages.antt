@@ -202,6 +202,8 @@ pub data Tabled (w : Ready) : Result Ready Refusal → Type 0 where
 abbrev pub lists_cuts : Verb → Bool
 lists_cuts Cuts = true
 lists_cuts Make = true
+lists_cuts CheckCuts = true
+lists_cuts Modules = true
 lists_cuts _ = false
 
 -- The stages

@@ -1,9 +1,10 @@
 -- The exit status of each way to end, and what each means.
 use Rattle.std.specs.Prelude.{◌≡◌, ℕ, List, Ok, Err}
 use Rattle.run_words.specs.declared.jobs.Job.{Job}
+use Rattle.run_words.specs.Jobs.{IsJob}
 use Rattle.altarica_run.specs.Files.{files_of, Loads}
 use Rattle.altarica_run.specs.Follows.{Call, RoseAt, SinkRose, Wrote}
-use Rattle.altarica_run.specs.Jobs.{IsBuiltJob, IsNoJob}
+use Rattle.altarica_run.specs.Jobs.{IsNoJob}
 use Rattle.altarica_run.specs.Refusals.{line_of, status_of}
 use Rattle.altarica_run.specs.Stages.{Ready, Passes}
 use Rattle.altarica_run.specs.Tells.{Tells}
@@ -30,7 +31,7 @@ number_of Script = 11
 -- all stages of the job are passed, and its whole text was written
 pub record IsTold (c : Call) (status : Status) : Type 0 where
   pub job : Job
-  pub is_job : IsBuiltJob c.words job
+  pub is_job : IsJob c.words job
   pub ready : Ready
   pub passes : Passes c.files job (Ok ready)
   pub text : List ℕ
@@ -40,7 +41,7 @@ pub record IsTold (c : Call) (status : Status) : Type 0 where
 -- a stage of the job refuses, its line was written, and the status is its own
 pub record IsRefused (c : Call) (status : Status) : Type 0 where
   pub job : Job
-  pub is_job : IsBuiltJob c.words job
+  pub is_job : IsJob c.words job
   pub refusal : Refusal
   pub stage : Passes c.files job (Err refusal)
   pub is_status : status ≡ status_of refusal
@@ -49,7 +50,7 @@ pub record IsRefused (c : Call) (status : Status) : Type 0 where
 -- a file was to be loaded, its own count of faults rose, and the line that says so was written
 pub record IsNotRead (c : Call) : Type 0 where
   pub job : Job
-  pub is_job : IsBuiltJob c.words job
+  pub is_job : IsJob c.words job
   pub kind : FileKind
   pub name : List ℕ
   pub loads : Loads c.files (files_of job) kind name

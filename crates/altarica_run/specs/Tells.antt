@@ -8,6 +8,7 @@ use Rattle.ar_firing.specs.Listed.{AreListed}
 use Rattle.ar_meaning.specs.Facts.{HasValue}
 use Rattle.ar_meaning.specs.Runs.{Label}
 use Rattle.ar_meaning.specs.Systems.{System}
+use Rattle.check_text.specs.Texts.{IsCheckText}
 use Rattle.cut_text.specs.Texts.{IsCutText, IsConflictText}
 use Rattle.domains.specs.declared.Value.{Value}
 use Rattle.eq_core.specs.Gates.{Table}
@@ -20,13 +21,14 @@ use Rattle.gts_flatten.specs.Flat.{IsFlat, naming_of}
 use Rattle.hierarchy.specs.Listing.{variables, events, observers}
 use Rattle.hierarchy.specs.Units.{Thing}
 use Rattle.min_cuts.specs.Sizes.{count, largest}
+use Rattle.module_text.specs.Texts.{IsModuleText}
 use Rattle.reason_text.specs.Texts.{IsReasonText}
 use Rattle.replayer.specs.Replays.{IsReplay}
 use Rattle.replayer.specs.Settles.{Settles, IsFaultLine}
 use Rattle.replayer.specs.declared.replaying.End.{End}
 use Rattle.replayer.specs.declared.replaying.End.TheVariants as end
 use Rattle.run_words.specs.declared.jobs.Job.{Job}
-use Rattle.run_words.specs.declared.verbs.Verb.TheVariants.{Check, Flat, Replay, Fragment, Equations, Cuts, Make, Explain}
+use Rattle.run_words.specs.declared.verbs.Verb.TheVariants.{Check, Flat, Replay, Fragment, Equations, Cuts, Make, Explain, CheckCuts, Modules}
 use Rattle.source_meaning.specs.Systems.{Declarations}
 use Rattle.table_text.specs.Texts.{IsTableText}
 use Rattle.typed_expr.specs.Yields.{Yields}
@@ -80,6 +82,22 @@ pub record IsCutsText (w : Ready) (limit : ℕ) (text : List ℕ) : Type 0 where
   pub few : IsMoreThan limit (IsCounted is_text.sets) → ⊥
   pub replay : (k : ℕ) (set : List ℕ) (ls : List Label) → Stands is_text.sets k set → Stands is_text.lines k ls
       → Replays w.source.system has.observed has.wanted.value set ls
+
+-- the text of what is to be said of the lines of the list, and of the cuts that it lacks; the family of the cuts itself
+-- has at most so many counted sections
+pub record IsCheckedText (w : Ready) (limit : ℕ) (text : List ℕ) : Type 0 where
+  pub has : HasCuts w
+  pub is_text : IsCheckText (naming_of w.source.declarations) w.source.system w.dropped has.observed has.wanted.value w.lines text
+  pub sets : List (List ℕ)
+  pub are_listed : AreListed (Cut w.source.system w.dropped has.observed has.wanted.value) sets
+  pub few : IsMoreThan limit (IsCounted sets) → ⊥
+
+-- the text of the modules of the cuts, and of the cuts in short; their family itself has at most so many counted
+-- sections
+pub record IsShortText (w : Ready) (limit : ℕ) (text : List ℕ) : Type 0 where
+  pub has : HasCuts w
+  pub is_text : IsModuleText w.source w.dropped has.observed has.wanted.value text
+  pub few : IsMoreThan limit (IsCounted is_text.cuts) → ⊥
 
 -- the observer of the number, where there is one
 abbrev pub IsObserverOf : {V : Type 0} → System V → Option ℕ → Option (Expr V) → Type 0
@@ -144,6 +162,8 @@ pub data Tells (job : Job) (w : Ready) : List ℕ → Status → Type 0 where
       w.source.system w.dropped wanted.observer wanted.value text → Tells job w text Done
   cuts : {text : List ℕ} → job.command ≡ Cuts → IsCutsText w job.nodes text → Tells job w text Done
   make : {text : List ℕ} → job.command ≡ Make → IsMakeText w job.number job.nodes text → Tells job w text Done
+  checks : {text : List ℕ} → job.command ≡ CheckCuts → IsCheckedText w job.nodes text → Tells job w text Done
+  in_short : {text : List ℕ} → job.command ≡ Modules → IsShortText w job.nodes text → Tells job w text Done
   explains : {text : List ℕ} → job.command ≡ Explain → IsExplained w text → Tells job w text Done
   unsettled : {text : List ℕ} → job.command ≡ Explain
       → IsFaultLine (naming_of w.source.declarations) w.source.system w.commands text → Tells job w text Fault

@@ -12,9 +12,10 @@ ghost use Rattle.altarica_run.specs.Stages.{Ready, lists_cuts};
 ghost use Rattle.altarica_run.specs.Telling.{IsWritten, status_printed};
 ghost use Rattle.altarica_run.specs.Tells.{nodes_line, Tells};
 
-use crate::jobs::makes_model;
+use crate::checking::check;
 use crate::making::made;
 use crate::pieces::{put, put_number};
+use crate::shortening::in_short;
 use crate::stages::Prepared;
 use crate::status::Status;
 use ar_io::{Sink, SinkFailed};
@@ -26,6 +27,7 @@ use drawn_cuts::drawn_sets;
 use gate_diagrams::{Drawn, Family, diagrams};
 use gts_core::laws::lawful_systems;
 use min_cuts::{Lister, counts};
+use run_words::Verb;
 use std::alloc::Global;
 use table_meaning::{ordered_table, table_agrees};
 use zdd_nodes::{NodeFault, room_for_families, stored_sections};
@@ -76,12 +78,12 @@ fn listed<K: Sink>(
 {
     match drawn {
         Drawn::Conflicts(family) => conflict(alloc, prepared, family, out),
-        Drawn::Cuts(family) => {
-            if makes_model(prepared.command) {
-                return made(alloc, prepared, &family, out);
-            }
-            listing(alloc, prepared, family, out)
-        }
+        Drawn::Cuts(family) => match prepared.command {
+            Verb::Make => made(alloc, prepared, &family, out),
+            Verb::CheckCuts => check(alloc, prepared, family, out),
+            Verb::Modules => in_short(alloc, prepared, &family, out),
+            _ => listing(alloc, prepared, family, out),
+        },
     }
 }
 

@@ -2,8 +2,9 @@
 
 ghost use Rattle.std.specs.Prelude.{◌≡◌, ◌⊎◌};
 ghost use Rattle.run_words.specs.declared.jobs.Job.{Job};
+ghost use Rattle.run_words.specs.Jobs.{IsJob};
 ghost use Rattle.altarica_run.specs.Follows.{Call, Gave, SinkRose, IsQuiet, IsPrefix, IsSaid};
-ghost use Rattle.altarica_run.specs.Jobs.{IsBuiltJob, IsNoJob};
+ghost use Rattle.altarica_run.specs.Jobs.{IsNoJob};
 ghost use Rattle.altarica_run.specs.Statuses.{IsTold, IsRefused, Meaning_of};
 ghost use Rattle.altarica_run.specs.declared.status.Status.{Status};
 ghost use Rattle.altarica_run.specs.declared.status.Status.TheVariants as status;
@@ -23,5 +24,5 @@ pub fn nothing_gives_up()
     ensures says { (c : Call) (s : Status) → Gave c s → IsQuiet c
         → IsSaid c s ⊎ (s ≡ status.Memory) }
     ensures job { (c : Call) (s : Status) (job : Job) → Gave c s → IsQuiet c
-        → IsBuiltJob c.words job → IsTold c s ⊎ (IsRefused c s ⊎ (s ≡ status.Memory)) }
+        → IsJob c.words job → IsTold c s ⊎ (IsRefused c s ⊎ (s ≡ status.Memory)) }
 {}

@@ -6,9 +6,10 @@ ghost use Rattle.ar_base.specs.declared.counts.Count.TheVariants.{ModelBytes, Sc
 ghost use Rattle.ar_io.specs.Outside.{Told, Bytes, Absent};
 ghost use Rattle.run_words.specs.declared.jobs.Job.{Job};
 ghost use Rattle.run_words.specs.declared.verbs.Verb.TheVariants.{Cuts};
+ghost use Rattle.run_words.specs.Jobs.{IsJob};
 ghost use Rattle.altarica_run.specs.Files.{File, Loaded};
 ghost use Rattle.altarica_run.specs.Follows.{Call, Gave, IsKnown, IsQuiet, Wrote, RoseAt, SinkRose};
-ghost use Rattle.altarica_run.specs.Jobs.{IsBuiltJob, makes_model};
+ghost use Rattle.altarica_run.specs.Jobs.{makes_model};
 ghost use Rattle.altarica_run.specs.Listings.{IsListing};
 ghost use Rattle.altarica_run.specs.Refusals.{line_of};
 ghost use Rattle.altarica_run.specs.Stages.{Ready, Passes};
@@ -20,7 +21,7 @@ ghost use Rattle.altarica_run.specs.declared.status.Status.TheVariants as status
 
 /// Words give at most one job.
 pub fn one_job()
-    ensures { (words : List (List ℕ)) (a b : Job) → IsBuiltJob words a → IsBuiltJob words b
+    ensures { (words : List (List ℕ)) (a b : Job) → IsJob words a → IsJob words b
         → a ≡ b }
 {
     run_words::laws::one_job();
@@ -40,7 +41,7 @@ pub fn long_models_are_refused()
         → files job.model ≡ Bytes text → limit_of ModelBytes < length text
         → Passes files job x → x ≡ Err (Size ModelBytes) }
     ensures call { (c : Call) (s : Status) (job : Job) (text : List ℕ) → Gave c s → IsQuiet c
-        → IsBuiltJob c.words job → makes_model job.command ≡ false
+        → IsJob c.words job → makes_model job.command ≡ false
         → c.files job.model ≡ Bytes text
         → limit_of ModelBytes < length text
         → ((s ≡ status.Size) × Wrote c (line_of (Size ModelBytes))) ⊎ (s ≡ status.Memory) }
@@ -61,7 +62,7 @@ pub fn long_scripts_are_refused()
 /// Where the shelf tells that there is no model file, the call says that it was not read, and its
 /// own count of faults rose, unless the sink fails or memory is refused.
 pub fn absent_models_are_not_read()
-    ensures { (c : Call) (s : Status) (job : Job) → Gave c s → IsBuiltJob c.words job
+    ensures { (c : Call) (s : Status) (job : Job) → Gave c s → IsJob c.words job
         → makes_model job.command ≡ false → c.files job.model ≡ Absent
         → ((s ≡ status.Read) × RoseAt c job.model × Wrote c (line_of (NotRead Model)))
         ⊎ (SinkRose c ⊎ (s ≡ status.Memory)) }
@@ -71,7 +72,7 @@ pub fn absent_models_are_not_read()
 
 /// A command that makes its model loads nothing: it never says that a file was not read.
 pub fn made_models_are_not_loaded()
-    ensures { (c : Call) (s : Status) (job : Job) → Gave c s → IsBuiltJob c.words job
+    ensures { (c : Call) (s : Status) (job : Job) → Gave c s → IsJob c.words job
         → makes_model job.command ≡ true → s ≢ status.Read }
 {
     one_job();
@@ -81,7 +82,7 @@ pub fn made_models_are_not_loaded()
 /// else. Each is listed in an order that replays in the whole model, dropped events included: fired
 /// as they stand, its labels meet no fault, and the observer then has the wanted value.
 pub fn listings_are_whole()
-    ensures { (c : Call) (job : Job) → Gave c status.Done → IsBuiltJob c.words job
+    ensures { (c : Call) (job : Job) → Gave c status.Done → IsJob c.words job
         → job.command ≡ Cuts → IsListing c job }
 {
     one_job();

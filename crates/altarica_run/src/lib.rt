@@ -6,6 +6,7 @@
 #![tactic(auto)]
 
 mod analysing;
+mod checking;
 mod cutting;
 mod explaining;
 pub mod following;
@@ -17,6 +18,7 @@ mod pieces;
 mod program;
 mod refusals;
 mod requesting;
+mod shortening;
 mod spots;
 mod stages;
 mod status;

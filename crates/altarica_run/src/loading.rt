@@ -2,8 +2,9 @@
 
 ghost use Rattle.std.specs.Prelude.{◌≡◌, ◌≤◌, ℕ, true, false, List, Option};
 ghost use Rattle.ar_io.specs.Outside.{Rose};
+ghost use Rattle.run_words.specs.Jobs.{IsJob};
 ghost use Rattle.altarica_run.specs.Files.{files_where, script_files};
-ghost use Rattle.altarica_run.specs.Jobs.{IsBuiltJob, makes_model};
+ghost use Rattle.altarica_run.specs.Jobs.{makes_model};
 ghost use Rattle.altarica_run.specs.Loading.{AnswersFile, AnswersFiles, AnswersTexts, texts_where, script_texts};
 
 use crate::jobs::makes_model;
@@ -27,7 +28,7 @@ pub struct Texts {
 /// The texts of a job: those of its files, the model first; the model of `make` is made, and then
 /// nothing is loaded.
 pub fn job_texts<H: Shelf>(alloc: Global, shelf: &mut H, job: &Job) -> Result<Texts, Stop>
-    requires { (words : List (List ℕ)) × IsBuiltJob words job.now }
+    requires { (words : List (List ℕ)) × IsJob words job.now }
     ensures { AnswersTexts (H.holds shelf.old)
         (λ name. Rose (H.faults shelf.old name) (H.faults shelf.new name))
         job.now result }

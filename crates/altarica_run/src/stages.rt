@@ -1,17 +1,18 @@
 //! The stages of a job, one after the other, from its words to what stands ready for its text.
 
-ghost use Rattle.std.specs.Prelude.{◌≡◌, ◌≤◌, ℕ, List, true, length};
+ghost use Rattle.std.specs.Prelude.{◌≡◌, ◌≤◌, ℕ, List, IfOk, length};
 ghost use Rattle.ar_base.specs.Counts.{limit_of};
 ghost use Rattle.ar_base.specs.Stages.{Meets};
 ghost use Rattle.ar_base.specs.Texts.{bytes_of_all};
 ghost use Rattle.ar_base.specs.declared.counts.Count.TheVariants.{ModelBytes};
 ghost use Rattle.ar_io.specs.Outside.{Rose};
-ghost use Rattle.hierarchy.specs.Models.{IsKeptTable};
+ghost use Rattle.hierarchy.specs.Models.{IsKeptTable, RootedModel};
+ghost use Rattle.hierarchy.specs.Tie.{IsTreeOf};
+ghost use Rattle.hierarchy.specs.Units.{UnitPath};
 ghost use Rattle.gts_flatten.specs.Elaborating.{Elaborated};
 ghost use Rattle.altarica_run.specs.Elaborates.{Parses, Tables, Systems, Elaborates};
-ghost use Rattle.altarica_run.specs.Jobs.{is_built};
 ghost use Rattle.altarica_run.specs.Loading.{texts_of};
-ghost use Rattle.altarica_run.specs.Passing.{IsStageOf, IsFlattened, IsSecond, IsShort, IsThere, IsReady, has_second, AnswersWords};
+ghost use Rattle.altarica_run.specs.Passing.{IsStageOf, IsFlattened, IsSecond, IsShort, IsThere, HasRanges, IsReady, has_second, AnswersWords};
 ghost use Rattle.altarica_run.specs.Stages.{Readies, Stages, has_table, observer_asked};
 
 use crate::analysing::forest_of;
@@ -20,18 +21,20 @@ use crate::loading::{Texts, job_texts};
 use crate::requesting::{Request, request_of, word_of};
 use crate::stops::Stop;
 use crate::tabling::{GateTable, table_of};
-use ar_base::{RuleFault, Text};
+use ar_base::{Memory, RuleFault, Text};
 use ar_io::Shelf;
 use ar_parser::parse;
 use ar_syntax::Model;
 use bind_names::bind;
 use class_table::{Classes, one_declared, table};
+use gate_modules::Range;
 use gts_core::Gts;
 use gts_flatten::flatten;
 use hierarchy::Tree;
 use hierarchy::laws::tables_are_rooted;
 use instantiate::instantiate;
 use mode_forests::Forest;
+use module_text::ranges;
 use run_words::{Job, Verb};
 use std::alloc::Global;
 
@@ -48,6 +51,8 @@ pub struct Prepared {
     pub forest: Forest,
     /// The gate table, by the trees; an empty one where the command asks for none.
     pub table: GateTable,
+    /// The events of the units; none where the command does not speak of units.
+    pub ranges: Vec<Range>,
     /// How many nodes a diagram may have.
     pub nodes: u32,
     /// How many components the model of `make` has; 0 for the other commands.
@@ -80,7 +85,6 @@ fn pass(alloc: Global, job: &Job, texts: Texts) -> Result<Prepared, Stop>
     requires script { IsShort texts.script }
     requires there { IsThere (has_second job.now.command) texts.script }
     requires observer { IsThere (has_table job.now.command) (observer_asked job.now) }
-    requires built { is_built job.now.command ≡ true }
     ensures { IsStageOf (IsReady job.now)
         (Stages job.now (texts_of job.now texts) texts.model.items) result }
 {
@@ -100,22 +104,35 @@ fn ready(
     requires short { IsShort script.now }
     requires there { IsThere (has_second job.now.command) script.now }
     requires observer { IsThere (has_table job.now.command) (observer_asked job.now) }
-    requires built { is_built job.now.command ≡ true }
     ensures { (texts : List (List ℕ)) (x : Elaborated) → IsSecond (has_second job.now.command) texts script.now
         → IsFlattened x flattened → IsStageOf (IsReady job.now) (Readies job.now texts x) result }
 {
     let request = request_of(alloc, job, &flattened, script)?;
     let forest = forest_of(alloc, job.command, &flattened.system, &request.dropped)?;
     let table = table_of(alloc, &flattened.system, &forest, request.wanted)?;
+    let ranges = ranges_of(alloc, job.command, &flattened.tree)?;
     Ok(Prepared {
         command: job.command,
         system: flattened.system,
         request,
         forest,
         table,
+        ranges,
         nodes: job.nodes,
         number: job.number,
     })
+}
+
+// The events of the units of a tree, where the command speaks of units.
+fn ranges_of(alloc: Global, command: Verb, tree: &Tree) -> Result<Vec<Range>, Memory>
+    requires { (m : RootedModel) × (units : List UnitPath) × IsTreeOf m units tree.now }
+    ensures { (x : Elaborated) → IsTreeOf x.declarations.model x.declarations.units tree.now
+        → IfOk result (λ ranges. HasRanges command x ranges.items) }
+{
+    match command {
+        Verb::Modules => ranges(alloc, tree),
+        _ => Ok(Vec::new(alloc)),
+    }
 }
 
 // The system that the text means from the main block of this name, else from the last.

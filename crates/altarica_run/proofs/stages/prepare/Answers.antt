@@ -45,9 +45,6 @@ pub pass-requires-clause-observer : goal.pass-requires-clause-observer
 pass-requires-clause-observer g c =
     observer_there (bytes_of_all c.args.words.now) c.in_ok-job.job c.in_ok-job.ensures
 
-pub pass-requires-clause-built : goal.pass-requires-clause-built
-pass-requires-clause-built g c = c.in_ok-job.ensures.built
-
 pub returns : goal.returns
 returns g c =
     let files = g.H.Shelf.holds c.args.shelf.now in

@@ -4,12 +4,12 @@ use Rattle.ar_base.proofs.Stages.{stage_stops, stage_passes}
 use Rattle.gts_flatten.specs.Elaborating.{Elaborated}
 use Rattle.gts_flatten.specs.Flat.{IsFlat}
 use Rattle.altarica_run.specs.Loading.{script_texts}
-use Rattle.altarica_run.specs.Passing.{stop_told, IsRequested, IsReady}
+use Rattle.altarica_run.specs.Passing.{stop_told, IsRequested, HasRanges, IsReady}
 use Rattle.altarica_run.specs.Passing.{has_second}
 use Rattle.altarica_run.specs.Stages.{Asks, Demands}
 use Rattle.altarica_run.specs.declared.stages.Prepared.{Prepared}
 use Rattle.altarica_run.proofs.ForestLemmas.{forest_stops, forest_here, table_trees, table_stops, all_ready}
-use Rattle.altarica_run.proofs.PassLemmas.{second_here}
+use Rattle.altarica_run.proofs.PassLemmas.{second_here, memory_ready}
 use Rattle.altarica_run.proofs.stages.ready.Goals as goal
 
 pub returns-in_err-request : goal.returns-in_err-request
@@ -57,6 +57,16 @@ returns-in_err-table c = λ texts x second of.
     stage_passes stop_told (Asks job texts) (Demands job.command) x
     (IsRequested job.command x p) (IsReady job) f.0 _ f.1 (table_stops job f.0 p c.in_ok-forest.forest k _ _ _ r.1 r.2 l)
 
+pub ranges_of-requires : goal.ranges_of-requires
+ranges_of-requires c =
+    let source = c.requires.source in
+    (source.0.declarations.model, source.0.declarations.units, source.1.is_tree)
+
+pub returns-in_err-ranges : goal.returns-in_err-ranges
+returns-in_err-ranges c = λ texts x second of.
+    let r = err_from_is_err_and c.from_residual-in_err-ranges.result c.from_residual-in_err-ranges.ensures.1 in
+    memory_ready c.args.job.now texts x _ _ r.1 r.2
+
 pub returns : goal.returns
 returns c = λ texts x second of.
     let job = c.args.job.now in
@@ -68,8 +78,9 @@ returns c = λ texts x second of.
     let trees = forest_here job f.0 p c.in_ok-forest.forest k in
     let request = c.in_ok-request.request in
     let asked = subst (λ (z : Elaborated). IsRequested job.command z p f.0 request) (sym f.2.source) f.2 in
-    let made : Prepared = record { command = job.command; system = p; request = request; forest = c.in_ok-forest.forest; table = c.in_ok-table.table; nodes = job.nodes; number = job.number } in
+    let units = subst (λ (z : Elaborated). HasRanges job.command z c.in_ok-ranges.ranges.items) (sym f.2.source) (c.in_ok-ranges.ensures x of.is_tree) in
+    let made : Prepared = record { command = job.command; system = p; request = request; forest = c.in_ok-forest.forest; table = c.in_ok-table.table; ranges = c.in_ok-ranges.ranges; nodes = job.nodes; number = job.number } in
     let l = c.in_ok-table.ensures job.command f.0 flat f.2.wanted.are f.2.there (table_trees job.command p f.0 c.in_ok-forest.forest trees) in
     stage_passes stop_told (Asks job texts) (Demands job.command) x
     (IsRequested job.command x p) (IsReady job) f.0 (Ok made) f.1
-    (all_ready job f.0 p c.in_ok-forest.forest k c.requires.built flat request asked c.in_ok-table.table l)
+    (all_ready job f.0 p c.in_ok-forest.forest k flat request asked c.in_ok-ranges.ranges units c.in_ok-table.table l)

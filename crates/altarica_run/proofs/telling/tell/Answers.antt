@@ -1,5 +1,4 @@
 use Rattle.std.proofs.Common.{◌∙◌, sym, ap, subst, arith}
-use Rattle.altarica_run.specs.Jobs.{is_built}
 use Rattle.altarica_run.specs.Stages.{is_static, has_table, lists_cuts}
 use Rattle.altarica_run.proofs.CutLemmas.{one_lists}
 use Rattle.altarica_run.proofs.TellLemmas.{checked, flattened, replayed, forest_told, table_told}
@@ -52,12 +51,12 @@ returns-in-Equations g c = λ job w is.
 pub cuts-requires-clause-ready : goal.cuts-requires-clause-ready
 cuts-requires-clause-ready g c =
     let r = c.requires.ready in
-    (r.0, r.1, r.2, ap lists_cuts r.2.command ∙ one_lists _ (sym (ap is_built r.2.command) ∙ r.2.built) c.in-Cuts.is)
+    (r.0, r.1, r.2, ap lists_cuts r.2.command ∙ one_lists _ c.in-Cuts.is)
 
 pub returns-in-Cuts : goal.returns-in-Cuts
 returns-in-Cuts g c = λ job w is.
     subst (λ (z : Status). IsWritten (Tells job w) (g.K.Sink.state c.args.out.now) (g.K.Sink.state c.cuts.new.out) z) (sym c.printed.ensures)
-    (c.cuts.ensures job w is (ap lists_cuts is.command ∙ one_lists _ (sym (ap is_built is.command) ∙ is.built) c.in-Cuts.is))
+    (c.cuts.ensures job w is (ap lists_cuts is.command ∙ one_lists _ c.in-Cuts.is))
 
 pub explain-requires-clause-commands : goal.explain-requires-clause-commands
 explain-requires-clause-commands g c = c.requires.commands

@@ -31,7 +31,7 @@ fn texts(rt: &HostRuntime) -> io::Result<()> {
     }
     for length in 1_048_576..1_048_578 {
         let script = padded(rt, "", length)?;
-        let texts = [block, script.as_str()];
+        let texts = ["block B end", script.as_str()];
         run_job(rt, "script-bytes", texts, "replay model script")?;
     }
     Ok(())
@@ -113,16 +113,14 @@ fn gates(rt: &HostRuntime) -> io::Result<()> {
 
 // The cut lines of a list.
 fn cut_lines(rt: &HostRuntime) -> io::Result<()> {
-    let model =
-        "block B Boolean s (init = true); event e; transition e: s -> s := false; observer Boolean o = not s; end";
     for count in 4_096..4_098 {
-        let list = "{e}\n".repeat(count)?;
-        end_of_job(
-            rt,
-            "cut-lines",
-            [model, list.as_str()],
-            "checkcuts model script --observer o",
-        )?;
+        let list = "{e}\n".repeat(rt.alloc(), count)?;
+        let texts = [
+            "block B Boolean s (init = true); event e; transition e: s -> s := false; observer Boolean o = not s; end",
+            list.as_str(),
+        ];
+        let job = "checkcuts model script --observer o";
+        end_of_job(rt, "cut-lines", texts, job)?;
     }
     Ok(())
 }

@@ -136,7 +136,7 @@ pub(crate) fn long_chains(rt: &HostRuntime, more: u32) -> Result<String, AllocEr
 }
 
 // The assignment of a flow that counts the first so many states.
-fn counted(rt: &HostRuntime, flow: u32, states: u32) -> Result<String, AllocError> {
+fn counted(rt: &HostRuntime, flow: usize, states: u32) -> Result<String, AllocError> {
     let mut text = format!(in rt.alloc(); " f{flow} := count(s1")?;
     for place in 2..=states {
         let next = format!(in rt.alloc(); ", s{place}")?;
@@ -172,7 +172,7 @@ pub(crate) fn counting_flows(
     let mut assertions = counted(rt, 0, 60)?;
     let parts = fewer.split(' ').filter_map(|part| part.parse::<u32>().ok());
     for (place, states) in (1..whole).map(|_| 60).chain(parts).enumerate() {
-        let flow = place as u32 + 1;
+        let flow = place.saturating_add(1);
         let next = format!(in rt.alloc(); ", f{flow}")?;
         flows.push_str(&next)?;
         let next = counted(rt, flow, states)?;

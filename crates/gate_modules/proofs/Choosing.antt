@@ -113,6 +113,37 @@ module _ (f : Family) (ranges : List Range) (are : AreRanges ranges) where
         (subst (λ z. AreChosenSoFar f ranges (done ++ r ∷ []) (chosen ++ r ∷ []) z) (sym k)
         (pushed m free parts.is_module (record { unit = unit; sets = parts.are_parts })))
 
+  -- no event is of two of the chosen units
+  module _ (chosen : List Range) (sound : (c : Range) → IsOneOf chosen c → IsChosen f ranges c) where
+    apart_at : (a b : Range) → IsOneOf chosen a → IsOneOf chosen b → (e : ℕ) → lies a e ≡ true → lies b e ≡ true → (j k : ℕ) → j < k → Stands ranges j a → Stands ranges k b → ⊥
+    apart_at a b ia ib e ea eb j k l sa sb =
+        let x = in_lies a e ea in
+        let y = in_lies b e eb in
+        elim (are.nested j k a b l sa sb (omega (arith, x.0, x.1)) (omega (arith, y.0, y.1))) [
+          | inl apart ↦ apart e ea eb
+          | inr covers ↦ (sound b ib).outermost a (sound a ia).listed (record { first = are.ascend j k a b l sa sb; covers = covers }) (sound a ia).is_module
+        ]
+
+    pub different_units : AreOfDifferentUnits chosen
+    different_units = record {
+      one = λ a b ia ib e ea eb. let pa = (sound a ia).listed in let pb = (sound b ib).listed in
+          elim (cases_lt pa.place pb.place) [
+            | inl l ↦ absurd (apart_at a b ia ib e ea eb pa.place pb.place l pa.stands pb.stands)
+            | inr g ↦ elim (cases_lt pb.place pa.place) [
+              | inl l ↦ absurd (apart_at b a ib ia e eb ea pb.place pa.place l pb.stands pa.stands)
+              | inr h ↦ stands_one ranges pb.place a b (subst (λ z. Stands ranges z a) (let i : pa.place ≡ pb.place = omega (arith, g, h) in i) pa.stands) pb.stands
+            ]
+          ];
+      units = λ a b ia ib u. let pa = (sound a ia).listed in let pb = (sound b ib).listed in
+          elim (cases_lt pa.place pb.place) [
+            | inl l ↦ (let w = are.ascend pa.place pb.place a b l pa.stands pb.stands in absurd (omega (arith, u, w)))
+            | inr g ↦ elim (cases_lt pb.place pa.place) [
+              | inl l ↦ (let w = are.ascend pb.place pa.place b a l pb.stands pa.stands in absurd (omega (arith, u, w)))
+              | inr h ↦ stands_one ranges pb.place a b (subst (λ z. Stands ranges z a) (let i : pa.place ≡ pb.place = omega (arith, g, h) in i) pa.stands) pb.stands
+            ]
+          ];
+    }
+
   -- all ranges are considered
   module _ (chosen : List Range) (modules : List UnitSets) (so : AreChosenSoFar f ranges ranges chosen modules) where
     pub are_chosen : AreChosen f ranges chosen
@@ -125,34 +156,8 @@ module _ (f : Family) (ranges : List Range) (are : AreRanges ranges) where
       ascend = so.ascend;
     }
 
-    apart_at : (a b : Range) → IsOneOf chosen a → IsOneOf chosen b → (e : ℕ) → lies a e ≡ true → lies b e ≡ true → (j k : ℕ) → j < k → Stands ranges j a → Stands ranges k b → ⊥
-    apart_at a b ia ib e ea eb j k l sa sb =
-        let x = in_lies a e ea in
-        let y = in_lies b e eb in
-        elim (are.nested j k a b l sa sb (omega (arith, x.0, x.1)) (omega (arith, y.0, y.1))) [
-          | inl apart ↦ apart e ea eb
-          | inr covers ↦ (so.sound b ib).outermost a (so.sound a ia).listed (record { first = are.ascend j k a b l sa sb; covers = covers }) (so.sound a ia).is_module
-        ]
-
     pub different : AreOfDifferentUnits chosen
-    different = record {
-      one = λ a b ia ib e ea eb. let pa = (so.sound a ia).listed in let pb = (so.sound b ib).listed in
-          elim (cases_lt pa.place pb.place) [
-            | inl l ↦ absurd (apart_at a b ia ib e ea eb pa.place pb.place l pa.stands pb.stands)
-            | inr g ↦ elim (cases_lt pb.place pa.place) [
-              | inl l ↦ absurd (apart_at b a ib ia e eb ea pb.place pa.place l pb.stands pa.stands)
-              | inr h ↦ stands_one ranges pb.place a b (subst (λ z. Stands ranges z a) (let i : pa.place ≡ pb.place = omega (arith, g, h) in i) pa.stands) pb.stands
-            ]
-          ];
-      units = λ a b ia ib u. let pa = (so.sound a ia).listed in let pb = (so.sound b ib).listed in
-          elim (cases_lt pa.place pb.place) [
-            | inl l ↦ (let w = are.ascend pa.place pb.place a b l pa.stands pb.stands in absurd (omega (arith, u, w)))
-            | inr g ↦ elim (cases_lt pb.place pa.place) [
-              | inl l ↦ (let w = are.ascend pb.place pa.place b a l pb.stands pa.stands in absurd (omega (arith, u, w)))
-              | inr h ↦ stands_one ranges pb.place a b (subst (λ z. Stands ranges z a) (let i : pa.place ≡ pb.place = omega (arith, g, h) in i) pa.stands) pb.stands
-            ]
-          ];
-    }
+    different = different_units chosen so.sound
 
     pub shortened : (forms : List Form) → AddsForms chosen [] f [] forms → IsShortened f ranges modules forms
     shortened forms e = record {

@@ -13,3 +13,5 @@ mod Once
 mod Forming
 mod Walking
 mod Choosing
+mod Choices
+pub mod Standing

@@ -7,3 +7,4 @@ pub mod Parts
 pub mod Deciding
 pub mod Forms
 pub mod Choosing
+pub mod Choices

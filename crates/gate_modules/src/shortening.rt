@@ -2,9 +2,10 @@
 
 ghost use Rattle.std.specs.Prelude.{◌≡◌, ◌+◌, IfOk, OnOk, length, map, true, false, []};
 ghost use Rattle.zdd_nodes.specs.Nodes.{family as family_of, IsNumber, IsSoundStore};
+ghost use Rattle.gate_modules.specs.Choices.{StandFor};
 ghost use Rattle.gate_modules.specs.Choosing.{IsWithin, IsWithinNone, Considers, AreChosenSoFar};
 ghost use Rattle.gate_modules.specs.Modules.{AreRanges, Covers};
-ghost use Rattle.gate_modules.specs.Shortened.{Shortens, module_of};
+ghost use Rattle.gate_modules.specs.Shortened.{Shortens, form_of, module_of};
 ghost use Rattle.gate_modules.specs.Walked.{AreTwins};
 
 use crate::forms::add_forms;
@@ -17,11 +18,15 @@ use std::alloc::Global;
 use zdd_nodes::{NodeId, Store};
 
 /// The family in short: of the units of these ranges those that are chosen, by number, each with its parts, and the short
-/// forms of the family's sets, each once, in the order of the first set that has it. It makes no node of a diagram.
+/// forms of the family's sets, each once, in the order of the first set that has it. The short forms stand for the family:
+/// of each choice of one set of the module for each unit of a form, with the form's events, a set of the family is made, and
+/// each of its sets comes from just one form and one choice. It makes no node of a diagram.
 pub fn shorten(alloc: Global, family: &Family, ranges: &[Range]) -> Result<Short, Memory>
     requires root { IsNumber family.now.store family.now.root.n }
     requires ranges { AreRanges ranges.now }
-    ensures { IfOk result (λ s. Shortens (family_of family.now.store family.now.root.n) ranges.now s) }
+    ensures short { IfOk result (λ s. Shortens (family_of family.now.store family.now.root.n) ranges.now s) }
+    ensures stands { IfOk result (λ s. StandFor (family_of family.now.store family.now.root.n)
+        (map module_of s.modules.items) (map form_of s.sets.items)) }
 {
     let mut chosen = Vec::new(alloc);
     let mut modules = Vec::new(alloc);

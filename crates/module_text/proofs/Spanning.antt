@@ -34,6 +34,25 @@ in_lies r x h = step (nat_lt x r.from) refl (nat_lt x r.to) refl
     step false e false k = absurd (true≢false (sym h ∙ ap₂ (λ p q. not p && q) e k))
     step false e true k = (not_below_is x r.from e, below_is x r.to k)
 
+-- a range with events whose events are all of the other one lies within it
+pub covers_by : (a b : Range) → ((y : ℕ) → lies b y ≡ true → lies a y ≡ true) → HasEvents b → Covers a b
+covers_by a b more some =
+    let first = in_lies a b.from (more b.from (lies_in b b.from (omega arith) some)) in
+    let last = in_lies a (b.to - 1)
+    (more (b.to - 1) (lies_in b (b.to - 1) (omega (arith, some)) (omega (arith, some)))) in
+    (first.0, (let m = last.1 in omega (arith, m, some)))
+
+-- ranges that are nested where they have a common event are nested or apart
+pub nested_by : (a b : Range) → ((x : ℕ) → lies a x ≡ true → lies b x ≡ true → Covers a b) → HasEvents a → HasEvents b → AreApart a b ⊎ Covers a b
+nested_by a b covers p q = by (cases_lt a.from b.to) (cases_lt b.from a.to) (cases_lt a.from b.from)
+  where
+    by : (a.from < b.to) ⊎ (b.to ≤ a.from) → (b.from < a.to) ⊎ (a.to ≤ b.from)
+        → (a.from < b.from) ⊎ (b.from ≤ a.from) → AreApart a b ⊎ Covers a b
+    by (inr m) n o = inl (λ e g h. let x = in_lies a e g in let y = in_lies b e h in omega (arith, m, x.0, y.1))
+    by (inl m) (inr n) o = inl (λ e g h. let x = in_lies a e g in let y = in_lies b e h in omega (arith, n, x.1, y.0))
+    by (inl m) (inl n) (inl o) = inr (covers b.from (lies_in a b.from (omega (arith, o)) n) (lies_in b b.from (omega arith) q))
+    by (inl m) (inl n) (inr o) = inr (covers a.from (lies_in a a.from (omega arith) p) (lies_in b a.from o m))
+
 pub gains_none : (P : ℕ → ℕ → Type 0) (xs : List Range) → ((k x : ℕ) → P k x → ⊥) → AllGain P xs xs
 gains_none P xs never = record {
   long = refl;
@@ -108,7 +127,7 @@ module _ (nodes : List UnitNode) where
   over_more g (here s e) = g
   over_more g (above s e h) = above s e (over_more g h)
 
-  over_least : AreBelow nodes → {k u : ℕ} → IsOver nodes k u → k ≤ u
+  pub over_least : AreBelow nodes → {k u : ℕ} → IsOver nodes k u → k ≤ u
   over_least b {k = k} (here s e) = omega arith
   over_least b {k = k} {u = u} (above {d = d} {o = o} s e h) =
       let l = b.each u d o s e in let m = over_least b h in omega (arith, l, m)
@@ -183,25 +202,11 @@ module _ (nodes : List UnitNode) where
           let o = over_of_both (suc j) (suc k) x (omega (arith, l)) ((s.has x).0 p) ((t.has x).0 q) in
           let more : (y : ℕ) → lies b y ≡ true → lies a y ≡ true = λ y h. let i = (t.has y).0 h in
           (s.has y).1 (record { event = i.event; is_event = i.is_event; over = over_more o i.over }) in
-          let first = in_lies a b.from (more b.from (lies_in b b.from (omega arith) some)) in
-          let last = in_lies a (b.to - 1)
-          (more (b.to - 1) (lies_in b (b.to - 1) (omega (arith, some)) (omega (arith, some)))) in
-          (first.0, (let m = last.1 in omega (arith, m, some)))
+          covers_by a b more some
 
       nested : (j k : ℕ) (a b : Range) → j < k → IsSpan j a → IsSpan k b → HasEvents a → HasEvents b
           → AreApart a b ⊎ Covers a b
-      nested j k a b l s t p q = by (cases_lt a.from b.to) (cases_lt b.from a.to) (cases_lt a.from b.from)
-        where
-          by : (a.from < b.to) ⊎ (b.to ≤ a.from) → (b.from < a.to) ⊎ (a.to ≤ b.from)
-              → (a.from < b.from) ⊎ (b.from ≤ a.from) → AreApart a b ⊎ Covers a b
-          by (inr m) n o = inl (λ e g h. let x = in_lies a e g in let y = in_lies b e h in omega (arith, m, x.0, y.1))
-          by (inl m) (inr n) o =
-              inl (λ e g h. let x = in_lies a e g in let y = in_lies b e h in omega (arith, n, x.1, y.0))
-          by (inl m) (inl n) (inl o) =
-              inr (covers j k b.from a b l s t q (lies_in a b.from (omega (arith, o)) n)
-              (lies_in b b.from (omega arith) q))
-          by (inl m) (inl n) (inr o) =
-              inr (covers j k a.from a b l s t q (lies_in a a.from (omega arith) p) (lies_in b a.from o m))
+      nested j k a b l s t p q = nested_by a b (λ x g h. covers j k x a b l s t q g h) p q
 
       pub spans_are_ranges : AreRanges ranges
       spans_are_ranges = record {

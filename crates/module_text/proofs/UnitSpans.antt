@@ -2,12 +2,13 @@
 use Rattle.std.proofs.Common.{◌≡◌, ◌⊎◌, inl, inr, ℕ, zero, suc, ◌+◌, ◌<◌, ◌^◌, true, List, [], ◌∷◌, ◌++◌, length, Option, Some, refl, sym, ◌∙◌, ap, subst, arith}
 use Rattle.ar_base.specs.Lists.{Stands, AreDifferent}
 use Rattle.ar_base.specs.Numbers.{UnitId}
-use Rattle.ar_base.proofs.Standing.{stands_one, stands_none, stands_within, stands_split, stands_left, stands_right, along_on, along_back, along_length}
+use Rattle.ar_base.proofs.Standing.{stands_one, stands_none, stands_within, stands_some, stands_split, stands_left, stands_right, along_on, along_back, along_length}
 use Rattle.class_table.specs.Members.{NamedMember}
 use Rattle.hierarchy.specs.Models.{RootedModel}
 use Rattle.hierarchy.specs.Units.{Level, UnitPath}
 use Rattle.hierarchy.specs.Listing.{Lists, Insides, unit, none, makes, passes, events}
 use Rattle.hierarchy.specs.Tie.{IsOwner, of_main, of_unit, IsTreeOf}
+use Rattle.hierarchy.specs.declared.tree.MemNode.{MemNode}
 use Rattle.hierarchy.specs.declared.tree.UnitNode.{UnitNode}
 use Rattle.hierarchy.specs.declared.tree.Tree.{Tree}
 use Rattle.hierarchy.proofs.Apart.{units_different}
@@ -15,15 +16,16 @@ use Rattle.hierarchy.proofs.Places.{made_named}
 use Rattle.gate_modules.specs.declared.ranges.Range.{Range}
 use Rattle.module_text.specs.Ranges.{HasEvent, AreRangesOf}
 use Rattle.module_text.specs.Spans.{AreBelow, IsOver, here, above, IsOf}
+use Rattle.module_text.proofs.DepthFirst.{events_together}
 use Rattle.module_text.proofs.Spanning.{AreSpans}
 
 -- a unit of the list that stands before place i
-abbrev IsBefore : List UnitPath → ℕ → UnitPath → Type 0
+abbrev pub IsBefore : List UnitPath → ℕ → UnitPath → Type 0
 IsBefore us i w = (j : ℕ) × (j < i) × Stands us j w
 
 mutual
   -- the unit above a unit stands before it
-  lists_before : {m : RootedModel} {u : UnitPath} {us : List UnitPath} → Lists m true u us
+  pub lists_before : {m : RootedModel} {u : UnitPath} {us : List UnitPath} → Lists m true u us
       → (i : ℕ) (l : Level) (w : UnitPath) → Stands us i (l ∷ w) → (l ∷ w ≡ u) ⊎ IsBefore us i w
   lists_before {u = u} (unit {us = us} d) zero l w s = inl (sym (stands_one (u ∷ us) 0 u (l ∷ w) refl s))
   lists_before {u = u} (unit {us = us} d) (suc i) l w s = elim (insides_before d i l w s) [
@@ -166,6 +168,31 @@ module _ (m : RootedModel) (units : List UnitPath) (tree : Tree) (is : IsTreeOf 
       events = λ e. ((λ h. has_event (suc k) e ((i.has e).0 h)), (λ h. (i.has e).1 (is_of k e h)));
     };
   }
+
+  -- the events of a unit and of those within it follow each other
+  pub of_between : (k x y z : ℕ) → x < y → y < z → IsOf nodes tree.events.items (suc k) x → IsOf nodes tree.events.items (suc k) z → IsOf nodes tree.events.items (suc k) y
+  of_between k x y z p q a c =
+      let h = has_event (suc k) x a in
+      let g = has_event (suc k) z c in
+      let same : g.unit ≡ h.unit = stands_one units (suc k) g.unit h.unit g.is_unit h.is_unit in
+      let last = stands_within (events m units) z g.event g.is_event in
+      let t = stands_some (events m units) y (omega (arith, q, last)) in
+      let under = events_together is.table.kept is.are_units h.unit h.event t.0 g.event x y z p q h.is_event t.1 g.is_event
+      (record { levels = h.within; is = h.is_within }) (record { levels = g.within; is = g.is_within ∙ ap (λ w. g.within ++ w) same }) in
+      is_of k y (record { unit = h.unit; is_unit = h.is_unit; event = t.0; is_event = t.1; within = under.levels; is_within = under.is })
+
+  pub known_unit : (n : ℕ) (d : MemNode) → Stands tree.events.items n d → d.unit.n < length nodes
+  known_unit n d s =
+      let b = along_back (events m units) tree.events.items is.events_are n d s in
+      let w = stands_within units d.unit.n b.0.unit b.2.node.unit in
+      let l = along_length units nodes is.units_are in
+      omega (arith, w, l)
+
+  pub some_units : 0 < length nodes
+  some_units =
+      let f = stands_within units 0 [] (first_unit is.are_units) in
+      let l = along_length units nodes is.units_are in
+      omega (arith, f, l)
 
   pub few_units : length nodes < 2 ^ 32
   few_units = let h = is.units_few in omega (arith, h)

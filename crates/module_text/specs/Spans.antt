@@ -61,3 +61,11 @@ pub record IsEmpty (k : ℕ) (r : Range) : Type 0 where
 pub record AreEmpty (count : ℕ) (ranges : List Range) : Type 0 where
   pub long : 0 < count → length ranges + 1 ≡ count
   pub each : (k : ℕ) (r : Range) → Stands ranges k r → IsEmpty k r
+
+-- the numbers of the range reach up to the event: behind each of them comes another one, or the event
+pub record ReachesTo (event : ℕ) (r : Range) : Type 0 where
+  pub next : (x : ℕ) → lies r x ≡ true → (suc x ≡ event) ⊎ (lies r (suc x) ≡ true)
+
+-- the ranges of unit number u and of the units above it reach up to the event
+pub record AllReach (nodes : List UnitNode) (u event : ℕ) (ranges : List Range) : Type 0 where
+  pub each : (k : ℕ) (r : Range) → Stands ranges k r → IsOver nodes (suc k) u → ReachesTo event r

@@ -10,9 +10,12 @@ ghost use Rattle.ar_firing.specs.Cuts.{Cut};
 ghost use Rattle.ar_firing.specs.Listed.{AreListed};
 ghost use Rattle.gts_core.specs.declared.system.GtsParts.{GtsParts};
 ghost use Rattle.gts_flatten.specs.Elaborating.{Elaborated};
+ghost use Rattle.hierarchy.specs.Listing.{AreUnits};
+ghost use Rattle.hierarchy.specs.Models.{IsKept};
 ghost use Rattle.hierarchy.specs.Units.{Thing};
 ghost use Rattle.mode_forests.specs.declared.forests.Forest.{Forest as TheForest};
 ghost use Rattle.cut_text.specs.Printed.{things_of, IsForestOf};
+ghost use Rattle.gate_modules.specs.Choices.{StandFor};
 ghost use Rattle.gate_modules.specs.Shortened.{Shortens};
 ghost use Rattle.gate_modules.specs.declared.ranges.Range.{Range};
 ghost use Rattle.gate_modules.specs.declared.ranges.Short.{Short};
@@ -35,3 +38,12 @@ pub fn modules_of_the_source()
 {
     one_system();
 }
+
+/// In the text of the modules of a source that keeps the rules over the whole text, the short forms stand for the cuts:
+/// each combination of one set of the module for each unit of a form, with the form's events, is a cut, and each cut comes
+/// from just one short form and one combination.
+pub fn combinations_are_cuts()
+    ensures { (x : Elaborated) (dropped : List ℕ) (observer : Expr Thing) (wanted : Value) (text : List ℕ)
+        (t : IsModuleText x dropped observer wanted text) → IsKept x.declarations.model
+        → AreUnits x.declarations.model x.declarations.units → StandFor t.cuts t.modules t.forms }
+{}

@@ -1,21 +1,23 @@
 // The events of each unit.
 
-ghost use Rattle.std.specs.Prelude.{◌+◌, ◌<◌, ◌≡◌, ◌^◌, ℕ, List, length, IfOk, OnOk};
+ghost use Rattle.std.specs.Prelude.{◌+◌, ◌<◌, ◌≡◌, ◌^◌, ℕ, List, length, IfOk};
+ghost use Rattle.ar_base.specs.Lists.{Stands};
 ghost use Rattle.hierarchy.specs.Finding.{IsSomeTree};
 ghost use Rattle.hierarchy.specs.Models.{RootedModel};
 ghost use Rattle.hierarchy.specs.Tie.{IsTreeOf};
 ghost use Rattle.hierarchy.specs.Units.{UnitPath};
 ghost use Rattle.gate_modules.specs.Modules.{AreRanges};
+ghost use Rattle.gate_modules.specs.declared.ranges.Range.{Range};
 ghost use Rattle.module_text.specs.Ranges.{AreRangesOf};
-ghost use Rattle.module_text.specs.Spans.{AreBelow, AreEmpty, Gains, AllGain, IsAt, IsAtOver};
+ghost use Rattle.module_text.specs.Spans.{AreBelow, AreEmpty, Gains, AllGain, IsAt, IsAtOver, ReachesTo, AllReach};
 
 use ar_base::{Memory, UnitId};
 use gate_modules::Range;
 use hierarchy::{Tree, UnitNode};
 use std::alloc::Global;
 
-/// The events of each unit but the main block, with those of the units within it: a run of numbers. The error is want
-/// of memory.
+/// The events of each unit but the main block, with those of the units within it: a run of numbers, since a tree lists
+/// its events by units, and its units depth first. The error is want of memory, and nothing else.
 pub fn ranges(alloc: Global, tree: &Tree) -> Result<Vec<Range>, Memory>
     requires { IsSomeTree tree.now }
     ensures are_ranges { IfOk result (λ ranges. AreRanges ranges.items) }
@@ -24,7 +26,7 @@ pub fn ranges(alloc: Global, tree: &Tree) -> Result<Vec<Range>, Memory>
 {
     let mut ranges = empty_ranges(alloc, &tree.units)?;
     for (number, event) in tree.events.iter().enumerate() {
-        add_event(&tree.units, event.unit, number as u32, &mut ranges)?;
+        add_event(&tree.units, event.unit, number as u32, &mut ranges);
     }
     Ok(ranges)
 }
@@ -45,58 +47,48 @@ fn empty_ranges(alloc: Global, units: &[UnitNode]) -> Result<Vec<Range>, Memory>
     Ok(ranges)
 }
 
-// Adds an event of this unit to the ranges of the unit and of those above it but the main block.
-fn add_event(
-    units: &[UnitNode],
-    unit: UnitId,
-    event: u32,
-    ranges: &mut [Range],
-) -> Result<(), Memory>
+// Adds an event of this unit to the ranges of the unit and of those above it but the main block. Takes no memory.
+fn add_event(units: &[UnitNode], unit: UnitId, event: u32, ranges: &mut [Range])
     requires owners { AreBelow units.now }
     requires small { event + 1 < 2 ^ 32 }
-    ensures { OnOk result (AllGain (IsAtOver units.now unit.n event) ranges.old ranges.new) }
+    requires known { unit.n < length units.now }
+    requires room { length ranges.old + 1 ≡ length units.now }
+    requires next { AllReach units.now unit.n event ranges.old }
+    ensures { AllGain (IsAtOver units.now unit.n event) ranges.old ranges.new }
 {
-    let Some(node) = units.get(unit.n as usize) else {
-        return Err(Memory {});
+    let Some(owner) = units[unit.n as usize].owner else {
+        return;
     };
-    let Some(owner) = node.owner else {
-        return Ok(());
-    };
-    add_at(ranges, (unit.n - 1) as usize, event)?;
-    add_event(units, owner, event, ranges)
+    add_at(ranges, (unit.n - 1) as usize, event);
+    add_event(units, owner, event, ranges);
 }
 
-// Adds the event to the range at this place.
-fn add_at(ranges: &mut [Range], place: usize, event: u32) -> Result<(), Memory>
-    requires { event + 1 < 2 ^ 32 }
-    ensures { OnOk result (AllGain (IsAt place event) ranges.old ranges.new) }
+// Adds the event to the range at this place, which reaches up to it. Takes no memory.
+fn add_at(ranges: &mut [Range], place: usize, event: u32)
+    requires small { event + 1 < 2 ^ 32 }
+    requires there { place < length ranges.old }
+    requires next { (r : Range) → Stands ranges.old place r → ReachesTo event r }
+    ensures { AllGain (IsAt place event) ranges.old ranges.new }
 {
-    let Some(range) = ranges.get(place) else {
-        return Err(Memory {});
-    };
-    ranges[place] = with_event(*range, event)?;
-    Ok(())
+    ranges[place] = with_event(ranges[place], event);
 }
 
-// The range with the event besides, where that is right behind the others. What cannot happen, that events of other
-// units stand between, is answered as want of memory.
-fn with_event(range: Range, event: u32) -> Result<Range, Memory>
-    requires { event + 1 < 2 ^ 32 }
-    ensures { IfOk result (λ longer. Gains (λ x. x ≡ event) range longer) }
+// The range with the event besides, which is right behind the others. Takes no memory.
+fn with_event(range: Range, event: u32) -> Range
+    requires small { event + 1 < 2 ^ 32 }
+    requires next { ReachesTo event range }
+    ensures { Gains (λ x. x ≡ event) range result }
 {
     if range.from >= range.to {
-        return Ok(Range {
+        return Range {
             unit: range.unit,
             from: event,
             to: event + 1,
-        });
+        };
     }
-    if range.to != event {
-        return Err(Memory {});
-    }
-    Ok(Range {
+    Range {
         unit: range.unit,
         from: range.from,
         to: event + 1,
-    })
+    }
 }

@@ -40,7 +40,7 @@ returns-in_err-print_modules g c = λ job w is e.
     let t = table job w p is i in
     let few = few_counted c.stored_sections.ensures c.room_for_families.ensures f.store f.root.n p.nodes c.len-sound_store.ensures.sound c.requires.answer.1 c.requires.within in
     let told = short_told job w p is i e (sets_of f) _ d.0 d.1
-    (c.modules_of_the_source.ensures w.source p.system is.flat.flat w.dropped p.forest forest o (observed job w p is i) q t.wanted.value (sets_of f) d.1 p.ranges.items (is.ranges.own e) c.in_ok-short.short (rw c.deref.ensures.value at c.in_ok-short.ensures))
+    (c.modules_of_the_source.ensures w.source p.system is.flat.flat w.dropped p.forest forest o (observed job w p is i) q t.wanted.value (sets_of f) d.1 p.ranges.items (is.ranges.own e) c.in_ok-short.short (rw c.deref.ensures.value at c.in_ok-short.ensures.short))
     few in
     printed_partly (Tells job w) _ Done told _ c.in_err-print_modules.ensures _ _ r.1 r.2
 
@@ -58,6 +58,6 @@ returns g c = λ job w is e.
     let t = table job w p is i in
     let few = few_counted c.stored_sections.ensures c.room_for_families.ensures f.store f.root.n p.nodes c.len-sound_store.ensures.sound c.requires.answer.1 c.requires.within in
     let told = short_told job w p is i e (sets_of f) _ d.0 d.1
-    (c.modules_of_the_source.ensures w.source p.system is.flat.flat w.dropped p.forest forest o (observed job w p is i) q t.wanted.value (sets_of f) d.1 p.ranges.items (is.ranges.own e) c.in_ok-short.short (rw c.deref.ensures.value at c.in_ok-short.ensures))
+    (c.modules_of_the_source.ensures w.source p.system is.flat.flat w.dropped p.forest forest o (observed job w p is i) q t.wanted.value (sets_of f) d.1 p.ranges.items (is.ranges.own e) c.in_ok-short.short (rw c.deref.ensures.value at c.in_ok-short.ensures.short))
     few in
     printed_whole (Tells job w) _ Done told tt c.in_ok-print_modules.ensures

@@ -1,19 +1,35 @@
-use Rattle.std.proofs.Common.{◌-◌, arith}
-use Rattle.std.proofs.lemmas.Result.{on_ok_weaker}
-use Rattle.ar_base.specs.Lists.{Stands}
-use Rattle.ar_base.proofs.Standing.{stands_item}
-use Rattle.hierarchy.specs.declared.tree.UnitNode.{UnitNode}
+use Rattle.std.proofs.Common.{◌≡◌, ◌+◌, ◌-◌, ◌<◌, length, arith}
+use Rattle.module_text.proofs.Reaching.{inner_node, above_reach, own_reach}
 use Rattle.module_text.proofs.Spanning.{gains_up}
 use Rattle.module_text.proofs.spans.+add_event.Goals as goal
+
+pub add_at-requires-clause-next : goal.add_at-requires-clause-next
+add_at-requires-clause-next t c =
+    let nodes = c.args.units.now in
+    let u = c.args.unit.n in
+    let o = c.in-Some.owner in
+    let d = inner_node nodes u _ o c.requires.known c.in-Some.is in
+    let l = c.requires.owners.each u d.node o d.stands d.owner in
+    own_reach nodes u c.args.event (u - 1) d.node o c.args.ranges.now d.stands d.owner (omega (arith, l)) c.requires.next
+
+pub add_event-requires : goal.add_event-requires
+add_event-requires t c =
+    let nodes = c.args.units.now in
+    let u = c.args.unit.n in
+    let o = c.in-Some.owner in
+    let d = inner_node nodes u _ o c.requires.known c.in-Some.is in
+    let l : o.n < u = c.requires.owners.each u d.node o d.stands d.owner in
+    let k = c.requires.known in
+    let room : length c.add_at.new.ranges + 1 ≡ length nodes = (let a = c.add_at.ensures.long in let b = c.requires.room in omega (arith, a, b)) in
+    let reach = above_reach nodes c.requires.owners u c.args.event (u - 1) d.node o c.args.ranges.now c.add_at.new.ranges d.stands d.owner (omega (arith, l)) c.requires.next c.add_at.ensures in
+    ((let e = c.decreases in omega (arith, l, e)), (c.requires.owners, (c.requires.small, (omega (arith, l, k), (room, reach)))))
 
 pub returns : goal.returns
 returns t c =
     let nodes = c.args.units.now in
     let u = c.args.unit.n in
-    let d : UnitNode = c.in-Some.node.now in
-    let s : Stands nodes u d = stands_item nodes u d c.in-Some.ensures.lookup.3.0 c.in-Some.ensures.lookup.1 in
-    let l = c.requires.owners.each u d c.in-Some-owner.owner s c.in-Some-owner.is in
-    on_ok_weaker c.add_event.result
-    (λ g. gains_up nodes u c.args.event (u - 1) d c.in-Some-owner.owner c.args.ranges.now c.add_at.new.ranges
-    c.add_event.new.ranges s c.in-Some-owner.is (omega (arith, l)) c.in_ok-add_at.ensures g)
-    c.add_event.ensures
+    let o = c.in-Some.owner in
+    let d = inner_node nodes u _ o c.requires.known c.in-Some.is in
+    let l = c.requires.owners.each u d.node o d.stands d.owner in
+    gains_up nodes u c.args.event (u - 1) d.node o c.args.ranges.now c.add_at.new.ranges c.add_event.new.ranges d.stands d.owner (omega (arith, l))
+    c.add_at.ensures c.add_event.ensures

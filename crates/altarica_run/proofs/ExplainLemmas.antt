@@ -25,7 +25,7 @@ use Rattle.gts_core.specs.declared.system.Valuation.{Valuation}
 use Rattle.gts_flatten.specs.Flat.{naming_of, naming_of_parts}
 use Rattle.hierarchy.specs.Listing.{variables}
 use Rattle.hierarchy.specs.Units.{Thing}
-use Rattle.reason_text.specs.Answers.{Explains, observed, AreSameObserver, IsObserverOf as InRange}
+use Rattle.reason_text.specs.Answers.{Explains, observed, AreSameObserver, IsObserverIn}
 use Rattle.reason_text.specs.Texts.{IsReasonText}
 use Rattle.replayer.specs.Flat.{command_of}
 use Rattle.replayer.specs.Settles.{last_standing, Settles, IsFaultLine, AnswersSettle}
@@ -34,7 +34,7 @@ use Rattle.replayer.specs.declared.replaying.ReplayFault.{ReplayFault}
 use Rattle.replayer.specs.declared.replaying.ReplayFault.TheVariants as fault
 use Rattle.run_words.specs.declared.jobs.Job.{Job}
 use Rattle.run_words.specs.declared.verbs.Verb.TheVariants.{Explain}
-use Rattle.altarica_run.specs.Passing.{IsKnown, IsReady}
+use Rattle.altarica_run.specs.Passing.{IsReady}
 use Rattle.altarica_run.specs.Stages.{Ready}
 use Rattle.altarica_run.specs.Telling.{status_explained, IsWritten, whole, cut, nothing}
 use Rattle.altarica_run.specs.Tells.{Tells, explains, unsettled, IsObserverOf}
@@ -198,10 +198,6 @@ flows_at_end p flat views commands old mid o t i answers =
     subst (λ (n : Net ℕ). HasFlows n t.values.items) views.net
     (settled_flows flat (λ u total f. same_flows flat.net (states_of f) f) commands t.values.items k.0)
 
--- an observer that the system has is in its range
-pub in_range : (p : GtsParts) (g : Option ℕ) → IsKnown p g → InRange p g
-in_range p None k = tt
-in_range p (Some n) k = k
-
-pub known_there : (p : GtsParts) (g : Option ℕ) → IsKnown p g → (n : ℕ) → g ≡ Some n → n < length p.observers.items
-known_there p g k n i = subst (λ (z : Option ℕ). IsKnown p z) i k
+-- the number of an observer that the system has is in its range
+pub known_there : (p : GtsParts) (g : Option ℕ) → IsObserverIn p g → (n : ℕ) → g ≡ Some n → n < length p.observers.items
+known_there p g k n i = subst (λ (z : Option ℕ). IsObserverIn p z) i k

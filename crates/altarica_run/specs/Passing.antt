@@ -30,6 +30,7 @@ use Rattle.mode_forests.specs.Views.{trees_of, number_in}
 use Rattle.mode_forests.specs.Ways.{OwnTheirWays}
 use Rattle.mode_forests.specs.declared.forests.Forest.{Forest}
 use Rattle.module_text.specs.Ranges.{AreRangesOf}
+use Rattle.reason_text.specs.Answers.{IsObserverIn}
 use Rattle.replayer.specs.CutLists.{CutLine, CutList, cut_of, HaveKnownWays}
 use Rattle.replayer.specs.Flat.{command_of, AreFirable, IsOfTree}
 use Rattle.replayer.specs.Scripts.{BadLine, Commands}
@@ -226,15 +227,10 @@ pub data ReadsShown (path : Option (List ℕ)) (x : Elaborated) : Result (Option
   shows : {text : List ℕ} {n : ℕ} → path ≡ Some text → wanting.NamesObserver x text n → ReadsShown path x (Ok (Some n))
   shows_none : {text : List ℕ} → path ≡ Some text → wanting.NamesNone x text → ReadsShown path x (Err NoObserver)
 
--- the observer, where there is one, is one of the system's
-abbrev pub IsKnown : GtsParts → Option ℕ → Type 0
-IsKnown p None = Unit {0}
-IsKnown p (Some n) = n < length p.observers.items
-
 -- the observer is this one, and the system has it
 pub record IsShown (p : GtsParts) (asked given : Option ℕ) : Type 0 where
   pub are : asked ≡ given
-  pub inside : IsKnown p given
+  pub inside : IsObserverIn p given
 
 -- The request
 

@@ -1,10 +1,3 @@
-mod Pieces
-mod TableLemmas
-mod Known
-mod Answering
-mod Relabelled
-mod InSystem
-mod FlatLines
 mod Listing
 mod SourceLines
 mod MissingLemmas

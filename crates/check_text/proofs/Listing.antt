@@ -21,25 +21,26 @@ use Rattle.replayer.specs.Flat.{way_label}
 use Rattle.cut_text.specs.Printed.{HaveOneWay, AreOfEdges, events_text}
 use Rattle.cut_text.specs.Tables.{AreWaysOf, texts_at}
 use Rattle.cut_text.specs.Texts.{braced}
-use Rattle.check_text.specs.Printed.{among, all_among, listed_in, missing_one, missing_at, missing_text, verdict_line, verdict_lines, all_verdicts_good, all_listed, check_text}
+use Rattle.eq_core.specs.Values.{has_event}
+use Rattle.check_text.specs.Printed.{all_among, listed_in, missing_one, missing_at, missing_text, verdict_line, verdict_lines, all_verdicts_good, all_listed, check_text}
 use Rattle.check_text.specs.Texts.{last_line}
-use Rattle.check_text.proofs.Known.{same_map}
+use Rattle.cut_text.proofs.Known.{same_map}
 
 eq_answer : (a b : ℕ) (r : Bool) → nat_eq a b ≡ r → IsAnswer r (a ≡ b)
 eq_answer a b true e = eqb-true a b e
 eq_answer a b false e = λ i. let h : nat_eq a b ≡ true = eq-eqb a b i in let z : false ≡ true = sym e ∙ h in cc
 
-pub among_answer : (xs : List ℕ) (e : ℕ) → IsAnswer (among xs e) (IsOneOf xs e)
+pub among_answer : (xs : List ℕ) (e : ℕ) → IsAnswer (has_event xs e) (IsOneOf xs e)
 among_answer [] e = λ o. one_none e o
 among_answer (x ∷ xs) e =
-    or_answer (nat_eq x e) (among xs e) (x ≡ e) (IsOneOf xs e) (IsOneOf (x ∷ xs) e)
+    or_answer (nat_eq x e) (has_event xs e) (x ≡ e) (IsOneOf xs e) (IsOneOf (x ∷ xs) e)
     (λ i. subst (λ (z : ℕ). IsOneOf (x ∷ xs) z) i (one_first x xs)) (one_rest x xs e)
     (λ n m o. elim (one_cases x xs e o) [ inl i ↦ n i | inr q ↦ m q ]) (eq_answer x e (nat_eq x e) refl) (among_answer xs e)
 
 pub all_answer : (xs ys : List ℕ) → IsAnswer (all_among xs ys) (Within xs ys)
 all_answer [] ys = record { each = λ e o. absurd (one_none e o) }
 all_answer (x ∷ xs) ys =
-    and_answer (among ys x) (all_among xs ys) (IsOneOf ys x) (Within xs ys) (Within (x ∷ xs) ys)
+    and_answer (has_event ys x) (all_among xs ys) (IsOneOf ys x) (Within xs ys) (Within (x ∷ xs) ys)
     (λ o w. record { each = λ e q. elim (one_cases x xs e q) [ inl i ↦ subst (λ (z : ℕ). IsOneOf ys z) i o | inr r ↦ w.each e r ] })
     (λ w. w.each x (one_first x xs)) (λ w. record { each = λ e o. w.each e (one_rest x xs e o) }) (among_answer ys x) (all_answer xs ys)
 

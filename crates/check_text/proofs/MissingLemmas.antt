@@ -17,7 +17,7 @@ use Rattle.cut_check.specs.Verdicts.{IsListed}
 use Rattle.check_text.specs.Printed.{listed_in, all_listed, missing_text}
 use Rattle.check_text.specs.Texts.{is_none}
 use Rattle.check_text.proofs.Listing.{listed_answer}
-use Rattle.check_text.proofs.Relabelled.{on_line}
+use Rattle.cut_text.proofs.Relabelled.{on_line}
 use Rattle.gts_core.proofs.Tests.{answer_true, answer_false}
 
 -- the labels of a path stand on the line

@@ -30,7 +30,7 @@ use Rattle.replayer.specs.Flat.{label_of, way_label}
 use Rattle.replayer.proofs.WayLemmas.{label_alike}
 use Rattle.cut_text.specs.Printed.{edges_of, way_in, labels_in, events_text, things_of, IsForestOf}
 use Rattle.cut_text.specs.Texts.{braced, labels_text}
-use Rattle.check_text.proofs.FlatLines.{flat_line}
+use Rattle.cut_text.proofs.FlatLines.{flat_line}
 
 -- events that rename each other have as many ways
 ways_count : {V W : Type 0} (same : V → W → Type 0) {es : List (Event V)} {fs : List (Event W)}

@@ -1,8 +1,9 @@
 -- The text of a check as it is written, by the parts of a flat system and the edges of its forest.
-use Rattle.std.specs.Prelude.{ℕ, Bool, true, false, if◌then◌else◌, ◌&&◌, ◌||◌, List, [], ◌∷◌, ◌++◌, codes, decimal, nat_eq}
+use Rattle.std.specs.Prelude.{ℕ, Bool, true, false, if◌then◌else◌, ◌&&◌, ◌||◌, List, [], ◌∷◌, ◌++◌, codes, decimal}
 use Rattle.ar_base.specs.Numbers.{WayId}
 use Rattle.ar_base.specs.Texts.{line}
 use Rattle.ar_meaning.specs.Runs.{Label}
+use Rattle.eq_core.specs.Values.{has_event}
 use Rattle.gts_core.specs.declared.bound.Chain.{Chain}
 use Rattle.gts_core.specs.declared.system.GtsParts.{GtsParts}
 use Rattle.mode_forests.specs.declared.forests.Edge.{Edge}
@@ -31,15 +32,10 @@ verdict_lines [] vs = []
 verdict_lines (c ∷ cs) [] = []
 verdict_lines (c ∷ cs) (v ∷ vs) = verdict_line c.line v ++ verdict_lines cs vs
 
--- whether a number is one of these
-abbrev pub among : List ℕ → ℕ → Bool
-among [] e = false
-among (x ∷ xs) e = nat_eq x e || among xs e
-
 -- whether each of these numbers is one of the others
 abbrev pub all_among : List ℕ → List ℕ → Bool
 all_among [] ys = true
-all_among (x ∷ xs) ys = among ys x && all_among xs ys
+all_among (x ∷ xs) ys = has_event ys x && all_among xs ys
 
 -- whether the set has the events of one of the lines
 abbrev pub listed_in : List (List Label) → List ℕ → Bool

@@ -3,6 +3,5 @@
 
 pub mod laws;
 mod printing;
-mod tables;
 
 pub use printing::print_check;

@@ -16,11 +16,10 @@ ghost use Rattle.check_text.specs.Printed.{verdict_text, verdict_line, verdict_l
 ghost use Rattle.check_text.specs.Printed.{listed_in, all_listed, missing_one, missing_at, check_text};
 ghost use Rattle.check_text.specs.Texts.{last_line};
 
-use crate::tables::event_ways;
 use ar_base::{EventId, WayId};
 use ar_io::{Sink, SinkFailed};
 use cut_check::{Verdict, is_listed};
-use cut_text::PrintFault;
+use cut_text::{PrintFault, event_ways};
 use gts_core::{Chain, Gts};
 use min_cuts::Lister;
 use mode_forests::Forest;

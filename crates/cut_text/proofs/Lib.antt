@@ -1,10 +1,10 @@
-mod Pieces
-mod TableLemmas
+pub mod Pieces
+pub mod TableLemmas
 mod Firing
 mod Fault
-mod Known
-mod Answering
-mod Relabelled
-mod InSystem
-mod FlatLines
-mod Source
+pub mod Known
+pub mod Answering
+pub mod Relabelled
+pub mod InSystem
+pub mod FlatLines
+pub mod Source

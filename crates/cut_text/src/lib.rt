@@ -9,3 +9,4 @@ mod tables;
 
 pub use faults::PrintFault;
 pub use printing::{print_conflict, print_cuts};
+pub use tables::event_ways;

@@ -13,7 +13,7 @@ use mode_forests::{Edge, Forest};
 use std::alloc::Global;
 
 /// For each event that has an edge its way; for another one, some way.
-pub(crate) fn event_ways(alloc: Global, gts: &Gts, forest: &Forest) -> Result<Vec<WayId>, Memory>
+pub fn event_ways(alloc: Global, gts: &Gts, forest: &Forest) -> Result<Vec<WayId>, Memory>
     requires own { OwnTheirWays gts.now forest.now.trees.items }
     requires one_way { HaveOneWay (edges_of forest.now.trees.items) }
     ensures { IfOk result (λ ways. AreWaysOf (edges_of forest.now.trees.items) ways.items) }

@@ -24,9 +24,9 @@ Explains old new IsText (Err Write) = (text : List ℕ) × IsText text × Writes
 Explains old new IsText (Err Memory) = new ≡ old
 
 -- there is no observer, or its number is one of the system's
-abbrev pub IsObserverOf : GtsParts → Option ℕ → Type 0
-IsObserverOf p None = Unit {0}
-IsObserverOf p (Some n) = n < length p.observers.items
+abbrev pub IsObserverIn : GtsParts → Option ℕ → Type 0
+IsObserverIn p None = Unit {0}
+IsObserverIn p (Some n) = n < length p.observers.items
 
 -- the expression of an observer that was looked up
 abbrev pub value_found : Option Observer → Option (Expr ℕ)

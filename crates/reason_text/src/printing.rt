@@ -6,7 +6,7 @@ ghost use Rattle.gts_flatten.specs.Flat.{naming_of_parts};
 ghost use Rattle.flow_propagate.specs.Answers.{IsState};
 ghost use Rattle.ar_firing.specs.Operands.{HasFlows};
 ghost use Rattle.flow_reasons.specs.Answers.{AreReasonsOf};
-ghost use Rattle.reason_text.specs.Answers.{Explains, IsObserverOf, observed};
+ghost use Rattle.reason_text.specs.Answers.{Explains, IsObserverIn, observed};
 ghost use Rattle.reason_text.specs.Texts.{IsReasonText};
 
 use crate::lines::told_lines;
@@ -34,7 +34,7 @@ pub fn print_reasons<K: Sink>(
 ) -> Result<(), ReplayFault>
     requires state { IsState gts.now state.now.values.items }
     requires flows { HasFlows (net_of gts.now) state.now.values.items }
-    requires range { IsObserverOf gts.now observer }
+    requires range { IsObserverIn gts.now observer }
     ensures { Explains (K.state out.old) (K.state out.new)
         (IsReasonText (naming_of_parts gts.now) (net_of gts.now) state.now.values.items (observed gts.now observer)) result }
 {

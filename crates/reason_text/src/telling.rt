@@ -2,7 +2,7 @@
 
 ghost use Rattle.std.specs.Prelude.{◌≡◌, ◌<◌, true, length, slice_set, Some, IfOk};
 ghost use Rattle.flow_reasons.specs.Answers.{numbers_of, reasons_of, AreOfState};
-ghost use Rattle.reason_text.specs.Answers.{IsObserverOf, observed, AreTold, AreAll, AreNone, AreMarked};
+ghost use Rattle.reason_text.specs.Answers.{IsObserverIn, observed, AreTold, AreAll, AreNone, AreMarked};
 
 use ar_base::{Memory, VarId};
 use flow_reasons::{Reason, cone};
@@ -17,7 +17,7 @@ pub(crate) fn told(
     observer: Option<u32>,
 ) -> Result<Vec<bool>, Memory>
     requires reasons { AreOfState gts.now reasons.now }
-    requires range { IsObserverOf gts.now observer }
+    requires range { IsObserverIn gts.now observer }
     ensures { IfOk result (λ told. AreTold gts.now (reasons_of reasons.now) (observed gts.now observer) told.items) }
 {
     let count = gts.parts().variables.len();

@@ -1,7 +1,7 @@
 use Rattle.std.proofs.Common.{ℕ, ap}
 use Rattle.ar_io.proofs.Writing.{writes_as}
 use Rattle.replayer.specs.Flat.{way_label}
-use Rattle.check_text.proofs.Pieces.{read_way}
+use Rattle.cut_text.proofs.Pieces.{read_way}
 use Rattle.check_text.proofs.printing.label.Goals as goal
 
 pub returns : goal.returns

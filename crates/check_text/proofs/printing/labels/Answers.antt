@@ -4,7 +4,7 @@ use Rattle.ar_base.specs.Texts.{separated}
 use Rattle.ar_io.proofs.Writing.{writes_exit, writes_on, writes_cut, writes_as}
 use Rattle.min_cuts.specs.Kept.{numbers}
 use Rattle.cut_text.specs.Tables.{texts_at}
-use Rattle.check_text.proofs.Pieces.{have_first, have_rest}
+use Rattle.cut_text.proofs.Pieces.{have_first, have_rest}
 use Rattle.check_text.proofs.printing.labels.Goals as goal
 
 pub label-requires : goal.label-requires

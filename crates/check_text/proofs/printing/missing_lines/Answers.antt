@@ -3,7 +3,7 @@ use Rattle.ar_io.proofs.Writing.{writes_exit, leaves_on, leaves_cut}
 use Rattle.cut_check.specs.Flat.{chain_lines}
 use Rattle.check_text.specs.Printed.{missing_at, all_listed}
 use Rattle.check_text.proofs.Listing.{and_then}
-use Rattle.check_text.proofs.Pieces.{gives_some, all_first, all_rest}
+use Rattle.cut_text.proofs.Pieces.{gives_some, all_first, all_rest}
 use Rattle.check_text.proofs.printing.missing_lines.Goals as goal
 
 pub missing_line-requires-clause-ways : goal.missing_line-requires-clause-ways

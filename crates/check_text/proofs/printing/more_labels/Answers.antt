@@ -4,7 +4,7 @@ use Rattle.ar_base.specs.Texts.{separated}
 use Rattle.ar_io.proofs.Writing.{writes_exit, leaves_all, leaves_on, leaves_cut, leaves_none, next_read, no_item}
 use Rattle.min_cuts.specs.Kept.{numbers}
 use Rattle.cut_text.specs.Tables.{texts_at}
-use Rattle.check_text.proofs.Pieces.{have_here}
+use Rattle.cut_text.proofs.Pieces.{have_here}
 use Rattle.check_text.proofs.printing.more_labels.Goals as goal
 
 pub loop-event-init : goal.loop-event-init

@@ -7,8 +7,8 @@ use Rattle.cut_check.specs.Flat.{chain_lines}
 use Rattle.cut_text.specs.Printed.{edges_of}
 use Rattle.cut_text.specs.Tables.{AreWaysOf}
 use Rattle.check_text.specs.Printed.{all_verdicts_good, all_listed}
-use Rattle.check_text.proofs.Answering.{failed}
-use Rattle.check_text.proofs.Known.{have_ways}
+use Rattle.cut_text.proofs.Answering.{failed}
+use Rattle.cut_text.proofs.Known.{have_ways}
 use Rattle.check_text.proofs.Listing.{whole_text}
 use Rattle.check_text.proofs.printing.print_check.Goals as goal
 

@@ -1,7 +1,7 @@
 use Rattle.std.proofs.Common.{◌≡◌, ℕ, Option, length, rules, sym, ap, ◌∙◌, subst}
 use Rattle.gts_core.specs.declared.system.GtsParts.{GtsParts}
 use Rattle.flow_reasons.specs.Answers.{reasons_of}
-use Rattle.reason_text.specs.Answers.{AreTold, IsObserverOf, observed}
+use Rattle.reason_text.specs.Answers.{AreTold, IsObserverIn, observed}
 use Rattle.reason_text.proofs.Marks.{told_all, marks_as}
 use Rattle.reason_text.proofs.telling.told.Goals as goal
 
@@ -15,7 +15,7 @@ returns-in-None c =
     (told_all p (reasons_of c.args.reasons.now) c.len-count.result v.items e h)) c.all.ensures
 
 pub those_of-requires-clause-range : goal.those_of-requires-clause-range
-those_of-requires-clause-range c = subst (λ (z : Option ℕ). IsObserverOf c.args.gts.now z) c.in-Some.is c.requires.range
+those_of-requires-clause-range c = subst (λ (z : Option ℕ). IsObserverIn c.args.gts.now z) c.in-Some.is c.requires.range
 
 pub those_of-requires-clause-count : goal.those_of-requires-clause-count
 those_of-requires-clause-count c =

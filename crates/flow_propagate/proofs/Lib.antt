@@ -1,15 +1,18 @@
-mod Numbered
-mod NamedVariables
-mod ReaderPairs
-mod FlowUses
-mod Reaching
-mod Putting
-mod Starting
-mod Searching
-mod Others
-mod Values
-mod Totalling
-mod Missing
-mod Applying
-mod Looking
-mod Worklists
+pub mod Numbered
+pub mod NamedVariables
+pub mod ReaderPairs
+pub mod FlowUses
+pub mod Reaching
+pub mod Putting
+pub mod Starting
+pub mod Searching
+pub mod Others
+pub mod Values
+pub mod Totalling
+pub mod Missing
+pub mod Applying
+pub mod Looking
+pub mod Worklists
+pub mod Determining
+pub mod Marking
+pub mod Hearing

@@ -37,7 +37,7 @@ same_or_not q r = go (pair_eq q r) refl
     go true e = inl (pair_same q r e)
     go false e = inr (λ i. let same : pair_eq q r ≡ true = subst (λ (z : ℕ × ℕ). pair_eq q z ≡ true) i (pair_equiv.refl q) in cc (sym e ∙ same))
 
-one_or_not : (xs : List (ℕ × ℕ)) (q : ℕ × ℕ) → IsOneOf xs q ⊎ (IsOneOf xs q → ⊥)
+pub one_or_not : (xs : List (ℕ × ℕ)) (q : ℕ × ℕ) → IsOneOf xs q ⊎ (IsOneOf xs q → ⊥)
 one_or_not [] q = inr (λ o. stands_none o.place q o.stands)
 one_or_not (x ∷ xs) q = go (same_or_not x q) (one_or_not xs q)
   where

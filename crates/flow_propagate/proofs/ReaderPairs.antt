@@ -1,5 +1,5 @@
 -- The pairs of a variable and an assignment that names it.
-use Rattle.std.proofs.Common.{Ordering, Less, Equal, Greater, ◌≡◌, ℕ, zero, suc, ◌+◌, ◌<◌, ◌≤◌, ◌⊎◌, inl, inr, Bool, true, ◌&&◌, nat_eq, List, [], ◌∷◌, map, length, get_or, Contains, refl, sym, ap, ◌∙◌, subst, arith}
+use Rattle.std.proofs.Common.{Ordering, Less, Equal, Greater, ◌≡◌, ℕ, zero, suc, ◌+◌, ◌<◌, ◌≤◌, ◌⊎◌, inl, inr, Bool, true, ◌&&◌, nat_eq, List, [], ◌∷◌, ◌++◌, map, length, get_or, Contains, refl, sym, ap, ◌∙◌, subst, arith}
 use Rattle.std.specs.Ordering.{nat_cmp, ordering_then, eq_by_cmp}
 use Rattle.std.specs.Cmp.{IsTotalOrder, IsEquivalence, both_tied, unsigned_ties, unsigned_Decides}
 use Rattle.std.proofs.lemmas.Cmp.{nat_cmp_total, nat_eq_equiv, then_total, on_total, and_equiv, on_equiv, ranked}
@@ -22,11 +22,12 @@ use Rattle.gts_core.proofs.Numbering.{IsNumber, renames_numbered}
 use Rattle.gts_core.specs.declared.system.Assign.{Assign}
 use Rattle.gts_core.specs.declared.system.GtsParts.{GtsParts}
 use Rattle.ar_meaning.specs.Dependence.{Tests, in_this, in_later, Names, Reads}
-use Rattle.flow_propagate.specs.Plan.{ComesBefore, AreReaders}
+use Rattle.flow_propagate.specs.Plan.{ComesBefore, AreReaders, AreGivers}
 use Rattle.gts_core.specs.Named.{ReadsVariable}
-use Rattle.flow_propagate.specs.Named.{IsPairFor, AddsNamed, AreNamed}
+use Rattle.flow_propagate.specs.Named.{IsPairFor, AddsNamed, AreNamed, AreTargets, Ascend}
 use Rattle.flow_propagate.proofs.Searching.{stands_read}
 use Rattle.flow_propagate.proofs.Numbered.{read_there, read_back}
+use Rattle.flow_propagate.proofs.NamedVariables.{one_left, one_last, one_cases}
 
 -- a variable by its plain number
 pub record Typed (P : VarId → Type 0) (x : ℕ) : Type 0 where
@@ -149,13 +150,13 @@ strictly (x ∷ xs) zero (suc k) q r s h a b =
 strictly (x ∷ xs) (suc j) (suc k) q r s h a b = strictly xs j k q r s.1 (omega arith) a b
 
 -- the pairs, sorted and each once
-pub readers_sorted : (p : GtsParts) (pairs sorted kept : List (ℕ × ℕ)) → AreNamed p (length p.assigns.items) pairs → IsPermutation pairs sorted → IsSorted pair_cmp sorted → IsFiltered (DiffersFromLast pair_eq) [] sorted kept → AreReaders p kept
-readers_sorted p pairs sorted kept a perm order filtered =
+pub ascend : (pairs sorted kept : List (ℕ × ℕ)) → IsPermutation pairs sorted → IsSorted pair_cmp sorted → IsFiltered (DiffersFromLast pair_eq) [] sorted kept → Ascend pairs kept
+ascend pairs sorted kept perm order filtered =
     let is : kept ≡ dedup pair_eq sorted = dedup_is pair_eq sorted kept filtered in
-    let P : List (ℕ × ℕ) → Type 0 = λ z. AreReaders p z in
+    let P : List (ℕ × ℕ) → Type 0 = λ z. Ascend pairs z in
     subst P (sym is) (record {
-      only = λ x n o. a.only (x, n) (back (x, n) o);
-      all = λ x n r. there (x, n) (let h = read_back p x n r in a.all x n (stands_within p.assigns.items n h.assign h.stands) r);
+      all = there;
+      only = back;
       ascending = λ j k q r h s t. comes_before q r (strictly (dedup pair_eq sorted) j k q r (IsStrictlySortedBy-dedup pair_total pair_ties sorted order) h s t);
     })
   where
@@ -167,3 +168,42 @@ readers_sorted p pairs sorted kept a perm order filtered =
       where
         unsort : (q : ℕ × ℕ) → Contains sorted q → Contains pairs q
         unsort q c = Contains-permutation sorted pairs q (IsPermutation-sym pairs sorted perm) c
+
+pub readers_sorted : (p : GtsParts) (pairs kept : List (ℕ × ℕ)) → AreNamed p (length p.assigns.items) pairs → Ascend pairs kept → AreReaders p kept
+readers_sorted p pairs kept a s = record {
+  only = λ x n o. a.only (x, n) (s.only (x, n) o);
+  all = λ x n r. s.all (x, n) (let h = read_back p x n r in a.all x n (stands_within p.assigns.items n h.assign h.stands) r);
+  ascending = s.ascending;
+}
+
+pub givers_sorted : (p : GtsParts) (pairs kept : List (ℕ × ℕ)) → AreTargets p (length p.assigns.items) pairs → Ascend pairs kept → AreGivers p kept
+givers_sorted p pairs kept a s = record {
+  only = λ x n o. a.only x n (s.only (x, n) o);
+  all = λ n x st. s.all (x.target.n, n) (a.all n x (stands_within p.assigns.items n x st) st);
+  ascending = s.ascending;
+}
+
+pub targets_start : (p : GtsParts) → AreTargets p 0 []
+targets_start p = record { only = λ x n o. absurd (stands_none o.place (x, n) o.stands); all = λ n a h s. absurd (omega arith) }
+
+-- one assignment more
+pub targets_more : (p : GtsParts) (i : ℕ) (a : Assign) (old new : List (ℕ × ℕ)) → i < length p.assigns.items → a ≡ get_or p.assigns.items i a → AreTargets p i old → new ≡ old ++ (a.target.n, i) ∷ [] → AreTargets p (i + 1) new
+targets_more p i a old new h is before e = record {
+  only = λ x n o. elim (one_cases old (a.target.n, i) (x, n) (subst (λ (z : List (ℕ × ℕ)). IsOneOf z (x, n)) e o)) [
+    | inl k ↦ before.only x n k
+    | inr j ↦ (a, subst (λ (z : ℕ). Stands p.assigns.items z a) (ap (λ (q : ℕ × ℕ). q.1) j) stands, ap (λ (q : ℕ × ℕ). q.0) j)
+  ];
+  all = λ n b below s. subst (λ (z : List (ℕ × ℕ)). IsOneOf z (b.target.n, n)) (sym e) (at n b s (cases_below n i below));
+}
+  where
+    stands : Stands p.assigns.items i a
+    stands = stands_read p.assigns.items i a h is
+
+    at : (n : ℕ) (b : Assign) → Stands p.assigns.items n b → (n < i) ⊎ (n ≡ i) → IsOneOf (old ++ (a.target.n, i) ∷ []) (b.target.n, n)
+    at n b s (inl l) = one_left old ((a.target.n, i) ∷ []) (b.target.n, n) (before.all n b l s)
+    at n b s (inr j) =
+        let one : a ≡ b = stands_one p.assigns.items i a b stands (subst (λ (z : ℕ). Stands p.assigns.items z b) j s) in
+        subst (λ (z : Assign). IsOneOf (old ++ (a.target.n, i) ∷ []) (z.target.n, n)) one (subst (λ (z : ℕ). IsOneOf (old ++ (a.target.n, i) ∷ []) (a.target.n, z)) (sym j) (one_last old (a.target.n, i)))
+
+pub targets_all : (p : GtsParts) (i : ℕ) (pairs : List (ℕ × ℕ)) → length p.assigns.items ≤ i → AreTargets p i pairs → AreTargets p (length p.assigns.items) pairs
+targets_all p i pairs h a = record { only = a.only; all = λ n x below s. a.all n x (omega arith) s }

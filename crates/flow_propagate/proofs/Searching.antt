@@ -1,6 +1,5 @@
 -- The searches for faults find what they look for.
-use Rattle.std.proofs.Common.{◌≡◌, ℕ, zero, suc, ◌+◌, ◌<◌, ◌≤◌, ◌⊎◌, inl, inr, Bool, true, false, cond, nat_lt, List, [], ◌∷◌, length, get_or, Contains, Option, Some, None, refl, sym, ap, ◌∙◌, subst, arith}
-use Rattle.std.proofs.lemmas.Bool.Decides.{nat_tests}
+use Rattle.std.proofs.Common.{◌≡◌, ℕ, zero, suc, ◌+◌, ◌<◌, ◌≤◌, ◌⊎◌, inl, inr, Bool, true, false, List, [], ◌∷◌, length, get_or, Contains, Some, None, sym, ap, ◌∙◌, subst, arith}
 use Rattle.ar_base.specs.Lists.{Stands, IsOneOf, IsFirst, HasNo, HasOther}
 use Rattle.ar_base.proofs.Standing.{stands_one, stands_map, stands_map_back, stands_within, at_most}
 use Rattle.domains.proofs.Domains.{held, listed}
@@ -22,7 +21,6 @@ use Rattle.gts_core.specs.declared.system.Assign.{Assign}
 use Rattle.gts_core.specs.declared.system.GtsParts.{GtsParts}
 use Rattle.typed_expr.specs.Rows.{Rows, row_at}
 use Rattle.flow_propagate.specs.Table.{Holds, AreFacts}
-use Rattle.ar_base.specs.Least.{least_with}
 use Rattle.flow_propagate.specs.Searches.{AreTwo, IsTwo, Leaves, LeavesDomain, IsLeast}
 
 pub stands_read : {A : Type 0} (xs : List A) (i : ℕ) (a : A) → i < length xs → a ≡ get_or xs i a → Stands xs i a
@@ -94,34 +92,6 @@ leaves_as p rows a d true x st e h = record { variable = x; stands = st; leaves 
 leaves_as p rows a d false x st e h = λ k.
     let same : k.variable ≡ x = stands_one p.variables.items a.target.n k.variable x k.stands st in
     h (subst (λ (z : Domain). Leaves rows z a) (ap (λ (z : Variable). z.domain) same ∙ sym e) k.leaves)
-
-pub least_more : (all : List Assign) (i : ℕ) (a : Assign) (P : Assign → Type 0) (least : Option ℕ) (b : Bool) → Stands all i a → IsLeast all i P least → IsAnswer b (P a) → IsLeast all (i + 1) P (least_with least b a.target.n)
-least_more all i a P None false st l n = before_more all i a (λ k x. P x) l st n
-least_more all i a P None true st l h = ((i, a, st, h, refl), λ k x below s q. go k x s q (at_most k i below))
-  where
-    go : (k : ℕ) (x : Assign) → Stands all k x → P x → (k < i) ⊎ (k ≡ i) → a.target.n ≤ x.target.n
-    go k x s q (inl j) = absurd (l k x j s q)
-    go k x s q (inr j) = let same : x ≡ a = stands_one all i x a (subst (λ (z : ℕ). Stands all z x) j s) st in let e = ap (λ (z : Assign). z.target.n) same in omega (arith, e)
-least_more all i a P (Some n) false st l m = (l.0, λ k x below s q. go k x s q (at_most k i below))
-  where
-    go : (k : ℕ) (x : Assign) → Stands all k x → P x → (k < i) ⊎ (k ≡ i) → n ≤ x.target.n
-    go k x s q (inl j) = l.1 k x j s q
-    go k x s q (inr j) = let same : x ≡ a = stands_one all i x a (subst (λ (z : ℕ). Stands all z x) j s) st in absurd (m (subst P same q))
-least_more all i a P (Some n) true st l h = by_test (nat_lt a.target.n n) refl
-  where
-    go : (m : ℕ) → m ≤ n → m ≤ a.target.n → (k : ℕ) (x : Assign) → Stands all k x → P x → (k < i) ⊎ (k ≡ i) → m ≤ x.target.n
-    go m u v k x s q (inl j) = let w = l.1 k x j s q in omega (arith, w)
-    go m u v k x s q (inr j) = let same : x ≡ a = stands_one all i x a (subst (λ (z : ℕ). Stands all z x) j s) st in let e = ap (λ (z : Assign). z.target.n) same in omega (arith, e)
-
-    low : (m n : ℕ) → nat_lt m n ≡ true → m ≤ n
-    low m n e = grind (arith, nat_tests)
-
-    high : (m n : ℕ) → nat_lt m n ≡ false → n ≤ m
-    high m n e = grind (arith, nat_tests)
-
-    by_test : (c : Bool) → nat_lt a.target.n n ≡ c → IsLeast all (i + 1) P (Some (cond c a.target.n n))
-    by_test true e = ((i, a, st, h, refl), λ k x below s q. go a.target.n (low a.target.n n e) (omega arith) k x s q (at_most k i below))
-    by_test false e = (l.0, λ k x below s q. go n (omega arith) (high a.target.n n e) k x s q (at_most k i below))
 
 module _ (p : GtsParts) (sound : IsSound p) (t : List Value) (rows : Rows) (facts : AreFacts (net_of p) t rows) where
   -- an outside flow of the system is the target of an assignment that leaves its domain

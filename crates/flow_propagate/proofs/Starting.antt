@@ -13,7 +13,7 @@ use Rattle.gts_core.specs.declared.system.GtsParts.{GtsParts}
 use Rattle.typed_expr.specs.Rows.{Rows, row_at}
 use Rattle.flow_propagate.specs.Table.{Holds, IsSoundTable, Starts}
 
-nothing : (v : Value) → Contains [] v → ⊥
+pub nothing : (v : Value) → Contains [] v → ⊥
 nothing v h = omega (arith, h.1)
 
 -- the only value of a list

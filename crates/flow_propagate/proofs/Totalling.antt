@@ -1,25 +1,26 @@
 -- Total valuations, and the assignments that do not hold under them.
-use Rattle.std.proofs.Common.{◌≡◌, ℕ, suc, ◌+◌, ◌<◌, ◌≤◌, ◌⊎◌, inl, inr, Bool, true, false, List, [], ◌∷◌, ◌++◌, length, Contains, Some, refl, sym, ap, ◌∙◌, subst, arith, length-append}
-use Rattle.ar_base.specs.Lists.{Stands, IsFirst, HasNo}
-use Rattle.ar_base.proofs.Standing.{stands_one, stands_map, stands_map_back, stands_within, stands_some, stands_left, stands_next, at_most}
+use Rattle.std.proofs.Common.{◌≡◌, ℕ, suc, ◌+◌, ◌<◌, ◌≤◌, ◌⊎◌, inl, inr, Bool, true, false, List, [], ◌∷◌, ◌++◌, length, Contains, refl, sym, ap, ◌∙◌, subst, arith, length-append}
+use Rattle.std.specs.List.{list_all}
+use Rattle.ar_base.specs.Lists.{Stands, IsOneOf, IsFirst, HasNo}
+use Rattle.ar_base.proofs.Standing.{stands_one, stands_map, stands_map_back, stands_within, stands_left, stands_next, at_most}
 use Rattle.domains.specs.declared.Value.{Value}
-use Rattle.typed_expr.proofs.Facts.{yields_more}
 use Rattle.ar_meaning.specs.Systems as s
-use Rattle.ar_meaning.specs.Facts.{FactOf, HasValue}
+use Rattle.ar_meaning.specs.Facts.{FactOf, HasValue, Passes}
 use Rattle.ar_meaning.specs.Flows.{IsBroken, Completes}
 use Rattle.ar_meaning.specs.Flows as flows
-use Rattle.ar_meaning.specs.Found.{IsAnswer}
-use Rattle.ar_meaning.proofs.Least.{passes_more}
+use Rattle.ar_meaning.proofs.Found.{holds, fails}
 use Rattle.ar_meaning.proofs.ByNumber.{value_at, value_from}
 use Rattle.gts_core.specs.View.{assign_of, net_of, variable_of, variables_from}
 use Rattle.gts_core.proofs.Viewing.{variable_there, are_numbered}
+use Rattle.gts_core.specs.Readings.{IsTotal, is_met, value_in}
+use Rattle.gts_core.specs.Sound.{IsSound, IsAssignTo}
+use Rattle.gts_core.proofs.Reading.{passes_answer, value_yielded, yielded_value}
 use Rattle.gts_core.specs.declared.system.Variable.{Variable}
 use Rattle.gts_core.specs.declared.system.Assign.{Assign}
 use Rattle.gts_core.specs.declared.system.GtsParts.{GtsParts}
 use Rattle.typed_expr.specs.Rows.{Rows, row_at}
-use Rattle.flow_propagate.specs.Table.{Holds, AreFacts, Reaches}
-use Rattle.flow_propagate.specs.Totals.{Completed, completed_value, AreSingle, Breaks}
-use Rattle.flow_propagate.proofs.Starting.{holds_within, one_there, only_one}
+use Rattle.flow_propagate.specs.Table.{AreFacts}
+use Rattle.flow_propagate.specs.Totals.{Completed, completed_value, Breaks}
 
 pub completed_more : (vars : List Variable) (values : List Value) (rows : Rows) (i : ℕ) (x : Variable) (v : Value) (total new : List Value) (w : Value)
     → Completed vars values rows i total → Stands vars i x → Stands values i v → w ≡ completed_value x.is_state v (row_at rows i) x.value → new ≡ total ++ w ∷ [] → Completed vars values rows (i + 1) new
@@ -68,64 +69,47 @@ module _ (p : GtsParts) (t : List Value) (rows : Rows) (facts : AreFacts (net_of
   completes total long c = completes_from 0 p.variables.items t total long c.long
       (λ n m x v e sx sv. subst (λ (z : ℕ). Stands total n (completed_value x.is_state v (row_at rows z) x.value)) (let i : n ≡ m = omega (arith, e) in i) (c.value n x v (stands_within p.variables.items n x sx) sx sv))
 
-module _ (p : GtsParts) (total : List Value) (rows : Rows) (long : length total ≡ length p.variables.items) (single : AreSingle total rows (length total)) where
-  single_value : (n : ℕ) (v : Value) → Holds rows n v → HasValue (net_of p) total n v
-  single_value n v h =
-      let below : n < length total = (let k = holds_within rows n v h in omega (arith, single.long)) in
-      let w = stands_some total n below in
-      let x = stands_some p.variables.items n (omega (arith, long)) in
-      let e = only_one w.0 v (subst (λ (z : List Value). Contains z v) (single.row n w.0 below w.1) h) in
-      value_from (net_of p) (are_numbered p) total n (variable_of n x.0) v (variable_there p n x.0 x.1) (subst (λ (z : Value). Stands total n z) e w.1)
+module _ (p : GtsParts) (sound : IsSound p) (total : List Value) (is : IsTotal p total) where
+  typed : (a : Assign) → IsOneOf p.assigns.items a → IsAssignTo p false a
+  typed a one = sound.assertions a one
 
-  single_back : (n : ℕ) (v : Value) → HasValue (net_of p) total n v → Holds rows n v
-  single_back n v h =
-      let st = value_at (net_of p) (are_numbered p) total n v h in
-      subst (λ (z : List Value). Contains z v) (sym (single.row n v (stands_within total n v st) st)) (one_there v)
-
-  broken_there : (a : Assign) → Breaks rows a → IsBroken (net_of p) total (assign_of a)
-  broken_there a h = record {
-    passes = passes_more ℕ (Holds rows) (HasValue (net_of p) total) single_value h.passes;
-    value = h.value;
-    yields = yields_more ℕ (Holds rows) (HasValue (net_of p) total) single_value h.yields;
-    differs = λ c. h.differs (single_back a.target.n h.value c);
+  broken_there : (a : Assign) → IsOneOf p.assigns.items a → Breaks total a → IsBroken (net_of p) total (assign_of a)
+  broken_there a one h = record {
+    passes = holds _ _ h.met (passes_answer p total is a.when.items (typed a one).conditions);
+    value = value_in total a.value;
+    yields = value_yielded p total is a.value _ (typed a one).value;
+    differs = λ c. h.differs (value_at (net_of p) (are_numbered p) total a.target.n _ c);
   }
 
-  broken_back : (a : Assign) → IsBroken (net_of p) total (assign_of a) → Breaks rows a
-  broken_back a h = record {
-    passes = passes_more ℕ (HasValue (net_of p) total) (Holds rows) single_back h.passes;
-    value = h.value;
-    yields = yields_more ℕ (HasValue (net_of p) total) (Holds rows) single_back h.yields;
-    differs = λ c. h.differs (single_value a.target.n h.value c);
+  met : (a : Assign) → IsOneOf p.assigns.items a → Passes (HasValue (net_of p) total) (assign_of a).conditions → (b : Bool) → list_all (is_met total) a.when.items ≡ b → b ≡ true
+  met a one h true e = refl
+  met a one h false e = absurd (fails _ _ e (passes_answer p total is a.when.items (typed a one).conditions) h)
+
+  broken_back : (a : Assign) → IsOneOf p.assigns.items a → IsBroken (net_of p) total (assign_of a) → Breaks total a
+  broken_back a one h = record {
+    met = met a one h.passes (list_all (is_met total) a.when.items) refl;
+    differs = λ st.
+        let x = typed a one in
+        let same : h.value ≡ value_in total a.value = yielded_value p total is a.value _ x.value h.value h.yields in
+        h.differs (value_from (net_of p) (are_numbered p) total a.target.n (variable_of a.target.n x.variable) h.value (variable_there p a.target.n x.variable x.stands) (subst (λ (z : Value). Stands total a.target.n z) (sym same) st));
   }
 
-  pub broken_found : (n : ℕ) → IsFirst p.assigns.items (Breaks rows) n → IsFirst (net_of p).assertions (IsBroken (net_of p) total) n
+  pub broken_found : (n : ℕ) → IsFirst p.assigns.items (Breaks total) n → IsFirst (net_of p).assertions (IsBroken (net_of p) total) n
   broken_found n f = record {
     item = assign_of f.item;
     stands = stands_map assign_of p.assigns.items n f.item f.stands;
-    has = broken_there f.item f.has;
+    has = broken_there f.item (record { place = n; stands = f.stands }) f.has;
     before = λ k a below st h.
         let r = stands_map_back assign_of p.assigns.items k a st in
-        f.before k r.0 below r.1 (broken_back r.0 (subst (λ (z : s.Assign ℕ). IsBroken (net_of p) total z) (sym r.2) h));
+        f.before k r.0 below r.1 (broken_back r.0 (record { place = k; stands = r.1 }) (subst (λ (z : s.Assign ℕ). IsBroken (net_of p) total z) (sym r.2) h));
   }
 
-  pub broken_none : HasNo p.assigns.items (Breaks rows) → HasNo (net_of p).assertions (IsBroken (net_of p) total)
+  pub broken_none : HasNo p.assigns.items (Breaks total) → HasNo (net_of p).assertions (IsBroken (net_of p) total)
   broken_none f = record {
     has_not = λ k a st h.
         let r = stands_map_back assign_of p.assigns.items k a st in
-        f.has_not k r.0 r.1 (broken_back r.0 (subst (λ (z : s.Assign ℕ). IsBroken (net_of p) total z) (sym r.2) h));
+        f.has_not k r.0 r.1 (broken_back r.0 (record { place = k; stands = r.1 }) (subst (λ (z : s.Assign ℕ). IsBroken (net_of p) total z) (sym r.2) h));
   }
-
--- whether a reached assignment yields a value that the row lacks
-pub breaks_answer : (rows : Rows) (a : Assign) (set values row : List Value) (b : Bool) → Reaches rows (assign_of a) (Some set) → values ≡ set → row ≡ row_at rows a.target.n
-    → IsAnswer b ((v : Value) × Contains values v × (Contains row v → ⊥)) → IsAnswer b (Breaks rows a)
-breaks_answer rows a set values row true r e at h = record {
-  passes = r.0;
-  value = h.0;
-  yields = r.1.sound h.0 (subst (λ (z : List Value). Contains z h.0) e h.1);
-  differs = λ c. h.2 (subst (λ (z : List Value). Contains z h.0) (sym at) c);
-}
-breaks_answer rows a set values row false r e at h = λ k.
-    h (k.value, subst (λ (z : List Value). Contains z k.value) (sym e) (r.1.complete k.value k.yields), λ c. k.differs (subst (λ (z : List Value). Contains z k.value) at c))
 
 pub no_items : {A : Type 0} (xs : List A) (n : ℕ) (P : A → Type 0) → length xs ≤ n → ((k : ℕ) (x : A) → k < n → Stands xs k x → P x → ⊥) → HasNo xs P
 no_items xs n P h before = record { has_not = λ k x st q. let below = stands_within xs k x st in before k x (omega (arith, below)) st q }

@@ -1,6 +1,6 @@
 -- The assignments that wait.
 use Rattle.std.proofs.Common.{◌≡◌, ℕ, zero, suc, ◌+◌, ◌-◌, ◌<◌, ◌≤◌, ◌⊎◌, inl, inr, true, false, List, [], ◌∷◌, ◌++◌, map, length, get_or, set, take, drop, refl, sym, ap, ◌∙◌, subst, arith, length-drop, ltb, leb}
-use Rattle.std.proofs.lemmas.Bool.{ltb-true, leb-false}
+use Rattle.std.proofs.lemmas.Bool.{ltb-true, ltb-false, leb-true, leb-false}
 use Rattle.std.proofs.lemmas.List.{get_or-drop, get_or-take, length-take-le}
 use Rattle.std.specs.List.Sorted.{IsNonDecreasingBy, IsPartitionPoint, IsPermutation}
 use Rattle.std.proofs.lemmas.List.Sorted.{Contains-permutation, IsPermutation-sym}
@@ -8,8 +8,8 @@ use Rattle.std.proofs.lemmas.Option.{slice_get-get_or, get_or_from_slice_get}
 use Rattle.ar_base.specs.Lists.{Stands, IsOneOf}
 use Rattle.ar_base.proofs.Standing.{stands_one, stands_within, stands_some, stands_map, stands_map_back, one_contains, contains_one}
 use Rattle.gts_core.specs.declared.system.GtsParts.{GtsParts}
-use Rattle.flow_propagate.specs.Plan.{AreReaders, Reader, plain_pair}
-use Rattle.flow_propagate.specs.Closing.{IsAgain, IsOrder, WaitsAt, Waits, IsWorklist, TakesPlace, Takes, AddsWork}
+use Rattle.flow_propagate.specs.Plan.{AreReaders, IsOrder, Reader, plain_pair}
+use Rattle.flow_propagate.specs.Closing.{IsAgain, WaitsAt, Waits, IsWorklist, TakesPlace, Takes, AddsWork}
 use Rattle.flow_propagate.specs.declared.worklist.Worklist.{Worklist}
 use Rattle.flow_propagate.proofs.NamedVariables.{one_left, one_last, one_cases}
 use Rattle.flow_propagate.proofs.Numbered.{read_back}
@@ -35,11 +35,11 @@ same_number (suc m) zero = inr (λ e. omega arith)
 same_number (suc m) (suc n) = elim (same_number m n) [ inl e ↦ inl (ap suc e) | inr f ↦ inr (λ e. f (omega (arith, e))) ]
 
 -- the count of a worklist is the number of its places
-pub by_length : (count : ℕ) (w : Worklist) → IsWorklist count w → IsWorklist (length w.places.items) w
+pub by_length : (count : ℕ) (w : Worklist) → IsWorklist count w → IsWorklist (length w.places.now) w
 by_length count w h = subst (λ (z : ℕ). IsWorklist z w) (sym h.long) h
 
 -- the worklist without the place that was taken
-pub takes_one : (count n place : ℕ) (old new : Worklist) → IsWorklist count old → TakesPlace place old new → Stands new.order.items place n → Takes count n old new
+pub takes_one : (count n place : ℕ) (old new : Worklist) → IsWorklist count old → TakesPlace place old new → Stands new.order.now place n → Takes count n old new
 takes_one count n place old new w t stands = record {
   is = record {
     long = ap (λ (z : List ℕ). length z) t.places ∙ w.long;
@@ -51,17 +51,17 @@ takes_one count n place old new w t stands = record {
   below = w.below n place st;
   less = t.less;
   others = λ m h. elim (t.others h.place h.waits) [
-    | inl e ↦ inl (stands_one old.order.items place m n (subst (λ (z : ℕ). Stands old.order.items z m) e (w.placed m h.place h.stands)) st)
+    | inl e ↦ inl (stands_one old.order.now place m n (subst (λ (z : ℕ). Stands old.order.now z m) e (w.placed m h.place h.stands)) st)
     | inr k ↦ inr (record { place = h.place; stands = subst (λ (z : List ℕ). Stands z m h.place) (sym t.places) h.stands; waits = k })
   ];
 }
   where
-    st : Stands old.order.items place n
+    st : Stands old.order.now place n
     st = subst (λ (z : List ℕ). Stands z place n) t.order stands
 
 -- where no place waits no assignment does
-pub none_waits : (count : ℕ) (w : Worklist) → IsWorklist count w → ((p : ℕ) → p < length w.order.items → WaitsAt w p → ⊥) → (n : ℕ) → Waits w n → ⊥
-none_waits count w h lacks n k = lacks k.place (stands_within w.order.items k.place n (h.placed n k.place k.stands)) k.waits
+pub none_waits : (count : ℕ) (w : Worklist) → IsWorklist count w → ((p : ℕ) → p < length w.order.now → WaitsAt w p → ⊥) → (n : ℕ) → Waits w n → ⊥
+none_waits count w h lacks n k = lacks k.place (stands_within w.order.now k.place n (h.placed n k.place k.stands)) k.waits
 
 -- the assignments of the first so many pairs
 abbrev pub IsAmong : List Reader → ℕ → ℕ → Type 0
@@ -170,6 +170,16 @@ module _ (readers : List Reader) (t from to : ℕ) (low : IsPartitionPoint (λ (
       let h : c.0 < to - from = (let k = c.1 in omega (arith, k, run_long)) in
       one_contains readers r (from + c.0, omega (arith, h, bound), sym (run_item c.0 r h) ∙ c.2)
 
+  pub run_exact : (r : Reader) → IsOneOf (take (to - from) (drop from readers)) r → r.0.n ≡ t
+  run_exact r o =
+      let c = contains_one (take (to - from) (drop from readers)) r o in
+      let h : c.0 < to - from = (let k = c.1 in omega (arith, k, run_long)) in
+      let at : get_or readers (from + c.0) r ≡ r = sym (run_item c.0 r h) ∙ c.2 in
+      let a = leb-true _ _ (high.0 (from + c.0) r (omega (arith, h, bound)) (omega (arith, h))) in
+      let b = ltb-false _ _ (low.1 (from + c.0) r (omega arith) (omega (arith, h, bound))) in
+      let e : (get_or readers (from + c.0) r).0.n ≡ t = omega (arith, a, b) in
+      sym (ap (λ (z : Reader). z.0.n) at) ∙ e
+
   pub run_all : (r : Reader) → IsOneOf readers r → r.0.n ≡ t → IsOneOf (take (to - from) (drop from readers)) r
   run_all r o e = one_contains (take (to - from) (drop from readers)) r (o.place - from, omega (arith, above, below, run_long), run_item (o.place - from) r (omega (arith, above, below)) ∙ ap (λ (z : ℕ). get_or readers z r) back ∙ at)
     where
@@ -247,7 +257,7 @@ pub order_below : (count : ℕ) (order : List ℕ) (i : ℕ) → IsOrder count o
 order_below count order i o h = o.below (get_or order i 0) (record { place = i; stands = slice_get-get_or order i 0 h })
 
 -- all wait
-pub all_work : (count : ℕ) (w : Worklist) → IsOrder count w.order.items → length w.places.items ≡ count → ((n p : ℕ) → Stands w.places.items n p → Stands w.order.items p n) → w.fresh ≡ 0 → ((p : ℕ) → IsAgain w.again p → ⊥) → IsWorklist count w
+pub all_work : (count : ℕ) (w : Worklist) → IsOrder count w.order.now → length w.places.now ≡ count → ((n p : ℕ) → Stands w.places.now n p → Stands w.order.now p n) → w.fresh ≡ 0 → ((p : ℕ) → IsAgain w.again p → ⊥) → IsWorklist count w
 all_work count w o long placed fresh none = record {
   long = long;
   placed = placed;
@@ -256,7 +266,7 @@ all_work count w o long placed fresh none = record {
   within = λ p h. absurd (none p h);
 }
 
-pub all_wait : (count n : ℕ) (w : Worklist) → length w.places.items ≡ count → w.fresh ≡ 0 → n < count → Waits w n
+pub all_wait : (count n : ℕ) (w : Worklist) → length w.places.now ≡ count → w.fresh ≡ 0 → n < count → Waits w n
 all_wait count n w long fresh h =
-    let at = stands_some w.places.items n (omega (arith, h, long)) in
+    let at = stands_some w.places.now n (omega (arith, h, long)) in
     record { place = at.0; stands = at.1; waits = inl (omega (arith, fresh)) }

@@ -1,6 +1,5 @@
 -- What a propagation answers.
-use Rattle.std.specs.Prelude.{◌≡◌, true, ℕ, List, Result, Ok, Err, ⊤, length, Vec}
-use Rattle.std.specs.Global.{Global}
+use Rattle.std.specs.Prelude.{◌≡◌, true, ℕ, List, Result, Ok, Err, ⊤, length}
 use Rattle.ar_base.specs.Lists.{Stands}
 use Rattle.domains.specs.Domains.{Holds}
 use Rattle.domains.specs.declared.Value.{Value}
@@ -30,9 +29,3 @@ IsFlowAnswer net t (Err propagates.Memory) = ⊤
 pub record IsState (p : GtsParts) (values : List Value) : Type 0 where
   pub long : length values ≡ length p.variables.items
   pub in_domain : (n : ℕ) (x : Variable) (v : Value) → Stands p.variables.items n x → x.is_state ≡ true → Stands values n v → Holds x.domain v
-
--- the same for the values alone
-abbrev pub FlowsTo : Net ℕ → List Value → Result (Vec Value Global) PropagateFault → Type 0
-FlowsTo net t (Ok total) = flows.Flows net t (flows.Total total.items)
-FlowsTo net t (Err (propagates.Flow f)) = flows.Flows net t (flows.Fails (fault_of f))
-FlowsTo net t (Err propagates.Memory) = ⊤

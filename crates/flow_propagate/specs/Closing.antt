@@ -1,8 +1,8 @@
 -- How the facts are gathered: which assignments wait to be looked at, and how many facts may still come.
-use Rattle.std.specs.Prelude.{◌≡◌, ℕ, ◌+◌, ◌*◌, ◌<◌, ◌≤◌, ◌⊎◌, Bool, true, false, cond, List, [], ◌∷◌, ◌-◌, IsTrue, length}
+use Rattle.std.specs.Prelude.{◌≡◌, ℕ, ◌+◌, ◌*◌, ◌<◌, ◌≤◌, ◌⊎◌, Bool, true, false, cond, List, [], ◌∷◌, ◌-◌, Option, Some, IsTrue, length}
 use Rattle.std.specs.BTreeSet.{BTreeSet, contains, btree_set_len}
 use Rattle.std.specs.Ordering.{nat_cmp}
-use Rattle.ar_base.specs.Lists.{Stands, IsOneOf}
+use Rattle.ar_base.specs.Lists.{Stands}
 use Rattle.domains.specs.Domains.{values_of}
 use Rattle.domains.specs.Same.{has_value}
 use Rattle.domains.specs.declared.Value.{Value}
@@ -15,6 +15,7 @@ use Rattle.gts_core.specs.declared.system.Assign.{Assign}
 use Rattle.gts_core.specs.declared.system.GtsParts.{GtsParts}
 use Rattle.typed_expr.specs.Rows.{Rows, row_at}
 use Rattle.flow_propagate.specs.Table.{Holds, IsClosed, Moves}
+use Rattle.flow_propagate.specs.Searches.{LeavesDomain}
 use Rattle.flow_propagate.specs.declared.worklist.Worklist.{Worklist}
 
 -- how many of the values the row lacks
@@ -49,32 +50,27 @@ WaitsAt work place = (work.fresh ≤ place) ⊎ IsAgain work.again place
 -- the assignment of this number waits
 pub record Waits (work : Worklist) (n : ℕ) : Type 0 where
   pub place : ℕ
-  pub stands : Stands work.places.items n place
+  pub stands : Stands work.places.now n place
   pub waits : WaitsAt work place
-
--- a list of the numbers below the count, and of no others
-pub record IsOrder (count : ℕ) (order : List ℕ) : Type 0 where
-  pub all : (n : ℕ) → n < count → IsOneOf order n
-  pub below : (n : ℕ) → IsOneOf order n → n < count
 
 -- each assignment stands at its place in the order, which has numbers of assignments alone
 pub record IsWorklist (count : ℕ) (work : Worklist) : Type 0 where
-  pub long : length work.places.items ≡ count
-  pub placed : (n place : ℕ) → Stands work.places.items n place → Stands work.order.items place n
-  pub below : (n place : ℕ) → Stands work.order.items place n → n < count
-  pub reached : work.fresh ≤ length work.order.items
-  pub within : (place : ℕ) → IsAgain work.again place → place < length work.order.items
+  pub long : length work.places.now ≡ count
+  pub placed : (n place : ℕ) → Stands work.places.now n place → Stands work.order.now place n
+  pub below : (n place : ℕ) → Stands work.order.now place n → n < count
+  pub reached : work.fresh ≤ length work.order.now
+  pub within : (place : ℕ) → IsAgain work.again place → place < length work.order.now
 
 -- how many wait
 abbrev pub waiting : Worklist → ℕ
-waiting work = (length work.order.items - work.fresh) + btree_set_len work.again
+waiting work = (length work.order.now - work.fresh) + btree_set_len work.again
 
 -- the place was taken
 pub record TakesPlace (place : ℕ) (old new : Worklist) : Type 0 where
-  pub below : place < length old.order.items
-  pub order : new.order.items ≡ old.order.items
-  pub places : new.places.items ≡ old.places.items
-  pub reached : new.fresh ≤ length old.order.items
+  pub below : place < length old.order.now
+  pub order : new.order.now ≡ old.order.now
+  pub places : new.places.now ≡ old.places.now
+  pub reached : new.fresh ≤ length old.order.now
   pub only : (q : ℕ) → IsAgain new.again q → IsAgain old.again q
   pub less : waiting old ≡ waiting new + 1
   pub others : (q : ℕ) → WaitsAt old q → (q ≡ place) ⊎ WaitsAt new q
@@ -107,3 +103,26 @@ pub record LooksAt (p : GtsParts) (readers n : ℕ) (old : Rows) (before : Workl
   pub is : IsWorklist (length p.assigns.items) after
   pub settled : ((m : ℕ) (a : Assign) → Stands p.assigns.items m a → (m ≡ n) ⊎ (Waits before m ⊎ IsClosed (net_of p) old (assign_of a))) → IsSettled p new after
   pub less : work_left p readers new after ≤ work_left p readers old before
+
+-- a number was noted, and it is at most this one
+pub record IsUpTo (target : ℕ) (noted : Option ℕ) : Type 0 where
+  pub number : ℕ
+  pub is : noted ≡ Some number
+  pub most : number ≤ target
+
+-- where the assignment leaves its target's domain, the target or a lesser one was noted
+abbrev pub Notes : GtsParts → Rows → Option ℕ → Assign → Type 0
+Notes p rows noted a = LeavesDomain p rows a → IsUpTo a.target.n noted
+
+-- what was noted is the target of an assignment that leaves its domain
+abbrev pub IsFounded : GtsParts → Rows → Option ℕ → Type 0
+IsFounded p rows noted = (n : ℕ) → noted ≡ Some n → (k : ℕ) × (a : Assign) × Stands p.assigns.items k a × LeavesDomain p rows a × (a.target.n ≡ n)
+
+-- each assignment waits, or its leaving is noted
+abbrev pub IsHeard : GtsParts → Rows → Option ℕ → Worklist → Type 0
+IsHeard p rows noted work = (m : ℕ) (a : Assign) → Stands p.assigns.items m a → Waits work m ⊎ Notes p rows noted a
+
+-- one assignment was looked at, and its leaving was noted
+pub record Hears (p : GtsParts) (n : ℕ) (old : Rows) (first : Option ℕ) (before : Worklist) (new : Rows) (last : Option ℕ) (after : Worklist) : Type 0 where
+  pub founded : IsFounded p old first → IsFounded p new last
+  pub heard : ((m : ℕ) (a : Assign) → Stands p.assigns.items m a → (m ≡ n) ⊎ (Waits before m ⊎ Notes p old first a)) → IsHeard p new last after

@@ -6,3 +6,6 @@ pub mod Plan
 pub mod Named
 pub mod Dependence
 pub mod Closing
+pub mod Determined
+pub mod NewValues
+pub mod Marks

@@ -1,5 +1,5 @@
 -- How the flows of a system depend on each other, and which assignments read which variable.
-use Rattle.std.specs.Prelude.{◌≡◌, ℕ, ◌<◌, ◌⊎◌, List, [], map}
+use Rattle.std.specs.Prelude.{◌≡◌, ℕ, ◌<◌, ◌⊎◌, List, [], length, map}
 use Rattle.ar_base.specs.Lists.{Stands, IsOneOf}
 use Rattle.ar_base.specs.declared.numbers.Id.{Id}
 use Rattle.ar_base.specs.declared.numbers.VarKind.{VarKind}
@@ -8,6 +8,7 @@ use Rattle.ar_meaning.specs.Dependence.{Reads, AreUses, flow_count}
 use Rattle.flow_blocks.specs.Blocks.{Follow}
 use Rattle.flow_blocks.specs.declared.graph.Block.{Block}
 use Rattle.gts_core.specs.View.{net_of}
+use Rattle.gts_core.specs.declared.system.Assign.{Assign}
 use Rattle.gts_core.specs.declared.system.GtsParts.{GtsParts}
 use Rattle.flow_propagate.specs.declared.plan.Plan.{Plan}
 
@@ -27,6 +28,23 @@ pub record AreReaders (p : GtsParts) (readers : List (ℕ × ℕ)) : Type 0 wher
   pub all : (x n : ℕ) → Reads (net_of p) x n → IsOneOf readers (x, n)
   pub ascending : (j k : ℕ) (q r : ℕ × ℕ) → j < k → Stands readers j q → Stands readers k r → ComesBefore q r
 
+-- the pairs of a variable and an assignment to it, ascending, each once
+pub record AreGivers (p : GtsParts) (givers : List (ℕ × ℕ)) : Type 0 where
+  pub only : (x n : ℕ) → IsOneOf givers (x, n) → (a : Assign) × Stands p.assigns.items n a × (a.target.n ≡ x)
+  pub all : (n : ℕ) (a : Assign) → Stands p.assigns.items n a → IsOneOf givers (a.target.n, n)
+  pub ascending : (j k : ℕ) (q r : ℕ × ℕ) → j < k → Stands givers j q → Stands givers k r → ComesBefore q r
+
+-- a list of the numbers below the count, and of no others
+pub record IsOrder (count : ℕ) (order : List ℕ) : Type 0 where
+  pub all : (n : ℕ) → n < count → IsOneOf order n
+  pub below : (n : ℕ) → IsOneOf order n → n < count
+
+-- an order of the assignments, and the place of each of them in it
+pub record IsSchedule (p : GtsParts) (order places : List ℕ) : Type 0 where
+  pub is_order : IsOrder (length p.assigns.items) order
+  pub long : length places ≡ length p.assigns.items
+  pub placed : (n place : ℕ) → Stands places n place → Stands order place n
+
 -- a pair by its typed numbers, and by its plain numbers
 abbrev pub Reader : Type 0
 Reader = Id VarKind × Id AssignKind
@@ -38,3 +56,5 @@ plain_pair r = (r.0.n, r.1.n)
 pub record IsPlan (p : GtsParts) (plan : Plan) : Type 0 where
   pub blocks : AreBlocks p (map (λ (b : Block). b.members.items) plan.blocks.items)
   pub readers : AreReaders p (map plain_pair plan.readers.items)
+  pub givers : AreGivers p (map plain_pair plan.givers.items)
+  pub schedule : IsSchedule p plan.order.items plan.places.items

@@ -2,14 +2,11 @@
 use Rattle.std.specs.Prelude.{◌≡◌, ◌<◌, ℕ, Bool, true, false, List, [], ◌∷◌, length}
 use Rattle.ar_base.specs.Lists.{Stands}
 use Rattle.domains.specs.declared.Value.{Value}
-use Rattle.typed_expr.specs.Yields.{Yields}
-use Rattle.typed_expr.specs.declared.expr.Expr.{out-Expr}
-use Rattle.ar_meaning.specs.Facts.{Passes}
-use Rattle.gts_core.specs.View.{assign_of}
+use Rattle.std.specs.List.{list_all}
+use Rattle.gts_core.specs.Readings.{is_met, value_in}
 use Rattle.gts_core.specs.declared.system.Variable.{Variable}
 use Rattle.gts_core.specs.declared.system.Assign.{Assign}
 use Rattle.typed_expr.specs.Rows.{Rows, row_at}
-use Rattle.flow_propagate.specs.Table.{Holds}
 
 -- a state variable keeps its own value, and a flow has its first fact or its reset
 abbrev pub completed_value : Bool → Value → List Value → Value → Value
@@ -22,14 +19,17 @@ pub record Completed (variables : List Variable) (values : List Value) (rows : R
   pub long : length total ≡ count
   pub value : (n : ℕ) (x : Variable) (v : Value) → n < count → Stands variables n x → Stands values n v → Stands total n (completed_value x.is_state v (row_at rows n) x.value)
 
--- each of the first so many rows has the one value at its place
-pub record AreSingle (values : List Value) (rows : Rows) (count : ℕ) : Type 0 where
-  pub long : length rows ≡ count
-  pub row : (n : ℕ) (v : Value) → n < count → Stands values n v → row_at rows n ≡ v ∷ []
+-- whether a row has a value
+abbrev pub has_some : List Value → Bool
+has_some [] = false
+has_some (v ∷ vs) = true
 
--- an assignment is reached and yields a value that its target's row lacks
-pub record Breaks (rows : Rows) (a : Assign) : Type 0 where
-  pub passes : Passes (Holds rows) (assign_of a).conditions
-  pub value : Value
-  pub yields : Yields (Holds rows) (out-Expr ℕ (assign_of a).value) value
-  pub differs : Holds rows a.target.n value → ⊥
+-- the first so many marks tell which rows have a value
+pub record AreMarks (rows : Rows) (count : ℕ) (marks : List Bool) : Type 0 where
+  pub long : length marks ≡ count
+  pub mark : (n : ℕ) → n < count → Stands marks n (has_some (row_at rows n))
+
+-- the assignment is reached under the total valuation, and its value is not its target's
+pub record Breaks (total : List Value) (a : Assign) : Type 0 where
+  pub met : list_all (is_met total) a.when.items ≡ true
+  pub differs : Stands total a.target.n (value_in total a.value) → ⊥

@@ -1,16 +1,18 @@
 // The facts that follow from a state.
 
-ghost use Rattle.std.specs.Prelude.{◌≡◌, ◌<◌, ℕ, length, map, IfOk};
+ghost use Rattle.std.specs.Prelude.{◌≡◌, ◌<◌, ℕ, None, length, map, IfOk};
 ghost use Rattle.gts_core.specs.View.{net_of, assign_of};
 ghost use Rattle.gts_core.specs.Sound.{IsSound};
 ghost use Rattle.gts_core.specs.declared.system.Assign.{Assign};
 ghost use Rattle.ar_base.specs.Lists.{Stands};
-ghost use Rattle.flow_propagate.specs.Plan.{AreReaders, plain_pair};
+ghost use Rattle.flow_propagate.specs.Plan.{AreReaders, IsSchedule, plain_pair};
 ghost use Rattle.flow_propagate.specs.Table.{AreFacts, Moves, IsClosed};
-ghost use Rattle.flow_propagate.specs.Closing.{IsWorklist, IsSettled, LooksAt};
+ghost use Rattle.flow_propagate.specs.Searches.{IsLeast, LeavesDomain};
+ghost use Rattle.flow_propagate.specs.Closing.{IsWorklist, IsSettled, LooksAt, IsHeard, Hears};
 
 use crate::facts::{apply, start};
 use crate::plan::Plan;
+use crate::searches::with_target;
 use crate::table::Table;
 use crate::worklist::{Worklist, add_readers, all_waiting, take};
 use ar_base::{AssignId, Memory, VarId};
@@ -18,26 +20,36 @@ use domains::Value;
 use gts_core::GtsParts;
 use std::alloc::Global;
 
-// Adds what an assignment yields; where its target got more values, the assignments that read the target are to be looked
-// at again.
+// The facts of a state, and the least flow for which a reached assignment yields a value outside its domain.
+#[derive(Drop)]
+pub(crate) struct Gathered {
+    pub(crate) table: Table,
+    pub(crate) outside: Option<u32>,
+}
+
+// Adds what an assignment yields, and notes its target where it yields a value outside the domain; where its target got more
+// values, the assignments that read the target are to be looked at again.
 fn look_at(
     alloc: Global,
     parts: &GtsParts,
     readers: &[(VarId, AssignId)],
     n: u32,
     table: &mut Table,
-    work: &mut Worklist,
+    outside: &mut Option<u32>,
+    work: &mut Worklist<'_>,
 ) -> Result<(), Memory>
     requires sound { IsSound parts.now }
     requires readers { AreReaders parts.now (map plain_pair readers.now) }
     requires long { length table.old.rows.items ≡ length parts.now.variables.items }
     requires work { IsWorklist (length parts.now.assigns.items) work.old }
     requires below { n < length parts.now.assigns.items }
-    ensures { IfOk result (λ _. LooksAt parts.now (length readers.now) n table.old.rows.items work.old table.new.rows.items work.new) }
+    ensures looks { IfOk result (λ _. LooksAt parts.now (length readers.now) n table.old.rows.items work.old table.new.rows.items work.new) }
+    ensures hears { IfOk result (λ _. Hears parts.now n table.old.rows.items outside.old work.old table.new.rows.items outside.new work.new) }
 {
     let assign = &parts.assigns[n as usize];
-    let changed = apply(alloc, parts, assign, table)?;
-    if !changed {
+    let look = apply(alloc, parts, assign, table)?;
+    *outside = with_target(*outside, look.outside, assign.target.n);
+    if !look.changed {
         return Ok(());
     }
     add_readers(readers, assign.target.n, work)
@@ -48,23 +60,34 @@ fn close(
     alloc: Global,
     parts: &GtsParts,
     readers: &[(VarId, AssignId)],
-    work: Worklist,
+    work: Worklist<'_>,
     table: Table,
-) -> Result<Table, Memory>
+) -> Result<Gathered, Memory>
     requires sound { IsSound parts.now }
     requires readers { AreReaders parts.now (map plain_pair readers.now) }
     requires long { length table.rows.items ≡ length parts.now.variables.items }
     requires work { IsWorklist (length parts.now.assigns.items) work }
     requires settled { IsSettled parts.now table.rows.items work }
-    ensures moves { IfOk result (λ closed. Moves (net_of parts.now) table.rows.items closed.rows.items) }
-    ensures closed { IfOk result (λ closed. (n : ℕ) (a : Assign) → Stands parts.now.assigns.items n a → IsClosed (net_of parts.now) closed.rows.items (assign_of a)) }
+    requires heard { IsHeard parts.now table.rows.items None work }
+    ensures moves { IfOk result (λ closed. Moves (net_of parts.now) table.rows.items closed.table.rows.items) }
+    ensures closed { IfOk result (λ closed. (n : ℕ) (a : Assign) → Stands parts.now.assigns.items n a → IsClosed (net_of parts.now) closed.table.rows.items (assign_of a)) }
+    ensures outside { IfOk result (λ closed. IsLeast parts.now.assigns.items (length parts.now.assigns.items) (LeavesDomain parts.now closed.table.rows.items) closed.outside) }
 {
     let mut table = table;
     let mut work = work;
+    let mut outside = None;
     while let Some(n) = take(&mut work) {
-        look_at(alloc, parts, readers, n, &mut table, &mut work)?;
+        look_at(
+            alloc,
+            parts,
+            readers,
+            n,
+            &mut table,
+            &mut outside,
+            &mut work,
+        )?;
     }
-    Ok(table)
+    Ok(Gathered { table, outside })
 }
 
 // The facts of a state.
@@ -73,15 +96,17 @@ pub(crate) fn known(
     parts: &GtsParts,
     plan: &Plan,
     values: &[Value],
-) -> Result<Table, Memory>
+) -> Result<Gathered, Memory>
     requires sound { IsSound parts.now }
     requires readers { AreReaders parts.now (map plain_pair plan.now.readers.items) }
+    requires schedule { IsSchedule parts.now plan.now.order.items plan.now.places.items }
     requires long { length values.now ≡ length parts.now.variables.items }
-    ensures facts { IfOk result (λ table. AreFacts (net_of parts.now) values.now table.rows.items) }
-    ensures long { IfOk result (λ table. length table.rows.items ≡ length parts.now.variables.items) }
+    ensures facts { IfOk result (λ known. AreFacts (net_of parts.now) values.now known.table.rows.items) }
+    ensures long { IfOk result (λ known. length known.table.rows.items ≡ length parts.now.variables.items) }
+    ensures outside { IfOk result (λ known. IsLeast parts.now.assigns.items (length parts.now.assigns.items) (LeavesDomain parts.now known.table.rows.items) known.outside) }
 {
     let first = start(alloc, parts, values)?;
-    let work = all_waiting(alloc, parts, plan)?;
-    let table = close(alloc, parts, &plan.readers, work, first)?;
-    Ok(table)
+    let work = all_waiting(alloc, &plan.order, &plan.places);
+    let known = close(alloc, parts, &plan.readers, work, first)?;
+    Ok(known)
 }

@@ -6,7 +6,10 @@ ghost use Rattle.domains.specs.Domains.{IsDomain};
 ghost use Rattle.gts_core.specs.Sound.{IsSound};
 ghost use Rattle.flow_propagate.specs.Table.{Puts, PutsAll, Starts};
 ghost use Rattle.flow_propagate.specs.Closing.{Applies};
+ghost use Rattle.flow_propagate.specs.Searches.{LeavesDomain};
+ghost use Rattle.ar_meaning.specs.Found.{IsAnswer};
 
+use crate::searches::some_outside;
 use crate::table::{Table, has, yielded};
 use ar_base::Memory;
 use domains::{Domain, Value};
@@ -56,24 +59,37 @@ fn either(a: bool, b: bool) -> bool
     a || b
 }
 
-// Adds what an assignment yields, and answers whether the table changed.
+// What a look at an assignment found: whether the table changed, and whether a value was yielded that is outside the domain
+// of the assignment's target.
+#[derive(Clone, Copy)]
+pub(crate) struct Look {
+    pub(crate) changed: bool,
+    pub(crate) outside: bool,
+}
+
+// Adds what an assignment yields.
 pub(crate) fn apply(
     alloc: Global,
     parts: &GtsParts,
     assign: &Assign,
     table: &mut Table,
-) -> Result<bool, Memory>
+) -> Result<Look, Memory>
     requires sound { IsSound parts.now }
     requires one { IsOneOf parts.now.assigns.items assign.now }
     requires long { length table.old.rows.items ≡ length parts.now.variables.items }
-    ensures { IfOk result (λ changed. Applies parts.now assign.now table.old.rows.items table.new.rows.items changed) }
+    ensures applies { IfOk result (λ look. Applies parts.now assign.now table.old.rows.items table.new.rows.items look.changed) }
+    ensures outside { IfOk result (λ look. IsAnswer look.outside (LeavesDomain parts.now table.old.rows.items assign.now)) }
 {
     let Some(set) = yielded(alloc, assign, table)? else {
-        return Ok(false);
+        return Ok(Look {
+            changed: false,
+            outside: false,
+        });
     };
     let domain = &parts.variables[assign.target.n as usize].domain;
+    let outside = some_outside(domain, set.values());
     let changed = put_all(table, domain, assign.target.n, set.values())?;
-    Ok(changed)
+    Ok(Look { changed, outside })
 }
 
 // The table with the values of the state variables alone.

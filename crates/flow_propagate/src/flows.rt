@@ -1,19 +1,13 @@
 // Propagation.
 
-ghost use Rattle.std.specs.Prelude.{◌≡◌, length, map};
 ghost use Rattle.gts_core.specs.View.{net_of};
-ghost use Rattle.gts_core.specs.Sound.{IsSound};
-ghost use Rattle.flow_propagate.specs.Plan.{IsPlan, AreReaders, plain_pair};
-ghost use Rattle.flow_propagate.specs.Answers.{IsFlowAnswer, FlowsTo, IsState};
+ghost use Rattle.flow_propagate.specs.Plan.{IsPlan};
+ghost use Rattle.flow_propagate.specs.Answers.{IsFlowAnswer, IsState};
 
-use crate::closing::known;
+use crate::determined::determine;
 use crate::plan::{Plan, make_plan};
-use crate::propagation::{FlowFault, PropagateFault};
-use crate::searches::{first_outside, first_two};
-use crate::totals::{completed, first_broken, single};
-use ar_base::{AssignId, VarId};
-use domains::Value;
-use gts_core::{Gts, GtsParts, Valuation};
+use crate::propagation::PropagateFault;
+use gts_core::{Gts, Valuation};
 use std::alloc::Global;
 
 /// The flows that a state determines: the total valuation, or the first fault that applies.
@@ -42,37 +36,8 @@ pub fn propagate_by(
     requires plan { IsPlan gts.now plan.now }
     ensures { IsFlowAnswer (net_of gts.now) state.now.values.items result }
 {
-    match flows(alloc, gts.parts(), plan, &state.values) {
-        Ok(values) => Ok(Valuation { values }),
+    match determine(alloc, gts, plan, state) {
+        Ok(determined) => Ok(determined.values),
         Err(fault) => Err(fault),
     }
-}
-
-// The same over the parts of a system.
-fn flows(
-    alloc: Global,
-    parts: &GtsParts,
-    plan: &Plan,
-    values: &[Value],
-) -> Result<Vec<Value>, PropagateFault>
-    requires sound { IsSound parts.now }
-    requires readers { AreReaders parts.now (map plain_pair plan.now.readers.items) }
-    requires long { length values.now ≡ length parts.now.variables.items }
-    ensures { FlowsTo (net_of parts.now) values.now result }
-{
-    let table = known(alloc, parts, plan, values)?;
-    if let Some(n) = first_two(parts, &table) {
-        return Err(PropagateFault::Flow(FlowFault::Two(VarId::new(n))));
-    }
-    let outside = first_outside(alloc, parts, &table)?;
-    if let Some(n) = outside {
-        return Err(PropagateFault::Flow(FlowFault::Outside(VarId::new(n))));
-    }
-    let total = completed(alloc, parts, values, &table)?;
-    let single = single(alloc, &total)?;
-    let broken = first_broken(alloc, parts, &single)?;
-    if let Some(n) = broken {
-        return Err(PropagateFault::Flow(FlowFault::Broken(AssignId::new(n))));
-    }
-    Ok(total)
 }

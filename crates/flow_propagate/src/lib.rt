@@ -3,18 +3,23 @@
 
 mod closing;
 mod dependence;
+mod determined;
 mod facts;
 mod flows;
 mod naming;
+mod pairs;
 mod plan;
 mod propagation;
 mod readers;
+mod schedule;
 mod searches;
 mod table;
 mod totals;
 mod worklist;
 
+pub use determined::{Determined, determine};
 pub use flows::{propagate, propagate_by};
 pub use naming::add_named;
+pub use pairs::pairs_of;
 pub use plan::{Plan, make_plan};
 pub use propagation::{FlowFault, PropagateFault};

@@ -4,13 +4,15 @@ ghost use Rattle.std.specs.Prelude.{IfOk};
 ghost use Rattle.flow_propagate.specs.Plan.{IsPlan};
 
 use crate::dependence::{dependences, flow_places};
-use crate::readers::{readers, typed_pairs};
+use crate::readers::{givers, readers, typed_pairs};
+use crate::schedule::{in_order, places_in};
 use ar_base::{AssignId, Memory, VarId};
 use flow_blocks::{Block, blocks};
 use gts_core::Gts;
 use std::alloc::Global;
 
-/// How the flows of a system depend on each other, and which assignments read which variable.
+/// How the flows of a system depend on each other, which assignments read and give which variable, and in which order the
+/// assignments are looked at.
 ///
 /// A flow depends on another where an assignment to it names the other in its value or in a condition.
 #[derive(Drop)]
@@ -20,6 +22,13 @@ pub struct Plan {
     pub blocks: Vec<Block>,
     /// The pairs of a variable and an assignment that names it in its value or in a condition, ascending, each once.
     pub readers: Vec<(VarId, AssignId)>,
+    /// The pairs of a variable and an assignment to it, ascending, each once.
+    pub givers: Vec<(VarId, AssignId)>,
+    /// The numbers of the assignments in the order in which they are looked at: by the class of the target, then by how many
+    /// variables they name, then by number.
+    pub order: Vec<u32>,
+    /// The place of each assignment in the order.
+    pub places: Vec<usize>,
 }
 
 /// The plan of a system. The error is want of memory.
@@ -28,9 +37,19 @@ pub fn make_plan(alloc: Global, gts: &Gts) -> Result<Plan, Memory>
 {
     let parts = gts.parts();
     let pairs = readers(alloc, parts)?;
-    let places = flow_places(alloc, &parts.variables)?;
-    let graph = dependences(alloc, parts, &places, &pairs)?;
+    let flows = flow_places(alloc, &parts.variables)?;
+    let graph = dependences(alloc, parts, &flows, &pairs)?;
     let blocks = blocks(alloc, &graph)?;
     let readers = typed_pairs(alloc, &pairs)?;
-    Ok(Plan { blocks, readers })
+    let gives = givers(alloc, parts)?;
+    let givers = typed_pairs(alloc, &gives)?;
+    let order = in_order(alloc, parts, &blocks, &readers)?;
+    let places = places_in(alloc, &order, parts.assigns.len())?;
+    Ok(Plan {
+        blocks,
+        readers,
+        givers,
+        order,
+        places,
+    })
 }

@@ -1,9 +1,9 @@
-// Which assignments read which variable.
+// Which assignments read which variable, and which give it a value.
 
 ghost use Rattle.std.specs.Prelude.{◌≡◌, length, map, IfOk};
 ghost use Rattle.gts_core.specs.Sound.{IsSound};
-ghost use Rattle.flow_propagate.specs.Plan.{AreReaders, plain_pair};
-ghost use Rattle.flow_propagate.specs.Named.{AreNamed};
+ghost use Rattle.flow_propagate.specs.Plan.{AreReaders, AreGivers, plain_pair};
+ghost use Rattle.flow_propagate.specs.Named.{AreNamed, AreTargets, Ascend};
 
 use crate::naming::add_readers;
 use ar_base::{AssignId, Memory, VarId};
@@ -15,9 +15,38 @@ pub(crate) fn readers(alloc: Global, parts: &GtsParts) -> Result<Vec<(u32, u32)>
     requires { IsSound parts.now }
     ensures { IfOk result (λ pairs. AreReaders parts.now pairs.items) }
 {
-    let mut pairs = all_named(alloc, parts)?;
+    let pairs = all_named(alloc, parts)?;
+    Ok(ascending(pairs))
+}
+
+// The pairs of a variable and an assignment to it, ascending, each once.
+pub(crate) fn givers(alloc: Global, parts: &GtsParts) -> Result<Vec<(u32, u32)>, Memory>
+    requires { IsSound parts.now }
+    ensures { IfOk result (λ pairs. AreGivers parts.now pairs.items) }
+{
+    let pairs = all_targets(alloc, parts)?;
+    Ok(ascending(pairs))
+}
+
+// The pairs, ascending, each once.
+fn ascending(pairs: Vec<(u32, u32)>) -> Vec<(u32, u32)>
+    ensures { Ascend pairs.items result.items }
+{
+    let mut pairs = pairs;
     pairs.sort_unstable();
     pairs.dedup();
+    pairs
+}
+
+// The pair of each assignment's target and the assignment, by the assignments' numbers.
+fn all_targets(alloc: Global, parts: &GtsParts) -> Result<Vec<(u32, u32)>, Memory>
+    requires { IsSound parts.now }
+    ensures { IfOk result (λ pairs. AreTargets parts.now (length parts.now.assigns.items) pairs.items) }
+{
+    let mut pairs = Vec::new(alloc);
+    for (place, assign) in parts.assigns.iter().enumerate() {
+        pairs.push((assign.target.n, place as u32))?;
+    }
     Ok(pairs)
 }
 

@@ -1,19 +1,17 @@
 // Total valuations.
 
-ghost use Rattle.std.specs.Prelude.{true, false, Bool, [], ◌∷◌, if◌then◌else◌, ◌≡◌, ◌<◌, ◌≤◌, ℕ, List, length, map, IfOk, IsTrue, Contains};
-ghost use Rattle.ar_base.specs.Lists.{IsOneOf, Stands};
+ghost use Rattle.std.specs.Prelude.{[], ◌∷◌, ◌≡◌, ◌<◌, ◌≤◌, ℕ, List, length, IfOk};
+ghost use Rattle.ar_base.specs.Lists.{Stands};
 ghost use Rattle.domains.specs.declared.Value.{Value};
 ghost use Rattle.ar_meaning.specs.Found.{IsAnswer, IsFirstOrNone};
-ghost use Rattle.gts_core.specs.View.{net_of, assign_of};
 ghost use Rattle.gts_core.specs.Sound.{IsSound};
 ghost use Rattle.typed_expr.specs.Rows.{row_at};
-ghost use Rattle.flow_propagate.specs.Table.{Holds};
-ghost use Rattle.flow_propagate.specs.Totals.{Completed, completed_value, AreSingle, Breaks};
+ghost use Rattle.flow_propagate.specs.Totals.{Completed, completed_value, AreMarks, has_some, Breaks};
 
-use crate::table::{Table, yielded};
+use crate::table::Table;
 use ar_base::Memory;
 use domains::Value;
-use gts_core::{Assign, GtsParts};
+use gts_core::{Assign, GtsParts, are_met, value_in};
 use std::alloc::Global;
 
 // The values of the state variables, with the first fact of each flow, or its reset where it has none.
@@ -52,66 +50,54 @@ fn value_for(is_state: bool, own: Value, row: &[Value], reset: Value) -> Value
     }
 }
 
-// The table that has one value for each variable.
-pub(crate) fn single(alloc: Global, values: &[Value]) -> Result<Table, Memory>
-    ensures { IfOk result (λ table. AreSingle values.now table.rows.items (length values.now)) }
+// Which rows of the table have a value.
+pub(crate) fn marks(alloc: Global, table: &Table) -> Result<Vec<bool>, Memory>
+    ensures { IfOk result (λ marks. AreMarks table.now.rows.items (length table.now.rows.items) marks.items) }
 {
-    let mut rows = Vec::new(alloc);
-    for v in values {
-        let mut row = Vec::new(alloc);
-        row.push(*v)?;
-        rows.push(row)?;
+    let mut marks = Vec::new(alloc);
+    for row in &table.rows {
+        marks.push(has_some(row))?;
     }
-    Ok(Table { rows })
+    Ok(marks)
 }
 
-// The least assignment that is reached and has another value than its target.
-pub(crate) fn first_broken(
-    alloc: Global,
-    parts: &GtsParts,
-    table: &Table,
-) -> Result<Option<u32>, Memory>
+// Whether a row has a value.
+fn has_some(row: &[Value]) -> bool
+    ensures { result ≡ has_some row.now }
+{
+    !row.is_empty()
+}
+
+// The least assignment that is reached under a total valuation and has another value than its target.
+pub(crate) fn first_broken(parts: &GtsParts, total: &[Value]) -> Option<u32>
     requires { IsSound parts.now }
-    ensures { IfOk result (λ found. IsFirstOrNone parts.now.assigns.items (Breaks table.now.rows.items) found) }
+    ensures { IsFirstOrNone parts.now.assigns.items (Breaks total.now) result }
 {
     for (place, assign) in parts.assigns.iter().enumerate() {
-        let breaks = is_broken(alloc, assign, table)?;
-        if breaks {
-            return Ok(Some(place as u32));
+        if is_broken(assign, total) {
+            return Some(place as u32);
         }
     }
-    Ok(None)
+    None
 }
 
-// Whether an assignment is reached and yields a value that its target's row lacks.
-fn is_broken(alloc: Global, assign: &Assign, table: &Table) -> Result<bool, Memory>
-    ensures { IfOk result (λ b. IsAnswer b (Breaks table.now.rows.items assign.now)) }
+// Whether an assignment is reached under a total valuation and has another value than its target.
+fn is_broken(assign: &Assign, total: &[Value]) -> bool
+    ensures { IsAnswer result (Breaks total.now assign.now) }
 {
-    let Some(set) = yielded(alloc, assign, table)? else {
-        return Ok(false);
-    };
-    let lacks = some_lacking(row_of(table, assign.target.n), set.values());
-    Ok(lacks)
-}
-
-// The row of the variable of this number.
-fn row_of(table: &Table, n: u32) -> &[Value]
-    ensures { result.now ≡ row_at table.now.rows.items n }
-{
-    match table.rows.get(n as usize) {
-        Some(row) => row,
-        None => &[],
+    if !are_met(total, &assign.when) {
+        return false;
     }
+    let value = value_in(total, &assign.value);
+    !has_value(total, assign.target.n, value)
 }
 
-// Whether the row lacks one of the values.
-fn some_lacking(row: &[Value], values: &[Value]) -> bool
-    ensures { IsAnswer result ((v : Value) × Contains values.now v × (Contains row.now v → ⊥)) }
+// Whether the variable of this number has this value.
+fn has_value(total: &[Value], n: u32, v: Value) -> bool
+    ensures { IsAnswer result (Stands total.now n v) }
 {
-    for v in values {
-        if !row.contains(v) {
-            return true;
-        }
+    match total.get(n as usize) {
+        Some(w) => *w == v,
+        None => false,
     }
-    false
 }

@@ -22,7 +22,8 @@ use Rattle.gts_core.proofs.Numbering.{IsNumber, renames_numbered}
 use Rattle.gts_core.proofs.Viewing.{variable_there, are_numbered}
 use Rattle.flow_propagate.specs.Named.{AddsNamed}
 use Rattle.flow_reasons.specs.Answers.{numbers_of, reason_of, reasons_of}
-use Rattle.flow_reasons.specs.Cones.{AreSeen, SeesAll, RestsUpon, AreOrderly, IsReached, begins, follows, AreReached, AreMembers, AreRestsUpon, AreNumbersOf, NamesNumber}
+use Rattle.flow_propagate.specs.Marks.{AreMarked}
+use Rattle.flow_reasons.specs.Cones.{SeesAll, RestsUpon, AreOrderly, IsReached, begins, follows, AreReached, AreMembers, AreRestsUpon, AreNumbersOf, NamesNumber}
 use Rattle.flow_reasons.specs.declared.reason.Reason.{Reason}
 
 -- the reason of a variable among those in order
@@ -82,7 +83,7 @@ module _ (reasons : List Reason) (x from count : ℕ) (orderly : AreOrderly coun
 
 -- what was followed so far
 pub record Closing (reasons : List rounds.Reason) (first : List ℕ) (seen : List Bool) (found : List ℕ) (at : ℕ) : Type 0 where
-  pub are : AreSeen seen found
+  pub are : AreMarked seen found
   pub sound : (n : ℕ) → IsOneOf found n → IsReached reasons first n
   pub starts : (n : ℕ) → IsOneOf first n → IsOneOf found n
   pub closed : (j m n : ℕ) → j < at → Stands found j m → RestsUpon reasons m n → IsOneOf found n

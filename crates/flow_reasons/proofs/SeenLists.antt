@@ -5,11 +5,12 @@ use Rattle.ar_base.specs.Lists.{Stands, IsOneOf}
 use Rattle.ar_base.specs.Numbers.{VarId}
 use Rattle.ar_base.proofs.Standing.{at_most, stands_one, stands_none, stands_left, one_none, one_first, only_item}
 use Rattle.flow_reasons.specs.Answers.{numbers_of}
-use Rattle.flow_reasons.specs.Cones.{unseen, AreSeen, SeesAll, Sees, AreMembers}
+use Rattle.flow_propagate.specs.Marks.{AreMarked}
+use Rattle.flow_reasons.specs.Cones.{unseen, SeesAll, Sees, AreMembers}
 use Rattle.flow_reasons.proofs.Placing.{set_here, set_other, set_back, pushed_cases, pushed_old, pushed_last, ascends_none, ascends_push}
 
 -- nothing more was seen
-pub sees_none : (seen : List Bool) (found : List ℕ) → AreSeen seen found → SeesAll [] seen seen found found
+pub sees_none : (seen : List Bool) (found : List ℕ) → AreMarked seen found → SeesAll [] seen seen found found
 sees_none seen found are = record {
   long = refl;
   are = are;
@@ -20,7 +21,7 @@ sees_none seen found are = record {
 }
 
 -- a variable that was seen before
-pub sees_again : (n : ℕ) (seen : List Bool) (found : List ℕ) → AreSeen seen found → Stands seen n true → Sees n seen seen found found
+pub sees_again : (n : ℕ) (seen : List Bool) (found : List ℕ) → AreMarked seen found → Stands seen n true → Sees n seen seen found found
 sees_again n seen found are s = record {
   long = refl;
   are = are;
@@ -39,7 +40,7 @@ unseen_set (b ∷ seen) zero s = let e : b ≡ false = cc in subst (λ z. (if z 
 unseen_set (b ∷ seen) (suc n) s = let h = unseen_set seen n s in omega (arith, h)
 
 -- a variable that was not seen before
-pub sees_new : (n : ℕ) (seen : List Bool) (found new : List ℕ) → AreSeen seen found → n < length seen → Stands seen n false → new ≡ found ++ n ∷ []
+pub sees_new : (n : ℕ) (seen : List Bool) (found new : List ℕ) → AreMarked seen found → n < length seen → Stands seen n false → new ≡ found ++ n ∷ []
     → Sees n seen (set seen n true) found new
 sees_new n seen found new are l s e = subst (λ (z : List ℕ). Sees n seen (set seen n true) found z) (sym e) (record {
   long = length-set seen n true;

@@ -6,20 +6,17 @@ use Rattle.ar_base.specs.Sets.{Ascends}
 use Rattle.typed_expr.specs.Mentions.{Mentions}
 use Rattle.typed_expr.specs.declared.expr.Expr.{Expr, out-Expr}
 use Rattle.flow_rounds.specs.Reasons as rounds
+use Rattle.flow_propagate.specs.Marks.{AreMarked}
 
 -- how many variables were not seen
 abbrev pub unseen : List Bool → ℕ
 unseen [] = 0
 unseen (b ∷ bs) = (if b then 0 else 1) + unseen bs
 
--- the numbers of the list are those that were seen
-pub record AreSeen (seen : List Bool) (found : List ℕ) : Type 0 where
-  pub each : (n : ℕ) → (IsOneOf found n ↔ Stands seen n true)
-
 -- these were seen, too; those that were not seen before went last in the list
 pub record SeesAll (xs : List ℕ) (seen seen_then : List Bool) (found found_then : List ℕ) : Type 0 where
   pub long : length seen_then ≡ length seen
-  pub are : AreSeen seen_then found_then
+  pub are : AreMarked seen_then found_then
   pub front : (j n : ℕ) → Stands found j n → Stands found_then j n
   pub longer : length found ≤ length found_then
   pub each : (n : ℕ) → (IsOneOf found_then n ↔ (IsOneOf found n ⊎ IsOneOf xs n))

@@ -3,7 +3,8 @@
 ghost use Rattle.std.specs.Prelude.{◌<◌, ◌^◌, ℕ, length, IfOk};
 ghost use Rattle.ar_base.specs.Lists.{IsOneOf};
 ghost use Rattle.flow_reasons.specs.Answers.{numbers_of};
-ghost use Rattle.flow_reasons.specs.Cones.{AreSeen, Sees, SeesAll, AreMembers};
+ghost use Rattle.flow_propagate.specs.Marks.{AreMarked};
+ghost use Rattle.flow_reasons.specs.Cones.{Sees, SeesAll, AreMembers};
 
 use ar_base::{Memory, VarId};
 use std::alloc::Global;
@@ -14,7 +15,7 @@ pub(crate) fn see_all(
     seen: &mut [bool],
     found: &mut Vec<u32>,
 ) -> Result<(), Memory>
-    requires are { AreSeen seen.old found.old.items }
+    requires are { AreMarked seen.old found.old.items }
     requires below { (n : ℕ) → IsOneOf (numbers_of variables.now) n → n < length seen.old }
     ensures { IfOk result (λ _. SeesAll (numbers_of variables.now) seen.old seen.new found.old.items found.new.items) }
 {
@@ -26,7 +27,7 @@ pub(crate) fn see_all(
 
 // Sees a variable.
 fn see(n: u32, seen: &mut [bool], found: &mut Vec<u32>) -> Result<(), Memory>
-    requires are { AreSeen seen.old found.old.items }
+    requires are { AreMarked seen.old found.old.items }
     requires below { n < length seen.old }
     ensures { IfOk result (λ _. Sees n seen.old seen.new found.old.items found.new.items) }
 {

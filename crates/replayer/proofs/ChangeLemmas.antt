@@ -10,7 +10,7 @@ use Rattle.domains.proofs.Same.{same_is, same_self}
 use Rattle.ar_meaning.proofs.OneAnswer.{same_value}
 use Rattle.gts_core.specs.Readings.{value_at}
 use Rattle.gts_core.proofs.Reading.{read_value}
-use Rattle.stepper.specs.Changes.{numbers, HasChanged, AreChanges}
+use Rattle.value_changes.specs.Changes.{numbers, HasChanged, AreChanges}
 use Rattle.replayer.specs.Printing.{change_text, changes_from, texts_of}
 
 -- the texts of so many numbers from n on

@@ -20,7 +20,8 @@ use Rattle.gts_core.specs.Readings.{IsTotal}
 use Rattle.gts_core.specs.declared.system.GtsParts.{GtsParts}
 use Rattle.gts_core.specs.declared.system.Variable.{Variable}
 use Rattle.gts_core.proofs.Viewing.{variable_there, variables_long}
-use Rattle.stepper.proofs.Totals.{flows_total, first_state}
+use Rattle.flow_propagate.proofs.Determining.{flows_total}
+use Rattle.stepper.proofs.Totals.{first_state}
 
 -- a variable's value after a step is received, or its own
 received_each : (E : ℕ → Value → Type 0) (k : ℕ) (xs : List Variable) (vs ws : List Value) → Receives E (variables_from k xs) vs ws

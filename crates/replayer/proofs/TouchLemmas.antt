@@ -3,7 +3,7 @@ use Rattle.std.proofs.Common.{◌↔◌, ℕ, List}
 use Rattle.ar_base.specs.Lists.{IsOneOf}
 use Rattle.ar_base.specs.Numbers.{VarId}
 use Rattle.ar_base.specs.Sets.{Ascends}
-use Rattle.stepper.specs.Changes.{numbers}
+use Rattle.value_changes.specs.Changes.{numbers}
 use Rattle.gts_core.specs.declared.system.GtsParts.{GtsParts}
 use Rattle.number_pairs.specs.Pairing.{IsPaired}
 use Rattle.replayer.specs.Observing.{AreInOrder, NamesOne, AreTouched}

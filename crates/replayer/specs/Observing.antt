@@ -10,7 +10,7 @@ use Rattle.domains.specs.declared.Value.{Value}
 use Rattle.gts_core.specs.Readings.{IsTotal}
 use Rattle.gts_core.specs.declared.system.GtsParts.{GtsParts}
 use Rattle.gts_core.specs.declared.system.Observer.{Observer}
-use Rattle.stepper.specs.Changes.{numbers}
+use Rattle.value_changes.specs.Changes.{numbers}
 use Rattle.replayer.specs.declared.latest.Latest.{Latest}
 
 -- observer n names variable x

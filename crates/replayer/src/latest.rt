@@ -2,7 +2,7 @@
 
 ghost use Rattle.std.specs.Prelude.{◌≡◌, length, IfOk};
 ghost use Rattle.gts_core.specs.Sound.{IsSound};
-ghost use Rattle.stepper.specs.Changes.{AreChanges};
+ghost use Rattle.value_changes.specs.Changes.{AreChanges};
 ghost use Rattle.replayer.specs.Observing.{AreObserved, AreInOrder};
 
 use ar_base::{Memory, VarId};

@@ -10,7 +10,7 @@ ghost use Rattle.domains.specs.Same.{is_same};
 ghost use Rattle.gts_core.specs.Readings.{IsTotal, value_at};
 ghost use Rattle.gts_core.specs.Sound.{IsSound};
 ghost use Rattle.gts_flatten.specs.Flat.{naming_of_parts};
-ghost use Rattle.stepper.specs.Changes.{numbers, AreChanges};
+ghost use Rattle.value_changes.specs.Changes.{numbers, AreChanges};
 ghost use Rattle.replayer.specs.Observing.{AreTouched};
 ghost use Rattle.replayer.specs.Printing.{values_text, change_text, observer_lines, observer_value, texts_of, changes_text};
 

@@ -3,7 +3,7 @@
 ghost use Rattle.std.specs.Prelude.{◌≡◌, IfOk};
 ghost use Rattle.std.specs.List.Sorted.{IsNonDecreasingBy};
 ghost use Rattle.gts_core.specs.declared.system.GtsParts.{GtsParts as Parts};
-ghost use Rattle.stepper.specs.Changes.{numbers};
+ghost use Rattle.value_changes.specs.Changes.{numbers};
 ghost use Rattle.replayer.specs.Observing.{AreInOrder, AreTouched};
 
 use ar_base::{Memory, VarId};

@@ -9,7 +9,7 @@ ghost use Rattle.gts_core.specs.Readings.{IsTotal};
 ghost use Rattle.gts_flatten.specs.Flat.{naming_of_parts};
 ghost use Rattle.replayer.specs.Flat.{way_label, IsInRange};
 ghost use Rattle.replayer.specs.Listing.{AreAnswers};
-ghost use Rattle.stepper.specs.Changes.{AreChanges};
+ghost use Rattle.value_changes.specs.Changes.{AreChanges};
 ghost use Rattle.replayer.specs.Observing.{AreTouched};
 ghost use Rattle.replayer.specs.Printing.{values_text, changes_text, events_lines, step_text, IsFaultInRange};
 

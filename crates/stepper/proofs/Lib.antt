@@ -1,15 +1,5 @@
-pub mod Firing
-pub mod Taking
-pub mod Lists
-pub mod Placing
-pub mod Heights
-pub mod Renewing
-pub mod Marked
-pub mod Receiving
-pub mod Moving
 pub mod Totals
-pub mod Growing
-pub mod Acting
-pub mod Stepping
-pub mod Going
-pub mod Changing
+pub mod Kept
+mod Growing
+mod Going
+mod Refusals

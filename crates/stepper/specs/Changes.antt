@@ -1,56 +1,54 @@
--- What a step changed, and what was before it.
-use Rattle.std.specs.Prelude.{◌≡◌, ◌↔◌, ℕ, List, [], ◌∷◌, length, map, slice_set, Option, Some, None, ⊤}
-use Rattle.ar_base.specs.Lists.{Stands, IsOneOf}
+-- Where a run stands, and where it stood before a step.
+use Rattle.std.specs.Prelude.{◌≡◌, length, List, [], ◌∷◌, Option, Some, None, Bool, ⊤}
 use Rattle.ar_base.specs.Numbers.{VarId}
-use Rattle.ar_base.specs.Sets.{Ascends}
 use Rattle.domains.specs.declared.Value.{Value}
+use Rattle.flow_propagate.specs.Determined.{IsDetermined}
+use Rattle.flow_changes.specs.declared.present.Present.{Present}
+use Rattle.gts_core.specs.declared.system.GtsParts.{GtsParts}
+use Rattle.value_changes.specs.Changes.{AreChanges}
+use Rattle.value_changes.specs.Restoring.{restored}
+use Rattle.value_changes.specs.Restoring as marks
+use Rattle.way_flags.specs.Ways.{AreFlags}
+use Rattle.way_flags.specs.Turning.{turned}
 use Rattle.stepper.specs.declared.changes.StepChanges.{StepChanges}
 
--- the variable of this number has two values that are not the same
-pub record HasChanged (old new : List Value) (n : ℕ) : Type 0 where
-  pub before : Value
-  pub after : Value
-  pub had : Stands old n before
-  pub has : Stands new n after
-  pub differ : before ≡ after → ⊥
+-- the values, which of them are facts, and which ways can fire
+pub record Point : Type 0 where
+  pub values : List Value
+  pub known : List Bool
+  pub can : List Bool
 
--- the numbers of these variables
-abbrev pub numbers : List VarId → List ℕ
-numbers variables = map (λ (x : VarId). x.n) variables
+-- where a run stands by what it keeps
+abbrev pub point_at : Present → List Bool → Point
+point_at present can = record { values = present.determined.values.values.items; known = present.determined.known.items; can = can }
 
--- these are the variables that changed, ascending
-pub record AreChanges (old new : List Value) (variables : List VarId) : Type 0 where
-  pub ascend : Ascends (numbers variables)
-  pub each : (n : ℕ) → (IsOneOf (numbers variables) n ↔ HasChanged old new n)
+-- the values are determined by their own state, and the flags are those of the values
+pub record IsPoint (p : GtsParts) (s : Point) : Type 0 where
+  pub determined : IsDetermined p s.values s.known
+  pub flags : AreFlags p s.values s.can
 
--- the valuation with the old values of these variables
-abbrev pub restored : List Value → List VarId → List Value → List Value
-restored t [] vs = t
-restored t (x ∷ xs) [] = t
-restored t (x ∷ xs) (v ∷ vs) = restored (slice_set t x.n v) xs vs
+-- where the run stood before the step, by what the step changed
+abbrev pub before : GtsParts → Point → StepChanges → Point
+before p s step = record { values = restored p s.values step.flows.variables.items step.flows.old.items; known = marks.turned s.known step.flows.turned.items; can = turned s.can step.ways.items }
 
--- the valuation before this step, by what it changed
-abbrev pub before : List Value → StepChanges → List Value
-before t step = restored t step.variables.items step.old.items
-
--- what a step says that it changed is what it changed
-pub record Tells (old new : List Value) (step : StepChanges) : Type 0 where
-  pub long : length step.variables.items ≡ length step.old.items
-  pub back : before new step ≡ old
-  pub changes : AreChanges old new step.variables.items
+-- the step led here from a point that it gives back, and says which variables it changed
+pub record Tells (p : GtsParts) (s : Point) (step : StepChanges) : Type 0 where
+  pub point : IsPoint p (before p s step)
+  pub long : length step.flows.variables.items ≡ length step.flows.old.items
+  pub changes : AreChanges (before p s step).values s.values step.flows.variables.items
 
 -- the valuations below this one, the nearest first, by what each step changed, the last step first
-abbrev pub below_by : List Value → List StepChanges → List (List Value)
-below_by t [] = []
-below_by t (c ∷ cs) = before t c ∷ below_by (before t c) cs
+abbrev pub below_by : GtsParts → Point → List StepChanges → List (List Value)
+below_by p s [] = []
+below_by p s (c ∷ cs) = (before p s c).values ∷ below_by p (before p s c) cs
 
 -- each of these steps, the last one first, says what it changed
-abbrev pub AreTold : List Value → List StepChanges → Type 0
-AreTold t [] = ⊤
-AreTold t (c ∷ cs) = Tells (before t c) t c × AreTold (before t c) cs
+abbrev pub AreTold : GtsParts → Point → List StepChanges → Type 0
+AreTold p s [] = ⊤
+AreTold p s (c ∷ cs) = Tells p s c × AreTold p (before p s c) cs
 
 -- the variables that the last step changed, where it was not undone, or else the undone step
 abbrev pub last_changed : Option StepChanges → List StepChanges → List VarId
-last_changed (Some undone) cs = undone.variables.items
+last_changed (Some undone) cs = undone.flows.variables.items
 last_changed None [] = []
-last_changed None (c ∷ cs) = c.variables.items
+last_changed None (c ∷ cs) = c.flows.variables.items

@@ -4,15 +4,14 @@ use Rattle.domains.specs.declared.Value.{Value}
 use Rattle.ar_meaning.specs.Systems as s
 use Rattle.ar_meaning.specs.Runs.{StartFails}
 use Rattle.ar_meaning.specs.Steps as steps
-use Rattle.ar_meaning.specs.Facts.{HasValue}
-use Rattle.ar_meaning.specs.Ways.{Can, Effects}
-use Rattle.ar_base.specs.Lists.{HasNo}
 use Rattle.ar_base.specs.Numbers.{VarId}
 use Rattle.gts_core.specs.declared.system.Valuation.{Valuation}
 use Rattle.gts_core.specs.declared.system.GtsParts.{GtsParts}
 use Rattle.flow_propagate.specs.Answers.{fault_of}
 use Rattle.flow_propagate.specs.declared.propagation.PropagateFault.{PropagateFault}
 use Rattle.flow_propagate.specs.declared.propagation.PropagateFault.TheVariants as propagates
+use Rattle.way_effects.specs.declared.faults.ReceiveFault.{ReceiveFault}
+use Rattle.way_effects.specs.declared.faults.ReceiveFault.TheVariants as receives
 use Rattle.stepper.specs.declared.faults.StepFault.{StepFault}
 use Rattle.stepper.specs.declared.faults.StepFault.TheVariants as fault
 
@@ -36,14 +35,8 @@ IsStepFault net t w (fault.Range x) = steps.Step net t w (steps.Refused (steps.R
 IsStepFault net t w (fault.Flow f) = steps.Step net t w (steps.Refused (steps.Flow (fault_of f)))
 IsStepFault net t w fault.Memory = ⊤
 
--- the new valuation, or the fault
-abbrev pub IsStepAnswer : s.Net ℕ → List Value → s.Way ℕ → Result Valuation StepFault → Type 0
-IsStepAnswer net t w (Ok next) = steps.Step net t w (steps.Next next.values.items)
-IsStepAnswer net t w (Err f) = IsStepFault net t w f
-
--- the way can be fired from t without a fault before the flows, and leads to this state
-pub record IsReady (net : s.Net ℕ) (t : List Value) (w : s.Way ℕ) (state : List Value) : Type 0 where
-  pub can : Can (HasValue net t) w
-  pub no_clash : HasNo net.variables (steps.Clashes (Effects (HasValue net t) w))
-  pub no_range : HasNo net.variables (steps.LeavesDomain (Effects (HasValue net t) w))
-  pub receives : steps.Receives (Effects (HasValue net t) w) net.variables t state
+-- the fault of a step that this fault of what is received is
+abbrev pub step_fault_of : ReceiveFault → StepFault
+step_fault_of (receives.Clash x) = fault.Clash x
+step_fault_of (receives.Range x) = fault.Range x
+step_fault_of receives.Memory = fault.Memory

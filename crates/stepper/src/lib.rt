@@ -2,13 +2,9 @@
 #![tactic(auto)]
 
 mod changes;
-mod effects;
 mod faults;
-mod flags;
+mod keeping;
 mod moves;
-mod order;
-mod received;
-mod sequence;
 mod stepper;
 
 pub use faults::{NoStep, StepFault};

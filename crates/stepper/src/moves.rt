@@ -1,114 +1,76 @@
-// The next valuation.
+// The start of a run, and what a way that is fired does to the state.
 
-ghost use Rattle.std.specs.Prelude.{◌≡◌, ◌<◌, ℕ, true, length, IfErr, IfOk};
+ghost use Rattle.std.specs.Prelude.{◌≡◌, ◌<◌, ℕ, length, IfErr, IfOk, OnErr, OnOk};
 ghost use Rattle.ar_meaning.specs.Systems.{Way};
 ghost use Rattle.ar_meaning.specs.Runs.{Start, first_values};
-ghost use Rattle.flow_propagate.specs.Answers.{IsState, IsFlowAnswer};
+ghost use Rattle.flow_propagate.specs.NewValues.{AreNewValues, written};
 ghost use Rattle.flow_propagate.specs.Plan.{IsPlan};
+ghost use Rattle.ar_meaning.specs.Flows.{Flows, Total};
+ghost use Rattle.flow_changes.specs.Present.{IsPresent, IsFaultOf};
+ghost use Rattle.value_changes.specs.Changes.{AreChanges};
+ghost use Rattle.way_flags.specs.Index.{IsWayIndex};
+ghost use Rattle.stepper.specs.Changes.{before, point_at};
 ghost use Rattle.gts_core.specs.View.{net_of, IsWayAt};
-ghost use Rattle.gts_core.specs.Sound.{IsSound};
 ghost use Rattle.gts_core.specs.Readings.{IsTotal};
-ghost use Rattle.stepper.specs.Ways.{IsOrder, AreFlags, flag_at};
-ghost use Rattle.stepper.specs.Steps.{IsStepFault, IsStartFault, IsStepAnswer, IsReady};
+ghost use Rattle.way_effects.specs.Ready.{IsReady};
+ghost use Rattle.way_flags.specs.Ways.{AreFlags};
+ghost use Rattle.stepper.specs.Steps.{IsStepFault, IsStartFault, step_fault_of};
 
-use crate::effects::{effects, takers};
+use crate::changes::StepChanges;
 use crate::faults::StepFault;
-use crate::flags::is_set;
-use crate::received::{first_leaving, first_two, gathered, values_after};
 use ar_base::{Memory, VarId, WayId};
 use domains::Value;
-use flow_propagate::{Plan, PropagateFault, propagate_by};
+use flow_changes::{Present, make_present, propagate_from, restore};
+use flow_propagate::{Plan, PropagateFault};
 use gts_core::{Gts, GtsParts, Valuation};
 use std::alloc::Global;
+use way_effects::{ReceiveFault, received};
+use way_flags::{WayIndex, is_set, renew};
 
-// The flows of a state.
-fn flows(
+/// What the state variables receive where a way is fired, or the fault of the way or of what they receive.
+pub(crate) fn next_values(
     alloc: Global,
     gts: &Gts,
-    plan: &Plan,
-    state: &Valuation,
-) -> Result<Valuation, PropagateFault>
-    requires sound { IsSound gts.now }
-    requires plan { IsPlan gts.now plan.now }
-    requires state { IsState gts.now state.now.values.items }
-    ensures flows { IsFlowAnswer (net_of gts.now) state.now.values.items result }
-    ensures total { IfOk result (λ total. IsTotal gts.now total.values.items) }
-{
-    propagate_by(alloc, gts, plan, state)
-}
-
-/// The valuation after a way is fired, or the fault: a fault of the way, then of what the variables receive, then of the
-/// flows of the new state.
-pub(crate) fn next(
-    alloc: Global,
-    gts: &Gts,
-    plan: &Plan,
-    order: &[WayId],
     flags: &[bool],
     values: &[Value],
     way: WayId,
-) -> Result<Valuation, StepFault>
-    requires plan { IsPlan gts.now plan.now }
-    requires order { IsOrder gts.now order.now }
+) -> Result<Vec<(VarId, Value)>, StepFault>
     requires total { IsTotal gts.now values.now }
     requires right { AreFlags gts.now values.now flags.now }
     requires inside { way.n < length gts.now.ways.items }
-    ensures total { IfOk result (λ after. IsTotal gts.now after.values.items) }
-    ensures step { (w : Way ℕ) → IsWayAt gts.now way.n w → IsStepAnswer (net_of gts.now) values.now w result }
+    ensures new { IfOk result (λ new. AreNewValues gts.now new.items) }
+    ensures ready { IfOk result (λ new. (w : Way ℕ) → IsWayAt gts.now way.n w → IsReady (net_of gts.now) values.now w (written values.now new.items)) }
+    ensures fault { IfErr result (λ f. (w : Way ℕ) → IsWayAt gts.now way.n w → IsStepFault (net_of gts.now) values.now w f) }
 {
     if !is_set(flags, way) {
         return Err(StepFault::NotEnabled);
     }
-    let parts = gts.parts();
-    let state = state_after(alloc, parts, order, flags, values, way)?;
-    match flows(alloc, gts, plan, &state) {
-        Ok(total) => Ok(total),
-        Err(PropagateFault::Flow(fault)) => Err(StepFault::Flow(fault)),
-        Err(PropagateFault::Memory) => Err(StepFault::Memory),
+    match received(alloc, gts.parts(), flags, values, way) {
+        Ok(new) => Ok(new),
+        Err(fault) => Err(step_fault(fault)),
     }
 }
 
-// The new state.
-fn state_after(
-    alloc: Global,
-    parts: &GtsParts,
-    order: &[WayId],
-    flags: &[bool],
-    values: &[Value],
-    way: WayId,
-) -> Result<Valuation, StepFault>
-    requires sound { IsSound parts.now }
-    requires order { IsOrder parts.now order.now }
-    requires total { IsTotal parts.now values.now }
-    requires right { AreFlags parts.now values.now flags.now }
-    requires inside { way.n < length parts.now.ways.items }
-    requires can { flag_at flags.now way.n ≡ true }
-    ensures state { IfOk result (λ state. IsState parts.now state.values.items) }
-    ensures received { IfOk result (λ state. (w : Way ℕ) → IsWayAt parts.now way.n w → IsReady (net_of parts.now) values.now w state.values.items) }
-    ensures fault { IfErr result (λ f. (w : Way ℕ) → IsWayAt parts.now way.n w → IsStepFault (net_of parts.now) values.now w f) }
+// The fault by the words of a step.
+fn step_fault(fault: ReceiveFault) -> StepFault
+    ensures { result ≡ step_fault_of fault }
 {
-    let marks = takers(alloc, parts, order, flags, way)?;
-    let all = effects(alloc, parts, values, &marks)?;
-    let rows = gathered(alloc, parts.variables.len(), &all)?;
-    if let Some(place) = first_two(&rows) {
-        return Err(StepFault::Clash(VarId::new(place as u32)));
+    match fault {
+        ReceiveFault::Clash(variable) => StepFault::Clash(variable),
+        ReceiveFault::Range(variable) => StepFault::Range(variable),
+        ReceiveFault::Memory => StepFault::Memory,
     }
-    if let Some(place) = first_leaving(parts, &rows) {
-        return Err(StepFault::Range(VarId::new(place as u32)));
-    }
-    let values = values_after(alloc, values, &rows)?;
-    Ok(Valuation { values })
 }
 
-/// The valuation at the start.
-pub(crate) fn first(alloc: Global, gts: &Gts, plan: &Plan) -> Result<Valuation, PropagateFault>
+/// What is present at the start.
+pub(crate) fn first(alloc: Global, gts: &Gts, plan: &Plan) -> Result<Present, PropagateFault>
     requires { IsPlan gts.now plan.now }
-    ensures total { IfOk result (λ values. IsTotal gts.now values.values.items) }
-    ensures starts { IfOk result (λ values. Start (net_of gts.now) values.values.items) }
+    ensures present { IfOk result (λ it. IsPresent gts.now it) }
+    ensures starts { IfOk result (λ it. Start (net_of gts.now) it.determined.values.values.items) }
     ensures fault { IfErr result (IsStartFault (net_of gts.now)) }
 {
     let state = declared(alloc, gts.parts())?;
-    flows(alloc, gts, plan, &state)
+    make_present(alloc, gts, plan, &state)
 }
 
 // The declared values.
@@ -120,4 +82,41 @@ fn declared(alloc: Global, parts: &GtsParts) -> Result<Valuation, Memory>
         values.push(variable.value)?;
     }
     Ok(Valuation { values })
+}
+
+/// Goes on to what the state with these new values determines, and renews the flags; answers what changed. After a refusal
+/// all is as it was.
+pub(crate) fn go_on(
+    alloc: Global,
+    gts: &Gts,
+    plan: &Plan,
+    index: &WayIndex,
+    new: &[(VarId, Value)],
+    present: &mut Present,
+    can: &mut Vec<bool>,
+) -> Result<StepChanges, PropagateFault>
+    requires plan { IsPlan gts.now plan.now }
+    requires index { IsWayIndex gts.now index.now }
+    requires present { IsPresent gts.now present.old }
+    requires flags { AreFlags gts.now present.old.determined.values.values.items can.old.items }
+    requires new { AreNewValues gts.now new.now }
+    ensures present { IsPresent gts.now present.new }
+    ensures flags { AreFlags gts.now present.new.determined.values.values.items can.new.items }
+    ensures flows { OnOk result (Flows (net_of gts.now) (written present.old.determined.values.values.items new.now) (Total present.new.determined.values.values.items)) }
+    ensures back { IfOk result (λ step. before gts.now (point_at present.new can.new.items) step ≡ point_at present.old can.old.items) }
+    ensures long { IfOk result (λ step. length step.flows.variables.items ≡ length step.flows.old.items) }
+    ensures changes { IfOk result (λ step. AreChanges present.old.determined.values.values.items present.new.determined.values.values.items step.flows.variables.items) }
+    ensures fault { IfErr result (IsFaultOf gts.now (written present.old.determined.values.values.items new.now)) }
+    ensures err { OnErr result (point_at present.new can.new.items ≡ point_at present.old can.old.items) }
+{
+    let parts = gts.parts();
+    let flows = propagate_from(alloc, gts, plan, present, new)?;
+    let values = &present.determined.values.values;
+    match renew(alloc, parts, index, values, &flows.variables, can) {
+        Ok(ways) => Ok(StepChanges { flows, ways }),
+        Err(memory) => {
+            restore(parts, present, &flows);
+            Err(PropagateFault::from(memory))
+        }
+    }
 }

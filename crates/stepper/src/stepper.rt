@@ -11,33 +11,39 @@ ghost use Rattle.gts_core.specs.View.{net_of, IsWayAt};
 ghost use Rattle.gts_core.specs.Sound.{IsSound};
 ghost use Rattle.flow_propagate.specs.Plan.{IsPlan};
 ghost use Rattle.gts_core.specs.Readings.{IsTotal};
-ghost use Rattle.stepper.specs.Changes.{AreChanges};
+ghost use Rattle.ar_meaning.specs.Flows.{Flows, Total};
+ghost use Rattle.flow_propagate.specs.NewValues.{AreNewValues, written};
+ghost use Rattle.flow_changes.specs.Present.{IsPresent, IsFaultOf};
+ghost use Rattle.value_changes.specs.Changes.{AreChanges};
 ghost use Rattle.stepper.specs.Steps.{IsStartFault, IsStepFault};
 
-use crate::changes::{StepChanges, changes, restore};
+use crate::changes::StepChanges;
 use crate::faults::{NoStep, StepFault};
-use crate::flags::{is_set, renew, unset};
-use crate::moves::{first, next};
-use crate::order::way_order;
+use crate::keeping::{keep, make_room};
+use crate::moves::{first, go_on, next_values};
 use ar_base::{Memory, VarId, WayId};
+use domains::Value;
+use flow_changes::{Present, restore};
 use flow_propagate::{Plan, PropagateFault, make_plan};
 use gts_core::{Gts, Valuation};
 use std::alloc::Global;
 use std::marker::Model;
+use way_flags::{WayIndex, is_set, turn, way_flags, way_index};
 
 /// A run of a flat system, step by step: seen as the system's parts, the present total valuation, the standing valuations
 /// below it, the nearest first, and the variables that the last step or way back changed.
 ///
 /// The present valuation has a value of its domain for each variable. What each standing step changed is kept, and not the
-/// valuation before it; so is what the last step back undid. All ways are looked at again after a step, each once: this takes as long as the propagation that a
-/// step needs anyway, and no index from variables to guards has to be kept.
+/// valuation before it; so is what the last step back undid. A step takes as long as what it changes reaches: the ways that
+/// take part, the flows that follow from what they give, and the ways whose guards name what changed or that are above
+/// one whose flag was turned. Only a step that the flows refuse works out all flows anew.
 #[derive(Drop)]
 pub struct Stepper<'a> {
     alloc: Global,
     gts: &'a Gts,
     plan: Plan,
-    order: Vec<WayId>,
-    values: Valuation,
+    index: WayIndex,
+    present: Present,
     can: Vec<bool>,
     steps: Vec<StepChanges>,
     undone: Option<StepChanges>,
@@ -69,31 +75,30 @@ impl<'a> Stepper<'a> {
         ensures fault { IfErr result (IsStartFault (net_of gts.now)) }
     {
         let plan = make_plan(alloc, gts)?;
-        let values = first(alloc, gts, &plan)?;
-        Ok(Self::over(alloc, gts, plan, values)?)
+        let present = first(alloc, gts, &plan)?;
+        Ok(Self::over(alloc, gts, plan, present)?)
     }
 
-    // A stepper at this valuation, with no standing step.
+    // A stepper that stands here, with no standing step.
     fn over(
         alloc: Global,
         gts: &'a Gts,
         plan: Plan,
-        values: Valuation,
+        present: Present,
     ) -> Result<Stepper<'a>, Memory>
         requires plan { IsPlan gts.now plan }
-        requires total { IsTotal gts.now values.values.items }
-        ensures { IfOk result (λ stepper. stepper ≡ record { system = gts.now; values = values.values.items; below = []; changed = [] }) }
+        requires present { IsPresent gts.now present }
+        ensures { IfOk result (λ stepper. stepper ≡ record { system = gts.now; values = present.determined.values.values.items; below = []; changed = [] }) }
     {
         let parts = gts.parts();
-        let order = way_order(alloc, parts)?;
-        let mut can = unset(alloc, parts.ways.len())?;
-        renew(parts, &order, &values.values, &mut can);
+        let index = way_index(alloc, parts)?;
+        let can = way_flags(alloc, parts, &index, &present.determined.values.values)?;
         Ok(Stepper {
             alloc,
             gts,
             plan,
-            order,
-            values,
+            index,
+            present,
             can,
             steps: Vec::new(alloc),
             undone: None,
@@ -121,35 +126,43 @@ impl<'a> Stepper<'a> {
         ensures err { OnErr result (self.new ≡ self.old) }
         ensures system { self.new.system ≡ self.old.system }
     {
-        let values = next(
+        let new = next_values(
             self.alloc,
             self.gts,
-            &self.plan,
-            &self.order,
             &self.can,
-            &self.values.values,
+            &self.present.determined.values.values,
             way,
         )?;
-        self.go(values)?;
-        Ok(())
+        match self.go(&new) {
+            Ok(()) => Ok(()),
+            Err(PropagateFault::Flow(fault)) => Err(StepFault::Flow(fault)),
+            Err(PropagateFault::Memory) => Err(StepFault::Memory),
+        }
     }
 
-    // Goes to this valuation, and keeps what changed. Memory comes first, so that a refusal changes nothing.
-    fn go(&mut self, values: Valuation) -> Result<(), Memory>
-        requires { IsTotal self.old.system values.values.items }
-        ensures values { OnOk result (self.new.values ≡ values.values.items) }
+    // Goes to what the state with these new values determines, and keeps what changed. After a refusal the stepper is as it
+    // was.
+    fn go(&mut self, new: &[(VarId, Value)]) -> Result<(), PropagateFault>
+        requires { AreNewValues self.old.system new.now }
+        ensures flows { OnOk result (Flows (net_of self.old.system) (written self.old.values new.now) (Total self.new.values)) }
         ensures below { OnOk result (self.new.below ≡ self.old.values ∷ self.old.below) }
         ensures changed { OnOk result (AreChanges self.old.values self.new.values self.new.changed) }
+        ensures fault { IfErr result (IsFaultOf self.old.system (written self.old.values new.now)) }
         ensures err { OnErr result (self.new ≡ self.old) }
         ensures system { self.new.system ≡ self.old.system }
     {
-        let gts = self.gts;
-        let parts = gts.parts();
-        let changed = changes(self.alloc, &self.values.values, &values.values)?;
-        self.steps.push(changed)?;
+        make_room(&mut self.steps)?;
+        let step = go_on(
+            self.alloc,
+            self.gts,
+            &self.plan,
+            &self.index,
+            new,
+            &mut self.present,
+            &mut self.can,
+        )?;
+        keep(&mut self.steps, step)?;
         self.undone = None;
-        self.values = values;
-        renew(parts, &self.order, &self.values.values, &mut self.can);
         Ok(())
     }
 
@@ -164,14 +177,9 @@ impl<'a> Stepper<'a> {
         let Some(changed) = self.steps.pop() else {
             return Err(NoStep {});
         };
-        restore(&mut self.values.values, &changed);
+        restore(self.gts.parts(), &mut self.present, &changed.flows);
+        turn(&mut self.can, &changed.ways);
         self.undone = Some(changed);
-        renew(
-            self.gts.parts(),
-            &self.order,
-            &self.values.values,
-            &mut self.can,
-        );
         Ok(())
     }
 
@@ -180,7 +188,7 @@ impl<'a> Stepper<'a> {
         ensures values { result.now.values.items ≡ self.now.values }
         ensures total { IsTotal self.now.system self.now.values }
     {
-        &self.values
+        &self.present.determined.values
     }
 
     /// The variables that the last step or `back` changed, ascending; none at the start. Takes no memory.
@@ -188,10 +196,10 @@ impl<'a> Stepper<'a> {
         ensures { result.now ≡ self.now.changed }
     {
         if let Some(step) = &self.undone {
-            return &step.variables;
+            return &step.flows.variables;
         }
         match self.steps.last() {
-            Some(step) => &step.variables,
+            Some(step) => &step.flows.variables,
             None => &[],
         }
     }

@@ -1,25 +1,31 @@
-use Rattle.std.proofs.Common.{inl, List, map, subst, sym, ◌∙◌}
+use Rattle.std.proofs.Common.{◌≡◌, inl, ℕ, List, length, map, subst, sym, ap, ◌∙◌, arith}
 use Rattle.ar_base.proofs.Standing.{stands_within}
 use Rattle.flow_propagate.specs.Plan.{Reader, plain_pair, AreReaders}
+use Rattle.flow_propagate.specs.Closing.{IsWorklist}
 use Rattle.flow_propagate.proofs.Looking.{are_facts}
 use Rattle.flow_propagate.proofs.Starting.{starts_sound, starts_given}
 use Rattle.flow_propagate.proofs.closing.known.Goals as goal
 
 pub close-requires : goal.close-requires
-close-requires c = record {
-  sound = c.requires.sound;
-  readers = subst (λ (z : List Reader). AreReaders c.args.parts.now (map plain_pair z)) (sym c.deref.ensures.value) c.requires.readers;
-  long = c.in_ok-first.ensures.long;
-  work = c.in_ok-work.ensures.is;
-  settled = λ m a st. inl (c.in_ok-work.ensures.all m (stands_within c.args.parts.now.assigns.items m a st));
-}
+close-requires c =
+    let places = c.deref-2.ensures.value in
+    let count : length c.deref-2.result.now ≡ length c.args.parts.now.assigns.items = ap (λ (z : List ℕ). length z) places ∙ c.requires.schedule.long in
+    record {
+      sound = c.requires.sound;
+      readers = subst (λ (z : List Reader). AreReaders c.args.parts.now (map plain_pair z)) (sym c.deref-3.ensures.value) c.requires.readers;
+      long = c.in_ok-first.ensures.long;
+      work = subst (λ (z : ℕ). IsWorklist z c.all_waiting-work.result) count c.all_waiting-work.ensures.is;
+      settled = λ m a st. inl (c.all_waiting-work.ensures.all m (let h = stands_within c.args.parts.now.assigns.items m a st in omega (arith, h, count)));
+      heard = λ m a st. inl (c.all_waiting-work.ensures.all m (let h = stands_within c.args.parts.now.assigns.items m a st in omega (arith, h, count)));
+    }
 
 pub returns : goal.returns
 returns c =
     let s = c.in_ok-first.ensures in
-    let m = c.in_ok-table.ensures.moves in
+    let m = c.in_ok-known.ensures.moves in
     record {
-      facts = are_facts c.args.parts.now c.args.values.now c.in_ok-table.table.rows.items (m.sound c.args.values.now (starts_sound c.args.parts.now c.args.values.now c.in_ok-first.first.rows.items c.requires.long s))
-          (λ n v g. m.grows n v (starts_given c.args.parts.now c.args.values.now c.in_ok-first.first.rows.items c.requires.long s n v g)) c.in_ok-table.ensures.closed;
+      facts = are_facts c.args.parts.now c.args.values.now c.in_ok-known.known.table.rows.items (m.sound c.args.values.now (starts_sound c.args.parts.now c.args.values.now c.in_ok-first.first.rows.items c.requires.long s))
+          (λ n v g. m.grows n v (starts_given c.args.parts.now c.args.values.now c.in_ok-first.first.rows.items c.requires.long s n v g)) c.in_ok-known.ensures.closed;
       long = m.long ∙ s.long;
+      outside = c.in_ok-known.ensures.outside;
     }

@@ -5,4 +5,4 @@ use Rattle.flow_propagate.specs.Totals.{Breaks}
 use Rattle.flow_propagate.proofs.totals.first_broken.Given as goal
 
 abbrev pub invariant-loop-place : goal.invariant-loop-place
-invariant-loop-place l = (k : ℕ) (a : Assign) → k < l.place → Stands l.parts.assigns.items k a → Breaks l.table.rows.items a → ⊥
+invariant-loop-place l = (k : ℕ) (a : Assign) → k < l.place → Stands l.parts.assigns.items k a → Breaks l.total a → ⊥

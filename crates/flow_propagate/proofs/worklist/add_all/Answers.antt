@@ -4,14 +4,14 @@ use Rattle.flow_propagate.proofs.Worklists.{adds_start, adds_more, adds_all, by_
 use Rattle.flow_propagate.proofs.worklist.add_all.Goals as goal
 
 pub loop-assign-init : goal.loop-assign-init
-loop-assign-init c = adds_start (length c.args.work.now.places.items) c.args.readers.now c.args.work.now c.requires.is
+loop-assign-init c = adds_start (length c.args.work.now.places.now) c.args.readers.now c.args.work.now c.requires.is
 
 pub loop-assign-preserved : goal.loop-assign-preserved
 loop-assign-preserved c =
     let readers = c.args.readers.now in
     let i = c.loop-assign.assign-index in
     let r = get_or readers i no_reader in
-    adds_more (length c.args.work.now.places.items) i readers r c.args.work.now c.loop-assign.work c.add.new.work (reader_at readers i c.loop-assign-test.true) c.loop-assign.invariant
+    adds_more (length c.args.work.now.places.now) i readers r c.args.work.now c.loop-assign.work c.add.new.work (reader_at readers i c.loop-assign-test.true) c.loop-assign.invariant
     (subst (λ (z : ℕ). AddsWork z 1 (λ m. m ≡ r.1.n) c.loop-assign.work c.add.new.work) c.loop-assign.invariant.is.long c.in_ok-add.ensures)
 
 pub returns : goal.returns

@@ -3,7 +3,7 @@ use Rattle.ar_io.specs.Writing.{Leaves}
 use Rattle.ar_meaning.specs.TraceText.{variable_line}
 use Rattle.gts_core.specs.Readings.{value_at}
 use Rattle.gts_flatten.specs.Flat.{naming_of_parts}
-use Rattle.stepper.specs.Changes.{numbers}
+use Rattle.value_changes.specs.Changes.{numbers}
 use Rattle.replayer.specs.Printing.{texts_of}
 use Rattle.replayer.proofs.shown.variable_changes.Given as goal
 

@@ -1,5 +1,5 @@
 use Rattle.std.proofs.Common.{◌≡◌, take}
-use Rattle.stepper.specs.Changes.{numbers}
+use Rattle.value_changes.specs.Changes.{numbers}
 use Rattle.replayer.proofs.touched.plain_numbers.Given as goal
 
 abbrev pub invariant-loop-variable : goal.invariant-loop-variable

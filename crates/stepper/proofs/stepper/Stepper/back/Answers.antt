@@ -1,48 +1,56 @@
-use Rattle.std.proofs.Common.{◌≡◌, ◌++◌, ◌∷◌, [], List, reverse, sym, ap, ◌∙◌, subst}
-use Rattle.ar_base.specs.Lists.{IsOneOf}
+use Rattle.std.proofs.Common.{◌≡◌, ◌++◌, ◌∷◌, [], Bool, true, List, length, reverse, sym, ap, ◌∙◌, subst}
 use Rattle.domains.specs.declared.Value.{Value}
 use Rattle.gts_core.specs.declared.system.GtsParts.{GtsParts}
-use Rattle.stepper.specs.Changes.{before, below_by, AreTold, AreChanges}
-use Rattle.gts_core.specs.Readings.{IsTotal}
-use Rattle.stepper.specs.Ways.{AreFlags}
+use Rattle.value_changes.specs.Changes.{AreChanges}
+use Rattle.value_changes.specs.Restoring.{restored}
+use Rattle.value_changes.proofs.Found.{changes_back}
+use Rattle.ar_base.specs.Lists.{Stands}
+use Rattle.way_flags.specs.Turning.{turned}
+use Rattle.stepper.specs.Changes.{Point, IsPoint, point_at, before, AreTold}
+use Rattle.stepper.specs.Keeping.{point_of}
 use Rattle.stepper.specs.Steps.{Standing}
-use Rattle.stepper.proofs.Changing.{told_back, turned}
-use Rattle.stepper.proofs.Going.{back_total, back_below}
+use Rattle.stepper.proofs.Going.{told_back, same_point}
 use Rattle.stepper.proofs.stepper.Stepper.back.Goals as goal
 
-pub renew-requires-clause-total : goal.renew-requires-clause-total
-renew-requires-clause-total c =
+pub restore-requires-clause-long : goal.restore-requires-clause-long
+restore-requires-clause-long c =
     let s = c.self.inside in
-    let old = s.values.values.items in
-    let steps : s.steps.items ≡ c.pop.new.self.items ++ c.in-Some.changed ∷ [] = c.in-Some.ensures.items in
-    let total : IsTotal s.gts.now (before old c.in-Some.changed) = back_total s.gts.now old s.steps.items c.pop.new.self.items c.in-Some.changed steps c.self.invariant.below in
-    subst (λ (z : GtsParts). IsTotal z c.deref-2.result.now) (sym c.parts.ensures.parts) (subst (λ (z : List Value). IsTotal s.gts.now z) (sym (c.deref-2.ensures.value ∙ c.restore.ensures)) total)
-
-pub invariant_of-self-2 : goal.invariant_of-self-2
-invariant_of-self-2 c =
-    let s = c.self.inside in
-    let old = s.values.values.items in
-    let rest = c.pop.new.self.items in
-    let changed = c.in-Some.changed in
-    let steps : s.steps.items ≡ rest ++ changed ∷ [] = c.in-Some.ensures.items in
-    let back : c.restore.new.values.items ≡ before old changed = c.restore.ensures in
-    let told = told_back old s.steps.items rest changed steps c.self.invariant.told in
-    record {
-      total = subst (λ (z : List Value). IsTotal s.gts.now z) (sym back) (back_total s.gts.now old s.steps.items rest changed steps c.self.invariant.below);
-      below = λ t one. back_below s.gts.now old s.steps.items rest changed steps c.self.invariant.below t (subst (λ (z : List Value). IsOneOf (below_by z (reverse rest)) t) back one);
-      told = subst (λ (z : List Value). AreTold z (reverse rest)) (sym back) told.1;
-      plan = c.self.invariant.plan;
-      order = c.self.invariant.order;
-      flags = subst (λ (z : List Value). AreFlags s.gts.now z c.renew.new.flags.items) c.deref-2.ensures.value (subst (λ (z : GtsParts). AreFlags z c.deref-2.result.now c.renew.new.flags.items) c.parts.ensures.parts c.renew.ensures);
-    }
+    (told_back s.gts.now (point_of s) s.steps.items c.pop.new.self.items c.in-Some.changed c.in-Some.ensures.items c.self.invariant.told).0.long
 
 pub returns-clause-changed : goal.returns-clause-changed
 returns-clause-changed c =
     let s = c.self.inside in
-    let old = s.values.values.items in
-    let changed = c.in-Some.changed in
-    let steps : s.steps.items ≡ c.pop.new.self.items ++ changed ∷ [] = c.in-Some.ensures.items in
-    let told = told_back old s.steps.items c.pop.new.self.items changed steps c.self.invariant.told in
-    let on : AreChanges old (before old changed) changed.variables.items = turned (before old changed) old changed.variables.items told.0.changes in
-    let seen : old ≡ c.args.self.now.values = ap (λ (z : Standing). z.values) c.self.view_is in
-    subst (λ (z : List Value). AreChanges z c.restore.new.values.items changed.variables.items) seen (subst (λ (z : List Value). AreChanges old z changed.variables.items) (sym c.restore.ensures) on)
+    let step = c.in-Some.changed in
+    let xs = step.flows.variables.items in
+    let told = (told_back s.gts.now (point_of s) s.steps.items c.pop.new.self.items step c.in-Some.ensures.items c.self.invariant.told).0 in
+    let here = (point_of s).values in
+    let there = (before s.gts.now (point_of s) step).values in
+    let back : c.restore.new.present.determined.values.values.items ≡ there = c.restore.ensures.values ∙ ap (λ (z : GtsParts). restored z here xs step.flows.old.items) c.parts.ensures.parts in
+    let seen : here ≡ c.args.self.now.values = ap (λ (z : Standing). z.values) c.self.view_is in
+    subst (λ (z : List Value). AreChanges z c.restore.new.present.determined.values.values.items xs) seen
+    (subst (λ (z : List Value). AreChanges here z xs) (sym back) (changes_back there here xs told.changes))
+
+pub invariant_of-self-2 : goal.invariant_of-self-2
+invariant_of-self-2 c =
+    let s = c.self.inside in
+    let p = s.gts.now in
+    let step = c.in-Some.changed in
+    let rest = c.pop.new.self.items in
+    let here = point_of s in
+    let there = before p here step in
+    let told = told_back p here s.steps.items rest step c.in-Some.ensures.items c.self.invariant.told in
+    let values : c.restore.new.present.determined.values.values.items ≡ there.values = c.restore.ensures.values ∙ ap (λ (z : GtsParts). restored z here.values step.flows.variables.items step.flows.old.items) c.parts.ensures.parts in
+    let can : c.turn.new.flags.items ≡ there.can = c.turn.ensures ∙ ap (turned s.can.items) c.deref.ensures.value in
+    let same : point_at c.restore.new.present c.turn.new.flags.items ≡ there = same_point (point_at c.restore.new.present c.turn.new.flags.items) there values c.restore.ensures.known can in
+    let point : IsPoint p (point_at c.restore.new.present c.turn.new.flags.items) = subst (λ (z : Point). IsPoint p z) (sym same) told.0.point in
+    record {
+      present = record {
+        determined = point.determined;
+        long = ap length c.restore.ensures.marks ∙ c.self.invariant.present.long;
+        unset = λ n st. c.self.invariant.present.unset n (subst (λ (z : List Bool). Stands z n true) c.restore.ensures.marks st);
+      };
+      flags = point.flags;
+      told = subst (λ (z : Point). AreTold p z (reverse rest)) (sym same) told.1;
+      plan = c.self.invariant.plan;
+      index = c.self.invariant.index;
+    }

@@ -1,0 +1,16 @@
+pub mod Kept
+pub mod Written
+pub mod Knowing
+pub mod Puts
+pub mod Settling
+pub mod Begun
+pub mod Breaking
+pub mod Queueing
+pub mod Sorting
+pub mod Placing
+pub mod Seeing
+pub mod Looks
+pub mod Given
+pub mod Closings
+pub mod Follows
+pub mod Anew

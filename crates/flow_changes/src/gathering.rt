@@ -1,0 +1,62 @@
+// The places of the assignments to the members of a cone.
+
+ghost use Rattle.std.specs.Prelude.{◌≡◌, ◌<◌, ℕ, length, IfOk};
+ghost use Rattle.std.specs.List.Sorted.{IsNonDecreasingBy};
+ghost use Rattle.ar_base.specs.Lists.{IsOneOf};
+ghost use Rattle.flow_propagate.specs.Plan.{Reader};
+ghost use Rattle.flow_changes.specs.Queue.{Rises};
+ghost use Rattle.flow_changes.specs.Gathering.{GathersPlaces, ArePlacesTo};
+
+use ar_base::{AssignId, Memory, VarId};
+use flow_propagate::pairs_of;
+use std::alloc::Global;
+
+// The places of the assignments to the members, ascending.
+pub(crate) fn places_to(
+    alloc: Global,
+    givers: &[(VarId, AssignId)],
+    places: &[usize],
+    members: &[u32],
+) -> Result<Vec<usize>, Memory>
+    requires ascending { IsNonDecreasingBy (λ r. r.0.n) givers.now }
+    requires within { (r : Reader) → IsOneOf givers.now r → r.1.n < length places.now }
+    ensures rises { IfOk result (λ list. Rises list.items) }
+    ensures are { IfOk result (λ list. ArePlacesTo givers.now places.now members.now list.items) }
+{
+    let mut list = all_places(alloc, givers, places, members)?;
+    list.sort_unstable();
+    Ok(list)
+}
+
+// The places of the assignments to the members.
+fn all_places(
+    alloc: Global,
+    givers: &[(VarId, AssignId)],
+    places: &[usize],
+    members: &[u32],
+) -> Result<Vec<usize>, Memory>
+    requires ascending { IsNonDecreasingBy (λ r. r.0.n) givers.now }
+    requires within { (r : Reader) → IsOneOf givers.now r → r.1.n < length places.now }
+    ensures { IfOk result (λ list. ArePlacesTo givers.now places.now members.now list.items) }
+{
+    let mut list = Vec::new(alloc);
+    for n in members {
+        add_places(pairs_of(givers, *n), places, &mut list)?;
+    }
+    Ok(list)
+}
+
+// Adds the places of the assignments of these pairs.
+fn add_places(
+    pairs: &[(VarId, AssignId)],
+    places: &[usize],
+    list: &mut Vec<usize>,
+) -> Result<(), Memory>
+    requires { (r : Reader) → IsOneOf pairs.now r → r.1.n < length places.now }
+    ensures { IfOk result (λ _. GathersPlaces places.now pairs.now list.old.items list.new.items) }
+{
+    for (_, assign) in pairs {
+        list.push(places[assign.n as usize])?;
+    }
+    Ok(())
+}

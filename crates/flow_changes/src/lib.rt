@@ -1,0 +1,18 @@
+//! What changes of a state change: from what a state determines to what it determines with new values, and the way back.
+#![tactic(auto)]
+
+mod checking;
+mod closing;
+mod cone;
+mod following;
+mod gathering;
+mod known;
+mod picking;
+mod present;
+mod putting;
+mod queue;
+mod starting;
+mod trying;
+mod whole;
+
+pub use present::{Present, make_present, propagate_from, restore};

@@ -1,0 +1,95 @@
+// Values that become known.
+
+ghost use Rattle.std.specs.Prelude.{◌≡◌, ◌<◌, ◌∷◌, [], true, false, length, IfOk, IfSome};
+ghost use Rattle.ar_base.specs.Lists.{IsOneOf, Stands};
+ghost use Rattle.gts_core.specs.declared.system.Variable.{Variable};
+ghost use Rattle.domains.specs.Domains.{IsDomain};
+ghost use Rattle.gts_core.specs.Sound.{IsSound};
+ghost use Rattle.value_changes.specs.Picking.{KeepsOthers};
+ghost use Rattle.flow_changes.specs.Known.{Puts, Touches, Applies};
+
+use crate::known::{Known, yielded};
+use ar_base::Memory;
+use domains::{Domain, Value};
+use gts_core::{Assign, GtsParts};
+use std::alloc::Global;
+
+// Makes a value known, and answers whether it was not; none where the domain lacks it or another value is known.
+fn put(
+    domain: &Domain,
+    target: u32,
+    v: Value,
+    values: &mut Vec<Value>,
+    known: &mut Vec<bool>,
+) -> Option<bool>
+    requires domain { IsDomain domain.now }
+    requires within { target < length values.old.items }
+    requires marked { target < length known.old.items }
+    ensures touches { Touches domain.now target values.old.items known.old.items values.new.items known.new.items }
+    ensures puts { IfSome result (Puts domain.now target (v ∷ []) values.old.items known.old.items values.new.items known.new.items) }
+{
+    if !domain.holds(v) {
+        return None;
+    }
+    let place = target as usize;
+    if known[place] {
+        return confirm(values[place], v);
+    }
+    values[place] = v;
+    known[place] = true;
+    Some(true)
+}
+
+// Nothing new where the values are the same; none where they differ.
+fn confirm(old: Value, v: Value) -> Option<bool>
+    ensures { IfSome result (λ changed. (changed ≡ false) × (old ≡ v)) }
+{
+    if old == v { Some(false) } else { None }
+}
+
+// The same for what an assignment yields, which is one value at most; none where it has more.
+fn put_all(
+    domain: &Domain,
+    target: u32,
+    set: &[Value],
+    values: &mut Vec<Value>,
+    known: &mut Vec<bool>,
+) -> Option<bool>
+    requires domain { IsDomain domain.now }
+    requires within { target < length values.old.items }
+    requires marked { target < length known.old.items }
+    ensures touches { Touches domain.now target values.old.items known.old.items values.new.items known.new.items }
+    ensures puts { IfSome result (Puts domain.now target set.now values.old.items known.old.items values.new.items known.new.items) }
+{
+    if set.len() == 0 {
+        return Some(false);
+    }
+    if set.len() > 1 {
+        return None;
+    }
+    put(domain, target, set[0], values, known)
+}
+
+// Makes what an assignment yields known for its target, and answers whether it was not; none where it has more than one value,
+// one outside the target's domain, or another than the known one.
+pub(crate) fn apply(
+    alloc: Global,
+    parts: &GtsParts,
+    assign: &Assign,
+    values: &mut Vec<Value>,
+    known: &mut Vec<bool>,
+) -> Result<Option<bool>, Memory>
+    requires sound { IsSound parts.now }
+    requires one { IsOneOf parts.now.assigns.items assign.now }
+    requires long { length values.old.items ≡ length parts.now.variables.items }
+    requires marked { length known.old.items ≡ length parts.now.variables.items }
+    ensures touches { (x : Variable) → Stands parts.now.variables.items assign.now.target.n x → Touches x.domain assign.now.target.n values.old.items known.old.items values.new.items known.new.items }
+    ensures applies { IfOk result (λ o. IfSome o (Applies parts.now assign.now values.old.items known.old.items values.new.items known.new.items)) }
+{
+    let Some(set) = yielded(alloc, assign, &Known { values, known })? else {
+        return Ok(Some(false));
+    };
+    let domain = &parts.variables[assign.target.n as usize].domain;
+    let changed = put_all(domain, assign.target.n, set.values(), values, known);
+    Ok(changed)
+}

@@ -1,6 +1,0 @@
-use Rattle.std.proofs.Common.{take, Contains}
-use Rattle.domains.specs.declared.Value.{Value}
-use Rattle.flow_propagate.proofs.totals.some_lacking.Given as goal
-
-abbrev pub invariant-loop-v : goal.invariant-loop-v
-invariant-loop-v l = (v : Value) → Contains (take l.v-index l.values) v → Contains l.row v

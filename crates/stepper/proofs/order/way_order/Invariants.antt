@@ -1,6 +1,0 @@
-use Rattle.std.proofs.Common.{◌≡◌, ◌<◌, ℕ, true}
-use Rattle.stepper.specs.Ways.{IsPlacing, flag_at}
-use Rattle.stepper.proofs.order.way_order.Given as goal
-
-abbrev pub invariant-loop-n : goal.invariant-loop-n
-invariant-loop-n l = IsPlacing l.parts l.placing.order.items l.placing.placed.items × ((k : ℕ) → k < l.n → flag_at l.placing.placed.items k ≡ true)

@@ -1,0 +1,5 @@
+pub mod Picks
+pub mod Coding
+pub mod Restored
+pub mod Turns
+pub mod Found

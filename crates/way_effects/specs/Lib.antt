@@ -1,0 +1,5 @@
+pub mod Taking
+pub mod Meeting
+pub mod Effects
+pub mod Receiving
+pub mod Ready

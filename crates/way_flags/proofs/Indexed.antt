@@ -1,0 +1,197 @@
+-- The pairs of an index.
+use Rattle.std.proofs.Common.{◌≡◌, ◌<◌, ◌≤◌, ◌+◌, ◌⊎◌, ◌↔◌, ℕ, zero, suc, Bool, List, [], ◌∷◌, ◌++◌, length, set, inl, inr, refl, sym, ◌∙◌, ap, subst, arith}
+use Rattle.std.specs.List.Sorted.{IsNonDecreasingBy, IsPermutation}
+use Rattle.std.proofs.lemmas.List.Sorted.{Contains-permutation, IsPermutation-sym}
+use Rattle.ar_base.specs.Lists.{Stands, IsOneOf}
+use Rattle.ar_base.specs.Numbers.{VarId, WayId}
+use Rattle.ar_base.proofs.Standing.{stands_within, stands_one, stands_none, stands_left, stands_next, stands_split, only_item, one_contains, contains_one}
+use Rattle.gts_core.specs.declared.system.Way.{Way}
+use Rattle.gts_core.specs.declared.system.WayBody.{WayBody}
+use Rattle.gts_core.specs.declared.system.GtsParts.{GtsParts}
+use Rattle.way_flags.specs.Ways.{parts_of, HasPart, IsOrder}
+use Rattle.way_flags.specs.Renewing.{IsPlaceOf}
+use Rattle.way_flags.specs.Index.{IsPlacedAt, GuardNames, AreGuards, IsAbove, AreAbove, AddsGuards, IsPartOf, AddsParts, ArePlacedUpTo, IsWayIndex}
+use Rattle.way_flags.specs.declared.index.WayIndex.{WayIndex}
+use Rattle.number_pairs.specs.Pairing.{IsPaired}
+use Rattle.way_flags.proofs.Lists.{same_number}
+
+below_more : (k i : ℕ) → k < i + 1 → (k < i) ⊎ (k ≡ i)
+below_more k i h = elim (same_number k i) [ inl e ↦ inr e | inr f ↦ inl (grind (arith, h, f)) ]
+
+pub one_left : {A : Type 0} (xs ys : List A) (x : A) → IsOneOf xs x → IsOneOf (xs ++ ys) x
+one_left xs ys x o = record { place = o.place; stands = stands_left xs ys o.place x o.stands }
+
+pub one_last : {A : Type 0} (xs : List A) (x : A) → IsOneOf (xs ++ x ∷ []) x
+one_last xs x = record { place = length xs; stands = stands_next xs x [] }
+
+pub last_cases : {A : Type 0} (xs : List A) (x y : A) → IsOneOf (xs ++ x ∷ []) y → IsOneOf xs y ⊎ (x ≡ y)
+last_cases xs x y o = elim (stands_split xs (x ∷ []) o.place y o.stands) [
+  | inl s ↦ inl (record { place = o.place; stands = s })
+  | inr r ↦ inr (only_item x y (record { place = r.0; stands = r.2 }))
+]
+
+module _ (p : GtsParts) where
+  pub guards_start : AreGuards p 0 []
+  guards_start = record { within = λ q o. absurd (stands_none o.place q o.stands); all = λ k w x h. absurd (omega (arith, h)) }
+
+  pub guards_more : (i : ℕ) (way : Way) (old new : List (ℕ × ℕ)) → Stands p.ways.items i way → AreGuards p i old → AddsGuards way.body i old new → AreGuards p (i + 1) new
+  guards_more i way old new here before adds = record {
+    within = λ q o. elim (adds.only q o) [ inl k ↦ before.within q k | inr e ↦ (let h = stands_within p.ways.items i way here in omega (arith, e, h)) ];
+    all = λ k w x below st n. elim (below_more k i below) [
+      | inl l ↦ adds.grows (x.n, k) (before.all k w x l st n)
+      | inr e ↦ (
+          let same : w ≡ way = stands_one p.ways.items i w way (subst (λ (z : ℕ). Stands p.ways.items z w) e st) here in
+          subst (λ (z : ℕ). IsOneOf new (x.n, z)) (sym e) (adds.all x (subst (λ (z : Way). GuardNames z.body x) same n)))
+    ];
+  }
+
+  pub guards_all : (i : ℕ) (pairs : List (ℕ × ℕ)) → length p.ways.items ≤ i → AreGuards p i pairs → AreGuards p (length p.ways.items) pairs
+  guards_all i pairs h are = record { within = are.within; all = λ k w x below. are.all k w x (omega (arith, below, h)) }
+
+  pub guards_sorted : (pairs sorted : List (ℕ × ℕ)) → AreGuards p (length p.ways.items) pairs → IsPermutation pairs sorted → AreGuards p (length p.ways.items) sorted
+  guards_sorted pairs sorted are perm = record {
+    within = λ q o. are.within q (one_contains pairs q (Contains-permutation sorted pairs q (IsPermutation-sym pairs sorted perm) (contains_one sorted q o)));
+    all = λ k w x below st n. one_contains sorted (x.n, k) (Contains-permutation pairs sorted (x.n, k) perm (contains_one pairs (x.n, k) (are.all k w x below st n)));
+  }
+
+  pub above_start : AreAbove p 0 []
+  above_start = record { only = λ n k o. absurd (stands_none o.place (n, k) o.stands); all = λ n k h. absurd (omega (arith, h)) }
+
+  pub above_more : (i : ℕ) (way : Way) (old new : List (ℕ × ℕ)) → Stands p.ways.items i way → AreAbove p i old → AddsParts (parts_of way.body) i old new → AreAbove p (i + 1) new
+  above_more i way old new here before adds = record {
+    only = λ n k o. elim (adds.only (n, k) o) [ inl q ↦ before.only n k q | inr r ↦ now n k r ];
+    all = λ n k below h. elim (below_more k i below) [
+      | inl l ↦ adds.grows (n, k) (before.all n k l h)
+      | inr e ↦ (
+          let same : h.has.way ≡ way = stands_one p.ways.items i h.has.way way (subst (λ (z : ℕ). Stands p.ways.items z h.has.way) e h.has.stands) here in
+          subst (λ (z : ℕ). IsOneOf new (z, k)) h.number
+          (subst (λ (z : ℕ). IsOneOf new (h.part.1.n, z)) (sym e) (adds.all h.part (subst (λ (z : Way). IsOneOf (parts_of z.body) h.part) same h.has.is_part))))
+    ];
+  }
+    where
+      now : (n k : ℕ) → IsPartOf (parts_of way.body) i (n, k) → IsAbove p n k
+      now n k r = record { part = r.part; has = record { way = way; stands = subst (λ (z : ℕ). Stands p.ways.items z way) (sym r.second) here; is_part = r.is_part }; number = sym r.first }
+
+  pub above_all : (i : ℕ) (pairs : List (ℕ × ℕ)) → length p.ways.items ≤ i → AreAbove p i pairs → AreAbove p (length p.ways.items) pairs
+  above_all i pairs h are = record { only = are.only; all = λ n k below q. are.all n k (omega (arith, below, h)) q }
+
+  pub above_sorted : (pairs sorted : List (ℕ × ℕ)) → AreAbove p (length p.ways.items) pairs → IsPermutation pairs sorted → AreAbove p (length p.ways.items) sorted
+  above_sorted pairs sorted are perm = record {
+    only = λ n k o. are.only n k (one_contains pairs (n, k) (Contains-permutation sorted pairs (n, k) (IsPermutation-sym pairs sorted perm) (contains_one sorted (n, k) o)));
+    all = λ n k below h. one_contains sorted (n, k) (Contains-permutation pairs sorted (n, k) perm (contains_one pairs (n, k) (are.all n k below h)));
+  }
+
+-- places, one more of them written
+pub places_start : (order : List WayId) (places : List ℕ) → ArePlacedUpTo order 0 places
+places_start order places = record { placed = λ k id place h. absurd (omega (arith, h)) }
+
+set_length : (xs : List ℕ) (n v : ℕ) → length (set xs n v) ≡ length xs
+set_length [] zero v = refl
+set_length [] (suc n) v = refl
+set_length (x ∷ xs) zero v = refl
+set_length (x ∷ xs) (suc n) v = ap suc (set_length xs n v)
+
+set_at : (xs : List ℕ) (n m v w : ℕ) → Stands (set xs n v) m w → ((m ≡ n) × (w ≡ v)) ⊎ ((m ≡ n → ⊥) × Stands xs m w)
+set_at [] zero m v w st = absurd (stands_none m w st)
+set_at [] (suc n) m v w st = absurd (stands_none m w st)
+set_at (x ∷ xs) zero zero v w st = inl (refl, sym (only_first v w st))
+  where
+    only_first : (a b : ℕ) → Stands (a ∷ xs) 0 b → a ≡ b
+    only_first a b h = cc
+set_at (x ∷ xs) zero (suc m) v w st = inr ((λ e. omega (arith, e)), st)
+set_at (x ∷ xs) (suc n) zero v w st = inr ((λ e. omega (arith, e)), st)
+set_at (x ∷ xs) (suc n) (suc m) v w st = elim (set_at xs n m v w st) [
+  | inl h ↦ inl (ap suc h.0, h.1)
+  | inr h ↦ inr ((λ e. h.0 (omega (arith, e))), h.1)
+]
+
+pub places_more : (order : List WayId) (i : ℕ) (id : WayId) (places : List ℕ) → Stands order i id → ArePlacedUpTo order i places → ArePlacedUpTo order (i + 1) (set places id.n i)
+places_more order i id places here before = record { placed = λ k a place below st at. go k a place below st (set_at places id.n a.n i place at) }
+  where
+    mine : (a : WayId) (place : ℕ) → a.n ≡ id.n → place ≡ i → IsPlacedAt order a.n place
+    mine a place e f = record { id = id; at = subst (λ (z : ℕ). Stands order z id) (sym f) here; number = sym e }
+
+    go : (k : ℕ) (a : WayId) (place : ℕ) → k < i + 1 → Stands order k a → ((a.n ≡ id.n) × (place ≡ i)) ⊎ ((a.n ≡ id.n → ⊥) × Stands places a.n place) → IsPlacedAt order a.n place
+    go k a place below st (inl h) = mine a place h.0 h.1
+    go k a place below st (inr h) = elim (below_more k i below) [
+      | inl l ↦ before.placed k a place l st h.1
+      | inr e ↦ absurd (h.0 (ap (λ (z : WayId). z.n) (stands_one order i a id (subst (λ (z : ℕ). Stands order z a) e st) here)))
+    ]
+
+-- a way that is outside the list of places leaves it
+pub places_past : (order : List WayId) (i : ℕ) (id : WayId) (places : List ℕ) → Stands order i id → length places ≤ id.n → ArePlacedUpTo order i places → ArePlacedUpTo order (i + 1) places
+places_past order i id places here out before = record {
+  placed = λ k a place below st at. elim (below_more k i below) [
+    | inl l ↦ before.placed k a place l st at
+    | inr e ↦ (
+        let same : a ≡ id = stands_one order i a id (subst (λ (z : ℕ). Stands order z a) e st) here in
+        let h = stands_within places a.n place at in
+        absurd (omega (arith, h, out, ap (λ (z : WayId). z.n) same)))
+  ];
+}
+
+pub places_all : (order : List WayId) (i : ℕ) (places : List ℕ) → length order ≤ i → ArePlacedUpTo order i places → ArePlacedUpTo order (length order) places
+places_all order i places h are = record { placed = λ k id place below. are.placed k id place (omega (arith, below, h)) }
+
+-- the pairs of parts, one after the other
+pub parts_none : (place : ℕ) (pairs : List (ℕ × ℕ)) → AddsParts [] place pairs pairs
+parts_none place pairs = record { grows = λ q o. o; only = λ q o. inl o; all = λ part o. absurd (stands_none o.place part o.stands) }
+
+pub parts_more : (parts : List (Bool × WayId)) (part : Bool × WayId) (place : ℕ) (first old new : List (ℕ × ℕ)) → AddsParts parts place first old → new ≡ old ++ (part.1.n, place) ∷ [] → AddsParts (parts ++ part ∷ []) place first new
+parts_more parts part place first old new a e = record {
+  grows = λ q o. back q (one_left old ((part.1.n, place) ∷ []) q (a.grows q o));
+  only = λ q o. elim (last_cases old (part.1.n, place) q (subst (λ (z : List (ℕ × ℕ)). IsOneOf z q) e o)) [
+    | inl k ↦ (elim (a.only q k) [
+      | inl h ↦ inl h
+      | inr r ↦ inr (record { part = r.part; is_part = one_left parts (part ∷ []) r.part r.is_part; first = r.first; second = r.second })
+    ])
+    | inr i ↦ inr (record { part = part; is_part = one_last parts part; first = ap (λ (z : ℕ × ℕ). z.0) (sym i); second = ap (λ (z : ℕ × ℕ). z.1) (sym i) })
+  ];
+  all = λ r o. elim (last_cases parts part r o) [
+    | inl k ↦ back (r.1.n, place) (one_left old ((part.1.n, place) ∷ []) (r.1.n, place) (a.all r k))
+    | inr i ↦ subst (λ (z : Bool × WayId). IsOneOf new (z.1.n, place)) i (back (part.1.n, place) (one_last old (part.1.n, place)))
+  ];
+}
+  where
+    back : (q : ℕ × ℕ) → IsOneOf (old ++ (part.1.n, place) ∷ []) q → IsOneOf new q
+    back q o = subst (λ (z : List (ℕ × ℕ)). IsOneOf z q) (sym e) o
+
+-- the numbers that stand in pairs are those of ways
+module _ (p : GtsParts) (index : WayIndex) (ix : IsWayIndex p index) where
+  pub guard_within : (pairs : List (ℕ × ℕ)) (firsts : List ℕ) (n : ℕ) → pairs ≡ index.guards.items → IsPaired pairs firsts n → n < length index.places.items
+  guard_within pairs firsts n e s = let r = subst (λ (z : List (ℕ × ℕ)). IsPaired z firsts n) e s in let h = ix.guards.within (r.first, n) r.pair in omega (arith, h, ix.long)
+
+  pub above_within : (pairs : List (ℕ × ℕ)) (firsts : List ℕ) (n : ℕ) → pairs ≡ index.above.items → IsPaired pairs firsts n → n < length index.places.items
+  above_within pairs firsts n e s =
+      let r = subst (λ (z : List (ℕ × ℕ)). IsPaired z firsts n) e s in
+      let a = ix.above.only r.first n r.pair in
+      let h = stands_within p.ways.items n a.has.way a.has.stands in
+      omega (arith, h, ix.long)
+
+-- the ways above one way
+pub above_added : (pairs above : List (ℕ × ℕ)) (places ways listed : List ℕ) (shown : List ℕ) (w : ℕ) (Old New : ℕ → Type 0) → pairs ≡ above → ways ≡ listed → places ≡ shown → ((n : ℕ) → (IsOneOf listed n ↔ IsPaired pairs (w ∷ []) n))
+    → ((q : ℕ) → (New q ↔ (Old q ⊎ IsPlaceOf places (IsOneOf ways) q))) → (q : ℕ) → (New q ↔ (Old q ⊎ IsPlaceOf shown (λ n. IsOneOf above (w, n)) q))
+above_added pairs above places ways listed shown w Old New e f g each adds q = (there, back)
+  where
+    there : New q → Old q ⊎ IsPlaceOf shown (λ n. IsOneOf above (w, n)) q
+    there h = elim ((adds q).0 h) [
+      | inl o ↦ inl o
+      | inr r ↦ (
+          let k = (each r.n).0 (subst (λ (z : List ℕ). IsOneOf z r.n) f r.has) in
+          inr (record { n = r.n; has = subst (λ (z : List (ℕ × ℕ)). IsOneOf z (w, r.n)) e (subst (λ (z : ℕ). IsOneOf pairs (z, r.n)) (sym (only_item w k.first k.is_one)) k.pair); stands = subst (λ (z : List ℕ). Stands z r.n q) g r.stands }))
+    ]
+
+    back : Old q ⊎ IsPlaceOf shown (λ n. IsOneOf above (w, n)) q → New q
+    back h = elim h [
+      | inl o ↦ (adds q).1 (inl o)
+      | inr r ↦ (
+          let k : IsPaired pairs (w ∷ []) r.n = record { first = w; is_one = record { place = 0; stands = refl }; pair = subst (λ (z : List (ℕ × ℕ)). IsOneOf z (w, r.n)) (sym e) r.has } in
+          (adds q).1 (inr (record { n = r.n; has = subst (λ (z : List ℕ). IsOneOf z r.n) (sym f) ((each r.n).1 k); stands = subst (λ (z : List ℕ). Stands z r.n q) (sym g) r.stands })))
+    ]
+
+-- each way has a place at which it stands
+pub all_placed : (p : GtsParts) (order shown : List WayId) (places : List ℕ) → shown ≡ order → IsOrder p order → length places ≡ length p.ways.items → ArePlacedUpTo shown (length shown) places → (n place : ℕ) → Stands places n place → IsPlacedAt order n place
+all_placed p order shown places e is long are n place st =
+    let at = is.all n (let h = stands_within places n place st in omega (arith, h, long)) in
+    let now = subst (λ (z : List WayId). ArePlacedUpTo z (length z) places) e are in
+    subst (λ (z : ℕ). IsPlacedAt order z place) at.3 (now.placed at.0 at.1 place (stands_within order at.0 at.1 at.2) at.2 (subst (λ (z : ℕ). Stands places z place) (sym at.3) st))

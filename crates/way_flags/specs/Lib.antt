@@ -1,0 +1,4 @@
+pub mod Ways
+pub mod Index
+pub mod Turning
+pub mod Renewing

@@ -1,0 +1,84 @@
+-- Ways in order, and which of them can fire.
+use Rattle.std.specs.Prelude.{◌≡◌, ℕ, ◌<◌, Bool, true, false, not, ◌||◌, if◌then◌else◌, List, [], length, slice_get, unwrap_or}
+use Rattle.std.specs.List.{list_all, list_any}
+use Rattle.ar_base.specs.Lists.{Stands, IsOneOf}
+use Rattle.domains.specs.declared.Value.{Value}
+use Rattle.ar_meaning.specs.Systems as s
+use Rattle.ar_meaning.specs.Facts.{HasValue}
+use Rattle.ar_meaning.specs.Found.{IsAnswer}
+use Rattle.ar_meaning.specs.Ways.{Can}
+use Rattle.ar_base.specs.Numbers.{WayId}
+use Rattle.gts_core.specs.View.{net_of, IsWayAt}
+use Rattle.gts_core.specs.declared.system.Way.{Way}
+use Rattle.gts_core.specs.declared.system.WayBody.{WayBody}
+use Rattle.gts_core.specs.declared.system.WayBody.TheVariants.{Local, Sync}
+use Rattle.gts_core.specs.declared.system.GtsParts.{GtsParts}
+use Rattle.gts_core.specs.Readings.{is_met}
+
+-- the flag of a number, false past the end
+abbrev pub flag_at : List Bool → ℕ → Bool
+flag_at flags n = unwrap_or (slice_get flags n) false
+
+-- the parts of a way, with their marks; a local way has none
+abbrev pub parts_of : WayBody → List (Bool × WayId)
+parts_of (Local guard action) = []
+parts_of (Sync parts) = parts.items
+
+-- this is one of the parts of the way of this number
+pub record HasPart (p : GtsParts) (n : ℕ) (part : Bool × WayId) : Type 0 where
+  pub way : Way
+  pub stands : Stands p.ways.items n way
+  pub is_part : IsOneOf (parts_of way.body) part
+
+-- the ways of the system, all of them, each after its parts and nowhere else
+pub record IsOrder (p : GtsParts) (order : List WayId) : Type 0 where
+  pub inside : (k : ℕ) (id : WayId) → Stands order k id → id.n < length p.ways.items
+  pub all : (n : ℕ) → n < length p.ways.items → (k : ℕ) × (id : WayId) × Stands order k id × (id.n ≡ n)
+  pub after : (j k : ℕ) (id other : WayId) (part : Bool × WayId) → Stands order k id → HasPart p id.n part → Stands order j other → other.n ≡ part.1.n → j < k
+
+-- the first ways of such an order, and for each way whether it is among them
+pub record IsPlacing (p : GtsParts) (order : List WayId) (placed : List Bool) : Type 0 where
+  pub long : length placed ≡ length p.ways.items
+  pub inside : (k : ℕ) (id : WayId) → Stands order k id → (id.n < length p.ways.items) × (flag_at placed id.n ≡ true)
+  pub all : (n : ℕ) → flag_at placed n ≡ true → (k : ℕ) × (id : WayId) × Stands order k id × (id.n ≡ n)
+  pub after : (j k : ℕ) (id other : WayId) (part : Bool × WayId) → Stands order k id → HasPart p id.n part → Stands order j other → other.n ≡ part.1.n → j < k
+  pub ready : (k : ℕ) (id : WayId) (part : Bool × WayId) → Stands order k id → HasPart p id.n part → flag_at placed part.1.n ≡ true
+
+-- whether each part's flag is set
+abbrev pub are_set : List Bool → List (Bool × WayId) → Bool
+are_set flags parts = list_all (λ (p : Bool × WayId). flag_at flags p.1.n) parts
+
+-- whether one of the parts is marked !
+abbrev pub has_must_in : List (Bool × WayId) → Bool
+has_must_in parts = list_any (λ (p : Bool × WayId). p.0) parts
+
+-- whether the flag of each part that is marked ! is set
+abbrev pub musts_by : List Bool → List (Bool × WayId) → Bool
+musts_by flags parts = list_all (λ (p : Bool × WayId). not p.0 || flag_at flags p.1.n) parts
+
+-- whether one part's flag is set
+abbrev pub some_by : List Bool → List (Bool × WayId) → Bool
+some_by flags parts = list_any (λ (p : Bool × WayId). flag_at flags p.1.n) parts
+
+-- whether a way can fire, by the flags of its parts
+abbrev pub can_by : List Value → List Bool → WayBody → Bool
+can_by t flags (Local guard action) = is_met t (guard, true)
+can_by t flags (Sync parts) = if has_must_in parts.items then musts_by flags parts.items else some_by flags parts.items
+
+-- the flag of each way says whether it can fire
+pub record AreFlags (p : GtsParts) (t : List Value) (flags : List Bool) : Type 0 where
+  pub long : length flags ≡ length p.ways.items
+  pub flag : (n : ℕ) (w : s.Way ℕ) → IsWayAt p n w → IsAnswer (flag_at flags n) (Can (HasValue (net_of p) t) w)
+
+-- whether all parts of a way are placed
+abbrev pub are_placed : List Bool → WayBody → Bool
+are_placed placed (Local guard action) = true
+are_placed placed (Sync parts) = are_set placed parts.items
+
+-- what was set stays set
+pub record Keeps (old new : List Bool) : Type 0 where
+  pub keeps : (n : ℕ) → flag_at old n ≡ true → flag_at new n ≡ true
+
+-- the first so many of these parts are placed
+pub record ArePlaced (placed : List Bool) (parts : List (Bool × WayId)) (count : ℕ) : Type 0 where
+  pub each : (k : ℕ) → k < count → (q : Bool × WayId) → Stands parts k q → flag_at placed q.1.n ≡ true

@@ -1,5 +1,6 @@
 -- What is to be said of the lines of a list: the observer and the dropped events are those that stand ready.
 use Rattle.std.proofs.Common.{◌≡◌, ◌<◌, ℕ, List, Option, Some, None, Result, IfOk, Vec, map, length, sym, ◌∙◌, ap, subst}
+use Rattle.std.proofs.lemmas.Option.{same_Some}
 use Rattle.std.specs.Global.{Global}
 use Rattle.ar_base.specs.Lists.{Stands}
 use Rattle.ar_base.specs.Numbers.{EventId}
@@ -21,9 +22,6 @@ abbrev inside : {A : Type 0} → A → Option A → A
 inside other None = other
 inside other (Some a) = a
 
-some_same : {A : Type 0} (a b : A) → Some a ≡ Some b → a ≡ b
-some_same a b e = ap (inside a) e
-
 pub observer_inside : (p : GtsParts) (o : Option Wanted) (t : Wanted) → o ≡ Some t → HasObserver p o
     → t.observer < length p.observers.items
 observer_inside p o t i h = subst (λ (z : Option Wanted). HasObserver p z) i h
@@ -42,7 +40,7 @@ pub said_same : (p : GtsParts) (flat : System ℕ) (dropped : List ℕ) (events 
     → IfOk r (λ (all : Vec Verdict Global). AreVerdicts p flat (numbers_of events) (numbered other.value) t.value chains all.items))
     → IfOk r (λ (all : Vec Verdict Global). AreVerdicts p flat dropped (numbered o.value) wanted.value chains all.items)
 said_same p flat dropped events chains asked given wanted t a b c d o stands r h =
-    let e : t ≡ wanted = some_same t wanted (sym c ∙ sym b ∙ a) in
+    let e : t ≡ wanted = same_Some t wanted (sym c ∙ sym b ∙ a) in
     let moved = subst (λ (z : Wanted). Stands p.observers.items z.observer o
     → IfOk r (λ (all : Vec Verdict Global). AreVerdicts p flat (numbers_of events) (numbered o.value) z.value chains all.items)) e (h o) in
     subst (λ (z : List ℕ). IfOk r (λ (all : Vec Verdict Global). AreVerdicts p flat z (numbered o.value) wanted.value chains all.items)) (sym d) (moved stands)

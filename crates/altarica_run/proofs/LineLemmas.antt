@@ -1,12 +1,9 @@
 -- Lines in pieces.
 use Rattle.std.proofs.Common.{◌≡◌, ℕ, List, [], ◌∷◌, ◌++◌, codes, decimal, length, append_assoc, sym, ◌∙◌, ap}
 use Rattle.ar_base.specs.Texts.{line}
+use Rattle.ar_base.proofs.Lines.{line_after}
 use Rattle.gts_core.specs.declared.system.GtsParts.{GtsParts}
 use Rattle.altarica_run.specs.Tells.{counts_line, make_lines}
-
--- a piece before the rest of its line
-line_after : (a t rest : List ℕ) → rest ≡ line t → a ++ rest ≡ line (a ++ t)
-line_after a t rest e = ap (λ (z : List ℕ). a ++ z) e ∙ sym (append_assoc a t (10 ∷ []))
 
 pub line_two : (a b : List ℕ) → a ++ (b ++ 10 ∷ []) ≡ line (a ++ b)
 line_two a b = sym (append_assoc a b (10 ∷ []))

@@ -53,6 +53,7 @@ use Rattle.altarica_run.specs.declared.stops.Stop.{Stop}
 use Rattle.altarica_run.specs.declared.stops.Stop.TheVariants.{Refused, Memory}
 use Rattle.altarica_run.proofs.FileLemmas.{IsLoadedScript}
 use Rattle.altarica_run.proofs.TellLemmas.{many_observers}
+use Rattle.aralia_text.proofs.Results.{vec_len-items}
 
 -- The script
 
@@ -335,9 +336,6 @@ module _ (job : Job) (texts : List (List ℕ)) (x : Elaborated) (p : GtsParts) (
           )
 
 -- The list of cuts
-
-vec_len-items : {X Z : Type 0} (v : Vec X Z) → vec_len v ≡ length v.items
-vec_len-items v = first_of (search rules, grind (arith, common_steps))
 
 module _ (x : Elaborated) (p : GtsParts) (bytes : Vec ℕ Global) where
   -- a bad line, or want of memory

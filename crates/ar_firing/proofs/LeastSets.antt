@@ -3,24 +3,11 @@ use Rattle.std.proofs.Common.{◌≡◌, ◌<◌, ◌≤◌, ◌⊎◌, inl, inr
 use Rattle.ar_base.specs.Lists.{Stands, IsOneOf}
 use Rattle.ar_firing.specs.Cuts.{IsLeast, HasNoLesser}
 use Rattle.ar_base.specs.Sets.{Within}
+use Rattle.ar_base.proofs.Sets.{member_told, within_self}
 use Rattle.std.proofs.lemmas.Bool.{cases_eq}
-
-pub within_self : (xs : List ℕ) → Within xs xs
-within_self xs = record { each = λ e o. o }
 
 pub within_then : {xs ys zs : List ℕ} → Within xs ys → Within ys zs → Within xs zs
 within_then h k = record { each = λ e o. k.each e (h.each e o) }
-
--- whether a number is one of a list
-pub one_of : (xs : List ℕ) (e : ℕ) → IsOneOf xs e ⊎ (IsOneOf xs e → ⊥)
-one_of [] e = inr (λ o. let h = o.stands in cc)
-one_of (x ∷ xs) e = ⊎_elim (λ i. inl (record { place = zero; stands = ap (λ z. Some z) i }))
-    (λ n. ⊎_elim (λ o. inl (record { place = suc o.place; stands = o.stands })) (λ m. inr (λ o. neither n m o.place o.stands)) (one_of xs e))
-    (cases_eq x e)
-  where
-    neither : (x ≡ e → ⊥) → (IsOneOf xs e → ⊥) → (k : ℕ) → Stands (x ∷ xs) k e → ⊥
-    neither n m zero s = let i : x ≡ e = cc in n i
-    neither n m (suc k) s = m (record { place = k; stands = s })
 
 -- whether each number of a list is one of another, or which is not
 pub record Left (xs ys : List ℕ) : Type 0 where
@@ -33,7 +20,7 @@ decided [] ys = inl (record { each = λ e o. let h = o.stands in cc })
 decided (x ∷ xs) ys = ⊎_elim
     (λ o. ⊎_elim (λ w. inl (record { each = λ e i. both o w e i.place i.stands })) (λ l. inr (record { event = l.event; is_one = record { place = suc l.is_one.place; stands = l.is_one.stands }; is_not = l.is_not })) (decided xs ys))
     (λ n. inr (record { event = x; is_one = record { place = zero; stands = refl }; is_not = n }))
-    (one_of ys x)
+    (member_told ys x)
   where
     both : IsOneOf ys x → Within xs ys → (e k : ℕ) → Stands (x ∷ xs) k e → IsOneOf ys e
     both o w e zero s = let i : x ≡ e = cc in subst (λ z. IsOneOf ys z) i o
@@ -54,11 +41,11 @@ module _ (P : List ℕ → Type 0) where
 -- how many places of the first list hold a number of the second
 abbrev pub counted : List ℕ → List ℕ → ℕ
 counted [] part = 0
-counted (x ∷ xs) part = ⊎_elim (λ o. suc (counted xs part)) (λ n. counted xs part) (one_of part x)
+counted (x ∷ xs) part = ⊎_elim (λ o. suc (counted xs part)) (λ n. counted xs part) (member_told part x)
 
 no_more_counted : (xs part whole : List ℕ) → Within part whole → counted xs part ≤ counted xs whole
 no_more_counted [] part whole w = omega arith
-no_more_counted (x ∷ xs) part whole w = go (one_of part x) (one_of whole x) (no_more_counted xs part whole w)
+no_more_counted (x ∷ xs) part whole w = go (member_told part x) (member_told whole x) (no_more_counted xs part whole w)
   where
     go : (a : IsOneOf part x ⊎ (IsOneOf part x → ⊥)) (b : IsOneOf whole x ⊎ (IsOneOf whole x → ⊥))
         → counted xs part ≤ counted xs whole
@@ -71,7 +58,7 @@ no_more_counted (x ∷ xs) part whole w = go (one_of part x) (one_of whole x) (n
 pub fewer : (xs part whole : List ℕ) (e k : ℕ) → Within part whole → Stands xs k e → IsOneOf whole e
     → (IsOneOf part e → ⊥) → counted xs part < counted xs whole
 fewer [] part whole e k w s i n = cc
-fewer (x ∷ xs) part whole e zero w s i n = go (one_of part x) (one_of whole x) (no_more_counted xs part whole w)
+fewer (x ∷ xs) part whole e zero w s i n = go (member_told part x) (member_told whole x) (no_more_counted xs part whole w)
   where
     same : x ≡ e
     same = cc
@@ -82,7 +69,7 @@ fewer (x ∷ xs) part whole e zero w s i n = go (one_of part x) (one_of whole x)
     go (inl o) b h = absurd (n (subst (λ z. IsOneOf part z) same o))
     go (inr m) (inl o) h = omega (arith, h)
     go (inr m) (inr l) h = absurd (l (subst (λ z. IsOneOf whole z) (sym same) i))
-fewer (x ∷ xs) part whole e (suc k) w s i n = go (one_of part x) (one_of whole x) (fewer xs part whole e k w s i n)
+fewer (x ∷ xs) part whole e (suc k) w s i n = go (member_told part x) (member_told whole x) (fewer xs part whole e k w s i n)
   where
     go : (a : IsOneOf part x ⊎ (IsOneOf part x → ⊥)) (b : IsOneOf whole x ⊎ (IsOneOf whole x → ⊥))
         → counted xs part < counted xs whole

@@ -4,11 +4,12 @@ use Rattle.std.proofs.lemmas.List.Elements.{Contains-append_left, Contains-appen
 use Rattle.ar_base.specs.Lists.{IsOneOf}
 use Rattle.ar_base.specs.Sets.{Within}
 use Rattle.ar_base.proofs.Standing.{one_none, one_cases, one_first, one_rest}
+use Rattle.ar_base.proofs.Sets.{member_told, within_self}
 use Rattle.domains.proofs.Members.{contains-head, contains-map}
 use Rattle.typed_expr.proofs.Listing.{Told}
 use Rattle.ar_meaning.proofs.Outcomes.{not_told, both_told, some_told}
 use Rattle.ar_firing.specs.Cuts.{IsLeast}
-use Rattle.ar_firing.proofs.LeastSets.{one_of, decided, within_self, within_then, Left, counted, fewer, from_words}
+use Rattle.ar_firing.proofs.LeastSets.{decided, within_then, Left, counted, fewer, from_words}
 use Rattle.ar_firing.proofs.RunsTold.{within_told}
 
 -- the parts of a list, and the part that has just the members of another
@@ -18,12 +19,12 @@ parts (x ∷ xs) = map (λ p. x ∷ p) (parts xs) ++ parts xs
 
 picked : List ℕ → List ℕ → List ℕ
 picked [] part = []
-picked (x ∷ xs) part = ⊎_elim (λ o. x ∷ picked xs part) (λ n. picked xs part) (one_of part x)
+picked (x ∷ xs) part = ⊎_elim (λ o. x ∷ picked xs part) (λ n. picked xs part) (member_told part x)
 
 picked_in : (xs part : List ℕ) → Contains (parts xs) (picked xs part)
 unfolding parts picked
 picked_in [] part = contains-head [] []
-picked_in (x ∷ xs) part = go (one_of part x) (picked_in xs part)
+picked_in (x ∷ xs) part = go (member_told part x) (picked_in xs part)
   where
     go : (d : IsOneOf part x ⊎ (IsOneOf part x → ⊥)) → Contains (parts xs) (picked xs part)
         → Contains (map (λ p. x ∷ p) (parts xs) ++ parts xs) (⊎_elim (λ o. x ∷ picked xs part) (λ n. picked xs part) d)
@@ -35,7 +36,7 @@ picked_in (x ∷ xs) part = go (one_of part x) (picked_in xs part)
 picked_within : (xs part : List ℕ) (e : ℕ) → IsOneOf (picked xs part) e → IsOneOf part e
 unfolding picked
 picked_within [] part e o = absurd (one_none e o)
-picked_within (x ∷ xs) part e o = go (one_of part x) (picked_within xs part e) o
+picked_within (x ∷ xs) part e o = go (member_told part x) (picked_within xs part e) o
   where
     go : (d : IsOneOf part x ⊎ (IsOneOf part x → ⊥)) → (IsOneOf (picked xs part) e → IsOneOf part e)
         → IsOneOf (⊎_elim (λ o. x ∷ picked xs part) (λ n. picked xs part) d) e → IsOneOf part e
@@ -45,7 +46,7 @@ picked_within (x ∷ xs) part e o = go (one_of part x) (picked_within xs part e)
 picked_all : (xs part : List ℕ) (e : ℕ) → IsOneOf xs e → IsOneOf part e → IsOneOf (picked xs part) e
 unfolding picked
 picked_all [] part e o i = absurd (one_none e o)
-picked_all (x ∷ xs) part e o i = go (one_of part x) (λ p. picked_all xs part e p i) (one_cases x xs e o)
+picked_all (x ∷ xs) part e o i = go (member_told part x) (λ p. picked_all xs part e p i) (one_cases x xs e o)
   where
     go : (d : IsOneOf part x ⊎ (IsOneOf part x → ⊥)) → (IsOneOf xs e → IsOneOf (picked xs part) e)
         → (x ≡ e) ⊎ IsOneOf xs e → IsOneOf (⊎_elim (λ o. x ∷ picked xs part) (λ n. picked xs part) d) e

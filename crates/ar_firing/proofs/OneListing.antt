@@ -3,6 +3,7 @@ use Rattle.std.proofs.Common.{◌≡◌, ◌<◌, ◌⊎◌, inl, inr, ⊎_elim,
 use Rattle.std.proofs.lemmas.Bool.{cases_order}
 use Rattle.ar_base.specs.Lists.{Stands, IsOneOf}
 use Rattle.ar_base.specs.Sets.{Within, Ascends, IsBefore}
+use Rattle.ar_base.proofs.Sets.{ascends_rest, same_ascending}
 use Rattle.ar_firing.specs.Listed.{AreListed}
 
 -- of two sets at most one is before the other
@@ -39,41 +40,8 @@ before_then {s = s} {t = t} {u = u} a b = ⊎_elim
     (cases_order a.least b.least)
 
 -- ascending lists with the same members are one
-no_lesser : (x : ℕ) (xs : List ℕ) → Ascends (x ∷ xs) → (k e : ℕ) → Stands (x ∷ xs) k e → e < x → ⊥
-no_lesser x xs a zero e s l = let i : x ≡ e = cc in omega (arith, i, l)
-no_lesser x xs a (suc k) e s l = let h = a.ascends zero (suc k) x e (omega arith) refl s in omega (arith, h, l)
-
-rest : (x : ℕ) (xs : List ℕ) → Ascends (x ∷ xs) → Ascends xs
-rest x xs a = record { ascends = λ j k b c l s t. a.ascends (suc j) (suc k) b c (omega (arith, l)) s t }
-
 pub ascending_same : (xs ys : List ℕ) → Ascends xs → Ascends ys → Within xs ys → Within ys xs → xs ≡ ys
-ascending_same [] [] a b v w = refl
-ascending_same [] (y ∷ ys) a b v w = let o = w.each y (record { place = zero; stands = refl }) in let h = o.stands in cc
-ascending_same (x ∷ xs) [] a b v w = let o = v.each x (record { place = zero; stands = refl }) in let h = o.stands in cc
-ascending_same (x ∷ xs) (y ∷ ys) a b v w =
-    let o = v.each x (record { place = zero; stands = refl }) in
-    let p = w.each y (record { place = zero; stands = refl }) in
-    let h : x < y → ⊥ = no_lesser y ys b o.place x o.stands in
-    let k : y < x → ⊥ = no_lesser x xs a p.place y p.stands in
-    let e : x ≡ y = omega arith in
-    let r : xs ≡ ys =
-    ascending_same xs ys (rest x xs a) (rest y ys b) (within_rest x xs y ys a e v)
-    (within_rest y ys x xs b (sym e) w) in cc
-  where
-    within_rest : (x : ℕ) (xs : List ℕ) (y : ℕ) (ys : List ℕ) → Ascends (x ∷ xs) → x ≡ y → Within (x ∷ xs) (y ∷ ys)
-        → Within xs ys
-    within_rest x xs y ys a e w = record {
-      each = λ d o.
-          let p =
-          w.each d (record { place = suc o.place; stands = o.stands }) in go d o.place o.stands p.place p.stands;
-    }
-      where
-        go : (d j : ℕ) → Stands xs j d → (k : ℕ) → Stands (y ∷ ys) k d → IsOneOf ys d
-        go d j s zero t =
-            let i : y ≡ d = cc in
-            let h = a.ascends zero (suc j) x d (omega arith) refl s in
-            absurd (omega (arith, i, h, e))
-        go d j s (suc k) t = record { place = k; stands = t }
+ascending_same xs ys a b v w = same_ascending xs ys a b v.each w.each
 
 -- the sets after the first one
 after_first : (P : List ℕ → Type 0) (x : List ℕ) (xs : List (List ℕ)) → AreListed P (x ∷ xs)

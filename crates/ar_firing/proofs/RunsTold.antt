@@ -6,6 +6,7 @@ use Rattle.std.proofs.lemmas.List.Elements.{Contains-append_left, Contains-appen
 use Rattle.ar_base.specs.Lists.{Stands, IsOneOf, AreDifferent}
 use Rattle.ar_base.specs.Sets.{Within}
 use Rattle.ar_base.proofs.Standing.{stands_one, stands_none, stands_within, stands_map, stands_map_back, one_here, one_none, one_cases, one_first, one_rest, one_contains}
+use Rattle.ar_base.proofs.Sets.{member_told}
 use Rattle.domains.proofs.Members.{contains-head, contains-cons, contains-map}
 use Rattle.domains.specs.declared.Value.{Value}
 use Rattle.typed_expr.specs.Yields.{Yields}
@@ -26,7 +27,7 @@ use Rattle.ar_meaning.proofs.Answering.{has_answer}
 use Rattle.ar_firing.specs.Fragment.{IsOpen}
 use Rattle.ar_firing.specs.Cuts.{Reaches, Conflicts, AreEvents, HasOrder, Makes, MeetsConflict}
 use Rattle.ar_firing.specs.Cuts as c
-use Rattle.ar_firing.proofs.LeastSets.{one_of, decided}
+use Rattle.ar_firing.proofs.LeastSets.{decided}
 use Rattle.ar_firing.proofs.SameSets.{events_within, set_within}
 use Rattle.ar_firing.proofs.Without.{no_more}
 
@@ -69,7 +70,7 @@ module _ {V : Type 0} (sys : System V) (dropped : List ℕ) where
           let same : o.is_kept.is_way.event ≡ e =
           stands_one sys.events l.event o.is_kept.is_way.event e o.is_kept.is_way.is_event s in
           let g = subst (λ (z : Event V). Stands z.ways l.way k.0) same o.is_kept.is_way.is_way in cc)
-      at_ways e s (Some w) i = at_way e s w i e.hidden refl (one_of dropped l.event)
+      at_ways e s (Some w) i = at_way e s w i e.hidden refl (member_told dropped l.event)
 
       at_event : (o : Option (Event V)) → slice_get sys.events l.event ≡ o → Told ((w : Way V) × IsOpen sys dropped l w)
       at_event None i = inr (λ k. let g = k.1.is_kept.is_way.is_event in cc)
@@ -279,7 +280,7 @@ within_told xs ys = elim (decided xs ys) [ inl w ↦ inl w | inr l ↦ inr (λ w
 
 different_told : (xs : List ℕ) → Told (AreDifferent xs)
 different_told [] = inl (record { one = λ m n a p q. absurd (stands_none m a p) })
-different_told (x ∷ xs) = go (one_of xs x) (different_told xs)
+different_told (x ∷ xs) = go (member_told xs x) (different_told xs)
   where
     rest : AreDifferent (x ∷ xs) → AreDifferent xs
     rest d = record { one = λ m n a p q. let e = d.one (suc m) (suc n) a p q in omega (arith, e) }

@@ -3,6 +3,7 @@ use Rattle.std.proofs.Common.{◌≡◌, ◌<◌, ◌≤◌, ◌⊎◌, inl, inr
 use Rattle.std.proofs.lemmas.Bool.{cases_eq}
 use Rattle.ar_base.specs.Lists.{Stands, IsOneOf, IsFirst, HasNo, AreDifferent}
 use Rattle.ar_base.proofs.Standing.{stands_none, one_here, one_none, one_cases, one_split, first_or_none, different_more}
+use Rattle.ar_base.proofs.Sets.{member_told}
 use Rattle.domains.proofs.Members.{nothing-in, contains-head, contains-cases}
 use Rattle.domains.specs.declared.Value.{Value}
 use Rattle.typed_expr.specs.Mentions.{Mentions}
@@ -19,7 +20,6 @@ use Rattle.ar_meaning.proofs.Answering.{effects_known}
 use Rattle.ar_firing.specs.Fragment.{Involves, as_target, as_source, GuardNames, guard, ActionNames, action, WayNames, in_guard, in_action, IsStateOf, IsNamedStateOf, IsModeOf, named, first, At, IsLive}
 use Rattle.ar_firing.specs.Static.{IsStatic}
 use Rattle.ar_firing.specs.Rules.{IsTransition, transition, KeepsS1, KeepsS2, HasState, HasModeVariable, KeepsS3, IsLiveAt, GivesOne, GivesOther, nothing, two, outside, KeepsS4, names, gives, AreTwo, ways, variables, modes, HasLive, KeepsS5, KeepsS6, stays, by_events, by_edges, initial, HasTargets, KeepsS7, IsLiveEvent, KeepsS8, Spot, AtEvent, AtUnit, AtVariable, AtObserver, AtWhole, Rule, S1, S2, S3, S4, S5, S6, S7, S8, Breaks, s1, s2, s3, s4, s5, s6, s7, s7_observer, s8}
-use Rattle.ar_firing.proofs.LeastSets.{one_of}
 use Rattle.ar_firing.proofs.RulesHold.{static}
 
 -- what a way names
@@ -239,7 +239,7 @@ module _ {V : Type 0} (key_told : AreTold V) (sys : System V) (dropped : List �
         whole = λ e h. ⊎_elim (λ o. o) (λ lacks. absurd (grow more (events ++ e ∷ [])
             (different_more events e d (record { has_not = λ k a s i. lacks (subst (λ (z : ℕ). IsOneOf events z) i (one_here events k a s)) }))
             (λ f o. ⊎_elim (λ p. live f p) (λ p. ⊎_elim (λ i. subst (λ (z : ℕ). IsLiveEvent sys dropped z) i h) (λ q. absurd (one_none f q)) (one_cases e [] f p)) (one_split events (e ∷ []) f o))
-            (longer more events e long))) (one_of events e);
+            (longer more events e long))) (member_told events e);
       })
         where
           longer : (more : ℕ) (events : List ℕ) (e : ℕ) → suc more + length events ≡ 2049

@@ -2,6 +2,7 @@
 use Rattle.std.proofs.Common.{◌≡◌, ◌⊎◌, inl, inr, ⊎_elim, ℕ, zero, suc, Bool, List, [], ◌∷◌, take, Contains, ap, subst, arith}
 use Rattle.std.proofs.lemmas.List.Elements.{Contains-append_left, Contains-append_right, Contains-append_cases, Contains-push, Contains-push_cases}
 use Rattle.domains.specs.declared.Value.{Value}
+use Rattle.domains.proofs.Members.{contains-head}
 use Rattle.typed_expr.specs.Yields.{Level}
 use Rattle.typed_expr.specs.Sets.{HasMoreThan}
 use Rattle.typed_expr.specs.Possible.{IsPart, StepYields, IsWide}
@@ -20,9 +21,6 @@ first_or {A = A} x xs y c =
     none : (y : A) → Contains [] y → ⊥
     none y n = absurd (omega (arith, n.1))
 
-is_first : {A : Type 0} (x : A) (xs : List A) → Contains (x ∷ xs) x
-is_first x xs = Contains-append_left (x ∷ []) xs x (Contains-push [] x)
-
 is_later : {A : Type 0} (x : A) (xs : List A) (y : A) → Contains xs y → Contains (x ∷ xs) y
 is_later x xs y c = Contains-append_right (x ∷ []) xs y c
 
@@ -37,7 +35,7 @@ module _ {V W : Type 0} (same : V → W → Type 0) where
       → Operand fs e
   operand r.none e c = absurd (omega (arith, c.1))
   operand (r.one_and {a = a} {es = es} {b = b} {fs = fs} q qs) e c = ⊎_elim
-      (λ i. record { other = b; is_one = is_first b fs; renames = subst (λ z. Renames same (out-Expr V z) (out-Expr W b)) i q })
+      (λ i. record { other = b; is_one = contains-head b fs; renames = subst (λ z. Renames same (out-Expr V z) (out-Expr W b)) i q })
       (λ h. let o = operand qs e h in record { other = o.other; is_one = is_later b fs o.other o.is_one; renames = o.renames })
       (first_or a es e c)
 
@@ -54,7 +52,7 @@ module _ {V W : Type 0} (same : V → W → Type 0) where
       (λ i. let j : s ≡ plus = ap (λ (z : Bool × Expr V). z.0) i in
       let k : a ≡ e = ap (λ (z : Bool × Expr V). z.1) i in
       record
-      { other = b; is_one = subst (λ z. Contains ((s, b) ∷ qs) (z, b)) j (is_first (s, b) qs); renames = subst (λ z. Renames same (out-Expr V z) (out-Expr W b)) k q })
+      { other = b; is_one = subst (λ z. Contains ((s, b) ∷ qs) (z, b)) j (contains-head (s, b) qs); renames = subst (λ z. Renames same (out-Expr V z) (out-Expr W b)) k q })
       (λ h. let o = summand rest plus e h in record { other = o.other; is_one = is_later (s, b) qs (plus, o.other) o.is_one; renames = o.renames })
       (first_or (s, a) ps (plus, e) c)
 
@@ -75,7 +73,7 @@ module _ {V W : Type 0} (same : V → W → Type 0) where
       record {
         other_test = c;
         other_value = d;
-        is_one = is_first (c, d) ds;
+        is_one = contains-head (c, d) ds;
         renames_test = subst (λ z. Renames same (out-Expr V z) (out-Expr W c)) j q;
         renames_value = subst (λ z. Renames same (out-Expr V z) (out-Expr W d)) k s;
       })

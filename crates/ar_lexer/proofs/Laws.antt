@@ -5,6 +5,8 @@ use Rattle.std.specs.declared.alloc.Global.{Global}
 use Rattle.std.specs.List.{prefix_len}
 use Rattle.std.specs.Char.{is_ascii_digit}
 use Rattle.std.proofs.lemmas.List.{length-append, append_cancel_left, take_at}
+use Rattle.std.proofs.lemmas.Option.{same_Some}
+use Rattle.ar_base.proofs.Fronts.{HeadFails}
 use Rattle.ar_lexer.specs.declared.token.Token.{Token}
 use Rattle.ar_lexer.specs.declared.token.TokenKind.{TokenKind}
 use Rattle.ar_lexer.specs.declared.token.TokenKind.TheVariants.{Name, Whole, Real, Sign, Reserved, End}
@@ -12,7 +14,7 @@ use Rattle.ar_lexer.specs.declared.token.LexFault.{LexFault}
 use Rattle.ar_lexer.specs.declared.token.LexFault.TheVariants.{Byte, OpenComment, Number, Memory}
 use Rattle.ar_lexer.specs.Spelling.{fraction, exponent, both, signs, place_in, AllPass, IsWord, IsDigits, IsReal, IsTail, IsOfKind, IsTokenText, word, whole, real, sign, number_of}
 use Rattle.ar_lexer.specs.Tokens.{is_blank, is_line_feed, IsLineEnd, Closes, IsGap, blank, line_comment, block_comment, IsTokenOf, IsToken, joined, AreCut, end_of_text, AreTokens, BeginsNothing, IsOpenComment, IsTooLarge, IsFault, IsFirstFault}
-use Rattle.ar_lexer.proofs.RunLemmas.{HeadFails, run_exact, letter_no_digit, blank_digit}
+use Rattle.ar_lexer.proofs.RunLemmas.{run_exact, letter_no_digit, blank_digit}
 use Rattle.ar_lexer.proofs.NumberLemmas.{cons_head, cons_tail, digits_pass, tail_fails}
 use Rattle.ar_lexer.proofs.FormLemmas.{sign_passes, blank_form, sign_head, real_head}
 use Rattle.ar_lexer.proofs.ReadLemmas.{same_token}
@@ -158,9 +160,6 @@ digits_no_real p h r =
     let l = tail_some r.1 r.4 in
     omega (arith, n, k, l)
 
-same_place : (m n : ℕ) → Some m ≡ Some n → m ≡ n
-same_place m n e = cc
-
 some_none : {P : Type 0} (m : ℕ) → Some m ≡ None → P
 some_none m e = absurd (cc)
 
@@ -186,14 +185,14 @@ kind_one Real End p h g = elim g [ ]
 kind_one (Sign n) Name p h g = absurd (word_no_sign p n g.0 h)
 kind_one (Sign n) (Whole m) p h g = absurd (digits_no_sign p n g.0 h)
 kind_one (Sign n) Real p h g = absurd (real_no_sign p n g h)
-kind_one (Sign n) (Sign m) p h g = ap Sign (same_place n m (sym h ∙ g))
+kind_one (Sign n) (Sign m) p h g = ap Sign (same_Some n m (sym h ∙ g))
 kind_one (Sign n) (Reserved m) p h g = absurd (word_no_sign p n g.0 h)
 kind_one (Sign n) End p h g = elim g [ ]
 kind_one (Reserved n) Name p h g = some_none n (sym h.1 ∙ g.1)
 kind_one (Reserved n) (Whole m) p h g = absurd (word_no_digits p h.0 g.0)
 kind_one (Reserved n) Real p h g = absurd (word_no_real p h.0 g)
 kind_one (Reserved n) (Sign m) p h g = absurd (word_no_sign p m h.0 g)
-kind_one (Reserved n) (Reserved m) p h g = ap Reserved (same_place n m (sym h.1 ∙ g.1))
+kind_one (Reserved n) (Reserved m) p h g = ap Reserved (same_Some n m (sym h.1 ∙ g.1))
 kind_one (Reserved n) End p h g = elim g [ ]
 kind_one End l p h g = elim h [ ]
 

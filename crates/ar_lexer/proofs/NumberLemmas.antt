@@ -7,9 +7,10 @@ use Rattle.std.specs.List.{prefix_len}
 use Rattle.std.proofs.lemmas.List.{length-append, length-take-le, length-drop, take_rest, take-append-drop, take-take, drop-take, drop_at}
 use Rattle.std.proofs.lemmas.Bool.{eqb-true}
 use Rattle.std.proofs.lemmas.List.Sums.{prefix_len-le-length}
+use Rattle.ar_base.proofs.Fronts.{HeadFails}
 use Rattle.ar_lexer.specs.Spelling.{AllPass, number_after, IsDigits, IsFraction, IsExponent, IsOptionalSign, IsTail, fraction, exponent, both}
 use Rattle.ar_lexer.specs.Scans.{IsLongestFront, sign_len, is_exponent_mark}
-use Rattle.ar_lexer.proofs.RunLemmas.{HeadFails, run_passes, run_longest, run_exact}
+use Rattle.ar_lexer.proofs.RunLemmas.{run_passes, run_longest, run_exact}
 
 pub cons_head : {X : Type 0} {x y : X} {xs ys : List X} → x ∷ xs ≡ y ∷ ys → x ≡ y
 cons_head e = cc

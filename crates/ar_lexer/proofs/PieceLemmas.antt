@@ -5,13 +5,14 @@ use Rattle.std.specs.Char.{is_ascii_digit}
 use Rattle.std.specs.List.{prefix_len}
 use Rattle.std.proofs.lemmas.List.{length-append, length-drop, take-append-drop, take_more, get_or_at, get_or-take, get_or-append-add, length-take-le}
 use Rattle.std.proofs.lemmas.List.Sums.{prefix_len-le-length}
+use Rattle.ar_base.proofs.Fronts.{HeadFails, run_stops}
 use Rattle.ar_lexer.specs.declared.token.TokenKind.{TokenKind}
 use Rattle.ar_lexer.specs.declared.token.TokenKind.TheVariants.{Whole, Sign}
 use Rattle.ar_lexer.specs.declared.piece.Piece.TheVariants.{Gap, Text}
 use Rattle.ar_lexer.specs.Spelling.{signs, place_in, AllPass, is_letter, is_word_byte, IsWord, IsDigits, IsReal, IsTail, number_of, IsOfKind, IsTokenText}
 use Rattle.ar_lexer.specs.Tokens.{is_blank, is_line_feed, blank, line_comment, block_comment, IsLineEnd, Closes, BeginsComment, IsTooLarge, BeginsNothing}
 use Rattle.ar_lexer.specs.Scans.{ClosesFirst, HeadPasses, IsLongestFront, IsPieceAt, IsSignFront, IsSignOfLen}
-use Rattle.ar_lexer.proofs.RunLemmas.{HeadFails, letter_of_word, run_passes, run_stops}
+use Rattle.ar_lexer.proofs.RunLemmas.{letter_of_word, run_passes}
 use Rattle.ar_lexer.proofs.NumberLemmas.{cons_head, digits_run, take_sum}
 use Rattle.ar_lexer.proofs.FormLemmas.{sign_short, word_fronts, number_fronts, sign_fronts, token_front, comment_head}
 

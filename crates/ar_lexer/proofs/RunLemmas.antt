@@ -2,13 +2,9 @@
 use Rattle.std.proofs.Common.{◌≡◌, ℕ, suc, ◌+◌, ◌≤◌, Bool, true, false, cond, List, [], ◌∷◌, ◌++◌, length, take, drop, refl, sym, ap, ◌∙◌, subst, arith}
 use Rattle.std.specs.Char.{is_ascii_digit}
 use Rattle.std.specs.List.{prefix_len}
+use Rattle.ar_base.proofs.Fronts.{HeadFails}
 use Rattle.ar_lexer.specs.Spelling.{AllPass, is_letter, is_word_byte}
 use Rattle.ar_lexer.specs.Tokens.{is_blank}
-
--- the first byte, if there is one, fails the test
-abbrev pub HeadFails : (ℕ → Bool) → List ℕ → Type 0
-HeadFails test [] = Unit {0}
-HeadFails test (b ∷ bs) = test b ≡ false
 
 passes_cons : (test : ℕ → Bool) (b : ℕ) (bs : List ℕ) (r : Bool) → test b ≡ r → AllPass test (take (prefix_len test bs) bs) → AllPass test (take (cond r (1 + prefix_len test bs) 0) (b ∷ bs))
 passes_cons test b bs true e h =
@@ -20,17 +16,6 @@ passes_cons test b bs false e h = tt
 pub run_passes : (test : ℕ → Bool) (bs : List ℕ) → AllPass test (take (prefix_len test bs) bs)
 run_passes test [] = tt
 run_passes test (b ∷ bs) = passes_cons test b bs (test b) refl (run_passes test bs)
-
-fails_cons : (test : ℕ → Bool) (b : ℕ) (bs : List ℕ) (r : Bool) → test b ≡ r → HeadFails test (drop (prefix_len test bs) bs) → HeadFails test (drop (cond r (1 + prefix_len test bs) 0) (b ∷ bs))
-fails_cons test b bs true e h =
-    let q : 1 + prefix_len test bs ≡ suc (prefix_len test bs) = omega arith in
-    subst (λ n. HeadFails test (drop n (b ∷ bs))) (sym q) h
-fails_cons test b bs false e h = e
-
--- and what stands behind it does not go on with it
-pub run_stops : (test : ℕ → Bool) (bs : List ℕ) → HeadFails test (drop (prefix_len test bs) bs)
-run_stops test [] = tt
-run_stops test (b ∷ bs) = fails_cons test b bs (test b) refl (run_stops test bs)
 
 -- a front that passes is no longer than the run
 pub run_longest : (test : ℕ → Bool) (front back : List ℕ) → AllPass test front → length front ≤ prefix_len test (front ++ back)

@@ -1,20 +1,18 @@
 -- Declared events that differ in what stands for transitions and events have ways that differ in what stands for
 -- transitions.
-use Rattle.std.proofs.Common.{◌≡◌, ℕ, Bool, List, [], ◌∷◌, ◌++◌, map, inl, inr, refl, sym, ◌∙◌, subst}
+use Rattle.std.proofs.Common.{◌≡◌, ℕ, zero, suc, Bool, List, [], ◌∷◌, ◌++◌, map, slice_get, inl, inr, refl, sym, ◌∙◌, subst}
 use Rattle.ar_base.specs.Lists.{Stands, IsOneOf, Along}
 use Rattle.ar_base.specs.Lists as l
+use Rattle.ar_base.proofs.Items.{along_append}
+use Rattle.ar_base.proofs.Standing.{along_length}
 use Rattle.ar_meaning.specs.Systems.{Transition, Tree, Branches, Leaf, Joint, Empty, Branch, Event}
 use Rattle.ar_meaning.specs.Expand.{Declared, Member, Synchronises, Ways, event, Members_give, no_member, one, synchronises, Parts_give, no_part, choice, choices, HasPart, ReachesPart, part_of, further, LeadsBack, AreKeyed, IsExpanded}
 use Rattle.ar_meaning.specs.ExpandImage.{Part_renames, Member_along, transitions, synchronise, Declared_along, Declared_renames}
 use Rattle.ar_meaning.specs.Image.{Trees_along, leaves, joints, Branches_along, no_branch, branch, Transition_renames, Event_renames}
+use Rattle.ar_meaning.specs.TraceText.{ways_of}
 use Rattle.typed_expr.specs.Pairs.{turned}
 use Rattle.ar_meaning.proofs.ImageTurned.{along_turned, transition_turned, event_turned}
 use Rattle.ar_meaning.proofs.ImageFlows.{partner}
-
-pub along_append : {A B : Type 0} {R : A → B → Type 0} {xs us : List A} {ys vs : List B} → Along R xs ys → Along R us vs
-    → Along R (xs ++ us) (ys ++ vs)
-along_append l.none d = d
-along_append (l.one_and r rs) d = l.one_and r (along_append rs d)
 
 pub along_map : {A B C D : Type 0} {R : A → B → Type 0} {S : C → D → Type 0} (f : A → C) (g : B → D)
     → ((a : A) (b : B) → R a b → S (f a) (g b))
@@ -231,3 +229,11 @@ events_back {V = V} {W = W} {E = E} {F = F} same event_same ds es related single
       hidden = sym r.hidden;
       members = along_turned member_back r.members;
     }
+
+-- events that rename each other have as many ways
+pub ways_count : {V W : Type 0} (same : V → W → Type 0) {es : List (Event V)} {fs : List (Event W)}
+    → Along (Event_renames same) es fs → (n : ℕ) → ways_of (slice_get es n) ≡ ways_of (slice_get fs n)
+ways_count same l.none zero = refl
+ways_count same l.none (suc n) = refl
+ways_count same (l.one_and r rs) zero = along_length _ _ r.ways
+ways_count same (l.one_and r rs) (suc n) = ways_count same rs n

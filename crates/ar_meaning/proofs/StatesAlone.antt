@@ -17,7 +17,7 @@ pub data Same_states {V : Type 0} : List (Variable V) → List Value → List Va
   flow : {x : Variable V} {xs : List (Variable V)} {v w : Value} {vs ws : List Value} → x.is_state ≡ false
       → Same_states xs vs ws → Same_states (x ∷ xs) (v ∷ vs) (w ∷ ws)
 
-turned : {V : Type 0} {xs : List (Variable V)} {vs ws : List Value} → Same_states xs vs ws → Same_states xs ws vs
+pub turned : {V : Type 0} {xs : List (Variable V)} {vs ws : List Value} → Same_states xs vs ws → Same_states xs ws vs
 turned none = none
 turned (both d) = both (turned d)
 turned (flow e d) = flow e (turned d)

@@ -14,3 +14,4 @@ pub mod TraceText
 pub mod Dependence
 pub mod FlatOf
 pub mod Cases
+pub mod Reached

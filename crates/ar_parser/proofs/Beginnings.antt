@@ -1,7 +1,7 @@
 -- How a text of an expression may go on where none of it was passed, and where its first token was.
 use Rattle.std.proofs.Common.{◌≡◌, ℕ, zero, suc, ◌⊎◌, inl, inr, Bool, true, false, ◌||◌, [], ◌∷◌, refl, ap, ◌∙◌}
 use Rattle.std.specs.Prelude.{◌==◌}
-use Rattle.std.proofs.lemmas.Bool.{eqb-true}
+use Rattle.std.proofs.lemmas.Bool.{eqb-true, or_cases}
 use Rattle.ar_lexer.specs.declared.token.TokenKind.{TokenKind}
 use Rattle.ar_lexer.specs.declared.token.TokenKind.TheVariants.{Name, Whole, Real, Sign, Reserved, End}
 use Rattle.ar_lexer.specs.declared.signs.TheConstants.{DOT, OPEN_BRACE, CLOSE_BRACE, OPEN_PARENTHESIS, CLOSE_PARENTHESIS, COLON, MINUS}
@@ -15,7 +15,7 @@ use Rattle.ar_parser.specs.Paths.{IsStart}
 use Rattle.ar_parser.specs.Chains.{word_of}
 use Rattle.ar_parser.specs.Texts.{path_text, operands_text, primary_text, constant, path, brackets, call, switch, expr_text, not_text, minus_text, compare_text, sum_text, product_text, begins_constant, begins_call}
 use Rattle.ar_parser.specs.Results.{Begins, is_sign, is_word, begins_path, begins_primary, begins_minus, begins_not, begins_expr}
-use Rattle.ar_parser.proofs.ExpressionForms.{either, sign_from, word_from}
+use Rattle.ar_parser.proofs.ExpressionForms.{sign_from, word_from}
 use Rattle.ar_parser.proofs.Standing.{begins_token, begins_one, begins_here, begins_this, begins_nothing, begins_no_more, begins_then, begins_after, begins_map}
 use Rattle.ar_parser.specs.Parts.{case_text}
 
@@ -62,7 +62,7 @@ path_at t h = by_kind t.kind refl h
 
     by_kind : (k : TokenKind) → t.kind ≡ k → begins_path k ≡ true → Begins path_text (t ∷ [])
     by_kind Name e h = begins_after {A = Has IsStart} (λ next. (Here, refl)) (begins_then (begins_here t Name e) begins_no_more)
-    by_kind (Reserved w) e h = by_word w e (either (w == OWNER) (w == MAIN) h)
+    by_kind (Reserved w) e h = by_word w e (or_cases (w == OWNER) (w == MAIN) h)
     by_kind (Whole n) e h = absurd (cc)
     by_kind Real e h = absurd (cc)
     by_kind (Sign s) e h = absurd (cc)
@@ -104,21 +104,21 @@ primary_at m t (inr (inr (inr (inl p)))) = begins_map (begins_then (begins_here 
 primary_at m t (inr (inr (inr (inr p)))) = begins_map (begins_then (begins_here t (Sign OPEN_PARENTHESIS) p) (begins_then (some_expr m) (begins_token (Sign CLOSE_PARENTHESIS)))) (λ next ts h. brackets h)
 
 pub minus_at : (m : ℕ) (t : Lexeme) → begins_minus t.kind ≡ true → Begins (minus_text deep (suc m)) (t ∷ [])
-minus_at m t h = by_either (either (is_sign MINUS t.kind) (begins_primary t.kind) h)
+minus_at m t h = by_either (or_cases (is_sign MINUS t.kind) (begins_primary t.kind) h)
   where
     by_either : (is_sign MINUS t.kind ≡ true) ⊎ (begins_primary t.kind ≡ true) → Begins (minus_text deep (suc m)) (t ∷ [])
     by_either (inl p) = begins_map (begins_then (begins_here t (Sign MINUS) (sign_from MINUS t.kind p)) (some_minus m)) (λ next ts h. inl h)
     by_either (inr p) = begins_map (primary_at m t (primary_kind t.kind p)) (λ next ts h. inr h)
 
 pub not_at : (m : ℕ) (t : Lexeme) → begins_not t.kind ≡ true → Begins (not_text deep (suc (suc m))) (t ∷ [])
-not_at m t h = by_either (either (is_word NOT t.kind) (begins_minus t.kind) h)
+not_at m t h = by_either (or_cases (is_word NOT t.kind) (begins_minus t.kind) h)
   where
     by_either : (is_word NOT t.kind ≡ true) ⊎ (begins_minus t.kind ≡ true) → Begins (not_text deep (suc (suc m))) (t ∷ [])
     by_either (inl p) = begins_map (begins_then (begins_here t (Reserved NOT) (word_from NOT t.kind p)) (some_not (suc m))) (λ next ts h. inl h)
     by_either (inr p) = begins_map (begins_then (begins_then (begins_then (minus_at m t p) begins_no_more) begins_no_more) (begins_map begins_nothing (λ next ts h. inl h))) (λ next ts h. inr h)
 
 pub expr_at : (m : ℕ) (t : Lexeme) → begins_expr t.kind ≡ true → Begins (expr_text deep (suc (suc (suc m)))) (t ∷ [])
-expr_at m t h = by_either (either (is_word IF t.kind) (begins_not t.kind) h)
+expr_at m t h = by_either (or_cases (is_word IF t.kind) (begins_not t.kind) h)
   where
     by_either : (is_word IF t.kind ≡ true) ⊎ (begins_not t.kind ≡ true) → Begins (expr_text deep (suc (suc (suc m)))) (t ∷ [])
     by_either (inl p) = begins_map (begins_then (begins_then (begins_here t (Reserved IF) (word_from IF t.kind p)) (begins_then (some_expr (suc (suc m))) (begins_token (Reserved THEN)))) (begins_then (some_expr (suc (suc m))) (some_else (suc (suc m))))) (λ next ts h. inl h)

@@ -1,7 +1,7 @@
 -- What clauses, sections and bodies are, by their first tokens and part by part.
 use Rattle.std.proofs.Common.{◌≡◌, ◌≢◌, ℕ, zero, suc, ◌-◌, ◌⊎◌, inl, inr, Bool, true, false, not, ◌||◌, List, [], ◌∷◌, ◌++◌, Result, Ok, Err, IfOk, refl, sym, ap, ◌∙◌, subst, append_assoc, arith}
 use Rattle.std.specs.Prelude.{◌==◌}
-use Rattle.std.proofs.lemmas.Bool.{eqb-true}
+use Rattle.std.proofs.lemmas.Bool.{eqb-true, or_cases, or_right, or_left}
 use Rattle.std.proofs.lemmas.List.{append-nil}
 use Rattle.std.proofs.Math.Numerals.{sub-one}
 use Rattle.ar_lexer.specs.declared.token.TokenKind.{TokenKind}
@@ -21,7 +21,7 @@ use Rattle.ar_parser.specs.Texts as text
 use Rattle.ar_parser.specs.Parts.{event_text, transition_of, section_of, declaration_text, alias_text, value_text, kept_value_text, parameter_text, single_text, unit_of, keyed_of, member_text, later_text, sections_text, inside_body}
 use Rattle.ar_parser.specs.Results.{kind_at, Plain, Spans, Takes, Arrives, Finds, is_word, is_name, ends_transitions, ends_assertions, ends_body, ends_members, ends_section, begins_instr, begins_keyed, begins_member, begins_section, begins_later, begins_body}
 use Rattle.ar_parser.proofs.Finding.{Follows, Loops, loops_start, loops_next, kind_join, kind_before, kind_behind, plain_kind, apart, fails, token_kind, then_kind, follows_many, spans_then, spans_map, spans_push}
-use Rattle.ar_parser.proofs.ExpressionForms.{then_map, either, or_left, or_right, word_from}
+use Rattle.ar_parser.proofs.ExpressionForms.{then_map, word_from}
 use Rattle.ar_parser.proofs.TextParts.{first_of, one_kind, one_as}
 
 -- The first token of what was taken
@@ -260,16 +260,16 @@ section_ends_transitions End h = refl
 
 instr_word : (w : ℕ) → ends_section (Reserved w) ≡ true → (b : Bool) → begins_instr (Reserved w) ≡ b → not b ≡ true
 instr_word w h false e = refl
-instr_word w h true e = by_words (either ((w == OWNER) || (w == MAIN) || (w == SKIP)) (w == IF) e)
+instr_word w h true e = by_words (or_cases ((w == OWNER) || (w == MAIN) || (w == SKIP)) (w == IF) e)
   where
     no : (v : ℕ) → ends_section (Reserved v) ≡ false → (w == v) ≡ true → not true ≡ true
     no v f q = let x : true ≡ false = sym h ∙ ap (λ (u : ℕ). ends_section (Reserved u)) (eqb-true w v q) ∙ f in absurd (cc)
 
     by_words : ((((w == OWNER) || (w == MAIN) || (w == SKIP)) ≡ true) ⊎ ((w == IF) ≡ true)) → not true ≡ true
     by_words (inr q) = no IF refl q
-    by_words (inl q) = elim (either ((w == OWNER) || (w == MAIN)) (w == SKIP) q) as (λ _. not true ≡ true) [
+    by_words (inl q) = elim (or_cases ((w == OWNER) || (w == MAIN)) (w == SKIP) q) as (λ _. not true ≡ true) [
       | inr r ↦ no SKIP refl r
-      | inl r ↦ elim (either (w == OWNER) (w == MAIN) r) as (λ _. not true ≡ true) [ inl s ↦ no OWNER refl s | inr s ↦ no MAIN refl s ]
+      | inl r ↦ elim (or_cases (w == OWNER) (w == MAIN) r) as (λ _. not true ≡ true) [ inl s ↦ no OWNER refl s | inr s ↦ no MAIN refl s ]
     ]
 
 pub section_ends_assertions : (k : TokenKind) → ends_section k ≡ true → ends_assertions k ≡ true

@@ -1,7 +1,7 @@
 -- Clauses, sections and bodies before other tokens, and how they may begin.
 use Rattle.std.proofs.Common.{◌≡◌, ℕ, zero, suc, ◌≤◌, ◌⊎◌, inl, inr, Bool, true, false, ◌||◌, List, [], ◌∷◌, refl, ap, ◌∙◌, subst, arith}
 use Rattle.std.specs.Prelude.{◌==◌}
-use Rattle.std.proofs.lemmas.Bool.{eqb-true}
+use Rattle.std.proofs.lemmas.Bool.{eqb-true, or_cases}
 use Rattle.ar_lexer.specs.declared.token.TokenKind.{TokenKind}
 use Rattle.ar_lexer.specs.declared.token.TokenKind.TheVariants.{Name, Whole, Real, Sign, Reserved, End}
 use Rattle.ar_lexer.specs.declared.signs.TheConstants.{COMMA, SEMICOLON, EQUALS}
@@ -18,7 +18,7 @@ use Rattle.ar_parser.specs.Texts as text
 use Rattle.ar_parser.specs.Texts.{one_of, maybe, expr_text, instr_text, bracketed_text, is_type, declared_rest, unit_text, keyed_text, body_of, body_text}
 use Rattle.ar_parser.specs.Parts.{alias_text, value_text, single_text, section_of, unit_of, keyed_of, member_text}
 use Rattle.ar_parser.specs.Results.{Begins, is_word, is_name, begins_keyed, begins_member, begins_section, begins_body}
-use Rattle.ar_parser.proofs.ExpressionForms.{either, word_from}
+use Rattle.ar_parser.proofs.ExpressionForms.{word_from}
 use Rattle.ar_parser.proofs.Standing.{Turns, turns_token, turns_then, begins_token, begins_one, begins_here, begins_nothing, begins_no_more, begins_then, begins_after, begins_map, begins_maybe, begins_some}
 use Rattle.ar_parser.proofs.Turning.{turns_list, turns_placed, turns_path, turns_tree}
 use Rattle.ar_parser.proofs.Beginnings.{some_expr}
@@ -179,7 +179,7 @@ keyed_at m t h = by_kind t.kind refl h
     by_kind End e h = absurd (cc)
 
 section_at : (m : ℕ) (t : Lexeme) → begins_section t.kind ≡ true → Begins (section_of m) (t ∷ [])
-section_at m t h = by_either (either (is_word TRANSITION t.kind) (is_word ASSERTION t.kind) h)
+section_at m t h = by_either (or_cases (is_word TRANSITION t.kind) (is_word ASSERTION t.kind) h)
   where
     by_either : (is_word TRANSITION t.kind ≡ true) ⊎ (is_word ASSERTION t.kind ≡ true) → Begins (section_of m) (t ∷ [])
     by_either (inl q) = begins_map (begins_then (begins_here t (Reserved TRANSITION) (word_from TRANSITION t.kind q)) begins_no_more) (λ next ts h. inl h)
@@ -194,14 +194,14 @@ name_from (Reserved w) h = absurd (cc)
 name_from End h = absurd (cc)
 
 member_at : (m : ℕ) (t : Lexeme) → begins_member t.kind ≡ true → Begins (member_text m) (t ∷ [])
-member_at m t h = by_either (either (is_name t.kind) (begins_keyed t.kind) h)
+member_at m t h = by_either (or_cases (is_name t.kind) (begins_keyed t.kind) h)
   where
     by_either : (is_name t.kind ≡ true) ⊎ (begins_keyed t.kind ≡ true) → Begins (member_text m) (t ∷ [])
     by_either (inl q) = begins_map (begins_then (begins_here t Name (name_from t.kind q)) (some_declared_rest m)) (λ next ts h. inr h)
     by_either (inr q) = begins_map (keyed_at m t q) (λ next ts h. inl h)
 
 pub body_at : (m : ℕ) (t : Lexeme) → begins_body t.kind ≡ true → Begins (body_text deep (suc m)) (t ∷ [])
-body_at m t h = by_either (either (begins_section t.kind) (begins_member t.kind) h)
+body_at m t h = by_either (or_cases (begins_section t.kind) (begins_member t.kind) h)
   where
     by_either : (begins_section t.kind ≡ true) ⊎ (begins_member t.kind ≡ true) → Begins (body_text deep (suc m)) (t ∷ [])
     by_either (inl q) = begins_after (λ next. ([], refl)) (begins_map (begins_then (section_at m t q) begins_no_more) (λ next ts h. inr h))

@@ -2,18 +2,13 @@
 use Rattle.std.proofs.Common.{◌≡◌, ◌≢◌, ℕ, suc, ◌-◌, Bool, true, false, List, [], ◌∷◌, ◌++◌, Result, Ok, Err, IsErrAnd, refl, sym, ap, ◌∙◌, subst, append_assoc, arith}
 use Rattle.std.proofs.lemmas.List.{append-nil}
 use Rattle.ar_lexer.specs.declared.token.TokenKind.{TokenKind}
+use Rattle.ar_lexer.proofs.NumberLemmas.{cons_tail}
 use Rattle.ar_parser.specs.declared.lexeme.Lexeme.{Lexeme}
 use Rattle.ar_parser.specs.declared.lexeme.Refusal.{Refusal}
 use Rattle.ar_parser.specs.declared.lexeme.Refusal.TheVariants.{Syntax, Depth, Memory}
 use Rattle.ar_parser.specs.Words.{Form, Tokens, kind_or, no_kind, token, ◌▸◌, nothing, each, many, Has}
 use Rattle.std.specs.Bool.{OnTrue, OnFalse}
 use Rattle.ar_parser.specs.Results.{kind_at, Spans, Takes, Arrives, Finds, Eats, Plain, anything}
-
-pub cons_head : {X : Type 0} {x y : X} {xs ys : List X} → x ∷ xs ≡ y ∷ ys → x ≡ y
-cons_head e = cc
-
-pub cons_tail : {X : Type 0} {x y : X} {xs ys : List X} → x ∷ xs ≡ y ∷ ys → xs ≡ ys
-cons_tail e = cc
 
 -- Tokens of texts
 

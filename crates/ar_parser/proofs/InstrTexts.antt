@@ -2,7 +2,7 @@
 use Rattle.std.proofs.Common.{◌≡◌, ◌≢◌, ℕ, zero, suc, ◌≤◌, ◌⊎◌, inl, inr, Bool, true, not, ◌||◌, List, [], ◌∷◌, ◌++◌, Option, refl, sym, ap, ◌∙◌, subst, append_assoc, arith}
 use Rattle.std.specs.Prelude.{◌==◌, Some, None, Box}
 use Rattle.std.specs.declared.alloc.Global.{Global}
-use Rattle.std.proofs.lemmas.Bool.{eqb-true}
+use Rattle.std.proofs.lemmas.Bool.{eqb-true, or_cases}
 use Rattle.ar_lexer.specs.declared.token.TokenKind.{TokenKind}
 use Rattle.ar_lexer.specs.declared.token.TokenKind.TheVariants.{Name, Whole, Real, Sign, Reserved, End}
 use Rattle.ar_lexer.specs.declared.signs.TheConstants.{OPEN_BRACE, CLOSE_BRACE, SEMICOLON, ASSIGN, TIE}
@@ -20,7 +20,6 @@ use Rattle.ar_parser.specs.Instructions as tree
 use Rattle.ar_parser.specs.Texts.{path_text, expr_text, simple_text, else_text, conditional_text, group_text, instr_of, simple, group, conditional, instr_text}
 use Rattle.ar_parser.specs.Results.{kind_at, Spans, Begins, Refuses, is_sign, is_word, anything, ends_path, begins_path, begins_instr}
 use Rattle.ar_parser.proofs.Finding.{Follows, inside, token_kind, then_kind, apart, fails, each_push}
-use Rattle.ar_parser.proofs.ExpressionForms.{either}
 use Rattle.ar_parser.proofs.Standing.{Turns, turns_token, turns_then, tells_most, refuses_map, begins_token, begins_here, begins_no_more, begins_then, begins_map, begins_after, turns_each}
 use Rattle.ar_parser.proofs.TextParts.{first_of, path_starts}
 use Rattle.ar_parser.proofs.Turning.{turns_path, turns_tree}
@@ -133,7 +132,7 @@ instr_at m t h = by_kind t.kind refl h
 
     by_word : (w : ℕ) → t.kind ≡ Reserved w → (((w == OWNER) || (w == MAIN) || (w == SKIP)) ≡ true) ⊎ ((w == IF) ≡ true) → Begins (instr_text deep (suc m)) (t ∷ [])
     by_word w e (inr q) = begins_map (begins_then (begins_then (begins_here t (Reserved IF) (e ∙ ap Reserved (eqb-true w IF q))) (begins_then (some_expr m) (begins_token (Reserved THEN)))) (begins_then (some_instr m) (begins_map (begins_then (begins_token (Reserved ELSE)) (some_instr m)) (λ next ts h. inr h)))) (λ next ts h. conditional h)
-    by_word w e (inl q) = by_simple (either ((w == OWNER) || (w == MAIN)) (w == SKIP) q)
+    by_word w e (inl q) = by_simple (or_cases ((w == OWNER) || (w == MAIN)) (w == SKIP) q)
       where
         by_simple : (((w == OWNER) || (w == MAIN)) ≡ true) ⊎ ((w == SKIP) ≡ true) → Begins (instr_text deep (suc m)) (t ∷ [])
         by_simple (inl p) = by_path (ap begins_path e ∙ p)
@@ -142,7 +141,7 @@ instr_at m t h = by_kind t.kind refl h
     by_kind : (k : TokenKind) → t.kind ≡ k → begins_instr k ≡ true → Begins (instr_text deep (suc m)) (t ∷ [])
     by_kind Name e h = by_path (ap begins_path e)
     by_kind (Sign s) e h = begins_map (begins_then (begins_here t (Sign OPEN_BRACE) (e ∙ ap Sign (eqb-true s OPEN_BRACE h))) some_group_end) (λ next ts h. group h)
-    by_kind (Reserved w) e h = by_word w e (either ((w == OWNER) || (w == MAIN) || (w == SKIP)) (w == IF) h)
+    by_kind (Reserved w) e h = by_word w e (or_cases ((w == OWNER) || (w == MAIN) || (w == SKIP)) (w == IF) h)
     by_kind (Whole n) e h = absurd (cc)
     by_kind Real e h = absurd (cc)
     by_kind End e h = absurd (cc)

@@ -1,7 +1,7 @@
 -- What the parts of members are, token by token.
 use Rattle.std.proofs.Common.{◌≡◌, ◌≢◌, ℕ, ◌≤◌, ◌⊎◌, inl, inr, Bool, true, List, [], ◌∷◌, ◌++◌, Vec, refl, sym, ap, ◌∙◌, subst, append_assoc, false}
 use Rattle.std.specs.Prelude.{◌==◌}
-use Rattle.std.proofs.lemmas.Bool.{eqb-true}
+use Rattle.std.proofs.lemmas.Bool.{eqb-true, or_cases}
 use Rattle.std.specs.declared.alloc.Global.{Global}
 use Rattle.ar_base.specs.declared.places.Place.{Place}
 use Rattle.ar_lexer.specs.declared.token.TokenKind.{TokenKind}
@@ -24,7 +24,7 @@ use Rattle.ar_parser.specs.Texts.{one_of, list_of, names_text, is_type, is_targe
 use Rattle.ar_parser.specs.Results.{kind_at, Spans, Begins, anything, ends_names, ends_expr, ends_list, ends_attribute, is_sign}
 use Rattle.ar_parser.proofs.Finding.{Follows, kind_join, fails, token_kind, then_kind, follows_many, spans_then}
 use Rattle.ar_parser.proofs.PathForms.{stands_there}
-use Rattle.ar_parser.proofs.ExpressionForms.{then_map, then_assoc, then_some, token_some, sign_from, either}
+use Rattle.ar_parser.proofs.ExpressionForms.{then_map, then_assoc, then_some, token_some, sign_from}
 use Rattle.ar_parser.proofs.TextParts.{first_of, one_kind, one_as}
 use Rattle.ar_parser.proofs.Standing.{Turns, turns_token, turns_then, begins_token, begins_one, begins_no_more, begins_then}
 use Rattle.ar_parser.proofs.Turning.{turns_list, turns_placed, turns_tree}
@@ -110,7 +110,7 @@ type_named next ts h k l = one_as h (by_kind (kind_or next ts) (one_kind h) k l)
   where
     by_kind : (k : TokenKind) → is_type k ≡ true → k ≢ Reserved BOOLEAN → k ≢ Reserved INTEGER → k ≡ Name
     by_kind Name e b i = refl
-    by_kind (Reserved w) e b i = by_word (either (w == BOOLEAN) (w == INTEGER) e)
+    by_kind (Reserved w) e b i = by_word (or_cases (w == BOOLEAN) (w == INTEGER) e)
       where
         by_word : ((w == BOOLEAN) ≡ true) ⊎ ((w == INTEGER) ≡ true) → Reserved w ≡ Name
         by_word (inl q) = absurd (b (ap Reserved (eqb-true w BOOLEAN q)))
@@ -125,7 +125,7 @@ word_named next ts h k l = one_as h (by_kind (kind_or next ts) (one_kind h) k l)
   where
     by_kind : (k : TokenKind) → is_target_word k ≡ true → k ≢ Reserved INIT → k ≢ Reserved RESET → k ≡ Name
     by_kind Name e b i = refl
-    by_kind (Reserved w) e b i = by_word (either (w == INIT) (w == RESET) e)
+    by_kind (Reserved w) e b i = by_word (or_cases (w == INIT) (w == RESET) e)
       where
         by_word : ((w == INIT) ≡ true) ⊎ ((w == RESET) ≡ true) → Reserved w ≡ Name
         by_word (inl q) = absurd (b (ap Reserved (eqb-true w INIT q)))
@@ -215,7 +215,7 @@ pub part_must : (next : TokenKind) (ts : Tokens) → one_of is_part next ts → 
 part_must next ts h k = one_as h (by_kind (kind_or next ts) (one_kind h) k)
   where
     by_kind : (k : TokenKind) → is_part k ≡ true → k ≢ Sign EXCLAMATION → k ≡ Sign QUESTION
-    by_kind (Sign s) e n = by_either (either (s == EXCLAMATION) (s == QUESTION) e)
+    by_kind (Sign s) e n = by_either (or_cases (s == EXCLAMATION) (s == QUESTION) e)
       where
         by_either : ((s == EXCLAMATION) ≡ true) ⊎ ((s == QUESTION) ≡ true) → Sign s ≡ Sign QUESTION
         by_either (inl q) = absurd (n (ap Sign (eqb-true s EXCLAMATION q)))
@@ -234,7 +234,7 @@ pub turns_part : (p : Part) → Turns (IsPart p) part_text
 turns_part p = turns_then (turns_must p.must) (turns_path p.event)
 
 begins_part_from : (k : TokenKind) → is_part k ≡ true → begins_part k ≡ true
-begins_part_from (Sign s) e = by_either (either (s == EXCLAMATION) (s == QUESTION) e)
+begins_part_from (Sign s) e = by_either (or_cases (s == EXCLAMATION) (s == QUESTION) e)
   where
     by_either : ((s == EXCLAMATION) ≡ true) ⊎ ((s == QUESTION) ≡ true) → begins_part (Sign s) ≡ true
     by_either (inl q) = ap (λ (m : ℕ). begins_part (Sign m)) (eqb-true s EXCLAMATION q)
@@ -252,7 +252,7 @@ abbrev pub transition_rest : ℕ → Form
 transition_rest n = parts_text ∣ guarded_text n
 
 expr_no_part : (k : TokenKind) → begins_expr k ≡ true → begins_part k ≡ true → ⊥
-expr_no_part k h p = by_either (either (is_sign EXCLAMATION k) (is_sign QUESTION k) p)
+expr_no_part k h p = by_either (or_cases (is_sign EXCLAMATION k) (is_sign QUESTION k) p)
   where
     by_either : (is_sign EXCLAMATION k ≡ true) ⊎ (is_sign QUESTION k ≡ true) → ⊥
     by_either (inl q) = fails begins_expr h (sign_from EXCLAMATION k q) refl

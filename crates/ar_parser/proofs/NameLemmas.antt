@@ -229,7 +229,7 @@ lexemes_made bytes all found end ls old names h e n o =
 
 -- There is one numbering
 
-one_interned : (old t : _) (new new' : List (List ℕ)) → Interns old t new → Interns old t new' → new ≡ new'
+pub one_interned : (old t : _) (new new' : List (List ℕ)) → Interns old t new → Interns old t new' → new ≡ new'
 one_interned old t new new' (known h) (known k) = refl
 one_interned old t new new' (known h) (added k) = absurd (k.has_not h.place t h.stands refl)
 one_interned old t new new' (added k) (known h) = absurd (k.has_not h.place t h.stands refl)

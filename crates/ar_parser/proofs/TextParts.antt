@@ -1,7 +1,7 @@
 -- What a text of the grammar is, by its first token.
 use Rattle.std.proofs.Common.{◌≡◌, ◌≢◌, ℕ, zero, suc, ◌⊎◌, inl, inr, Bool, true, false, not, ◌||◌, ◌∷◌, ◌++◌, refl, sym, ap, ◌∙◌, subst, append_assoc}
 use Rattle.std.specs.Prelude.{if◌then◌else◌, ◌==◌}
-use Rattle.std.proofs.lemmas.Bool.{eqb-true}
+use Rattle.std.proofs.lemmas.Bool.{eqb-true, or_cases, or_right}
 use Rattle.ar_lexer.specs.declared.token.TokenKind.{TokenKind}
 use Rattle.ar_lexer.specs.declared.token.TokenKind.TheVariants.{Name, Whole, Real, Sign, Reserved, End}
 use Rattle.ar_lexer.specs.declared.signs.TheConstants.{COMMA, OPEN_BRACE, OPEN_PARENTHESIS, CLOSE_PARENTHESIS, COLON, CLOSE_BRACE, PLUS, MINUS}
@@ -19,7 +19,7 @@ use Rattle.ar_parser.specs.Chains.{separator_of, word_of, ends_operand, ends_cha
 use Rattle.ar_parser.specs.Texts.{one_of, path_text, plus_text, product_text, sum_text, relation_text, compare_text, or_text, if_text, switch_text, operands_text, primary_text, constant, path, brackets, call, switch, expr_text, not_text, minus_text, begins_constant, begins_call}
 use Rattle.ar_parser.specs.Results.{is_sign, is_word, begins_path, begins_primary, begins_minus, begins_not, begins_expr, begins_term, is_relation, anything, ends_product, ends_sum, ends_not, ends_expr, ends_list, ends_cases}
 use Rattle.ar_parser.proofs.Finding.{Follows, inside, kind_join, token_kind, then_kind, apart, fails, follows_many}
-use Rattle.ar_parser.proofs.ExpressionForms.{then_map, and_left, either, or_right, sign_from, word_from}
+use Rattle.ar_parser.proofs.ExpressionForms.{then_map, and_left, sign_from, word_from}
 use Rattle.ar_parser.proofs.ExpressionParts.{sep_ends, chain_ends, relation_ends, relation_is, relation_open, sum_ends}
 use Rattle.ar_parser.specs.Parts.{operand_text, chain_text, term_text, case_text}
 
@@ -59,7 +59,7 @@ path_starts test name owner main next ts h = ap test (first_of h) ∙ start_firs
 pub constant_primary : (k : TokenKind) → begins_constant k ≡ true → begins_primary k ≡ true
 constant_primary (Whole n) e = refl
 constant_primary Real e = refl
-constant_primary (Reserved w) e = by_either (either (w == TRUE) (w == FALSE) e)
+constant_primary (Reserved w) e = by_either (or_cases (w == TRUE) (w == FALSE) e)
   where
     by_either : ((w == TRUE) ≡ true) ⊎ ((w == FALSE) ≡ true) → begins_primary (Reserved w) ≡ true
     by_either (inl q) = ap (λ (m : ℕ). begins_primary (Reserved m)) (eqb-true w TRUE q)
@@ -69,14 +69,14 @@ constant_primary (Sign s) e = absurd (cc)
 constant_primary End e = absurd (cc)
 
 pub call_from : (k : TokenKind) → begins_call k ≡ true → (c : Call) × (k ≡ word_of c)
-call_from (Reserved w) e = by_either (either ((w == MIN) || (w == MAX)) (w == COUNT) e)
+call_from (Reserved w) e = by_either (or_cases ((w == MIN) || (w == MAX)) (w == COUNT) e)
   where
     by_first : ((w == MIN) ≡ true) ⊎ ((w == MAX) ≡ true) → (c : Call) × (Reserved w ≡ word_of c)
     by_first (inl q) = (Least, ap Reserved (eqb-true w MIN q))
     by_first (inr q) = (Greatest, ap Reserved (eqb-true w MAX q))
 
     by_either : (((w == MIN) || (w == MAX)) ≡ true) ⊎ ((w == COUNT) ≡ true) → (c : Call) × (Reserved w ≡ word_of c)
-    by_either (inl q) = by_first (either (w == MIN) (w == MAX) q)
+    by_either (inl q) = by_first (or_cases (w == MIN) (w == MAX) q)
     by_either (inr q) = (Count, ap Reserved (eqb-true w COUNT q))
 call_from Name e = absurd (cc)
 call_from (Whole n) e = absurd (cc)

@@ -1,7 +1,7 @@
 -- What is unread, piece by piece.
 use Rattle.std.proofs.Common.{◌≡◌, ◌≢◌, ℕ, zero, suc, ◌-◌, ◌≤◌, inl, inr, Bool, true, false, not, ◌&&◌, [], ◌∷◌, Result, Ok, Err, IfOk, refl, sym, ap, ◌∙◌, subst, arith, ◌++◌, Some, None}
 use Rattle.std.specs.Prelude.{◌==◌}
-use Rattle.std.proofs.lemmas.Bool.{eqb-true}
+use Rattle.std.proofs.lemmas.Bool.{eqb-true, and_from}
 use Rattle.std.proofs.Math.Numerals.{sub-one}
 use Rattle.ar_lexer.specs.declared.token.TokenKind.{TokenKind}
 use Rattle.ar_lexer.specs.declared.token.TokenKind.TheVariants.{Name, Whole, Real, Sign, Reserved, End}
@@ -37,7 +37,7 @@ unread_open k h = by_test (ends_unread k) refl
     by_test true e = let q : true ≡ false = sym h ∙ ap goes_unread (sign_from CLOSE_PARENTHESIS k e) in absurd (cc)
     by_test false e = refl
 
-plain_kind : (next : TokenKind) (ts : Tokens) → (h : plain_token next ts) → kind_or next ts ≡ h.one.kind
+pub plain_kind : (next : TokenKind) (ts : Tokens) → (h : plain_token next ts) → kind_or next ts ≡ h.one.kind
 plain_kind next ts h = ap (kind_or next) h.alone
 
 -- what goes on is no end
@@ -112,10 +112,6 @@ bracketed_inside (suc n) next ts h k = (n, refl, h)
 pub turns_many : {A B : Form} → Turns A B → Turns (many A) (many B)
 turns_many f = λ next next' ts h. turns_each (λ x. f) h.0 next next' ts h.1
 
-both : (p q : Bool) → p ≡ true → q ≡ true → (p && q) ≡ true
-both true q a b = b
-both false q a b = absurd (cc)
-
 other_sign : (s n : ℕ) → s ≢ n → not (s == n) ≡ true
 other_sign s n h = by_test (s == n) refl
   where
@@ -127,7 +123,7 @@ unread_from : (k : TokenKind) → k ≢ Sign OPEN_PARENTHESIS → k ≢ Sign CLO
 unread_from Name o c e = refl
 unread_from (Whole n) o c e = refl
 unread_from Real o c e = refl
-unread_from (Sign s) o c e = both (not (s == OPEN_PARENTHESIS)) (not (s == CLOSE_PARENTHESIS)) (other_sign s OPEN_PARENTHESIS (λ q. o (ap Sign q))) (other_sign s CLOSE_PARENTHESIS (λ q. c (ap Sign q)))
+unread_from (Sign s) o c e = and_from (not (s == OPEN_PARENTHESIS)) (not (s == CLOSE_PARENTHESIS)) (other_sign s OPEN_PARENTHESIS (λ q. o (ap Sign q))) (other_sign s CLOSE_PARENTHESIS (λ q. c (ap Sign q)))
 unread_from (Reserved w) o c e = refl
 unread_from End o c e = absurd (e refl)
 
@@ -258,8 +254,8 @@ kept_from : (k : TokenKind) → k ≢ Sign OPEN_PARENTHESIS → k ≢ Sign CLOSE
 kept_from Name o c e s = refl
 kept_from (Whole n) o c e s = refl
 kept_from Real o c e s = refl
-kept_from (Sign m) o c e s = both (not (m == OPEN_PARENTHESIS)) (not (m == CLOSE_PARENTHESIS) && not (m == SEMICOLON)) (other_sign m OPEN_PARENTHESIS (λ q. o (ap Sign q)))
-    (both (not (m == CLOSE_PARENTHESIS)) (not (m == SEMICOLON)) (other_sign m CLOSE_PARENTHESIS (λ q. c (ap Sign q))) (other_sign m SEMICOLON (λ q. s (ap Sign q))))
+kept_from (Sign m) o c e s = and_from (not (m == OPEN_PARENTHESIS)) (not (m == CLOSE_PARENTHESIS) && not (m == SEMICOLON)) (other_sign m OPEN_PARENTHESIS (λ q. o (ap Sign q)))
+    (and_from (not (m == CLOSE_PARENTHESIS)) (not (m == SEMICOLON)) (other_sign m CLOSE_PARENTHESIS (λ q. c (ap Sign q))) (other_sign m SEMICOLON (λ q. s (ap Sign q))))
 kept_from (Reserved w) o c e s = refl
 kept_from End o c e s = absurd (e refl)
 

@@ -3,11 +3,13 @@ use Rattle.std.proofs.Common.{◌≡◌, ℕ, Bool, true, false, not, List, [], 
 use Rattle.std.proofs.lemmas.List.{append-nil, append_cancel_left}
 use Rattle.ar_base.specs.Lists.{Along, none, one_and}
 use Rattle.ar_base.specs.declared.places.Place.{Place}
+use Rattle.ar_base.proofs.Truths.{not_true}
 use Rattle.ar_lexer.specs.declared.token.TokenKind.{TokenKind}
+use Rattle.ar_lexer.proofs.NumberLemmas.{cons_head}
 use Rattle.ar_parser.specs.declared.lexeme.Lexeme.{Lexeme}
 use Rattle.ar_parser.specs.Words.{Form, Tokens, kind_or, token, ◌▸◌, nothing, each, separated, groups, concat, standing, StandsAt}
 use Rattle.ar_parser.specs.Results.{kind_at, anything}
-use Rattle.ar_parser.proofs.Finding.{cons_head, kind_before, kind_join, token_kind}
+use Rattle.ar_parser.proofs.Finding.{kind_before, kind_join, token_kind}
 
 -- Both texts have these forms and end where they may: then R holds, and they have the same tokens.
 pub record Agree (ends : TokenKind → Bool) (A B : Form) (R : Type 0) : Type 0 where
@@ -50,11 +52,6 @@ first_any f = record { holds = λ next ts h s. f.holds next ts h refl }
 pub first_each : {X : Type 0} {One : X → Form} {ends test : TokenKind → Bool} → ((x : X) → First (One x) anything test) → ((k : TokenKind) → ends k ≡ true → test k ≡ true) → (xs : List X) → First (each One xs) ends test
 first_each f w [] = first_nothing w
 first_each f w (x ∷ xs) = first_front (f x)
-
--- a test that says nothing of the kinds that pass it
-pub sorted : (p : Bool) → not p ≡ true → p ≡ true → ⊥
-sorted true h k = absurd (cc)
-sorted false h k = absurd (cc)
 
 pub not_both : (p q : Bool) → (p ≡ true → q ≡ true → ⊥) → p ≡ true → not q ≡ true
 not_both p true f e = absurd (f e refl)
@@ -148,8 +145,8 @@ agree_standing {A = A} {B = B} {p = p} {q = q} f = record {
 pub agree_each : {X : Type 0} {One : X → Form} {ends ends' : TokenKind → Bool} {R : X → X → Type 0} → ((x y : X) → Agree ends (One x) (One y) (R x y)) →
     ((x : X) → First (One x) anything ends) → ((x : X) → First (One x) anything (other ends')) → ((k : TokenKind) → ends' k ≡ true → ends k ≡ true) → (xs ys : List X) → Agree ends' (each One xs) (each One ys) (Along R xs ys)
 agree_each item fits starts w [] [] = agree_map agree_nothing (λ u. none)
-agree_each {ends' = ends'} item fits starts w [] (y ∷ ys) = agree_apart (first_nothing {test = ends'} (λ k e. e)) (first_front (starts y)) (λ k e f. sorted (ends' k) f e)
-agree_each {ends' = ends'} item fits starts w (x ∷ xs) [] = agree_apart (first_front (starts x)) (first_nothing {test = ends'} (λ k e. e)) (λ k e f. sorted (ends' k) e f)
+agree_each {ends' = ends'} item fits starts w [] (y ∷ ys) = agree_apart (first_nothing {test = ends'} (λ k e. e)) (first_front (starts y)) (λ k e f. not_true (ends' k) f e)
+agree_each {ends' = ends'} item fits starts w (x ∷ xs) [] = agree_apart (first_front (starts x)) (first_nothing {test = ends'} (λ k e. e)) (λ k e f. not_true (ends' k) e f)
 agree_each item fits starts w (x ∷ xs) (y ∷ ys) = agree_map (agree_then (item x y) (first_each fits w xs) (first_each fits w ys) (agree_each item fits starts w xs ys)) (λ r. one_and r.0 r.1)
 
 pub agree_separated : {X : Type 0} {One : X → Form} {ends ends' : TokenKind → Bool} {R : X → X → Type 0} (separator : TokenKind) → ((x y : X) → Agree ends (One x) (One y) (R x y)) → ends separator ≡ true → ends' separator ≡ false →

@@ -12,12 +12,13 @@ use Rattle.ar_parser.specs.Expressions.{IsExpr}
 use Rattle.ar_parser.specs.Instructions.{IsSimpleOf, assign, tie, skip, simple, group, conditional, IsInstr}
 use Rattle.ar_parser.specs.Members.{plain_token, unread_piece, IsSingle, extends, boolean, clones, embeds, kept_value, parameter, observer, IsSection, IsKeyed, single, block, event, hide, IsMember, keyed, named, IsLater}
 use Rattle.std.specs.Prelude.{◌==◌}
-use Rattle.std.proofs.lemmas.Bool.{eqb-true}
+use Rattle.std.proofs.lemmas.Bool.{eqb-true, or_right, or_left}
 use Rattle.ar_parser.specs.Results.{goes_unread, is_name, begins_instr, begins_keyed, begins_member, begins_section, begins_later}
 use Rattle.ar_parser.proofs.Finding.{then_kind}
-use Rattle.ar_parser.proofs.ExpressionForms.{then_first, path_first, or_left, or_right}
+use Rattle.ar_parser.proofs.ExpressionForms.{then_first, path_first}
 use Rattle.ar_parser.proofs.InstrParts.{between_kind}
 use Rattle.ar_parser.proofs.BodyParts.{boolean_kind, named_kind}
+use Rattle.ar_parser.proofs.UnreadParts.{plain_kind}
 
 -- Instructions
 
@@ -65,9 +66,6 @@ later_first n Body next ts (ms, inl h) = or_left (begins_section (kind_or next t
 later_first n Body next ts (ms, inr h) = or_right (begins_section (kind_or next ts)) (begins_keyed (kind_or next ts)) (keyed_first n Body next ts (ms, h))
 
 -- Unread texts
-
-plain_kind : (next : TokenKind) (ts : Tokens) → (h : plain_token next ts) → kind_or next ts ≡ h.one.kind
-plain_kind next ts h = ap (kind_or next) h.alone
 
 by_eq : (s : ℕ) → s ≢ CLOSE_PARENTHESIS → not (s == CLOSE_PARENTHESIS) ≡ true
 by_eq s h = by_test (s == CLOSE_PARENTHESIS) refl

@@ -1,5 +1,6 @@
 -- Clauses, sections and bodies that begin alike, and end where they may, are one.
 use Rattle.std.proofs.Common.{◌≡◌, ℕ, zero, suc, inl, inr, Bool, true, not, List, [], ◌∷◌, ◌++◌, refl, sym, ap, ◌∙◌, subst, arith}
+use Rattle.std.proofs.lemmas.Bool.{or_cases, or_right, or_left}
 use Rattle.std.specs.Prelude.{◌==◌, if◌then◌else◌}
 use Rattle.ar_base.specs.Lists.{Along, none, one_and}
 use Rattle.ar_base.specs.declared.places.Place.{Place}
@@ -17,6 +18,7 @@ use Rattle.ar_syntax.specs.declared.members.TypeForm.TheVariants as type_form
 use Rattle.ar_syntax.specs.declared.members.TypeName.{TypeName}
 use Rattle.ar_syntax.specs.declared.members.Unit.{Unit as UnitTree}
 use Rattle.ar_base.specs.Numbers.{NameId}
+use Rattle.ar_base.proofs.Truths.{not_true}
 use Rattle.ar_parser.specs.Words.{Form, Tokens, kind_or, token, ◌▸◌, between, groups, covering}
 use Rattle.ar_parser.specs.Paths.{IsPlacedName, IsPath}
 use Rattle.ar_parser.specs.Expressions.{Node, IsExpr}
@@ -24,13 +26,13 @@ use Rattle.ar_parser.specs.Members.{IsTypeForm, IsType, IsEvent, IsDeclared, IsT
 use Rattle.ar_parser.specs.Members as grammar
 use Rattle.ar_parser.specs.Results.{kind_at, anything, is_word, ends_path, ends_attribute, ends_semicolon, ends_body, ends_members, ends_section, begins_instr, begins_keyed, begins_section, begins_later}
 use Rattle.ar_parser.proofs.Finding.{fails, token_kind, then_kind, kind_join}
-use Rattle.ar_parser.proofs.ExpressionForms.{either, or_left, or_right, sign_from, word_from}
+use Rattle.ar_parser.proofs.ExpressionForms.{sign_from, word_from}
 use Rattle.ar_parser.proofs.BodyParts.{section_ends_assertions, member_open, later_open}
 use Rattle.ar_readings.proofs.Firsts.{instr_first, section_first, keyed_first, member_first, later_first}
 use Rattle.ar_readings.specs.Expressions.{SamePath, SameExpr}
 use Rattle.ar_readings.specs.Members.{SameUnitBy, SameMemberBy, SameMemberToDepth, SameMember, SameUnit}
 use Rattle.ar_readings.specs.Members as same
-use Rattle.ar_readings.proofs.Agreeing.{Agree, First, other, first_token, first_front, first_nothing, first_each, sorted, not_both, meet, agree_map, agree_apart, agree_token, agree_then, agree_next, agree_closed, agree_each, agree_separated, agree_groups, along_map, along_append}
+use Rattle.ar_readings.proofs.Agreeing.{Agree, First, other, first_token, first_front, first_nothing, first_each, not_both, meet, agree_map, agree_apart, agree_token, agree_then, agree_next, agree_closed, agree_each, agree_separated, agree_groups, along_map, along_append}
 use Rattle.ar_readings.proofs.OnePath.{agree_placed, agree_path, placed_first}
 use Rattle.ar_readings.proofs.OneExpression.{agree_between, agree_expr}
 use Rattle.ar_readings.proofs.OneUnread.{agree_covering, agree_kept}
@@ -94,7 +96,7 @@ type_first t = record { holds = λ next ts h s. by_form t.form next ts h.form }
 
 kept_apart : (n : ℕ) (x y : NameId × Place) (s : Span) (t : TypeName) (e : RawExpr) → Agree anything (kept_form n x s) (token (Reserved words.PARAMETER) ▸ valued n t y e) ⊥
 kept_apart n x y s t e =
-    agree_map (agree_next (agree_token {ends = anything}) (agree_apart {R = ⊥} {test = is_word words.REAL} {test' = other (is_word words.REAL)} (first_front (first_token refl)) (first_front (type_first t)) (λ k p q. sorted (is_word words.REAL k) q p))) (λ r. r.1)
+    agree_map (agree_next (agree_token {ends = anything}) (agree_apart {R = ⊥} {test = is_word words.REAL} {test' = other (is_word words.REAL)} (first_front (first_token refl)) (first_front (type_first t)) (λ k p q. not_true (is_word words.REAL k) q p))) (λ r. r.1)
 
 single_case : (n : ℕ) (m m' : Member) (a b rest rest' : Tokens) (h : IsSingle n m (kind_at rest) a) (k : IsSingle n m' (kind_at rest') b) → a ++ rest ≡ b ++ rest' → word_of h ≡ word_of k → SameMember m m' × (a ≡ b)
 single_case n m m' a b rest rest' (extends name at u h) (extends name' at' u' k) e t =
@@ -214,7 +216,7 @@ module _ (n : ℕ) {Body : List Member → Form} (o : OneBody Body) where
   -- Sections
 
   no_step : (k : TokenKind) → begins_instr k ≡ true → other ends_section k ≡ true
-  no_step k h = not_both (begins_instr k) (ends_section k) (λ x y. sorted (begins_instr k) (section_ends_assertions k y) x) h
+  no_step k h = not_both (begins_instr k) (ends_section k) (λ x y. not_true (begins_instr k) (section_ends_assertions k y) x) h
 
   transition_first : (m : Member) → First (IsTransition n m) anything (other ends_section)
   transition_first m = record { holds = λ next ts h s. by_case next ts h }
@@ -238,7 +240,7 @@ module _ (n : ℕ) {Body : List Member → Form} (o : OneBody Body) where
   agree_section xs ys = record { holds = section_case xs ys }
 
   section_keyed : (k : TokenKind) → begins_section k ≡ true → begins_keyed k ≡ true → ⊥
-  section_keyed k h g = elim (either (is_word words.TRANSITION k) (is_word words.ASSERTION k) h) [ inl e ↦ fails begins_keyed g (word_from words.TRANSITION k e) refl | inr e ↦ fails begins_keyed g (word_from words.ASSERTION k e) refl ]
+  section_keyed k h g = elim (or_cases (is_word words.TRANSITION k) (is_word words.ASSERTION k) h) [ inl e ↦ fails begins_keyed g (word_from words.TRANSITION k e) refl | inr e ↦ fails begins_keyed g (word_from words.ASSERTION k e) refl ]
 
   first_section : {ends : TokenKind → Bool} (xs : List Member) → First (IsSection n xs) ends begins_section
   first_section xs = record { holds = λ next ts h s. section_first n next ts (xs, h) }

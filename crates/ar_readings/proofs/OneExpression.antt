@@ -5,6 +5,7 @@ use Rattle.std.proofs.lemmas.Bool.{eqb-true}
 use Rattle.ar_base.specs.Lists.{Along, none, one_and}
 use Rattle.ar_base.specs.declared.places.Place.{Place}
 use Rattle.ar_base.specs.declared.places.Span.{Span}
+use Rattle.ar_base.proofs.Truths.{not_true}
 use Rattle.ar_lexer.specs.declared.token.TokenKind.{TokenKind}
 use Rattle.ar_lexer.specs.declared.token.TokenKind.TheVariants.{Name, Whole, Real, Sign, Reserved, End}
 use Rattle.ar_lexer.specs.declared.signs.TheConstants.{OPEN_PARENTHESIS, CLOSE_PARENTHESIS, COMMA, EQUAL, DIFFERS, LESS, AT_MOST, MORE, PLUS, MINUS, STAR}
@@ -19,9 +20,10 @@ use Rattle.ar_parser.specs.Expressions.{Node, OneOrMore, one, more, IsProduct, I
 use Rattle.ar_parser.specs.Results.{kind_at, anything, is_sign, is_word, begins_minus, begins_not, begins_primary, ends_path, ends_product, ends_sum, ends_not, ends_and, ends_expr, ends_list, ends_cases}
 use Rattle.ar_parser.proofs.Finding.{fails, kind_before, token_kind, then_kind}
 use Rattle.ar_parser.proofs.ExpressionForms.{then_map, and_left, path_first, primary_first, compare_first, or_first, sign_from, word_from}
+use Rattle.ar_parser.proofs.ExpressionParts.{relation_ends}
 use Rattle.ar_readings.specs.Expressions.{SamePath, Listed, form_of, SameParts, SameToDepth}
 use Rattle.ar_readings.specs.Expressions as same
-use Rattle.ar_readings.proofs.Agreeing.{Agree, First, agree_all, other, first_token, first_front, first_nothing, first_each, sorted, agree_map, agree_turned, agree_ended, agree_told, agree_apart, agree_token, agree_then, agree_next, agree_closed, with_nothing, agree_each, agree_separated}
+use Rattle.ar_readings.proofs.Agreeing.{Agree, First, agree_all, other, first_token, first_front, first_nothing, first_each, agree_map, agree_turned, agree_ended, agree_told, agree_apart, agree_token, agree_then, agree_next, agree_closed, with_nothing, agree_each, agree_separated}
 use Rattle.ar_readings.proofs.OnePath.{agree_path}
 
 -- Texts of this form that begin alike and end where they may are one, with the same parts.
@@ -61,7 +63,7 @@ module _ {ends ends' : TokenKind → Bool} {Is : RawForm → Form} (k : Listed) 
   alone f (x ∷ []) l = absurd (omega (arith, l))
   alone f (x ∷ y ∷ ys) l =
       agree_told (agree_map (agree_then (o.agree 0 f x.form) (first_nothing w) (first_front (first_front (first_token e)))
-      (agree_apart {R = ⊥} {test = ends'} {test' = other ends'} (first_nothing (λ k e. e)) (first_front (first_front (first_token (ap not e')))) (λ k p q. sorted (ends' k) q p))) (λ r. r.1))
+      (agree_apart {R = ⊥} {test = ends'} {test' = other ends'} (first_nothing (λ k e. e)) (first_front (first_front (first_token (ap not e')))) (λ k p q. not_true (ends' k) q p))) (λ r. r.1))
       with_nothing (λ next ts h. then_map h (λ next ts g. g.form) (λ next ts g. g))
 
   chain_case : (d : ℕ) (f g : RawForm) (a b rest rest' : Tokens) → OneOrMore (form_of k) separator Is f (kind_at rest) a → OneOrMore (form_of k) separator Is g (kind_at rest') b → a ++ rest ≡ b ++ rest' → ends' (kind_at rest) ≡ true → ends' (kind_at rest') ≡ true → SameParts (SameToDepth d) f g × (a ≡ b)
@@ -110,7 +112,7 @@ module _ {P : RawForm → Form} (o : OneForm ends_product P) where
   one_term f (x ∷ []) l = absurd (omega (arith, l))
   one_term f ((p, x) ∷ y ∷ ys) l =
       agree_told (agree_map (agree_then (o.agree 0 f x.form) (first_nothing sum_product) (first_front (fits y))
-      (agree_apart {R = ⊥} {test = ends_sum} {test' = other ends_sum} (first_nothing (λ k e. e)) (first_front (starts y)) (λ k p q. sorted (ends_sum k) q p))) (λ r. r.1))
+      (agree_apart {R = ⊥} {test = ends_sum} {test' = other ends_sum} (first_nothing (λ k e. e)) (first_front (starts y)) (λ k p q. not_true (ends_sum k) q p))) (λ r. r.1))
       with_nothing (λ next ts h. then_map h.1 (λ next ts g. g.form) (λ next ts g. g))
 
   terms : (d : ℕ) (xs ys : List (Bool × RawExpr)) → Agree ends_sum (AreTerms P xs) (AreTerms P ys) (Along (λ s t. (s.0 ≡ t.0) × SameToDepth d s.1 t.1) xs ys)
@@ -152,14 +154,6 @@ number_of _ = 0
 same_relation : (r q : RawRelation) → Sign (sign_of r) ≡ Sign (sign_of q) → r ≡ q
 same_relation r q e = sym (relation_back r) ∙ ap (λ (k : TokenKind). relation_of (number_of k)) e ∙ relation_back q
 
-relation_ends : (r : RawRelation) → ends_sum (Sign (sign_of r)) ≡ true
-relation_ends relation.Equal = refl
-relation_ends relation.Differs = refl
-relation_ends relation.Less = refl
-relation_ends relation.AtMost = refl
-relation_ends relation.More = refl
-relation_ends relation.AtLeast = refl
-
 relation_starts : (r : RawRelation) → other ends_not (Sign (sign_of r)) ≡ true
 relation_starts relation.Equal = refl
 relation_starts relation.Differs = refl
@@ -175,7 +169,7 @@ module _ {S : RawForm → Form} (o : OneForm ends_sum S) where
   one_side : (f : RawForm) (r : RawRelation) (x y : RawExpr) → Agree ends_not (S f) (Node S x ▸ token (Sign (sign_of r)) ▸ Node S y) ⊥
   one_side f r x y =
       agree_told (agree_map (agree_then (o.agree 0 f x.form) (first_nothing not_sum) (first_front (first_token (relation_ends r)))
-      (agree_apart {R = ⊥} {test = ends_not} {test' = other ends_not} (first_nothing (λ k e. e)) (first_front (first_token (relation_starts r))) (λ k p q. sorted (ends_not k) q p))) (λ r. r.1))
+      (agree_apart {R = ⊥} {test = ends_not} {test' = other ends_not} (first_nothing (λ k e. e)) (first_front (first_token (relation_starts r))) (λ k p q. not_true (ends_not k) q p))) (λ r. r.1))
       with_nothing (λ next ts h. then_map h (λ next ts g. g.form) (λ next ts g. g))
 
   compare_case : (d : ℕ) (f g : RawForm) (a b rest rest' : Tokens) → IsCompare S f (kind_at rest) a → IsCompare S g (kind_at rest') b → a ++ rest ≡ b ++ rest' → ends_not (kind_at rest) ≡ true → ends_not (kind_at rest') ≡ true → SameParts (SameToDepth d) f g × (a ≡ b)

@@ -1,5 +1,6 @@
 -- The parts of members that begin alike are one.
 use Rattle.std.proofs.Common.{◌≡◌, ℕ, zero, suc, inl, inr, Bool, true, false, List, [], ◌∷◌, ◌++◌, Vec, refl, sym, ap, ◌∙◌}
+use Rattle.std.proofs.lemmas.Bool.{or_cases}
 use Rattle.std.specs.Prelude.{Option, if◌then◌else◌}
 use Rattle.std.specs.declared.alloc.Global.{Global}
 use Rattle.ar_base.specs.Lists.{Along, none}
@@ -28,7 +29,8 @@ use Rattle.ar_parser.specs.Instructions.{IsInstr}
 use Rattle.ar_parser.specs.Members.{IsTypeForm, IsType, IsWord, IsSetting, AreSettings, IsEvent, IsDeclared, IsPart, IsTransition, sync, local, IsAssertion, IsHidden}
 use Rattle.ar_parser.specs.Results.{kind_at, anything, is_sign, is_word, is_name, ends_path, ends_names, ends_expr, ends_list, ends_attribute, ends_semicolon, begins_expr, begins_part}
 use Rattle.ar_parser.proofs.Finding.{fails}
-use Rattle.ar_parser.proofs.ExpressionForms.{then_map, then_assoc, either, expr_first, sign_from, word_from}
+use Rattle.ar_parser.proofs.ExpressionForms.{then_map, then_assoc, expr_first, sign_from, word_from}
+use Rattle.ar_parser.proofs.MemberParts.{list_end, semicolon_path}
 use Rattle.ar_readings.specs.Expressions.{SameExpr, SameInstr}
 use Rattle.ar_readings.specs.Members.{SameSetting, SamePart, SameMemberBy, SameMemberToDepth, SameMember}
 use Rattle.ar_readings.specs.Members as same
@@ -84,14 +86,11 @@ agree_setting n s t =
     (agree_next agree_token (agree_expr n s.value t.value)))
     (λ r. record { target = along_equal r.0.1; place = r.0.0; value = r.1.1 })
 
-list_expr : (k : TokenKind) → ends_list k ≡ true → ends_expr k ≡ true
-list_expr k h = ap ends_expr (sign_from CLOSE_PARENTHESIS k h)
-
 agree_settings : (n : ℕ) (xs ys : List Setting) → Agree ends_semicolon (AreSettings n xs) (AreSettings n ys) (Along SameSetting xs ys)
 agree_settings n [] [] = agree_map agree_nothing (λ r. none)
 agree_settings n [] (y ∷ ys) = agree_apart {test = ends_semicolon} {test' = is_sign OPEN_PARENTHESIS} (first_nothing (λ k e. e)) (first_front (first_token refl)) (λ k x y. fails ends_semicolon x (sign_from OPEN_PARENTHESIS k y) refl)
 agree_settings n (x ∷ xs) [] = agree_apart {test = is_sign OPEN_PARENTHESIS} {test' = ends_semicolon} (first_front (first_token refl)) (first_nothing (λ k e. e)) (λ k x y. fails ends_semicolon y (sign_from OPEN_PARENTHESIS k x) refl)
-agree_settings n (x ∷ xs) (y ∷ ys) = agree_between (agree_separated {ends' = ends_list} (Sign COMMA) (agree_setting n) refl refl list_expr (x ∷ xs) (y ∷ ys)) refl
+agree_settings n (x ∷ xs) (y ∷ ys) = agree_between (agree_separated {ends' = ends_list} (Sign COMMA) (agree_setting n) refl refl list_end (x ∷ xs) (y ∷ ys)) refl
 
 -- Declarations
 
@@ -141,9 +140,6 @@ part_first p = first_front (first_token (must_begins p.must))
 agree_part : (p q : Part) → Agree ends_path (IsPart p) (IsPart q) (SamePart p q)
 agree_part p q = agree_map (agree_next (agree_token {ends = anything}) (agree_path p.event q.event)) (λ r. record { must = same_must p.must q.must r.0; event = r.1 })
 
-semicolon_path : (k : TokenKind) → ends_semicolon k ≡ true → ends_path k ≡ true
-semicolon_path k h = ap ends_path (sign_from SEMICOLON k h)
-
 -- the forms of the two kinds of transition, from the name on
 abbrev sync_form : (NameId × Place) → Vec Part Global → Form
 sync_form x parts = IsPlacedName x ▸ between (Sign COLON) (Sign SEMICOLON) (separated (Sign AMPERSAND) IsPart parts.items)
@@ -152,7 +148,7 @@ abbrev local_form : ℕ → (NameId × Place) → RawExpr → Instr → Form
 local_form n x guard action = IsPlacedName x ▸ between (Sign COLON) (Sign ARROW) (Node (IsExpr n) guard) ▸ IsInstr n action
 
 part_expr : (k : TokenKind) → begins_part k ≡ true → begins_expr k ≡ true → ⊥
-part_expr k h g = elim (either (is_sign EXCLAMATION k) (is_sign QUESTION k) h) [ inl e ↦ fails begins_expr g (sign_from EXCLAMATION k e) refl | inr e ↦ fails begins_expr g (sign_from QUESTION k e) refl ]
+part_expr k h g = elim (or_cases (is_sign EXCLAMATION k) (is_sign QUESTION k) h) [ inl e ↦ fails begins_expr g (sign_from EXCLAMATION k e) refl | inr e ↦ fails begins_expr g (sign_from QUESTION k e) refl ]
 
 sync_local : (n : ℕ) (x y : NameId × Place) (parts : Vec Part Global) (guard : RawExpr) (action : Instr) → Agree anything (sync_form x parts) (local_form n y guard action) ⊥
 sync_local n x y parts guard action =

@@ -15,15 +15,16 @@ use Rattle.ar_syntax.specs.declared.items.DomainDecl.{DomainDecl}
 use Rattle.ar_syntax.specs.declared.items.Item.{Item}
 use Rattle.ar_syntax.specs.declared.items.Item.TheVariants as item
 use Rattle.ar_base.specs.Numbers.{NameId}
+use Rattle.ar_base.proofs.Truths.{not_true}
 use Rattle.ar_parser.specs.Words.{Form, Tokens, kind_or, token, nothing, ◌▸◌, ◌∣◌}
 use Rattle.ar_parser.specs.Models.{IsWhole, IsBound, whole, negated, IsDomainBody, IsDomain, IsItem, AreItems, text_of, IsNumbered, name, other, AreNumbered}
 use Rattle.ar_parser.specs.Results.{kind_at, anything, is_sign, is_word, ends_item, is_end}
 use Rattle.ar_parser.proofs.Finding.{fails, token_kind, then_kind}
 use Rattle.ar_parser.proofs.ExpressionForms.{sign_from, word_from}
-use Rattle.ar_parser.proofs.NameLemmas.{one_lexing}
+use Rattle.ar_parser.proofs.NameLemmas.{one_lexing, one_interned}
 use Rattle.ar_readings.specs.Models.{SameDomain, SameDeclared, SameItem, SameModel, HasOneTree}
 use Rattle.ar_readings.specs.Models as same
-use Rattle.ar_readings.proofs.Agreeing.{Agree, First, first_token, first_front, first_nothing, first_each, first_weaker, sorted, not_both, meet, agree_map, agree_ended, agree_apart, agree_token, agree_nothing, agree_then, agree_next, agree_closed, agree_each}
+use Rattle.ar_readings.proofs.Agreeing.{Agree, First, first_token, first_front, first_nothing, first_each, first_weaker, not_both, meet, agree_map, agree_ended, agree_apart, agree_token, agree_nothing, agree_then, agree_next, agree_closed, agree_each}
 use Rattle.ar_readings.proofs.Agreeing as agreeing
 use Rattle.ar_readings.proofs.OnePath.{agree_placed, agree_names}
 use Rattle.ar_readings.proofs.OneExpression.{agree_between}
@@ -120,18 +121,12 @@ module _ (n : ℕ) where
 
 -- Names
 
-one_table : (old t : _) (new new' : List (List ℕ)) → Interns old t new → Interns old t new' → new ≡ new'
-one_table old t new new' (known h) (known k) = refl
-one_table old t new new' (known h) (added k) = absurd (k.has_not h.place t h.stands refl)
-one_table old t new new' (added k) (known h) = absurd (k.has_not h.place t h.stands refl)
-one_table old t new new' (added h) (added k) = refl
-
 one_names : (bytes : List ℕ) (ls : Tokens) (old new new' : List (List ℕ)) → AreNumbered bytes old ls new → AreNumbered bytes old ls new' → new ≡ new'
 one_names bytes [] old new new' h k = h ∙ sym k
 one_names bytes (l ∷ ls) old new new' h k = one_names bytes ls h.0 new new' h.2 (subst (λ (t : List (List ℕ)). AreNumbered bytes t ls new') (sym (step h.0 k.0 h.1 k.1)) k.2)
   where
     step : (a b : List (List ℕ)) → IsNumbered bytes old l a → IsNumbered bytes old l b → a ≡ b
-    step a b (name e i s) (name e' i' s') = one_table old (text_of bytes l) a b i i'
+    step a b (name e i s) (name e' i' s') = one_interned old (text_of bytes l) a b i i'
     step a b (name e i s) (other d f z) = absurd (d e)
     step a b (other d f z) (name e i s) = absurd (d e)
     step a b (other d f z) (other d' f' z') = f ∙ sym f'

@@ -3,17 +3,19 @@ use Rattle.std.proofs.Common.{◌≡◌, ◌≢◌, ℕ, zero, suc, inl, inr, Bo
 use Rattle.std.specs.Prelude.{Option, Some, None, ◌==◌}
 use Rattle.std.proofs.lemmas.Bool.{eqb-true}
 use Rattle.ar_base.specs.declared.places.Span.{Span}
+use Rattle.ar_base.proofs.Truths.{not_true}
 use Rattle.ar_lexer.specs.declared.token.TokenKind.{TokenKind}
 use Rattle.ar_lexer.specs.declared.token.TokenKind.TheVariants.{Name, Whole, Real, Sign, Reserved, End}
 use Rattle.ar_lexer.specs.declared.signs.TheConstants.{OPEN_PARENTHESIS, SEMICOLON}
+use Rattle.ar_lexer.proofs.NumberLemmas.{cons_head}
 use Rattle.ar_parser.specs.declared.lexeme.Lexeme.{Lexeme}
 use Rattle.ar_parser.specs.Words.{Form, Tokens, kind_or, token, ◌▸◌, many, covering, Covers}
 use Rattle.ar_parser.specs.Members.{plain_token, unread, unread_piece, IsAttribute, kept, kept_piece}
 use Rattle.ar_parser.specs.Results.{kind_at, anything, is_sign, ends_unread, ends_kept, ends_attribute}
-use Rattle.ar_parser.proofs.Finding.{cons_head, then_kind}
+use Rattle.ar_parser.proofs.Finding.{then_kind}
 use Rattle.ar_parser.proofs.UnreadParts.{unread_open}
 use Rattle.ar_readings.proofs.Firsts.{unread_first}
-use Rattle.ar_readings.proofs.Agreeing.{Agree, First, other, first_token, first_front, first_nothing, meet, sorted, agree_map, agree_apart, agree_nothing, agree_next, agree_each}
+use Rattle.ar_readings.proofs.Agreeing.{Agree, First, other, first_token, first_front, first_nothing, meet, agree_map, agree_apart, agree_nothing, agree_next, agree_each}
 use Rattle.ar_readings.proofs.OneExpression.{agree_between, one_span}
 
 differs : (n : ℕ) (k : TokenKind) → k ≢ Sign n → other (is_sign n) k ≡ true
@@ -71,9 +73,9 @@ agree_covering f s t = record {
 pub agree_attribute : (n : ℕ) (x y : Option Span) → Agree ends_attribute (IsAttribute n x) (IsAttribute n y) (x ≡ y)
 agree_attribute n None None = agree_map agree_nothing (λ r. refl)
 agree_attribute zero None (Some t) = record { holds = λ a b rest rest' h j e s s'. elim j [ ] }
-agree_attribute (suc n) None (Some t) = agree_apart {test = ends_attribute} {test' = other ends_attribute} (first_nothing (λ k e. e)) (first_front (first_token refl)) (λ k p q. sorted (ends_attribute k) q p)
+agree_attribute (suc n) None (Some t) = agree_apart {test = ends_attribute} {test' = other ends_attribute} (first_nothing (λ k e. e)) (first_front (first_token refl)) (λ k p q. not_true (ends_attribute k) q p)
 agree_attribute zero (Some s) y = record { holds = λ a b rest rest' h j e x x'. elim h [ ] }
-agree_attribute (suc n) (Some s) None = agree_apart {test = other ends_attribute} {test' = ends_attribute} (first_front (first_token refl)) (first_nothing (λ k e. e)) (λ k p q. sorted (ends_attribute k) p q)
+agree_attribute (suc n) (Some s) None = agree_apart {test = other ends_attribute} {test' = ends_attribute} (first_front (first_token refl)) (first_nothing (λ k e. e)) (λ k p q. not_true (ends_attribute k) p q)
 agree_attribute (suc n) (Some s) (Some t) = agree_map (agree_between (agree_covering (agree_unread n (agree_piece n)) s t) refl) (λ r. ap Some r)
 
 -- Kept texts

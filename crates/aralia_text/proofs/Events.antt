@@ -4,6 +4,7 @@ use Rattle.std.proofs.lemmas.List.{append_cancel_left, length-take-le, length-dr
 use Rattle.ar_base.specs.Lists.{Stands, HasNo, AreDifferent}
 use Rattle.ar_base.specs.Texts.{text_at}
 use Rattle.ar_base.proofs.Standing.{stands_one, stands_within, at_most}
+use Rattle.ar_base.proofs.Comparing.{side}
 use Rattle.aralia_text.specs.Readings.{is_path_byte, IsPath}
 use Rattle.aralia_text.specs.Fronts.{Stops, IsAny, BeginAlike, IsRead, AreBegun, none, part, IsStuck, IsStuckIn, AreCommon, IsPathOf, event_text, HasNoEvent, IsEventPart}
 use Rattle.aralia_text.proofs.Runs.{IsRun, run_path, run_left, path_unique, path_byte}
@@ -12,12 +13,6 @@ use Rattle.aralia_text.proofs.Stuck.{alike_stops, stops_alike, alike_head, Compa
 -- the text of what stands there
 pub text_is : (events : List (List ℕ)) (e : ℕ) (path : List ℕ) → Stands events e path → text_at events e ≡ path
 text_is events e path s = ap (λ (z : _). unwrap_or z []) s
-
--- which of two numbers is not above the other
-at_least : (k m : ℕ) → (k ≤ m) ⊎ (m < k)
-at_least zero m = inl (omega arith)
-at_least (suc k) zero = inr (omega arith)
-at_least (suc k) (suc m) = elim (at_least k m) [ inl l ↦ inl (omega (arith, l)) | inr l ↦ inr (omega (arith, l)) ]
 
 module _ (events : List (List ℕ)) (rest : List ℕ) where
   module _ (behind run left : List ℕ) (begun : rest ≡ codes "e." ++ behind) (cut : IsRun behind run left) where
@@ -136,7 +131,7 @@ module _ (events : List (List ℕ)) (rest : List ℕ) where
     part_more is =
         let above : most ≤ new = omega (arith, is) in
         let over : k ≤ new = omega (arith, is) in
-        more above over (which (at_least k most))
+        more above over (which (side k most))
       where
         which : (k ≤ most) ⊎ (most < k) → (new ≡ most) ⊎ (new ≡ k)
         which (inl l) = inl (omega (arith, is, l))

@@ -5,7 +5,7 @@ mod Numbers
 mod Operands
 mod Joints
 mod GateLines
-mod Results
+pub mod Results
 mod Tables
 mod TableLines
 mod Interning

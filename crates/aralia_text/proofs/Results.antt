@@ -6,10 +6,6 @@ use Rattle.aralia_text.specs.declared.fronts.Stuck.{Stuck}
 use Rattle.aralia_text.specs.declared.gates.Stop.{Stop}
 use Rattle.aralia_text.specs.declared.gates.Stop.TheVariants as stop
 
-pub ok_map : {A E : Type 0} {P Q : A → Type 0} (r : Result A E) → ((a : A) → P a → Q a) → IfOk r P → IfOk r Q
-ok_map (Ok a) f h = f a h
-ok_map (Err e) f h = tt
-
 pub err_map : {A E : Type 0} {P Q : E → Type 0} (r : Result A E) → ((e : E) → P e → Q e) → IfErr r P → IfErr r Q
 err_map (Ok a) f h = tt
 err_map (Err e) f h = f e h

@@ -8,11 +8,11 @@ use Rattle.ar_syntax.specs.declared.instructions.Instr.TheOpen as instr
 use Rattle.ar_syntax.specs.declared.paths.Path.{Path}
 use Rattle.domains.specs.declared.Value.{Value}
 use Rattle.typed_expr.specs.declared.expr.Expr.{Expr, Variable}
+use Rattle.typed_expr.proofs.Opened.{opened-variable}
 use Rattle.gts_core.specs.declared.bound.Act.{Act, Skip, Set, out-Act, roll-Act, out-roll-Act}
 use Rattle.gts_core.specs.declared.bound.Act.TheOpen as act
 use Rattle.gts_core.specs.declared.bound.Act.TheViews.{All, outs-All}
 use Rattle.class_table.proofs.Taken.{take_item}
-use Rattle.bind_expressions.proofs.Becoming.{opened_variable}
 use Rattle.bind_expressions.specs.Translating.{BecomesBy}
 use Rattle.bind_expressions.specs.declared.naming.Leaf.{Leaf}
 use Rattle.bind_expressions.specs.declared.naming.Leaf.TheVariants as leaf
@@ -29,7 +29,7 @@ unfolding roll-Act out-Act denote.Hole.Carrier.roll
 opened_set x e p = out-roll-Act (act.Set x e p)
 
 pub set_one : (x : VarId) (at : Place) (y : VarId) → SetsTo x at y (Set x (Variable y) at)
-set_one x at y = record { value = Variable y; names = opened_variable y; is = opened_set x (Variable y) at }
+set_one x at y = record { value = Variable y; names = opened-variable y; is = opened_set x (Variable y) at }
 
 pub set_both : (x : VarId) (at : Place) (y : VarId) (other : Place) (v : Vec Act Global) (b c : Act) → v.items ≡ b ∷ c ∷ [] → SetsTo x at y b → SetsTo y other x c → SetsBoth x at y other (All v)
 set_both x at y other v b c e h k = record { acts = v; is = outs-All v; first = b; second = c; are = e; sets_first = h; sets_second = k }
@@ -76,11 +76,6 @@ module _ (leaves : Path → Leaf) where
 
   pub all_start : (v : List Act) → v ≡ [] → All_act leaves [] v
   all_start v j = subst (λ (z : List Act). All_act leaves [] z) (sym j) acts.none
-
--- what an answer gives, where what it gives is right
-pub ok_as : {A E : Type 0} {P Q : A → Type 0} (r : Result A E) → ((a : A) → P a → Q a) → IfOk r P → IfOk r Q
-ok_as (Ok a) f h = f a h
-ok_as (Err e) f h = h
 
 -- two items put behind none
 pub two_items : (xs ys zs : List Act) (b c : Act) → xs ≡ [] → ys ≡ xs ++ b ∷ [] → zs ≡ ys ++ c ∷ [] → zs ≡ b ∷ c ∷ []

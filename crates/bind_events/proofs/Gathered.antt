@@ -1,13 +1,16 @@
 -- Events that are given their ways member by member.
 use Rattle.std.proofs.Common.{◌≡◌, ℕ, zero, suc, ◌+◌, ◌<◌, ◌≤◌, ◌==◌, ◌⊎◌, inl, inr, true, false, List, [], ◌∷◌, ◌++◌, filter, length, set, refl, sym, ◌∙◌, ap, subst, arith, length-set, append_assoc}
 use Rattle.std.proofs.lemmas.List.Elements.{filter-append}
+use Rattle.std.proofs.lemmas.List.{append-nil}
 use Rattle.ar_base.specs.Lists.{Stands, Along, AreDifferent, none, one_and}
 use Rattle.ar_base.proofs.Standing.{stands_one, stands_within, along_on, along_length}
+use Rattle.ar_base.proofs.Comparing.{side}
+use Rattle.ar_base.proofs.Items.{stands_set, along_by}
 use Rattle.ar_syntax.specs.declared.paths.PathStart.TheVariants.{Here}
 use Rattle.gts_core.specs.declared.bound.DeclaredEvent.{DeclaredEvent}
 use Rattle.gts_core.specs.declared.bound.DeclaredWay.{DeclaredWay}
 use Rattle.class_table.specs.Declaring.{MemberForm}
-use Rattle.class_table.proofs.Laid.{append_none, along_append}
+use Rattle.class_table.proofs.Laid.{along_append}
 use Rattle.hierarchy.specs.Models.{RootedModel}
 use Rattle.hierarchy.specs.Units.{UnitPath, Thing}
 use Rattle.hierarchy.specs.Walks.{IsThingAt, LeadsTo, thing, is_event}
@@ -15,7 +18,7 @@ use Rattle.hierarchy.specs.Listing.{events, forms_at, is_way_of, things_in}
 use Rattle.hierarchy.specs.Tie.{IsTreeOf}
 use Rattle.hierarchy.specs.declared.tree.Tree.{Tree}
 use Rattle.hierarchy.proofs.Apart.{units_different}
-use Rattle.hierarchy.proofs.Finding.{same_or_not, side}
+use Rattle.hierarchy.proofs.Finding.{same_or_not}
 use Rattle.hierarchy.proofs.Things.{flat_origin, listed_has}
 use Rattle.source_meaning.proofs.Different.{things_different}
 use Rattle.bind_scopes.proofs.NamedPaths.{name_leads, name_only}
@@ -30,23 +33,12 @@ both v w x y e i = cc
 
 -- Lists
 
-stands_set_here : {A : Type 0} (xs : List A) (i : ℕ) (v : A) → i < length xs → Stands (set xs i v) i v
-stands_set_here [] i v l = absurd (omega (arith, l))
-stands_set_here (x ∷ xs) zero v l = refl
-stands_set_here (x ∷ xs) (suc i) v l = stands_set_here xs i v (omega (arith, l))
-
 stands_set_else : {A : Type 0} (xs : List A) (i : ℕ) (v : A) (k : ℕ) (a : A) → (k ≡ i → ⊥) → Stands xs k a → Stands (set xs i v) k a
 stands_set_else [] i v k a d s = s
 stands_set_else (x ∷ xs) zero v zero a d s = absurd (d refl)
 stands_set_else (x ∷ xs) zero v (suc k) a d s = s
 stands_set_else (x ∷ xs) (suc i) v zero a d s = s
 stands_set_else (x ∷ xs) (suc i) v (suc k) a d s = stands_set_else xs i v k a (λ e. d (ap (λ (z : ℕ). suc z) e)) s
-
-along_by : {A B : Type 0} (R : A → B → Type 0) (xs : List A) (ys : List B) → length xs ≡ length ys → ((n : ℕ) (a : A) (b : B) → Stands xs n a → Stands ys n b → R a b) → Along R xs ys
-along_by R [] [] l f = none
-along_by R [] (y ∷ ys) l f = absurd (omega (arith, l))
-along_by R (x ∷ xs) [] l f = absurd (omega (arith, l))
-along_by R (x ∷ xs) (y ∷ ys) l f = one_and (f 0 x y refl refl) (along_by R xs ys (omega (arith, l)) (λ n a b p q. f (suc n) a b p q))
 
 module _ (m : RootedModel) (units : List UnitPath) (tree : Tree) where
   -- the ways stay where the members that are added are no ways of the event
@@ -59,7 +51,7 @@ module _ (m : RootedModel) (units : List UnitPath) (tree : Tree) where
       head = h.has.head;
       few = h.has.few;
       ways = subst (λ (fs : List MemberForm). Along (IsBoundWay m units tree t.unit) fs h.event.ways.items)
-          (sym (filter-append (is_way_of t.name) before forms ∙ (ap (λ (fs : List MemberForm). filter (is_way_of t.name) before ++ fs) e ∙ append_none (filter (is_way_of t.name) before)))) h.has.ways;
+          (sym (filter-append (is_way_of t.name) before forms ∙ (ap (λ (fs : List MemberForm). filter (is_way_of t.name) before ++ fs) e ∙ append-nil (filter (is_way_of t.name) before)))) h.has.ways;
     };
   }
 
@@ -118,7 +110,7 @@ module _ (m : RootedModel) (units : List UnitPath) (tree : Tree) where
         along_append (filter (is_way_of t.name) before) p.event.ways.items (f ∷ []) (w ∷ []) ways (one_and here none) in
         record {
           event = this;
-          stands = subst (λ (zs : List DeclaredEvent). Stands zs k this) (sym p.new_is) (stands_set_here old k this (stands_within old k p.event p.stands));
+          stands = subst (λ (zs : List DeclaredEvent). Stands zs k this) (sym p.new_is) (stands_set old k this (stands_within old k p.event p.stands));
           has = record {
             head = record { path = head.path; unit = head.unit; hidden = head.hidden };
             few = p.few;

@@ -1,17 +1,17 @@
 -- Marks of events.
 use Rattle.std.proofs.Common.{◌≡◌, ℕ, zero, suc, ◌+◌, ◌<◌, ◌⊎◌, inl, inr, Bool, true, false, List, [], ◌∷◌, ◌++◌, take, set, length, replicate, Some, refl, sym, ◌∙◌, ap, subst, arith, length-set}
 use Rattle.std.specs.List.{flat_map}
-use Rattle.std.proofs.lemmas.List.{length-replicate}
+use Rattle.std.proofs.lemmas.List.{length-replicate, append-nil}
 use Rattle.std.proofs.lemmas.List.Concat.{flat_map-append}
 use Rattle.ar_base.specs.Lists.{Stands, IsOneOf, AreDifferent}
 use Rattle.ar_base.proofs.Standing.{stands_one, stands_none, stands_within, stands_map, stands_map_back, one_none, one_cases, one_first, one_split, one_left, one_right, one_here}
+use Rattle.ar_base.proofs.Items.{last_one}
 use Rattle.ar_meaning.specs.Found.{IsAnswer}
 use Rattle.ar_syntax.specs.declared.members.Member.TheOpen as member
 use Rattle.ar_syntax.specs.declared.paths.Path.{Path}
 use Rattle.ar_syntax.specs.declared.paths.PathStart.{PathStart}
 use Rattle.class_table.specs.Declaring.{MemberForm}
 use Rattle.class_table.specs.Members.{MemberKind}
-use Rattle.class_table.proofs.Laid.{append_none}
 use Rattle.class_table.proofs.Taken.{stands_set, take_next}
 use Rattle.hierarchy.specs.Models.{RootedModel}
 use Rattle.hierarchy.specs.Units.{UnitPath, Thing, start_of}
@@ -22,18 +22,6 @@ use Rattle.source_meaning.specs.Systems.{IsHidden}
 use Rattle.bind_events.specs.Hiding.{HidesIn, Marks, AreHidden}
 
 -- Names name one thing
-
-last_one : {A : Type 0} (xs ys : List A) (a b : A) → xs ++ a ∷ [] ≡ ys ++ b ∷ [] → (xs ≡ ys) × (a ≡ b)
-last_one [] [] a b e = (refl, cc)
-last_one [] (y ∷ []) a b e = cc
-last_one [] (y ∷ z ∷ ys) a b e = cc
-last_one (x ∷ []) [] a b e = cc
-last_one (x ∷ z ∷ xs) [] a b e = cc
-last_one (x ∷ xs) (y ∷ ys) a b e =
-    let r = last_one xs ys a b (cc) in
-    let i = r.0 in
-    let j : x ≡ y = cc in
-    (cc, r.1)
 
 pub one_thing : {m : RootedModel} {u : UnitPath} {start : PathStart} (test : MemberKind → Bool) (names : List ℕ) (t s : Thing)
     → IsThingAt m test u start names t → IsThingAt m test u start names s → t ≡ s
@@ -164,7 +152,7 @@ module _ (m : RootedModel) (units : List UnitPath) (i : ℕ) (u : UnitPath) (at 
   paths_next =
       let f = λ (v : UnitPath). all_in v (flat_map hidden (forms_at m v)) in
       ap (flat_map f) (take_next units i u at)
-      ∙ (flat_map-append f (take i units) (u ∷ []) ∙ ap (λ (cs : List (In Path)). flat_map f (take i units) ++ cs) (append_none (f u)))
+      ∙ (flat_map-append f (take i units) (u ∷ []) ∙ ap (λ (cs : List (In Path)). flat_map f (take i units) ++ cs) (append-nil (f u)))
 
   pub hidden_next : (t : Thing) → IsHidden m (take i units) t ⊎ HidesIn m u (forms_at m u) t → IsHidden m (take (i + 1) units) t
   hidden_next t (inl h) = record {

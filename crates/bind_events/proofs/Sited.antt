@@ -2,12 +2,12 @@
 use Rattle.std.proofs.Common.{◌≡◌, ℕ, ◌+◌, List, [], ◌∷◌, ◌++◌, map, take, ◌∙◌, ap}
 use Rattle.std.specs.List.{flat_map}
 use Rattle.std.proofs.lemmas.List.Concat.{flat_map-append}
+use Rattle.std.proofs.lemmas.List.{append-nil}
 use Rattle.ar_base.specs.Lists.{Stands}
 use Rattle.ar_base.specs.Numbers.{BodyId}
 use Rattle.class_table.specs.Declaring.{Declared, MemberForm}
 use Rattle.class_table.specs.Members.{Site, owned_at}
 use Rattle.class_table.specs.Tables.{site_of}
-use Rattle.class_table.proofs.Laid.{append_none}
 use Rattle.class_table.proofs.Taken.{map_next}
 use Rattle.hierarchy.specs.Listing.{form_of}
 
@@ -21,4 +21,4 @@ sites_next d sites i s at =
     let f = λ (t : Site). form_of (owned_at d t) in
     let before = map site_of (take i sites) in
     ap (flat_map f) (map_next site_of sites i s at)
-    ∙ (flat_map-append f before (site_of s ∷ []) ∙ ap (λ (fs : List MemberForm). flat_map f before ++ fs) (append_none (f (site_of s))))
+    ∙ (flat_map-append f before (site_of s ∷ []) ∙ ap (λ (fs : List MemberForm). flat_map f before ++ fs) (append-nil (f (site_of s))))

@@ -15,31 +15,24 @@ use Rattle.typed_expr.specs.declared.expr.Relation.{Relation}
 use Rattle.typed_expr.specs.declared.expr.Expr.{Expr, Constant, Variable, out-Expr, roll-Expr, out-roll-Expr}
 use Rattle.typed_expr.specs.declared.expr.Expr.TheOpen as form
 use Rattle.typed_expr.specs.declared.expr.Expr.TheViews.{Not, All, Any, Compare, Sum, Product, Least, Greatest, Count, Choose, outs-Not, outs-All, outs-Any, outs-Compare, outs-Sum, outs-Product, outs-Least, outs-Greatest, outs-Count, outs-Choose}
+use Rattle.typed_expr.proofs.Opened.{opened-constant}
 use Rattle.bind_expressions.specs.Operands.{RawLevel, level_of}
 use Rattle.bind_expressions.specs.Translating.{relation_of, leaf_level, StandsFor, BecomesBy, All_become_by, Parts_become_by, Cases_become_by, Becomes}
 use Rattle.bind_expressions.specs.Translating as t
 use Rattle.bind_expressions.specs.declared.naming.Leaf.{Leaf}
-
-pub opened_constant : (v : Value) → out-Expr VarId (Constant v) ≡ form.Constant v
-unfolding roll-Expr out-Expr denote.Hole.Carrier.roll
-opened_constant v = out-roll-Expr VarId (form.Constant v)
-
-pub opened_variable : (x : VarId) → out-Expr VarId (Variable x) ≡ form.Variable x
-unfolding roll-Expr out-Expr denote.Hole.Carrier.roll
-opened_variable x = out-roll-Expr VarId (form.Variable x)
 
 module _ (leaves : Path → Leaf) where
   as_one : (r : RawExpr) (e : Expr VarId) (x : RawLevel) (y : Level VarId) → level_of r ≡ x → out-Expr VarId e ≡ y → Becomes (StandsFor leaves) x y → BecomesBy leaves r e
   as_one r e x y i j h = subst (λ z. Becomes (StandsFor leaves) z (out-Expr VarId e)) (sym i) (subst (λ z. Becomes (StandsFor leaves) x z) (sym j) h)
 
   pub truth_becomes : (r : RawExpr) (b : Bool) → r.form ≡ written.Truth b → BecomesBy leaves r (Constant (value.Truth b))
-  truth_becomes r b i = as_one r _ (raw.Truth b) (form.Constant (value.Truth b)) (opened.form-truth _ _ i) (opened_constant (value.Truth b)) t.truth
+  truth_becomes r b i = as_one r _ (raw.Truth b) (form.Constant (value.Truth b)) (opened.form-truth _ _ i) (opened-constant (value.Truth b)) t.truth
 
   pub whole_becomes : (r : RawExpr) (n : ℤ) (e : Expr VarId) → r.form ≡ written.Whole n → out-Expr VarId e ≡ form.Constant (value.Whole n) → BecomesBy leaves r e
   whole_becomes r n e i h = as_one r e (raw.Whole n) (form.Constant (value.Whole n)) (opened.form-whole _ _ i) h t.whole
 
   pub real_becomes : (r : RawExpr) → r.form ≡ written.Real → BecomesBy leaves r (Constant (value.Whole (pos 0)))
-  real_becomes r i = as_one r _ raw.Real (form.Constant (value.Whole (pos 0))) (opened.form-real _ i) (opened_constant (value.Whole (pos 0))) t.real
+  real_becomes r i = as_one r _ raw.Real (form.Constant (value.Whole (pos 0))) (opened.form-real _ i) (opened-constant (value.Whole (pos 0))) t.real
 
   pub path_becomes : (r : RawExpr) (p : Path) (l : Leaf) (e : Expr VarId) → r.form ≡ written.Path p → l ≡ leaves p → out-Expr VarId e ≡ leaf_level l → BecomesBy leaves r e
   path_becomes r p l e i j h = as_one r e (raw.Path p) (leaf_level l) (opened.form-path _ _ i) h (t.path (ap leaf_level (sym j)))

@@ -3,11 +3,12 @@ use Rattle.std.proofs.Common.{◌≡◌, Bool, true, false, Option, Some, None, 
 use Rattle.ar_base.specs.Lists.{IsOneOf}
 use Rattle.ar_base.specs.declared.places.Place.{Place}
 use Rattle.ar_base.proofs.Standing.{one_none}
+use Rattle.ar_base.proofs.Comparing.{not_before}
 use Rattle.ar_syntax.specs.declared.expressions.RawExpr.{RawExpr}
 use Rattle.ar_syntax.specs.declared.expressions.RawForm.TheOpen as raw
 use Rattle.ar_syntax.specs.declared.paths.Path.{Path}
 use Rattle.class_table.specs.Earliest.{IsEarliest, nowhere, there, IsEarlierOf}
-use Rattle.class_table.proofs.FirstPlaces.{earliest_same, not_before}
+use Rattle.class_table.proofs.FirstPlaces.{earliest_same}
 use Rattle.ar_syntax.specs.declared.expressions.RawRelation.{RawRelation}
 use Rattle.typed_expr.specs.declared.expr.ValueKind.TheVariants.{Whole}
 use Rattle.bind_expressions.specs.Operands.{RawLevel, level_of, AnyKind, OfKind, Like, Operand, wanting, is_equality, sides_by, operands_of, PathIn}
@@ -54,3 +55,7 @@ module _ (may : Path → Type 0) where
       by : (equal : Bool) → IsEarliest (Among (MisnamedOperand may) (sides_by equal a.value b.value)) h
       by true = two_among (MisnamedOperand may) (wanting AnyKind a.value) (wanting (Like a.value) b.value) f g h k m o
       by false = two_among (MisnamedOperand may) (wanting (OfKind Whole) a.value) (wanting (OfKind Whole) b.value) f g h k m o
+
+-- what may be named less may be misnamed more
+pub misnamed_move : {may other : Path → Type 0} {l : RawLevel} {at : Place} → ((p : Path) → other p → may p) → IsMisnamed may l at → IsMisnamed other l at
+misnamed_move from h = record { path = h.path; is_in = h.is_in; not = λ m. h.not (from h.path m); place = h.place }

@@ -2,13 +2,14 @@
 use Rattle.std.proofs.Common.{◌≡◌, ◌⊎◌, inl, inr, Bool, true, false, List, [], ◌∷◌, ◌++◌, Option, Some, None, Box, Vec, Global, refl, sym, ◌∙◌, ap, subst}
 use Rattle.ar_base.specs.Lists.{IsOneOf}
 use Rattle.ar_base.specs.declared.places.Place.{Place}
+use Rattle.ar_base.proofs.Comparing.{not_before}
 use Rattle.ar_syntax.specs.declared.expressions.RawExpr.{RawExpr}
 use Rattle.ar_syntax.specs.declared.expressions.RawForm.TheOpen as raw
 use Rattle.ar_syntax.specs.declared.paths.Path.{Path}
 use Rattle.typed_expr.specs.declared.expr.ValueKind.{ValueKind}
 use Rattle.typed_expr.specs.declared.expr.ValueKind.TheVariants.{Whole}
 use Rattle.class_table.specs.Earliest.{IsEarliest, nowhere, there, IsEarlierOf, no_first, no_second}
-use Rattle.class_table.proofs.FirstPlaces.{earliest_both, earliest_same, not_before}
+use Rattle.class_table.proofs.FirstPlaces.{earliest_both, earliest_same}
 use Rattle.bind_expressions.specs.Operands.{RawLevel, level_of, Demand, AnyKind, OfKind, Like, Operand, wanting, tests, branches, first_branch, sides_by, choices, operands_of}
 use Rattle.bind_expressions.specs.Forms.{HasForm, IsFormOf}
 use Rattle.bind_expressions.specs.Wrong.{Names, IsWanted, this, that_of, IsMistyped, demanding, AreTwo, two, AreWanted, IsWrongItself, Among, MistypedOperand}

@@ -27,7 +27,7 @@ use Rattle.bind_expressions.specs.Translating as t
 use Rattle.bind_expressions.proofs.KindsFound.{one_form, one_named}
 use Rattle.bind_expressions.proofs.OperandLists.{mapped_one, test_one, branch_one, other_one, first_one}
 
-same_kind : (j k : ValueKind) → (j ≡ k) ⊎ (j ≡ k → ⊥)
+pub same_kind : (j k : ValueKind) → (j ≡ k) ⊎ (j ≡ k → ⊥)
 same_kind Truth Truth = inl refl
 same_kind Truth Whole = inr (λ e. cc)
 same_kind Truth Symbol = inr (λ e. cc)

@@ -30,6 +30,7 @@ use Rattle.hierarchy.specs.Listing.{variables}
 use Rattle.hierarchy.specs.Settings.{TargetWord, Named, Init, Reset, target_of, is_init, is_reset, is_state, is_flow, is_state_variable, is_flow_variable}
 use Rattle.hierarchy.specs.declared.tree.VarNode.{VarNode}
 use Rattle.hierarchy.specs.declared.tree.Tree.{Tree}
+use Rattle.hierarchy.proofs.TargetWords.{no_init, no_state}
 use Rattle.source_meaning.specs.Kinds.{HasKindAt}
 use Rattle.source_meaning.specs.Kinds as k
 use Rattle.source_meaning.specs.Rules.{IsNot, Is}
@@ -43,6 +44,7 @@ use Rattle.bind_expressions.specs.Wrong.{IsMisnamed, IsMistyped}
 use Rattle.bind_expressions.specs.Translating.{StandsFor, Becomes, BecomesBy, leaf_level}
 use Rattle.bind_expressions.specs.Translating as t
 use Rattle.bind_expressions.specs.declared.naming.Leaf.TheVariants as leaf
+use Rattle.bind_expressions.proofs.RightForms.{same_kind}
 use Rattle.bind_instructions.specs.Parts.{InstrForm, IsPartOf}
 use Rattle.bind_instructions.specs.Parts as part
 use Rattle.bind_instructions.specs.Breaches.{MisnamesItself, MistypesItself}
@@ -62,19 +64,6 @@ use Rattle.bind_forms.specs.Typed.{kind_of_node, IsTypedIn, IsSoundIn}
 use Rattle.bind_forms.proofs.Leafing.{AreLeavesOf, names_for, tree_for, names_of, leaf_for, leaf_variable}
 use Rattle.bind_forms.proofs.Rights.{any_mistyped, variables_in, symbols_in, path_leaf, expression_typed}
 
--- a flow is no state variable
-no_init : (words : List TargetWord) → is_reset words ≡ true → is_init words ≡ false
-no_init [] e = refl
-no_init (Named x ∷ words) e = refl
-no_init (Init ∷ []) e = cc
-no_init (Init ∷ w ∷ words) e = refl
-no_init (Reset ∷ words) e = refl
-
-no_state : (settings : List Setting) → is_flow settings ≡ true → is_state settings ≡ false
-no_state [] e = refl
-no_state (s ∷ []) e = no_init (target_of s) e
-no_state (s ∷ r ∷ settings) e = refl
-
 no_state_variable : (g : MemberKind) → is_flow_variable g ≡ true → is_state_variable g ≡ false
 no_state_variable (given.Variable type settings) e = no_state settings e
 no_state_variable (given.Parameter type v) e = refl
@@ -84,17 +73,6 @@ no_state_variable (given.Observer type v) e = refl
 no_state_variable (given.Inner c o) e = refl
 no_state_variable (given.Clone p) e = refl
 no_state_variable (given.Alias p) e = refl
-
-same_kind : (j k : ValueKind) → (j ≡ k) ⊎ (j ≡ k → ⊥)
-same_kind Truth Truth = inl refl
-same_kind Truth Whole = inr (λ e. cc)
-same_kind Truth Symbol = inr (λ e. cc)
-same_kind Whole Truth = inr (λ e. cc)
-same_kind Whole Whole = inl refl
-same_kind Whole Symbol = inr (λ e. cc)
-same_kind Symbol Truth = inr (λ e. cc)
-same_kind Symbol Whole = inr (λ e. cc)
-same_kind Symbol Symbol = inl refl
 
 module _ {m : RootedModel} {units : List UnitPath} {u : UnitPath} {leaves : UnitLeaves} (h : AreLeavesOf m units u leaves) where
   abbrev tree : Tree

@@ -15,6 +15,8 @@ use Rattle.typed_expr.specs.Kinds as kind
 use Rattle.typed_expr.specs.declared.expr.Expr.TheOpen.{Variable, Constant}
 use Rattle.typed_expr.specs.declared.expr.ValueKind.{ValueKind}
 use Rattle.gts_core.specs.Sound.{kind_of_domain}
+use Rattle.gts_core.specs.Readings.{value_at}
+use Rattle.gts_core.proofs.Reading.{read_value}
 use Rattle.class_table.specs.Members.{MemberKind}
 use Rattle.class_table.specs.Tables.{symbols, range}
 use Rattle.hierarchy.specs.Models.{RootedModel, IsKeptTable}
@@ -37,18 +39,14 @@ use Rattle.bind_scopes.specs.declared.naming.Sort.{Sort}
 use Rattle.bind_scopes.specs.declared.naming.UnitNames.{UnitNames}
 use Rattle.bind_scopes.specs.declared.scopes.Named.{Named}
 use Rattle.bind_scopes.specs.declared.scopes.Scope.TheVariants.{Everything}
-use Rattle.bind_scopes.proofs.NamedPaths.{kind_one, names_right}
+use Rattle.bind_scopes.proofs.NamedPaths.{kind_one, names_right, one_of_kind}
 use Rattle.bind_scopes.proofs.Kinding.{valued_kind, AreNamesOf}
-use Rattle.bind_values.specs.Leaves.{value_at, leaf_of, leaf_in}
+use Rattle.bind_values.specs.Leaves.{leaf_of, leaf_in}
 use Rattle.bind_values.specs.Values.{IsValue, IsParameterValue, HoldsIn}
 use Rattle.bind_values.specs.declared.leaves.UnitLeaves.{UnitLeaves}
-use Rattle.bind_values.proofs.Leafing.{value_there, right_leaf}
+use Rattle.bind_values.proofs.Leafing.{right_leaf}
 use Rattle.bind_forms.specs.Typed as typed
 use Rattle.bind_forms.specs.Typed.{kind_of_node, IsSymbolIn}
-
--- a thing has values of one kind
-pub one_of_kind : {m : RootedModel} {t : Thing} {j k : ValueKind} → IsOfKind m t j → IsOfKind m t k → j ≡ k
-one_of_kind {m = m} h g = kind_one (sym (ap (kind_of_member m) (kind_one h.is g.is)) ∙ h.kind) g.kind
 
 -- symbols in domains are those of the model
 module _ (m : RootedModel) (tree : Tree) (same : length m.declared.symbols ≡ length tree.classes.symbols.items) where
@@ -103,13 +101,13 @@ module _ {m : RootedModel} {units : List UnitPath} {u : UnitPath} {leaves : Unit
   parameter_value : (n : ℕ) (t : Thing) → Stands (parameters m units) n t → Has m is_valued t → IsValue m t (value_at vs n)
   parameter_value n t st has =
       let b = along_on (parameters m units) vs h.along n t st in
-      subst (λ (z : Value). IsValue m t z) (sym (value_there vs n b.0 b.1)) (b.2.value has)
+      subst (λ (z : Value). IsValue m t z) (sym (read_value vs n b.0 b.1)) (b.2.value has)
 
   parameter_symbol : (n : ℕ) (t : Thing) → Stands (parameters m units) n t → Has m is_valued t → IsSymbolIn tree (value_at vs n)
   parameter_symbol n t st has =
       let a = along_on (parameters m units) tree.parameters.items h.are.is_tree.parameters_are n t st in
       let b = along_on tree.parameters.items vs h.held n a.0 a.1 in
-      let e = value_there vs n b.0 b.1 in
+      let e = read_value vs n b.0 b.1 in
       let w = valued_kind h.are.is_tree n t st has in
       let k : kind_of_parameter a.0.domain ≡ w.0 = kind_one (ap (λ (o : Option ParNode). option_map (λ (d : ParNode). kind_of_parameter d.domain) o) a.1) w.1 in
       let q : kind_of b.0 ≡ kind_of_parameter a.0.domain = ap kind_of (sym e) ∙ (one_of_kind (parameter_value n t st has).kind w.2 ∙ sym k) in

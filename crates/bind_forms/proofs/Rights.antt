@@ -24,6 +24,7 @@ use Rattle.bind_expressions.specs.Full.{IsFull}
 use Rattle.bind_expressions.specs.Wrong.{IsMisnamed, IsMistyped, itself, real, inside, IsWanted, this, that_of}
 use Rattle.bind_expressions.specs.Translating.{StandsFor, Becomes, BecomesBy}
 use Rattle.bind_expressions.proofs.RightForms.{typed_whole}
+use Rattle.bind_expressions.proofs.MisnamedForms.{misnamed_move}
 use Rattle.bind_scopes.specs.Naming.{kind_in}
 use Rattle.bind_scopes.specs.declared.naming.Sort.TheVariants.{States}
 use Rattle.bind_scopes.proofs.Kinding.{may_named, named_may, kind_names}
@@ -33,10 +34,6 @@ use Rattle.bind_forms.specs.Typed as typed
 use Rattle.bind_forms.specs.Typed.{IsTypedIn, IsSymbolIn}
 use Rattle.bind_forms.proofs.Leafing.{AreLeavesOf, names_for, tree_for, names_of, leaf_kind, leaf_number, leaf_symbol, leaf_for}
 use Rattle.bind_forms.proofs.Saying.{mentioned, constant}
-
--- what may be named less may be misnamed more
-misnamed_move : {may other : Path → Type 0} {l : RawLevel} {at : Place} → ((p : Path) → other p → may p) → IsMisnamed may l at → IsMisnamed other l at
-misnamed_move from h = record { path = h.path; is_in = h.is_in; not = λ m. h.not (from h.path m); place = h.place }
 
 module _ {names other : Path → ValueKind → Type 0} (to : (p : Path) (k : ValueKind) → names p k → other p k) where
   form_move : {l : RawLevel} {k : ValueKind} → HasForm names l k → HasForm other l k

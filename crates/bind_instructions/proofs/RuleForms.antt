@@ -2,6 +2,7 @@
 use Rattle.std.proofs.Common.{◌≡◌, ◌⊎◌, inl, inr, Bool, true, false, Option, Some, None, Box, Vec, Global, refl, sym, ◌∙◌, ap, subst}
 use mathlib.Core.Bool.{beq}
 use Rattle.ar_base.specs.declared.places.Place.{Place}
+use Rattle.ar_base.proofs.Comparing.{not_before}
 use Rattle.ar_syntax.specs.declared.expressions.RawExpr.{RawExpr}
 use Rattle.ar_syntax.specs.declared.instructions.Instr.{Instr, out-Instr}
 use Rattle.ar_syntax.specs.declared.instructions.Instr.TheOpen as instr
@@ -9,7 +10,7 @@ use Rattle.ar_syntax.specs.declared.paths.Path.{Path}
 use Rattle.typed_expr.specs.declared.expr.ValueKind.{ValueKind}
 use Rattle.typed_expr.specs.declared.expr.ValueKind.TheVariants.{Truth}
 use Rattle.class_table.specs.Earliest.{IsEarliest, nowhere, there, IsEarlierOf}
-use Rattle.class_table.proofs.FirstPlaces.{earliest_both, earliest_same, not_before}
+use Rattle.class_table.proofs.FirstPlaces.{earliest_both, earliest_same}
 use Rattle.bind_expressions.specs.Operands.{level_of, OfKind}
 use Rattle.bind_expressions.specs.Wrong.{Names, IsMisnamed, IsMistyped, AreTwo, two}
 use Rattle.bind_instructions.specs.Parts.{InstrForm}

@@ -2,6 +2,7 @@
 use Rattle.std.proofs.Common.{◌≡◌, ℕ, ◌+◌, false, List, [], ◌∷◌, ◌++◌, map, take, Option, Some, None, refl, sym, ◌∙◌, ap, subst, append_assoc}
 use Rattle.std.specs.List.{flat_map}
 use Rattle.std.proofs.lemmas.List.Concat.{flat_map-append}
+use Rattle.std.proofs.lemmas.List.{append-nil}
 use Rattle.ar_base.specs.Lists.{Stands, IsOneOf, Along}
 use Rattle.ar_base.specs.Lists as l
 use Rattle.ar_base.specs.Numbers.{BodyId}
@@ -19,7 +20,7 @@ use Rattle.class_table.specs.Members.{Site, owned_at}
 use Rattle.class_table.specs.Tables.{site_of}
 use Rattle.class_table.specs.declared.tables.Owned.{Owned}
 use Rattle.class_table.specs.declared.tables.Owned.TheVariants.{Plain, Nested}
-use Rattle.class_table.proofs.Laid.{append_none, along_append}
+use Rattle.class_table.proofs.Laid.{along_append}
 use Rattle.class_table.proofs.Taken.{take_next, map_next, map_join}
 use Rattle.hierarchy.specs.Models.{RootedModel}
 use Rattle.hierarchy.specs.Units.{UnitPath, Thing, members_at}
@@ -53,7 +54,7 @@ form_asserted (Some (Nested x at b)) i e = cc
 -- no instruction of one that is none
 pub none_asserted : (o : Option Owned) → None ≡ asserted_in o → flat_map asserted (form_of o) ≡ []
 none_asserted None e = refl
-none_asserted (Some (Plain w)) e = append_none (asserted (out-Member w)) ∙ no_assert (out-Member w) (sym e)
+none_asserted (Some (Plain w)) e = append-nil (asserted (out-Member w)) ∙ no_assert (out-Member w) (sym e)
 none_asserted (Some (Nested x at b)) e = refl
 
 -- the member at a site of a unit is one of the unit
@@ -69,7 +70,7 @@ module _ (m : RootedModel) (units : List UnitPath) (tree : Tree) where
   pub adds_none : (written : List (In Instr)) (old : List Act) → written ≡ [] → AddsAssertions m units tree written old old
   adds_none written old e = record {
     added = [];
-    is = sym (append_none old);
+    is = sym (append-nil old);
     are = subst (λ (is : List (In Instr)). Along (IsBoundAssertion m units tree) is []) (sym e) l.none;
   }
 
@@ -101,7 +102,7 @@ sites_next d u sites i site at =
     let f = λ (s : Site). form_of (owned_at d s) in
     let before = map site_of (take i sites) in
     let forms = ap (flat_map f) (map_next site_of sites i site at)
-    ∙ (flat_map-append f before (site_of site ∷ []) ∙ ap (λ (fs : List MemberForm). flat_map f before ++ fs) (append_none (f (site_of site)))) in
+    ∙ (flat_map-append f before (site_of site ∷ []) ∙ ap (λ (fs : List MemberForm). flat_map f before ++ fs) (append-nil (f (site_of site)))) in
     let instrs = ap (flat_map asserted) forms ∙ flat_map-append asserted (flat_map f before) (f (site_of site)) in
     ap (all_in u) instrs ∙ map_join (in_this u) (flat_map asserted (flat_map f before)) (flat_map asserted (f (site_of site)))
 
@@ -111,7 +112,7 @@ pub units_next : (m : RootedModel) (units : List UnitPath) (i : ℕ) (u : UnitPa
 units_next m units i u at =
     let f = λ (v : UnitPath). all_in v (flat_map asserted (forms_at m v)) in
     ap (flat_map f) (take_next units i u at)
-    ∙ (flat_map-append f (take i units) (u ∷ []) ∙ ap (λ (is : List (In Instr)). flat_map f (take i units) ++ is) (append_none (f u)))
+    ∙ (flat_map-append f (take i units) (u ∷ []) ∙ ap (λ (is : List (In Instr)). flat_map f (take i units) ++ is) (append-nil (f u)))
 
 -- All assertions
 

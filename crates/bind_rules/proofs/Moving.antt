@@ -7,6 +7,7 @@ use Rattle.typed_expr.specs.declared.expr.ValueKind.{ValueKind}
 use Rattle.bind_expressions.specs.Operands.{RawLevel, level_of, Demand, OfKind}
 use Rattle.bind_expressions.specs.Forms.{HasForm, own, path, choice}
 use Rattle.bind_expressions.specs.Wrong.{IsMisnamed, IsMistyped, itself, real, inside, IsWanted, this, that_of, Names, IsNamed}
+use Rattle.bind_expressions.proofs.MisnamedForms.{misnamed_move}
 use Rattle.bind_instructions.specs.Parts.{InstrForm, BreaksInside}
 use Rattle.bind_instructions.specs.Breaches.{MisnamesItself, MistypesItself, MisplacedInAction, MisplacedInAssertion, IsSort, IsTarget}
 use Rattle.bind_instructions.specs.Breaches as b
@@ -22,10 +23,6 @@ use Rattle.bind_scopes.specs.Naming.{kind_in, sort_in}
 use Rattle.bind_scopes.specs.declared.naming.Sort.TheVariants.{States, Flows}
 use Rattle.bind_scopes.specs.declared.naming.UnitNames.{UnitNames}
 use Rattle.bind_scopes.proofs.Kinding.{AreNamesOf, named_may, may_named, kind_names, names_kind, target_names, names_target, no_state, state_no, no_flow, flow_no, is_flow_named, named_flow}
-
--- what may be named less may be misnamed more
-misnamed_move : {may other : Path → Type 0} {l : RawLevel} {at : Place} → ((p : Path) → other p → may p) → IsMisnamed may l at → IsMisnamed other l at
-misnamed_move from h = record { path = h.path; is_in = h.is_in; not = λ m. h.not (from h.path m); place = h.place }
 
 module _ {names other : Path → ValueKind → Type 0} (to : (p : Path) (k : ValueKind) → names p k → other p k) where
   form_move : {l : RawLevel} {k : ValueKind} → HasForm names l k → HasForm other l k

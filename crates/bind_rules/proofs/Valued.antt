@@ -36,13 +36,14 @@ use Rattle.hierarchy.proofs.Things.{flat_origin, listed_has}
 use Rattle.source_meaning.specs.Means.{is_valued}
 use Rattle.source_meaning.specs.Kinds.{kind_of_type, kind_of_member, IsOfKind}
 use Rattle.source_meaning.specs.Tested as s
+use Rattle.source_meaning.proofs.Attributed.{valued_attribute}
 use Rattle.unit_things.proofs.Named.{given_at, all_one, single_one}
 use Rattle.bind_scopes.specs.Naming.{kind_of_parameter}
 use Rattle.bind_scopes.specs.Scopes.{IsScope, constants, before}
 use Rattle.bind_scopes.specs.declared.scopes.Scope.{Scope}
 use Rattle.bind_scopes.specs.declared.scopes.Scope.TheVariants as scope
 use Rattle.bind_scopes.proofs.Kinding.{domain_kind, parameter_kind}
-use Rattle.bind_scopes.proofs.NamedPaths.{kind_one}
+use Rattle.bind_scopes.proofs.NamedPaths.{kind_one, one_of_kind}
 use Rattle.bind_scopes.proofs.Siting.{force_own}
 use Rattle.bind_rules.specs.Breaking.{BreaksExpression, BreaksValue, BreaksParameter, BreaksObserver, BreaksOne}
 use Rattle.bind_rules.specs.Owning.{IsOwnScope, scope_by, observed_form, observed_in}
@@ -71,9 +72,6 @@ module _ (things : List Thing) (P : Thing → Place → Type 0) where
 
 -- Values
 
-pub one_kind : {m : RootedModel} {t : Thing} {i j : ValueKind} → IsOfKind m t i → IsOfKind m t j → i ≡ j
-one_kind {m = m} h k = kind_one (ap (kind_of_member m) (kind_one k.is h.is) ∙ h.kind) k.kind
-
 module _ (m : RootedModel) (rule : Rule) (t : Thing) (a : Attribute) (force : in_force m t ≡ Some a) (kind : ValueKind) (is : IsOfKind m t kind) where
   pub value_earliest : (e : RawExpr) → a.value ≡ e → (r : Option Place) → IsEarliest (BreaksExpression m rule a.unit (s.scope_of t.name a.setting) kind e) r → IsEarliest (BreaksValue m rule t) r
   value_earliest e q r h = earliest_same r to from (subst (λ (z : RawExpr). IsEarliest (BreaksExpression m rule a.unit (s.scope_of t.name a.setting) kind z) r) (sym q) h)
@@ -84,7 +82,7 @@ module _ (m : RootedModel) (rule : Rule) (t : Thing) (a : Attribute) (force : in
       from : (at : Place) → BreaksValue m rule t at → BreaksExpression m rule a.unit (s.scope_of t.name a.setting) kind a.value at
       from at b =
           let i = kind_one b.in_force force in
-          let j = one_kind b.is_kind is in
+          let j = one_of_kind b.is_kind is in
           subst (λ (z : ValueKind). BreaksExpression m rule a.unit (s.scope_of t.name a.setting) z a.value at) j
           (subst (λ (z : Attribute). BreaksExpression m rule z.unit (s.scope_of t.name z.setting) b.kind z.value at) i b.breaks)
 
@@ -119,16 +117,6 @@ variable_of_kind m units t d h k e = record {
   is = ap (λ (o : Option NamedMember). option_map (λ (z : NamedMember). z.kind) o) h.node.is;
   kind = ap (kind_of_member m) h.is ∙ (domain_kind m h.type d.domain h.domain ∙ ap (λ (z : ValueKind). Some z) (sym e));
 }
-
-valued_attribute : (m : RootedModel) (units : List UnitPath) (t : Thing) (k : MemberKind) (b : tree.Attribute) → is_valued k ≡ true → HasAttributeOf m units t k b → HasAttribute m units t b
-valued_attribute m units t (Parameter f e) b v h = h
-valued_attribute m units t Kept b v h = cc
-valued_attribute m units t (Variable f ss) b v h = h
-valued_attribute m units t Event b v h = h
-valued_attribute m units t (Observer f e) b v h = h
-valued_attribute m units t (Inner n o) b v h = h
-valued_attribute m units t (Clone p) b v h = h
-valued_attribute m units t (Alias p) b v h = h
 
 module _ (m : RootedModel) (units : List UnitPath) (t : Thing) (d : ParNode) (h : IsParameter m units t d) (v : Has m is_valued t) where
   given_valued : is_valued h.given.kind ≡ true
@@ -233,18 +221,3 @@ module _ (m : RootedModel) (units : List UnitPath) (t : Thing) (d : MemNode) (h 
 
 pub observer_has : (m : RootedModel) (units : List UnitPath) → IsKept m → (n : ℕ) (t : Thing) → Stands (observers m units) n t → Has m is_observer t
 observer_has m units k n t s = let o = flat_origin (things_in is_observer m) units n t s in listed_has m is_observer k o.item t o.is_one
-
--- what a test tells
-pub not_read : {P : Type 0} (b : Bool) → b ≡ false → (IsTrue b ↔ P) → P → ⊥
-not_read b e h p = by b e (h.1 p)
-  where
-    by : (b : Bool) → b ≡ false → IsTrue b → ⊥
-    by false e t = cc
-    by true e t = cc
-
-pub is_read : {P : Type 0} (b : Bool) → b ≡ true → (IsTrue b ↔ P) → P
-is_read b e h = h.0 (by b e)
-  where
-    by : (b : Bool) → b ≡ true → IsTrue b
-    by true e = (let g : true ≡ true = cc in g)
-    by false e = cc

@@ -31,6 +31,7 @@ use Rattle.source_meaning.specs.Kinds as k
 use Rattle.source_meaning.specs.Kinds.{kind_of_body, kind_of_type, kind_of_member, IsOfKind, HasKindAt}
 use Rattle.source_meaning.specs.Rules.{IsNot, Is}
 use Rattle.source_meaning.specs.Tested as s
+use Rattle.source_meaning.proofs.OneMeaning.{leads_same}
 use Rattle.bind_expressions.specs.Wrong.{Names, IsNamed}
 use Rattle.bind_instructions.specs.Breaches.{IsSort, IsTarget}
 use Rattle.bind_scopes.specs.Searching.{variable_in}
@@ -43,7 +44,6 @@ use Rattle.bind_scopes.specs.declared.naming.UnitNames.{UnitNames}
 use Rattle.bind_scopes.specs.declared.scopes.Named.{Named}
 use Rattle.bind_scopes.proofs.NamedPaths.{kind_one, NamesIn, scoped_names, symbol_alone, variable_answers, variable_there}
 use Rattle.bind_scopes.proofs.Siting.{owned_same, variable_settings}
-use Rattle.bind_scopes.proofs.Walking.{leads_one}
 
 -- a domain is of the kind of its declaration
 body_kind : (numbers : List ℕ) (b : DomainBody) (v : Domain) → IsDomainOf numbers b v → kind_of_body b ≡ kind_of_domain v
@@ -115,7 +115,7 @@ kind_may (k.symbol n i) = s.symbol n i
 -- a path has one kind
 pub kind_same : {m : RootedModel} {u : UnitPath} {p : Path} {i j : ValueKind} → HasKindAt m u p i → HasKindAt m u p j → i ≡ j
 kind_same {m = m} (k.thing t l h) (k.thing t' l' h') =
-    let q = leads_one l l' in
+    let q = leads_same l l' in
     let e = kind_one (ap (λ (z : Thing). kind_at m z.unit z.name) (sym q) ∙ h.is) h'.is in
     kind_one (sym (ap (kind_of_member m) e) ∙ h.kind) h'.kind
 kind_same (k.thing t l h) (k.symbol n i) = absurd (symbol_alone i l h.is)
@@ -206,7 +206,7 @@ module _ {m : RootedModel} {units : List UnitPath} {u : UnitPath} {scope : s.Sco
   by_sort None a b k = absurd (a k.thing k.finds)
   by_sort (Some n) a b k =
       let w = listed_sort h.are.is_tree names.sort n a.0 a.1 in
-      let q = leads_one a.2.leads k.finds.leads in
+      let q = leads_same a.2.leads k.finds.leads in
       let e = kind_one w.1 (ap (λ (z : Thing). kind_at m z.unit z.name) q ∙ k.is) in
       w.2 ∙ ap (λ (z : Bool). Some z) (ap (sort_kind names.sort) e ∙ k.sort_is)
 

@@ -8,6 +8,7 @@ use Rattle.ar_base.specs.Lists.{Stands}
 use Rattle.ar_base.specs.Numbers.{NameId}
 use Rattle.ar_base.specs.declared.places.Place.{Place}
 use Rattle.ar_base.proofs.Standing.{one_none, one_cases, one_first, one_split, one_left, one_right, stands_map, stands_one}
+use Rattle.ar_base.proofs.Comparing.{side}
 use Rattle.ar_syntax.specs.declared.members.Setting.{Setting}
 use Rattle.ar_syntax.specs.declared.members.TypeForm.{TypeForm}
 use Rattle.ar_syntax.specs.declared.members.TypeForm.TheVariants as form
@@ -17,7 +18,6 @@ use Rattle.class_table.specs.Shown.{IsDeclaredBy}
 use Rattle.class_table.specs.declared.tables.Body.{Body}
 use Rattle.class_table.specs.declared.tables.Classes.{Classes}
 use Rattle.hierarchy.specs.Models.{RootedModel, IsTableFor, sites_kept}
-use Rattle.hierarchy.proofs.Finding.{side}
 use Rattle.hierarchy.specs.Units.{UnitPath, names_in}
 use Rattle.hierarchy.specs.Tie.{IsTreeOf}
 use Rattle.unit_things.proofs.OneName.{members_there, members_past}
@@ -152,11 +152,6 @@ module _ {S : Type 0} (m : RootedModel) where
         | inl i ↦ h.only b x i
         | inr i ↦ subst (λ (z : ℕ). NamesSo (names_in m z) x) (sym i.0) (subst (λ (z : List Site). NamesSo (named_at m.declared z) x) same i.1)
       ]
-
--- what holds where there is memory
-pub on_ok_next : {T E : Type 0} {P Q : Type 0} (r : Result T E) → (P → Q) → OnOk r P → OnOk r Q
-on_ok_next (Ok v) f h = f h
-on_ok_next (Err e) f h = tt
 
 -- Symbols
 

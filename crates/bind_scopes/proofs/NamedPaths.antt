@@ -5,6 +5,7 @@ use Rattle.std.specs.HashMap as hash
 use Rattle.std.specs.HashSet as bag
 use Rattle.ar_base.specs.Lists.{Stands, IsOneOf}
 use Rattle.ar_base.proofs.Standing.{stands_one, along_on, one_none, one_cases}
+use Rattle.ar_base.proofs.Comparing.{side}
 use Rattle.ar_syntax.specs.declared.paths.Path.{Path}
 use Rattle.ar_syntax.specs.declared.paths.PathStart.{PathStart}
 use Rattle.ar_syntax.specs.declared.paths.PathStart.TheVariants.{Here, Owner, Main}
@@ -19,11 +20,13 @@ use Rattle.hierarchy.specs.declared.tree.UnitNode.{UnitNode}
 use Rattle.hierarchy.specs.declared.tree.VarNode.{VarNode}
 use Rattle.hierarchy.specs.declared.tree.Tree.{Tree}
 use Rattle.hierarchy.proofs.Apart.{named_back}
-use Rattle.hierarchy.proofs.Finding.{side, same_or_not}
+use Rattle.hierarchy.proofs.Finding.{same_or_not}
 use Rattle.hierarchy.proofs.Looking.{some_unit, main_first}
 use Rattle.hierarchy.proofs.Things.{ComesFrom, flat_origin, listed_has}
 use Rattle.source_meaning.specs.Means.{is_valued, IsSymbol}
 use Rattle.source_meaning.specs.Tested as s
+use Rattle.source_meaning.specs.Kinds.{IsOfKind, kind_of_member}
+use Rattle.source_meaning.proofs.OneMeaning.{apart, leads_same}
 use Rattle.unit_index.specs.Indexed.{same_pair}
 use Rattle.bind_scopes.specs.Members.{NamesSo}
 use Rattle.bind_scopes.specs.Searching.{variable_in, parameter_in}
@@ -36,7 +39,8 @@ use Rattle.bind_scopes.specs.declared.scopes.Scope.TheVariants.{Constants, Befor
 use Rattle.bind_scopes.specs.declared.scopes.Scopes.{Scopes}
 use Rattle.bind_scopes.proofs.Order.{all_different, listed_order, one_earlier, not_earlier}
 use Rattle.bind_scopes.proofs.Siting.{owned_same, read_parameter}
-use Rattle.bind_scopes.proofs.Walking.{answers, answer_one, leads_one}
+use Rattle.bind_scopes.proofs.Walking.{answers, answer_one}
+use Rattle.typed_expr.specs.declared.expr.ValueKind.{ValueKind}
 
 -- one thing is told
 pub kind_one : {A : Type 0} {a b : A} {o : Option A} → o ≡ Some a → o ≡ Some b → a ≡ b
@@ -62,7 +66,7 @@ module _ {m : RootedModel} {u : UnitPath} {start : PathStart} {names : List ℕ}
   name_leads = record { front = []; split = single; reaches = subst (λ (z : PathStart). NamesLead m [] (start_of z u) [] (Reaches u)) (sym here) arrives }
 
   pub name_only : (t : Thing) → LeadsTo m u start names t → t ≡ thing u x
-  name_only t h = leads_one h name_leads
+  name_only t h = leads_same h name_leads
 
 -- a symbol is no thing
 pub symbol_alone : {m : RootedModel} {u : UnitPath} {p : Path} {k : ℕ} {t : Thing} {kind : MemberKind} → IsSymbol m u p k → LeadsTo m u p.start (numbers p.names.items) t → kind_at m t.unit t.name ≡ Some kind → ⊥
@@ -167,7 +171,7 @@ module _ {m : RootedModel} {units : List UnitPath} {table : Scopes} (are : AreSc
           none (s.symbol n y) = symbol_alone y i.2.leads i.2.has.is
           none (s.variable t f) = h t f
           none (s.parameter t f) =
-              let q = leads_one f.leads i.2.leads in
+              let q = leads_same f.leads i.2.leads in
               let z : f.has.kind ≡ i.2.has.kind = kind_one (ap (λ (w : Thing). kind_at m w.unit w.name) (sym q) ∙ f.has.is) i.2.has.is in
               let y : is_valued i.2.has.kind ≡ true = ap is_valued (sym z) ∙ f.has.passes in
               let x : is_valued i.2.has.kind ≡ false = sym same ∙ e in cc
@@ -256,23 +260,12 @@ some_named_in m units u p meant r r' e h = by r (subst (λ (z : Option Named). N
     by (Some f) h = h
 
 -- what may be named in a narrower scope may be named at all
-may_more : {m : RootedModel} {u : UnitPath} {p : Path} (scope : s.Scope) → s.MayName m u scope p → s.MayName m u s.Everything p
+pub may_more : {m : RootedModel} {u : UnitPath} {p : Path} (scope : s.Scope) → s.MayName m u scope p → s.MayName m u s.Everything p
 may_more scope (s.symbol k i) = s.symbol k i
 may_more scope (s.variable t f) = s.variable t f
 may_more scope (s.parameter t f) = s.parameter t f
 may_more {u = u} scope (s.own x n h) = s.parameter (thing u x) (record { leads = name_leads x n.here n.single; has = h })
 may_more {u = u} scope (s.earlier x n h e) = s.parameter (thing u x) (record { leads = name_leads x n.here n.single; has = h })
-
--- a variable has no value
-no_valued : (k : MemberKind) → is_variable k ≡ true → is_valued k ≡ true → ⊥
-no_valued (Variable t ss) v h = cc
-no_valued (Parameter t e) v h = cc
-no_valued Kept v h = cc
-no_valued Event v h = cc
-no_valued (Observer t e) v h = cc
-no_valued (Inner b o) v h = cc
-no_valued (Clone p) v h = cc
-no_valued (Alias p) v h = cc
 
 -- one name, what it names, and what another word says of that
 module _ {m : RootedModel} {u : UnitPath} {p : Path} (x : ℕ) (n : s.IsName p x) where
@@ -280,7 +273,7 @@ module _ {m : RootedModel} {u : UnitPath} {p : Path} (x : ℕ) (n : s.IsName p x
   not_variable h t f =
       let q = name_only x n.here n.single t f.leads in
       let e = kind_one (ap (λ (z : Thing). kind_at m z.unit z.name) (sym q) ∙ f.has.is) h.is in
-      no_valued f.has.kind f.has.passes (ap is_valued e ∙ h.passes)
+      apart f.has.kind f.has.passes (ap is_valued e ∙ h.passes)
 
 module _ {m : RootedModel} {units : List UnitPath} {tree : Tree} (is : IsTreeOf m units tree) (u : UnitPath) (p : Path) where
   everything_names : (r : Option Named) → IsNamedIn m units u p r → NamesIn m units u s.Everything p r
@@ -385,3 +378,7 @@ read_valued {m = m} {units = units} {table = table} are k t st r e = by r (e ∙
     by : (r : Bool) → r ≡ is_valued has.kind → IsTrue r ↔ Has m is_valued t
     by true f = (λ h. record { kind = has.kind; is = has.is; passes = sym f }, λ v. (let g : true ≡ true = cc in g))
     by false f = (λ h. cc, λ v. (let q = kind_one has.is v.is in let g = v.passes in let i : is_valued v.kind ≡ false = ap is_valued (sym q) ∙ sym f in cc))
+
+-- a thing has values of one kind
+pub one_of_kind : {m : RootedModel} {t : Thing} {j k : ValueKind} → IsOfKind m t j → IsOfKind m t k → j ≡ k
+one_of_kind {m = m} h g = kind_one (sym (ap (kind_of_member m) (kind_one h.is g.is)) ∙ h.kind) g.kind

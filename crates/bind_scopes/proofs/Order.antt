@@ -3,12 +3,12 @@ use Rattle.std.proofs.Common.{◌≡◌, ℕ, zero, suc, ◌+◌, ◌<◌, ◌�
 use Rattle.std.specs.List.{flat_map, filter}
 use Rattle.ar_base.specs.Lists.{Stands, IsOneOf, AreDifferent}
 use Rattle.ar_base.proofs.Standing.{stands_none, stands_split, stands_within, stands_map_back, one_here}
+use Rattle.ar_base.proofs.Comparing.{side}
 use Rattle.class_table.specs.Members.{NamedMember, MemberKind}
 use Rattle.hierarchy.specs.Models.{RootedModel, IsKept}
 use Rattle.hierarchy.specs.Units.{UnitPath, Thing, names_at}
 use Rattle.hierarchy.specs.Walks.{thing}
 use Rattle.hierarchy.specs.Listing.{AreUnits, things_in}
-use Rattle.hierarchy.proofs.Finding.{side}
 use Rattle.hierarchy.proofs.Apart.{members_apart, units_different}
 use Rattle.hierarchy.proofs.Things.{filter_back, flat_origin, thing_unit}
 use Rattle.source_meaning.specs.Tested.{IsEarlier}

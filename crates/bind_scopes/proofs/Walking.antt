@@ -4,6 +4,7 @@ use Rattle.std.specs.Option.{option_or}
 use Rattle.std.specs.List.{flat_map}
 use Rattle.ar_base.specs.Lists.{Stands, AreDifferent, Along}
 use Rattle.ar_base.proofs.Standing.{stands_none, stands_one, stands_right, along_on}
+use Rattle.ar_base.proofs.Items.{last_one}
 use Rattle.ar_syntax.specs.declared.paths.PathStart.{PathStart}
 use Rattle.ar_syntax.specs.declared.paths.PathStart.TheVariants.{Here, Owner, Main}
 use Rattle.class_table.specs.Members.{NamedMember, MemberKind}
@@ -20,6 +21,7 @@ use Rattle.hierarchy.proofs.Finding.{same_or_not}
 use Rattle.hierarchy.proofs.Looking.{leads_kind, named_so, main_first, owner_starts, starts_nowhere, thing_answer}
 use Rattle.hierarchy.proofs.Outcomes.{leads_same, walks_same, unit_of_reaches}
 use Rattle.bind_scopes.specs.Searching.{step_in, owner_in, start_in, node_in}
+use Rattle.source_meaning.proofs.OneMeaning.{leads_same as leads_one}
 
 -- no names end in one
 no_names : (front : List ℕ) (y : ℕ) → [] ≡ front ++ y ∷ [] → ⊥
@@ -156,22 +158,6 @@ module _ {m : RootedModel} {units : List UnitPath} {tree : Tree} (t : IsTreeOf m
   answers n u s start names = by_owner u start names _ (leads_in m units tree t n u s start names)
 
 -- A path leads to one thing
-
-front_one : (xs ys : List ℕ) (x y : ℕ) → xs ++ x ∷ [] ≡ ys ++ y ∷ [] → (xs ≡ ys) × (x ≡ y)
-front_one [] [] x y e = (refl, cc)
-front_one [] (b ∷ []) x y e = cc
-front_one [] (b ∷ c ∷ ys) x y e = cc
-front_one (a ∷ []) [] x y e = cc
-front_one (a ∷ c ∷ xs) [] x y e = cc
-front_one (a ∷ xs) (b ∷ ys) x y e =
-    let r : xs ++ x ∷ [] ≡ ys ++ y ∷ [] = cc in let h : a ≡ b = cc in
-    let s = front_one xs ys x y r in (cc, s.1)
-
-pub leads_one : {m : RootedModel} {u : UnitPath} {start : PathStart} {names : List ℕ} {t s : Thing} → LeadsTo m u start names t → LeadsTo m u start names s → t ≡ s
-leads_one {m = m} {u = u} {start = start} {t = t} {s = s} h k =
-    let e = front_one h.front k.front t.name s.name (sym h.split ∙ k.split) in
-    let r : t.unit ≡ s.unit = unit_of_reaches (walks_same (subst (λ (z : List ℕ). IsUnitAt m u start z t.unit) e.0 h.reaches) k.reaches) in
-    ap (λ (z : UnitPath). thing z t.name) r ∙ ap (λ (z : ℕ). thing s.unit z) e.1
 
 -- there is one answer
 pub answer_one : (m : RootedModel) (things : List Thing) (test : MemberKind → Bool) (u : UnitPath) (start : PathStart) (names : List ℕ) → AreDifferent things → (a b : Option ℕ)

@@ -17,43 +17,24 @@ use Rattle.source_meaning.specs.Kinds as k
 use Rattle.source_meaning.specs.Tested as s
 use Rattle.source_meaning.specs.BoundExpressions.{IsLeafFor}
 use Rattle.source_meaning.specs.BoundExpressions as leaf
+use Rattle.source_meaning.proofs.OneMeaning.{apart}
 use Rattle.bind_expressions.specs.declared.naming.Leaf.{Leaf}
 use Rattle.bind_expressions.specs.declared.naming.Leaf.TheVariants as stands
 use Rattle.bind_scopes.specs.Scopes.{AreScopes, IsNamedIn, variable, parameter, symbol, nothing, named_in}
 use Rattle.bind_scopes.specs.declared.scopes.Named.{Named}
 use Rattle.bind_scopes.specs.declared.scopes.Scopes.{Scopes}
-use Rattle.bind_scopes.proofs.NamedPaths.{kind_one, name_leads, name_only, symbol_alone, names_right}
-use Rattle.bind_values.specs.Leaves.{value_at, leaf_of}
+use Rattle.bind_scopes.proofs.NamedPaths.{kind_one, name_leads, name_only, symbol_alone, names_right, may_more}
+use Rattle.bind_values.specs.Leaves.{leaf_of}
 use Rattle.bind_values.specs.Values.{IsValue, IsParameterValue}
-
--- the value at a place
-pub value_there : (vs : List Value) (k : ℕ) (v : Value) → Stands vs k v → value_at vs k ≡ v
-value_there vs k v e = rw e refl
-
--- what may be named in a narrower scope may be named at all
-may_more : {m : RootedModel} {u : UnitPath} {p : Path} (scope : s.Scope) → s.MayName m u scope p → s.MayName m u s.Everything p
-may_more scope (s.symbol n i) = s.symbol n i
-may_more scope (s.variable t f) = s.variable t f
-may_more scope (s.parameter t f) = s.parameter t f
-may_more {u = u} scope (s.own x n h) = s.parameter (thing u x) (record { leads = name_leads x n.here n.single; has = h })
-may_more {u = u} scope (s.earlier x n h e) = s.parameter (thing u x) (record { leads = name_leads x n.here n.single; has = h })
-
-no_valued : (g : MemberKind) → is_variable g ≡ true → is_valued g ≡ true → ⊥
-no_valued (Variable t ss) v h = cc
-no_valued (Parameter t e) v h = cc
-no_valued Kept v h = cc
-no_valued Event v h = cc
-no_valued (Observer t e) v h = cc
-no_valued (Inner b o) v h = cc
-no_valued (Clone p) v h = cc
-no_valued (Alias p) v h = cc
+use Rattle.gts_core.proofs.Reading.{read_value}
+use Rattle.gts_core.specs.Readings.{value_at}
 
 module _ {m : RootedModel} {u : UnitPath} {p : Path} (t : Thing) (f : Finds m is_variable u p t) where
   no_own : (x : ℕ) → s.IsName p x → Has m is_valued (thing u x) → ⊥
   no_own x n h =
       let q = name_only x n.here n.single t f.leads in
       let e = kind_one (ap (λ (z : Thing). kind_at m z.unit z.name) (sym q) ∙ f.has.is) h.is in
-      no_valued f.has.kind f.has.passes (ap is_valued e ∙ h.passes)
+      apart f.has.kind f.has.passes (ap is_valued e ∙ h.passes)
 
   -- a value names no variable
   no_variable : (x : ℕ) (o : Option ℕ) → s.MayName m u (s.scope_of x o) p → ⊥
@@ -99,4 +80,4 @@ module _ {m : RootedModel} {units : List UnitPath} {table : Scopes} (are : AreSc
       known : Knows m units u p vs
       known t j f st =
           let b = along_on (parameters m units) vs along j t st in
-          subst (λ (z : Value). IsValue m t z) (sym (value_there vs j b.0 b.1)) (b.2.value f.has)
+          subst (λ (z : Value). IsValue m t z) (sym (read_value vs j b.0 b.1)) (b.2.value f.has)

@@ -4,6 +4,7 @@ use Rattle.std.specs.Option.{option_or}
 use Rattle.std.specs.List.{flat_map}
 use Rattle.ar_base.specs.Lists.{Stands}
 use Rattle.ar_base.proofs.Standing.{stands_none, stands_one, stands_split, stands_left, stands_right, stands_within}
+use Rattle.ar_base.proofs.Comparing.{side}
 use Rattle.ar_syntax.specs.declared.members.Setting.{Setting}
 use Rattle.ar_syntax.specs.declared.paths.Path.{Path}
 use Rattle.class_table.specs.Members.{Site, NamedMember, MemberKind, Variable, Parameter, Kept, Inner, Clone, Alias, Event, Observer}
@@ -13,7 +14,6 @@ use Rattle.hierarchy.specs.Walks.{Finds, Has, thing, is_parameter}
 use Rattle.hierarchy.specs.Listing.{AreUnits, Lists, Insides, unit, none, makes, passes, parameters, things_in}
 use Rattle.hierarchy.specs.Settings.{Attribute, TargetWord, Named, settings_at, setting_for, set_by, outermost, target_in, target_of, declared_in, in_force, in_force_by, in_force_given, same_target}
 use Rattle.hierarchy.proofs.Apart.{units_different}
-use Rattle.hierarchy.proofs.Finding.{side}
 use Rattle.hierarchy.proofs.Places.{made_named}
 use Rattle.hierarchy.proofs.Things.{flat_rises, thing_unit}
 use Rattle.source_meaning.specs.Means.{is_valued}

@@ -6,6 +6,7 @@ use Rattle.ar_base.specs.Lists as along
 use Rattle.ar_base.specs.Breach.{IsEarlier}
 use Rattle.ar_base.specs.declared.places.Place.{Place}
 use Rattle.ar_base.proofs.Standing.{stands_none, stands_one, one_here, one_first, one_rest, along_on, different_more}
+use Rattle.ar_base.proofs.Comparing.{not_before}
 use Rattle.ar_syntax.specs.declared.expressions.RawExpr.{RawExpr}
 use Rattle.ar_syntax.specs.declared.members.TypeForm.{TypeForm}
 use Rattle.domains.specs.Domains.{Holds}
@@ -19,7 +20,7 @@ use Rattle.class_table.specs.Declaring.FirstUses.{none, known, first}
 use Rattle.class_table.specs.Earliest.{IsEarliest, nowhere, there}
 use Rattle.class_table.specs.Members.{NamedMember, MemberKind}
 use Rattle.class_table.specs.Tables.{IsDomainOf, symbols, range}
-use Rattle.class_table.proofs.FirstPlaces.{earliest_same, not_before}
+use Rattle.class_table.proofs.FirstPlaces.{earliest_same}
 use Rattle.class_table.proofs.Looping.{AtItem}
 use Rattle.hierarchy.specs.Models.{RootedModel, IsKept}
 use Rattle.hierarchy.specs.Units.{UnitPath, Thing, name_at, kind_at}
@@ -36,9 +37,9 @@ use Rattle.source_meaning.proofs.OneMeaning.{value_same}
 use Rattle.source_meaning.proofs.OneDomain.{values_same}
 use Rattle.domains.specs.Domains.{values_of}
 use Rattle.bind_scopes.proofs.NamedPaths.{kind_one}
-use Rattle.bind_values.specs.Leaves.{value_at}
 use Rattle.bind_values.specs.Values.{IsValue, IsDomainAt, BreaksAs, BreaksOne}
-use Rattle.bind_values.proofs.Leafing.{value_there}
+use Rattle.gts_core.proofs.Reading.{read_value}
+use Rattle.gts_core.specs.Readings.{value_at}
 
 -- Domains
 
@@ -227,4 +228,4 @@ along_both xs ys zs f (along.one_and {a = a} {b = b} {xs = more} {ys = bs} r rs)
 pub known_value : (P : Thing → Value → Type 0) (things : List Thing) (vs : List Value) → Along P things vs → (k : ℕ) (t : Thing) (v : Value) → Stands things k t → v ≡ value_at vs k → P t v
 known_value P things vs rows k t v s e =
     let b = along_on things vs rows k t s in
-    subst (λ (z : Value). P t z) (sym (e ∙ value_there vs k b.0 b.1)) b.2
+    subst (λ (z : Value). P t z) (sym (e ∙ read_value vs k b.0 b.1)) b.2

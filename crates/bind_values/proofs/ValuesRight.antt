@@ -6,6 +6,7 @@ use Rattle.ar_base.specs.Lists as along
 use Rattle.ar_base.specs.Numbers.{VarId}
 use Rattle.ar_base.specs.declared.places.Place.{Place}
 use Rattle.ar_base.proofs.Standing.{along_on, stands_none}
+use Rattle.ar_base.proofs.Comparing.{side}
 use Rattle.ar_syntax.specs.declared.expressions.RawExpr.{RawExpr}
 use Rattle.ar_syntax.specs.declared.paths.Path.{Path}
 use Rattle.class_table.proofs.Taken.{take_next}
@@ -34,7 +35,6 @@ use Rattle.bind_expressions.specs.declared.naming.Leaf.TheVariants as stands
 use Rattle.bind_scopes.specs.Scopes.{AreScopes, named_in}
 use Rattle.bind_scopes.specs.declared.scopes.Scopes.{Scopes}
 use Rattle.bind_scopes.proofs.Kinding.{variable_kind, valued_kind}
-use Rattle.hierarchy.proofs.Finding.{side}
 use Rattle.source_meaning.specs.Means.{is_valued, ValueOf, no_facts}
 use Rattle.source_meaning.specs.Means as means
 use Rattle.source_meaning.specs.Kinds.{HasKindAt, IsOfKind}
@@ -44,10 +44,12 @@ use Rattle.source_meaning.specs.Rules.{BreaksNaming, BreaksKinds}
 use Rattle.source_meaning.specs.Rules as rules
 use Rattle.source_meaning.specs.BoundExpressions.{IsLeafFor, IsBoundExpression, IsNumberOf}
 use Rattle.source_meaning.proofs.BoundMeaning.{bound_meaning}
+use Rattle.source_meaning.proofs.Attributed.{valued_attribute}
 use Rattle.bind_values.specs.Leaves.{leaf_of}
 use Rattle.bind_values.specs.Values.{AreNamesKept, IsValue, IsParameterValue, AreFirst, NamesBefore}
-use Rattle.bind_values.proofs.Leafing.{Knows, constant_leaf, value_there}
+use Rattle.bind_values.proofs.Leafing.{Knows, constant_leaf}
 use Rattle.bind_values.proofs.Yielding.{whole_valued}
+use Rattle.gts_core.proofs.Reading.{read_value}
 
 -- Lists
 
@@ -72,25 +74,6 @@ module _ {A B : Type 0} {R : A → B → Type 0} where
   along_end xs k ys l r = subst (λ (zs : List A). Along R zs ys) (take_all k xs l) r
 
 -- Answers
-
-pub ok_more : {A E : Type 0} {P Q : A → Type 0} (r : Result A E) → ((v : A) → P v → Q v) → IfOk r P → IfOk r Q
-ok_more (Ok v) f h = f v h
-ok_more (Err e) f h = tt
-
--- what a test tells
-pub not_so : {P : Type 0} (b : Bool) → b ≡ false → (IsTrue b ↔ P) → P → ⊥
-not_so b e h p = by b e (h.1 p)
-  where
-    by : (b : Bool) → b ≡ false → IsTrue b → ⊥
-    by false e t = cc
-    by true e t = cc
-
-pub is_so : {P : Type 0} (b : Bool) → b ≡ true → (IsTrue b ↔ P) → P
-is_so b e h = h.0 (by b e)
-  where
-    by : (b : Bool) → b ≡ true → IsTrue b
-    by true e = (let g : true ≡ true = cc in g)
-    by false e = cc
 
 -- Values
 
@@ -123,7 +106,7 @@ module _ {m : RootedModel} {units : List UnitPath} {table : Scopes} (are : AreSc
     knows p i r k f st =
         let l : k < n = elim (side n k) [ inr l ↦ l | inl g ↦ absurd (may p i (λ h. let l = names.before a p r k force h f st in omega (arith, l, g))) ] in
         let b = along_on (take n (parameters m units)) vs first k r (take_stands (parameters m units) n k r l st) in
-        subst (λ (z : Value). IsValue m r z) (sym (value_there vs k b.0 b.1)) (b.2.value f.has)
+        subst (λ (z : Value). IsValue m r z) (sym (read_value vs k b.0 b.1)) (b.2.value f.has)
 
     constant : (p : Path) → PathIn p (level_of a.value) → (v : Value) × (stand p ≡ stands.Constant v) × HasKindAt m a.unit p (kind_of v) × IsLeafFor m [] a.unit p (stand p)
     constant p i = constant_leaf are number a.unit at vs p (knows p i) t.name a.setting (may p i)
@@ -153,17 +136,6 @@ module _ {m : RootedModel} {units : List UnitPath} {table : Scopes} (are : AreSc
 -- all values are the first ones
 pub all_first : (m : RootedModel) (units : List UnitPath) (vs : List Value) → Along (IsParameterValue m) (parameters m units) vs → AreFirst m units (length (parameters m units)) vs
 all_first m units vs r = subst (λ (z : List Thing). Along (IsParameterValue m) z vs) (sym (take_all (length (parameters m units)) (parameters m units) (omega arith))) r
-
--- the attribute of a parameter with a value
-valued_attribute : (m : RootedModel) (units : List UnitPath) (t : Thing) (k : MemberKind) (b : tree.Attribute) → is_valued k ≡ true → HasAttributeOf m units t k b → HasAttribute m units t b
-valued_attribute m units t (Parameter f e) b v h = h
-valued_attribute m units t Kept b v h = cc
-valued_attribute m units t (Variable f ss) b v h = h
-valued_attribute m units t Event b v h = h
-valued_attribute m units t (Observer f e) b v h = h
-valued_attribute m units t (Inner n o) b v h = h
-valued_attribute m units t (Clone p) b v h = h
-valued_attribute m units t (Alias p) b v h = h
 
 pub parameter_attribute : (m : RootedModel) (units : List UnitPath) (t : Thing) (d : ParNode) → IsParameter m units t d → Has m is_valued t → HasAttribute m units t d.value
 parameter_attribute m units t d h v =

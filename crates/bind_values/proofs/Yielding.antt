@@ -1,5 +1,6 @@
 -- What expressions without variables yield, where nothing in them has a wrong kind.
 use Rattle.std.proofs.Common.{◌≡◌, ◌⊎◌, inl, inr, Bool, true, false, cond, List, [], ◌∷◌, map, Box, Vec, Global, refl, sym, ◌∙◌, ap, subst}
+use Rattle.std.proofs.lemmas.Bool.{cond-true, cond-false}
 use Rattle.ar_base.specs.Lists.{IsOneOf}
 use Rattle.ar_base.specs.Numbers.{VarId}
 use Rattle.ar_base.specs.declared.places.Place.{Place}
@@ -30,23 +31,7 @@ use Rattle.bind_expressions.specs.Translating as t
 use Rattle.bind_expressions.specs.declared.naming.Leaf.{Leaf}
 use Rattle.bind_expressions.specs.declared.naming.Leaf.TheVariants as leaf
 use Rattle.bind_expressions.proofs.OperandLists.{mapped_one, test_one, branch_one, other_one, left_side, right_side}
-
-same_kind : (j k : ValueKind) → (j ≡ k) ⊎ (j ≡ k → ⊥)
-same_kind Truth Truth = inl refl
-same_kind Truth Whole = inr (λ e. cc)
-same_kind Truth Symbol = inr (λ e. cc)
-same_kind Whole Truth = inr (λ e. cc)
-same_kind Whole Whole = inl refl
-same_kind Whole Symbol = inr (λ e. cc)
-same_kind Symbol Truth = inr (λ e. cc)
-same_kind Symbol Whole = inr (λ e. cc)
-same_kind Symbol Symbol = inl refl
-
-cond_true : {A : Type 0} (b : Bool) (x z : A) → b ≡ true → cond b x z ≡ x
-cond_true b x z h = rw h refl
-
-cond_false : {A : Type 0} (b : Bool) (x z : A) → b ≡ false → cond b x z ≡ z
-cond_false b x z h = rw h refl
+use Rattle.bind_expressions.proofs.RightForms.{same_kind}
 
 module _ {V : Type 0} (facts : V → Value → Type 0) (values : V → Value) where
   abbrev Is : Expr V → ValueKind → Type 0
@@ -79,9 +64,9 @@ module _ {V : Type 0} (facts : V → Value → Type 0) (values : V → Value) wh
     some_false : all_true (map (value_of values) es) ≡ false → Some_yields facts es (val.Truth false) → Conjoined es
 
   conjoin : (e : Expr V) (es : List (Expr V)) (b : Bool) → truth_of (value_of values e) ≡ b → Yields facts (out-Expr V e) (val.Truth b) → Conjoined es → Conjoined (e ∷ es)
-  conjoin e es true i d (each_true j c) = each_true (cond_true _ _ _ i ∙ j) (y.one_and d c)
-  conjoin e es true i d (some_false j c) = some_false (cond_true _ _ _ i ∙ j) (y.later c)
-  conjoin e es false i d c = some_false (cond_false _ _ _ i) (y.here d)
+  conjoin e es true i d (each_true j c) = each_true (cond-true _ _ _ i ∙ j) (y.one_and d c)
+  conjoin e es true i d (some_false j c) = some_false (cond-true _ _ _ i ∙ j) (y.later c)
+  conjoin e es false i d c = some_false (cond-false _ _ _ i) (y.here d)
 
   conjoined : {es : List (Expr V)} → Each_is Truth es → Conjoined es
   conjoined none = each_true refl y.none
@@ -97,9 +82,9 @@ module _ {V : Type 0} (facts : V → Value → Type 0) (values : V → Value) wh
     some_true : one_true (map (value_of values) es) ≡ true → Some_yields facts es (val.Truth true) → Disjoined es
 
   disjoin : (e : Expr V) (es : List (Expr V)) (b : Bool) → truth_of (value_of values e) ≡ b → Yields facts (out-Expr V e) (val.Truth b) → Disjoined es → Disjoined (e ∷ es)
-  disjoin e es true i d c = some_true (cond_true _ _ _ i) (y.here d)
-  disjoin e es false i d (each_false j c) = each_false (cond_false _ _ _ i ∙ j) (y.one_and d c)
-  disjoin e es false i d (some_true j c) = some_true (cond_false _ _ _ i ∙ j) (y.later c)
+  disjoin e es true i d c = some_true (cond-true _ _ _ i) (y.here d)
+  disjoin e es false i d (each_false j c) = each_false (cond-false _ _ _ i ∙ j) (y.one_and d c)
+  disjoin e es false i d (some_true j c) = some_true (cond-false _ _ _ i ∙ j) (y.later c)
 
   disjoined : {es : List (Expr V)} → Each_is Truth es → Disjoined es
   disjoined none = each_false refl y.none
@@ -128,13 +113,13 @@ module _ {V : Type 0} (facts : V → Value → Type 0) (values : V → Value) wh
   choose : (d e : Expr V) (cs : List (Expr V × Expr V)) (other : Level V) (k : ValueKind) (b : Bool) → truth_of (value_of values d) ≡ b → Yields facts (out-Expr V d) (val.Truth b)
       → Is e k → Chosen cs other k → Chosen ((d, e) ∷ cs) other k
   choose d e cs other k true i f h c =
-      let w = cond_true (truth_of (value_of values d)) (value_of values e) (chosen_of cs (level_value values other)) i in
+      let w = cond-true (truth_of (value_of values d)) (value_of values e) (chosen_of cs (level_value values other)) i in
       record {
         takes = subst (λ (z : Value). Takes facts ((d, e) ∷ cs) other z) (sym w) (y.taken f (value_yields e k h));
         is_kind = ap kind_of w ∙ (ap kind_of (value_of-level values e) ∙ h.is_kind);
       }
   choose d e cs other k false i f h c =
-      let w = cond_false (truth_of (value_of values d)) (value_of values e) (chosen_of cs (level_value values other)) i in
+      let w = cond-false (truth_of (value_of values d)) (value_of values e) (chosen_of cs (level_value values other)) i in
       record { takes = subst (λ (z : Value). Takes facts ((d, e) ∷ cs) other z) (sym w) (y.passed f c.takes); is_kind = ap kind_of w ∙ c.is_kind }
 
   chosen : {k : ValueKind} {cs : List (Expr V × Expr V)} {other : Level V} → Cases_are k cs → Valued facts values other k → Chosen cs other k

@@ -9,10 +9,7 @@ use Rattle.bind_scopes.specs.Scopes.{HasScopes, named_in}
 use Rattle.bind_scopes.specs.declared.scopes.Named.{Named}
 use Rattle.bind_scopes.specs.declared.scopes.Named.TheVariants.{Variable, Parameter, Symbol}
 use Rattle.bind_values.specs.declared.leaves.UnitLeaves.{UnitLeaves}
-
--- the value at this place, or false where there is none
-abbrev pub value_at : List Value → ℕ → Value
-value_at values k = unwrap_or (slice_get values k) (value.Truth false)
+use Rattle.gts_core.specs.Readings.{value_at}
 
 -- what stands for what was named; false for nothing
 abbrev pub leaf_of : List Value → Option Named → Leaf

@@ -1,7 +1,8 @@
 // What paths stand for, where the values of parameters are known.
 
 ghost use Rattle.std.specs.Prelude.{◌≡◌};
-ghost use Rattle.bind_values.specs.Leaves.{value_at, leaf_of, leaf_in, IsInTree};
+ghost use Rattle.gts_core.specs.Readings.{value_at};
+ghost use Rattle.bind_values.specs.Leaves.{leaf_of, leaf_in, IsInTree};
 
 use ar_base::UnitId;
 use ar_syntax::Path;

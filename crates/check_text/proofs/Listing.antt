@@ -9,6 +9,7 @@ use Rattle.ar_base.specs.Texts.{line}
 use Rattle.ar_base.proofs.Standing.{one_none, one_cases, one_first, one_rest}
 use Rattle.ar_meaning.specs.Found.{IsAnswer}
 use Rattle.ar_meaning.specs.Runs.{Label}
+use Rattle.ar_meaning.proofs.Found.{same_answer}
 use Rattle.ar_io.specs.declared.outside.SinkFailed.{SinkFailed}
 use Rattle.gts_core.specs.declared.bound.Chain.{Chain}
 use Rattle.gts_core.specs.declared.system.GtsParts.{GtsParts}
@@ -58,19 +59,12 @@ listed_answer (ls ∷ lines) set =
     (λ a b. (a, b)) (λ w. w.0) (λ w. w.1) (all_answer (events_of ls) set) (all_answer set (events_of ls)))
     (listed_answer lines set)
 
--- two tests of one fact answer alike
-pub same_answer : (a b : Bool) (P : Type 0) → IsAnswer a P → IsAnswer b P → a ≡ b
-same_answer true true P h k = refl
-same_answer true false P h k = absurd (k h)
-same_answer false true P h k = absurd (h k)
-same_answer false false P h k = refl
-
 -- a set that is listed, or not
 pub listed_yes : (lines : List (List Label)) (set : List ℕ) → IsListed lines set → listed_in lines set ≡ true
-listed_yes lines set h = same_answer (listed_in lines set) true (IsListed lines set) (listed_answer lines set) h
+listed_yes lines set h = same_answer (IsListed lines set) (listed_in lines set) true (listed_answer lines set) h
 
 pub listed_not : (lines : List (List Label)) (set : List ℕ) → (IsListed lines set → ⊥) → listed_in lines set ≡ false
-listed_not lines set h = same_answer (listed_in lines set) false (IsListed lines set) (listed_answer lines set) h
+listed_not lines set h = same_answer (IsListed lines set) (listed_in lines set) false (listed_answer lines set) h
 
 -- what is written of a set
 pub missing_none : (p : GtsParts) (ways : List WayId) (lines : List (List Label)) (set : List ℕ) → IsListed lines set → ◌≡◌ {A = List ℕ} [] (missing_one p ways lines set)
@@ -81,11 +75,6 @@ pub missing_some : (p : GtsParts) (ways : List WayId) (lines : List (List Label)
 missing_some p ways lines set h =
     sym (append_assoc (codes "missing ") (braced (texts_at p ways set)) (10 ∷ []))
     ∙ sym (ap (λ (b : Bool). if b then [] else line (codes "missing " ++ braced (texts_at p ways set))) (listed_not lines set h))
-
--- joints of tests
-pub and_true : (b : Bool) → b ≡ (b && true)
-and_true true = refl
-and_true false = refl
 
 pub and_false : (b : Bool) → false ≡ (b && false)
 and_false true = refl

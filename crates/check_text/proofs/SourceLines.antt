@@ -12,13 +12,14 @@ use Rattle.ar_meaning.specs.FlatOf.{IsNumber, IsFlatOf}
 use Rattle.ar_meaning.specs.Image.{Event_renames}
 use Rattle.ar_meaning.proofs.ByNumber.{keyed}
 use Rattle.ar_meaning.proofs.FlatSystems.{flat_back}
+use Rattle.ar_meaning.proofs.ImageWays.{ways_count}
 use Rattle.ar_firing.specs.Static.{IsStatic}
 use Rattle.ar_firing.specs.Forest.{IsLine}
 use Rattle.ar_firing.proofs.ImageModes.{line_there}
 use Rattle.ar_firing.proofs.RulesHold.{all_static}
 use Rattle.gts_core.specs.View.{Views, net_of}
 use Rattle.gts_core.specs.declared.system.GtsParts.{GtsParts}
-use Rattle.gts_core.proofs.Viewing.{are_numbered}
+use Rattle.gts_core.proofs.Viewing.{are_numbered, keyed_by}
 use Rattle.gts_flatten.specs.Elaborating.{Elaborated}
 use Rattle.gts_flatten.specs.Flat.{naming_of}
 use Rattle.hierarchy.specs.Units.{Thing}
@@ -31,17 +32,6 @@ use Rattle.replayer.proofs.WayLemmas.{label_alike}
 use Rattle.cut_text.specs.Printed.{edges_of, way_in, labels_in, events_text, things_of, IsForestOf}
 use Rattle.cut_text.specs.Texts.{braced, labels_text}
 use Rattle.cut_text.proofs.FlatLines.{flat_line}
-
--- events that rename each other have as many ways
-ways_count : {V W : Type 0} (same : V → W → Type 0) {es : List (Event V)} {fs : List (Event W)}
-    → Along (Event_renames same) es fs → (n : ℕ) → ways_of (slice_get es n) ≡ ways_of (slice_get fs n)
-ways_count same l.none zero = refl
-ways_count same l.none (suc n) = refl
-ways_count same (l.one_and r rs) zero = along_length _ _ r.ways
-ways_count same (l.one_and r rs) (suc n) = ways_count same rs n
-
-pub keyed_by : (p : GtsParts) (flat : System ℕ) → Views p flat → AreKeyed flat.net
-keyed_by p flat views = subst (λ (net : Net ℕ). AreKeyed net) (sym views.net) (keyed (net_of p) (are_numbered p))
 
 module _ (x : Elaborated) (p : GtsParts) (flat : System ℕ) (dropped : List ℕ) (f : Forest)
     (one : (a b : System ℕ) → Views p a → Views p b → a ≡ b) (h : IsForestOf x p flat dropped f) where

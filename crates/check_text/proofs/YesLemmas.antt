@@ -1,6 +1,7 @@
 -- When the last line of a check is `yes`.
 use Rattle.std.proofs.Common.{◌≡◌, ℕ, zero, suc, Bool, true, false, ◌&&◌, List, [], ◌∷◌, ◌++◌, reverse, refl, sym, ◌∙◌, ap, subst, arith, append_assoc}
 use Rattle.std.proofs.lemmas.List.{reverse-append}
+use Rattle.std.proofs.lemmas.Bool.{and_parts}
 use Rattle.ar_base.specs.Lists.{Stands, IsOneOf}
 use Rattle.ar_base.proofs.Standing.{stands_within, stands_some, one_none}
 use Rattle.domains.specs.declared.Value.{Value}
@@ -23,10 +24,6 @@ ends_told : (text front : List ℕ) (b : Bool) → text ≡ front ++ last_line b
 ends_told text front true e y = refl
 ends_told text front false e y = absurd (not_both front y.front (sym e ∙ y.is))
 
-both_true : (a b : Bool) → (a && b) ≡ true → (a ≡ true) × (b ≡ true)
-both_true true b e = (refl, e)
-both_true false b e = absurd (cc e)
-
 good_is : (said : Said) → is_good said ≡ true → said ≡ IsGood
 good_is IsGood e = refl
 good_is Fails e = absurd (cc e)
@@ -34,8 +31,8 @@ good_is (Holds k) e = absurd (cc e)
 
 good_at : (all : List Said) → all_good all ≡ true → (n : ℕ) (said : Said) → Stands all n said → said ≡ IsGood
 good_at [] e n said s = cc
-good_at (a ∷ all) e zero said s = let i : said ≡ a = cc in i ∙ good_is a (both_true (is_good a) (all_good all) e).0
-good_at (a ∷ all) e (suc n) said s = good_at all (both_true (is_good a) (all_good all) e).1 n said s
+good_at (a ∷ all) e zero said s = let i : said ≡ a = cc in i ∙ good_is a (and_parts (is_good a) (all_good all) e).0
+good_at (a ∷ all) e (suc n) said s = good_at all (and_parts (is_good a) (all_good all) e).1 n said s
 
 all_are_good : (all : List Said) → ((n : ℕ) (said : Said) → Stands all n said → said ≡ IsGood) → all_good all ≡ true
 all_are_good [] h = refl
@@ -55,7 +52,7 @@ module _ {V : Type 0} (names : Naming) (sys : System V) (dropped : List ℕ) (ob
 
   right_list : right_word ≡ true → IsRight sys dropped observer wanted (lines_in cuts)
   right_list e =
-      let b = both_true (all_good t.said) (is_none t.missing) e in
+      let b = and_parts (all_good t.said) (is_none t.missing) e in
       record {
         good = λ n ls s.
             let said = stands_some t.said n (let w = stands_within (lines_in cuts) n ls s in omega (arith, w, t.are_said.long)) in

@@ -7,6 +7,7 @@ use Rattle.ar_base.specs.declared.faults.RuleFault.{RuleFault}
 use Rattle.ar_base.specs.declared.faults.RuleFault.TheVariants.{Rule, Limit, Memory}
 use Rattle.ar_base.specs.declared.places.Place.{Place}
 use Rattle.ar_base.proofs.Standing.{one_first, one_rest}
+use Rattle.ar_base.proofs.Comparing.{not_before}
 use Rattle.ar_syntax.specs.declared.items.Item.{Item}
 use Rattle.ar_syntax.specs.declared.items.Model.{Model}
 use Rattle.class_table.specs.Declaring.{Declared, IsDeclared}
@@ -21,7 +22,7 @@ use Rattle.class_table.specs.declared.types.TypeKinds.{TypeKinds}
 use Rattle.class_table.specs.declared.tables.TypeBody.{TypeBody}
 use Rattle.class_table.specs.declared.declaring.Declared.{Declared as Parts}
 use Rattle.class_table.specs.declared.tables.Classes.{Classes}
-use Rattle.class_table.proofs.FirstPlaces.{earliest_same, not_before}
+use Rattle.class_table.proofs.FirstPlaces.{earliest_same}
 use Rattle.class_table.proofs.Broken.{KeptBelow, none_below, next_below, all_kept, broken_at, kept_none, is_l1, is_l2, is_l3, is_l4, is_l5}
 
 -- what the parts declare

@@ -4,11 +4,11 @@ use Rattle.ar_base.specs.Lists.{IsOneOf}
 use Rattle.ar_base.specs.Breach.{IsBroken, AreKept}
 use Rattle.ar_base.specs.declared.places.Place.{Place}
 use Rattle.ar_base.proofs.Standing.{one_cases, one_none}
+use Rattle.ar_base.proofs.Comparing.{lt_or_same}
 use Rattle.ar_syntax.specs.declared.items.Model.{Model}
 use Rattle.class_table.specs.Declaring.{Declared}
 use Rattle.class_table.specs.Rules.{BreaksItems, BreaksTypes, BreaksContainment, BreaksNames, LacksMain, Breaks, l1, l2, l3, l4, l5, text_rules}
 use Rattle.class_table.specs.Earliest.{IsEarliest, nowhere, there}
-use Rattle.class_table.proofs.FirstPlaces.{lt_or_same}
 
 module _ (model : Model) (main : Option (List ℕ)) (d : Declared) where
   -- the tests of the rules, each with what it found

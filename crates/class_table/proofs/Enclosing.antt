@@ -1,8 +1,10 @@
 -- Bodies inside bodies.
 use Rattle.std.proofs.Common.{◌≡◌, ℕ, ◌≤◌, slice_index, List, Option, Some, None, option_map, refl, sym, ◌∙◌, ap, subst, arith}
+use Rattle.std.proofs.lemmas.Option.{same_Some}
 use Rattle.ar_base.specs.Lists.{Stands, IsOneOf, Along}
 use Rattle.ar_base.specs.declared.places.Place.{Place}
 use Rattle.ar_base.proofs.Standing.{one_here}
+use Rattle.ar_base.proofs.Comparing.{not_before}
 use Rattle.ar_syntax.specs.declared.members.Member.{out-Member}
 use Rattle.ar_syntax.specs.declared.members.Member.TheOpen as member
 use Rattle.ar_syntax.specs.declared.members.TypeForm.{TypeForm}
@@ -16,7 +18,6 @@ use Rattle.class_table.specs.declared.tables.Body.{Body}
 use Rattle.class_table.specs.declared.tables.Owned.{Owned}
 use Rattle.class_table.specs.declared.tables.Owned.TheVariants.{Plain, Nested}
 use Rattle.class_table.specs.Earliest.{IsEarliest, nowhere, there}
-use Rattle.class_table.proofs.FirstPlaces.{not_before}
 use Rattle.class_table.proofs.Looping.{AtItem}
 use Rattle.class_table.proofs.OwnAt.{own_shown, shown_back}
 
@@ -25,14 +26,10 @@ pub names_inside : (d : Declared) (f : MemberForm) (c : ℕ) (p : Place) → Nam
 names_inside d f c p (extends e) = ap (option_map (λ (b : ℕ). (b, Some p))) e
 names_inside d f c p (instances {t = t} x e g) = ap (λ (h : TypeForm). inside_type d h t.at) e ∙ ap (option_map (λ (b : ℕ). (b, Some t.at))) g
 
--- what an option holds is one
-pub some_same : {A : Type 0} (x y : A) → Some x ≡ Some y → x ≡ y
-some_same x y e = cc
-
 -- where an option holds a pair, it held the first
 pub held_first : (o : Option ℕ) (at : Place) (c : ℕ) (p : Option Place) → option_map {U = ℕ × Option Place} (λ (b : ℕ). (b, Some at)) o ≡ Some (c, p) → (o ≡ Some c) × (p ≡ Some at)
 held_first None at c p e = cc
-held_first (Some b) at c p e = let g = some_same _ _ e in (ap (λ (z : ℕ × Option Place). Some z.0) g, sym (ap (λ (z : ℕ × Option Place). z.1) g))
+held_first (Some b) at c p e = let g = same_Some _ _ e in (ap (λ (z : ℕ × Option Place). Some z.0) g, sym (ap (λ (z : ℕ × Option Place). z.1) g))
 
 -- what a member puts inside is the class that it names
 pub inside_names : (d : Declared) (f : MemberForm) (c : ℕ) (p : Option Place) → inside_form d f ≡ Some (c, p) → (at : Place) × (p ≡ Some at) × NamesClass d f c at
@@ -65,7 +62,7 @@ inside_owned d a b (block x at id s) = (Nested x at id, None, s, refl)
 
 pub owned_inside : (d : Declared) (a b : ℕ) (o : Owned) (at : Option Place) → IsOneOf (own_at d a) o → inside d o ≡ Some (b, at) → HasInside d a b
 owned_inside d a b (Plain m) at s e = let h = inside_names d (out-Member m) b at e in class m s h.2
-owned_inside d a b (Nested x p id) at s e = let i : id.n ≡ b = ap (λ (z : ℕ × Option Place). z.0) (some_same _ _ e) in subst (HasInside d a) i (block x p id s)
+owned_inside d a b (Nested x p id) at s e = let i : id.n ≡ b = ap (λ (z : ℕ × Option Place). z.0) (same_Some _ _ e) in subst (HasInside d a) i (block x p id s)
 
 -- one further
 pub within_then : (d : Declared) (a b c : ℕ) → IsWithin d a b → HasInside d b c → IsWithin d a c
@@ -98,7 +95,7 @@ module _ (d : Declared) (bodies : List Body) (shown : Along IsBodyOf bodies d.bo
       by : (o : Owned) → IsOneOf b.own.items o → IsAgain d k o p → BreaksContainment d p
       by (Plain m) i a =
           let n = inside_names d (out-Member m) a.class (Some p) a.names in
-          let e : n.0 ≡ p = sym (some_same _ _ n.1) in
+          let e : n.0 ≡ p = sym (same_Some _ _ n.1) in
           record {
             body = k;
             member = m;
@@ -107,7 +104,7 @@ module _ (d : Declared) (bodies : List Body) (shown : Along IsBodyOf bodies d.bo
             names = subst (NamesClass d (out-Member m) a.class) e n.2;
             again = a.again;
           }
-      by (Nested x at c) i a = let g = ap (λ (z : ℕ × Option Place). z.1) (some_same _ _ a.names) in absurd (cc)
+      by (Nested x at c) i a = let g = ap (λ (z : ℕ × Option Place). z.1) (same_Some _ _ a.names) in absurd (cc)
 
   pub contained_back : (p : Place) → BreaksContainment d p → (k : ℕ) × AtItem bodies (λ (k : ℕ) (b : Body). NamesAgain d k b.own.items) k p
   contained_back p h =
@@ -128,7 +125,7 @@ pub again_there : (d : Declared) (body : ℕ) (o : Owned) (c : ℕ) (at : Place)
 again_there d body o c at e w = there (record { class = c; names = e; again = w }) (λ q b h. not_before q at b (same q h))
   where
     same : (q : Place) → IsAgain d body o q → q ≡ at
-    same q h = let g = some_same _ _ (sym h.names ∙ e) in some_same _ _ (ap (λ (z : ℕ × Option Place). z.1) g)
+    same q h = let g = same_Some _ _ (sym h.names ∙ e) in same_Some _ _ (ap (λ (z : ℕ × Option Place). z.1) g)
 
 pub again_not : (d : Declared) (body : ℕ) (o : Owned) (c : ℕ) (at : Place) → inside d o ≡ Some (c, Some at) → (IsWithin d c body → ⊥) → IsEarliest (IsAgain d body o) None
-again_not d body o c at e n = nowhere (λ p h. let g = ap (λ (z : ℕ × Option Place). z.0) (some_same _ _ (sym h.names ∙ e)) in n (subst (λ (x : ℕ). IsWithin d x body) g h.again))
+again_not d body o c at e n = nowhere (λ p h. let g = ap (λ (z : ℕ × Option Place). z.0) (same_Some _ _ (sym h.names ∙ e)) in n (subst (λ (x : ℕ). IsWithin d x body) g h.again))

@@ -5,6 +5,7 @@ use Rattle.ar_base.specs.Lists.{Stands, IsOneOf}
 use Rattle.ar_base.specs.Numbers.{NameId}
 use Rattle.ar_base.specs.declared.places.Place.{Place}
 use Rattle.ar_base.proofs.Standing.{stands_map, stands_map_back, one_here}
+use Rattle.ar_base.proofs.Comparing.{not_before}
 use Rattle.ar_syntax.specs.declared.items.DomainBody.{DomainBody}
 use Rattle.ar_syntax.specs.declared.items.DomainBody.TheVariants as body
 use Rattle.ar_syntax.specs.declared.items.Item.{Item}
@@ -16,7 +17,6 @@ use Rattle.class_table.specs.Repeating.{IsRepeated, HasMet}
 use Rattle.class_table.specs.declared.repeats.Repeats.{Repeats}
 use Rattle.class_table.specs.Rules.{IsNoDomain, twice, many, turned, wide, BreaksItems, one_name, no_domain}
 use Rattle.class_table.specs.Items.{IsNoneAt, IsNoDomainItem, HasNoDomain, IsNoRange, AreNoSymbols, item_pair}
-use Rattle.class_table.proofs.FirstPlaces.{not_before}
 use Rattle.class_table.proofs.Taken.{map_next}
 use Rattle.class_table.proofs.Looping.{AtItem}
 
@@ -128,8 +128,3 @@ items_back items p (one_name j k x y l s t e) = inl (record {
   place = refl;
 })
 items_back items p (no_domain d o n) = inr (record { item = item.Domain d; is_item = o; is_none = record { is_none = n; at = refl } })
-
--- what an answer that is there keeps
-pub ok_map : {A E : Type 0} {P Q : A → Type 0} (r : Result A E) → ((a : A) → P a → Q a) → IfOk r P → IfOk r Q
-ok_map (Ok a) f h = f a h
-ok_map (Err e) f h = h

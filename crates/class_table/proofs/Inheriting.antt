@@ -1,5 +1,6 @@
 -- Members with those of the classes that are extended.
 use Rattle.std.proofs.Common.{◌≡◌, ℕ, ◌+◌, List, [], ◌∷◌, ◌++◌, map, length, suc, arith, Some, None, Result, Ok, Err, OnOk, refl, sym, ◌∙◌, ap, subst, append_assoc}
+use Rattle.std.proofs.lemmas.List.{append-nil}
 use Rattle.ar_base.specs.Lists.{Stands, Along}
 use Rattle.ar_base.specs.declared.places.Place.{Place}
 use Rattle.ar_base.proofs.Standing.{stands_one, stands_map, stands_map_back, along_on, along_back}
@@ -13,12 +14,6 @@ use Rattle.class_table.specs.Listing.{AddsClass, InheritsMore}
 use Rattle.class_table.specs.declared.tables.Body.{Body}
 use Rattle.class_table.specs.declared.tables.Owned.{Owned}
 use Rattle.class_table.proofs.Looping.{AtItem}
-use Rattle.class_table.proofs.Laid.{append_none}
-
--- what an answer without a value keeps
-pub on_ok : {A E : Type 0} {P Q : Type 0} (r : Result A E) → (P → Q) → OnOk r P → OnOk r Q
-on_ok (Ok a) f h = f h
-on_ok (Err e) f h = h
 
 module _ (d : Declared) where
   -- what members bring, one after the other
@@ -29,12 +24,12 @@ module _ (d : Declared) where
   inherits_append os ps xs ys (passes {os = qs} {xs = us} e r) k = passes e (inherits_append qs ps us ys r k)
 
   pub inherit_none : (o : Owned) (old : List Site) → extended o ≡ None → InheritsMore d o old old
-  inherit_none o old e = record { sites = []; brings = passes e nothing; joined = sym (append_none old) }
+  inherit_none o old e = record { sites = []; brings = passes e nothing; joined = sym (append-nil old) }
 
   pub inherit_some : (o : Owned) (x : ℕ) (old new : List Site) → extended o ≡ Some x → AddsClass d x old new → InheritsMore d o old new
   inherit_some o x old new e a = record {
     sites = a.sites;
-    brings = subst (Inherits d (o ∷ [])) (append_none a.sites) (from x a.of_class.class e a.of_class.is_named a.of_class.are_members nothing);
+    brings = subst (Inherits d (o ∷ [])) (append-nil a.sites) (from x a.of_class.class e a.of_class.is_named a.of_class.are_members nothing);
     joined = a.joined;
   }
 

@@ -1,5 +1,6 @@
 -- Bodies that are laid one after the other.
 use Rattle.std.proofs.Common.{◌≡◌, ℕ, ◌+◌, ◌≤◌, List, [], ◌∷◌, ◌++◌, length, set, get_or, Vec, false, refl, sym, ◌∙◌, ap, subst, arith, append_assoc, length-append}
+use Rattle.std.proofs.lemmas.List.{append-nil}
 use Rattle.std.specs.Global.{Global}
 use Rattle.ar_base.specs.Lists.{Along, none as along_none, one_and as along_and}
 use Rattle.ar_base.specs.Numbers.{NameId}
@@ -15,11 +16,6 @@ use Rattle.class_table.specs.Laying.{LaysUnit, LaysMember, LaysBlock, KeepsOwn}
 use Rattle.class_table.specs.declared.tables.Body.{Body}
 use Rattle.class_table.specs.declared.tables.Owned.{Owned}
 use Rattle.class_table.specs.declared.tables.Owned.TheVariants.{Plain, Nested}
-
--- the list with nothing behind it
-pub append_none : {A : Type 0} (xs : List A) → xs ++ [] ≡ xs
-append_none [] = refl
-append_none {A = A} (x ∷ xs) = ap (λ (ys : List A). x ∷ ys) (append_none xs)
 
 -- items related one after the other
 pub along_append : {A B : Type 0} {R : A → B → Type 0} (xs : List A) (ys : List B) (us : List A) (vs : List B) → Along R xs ys → Along R us vs → Along R (xs ++ us) (ys ++ vs)
@@ -78,7 +74,7 @@ so_far_next name at ms own own' old mid new m o e s l = record {
         omega (arith, a, b, c)
 
     last : Lays (length mid) (m ∷ []) (o ∷ []) l.inner
-    last = subst (Lays (length mid) (m ∷ []) (o ∷ [])) (append_none l.inner) (one_and l.lays none)
+    last = subst (Lays (length mid) (m ∷ []) (o ∷ [])) (append-nil l.inner) (one_and l.lays none)
 
 pub so_far_end : (u : UnitTree) (own : Vec Owned Global) (old mid new : List Body) (place : ℕ) → place ≡ length old → LaysSoFar u.name u.at u.members.items own.items old mid → KeepsOwn own mid new place → LaysUnit u old new
 so_far_end u own old mid new place p s k = record {
@@ -103,7 +99,7 @@ member_block u o old new l f m e i = record {
 
 -- any other member stays
 pub member_plain : (m : Member) (old : List Body) → is_block (out-Member m) ≡ false → LaysMember m (Plain m) old old
-member_plain m old e = record { bodies = []; joined = sym (append_none old); inner = []; as_text = along_none; lays = plain e }
+member_plain m old e = record { bodies = []; joined = sym (append-nil old); inner = []; as_text = along_none; lays = plain e }
 
 -- the members of a body between two parts are written
 pub keep_kept : (own : Vec Owned Global) (bodies : List Body) (place : ℕ) (d : Body) → KeepsOwn own bodies (set bodies place (record (get_or bodies place d) { own = own })) place
@@ -147,4 +143,4 @@ on_end u rest len own old mid new place e p h k = so_far_end u own old mid new p
     empty (x ∷ xs) f = absurd (omega (arith, f))
 
     all : h.done ≡ u.members.items
-    all = sym (append_none h.done) ∙ (ap (λ (ms : List Member). h.done ++ ms) (sym (empty rest (sym e ∙ h.count))) ∙ h.all)
+    all = sym (append-nil h.done) ∙ (ap (λ (ms : List Member). h.done ++ ms) (sym (empty rest (sym e ∙ h.count))) ∙ h.all)

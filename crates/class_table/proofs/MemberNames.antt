@@ -2,6 +2,7 @@
 use Rattle.std.proofs.Common.{◌≡◌, ℕ, ◌≤◌, true, is_some, List, [], ◌∷◌, ◌++◌, map, length, slice_get, Option, Some, None, option_map, refl, sym, ◌∙◌, ap, arith, append_assoc}
 use Rattle.std.proofs.Common.{Bor, ltb, ltb-true, ltb-false, IfSome, option_copied, get_or}
 use Rattle.std.proofs.lemmas.Option.{slice_get_past}
+use Rattle.std.proofs.lemmas.List.{append-nil}
 use Rattle.class_table.proofs.Taken.{item_stands}
 use Rattle.ar_base.specs.Lists.{Stands, Along}
 use Rattle.ar_base.specs.Numbers.{NameId}
@@ -18,7 +19,6 @@ use Rattle.class_table.specs.Shown.{IsDeclaredBy, member_place}
 use Rattle.class_table.specs.declared.tables.Body.{Body}
 use Rattle.class_table.specs.declared.tables.Owned.{Owned}
 use Rattle.class_table.proofs.OwnAt.{own_shown}
-use Rattle.class_table.proofs.Laid.{append_none}
 
 module _ (d : Declared) (bodies : List Body) (shown : Along IsBodyOf bodies d.bodies) where
   -- a member at a place of a body that is there
@@ -47,7 +47,7 @@ declared_names d s (form.Named x) settings names e = by (type_named d x.n) e
 
 -- the names of members, one after the other
 pub named_next : (d : Declared) (xs : List Site) (x : Site) → map member_place (named_at d (xs ++ x ∷ [])) ≡ map member_place (named_at d xs) ++ map member_place (names_of d x (owned_at d x))
-named_next d [] x = ap (map member_place) (append_none (names_of d x (owned_at d x)))
+named_next d [] x = ap (map member_place) (append-nil (names_of d x (owned_at d x)))
 named_next d (y ∷ ys) x = maps (names_of d y (owned_at d y)) (named_at d (ys ++ x ∷ [])) ∙ (ap (λ (ms : List (ℕ × Place)). map member_place (names_of d y (owned_at d y)) ++ ms) (named_next d ys x) ∙ (sym (append_assoc (map member_place (names_of d y (owned_at d y))) (map member_place (named_at d ys)) _) ∙ ap (λ (ms : List (ℕ × Place)). ms ++ map member_place (names_of d x (owned_at d x))) (sym (maps (names_of d y (owned_at d y)) (named_at d ys)))))
   where
     maps : (us vs : List NamedMember) → map member_place (us ++ vs) ≡ map member_place us ++ map member_place vs

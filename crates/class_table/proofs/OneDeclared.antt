@@ -1,6 +1,7 @@
 -- A model declares one thing.
 use Rattle.std.proofs.Common.{◌≡◌, ℕ, ◌+◌, List, [], ◌∷◌, ◌++◌, length, true≢false, refl, sym, ◌∙◌, ap, subst}
 use Rattle.ar_base.specs.declared.numbers.Id.{Id}
+use Rattle.ar_base.proofs.Comparing.{id_from}
 use Rattle.ar_syntax.specs.declared.items.Item.{Item}
 use Rattle.ar_syntax.specs.declared.items.Model.{Model}
 use Rattle.ar_syntax.specs.declared.members.Member.{Member, out-Member}
@@ -11,10 +12,6 @@ use Rattle.class_table.specs.Declaring.FirstUses.{none as no_uses, known, first}
 use Rattle.class_table.specs.Declaring.Lays_items.{none as no_items, domain, class, block}
 use Rattle.class_table.specs.declared.tables.Owned.{Owned}
 use Rattle.class_table.specs.declared.tables.Owned.TheVariants.{Nested}
-
--- typed numbers that are one number are one
-pub id_from : {K : Type 0} (a b : Id K) → a.n ≡ b.n → a ≡ b
-id_from a b e = ap (λ n. record { n = n; of = a.of }) e
 
 -- two lists of first uses are one
 pub uses_one : (old xs new other : List ℕ) → FirstUses old xs new → FirstUses old xs other → new ≡ other

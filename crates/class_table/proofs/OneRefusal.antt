@@ -5,12 +5,12 @@ use Rattle.ar_base.specs.Breach.{IsEarlier, IsBroken}
 use Rattle.ar_base.specs.declared.faults.RuleFault.{RuleFault}
 use Rattle.ar_base.specs.declared.faults.RuleFault.TheVariants.{Rule}
 use Rattle.ar_base.specs.declared.places.Place.{Place}
+use Rattle.ar_base.proofs.Comparing.{lt_or_same}
 use Rattle.ar_syntax.specs.declared.items.Model.{Model}
 use Rattle.class_table.specs.Declaring.{Declared}
 use Rattle.class_table.specs.Rules.{Breaks, text_rules}
 use Rattle.class_table.specs.Tabling.{Tabulates, table, breach}
 use Rattle.class_table.specs.declared.tables.Classes.{Classes}
-use Rattle.class_table.proofs.FirstPlaces.{lt_or_same}
 use Rattle.class_table.proofs.OneDeclared.{declared_one}
 
 -- of two places one is before the other, or they are one

@@ -1,5 +1,6 @@
 -- Items that are taken apart one after the other.
 use Rattle.std.proofs.Common.{◌≡◌, ℕ, ◌+◌, List, [], ◌∷◌, ◌++◌, map, length, flat_map, refl, sym, ◌∙◌, ap, subst, arith, append_assoc, length-append}
+use Rattle.std.proofs.lemmas.List.{append-nil}
 use Rattle.ar_base.specs.Lists.{Along, none as along_none, one_and as along_and}
 use Rattle.ar_base.specs.Numbers.{NameId, BodyId}
 use Rattle.ar_base.proofs.Standing.{along_length}
@@ -19,7 +20,7 @@ use Rattle.class_table.specs.declared.tables.Body.{Body}
 use Rattle.class_table.specs.declared.tables.TypeBody.{TypeBody}
 use Rattle.class_table.specs.declared.tables.TypeBody.TheVariants as types
 use Rattle.class_table.proofs.Taken.{map_join}
-use Rattle.class_table.proofs.Laid.{append_none, along_append}
+use Rattle.class_table.proofs.Laid.{along_append}
 use Rattle.class_table.proofs.Numbered.{uses_append, types_later}
 
 -- items laid after others
@@ -40,7 +41,7 @@ items_append n m xs ys bs cs ts us ks js e (block {u = u} {own = own} {items = i
 
 -- the uses of one item more
 flat_next : (xs : List Item) (y : Item) → flat_map symbols_of (xs ++ y ∷ []) ≡ flat_map symbols_of xs ++ symbols_of y
-flat_next [] y = append_none (symbols_of y)
+flat_next [] y = append-nil (symbols_of y)
 flat_next (x ∷ xs) y = ap (λ (zs : List ℕ). symbols_of x ++ zs) (flat_next xs y) ∙ sym (append_assoc (symbols_of x) (flat_map symbols_of xs) (symbols_of y))
 
 -- what is taken apart so far
@@ -73,15 +74,15 @@ domain_next items bodies ts ts' s s' blocks d t e h g = record {
   as_types = subst (λ (xs : List (NameId × TypeBody)). Along (IsNamedType (list_of s')) xs (h.named ++ (d.name.n, DomainType d.body) ∷ [])) (sym e)
       (along_append ts h.named ((d.name, t) ∷ []) ((d.name.n, DomainType d.body) ∷ []) (types_later _ _ _ g.0.uses_of ts h.named h.as_types) (along_and (record { name = refl; is_type = g.1 }) along_none));
   uses = subst (λ (xs : List ℕ). FirstUses [] xs (list_of s')) (sym (flat_next items (item.Domain d))) (uses_append [] (list_of s) (list_of s') (flat_map symbols_of items) (symbols_in d.body) h.uses g.0.uses_of);
-  lays = subst (λ (bs : List TextBody). Lays_items 0 (items ++ item.Domain d ∷ []) bs (h.named ++ (d.name.n, DomainType d.body) ∷ []) (map (λ (b : BodyId). b.n) blocks)) (append_none h.texts)
-      (subst (λ (ks : List ℕ). Lays_items 0 (items ++ item.Domain d ∷ []) (h.texts ++ []) (h.named ++ (d.name.n, DomainType d.body) ∷ []) ks) (append_none (map (λ (b : BodyId). b.n) blocks))
+  lays = subst (λ (bs : List TextBody). Lays_items 0 (items ++ item.Domain d ∷ []) bs (h.named ++ (d.name.n, DomainType d.body) ∷ []) (map (λ (b : BodyId). b.n) blocks)) (append-nil h.texts)
+      (subst (λ (ks : List ℕ). Lays_items 0 (items ++ item.Domain d ∷ []) (h.texts ++ []) (h.named ++ (d.name.n, DomainType d.body) ∷ []) ks) (append-nil (map (λ (b : BodyId). b.n) blocks))
       (items_append 0 (length h.texts) items (item.Domain d ∷ []) h.texts [] h.named ((d.name.n, DomainType d.body) ∷ []) (map (λ (b : BodyId). b.n) blocks) [] (omega arith) h.lays (domain none)));
   numbered = g.0.numbered;
 }
 
 -- the uses of an item without symbols
 uses_same : (items : List Item) (i : Item) (s : List ℕ) → symbols_of i ≡ [] → FirstUses [] (flat_map symbols_of items) s → FirstUses [] (flat_map symbols_of (items ++ i ∷ [])) s
-uses_same items i s e h = subst (λ (xs : List ℕ). FirstUses [] xs s) (sym (flat_next items i ∙ (ap (λ (ys : List ℕ). flat_map symbols_of items ++ ys) e ∙ append_none (flat_map symbols_of items)))) h
+uses_same items i s e h = subst (λ (xs : List ℕ). FirstUses [] xs s) (sym (flat_next items i ∙ (ap (λ (ys : List ℕ). flat_map symbols_of items ++ ys) e ∙ append-nil (flat_map symbols_of items)))) h
 
 module _ (items : List Item) (old new : List Body) (ts : List (NameId × TypeBody)) (s : Symbols) (blocks : List BodyId) (u : UnitTree) (id : BodyId) (number : id.n ≡ length old) (h : PartsSoFar items old ts s blocks)
     (l : LaysUnit u old new) where
@@ -99,8 +100,8 @@ module _ (items : List Item) (old new : List Body) (ts : List (NameId × TypeBod
     as_types = subst (λ (xs : List (NameId × TypeBody)). Along (IsNamedType (list_of s)) xs (h.named ++ (u.name.n, ClassType (length old)) ∷ [])) (sym e)
         (along_append ts h.named ((u.name, types.Class id) ∷ []) ((u.name.n, ClassType (length old)) ∷ []) h.as_types (along_and (record { name = refl; is_type = class_type number }) along_none));
     uses = uses_same items (item.Class u) (list_of s) refl h.uses;
-    lays = subst (λ (bs : List TextBody). Lays_items 0 (items ++ item.Class u ∷ []) (h.texts ++ bs) (h.named ++ (u.name.n, ClassType (length old)) ∷ []) (map (λ (b : BodyId). b.n) blocks)) (append_none (record { name = u.name; at = u.at; own = l.own } ∷ l.inner))
-        (subst (λ (ks : List ℕ). Lays_items 0 (items ++ item.Class u ∷ []) (h.texts ++ (record { name = u.name; at = u.at; own = l.own } ∷ l.inner ++ [])) (h.named ++ (u.name.n, ClassType (length old)) ∷ []) ks) (append_none (map (λ (b : BodyId). b.n) blocks))
+    lays = subst (λ (bs : List TextBody). Lays_items 0 (items ++ item.Class u ∷ []) (h.texts ++ bs) (h.named ++ (u.name.n, ClassType (length old)) ∷ []) (map (λ (b : BodyId). b.n) blocks)) (append-nil (record { name = u.name; at = u.at; own = l.own } ∷ l.inner))
+        (subst (λ (ks : List ℕ). Lays_items 0 (items ++ item.Class u ∷ []) (h.texts ++ (record { name = u.name; at = u.at; own = l.own } ∷ l.inner ++ [])) (h.named ++ (u.name.n, ClassType (length old)) ∷ []) ks) (append-nil (map (λ (b : BodyId). b.n) blocks))
         (items_append 0 (length old) items (item.Class u ∷ []) h.texts _ h.named _ (map (λ (b : BodyId). b.n) blocks) [] at_next h.lays (class l.lays none)));
     numbered = h.numbered;
   }
@@ -113,8 +114,8 @@ module _ (items : List Item) (old new : List Body) (ts : List (NameId × TypeBod
     as_types = h.as_types;
     uses = uses_same items (item.Block u) (list_of s) refl h.uses;
     lays = subst (λ (ks : List ℕ). Lays_items 0 (items ++ item.Block u ∷ []) (h.texts ++ record { name = u.name; at = u.at; own = l.own } ∷ l.inner) h.named ks) (sym same)
-        (subst (λ (bs : List TextBody). Lays_items 0 (items ++ item.Block u ∷ []) (h.texts ++ bs) h.named (map (λ (b : BodyId). b.n) blocks ++ length old ∷ [])) (append_none (record { name = u.name; at = u.at; own = l.own } ∷ l.inner))
-        (subst (λ (us : List (ℕ × NamedType)). Lays_items 0 (items ++ item.Block u ∷ []) (h.texts ++ (record { name = u.name; at = u.at; own = l.own } ∷ l.inner ++ [])) us (map (λ (b : BodyId). b.n) blocks ++ length old ∷ [])) (append_none h.named)
+        (subst (λ (bs : List TextBody). Lays_items 0 (items ++ item.Block u ∷ []) (h.texts ++ bs) h.named (map (λ (b : BodyId). b.n) blocks ++ length old ∷ [])) (append-nil (record { name = u.name; at = u.at; own = l.own } ∷ l.inner))
+        (subst (λ (us : List (ℕ × NamedType)). Lays_items 0 (items ++ item.Block u ∷ []) (h.texts ++ (record { name = u.name; at = u.at; own = l.own } ∷ l.inner ++ [])) us (map (λ (b : BodyId). b.n) blocks ++ length old ∷ [])) (append-nil h.named)
         (items_append 0 (length old) items (item.Block u ∷ []) h.texts _ h.named [] (map (λ (b : BodyId). b.n) blocks) (length old ∷ []) at_next h.lays (block l.lays none))));
     numbered = h.numbered;
   }
@@ -146,7 +147,7 @@ on_end all rest len bodies ts s blocks e h = subst (λ (ms : List Item). PartsSo
     empty (x ∷ xs) f = absurd (omega (arith, f))
 
     done : h.done ≡ all
-    done = sym (append_none h.done) ∙ (ap (λ (ms : List Item). h.done ++ ms) (sym (empty rest (sym e ∙ h.count))) ∙ h.joined)
+    done = sym (append-nil h.done) ∙ (ap (λ (ms : List Item). h.done ++ ms) (sym (empty rest (sym e ∙ h.count))) ∙ h.joined)
 
 pub parts_of : (items : List Item) (p : Parts) (s : Symbols) → s.list.items ≡ p.symbols.items → PartsSoFar items p.bodies.items p.types.items s p.blocks.items → AreParts items p
 parts_of items p s e h = record {

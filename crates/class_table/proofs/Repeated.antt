@@ -6,10 +6,11 @@ use Rattle.std.proofs.lemmas.Bool.{cases_eq}
 use Rattle.ar_base.specs.Lists.{Stands}
 use Rattle.ar_base.specs.declared.places.Place.{Place}
 use Rattle.ar_base.proofs.Standing.{stands_none, stands_within, stands_left, stands_next, stands_split}
+use Rattle.ar_base.proofs.Comparing.{not_before}
 use Rattle.class_table.specs.declared.repeats.Repeats.{Repeats}
 use Rattle.class_table.specs.Earliest.{IsEarliest, nowhere, there, IsEarlierOf}
 use Rattle.class_table.specs.Repeating.{IsRepeated, IsNamed, HasMet}
-use Rattle.class_table.proofs.FirstPlaces.{earliest_both, earliest_same, not_before}
+use Rattle.class_table.proofs.FirstPlaces.{earliest_both, earliest_same}
 
 -- nothing is named in no names
 pub named_none : (x : ℕ) → IsNamed [] x → ⊥

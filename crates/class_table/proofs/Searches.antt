@@ -1,8 +1,11 @@
 -- A search among bodies.
 use Rattle.std.proofs.Common.{◌≡◌, ℕ, zero, suc, ◌+◌, ◌<◌, ◌≤◌, Bool, true, false, List, [], ◌∷◌, ◌++◌, length, set, replicate, Option, Some, None, refl, sym, ◌∙◌, ap, subst, inl, inr, arith, append_assoc}
+use Rattle.std.proofs.lemmas.Option.{same_Some}
+use Rattle.std.proofs.lemmas.List.{append-nil}
 use Rattle.ar_base.specs.Lists.{Stands, IsOneOf, Along}
 use Rattle.ar_base.specs.declared.places.Place.{Place}
 use Rattle.ar_base.proofs.Standing.{stands_none, stands_split, stands_within, one_here, one_left, one_right, one_split, one_first, one_none, one_cases}
+use Rattle.ar_base.proofs.Comparing.{lt_or_same}
 use Rattle.class_table.specs.Declaring.{Declared}
 use Rattle.class_table.specs.Tables.{IsBodyOf}
 use Rattle.class_table.specs.Rules.{HasInside, IsWithin, itself, further}
@@ -10,15 +13,13 @@ use Rattle.class_table.specs.Shown.{inside}
 use Rattle.class_table.specs.Searching.{IsSeen, OpensOne, Opens, OpensInside}
 use Rattle.class_table.specs.declared.tables.Body.{Body}
 use Rattle.class_table.specs.declared.tables.Owned.{Owned}
-use Rattle.class_table.proofs.FirstPlaces.{lt_or_same}
 use Rattle.class_table.proofs.Taken.{stands_set}
-use Rattle.class_table.proofs.Laid.{append_none}
 use Rattle.class_table.proofs.OwnAt.{own_shown, shown_back}
-use Rattle.class_table.proofs.Enclosing.{some_same, inside_owned, owned_inside, within_then}
+use Rattle.class_table.proofs.Enclosing.{inside_owned, owned_inside, within_then}
 
 -- a body that is seen is open
 pub opens_seen : (b : ℕ) (old : List ℕ) (seen : List Bool) → IsSeen seen old → Stands seen b true → OpensOne b old old seen
-opens_seen b old seen h s = record { added = []; joined = sym (append_none old); only = λ c o. absurd (one_none c o); is_open = h.is_open b s; is_seen = h }
+opens_seen b old seen h s = record { added = []; joined = sym (append-nil old); only = λ c o. absurd (one_none c o); is_open = h.is_open b s; is_seen = h }
 
 -- a body that is not is opened
 pub opens_new : (b : ℕ) (old new : List ℕ) (seen : List Bool) → new ≡ old ++ b ∷ [] → IsSeen seen old → OpensOne b old new (set seen b true)
@@ -37,7 +38,7 @@ opens_new b old new seen e h = record {
 pub opens_none : (d : Declared) (own : List Owned) (old : List ℕ) (seen : List Bool) → ((o : Owned) → IsOneOf own o → inside d o ≡ None) → IsSeen seen old → Opens d own old old seen
 opens_none d own old seen n h = record {
   added = [];
-  joined = sym (append_none old);
+  joined = sym (append-nil old);
   only = λ c o. absurd (one_none c o);
   are_open = λ o b at s e. let g = n o s in cc;
   is_seen = h;
@@ -49,7 +50,7 @@ opens_some d o b at old new seen e h = record {
   added = h.added;
   joined = h.joined;
   only = λ c i. (o, at, one_first o [], e ∙ ap (λ (x : ℕ). Some (x, at)) (sym (h.only c i)));
-  are_open = λ q c p s f. let same : c ≡ b = sym (ap (λ (z : ℕ × Option Place). z.0) (some_same _ _ (sym e ∙ (ap (inside d) (is_it q s) ∙ f)))) in subst (IsOneOf new) (sym same) h.is_open;
+  are_open = λ q c p s f. let same : c ≡ b = sym (ap (λ (z : ℕ × Option Place). z.0) (same_Some _ _ (sym e ∙ (ap (inside d) (is_it q s) ∙ f)))) in subst (IsOneOf new) (sym same) h.is_open;
   is_seen = h.is_seen;
 }
   where
@@ -86,7 +87,7 @@ module _ (d : Declared) (bodies : List Body) (shown : Along IsBodyOf bodies d.bo
   pub inside_no : (k : ℕ) (old : List ℕ) (seen : List Bool) → length bodies ≤ k → IsSeen seen old → OpensInside d k old old seen
   inside_no k old seen l h = record {
     added = [];
-    joined = sym (append_none old);
+    joined = sym (append-nil old);
     only = λ c i. absurd (one_none c i);
     are_open = λ c i. let w = inside_owned d k c i in let v = shown_back d bodies shown k w.0 w.2 in let m = stands_within bodies k v.0 v.1 in absurd (omega arith);
     is_seen = h;

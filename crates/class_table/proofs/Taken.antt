@@ -2,9 +2,9 @@
 use Rattle.std.proofs.Common.{◌≡◌, ℕ, zero, suc, ◌+◌, ◌<◌, List, [], ◌∷◌, ◌++◌, length, map, take, get_or, refl, sym, ◌∙◌, ap, subst, arith}
 use Rattle.std.proofs.Common.{inl, inr, ◌⊎◌, set}
 use Rattle.std.proofs.lemmas.List.{take_more}
-use Rattle.class_table.proofs.FirstPlaces.{lt_or_same}
 use Rattle.ar_base.specs.Lists.{Stands}
 use Rattle.ar_base.proofs.Standing.{stands_one, stands_get, stands_within}
+use Rattle.ar_base.proofs.Comparing.{lt_or_same}
 
 module _ {A : Type 0} where
   -- the item of a loop stands at its index

@@ -8,6 +8,7 @@ use Rattle.ar_syntax.specs.declared.members.TypeForm.TheVariants as form
 use Rattle.ar_base.specs.Lists.{Stands, IsOneOf, Along}
 use Rattle.ar_base.specs.declared.places.Place.{Place}
 use Rattle.ar_base.proofs.Standing.{one_here}
+use Rattle.ar_base.proofs.Comparing.{not_before}
 use Rattle.class_table.specs.Declaring.{MemberForm, Declared}
 use Rattle.class_table.specs.Members.{type_named, class_named, domain_named}
 use Rattle.class_table.specs.Tables.{IsBodyOf}
@@ -16,7 +17,6 @@ use Rattle.class_table.specs.Rules.IsNoType.{named as no_type}
 use Rattle.class_table.specs.Rules.IsNoDomainName.{named as no_domain}
 use Rattle.class_table.specs.Earliest.{IsEarliest, nowhere, there}
 use Rattle.class_table.specs.Misnaming.{misnamed_form, misnamed_at, place_unless, types_form, bounds_form}
-use Rattle.class_table.proofs.FirstPlaces.{not_before}
 use Rattle.class_table.proofs.Kindly.{some_false}
 use Rattle.class_table.specs.Shown.{MisnamesIn, MisnamesOne}
 use Rattle.class_table.specs.declared.tables.Body.{Body}

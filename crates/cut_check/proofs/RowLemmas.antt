@@ -6,7 +6,7 @@ use Rattle.std.proofs.lemmas.Bool.{cases_eq}
 use Rattle.ar_base.specs.Lists.{Stands, IsOneOf, AreDifferent}
 use Rattle.ar_base.specs.Numbers.{WayId}
 use Rattle.ar_base.proofs.Standing.{stands_one, stands_within, stands_some, stands_left, stands_split, stands_none, stands_next, stands_map_back, stands_get, one_here, one_none, one_cases, one_split, one_left, one_right, one_first, different_more}
-use Rattle.ar_firing.proofs.LeastSets.{one_of}
+use Rattle.ar_base.proofs.Sets.{member_told}
 use Rattle.ar_meaning.specs.Found.{IsAnswer}
 use Rattle.ar_meaning.specs.Runs.{Label}
 use Rattle.flow_blocks.specs.Bits.{IsSet, words_for}
@@ -150,7 +150,7 @@ module _ (p : GtsParts) (dropped : List ℕ) where
     -- whether an event is fresh can be told
     fresh_told : (row : List ℕ) (ls : List Label) (e : ℕ) → e < length allowed → ((n : ℕ) → IsSet row n ↔ IsOneOf (events_of ls) n)
         → (b : Bool) × IsAnswer b (IsFreshEvent allowed row e)
-    fresh_told row ls e lt bits = let b = stands_some allowed e lt in go b.0 b.1 (one_of (events_of ls) e)
+    fresh_told row ls e lt bits = let b = stands_some allowed e lt in go b.0 b.1 (member_told (events_of ls) e)
       where
         go : (b : Bool) → Stands allowed e b → IsOneOf (events_of ls) e ⊎ (IsOneOf (events_of ls) e → ⊥) → (f : Bool) × IsAnswer f (IsFreshEvent allowed row e)
         go false s o = (false, λ f. let i : false ≡ true = stands_one allowed e false true s f.is_open in cc)

@@ -13,56 +13,7 @@ use Rattle.ar_firing.specs.Cuts.{IsFirable}
 use Rattle.ar_firing.specs.Forest.{ModeTree, IsModeTree, IsForest}
 use Rattle.ar_firing.proofs.TreeEdges.{row_is_live}
 use Rattle.firable_families.specs.Firable.{LeadsTo, root, edge, IsFirableOf}
-
--- the path of the tree of this variable, where there is one
-abbrev path_for : List ModeTree → (ℕ → List Label) → ℕ → List Label
-path_for [] p n = []
-path_for (t ∷ ts) p n = cond (eqb t.variable n) (p zero) (path_for ts (λ k. p (suc k)) n)
-
--- it is that of a tree, or there is none
-data Found (trees : List ModeTree) (p : ℕ → List Label) (n : ℕ) (path : List Label) : Type 0 where
-  at : (k : ℕ) (tree : ModeTree) → Stands trees k tree → tree.variable ≡ n → path ≡ p k → Found trees p n path
-  nowhere : ((k : ℕ) (tree : ModeTree) → Stands trees k tree → tree.variable ≡ n → ⊥) → path ≡ [] → Found trees p n path
-
-found : (trees : List ModeTree) (p : ℕ → List Label) (n : ℕ) → Found trees p n (path_for trees p n)
-found [] p n = nowhere (λ k tree i e. cc) refl
-found (t ∷ ts) p n = step (found ts (λ k. p (suc k)) n) (eqb t.variable n) refl
-  where
-    later : {path : List Label} → Found ts (λ k. p (suc k)) n path → (t.variable ≡ n → ⊥) → Found (t ∷ ts) p n path
-    later (at k tree i e q) d = at (suc k) tree i e q
-    later (nowhere h q) d = nowhere (λ k tree i e. none k tree i e) q
-      where
-        none : (k : ℕ) (tree : ModeTree) → Stands (t ∷ ts) k tree → tree.variable ≡ n → ⊥
-        none zero tree i e = let r : t ≡ tree = cc in d (ap (λ z. z.variable) r ∙ e)
-        none (suc k) tree i e = h k tree i e
-
-    step : Found ts (λ k. p (suc k)) n (path_for ts (λ k. p (suc k)) n) → (b : Bool) → eqb t.variable n ≡ b → Found
-        (t ∷ ts) p n (cond (eqb t.variable n) (p zero) (path_for ts (λ k. p (suc k)) n))
-    step f true h = at zero t refl (eqb-true t.variable n h)
-        (ap (λ b. cond b (p zero) (path_for ts (λ k. p (suc k)) n)) h)
-    step f false h = subst (λ b. Found (t ∷ ts) p n (cond b (p zero) (path_for ts (λ k. p (suc k)) n))) (sym h)
-        (later f (λ e. true≢false (sym (eq-eqb t.variable n e) ∙ h)))
-
--- a state, from what each state variable has
-build : {V : Type 0} (xs : List (Variable V)) (Q : ℕ → Value → Type 0) →
-    ((k : ℕ) (x : Variable V) → Stands xs k x → x.is_state ≡ true → (m : Value) × Q k m)
-    → (t : List Value) × (length t ≡ length xs) × ((k : ℕ) (x : Variable V) → Stands xs k x → x.is_state ≡ true →
-    (m : Value) × Stands t k m × Q k m)
-build [] Q h = ([], refl, λ k x i s. cc)
-build {V = V} (y ∷ xs) Q h =
-    let r = build xs (λ k. Q (suc k)) (λ k x i s. h (suc k) x i s) in
-    let v = first y.is_state refl in
-    (v.0 ∷ r.0, ap suc r.1, after v.0 v.1 r.0 r.2)
-  where
-    first : (b : Bool) → y.is_state ≡ b → (v : Value) × (y.is_state ≡ true → Q zero v)
-    first true e = let m = h zero y refl e in (m.0, λ s. m.1)
-    first false e = (y.value, λ s. absurd (true≢false (sym s ∙ e)))
-
-    after : (v : Value) → (y.is_state ≡ true → Q zero v) → (t : List Value) →
-        ((k : ℕ) (x : Variable V) → Stands xs k x → x.is_state ≡ true → (m : Value) × Stands t k m × Q (suc k) m)
-        → (k : ℕ) (x : Variable V) → Stands (y ∷ xs) k x → x.is_state ≡ true → (m : Value) × Stands (v ∷ t) k m × Q k m
-    after v q t r zero x i s = let e : y ≡ x = cc in (v, refl, q (ap (λ z. z.is_state) e ∙ s))
-    after v q t r (suc k) x i s = r k x i s
+use Rattle.firable_families.proofs.InForests.{path_for, Found, at, nowhere, found, build}
 
 module _ {V : Type 0} (sys : System V) (dropped : List ℕ) (keyed : AreKeyed sys.net) (static : IsStatic sys dropped)
     (trees : List ModeTree) (forest : IsForest sys dropped trees) where

@@ -5,15 +5,12 @@ use Rattle.ar_base.specs.Lists.{Stands}
 use Rattle.ar_base.specs.Numbers.{EventId, WayId}
 use Rattle.ar_base.specs.Texts.{line}
 use Rattle.ar_base.proofs.Standing.{one_here, one_first, one_rest, stands_map, stands_get}
+use Rattle.ar_base.proofs.Lines.{line_after}
 use Rattle.gts_core.specs.declared.system.GtsParts.{GtsParts}
 use Rattle.min_cuts.specs.Kept.{numbers}
 use Rattle.min_cuts.specs.Gives.{Gives}
 use Rattle.cut_text.specs.Tables.{way_found, way_at, HasWay, HaveWays, AllHaveWays}
 use Rattle.cut_text.specs.Texts.{count_line, fault_line}
-
--- a piece before the rest of its line
-line_after : (a t rest : List ℕ) → rest ≡ line t → a ++ rest ≡ line (a ++ t)
-line_after a t rest e = ap (λ (z : List ℕ). a ++ z) e ∙ sym (append_assoc a t (10 ∷ []))
 
 pub fault_pieces : (set fault : List ℕ)
     → codes "fault: " ++ (set ++ (codes ": " ++ (fault ++ 10 ∷ []))) ≡ fault_line set fault

@@ -19,6 +19,7 @@ use Rattle.typed_expr.proofs.Renaming.{carries, renames_turned}
 use Rattle.ar_meaning.proofs.ByNumber.{keyed}
 use Rattle.ar_meaning.proofs.ImageFlows.{value_there}
 use Rattle.ar_meaning.proofs.FlatSystems.{flat_image, flat_back}
+use Rattle.ar_meaning.proofs.ImageWays.{ways_count}
 use Rattle.ar_firing.specs.Static.{IsStatic}
 use Rattle.ar_firing.specs.Cuts.{Reaches, Conflicts, Makes, Cut, ConflictSet}
 use Rattle.ar_firing.specs.Forest.{IsLine}
@@ -30,7 +31,7 @@ use Rattle.ar_firing.proofs.OrderedSets.{undropped}
 use Rattle.ar_firing.proofs.RulesHold.{all_static}
 use Rattle.gts_core.specs.View.{Views, net_of}
 use Rattle.gts_core.specs.declared.system.GtsParts.{GtsParts}
-use Rattle.gts_core.proofs.Viewing.{are_numbered}
+use Rattle.gts_core.proofs.Viewing.{are_numbered, keyed_by}
 use Rattle.gts_flatten.specs.Elaborating.{Elaborated}
 use Rattle.gts_flatten.specs.Flat.{naming_of, naming_of_parts}
 use Rattle.hierarchy.specs.Units.{Thing}
@@ -45,22 +46,11 @@ use Rattle.cut_text.specs.Printed.{edges_of, way_in, labels_in, events_text, set
 use Rattle.cut_text.specs.Texts.{braced, labels_text, label_lists, count_line, fault_line, IsCutText, IsConflictText}
 use Rattle.cut_text.proofs.FlatLines.{flat_line}
 
--- events that rename each other have as many ways
-ways_count : {V W : Type 0} (same : V → W → Type 0) {es : List (Event V)} {fs : List (Event W)}
-    → Along (Event_renames same) es fs → (n : ℕ) → ways_of (slice_get es n) ≡ ways_of (slice_get fs n)
-ways_count same l.none zero = refl
-ways_count same l.none (suc n) = refl
-ways_count same (l.one_and r rs) zero = along_length _ _ r.ways
-ways_count same (l.one_and r rs) (suc n) = ways_count same rs n
-
 -- a count that was cut off has the same line
 counted : (n : ℕ) → count_line (min n (2 ^ 128 - 1)) ≡ count_line n
 counted n =
     let e : min (min n (2 ^ 128 - 1)) (2 ^ 128 - 1) ≡ min n (2 ^ 128 - 1) = omega arith in
     ap (λ (z : ℕ). line (codes "count " ++ decimal z)) e
-
-pub keyed_by : (p : GtsParts) (flat : System ℕ) → Views p flat → AreKeyed flat.net
-keyed_by p flat views = subst (λ (net : Net ℕ). AreKeyed net) (sym views.net) (keyed (net_of p) (are_numbered p))
 
 module _ (x : Elaborated) (p : GtsParts) (flat : System ℕ) (dropped : List ℕ) (f : Forest)
     (one : (a b : System ℕ) → Views p a → Views p b → a ≡ b) (h : IsForestOf x p flat dropped f) where

@@ -5,6 +5,7 @@ use Rattle.std.proofs.lemmas.List.{length-set, at_drop_more, at_drop_all}
 use Rattle.ar_base.specs.Lists.{Stands, IsOneOf}
 use Rattle.ar_base.specs.Numbers.{WayId}
 use Rattle.ar_base.proofs.Standing.{one_cases, one_first, one_rest, one_here, one_left, one_right, one_split, one_none, stands_get, stands_within}
+use Rattle.ar_base.proofs.Items.{stands_set}
 use Rattle.gts_core.specs.Sound.{IsSound}
 use Rattle.gts_core.specs.declared.system.GtsParts.{GtsParts}
 use Rattle.mode_forests.specs.Ways.{HasOwnWay, OwnTheirWays}
@@ -12,11 +13,6 @@ use Rattle.mode_forests.specs.declared.forests.Edge.{Edge}
 use Rattle.mode_forests.specs.declared.forests.ModeTree.{ModeTree}
 use Rattle.cut_text.specs.Printed.{edges_of, HaveOneWay}
 use Rattle.cut_text.specs.Tables.{AreWaysOf, with_ways}
-
-set_here : {A : Type 0} (xs : List A) (i : ℕ) (v : A) → i < length xs → Stands (set xs i v) i v
-set_here [] i v l = absurd (omega (arith, l))
-set_here (x ∷ xs) zero v l = refl
-set_here (x ∷ xs) (suc i) v l = set_here xs i v (omega (arith, l))
 
 set_else : {A : Type 0} (xs : List A) (i : ℕ) (v : A) (k : ℕ) (a : A) → (i ≡ k → ⊥) → Stands xs k a → Stands
     (set xs i v) k a
@@ -52,7 +48,7 @@ keeps (x ∷ xs) ways e v within one h =
     (λ (i : x.event.n ≡ e). (
       x.way,
       subst (λ (k : ℕ). Stands (set ways x.event.n x.way) k x.way) i
-          (set_here ways x.event.n x.way (within.each x (one_first x xs))),
+          (stands_set ways x.event.n x.way (within.each x (one_first x xs))),
       one x (one_first x xs) i,
     ))
     (λ (d : x.event.n ≡ e → ⊥). (h.0, set_else ways x.event.n x.way e h.0 d h.1, h.2))
@@ -73,7 +69,7 @@ tabled (y ∷ xs) ways within one x o =
     (λ z q e. one.one z x (one_rest y xs z q) o e) (
       y.way,
       subst (λ (z : Edge). Stands (set ways y.event.n y.way) z.event.n y.way) i
-          (set_here ways y.event.n y.way (within.each y (one_first y xs))),
+          (stands_set ways y.event.n y.way (within.each y (one_first y xs))),
       ap (λ (z : Edge). z.way.n) i,
     ))
     (λ (q : IsOneOf xs x).

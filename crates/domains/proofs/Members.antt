@@ -1,5 +1,5 @@
 -- The items of lists.
-use Rattle.std.proofs.Common.{◌⊎◌, inl, inr, ◌≡◌, zero, suc, List, [], ◌∷◌, map, Contains, AllPairs, refl, subst, arith}
+use Rattle.std.proofs.Common.{slice_get, Some, ◌⊎◌, inl, inr, ◌≡◌, zero, suc, List, [], ◌∷◌, map, Contains, AllPairs, refl, subst, arith}
 
 pub nothing-in : {X : Type 0} (x : X) → Contains [] x → ⊥
 nothing-in x (k, h, e) = absurd (omega (arith, h))
@@ -13,6 +13,15 @@ contains-cons x s xs (k, h, e) = (suc k, omega (arith, h), e)
 pub contains-cases : {X : Type 0} (x s : X) (xs : List X) → Contains (x ∷ xs) s → (x ≡ s) ⊎ Contains xs s
 contains-cases x s xs (zero, h, e) = inl e
 contains-cases x s xs (suc k, h, e) = inr (k, omega (arith, h), e)
+
+-- what a list with one item has
+pub contains-one : {X : Type 0} (x s : X) → Contains (x ∷ []) s → x ≡ s
+contains-one x s h = elim (contains-cases x s [] h) [ inl e ↦ e | inr k ↦ absurd (nothing-in s k) ]
+
+-- the first item of a list is in it
+pub first-in : {X : Type 0} (xs : List X) (x : X) → slice_get xs 0 ≡ Some x → Contains xs x
+first-in [] x e = cc
+first-in (y ∷ xs) x e = let i : y ≡ x = cc in (0, omega arith, i)
 
 pub pairs-tail : {X : Type 0} (R : X → X → Type 0) (x : X) (xs : List X) → AllPairs R (x ∷ xs) → AllPairs R xs
 pairs-tail R x xs a i j d h k = a (suc i) (suc j) d (omega (arith, h)) (omega (arith, k))

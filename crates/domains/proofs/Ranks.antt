@@ -2,7 +2,7 @@
 use Rattle.std.proofs.Common.{◌≡◌, ◌≢◌, inl, inr, ℕ, ◌+◌, ◌-◌, ◌<◌, ◌≤◌, nat_lt, Bool, true, false, cond, List, [], ◌∷◌, length, count_by, Contains, AllPairs, find, Option, Some, None, IfSome, IfNone, IsSome, is_some, Vec, Global, nat_eq, ◌↔◌, refl, sym, ap, ◌∙◌, subst, arith}
 use Rattle.std.proofs.lemmas.Bool.Decides.{nat_tests}
 use Rattle.std.proofs.lemmas.List.Sums.{sum_by-cons, count_by-le-length}
-use Rattle.std.proofs.lemmas.Bool.{cases_order}
+use Rattle.std.proofs.lemmas.Bool.{cases_order, eqb-true}
 use Rattle.domains.specs.Domains.{IsDomain, HasMore}
 use Rattle.domains.proofs.Members.{contains-head, contains-cons, contains-cases, pairs-tail, pairs-head}
 use Rattle.domains.specs.declared.Value.{Value}
@@ -126,9 +126,6 @@ pub find-none : {X : Type 0} (p : X → Bool) (xs : List X) (s : X) → find p x
 find-none p [] s e (k, h, i) = absurd (omega (arith, h))
 find-none p (x ∷ xs) s e m = find_fails p x xs s (p x) refl (λ i n. find-none p xs s i n) e m
 
-same_true : (m n : ℕ) → nat_eq m n ≡ true → m ≡ n
-same_true m n h = grind (arith, nat_tests)
-
 same_false : (m n : ℕ) → nat_eq m n ≡ false → m ≢ n
 same_false m n h = grind (arith, nat_tests)
 
@@ -138,7 +135,7 @@ pub ranked-found : (xs : List ℕ) (p : ℕ) (r : Option ℕ) → r ≡ find (λ
 ranked-found xs p None e = tt
 ranked-found xs p (Some s) e =
     let f = find-passes (λ s. nat_eq (rank s xs) p) xs s (sym e) in
-    (f.0, same_true (rank s xs) p f.1)
+    (f.0, eqb-true (rank s xs) p f.1)
 
 pub ranked-none : (xs : List ℕ) (p : ℕ) (r : Option ℕ) → r ≡ find (λ s. nat_eq (rank s xs) p) xs
     → IfNone r ((s : ℕ) → Contains xs s → rank s xs ≢ p)

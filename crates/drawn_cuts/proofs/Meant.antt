@@ -16,6 +16,7 @@ use Rattle.ar_firing.proofs.Cutting.{no_conflict}
 use Rattle.ar_firing.proofs.LeastThere.{least_there}
 use Rattle.ar_firing.proofs.Meeting.{met_is_conflicting}
 use Rattle.ar_firing.proofs.RunsTold.{meets_told, meets_as}
+use Rattle.ar_firing.proofs.OneListing.{listed_as}
 use Rattle.mode_forests.specs.Views.{trees_of}
 use Rattle.mode_forests.specs.declared.forests.Forest.{Forest}
 use Rattle.zdd_families.specs.Families.{Family as Sets, has}
@@ -33,16 +34,6 @@ use Rattle.gate_diagrams.specs.declared.answer.Drawn.{Drawn}
 use Rattle.gate_diagrams.specs.declared.answer.Drawn.TheVariants.{Conflicts, Cuts}
 use Rattle.table_meaning.specs.Laws.{ShowsLeast}
 use Rattle.drawn_cuts.specs.Drawn.{AreDrawn, sets_of, family_of}
-
--- lists of what is one and the same
-listed_as : {P Q : List ℕ → Type 0} {sets : List (List ℕ)} → ((s : List ℕ) → P s → Q s) → ((s : List ℕ) → Q s → P s)
-    → AreListed P sets → AreListed Q sets
-listed_as on back l = record {
-  ascend = l.ascend;
-  sound = λ k s h. on s (l.sound k s h);
-  whole = λ s q. l.whole s (back s q);
-  in_order = l.in_order;
-}
 
 least_as : {P Q : List ℕ → Type 0} → ((s : List ℕ) → P s → Q s) → ((s : List ℕ) → Q s → P s) → (s : List ℕ)
     → IsLeast P s → IsLeast Q s
@@ -67,9 +58,6 @@ nodes_seen number other forest table limit n = record {
   where_some = λ s c. n.where_some s (true_seen other number forest (value_at table.gates table.conflict) s c);
   where_none = λ none. n.where_none (λ s c. none s (true_seen number other forest (value_at table.gates table.conflict) s c));
 }
-
-number_told : (x y : ℕ) → (x ≡ y) ⊎ (x ≡ y → ⊥)
-number_told x y = cases_eq x y
 
 module _ (sys : System ℕ) (dropped : List ℕ) (static : IsKeyedStatic sys dropped) (number : ℕ → ℕ) (forest : Forest)
     (is_forest : IsForest sys dropped (trees_of number forest)) (observer : Expr ℕ) (wanted : Value) (table : Table)
@@ -98,7 +86,7 @@ module _ (sys : System ℕ) (dropped : List ℕ) (static : IsKeyedStatic sys dro
       → IsConflictAt (trees_of (λ n. n) forest) table set → ⊥
   none_true l set t =
       let free : IsConflictFree sys dropped = λ s m.
-      let r = least_there (MeetsConflict sys dropped) (λ u. meets_told number_told sys dropped u)
+      let r = least_there (MeetsConflict sys dropped) (λ u. meets_told cases_eq sys dropped u)
       (meets_as sys dropped) s m in
       let o = l.whole r.0 r.2 in
       one_none o.0 o.1 in

@@ -20,7 +20,7 @@ pub record OneAll (set : List ℕ) (gates : List Gate) (oss : List (List Operand
   pub is_one : IsOneOf oss operands
   pub each : EachTrue set gates operands
 
-is_so : (v w : Value) → v ≡ w → is_same v w ≡ true
+pub is_so : (v w : Value) → v ≡ w → is_same v w ≡ true
 is_so v w e = subst (λ z. is_same v z ≡ true) e (same_self v)
 
 -- entries tell of the same when gates are added
@@ -190,7 +190,7 @@ groups_back ps d w a i = record {
 }
 
 -- an operand that is true somewhere is not Never
-true_kept : (set : List ℕ) (g : List Gate) (o : Operand) → value_at g o set ≡ true → is_never o ≡ false
+pub true_kept : (set : List ℕ) (g : List Gate) (o : Operand) → value_at g o set ≡ true → is_never o ≡ false
 true_kept set g Always h = refl
 true_kept set g Never h = cc
 true_kept set g (EventIs e sign) h = refl
@@ -205,12 +205,12 @@ entry_cases d o es e m = go (is_never o) m
     go true m = inr m
     go false m = one_cases (record { value = d; operand = o }) es e m
 
-entry_first : (d : Value) (o : Operand) (es : List Entry) → is_never o ≡ false
+pub entry_first : (d : Value) (o : Operand) (es : List Entry) → is_never o ≡ false
     → IsOneOf (with_entry d o es) (record { value = d; operand = o })
 entry_first d o es n = subst (λ b. IsOneOf (if b then es else record { value = d; operand = o } ∷ es)
     (record { value = d; operand = o })) (sym n) (one_first (record { value = d; operand = o }) es)
 
-entry_rest : (d : Value) (o : Operand) (es : List Entry) (e : Entry) → IsOneOf es e → IsOneOf (with_entry d o es) e
+pub entry_rest : (d : Value) (o : Operand) (es : List Entry) (e : Entry) → IsOneOf es e → IsOneOf (with_entry d o es) e
 entry_rest d o es e m = go (is_never o)
   where
     go : (b : Bool) → IsOneOf (if b then es else record { value = d; operand = o } ∷ es) e

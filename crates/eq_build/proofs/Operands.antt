@@ -3,6 +3,7 @@ use Rattle.std.proofs.Common.{◌≡◌, ℕ, suc, ◌+◌, ◌<◌, ◌≤◌, 
 use Rattle.std.specs.Result.{IsErrAnd}
 use Rattle.std.proofs.lemmas.List.{map-append}
 use Rattle.ar_base.specs.Numbers.{VarId}
+use Rattle.ar_base.proofs.Items.{none_left}
 use Rattle.typed_expr.specs.declared.expr.Expr.{Expr, out-Expr}
 use Rattle.eq_core.specs.Gates.{Gate}
 use Rattle.eq_core.specs.Values.{Grows}
@@ -15,7 +16,7 @@ use Rattle.eq_build.specs.Answers.{Entries, EachNeedsMore, PartsNeedMore, CasesN
 use Rattle.eq_build.specs.declared.entries.BuildFault.{BuildFault}
 use Rattle.eq_build.proofs.Growing.{longer_on, builds_more, operands_more, parts_more, cases_more}
 use Rattle.eq_build.proofs.Same.{builds_same}
-use Rattle.eq_build.proofs.Places.{item_next, nothing_left}
+use Rattle.eq_build.proofs.Places.{item_next}
 use Rattle.eq_build.proofs.Stopping.{stops_up, passed_on}
 use Rattle.eq_build.proofs.Threading.{SoFar, Parted, one_further, operand_stops, all_built}
 
@@ -69,7 +70,7 @@ module _ (rows : List Entries) where
   pub each_ends : (g h : List Gate) (es : List (Expr VarId)) (i : ℕ) (all : List Entries) → length es ≤ i
       → SoFar (Builds_each read) g es i (lists_in all) h → Builds_each read g es (lists_in all) h
   each_ends g h es i all l s =
-      all_built (Builds_each read) (λ k. b.none) g h es i (lists_in all) (nothing_left es i l) s
+      all_built (Builds_each read) (λ k. b.none) g h es i (lists_in all) (none_left es i l) s
 
   -- one part of a sum
   abbrev PartBuilds : List Gate → Bool × Expr VarId → Bool × List Entry → List Gate → Type 0
@@ -124,7 +125,7 @@ module _ (rows : List Entries) where
       → length ps ≤ i
       → SoFar (Builds_parts read) g ps i (parts_in all) h → Builds_parts read g ps (parts_in all) h
   parts_end g h ps i all l s =
-      all_built (Builds_parts read) (λ k. b.no_part) g h ps i (parts_in all) (nothing_left ps i l) s
+      all_built (Builds_parts read) (λ k. b.no_part) g h ps i (parts_in all) (none_left ps i l) s
 
   -- one case of a choice
   pub record CaseBuilds (g : List Gate) (c : Expr VarId × Expr VarId) (q : List Entry × List Entry) (h : List Gate)
@@ -212,4 +213,4 @@ module _ (rows : List Entries) where
   pub cases_end : (g h : List Gate) (cs : List (Expr VarId × Expr VarId)) (i : ℕ) (all : List (Entries × Entries))
       → length cs ≤ i → SoFar (Builds_cases read) g cs i (cases_in all) h → Builds_cases read g cs (cases_in all) h
   cases_end g h cs i all l s =
-      all_built (Builds_cases read) (λ k. b.no_case) g h cs i (cases_in all) (nothing_left cs i l) s
+      all_built (Builds_cases read) (λ k. b.no_case) g h cs i (cases_in all) (none_left cs i l) s

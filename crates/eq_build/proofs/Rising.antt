@@ -1,5 +1,6 @@
 -- Groups that rise, by their places.
 use Rattle.std.proofs.Common.{◌≡◌, ℕ, zero, suc, ◌+◌, ◌<◌, ◌⊎◌, inl, inr, true, List, [], ◌∷◌, map, length, get_or, set, refl, sym, ap, ◌∙◌, subst, arith}
+use Rattle.std.proofs.lemmas.List.{get_or_default}
 use Rattle.std.specs.List.{AllWithin}
 use Rattle.ar_base.proofs.Standing.{stands_get, stands_map, one_here}
 use Rattle.domains.specs.Values.{is_before}
@@ -8,7 +9,6 @@ use Rattle.domains.proofs.Order.{is_before-trans}
 use Rattle.eq_build.specs.Entries.{Rises}
 use Rattle.eq_build.specs.Views.{group_of}
 use Rattle.eq_build.specs.declared.groups.Group as flat
-use Rattle.eq_build.proofs.Places.{any_default}
 
 -- a group comes before one at a later place
 pub rises_at : (ps : List flat.Group) → Rises (map group_of ps) → (i j : ℕ) (d : flat.Group) → i < j → j < length ps
@@ -38,7 +38,7 @@ lower_to ps v m x r l is h = λ k d a b. at k d (below k b)
             [ inl e ↦ inl (ap suc e) | inr q ↦ inr (omega (arith, q)) ]
 
     here : (d : flat.Group) → is_before (get_or ps m d).value v ≡ true
-    here d = subst (λ (z : flat.Group). is_before z.value v ≡ true) (is ∙ any_default ps m x d l) h
+    here d = subst (λ (z : flat.Group). is_before z.value v ≡ true) (is ∙ get_or_default ps m x d l) h
 
     at : (k : ℕ) (d : flat.Group) → (k ≡ m) ⊎ (k < m) → is_before (get_or ps k d).value v ≡ true
     at k d (inl e) = subst (λ n. is_before (get_or ps n d).value v ≡ true) (sym e) (here d)

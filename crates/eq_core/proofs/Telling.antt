@@ -1,7 +1,10 @@
 -- Values stay as they are when gates are added, and the gates that are made have the values they are made for.
 use Rattle.std.proofs.Common.{◌≡◌, ℕ, zero, suc, ◌+◌, ◌<◌, ◌⊎◌, inl, inr, Bool, true, false, not, ◌&&◌, ◌||◌, List, [], ◌∷◌, ◌++◌, length, refl, sym, ap, ap₂, ◌∙◌, subst, arith, append_assoc, append-nil, length-append}
+use Rattle.std.proofs.lemmas.Bool.{or_cases, or_right, or_left, and_from, and_parts}
+use Rattle.std.proofs.Math.Bool.{or-true}
 use Rattle.ar_base.specs.Lists.{Stands, IsOneOf}
 use Rattle.ar_base.proofs.Standing.{stands_none}
+use Rattle.ar_base.proofs.Truths.{not_true, true_not}
 use Rattle.eq_core.specs.Gates.{Operand, Always, Never, EventIs, GateIs, Gate, Made, opposite, neutral, closed_as, joined, all_of, any_of}
 use Rattle.eq_core.specs.Ordered.{IsEarlier, AreBelow, IsInPlace}
 use Rattle.eq_core.specs.Values.{has_event, value_of_gate, signed, operand_at, joint_at, values_from, values_at, value_at, IsBelow, Tells, Grows, EachTrue, OneTrue}
@@ -105,14 +108,6 @@ opposite_below n Never l = tt
 opposite_below n (EventIs e sign) l = tt
 opposite_below n (GateIs g sign) l = l
 
-not_true : (b : Bool) → not b ≡ true → b ≡ true → ⊥
-not_true true e f = cc
-not_true false e f = cc
-
-true_not : (b : Bool) → (b ≡ true → ⊥) → not b ≡ true
-true_not true h = absurd (h refl)
-true_not false h = refl
-
 pub tells_opposite : {set : List ℕ} {gates : List Gate} {o : Operand} {P : Type 0} → Tells set gates o P
     → Tells set gates (opposite o) (P → ⊥)
 tells_opposite {set = set} {gates = gates} {o = o} t =
@@ -144,11 +139,7 @@ and_false : (b : Bool) → (b && false) ≡ false
 and_false true = refl
 and_false false = refl
 
-or_true : (b : Bool) → (b || true) ≡ true
-or_true true = refl
-or_true false = refl
-
-and_true : (b : Bool) → b ≡ (b && true)
+pub and_true : (b : Bool) → b ≡ (b && true)
 and_true true = refl
 and_true false = refl
 
@@ -163,7 +154,7 @@ all_stop set v (o ∷ kept) os = ap (λ b. operand_at set v o && b) (all_stop se
 
 one_stop : (set : List ℕ) (v : List Bool) (kept os : List Operand) → joint_at false set v (kept ++ Always ∷ os) ≡ true
 one_stop set v [] os = refl
-one_stop set v (o ∷ kept) os = ap (λ b. operand_at set v o || b) (one_stop set v kept os) ∙ or_true (operand_at set v o)
+one_stop set v (o ∷ kept) os = ap (λ b. operand_at set v o || b) (one_stop set v kept os) ∙ or-true (operand_at set v o)
 
 pub below_head : {n : ℕ} {o : Operand} {os : List Operand} → AreBelow n (o ∷ os) → IsBelow n o
 below_head {o = o} a = a.each o (record { place = zero; stands = refl })
@@ -268,40 +259,19 @@ mutual
       (one_joins set gates (kept ++ GateIs g sign ∷ []) os
       (below_more (length gates) kept (GateIs g sign) a (below_head b)) (below_tail b))
 
-and_first : (b c : Bool) → (b && c) ≡ true → (b ≡ true) × (c ≡ true)
-and_first true true e = (refl, refl)
-and_first true false e = cc
-and_first false c e = cc
-
-both_true : (b c : Bool) → b ≡ true → c ≡ true → (b && c) ≡ true
-both_true true c e f = f
-both_true false c e f = cc
-
-or_cases : (b c : Bool) → (b || c) ≡ true → (b ≡ true) ⊎ (c ≡ true)
-or_cases true c e = inl refl
-or_cases false c e = inr e
-
-or_first : (b c : Bool) → b ≡ true → (b || c) ≡ true
-or_first true c e = refl
-or_first false c e = cc
-
-or_second : (b c : Bool) → c ≡ true → (b || c) ≡ true
-or_second true c e = refl
-or_second false c e = e
-
 each_in_joint : (set : List ℕ) (v : List Bool) (os : List Operand) → joint_at true set v os ≡ true
     → (n : ℕ) (o : Operand) → Stands os n o → operand_at set v o ≡ true
 each_in_joint set v [] e zero o s = cc
 each_in_joint set v [] e (suc n) o s = cc
 each_in_joint set v (p ∷ os) e zero o s = let i : p ≡ o = cc in subst (λ z. operand_at set v z ≡ true) i
-    (and_first (operand_at set v p) (joint_at true set v os) e).0
+    (and_parts (operand_at set v p) (joint_at true set v os) e).0
 each_in_joint set v (p ∷ os) e (suc n) o s = each_in_joint set v os
-    (and_first (operand_at set v p) (joint_at true set v os) e).1 n o s
+    (and_parts (operand_at set v p) (joint_at true set v os) e).1 n o s
 
 joint_of_each : (set : List ℕ) (v : List Bool) (os : List Operand) → ((n : ℕ) (o : Operand) → Stands os n o
     → operand_at set v o ≡ true) → joint_at true set v os ≡ true
 joint_of_each set v [] h = refl
-joint_of_each set v (o ∷ os) h = both_true (operand_at set v o) (joint_at true set v os) (h zero o refl)
+joint_of_each set v (o ∷ os) h = and_from (operand_at set v o) (joint_at true set v os) (h zero o refl)
     (joint_of_each set v os (λ n p s. h (suc n) p s))
 
 one_in_joint : (set : List ℕ) (v : List Bool) (os : List Operand) → joint_at false set v os ≡ true
@@ -316,9 +286,9 @@ joint_of_one : (set : List ℕ) (v : List Bool) (os : List Operand) (n : ℕ) (o
     → operand_at set v o ≡ true → joint_at false set v os ≡ true
 joint_of_one set v [] zero o s e = cc
 joint_of_one set v [] (suc n) o s e = cc
-joint_of_one set v (p ∷ os) zero o s e = let i : o ≡ p = cc in or_first (operand_at set v p)
+joint_of_one set v (p ∷ os) zero o s e = let i : o ≡ p = cc in or_left (operand_at set v p)
     (joint_at false set v os) (subst (λ z. operand_at set v z ≡ true) i e)
-joint_of_one set v (p ∷ os) (suc n) o s e = or_second (operand_at set v p) (joint_at false set v os)
+joint_of_one set v (p ∷ os) (suc n) o s e = or_right (operand_at set v p) (joint_at false set v os)
     (joint_of_one set v os n o s e)
 
 pub none_below : (n : ℕ) → AreBelow n []

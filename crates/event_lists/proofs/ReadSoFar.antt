@@ -11,16 +11,14 @@ use Rattle.gts_core.specs.declared.system.GtsParts.{GtsParts}
 use Rattle.gts_flatten.specs.Elaborating.{Elaborated}
 use Rattle.replayer.specs.Labels.{NamesEvent}
 use Rattle.replayer.specs.Lines.{pieces}
-use Rattle.event_lists.specs.Naming.{is_comma, NamesEvents, HasUnknown, AreEventsOf}
+use Rattle.replayer.specs.Reads.{bytes_left}
+use Rattle.replayer.specs.CutLines.{is_comma}
+use Rattle.event_lists.specs.Naming.{NamesEvents, HasUnknown, AreEventsOf}
 
 -- the parts that are left, and their bytes with a comma more
 abbrev pub parts_left : Option (Bor (List ℕ)) → List (List ℕ)
 parts_left None = []
 parts_left (Some rest) = pieces is_comma rest.now
-
-abbrev pub bytes_left : Option (Bor (List ℕ)) → ℕ
-bytes_left None = 0
-bytes_left (Some rest) = length rest.now + 1
 
 -- the parts before those that are left name these events
 pub record IsRead (x : Elaborated) (all left : List (List ℕ)) (events : List ℕ) : Type 0 where
@@ -84,9 +82,3 @@ pub left_part : (rest o : Option (Bor (List ℕ))) (bytes : Bor (List ℕ)) (par
     → parts_left rest ≡ part ∷ parts_left o
 left_part rest None bytes part e h = ap parts_left e ∙ h
 left_part rest (Some more) bytes part e h = ap parts_left e ∙ h.0
-
-pub left_fewer : (rest o : Option (Bor (List ℕ))) (bytes : Bor (List ℕ)) (part : List ℕ) → rest ≡ Some bytes
-    → MatchOption o (pieces is_comma bytes.now ≡ part ∷ []) (λ more. (pieces is_comma bytes.now ≡ part ∷ pieces is_comma more.now) × (length more.now < length bytes.now))
-    → bytes_left o < bytes_left rest
-left_fewer rest None bytes part e h = omega (arith, ap bytes_left e)
-left_fewer rest (Some more) bytes part e h = omega (arith, ap bytes_left e, h.1)

@@ -7,12 +7,9 @@ use Rattle.gts_core.specs.declared.system.GtsParts.{GtsParts}
 use Rattle.gts_flatten.specs.Elaborating.{Elaborated}
 use Rattle.replayer.specs.Labels.{NamesEvent}
 use Rattle.replayer.specs.Lines.{is_mark, pieces}
+use Rattle.replayer.specs.CutLines.{is_comma}
 use Rattle.event_lists.specs.declared.reading.ListFault.{ListFault}
 use Rattle.event_lists.specs.declared.reading.ListFault.TheVariants.{NoEvent, Memory}
-
--- a comma
-abbrev pub is_comma : ℕ → Bool
-is_comma b = is_mark 44 b
 
 -- the parts of the text between its commas name these events, in order
 abbrev pub NamesEvents : Elaborated → List ℕ → List ℕ → Type 0

@@ -5,6 +5,7 @@ use Rattle.zdd_families.specs.Families.{Family, holds, node, IsAbove}
 use Rattle.zdd_families.specs.Sections.{upper, lower, IsCounted}
 use Rattle.zdd_families.proofs.Laws.{IsAbove_set, eqb-refl, eqb-above, filter-node, filter-none, filter-all, every, each_of, holds_here, holds-above}
 use Rattle.zdd_families.proofs.Sections.{IsCounted-lower, IsCounted-upper}
+use Rattle.zdd_families.proofs.Halves.{keeps_above, taken_off}
 use Rattle.zdd_nodes.specs.Nodes.{NodeId, Stored, Draws}
 use Rattle.zdd_nodes.specs.declared.NodeFault.{NodeFault}
 use Rattle.zdd_nodes.proofs.Growing.{Draws-weaker, counted_made}
@@ -12,17 +13,6 @@ use Rattle.zdd_nodes.proofs.Halved.{Halved}
 use Rattle.firable_families.specs.Walk.{left, all_lower, all_taken, some_occurs, occurs, taken}
 use Rattle.firable_families.proofs.Products.{Lacks, left_halves, left_skip, lower_lacks, taken_lacks}
 use Rattle.firable_families.proofs.Walking.{left_above}
-
--- ---- one tree's family
-keeps_above : (v : ℕ) (s : List ℕ) → IsAbove_set v s → filter (λ x. not (eqb v x)) s ≡ s
-keeps_above v [] a = refl
-keeps_above v (x ∷ s) a = ap (λ b. cond (not b) (x ∷ filter (λ x. not (eqb v x)) s) (filter (λ x. not (eqb v x)) s)) (eqb-above v x a.0) ∙ ap (λ t. x ∷ t) (keeps_above v s a.1)
-
-taken_off : (v : ℕ) (f : Family) → IsAbove v f → map (filter (λ x. not (eqb v x))) (map (λ s. v ∷ s) f ++ []) ≡ f
-taken_off v [] a = refl
-taken_off v (s ∷ f) a = ap₂ (λ t g. t ∷ g)
-    (ap (λ b. cond (not b) (v ∷ filter (λ x. not (eqb v x)) s) (filter (λ x. not (eqb v x)) s)) (eqb-refl v) ∙ keeps_above v s a.0)
-    (taken_off v f a.1)
 
 pub none_above : (v : ℕ) (f : Family) → IsAbove v f → occurs v f ≡ false
 none_above v [] a = refl

@@ -19,16 +19,16 @@ use Rattle.ar_firing.proofs.TreeEdges.{row_is_live, live_is_row}
 use Rattle.firable_families.specs.Firable.{LeadsTo, root, edge, IsFirableOf, IsTrueAt}
 
 -- the path of the tree of this variable, where there is one
-abbrev path_for : List ModeTree → (ℕ → List Label) → ℕ → List Label
+abbrev pub path_for : List ModeTree → (ℕ → List Label) → ℕ → List Label
 path_for [] p n = []
 path_for (t ∷ ts) p n = cond (eqb t.variable n) (p zero) (path_for ts (λ k. p (suc k)) n)
 
 -- it is that of a tree, or there is none
-data Found (trees : List ModeTree) (p : ℕ → List Label) (n : ℕ) (path : List Label) : Type 0 where
+pub data Found (trees : List ModeTree) (p : ℕ → List Label) (n : ℕ) (path : List Label) : Type 0 where
   at : (k : ℕ) (tree : ModeTree) → Stands trees k tree → tree.variable ≡ n → path ≡ p k → Found trees p n path
   nowhere : ((k : ℕ) (tree : ModeTree) → Stands trees k tree → tree.variable ≡ n → ⊥) → path ≡ [] → Found trees p n path
 
-found : (trees : List ModeTree) (p : ℕ → List Label) (n : ℕ) → Found trees p n (path_for trees p n)
+pub found : (trees : List ModeTree) (p : ℕ → List Label) (n : ℕ) → Found trees p n (path_for trees p n)
 found [] p n = nowhere (λ k tree i e. cc) refl
 found (t ∷ ts) p n = step (found ts (λ k. p (suc k)) n) (eqb t.variable n) refl
   where
@@ -45,7 +45,7 @@ found (t ∷ ts) p n = step (found ts (λ k. p (suc k)) n) (eqb t.variable n) re
     step f false h = subst (λ b. Found (t ∷ ts) p n (cond b (p zero) (path_for ts (λ k. p (suc k)) n))) (sym h) (later f (λ e. true≢false (sym (eq-eqb t.variable n e) ∙ h)))
 
 -- a state, from what each state variable has
-build : {V : Type 0} (xs : List (Variable V)) (Q : ℕ → Value → Type 0) → ((k : ℕ) (x : Variable V) → Stands xs k x → x.is_state ≡ true → (m : Value) × Q k m)
+pub build : {V : Type 0} (xs : List (Variable V)) (Q : ℕ → Value → Type 0) → ((k : ℕ) (x : Variable V) → Stands xs k x → x.is_state ≡ true → (m : Value) × Q k m)
     → (t : List Value) × (length t ≡ length xs) × ((k : ℕ) (x : Variable V) → Stands xs k x → x.is_state ≡ true → (m : Value) × Stands t k m × Q k m)
 build [] Q h = ([], refl, λ k x i s. cc)
 build {V = V} (y ∷ xs) Q h =

@@ -4,10 +4,12 @@ use Rattle.std.specs.List.{AllByRecursion, list_any}
 use Rattle.std.proofs.lemmas.Bool.{and_parts}
 use Rattle.ar_base.specs.Lists.{Stands, IsOneOf}
 use Rattle.ar_base.specs.Sets.{Ascends, Within, IsBefore}
+use Rattle.ar_base.proofs.Truths.{not_true, true_not}
 use Rattle.ar_firing.specs.Cuts.{IsLeast}
 use Rattle.ar_firing.specs.Listed.{AreListed}
 use Rattle.ar_firing.specs.Forest.{ModeTree}
 use Rattle.ar_firing.proofs.LeastSets.{within_then}
+use Rattle.ar_firing.proofs.OneListing.{ascending_same}
 use Rattle.zdd_families.specs.Families.{Family, same, within, has, order, IsInOrder, IsFamily, minimal}
 use Rattle.zdd_families.proofs.Filters.{IsFamily-filter}
 use Rattle.zdd_families.proofs.Laws.{same-true, same-refl, any_more, has-filter-yes}
@@ -102,19 +104,6 @@ within_is s t h = record { each = (within_law s t).0 h }
 pub is_within : (s t : List ℕ) → Within s t → within s t ≡ true
 is_within s t w = (within_law s t).1 w.each
 
-pub one_set : (s t : List ℕ) → Ascends s → Ascends t → Within s t → Within t s → s ≡ t
-one_set s t a b v w = ⊎_elim (λ e. e)
-    (λ l. ⊎_elim (λ e. sym e) (λ m. absurd (omega (arith, l, m))) (within-shorter t s b a (is_within t s w)))
-    (within-shorter s t a b (is_within s t v))
-
-not_false : (b : Bool) → not b ≡ true → b ≡ true → ⊥
-not_false true h k = true≢false (sym h)
-not_false false h k = true≢false (sym k)
-
-not_so : (b : Bool) → (b ≡ true → ⊥) → not b ≡ true
-not_so true h = absurd (h refl)
-not_so false h = refl
-
 pub minimal_lists : {P : List ℕ → Type 0} {f : Family} → Lists P f → Lists (IsLeast P) (minimal f)
 unfolding minimal
 minimal_lists {P = P} {f = f} l = record {
@@ -138,12 +127,12 @@ minimal_lists {P = P} {f = f} l = record {
       where
         at : not (list_any (proper s) f) ≡ true → (t : List ℕ) → has f t ≡ true → Within t s → (part : List ℕ) → Within t part → (b : Bool) → same t s ≡ b → Within s part
         at n t h w part v true e = subst (λ z. Within z part) (same-true t s e) v
-        at n t h w part v false e = absurd (not_false (list_any (proper s) f) n (any_from (proper s) f t h (ap₂ (λ a b. a && not b) (is_within t s w) e)))
+        at n t h w part v false e = absurd (not_true (list_any (proper s) f) n (any_from (proper s) f t h (ap₂ (λ a b. a && not b) (is_within t s w) e)))
 
     listed_so : (s : List ℕ) → IsLeast P s → (t : List ℕ) × (has (filter (λ s. not (list_any (proper s) f)) f) t ≡ true) × Within s t × Within t s
     listed_so s k =
         let x = l.whole s k.has in
-        (x.0, has-filter-yes (λ s. not (list_any (proper s) f)) x.0 f (not_so (list_any (proper x.0) f) (none x.0 x.1 x.2 x.3)) x.1, x.2, x.3)
+        (x.0, has-filter-yes (λ s. not (list_any (proper s) f)) x.0 f (true_not (list_any (proper x.0) f) (none x.0 x.1 x.2 x.3)) x.1, x.2, x.3)
       where
         none : (t : List ℕ) → has f t ≡ true → Within s t → Within t s → list_any (proper t) f ≡ true → ⊥
         none t h v w y =
@@ -151,8 +140,8 @@ minimal_lists {P = P} {f = f} l = record {
             let p = and_parts (within u.set t) (not (same u.set t)) u.passes in
             let ut = within_is u.set t p.0 in
             let su = k.least u.set (within_then ut w) (l.sound u.set u.in_family) in
-            let e = one_set u.set t (member_of Ascends f u.set l.is_family.ascending u.in_family) (member_of Ascends f t l.is_family.ascending h) ut (within_then w su) in
-            not_false (same u.set t) p.1 ((same_law u.set t).1 e)
+            let e = ascending_same u.set t (member_of Ascends f u.set l.is_family.ascending u.in_family) (member_of Ascends f t l.is_family.ascending h) ut (within_then w su) in
+            not_true (same u.set t) p.1 ((same_law u.set t).1 e)
 
 -- ---- the answer
 pub true_lists : (trees : List ModeTree) (test : List ℕ → Bool) → IsOfMembers test → (all : Family)

@@ -8,7 +8,7 @@ use Rattle.ar_base.specs.Lists.{Stands}
 use Rattle.ar_base.proofs.Standing.{stands_map, stands_map_back}
 use Rattle.zdd_families.specs.Families.{Family, same, holds, has}
 use Rattle.zdd_families.specs.Sections.{upper, lower}
-use Rattle.zdd_families.proofs.Laws.{has-filter-yes, same-true, same-refl, any_more, holds_here}
+use Rattle.zdd_families.proofs.Laws.{has-filter-yes, same-true, same-refl, any_more, holds_here, holds_more}
 use Rattle.zdd_families.proofs.Minimal.{any_from, witness}
 use Rattle.firable_families.proofs.Listing.{filter_part}
 use Rattle.firable_families.specs.Walk.{left, all_lower, all_taken, some_occurs, occurs, taken}
@@ -33,9 +33,6 @@ remove i s = filter (λ x. not (eqb i x)) s
 
 remove_cons : (i x : ℕ) (s : List ℕ) → remove i (x ∷ s) ≡ cond (not (eqb i x)) (x ∷ remove i s) (remove i s)
 remove_cons i x s = refl
-
-pub holds_more : (e x : ℕ) (s : List ℕ) → holds e s ≡ true → holds e (x ∷ s) ≡ true
-holds_more e x s h = elim (eqb e x) as (λ b. (b || holds e s) ≡ true) [ true ↦ refl | false ↦ h ]
 
 pub remove_part : (i e : ℕ) (s : List ℕ) → holds e (remove i s) ≡ true → holds e s ≡ true
 remove_part i e [] h = absurd (true≢false (sym h))

@@ -1,5 +1,6 @@
 -- The family of a state of the walk, by halves at the least event that is possible in it.
 use Rattle.std.proofs.Common.{◌≡◌, ◌⊎◌, ⊎_elim, ℕ, zero, suc, ◌+◌, ◌<◌, ◌≤◌, Bool, true, false, not, cond, ◌||◌, eqb, List, [], ◌∷◌, map, filter, refl, sym, ap, ap₂, ◌∙◌, subst, arith, true≢false}
+use Rattle.std.proofs.lemmas.Bool.{false_from_ne_true}
 use Rattle.std.specs.List.{AllByRecursion, list_all}
 use Rattle.zdd_families.specs.Families.{Family, holds, has, node}
 use Rattle.zdd_families.specs.Sections.{upper, lower}
@@ -14,10 +15,6 @@ Lacks e fs = some_occurs e fs ≡ false
 or_parts : (a b : Bool) → (a || b) ≡ false → (a ≡ false) × (b ≡ false)
 or_parts true b h = absurd (true≢false h)
 or_parts false b h = (refl, h)
-
-is_false : (b : Bool) → (b ≡ true → ⊥) → b ≡ false
-is_false true h = absurd (h refl)
-is_false false h = refl
 
 none_holds : (e : ℕ) (f : Family) → occurs e f ≡ false → AllByRecursion (λ s. not (holds e s) ≡ true) f
 none_holds e [] h = tt
@@ -78,7 +75,7 @@ lacks_each g x (f ∷ fs) h = ap₂ (λ a b. a || b) (h f) (lacks_each g x fs h)
 
 pub lower_lacks : (v x : ℕ) (fs : List Family) → (x < v → Lacks x fs) → x < suc v → Lacks x (all_lower v fs)
 lower_lacks v x fs h l = ⊎_elim
-    (λ a. lacks_map (lower v) x fs (λ f k. is_false (occurs x (lower v f)) (λ y. true≢false (sym (lower_occurs v x f y) ∙ k))) (h a))
+    (λ a. lacks_map (lower v) x fs (λ f k. false_from_ne_true (occurs x (lower v f)) (λ y. true≢false (sym (lower_occurs v x f y) ∙ k))) (h a))
     (λ e. subst (λ z. Lacks z (all_lower v fs)) (sym e) (lacks_each (lower v) v fs (none_lower v))) split
   where
     split : (x < v) ⊎ (x ≡ v)
@@ -86,7 +83,7 @@ lower_lacks v x fs h l = ⊎_elim
 
 pub taken_lacks : (v x : ℕ) (fs : List Family) → (x < v → Lacks x fs) → x < suc v → Lacks x (all_taken v fs)
 taken_lacks v x fs h l = ⊎_elim
-    (λ a. lacks_map (taken v) x fs (λ f k. is_false (occurs x (taken v f)) (λ y. true≢false (sym (taken_occurs v x f y) ∙ k))) (h a))
+    (λ a. lacks_map (taken v) x fs (λ f k. false_from_ne_true (occurs x (taken v f)) (λ y. true≢false (sym (taken_occurs v x f y) ∙ k))) (h a))
     (λ e. subst (λ z. Lacks z (all_taken v fs)) (sym e) (lacks_each (taken v) v fs (none_taken v))) split
   where
     split : (x < v) ⊎ (x ≡ v)

@@ -13,13 +13,13 @@ use Rattle.ar_firing.specs.Trees.{AreApart}
 use Rattle.ar_firing.specs.Listed.{AreListed}
 use Rattle.zdd_families.specs.Families.{Family, holds, has}
 use Rattle.zdd_families.proofs.Ascending.{IsAscending}
-use Rattle.zdd_families.proofs.Laws.{holds_here}
+use Rattle.zdd_families.proofs.Laws.{holds_here, holds_more}
 use Rattle.zdd_families.proofs.Members.{holds_law}
 use Rattle.zdd_families.proofs.Minimal.{witness}
 use Rattle.firable_families.specs.Firable.{LeadsTo, root, edge, HaveEvents, IsPathSet, IsFirableOf}
 use Rattle.firable_families.specs.Walk.{left, occurs, AreTreeFamilies, AreEventsBelow}
 use Rattle.firable_families.proofs.Listing.{lists_listed, stands_has, has_stands}
-use Rattle.firable_families.proofs.Merging.{IsMerged, AreParted, holds_more, occurs_from, left_sound, map_stands}
+use Rattle.firable_families.proofs.Merging.{IsMerged, AreParted, occurs_from, left_sound, map_stands}
 use Rattle.firable_families.proofs.Whole.{left_family, left_whole}
 
 -- ---- the same members in order

@@ -6,7 +6,7 @@ use Rattle.zdd_families.specs.Families.{Family, has, node, IsAbove}
 use Rattle.zdd_families.specs.Sections.{section}
 use Rattle.zdd_families.proofs.Ascending.{IsAscending}
 use Rattle.zdd_families.proofs.Laws.{IsAbove_set, IsAbove-node}
-use Rattle.zdd_families.proofs.Sections.{AtLeast, section-low, section-with, section-without, low_all}
+use Rattle.zdd_families.proofs.Sections.{AtLeast, section-low, section-with, section-without, low_all, section-nil}
 use Rattle.firable_families.specs.Walk.{left, after, could, all_lower, all_taken, some_occurs}
 
 pub left_above : (v k i : ℕ) (fs : List Family) → v < i → IsAbove v (left k i fs)
@@ -26,10 +26,6 @@ each_low k zero fs = every_low (left k zero fs)
     every_low [] = tt
     every_low (s ∷ f) = (set_low s, every_low f)
 each_low k (suc i) fs = low_all (suc i) i (left k (suc i) fs) (omega arith) (left_above i k (suc i) fs (omega arith))
-
-section_none : (i : ℕ) (p : List ℕ) → section i p [] ≡ []
-unfolding section
-section_none i p = refl
 
 pub above_all : (i x : ℕ) (p : List ℕ) → i < x → IsAscending (x ∷ p) → IsAbove_set i (x ∷ p)
 above_all i x p h a = (h, rest p a.0)
@@ -75,7 +71,7 @@ left_section (suc c) (suc n) k i e (x ∷ p) fs m q a l u = step (eqb x i) refl
         ap (λ z. section e (z ∷ p) (node i lo (cond (some_occurs i fs) with_it []))) (eqb-true x i h)
         ∙ section-with i e p lo (cond (some_occurs i fs) with_it []) (omega (arith, q)) (left_above i n (suc i) (all_lower i fs) (omega arith))
         ∙ elim (some_occurs i fs) as (λ b. section e p (cond b with_it []) ≡ cond (b && could c (suc i) p (all_taken i fs)) (left k e (after c (suc i) p (all_taken i fs))) [])
-        [ true ↦ taking | false ↦ section_none e p ]
+        [ true ↦ taking | false ↦ section-nil e p ]
         ∙ ap result (sym h)
     step false h taking leaving =
         let less : i < x = grind (arith, nat_tests, h, l.0) in

@@ -3,17 +3,18 @@ use Rattle.std.proofs.Common.{◌≡◌, ◌≢◌, ◌⊎◌, inl, inr, ⊎_eli
 use Rattle.std.specs.List.{AllByRecursion, list_all}
 use Rattle.std.proofs.lemmas.List.Folds.{list_any-append}
 use Rattle.std.proofs.lemmas.Bool.Decides.{nat_tests}
+use Rattle.std.proofs.lemmas.Bool.{false_from_ne_true}
 use Rattle.ar_base.specs.Lists.{Stands}
 use Rattle.ar_base.proofs.Standing.{stands_map}
 use Rattle.zdd_families.specs.Families.{Family, same, holds, has, node, IsFamily}
 use Rattle.zdd_families.specs.Sections.{upper, lower, IsCounted}
 use Rattle.zdd_families.proofs.Ascending.{IsAscending, ascends_from}
-use Rattle.zdd_families.proofs.Laws.{has-filter-yes, IsAbove_set, holds_here, holds-above}
+use Rattle.zdd_families.proofs.Laws.{has-filter-yes, IsAbove_set, holds_here, holds-above, holds_more}
 use Rattle.zdd_families.proofs.Sections.{AtLeast}
 use Rattle.zdd_nodes.proofs.Order.{IsFamily-node, IsFamily-nil, IsFamily-unit}
 use Rattle.firable_families.specs.Walk.{left, after, could, all_lower, all_taken, some_occurs, occurs, taken}
 use Rattle.firable_families.proofs.Walking.{at_least, above_all, left_above, left_section}
-use Rattle.firable_families.proofs.Merging.{IsMerged, AreParted, map_stands, remove, remove_part, remove_other, remove_none, holds_more, upper_has, lower_occurs, taken_occurs, has_map, place_some, place_all, holds_none, occurs_from}
+use Rattle.firable_families.proofs.Merging.{IsMerged, AreParted, map_stands, remove, remove_part, remove_other, remove_none, upper_has, lower_occurs, taken_occurs, has_map, place_some, place_all, holds_none, occurs_from}
 
 pub left_family : (k i : ℕ) (fs : List Family) → IsFamily (left k i fs)
 left_family zero i fs = elim (list_all (λ f. has f []) fs) as (λ b. IsFamily (cond b ([] ∷ []) [])) [ true ↦ IsFamily-unit | false ↦ IsFamily-nil ]
@@ -41,10 +42,6 @@ parted_taken i fs p = record {
       p.one m n e q.0 r.0 q.1 r.1 (taken_occurs i e q.0 (ap (occurs e) (sym q.2) ∙ x)) (taken_occurs i e r.0 (ap (occurs e) (sym r.2) ∙ y));
 }
 
-is_false : (b : Bool) → (b ≡ true → ⊥) → b ≡ false
-is_false true h = absurd (h refl)
-is_false false h = refl
-
 remove_not : (i : ℕ) (s : List ℕ) → holds i (remove i s) ≡ true → ⊥
 remove_not i [] h = holds_none i h
 remove_not i (x ∷ s) h = step (remove_not i s) (eqb i x) refl
@@ -69,7 +66,7 @@ lower_merged i fs s o m = record {
 }
   where
     out : (n : ℕ) (f : Family) → Stands fs n f → holds i (m.choice n) ≡ false
-    out n f k = is_false (holds i (m.choice n)) (λ h. true≢false (sym (m.sound n f i k h) ∙ o))
+    out n f k = false_from_ne_true (holds i (m.choice n)) (λ h. true≢false (sym (m.sound n f i k h) ∙ o))
 
 some_taken : (i : ℕ) (fs : List Family) (u : List ℕ) → IsMerged fs (i ∷ u) → some_occurs i fs ≡ true
 some_taken i fs u m = let w = m.whole i (holds_here i u) in place_some (occurs i) fs w.0 w.1 w.2 (occurs_from i w.1 (m.choice w.0) (m.each w.0 w.1 w.2) w.3)
@@ -97,7 +94,7 @@ taken_merged i fs u p a m = record {
         let e : w.0 ≡ n = p.one w.0 n i w.1 f w.2 k (occurs_from i w.1 (m.choice w.0) (m.each w.0 w.1 w.2) w.3) q in
         ap (λ b. has (cond b (upper i f) f) (remove i (m.choice n))) q ∙ upper_has i f (m.choice n) (m.each n f k) (subst (λ z. holds i (m.choice z) ≡ true) e w.3)
     each_of n f k false q =
-        let o : holds i (m.choice n) ≡ false = is_false (holds i (m.choice n)) (λ h. true≢false (sym (occurs_from i f (m.choice n) (m.each n f k) h) ∙ q)) in
+        let o : holds i (m.choice n) ≡ false = false_from_ne_true (holds i (m.choice n)) (λ h. true≢false (sym (occurs_from i f (m.choice n) (m.each n f k) h) ∙ q)) in
         ap (λ b. has (cond b (upper i f) f) (remove i (m.choice n))) q ∙ ap (has f) (remove_none i (m.choice n) o) ∙ m.each n f k
 
 has_low : (i : ℕ) (lo hi : Family) (s : List ℕ) → has lo s ≡ true → has (node i lo hi) s ≡ true

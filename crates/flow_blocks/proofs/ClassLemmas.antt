@@ -4,6 +4,7 @@ use Rattle.std.proofs.lemmas.Option.{slice_get-get_or}
 use Rattle.ar_base.specs.Sets.{Ascends}
 use Rattle.ar_base.specs.Lists.{Stands, IsOneOf}
 use Rattle.ar_base.proofs.Standing.{stands_split, stands_left, stands_none, stands_within, one_split, one_left, one_right, one_first}
+use Rattle.ar_base.proofs.Sets.{ascends_push}
 use Rattle.flow_blocks.specs.Blocks.{Depends, directly, through, Together, same, each_other, IsClass}
 use Rattle.flow_blocks.specs.Bits.{HasBit, AreAllDependences}
 use Rattle.flow_blocks.specs.Table.{IsSelection}
@@ -30,20 +31,6 @@ only_one a n one = by one.place one.stands
     by : (k : ℕ) → Stands (a ∷ []) k n → n ≡ a
     by zero p = cc
     by (suc k) p = absurd (stands_none k n p)
-
--- a new greatest item keeps the list ascending
-pub ascending_more : (xs : List ℕ) (x : ℕ) → Ascends xs → ((n : ℕ) → IsOneOf xs n → n < x) → Ascends (xs ++ x ∷ [])
-ascending_more xs x up below = record { ascends = λ j k m n lt p q. by j k m n lt (stands_split xs (x ∷ []) j m p) (stands_split xs (x ∷ []) k n q) }
-  where
-    last : (k n : ℕ) → Stands (x ∷ []) k n → (k ≡ 0) × (n ≡ x)
-    last zero n p = (refl, cc)
-    last (suc k) n p = absurd (stands_none k n p)
-
-    by : (j k m n : ℕ) → j < k → Stands xs j m ⊎ ((i : ℕ) × (j ≡ length xs + i) × Stands (x ∷ []) i m) → Stands xs k n ⊎ ((i : ℕ) × (k ≡ length xs + i) × Stands (x ∷ []) i n) → m < n
-    by j k m n lt (inl p) (inl q) = up.ascends j k m n lt p q
-    by j k m n lt (inl p) (inr q) = let is = (last q.0 n q.2).1 in let low = below m (record { place = j; stands = p }) in omega arith
-    by j k m n lt (inr p) (inl q) = absurd (let within = stands_within xs k n q in omega (arith, p.1))
-    by j k m n lt (inr p) (inr q) = let e = (last p.0 m p.2).0 in let f = (last q.0 n q.2).0 in absurd (omega (arith, p.1, q.1))
 
 module _ (count : ℕ) (uses : List (ℕ × ℕ)) (rows : List (Vec ℕ Global)) (least : ℕ) (all : AreAllDependences count uses rows) (below : least < count)
     (lone : (n : ℕ) → n < least → Together uses least n → ⊥) where
@@ -94,7 +81,7 @@ module _ (rows : List (Vec ℕ Global)) (least : ℕ) (candidates : List ℕ) (k
           | inl old ↦ one_left members (number ∷ []) n (s.all n old low f g)
           | inr e ↦ subst (λ (m : ℕ). IsOneOf (members ++ number ∷ []) m) (sym e) (one_right members (number ∷ []) number (one_first number []))
         ];
-        ascending = ascending_more members number s.ascending (under both.0);
+        ascending = ascends_push members number s.ascending (under both.0);
       })
   selection_on false says is =
       subst (λ (l : List ℕ). IsSelection rows least (take (k + 1) candidates) l) (sym is) (record {

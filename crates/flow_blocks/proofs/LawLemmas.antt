@@ -3,29 +3,10 @@ use Rattle.std.proofs.Common.{◌≡◌, ℕ, zero, suc, ◌<◌, ◌≤◌, ◌
 use Rattle.ar_base.specs.Sets.{Ascends}
 use Rattle.ar_base.specs.Lists.{Stands, IsOneOf}
 use Rattle.ar_base.proofs.Standing.{stands_none, stands_one, stands_left, stands_next, stands_split, one_rest, one_cases, one_first, one_split, one_left}
+use Rattle.ar_base.proofs.Sets.{ascends_rest, same_ascending}
 use Rattle.flow_blocks.specs.Blocks.{Depends, same, IsGiven, IsNext, Follow, all_given, next}
 use Rattle.flow_blocks.proofs.ClassLemmas.{together_on, together_back}
 use Rattle.flow_blocks.proofs.TableLemmas.{the_one}
-
-tail_ascends : (x : ℕ) (xs : List ℕ) → Ascends (x ∷ xs) → Ascends xs
-tail_ascends x xs up = record { ascends = λ j k m n lt p q. up.ascends (suc j) (suc k) m n (omega arith) p q }
-
-above_head : (x n : ℕ) (xs : List ℕ) → Ascends (x ∷ xs) → IsOneOf xs n → x < n
-above_head x n xs up one = up.ascends 0 (suc one.place) x n (omega arith) refl one.stands
-
--- ascending lists with the same numbers are one
-same_ascending : (xs ys : List ℕ) → Ascends xs → Ascends ys → ((n : ℕ) → IsOneOf xs n → IsOneOf ys n) → ((n : ℕ) → IsOneOf ys n → IsOneOf xs n) → xs ≡ ys
-same_ascending [] [] up_x up_y to from = refl
-same_ascending [] (y ∷ ys) up_x up_y to from = let one = from y (one_first y ys) in absurd (stands_none one.place y one.stands)
-same_ascending (x ∷ xs) [] up_x up_y to from = let one = to x (one_first x xs) in absurd (stands_none one.place x one.stands)
-same_ascending (x ∷ xs) (y ∷ ys) up_x up_y to from =
-    let low_x : y ≤ x = elim (one_cases y ys x (to x (one_first x xs))) [ inl is ↦ omega arith | inr one ↦ let lt = above_head y x ys up_y one in omega arith ] in
-    let low_y : x ≤ y = elim (one_cases x xs y (from y (one_first y ys))) [ inl is ↦ omega arith | inr one ↦ let lt = above_head x y xs up_x one in omega arith ] in
-    let is : x ≡ y = omega arith in
-    let rest : xs ≡ ys = same_ascending xs ys (tail_ascends x xs up_x) (tail_ascends y ys up_y)
-    (λ n one. elim (one_cases y ys n (to n (one_rest x xs n one))) [ inl e ↦ absurd (let lt = above_head x n xs up_x one in omega arith) | inr there ↦ there ])
-    (λ n one. elim (one_cases x xs n (from n (one_rest y ys n one))) [ inl e ↦ absurd (let lt = above_head y n ys up_y one in omega arith) | inr there ↦ there ]) in
-    λ j. is j ∷ rest j
 
 first_of : (members : List ℕ) (n : ℕ) → IsOneOf members n → (m : ℕ) × Stands members 0 m
 first_of [] n one = absurd (stands_none one.place n one.stands)

@@ -1,4 +1,4 @@
-mod RowLemmas
+pub mod RowLemmas
 mod WordLemmas
 mod UseLemmas
 pub mod ClassLemmas

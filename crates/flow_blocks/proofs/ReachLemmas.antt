@@ -4,8 +4,9 @@ use Rattle.std.proofs.lemmas.Bool.{cases_eq}
 use Rattle.ar_base.specs.Sets.{Ascends}
 use Rattle.ar_base.specs.Lists.{Stands, IsOneOf}
 use Rattle.ar_base.proofs.Standing.{stands_none, stands_left, stands_next, stands_split, one_rest, one_cases, one_first}
+use Rattle.ar_base.proofs.Sets.{ascends_push}
 use Rattle.flow_blocks.specs.Blocks.{Depends, directly, through, Together, same, each_other, IsGiven}
-use Rattle.flow_blocks.proofs.ClassLemmas.{depends_on, only_one, ascending_more}
+use Rattle.flow_blocks.proofs.ClassLemmas.{depends_on, only_one}
 
 -- a fact that holds or does not
 abbrev pub IsDecided : Type 0 → Type 0
@@ -142,7 +143,7 @@ list_below P decide (suc end) =
             | inl is ↦ record { place = length rest.0; stands = subst (λ (k : ℕ). Stands (rest.0 ++ end ∷ []) (length rest.0) k) (sym is) (stands_next rest.0 end []) }
             | inr other ↦ let old = rest.1.all n (omega (arith, lt)) h in record { place = old.place; stands = stands_left rest.0 (end ∷ []) old.place n old.stands }
           ];
-          ascending = ascending_more rest.0 end rest.1.ascending rest.1.below;
+          ascending = ascends_push rest.0 end rest.1.ascending rest.1.below;
         },
       )
       | inr fails ↦ (

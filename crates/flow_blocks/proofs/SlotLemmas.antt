@@ -7,12 +7,13 @@ use Rattle.std.proofs.lemmas.Nat.Bits.{bit_at-lt, bit_at_cat_low, same_from_bits
 use Rattle.ar_base.specs.Lists.{IsOneOf}
 use Rattle.ar_base.specs.Sets.{Ascends}
 use Rattle.ar_base.proofs.Standing.{one_here}
+use Rattle.ar_base.proofs.Sets.{ascends_push}
 use Rattle.flow_blocks.specs.Blocks.{Depends, Together, same, each_other, IsClass}
 use Rattle.flow_blocks.specs.Bits.{row_of, HasBit, AreAllDependences}
 use Rattle.flow_blocks.specs.Slots.{mixed, sum_of, slot_of, AreSlots}
 use Rattle.flow_blocks.specs.Table.{IsSelection}
 use Rattle.flow_blocks.proofs.RowLemmas.{Row, row_at, row_set_same, row_set_other}
-use Rattle.flow_blocks.proofs.ClassLemmas.{depends_on, ascending_more}
+use Rattle.flow_blocks.proofs.ClassLemmas.{depends_on}
 use Rattle.flow_blocks.proofs.WaitLemmas.{pushed_new, pushed_kept, pushed_split}
 
 -- no number was looked at
@@ -40,7 +41,7 @@ slots_more count rows number slots slot v s is lt pushed =
       ascending = λ a. elim (cases_eq a slot) [
         | inl at_it ↦
             let row : row_of (set slots slot v) a ≡ row_of slots slot ++ number ∷ [] = ap (row_of (set slots slot v)) at_it ∙ row_set_same slots slot v within ∙ pushed in
-            subst Ascends (sym row) (ascending_more (row_of slots slot) number (s.ascending slot) (s.below slot))
+            subst Ascends (sym row) (ascends_push (row_of slots slot) number (s.ascending slot) (s.below slot))
         | inr other ↦ subst Ascends (sym (row_set_other slots slot a v other)) (s.ascending a)
       ];
     }

@@ -3,24 +3,10 @@ use Rattle.std.proofs.Common.{◌≡◌, ℕ, zero, suc, ◌+◌, ◌<◌, ◌�
 use Rattle.std.proofs.lemmas.Bool.{cases_eq, cases_lt}
 use Rattle.ar_base.specs.Lists.{Stands, IsOneOf}
 use Rattle.ar_base.proofs.Standing.{stands_split, stands_left, stands_next, stands_none, stands_one, stands_within, stands_some}
+use Rattle.ar_base.proofs.Sets.{member_told}
 use Rattle.flow_blocks.specs.Blocks.{Together, IsClass}
 use Rattle.flow_blocks.specs.Table.{IsPartTable, IsClassTable}
 use Rattle.flow_blocks.proofs.ClassLemmas.{together_on, together_back}
-
--- whether a number is one of a list
-pub decide_one : (xs : List ℕ) (n : ℕ) → IsOneOf xs n ⊎ (IsOneOf xs n → ⊥)
-decide_one [] n = inr (λ one. stands_none one.place n one.stands)
-decide_one (x ∷ xs) n = elim (cases_eq x n) [
-  | inl is ↦ inl (record { place = 0; stands = ap (λ (k : ℕ). Some k) is })
-  | inr other ↦ elim (decide_one xs n) [
-    | inl one ↦ inl (record { place = suc one.place; stands = one.stands })
-    | inr lacks ↦ inr (λ one. by one.place one.stands other lacks)
-  ]
-]
-  where
-    by : (k : ℕ) → Stands (x ∷ xs) k n → (x ≡ n → ⊥) → (IsOneOf xs n → ⊥) → ⊥
-    by zero p other lacks = other (cc)
-    by (suc k) p other lacks = lacks (record { place = k; stands = p })
 
 -- what stands in a list of one item is that item
 pub the_one : {A : Type 0} (a b : A) (k : ℕ) → Stands (a ∷ []) k b → (k ≡ 0) × (b ≡ a)
@@ -73,7 +59,7 @@ module _ (count none : ℕ) (uses : List (ℕ × ℕ)) (number : ℕ) (classes :
             let at : length classes ≡ c = omega (arith, last.1, e.0) in
             subst (λ (k : ℕ). Stands new n k) at (noted n (subst (λ (l : List ℕ). IsOneOf l n) e.1 one))
       ];
-      member_of_class = λ n c st. elim (decide_one members n) [
+      member_of_class = λ n c st. elim (member_told members n) [
         | inl mine ↦
             let at : length classes ≡ c = stands_one new n (length classes) c (noted n mine) st in
             inr (members, subst (λ (k : ℕ). Stands (classes ++ members ∷ []) k members) at (stands_next classes members []), mine)
@@ -82,7 +68,7 @@ module _ (count none : ℕ) (uses : List (ℕ × ℕ)) (number : ℕ) (classes :
           | inr found ↦ inr (found.0, stands_left classes (members ∷ []) c found.0 found.1, found.2)
         ]
       ];
-      looked_at = λ n less st. elim (decide_one members n) [
+      looked_at = λ n less st. elim (member_told members n) [
         | inl mine ↦ not_none (stands_one new n (length classes) none (noted n mine) st)
         | inr other ↦ elim (cases_lt n number) [
           | inl below ↦ t.looked_at n below (sym (kept n other) ∙ st)

@@ -246,12 +246,6 @@ module _ (lists : List (Vec ℕ Global)) (target class : ℕ) (v : Vec ℕ Globa
     | inr other ↦ inl (subst (λ (l : List ℕ). IsOneOf l e) (row_set_other lists target d v other) one)
   ]
 
--- no class was given yet
-pub none_given : (count e : ℕ) → Stands (replicate count false) e true → ⊥
-none_given zero e p = stands_none e true p
-none_given (suc count) zero p = cc
-none_given (suc count) (suc e) p = none_given count e p
-
 -- a list that is emptied
 pub emptied : (lists : List (Vec ℕ Global)) (class : ℕ) (v : Vec ℕ Global) → class < length lists → v.items ≡ [] → (e : ℕ) → IsOneOf (row_of (set lists class v) class) e → ⊥
 emptied lists class v lt none e one = let there = subst (λ (l : List ℕ). IsOneOf l e) (row_set_same lists class v lt ∙ none) one in stands_none there.place e there.stands

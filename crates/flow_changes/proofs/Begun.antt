@@ -1,5 +1,6 @@
 -- The values of the new state, and the values of flows that have no fact.
 use Rattle.std.proofs.Common.{◌≡◌, ℕ, suc, ◌+◌, ◌<◌, ◌≤◌, ◌⊎◌, inl, inr, Bool, true, false, cond, List, [], ◌∷◌, take, drop, set, length, slice_get, Some, refl, sym, ap, ◌∙◌, subst, arith, length-set, take_all}
+use Rattle.std.proofs.lemmas.Bool.{cases_eq}
 use Rattle.ar_base.specs.Lists.{Stands, IsOneOf}
 use Rattle.ar_base.specs.Numbers.{VarId}
 use Rattle.ar_base.proofs.Standing.{stands_one, stands_within, one_none, one_here, stands_map, stands_map_back}
@@ -10,7 +11,7 @@ use Rattle.gts_core.specs.declared.system.GtsParts.{GtsParts}
 use Rattle.flow_propagate.specs.NewValues.{written, AreNewValues}
 use Rattle.value_changes.specs.Picking.{AreWithin}
 use Rattle.flow_changes.specs.Known.{numbers_of, Resets}
-use Rattle.value_changes.proofs.Picks.{same_number, set_same, set_other, drop_next, drop_none, one_taken, one_before, one_now}
+use Rattle.value_changes.proofs.Picks.{set_same, set_other, drop_next, drop_none, one_taken, one_before, one_now}
 
 pub written_next : (cur : List Value) (new : List (VarId × Value)) (i : ℕ) (r : VarId × Value) → Stands new i r → written (set cur r.0.n r.1) (drop (i + 1) new) ≡ written cur (drop i new)
 written_next cur new i r s = ap (λ (z : List (VarId × Value)). written cur z) (sym (drop_next new i r s))
@@ -29,8 +30,8 @@ module _ (p : GtsParts) (members : List ℕ) (known : List Bool) (old : List Val
       long = length-set new n w ∙ r.keeps.long;
       others = λ m o. set_other new n m w (λ e. o (subst (λ (z : ℕ). IsOneOf (take (i + 1) members) z) (sym e) (one_now members i n st))) ∙ r.keeps.others m (λ h. o (one_before members i n m st h));
     };
-    marked = λ m s. marks m s (same_number m n);
-    declared = λ m y u o sy not s. value m y u sy not s (same_number m n) (one_taken members i n m st o);
+    marked = λ m s. marks m s (cases_eq m n);
+    declared = λ m y u o sy not s. value m y u sy not s (cases_eq m n) (one_taken members i n m st o);
   }
     where
       here : Stands (set new n w) n w

@@ -20,8 +20,8 @@ use Rattle.flow_changes.specs.Queue.{IsQueue, WaitsAt, TakesPlace}
 use Rattle.flow_changes.specs.Following.{Waits, Looks, HasPlacesTo, ClosesUp, work_left}
 use Rattle.flow_changes.specs.declared.queue.Queue.{Queue}
 use Rattle.value_changes.proofs.Picks.{keeps_same, keeps_then, keeps_more}
-use Rattle.flow_changes.proofs.Puts.{aims}
 use Rattle.flow_changes.proofs.Looks.{read_by, touches_total, looks_sound, taken}
+use Rattle.flow_changes.proofs.Puts.{aims}
 
 -- what holds while the facts of the members are gathered
 pub record Closing (p : GtsParts) (plan : Plan) (members : List ℕ) (state : List Value) (first : List Bool) (values : List Value) (known : List Bool) (work : Queue) : Type 0 where
@@ -58,9 +58,9 @@ module _ (p : GtsParts) (sound : IsSound p) (plan : Plan) (is : IsPlan p plan) (
   target_in a sa = c.places.targets place n a t.one st sa
 
   -- the places of what names its target are of the list
-  pub listed : (a : Assign) (r : Reader) (q : ℕ) → Stands p.assigns.items n a → IsOneOf plan.readers.items r → r.0.n ≡ a.target.n → Stands plan.places.items r.1.n q → IsOneOf mid.list.items q
+  pub listed : (a : Assign) (r : Reader) (q : ℕ) → Stands p.assigns.items n a → IsOneOf plan.readers.pairs.items r → r.0.n ≡ a.target.n → Stands plan.places.items r.1.n q → IsOneOf mid.list.items q
   listed a r q sa o e sq =
-      let b = read_by p plan.readers.items is.readers r o in
+      let b = read_by p plan.readers.pairs.items is.readers r o in
       let inside : IsOneOf members r.0.n = subst (λ (z : ℕ). IsOneOf members z) (sym e) (target_in a sa) in
       let target : IsOneOf members b.assign.target.n = closed r.0.n r.1.n b.assign inside b.stands b.names in
       subst (λ (z : List ℕ). IsOneOf z q) (sym t.same) (c.places.all r.1.n q b.assign b.stands target sq)

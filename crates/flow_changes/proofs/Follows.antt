@@ -3,6 +3,7 @@ use Rattle.std.proofs.Common.{◌≡◌, ℕ, zero, suc, ◌<◌, ◌⊎◌, inl
 use Rattle.ar_base.specs.Lists.{Stands, IsOneOf}
 use Rattle.ar_base.specs.Numbers.{VarId}
 use Rattle.ar_base.proofs.Standing.{stands_one, stands_some, stands_within, stands_map, stands_map_back, one_here}
+use Rattle.ar_base.proofs.Sets.{member_told}
 use Rattle.domains.specs.Domains.{Holds}
 use Rattle.domains.specs.declared.Value.{Value}
 use Rattle.typed_expr.proofs.Facts.{yields_more}
@@ -21,12 +22,12 @@ use Rattle.flow_propagate.specs.Determined.{IsDetermined, IsDeterminedBy}
 use Rattle.flow_propagate.specs.NewValues.{written, AreNewValues, IsRenewed}
 use Rattle.flow_propagate.specs.Plan.{IsPlan}
 use Rattle.flow_propagate.specs.declared.plan.Plan.{Plan}
+use Rattle.flow_propagate.proofs.Written.{written_long}
 use Rattle.flow_changes.specs.Cone.{IsFlowAt, IsCone, Knows}
 use Rattle.flow_changes.specs.Known.{numbers_of, Resets}
 use Rattle.value_changes.specs.Picking.{KeepsOthers, AreSet}
 use Rattle.flow_changes.specs.Following.{ClosesUp}
-use Rattle.value_changes.proofs.Picks.{one_or_not}
-use Rattle.flow_changes.proofs.Written.{written_long, written_not, written_at, written_total}
+use Rattle.flow_changes.proofs.Written.{written_not, written_at, written_total}
 use Rattle.flow_changes.proofs.Begun.{new_inside}
 use Rattle.flow_changes.proofs.Knowing.{known_there, known_back}
 use Rattle.flow_changes.proofs.Settling.{AreKnown, IsSettledTo, facts_there, settled_known, settled_flows, own_flows, own_facts}
@@ -85,7 +86,7 @@ module _ (p : GtsParts) (sound : IsSound p) (old : List Value) (known : List Boo
 
     -- what is known at the start are facts of the new state
     pub first_sound : (n : ℕ) (v : Value) → Knows u first n v → FactOf (net_of p) u n v
-    first_sound n v k = by (one_or_not members n)
+    first_sound n v k = by (member_told members n)
       where
         given_one : IsRenewed new n → FactOf (net_of p) u n v
         given_one r =
@@ -113,7 +114,7 @@ module _ (p : GtsParts) (sound : IsSound p) (old : List Value) (known : List Boo
       known_then n v k = record { marked = k.marked; value = resets.marked n k.marked ∙ k.value }
 
       pub reset_total : IsTotal p values
-      reset_total = record { long = resets.keeps.long ∙ up.total.long; in_domain = λ n x v sx sv. at n x v sx sv (one_or_not members n) (marked_or_not marked n) }
+      reset_total = record { long = resets.keeps.long ∙ up.total.long; in_domain = λ n x v sx sv. at n x v sx sv (member_told members n) (marked_or_not marked n) }
         where
           marked_or_not : (bs : List Bool) (k : ℕ) → (Stands bs k true) ⊎ (Stands bs k true → ⊥)
           marked_or_not [] k = inr (λ e. cc)

@@ -2,6 +2,8 @@ pub mod Kept
 pub mod Written
 pub mod Knowing
 pub mod Puts
+pub mod NamedMarks
+pub mod NamedKnown
 pub mod Settling
 pub mod Begun
 pub mod Breaking

@@ -1,6 +1,7 @@
 -- Assignments that are looked at, and what is known then.
 use Rattle.std.proofs.Common.{◌≡◌, ℕ, ◌+◌, ◌*◌, ◌≤◌, ◌⊎◌, inl, inr, Bool, true, false, List, [], ◌∷◌, map, length, refl, sym, ap, ◌∙◌, subst, arith}
 use Rattle.std.proofs.Math.Nat.{mul-le-mul_left}
+use Rattle.std.proofs.lemmas.Bool.{cases_eq}
 use Rattle.ar_base.specs.Lists.{Stands, IsOneOf}
 use Rattle.ar_base.proofs.Standing.{stands_one, stands_some, stands_within, stands_map, stands_map_back, one_none, one_cases, one_first, one_rest, one_here}
 use Rattle.domains.specs.Domains.{Holds}
@@ -28,7 +29,6 @@ use Rattle.flow_changes.specs.Known.{Applies, Touches, unmarked}
 use Rattle.flow_changes.specs.Queue.{IsQueue, AddsPlaces, IsPlaceOf, TakesPlace}
 use Rattle.flow_changes.specs.Following.{Waits, IsNew, Looks}
 use Rattle.flow_changes.specs.declared.queue.Queue.{Queue}
-use Rattle.value_changes.proofs.Picks.{same_number}
 
 -- the pair of a variable and an assignment that names it
 pub record ReaderOf (readers : List Reader) (t m : ℕ) : Type 0 where
@@ -56,7 +56,7 @@ read_by p readers are r o =
 
 reader_or_not : (rs : List Reader) (t m : ℕ) → ReaderOf rs t m ⊎ (ReaderOf rs t m → ⊥)
 reader_or_not [] t m = inr (λ h. one_none h.pair h.is_one)
-reader_or_not (r ∷ rs) t m = go (same_number r.0.n t) (same_number r.1.n m) (reader_or_not rs t m)
+reader_or_not (r ∷ rs) t m = go (cases_eq r.0.n t) (cases_eq r.1.n m) (reader_or_not rs t m)
   where
     later : ReaderOf rs t m → ReaderOf (r ∷ rs) t m
     later h = record { pair = h.pair; is_one = one_rest r rs h.pair h.is_one; variable = h.variable; assign = h.assign }
@@ -94,7 +94,7 @@ module _ (p : GtsParts) (plan : Plan) (n : ℕ) (a : Assign) (sa : Stands p.assi
       | inl e ↦ inr (same b (mine false x b (subst (λ (z : ℕ). Stands p.assigns.items z b) e sb)))
       | inr y ↦ (elim y [ inl w ↦ inl w | inr c ↦ inr (same b (λ v pass y. x.grows b.target.n v (c v pass y))) ])
     ];
-    less = (let e : unmarked known' ≡ unmarked known = ap unmarked (x.still refl).1 in let f : (length plan.readers.items + 1) * unmarked known' ≡ (length plan.readers.items + 1) * unmarked known = ap (λ (z : ℕ). (length plan.readers.items + 1) * z) e in omega (arith, f));
+    less = (let e : unmarked known' ≡ unmarked known = ap unmarked (x.still refl).1 in let f : (length plan.readers.pairs.items + 1) * unmarked known' ≡ (length plan.readers.pairs.items + 1) * unmarked known = ap (λ (z : ℕ). (length plan.readers.pairs.items + 1) * z) e in omega (arith, f));
   }
     where
       old : (m : ℕ) (v : Value) → Knows values' known' m v → Knows values known m v
@@ -104,7 +104,7 @@ module _ (p : GtsParts) (plan : Plan) (n : ℕ) (a : Assign) (sa : Stands p.assi
       same b h v pass y = h v (passes_more ℕ (Knows values' known') (Knows values known) old pass) (yields_more ℕ (Knows values' known') (Knows values known) old y)
 
   -- its target got a value: those that name the target wait
-  pub looks_more : (work work' : Queue) (run : List Reader) → IsPlan p plan → Applies p a values known values' known' true → ((r : Reader) → IsOneOf plan.readers.items r → r.0.n ≡ a.target.n → IsOneOf run r) → length run ≤ length plan.readers.items
+  pub looks_more : (work work' : Queue) (run : List Reader) → IsPlan p plan → Applies p a values known values' known' true → ((r : Reader) → IsOneOf plan.readers.pairs.items r → r.0.n ≡ a.target.n → IsOneOf run r) → length run ≤ length plan.readers.pairs.items
       → AddsPlaces (length run) (IsPlaceOf plan.places.items run) work work' → Looks p plan n values known work values' known' work'
   looks_more work work' run is x all short adds = record {
     grows = x.grows;
@@ -117,7 +117,7 @@ module _ (p : GtsParts) (plan : Plan) (n : ℕ) (a : Assign) (sa : Stands p.assi
     ];
     less = (
         let l : unmarked known' + 1 ≤ unmarked known = (let k = x.less refl in omega (arith, k)) in
-        let k = mul-le-mul_left (length plan.readers.items + 1) l in
+        let k = mul-le-mul_left (length plan.readers.pairs.items + 1) l in
         let f = adds.few in
         omega (arith, k, f, short));
   }
@@ -128,7 +128,7 @@ module _ (p : GtsParts) (plan : Plan) (n : ℕ) (a : Assign) (sa : Stands p.assi
           old : (i : ℕ) (w : Value) → (i ≡ a.target.n → ⊥) → Knows values' known' i w → Knows values known i w
           old i w f k = elim (x.only i w k) [ inl h ↦ h | inr h ↦ absurd (f h.0) ]
 
-      waits : (m : ℕ) (b : Assign) → Stands p.assigns.items m b → ReaderOf plan.readers.items a.target.n m → Waits plan work' m
+      waits : (m : ℕ) (b : Assign) → Stands p.assigns.items m b → ReaderOf plan.readers.pairs.items a.target.n m → Waits plan work' m
       waits m b sb r =
           let q = stands_some plan.places.items m (let h = stands_within p.assigns.items m b sb in omega (arith, h, is.schedule.long)) in
           record {
@@ -139,14 +139,14 @@ module _ (p : GtsParts) (plan : Plan) (n : ℕ) (a : Assign) (sa : Stands p.assi
 
       again : (m : ℕ) (b : Assign) → Stands p.assigns.items m b → ((v : Value) → Passes (Knows values known) (assign_of b).conditions → Yields (Knows values known) (out-Expr ℕ (assign_of b).value) v → Knows values' known' b.target.n v)
           → Waits plan work' m ⊎ HasAll (Knows values' known') (assign_of b)
-      again m b sb has = elim (reader_or_not plan.readers.items a.target.n m) [
+      again m b sb has = elim (reader_or_not plan.readers.pairs.items a.target.n m) [
         | inl r ↦ inl (waits m b sb r)
-        | inr f ↦ inr (stays b (λ d. f (reader_of p plan.readers.items is.readers a.target.n m b sb d)) has)
+        | inr f ↦ inr (stays b (λ d. f (reader_of p plan.readers.pairs.items is.readers a.target.n m b sb d)) has)
       ]
 
 -- values that are total stay so
 pub touches_total : (p : GtsParts) (t : ℕ) (x : Variable) (values : List Value) (known : List Bool) (values' : List Value) (known' : List Bool) → Stands p.variables.items t x → Touches x.domain t values known values' known' → IsTotal p values → IsTotal p values'
-touches_total p t x values known values' known' sx m total = record { long = m.of_values.long ∙ total.long; in_domain = λ n y v sy sv. at n y v sy sv (same_number n t) }
+touches_total p t x values known values' known' sx m total = record { long = m.of_values.long ∙ total.long; in_domain = λ n y v sy sv. at n y v sy sv (cases_eq n t) }
   where
     at : (n : ℕ) (y : Variable) (v : Value) → Stands p.variables.items n y → Stands values' n v → (n ≡ t) ⊎ (n ≡ t → ⊥) → Holds y.domain v
     at n y v sy sv (inl e) =

@@ -1,27 +1,21 @@
 -- Values that become known.
 use Rattle.std.proofs.Common.{◌≡◌, ℕ, zero, suc, ◌+◌, ◌<◌, ◌⊎◌, inl, inr, Bool, true, false, List, [], ◌∷◌, length, set, Contains, Option, Some, None, IfSome, refl, sym, ◌∙◌, subst, arith, length-set}
+use Rattle.std.proofs.lemmas.Bool.{cases_eq}
 use Rattle.ar_base.specs.Lists.{Stands, IsOneOf}
 use Rattle.ar_base.proofs.Standing.{stands_one, stands_within, stands_none, one_first}
 use Rattle.domains.specs.Domains.{IsDomain, Holds}
 use Rattle.domains.specs.declared.Domain.{Domain}
 use Rattle.domains.specs.declared.Value.{Value}
+use Rattle.domains.proofs.Members.{contains-one}
 use Rattle.gts_core.specs.Sound.{IsSound}
 use Rattle.gts_core.specs.View.{assign_of}
 use Rattle.gts_core.specs.declared.system.Variable.{Variable}
 use Rattle.gts_core.specs.declared.system.Assign.{Assign}
 use Rattle.gts_core.specs.declared.system.GtsParts.{GtsParts}
 use Rattle.flow_changes.specs.Cone.{Knows}
-use Rattle.mode_ways.specs.Moves.{Reaches}
 use Rattle.flow_changes.specs.Known.{Puts, Touches, Applies, unmarked}
-use Rattle.value_changes.proofs.Picks.{same_number, set_same, set_other, keeps_same}
-
--- the only value of a list
-pub only_value : (w v : Value) → Contains (w ∷ []) v → w ≡ v
-only_value w v (zero, h, e) = e
-only_value w v (suc k, h, e) = absurd (omega (arith, h))
-
-pub no_value : (v : Value) → Contains [] v → ⊥
-no_value v h = omega (arith, h.1)
+use Rattle.value_changes.proofs.Picks.{set_same, set_other, keeps_same}
+use Rattle.ar_meaning.specs.Reached.{Reaches}
 
 -- one mark more
 pub unmarked_set : (marks : List Bool) (n : ℕ) → Stands marks n false → unmarked (set marks n true) + 1 ≡ unmarked marks
@@ -37,7 +31,7 @@ pub puts_nothing : (d : Domain) (t : ℕ) (set : List Value) (values : List Valu
 puts_nothing d t set values known there = record { grows = λ n v k. k; only = λ n v k. inl k; still = λ e. (refl, refl); there = there; less = λ e. absurd (cc e) }
 
 pub puts_same : (d : Domain) (t : ℕ) (v : Value) (values : List Value) (known : List Bool) → Stands known t true → Stands values t v → Holds d v → Puts d t (v ∷ []) values known values known false
-puts_same d t v values known m s h = puts_nothing d t (v ∷ []) values known (λ w c. let e = only_value v w c in (record { marked = m; value = subst (λ (z : Value). Stands values t z) e s }, subst (λ (z : Value). Holds d z) e h))
+puts_same d t v values known m s h = puts_nothing d t (v ∷ []) values known (λ w c. let e = contains-one v w c in (record { marked = m; value = subst (λ (z : Value). Stands values t z) e s }, subst (λ (z : Value). Holds d z) e h))
 
 module _ (d : Domain) (t : ℕ) (v : Value) (values : List Value) (known : List Bool) (m : Stands known t false) (within : t < length values) (h : Holds d v) where
   here : Knows (set values t v) (set known t true) t v
@@ -64,9 +58,9 @@ module _ (d : Domain) (t : ℕ) (v : Value) (values : List Value) (known : List 
   pub puts_new : Puts d t (v ∷ []) values known (set values t v) (set known t true) true
   puts_new = record {
     grows = λ n w k. back n w (not_known n w k) k;
-    only = λ n w k. only n w k (same_number n t);
+    only = λ n w k. only n w k (cases_eq n t);
     still = λ e. absurd (cc e);
-    there = λ w c. let e = only_value v w c in subst (λ (z : Value). Knows (set values t v) (set known t true) t z × Holds d z) e (here, h);
+    there = λ w c. let e = contains-one v w c in subst (λ (z : Value). Knows (set values t v) (set known t true) t z × Holds d z) e (here, h);
     less = λ e. (let r = unmarked_set known t m in omega (arith, r));
   }
 

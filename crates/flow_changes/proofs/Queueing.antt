@@ -1,22 +1,19 @@
 -- Places that are taken and added.
 use Rattle.std.proofs.Common.{◌≡◌, ℕ, zero, suc, ◌+◌, ◌<◌, ◌≤◌, ◌⊎◌, inl, inr, List, length, take, refl, sym, ap, ◌∙◌, subst, arith, take_all}
+use Rattle.std.proofs.lemmas.Bool.{cases_eq}
 use Rattle.std.specs.BTreeSet.{btree_set_len}
 use Rattle.ar_base.specs.Lists.{Stands, IsOneOf}
 use Rattle.ar_base.proofs.Standing.{stands_within, stands_one, one_none}
+use Rattle.ar_base.proofs.Comparing.{side}
 use Rattle.flow_propagate.specs.Plan.{Reader}
 use Rattle.flow_propagate.specs.Closing.{IsAgain}
 use Rattle.flow_changes.specs.Queue.{Rises, IsLater, WaitsAt, IsQueue, TakesPlace, AddsPlaces, IsPlaceOf}
 use Rattle.flow_changes.specs.declared.queue.Queue.{Queue}
-use Rattle.value_changes.proofs.Picks.{same_number, one_taken}
-
-order_of : (m n : ℕ) → (m ≤ n) ⊎ (n < m)
-order_of zero n = inl (omega arith)
-order_of (suc m) zero = inr (omega arith)
-order_of (suc m) (suc n) = elim (order_of m n) [ inl h ↦ inl (omega (arith, h)) | inr h ↦ inr (omega (arith, h)) ]
+use Rattle.value_changes.proofs.Picks.{one_taken}
 
 -- a place of the list that is not less than the next one was not taken
 pub later_there : (list : List ℕ) (next q a : ℕ) → Rises list → IsOneOf list q → Stands list next a → a ≤ q → IsLater list next q
-later_there list next q a r o s h = go (order_of next o.place)
+later_there list next q a r o s h = go (side next o.place)
   where
     go : (next ≤ o.place) ⊎ (o.place < next) → IsLater list next q
     go (inl l) = record { at = o.place; later = l; stands = o.stands }
@@ -45,7 +42,7 @@ module _ (work new : Queue) (is : IsQueue work) (same : new.list.items ≡ work.
     same = same;
     one = record { place = work.next; stands = st };
     less = (let l = ap (λ (z : List ℕ). length z) same in omega (arith, below, more, l, few));
-    others = λ q w. elim w [ inl l ↦ left q l (same_number l.at work.next) | inr h ↦ absurd (again q h) ];
+    others = λ q w. elim w [ inl l ↦ left q l (cases_eq l.at work.next) | inr h ↦ absurd (again q h) ];
   }
 
 -- a place that was added again was taken
@@ -62,7 +59,7 @@ takes_again place work new is same next one only kept less = record {
   less = (let l = ap (λ (z : List ℕ). length z) same in omega (arith, next, l, less));
   others = λ q w. elim w [
     | inl l ↦ inr (inl (record { at = l.at; later = (let h = l.later in omega (arith, h, next)); stands = subst (λ (z : List ℕ). Stands z l.at q) (sym same) l.stands }))
-    | inr h ↦ (elim (same_number q place) [ inl e ↦ inl e | inr f ↦ inr (inr (kept q h f)) ])
+    | inr h ↦ (elim (cases_eq q place) [ inl e ↦ inl e | inr f ↦ inr (inr (kept q h f)) ])
   ];
 }
 

@@ -1,9 +1,11 @@
 -- What a change of the state reaches, gathered.
 use Rattle.std.proofs.Common.{◌≡◌, ℕ, zero, suc, ◌+◌, ◌<◌, ◌≤◌, ◌⊎◌, inl, inr, Bool, true, false, List, [], ◌∷◌, ◌++◌, map, length, take, set, slice_get, refl, sym, ap, ◌∙◌, subst, arith, length-append, take_all}
+use Rattle.std.proofs.lemmas.Bool.{cases_eq}
 use Rattle.ar_base.specs.Lists.{Stands, IsOneOf}
 use Rattle.ar_base.specs.Numbers.{VarId}
 use Rattle.ar_base.specs.Sets.{Ascends}
 use Rattle.ar_base.proofs.Standing.{stands_within, stands_some, stands_one, stands_left, stands_map_back, one_none, one_here, one_first, one_left, one_right, one_split, only_item, at_most}
+use Rattle.ar_base.proofs.Sets.{member_told}
 use Rattle.domains.specs.declared.Value.{Value}
 use Rattle.ar_meaning.specs.Dependence.{Names}
 use Rattle.gts_core.specs.Sound.{IsSound}
@@ -17,7 +19,7 @@ use Rattle.flow_changes.specs.Cone.{IsFlowAt, IsCone}
 use Rattle.value_changes.specs.Picking.{AreSet}
 use Rattle.flow_propagate.specs.Marks.{AreMarked}
 use Rattle.flow_changes.specs.Gathering.{Sees, IsTargetOf, IsFollowed}
-use Rattle.value_changes.proofs.Picks.{same_number, set_same, set_other, same_lists, one_or_not, one_taken, one_before, one_now}
+use Rattle.value_changes.proofs.Picks.{set_same, set_other, same_lists, one_taken, one_before, one_now}
 use Rattle.flow_changes.proofs.Puts.{unmarked_set, aims}
 
 module _ (n : ℕ) (marks : List Bool) (found : List ℕ) (m : AreMarked marks found) (s : Stands marks n false) where
@@ -30,7 +32,7 @@ module _ (n : ℕ) (marks : List Bool) (found : List ℕ) (m : AreMarked marks f
   back k h (inr f) = one_left found (n ∷ []) k ((m.each k).1 (sym (set_other marks n k true f) ∙ h))
 
   pub marking_more : AreMarked (set marks n true) (found ++ n ∷ [])
-  marking_more = record { each = λ k. (λ o. there k o (same_number k n), λ h. back k h (same_number k n)) }
+  marking_more = record { each = λ k. (λ o. there k o (cases_eq k n), λ h. back k h (cases_eq k n)) }
 
   pub sees_one : Sees (λ k. k ≡ n) marks found (set marks n true) (found ++ n ∷ [])
   sees_one = record {
@@ -143,7 +145,7 @@ cone_of p new found members f there back ascend = record {
 
 -- the marks of what was gathered are unset again
 pub marks_back : (marks mid end : List Bool) (found : List ℕ) → length mid ≡ length marks → ((n : ℕ) → Stands marks n true → ⊥) → AreMarked mid found → AreSet false found mid end → end ≡ marks
-marks_back marks mid end found long unset m s = same_lists end marks (λ n. at n (one_or_not found n))
+marks_back marks mid end found long unset m s = same_lists end marks (λ n. at n (member_told found n))
   where
     unset_at : (bs : List Bool) (n : ℕ) (b : Bool) → (Stands bs n true → ⊥) → Stands bs n b → b ≡ false
     unset_at bs n true f st = absurd (f st)

@@ -3,6 +3,7 @@ use Rattle.std.proofs.Common.{◌≡◌, ℕ, zero, suc, ◌+◌, ◌⊎◌, inl
 use Rattle.ar_base.specs.Lists.{Stands, IsOneOf, HasNo}
 use Rattle.ar_base.specs.Numbers.{VarId}
 use Rattle.ar_base.proofs.Standing.{stands_one, stands_within, stands_map_back}
+use Rattle.ar_base.proofs.Sets.{member_told}
 use Rattle.domains.proofs.Domains.{listed}
 use Rattle.domains.specs.declared.Value.{Value}
 use Rattle.typed_expr.specs.Yields.{Yields}
@@ -26,10 +27,10 @@ use Rattle.gts_core.specs.declared.system.Assign.{Assign}
 use Rattle.gts_core.specs.declared.system.GtsParts.{GtsParts}
 use Rattle.gts_core.proofs.Viewing.{variable_there, variable_back, are_numbered, variables_long}
 use Rattle.flow_propagate.specs.NewValues.{written, AreNewValues, IsRenewed}
+use Rattle.flow_propagate.proofs.Written.{written_long}
 use Rattle.flow_changes.specs.Cone.{IsCone, Knows, HasAll}
 use Rattle.flow_changes.proofs.Kept.{facts_stay, no_outside, no_broken}
-use Rattle.value_changes.proofs.Picks.{one_or_not}
-use Rattle.flow_changes.proofs.Written.{written_long, written_not, written_at}
+use Rattle.flow_changes.proofs.Written.{written_not, written_at}
 
 -- a state variable's own value, a fact of a flow, or its reset where it has none
 abbrev pub Fills : (ℕ → Value → Type 0) → ℕ → Variable → Value → Value → Type 0
@@ -129,7 +130,7 @@ module _ (p : GtsParts) (sound : IsSound p) (old : List Value) (known : List Boo
 
     -- the value of a state variable
     state_value : (n : ℕ) (x : Variable) (v : Value) → Stands p.variables.items n x → x.is_state ≡ true → Stands u n v → Knows values marks n v
-    state_value n x v sx is su = elim (one_or_not members n) [
+    state_value n x v sx is su = elim (member_told members n) [
       | inl o ↦ (elim (cone.only n o) [
         | inl r ↦ renewed r
         | inr f ↦ (let same : x ≡ f.variable = stands_one p.variables.items n x f.variable sx f.stands in let e : x.is_state ≡ f.variable.is_state = ap (λ (z : Variable). z.is_state) same in absurd (cc (sym is ∙ e ∙ f.is_flow)))
@@ -156,7 +157,7 @@ module _ (p : GtsParts) (sound : IsSound p) (old : List Value) (known : List Boo
         subst (λ (z : ℕ). Knows values marks z v) e (state_value g.place r.0 v r.1 is g.value)
 
     closed_known : (a : s.Assign ℕ) (v : Value) → IsOneOf net.assertions a → Passes (Knows values marks) a.conditions → Yields (Knows values marks) (out-Expr ℕ a.value) v → Allows net a.target v → Knows values marks a.target v
-    closed_known a v m pass y al = elim (one_or_not members a.target) [
+    closed_known a v m pass y al = elim (member_told members a.target) [
       | inl o ↦ (
           let r = stands_map_back assign_of p.assigns.items m.place a m.stands in
           let all : HasAll (Knows values marks) a = subst (λ (z : s.Assign ℕ). HasAll (Knows values marks) z) r.2 (at.has_all m.place r.0 r.1 (subst (λ (z : s.Assign ℕ). IsOneOf members z.target) (sym r.2) o)) in
@@ -180,7 +181,7 @@ module _ (p : GtsParts) (sound : IsSound p) (old : List Value) (known : List Boo
     }
 
     none_outside : HasNo net.variables (IsOutside net u)
-    none_outside = record { has_not = λ k x st h. by k x st h (one_or_not members x.key) }
+    none_outside = record { has_not = λ k x st h. by k x st h (member_told members x.key) }
       where
         inside : (k : ℕ) (x : s.Variable ℕ) → Stands net.variables k x → IsOutside net u x → IsOneOf members x.key → ⊥
         inside k x st h o =
@@ -219,7 +220,7 @@ module _ (p : GtsParts) (sound : IsSound p) (old : List Value) (known : List Boo
 
         flow : x.is_state ≡ false → (Stands marks n true) ⊎ (Stands marks n true → ⊥) → Fills (FactOf net u) n x v w
         flow is (inl k) = as_fact is (record { marked = k; value = sw })
-        flow is (inr not) = lacks is not (unmarked is not (one_or_not members n))
+        flow is (inr not) = lacks is not (unmarked is not (member_told members n))
 
         kind : (b : Bool) → x.is_state ≡ b → Fills (FactOf net u) n x v w
         kind true is = inl (is, stands_one values n v w (state_value n x v sx is su).value sw)
@@ -246,7 +247,7 @@ module _ (p : GtsParts) (sound : IsSound p) (old : List Value) (known : List Boo
         record { place = h.place; variable = h.variable; stands = h.stands; is_key = h.is_key; value = sym (at.kept_values h.place (subst Out (sym e) o)) ∙ h.value }
 
     none_broken : HasNo net.assertions (IsBroken net values)
-    none_broken = record { has_not = λ k a st h. by k a st h (one_or_not members a.target) }
+    none_broken = record { has_not = λ k a st h. by k a st h (member_told members a.target) }
       where
         by : (k : ℕ) (a : s.Assign ℕ) → Stands net.assertions k a → IsBroken net values a → IsOneOf members a.target ⊎ Out a.target → ⊥
         by k a st h (inl o) =

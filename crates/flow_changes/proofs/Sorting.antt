@@ -12,6 +12,7 @@ use Rattle.std.specs.Cmp.{unsigned_ties, unsigned_Decides}
 use Rattle.ar_base.specs.Lists.{Stands, IsOneOf}
 use Rattle.ar_base.specs.Sets.{Ascends}
 use Rattle.ar_base.proofs.Standing.{stands_within, stands_none, stands_get, stands_one, one_contains, contains_one}
+use Rattle.ar_base.proofs.Items.{all_stand}
 use Rattle.flow_changes.specs.Queue.{Rises}
 
 pub rises_sorted : (xs : List ℕ) → IsSorted nat_cmp xs → Rises xs
@@ -26,11 +27,6 @@ one_moved xs ys n perm o = one_contains ys n (Contains-permutation xs ys n perm 
 
 pub one_back : (xs ys : List ℕ) (n : ℕ) → IsPermutation xs ys → IsOneOf ys n → IsOneOf xs n
 one_back xs ys n perm o = one_contains xs n (Contains-permutation ys xs n (IsPermutation-sym xs ys perm) (contains_one ys n o))
-
-all_stand : (P : ℕ → Type 0) (xs : List ℕ) (k r : ℕ) → AllByRecursion P xs → Stands xs k r → P r
-all_stand P [] k r a s = absurd (stands_none k r s)
-all_stand P (x ∷ xs) zero r a s = let e : x ≡ r = cc in subst P e a.0
-all_stand P (x ∷ xs) (suc k) r a s = all_stand P xs k r a.1 s
 
 strictly : (xs : List ℕ) (j k q r : ℕ) → IsStrictlySortedBy nat_cmp xs → j < k → Stands xs j q → Stands xs k r → nat_cmp q r ≡ Less
 unfolding IsStrictlySortedBy

@@ -1,21 +1,19 @@
 -- Lists in which some items were written.
 use Rattle.std.proofs.Common.{◌≡◌, ℕ, zero, suc, ◌<◌, ◌⊎◌, inl, inr, List, [], ◌∷◌, length, set, Some, slice_get, refl, sym, ap, ◌∙◌, subst, arith, length-set}
+use Rattle.std.proofs.lemmas.Bool.{cases_eq}
 use Rattle.ar_base.specs.Lists.{Stands, IsOneOf}
 use Rattle.ar_base.specs.Numbers.{VarId}
 use Rattle.ar_base.specs.Sets.{Ascends}
 use Rattle.ar_base.proofs.Standing.{one_none, one_cases, one_first, one_rest, one_here, stands_map, stands_within}
+use Rattle.ar_base.proofs.Sets.{ascends_rest, member_told, ascends_first}
 use Rattle.domains.specs.declared.Value.{Value}
 use Rattle.domains.specs.Domains.{Holds}
 use Rattle.gts_core.specs.Readings.{IsTotal}
 use Rattle.gts_core.specs.declared.system.Variable.{Variable}
 use Rattle.gts_core.specs.declared.system.GtsParts.{GtsParts}
 use Rattle.flow_propagate.specs.NewValues.{written, IsNewValue, IsRenewed}
-use Rattle.value_changes.proofs.Picks.{same_number, one_or_not, set_same, set_other, same_lists}
+use Rattle.value_changes.proofs.Picks.{set_same, set_other, same_lists}
 use Rattle.flow_changes.specs.Known.{numbers_of}
-
-pub written_long : (t : List Value) (new : List (VarId × Value)) → length (written t new) ≡ length t
-written_long t [] = refl
-written_long t (r ∷ more) = written_long (set t r.0.n r.1) more ∙ length-set t r.0.n r.1
 
 -- a variable that gets no new value keeps its own
 pub written_not : (t : List Value) (new : List (VarId × Value)) (n : ℕ) → (IsRenewed new n → ⊥) → slice_get (written t new) n ≡ slice_get t n
@@ -23,12 +21,6 @@ written_not t [] n f = refl
 written_not t (r ∷ more) n f =
     written_not (set t r.0.n r.1) more n (λ h. f (record { pair = h.pair; is_one = one_rest r more h.pair h.is_one; is = h.is }))
     ∙ set_other t r.0.n n r.1 (λ e. f (record { pair = r; is_one = one_first r more; is = sym e }))
-
-ascends_rest : (x : ℕ) (xs : List ℕ) → Ascends (x ∷ xs) → Ascends xs
-ascends_rest x xs h = record { ascends = λ j k a b l s t. h.ascends (suc j) (suc k) a b (omega (arith, l)) s t }
-
-first_less : (x y : ℕ) (xs : List ℕ) → Ascends (x ∷ xs) → IsOneOf xs y → x < y
-first_less x y xs h o = h.ascends 0 (suc o.place) x y (omega arith) refl o.stands
 
 number_one : (new : List (VarId × Value)) (r : VarId × Value) → IsOneOf new r → IsOneOf (numbers_of new) r.0.n
 number_one new r o = one_here (numbers_of new) o.place r.0.n (stands_map (λ (r : VarId × Value). r.0.n) new o.place r o.stands)
@@ -39,7 +31,7 @@ written_at t [] r a o h = absurd (one_none r o)
 written_at t (q ∷ more) r a o h = elim (one_cases q more r o) [
   | inl e ↦ (
       let here : Stands (written (set t q.0.n q.1) more) r.0.n r.1 =
-      written_not (set t q.0.n q.1) more r.0.n (λ k. let l = first_less q.0.n k.pair.0.n (numbers_of more) a (number_one more k.pair k.is_one) in let i = ap (λ (z : VarId × Value). z.0.n) e in omega (arith, l, i, k.is))
+      written_not (set t q.0.n q.1) more r.0.n (λ k. let l = ascends_first q.0.n (numbers_of more) a k.pair.0.n (number_one more k.pair k.is_one) in let i = ap (λ (z : VarId × Value). z.0.n) e in omega (arith, l, i, k.is))
       ∙ subst (λ (z : VarId × Value). Stands (set t z.0.n z.1) r.0.n r.1) (sym e) (set_same t r.0.n r.1 h) in
       here)
   | inr k ↦ written_at (set t q.0.n q.1) more r (ascends_rest q.0.n (numbers_of more) a) k (let l = length-set t q.0.n q.1 in omega (arith, h, l))
@@ -53,7 +45,7 @@ written_total p t (r ∷ more) each total = written_total p (set t r.0.n r.1) mo
     set_total : (r : VarId × Value) → IsNewValue p r → IsTotal p (set t r.0.n r.1)
     set_total r is = record {
       long = length-set t r.0.n r.1 ∙ total.long;
-      in_domain = λ n x v sx sv. at n x v sx sv (same_number n r.0.n);
+      in_domain = λ n x v sx sv. at n x v sx sv (cases_eq n r.0.n);
     }
       where
         at : (n : ℕ) (x : Variable) (v : Value) → Stands p.variables.items n x → Stands (set t r.0.n r.1) n v → (n ≡ r.0.n) ⊎ (n ≡ r.0.n → ⊥) → Holds x.domain v

@@ -32,7 +32,7 @@ pub record IsNew (p : GtsParts) (n : ℕ) (values : List Value) (known : List Bo
 
 -- what is left to do: for each value that may become known one look at each reader, and the looks that wait
 abbrev pub work_left : Plan → List Bool → Queue → ℕ
-work_left plan known work = (length plan.readers.items + 1) * unmarked known + waiting work
+work_left plan known work = (length plan.readers.pairs.items + 1) * unmarked known + waiting work
 
 -- assignment n was looked at
 pub record Looks (p : GtsParts) (plan : Plan) (n : ℕ) (values : List Value) (known : List Bool) (work : Queue) (values_then : List Value) (known_then : List Bool) (work_then : Queue) : Type 0 where

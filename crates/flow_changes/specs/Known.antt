@@ -22,6 +22,10 @@ abbrev pub unmarked : List Bool → ℕ
 unmarked [] = 0
 unmarked (b ∷ bs) = cond b 0 1 + unmarked bs
 
+-- each variable that has P is marked
+abbrev pub MarksEach : List Bool → (VarId → Type 0) → Type 0
+MarksEach marks P = (x : VarId) → P x → Stands marks x.n true
+
 -- these values of a variable are known, and none else: its value may have become known, from the domain
 pub record Puts (domain : Domain) (target : ℕ) (set : List Value) (values_then : List Value) (known_then : List Bool) (values : List Value) (known : List Bool) (changed : Bool) : Type 0 where
   pub grows : (n : ℕ) (v : Value) → Knows values_then known_then n v → Knows values known n v

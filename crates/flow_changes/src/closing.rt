@@ -42,10 +42,10 @@ fn look_at(
     requires sound { IsSound parts.now }
     requires plan { IsPlan parts.now plan.now }
     requires below { n < length parts.now.assigns.items }
-    requires long { length values.old.items ≡ length parts.now.variables.items }
+    requires total { IsTotal parts.now values.old.items }
     requires marked { length known.old.items ≡ length parts.now.variables.items }
     requires queue { IsQueue work.old }
-    requires listed { (a : Assigns) (r : Reader) (q : ℕ) → Stands parts.now.assigns.items n a → IsOneOf plan.now.readers.items r → r.0.n ≡ a.target.n → Stands plan.now.places.items r.1.n q → IsOneOf work.old.list.items q }
+    requires listed { (a : Assigns) (r : Reader) (q : ℕ) → Stands parts.now.assigns.items n a → IsOneOf plan.now.readers.pairs.items r → r.0.n ≡ a.target.n → Stands plan.now.places.items r.1.n q → IsOneOf work.old.list.items q }
     ensures touches { (a : Assigns) (x : Variable) → Stands parts.now.assigns.items n a → Stands parts.now.variables.items a.target.n x → Touches x.domain a.target.n values.old.items known.old.items values.new.items known.new.items }
     ensures looks { IfOk result (λ goes. goes ≡ true → Looks parts.now plan.now n values.old.items known.old.items work.old values.new.items known.new.items work.new) }
 {

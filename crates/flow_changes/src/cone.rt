@@ -14,7 +14,7 @@ ghost use Rattle.flow_changes.specs.Gathering.{Sees, IsTargetOf, IsFollowed};
 use crate::picking::set_all;
 use ar_base::{AssignId, Memory, VarId};
 use domains::Value;
-use flow_propagate::pairs_of;
+use flow_propagate::{Runs, pairs_of};
 use gts_core::GtsParts;
 use std::alloc::Global;
 
@@ -22,12 +22,12 @@ use std::alloc::Global;
 pub(crate) fn cone(
     alloc: Global,
     parts: &GtsParts,
-    readers: &[(VarId, AssignId)],
+    readers: &Runs,
     new: &[(VarId, Value)],
     marks: &mut Vec<bool>,
 ) -> Result<Vec<u32>, Memory>
     requires sound { IsSound parts.now }
-    requires readers { AreReaders parts.now (map plain_pair readers.now) }
+    requires readers { AreReaders parts.now (map plain_pair readers.now.pairs.items) }
     requires new { AreNewValues parts.now new.now }
     requires long { length marks.old.items ≡ length parts.now.variables.items }
     requires unset { (n : ℕ) → Stands marks.old.items n true → ⊥ }
@@ -46,13 +46,13 @@ pub(crate) fn cone(
 // Gathers what new values reach, and marks it.
 fn gather(
     parts: &GtsParts,
-    readers: &[(VarId, AssignId)],
+    readers: &Runs,
     new: &[(VarId, Value)],
     marks: &mut Vec<bool>,
     found: &mut Vec<u32>,
 ) -> Result<(), Memory>
     requires sound { IsSound parts.now }
-    requires readers { AreReaders parts.now (map plain_pair readers.now) }
+    requires readers { AreReaders parts.now (map plain_pair readers.now.pairs.items) }
     requires new { AreNewValues parts.now new.now }
     requires long { length marks.old.items ≡ length parts.now.variables.items }
     requires unset { (n : ℕ) → Stands marks.old.items n true → ⊥ }
@@ -68,13 +68,13 @@ fn gather(
 // Gathers the targets of the assignments that name what was gathered, until none is new.
 fn follow(
     parts: &GtsParts,
-    readers: &[(VarId, AssignId)],
+    readers: &Runs,
     new: &[(VarId, Value)],
     marks: &mut Vec<bool>,
     found: &mut Vec<u32>,
 ) -> Result<(), Memory>
     requires sound { IsSound parts.now }
-    requires readers { AreReaders parts.now (map plain_pair readers.now) }
+    requires readers { AreReaders parts.now (map plain_pair readers.now.pairs.items) }
     requires long { length marks.old.items ≡ length parts.now.variables.items }
     requires marking { AreMarked marks.old.items found.old.items }
     requires followed { IsFollowed parts.now new.now found.old.items 0 }

@@ -1,27 +1,25 @@
 // The places of the assignments to the members of a cone.
 
 ghost use Rattle.std.specs.Prelude.{◌≡◌, ◌<◌, ℕ, length, IfOk};
-ghost use Rattle.std.specs.List.Sorted.{IsNonDecreasingBy};
 ghost use Rattle.ar_base.specs.Lists.{IsOneOf};
 ghost use Rattle.flow_propagate.specs.Plan.{Reader};
 ghost use Rattle.flow_changes.specs.Queue.{Rises};
 ghost use Rattle.flow_changes.specs.Gathering.{GathersPlaces, ArePlacesTo};
 
 use ar_base::{AssignId, Memory, VarId};
-use flow_propagate::pairs_of;
+use flow_propagate::{Runs, pairs_of};
 use std::alloc::Global;
 
 // The places of the assignments to the members, ascending.
 pub(crate) fn places_to(
     alloc: Global,
-    givers: &[(VarId, AssignId)],
+    givers: &Runs,
     places: &[usize],
     members: &[u32],
 ) -> Result<Vec<usize>, Memory>
-    requires ascending { IsNonDecreasingBy (λ r. r.0.n) givers.now }
-    requires within { (r : Reader) → IsOneOf givers.now r → r.1.n < length places.now }
+    requires { (r : Reader) → IsOneOf givers.now.pairs.items r → r.1.n < length places.now }
     ensures rises { IfOk result (λ list. Rises list.items) }
-    ensures are { IfOk result (λ list. ArePlacesTo givers.now places.now members.now list.items) }
+    ensures are { IfOk result (λ list. ArePlacesTo givers.now.pairs.items places.now members.now list.items) }
 {
     let mut list = all_places(alloc, givers, places, members)?;
     list.sort_unstable();
@@ -31,13 +29,12 @@ pub(crate) fn places_to(
 // The places of the assignments to the members.
 fn all_places(
     alloc: Global,
-    givers: &[(VarId, AssignId)],
+    givers: &Runs,
     places: &[usize],
     members: &[u32],
 ) -> Result<Vec<usize>, Memory>
-    requires ascending { IsNonDecreasingBy (λ r. r.0.n) givers.now }
-    requires within { (r : Reader) → IsOneOf givers.now r → r.1.n < length places.now }
-    ensures { IfOk result (λ list. ArePlacesTo givers.now places.now members.now list.items) }
+    requires { (r : Reader) → IsOneOf givers.now.pairs.items r → r.1.n < length places.now }
+    ensures { IfOk result (λ list. ArePlacesTo givers.now.pairs.items places.now members.now list.items) }
 {
     let mut list = Vec::new(alloc);
     for n in members {

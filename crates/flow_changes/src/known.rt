@@ -6,10 +6,10 @@ ghost use Rattle.typed_expr.specs.Kinds.{kind_of};
 ghost use Rattle.typed_expr.specs.Rows.{first_of};
 ghost use Rattle.ar_meaning.specs.Facts.{Passes};
 ghost use Rattle.ar_meaning.specs.Found.{IsAnswer};
+ghost use Rattle.ar_meaning.specs.Reached.{Reaches};
 ghost use Rattle.gts_core.specs.View.{assign_of, condition_of};
 ghost use Rattle.flow_changes.specs.Cone.{Knows};
 ghost use Rattle.flow_propagate.specs.Determined.{known_at};
-ghost use Rattle.mode_ways.specs.Moves.{Reaches};
 ghost use Rattle.value_changes.specs.Restoring.{mark_at};
 
 use ar_base::{Memory, VarId};

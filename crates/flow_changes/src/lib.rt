@@ -7,6 +7,7 @@ mod cone;
 mod following;
 mod gathering;
 mod known;
+mod marked;
 mod picking;
 mod present;
 mod putting;

@@ -2,7 +2,8 @@
 use Rattle.std.proofs.Common.{◌≡◌, ℕ, zero, suc, ◌+◌, ◌<◌, ◌≤◌, ◌⊎◌, inl, inr, Bool, true, false, not, cond, List, [], ◌∷◌, ◌++◌, length, take, get_or, refl, sym, ap, ◌∙◌, subst, arith, take_all, length-append}
 use Rattle.std.proofs.lemmas.List.Sums.{count_by_more_no, count_by_more_yes, count_by-le-length, sum_by-cons}
 use Rattle.ar_base.specs.Lists.{Stands, IsOneOf}
-use Rattle.ar_base.proofs.Standing.{stands_within, stands_one, stands_none, stands_left, stands_next, stands_map, stands_map_back}
+use Rattle.ar_base.proofs.Standing.{stands_within, stands_one, stands_none, stands_left, stands_next, stands_map, stands_map_back, one_left, at_most}
+use Rattle.ar_base.proofs.Items.{one_last, last_cases}
 use Rattle.flow_blocks.specs.Blocks.{AreBelow}
 use Rattle.ar_base.specs.Numbers.{VarId}
 use Rattle.gts_core.specs.View.{assign_of, net_of}
@@ -16,8 +17,7 @@ use Rattle.ar_meaning.proofs.Dependence.{tests_one}
 use Rattle.flow_propagate.specs.Plan.{AreReaders}
 use Rattle.flow_propagate.specs.Dependence.{flows_in, ArePlaces, AddsUse, AreUsesSoFar}
 use Rattle.flow_propagate.proofs.Numbered.{ReadHere, flow_there, flow_back, read_back}
-use Rattle.flow_propagate.proofs.NamedVariables.{one_left, one_last, one_cases}
-use Rattle.flow_propagate.proofs.ReaderPairs.{cases_below, names_back}
+use Rattle.gts_core.proofs.NamesNumbered.{reads_back}
 use Rattle.gts_core.specs.Named.{ReadsVariable}
 
 -- one variable more
@@ -46,7 +46,7 @@ places_start xs = record { long = refl; place = λ n h. absurd (omega arith) }
 pub places_more : (xs : List Variable) (i n : ℕ) (before after : List ℕ) → ArePlaces xs i before → n ≡ flows_in (take i xs) → after ≡ before ++ n ∷ [] → ArePlaces xs (i + 1) after
 places_more xs i n before after a e is =
     let P : List ℕ → Type 0 = λ z. ArePlaces xs (i + 1) z in
-    subst P (sym is) (record { long = long; place = λ k h. at k (cases_below k i h) })
+    subst P (sym is) (record { long = long; place = λ k h. at k (at_most k i h) })
   where
     long : length (before ++ n ∷ []) ≡ i + 1
     long = let r = length-append {A = ℕ} before (n ∷ []) in omega (arith, a.long, r)
@@ -84,7 +84,7 @@ flow_below (y ∷ xs) (suc n) x s e =
 -- what an assignment names is a variable of the system
 pub reads_below : (p : GtsParts) (x n : ℕ) → IsSound p → Reads (net_of p) x n → x < length p.variables.items
 reads_below p x n s h =
-    let t = names_back r.assign x r.names in
+    let t = reads_back r.assign x r.names in
     let P : ℕ → Type 0 = λ z. z < length p.variables.items in
     subst P t.is (at t.variable t.has)
   where
@@ -135,7 +135,7 @@ module _ (p : GtsParts) (x n : ℕ) (y : Variable) (a : Assign) (before : List �
   pub use_one : (u v : ℕ) (old new : List (ℕ × ℕ)) → Stands before a.target.n u → Stands before x v → new ≡ old ++ (u, v) ∷ [] → AddsUse p x n old new
   use_one u v old new bu bv e = record {
     grows = λ q o. subst (λ (z : List (ℕ × ℕ)). IsOneOf z q) (sym e) (one_left old ((u, v) ∷ []) q o);
-    only = λ j k o. elim (one_cases old (u, v) (j, k) (subst (λ (z : List (ℕ × ℕ)). IsOneOf z (j, k)) e o)) [
+    only = λ j k o. elim (last_cases old (u, v) (j, k) (subst (λ (z : List (ℕ × ℕ)). IsOneOf z (j, k)) e o)) [
       | inl h ↦ inl h
       | inr i ↦ inr (let D : ℕ × ℕ → Type 0 = λ q. DependsOn (net_of p) q.0 q.1 in subst D i (depends u v bu bv))
     ];
@@ -153,7 +153,7 @@ uses_start p readers = record { only = λ a b o. absurd (stands_none o.place (a,
 pub uses_more : (p : GtsParts) (readers : List (ℕ × ℕ)) (i : ℕ) (x n : ℕ) (old new : List (ℕ × ℕ)) → Stands readers i (x, n) → AreUsesSoFar p readers i old → AddsUse p x n old new → AreUsesSoFar p readers (i + 1) new
 uses_more p readers i x n old new st r m = record {
   only = λ a b o. elim (m.only a b o) [ inl h ↦ r.only a b h | inr d ↦ d ];
-  all = λ k y j a b assign h s sa f g. at k y j a b assign s sa f g (cases_below k i h);
+  all = λ k y j a b assign h s sa f g. at k y j a b assign s sa f g (at_most k i h);
 }
   where
     at : (k y j a b : ℕ) (assign : Assign) → Stands readers k (y, j) → Stands p.assigns.items j assign → IsFlow (net_of p) a assign.target.n → IsFlow (net_of p) b y → (k < i) ⊎ (k ≡ i) → IsOneOf new (a, b)

@@ -1,9 +1,11 @@
 -- Values outside their domains are noted while the facts are gathered.
 use Rattle.std.proofs.Common.{◌≡◌, ℕ, ◌≤◌, ◌⊎◌, inl, inr, Bool, true, false, cond, nat_lt, List, length, Contains, Option, Some, None, refl, sym, subst, arith}
 use Rattle.std.proofs.lemmas.Bool.Decides.{nat_tests}
+use Rattle.std.proofs.lemmas.Bool.{ltb-false}
 use Rattle.ar_base.specs.Least.{least_with}
 use Rattle.ar_base.specs.Lists.{Stands, IsOneOf}
 use Rattle.ar_base.proofs.Standing.{stands_one}
+use Rattle.ar_base.proofs.Comparing.{low}
 use Rattle.domains.specs.Domains as domains
 use Rattle.domains.specs.declared.Domain.{Domain}
 use Rattle.domains.specs.declared.Value.{Value}
@@ -56,12 +58,6 @@ leaves_back p a b old new changed m lacks l = record {
   };
 }
 
-low : (m n : ℕ) → nat_lt m n ≡ true → m ≤ n
-low m n e = grind (arith, nat_tests)
-
-high : (m n : ℕ) → nat_lt m n ≡ false → n ≤ m
-high m n e = grind (arith, nat_tests)
-
 -- what was noted stays, or a lesser one was noted
 up_to_more : (target t : ℕ) (noted : Option ℕ) (b : Bool) → IsUpTo t noted → IsUpTo t (least_with noted b target)
 up_to_more target t None b u = let e = u.is in cc
@@ -82,7 +78,7 @@ up_to_here target (Some n) = go (nat_lt target n) refl
   where
     go : (c : Bool) → nat_lt target n ≡ c → IsUpTo target (Some (cond c target n))
     go true e = record { number = target; is = refl; most = omega arith }
-    go false e = let l = high target n e in record { number = n; is = refl; most = l }
+    go false e = let l = ltb-false target n e in record { number = n; is = refl; most = l }
 
 module _ (p : GtsParts) (n : ℕ) (a : Assign) (st : Stands p.assigns.items n a) where
   -- the assignment that was looked at is noted where it leaves

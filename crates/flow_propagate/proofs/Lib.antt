@@ -1,5 +1,5 @@
 pub mod Numbered
-pub mod NamedVariables
+pub mod NamedPairs
 pub mod ReaderPairs
 pub mod FlowUses
 pub mod Reaching
@@ -12,7 +12,9 @@ pub mod Totalling
 pub mod Missing
 pub mod Applying
 pub mod Looking
+pub mod PairRuns
 pub mod Worklists
 pub mod Determining
 pub mod Marking
 pub mod Hearing
+pub mod Written

@@ -30,7 +30,7 @@ stays p a b old new changed m lacks has v pass y al =
     has v (passes_named (λ x w d h. m.others x w h (λ e. lacks (subst (λ (z : ℕ). Names (assign_of b) z) e (inr d)))) pass)
     (yields_named (λ x w d h. m.others x w h (λ e. lacks (subst (λ (z : ℕ). Names (assign_of b) z) e (inl d)))) y) al
 
-same_or_not : (q r : ℕ × ℕ) → (q ≡ r) ⊎ (q ≡ r → ⊥)
+pub same_or_not : (q r : ℕ × ℕ) → (q ≡ r) ⊎ (q ≡ r → ⊥)
 same_or_not q r = go (pair_eq q r) refl
   where
     go : (b : Bool) → pair_eq q r ≡ b → (q ≡ r) ⊎ (q ≡ r → ⊥)

@@ -3,6 +3,7 @@ use Rattle.std.proofs.Common.{◌≡◌, ℕ, ◌+◌, ◌<◌, ◌⊎◌, inl, 
 use Rattle.ar_base.specs.Lists.{Stands, HasNo}
 use Rattle.ar_base.proofs.Standing.{stands_one, stands_within, stands_some, stands_left, stands_next, at_most}
 use Rattle.domains.specs.declared.Value.{Value}
+use Rattle.domains.proofs.Members.{nothing-in, contains-one}
 use Rattle.ar_meaning.specs.Facts.{FactOf, given}
 use Rattle.ar_meaning.specs.Flows.{HasTwo}
 use Rattle.ar_meaning.proofs.OneAnswer.{same_value}
@@ -18,7 +19,7 @@ use Rattle.typed_expr.specs.Rows.{Rows, row_at}
 use Rattle.flow_propagate.specs.Table.{Holds, AreFacts}
 use Rattle.flow_propagate.specs.Totals.{Completed, completed_value, AreMarks, has_some}
 use Rattle.flow_propagate.specs.Determined.{Tells, TellFacts}
-use Rattle.flow_propagate.proofs.Starting.{holds_within, one_there, only_one, nothing}
+use Rattle.flow_propagate.proofs.Starting.{holds_within, one_there}
 use Rattle.flow_propagate.proofs.Determining.{state_fact, states_turned, fact_same}
 
 -- what is told stands there, and is marked
@@ -26,10 +27,10 @@ pub told_there : (values : List Value) (known : List Bool) (n : ℕ) (v : Value)
 told_there values known n v = go (slice_get values n) (slice_get known n)
   where
     go : (u : Option Value) (b : Option Bool) → Contains (if unwrap_or b false then one_or_none u else []) v → (u ≡ Some v) × (b ≡ Some true)
-    go u None h = absurd (nothing v h)
-    go u (Some false) h = absurd (nothing v h)
-    go None (Some true) h = absurd (nothing v h)
-    go (Some w) (Some true) h = (ap Some (only_one w v h), refl)
+    go u None h = absurd (nothing-in v h)
+    go u (Some false) h = absurd (nothing-in v h)
+    go None (Some true) h = absurd (nothing-in v h)
+    go (Some w) (Some true) h = (ap Some (contains-one w v h), refl)
 
 -- a value that is marked is told
 pub told_from : (values : List Value) (known : List Bool) (n : ℕ) (v : Value) → Stands values n v → Stands known n true → Tells values known n v
@@ -61,7 +62,7 @@ marks_more rows i b old new m is e =
         subst (λ (z : ℕ). Stands (old ++ b ∷ []) z (has_some (row_at rows z))) (sym j) here
 
 some_of : (row : List Value) (v : Value) → Contains row v → has_some row ≡ true
-some_of [] v h = absurd (nothing v h)
+some_of [] v h = absurd (nothing-in v h)
 some_of (r ∷ row) v h = refl
 
 module _ (p : GtsParts) (sound : IsSound p) (t total : List Value) (rows : Rows) (marks : List Bool) (facts : AreFacts (net_of p) t rows) (long : length t ≡ length p.variables.items) (rows_long : length rows ≡ length p.variables.items)
@@ -77,7 +78,7 @@ module _ (p : GtsParts) (sound : IsSound p) (t total : List Value) (rows : Rows)
   -- a fact is the value
   valued : (n : ℕ) (x : Variable) (w v u : Value) (b : Bool) (row : List Value) → x.is_state ≡ b → row ≡ row_at rows n → Stands p.variables.items n x → Stands total n u → u ≡ completed_value b w row x.value → Contains row v → FactOf (net_of p) total n v → Stands total n v
   valued n x w v u true row is at sx su e c f = state_fact p sound total x sx is f
-  valued n x w v u false [] is at sx su e c f = absurd (nothing v c)
+  valued n x w v u false [] is at sx su e c f = absurd (nothing-in v c)
   valued n x w v u false (r ∷ row) is at sx su e c f =
       let first : FactOf (net_of p) t n r = facts.sound n r (subst (λ (z : List Value). Contains z r) at (0, omega arith, refl)) in
       let mine : FactOf (net_of p) t n v = facts.sound n v (subst (λ (z : List Value). Contains z v) at c) in

@@ -67,13 +67,6 @@ puts_nothing d t v rows h = record { long = refl; grows = λ n w c. c; only = λ
 pub row_holds : (rows : Rows) (t : ℕ) (row : Vec Value Global) (v : Value) → t < length rows → row ≡ get_or rows t row → Contains row.items v → Holds rows t v
 row_holds rows t row v h is c = subst (λ (z : List Value). Contains z v) (sym (row_here rows t row h is)) c
 
--- what is read at a place does not depend on what stands for nothing
-pub same_read : {A : Type 0} (xs : List A) (i : ℕ) (x y : A) → i < length xs → get_or xs i x ≡ get_or xs i y
-same_read [] zero x y h = absurd (omega arith)
-same_read [] (suc i) x y h = absurd (omega arith)
-same_read (z ∷ xs) zero x y h = refl
-same_read (z ∷ xs) (suc i) x y h = same_read xs i x y (omega arith)
-
 -- one value more
 pub puts_more : (d : Domain) (t : ℕ) (vs : List Value) (i : ℕ) (v : Value) (old mid new : Rows) (b c e : Bool) → i < length vs → v ≡ get_or vs i v → PutsAll d t (take i vs) old mid b → Puts d t v mid new c
     → (e ≡ false → (b ≡ false) × (c ≡ false)) → (e ≡ true → (b ≡ true) ⊎ (c ≡ true)) → PutsAll d t (take (i + 1) vs) old new e

@@ -1,5 +1,5 @@
 -- The pairs of a variable and an assignment that names it.
-use Rattle.std.proofs.Common.{Ordering, Less, Equal, Greater, ◌≡◌, ℕ, zero, suc, ◌+◌, ◌<◌, ◌≤◌, ◌⊎◌, inl, inr, Bool, true, ◌&&◌, nat_eq, List, [], ◌∷◌, ◌++◌, map, length, get_or, Contains, refl, sym, ap, ◌∙◌, subst, arith}
+use Rattle.std.proofs.Common.{Ordering, Less, Equal, Greater, ◌≡◌, ℕ, zero, suc, ◌+◌, ◌<◌, ◌≤◌, ◌⊎◌, inl, inr, Bool, true, ◌&&◌, nat_eq, List, [], ◌∷◌, ◌++◌, length, get_or, Contains, refl, sym, ap, ◌∙◌, subst, arith}
 use Rattle.std.specs.Ordering.{nat_cmp, ordering_then, eq_by_cmp}
 use Rattle.std.specs.Cmp.{IsTotalOrder, IsEquivalence, both_tied, unsigned_ties, unsigned_Decides}
 use Rattle.std.proofs.lemmas.Cmp.{nat_cmp_total, nat_eq_equiv, then_total, on_total, and_equiv, on_equiv, ranked}
@@ -11,65 +11,20 @@ use Rattle.std.proofs.lemmas.List.Filters.{dedup_is}
 use Rattle.std.proofs.lemmas.List.Kept.{Contains-dedup, Contains-from_dedup, IsStrictlySortedBy-dedup}
 use Rattle.std.proofs.lemmas.Bool.{and_parts}
 use Rattle.ar_base.specs.Lists.{Stands, IsOneOf}
-use Rattle.ar_base.proofs.Standing.{stands_within, stands_one, stands_none, one_contains, contains_one}
-use Rattle.typed_expr.specs.Pairs.{turned}
-use Rattle.typed_expr.specs.Mentions.{Mentions}
-use Rattle.typed_expr.proofs.Renaming.{mentions_carry, renames_turned}
-use Rattle.typed_expr.specs.declared.expr.Expr.{Expr, out-Expr}
-use Rattle.ar_base.specs.Numbers.{VarId}
-use Rattle.gts_core.specs.View.{numbered, condition_of, assign_of, net_of}
-use Rattle.gts_core.proofs.Numbering.{IsNumber, renames_numbered}
+use Rattle.ar_base.proofs.Standing.{stands_within, stands_one, stands_none, one_here, one_contains, contains_one, one_left, at_most, stands_item}
+use Rattle.ar_base.proofs.Items.{one_last, last_cases}
+use Rattle.gts_core.specs.View.{assign_of, net_of}
+use Rattle.gts_core.proofs.NamesNumbered.{reads_there, reads_back}
+use Rattle.gts_core.proofs.Lawfulness.{system_lawful}
+use Rattle.gts_core.proofs.Viewing.{variables_long}
+use Rattle.gts_core.specs.Sound.{IsSound}
 use Rattle.gts_core.specs.declared.system.Assign.{Assign}
 use Rattle.gts_core.specs.declared.system.GtsParts.{GtsParts}
-use Rattle.ar_meaning.specs.Dependence.{Tests, in_this, in_later, Names, Reads}
+use Rattle.ar_meaning.specs.Dependence.{Names, Reads}
 use Rattle.flow_propagate.specs.Plan.{ComesBefore, AreReaders, AreGivers}
 use Rattle.gts_core.specs.Named.{ReadsVariable}
 use Rattle.flow_propagate.specs.Named.{IsPairFor, AddsNamed, AreNamed, AreTargets, Ascend}
-use Rattle.flow_propagate.proofs.Searching.{stands_read}
 use Rattle.flow_propagate.proofs.Numbered.{read_there, read_back}
-use Rattle.flow_propagate.proofs.NamedVariables.{one_left, one_last, one_cases}
-
--- a variable by its plain number
-pub record Typed (P : VarId → Type 0) (x : ℕ) : Type 0 where
-  pub variable : VarId
-  pub is : variable.n ≡ x
-  pub has : P variable
-
-mentions_there : (v : VarId) (e : Expr VarId) → Mentions v (out-Expr VarId e) → Mentions v.n (out-Expr ℕ (numbered e))
-mentions_there v e d = let r = mentions_carry IsNumber v d (renames_numbered e) in subst (λ (z : ℕ). Mentions z (out-Expr ℕ (numbered e))) (sym r.related) r.stands
-
-mentions_back : (x : ℕ) (e : Expr VarId) → Mentions x (out-Expr ℕ (numbered e)) → Typed (λ v. Mentions v (out-Expr VarId e)) x
-mentions_back x e d = let r = mentions_carry (turned IsNumber) x d (renames_turned IsNumber (renames_numbered e)) in record { variable = r.other; is = r.related; has = r.stands }
-
-tests_there : (v : VarId) (cs : List (Expr VarId × Bool)) → Tests v cs → Tests v.n (map condition_of cs)
-tests_there v [] d = elim d [ ]
-tests_there v (c ∷ cs) (in_this d) = in_this (mentions_there v c.0 d)
-tests_there v (c ∷ cs) (in_later d) = in_later (tests_there v cs d)
-
-tests_head : (x : ℕ) (c : Expr ℕ × Bool) (cs : List (Expr ℕ × Bool)) → Tests x (c ∷ cs) → Mentions x (out-Expr ℕ c.0) ⊎ Tests x cs
-tests_head x c cs (in_this d) = inl d
-tests_head x c cs (in_later d) = inr d
-
-tests_back : (x : ℕ) (cs : List (Expr VarId × Bool)) → Tests x (map condition_of cs) → Typed (λ v. Tests v cs) x
-tests_back x [] d = elim d [ ]
-tests_back x (c ∷ cs) d = elim (tests_head x (condition_of c) (map condition_of cs) d) [
-  | inl h ↦ (let r = mentions_back x c.0 h in record { variable = r.variable; is = r.is; has = in_this r.has })
-  | inr h ↦ (let r = tests_back x cs h in record { variable = r.variable; is = r.is; has = in_later r.has })
-]
-
-names_there : (a : Assign) (v : VarId) → ReadsVariable a v → Names (assign_of a) v.n
-names_there a v (inl d) = inl (mentions_there v a.value d)
-names_there a v (inr d) = inr (tests_there v a.when.items d)
-
-pub names_back : (a : Assign) (x : ℕ) → Names (assign_of a) x → Typed (ReadsVariable a) x
-names_back a x (inl d) = let r = mentions_back x a.value d in record { variable = r.variable; is = r.is; has = inl r.has }
-names_back a x (inr d) = let r = tests_back x a.when.items d in record { variable = r.variable; is = r.is; has = inr r.has }
-
-pub cases_below : (k i : ℕ) → k < i + 1 → (k < i) ⊎ (k ≡ i)
-cases_below zero zero h = inr refl
-cases_below zero (suc i) h = inl (omega arith)
-cases_below (suc k) zero h = absurd (omega arith)
-cases_below (suc k) (suc i) h = elim (cases_below k i (omega arith)) [ inl a ↦ inl (omega arith) | inr a ↦ inr (ap suc a) ]
 
 pub named_start : (p : GtsParts) → AreNamed p 0 []
 named_start p = record { only = λ q o. absurd (stands_none o.place q o.stands); all = λ x n h r. absurd (omega arith) }
@@ -78,20 +33,20 @@ named_start p = record { only = λ q o. absurd (stands_none o.place q o.stands);
 pub named_more : (p : GtsParts) (i : ℕ) (a : Assign) (old new : List (ℕ × ℕ)) → i < length p.assigns.items → a ≡ get_or p.assigns.items i a → AreNamed p i old → AddsNamed i (ReadsVariable a) old new → AreNamed p (i + 1) new
 named_more p i a old new h is before adds = record {
   only = λ q o. elim (adds.only q o) [ inl k ↦ before.only q k | inr k ↦ here q k ];
-  all = λ x n below r. at x n r (cases_below n i below);
+  all = λ x n below r. at x n r (at_most n i below);
 }
   where
     stands : Stands p.assigns.items i a
-    stands = stands_read p.assigns.items i a h is
+    stands = stands_item p.assigns.items i a h is
 
     here : (q : ℕ × ℕ) → IsPairFor i (ReadsVariable a) q → Reads (net_of p) q.0 q.1
-    here q k = subst (λ (z : ℕ). Reads (net_of p) z q.1) (sym k.first) (subst (λ (z : ℕ). Reads (net_of p) k.variable.n z) (sym k.second) (read_there p k.variable.n i (record { assign = a; stands = stands; names = names_there a k.variable k.has })))
+    here q k = subst (λ (z : ℕ). Reads (net_of p) z q.1) (sym k.first) (subst (λ (z : ℕ). Reads (net_of p) k.variable.n z) (sym k.second) (read_there p k.variable.n i (record { assign = a; stands = stands; names = reads_there a k.variable k.has })))
 
     same : (x n : ℕ) → n ≡ i → Reads (net_of p) x n → IsOneOf new (x, n)
     same x n e h =
         let r = read_back p x n h in
         let one : r.assign ≡ a = stands_one p.assigns.items i r.assign a (subst (λ (z : ℕ). Stands p.assigns.items z r.assign) e r.stands) stands in
-        let t = names_back a x (subst (λ (z : Assign). Names (assign_of z) x) one r.names) in
+        let t = reads_back a x (subst (λ (z : Assign). Names (assign_of z) x) one r.names) in
         subst (λ (z : ℕ). IsOneOf new (z, n)) t.is (subst (λ (z : ℕ). IsOneOf new (t.variable.n, z)) (sym e) (adds.all t.variable t.has))
 
     at : (x n : ℕ) → Reads (net_of p) x n → (n < i) ⊎ (n ≡ i) → IsOneOf new (x, n)
@@ -189,15 +144,15 @@ targets_start p = record { only = λ x n o. absurd (stands_none o.place (x, n) o
 -- one assignment more
 pub targets_more : (p : GtsParts) (i : ℕ) (a : Assign) (old new : List (ℕ × ℕ)) → i < length p.assigns.items → a ≡ get_or p.assigns.items i a → AreTargets p i old → new ≡ old ++ (a.target.n, i) ∷ [] → AreTargets p (i + 1) new
 targets_more p i a old new h is before e = record {
-  only = λ x n o. elim (one_cases old (a.target.n, i) (x, n) (subst (λ (z : List (ℕ × ℕ)). IsOneOf z (x, n)) e o)) [
+  only = λ x n o. elim (last_cases old (a.target.n, i) (x, n) (subst (λ (z : List (ℕ × ℕ)). IsOneOf z (x, n)) e o)) [
     | inl k ↦ before.only x n k
     | inr j ↦ (a, subst (λ (z : ℕ). Stands p.assigns.items z a) (ap (λ (q : ℕ × ℕ). q.1) j) stands, ap (λ (q : ℕ × ℕ). q.0) j)
   ];
-  all = λ n b below s. subst (λ (z : List (ℕ × ℕ)). IsOneOf z (b.target.n, n)) (sym e) (at n b s (cases_below n i below));
+  all = λ n b below s. subst (λ (z : List (ℕ × ℕ)). IsOneOf z (b.target.n, n)) (sym e) (at n b s (at_most n i below));
 }
   where
     stands : Stands p.assigns.items i a
-    stands = stands_read p.assigns.items i a h is
+    stands = stands_item p.assigns.items i a h is
 
     at : (n : ℕ) (b : Assign) → Stands p.assigns.items n b → (n < i) ⊎ (n ≡ i) → IsOneOf (old ++ (a.target.n, i) ∷ []) (b.target.n, n)
     at n b s (inl l) = one_left old ((a.target.n, i) ∷ []) (b.target.n, n) (before.all n b l s)
@@ -207,3 +162,17 @@ targets_more p i a old new h is before e = record {
 
 pub targets_all : (p : GtsParts) (i : ℕ) (pairs : List (ℕ × ℕ)) → length p.assigns.items ≤ i → AreTargets p i pairs → AreTargets p (length p.assigns.items) pairs
 targets_all p i pairs h a = record { only = a.only; all = λ n x below s. a.all n x (omega arith) s }
+
+-- the variables of the pairs are the system's
+pub read_below : (p : GtsParts) → IsSound p → (pairs : List (ℕ × ℕ)) → AreReaders p pairs → (q : ℕ × ℕ) → IsOneOf pairs q → q.0 < length p.variables.items
+read_below p sound pairs are q o =
+    let r = are.only q.0 q.1 o in
+    let h = (system_lawful p sound).inside r.assign q.0 (one_here (net_of p).assertions q.1 r.assign r.stands) r.names in
+    let l = variables_long 0 p.variables.items in omega (arith, h, l)
+
+pub given_below : (p : GtsParts) → IsSound p → (pairs : List (ℕ × ℕ)) → AreGivers p pairs → (q : ℕ × ℕ) → IsOneOf pairs q → q.0 < length p.variables.items
+given_below p sound pairs are q o =
+    let g = are.only q.0 q.1 o in
+    let a = sound.assertions g.0 (one_here p.assigns.items q.1 g.0 g.1) in
+    let h = stands_within p.variables.items g.0.target.n a.variable a.stands in
+    let e = g.2 in omega (arith, h, e)

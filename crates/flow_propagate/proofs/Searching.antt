@@ -23,23 +23,6 @@ use Rattle.typed_expr.specs.Rows.{Rows, row_at}
 use Rattle.flow_propagate.specs.Table.{Holds, AreFacts}
 use Rattle.flow_propagate.specs.Searches.{AreTwo, IsTwo, Leaves, LeavesDomain, IsLeast}
 
-pub stands_read : {A : Type 0} (xs : List A) (i : ℕ) (a : A) → i < length xs → a ≡ get_or xs i a → Stands xs i a
-stands_read [] zero a h is = absurd (omega arith)
-stands_read [] (suc i) a h is = absurd (omega arith)
-stands_read (x ∷ xs) zero a h is = ap Some (sym is)
-stands_read (x ∷ xs) (suc i) a h is = stands_read xs i a (omega arith) is
-
--- one item more that has not P
-pub before_more : {A : Type 0} (xs : List A) (i : ℕ) (a : A) (P : ℕ → A → Type 0) → ((k : ℕ) (x : A) → k < i → Stands xs k x → P k x → ⊥) → Stands xs i a → (P i a → ⊥)
-    → (k : ℕ) (x : A) → k < i + 1 → Stands xs k x → P k x → ⊥
-before_more {A} xs i a P before st n k x l s h = go (at_most k i l)
-  where
-    go : (k < i) ⊎ (k ≡ i) → ⊥
-    go (inl j) = before k x j s h
-    go (inr j) =
-        let same : x ≡ a = stands_one xs i x a (subst (λ (z : ℕ). Stands xs z x) j s) st in
-        n (subst (λ (z : A). P i z) same (subst (λ (z : ℕ). P z x) j h))
-
 -- a row with a value that is not its first
 pub two_of_other : (row : List Value) (v : Value) → Contains row v → HasOther row v → AreTwo row
 two_of_other row v c h = record { first = v; second = h.other; has_first = c; has_second = h.has; differ = λ e. h.differs (sym e) }

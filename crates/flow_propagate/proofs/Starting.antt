@@ -3,6 +3,7 @@ use Rattle.std.proofs.Common.{◌≡◌, ℕ, zero, suc, ◌<◌, Bool, true, fa
 use Rattle.ar_base.specs.Lists.{Stands}
 use Rattle.ar_base.proofs.Standing.{stands_some, stands_within}
 use Rattle.domains.specs.declared.Value.{Value}
+use Rattle.domains.proofs.Members.{nothing-in, contains-one}
 use Rattle.ar_meaning.specs.Systems as s
 use Rattle.ar_meaning.specs.Facts.{IsGiven, FactOf, given}
 use Rattle.ar_meaning.proofs.ByNumber.{given_from}
@@ -13,29 +14,21 @@ use Rattle.gts_core.specs.declared.system.GtsParts.{GtsParts}
 use Rattle.typed_expr.specs.Rows.{Rows, row_at}
 use Rattle.flow_propagate.specs.Table.{Holds, IsSoundTable, Starts}
 
-pub nothing : (v : Value) → Contains [] v → ⊥
-nothing v h = omega (arith, h.1)
-
--- the only value of a list
-pub only_one : (w v : Value) → Contains (w ∷ []) v → w ≡ v
-only_one w v (zero, h, e) = e
-only_one w v (suc k, h, e) = absurd (omega (arith, h))
-
 pub one_there : (v : Value) → Contains (v ∷ []) v
 one_there v = (0, omega arith, refl)
 
 pub holds_within : (rows : Rows) (n : ℕ) (v : Value) → Holds rows n v → n < length rows
-holds_within [] zero v h = absurd (nothing v h)
-holds_within [] (suc n) v h = absurd (nothing v h)
+holds_within [] zero v h = absurd (nothing-in v h)
+holds_within [] (suc n) v h = absurd (nothing-in v h)
 holds_within (r ∷ rows) zero v h = omega arith
 holds_within (r ∷ rows) (suc n) v h = let k = holds_within rows n v h in omega arith
 
 module _ (p : GtsParts) (t : List Value) (rows : Rows) (long : length t ≡ length p.variables.items) (st : Starts p.variables.items t (length p.variables.items) rows) where
   by_state : (n : ℕ) (x : Variable) (w v : Value) (b : Bool) → x.is_state ≡ b → Stands p.variables.items n x → Stands t n w → Contains (cond b (w ∷ []) []) v → FactOf (net_of p) t n v
   by_state n x w v true is sx sw h =
-      let i = only_one w v h in
+      let i = contains-one w v h in
       given (given_from (net_of p) (are_numbered p) t n (variable_of n x) v (variable_there p n x sx) is (subst (λ (z : Value). Stands t n z) i sw))
-  by_state n x w v false is sx sw h = absurd (nothing v h)
+  by_state n x w v false is sx sw h = absurd (nothing-in v h)
 
   pub starts_sound : IsSoundTable (net_of p) t rows
   starts_sound n v h =

@@ -12,8 +12,3 @@ each_more P vs i d h all p v c = elim (Contains-push_cases (take i vs) (get_or v
 
 pub each_all : (P : Value → Type 0) (vs : List Value) (i : ℕ) → length vs ≤ i → ((v : Value) → Contains (take i vs) v → P v) → (v : Value) → Contains vs v → P v
 each_all P vs i h all v c = all v (subst (λ (z : List Value). Contains z v) (sym (take_all i vs h)) c)
-
--- the first value of a list is in it
-pub first_in : (row : List Value) (v : Value) → slice_get row 0 ≡ Some v → Contains row v
-first_in [] v e = cc
-first_in (x ∷ xs) v e = let i : x ≡ v = cc in (0, omega arith, i)

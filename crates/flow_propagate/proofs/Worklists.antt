@@ -1,19 +1,17 @@
 -- The assignments that wait.
-use Rattle.std.proofs.Common.{◌≡◌, ℕ, zero, suc, ◌+◌, ◌-◌, ◌<◌, ◌≤◌, ◌⊎◌, inl, inr, true, false, List, [], ◌∷◌, ◌++◌, map, length, get_or, set, take, drop, refl, sym, ap, ◌∙◌, subst, arith, length-drop, ltb, leb}
-use Rattle.std.proofs.lemmas.Bool.{ltb-true, ltb-false, leb-true, leb-false}
-use Rattle.std.proofs.lemmas.List.{get_or-drop, get_or-take, length-take-le}
-use Rattle.std.specs.List.Sorted.{IsNonDecreasingBy, IsPartitionPoint, IsPermutation}
+use Rattle.std.proofs.Common.{◌≡◌, ℕ, zero, suc, ◌+◌, ◌<◌, ◌≤◌, ◌⊎◌, inl, inr, List, [], ◌∷◌, ◌++◌, map, length, get_or, set, refl, sym, ap, ◌∙◌, subst, arith}
+use Rattle.std.specs.List.Sorted.{IsNonDecreasingBy, IsPermutation}
+use Rattle.std.proofs.lemmas.Bool.{cases_eq}
 use Rattle.std.proofs.lemmas.List.Sorted.{Contains-permutation, IsPermutation-sym}
-use Rattle.std.proofs.lemmas.Option.{slice_get-get_or, get_or_from_slice_get}
+use Rattle.std.proofs.lemmas.Option.{slice_get-get_or}
 use Rattle.ar_base.specs.Lists.{Stands, IsOneOf}
-use Rattle.ar_base.proofs.Standing.{stands_one, stands_within, stands_some, stands_map, stands_map_back, one_contains, contains_one}
+use Rattle.ar_base.proofs.Standing.{stands_one, stands_within, stands_some, stands_map, stands_map_back, one_contains, contains_one, at_most, one_left}
+use Rattle.ar_base.proofs.Items.{one_last, last_cases}
 use Rattle.gts_core.specs.declared.system.GtsParts.{GtsParts}
-use Rattle.flow_propagate.specs.Plan.{AreReaders, IsOrder, Reader, plain_pair}
+use Rattle.flow_propagate.specs.Plan.{ComesBefore, AreReaders, IsOrder, Reader, plain_pair}
 use Rattle.flow_propagate.specs.Closing.{IsAgain, WaitsAt, Waits, IsWorklist, TakesPlace, Takes, AddsWork}
 use Rattle.flow_propagate.specs.declared.worklist.Worklist.{Worklist}
-use Rattle.flow_propagate.proofs.NamedVariables.{one_left, one_last, one_cases}
 use Rattle.flow_propagate.proofs.Numbered.{read_back}
-use Rattle.flow_propagate.proofs.ReaderPairs.{cases_below}
 
 module _ {A : Type 0} where
   pub set_here : (xs : List A) (k : ℕ) (x : A) → k < length xs → Stands (set xs k x) k x
@@ -27,12 +25,6 @@ module _ {A : Type 0} where
   set_back (z ∷ xs) zero (suc n) x y s = inr s
   set_back (z ∷ xs) (suc k) zero x y s = inr s
   set_back (z ∷ xs) (suc k) (suc n) x y s = elim (set_back xs k n x y s) [ inl e ↦ inl (ap suc e.0, e.1) | inr h ↦ inr h ]
-
-same_number : (m n : ℕ) → (m ≡ n) ⊎ (m ≡ n → ⊥)
-same_number zero zero = inl refl
-same_number zero (suc n) = inr (λ e. omega arith)
-same_number (suc m) zero = inr (λ e. omega arith)
-same_number (suc m) (suc n) = elim (same_number m n) [ inl e ↦ inl (ap suc e) | inr f ↦ inr (λ e. f (omega (arith, e))) ]
 
 -- the count of a worklist is the number of its places
 pub by_length : (count : ℕ) (w : Worklist) → IsWorklist count w → IsWorklist (length w.places.now) w
@@ -75,7 +67,7 @@ adds_more count i readers r old mid new st a b = record {
   is = b.is;
   few = (let f = a.few in let g = b.few in omega (arith, f, g));
   keeps = λ m h. b.keeps m (a.keeps m h);
-  adds = λ m f. at m f (cases_below f.0 i f.2);
+  adds = λ m f. at m f (at_most f.0 i f.2);
 }
   where
     at : (m : ℕ) (f : IsAmong readers (i + 1) m) → (f.0 < i) ⊎ (f.0 ≡ i) → Waits new m
@@ -113,17 +105,18 @@ adds_pairs count most readers variable old new a = record {
 }
 
 -- ascending pairs have ascending variables
-pub rising : (p : GtsParts) (readers : List Reader) → AreReaders p (map plain_pair readers) → IsNonDecreasingBy (λ (r : Reader). r.0.n) readers
-rising p readers a = λ i j d h k. at i j d h k (same_number i j)
+pub rising : (pairs : List Reader) → ((j k : ℕ) (q r : ℕ × ℕ) → j < k → Stands (map plain_pair pairs) j q → Stands (map plain_pair pairs) k r → ComesBefore q r)
+    → IsNonDecreasingBy (λ (r : Reader). r.0.n) pairs
+rising pairs ascending = λ i j d h k. at i j d h k (cases_eq i j)
   where
-    item : (i : ℕ) (d : Reader) → i < length readers → Stands readers i (get_or readers i d)
-    item i d h = slice_get-get_or readers i d h
+    item : (i : ℕ) (d : Reader) → i < length pairs → Stands (map plain_pair pairs) i (plain_pair (get_or pairs i d))
+    item i d h = stands_map plain_pair pairs i (get_or pairs i d) (slice_get-get_or pairs i d h)
 
-    at : (i j : ℕ) (d : Reader) → i ≤ j → j < length readers → (i ≡ j) ⊎ (i ≡ j → ⊥) → (get_or readers i d).0.n ≤ (get_or readers j d).0.n
-    at i j d h k (inl e) = let s : (get_or readers i d).0.n ≡ (get_or readers j d).0.n = ap (λ (z : ℕ). (get_or readers z d).0.n) e in omega (arith, s)
+    at : (i j : ℕ) (d : Reader) → i ≤ j → j < length pairs → (i ≡ j) ⊎ (i ≡ j → ⊥) → (get_or pairs i d).0.n ≤ (get_or pairs j d).0.n
+    at i j d h k (inl e) = let s : (get_or pairs i d).0.n ≡ (get_or pairs j d).0.n = ap (λ (z : ℕ). (get_or pairs z d).0.n) e in omega (arith, s)
     at i j d h k (inr f) =
         let l : i < j = omega (arith, f) in
-        elim (a.ascending i j (plain_pair (get_or readers i d)) (plain_pair (get_or readers j d)) l (stands_map plain_pair readers i _ (item i d (omega arith))) (stands_map plain_pair readers j _ (item j d k))) [
+        elim (ascending i j (plain_pair (get_or pairs i d)) (plain_pair (get_or pairs j d)) l (item i d (omega arith)) (item j d k)) [
           | inl x ↦ omega (arith, x)
           | inr x ↦ (let y = x.0 in omega (arith, y))
         ]
@@ -132,79 +125,6 @@ pub readers_below : (p : GtsParts) (readers : List Reader) → AreReaders p (map
 readers_below p readers a r o =
     let q = read_back p r.0.n r.1.n (a.only r.0.n r.1.n (record { place = o.place; stands = stands_map plain_pair readers o.place r o.stands })) in
     stands_within p.assigns.items r.1.n q.assign q.stands
-
--- what lies between the pairs of lesser and of greater variables
-module _ (readers : List Reader) (t from to : ℕ) (low : IsPartitionPoint (λ (r : Reader). ltb r.0.n t ≡ true) (λ (r : Reader). ltb r.0.n t ≡ false) readers from)
-    (high : IsPartitionPoint (λ (r : Reader). leb r.0.n t ≡ true) (λ (r : Reader). leb r.0.n t ≡ false) readers to) (bound : to ≤ length readers) (bound' : from ≤ length readers) where
-  pub in_order : from ≤ to
-  in_order = go (order_of from to)
-    where
-      order_of : (m n : ℕ) → (m ≤ n) ⊎ (n < m)
-      order_of zero n = inl (omega arith)
-      order_of (suc m) zero = inr (omega arith)
-      order_of (suc m) (suc n) = elim (order_of m n) [ inl h ↦ inl (omega arith) | inr h ↦ inr (omega arith) ]
-
-      go : (from ≤ to) ⊎ (to < from) → from ≤ to
-      go (inl h) = h
-      go (inr h) =
-          let item = stands_some readers to (omega arith) in
-          let a = low.0 to item.0 (omega arith) h in
-          let b = high.1 to item.0 (omega arith) (omega arith) in
-          let c = ltb-true _ _ a in
-          let d = leb-false _ _ b in
-          absurd (omega (arith, c, d))
-
-  -- the run's length, and what stands in it
-  run_long : length (take (to - from) (drop from readers)) ≡ to - from
-  run_long = length-take-le (to - from) (drop from readers) (let l = length-drop from readers in omega (arith, l, bound))
-
-  run_item : (j : ℕ) (d : Reader) → j < to - from → get_or (take (to - from) (drop from readers)) j d ≡ get_or readers (from + j) d
-  run_item j d h = get_or-take (to - from) (drop from readers) j d h ∙ get_or-drop from readers j d
-
-  pub run_short : length (take (to - from) (drop from readers)) ≤ length readers
-  run_short = omega (arith, run_long, bound)
-
-  pub run_among : (r : Reader) → IsOneOf (take (to - from) (drop from readers)) r → IsOneOf readers r
-  run_among r o =
-      let c = contains_one (take (to - from) (drop from readers)) r o in
-      let h : c.0 < to - from = (let k = c.1 in omega (arith, k, run_long)) in
-      one_contains readers r (from + c.0, omega (arith, h, bound), sym (run_item c.0 r h) ∙ c.2)
-
-  pub run_exact : (r : Reader) → IsOneOf (take (to - from) (drop from readers)) r → r.0.n ≡ t
-  run_exact r o =
-      let c = contains_one (take (to - from) (drop from readers)) r o in
-      let h : c.0 < to - from = (let k = c.1 in omega (arith, k, run_long)) in
-      let at : get_or readers (from + c.0) r ≡ r = sym (run_item c.0 r h) ∙ c.2 in
-      let a = leb-true _ _ (high.0 (from + c.0) r (omega (arith, h, bound)) (omega (arith, h))) in
-      let b = ltb-false _ _ (low.1 (from + c.0) r (omega arith) (omega (arith, h, bound))) in
-      let e : (get_or readers (from + c.0) r).0.n ≡ t = omega (arith, a, b) in
-      sym (ap (λ (z : Reader). z.0.n) at) ∙ e
-
-  pub run_all : (r : Reader) → IsOneOf readers r → r.0.n ≡ t → IsOneOf (take (to - from) (drop from readers)) r
-  run_all r o e = one_contains (take (to - from) (drop from readers)) r (o.place - from, omega (arith, above, below, run_long), run_item (o.place - from) r (omega (arith, above, below)) ∙ ap (λ (z : ℕ). get_or readers z r) back ∙ at)
-    where
-      within : o.place < length readers
-      within = stands_within readers o.place r o.stands
-
-      at : get_or readers o.place r ≡ r
-      at = get_or_from_slice_get readers o.place r r o.stands
-
-      here : (get_or readers o.place r).0.n ≡ t
-      here = ap (λ (z : Reader). z.0.n) at ∙ e
-
-      side : (m n : ℕ) → (m ≤ n) ⊎ (n < m)
-      side zero n = inl (omega arith)
-      side (suc m) zero = inr (omega arith)
-      side (suc m) (suc n) = elim (side m n) [ inl h ↦ inl (omega arith) | inr h ↦ inr (omega arith) ]
-
-      above : from ≤ o.place
-      above = elim (side from o.place) [ inl h ↦ h | inr h ↦ (let c = ltb-true _ _ (low.0 o.place r (omega arith) h) in absurd (omega (arith, c, here))) ]
-
-      below : o.place < to
-      below = elim (side to o.place) [ inl h ↦ (let c = leb-false _ _ (high.1 o.place r h within) in absurd (omega (arith, c, here))) | inr h ↦ h ]
-
-      back : from + (o.place - from) ≡ o.place
-      back = omega (arith, above)
 
 -- what stands for no pair where a list of pairs is read
 abbrev pub no_reader : Reader
@@ -216,8 +136,8 @@ reader_at readers i h = slice_get-get_or readers i no_reader h
 -- the numbers so far, and one more
 pub numbers_more : (i : ℕ) (old new : List ℕ) → new ≡ old ++ i ∷ [] → ((n : ℕ) → n < i → IsOneOf old n) × ((n : ℕ) → IsOneOf old n → n < i) → ((n : ℕ) → n < i + 1 → IsOneOf new n) × ((n : ℕ) → IsOneOf new n → n < i + 1)
 numbers_more i old new e a = (
-  λ n h. subst (λ (z : List ℕ). IsOneOf z n) (sym e) (elim (cases_below n i h) [ inl l ↦ one_left old (i ∷ []) n (a.0 n l) | inr j ↦ subst (λ (z : ℕ). IsOneOf (old ++ i ∷ []) z) (sym j) (one_last old i) ]),
-  λ n o. elim (one_cases old i n (subst (λ (z : List ℕ). IsOneOf z n) e o)) [ inl k ↦ (let l = a.1 n k in omega (arith, l)) | inr j ↦ omega (arith, j) ],
+  λ n h. subst (λ (z : List ℕ). IsOneOf z n) (sym e) (elim (at_most n i h) [ inl l ↦ one_left old (i ∷ []) n (a.0 n l) | inr j ↦ subst (λ (z : ℕ). IsOneOf (old ++ i ∷ []) z) (sym j) (one_last old i) ]),
+  λ n o. elim (last_cases old i n (subst (λ (z : List ℕ). IsOneOf z n) e o)) [ inl k ↦ (let l = a.1 n k in omega (arith, l)) | inr j ↦ omega (arith, j) ],
 )
 
 -- numbers in another order
@@ -232,7 +152,7 @@ abbrev pub ArePlaced : List ℕ → ℕ → List ℕ → Type 0
 ArePlaced order i places = (j n p : ℕ) → j < i → Stands order j n → Stands places n p → Stands order p n
 
 pub placed_more : (order places : List ℕ) (i m : ℕ) → Stands order i m → m < length places → ArePlaced order i places → ArePlaced order (i + 1) (set places m i)
-placed_more order places i m st h a j n p l s q = go (same_number n m)
+placed_more order places i m st h a j n p l s q = go (cases_eq n m)
   where
     go : (n ≡ m) ⊎ (n ≡ m → ⊥) → Stands order p n
     go (inl e) =
@@ -241,7 +161,7 @@ placed_more order places i m st h a j n p l s q = go (same_number n m)
         subst (λ (z : ℕ). Stands order z n) same (subst (λ (z : ℕ). Stands order i z) (sym e) st)
     go (inr f) = elim (set_back places m n i p q) [
       | inl e ↦ absurd (f e.0)
-      | inr k ↦ (elim (cases_below j i l) [
+      | inr k ↦ (elim (at_most j i l) [
         | inl b ↦ a j n p b s k
         | inr e ↦ absurd (f (stands_one order i n m (subst (λ (z : ℕ). Stands order z n) e s) st))
       ])

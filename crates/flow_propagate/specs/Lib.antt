@@ -2,6 +2,7 @@ pub mod Table
 pub mod Answers
 pub mod Searches
 pub mod Totals
+pub mod Runs
 pub mod Plan
 pub mod Named
 pub mod Dependence

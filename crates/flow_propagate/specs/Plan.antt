@@ -1,9 +1,6 @@
 -- How the flows of a system depend on each other, and which assignments read which variable.
 use Rattle.std.specs.Prelude.{◌≡◌, ℕ, ◌<◌, ◌⊎◌, List, [], length, map}
 use Rattle.ar_base.specs.Lists.{Stands, IsOneOf}
-use Rattle.ar_base.specs.declared.numbers.Id.{Id}
-use Rattle.ar_base.specs.declared.numbers.VarKind.{VarKind}
-use Rattle.ar_base.specs.declared.numbers.AssignKind.{AssignKind}
 use Rattle.ar_meaning.specs.Dependence.{Reads, AreUses, flow_count}
 use Rattle.flow_blocks.specs.Blocks.{Follow}
 use Rattle.flow_blocks.specs.declared.graph.Block.{Block}
@@ -11,6 +8,7 @@ use Rattle.gts_core.specs.View.{net_of}
 use Rattle.gts_core.specs.declared.system.Assign.{Assign}
 use Rattle.gts_core.specs.declared.system.GtsParts.{GtsParts}
 use Rattle.flow_propagate.specs.declared.plan.Plan.{Plan}
+pub use Rattle.flow_propagate.specs.Runs.{Reader}
 
 -- the classes of the flows by dependence, in order
 pub record AreBlocks (p : GtsParts) (blocks : List (List ℕ)) : Type 0 where
@@ -45,16 +43,13 @@ pub record IsSchedule (p : GtsParts) (order places : List ℕ) : Type 0 where
   pub long : length places ≡ length p.assigns.items
   pub placed : (n place : ℕ) → Stands places n place → Stands order place n
 
--- a pair by its typed numbers, and by its plain numbers
-abbrev pub Reader : Type 0
-Reader = Id VarKind × Id AssignKind
-
+-- a pair by its plain numbers
 abbrev pub plain_pair : Reader → ℕ × ℕ
 plain_pair r = (r.0.n, r.1.n)
 
 -- the plan of a system
 pub record IsPlan (p : GtsParts) (plan : Plan) : Type 0 where
   pub blocks : AreBlocks p (map (λ (b : Block). b.members.items) plan.blocks.items)
-  pub readers : AreReaders p (map plain_pair plan.readers.items)
-  pub givers : AreGivers p (map plain_pair plan.givers.items)
+  pub readers : AreReaders p (map plain_pair plan.readers.pairs.items)
+  pub givers : AreGivers p (map plain_pair plan.givers.pairs.items)
   pub schedule : IsSchedule p plan.order.items plan.places.items

@@ -11,6 +11,7 @@ use Rattle.typed_expr.specs.Yields.{Yields}
 use Rattle.typed_expr.specs.declared.expr.Expr.{out-Expr}
 use Rattle.ar_meaning.specs.Systems.{Assign, Net}
 use Rattle.ar_meaning.specs.Facts.{Passes, Allows, FactOf}
+use Rattle.ar_meaning.specs.Reached as reached
 
 -- the table has the value for the variable
 abbrev pub Holds : Rows → ℕ → Value → Type 0
@@ -35,10 +36,9 @@ pub record AreFacts (net : Net ℕ) (t : List Value) (rows : Rows) : Type 0 wher
   pub sound : (n : ℕ) (v : Value) → Holds rows n v → FactOf net t n v
   pub complete : (n : ℕ) (v : Value) → FactOf net t n v → Holds rows n v
 
--- what an assignment that is reached yields, or that it is not reached
+-- what an assignment yields from the table, or that it is not reached
 abbrev pub Reaches : Rows → Assign ℕ → Option (List Value) → Type 0
-Reaches rows a None = Passes (Holds rows) a.conditions → ⊥
-Reaches rows a (Some set) = Passes (Holds rows) a.conditions × HasExactly set (Yields (Holds rows) (out-Expr ℕ a.value))
+Reaches rows a set = reached.Reaches (Holds rows) a set
 
 -- the table got a value of the domain for a variable
 pub record Gains (domain : Domain) (target : ℕ) (old new : Rows) : Type 0 where

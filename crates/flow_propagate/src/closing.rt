@@ -11,11 +11,12 @@ ghost use Rattle.flow_propagate.specs.Searches.{IsLeast, LeavesDomain};
 ghost use Rattle.flow_propagate.specs.Closing.{IsWorklist, IsSettled, LooksAt, IsHeard, Hears};
 
 use crate::facts::{apply, start};
+use crate::pairs::Runs;
 use crate::plan::Plan;
 use crate::searches::with_target;
 use crate::table::Table;
 use crate::worklist::{Worklist, add_readers, all_waiting, take};
-use ar_base::{AssignId, Memory, VarId};
+use ar_base::Memory;
 use domains::Value;
 use gts_core::GtsParts;
 use std::alloc::Global;
@@ -32,18 +33,18 @@ pub(crate) struct Gathered {
 fn look_at(
     alloc: Global,
     parts: &GtsParts,
-    readers: &[(VarId, AssignId)],
+    readers: &Runs,
     n: u32,
     table: &mut Table,
     outside: &mut Option<u32>,
     work: &mut Worklist<'_>,
 ) -> Result<(), Memory>
     requires sound { IsSound parts.now }
-    requires readers { AreReaders parts.now (map plain_pair readers.now) }
+    requires readers { AreReaders parts.now (map plain_pair readers.now.pairs.items) }
     requires long { length table.old.rows.items ≡ length parts.now.variables.items }
     requires work { IsWorklist (length parts.now.assigns.items) work.old }
     requires below { n < length parts.now.assigns.items }
-    ensures looks { IfOk result (λ _. LooksAt parts.now (length readers.now) n table.old.rows.items work.old table.new.rows.items work.new) }
+    ensures looks { IfOk result (λ _. LooksAt parts.now (length readers.now.pairs.items) n table.old.rows.items work.old table.new.rows.items work.new) }
     ensures hears { IfOk result (λ _. Hears parts.now n table.old.rows.items outside.old work.old table.new.rows.items outside.new work.new) }
 {
     let assign = &parts.assigns[n as usize];
@@ -59,12 +60,12 @@ fn look_at(
 fn close(
     alloc: Global,
     parts: &GtsParts,
-    readers: &[(VarId, AssignId)],
+    readers: &Runs,
     work: Worklist<'_>,
     table: Table,
 ) -> Result<Gathered, Memory>
     requires sound { IsSound parts.now }
-    requires readers { AreReaders parts.now (map plain_pair readers.now) }
+    requires readers { AreReaders parts.now (map plain_pair readers.now.pairs.items) }
     requires long { length table.rows.items ≡ length parts.now.variables.items }
     requires work { IsWorklist (length parts.now.assigns.items) work }
     requires settled { IsSettled parts.now table.rows.items work }
@@ -98,7 +99,7 @@ pub(crate) fn known(
     values: &[Value],
 ) -> Result<Gathered, Memory>
     requires sound { IsSound parts.now }
-    requires readers { AreReaders parts.now (map plain_pair plan.now.readers.items) }
+    requires readers { AreReaders parts.now (map plain_pair plan.now.readers.pairs.items) }
     requires schedule { IsSchedule parts.now plan.now.order.items plan.now.places.items }
     requires long { length values.now ≡ length parts.now.variables.items }
     ensures facts { IfOk result (λ known. AreFacts (net_of parts.now) values.now known.table.rows.items) }

@@ -48,7 +48,7 @@ fn determine_parts(
     values: &[Value],
 ) -> Result<Determined, PropagateFault>
     requires sound { IsSound parts.now }
-    requires readers { AreReaders parts.now (map plain_pair plan.now.readers.items) }
+    requires readers { AreReaders parts.now (map plain_pair plan.now.readers.pairs.items) }
     requires schedule { IsSchedule parts.now plan.now.order.items plan.now.places.items }
     requires state { IsState parts.now values.now }
     ensures { Determines parts.now values.now result }

@@ -19,7 +19,7 @@ mod worklist;
 
 pub use determined::{Determined, determine};
 pub use flows::{propagate, propagate_by};
-pub use naming::add_named;
-pub use pairs::pairs_of;
+pub use naming::add_named_pairs;
+pub use pairs::{Runs, pairs_of};
 pub use plan::{Plan, make_plan};
 pub use propagation::{FlowFault, PropagateFault};

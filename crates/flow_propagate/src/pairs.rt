@@ -1,21 +1,70 @@
 // Pairs of a variable and an assignment.
 
-ghost use Rattle.std.specs.Prelude.{◌≡◌, ◌≤◌, length};
+ghost use Rattle.std.specs.Prelude.{◌≡◌, ◌+◌, ◌<◌, ◌^◌, ◌≤◌, ℕ, length, IfOk};
 ghost use Rattle.std.specs.List.Sorted.{IsNonDecreasingBy};
-ghost use Rattle.ar_base.specs.Lists.{IsOneOf};
-ghost use Rattle.flow_propagate.specs.Plan.{Reader};
+ghost use Rattle.ar_base.specs.Lists.{IsOneOf, Stands};
+ghost use Rattle.flow_propagate.specs.Runs.{Reader, IsStart, AreRuns};
 
-use ar_base::{AssignId, VarId};
+use ar_base::{AssignId, Memory, VarId};
+use std::alloc::Global;
 
-/// The pairs of a variable among pairs that ascend by their variables.
-pub fn pairs_of(pairs: &[(VarId, AssignId)], variable: u32) -> &[(VarId, AssignId)]
-    requires { IsNonDecreasingBy (λ r. r.0.n) pairs.now }
-    ensures among { (r : Reader) → IsOneOf result.now r → IsOneOf pairs.now r }
-    ensures all { (r : Reader) → IsOneOf pairs.now r → r.0.n ≡ variable → IsOneOf result.now r }
+/// Pairs of a variable and an assignment, ascending by variable, and where the pairs of each variable stand.
+#[derive(Drop)]
+pub struct Runs {
+    /// The pairs.
+    pub pairs: Vec<(VarId, AssignId)>,
+    /// For each variable of the system the place where its pairs begin, and last the number of pairs: the pairs of a variable
+    /// end where those of the next begin.
+    pub starts: Vec<usize>,
+    ghost runs: { AreRuns pairs.items starts.items },
+}
+
+/// The pairs of a variable, in constant time; none for a number that stands for no variable.
+pub fn pairs_of(runs: &Runs, variable: u32) -> &[(VarId, AssignId)]
+    ensures among { (r : Reader) → IsOneOf result.now r → IsOneOf runs.now.pairs.items r }
+    ensures all { (r : Reader) → IsOneOf runs.now.pairs.items r → r.0.n ≡ variable → IsOneOf result.now r }
     ensures exact { (r : Reader) → IsOneOf result.now r → r.0.n ≡ variable }
-    ensures short { length result.now ≤ length pairs.now }
+    ensures short { length result.now ≤ length runs.now.pairs.items }
 {
-    let from = pairs.partition_point(|r| r.0.n < variable);
-    let to = pairs.partition_point(|r| r.0.n <= variable);
-    &pairs[from..to]
+    let place = variable as usize;
+    if place + 1 >= runs.starts.len() {
+        return &[];
+    }
+    &runs.pairs[runs.starts[place]..runs.starts[place + 1]]
+}
+
+// Ascending pairs of variables below a count, and where those of each variable stand.
+pub(crate) fn with_starts(
+    alloc: Global,
+    pairs: Vec<(VarId, AssignId)>,
+    count: usize,
+) -> Result<Runs, Memory>
+    requires ascending { IsNonDecreasingBy (λ r. r.0.n) pairs.items }
+    requires below { (r : Reader) → IsOneOf pairs.items r → r.0.n < count }
+    requires few { count < 2 ^ 32 }
+    ensures { IfOk result (λ runs. runs.pairs.items ≡ pairs.items) }
+{
+    let starts = starts_of(alloc, &pairs, count + 1)?;
+    Ok(Runs { pairs, starts })
+}
+
+// Where the pairs of each of the first so many variables begin.
+fn starts_of(alloc: Global, pairs: &[(VarId, AssignId)], count: usize) -> Result<Vec<usize>, Memory>
+    requires { IsNonDecreasingBy (λ r. r.0.n) pairs.now }
+    ensures long { IfOk result (λ starts. length starts.items ≡ count) }
+    ensures each { IfOk result (λ starts. (x start : ℕ) → Stands starts.items x start → IsStart pairs.now x start) }
+{
+    let mut starts = Vec::new(alloc);
+    for variable in 0..count {
+        starts.push(start_of(pairs, variable))?;
+    }
+    Ok(starts)
+}
+
+// How many pairs are of lesser variables.
+fn start_of(pairs: &[(VarId, AssignId)], variable: usize) -> usize
+    requires { IsNonDecreasingBy (λ r. r.0.n) pairs.now }
+    ensures { IsStart pairs.now variable result }
+{
+    pairs.partition_point(|r| (r.0.n as usize) < variable)
 }

@@ -4,9 +4,10 @@ ghost use Rattle.std.specs.Prelude.{IfOk};
 ghost use Rattle.flow_propagate.specs.Plan.{IsPlan};
 
 use crate::dependence::{dependences, flow_places};
-use crate::readers::{givers, readers, typed_pairs};
+use crate::pairs::Runs;
+use crate::readers::{givers, in_runs, readers};
 use crate::schedule::{in_order, places_in};
-use ar_base::{AssignId, Memory, VarId};
+use ar_base::Memory;
 use flow_blocks::{Block, blocks};
 use gts_core::Gts;
 use std::alloc::Global;
@@ -21,9 +22,9 @@ pub struct Plan {
     /// are declared before it.
     pub blocks: Vec<Block>,
     /// The pairs of a variable and an assignment that names it in its value or in a condition, ascending, each once.
-    pub readers: Vec<(VarId, AssignId)>,
+    pub readers: Runs,
     /// The pairs of a variable and an assignment to it, ascending, each once.
-    pub givers: Vec<(VarId, AssignId)>,
+    pub givers: Runs,
     /// The numbers of the assignments in the order in which they are looked at: by the class of the target, then by how many
     /// variables they name, then by number.
     pub order: Vec<u32>,
@@ -40,10 +41,10 @@ pub fn make_plan(alloc: Global, gts: &Gts) -> Result<Plan, Memory>
     let flows = flow_places(alloc, &parts.variables)?;
     let graph = dependences(alloc, parts, &flows, &pairs)?;
     let blocks = blocks(alloc, &graph)?;
-    let readers = typed_pairs(alloc, &pairs)?;
+    let readers = in_runs(alloc, &pairs, parts.variables.len())?;
     let gives = givers(alloc, parts)?;
-    let givers = typed_pairs(alloc, &gives)?;
-    let order = in_order(alloc, parts, &blocks, &readers)?;
+    let givers = in_runs(alloc, &gives, parts.variables.len())?;
+    let order = in_order(alloc, parts, &blocks, &readers.pairs)?;
     let places = places_in(alloc, &order, parts.assigns.len())?;
     Ok(Plan {
         blocks,

@@ -1,11 +1,13 @@
 // Which assignments read which variable, and which give it a value.
 
-ghost use Rattle.std.specs.Prelude.{◌≡◌, length, map, IfOk};
+ghost use Rattle.std.specs.Prelude.{◌≡◌, ◌<◌, ◌^◌, ℕ, length, map, IfOk};
+ghost use Rattle.ar_base.specs.Lists.{IsOneOf, Stands};
 ghost use Rattle.gts_core.specs.Sound.{IsSound};
-ghost use Rattle.flow_propagate.specs.Plan.{AreReaders, AreGivers, plain_pair};
+ghost use Rattle.flow_propagate.specs.Plan.{ComesBefore, AreReaders, AreGivers, plain_pair};
 ghost use Rattle.flow_propagate.specs.Named.{AreNamed, AreTargets, Ascend};
 
 use crate::naming::add_readers;
+use crate::pairs::{Runs, with_starts};
 use ar_base::{AssignId, Memory, VarId};
 use gts_core::GtsParts;
 use std::alloc::Global;
@@ -55,18 +57,27 @@ fn all_named(alloc: Global, parts: &GtsParts) -> Result<Vec<(u32, u32)>, Memory>
     requires { IsSound parts.now }
     ensures { IfOk result (λ pairs. AreNamed parts.now (length parts.now.assigns.items) pairs.items) }
 {
+    let mut names = Vec::new(alloc);
     let mut pairs = Vec::new(alloc);
     for (place, assign) in parts.assigns.iter().enumerate() {
-        add_readers(assign, place as u32, &mut pairs)?;
+        add_readers(assign, place as u32, &mut names, &mut pairs)?;
     }
     Ok(pairs)
 }
 
+// Ascending pairs of variables below a count by typed numbers, and where those of each variable stand.
+pub(crate) fn in_runs(alloc: Global, pairs: &[(u32, u32)], count: usize) -> Result<Runs, Memory>
+    requires ascending { (j k : ℕ) (q r : ℕ × ℕ) → j < k → Stands pairs.now j q → Stands pairs.now k r → ComesBefore q r }
+    requires below { (q : ℕ × ℕ) → IsOneOf pairs.now q → q.0 < count }
+    requires few { count < 2 ^ 32 }
+    ensures { IfOk result (λ runs. map plain_pair runs.pairs.items ≡ pairs.now) }
+{
+    let typed = typed_pairs(alloc, pairs)?;
+    with_starts(alloc, typed, count)
+}
+
 // The pairs by typed numbers.
-pub(crate) fn typed_pairs(
-    alloc: Global,
-    pairs: &[(u32, u32)],
-) -> Result<Vec<(VarId, AssignId)>, Memory>
+fn typed_pairs(alloc: Global, pairs: &[(u32, u32)]) -> Result<Vec<(VarId, AssignId)>, Memory>
     ensures { IfOk result (λ typed. map plain_pair typed.items ≡ pairs.now) }
 {
     let mut typed = Vec::new(alloc);

@@ -3,11 +3,10 @@
 ghost use Rattle.std.specs.Prelude.{◌≡◌, ◌≢◌, ◌+◌, ◌<◌, ◌≤◌, ◌⊎◌, ◌↔◌, ℕ, length, IfOk, OnOk, IfSome, IfNone, MatchOption};
 ghost use Rattle.std.specs.BTreeSet.{btree_set_len};
 ghost use Rattle.ar_base.specs.Lists.{IsOneOf, Stands};
-ghost use Rattle.std.specs.List.Sorted.{IsNonDecreasingBy};
 ghost use Rattle.flow_propagate.specs.Plan.{IsOrder, Reader};
 ghost use Rattle.flow_propagate.specs.Closing.{IsWorklist, IsAgain, WaitsAt, Waits, TakesPlace, Takes, AddsWork};
 
-use crate::pairs::pairs_of;
+use crate::pairs::{Runs, pairs_of};
 use ar_base::{AssignId, Memory, VarId};
 use std::alloc::Global;
 use std::collections::BTreeSet;
@@ -102,14 +101,13 @@ fn add_all(readers: &[(VarId, AssignId)], work: &mut Worklist<'_>) -> Result<(),
 
 // Adds the assignments that read a variable.
 pub(crate) fn add_readers(
-    readers: &[(VarId, AssignId)],
+    readers: &Runs,
     variable: u32,
     work: &mut Worklist<'_>,
 ) -> Result<(), Memory>
     requires is { IsWorklist (length work.old.places.now) work.old }
-    requires below { (r : Reader) → IsOneOf readers.now r → r.1.n < length work.old.places.now }
-    requires ascending { IsNonDecreasingBy (λ r. r.0.n) readers.now }
-    ensures { IfOk result (λ _. AddsWork (length work.old.places.now) (length readers.now) (λ m. (r : Reader) × IsOneOf readers.now r × (r.0.n ≡ variable) × (r.1.n ≡ m)) work.old work.new) }
+    requires below { (r : Reader) → IsOneOf readers.now.pairs.items r → r.1.n < length work.old.places.now }
+    ensures { IfOk result (λ _. AddsWork (length work.old.places.now) (length readers.now.pairs.items) (λ m. (r : Reader) × IsOneOf readers.now.pairs.items r × (r.0.n ≡ variable) × (r.1.n ≡ m)) work.old work.new) }
 {
     let run = pairs_of(readers, variable);
     add_all(run, work)

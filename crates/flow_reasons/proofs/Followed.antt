@@ -1,5 +1,5 @@
 -- The reasons that are followed from some variables.
-use Rattle.std.proofs.Common.{◌≡◌, ◌↔◌, ◌<◌, ◌≤◌, ◌+◌, ◌⊎◌, inl, inr, ℕ, zero, suc, Bool, true, false, List, [], map, length, get_or, refl, sym, ap, ◌∙◌, subst, arith, ltb, ◌==◌, if◌then◌else◌, eq-eqb}
+use Rattle.std.proofs.Common.{◌≡◌, ◌↔◌, ◌<◌, ◌≤◌, ◌+◌, ◌⊎◌, inl, inr, ℕ, zero, suc, Bool, true, false, List, [], length, get_or, refl, sym, ap, ◌∙◌, subst, arith, ltb, ◌==◌, if◌then◌else◌, eq-eqb}
 use Rattle.std.proofs.lemmas.Bool.{ltb-true, ltb-false, cases_eq, eqb-true}
 use Rattle.std.specs.List.Sorted.{IsPartitionPoint, IsNonDecreasingBy}
 use Rattle.ar_base.specs.Lists.{Stands, IsOneOf}
@@ -7,9 +7,7 @@ use Rattle.ar_base.specs.Numbers.{VarId}
 use Rattle.ar_base.proofs.Standing.{at_most, stands_one, stands_none, stands_within, stands_some, stands_map, stands_map_back, stands_get, one_none, one_here}
 use Rattle.domains.specs.declared.Value.{Value}
 use Rattle.typed_expr.specs.Mentions.{Mentions}
-use Rattle.typed_expr.specs.Pairs.{turned}
 use Rattle.typed_expr.specs.declared.expr.Expr.{Expr, out-Expr}
-use Rattle.typed_expr.proofs.Renaming.{mentions_carry, renames_turned}
 use Rattle.ar_meaning.specs.Systems as s
 use Rattle.flow_rounds.specs.Reasons.{IsReason, derived, reset, AreReasonsFrom, AreReasons, none, state, flow, InCone, named, rested_on, IsCone}
 use Rattle.flow_rounds.specs.Reasons as rounds
@@ -18,12 +16,13 @@ use Rattle.gts_core.specs.Sound.{IsSound}
 use Rattle.gts_core.specs.View.{net_of, numbered, variable_of}
 use Rattle.gts_core.specs.declared.system.Observer.{Observer}
 use Rattle.gts_core.specs.declared.system.GtsParts.{GtsParts}
-use Rattle.gts_core.proofs.Numbering.{IsNumber, renames_numbered}
+use Rattle.gts_core.proofs.NamesNumbered.{mentions_there, mentions_back}
 use Rattle.gts_core.proofs.Viewing.{variable_there, are_numbered}
-use Rattle.flow_propagate.specs.Named.{AddsNamed}
+use Rattle.gts_core.specs.Adding.{Adds, HasThose}
+use Rattle.gts_core.proofs.Added.{those_of_empty}
 use Rattle.flow_reasons.specs.Answers.{numbers_of, reason_of, reasons_of}
 use Rattle.flow_propagate.specs.Marks.{AreMarked}
-use Rattle.flow_reasons.specs.Cones.{SeesAll, RestsUpon, AreOrderly, IsReached, begins, follows, AreReached, AreMembers, AreRestsUpon, AreNumbersOf, NamesNumber}
+use Rattle.flow_reasons.specs.Cones.{SeesAll, RestsUpon, AreOrderly, IsReached, begins, follows, AreReached, AreMembers, AreRestsUpon, NamesNumber}
 use Rattle.flow_reasons.specs.declared.reason.Reason.{Reason}
 
 -- the reason of a variable among those in order
@@ -156,25 +155,26 @@ module _ {V : Type 0} (net : s.Net V) (t : List Value) where
       by r n i (derived d) = let f = d.rests_on.sound n i in stands_within net.variables n f.variable f.stands
       by r n i (reset d) = absurd (one_none n (subst (λ z. IsOneOf z n) d.rests_on i))
 
--- the first numbers of the pairs of an expression
-pub names_firsts : (e : Expr VarId) (pairs : List (ℕ × ℕ)) (numbers : List ℕ) → AddsNamed 0 (λ x. Mentions x (out-Expr VarId e)) [] pairs → AreNumbersOf pairs numbers
-    → (n : ℕ) → IsOneOf numbers n ↔ NamesNumber e n
-names_firsts e pairs numbers adds are n = (on, off)
+-- the numbers of the variables of an expression
+pub names_numbers : (e : Expr VarId) (before first : List VarId) → before ≡ []
+    → Adds (λ x. Mentions x (out-Expr VarId e)) before first → (n : ℕ) → IsOneOf (numbers_of first) n ↔ NamesNumber e n
+names_numbers e before first empty adds n = (on, off)
   where
-    on : IsOneOf numbers n → NamesNumber e n
-    on o =
-        let b = stands_map_back (λ (q : ℕ × ℕ). q.0) pairs o.place n (subst (λ (z : List ℕ). Stands z o.place n) are o.stands) in
-        elim (adds.only b.0 (one_here pairs o.place b.0 b.1)) [
-          | inl k ↦ absurd (one_none b.0 k)
-          | inr k ↦ record { variable = k.variable; names = k.has; is = sym k.first ∙ b.2 }
-        ]
+    those : HasThose (λ x. Mentions x (out-Expr VarId e)) first
+    those = those_of_empty (λ x. Mentions x (out-Expr VarId e)) before first empty adds
 
-    off : NamesNumber e n → IsOneOf numbers n
+    on : IsOneOf (numbers_of first) n → NamesNumber e n
+    on o =
+        let b = stands_map_back (λ (x : VarId). x.n) first o.place n o.stands in
+        record { variable = b.0; names = those.only b.0 (one_here first o.place b.0 b.1); is = b.2 }
+
+    off : NamesNumber e n → IsOneOf (numbers_of first) n
     off h =
-        let o = adds.all h.variable h.names in
-        subst (λ (z : List ℕ). IsOneOf z n) (sym are)
-        (one_here (map (λ (q : ℕ × ℕ). q.0) pairs) o.place n (subst (λ z. Stands (map (λ (q : ℕ × ℕ). q.0) pairs) o.place z) h.is
-        (stands_map (λ (q : ℕ × ℕ). q.0) pairs o.place (h.variable.n, 0) o.stands)))
+        let o = those.each h.variable h.names in
+        let numbers = numbers_of first in
+        one_here numbers o.place n
+        (subst (λ z. Stands numbers o.place z) h.is
+        (stands_map (λ (x : VarId). x.n) first o.place h.variable o.stands))
 
 -- what is reached is the cone
 module _ (p : GtsParts) (sound : IsSound p) (o : Observer) (is_one : IsOneOf p.observers.items o) (reasons : List rounds.Reason) (first : List ℕ)
@@ -188,16 +188,16 @@ module _ (p : GtsParts) (sound : IsSound p) (o : Observer) (is_one : IsOneOf p.o
   into_cone {n = n} (begins i) =
       let h = (names n).0 i in
       let x = stands_some p.variables.items n (first_below n i) in
-      let m = mentions_carry IsNumber h.variable h.names (renames_numbered o.value) in
-      let e : m.other ≡ n = sym m.related ∙ h.is in
-      named (variable_of n x.0) (variable_there p n x.0 x.1) (subst (λ z. Mentions z (out-Expr ℕ (numbered o.value))) e m.stands)
+      let m = mentions_there h.variable o.value h.names in
+      named (variable_of n x.0) (variable_there p n x.0 x.1)
+      (subst (λ z. Mentions z (out-Expr ℕ (numbered o.value))) h.is m)
   into_cone (follows h r) = rested_on r.reason r.is_one (subst (λ z. InCone (net_of p) reasons (numbered o.value) z) (sym r.is_flow) (into_cone h)) r.rests
 
   from_cone : {n : ℕ} → InCone (net_of p) reasons (numbered o.value) n → IsReached reasons first n
   from_cone {n = n} (named x st m) =
       let e : x.key ≡ n = (are_numbered p).key n x st in
-      let k = mentions_carry (turned IsNumber) x.key m (renames_turned IsNumber (renames_numbered o.value)) in
-      begins ((names n).1 (record { variable = k.other; names = k.stands; is = k.related ∙ e }))
+      let k = mentions_back x.key o.value m in
+      begins ((names n).1 (record { variable = k.variable; names = k.has; is = k.is ∙ e }))
   from_cone (rested_on r i c k) = follows (from_cone c) (record { reason = r; is_one = i; is_flow = refl; rests = k })
 
   pub is_cone : (seen : List Bool) (members : List ℕ) → length seen ≡ length p.variables.items → AreOrderly (length p.variables.items) reasons

@@ -5,10 +5,7 @@ use Rattle.ar_base.specs.declared.faults.Memory.{Memory}
 use Rattle.ar_base.specs.Lists.{Stands, IsOneOf}
 use Rattle.ar_base.specs.Sets.{Ascends}
 use Rattle.ar_base.proofs.Standing.{stands_none, stands_split, stands_within, one_first, one_rest, one_cases, one_none, one_split, one_left, one_right, one_here, only_item}
-
-pub ok_as : (P Q : Type 0) (r : Result (Unit {0}) Memory) → (P → Q) → IfOk r (λ _. P) → IfOk r (λ _. Q)
-ok_as P Q (Ok x) f h = f h
-ok_as P Q (Err e) f h = tt
+use Rattle.flow_propagate.proofs.Looking.{same_or_not}
 
 module _ {A : Type 0} where
   pub set_here : (xs : List A) (k : ℕ) (x : A) → k < length xs → Stands (set xs k x) k x
@@ -53,50 +50,6 @@ last_only (suc k) x a s = absurd (stands_none k a s)
 
 pub ascends_none : Ascends []
 ascends_none = record { ascends = λ j k a b l s r. absurd (stands_none j a s) }
-
-pub ascends_push : (xs : List ℕ) (x : ℕ) → Ascends xs → ((n : ℕ) → IsOneOf xs n → n < x) → Ascends (xs ++ x ∷ [])
-ascends_push xs x h below = record {
-  ascends = λ j k a b l s r. both j k a b l (stands_split xs (x ∷ []) j a s) (stands_split xs (x ∷ []) k b r);
-}
-  where
-    both : (j k a b : ℕ) → j < k → Stands xs j a ⊎ ((i : ℕ) × (j ≡ length xs + i) × Stands (x ∷ []) i a)
-        → Stands xs k b ⊎ ((i : ℕ) × (k ≡ length xs + i) × Stands (x ∷ []) i b) → a < b
-    both j k a b l (inl p) (inl q) = h.ascends j k a b l p q
-    both j k a b l (inl p) (inr q) = subst (λ z. a < z) (last_only q.0 x b q.2).1 (below a (one_here xs j a p))
-    both j k a b l (inr p) (inl q) = let w = stands_within xs k b q in absurd (omega (arith, w, p.1))
-    both j k a b l (inr p) (inr q) =
-        let e = (last_only p.0 x a p.2).0 in let f = (last_only q.0 x b q.2).0 in absurd (omega (arith, e, f, p.1, q.1))
-
--- whether a number is one of these
-pub member_told : (ns : List ℕ) (m : ℕ) → IsOneOf ns m ⊎ (IsOneOf ns m → ⊥)
-member_told [] m = inr (λ o. one_none m o)
-member_told (n ∷ ns) m = elim (cases_eq n m) [
-  | inl e ↦ inl (subst (λ z. IsOneOf (n ∷ ns) z) e (one_first n ns))
-  | inr f ↦ (elim (member_told ns m) [
-    | inl o ↦ inl (one_rest n ns m o)
-    | inr g ↦ inr (λ o. elim (one_cases n ns m o) [ inl e ↦ f e | inr r ↦ g r ])
-  ])
-]
-
-pub pair_told : (p q : ℕ × ℕ) → (p ≡ q) ⊎ (p ≡ q → ⊥)
-pair_told (a, b) (c, d) = elim (cases_eq a c) [
-  | inl e ↦ (elim (cases_eq b d) [
-    | inl f ↦ inl (let P : ℕ → ℕ → Type 0 = λ x y. ◌≡◌ {A = ℕ × ℕ} (a, b) (x, y) in
-        subst (λ y. P c y) f (subst (λ x. P x b) e refl))
-    | inr n ↦ inr (λ e. n (ap (λ (z : ℕ × ℕ). z.1) e))
-  ])
-  | inr n ↦ inr (λ e. n (ap (λ (z : ℕ × ℕ). z.0) e))
-]
-
-pub pairs_told : (ps : List (ℕ × ℕ)) (q : ℕ × ℕ) → IsOneOf ps q ⊎ (IsOneOf ps q → ⊥)
-pairs_told [] q = inr (λ o. one_none q o)
-pairs_told (p ∷ ps) q = elim (pair_told p q) [
-  | inl e ↦ inl (let P : ℕ × ℕ → Type 0 = λ z. IsOneOf (p ∷ ps) z in subst P e (one_first p ps))
-  | inr f ↦ (elim (pairs_told ps q) [
-    | inl o ↦ inl (one_rest p ps q o)
-    | inr g ↦ inr (λ o. elim (one_cases p ps q o) [ inl e ↦ f e | inr r ↦ g r ])
-  ])
-]
 
 -- a list that was written back over another one as long
 front_of : {A : Type 0} (xs zs : List A) → take (length xs) (xs ++ zs) ≡ xs

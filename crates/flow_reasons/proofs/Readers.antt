@@ -4,10 +4,7 @@ use Rattle.std.specs.List.Sorted.{IsNonDecreasingBy}
 use Rattle.std.proofs.lemmas.Bool.{cases_eq}
 use Rattle.ar_base.specs.Lists.{IsOneOf}
 use Rattle.ar_base.proofs.Standing.{stands_get, stands_within, stands_map_back, one_here}
-use Rattle.gts_core.specs.Sound.{IsSound}
-use Rattle.gts_core.specs.View.{assign_of, net_of}
-use Rattle.gts_core.proofs.Lawfulness.{system_lawful}
-use Rattle.gts_core.proofs.Viewing.{variables_long}
+use Rattle.gts_core.specs.View.{assign_of}
 use Rattle.gts_core.specs.declared.system.GtsParts.{GtsParts}
 use Rattle.flow_propagate.specs.Plan.{AreReaders}
 
@@ -30,10 +27,3 @@ reader_below p pairs are x n o =
     let r = are.only x n o in
     let b = stands_map_back assign_of p.assigns.items n r.assign r.stands in
     stands_within p.assigns.items n b.0 b.1
-
--- and so are their variables
-pub read_below : (p : GtsParts) → IsSound p → (pairs : List (ℕ × ℕ)) → AreReaders p pairs → (x n : ℕ) → IsOneOf pairs (x, n) → x < length p.variables.items
-read_below p sound pairs are x n o =
-    let r = are.only x n o in
-    let h = (system_lawful p sound).inside r.assign x (one_here (net_of p).assertions n r.assign r.stands) r.names in
-    let l = variables_long 0 p.variables.items in omega (arith, h, l)

@@ -5,6 +5,7 @@ use Rattle.std.proofs.lemmas.List.{take_more, take_all, map-append}
 use Rattle.ar_base.specs.Lists.{Stands, IsOneOf}
 use Rattle.ar_base.specs.Numbers.{VarId, AssignId}
 use Rattle.ar_base.proofs.Standing.{stands_one, stands_some, stands_get, stands_none, one_none, one_here}
+use Rattle.ar_base.proofs.Sets.{ascends_push}
 use Rattle.ar_meaning.specs.Found.{IsAnswer}
 use Rattle.gts_core.specs.declared.system.Assign.{Assign}
 use Rattle.gts_core.specs.declared.system.GtsParts.{GtsParts}
@@ -14,7 +15,7 @@ use Rattle.flow_reasons.specs.Bringing.{IsTo}
 use Rattle.flow_reasons.specs.declared.known.Mark.{Mark}
 use Rattle.flow_reasons.specs.declared.known.Mark.TheVariants.{Unknown, Given, Added}
 use Rattle.flow_reasons.specs.Resting.{came_before, IsRest, HasRest, IsRestRow, AreRests, IsMarkedRest, added, AreEmpty, AddsRest}
-use Rattle.flow_reasons.proofs.Placing.{set_here, set_back, take_stands, pushed_cases, pushed_old, pushed_last, ascends_none, ascends_push}
+use Rattle.flow_reasons.proofs.Placing.{set_here, set_back, take_stands, pushed_cases, pushed_old, pushed_last, ascends_none}
 
 -- whether the assignment added the first fact and the other one came before
 pub rest_told : (m : Mark) (a : ℕ) (o : Mark) → IsMarkedRest m a o ⊎ (IsMarkedRest m a o → ⊥)

@@ -23,13 +23,13 @@ use Rattle.gts_core.specs.declared.system.Variable.{Variable}
 use Rattle.gts_core.specs.declared.system.GtsParts.{GtsParts}
 use Rattle.gts_core.proofs.Viewing.{variable_there, variable_back, are_numbered}
 use Rattle.flow_propagate.specs.Plan.{AreReaders}
+use Rattle.flow_propagate.proofs.Looking.{one_or_not}
 use Rattle.flow_reasons.specs.declared.known.Mark.{Mark}
 use Rattle.flow_reasons.specs.declared.known.Mark.TheVariants.{Unknown, Given, Added}
 use Rattle.flow_reasons.specs.Marks.{is_fact, unknown_count, Known, IsStanding, IsAddedIn, Says, AreMarks, AreLastMarks, first_mark_of, first_marks_of}
 use Rattle.flow_reasons.specs.Bringing.{IsOpen, Brings, BringsAt, BringAll, IsMarkedBy, MarksAll, NameOne}
 use Rattle.flow_reasons.proofs.Counting.{fewer}
 use Rattle.flow_reasons.proofs.Marking.{open_not}
-use Rattle.flow_reasons.proofs.Placing.{pairs_told}
 use Rattle.flow_reasons.proofs.Standing.{fact_stands, value_allowed, at_number}
 
 -- a mark that is a fact or not
@@ -234,7 +234,7 @@ module _ (p : GtsParts) (sound : IsSound p) (values : List Value) (standing : Is
 
       -- what the next round brings comes by assignments that name a fresh variable
       pub names_fresh : (pairs : List (ℕ × ℕ)) → AreReaders p pairs → (n : ℕ) → BringsAt p values new n → NameOne p fresh n
-      names_fresh pairs readers n b = elim (one_told (λ x. IsOneOf pairs (x, n)) fresh (λ x o. pairs_told pairs (x, n))) [
+      names_fresh pairs readers n b = elim (one_told (λ x. IsOneOf pairs (x, n)) fresh (λ x o. one_or_not pairs (x, n))) [
         | inl r ↦ record { variable = r.0; is_one = r.1; reads = readers.only r.0 n r.2 }
         | inr none ↦ absurd (never pairs readers n b none)
       ]

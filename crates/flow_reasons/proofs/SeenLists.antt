@@ -4,10 +4,11 @@ use Rattle.std.proofs.lemmas.List.{take_more, map-append}
 use Rattle.ar_base.specs.Lists.{Stands, IsOneOf}
 use Rattle.ar_base.specs.Numbers.{VarId}
 use Rattle.ar_base.proofs.Standing.{at_most, stands_one, stands_none, stands_left, one_none, one_first, only_item}
+use Rattle.ar_base.proofs.Sets.{ascends_push}
 use Rattle.flow_reasons.specs.Answers.{numbers_of}
 use Rattle.flow_propagate.specs.Marks.{AreMarked}
 use Rattle.flow_reasons.specs.Cones.{unseen, SeesAll, Sees, AreMembers}
-use Rattle.flow_reasons.proofs.Placing.{set_here, set_other, set_back, pushed_cases, pushed_old, pushed_last, ascends_none, ascends_push}
+use Rattle.flow_reasons.proofs.Placing.{set_here, set_other, set_back, pushed_cases, pushed_old, pushed_last, ascends_none}
 
 -- nothing more was seen
 pub sees_none : (seen : List Bool) (found : List ℕ) → AreMarked seen found → SeesAll [] seen seen found found

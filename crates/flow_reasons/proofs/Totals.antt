@@ -2,13 +2,13 @@
 use Rattle.std.proofs.Common.{List}
 use Rattle.domains.specs.declared.Value.{Value}
 use Rattle.ar_meaning.specs.Flows.{Flows, Total}
-use Rattle.ar_meaning.proofs.StatesAlone.{same_flows}
+use Rattle.ar_meaning.proofs.StatesAlone.{same_flows, turned}
 use Rattle.gts_core.specs.View.{net_of}
 use Rattle.gts_core.specs.Sound.{IsSound}
 use Rattle.gts_core.specs.declared.system.GtsParts.{GtsParts}
 use Rattle.flow_propagate.specs.Answers.{IsState}
 use Rattle.flow_propagate.proofs.Determining.{flows_total}
-use Rattle.flow_rounds.proofs.Totals.{states_of, states_turned, reasons_same}
+use Rattle.flow_rounds.proofs.Totals.{states_of, reasons_same}
 use Rattle.flow_rounds.specs.Reasons.{AreReasons}
 use Rattle.flow_reasons.specs.Answers.{reasons_of, AreReasonsOf}
 use Rattle.flow_reasons.specs.Marks.{IsStanding}
@@ -24,5 +24,5 @@ module _ (p : GtsParts) (sound : IsSound p) (t : List Value) where
       → AreReasonsOf (net_of p) t found
   reasons_back total found f are = record {
     flows = record { values = total; flows = f };
-    are = reasons_same (net_of p) total t (states_turned (states_of f)) are;
+    are = reasons_same (net_of p) total t (turned (states_of f)) are;
   }

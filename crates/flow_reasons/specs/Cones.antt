@@ -1,5 +1,5 @@
 -- How a cone is gathered: which variables were seen so far.
-use Rattle.std.specs.Prelude.{◌≡◌, ◌<◌, ◌≤◌, ◌+◌, ◌↔◌, ◌⊎◌, ℕ, Bool, true, List, [], ◌∷◌, length, map, if◌then◌else◌}
+use Rattle.std.specs.Prelude.{◌≡◌, ◌<◌, ◌≤◌, ◌+◌, ◌↔◌, ◌⊎◌, ℕ, Bool, true, List, [], ◌∷◌, length, if◌then◌else◌}
 use Rattle.ar_base.specs.Lists.{Stands, IsOneOf}
 use Rattle.ar_base.specs.Numbers.{VarId}
 use Rattle.ar_base.specs.Sets.{Ascends}
@@ -56,10 +56,6 @@ pub record AreMembers (seen : List Bool) (count : ℕ) (members : List ℕ) : Ty
 -- these are the variables that the reason of the flow rests on
 pub record AreRestsUpon (reasons : List rounds.Reason) (flow : ℕ) (numbers : List ℕ) : Type 0 where
   pub each : (n : ℕ) → (IsOneOf numbers n ↔ RestsUpon reasons flow n)
-
--- these are the first numbers of the pairs
-abbrev pub AreNumbersOf : List (ℕ × ℕ) → List ℕ → Type 0
-AreNumbersOf pairs numbers = numbers ≡ map (λ (q : ℕ × ℕ). q.0) pairs
 
 -- the expression names the variable of this number
 pub record NamesNumber (e : Expr VarId) (n : ℕ) : Type 0 where

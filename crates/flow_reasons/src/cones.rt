@@ -6,13 +6,12 @@ ghost use Rattle.gts_core.specs.View.{net_of, numbered};
 ghost use Rattle.gts_core.specs.declared.system.Observer.{Observer};
 ghost use Rattle.flow_rounds.specs.Reasons.{IsCone};
 ghost use Rattle.flow_reasons.specs.Answers.{numbers_of, reasons_of, AreOfState};
-ghost use Rattle.flow_reasons.specs.Cones.{AreOrderly, AreReached, AreRestsUpon, AreNumbersOf, NamesNumber};
+ghost use Rattle.flow_reasons.specs.Cones.{AreOrderly, AreReached, AreRestsUpon, NamesNumber};
 
 use crate::reason::Reason;
 use crate::seeing::{members, see_all};
 use ar_base::{Memory, VarId};
-use flow_propagate::add_named;
-use gts_core::Gts;
+use gts_core::{Gts, add_named};
 use std::alloc::Global;
 use typed_expr::Expr;
 
@@ -41,19 +40,8 @@ pub fn cone(
 fn named(alloc: Global, expr: &Expr<VarId>) -> Result<Vec<VarId>, Memory>
     ensures { IfOk result (λ first. (n : ℕ) → (IsOneOf (numbers_of first.items) n ↔ NamesNumber expr.now n)) }
 {
-    let mut pairs = Vec::new(alloc);
-    add_named(expr, 0, &mut pairs)?;
-    firsts(alloc, &pairs)
-}
-
-// The first numbers of these pairs.
-fn firsts(alloc: Global, pairs: &[(u32, u32)]) -> Result<Vec<VarId>, Memory>
-    ensures { IfOk result (λ first. AreNumbersOf pairs.now (numbers_of first.items)) }
-{
     let mut first = Vec::new(alloc);
-    for (variable, _) in pairs {
-        first.push(VarId::new(*variable))?;
-    }
+    add_named(expr, &mut first)?;
     Ok(first)
 }
 

@@ -32,7 +32,7 @@ pub fn reasons(alloc: Global, gts: &Gts, state: &Valuation) -> Result<Vec<Reason
 {
     let plan = make_plan(alloc, gts)?;
     let total = propagate_by(alloc, gts, &plan, state)?;
-    let pairs = plain_pairs(alloc, &plan.readers)?;
+    let pairs = plain_pairs(alloc, &plan.readers.pairs)?;
     let found = reasons_of(alloc, gts.parts(), &pairs, &total.values)?;
     Ok(found)
 }

@@ -2,6 +2,7 @@
 use Rattle.std.proofs.Common.{◌≡◌, ◌<◌, ◌≤◌, ◌+◌, ℕ, suc, false, List, ◌∷◌, Option, Some, inl, inr, refl, sym, ◌∙◌, ap, subst, arith}
 use Rattle.ar_base.specs.Lists.{Stands, IsOneOf, IsFirst, HasNo}
 use Rattle.ar_base.proofs.Standing.{stands_one, one_none, one_cases}
+use Rattle.ar_base.proofs.Sets.{same_ascending}
 use Rattle.domains.specs.declared.Value.{Value}
 use Rattle.ar_meaning.specs.Systems.{Variable, Net}
 use Rattle.ar_meaning.specs.Facts.{FactOf}
@@ -10,7 +11,6 @@ use Rattle.ar_meaning.proofs.OneAnswer.{first_same, same_value, head_has_not, re
 use Rattle.flow_rounds.specs.Rounds.{Round, Adds}
 use Rattle.flow_rounds.specs.Reasons.{Reason, IsNamedFact, RestsOn, IsDerived, IsReason, derived, reset, AreReasonsFrom, none, state, flow, AreReasons}
 use Rattle.flow_rounds.proofs.Rounding.{round_grows, round_fact}
-use Rattle.flow_rounds.proofs.Ascending.{ascending_same}
 
 -- no flow of a state with flows has two facts
 pub no_two : {V : Type 0} {net : Net V} {t total : List Value} → Flows net t (Total total) → HasNo net.variables (HasTwo net t)
@@ -83,7 +83,7 @@ module _ {V : Type 0} (net : Net V) (t : List Value) where
         let e = first_same a b in
         let i = stands_one net.assertions m' a.item b.item (subst (λ z. Stands net.assertions z a.item) e a.stands) b.stands in
         let f : RestsOn net (Round net t k) b.item ns = subst (λ z. RestsOn net (Round net t k) z ns) i g in
-        ascending_same ns ns' f.ascends h.ascends (λ z o. h.whole z (f.sound z o)) (λ z o. f.whole z (h.sound z o))
+        same_ascending ns ns' f.ascends h.ascends (λ z o. h.whole z (f.sound z o)) (λ z o. f.whole z (h.sound z o))
 
     derived_one : (r q : Reason) → r.flow ≡ q.flow → IsDerived net t x r → IsDerived net t x q → r ≡ q
     derived_one r q i d f =

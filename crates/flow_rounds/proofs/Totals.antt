@@ -7,7 +7,7 @@ use Rattle.ar_meaning.specs.Facts.{IsGiven, Allows, given, FactOf}
 use Rattle.ar_meaning.specs.Flows.{Completes, Flows, Total, all_hold}
 use Rattle.ar_meaning.specs.Flows as flows
 use Rattle.ar_meaning.proofs.Least.{least, closed, passes_more}
-use Rattle.ar_meaning.proofs.StatesAlone.{Same_states, states_same, same_at, same_flows}
+use Rattle.ar_meaning.proofs.StatesAlone.{Same_states, states_same, same_at, same_flows, turned}
 use Rattle.ar_meaning.proofs.StatesAlone as states
 use Rattle.flow_rounds.specs.Rounds.{Adds, Round}
 use Rattle.flow_rounds.specs.Reasons.{Reason, IsNamedFact, IsDerived, IsReason, derived, reset, AreReasonsFrom, none, state, flow}
@@ -22,11 +22,6 @@ completed_states (flows.unknown s f c) = states.flow s (completed_states c)
 
 pub states_of : {V : Type 0} {net : Net V} {t total : List Value} → Flows net t (Total total) → Same_states net.variables t total
 states_of (all_hold n m c b) = completed_states c
-
-pub states_turned : {V : Type 0} {xs : List (Variable V)} {t u : List Value} → Same_states xs t u → Same_states xs u t
-states_turned states.none = states.none
-states_turned (states.both d) = states.both (states_turned d)
-states_turned (states.flow s d) = states.flow s (states_turned d)
 
 module _ {V : Type 0} (net : Net V) (t u : List Value) (same : Same_states net.variables t u) where
   given_same : (x : V) (v : Value) → IsGiven net t x v → IsGiven net u x v
@@ -63,7 +58,7 @@ module _ {V : Type 0} (net : Net V) (t u : List Value) (same : Same_states net.v
 
 module _ {V : Type 0} (net : Net V) (t u : List Value) (same : Same_states net.variables t u) where
   back : Same_states net.variables u t
-  back = states_turned same
+  back = turned same
 
   named_same : (k : ℕ) (a : Assign V) (n : ℕ) → IsNamedFact net (Round net t k) a n → IsNamedFact net (Round net u k) a n
   named_same k a n h = record {
@@ -77,7 +72,7 @@ module _ {V : Type 0} (net : Net V) (t u : List Value) (same : Same_states net.v
 module _ {V : Type 0} (net : Net V) (t u : List Value) (same : Same_states net.variables t u) where
   derived_same : (x : Variable V) (r : Reason) → IsDerived net t x r → IsDerived net u x r
   derived_same x r d =
-      let off = states_turned same in
+      let off = turned same in
       record {
         before = d.before;
         round = d.round;
@@ -101,7 +96,7 @@ module _ {V : Type 0} (net : Net V) (t u : List Value) (same : Same_states net.v
   reason_same : (x : Variable V) (r : Reason) → IsReason net t x r → IsReason net u x r
   reason_same x r (derived d) = derived (derived_same x r d)
   reason_same x r (reset d) = reset (record {
-    no_fact = λ v f. d.no_fact v (fact_same net u t (states_turned same) x.key v f);
+    no_fact = λ v f. d.no_fact v (fact_same net u t (turned same) x.key v f);
     value = d.value;
     round = d.round;
     by = d.by;

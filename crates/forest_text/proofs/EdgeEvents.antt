@@ -3,6 +3,7 @@ use Rattle.std.proofs.Common.{◌≡◌, ◌+◌, ◌⊎◌, ⊎_elim, ℕ, zero
 use Rattle.domains.specs.declared.Value.{Value}
 use Rattle.ar_base.specs.Lists.{Stands, IsOneOf, AreDifferent}
 use Rattle.ar_base.proofs.Standing.{stands_split, stands_map, stands_map_back, stands_none, one_here, one_left, one_right, one_split, one_none}
+use Rattle.ar_base.proofs.Items.{different_both}
 use Rattle.ar_meaning.specs.Systems.{Way, System}
 use Rattle.ar_meaning.specs.Facts.{AreKeyed}
 use Rattle.ar_meaning.specs.Runs.{Label}
@@ -23,17 +24,6 @@ event_of r = r.label.event
 abbrev pub events_of : List ModeTree → List ℕ
 events_of [] = []
 events_of (t ∷ ts) = map event_of t.edges ++ events_of ts
-
-different_both : (xs ys : List ℕ) → AreDifferent xs → AreDifferent ys → ((e : ℕ) → IsOneOf xs e → IsOneOf ys e → ⊥)
-    → AreDifferent (xs ++ ys)
-different_both xs ys d f apart = record {
-  one = λ m n a s t. ⊎_elim
-      (λ x. ⊎_elim (λ y. d.one m n a x y) (λ y. absurd (apart a (one_here xs m a x) (one_here ys y.0 a y.2)))
-      (stands_split xs ys n a t))
-      (λ x. ⊎_elim (λ y. absurd (apart a (one_here xs n a y) (one_here ys x.0 a x.2)))
-      (λ y. let e = f.one x.0 y.0 a x.2 y.2 in omega (arith, e, x.1, y.1)) (stands_split xs ys n a t))
-      (stands_split xs ys m a s);
-}
 
 -- the tree of an event
 found : (ts : List ModeTree) (e : ℕ) → IsOneOf (events_of ts) e

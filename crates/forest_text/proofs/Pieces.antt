@@ -3,6 +3,7 @@ use Rattle.std.proofs.Common.{◌≡◌, ◌+◌, ◌<◌, ℕ, zero, suc, List,
 use Rattle.ar_base.specs.Texts.{line}
 use Rattle.ar_base.specs.Lists.{Stands}
 use Rattle.ar_base.specs.Texts.{text_at}
+use Rattle.ar_base.proofs.Lines.{line_after}
 use Rattle.ar_meaning.specs.ValueTexts.{value_text}
 use Rattle.gts_core.specs.declared.system.GtsParts.{GtsParts}
 use Rattle.gts_flatten.specs.Flat.{naming_of_parts}
@@ -11,10 +12,6 @@ use Rattle.mode_forests.specs.declared.forests.Edge.{Edge}
 use Rattle.mode_forests.specs.declared.forests.ModeTree.{ModeTree}
 use Rattle.forest_text.specs.Texts.{edge_text, root_text, events_line}
 use Rattle.forest_text.specs.Printed.{edge_line, tree_line, edge_count}
-
--- a piece before the rest of its line
-line_after : (a t rest : List ℕ) → rest ≡ line t → a ++ rest ≡ line (a ++ t)
-line_after a t rest e = ap (λ (z : List ℕ). a ++ z) e ∙ sym (append_assoc a t (10 ∷ []))
 
 edge_pieces : (from label to : List ℕ)
     → codes "  " ++ (from ++ (codes " " ++ (label ++ (codes " " ++ (to ++ 10 ∷ []))))) ≡ edge_text from label to

@@ -12,6 +12,7 @@ use Rattle.ar_meaning.specs.TraceText.{Naming, label_text, way_text, ways_of}
 use Rattle.ar_meaning.specs.ValueTexts.{value_text}
 use Rattle.ar_meaning.specs.FlatOf.{IsNumber, IsFlatOf}
 use Rattle.ar_meaning.specs.Image.{Event_renames}
+use Rattle.ar_meaning.proofs.ImageWays.{ways_count}
 use Rattle.ar_firing.specs.Forest.{Row}
 use Rattle.ar_firing.specs.Forest as firing
 use Rattle.gts_core.specs.View.{Views}
@@ -58,14 +59,6 @@ module _ (p : GtsParts) (sys : System ℕ) (views : Views p sys) where
       let j = tree_texts ts (record { each = λ u o. own.each u (one_rest t ts u o) }) in
       ap (λ z. (root ++ z) ++ trees_text p ts) i
       ∙ ap (λ z. (root ++ row_lines (naming_of_parts p) sys (map (row_of (number_in p)) t.edges.items)) ++ z) j
-
--- events that rename each other have as many ways
-ways_count : {V W : Type 0} (same : V → W → Type 0) {es : List (Event V)} {fs : List (Event W)}
-    → Along (Event_renames same) es fs → (n : ℕ) → ways_of (slice_get es n) ≡ ways_of (slice_get fs n)
-ways_count same l.none zero = refl
-ways_count same l.none (suc n) = refl
-ways_count same (l.one_and r rs) zero = along_length _ _ r.ways
-ways_count same (l.one_and r rs) (suc n) = ways_count same rs n
 
 -- the same trees over a system and its flat system
 module _ {V : Type 0} (things : List V) (sys : System V) (flat : System ℕ) (is_flat : IsFlatOf things sys flat)

@@ -1,5 +1,6 @@
 -- Edges that enter a mode again break the sixth rule.
 use Rattle.std.proofs.Common.{◌≡◌, ◌<◌, ℕ, suc, ◌⊎◌, inl, inr, Bool, true, false, List, ◌∷◌, map, refl, sym, ap, ◌∙◌, subst, arith}
+use Rattle.std.proofs.lemmas.Bool.{cases_eq}
 use Rattle.ar_base.specs.Lists.{Stands, IsOneOf}
 use Rattle.ar_base.proofs.Standing.{stands_one, stands_map, one_here}
 use Rattle.domains.specs.declared.Value.{Value}
@@ -12,7 +13,6 @@ use Rattle.ar_firing.specs.Rules.{KeepsS1, KeepsS2, AreTwo, ways, modes, BreaksS
 use Rattle.gts_core.specs.View.{variable_of}
 use Rattle.gts_core.specs.declared.system.GtsParts.{GtsParts}
 use Rattle.kept_ways.specs.declared.kept.KeptWay.{KeptWay}
-use Rattle.kept_ways.proofs.Reading.{told}
 use Rattle.mode_forests.specs.Views.{number_in}
 use Rattle.mode_forests.specs.declared.forests.Edge.{Edge}
 use Rattle.mode_edges.specs.Reached.{Setting, IsReachable, here, along, IsReachFrom, EntersAgain, IsAgain}
@@ -97,7 +97,7 @@ module _ {p : GtsParts} {system : System ℕ} {dropped : List ℕ} {kept : List 
       by : (f.event.n ≡ e.event.n) ⊎ (f.event.n ≡ e.event.n → ⊥) → BreaksS6 system dropped n
       by (inr d) = by_events (label_in p f) (label_in p e) f.from e.from e.to live_f live_e d
       by (inl ev) = by_edges (label_in p f) (label_in p e) f.from e.from e.to live_f live_e ev
-          (two ev (told (number_in p f.way.n) (number_in p e.way.n)) (value_told f.from e.from))
+          (two ev (cases_eq (number_in p f.way.n) (number_in p e.way.n)) (value_told f.from e.from))
 
   pub again_breaks : (n : ℕ) → IsAgainAt reaches n → BreaksS6 system dropped n
   again_breaks n w =
@@ -109,7 +109,7 @@ module _ {p : GtsParts} {system : System ℕ} {dropped : List ℕ} {kept : List 
             (subst (λ (z : Value). IsLive system dropped (label_in p k.edge) n k.edge.from z) i
             (live_there a n w.reach w.stands k.edge (one_here w.reach.edges.items k.place k.edge k.stands)))
         | inr h ↦ two_enter n w.reach w.stands h.0 k.place h.1 k.edge h.2 h.3 k.stands h.4
-            (told h.1.event.n k.edge.event.n)
+            (cases_eq h.1.event.n k.edge.event.n)
       ]
 
   module _ (k1 : KeepsS1 system) (k2 : KeepsS2 system dropped) where

@@ -2,6 +2,7 @@
 use Rattle.std.proofs.Common.{◌≡◌, ℕ, zero, suc, ◌⊎◌, inl, inr, Bool, true, false, not, ◌&&◌, cond, nat_eq, List, [], ◌∷◌, map, Contains, refl, sym, ap, ◌∙◌, subst, arith}
 use Rattle.std.specs.List.{filter}
 use Rattle.std.proofs.lemmas.Bool.Decides.{nat_tests}
+use Rattle.std.proofs.lemmas.Bool.{and_parts, eqb-true, eq-eqb}
 use Rattle.ar_base.specs.Lists.{Stands, IsOneOf}
 use Rattle.ar_base.specs.Numbers.{WayId}
 use Rattle.ar_base.proofs.Standing.{stands_one, stands_none, stands_within, stands_some, stands_map, stands_map_back, one_here}
@@ -12,6 +13,7 @@ use Rattle.ar_meaning.specs.Systems.{System, Transition, Leaf, Way as Ways}
 use Rattle.ar_meaning.specs.Ways.{Can, Effects}
 use Rattle.ar_meaning.specs.Found.{IsAnswer}
 use Rattle.ar_meaning.specs.Runs.{Label}
+use Rattle.ar_meaning.proofs.Found.{holds}
 use Rattle.ar_firing.specs.Fragment.{IsOpen, IsKept, IsModeOf, At, Path, root, edge, IsReached, IsLive}
 use Rattle.ar_firing.specs.Fragment as f
 use Rattle.ar_firing.specs.Rules.{IsLiveAt, GivesOther, KeepsS1, KeepsS2, BreaksS4, names, gives, Spot, S4, Breaks, s4}
@@ -65,16 +67,6 @@ module _ {A : Type 0} (test : A → Bool) where
       by true r = (suc r.0, r.1)
       by false r = r
 
-same_number : (m n : ℕ) → nat_eq m n ≡ true → m ≡ n
-same_number m n e = grind (arith, nat_tests)
-
-number_same : (m n : ℕ) → m ≡ n → nat_eq m n ≡ true
-number_same m n e = grind (arith, nat_tests)
-
-both : (b d : Bool) → (b && d) ≡ true → (b ≡ true) × (d ≡ true)
-both true d e = (refl, e)
-both false d e = absurd (cc e)
-
 -- a visible way of the row of a variable
 pub record InRow (kept : List KeptWay) (n : ℕ) (k : KeptWay) : Type 0 where
   pub place : ℕ
@@ -85,13 +77,13 @@ pub record InRow (kept : List KeptWay) (n : ℕ) (k : KeptWay) : Type 0 where
 pub in_row : (kept : List KeptWay) (n q : ℕ) (k : KeptWay) → Stands (ways_of n kept) q k → InRow kept n k
 in_row kept n q k st =
     let r = passed (is_of n) kept q k st in
-    let b = both k.visible (nat_eq k.mode.variable.n n) r.2 in
-    record { place = r.0; stands = r.1; visible = b.0; number = same_number k.mode.variable.n n b.1 }
+    let b = and_parts k.visible (nat_eq k.mode.variable.n n) r.2 in
+    record { place = r.0; stands = r.1; visible = b.0; number = eqb-true k.mode.variable.n n b.1 }
 
 row_has : (kept : List KeptWay) (n q : ℕ) (k : KeptWay) → Stands kept q k → k.visible ≡ true → k.mode.variable.n ≡ n
     → (j : ℕ) × Stands (ways_of n kept) j k
 row_has kept n q k st v e =
-    passes (is_of n) kept q k st (ap (λ (b : Bool). b && nat_eq k.mode.variable.n n) v ∙ number_same k.mode.variable.n n
+    passes (is_of n) kept q k st (ap (λ (b : Bool). b && nat_eq k.mode.variable.n n) v ∙ eq-eqb k.mode.variable.n n
     e)
 
 abbrev pub label_of : ℕ → ℕ → Label
@@ -275,11 +267,6 @@ pub row_is : (p : GtsParts) (e : Edge) (row : firing.Row) → e.from ≡ row.fro
 row_is p e row i j k = ap (λ (z : Value). row_with z (label_in p e) e.to) i ∙
     (ap (λ (z : Label). row_with row.from z e.to) j ∙ ap (λ (z : Value). row_with row.from row.label z) k)
 
--- what a flag that is set says, and what sets it
-pub flag_says : (P : Type 0) (b : Bool) → b ≡ true → IsAnswer b P → P
-flag_says P true e h = h
-flag_says P false e h = absurd (cc e)
-
 pub flag_set : (P : Type 0) (b : Bool) → IsAnswer b P → P → b ≡ true
 flag_set P true h q = refl
 flag_set P false h q = absurd (h q)
@@ -302,7 +289,7 @@ module _ {p : GtsParts} {system : System ℕ} {dropped : List ℕ} {kept : List 
   pub wrong_breaks : (n : ℕ) → IsWrongAt reaches n → BreaksS4 system dropped n
   wrong_breaks n w =
       let h = a.are.each n w.reach w.stands in
-      let k = flag_says (HasWrong (looked a.ways n h.variable) h.variable.value) w.reach.wrong w.wrong h.is.wrong in
+      let k = holds (HasWrong (looked a.ways n h.variable) h.variable.value) w.reach.wrong w.wrong h.is.wrong in
       let r = row_at a.ways n h.variable h.stands k.place k.way k.stands in
       let wrong : IsWrong (At n k.mode) (transition_of r.at.is.guard r.at.is.action.items) n
       (values_of h.variable.domain) =

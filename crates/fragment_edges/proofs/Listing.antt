@@ -1,6 +1,6 @@
 -- The live edges in a row are those of the system, and what they share breaks the fifth and the eighth rule.
 use Rattle.std.proofs.Common.{◌≡◌, ◌<◌, ◌≤◌, ℕ, ◌⊎◌, inl, inr, List, length, map, sym, ap, ◌∙◌, subst, arith}
-use Rattle.std.proofs.lemmas.Bool.{cases_order}
+use Rattle.std.proofs.lemmas.Bool.{cases_order, cases_eq}
 use Rattle.std.proofs.lemmas.List.{length-map}
 use Rattle.ar_base.specs.Lists.{Stands}
 use Rattle.ar_base.specs.Numbers.{EventId}
@@ -13,7 +13,6 @@ use Rattle.ar_firing.specs.Fragment.{IsLive}
 use Rattle.ar_firing.specs.Rules.{KeepsS1, KeepsS2, AreTwo, ways, variables, modes, HasLive, BreaksS5, KeepsS8, BreaksS8, Spot, S5, Breaks, s5}
 use Rattle.gts_core.specs.declared.system.GtsParts.{GtsParts}
 use Rattle.kept_ways.specs.declared.kept.KeptWay.{KeptWay}
-use Rattle.kept_ways.proofs.Reading.{told}
 use Rattle.mode_forests.specs.Views.{number_in}
 use Rattle.mode_forests.specs.declared.forests.Edge.{Edge}
 use Rattle.mode_edges.specs.declared.searching.Reach.{Reach}
@@ -55,7 +54,7 @@ module _ {p : GtsParts} {system : System ℕ} {dropped : List ℕ} {kept : List 
   two_of : (x y : ℕ) (l m : Live) → Stands live x l → Stands live y m → (x ≡ y → ⊥) → l.edge.event.n ≡ m.edge.event.n
       → AreTwo (label_in p l.edge) (label_in p m.edge) l.variable.n m.variable.n l.edge.from m.edge.from
   two_of x y l m sl sm apart e =
-      by (told (number_in p l.edge.way.n) (number_in p m.edge.way.n)) (told l.variable.n m.variable.n)
+      by (cases_eq (number_in p l.edge.way.n) (number_in p m.edge.way.n)) (cases_eq l.variable.n m.variable.n)
       (value_told l.edge.from m.edge.from)
     where
       by : (number_in p l.edge.way.n ≡ number_in p m.edge.way.n) ⊎
@@ -78,7 +77,7 @@ module _ {p : GtsParts} {system : System ℕ} {dropped : List ℕ} {kept : List 
   IsOf e l = l.edge.event.n ≡ e
 
   first_of : (e x : ℕ) (l : Live) → Stands live x l → IsOf e l → (f : ℕ) × IsFirstOf live e f
-  first_of e x l st i = elim (first_or_none (IsOf e) (λ k. told k.edge.event.n e) live) [
+  first_of e x l st i = elim (first_or_none (IsOf e) (λ k. cases_eq k.edge.event.n e) live) [
     | inl h ↦ (h.0, record { live_edge = h.1.item; stands = h.1.stands; is_event = h.1.has; before = h.1.before })
     | inr n ↦ absurd (n.has_not x l st i)
   ]

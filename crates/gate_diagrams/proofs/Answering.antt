@@ -16,6 +16,7 @@ use Rattle.zdd_nodes.specs.declared.NodeFault.{NodeFault}
 use Rattle.zdd_nodes.specs.declared.NodeFault.TheVariants.{Full}
 use Rattle.zdd_nodes.proofs.Growing.{Draws-after, kept, full_weaker}
 use Rattle.zdd_nodes.proofs.Lists.{AreDifferent-push, some_sets}
+use Rattle.zdd_nodes.proofs.Limits.{full_is_more}
 use Rattle.eq_core.specs.Gates.{Operand, Gate, Table}
 use Rattle.eq_core.specs.Values.{value_at}
 use Rattle.firable_families.specs.Firable.{IsFirableOf, ListsLeast}
@@ -27,15 +28,6 @@ use Rattle.gate_diagrams.proofs.Needing.{minimal_drawn}
 
 pub all_stored : (P : Family → Type 0) (s t : Stored) → All P s.families → Grows P s t → All P t.families
 all_stored P s t a g = subst (All P) (sym g.families) (All-append P s.families g.added a g.all)
-
--- where the store is full for a needed family, more are needed than its limit
-pub full_needed : (P : Family → Type 0) (s : Stored) → All P s.families → IsFullFor P s → IsMoreThan s.limit P
-full_needed P s a f = record {
-  members = s.families ++ f.family ∷ [];
-  different = AreDifferent-push s.families f.family f.different (λ k h. f.missing k [] (slice_get_within s.families k f.family h) (get_or_from_slice_get s.families k f.family [] h));
-  all = All-append P s.families (f.family ∷ []) a (All-cons P f.family [] f.allowed (All-nil P));
-  count = omega (arith, length-append s.families (f.family ∷ []), f.full);
-}
 
 -- the minimal sets, once the operand's family is drawn
 pub least_drawn : (all : Family) (gates : List Gate) (o : Operand) (s t u : Stored) (n : NodeId) (r : Result NodeId NodeFault)
@@ -97,7 +89,7 @@ module _ (table : Table) (f : ℕ) (s0 s1 : Stored) (sound : IsSoundStore s0) (f
 
     pub conflict_full : (trees : List ModeTree) → AreListed (IsFirableOf trees) all → r ≡ Err Full → NodesMay trees table s0.limit
     conflict_full trees is_all e =
-        let m = subst (λ z. IsMoreThan z Conflict) d.grows.limit (full_needed Conflict s1 conflict_needed (d.full e)) in
+        let m = subst (λ z. IsMoreThan z Conflict) d.grows.limit (full_is_more Conflict s1 conflict_needed (d.full e)) in
         record {
           all = all;
           is_all = is_all;
@@ -133,7 +125,7 @@ module _ (table : Table) (f : ℕ) (s0 s1 : Stored) (sound : IsSoundStore s0) (f
         is_all = is_all;
         where_some = λ set x. absurd (none_so trees table all is_all (none_at none) set x);
         where_none = λ x. subst (λ z. IsMoreThan z Both) (top_drawn.grows.limit ∙ d.grows.limit)
-            (full_needed Both s2 both_needed (full_weaker (IsNeeded all table.gates table.top) Both s2 (λ h y. inr y) (top_drawn.full e)));
+            (full_is_more Both s2 both_needed (full_weaker (IsNeeded all table.gates table.top) Both s2 (λ h y. inr y) (top_drawn.full e)));
       }
 
     pub top_sets : (s2 : Stored) (m : NodeId) → n.n ≡ 0

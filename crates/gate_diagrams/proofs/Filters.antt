@@ -10,12 +10,13 @@ use Rattle.eq_core.proofs.Telling.{turned, gate_value}
 use Rattle.eq_core.specs.Ordered.{AreBelow}
 use Rattle.firable_families.specs.Firable.{IsOfMembers}
 use Rattle.ar_base.specs.Sets.{Within}
+use Rattle.ar_base.proofs.Truths.{alike}
 use Rattle.zdd_families.proofs.Members.{holds_law}
 use Rattle.zdd_families.proofs.Filters.{minus-filter}
 use Rattle.gate_diagrams.specs.Needed.{family_at, joint_family}
 
 -- ---- operands
-eqb_turned : (x y : ℕ) → eqb x y ≡ eqb y x
+pub eqb_turned : (x y : ℕ) → eqb x y ≡ eqb y x
 eqb_turned x y = step (eqb x y) refl (eqb y x) refl
   where
     step : (a : Bool) → eqb x y ≡ a → (b : Bool) → eqb y x ≡ b → a ≡ b
@@ -90,18 +91,11 @@ unfolding family_at joint_family
 family_of_gate all gates g gate i b = filter_alike (value_at gates (GateIs g true)) (λ s. joint_at gate.both s (values_at s gates) gate.operands) all
     (every (λ s. value_at gates (GateIs g true) s ≡ joint_at gate.both s (values_at s gates) gate.operands) (λ s. gate_value s gates g gate i b) all)
 
--- ---- an operand's value rests on the members of the set alone
-bool_one : (a b : Bool) → (a ≡ true → b ≡ true) → (b ≡ true → a ≡ true) → a ≡ b
-bool_one true true f g = refl
-bool_one true false f g = sym (f refl)
-bool_one false true f g = g refl
-bool_one false false f g = refl
-
 module _ (s t : List ℕ) (v : Within s t) (w : Within t s) where
   event_same : (e : ℕ) → has_event s e ≡ has_event t e
   event_same e =
       has_event_holds s e
-      ∙ bool_one (holds e s) (holds e t) (λ h. (holds_law e t).1 (v.each e ((holds_law e s).0 h))) (λ h. (holds_law e s).1 (w.each e ((holds_law e t).0 h)))
+      ∙ alike (holds e s) (holds e t) (λ h. (holds_law e t).1 (v.each e ((holds_law e s).0 h))) (λ h. (holds_law e s).1 (w.each e ((holds_law e t).0 h)))
       ∙ sym (has_event_holds t e)
 
   operand_same : (values : List Bool) (o : Operand) → operand_at s values o ≡ operand_at t values o

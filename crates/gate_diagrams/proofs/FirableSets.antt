@@ -1,9 +1,11 @@
 -- A list of the firable sets is one list: what the walk draws is it.
 use Rattle.std.proofs.Common.{◌≡◌, ℕ, Bool, true, false, List, [], Result, refl, sym, subst}
 use Rattle.ar_base.specs.Sets.{Ascends}
+use Rattle.ar_base.proofs.Truths.{alike}
 use Rattle.ar_firing.specs.Forest.{ModeTree}
 use Rattle.ar_firing.specs.Listed.{AreListed}
 use Rattle.ar_firing.specs.Trees.{AreApart}
+use Rattle.ar_firing.proofs.OneListing.{ascending_same}
 use Rattle.zdd_families.specs.Families.{Family, has}
 use Rattle.zdd_families.specs.Sections.{IsCounted}
 use Rattle.zdd_families.proofs.Minimal.{member_of}
@@ -12,27 +14,21 @@ use Rattle.zdd_nodes.specs.Nodes.{NodeId, Stored, Draws}
 use Rattle.zdd_nodes.specs.declared.NodeFault.{NodeFault}
 use Rattle.firable_families.specs.Firable.{IsFirableOf}
 use Rattle.firable_families.specs.Walk.{left, AreTreeFamilies}
-use Rattle.firable_families.proofs.Listing.{Lists, listed_lists, one_set}
+use Rattle.firable_families.proofs.Listing.{Lists, listed_lists}
 use Rattle.firable_families.proofs.Trees.{walk_lists}
 use Rattle.gate_diagrams.specs.Walked.{families_left, AreWalked}
 use Rattle.gate_diagrams.proofs.Going.{bound, DrawsLeft}
 
-both_ways : (a b : Bool) → (a ≡ true → b ≡ true) → (b ≡ true → a ≡ true) → a ≡ b
-both_ways true true f g = refl
-both_ways true false f g = sym (f refl)
-both_ways false true f g = g refl
-both_ways false false f g = refl
-
 of_other : {P : List ℕ → Type 0} (f g : Family) → Lists P f → Lists P g → (s : List ℕ) → has f s ≡ true → has g s ≡ true
 of_other f g a b s h =
     let w = b.whole s (a.sound s h) in
-    subst (λ z. has g z ≡ true) (sym (one_set s w.0 (member_of Ascends f s a.is_family.ascending h) (member_of Ascends g w.0 b.is_family.ascending w.1) w.2 w.3)) w.1
+    subst (λ z. has g z ≡ true) (sym (ascending_same s w.0 (member_of Ascends f s a.is_family.ascending h) (member_of Ascends g w.0 b.is_family.ascending w.1) w.2 w.3)) w.1
 
 pub listed_one : {P : List ℕ → Type 0} (f g : Family) → AreListed P f → AreListed P g → f ≡ g
 listed_one f g a b =
     let x = listed_lists a in
     let y = listed_lists b in
-    same_sets f g x.is_family.in_order y.is_family.in_order (λ s. both_ways (has f s) (has g s) (of_other f g x y s) (of_other g f y x s))
+    same_sets f g x.is_family.in_order y.is_family.in_order (λ s. alike (has f s) (has g s) (of_other f g x y s) (of_other g f y x s))
 
 pub firable_drawn : (trees : Stored) (paths : List NodeId) (s t : Stored) (r : Result NodeId NodeFault) → DrawsLeft trees paths s t r → (forest : List ModeTree)
     → AreTreeFamilies forest (families_left trees paths) → AreApart forest → (all : Family) → AreListed (IsFirableOf forest) all → Draws (IsCounted all) all s t r

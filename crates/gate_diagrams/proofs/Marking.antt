@@ -2,6 +2,7 @@
 use Rattle.std.proofs.Common.{◌≡◌, ◌⊎◌, inl, inr, ⊎_elim, ℕ, zero, suc, ◌+◌, ◌<◌, ◌≤◌, Bool, true, false, List, [], ◌∷◌, ◌++◌, length, replicate, refl, sym, ◌∙◌, subst, arith, true≢false}
 use Rattle.ar_base.specs.Lists.{Stands, IsOneOf}
 use Rattle.ar_base.proofs.Standing.{stands_one, stands_within, stands_left, one_right, one_split, one_cases, one_none, one_first}
+use Rattle.ar_base.proofs.Items.{none_marked}
 use Rattle.eq_core.specs.Gates.{Operand, Always, Never, EventIs, GateIs, Gate}
 use Rattle.eq_core.specs.Ordered.{AreBelow, AreOrdered}
 use Rattle.eq_core.specs.Values.{IsBelow}
@@ -46,11 +47,6 @@ pub record IsMarking (gates : List Gate) (o : Operand) (left : ℕ) (marks : Lis
   pub own : (g : ℕ) (sign : Bool) → o ≡ GateIs g sign → Stands marks g true
   pub closed : (g h : ℕ) (gate : Gate) (sign : Bool) → left ≤ g → Stands marks g true → Stands gates g gate
       → IsOneOf gate.operands (GateIs h sign) → Stands marks h true
-
-none_marked : (n g : ℕ) → Stands (replicate n false) g true → ⊥
-none_marked zero g i = cc
-none_marked (suc n) zero i = let e : false ≡ true = cc in true≢false (sym e)
-none_marked (suc n) (suc g) i = none_marked n g i
 
 pub marking_begins : (gates : List Gate) (o : Operand) (none marks : List Bool) → none ≡ replicate (length gates) false → length none ≡ length gates
     → Marks (o ∷ []) none marks → IsMarking gates o (length gates) marks

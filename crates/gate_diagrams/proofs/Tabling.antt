@@ -2,9 +2,11 @@
 use Rattle.std.proofs.Common.{◌≡◌, ◌⊎◌, inl, inr, ⊎_elim, ℕ, ℤ, zero, suc, ◌+◌, ◌<◌, ◌||◌, Bool, true, false, List, [], ◌∷◌, length, map, get_or, Option, Some, Result, Ok, Err, IfOk, refl, sym, ap, ◌∙◌, subst, arith, true≢false}
 use Rattle.std.specs.HashMap.{HashMap, Updates}
 use Rattle.std.proofs.lemmas.Bool.Decides.{Decides-int_eq, nat_tests}
+use Rattle.std.proofs.lemmas.Bool.{or_cases, or_right}
 use Rattle.ar_base.specs.Lists.{Stands, IsOneOf}
 use Rattle.ar_base.specs.Sets.{Within}
 use Rattle.ar_base.proofs.Standing.{stands_map, stands_get, stands_none, stands_one, stands_within, one_none, one_cases, one_first, one_rest}
+use Rattle.ar_base.proofs.Sets.{within_self}
 use Rattle.domains.specs.declared.Value.{Value}
 use Rattle.domains.specs.declared.Value.TheVariants.{Truth, Whole, Symbol}
 use Rattle.ar_meaning.specs.Runs.{Label}
@@ -53,21 +55,9 @@ module _ {S : Type 0} (old new : HashMap (ℕ × ℤ) NodeId S) (m : Value) (n :
       step true e = inl (sym (key_one m q e))
       step false e = inr (u.2 (key_of q) e)
 
--- ---- families of entries
-within_self : (s : List ℕ) → Within s s
-within_self s = record { each = λ x i. i }
-
-either_true : (a b : Bool) → (a || b) ≡ true → (a ≡ true) ⊎ (b ≡ true)
-either_true true b e = inl refl
-either_true false b e = inr e
-
-or_right : (a b : Bool) → b ≡ true → (a || b) ≡ true
-or_right true b e = refl
-or_right false b e = e
-
 has_single : (set s : List ℕ) → has (set ∷ []) s ≡ true → s ≡ set
 has_single set s h = ⊎_elim (λ e. same-true s set e) (λ e. absurd (true≢false (sym e)))
-    (either_true (same s set) false h)
+    (or_cases (same s set) false h)
 
 has_itself : (set : List ℕ) → has (set ∷ []) set ≡ true
 has_itself set = ap (λ b. b || false) (same-refl set)
@@ -106,7 +96,7 @@ entry_more entries m set f h = record {
         subst (Within set)
             (sym q) (within_self set),
       ))
-      (either_true (has f s) (has (set ∷ []) s) (sym (has-union f (set ∷ []) s) ∙ x));
+      (or_cases (has f s) (has (set ∷ []) s) (sym (has-union f (set ∷ []) s) ∙ x));
   whole = λ n other i. ⊎_elim
       (λ (e : (m, set) ≡ (n, other)). (
         set,

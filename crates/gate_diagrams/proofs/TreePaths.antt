@@ -4,6 +4,7 @@ use Rattle.std.proofs.lemmas.List.{take_more, map-append}
 use Rattle.ar_base.specs.Lists.{Stands, Along}
 use Rattle.ar_base.specs.Lists.Along.{none, one_and}
 use Rattle.ar_base.proofs.Standing.{stands_none, stands_get, stands_split}
+use Rattle.ar_base.proofs.Items.{along_push}
 use Rattle.ar_firing.specs.Forest.{ModeTree}
 use Rattle.ar_firing.specs.Listed.{AreListed}
 use Rattle.zdd_families.specs.Families.{Family}
@@ -14,11 +15,6 @@ use Rattle.firable_families.specs.Walk.{AreTreeFamilies}
 use Rattle.gate_diagrams.specs.Walked.{families_left, AreNumbers}
 use Rattle.gate_diagrams.specs.Paths.{Extends}
 use Rattle.gate_diagrams.proofs.Stepping.{families_more}
-
-along_push : {A B : Type 0} {R : A → B → Type 0} {xs : List A} {ys : List B} (x : A) (y : B) → Along R xs ys → R x y
-    → Along R (xs ++ x ∷ []) (ys ++ y ∷ [])
-along_push x y none r = one_and r none
-along_push x y (one_and q a) r = one_and q (along_push x y a r)
 
 -- the trees that are drawn so far
 pub record AreDrawn (trees : List ModeTree) (s : Stored) (ns : List NodeId) : Type 0 where
@@ -44,17 +40,13 @@ tree_drawn trees s t ns tree n a g i l = record {
         (λ y. last y.0 m y.2) (stands_split ns (n ∷ []) k m x);
   };
   listed = subst (AreTreeFamilies (trees ++ tree ∷ [])) (sym (families_more t ns (n ∷ [])))
-      (along_push tree (family t n.n)
+      (along_push _ _ tree (family t n.n)
       (subst (AreTreeFamilies trees) (sym (families_kept s t ns g a.in_store)) a.listed) l);
 }
   where
     last : (j : ℕ) (m : NodeId) → Stands (n ∷ []) j m → IsNumber t m.n
     last zero m x = let q : n ≡ m = cc in subst (λ (z : NodeId). IsNumber t z.n) q i
     last (suc j) m x = absurd (stands_none j m x)
-
--- the item of a loop stands at its index
-pub item_stands : {A : Type 0} (xs : List A) (k : ℕ) (a : A) → k < length xs → a ≡ get_or xs k a → Stands xs k a
-item_stands xs k a l e = subst (Stands xs k) (sym e) (stands_get xs k a l)
 
 pub next_drawn : {A : Type 0} (f : A → ModeTree) (trees : List A) (k : ℕ) (tree : A) (s t : Stored)
     (ns ms : List NodeId) (n : NodeId) → k < length trees → tree ≡ get_or trees k tree

@@ -14,6 +14,7 @@ use Rattle.zdd_families.proofs.Sections.{IsMoreThan-weaker}
 use Rattle.zdd_nodes.specs.Nodes.{NodeId, Stored, family, IsNumber, Draws}
 use Rattle.zdd_nodes.specs.declared.NodeFault.{NodeFault}
 use Rattle.zdd_nodes.specs.declared.NodeFault.TheVariants.{Full}
+use Rattle.zdd_nodes.proofs.Limits.{full_is_more}
 use Rattle.eq_core.specs.Gates.{Table}
 use Rattle.firable_families.specs.Firable.{IsFirableOf}
 use Rattle.firable_families.specs.Walk.{left, AreTreeFamilies}
@@ -23,7 +24,7 @@ use Rattle.gate_diagrams.specs.Needed.IsNeeded.{of_firable}
 use Rattle.gate_diagrams.specs.Walked.{families_left}
 use Rattle.gate_diagrams.specs.Answers.{AreNeeded}
 use Rattle.gate_diagrams.specs.declared.answer.Drawn.{Drawn}
-use Rattle.gate_diagrams.proofs.Answering.{all_stored, full_needed}
+use Rattle.gate_diagrams.proofs.Answering.{all_stored}
 use Rattle.gate_diagrams.proofs.FirableSets.{listed_one}
 use Rattle.gate_diagrams.proofs.Going.{bound}
 
@@ -77,7 +78,7 @@ walk_full {trees = trees} {s = s} {t = t} {limit = limit} table w e =
     let P = IsCounted w.all in
     let Q = IsNeeded w.all table.gates table.conflict in
     let m : IsMoreThan limit P =
-    subst (λ z. IsMoreThan z P) (w.drawn.grows.limit ∙ w.limited) (full_needed P t (walk_stored w) (w.drawn.full e)) in
+    subst (λ z. IsMoreThan z P) (w.drawn.grows.limit ∙ w.limited) (full_is_more P t (walk_stored w) (w.drawn.full e)) in
     let c = IsMoreThan-weaker limit P Q (λ h x. of_firable x) m in
     record {
       all = w.all;

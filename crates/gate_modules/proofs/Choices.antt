@@ -1,7 +1,7 @@
 -- The sets behind short forms: the parts of chosen units are exchanged one at a time.
 use Rattle.std.proofs.Common.{◌≡◌, ◌≢◌, ◌⊎◌, inl, inr, ℕ, suc, ◌<◌, Bool, true, false, not, cond, ◌||◌, ◌&&◌, eqb, eqb-true, List, [], ◌∷◌, ◌++◌, filter, map, nat_lt, refl, sym, ap, ap₂, ◌∙◌, subst, arith, true≢false, lt_irrefl}
 use Rattle.std.specs.List.{AllByRecursion, list_any}
-use Rattle.std.proofs.lemmas.Bool.{and_parts}
+use Rattle.std.proofs.lemmas.Bool.{and_parts, or_cases, or_right, or_left, and_from, false_from_ne_true}
 use Rattle.std.proofs.lemmas.List.Folds.{list_any-append}
 use Rattle.std.proofs.lemmas.Map.Views.{any-filter_same}
 use Rattle.ar_base.specs.Lists.{Stands, IsOneOf, Along}
@@ -20,36 +20,12 @@ use Rattle.gate_modules.specs.declared.ranges.Range.{Range}
 use Rattle.gate_modules.proofs.Forming.{passed_one}
 use Rattle.gate_modules.proofs.Splitting.{all_filter}
 
--- ---- truth values
-pub or_right : (a b : Bool) → b ≡ true → (a || b) ≡ true
-or_right true b e = refl
-or_right false b e = e
-
-pub or_left : (a b : Bool) → a ≡ true → (a || b) ≡ true
-or_left a b e = ap (λ z. z || b) e
-
-or_cases : (a b : Bool) → (a || b) ≡ true → (a ≡ true) ⊎ (b ≡ true)
-or_cases true b h = inl refl
-or_cases false b h = inr h
-
-and_true : (a b : Bool) → a ≡ true → b ≡ true → (a && b) ≡ true
-and_true a b e k = ap₂ (λ x y. x && y) e k
-
 pub and_no : (a b : Bool) → b ≡ false → (a && b) ≡ false
 and_no true b e = e
 and_no false b e = refl
 
-pub not_true : (a : Bool) → (a ≡ true → ⊥) → a ≡ false
-not_true true n = absurd (n refl)
-not_true false n = refl
-
 pub not_both : (a : Bool) → a ≡ true → a ≡ false → ⊥
 not_both a x y = true≢false (sym x ∙ y)
-
-pub alike : (a b : Bool) → (a ≡ true → b ≡ true) → (b ≡ true → a ≡ true) → a ≡ b
-alike true b f g = sym (f refl)
-alike false true f g = g refl
-alike false false f g = refl
 
 -- ---- members of lists
 pub holds_filter : (e : ℕ) (q : ℕ → Bool) (s : List ℕ) → holds e (filter q s) ≡ (q e && holds e s)
@@ -76,7 +52,7 @@ event_any q (x ∷ s) e h k = elim (or_cases (eqb e x) (holds e s) h) [
 pub filter_some : (q : ℕ → Bool) (s : List ℕ) → list_any q s ≡ true → filter q s ≢ []
 filter_some q s h e =
     let t = any_event q s h in
-    not_both (holds t.0 (filter q s)) (holds_filter t.0 q s ∙ and_true (q t.0) (holds t.0 s) t.2 t.1) (ap (holds t.0) e)
+    not_both (holds t.0 (filter q s)) (holds_filter t.0 q s ∙ and_from (q t.0) (holds t.0 s) t.2 t.1) (ap (holds t.0) e)
 
 -- a list that is not empty has an event
 some_event : (s : List ℕ) → s ≢ [] → (e : ℕ) × (holds e s ≡ true)
@@ -99,13 +75,6 @@ within_by s t h = record { each = λ e i. (holds_law e t).0 (sym (h e) ∙ (hold
 -- ascending lists with the same events are one
 pub same_events : (s t : List ℕ) → Ascends s → Ascends t → ((e : ℕ) → holds e s ≡ holds e t) → s ≡ t
 same_events s t a b h = ascending_same s t a b (within_by s t h) (within_by t s (λ e. sym (h e)))
-
-pub one_of_has : (f : Family) (s : List ℕ) → has f s ≡ true → IsOneOf f s
-one_of_has [] s h = absurd (true≢false (sym h))
-one_of_has (t ∷ f) s h = elim (or_cases (same s t) (has f s) h) [
-  | inl a ↦ subst (λ z. IsOneOf (z ∷ f) s) (same-true s t a) (one_first s f)
-  | inr b ↦ one_rest t f s (one_of_has f s b)
-]
 
 pub has_one_of : (f : Family) (s : List ℕ) → IsOneOf f s → has f s ≡ true
 has_one_of [] s i = absurd (one_none s i)
@@ -185,7 +154,7 @@ apart_filter q (r ∷ xs) a = elim (q r) as (λ b. Apart (cond b (r ∷ filter q
 -- an event of a range apart from these is of none of them
 pub uncovered : (r : Range) (xs : List Range) → ((c : Range) → IsOneOf xs c → AreApart r c) → (e : ℕ) → lies r e ≡ true → is_covered xs e ≡ false
 uncovered r [] h e l = refl
-uncovered r (c ∷ xs) h e l = ap₂ (λ a b. a || b) (not_true (lies c e) (h c (one_first c xs) e l)) (uncovered r xs (λ d i. h d (one_rest c xs d i)) e l)
+uncovered r (c ∷ xs) h e l = ap₂ (λ a b. a || b) (false_from_ne_true (lies c e) (h c (one_first c xs) e l)) (uncovered r xs (λ d i. h d (one_rest c xs d i)) e l)
 
 -- the ranges that have an event of the set cover its events as all do
 pub covered_touched : (s : List ℕ) (e : ℕ) → holds e s ≡ true → (xs : List Range) → is_covered (filter (touches s) xs) e ≡ is_covered xs e
@@ -196,7 +165,7 @@ covered_touched s e h (c ∷ xs) = step (covered_touched s e h xs) (touches s c)
     step ih true k = ap (λ b. is_covered (cond b (c ∷ filter (touches s) xs) (filter (touches s) xs)) e) k ∙ ap (λ z. lies c e || z) ih
     step ih false k =
         ap (λ b. is_covered (cond b (c ∷ filter (touches s) xs) (filter (touches s) xs)) e) k ∙ ih
-        ∙ ap (λ z. z || is_covered xs e) (sym (not_true (lies c e) (λ l. not_both (touches s c) (event_any (lies c) s e h l) k)))
+        ∙ ap (λ z. z || is_covered xs e) (sym (false_from_ne_true (lies c e) (λ l. not_both (touches s c) (event_any (lies c) s e h l) k)))
 
 -- what some of the ranges cover all of them cover
 pub covered_in_some : (q : Range → Bool) (xs : List Range) (e : ℕ) → is_covered (filter q xs) e ≡ true → is_covered xs e ≡ true
@@ -253,7 +222,7 @@ module _ (f : Family) where
   still_touches r c apart a s t =
       let w = any_event (lies c) s t in
       event_any (lies c) (joined r a (outside r s)) w.0
-      (joined_events r a s w.0 ∙ or_right (holds w.0 a) (not (lies r w.0) && holds w.0 s) (and_true (not (lies r w.0)) (holds w.0 s) (ap not (not_true (lies r w.0) (λ l. apart w.0 l w.2))) w.1)) w.2
+      (joined_events r a s w.0 ∙ or_right (holds w.0 a) (not (lies r w.0) && holds w.0 s) (and_from (not (lies r w.0)) (holds w.0 s) (ap not (false_from_ne_true (lies r w.0) (λ l. apart w.0 l w.2))) w.1)) w.2
 
   -- ---- all parts of a choice are exchanged
   all_events : (x a l h c : Bool) → (a ≡ true → c ≡ false) → (x || ((a || (not l && h)) && not c)) ≡ ((a || x) || (h && not (l || c)))
@@ -303,7 +272,7 @@ module _ (f : Family) where
 
       here : (e : ℕ) → lies r e ≡ true → holds e a ≡ holds e s
       here e l =
-          let no : list_any (holds e) parts ≡ false = not_true (list_any (holds e) parts) (λ k. not_both (is_covered rs e) (parts_covered rs parts ps e k) (uncovered r rs apart.0 e l)) in
+          let no : list_any (holds e) parts ≡ false = false_from_ne_true (list_any (holds e) parts) (λ k. not_both (is_covered rs e) (parts_covered rs parts ps e k) (uncovered r rs apart.0 e l)) in
           sym (h e (or_left (lies r e) (is_covered rs e) l) ∙ ap (λ z. holds e a || z) no ∙ or_false (holds e a))
         where
           or_false : (b : Bool) → (b || false) ≡ b
@@ -315,12 +284,12 @@ module _ (f : Family) where
         where
           by : (e : ℕ) (b : Bool) → lies r e ≡ b → holds e a ≡ holds e (inside r s)
           by e true l = here e l ∙ sym (holds_filter e (lies r) s ∙ ap (λ z. z && holds e s) l)
-          by e false l = not_true (holds e a) (λ k. not_both (lies r e) (part_lies r a p e k) l) ∙ sym (holds_filter e (lies r) s ∙ ap (λ z. z && holds e s) l)
+          by e false l = false_from_ne_true (holds e a) (λ k. not_both (lies r e) (part_lies r a p e k) l) ∙ sym (holds_filter e (lies r) s ∙ ap (λ z. z && holds e s) l)
 
       later : (e : ℕ) → is_covered rs e ≡ true → holds e s ≡ list_any (holds e) parts
       later e c =
           h e (or_right (lies r e) (is_covered rs e) c)
-          ∙ ap (λ z. z || list_any (holds e) parts) (not_true (holds e a) (λ k. not_both (is_covered rs e) c (uncovered r rs apart.0 e (part_lies r a p e k))))
+          ∙ ap (λ z. z || list_any (holds e) parts) (false_from_ne_true (holds e a) (λ k. not_both (is_covered rs e) c (uncovered r rs apart.0 e (part_lies r a p e k))))
 
   -- a range with a part has an event of what is made of the parts
   pub part_touches : (rs : List Range) (parts : List (List ℕ)) → Along (IsPart f) rs parts → (c : Range) → IsOneOf rs c → (e : ℕ) × (list_any (holds e) parts ≡ true) × (lies c e ≡ true)

@@ -7,6 +7,7 @@ use Rattle.ar_base.specs.Lists.Along.{none, one_and}
 use Rattle.ar_base.proofs.Standing.{one_left, one_right, one_split, one_none, only_item, stands_get, stands_one, stands_split, stands_within, one_here}
 use Rattle.zdd_families.specs.Families.{Family}
 use Rattle.zdd_families.specs.Sections.{section}
+use Rattle.zdd_families.proofs.Behind.{behind_none}
 use Rattle.zdd_nodes.specs.Nodes.{Stored, family, IsNumber, IsSoundStore}
 use Rattle.gate_modules.specs.Choosing.{IsWithinNone, Considers, AreChosenSoFar}
 use Rattle.gate_modules.specs.Choosing.Considers.{within, no_module, is_new}
@@ -15,7 +16,6 @@ use Rattle.gate_modules.specs.Modules.{lies, Covers, AreRanges, IsModule, IsRoun
 use Rattle.gate_modules.specs.Shortened.{UnitSets, Form, short_form, once, IsModuleOf, IsShortened}
 use Rattle.gate_modules.specs.declared.ranges.Range.{Range}
 use Rattle.gate_modules.proofs.Exchange.{exit_has, together_part, exits_alike, in_lies}
-use Rattle.gate_modules.proofs.Parting.{behind_none}
 use Rattle.gate_modules.proofs.Splitting.{has_some}
 
 covers_through : (a b c : Range) → Covers a b → Covers b c → Covers a c

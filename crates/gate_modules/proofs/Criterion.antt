@@ -3,6 +3,7 @@ use Rattle.std.proofs.Common.{◌≡◌, ◌≢◌, ◌⊎◌, inl, inr, ℕ, tr
 use Rattle.ar_base.specs.Lists.{IsOneOf}
 use Rattle.zdd_families.specs.Families.{Family, has}
 use Rattle.zdd_families.specs.Sections.{section}
+use Rattle.zdd_families.proofs.Sections.{section-nil}
 use Rattle.zdd_nodes.specs.Nodes.{Stored, family, IsNumber, IsSoundStore}
 use Rattle.gate_modules.specs.Ends.{Alike, AgreeSome}
 use Rattle.gate_modules.specs.Modules.{joined, IsPart, IsRest, IsModule}
@@ -13,7 +14,7 @@ use Rattle.gate_modules.specs.declared.twins.Question.{Question}
 use Rattle.gate_modules.proofs.Sections.{section_end}
 use Rattle.gate_modules.proofs.Splitting.{has_some, some_has}
 use Rattle.gate_modules.proofs.Numbers.{not_empty}
-use Rattle.gate_modules.proofs.Exchange.{exit, Together, exit_has, has_exit, together_part, exits_alike, nil_section, part_found, rest_found, joined_three}
+use Rattle.gate_modules.proofs.Exchange.{exit, Together, exit_has, has_exit, together_part, exits_alike, part_found, rest_found, joined_three}
 
 module _ (s : Stored) (sound : IsSoundStore s) (root : ℕ) (root_in : IsNumber s root) (r : Range) where
   -- what follows a part in an entry, where the unit is a module
@@ -70,7 +71,7 @@ module _ (s : Stored) (sound : IsSoundStore s) (root : ℕ) (root_in : IsNumber 
         there = some_has (exit (family s root) r p a) q (has_exit s sound root root_in r p a q t)
 
         no_exit : section r.from p (family s root) ≡ [] → ⊥
-        no_exit none = there (ap (section r.to a) none ∙ nil_section r.to a)
+        no_exit none = there (ap (section r.to a) none ∙ section-nil r.to a)
 
         by : (e : ℕ) → section r.from p (family s root) ≡ family s e → EntryAgrees s r.to e0 y e → (e : ℕ) × (x : ℕ) × (section r.from p (family s root) ≡ family s e) × (AgreeSome r.to (family s e) (family s e0) (family s x) (family s y))
         by e is (no_part ends) = elim (section_end r.to a (family s e) ends.at_least) [ inl h ↦ absurd (n h.0) | inr h ↦ absurd (there (ap (section r.to a) is ∙ h.1)) ]

@@ -9,6 +9,7 @@ use Rattle.zdd_families.specs.Families.{Family, has, order, node, IsFamily}
 use Rattle.zdd_families.specs.Sections.{section}
 use Rattle.zdd_families.proofs.Gates.{order-refl}
 use Rattle.zdd_families.proofs.Laws.{has_each}
+use Rattle.zdd_families.proofs.Sections.{section-nil}
 use Rattle.zdd_nodes.specs.Nodes.{Stored, family, IsNumber, IsSoundStore}
 use Rattle.gate_modules.specs.Ends.{IsSectionAt}
 use Rattle.gate_modules.specs.Ends.IsSectionAt.{empty, taken}
@@ -19,7 +20,7 @@ use Rattle.gate_modules.specs.Deciding.{IsModuleWith}
 use Rattle.gate_modules.specs.Walked.{AtLeast, EndsBelow, HasBelow, EntryAgrees}
 use Rattle.gate_modules.specs.declared.ranges.Range.{Range}
 use Rattle.gate_modules.proofs.Criterion.{module_agrees, part_of_entry, part_of_reference, module_from, follows}
-use Rattle.gate_modules.proofs.Exchange.{exit, has_exit, part_found, nil_section, Found}
+use Rattle.gate_modules.proofs.Exchange.{exit, has_exit, part_found, Found}
 use Rattle.gate_modules.proofs.Numbers.{not_empty}
 use Rattle.gate_modules.proofs.Sections.{section_end}
 use Rattle.gate_modules.proofs.Splitting.{some_has}
@@ -65,7 +66,7 @@ two_sets (x ∷ y ∷ hs) f l = record {
 module _ (s : Stored) (sound : IsSoundStore s) (root : ℕ) (root_in : IsNumber s root) (r : Range) (es : List ℕ) (entries : AreEntries s r.from root es) where
   -- without an event there is no part
   pub none_is_module : AllEnd s r.to es → IsModule (family s root) r → ⊥
-  none_is_module ends m = elim (entries.covered f.p) [ inl none ↦ there (ap (section r.to m.one) none ∙ nil_section r.to m.one) | inr some ↦ by some.0 some.2 (ends.each some.0 some.1) ]
+  none_is_module ends m = elim (entries.covered f.p) [ inl none ↦ there (ap (section r.to m.one) none ∙ section-nil r.to m.one) | inr some ↦ by some.0 some.2 (ends.each some.0 some.1) ]
     where
       f : Found s sound root root_in r m.one
       f = part_found s sound root root_in r m.one m.one_is
@@ -85,7 +86,7 @@ module _ (s : Stored) (sound : IsSoundStore s) (root : ℕ) (root_in : IsNumber 
   section_of e x i h = by (entries.sections e i)
     where
       by : IsSectionAt r.from (family s root) (family s e) → Section e
-      by (empty z) = absurd (not_empty s sound x h.exit.some h.exit.inside (sym h.exit.is ∙ ap (section r.to h.exit.taken) z ∙ nil_section r.to h.exit.taken))
+      by (empty z) = absurd (not_empty s sound x h.exit.some h.exit.inside (sym h.exit.is ∙ ap (section r.to h.exit.taken) z ∙ section-nil r.to h.exit.taken))
       by (taken p is) = record { p = p; is = is }
 
   module _ (e0 y : ℕ) (e0_in : IsOneOf es e0) (h0 : IsEntryExit s r.to e0 y) where
@@ -131,7 +132,3 @@ module _ (s : Stored) (sound : IsSoundStore s) (root : ℕ) (root_in : IsNumber 
 
         within : (a : List ℕ) → Within a a
         within a = record { each = λ e i. i }
-
-pub length_map : {A B : Type 0} (f : A → B) (xs : List A) → length (map f xs) ≡ length xs
-length_map f [] = refl
-length_map f (x ∷ xs) = ap suc (length_map f xs)

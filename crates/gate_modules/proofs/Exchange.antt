@@ -1,25 +1,25 @@
 -- A unit is a module exactly where its parts go on alike in all sections at its range.
 use Rattle.std.proofs.Common.{◌≡◌, ◌≢◌, ◌⊎◌, inl, inr, ℕ, zero, suc, ◌<◌, ◌≤◌, Bool, true, false, not, ◌&&◌, List, [], ◌∷◌, ◌++◌, drop, length, nat_lt, refl, sym, ap, ap₂, ◌∙◌, subst, arith, true≢false}
 use Rattle.std.specs.List.{AllByRecursion}
-use Rattle.std.proofs.lemmas.Bool.{cases_lt}
+use Rattle.std.proofs.lemmas.Bool.{cases_lt, ltb-false, le-ltb, ltb-true, lt-ltb}
 use Rattle.zdd_families.specs.Families.{Family, has, IsInOrder}
 use Rattle.zdd_families.specs.Sections.{section, below}
 use Rattle.zdd_families.proofs.Ascending.{IsAscending, is_ascending}
 use Rattle.zdd_families.proofs.Laws.{each_of}
 use Rattle.zdd_families.proofs.Minimal.{member_of}
 use Rattle.zdd_families.proofs.OneList.{same_sets}
-use Rattle.zdd_families.proofs.Sections.{AtLeast, section-with, section-low}
+use Rattle.zdd_families.proofs.Sections.{AtLeast, section-with, section-low, section-nil}
 use Rattle.zdd_nodes.specs.Nodes.{Stored, family, IsNumber, IsNode, IsSoundStore}
 use Rattle.gate_modules.specs.Modules.{lies, inside, outside, joined, IsPart, IsRest, IsModule}
 use Rattle.gate_modules.specs.declared.ranges.Range.{Range}
 use Rattle.gate_modules.proofs.Sections.{section_end, section_lower, by_start, ByStart}
 use Rattle.gate_modules.proofs.Sections.ByStart.{with_it, without_it}
 use Rattle.gate_modules.proofs.Ending.{ends_at_node}
-use Rattle.gate_modules.proofs.Splitting.{AllBelow, all_append, all_left, all_weaker, all_both, all_filter, all_passed, filter_all, filter_none, filter_both, is_below, not_below, below_is, not_below_is, below_all, cut, has_section, in_section, has_some}
+use Rattle.gate_modules.proofs.Splitting.{AllBelow, all_append, all_left, all_weaker, all_both, all_filter, all_passed, filter_all, filter_none, filter_both, below_all, cut, has_section, in_section, has_some}
 
 -- the range's test, number by number
 pub lies_in : (r : Range) (x : ℕ) → r.from ≤ x → x < r.to → lies r x ≡ true
-lies_in r x a b = ap₂ (λ p q. not p && q) (not_below x r.from a) (is_below x r.to b)
+lies_in r x a b = ap₂ (λ p q. not p && q) (le-ltb x r.from a) (lt-ltb x r.to b)
 
 pub in_lies : (r : Range) (x : ℕ) → lies r x ≡ true → (r.from ≤ x) × (x < r.to)
 in_lies r x h = step (nat_lt x r.from) refl (nat_lt x r.to) refl
@@ -27,13 +27,13 @@ in_lies r x h = step (nat_lt x r.from) refl (nat_lt x r.to) refl
     step : (p : Bool) → nat_lt x r.from ≡ p → (q : Bool) → nat_lt x r.to ≡ q → (r.from ≤ x) × (x < r.to)
     step true e q k = absurd (true≢false (sym h ∙ ap (λ p. not p && nat_lt x r.to) e))
     step false e false k = absurd (true≢false (sym h ∙ ap₂ (λ p q. not p && q) e k))
-    step false e true k = (not_below_is x r.from e, below_is x r.to k)
+    step false e true k = (ltb-false x r.from e, ltb-true x r.to k)
 
 pub not_low : (r : Range) (x : ℕ) → x < r.from → lies r x ≡ false
-not_low r x l = ap (λ p. not p && nat_lt x r.to) (is_below x r.from l)
+not_low r x l = ap (λ p. not p && nat_lt x r.to) (lt-ltb x r.from l)
 
 pub not_high : (r : Range) (x : ℕ) → r.to ≤ x → lies r x ≡ false
-not_high r x l = ap (λ q. not (nat_lt x r.from) && q) (not_below x r.to l) ∙ and_no (not (nat_lt x r.from))
+not_high r x l = ap (λ q. not (nat_lt x r.from) && q) (le-ltb x r.to l) ∙ and_no (not (nat_lt x r.from))
   where
     and_no : (b : Bool) → (b && false) ≡ false
     and_no true = refl
@@ -77,8 +77,8 @@ module _ (r : Range) (p part q : List ℕ) (t : Three r p part q) where
   joined_three other =
       let l = λ (x : ℕ). nat_lt x r.from in
       let h = λ (x : ℕ). not (nat_lt x r.from) in
-      let q_high = all_weaker (λ x. r.to ≤ x) (λ x. nat_lt x r.from ≡ false) (λ x k. not_below x r.from (omega (arith, k, t.not_empty))) q t.high in
-      let p_low = all_weaker (λ x. x < r.from) (λ x. nat_lt x r.from ≡ true) (λ x k. is_below x r.from k) p t.low in
+      let q_high = all_weaker (λ x. r.to ≤ x) (λ x. nat_lt x r.from ≡ false) (λ x k. le-ltb x r.from (omega (arith, k, t.not_empty))) q t.high in
+      let p_low = all_weaker (λ x. x < r.from) (λ x. nat_lt x r.from ≡ true) (λ x k. lt-ltb x r.from k) p t.low in
       ap₂ (λ a b. a ++ (other ++ b))
       (filter_both l p q ∙ ap₂ (λ a b. a ++ b) (filter_all l p p_low) (filter_none l q q_high) ∙ append_nil p)
       (filter_both h p q ∙ ap₂ (λ a b. a ++ b) (filter_none h p (all_weaker (λ x. nat_lt x r.from ≡ true) (λ x. h x ≡ false) (λ x e. ap not e) p p_low)) (filter_all h q (all_weaker (λ x. nat_lt x r.from ≡ false) (λ x. h x ≡ true) (λ x e. ap not e) q q_high)))
@@ -125,11 +125,6 @@ cuts r set a n =
       };
     }
 
--- ---- sections of a stored family
-pub nil_section : (i : ℕ) (p : List ℕ) → section i p [] ≡ []
-unfolding section
-nil_section i p = refl
-
 unit_section : (i x : ℕ) (p : List ℕ) → section i (x ∷ p) ([] ∷ []) ≡ []
 unfolding section
 unit_section i x p = refl
@@ -138,7 +133,7 @@ module _ (s : Stored) (sound : IsSoundStore s) where
   -- each section of a stored family is stored
   section_below : (bound i : ℕ) (p : List ℕ) (n : ℕ) → n < bound → IsNumber s n → (k : ℕ) × IsNumber s k × (section i p (family s n) ≡ family s k)
   section_below zero i p n l inside = absurd (omega (arith, l))
-  section_below (suc bound) i p zero l inside = (0, inside, nil_section i p)
+  section_below (suc bound) i p zero l inside = (0, inside, section-nil i p)
   section_below (suc bound) i [] (suc zero) l inside = (1, inside, section-low i ([] ∷ []) (tt, tt))
   section_below (suc bound) i (x ∷ p) (suc zero) l inside = (0, omega (arith, inside), unit_section i x p)
   section_below (suc bound) i p (suc (suc n)) l inside =

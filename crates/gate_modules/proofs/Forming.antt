@@ -6,10 +6,11 @@ use Rattle.std.proofs.lemmas.List.Folds.{list_any-append}
 use Rattle.ar_base.specs.Lists.{IsOneOf}
 use Rattle.ar_base.proofs.Standing.{one_first, one_rest, one_cases, one_none, stands_map_back, one_here, stands_map}
 use Rattle.zdd_families.specs.Families.{Family, same, node, IsAbove}
-use Rattle.zdd_families.proofs.Laws.{IsAbove_set, same-true, same-above, eqb-refl}
+use Rattle.zdd_families.specs.Behind.{behind}
+use Rattle.zdd_families.proofs.Laws.{IsAbove_set, same-true, same-above, eqb-refl, each_of}
+use Rattle.zdd_families.proofs.Behind.{behind_node}
 use Rattle.gate_modules.specs.Forms.{AreOfDifferentUnits}
 use Rattle.gate_modules.specs.Modules.{lies}
-use Rattle.gate_modules.specs.Parts.{behind}
 use Rattle.gate_modules.specs.Shortened.{Form, touches, is_covered, short_form, units_where, same_form, once, numbers}
 use Rattle.ar_base.specs.Numbers.{EventId}
 use Rattle.zdd_nodes.specs.Nodes.{Stored, family}
@@ -17,7 +18,6 @@ use Rattle.gate_modules.specs.Walked.{AtLeast}
 use Rattle.gate_modules.specs.declared.ranges.Range.{Range}
 use Rattle.gate_modules.proofs.Exchange.{AllIn, not_high}
 use Rattle.gate_modules.proofs.Once.{is_new, repeated, once_apart, once_repeated}
-use Rattle.gate_modules.proofs.Parting.{behind_node}
 use Rattle.gate_modules.proofs.Splitting.{filter_both, filter_none, all_weaker, all_filter}
 
 -- ---- tests of the ranges
@@ -121,10 +121,6 @@ all_behind P p (s ∷ f) h = (h.0, all_behind P p f h.1)
 every : (P : List ℕ → Type 0) (f : Family) → ((s : List ℕ) → P s) → AllByRecursion P f
 every P [] h = tt
 every P (s ∷ f) h = (h s, every P f h)
-
-each_of : (P Q : List ℕ → Type 0) → ((s : List ℕ) → P s → Q s) → (f : Family) → AllByRecursion P f → AllByRecursion Q f
-each_of P Q h [] a = tt
-each_of P Q h (s ∷ f) a = (h s a.0, each_of P Q h f a.1)
 
 module _ (chosen : List Range) (d : AreOfDifferentUnits chosen) (taken : List ℕ) (v : ℕ) where
   -- the forms of these sets behind the taken events and v, and of those behind the taken events

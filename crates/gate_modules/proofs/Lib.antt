@@ -4,7 +4,7 @@ mod Answering
 mod Tables
 mod Ending
 mod Splitting
-mod Exchange
+pub mod Exchange
 mod Criterion
 mod Entering
 mod Parting

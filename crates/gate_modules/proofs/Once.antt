@@ -2,7 +2,8 @@
 use Rattle.std.proofs.Common.{◌≡◌, ℕ, zero, suc, Bool, true, false, not, cond, ◌||◌, ◌&&◌, List, [], ◌∷◌, ◌++◌, filter, refl, sym, ap, ap₂, ◌∙◌}
 use Rattle.std.specs.List.{AllByRecursion, list_any}
 use Rattle.std.proofs.lemmas.List.Elements.{filter-append}
-use Rattle.zdd_families.proofs.Laws.{same-refl}
+use Rattle.std.proofs.Math.Bool.{or-true}
+use Rattle.zdd_families.proofs.Laws.{same-refl, not-or}
 use Rattle.gate_modules.specs.Shortened.{Form, same_form, once}
 
 -- the form is none of these
@@ -43,12 +44,6 @@ pub all_once : (P : Form → Type 0) (xs : List Form) → AllByRecursion P xs �
 all_once P [] h = tt
 all_once P (a ∷ xs) h = (h.0, forms_kept P (λ b. not (same_form a b)) (once xs) (all_once P xs h.1))
 
-not_or : (a b : Bool) → not (a || b) ≡ (not b && not a)
-not_or true true = refl
-not_or true false = refl
-not_or false true = refl
-not_or false false = refl
-
 -- forms in front: those behind that are new stay
 pub once_append : (xs ys : List Form) → once (xs ++ ys) ≡ once xs ++ filter (is_new xs) (once ys)
 once_append [] ys = sym (filter_all_forms (is_new []) (once ys) (every (once ys)))
@@ -59,15 +54,11 @@ once_append [] ys = sym (filter_all_forms (is_new []) (once ys) (every (once ys)
 once_append (a ∷ xs) ys =
     ap (λ z. a ∷ filter (λ b. not (same_form a b)) z) (once_append xs ys)
     ∙ ap (λ z. a ∷ z) (filter-append (λ b. not (same_form a b)) (once xs) (filter (is_new xs) (once ys))
-    ∙ ap (λ z. filter (λ b. not (same_form a b)) (once xs) ++ z) (filter_twice (λ b. not (same_form a b)) (is_new xs) (is_new (a ∷ xs)) (λ b. not_or (same_form a b) (list_any (λ c. same_form c b) xs)) (once ys)))
+    ∙ ap (λ z. filter (λ b. not (same_form a b)) (once xs) ++ z) (filter_twice (λ b. not (same_form a b)) (is_new xs) (is_new (a ∷ xs)) (λ b. not-or (same_form a b) (list_any (λ c. same_form c b) xs)) (once ys)))
 
 -- forms that differ
 pub once_apart : (xs ys : List Form) → AllByRecursion (λ b. is_new xs b ≡ true) ys → once (xs ++ ys) ≡ once xs ++ once ys
 once_apart xs ys h = once_append xs ys ∙ ap (λ z. once xs ++ z) (filter_all_forms (is_new xs) (once ys) (all_once (λ b. is_new xs b ≡ true) ys h))
-
-or_true : (a : Bool) → (a || true) ≡ true
-or_true true = refl
-or_true false = refl
 
 each_known : (xs : List Form) → AllByRecursion (λ b. is_new xs b ≡ false) xs
 each_known xs = known xs xs (λ b h. h)
@@ -77,7 +68,7 @@ each_known xs = known xs xs (λ b h. h)
 
     known : (xs ys : List Form) → ((b : Form) → list_any (λ c. same_form c b) ys ≡ true → list_any (λ c. same_form c b) xs ≡ true) → AllByRecursion (λ b. is_new xs b ≡ false) ys
     known xs [] h = tt
-    known xs (a ∷ ys) h = (ap not (h a (any_here a ys)), known xs ys (λ b k. h b (ap (λ z. same_form a b || z) k ∙ or_true (same_form a b))))
+    known xs (a ∷ ys) h = (ap not (h a (any_here a ys)), known xs ys (λ b k. h b (ap (λ z. same_form a b || z) k ∙ or-true (same_form a b))))
 
 -- the list k times and then some more
 abbrev pub repeated : ℕ → List Form → List Form → List Form

@@ -6,22 +6,21 @@ use Rattle.std.proofs.lemmas.List.Folds.{list_any-append}
 use Rattle.std.proofs.lemmas.Bool.Decides.{nat_tests}
 use Rattle.zdd_families.specs.Families.{Family, same, has, node, IsAbove}
 use Rattle.zdd_families.specs.Sections.{section}
+use Rattle.zdd_families.specs.Behind.{behind}
 use Rattle.zdd_families.proofs.Laws.{IsAbove_set, has_each, each_of, has-with, list_any-map, list_any-none, every}
-use Rattle.zdd_families.proofs.Sections.{section-with, section-above}
+use Rattle.zdd_families.proofs.Sections.{section-with, section-above, section-nil}
+use Rattle.zdd_families.proofs.Behind.{behind_node}
 use Rattle.zdd_nodes.specs.Nodes.{Stored, family, IsNumber, IsSoundStore}
 use Rattle.zdd_nodes.proofs.Order.{IsFamily-node, IsFamily-nil, IsFamily-unit}
 use Rattle.gate_modules.specs.Walked.{EndsBelow, HasBelow}
 use Rattle.ar_base.specs.Numbers.{EventId}
 use Rattle.gate_modules.specs.Shortened.{numbers, set_of}
 use Rattle.gate_modules.specs.declared.ranges.EventSet.{EventSet}
-use Rattle.gate_modules.specs.Parts.{behind, AreHeads, AreSomeHeads, AddsHeads, AddsSomeHeads}
+use Rattle.gate_modules.specs.Parts.{AreHeads, AreSomeHeads, AddsHeads, AddsSomeHeads}
 use Rattle.gate_modules.proofs.Sections.{starts, section_lower, section_end, by_start, ByStart}
 use Rattle.gate_modules.proofs.Sections.ByStart.{with_it, without_it}
-use Rattle.gate_modules.proofs.Exchange.{nil_section}
 use Rattle.gate_modules.proofs.Numbers.{not_empty}
-
-eqb_flip : (x y : ℕ) → eqb x y ≡ eqb y x
-eqb_flip x y = grind (arith, nat_tests)
+use Rattle.gate_diagrams.proofs.Filters.{eqb_turned}
 
 pub all_from_has : (P : List ℕ → Type 0) (f : Family) → ((a : List ℕ) → has f a ≡ true → P a) → AllByRecursion P f
 all_from_has P f h = each_of (λ s. has f s ≡ true) P h f (has_each f)
@@ -33,7 +32,7 @@ has_lower v lo hi s a =
   where
     other : (s : List ℕ) → starts v s ≡ false → (t : List ℕ) → same s (v ∷ t) ≡ false
     other [] a t = refl
-    other (x ∷ s) a t = ap (λ c. c && same s t) (eqb_flip x v ∙ a)
+    other (x ∷ s) a t = ap (λ c. c && same s t) (eqb_turned x v ∙ a)
 
 heads_above : (b v : ℕ) (f hs : Family) → IsAbove v f → ((a : List ℕ) → has hs a ≡ true → section b a f ≢ []) → IsAbove v hs
 heads_above b v f hs up sound = all_from_has (IsAbove_set v) hs (λ a h. elim (section-above v b a f up) [ inl none ↦ absurd (sound a h none) | inr above ↦ above ])
@@ -78,7 +77,7 @@ module _ (b v : ℕ) (lo hi L H : Family) (l : v < b) (lo_up : IsAbove v lo) (hi
         whole _ (without_it p s) m n = has_lower v L H p s ∙ ll.whole p m (λ e. n (section_lower v b p lo hi l s ∙ e))
 
 no_heads : (b : ℕ) (f : Family) → f ≡ [] → AreHeads b f []
-no_heads b f z = record { is_family = IsFamily-nil; sound = λ a h. absurd (true≢false (sym h)); whole = λ a n. absurd (n (ap (section b a) z ∙ nil_section b a)) }
+no_heads b f z = record { is_family = IsFamily-nil; sound = λ a h. absurd (true≢false (sym h)); whole = λ a n. absurd (n (ap (section b a) z ∙ section-nil b a)) }
 
 one_head : (b : ℕ) (f : Family) → f ≢ [] → ((a : List ℕ) → ((a ≡ []) × (section b a f ≡ f)) ⊎ ((a ≢ []) × (section b a f ≡ []))) → AreHeads b f ([] ∷ [])
 one_head b f n ends = record { is_family = IsFamily-unit; sound = sound; whole = whole }
@@ -89,17 +88,6 @@ one_head b f n ends = record { is_family = IsFamily-unit; sound = sound; whole =
 
     whole : (a : List ℕ) → section b a f ≢ [] → has ([] ∷ []) a ≡ true
     whole a m = elim (ends a) [ inl t ↦ subst (λ z. has ([] ∷ []) z ≡ true) (sym t.0) refl | inr t ↦ absurd (m t.1) ]
-
-pub behind_node : (p : List ℕ) (v : ℕ) (L H : Family) → behind p (node v L H) ≡ behind (p ++ v ∷ []) H ++ behind p L
-behind_node p v L H = map-append (λ t. p ++ t) (map (λ t. v ∷ t) H) L ∙ ap (λ z. z ++ behind p L) (each H)
-  where
-    each : (H : Family) → behind p (map (λ t. v ∷ t) H) ≡ behind (p ++ v ∷ []) H
-    each [] = refl
-    each (t ∷ H) = ap₂ (λ a b. a ∷ b) (sym (append_assoc p (v ∷ []) t)) (each H)
-
-pub behind_none : (f : Family) → behind [] f ≡ f
-behind_none [] = refl
-behind_none (t ∷ f) = ap (λ z. t ∷ z) (behind_none f)
 
 module _ (s : Stored) (b : ℕ) where
   pub adds_heads : (n v lo hi : ℕ) (taken more : List ℕ) (old mid new : Family) → HasBelow s b n v lo hi → more ≡ taken ++ v ∷ [] → AddsHeads s b hi more old mid → AddsHeads s b lo taken mid new → AddsHeads s b n taken old new

@@ -4,12 +4,8 @@ use Rattle.std.specs.List.{AllByRecursion}
 use Rattle.zdd_families.specs.Families.{Family, same, node, IsAbove}
 use Rattle.zdd_families.specs.Sections.{below, section}
 use Rattle.zdd_families.proofs.Laws.{IsAbove_set, filter-node, filter-none, every, each_of, same-refl, eqb-refl, eqb-above}
-use Rattle.zdd_families.proofs.Sections.{AtLeast, section-with, section-above, section-low, below-low}
+use Rattle.zdd_families.proofs.Sections.{AtLeast, section-with, section-above, section-low, below-low, section-low_none}
 use Rattle.gate_modules.specs.Ends.{Alike, Agree, AgreeSome}
-
-section-low_none : (i x : ℕ) (p : List ℕ) (f : Family) → AllByRecursion (AtLeast i) f → section i (x ∷ p) f ≡ []
-unfolding section
-section-low_none i x p f a = ap (map (drop (length (x ∷ p)))) (filter-none (λ s. same (below i s) (x ∷ p)) f (each_of (AtLeast i) (λ s. same (below i s) (x ∷ p) ≡ false) (λ s k. ap (λ y. same y (x ∷ p)) (below-low i s k)) f a))
 
 -- whether the taken events begin with v
 abbrev pub starts : ℕ → List ℕ → Bool

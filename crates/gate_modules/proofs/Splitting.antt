@@ -2,11 +2,13 @@
 use Rattle.std.proofs.Common.{◌≡◌, ◌≢◌, ℕ, ◌<◌, ◌≤◌, Bool, true, false, cond, ◌&&◌, ◌||◌, eqb, List, [], ◌∷◌, ◌++◌, length, map, drop, filter, nat_lt, lt-ltb, refl, sym, ap, ap₂, ◌∙◌, subst, arith, true≢false}
 use Rattle.std.specs.List.{AllByRecursion}
 use Rattle.std.proofs.lemmas.Bool.Decides.{nat_tests}
+use Rattle.std.proofs.lemmas.Bool.{ltb-false, ltb-true}
 use Rattle.zdd_families.specs.Families.{Family, same, has}
 use Rattle.zdd_families.specs.Sections.{below, section}
 use Rattle.zdd_families.proofs.Ascending.{IsAscending}
 use Rattle.zdd_families.proofs.Laws.{IsAbove_set, same-refl, same-true, any_more, eqb-above}
 use Rattle.zdd_families.proofs.Sections.{AtLeast, below-low}
+use Rattle.gate_diagrams.proofs.Filters.{eqb_turned}
 
 -- each number of the list is below the bound
 abbrev pub AllBelow : ℕ → List ℕ → Type 0
@@ -58,21 +60,9 @@ filter_both q [] t = refl
 filter_both q (x ∷ s) t = elim (q x) as (λ b. cond b (x ∷ filter q (s ++ t)) (filter q (s ++ t)) ≡ cond b (x ∷ filter q s) (filter q s) ++ filter q t)
     [ true ↦ ap (λ r. x ∷ r) (filter_both q s t) | false ↦ filter_both q s t ]
 
-pub is_below : (x i : ℕ) → x < i → nat_lt x i ≡ true
-is_below x i h = lt-ltb x i h
-
-pub not_below : (x i : ℕ) → i ≤ x → nat_lt x i ≡ false
-not_below x i h = grind (arith, nat_tests)
-
-pub below_is : (x i : ℕ) → nat_lt x i ≡ true → x < i
-below_is x i h = grind (arith, nat_tests)
-
-pub not_below_is : (x i : ℕ) → nat_lt x i ≡ false → i ≤ x
-not_below_is x i h = grind (arith, nat_tests)
-
 -- ---- a set cut at a number
 pub below_all : (i : ℕ) (s : List ℕ) → AllBelow i (below i s)
-below_all i s = all_weaker (λ x. nat_lt x i ≡ true) (λ x. x < i) (λ x h. below_is x i h) (below i s) (all_passed (λ x. nat_lt x i) s)
+below_all i s = all_weaker (λ x. nat_lt x i ≡ true) (λ x. x < i) (λ x h. ltb-true x i h) (below i s) (all_passed (λ x. nat_lt x i) s)
 
 pub above_at_least : (i x : ℕ) (s : List ℕ) → i ≤ x → IsAbove_set x s → AtLeast i s
 above_at_least i x [] l a = tt
@@ -95,7 +85,7 @@ cut i (x ∷ s) a = step (cut i s a.1) (nat_lt x i) refl
           at_least = subst (λ w. AtLeast i (drop (length w) (x ∷ s))) (sym w) c.at_least;
         }
     step c false e =
-        let l = not_below_is x i e in
+        let l = ltb-false x i e in
         let all : AtLeast i (x ∷ s) = (l, above_at_least i x s l a.0) in
         let none = below-low i (x ∷ s) all in
         record { is = subst (λ w. x ∷ s ≡ w ++ drop (length w) (x ∷ s)) (sym none) refl; at_least = subst (λ w. AtLeast i (drop (length w) (x ∷ s))) (sym none) all }
@@ -105,12 +95,6 @@ and_right : (a b c : Bool) → (a && (b && c)) ≡ ((a && b) && c)
 and_right true b c = refl
 and_right false b c = refl
 
-eqb_flip : (x y : ℕ) → eqb x y ≡ eqb y x
-eqb_flip x y = grind (arith, nat_tests)
-
-apart : (x y : ℕ) → x < y → eqb x y ≡ false
-apart x y h = eqb-above x y h
-
 -- a set is p and then s exactly where its members below the number are p and the others s
 same_cut : (i : ℕ) (p s t : List ℕ) → AllBelow i p → AtLeast i s → IsAscending t → same (p ++ s) t ≡ (same (below i t) p && same s (drop (length p) t))
 same_cut i [] s [] b a u = refl
@@ -118,14 +102,14 @@ same_cut i [] s (x ∷ t) b a u = step (nat_lt x i) refl
   where
     missing : (s : List ℕ) → AtLeast i s → x < i → same s (x ∷ t) ≡ false
     missing [] a l = refl
-    missing (y ∷ s) a l = ap (λ c. c && same s t) (eqb_flip y x ∙ apart x y (omega (arith, l, a.0)))
+    missing (y ∷ s) a l = ap (λ c. c && same s t) (eqb_turned y x ∙ eqb-above x y (omega (arith, l, a.0)))
 
     step : (c : Bool) → nat_lt x i ≡ c → same s (x ∷ t) ≡ (same (below i (x ∷ t)) [] && same s (x ∷ t))
     step true e =
         let w : below i (x ∷ t) ≡ x ∷ below i t = ap (λ b. cond b (x ∷ below i t) (below i t)) e in
-        missing s a (below_is x i e) ∙ sym (ap (λ w. same w [] && same s (x ∷ t)) w)
+        missing s a (ltb-true x i e) ∙ sym (ap (λ w. same w [] && same s (x ∷ t)) w)
     step false e =
-        let l = not_below_is x i e in
+        let l = ltb-false x i e in
         let none = below-low i (x ∷ t) (l, above_at_least i x t l u.0) in
         sym (ap (λ w. same w [] && same s (x ∷ t)) none)
 same_cut i (y ∷ p) s [] b a u = refl
@@ -135,12 +119,12 @@ same_cut i (y ∷ p) s (x ∷ t) b a u = step (same_cut i p s t b.1 a u.1) (nat_
         → (eqb y x && same (p ++ s) t) ≡ (same (below i (x ∷ t)) (y ∷ p) && same s (drop (length p) t))
     step ih true e =
         let w : below i (x ∷ t) ≡ x ∷ below i t = ap (λ b. cond b (x ∷ below i t) (below i t)) e in
-        ap₂ (λ c d. c && d) (eqb_flip y x) ih ∙ and_right (eqb x y) (same (below i t) p) (same s (drop (length p) t))
+        ap₂ (λ c d. c && d) (eqb_turned y x) ih ∙ and_right (eqb x y) (same (below i t) p) (same s (drop (length p) t))
         ∙ sym (ap (λ w. same w (y ∷ p) && same s (drop (length p) t)) w)
     step ih false e =
-        let l = not_below_is x i e in
+        let l = ltb-false x i e in
         let none = below-low i (x ∷ t) (l, above_at_least i x t l u.0) in
-        ap (λ c. c && same (p ++ s) t) (apart y x (omega (arith, l, b.0))) ∙ sym (ap (λ w. same w (y ∷ p) && same s (drop (length p) t)) none)
+        ap (λ c. c && same (p ++ s) t) (eqb-above y x (omega (arith, l, b.0))) ∙ sym (ap (λ w. same w (y ∷ p) && same s (drop (length p) t)) none)
 
 and_or : (a b c d : Bool) → (a ≡ true → d ≡ (b || c)) → (a ≡ false → d ≡ c) → d ≡ ((a && b) || c)
 and_or true b c d h k = h refl

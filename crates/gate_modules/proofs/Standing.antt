@@ -1,10 +1,12 @@
 -- The short forms of a family stand for it.
 use Rattle.std.proofs.Common.{◌≡◌, ℕ, Bool, true, false, not, ◌||◌, ◌&&◌, List, [], ◌∷◌, filter, map, refl, sym, ap, ap₂, ◌∙◌, subst, true≢false}
+use Rattle.std.proofs.lemmas.Bool.{or_left, false_from_ne_true}
 use Rattle.std.specs.List.{AllByRecursion, list_any}
 use Rattle.ar_base.specs.Lists.{IsOneOf, Along}
 use Rattle.ar_base.specs.Lists.Along.{none, one_and}
 use Rattle.ar_base.specs.Sets.{Ascends}
 use Rattle.ar_base.proofs.Standing.{one_first, one_rest, one_here, stands_map, stands_map_back, along_on, along_back}
+use Rattle.ar_base.proofs.Truths.{alike}
 use Rattle.ar_firing.proofs.OneListing.{ascending_same}
 use Rattle.zdd_families.specs.Families.{Family, has, holds, IsFamily}
 use Rattle.zdd_families.proofs.Minimal.{member_of}
@@ -14,8 +16,9 @@ use Rattle.gate_modules.specs.Modules.{lies, inside, IsPart, IsModule, AreRanges
 use Rattle.gate_modules.specs.Shortened.{UnitSets, Form, touches, is_covered, short_form, once, IsModuleOf, IsShortened}
 use Rattle.gate_modules.specs.declared.ranges.Range.{Range}
 use Rattle.gate_modules.proofs.Choosing.{different_units}
-use Rattle.gate_modules.proofs.Choices.{holds_filter, any_event, event_any, filter_some, filtered, same_events, one_of_has, has_one_of, once_sound, once_whole, Apart, apart, apart_filter, covered_in_some, covered_touched, free, not_true, not_both, alike, or_left, and_no, parts_covered, Exchanged, exchange_all, recover, part_touches, inside_events}
+use Rattle.gate_modules.proofs.Choices.{holds_filter, any_event, event_any, filter_some, filtered, same_events, has_one_of, once_sound, once_whole, Apart, apart, apart_filter, covered_in_some, covered_touched, free, not_both, and_no, parts_covered, Exchanged, exchange_all, recover, part_touches, inside_events}
 use Rattle.gate_modules.proofs.Forming.{all_members, filter_same, passed_one, one_passes, covered_in}
+use Rattle.firable_families.proofs.Listing.{has_stands}
 
 module _ (f : Family) (up : AllByRecursion Ascends f) (chosen : List Range) (modules : List UnitSets) (sound : (c : Range) → IsOneOf chosen c → IsModule f c)
     (d : AreOfDifferentUnits chosen) (far : Apart chosen) (are : Along (IsModuleOf f) chosen modules) where
@@ -74,7 +77,7 @@ module _ (f : Family) (up : AllByRecursion Ascends f) (chosen : List Range) (mod
 
   comes_from : (s : List ℕ) → has f s ≡ true → ComesFrom modules forms s
   comes_from s h =
-      let i = one_of_has f s h in
+      let i = has_stands f s h in
       record {
         form = short_form chosen s;
         choice = map (λ r. inside r s) (touched s);
@@ -167,7 +170,7 @@ module _ (f : Family) (up : AllByRecursion Ascends f) (chosen : List Range) (mod
           by : (e : ℕ) (b : Bool) → is_covered chosen e ≡ b → holds e (free chosen s) ≡ holds e (free chosen t)
           by e true c = no_free e c ∙ sym (holds_filter e (λ x. not (is_covered chosen x)) t ∙ ap (λ z. not z && holds e t) c)
           by e false c =
-              let no : list_any (holds e) parts ≡ false = not_true (list_any (holds e) parts) (λ k. not_both (is_covered chosen e) (touched_covered e (parts_covered f (touched s) parts ps e k)) c) in
+              let no : list_any (holds e) parts ≡ false = false_from_ne_true (list_any (holds e) parts) (λ k. not_both (is_covered chosen e) (touched_covered e (parts_covered f (touched s) parts ps e k)) c) in
               sym (holds_filter e (λ x. not (is_covered chosen x)) t ∙ ap (λ z. not z && holds e t) c ∙ made e ∙ ap (λ z. z || holds e (free chosen s)) no)
 
       form_is : short_form chosen s ≡ short_form chosen t

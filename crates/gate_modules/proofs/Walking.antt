@@ -7,24 +7,24 @@ use Rattle.std.proofs.lemmas.List.{map-append}
 use Rattle.ar_base.specs.Lists.{IsOneOf}
 use Rattle.zdd_families.specs.Families.{Family, node, IsAbove}
 use Rattle.zdd_families.specs.Sections.{section}
+use Rattle.zdd_families.specs.Behind.{behind}
 use Rattle.zdd_families.proofs.Laws.{IsAbove_set, each_of}
-use Rattle.zdd_families.proofs.Sections.{section-with, section-low}
+use Rattle.zdd_families.proofs.Sections.{section-with, section-low, section-nil}
+use Rattle.zdd_families.proofs.Behind.{behind_none}
 use Rattle.zdd_nodes.specs.Nodes.{Stored, family, IsNumber, IsNode, IsSoundStore, HasHalves}
 use Rattle.gate_modules.specs.Entries.{IsReached, IsExit, IsEntryExit}
 use Rattle.gate_modules.specs.Entries.IsReached.{here, up, down}
 use Rattle.gate_modules.specs.Forms.{AreOfDifferentUnits, GoesOnAlike, IsFit, AddsForms, IsSkip}
 use Rattle.gate_modules.specs.Modules.{lies}
-use Rattle.gate_modules.specs.Parts.{behind}
 use Rattle.gate_modules.specs.Shortened.{Form, touches, is_covered, short_form, once}
 use Rattle.gate_modules.specs.Walked.{AtLeast, EndsBelow, HasBelow}
 use Rattle.gate_modules.specs.declared.ranges.Range.{Range}
 use Rattle.gate_modules.proofs.Deciding.{event_not_end, first_at_least}
 use Rattle.gate_modules.proofs.Ending.{ends_at_node, ends_at_leaf}
 use Rattle.gate_modules.proofs.Entering.{entry_exit_up}
-use Rattle.gate_modules.proofs.Exchange.{AllIn, lies_in, in_lies, nil_section}
+use Rattle.gate_modules.proofs.Exchange.{AllIn, lies_in, in_lies}
 use Rattle.gate_modules.proofs.Forming.{touches_both, uncovered_in, with_v, without_v, once_uncovered, once_covered}
 use Rattle.gate_modules.proofs.Numbers.{not_empty, lo_in, hi_in}
-use Rattle.gate_modules.proofs.Parting.{behind_none}
 use Rattle.gate_modules.proofs.Sections.{starts, section_lower, section_started, section_end}
 use Rattle.gate_modules.proofs.Splitting.{above_at_least}
 
@@ -32,7 +32,7 @@ use Rattle.gate_modules.proofs.Splitting.{above_at_least}
 late : (r : Range) (f : Family) → AllByRecursion (AtLeast r.from) f → AllByRecursion (AtLeast r.to) f → (p a : List ℕ) → a ≢ [] → section r.to a (section r.from p f) ≡ []
 late r f low high p a n = elim (section_end r.from p f low) [
   | inl whole ↦ elim (section_end r.to a f high) [ inl t ↦ absurd (n t.0) | inr t ↦ ap (section r.to a) whole.1 ∙ t.1 ]
-  | inr none ↦ ap (section r.to a) none.1 ∙ nil_section r.to a
+  | inr none ↦ ap (section r.to a) none.1 ∙ section-nil r.to a
 ]
 
 pub alike_late : (r : Range) (f : Family) → AllByRecursion (AtLeast r.from) f → AllByRecursion (AtLeast r.to) f → GoesOnAlike r f
@@ -62,7 +62,7 @@ alike_lower r v lo hi lo_up hi_up free g = elim (cases_lt v r.from) [
   where
     at : v < r.from → (p a b : List ℕ) → a ≢ [] → b ≢ [] → section r.to a (section r.from p lo) ≢ [] → section r.to b (section r.from p lo) ≢ [] → (c : Bool) → starts v p ≡ c
         → section r.to a (section r.from p lo) ≡ section r.to b (section r.from p lo)
-    at l p a b na nb sa sb true s = absurd (sa (ap (section r.to a) (section_started v r.from p lo lo_up s) ∙ nil_section r.to a))
+    at l p a b na nb sa sb true s = absurd (sa (ap (section r.to a) (section_started v r.from p lo lo_up s) ∙ section-nil r.to a))
     at l p a b na nb sa sb false s =
         let e = section_lower v r.from p lo hi l s in
         subst (λ z. section r.to a z ≡ section r.to b z) e (g.alike p a b na nb (λ z. sa (ap (section r.to a) (sym e) ∙ z)) (λ z. sb (ap (section r.to b) (sym e) ∙ z)))

@@ -4,9 +4,9 @@ use Rattle.std.specs.List.{AllByRecursion}
 use Rattle.ar_base.specs.Lists.{IsOneOf}
 use Rattle.zdd_families.specs.Families.{Family}
 use Rattle.zdd_families.specs.Sections.{section}
+use Rattle.zdd_families.specs.Behind.{behind}
 use Rattle.zdd_nodes.specs.Nodes.{Stored, family, IsNumber}
 use Rattle.gate_modules.specs.Modules.{lies}
-use Rattle.gate_modules.specs.Parts.{behind}
 use Rattle.gate_modules.specs.Shortened.{Form, touches, short_form, once}
 use Rattle.gate_modules.specs.Walked.{AtLeast, EndsBelow}
 use Rattle.gate_modules.specs.Entries.{IsReached}

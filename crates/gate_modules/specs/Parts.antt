@@ -2,11 +2,8 @@
 use Rattle.std.specs.Prelude.{◌≡◌, ◌≢◌, ℕ, true, List, [], ◌++◌, map}
 use Rattle.zdd_families.specs.Families.{Family, has, IsFamily}
 use Rattle.zdd_families.specs.Sections.{section}
+use Rattle.zdd_families.specs.Behind.{behind}
 use Rattle.zdd_nodes.specs.Nodes.{Stored, family}
-
--- the sets, each behind some events that were taken before
-abbrev pub behind : List ℕ → Family → Family
-behind p f = map (λ t. p ++ t) f
 
 -- these are the sets of events below the bound that sets of the family begin with
 pub record AreHeads (b : ℕ) (f heads : Family) : Type 0 where

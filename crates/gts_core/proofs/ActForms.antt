@@ -13,7 +13,6 @@ use Rattle.typed_expr.proofs.Renaming.{renames_turned, renames_joined}
 use Rattle.ar_meaning.specs.Systems as s
 use Rattle.ar_meaning.specs.Image.{Conditions_rename, Assign_renames}
 use Rattle.ar_meaning.specs.Image as i
-use Rattle.ar_meaning.proofs.ImageWays.{along_append}
 use Rattle.gts_core.specs.declared.bound.Act.{Act, Skip, Set, out-Act, roll-Act, out-roll-Act}
 use Rattle.gts_core.specs.declared.bound.Act.TheOpen as form
 use Rattle.gts_core.specs.declared.bound.Act.TheOpen.{Act-F}
@@ -21,6 +20,7 @@ use Rattle.gts_core.specs.declared.bound.Act.TheFolds.{fold_out-Act, map-Act}
 use Rattle.gts_core.specs.declared.bound.Act.TheViews.{If, All, outs-If, outs-All}
 use Rattle.gts_core.specs.declared.system.Assign.{Assign}
 use Rattle.ar_base.specs.Numbers.{VarId}
+use Rattle.ar_base.proofs.Items.{along_append}
 use Rattle.gts_core.specs.View.{numbered, assign_of}
 use Rattle.gts_core.specs.Copies.{IsCopy}
 use Rattle.gts_core.specs.Bound.{Conditions, act_step, assigns_under, AreNumbers, AreAssigns, place_step, places_of_act, places_in, Gives, GiveAll, AreConditionCopies, IsUnder}
@@ -29,11 +29,11 @@ use Rattle.gts_core.proofs.Numbering.{IsNumber, renames_numbered, copy_numbered}
 arm : (act : Act) (x : Act-F Act) → out-Act act ≡ x → assigns_under act ≡ act_step (map-Act Act (Conditions → List (s.Assign ℕ)) assigns_under x)
 arm act x e = fold_out-Act (Conditions → List (s.Assign ℕ)) act_step act ∙ ap (λ (y : Act-F Act). act_step (map-Act Act (Conditions → List (s.Assign ℕ)) assigns_under y)) e
 
-opened_skip : out-Act Skip ≡ form.Skip
+pub opened_skip : out-Act Skip ≡ form.Skip
 unfolding roll-Act out-Act denote.Hole.Carrier.roll
 opened_skip = out-roll-Act form.Skip
 
-opened_set : (x : VarId) (e : Expr VarId) (p : Place) → out-Act (Set x e p) ≡ form.Set x e p
+pub opened_set : (x : VarId) (e : Expr VarId) (p : Place) → out-Act (Set x e p) ≡ form.Set x e p
 unfolding roll-Act out-Act denote.Hole.Carrier.roll
 opened_set x e p = out-roll-Act (form.Set x e p)
 
@@ -58,10 +58,10 @@ all_is : (act : Act) (es : Vec Act Global) → act ≡ All es → (cs : Conditio
 all_is act es j cs = at_conditions (arm act (form.All es) (ap out-Act j ∙ outs-All es)) cs ∙ each_is es.items cs
 
 -- places
-placed : (act : Act) (x : Act-F Act) → out-Act act ≡ x → places_of_act act ≡ place_step (map-Act Act (List Place) places_of_act x)
+pub placed : (act : Act) (x : Act-F Act) → out-Act act ≡ x → places_of_act act ≡ place_step (map-Act Act (List Place) places_of_act x)
 placed act x e = fold_out-Act (List Place) place_step act ∙ ap (λ (y : Act-F Act). place_step (map-Act Act (List Place) places_of_act y)) e
 
-each_placed : (acts : List Act) → flat_map (λ (ps : List Place). ps) (map places_of_act acts) ≡ flat_map places_of_act acts
+pub each_placed : (acts : List Act) → flat_map (λ (ps : List Place). ps) (map places_of_act acts) ≡ flat_map places_of_act acts
 each_placed [] = refl
 each_placed (a ∷ acts) = ap (λ z. places_of_act a ++ z) (each_placed acts)
 
@@ -190,7 +190,3 @@ give_places act when old new j g = ap places_in (g.is ∙ ap (λ z. z ++ g.added
 -- the same instruction under the same conditions
 pub gives_as : (x y : Act) (xs ys : List (Expr VarId × Bool)) (old new : List Assign) → x ≡ y → xs ≡ ys → Gives x xs old new → Gives y ys old new
 gives_as x y xs ys old new e j g = subst (λ z. Gives y z old new) j (subst (λ z. Gives z xs old new) e g)
-
-pub on_ok : {T E P Q : Type 0} (r : Result T E) → (P → Q) → OnOk r P → OnOk r Q
-on_ok (Ok x) f p = f p
-on_ok (Err e) f p = p

@@ -9,25 +9,18 @@ use Rattle.typed_expr.specs.declared.expr.Relation.{Relation}
 use Rattle.typed_expr.specs.declared.expr.Expr.{Expr, Constant, Variable, out-Expr, roll-Expr, out-roll-Expr}
 use Rattle.typed_expr.specs.declared.expr.Expr.TheOpen as form
 use Rattle.typed_expr.specs.declared.expr.Expr.TheViews.{Not, All, Any, Compare, Sum, Product, Least, Greatest, Count, Choose, outs-Not, outs-All, outs-Any, outs-Compare, outs-Sum, outs-Product, outs-Least, outs-Greatest, outs-Count, outs-Choose}
+use Rattle.typed_expr.proofs.Opened.{opened-constant, opened-variable}
 use Rattle.ar_base.specs.Numbers.{VarId}
 use Rattle.gts_core.specs.Copies.{IsSame, IsCopy, AreCopies, AreTermCopies, AreCaseCopies}
-
-opened_constant : (v : Value) → out-Expr VarId (Constant v) ≡ form.Constant v
-unfolding roll-Expr out-Expr denote.Hole.Carrier.roll
-opened_constant v = out-roll-Expr VarId (form.Constant v)
-
-opened_variable : (x : VarId) → out-Expr VarId (Variable x) ≡ form.Variable x
-unfolding roll-Expr out-Expr denote.Hole.Carrier.roll
-opened_variable x = out-roll-Expr VarId (form.Variable x)
 
 as_copy : (e f : Expr VarId) (x y : Level VarId) → out-Expr VarId e ≡ x → out-Expr VarId f ≡ y → Renames IsSame x y → IsCopy e f
 as_copy e f x y i j r = subst (λ z. Renames IsSame z (out-Expr VarId f)) (sym i) (subst (λ z. Renames IsSame x z) (sym j) r)
 
 pub copy_constant : (e : Expr VarId) (v : Value) → e ≡ Constant v → IsCopy e (Constant v)
-copy_constant e v i = as_copy e (Constant v) (form.Constant v) (form.Constant v) (ap (out-Expr VarId) i ∙ opened_constant v) (opened_constant v) r.constant
+copy_constant e v i = as_copy e (Constant v) (form.Constant v) (form.Constant v) (ap (out-Expr VarId) i ∙ opened-constant v) (opened-constant v) r.constant
 
 pub copy_variable : (e : Expr VarId) (x : VarId) → e ≡ Variable x → IsCopy e (Variable x)
-copy_variable e x i = as_copy e (Variable x) (form.Variable x) (form.Variable x) (ap (out-Expr VarId) i ∙ opened_variable x) (opened_variable x) (r.variable refl)
+copy_variable e x i = as_copy e (Variable x) (form.Variable x) (form.Variable x) (ap (out-Expr VarId) i ∙ opened-variable x) (opened-variable x) (r.variable refl)
 
 pub copy_not : (e : Expr VarId) (a b : Box (Expr VarId) Global) → e ≡ Not a → IsCopy a.value b.value → IsCopy e (Not b)
 copy_not e a b i k = as_copy e (Not b) (form.Not a) (form.Not b) (ap (out-Expr VarId) i ∙ outs-Not a) (outs-Not b) (r.opposite k)

@@ -3,9 +3,12 @@ pub mod Numbering
 pub mod Viewing
 pub mod Systems
 mod Copying
-mod ActForms
+pub mod ActForms
 pub mod Tests
 pub mod Reading
 pub mod KindsRenamed
 pub mod SameDomains
 pub mod Lawfulness
+pub mod Added
+pub mod NamedVariables
+pub mod NamesNumbered

@@ -21,7 +21,7 @@ along_some R (x ∷ xs) each =
     (first.0 ∷ more.0, l.one_and first.1 more.1)
 
 -- it holds along one list where it holds of one thing for each item
-along_one : {A B : Type 0} (R : A → B → Type 0) → ((x : A) (b c : B) → R x b → R x c → b ≡ c) → {xs : List A} {bs cs : List B} → Along R xs bs → Along R xs cs → bs ≡ cs
+pub along_one : {A B : Type 0} (R : A → B → Type 0) → ((x : A) (b c : B) → R x b → R x c → b ≡ c) → {xs : List A} {bs cs : List B} → Along R xs bs → Along R xs cs → bs ≡ cs
 along_one R single l.none l.none = refl
 along_one R single (l.one_and {a = x} {b = b} r rs) (l.one_and {b = c} s ss) = let i : b ≡ c = single x b c r s in let j = along_one R single rs ss in cc
 

@@ -1,10 +1,12 @@
 -- The variables of the system that a flat system stands for.
-use Rattle.std.proofs.Common.{◌≡◌, ℕ, zero, suc, ◌+◌, List, [], ◌∷◌, length, refl, sym, ap, ◌∙◌, arith}
+use Rattle.std.proofs.Common.{◌≡◌, ℕ, zero, suc, ◌+◌, List, [], ◌∷◌, length, refl, sym, ap, ◌∙◌, subst, arith}
 use Rattle.ar_base.specs.Lists.{Stands}
 use Rattle.ar_base.proofs.Standing.{stands_none}
 use Rattle.ar_meaning.specs.Systems as s
-use Rattle.ar_meaning.specs.Facts.{AreNumbered}
-use Rattle.gts_core.specs.View.{variable_of, variables_from, net_of}
+use Rattle.ar_meaning.specs.Facts.{AreNumbered, AreKeyed}
+use Rattle.ar_meaning.specs.Systems.{System, Net}
+use Rattle.ar_meaning.proofs.ByNumber.{keyed}
+use Rattle.gts_core.specs.View.{variable_of, variables_from, net_of, Views}
 use Rattle.gts_core.specs.declared.system.Variable.{Variable}
 use Rattle.gts_core.specs.declared.system.GtsParts.{GtsParts}
 
@@ -32,3 +34,7 @@ variable_back p n y h = stands_back 0 p.variables.items n n y (omega arith) h
 -- what stands for a variable is its number
 pub are_numbered : (p : GtsParts) → AreNumbered (net_of p)
 are_numbered p = record { key = λ n y h. let r = variable_back p n y h in sym (ap (λ (z : s.Variable ℕ). z.key) r.2) }
+
+-- the variables of a system that parts view are keyed
+pub keyed_by : (p : GtsParts) (flat : System ℕ) → Views p flat → AreKeyed flat.net
+keyed_by p flat views = subst (λ (net : Net ℕ). AreKeyed net) (sym views.net) (keyed (net_of p) (are_numbered p))

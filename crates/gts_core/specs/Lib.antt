@@ -6,3 +6,4 @@ pub mod Bound
 pub mod Readings
 pub mod Lawful
 pub mod Named
+pub mod Adding

@@ -1,5 +1,6 @@
 -- The nodes of the assignments of an instruction, form by form.
 use Rattle.std.proofs.Common.{◌≡◌, ℕ, ◌+◌, Bool, true, false, List, [], ◌∷◌, ◌++◌, map, take, Vec, Box, Global, refl, sym, ap, ◌∙◌, append_assoc, min, arith}
+use Rattle.std.proofs.lemmas.List.{append-nil}
 use Rattle.std.specs.List.{flat_map}
 use Rattle.ar_base.specs.Lists.{Stands}
 use Rattle.ar_base.specs.Numbers.{VarId}
@@ -13,21 +14,13 @@ use Rattle.gts_core.specs.declared.bound.Act.TheOpen as form
 use Rattle.gts_core.specs.declared.bound.Act.TheOpen.{Act-F}
 use Rattle.gts_core.specs.declared.bound.Act.TheFolds.{fold_out-Act, map-Act}
 use Rattle.gts_core.specs.declared.bound.Act.TheViews.{If, All, outs-If, outs-All}
-use Rattle.sync_expand.proofs.Adding.{append_nothing}
+use Rattle.gts_core.proofs.ActForms.{opened_skip, opened_set}
 use Rattle.sync_expand.proofs.Placed.{take_next}
 use Rattle.gts_flatten.specs.Sizes.{nodes_of, condition_nodes, assigns_nodes}
 use Rattle.gts_flatten.proofs.Renamed.{numbered_nodes}
 
 arm : (act : Act) (x : Act-F Act) → out-Act act ≡ x → assigns_under act ≡ act_step (map-Act Act (Conditions → List (Assign ℕ)) assigns_under x)
 arm act x e = fold_out-Act (Conditions → List (Assign ℕ)) act_step act ∙ ap (λ (y : Act-F Act). act_step (map-Act Act (Conditions → List (Assign ℕ)) assigns_under y)) e
-
-opened_skip : out-Act Skip ≡ form.Skip
-unfolding roll-Act out-Act denote.Hole.Carrier.roll
-opened_skip = out-roll-Act form.Skip
-
-opened_set : (x : VarId) (e : Expr VarId) (p : Place) → out-Act (Set x e p) ≡ form.Set x e p
-unfolding roll-Act out-Act denote.Hole.Carrier.roll
-opened_set x e p = out-roll-Act (form.Set x e p)
 
 at_conditions : {f g : Conditions → List (Assign ℕ)} → f ≡ g → (cs : Conditions) → f cs ≡ g cs
 at_conditions e cs = ap (λ h. h cs) e
@@ -80,6 +73,6 @@ pub acts_next : (acts : List Act) (i : ℕ) (a : Act) (cs : Conditions) (old n n
     → n ≡ min 1000001 (assigns_nodes (assigns_under a cs)) → new ≡ min 1000001 (old + n) → new ≡ min 1000001 (assigns_nodes (flat_map (λ (x : Act). assigns_under x cs) (take (i + 1) acts)))
 acts_next acts i a cs old n new s j k h =
     let t = ap (λ (xs : List Act). assigns_nodes (flat_map (λ (x : Act). assigns_under x cs) xs)) (take_next acts i a s) in
-    let f = ap assigns_nodes (flat_append (take i acts) (a ∷ []) cs ∙ ap (λ (ys : List (Assign ℕ)). flat_map (λ (x : Act). assigns_under x cs) (take i acts) ++ ys) (append_nothing (assigns_under a cs))) in
+    let f = ap assigns_nodes (flat_append (take i acts) (a ∷ []) cs ∙ ap (λ (ys : List (Assign ℕ)). flat_map (λ (x : Act). assigns_under x cs) (take i acts) ++ ys) (append-nil (assigns_under a cs))) in
     let g = assigns_append (flat_map (λ (x : Act). assigns_under x cs) (take i acts)) (assigns_under a cs) in
     omega (arith, t, f, g, j, k, h)

@@ -5,8 +5,8 @@ use Rattle.std.proofs.lemmas.List.{take_more}
 use Rattle.std.proofs.lemmas.Grind.{flat_map-append}
 use Rattle.ar_base.specs.Lists.{Along}
 use Rattle.ar_base.specs.Lists as l
+use Rattle.ar_base.proofs.Items.{along_append}
 use Rattle.ar_meaning.specs.Image.{Assign_renames}
-use Rattle.ar_meaning.proofs.ImageWays.{along_append}
 use Rattle.gts_core.specs.Bound.{assigns_of_act, places_of_act, places_in, AreAssigns}
 use Rattle.gts_core.specs.View.{assign_of}
 use Rattle.gts_core.specs.declared.bound.Act.{Act}

@@ -7,6 +7,7 @@ use Rattle.typed_expr.specs.declared.expr.Expr.TheOpen as form
 use Rattle.typed_expr.specs.declared.expr.Expr.TheOpen.{Expr-F}
 use Rattle.typed_expr.specs.declared.expr.Expr.TheFolds.{fold_out-Expr, map-Expr}
 use Rattle.typed_expr.specs.declared.expr.Expr.TheViews.{Not, All, Any, Compare, Sum, Product, Least, Greatest, Count, Choose, outs-Not, outs-All, outs-Any, outs-Compare, outs-Sum, outs-Product, outs-Least, outs-Greatest, outs-Count, outs-Choose}
+use Rattle.typed_expr.proofs.Opened.{opened-constant, opened-variable}
 use Rattle.ar_base.specs.Lists.{Stands}
 use Rattle.ar_base.specs.Numbers.{VarId}
 use Rattle.sync_expand.proofs.Placed.{take_next}
@@ -15,23 +16,15 @@ use Rattle.gts_flatten.specs.Sizes.{total, total_marked, total_paired, form_node
 arm : (e : Expr VarId) (x : Expr-F VarId (Expr VarId)) → out-Expr VarId e ≡ x → nodes_of e ≡ form_nodes (map-Expr VarId (Expr VarId) ℕ nodes_of x)
 arm e x i = fold_out-Expr VarId ℕ form_nodes e ∙ ap (λ (y : Expr-F VarId (Expr VarId)). form_nodes (map-Expr VarId (Expr VarId) ℕ nodes_of y)) i
 
-opened_constant : (v : Value) → out-Expr VarId (Constant v) ≡ form.Constant v
-unfolding roll-Expr out-Expr denote.Hole.Carrier.roll
-opened_constant v = out-roll-Expr VarId (form.Constant v)
-
-opened_variable : (x : VarId) → out-Expr VarId (Variable x) ≡ form.Variable x
-unfolding roll-Expr out-Expr denote.Hole.Carrier.roll
-opened_variable x = out-roll-Expr VarId (form.Variable x)
-
 pub totals : (es : List (Expr VarId)) → total (map nodes_of es) ≡ nodes_in es
 totals [] = refl
 totals (e ∷ es) = ap (λ (n : ℕ). nodes_of e + n) (totals es)
 
 pub constant_nodes : (e : Expr VarId) (v : Value) → e ≡ Constant v → nodes_of e ≡ 1
-constant_nodes e v i = arm e (form.Constant v) (ap (out-Expr VarId) i ∙ opened_constant v)
+constant_nodes e v i = arm e (form.Constant v) (ap (out-Expr VarId) i ∙ opened-constant v)
 
 pub variable_nodes : (e : Expr VarId) (x : VarId) → e ≡ Variable x → nodes_of e ≡ 1
-variable_nodes e x i = arm e (form.Variable x) (ap (out-Expr VarId) i ∙ opened_variable x)
+variable_nodes e x i = arm e (form.Variable x) (ap (out-Expr VarId) i ∙ opened-variable x)
 
 pub not_nodes : (e : Expr VarId) (a : Box (Expr VarId) Global) → e ≡ Not a → nodes_of e ≡ nodes_of a.value + 1
 not_nodes e a i = arm e (form.Not a) (ap (out-Expr VarId) i ∙ outs-Not a)

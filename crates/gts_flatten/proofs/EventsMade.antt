@@ -3,6 +3,7 @@ use Rattle.std.proofs.Common.{◌≡◌, ℕ, zero, suc, ◌+◌, ◌<◌, ◌�
 use Rattle.std.specs.List.{range_with_len}
 use Rattle.std.proofs.lemmas.Bool.{cases_lt}
 use Rattle.std.proofs.lemmas.List.Sums.{sum_by-cons}
+use Rattle.std.proofs.lemmas.List.{length-map}
 use Rattle.ar_base.specs.Lists.{Stands}
 use Rattle.ar_base.specs.Numbers.{WayId}
 use Rattle.ar_base.proofs.Standing.{stands_one, stands_some, stands_within, stands_split, stands_map}
@@ -15,7 +16,7 @@ use Rattle.sync_expand.specs.Counts.{AreCounts, way_count}
 use Rattle.sync_expand.specs.Plans.{first_of, ways_at, bodies_by, choices_by, planned_of, planned_ways}
 use Rattle.sync_expand.specs.declared.plans.WayPlan.{WayPlan}
 use Rattle.sync_expand.proofs.Capping.{read_number}
-use Rattle.sync_expand.proofs.Choosing.{map_length, choices_length}
+use Rattle.sync_expand.proofs.Choosing.{choices_length}
 use Rattle.sync_expand.proofs.DeclaredLemmas.{declared_key, declared_length}
 use Rattle.sync_expand.proofs.KnownLemmas.{first_within, first_below}
 use Rattle.gts_flatten.specs.Making.{IsMadeEvent}
@@ -30,7 +31,7 @@ bodies_long {M = M} act counts k (Synchronises parts ∷ ms) =
     let joined : List (Bool × ℕ) → Body M = Joins in
     let i = bodies_long act counts (k + 1) ms in
     let c = choices_length counts parts in
-    let m : length (map joined (choices_by counts parts)) ≡ length (choices_by counts parts) = map_length joined (choices_by counts parts) in
+    let m : length (map joined (choices_by counts parts)) ≡ length (choices_by counts parts) = length-map (choices_by counts parts) joined in
     let a = length-append (map joined (choices_by counts parts)) (bodies_by act counts (k + 1) ms) in
     omega (arith, i, c, m, a)
 
@@ -56,7 +57,7 @@ module _ (counts : List ℕ) (declared : List DeclaredEvent) (plan : List WayPla
   long = long_counts counts (declared_from 0 declared) are
 
   pub plan_long : length plan ≡ sum counts
-  plan_long = sym (map_length planned_of plan) ∙ (ap length eq ∙ planned_long counts counts (declared_from 0 declared) long)
+  plan_long = sym (length-map plan planned_of) ∙ (ap length eq ∙ planned_long counts counts (declared_from 0 declared) long)
 
   -- where a way of the plan stands
   pub planned_place : (j : ℕ) (w : WayPlan) → Stands plan j w → (e k : ℕ) × (e < length declared) × (j ≡ first_of counts e + k) × (k < slice_index counts e) × (w.event.n ≡ e) × (w.number ≡ k + 1)

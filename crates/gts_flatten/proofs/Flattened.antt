@@ -4,6 +4,7 @@ use Rattle.ar_base.specs.Lists.{Stands, Along, none, one_and, AreDifferent}
 use Rattle.ar_base.specs.Numbers.{WayId}
 use Rattle.ar_base.specs.declared.places.Place.{Place}
 use Rattle.ar_base.proofs.Standing.{stands_map, along_back, along_length}
+use Rattle.ar_base.proofs.Items.{along_by}
 use Rattle.typed_expr.specs.declared.expr.Expr.{Expr}
 use Rattle.ar_meaning.specs.Systems.{System, Event as SystemEvent, Way as SystemWay, Transition}
 use Rattle.ar_meaning.specs.Systems as s
@@ -50,12 +51,6 @@ use Rattle.gts_flatten.proofs.Staged.{Meant, elaborated}
 use Rattle.gts_flatten.proofs.WaysMade.{same}
 
 -- Lists
-
-along_by : {A B : Type 0} (R : A → B → Type 0) (xs : List A) (ys : List B) → length xs ≡ length ys → ((n : ℕ) (a : A) (b : B) → Stands xs n a → Stands ys n b → R a b) → Along R xs ys
-along_by R [] [] l f = none
-along_by R [] (y ∷ ys) l f = absurd (omega (arith, l))
-along_by R (x ∷ xs) [] l f = absurd (omega (arith, l))
-along_by R (x ∷ xs) (y ∷ ys) l f = one_and (f 0 x y refl refl) (along_by R xs ys (omega (arith, l)) (λ n a b p q. f (suc n) a b p q))
 
 -- Variables and observers
 

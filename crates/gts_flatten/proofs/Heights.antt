@@ -4,30 +4,17 @@ use Rattle.std.specs.List.{range_with_len}
 use Rattle.std.proofs.lemmas.List.FromFn.{get_or-range_with_len}
 use Rattle.ar_base.specs.Lists.{Stands, IsOneOf, AreDifferent, Along}
 use Rattle.ar_base.proofs.Standing.{one_here, one_cases, one_none, stands_none, stands_get, stands_within, along_on}
+use Rattle.ar_base.proofs.Few.{few_below}
 use Rattle.ar_meaning.specs.Systems.{Tree, Leaf, Joint, Branches, Empty, Branch}
 use Rattle.ar_meaning.specs.Image.{Trees_along, leaves, joints, Branches_along, no_branch, branch}
 use Rattle.ar_meaning.specs.Numbered.{Body, Acts, Joins, Means_way, leaf, joint, Mean_parts, no_part, part, height, branches_height}
 use Rattle.ar_meaning.proofs.OneRun.{means_same}
-use Rattle.ar_firing.proofs.Without.{no_more}
 
 -- Heights
 
 pub length_range : (a n : ℕ) → length (range_with_len a n) ≡ n
 length_range a zero = refl
 length_range a (suc n) = ap suc (length_range (a + 1) n)
-
-in_range : (n k : ℕ) → k < n → IsOneOf (range_with_len 0 n) k
-in_range n k l =
-    let m = length_range 0 n in
-    let e : get_or (range_with_len 0 n) k 0 ≡ k = get_or-range_with_len 0 n k 0 l ∙ (let h : 0 + k ≡ k = omega arith in h) in
-    one_here (range_with_len 0 n) k k (subst (λ (z : ℕ). Stands (range_with_len 0 n) k z) e (stands_get (range_with_len 0 n) k 0 (omega (arith, l, m))))
-
--- no more different numbers than there are below n
-few_below : (n : ℕ) (xs : List ℕ) → AreDifferent xs → ((x : ℕ) → IsOneOf xs x → x < n) → length xs ≤ n
-few_below n xs d b =
-    let l = no_more xs (range_with_len 0 n) d (λ k e s. in_range n e (b e (one_here xs k e s))) in
-    let m = length_range 0 n in
-    omega (arith, l, m)
 
 different_first : (x : ℕ) (xs : List ℕ) → (IsOneOf xs x → ⊥) → AreDifferent xs → AreDifferent (x ∷ xs)
 different_first x xs n o = record { one = go }

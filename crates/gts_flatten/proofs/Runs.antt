@@ -5,12 +5,12 @@ use Rattle.std.proofs.lemmas.List.Sums.{sum_by-cons}
 use Rattle.ar_base.specs.Lists.{Stands}
 use Rattle.ar_base.specs.Numbers.{WayId}
 use Rattle.ar_base.proofs.Standing.{stands_one, stands_none, stands_get, stands_within, stands_split}
+use Rattle.ar_base.proofs.Comparing.{lt_or_same}
 use Rattle.ar_meaning.specs.Expand.{Declared}
 use Rattle.ar_meaning.specs.Numbered.{Body}
 use Rattle.sync_expand.specs.Plans.{PlannedWay, first_of, bodies_by, numbered_from, planned_ways, ways_of_event}
 use Rattle.sync_expand.specs.declared.plans.WayPlan.{WayPlan}
 use Rattle.sync_expand.proofs.Adding.{numbered_length}
-use Rattle.sync_expand.proofs.Placed.{lt_or_same}
 use Rattle.sync_expand.proofs.WaysLemmas.{map_join}
 use Rattle.gts_flatten.specs.Placing.{IsRun}
 

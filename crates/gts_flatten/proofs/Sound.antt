@@ -1,5 +1,6 @@
 -- What is made of sound bound forms is sound.
 use Rattle.std.proofs.Common.{◌≡◌, ℕ, zero, suc, ◌+◌, ◌<◌, ◌≤◌, ◌^◌, Bool, true, false, List, map, length, slice_index, sum, Vec, refl, sym, ◌∙◌, ap, subst, arith}
+use Rattle.std.proofs.lemmas.List.{length-map}
 use Rattle.std.specs.Global.{Global}
 use Rattle.std.specs.List.{flat_map, range_with_len}
 use Rattle.ar_base.specs.Lists.{Stands, IsOneOf, Along}
@@ -39,7 +40,6 @@ use Rattle.sync_expand.specs.declared.plans.PlanBody.{PlanBody}
 use Rattle.sync_expand.specs.declared.plans.PlanBody.TheVariants as planned
 use Rattle.sync_expand.specs.declared.plans.WayPlan.{WayPlan}
 use Rattle.sync_expand.proofs.Capping.{read_number}
-use Rattle.sync_expand.proofs.Choosing.{map_length}
 use Rattle.sync_expand.proofs.DeclaredLemmas.{declared_key, declared_keyed, declared_length}
 use Rattle.sync_expand.proofs.KnownLemmas.{first_within, first_below, sum_within}
 use Rattle.sync_expand.proofs.Meaning.{way_means, plan_resolved}
@@ -131,7 +131,7 @@ module _ (b : Bound) (ways : List (List (SystemWay ℕ))) (are : AreWays (declar
 
     pub ids_long : (n : ℕ) (e : Event) → Stands p.events.items n e → length e.ways.items ≡ slice_index (map length ways) n
     ids_long n e h =
-        sym (map_length (λ (z : WayId). z.n) e.ways.items) ∙ (ap length (numbered_ways n e h) ∙ length_range (first_of (map length ways) n) (slice_index (map length ways) n))
+        sym (length-map e.ways.items (λ (z : WayId). z.n)) ∙ (ap length (numbered_ways n e h) ∙ length_range (first_of (map length ways) n) (slice_index (map length ways) n))
 
     events_long : length p.events.items ≡ length (map length ways)
     events_long = let m = made.events.long in let l = counts_long in omega (arith, m, l)
@@ -196,7 +196,7 @@ module _ (b : Bound) (ways : List (List (SystemWay ℕ))) (are : AreWays (declar
         let w = stands_some p.ways.items n l in
         let row = along_back plan p.ways.items made.ways n w.0 w.1 in
         let q = planned_place (map length ways) b.events.items plan counted is n row.0 row.1 in
-        let own = stands_some ways q.0 (let x = q.2 in let m = counts_long in let y = map_length length ways in omega (arith, x, m, y)) in
+        let own = stands_some ways q.0 (let x = q.2 in let m = counts_long in let y = length-map ways length in omega (arith, x, m, y)) in
         let long : slice_index (map length ways) q.0 ≡ length own.0 = read_number (map length ways) q.0 (length own.0) (stands_map length ways q.0 own.0 own.1) in
         let t = stands_some own.0 q.1 (let x = q.4 in omega (arith, x, long)) in
         record {
@@ -214,7 +214,7 @@ module _ (b : Bound) (ways : List (List (SystemWay ℕ))) (are : AreWays (declar
     trees n l =
         let c = copied_way n l in
         let h = height_within (bodies_of p) n c.copy.tree c.copy.means in
-        let m = map_length body_of p.ways.items in
+        let m = length-map p.ways.items body_of in
         (c.copy.tree, c.copy.means, omega (arith, h, m))
 
     part_within : {ps : List (Bool × ℕ)} {bs : _} → Mean_parts (bodies_of p) ps bs → (k : ℕ) (x : Bool × ℕ) → Stands ps k x → x.1 < length p.ways.items
@@ -222,8 +222,8 @@ module _ (b : Bound) (ways : List (List (SystemWay ℕ))) (are : AreWays (declar
     part_within (part {must = must} {n = n} w m) zero x h = let e : (must, n) ≡ x = cc in subst (λ (z : Bool × ℕ). z.1 < length p.ways.items) e (means_within w)
       where
         means_within : {t : SystemWay ℕ} → Means_way (bodies_of p) n t → n < length p.ways.items
-        means_within (leaf {l = l} i) = let w = stands_within (bodies_of p) n _ i in let m = map_length body_of p.ways.items in omega (arith, w, m)
-        means_within (joint {parts = ps} i j) = let w = stands_within (bodies_of p) n _ i in let m = map_length body_of p.ways.items in omega (arith, w, m)
+        means_within (leaf {l = l} i) = let w = stands_within (bodies_of p) n _ i in let m = length-map p.ways.items body_of in omega (arith, w, m)
+        means_within (joint {parts = ps} i j) = let w = stands_within (bodies_of p) n _ i in let m = length-map p.ways.items body_of in omega (arith, w, m)
     part_within (part w m) (suc k) x h = part_within m k x h
 
     -- Bodies
@@ -292,7 +292,7 @@ module _ (b : Bound) (ways : List (List (SystemWay ℕ))) (are : AreWays (declar
       variables = (let x = s.few.variables in let e = along_length b.variables.items p.variables.items made.variables in omega (arith, x, e));
       events = (let x = s.few.events in let e = made.events.long in omega (arith, x, e));
       ways = (let x = plan_small s few in let e = along_length plan p.ways.items made.ways in omega (arith, x, e));
-      assigns = (let e = along_length (flat_map assigns_of_act b.assertions.items) (map assign_of p.assigns.items) made.assigns in let m = map_length assign_of p.assigns.items in omega (arith, l, e, m));
+      assigns = (let e = along_length (flat_map assigns_of_act b.assertions.items) (map assign_of p.assigns.items) made.assigns in let m = length-map p.assigns.items assign_of in omega (arith, l, e, m));
       observers = (let x = s.few.observers in let e = along_length b.observers.items p.observers.items made.observers in omega (arith, x, e));
     }
 

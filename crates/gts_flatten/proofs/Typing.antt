@@ -40,6 +40,7 @@ use Rattle.gts_core.proofs.Numbering.{IsNumber, renames_numbered, copy_numbered}
 use Rattle.source_meaning.specs.SoundBound.{IsSoundAct}
 use Rattle.source_meaning.specs.SoundBound as sound
 use Rattle.source_meaning.proofs.BoundInstructions.{under, each_under}
+use Rattle.source_meaning.proofs.SoundActs.{joined_one}
 use Rattle.gts_flatten.specs.Making.{IsSameVariable}
 use Rattle.gts_core.proofs.SameDomains.{domain_kind}
 
@@ -82,14 +83,6 @@ found_kind : {xs ys : List Variable} → Along IsSameVariable xs ys → (n : ℕ
 found_kind none n = refl
 found_kind (one_and h hs) zero = domain_kind h.domain
 found_kind (one_and h hs) (suc n) = found_kind hs n
-
--- what instructions assign
-joined_one : {A B : Type 0} (f : A → List B) (xs : List A) (b : B) → IsOneOf (flat_map f xs) b → (x : A) × IsOneOf xs x × IsOneOf (f x) b
-joined_one f [] b h = absurd (one_none b h)
-joined_one f (x ∷ xs) b h = elim (one_split (f x) (flat_map f xs) b h) [
-  | inl j ↦ (x, one_first x xs, j)
-  | inr j ↦ let k = joined_one f xs b j in (k.0, one_rest x xs k.0 k.1, k.2)
-]
 
 -- an assignment over plain numbers to a state variable, or a flow, of a value of its kind under conditions that are truth values
 pub record IsSoundAssign (q : GtsParts) (to_state : Bool) (a : s.Assign ℕ) : Type 0 where

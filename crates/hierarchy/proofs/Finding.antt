@@ -7,15 +7,10 @@ use Rattle.std.specs.List.Sorted.{IsNonDecreasingBy, IsPartitionPoint}
 use Rattle.ar_base.specs.Lists.{Stands, IsOneOf}
 use Rattle.ar_base.specs.Numbers.{NameId, UnitId}
 use Rattle.ar_base.proofs.Standing.{stands_within, stands_some, stands_map, stands_get, stands_one, one_cases}
+use Rattle.ar_base.proofs.Comparing.{side}
 use Rattle.hierarchy.specs.Tie.{entry_in}
 use Rattle.hierarchy.specs.Finding.{entry_name, FindsNode}
 use Rattle.hierarchy.specs.declared.tree.MemNode.{MemNode}
-
--- one number is at most another, or above it
-pub side : (m n : ℕ) → (m ≤ n) ⊎ (n < m)
-side zero n = inl (omega arith)
-side (suc m) zero = inr (omega arith)
-side (suc m) (suc n) = elim (side m n) [ inl h ↦ inl (omega (arith, h)) | inr h ↦ inr (omega (arith, h)) ]
 
 module _ {A : Type 0} (n : A → ℕ) (xs : List A) (u : ℕ) where
   module _ (from : ℕ) (low : IsPartitionPoint (λ y. ltb (n y) u ≡ true) (λ y. ltb (n y) u ≡ false) xs from) where

@@ -7,3 +7,5 @@ pub mod Apart
 pub mod Things
 pub mod Looking
 pub mod Rooted
+pub mod TargetWords
+pub mod SameUnits

@@ -6,6 +6,7 @@ use Rattle.std.specs.List.Sorted.{IsNonDecreasingBy}
 use Rattle.ar_base.specs.Lists.{Stands, IsOneOf, AreDifferent, Along}
 use Rattle.ar_base.specs.Numbers.{NameId, UnitId}
 use Rattle.ar_base.proofs.Standing.{stands_none, stands_one, stands_within, stands_get, stands_some, along_on, along_back, along_length}
+use Rattle.ar_base.proofs.Items.{last_one}
 use Rattle.ar_syntax.specs.declared.paths.PathStart.{PathStart}
 use Rattle.ar_syntax.specs.declared.paths.PathStart.TheVariants.{Here, Owner, Main}
 use Rattle.class_table.specs.Members.{NamedMember, MemberKind, Inner, Clone, Alias, Variable, Parameter, Kept, Event, Observer}
@@ -113,17 +114,6 @@ starts_nowhere (Some u) e t h = cc
 
 -- Things
 
--- the last of some names is one
-front_same : (xs ys : List ℕ) (x y : ℕ) → xs ++ x ∷ [] ≡ ys ++ y ∷ [] → (xs ≡ ys) × (x ≡ y)
-front_same [] [] x y e = (refl, cc)
-front_same [] (b ∷ []) x y e = cc
-front_same [] (b ∷ c ∷ ys) x y e = cc
-front_same (a ∷ []) [] x y e = cc
-front_same (a ∷ c ∷ xs) [] x y e = cc
-front_same (a ∷ xs) (b ∷ ys) x y e =
-    let r : xs ++ x ∷ [] ≡ ys ++ y ∷ [] = cc in let h : a ≡ b = cc in
-    let s = front_same xs ys x y r in (cc, s.1)
-
 module _ {m : RootedModel} {units : List UnitPath} (k : IsKept m) (are : AreUnits m units) (test : MemberKind → Bool) where
   -- the things of these units
   abbrev pub all_things : List Thing
@@ -146,7 +136,7 @@ module _ {m : RootedModel} {units : List UnitPath} (k : IsKept m) (are : AreUnit
     pub answers_node : (u : UnitPath) (start : PathStart) (front : List ℕ) (x n : ℕ) (v : UnitPath) → Stands units n v → IsUnitAt m u start front v → (answer : Option ℕ) → FindsNode node nodes n x answer
         → AnswersThing m all_things test u start (front ++ x ∷ []) answer
     answers_node u start front x n v s reaches None f = λ t h.
-        let e = front_same h.leads.front front t.name x (sym h.leads.split) in
+        let e = last_one h.leads.front front t.name x (sym h.leads.split) in
         let r : t.unit ≡ v = unit_of_reaches (walks_same (subst (λ (z : List ℕ). IsUnitAt m u start z t.unit) e.0 h.leads.reaches) reaches) in
         let st : Stands units n t.unit = subst (λ (z : UnitPath). Stands units n z) (sym r) s in
         let o = flat_one (things_in test m) units t.unit t (record { place = n; stands = st }) (has_listed m test t h.has) in
@@ -176,7 +166,7 @@ module _ {m : RootedModel} {units : List UnitPath} (k : IsKept m) (are : AreUnit
   -- where the front leads to no unit, nothing is named
   pub answers_nowhere : (u : UnitPath) (start : PathStart) (front : List ℕ) (x : ℕ) → ((v : UnitPath) → IsUnitAt m u start front v → ⊥) → (t : Thing) → IsThingAt m test u start (front ++ x ∷ []) t → ⊥
   answers_nowhere u start front x n t h =
-      let e = front_same h.leads.front front t.name x (sym h.leads.split) in
+      let e = last_one h.leads.front front t.name x (sym h.leads.split) in
       n t.unit (subst (λ (z : List ℕ). IsUnitAt m u start z t.unit) e.0 h.leads.reaches)
 
 -- no names name nothing

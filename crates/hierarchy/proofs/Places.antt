@@ -141,7 +141,7 @@ leads_named m f u v x (Observer t e) o d = cc o
 pub made_named : (m : RootedModel) (u v : UnitPath) (g : NamedMember) → Makes m u g v → IsNamed u v g.name
 made_named m u v g k = leads_named m [] u v g.name g.kind k.inner k.leads
 
-apart_rest : {g : NamedMember} {gs : List NamedMember} → AreApart (g ∷ gs) → AreApart gs
+pub apart_rest : {g : NamedMember} {gs : List NamedMember} → AreApart (g ∷ gs) → AreApart gs
 apart_rest a = record { apart = λ i j g n p q e. let h = a.apart (suc i) (suc j) g n p q e in omega (arith, h) }
 
 -- a unit under one that a member makes, with the member
@@ -172,7 +172,7 @@ mutual
   insides_under (passes n ds) w j = let i = insides_under ds w j in record { place = suc i.place; member = i.member; stands = i.stands; made_unit = i.made_unit; made = i.made; under = i.under }
 
 -- w stands in the units of two members: they are one
-two_members : (m : RootedModel) (u v z w : UnitPath) (g n : NamedMember) → Makes m u g v → Makes m u n z → IsUnder v w → IsUnder z w → g.name ≡ n.name
+pub two_members : (m : RootedModel) (u v z w : UnitPath) (g n : NamedMember) → Makes m u g v → Makes m u n z → IsUnder v w → IsUnder z w → g.name ≡ n.name
 two_members m u v z w g n k h i j =
     let a = made_named m u v g k in let b = made_named m u z n h in
     let la = ap length a.is in let lb = ap length b.is in

@@ -1,5 +1,7 @@
 -- The first state variable of each unit, one variable after the other.
 use Rattle.std.proofs.Common.{◌≡◌, ℕ, ◌+◌, inl, inr, Bool, true, false, List, length, set, Option, Some, None, refl, sym, ap, ◌∙◌, subst, arith}
+use Rattle.std.proofs.lemmas.Bool.{cases_eq}
+use Rattle.std.proofs.lemmas.List.{length-set}
 use Rattle.ar_base.specs.Lists.{Stands}
 use Rattle.ar_base.specs.Numbers.{VarId}
 use Rattle.ar_base.proofs.Standing.{stands_one, stands_within, at_most}
@@ -12,7 +14,7 @@ use Rattle.gts_core.specs.declared.system.Variable.{Variable}
 use Rattle.gts_core.specs.declared.system.GtsParts.{GtsParts}
 use Rattle.mode_ways.specs.Modes.{IsStateAt, number_in}
 use Rattle.kept_ways.specs.Events.{IsFirstBelow, AreFirstStates, first_with}
-use Rattle.kept_ways.proofs.Reading.{told, stands_set_other, stands_set_same, long_set}
+use Rattle.kept_ways.proofs.Reading.{stands_set_other, stands_set_same}
 
 module _ (p : GtsParts) where
   state_back : (unit k : ℕ) (y : s.Variable ℕ) → Stands (net_of p).variables k y → IsStateOf unit y → IsStateAt p unit k
@@ -50,8 +52,8 @@ module _ (p : GtsParts) where
     pub states_more : (firsts : List (Option VarId)) (old found : Option VarId) (x : VarId) → x.n ≡ n → Stands firsts variable.unit.n old → found ≡ first_with old variable.is_state x
         → AreFirstStates p n firsts → AreFirstStates p (n + 1) (set firsts variable.unit.n found)
     states_more firsts old found x i so is a = record {
-      long = long_set firsts variable.unit.n found ∙ a.long;
-      first = λ unit f s. elim (told unit variable.unit.n) [
+      long = length-set firsts variable.unit.n found ∙ a.long;
+      first = λ unit f s. elim (cases_eq unit variable.unit.n) [
         | inl e ↦ (let same : f ≡ found = stands_set_same firsts variable.unit.n found f (subst (λ (z : ℕ). Stands (set firsts variable.unit.n found) z f) e s) in
             subst (λ (z : ℕ). IsFirstBelow p (n + 1) z f) (sym e) (subst (λ (z : Option VarId). IsFirstBelow p (n + 1) variable.unit.n z) (sym (same ∙ is))
             (here old variable.is_state x refl i (a.first variable.unit.n old so))))

@@ -1,9 +1,11 @@
 -- Kept ways, one label after the other.
 use Rattle.std.proofs.Common.{◌≡◌, ℕ, ◌+◌, ◌<◌, ◌≤◌, ◌⊎◌, inl, inr, zero, suc, Bool, true, false, List, [], ◌∷◌, ◌++◌, length, Option, Some, None, MatchOption, refl, sym, ◌∙◌, subst, arith}
 use Rattle.std.proofs.lemmas.List.{append-nil}
+use Rattle.std.proofs.lemmas.Bool.{cases_lt}
 use Rattle.ar_base.specs.Lists.{Stands, IsOneOf, HasNo, Along, none, one_and}
 use Rattle.ar_base.specs.Numbers.{EventId, WayId}
 use Rattle.ar_base.proofs.Standing.{stands_one, stands_within, stands_none, stands_split, one_left, one_right, one_first, at_most}
+use Rattle.ar_base.proofs.Items.{single, along_push}
 use Rattle.ar_meaning.specs.Runs.{Label}
 use Rattle.ar_firing.specs.Fragment.{IsStateOf}
 use Rattle.gts_core.specs.View.{net_of}
@@ -32,22 +34,6 @@ before_more l e w (inr h) = inr (h.0, omega (arith, h.1))
 before_next : (l : Label) (e w : ℕ) → ComesBefore l (at_label e w) → ComesBefore l (at_label (e + 1) 0)
 before_next l e w (inl h) = inl (omega (arith, h))
 before_next l e w (inr h) = inl (omega (arith, h.0))
-
-along_push : {A B : Type 0} {R : A → B → Type 0} (xs : List A) (ys : List B) (a : A) (b : B) → Along R xs ys → R a b → Along R (xs ++ a ∷ []) (ys ++ b ∷ [])
-along_push [] [] a b none r = one_and r none
-along_push [] (y ∷ ys) a b h r = elim h [ ]
-along_push (x ∷ xs) [] a b h r = elim h [ ]
-along_push (x ∷ xs) (y ∷ ys) a b (one_and s rest) r = one_and s (along_push xs ys a b rest r)
-
-single : {A : Type 0} (x y : A) (k : ℕ) → Stands (x ∷ []) k y → (k ≡ 0) × (x ≡ y)
-single x y zero s = (refl, cc)
-single x y (suc k) s = absurd (stands_none k y s)
-
-less_or : (m n : ℕ) → (m < n) ⊎ (n ≤ m)
-less_or zero zero = inr (omega arith)
-less_or zero (suc n) = inl (omega arith)
-less_or (suc m) zero = inr (omega arith)
-less_or (suc m) (suc n) = elim (less_or m n) [ inl h ↦ inl (omega arith) | inr h ↦ inr (omega arith) ]
 
 module _ (p : GtsParts) (marks : List Bool) where
   pub kept_start : AreKept p marks 0 0 []
@@ -111,7 +97,7 @@ module _ (p : GtsParts) (marks : List Bool) where
     where
       by_event : (l : Label) → IsToKeep p marks l → (l.event < e) ⊎ (l.event ≡ e) → IsOneOf a.labels l
       by_event l k (inl h) = a.whole l k (inl h)
-      by_event l k (inr h) = elim (less_or l.way w) [ inl u ↦ a.whole l k (inr (h, u)) | inr u ↦ absurd (lacks l h u k) ]
+      by_event l k (inr h) = elim (cases_lt l.way w) [ inl u ↦ a.whole l k (inr (h, u)) | inr u ↦ absurd (lacks l h u k) ]
 
       by : (l : Label) → IsToKeep p marks l → ComesBefore l (at_label (e + 1) 0) → IsOneOf a.labels l
       by l k (inl h) = by_event l k (at_most l.event e h)

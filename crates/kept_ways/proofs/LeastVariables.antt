@@ -1,17 +1,14 @@
 -- The least variables of ways that do not name them alone.
 use Rattle.std.proofs.Common.{◌≡◌, ℕ, ◌+◌, ◌<◌, ◌≤◌, ◌⊎◌, inl, inr, Bool, true, false, cond, nat_lt, List, take, take_all, length, get_or, Option, Some, None, refl, sym, ap, ◌∙◌, subst, arith}
 use Rattle.std.proofs.lemmas.Bool.Decides.{nat_tests}
+use Rattle.std.proofs.lemmas.List.{get_or_default}
+use Rattle.std.proofs.lemmas.Bool.{ltb-false}
 use Rattle.ar_base.proofs.Standing.{one_none}
-use Rattle.mode_ways.proofs.Added.{taken_cases, taken_here, taken_more, any_default}
+use Rattle.ar_base.proofs.Comparing.{low}
+use Rattle.mode_ways.proofs.Added.{taken_cases, taken_here, taken_more}
 use Rattle.kept_ways.specs.Events.{IsLeast}
 use Rattle.kept_ways.specs.Kept.{OtherIn, least_with}
 use Rattle.kept_ways.specs.declared.kept.KeptWay.{KeptWay}
-
-low : (m n : ℕ) → nat_lt m n ≡ true → m ≤ n
-low m n e = grind (arith, nat_tests)
-
-high : (m n : ℕ) → nat_lt m n ≡ false → n ≤ m
-high m n e = grind (arith, nat_tests)
 
 module _ (alone : KeptWay → Bool) (kept : List KeptWay) where
   pub least_start : IsLeast (OtherIn alone (take 0 kept)) None
@@ -38,12 +35,12 @@ module _ (alone : KeptWay → Bool) (kept : List KeptWay) where
       where
         by : (c : Bool) → nat_lt way.mode.variable.n m ≡ c → IsLeast (OtherIn alone (take (i + 1) kept)) (Some (cond c way.mode.variable.n m))
         by true t = (this e, λ n q. elim (split n q) [ inl o ↦ (let u = k.1 n o in let v = low way.mode.variable.n m t in omega arith) | inr o ↦ (let u = o.0 in omega arith) ])
-        by false t = (grow m k.0, λ n q. elim (split n q) [ inl o ↦ k.1 n o | inr o ↦ (let u = o.0 in let v = high way.mode.variable.n m t in omega arith) ])
+        by false t = (grow m k.0, λ n q. elim (split n q) [ inl o ↦ k.1 n o | inr o ↦ (let u = o.0 in let v = ltb-false way.mode.variable.n m t in omega arith) ])
 
   pub least_more : (i : ℕ) (d : KeptWay) (least found : Option ℕ) → i < length kept → IsLeast (OtherIn alone (take i kept)) least
       → found ≡ least_with least (alone (get_or kept i d)) (get_or kept i d).mode.variable.n → IsLeast (OtherIn alone (take (i + 1) kept)) found
   least_more i d least found h k e = subst (λ (z : Option ℕ). IsLeast (OtherIn alone (take (i + 1) kept)) z) (sym e)
-      (with_way i (get_or kept i d) h (any_default kept i d (get_or kept i d) h) least (alone (get_or kept i d)) refl k)
+      (with_way i (get_or kept i d) h (get_or_default kept i d (get_or kept i d) h) least (alone (get_or kept i d)) refl k)
 
   pub least_all : (i : ℕ) (least : Option ℕ) → length kept ≤ i → IsLeast (OtherIn alone (take i kept)) least → IsLeast (OtherIn alone kept) least
   least_all i least h k = subst (λ (z : List KeptWay). IsLeast (OtherIn alone z) least) (take_all i kept h) k

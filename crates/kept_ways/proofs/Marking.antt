@@ -1,6 +1,7 @@
 -- Marks of events, units that move, and the searches over them.
 use Rattle.std.proofs.Common.{◌≡◌, ◌==◌, ℕ, suc, ◌+◌, ◌<◌, ◌≤◌, ◌⊎◌, inl, inr, Bool, true, false, not, List, [], ◌∷◌, take, length, get_or, set, refl, sym, ap, ◌∙◌, subst, arith}
 use Rattle.std.proofs.lemmas.Bool.Decides.{nat_tests}
+use Rattle.std.proofs.lemmas.List.{get_or_default, length-set}
 use Rattle.ar_base.specs.Lists.{Stands, IsOneOf}
 use Rattle.ar_base.specs.Numbers.{EventId, WayId}
 use Rattle.ar_base.proofs.Standing.{stands_one, stands_none, stands_map, stands_map_back, at_most}
@@ -8,9 +9,9 @@ use Rattle.ar_meaning.specs.Found.{IsAnswer}
 use Rattle.gts_core.specs.declared.system.Event.{Event}
 use Rattle.gts_core.specs.declared.system.Way.{Way}
 use Rattle.gts_core.specs.declared.system.GtsParts.{GtsParts}
-use Rattle.mode_ways.proofs.Added.{taken_cases, taken_here, taken_more, any_default}
+use Rattle.mode_ways.proofs.Added.{taken_cases, taken_here, taken_more}
 use Rattle.kept_ways.specs.Events.{AreMarks, numbers_of, IsSync, IsJoint, HasJoint, IsJointAt, Moves, AreMoving, StillMoves}
-use Rattle.kept_ways.proofs.Reading.{flags_put, answer_as, long_set}
+use Rattle.kept_ways.proofs.Reading.{flags_put, answer_as}
 
 -- a number is one of those of events
 one_number : (events : List EventId) (e : EventId) → IsOneOf events e → IsOneOf (numbers_of events) e.n
@@ -22,7 +23,7 @@ number_back events n o = let r = stands_map_back (λ (z : EventId). z.n) events 
 pub marks_more : (count : ℕ) (dropped : List EventId) (i : ℕ) (d : EventId) (marks new : List Bool) → i < length dropped → AreMarks count (numbers_of (take i dropped)) marks
     → new ≡ set marks (get_or dropped i d).n true → AreMarks count (numbers_of (take (i + 1) dropped)) new
 marks_more count dropped i d marks new h a e = subst (λ (z : List Bool). AreMarks count (numbers_of (take (i + 1) dropped)) z) (sym e) (record {
-  long = long_set marks event.n true ∙ a.long;
+  long = length-set marks event.n true ∙ a.long;
   mark = flags_put (IsOneOf (numbers_of (take i dropped))) (IsOneOf (numbers_of (take (i + 1) dropped))) marks event.n true a.mark
       (λ n u o. let r = number_back (take i dropped) n o in subst (λ (z : ℕ). IsOneOf (numbers_of (take (i + 1) dropped)) z) r.2 (one_number (take (i + 1) dropped) r.0 (taken_more dropped i event r.0 h is r.1)))
       (λ n u o. let r = number_back (take (i + 1) dropped) n o in elim (taken_cases dropped i event r.0 h is r.1) [
@@ -36,7 +37,7 @@ marks_more count dropped i d marks new h a e = subst (λ (z : List Bool). AreMar
     event = get_or dropped i d
 
     is : event ≡ get_or dropped i event
-    is = any_default dropped i d event h
+    is = get_or_default dropped i d event h
 
 module _ (p : GtsParts) where
   pub joint_of : (n : ℕ) (w : Way) (b : Bool) → Stands p.ways.items n w → IsAnswer b (IsSync w.body) → IsAnswer b (IsJoint p n)
@@ -58,7 +59,7 @@ module _ (p : GtsParts) where
   pub moving_more : (marks : List Bool) (n : ℕ) (event : Event) (moving : List Bool) (moved marked c : Bool) → Stands p.events.items n event → Stands moving event.unit.n moved → Stands marks n marked
       → IsAnswer c (StillMoves moved marked event.ways.items) → AreMoving p marks n moving → AreMoving p marks (n + 1) (set moving event.unit.n c)
   moving_more marks n event moving moved marked c st sm sk h a = record {
-    long = long_set moving event.unit.n c ∙ a.long;
+    long = length-set moving event.unit.n c ∙ a.long;
     moves = flags_put (Moves p marks n) (Moves p marks (n + 1)) moving event.unit.n c a.moves (λ u d q. grow u q)
         (λ u d q. elim (at_most q.number n q.below) [
           | inl l ↦ record { number = q.number; below = l; event = q.event; stands = q.stands; is_unit = q.is_unit; mark = q.mark; way = q.way; has = q.has }

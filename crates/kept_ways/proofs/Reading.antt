@@ -1,25 +1,10 @@
 -- What is read at places of lists, and flags.
 use Rattle.std.proofs.Common.{◌≡◌, ℕ, zero, suc, ◌+◌, ◌<◌, ◌⊎◌, inl, inr, Bool, true, false, List, [], ◌∷◌, length, get_or, set, replicate, Result, Ok, Err, IfOk, refl, sym, ap, subst, arith}
+use Rattle.std.proofs.lemmas.Bool.{cases_eq}
 use Rattle.ar_base.specs.declared.faults.Memory.{Memory}
 use Rattle.ar_base.specs.Lists.{Stands}
 use Rattle.ar_base.proofs.Standing.{stands_one, stands_none, at_most}
 use Rattle.ar_meaning.specs.Found.{IsAnswer}
-
-pub stands_read : {A : Type 0} (xs : List A) (i : ℕ) (d : A) → i < length xs → Stands xs i (get_or xs i d)
-stands_read [] i d h = absurd (omega arith)
-stands_read (x ∷ xs) zero d h = refl
-stands_read (x ∷ xs) (suc i) d h = stands_read xs i d (omega arith)
-
--- one item more that has not P
-pub before_more : {A : Type 0} (xs : List A) (i : ℕ) (a : A) (P : ℕ → A → Type 0) → ((k : ℕ) (x : A) → k < i → Stands xs k x → P k x → ⊥) → Stands xs i a → (P i a → ⊥)
-    → (k : ℕ) (x : A) → k < i + 1 → Stands xs k x → P k x → ⊥
-before_more {A} xs i a P before st n k x l s h = go (at_most k i l)
-  where
-    go : (k < i) ⊎ (k ≡ i) → ⊥
-    go (inl j) = before k x j s h
-    go (inr j) =
-        let same : x ≡ a = stands_one xs i x a (subst (λ (z : ℕ). Stands xs z x) j s) st in
-        n (subst (λ (z : A). P i z) same (subst (λ (z : ℕ). P z x) j h))
 
 pub stands_set_other : {A : Type 0} (xs : List A) (i n : ℕ) (a b : A) → (n ≡ i → ⊥) → Stands (set xs i a) n b → Stands xs n b
 stands_set_other [] i n a b d s = absurd (stands_none n b s)
@@ -33,11 +18,6 @@ stands_set_same [] i a b s = absurd (stands_none i b s)
 stands_set_same (x ∷ xs) zero a b s = cc
 stands_set_same (x ∷ xs) (suc i) a b s = stands_set_same xs i a b s
 
-pub long_set : {A : Type 0} (xs : List A) (i : ℕ) (a : A) → length (set xs i a) ≡ length xs
-long_set [] i a = refl
-long_set (x ∷ xs) zero a = refl
-long_set (x ∷ xs) (suc i) a = ap suc (long_set xs i a)
-
 pub stands_repeat : {A : Type 0} (count n : ℕ) (a b : A) → Stands (replicate count a) n b → b ≡ a
 stands_repeat zero n a b s = absurd (stands_none n b s)
 stands_repeat (suc count) zero a b s = cc
@@ -46,12 +26,6 @@ stands_repeat (suc count) (suc n) a b s = stands_repeat count n a b s
 pub long_repeat : {A : Type 0} (count : ℕ) (a : A) → length (replicate count a) ≡ count
 long_repeat zero a = refl
 long_repeat (suc count) a = ap suc (long_repeat count a)
-
-pub told : (m n : ℕ) → (m ≡ n) ⊎ (m ≡ n → ⊥)
-told zero zero = inl refl
-told zero (suc n) = inr (λ e. omega arith)
-told (suc m) zero = inr (λ e. omega arith)
-told (suc m) (suc n) = elim (told m n) [ inl e ↦ inl (ap suc e) | inr d ↦ inr (λ e. d (omega arith)) ]
 
 -- each flag says of its number whether P holds
 abbrev pub AreFlags : (ℕ → Type 0) → List Bool → Type 0
@@ -63,7 +37,7 @@ answer_as P Q false f g h = λ q. h (g q)
 
 -- one flag is written anew, and P changes at its number alone
 pub flags_put : (P Q : ℕ → Type 0) (flags : List Bool) (i : ℕ) (c : Bool) → AreFlags P flags → ((n : ℕ) → (n ≡ i → ⊥) → P n → Q n) → ((n : ℕ) → (n ≡ i → ⊥) → Q n → P n) → IsAnswer c (Q i) → AreFlags Q (set flags i c)
-flags_put P Q flags i c are on off answer n b s = elim (told n i) [
+flags_put P Q flags i c are on off answer n b s = elim (cases_eq n i) [
   | inl e ↦ (let same : b ≡ c = stands_set_same flags i c b (subst (λ (z : ℕ). Stands (set flags i c) z b) e s) in
       subst (λ (z : ℕ). IsAnswer b (Q z)) (sym e) (subst (λ (z : Bool). IsAnswer z (Q i)) (sym same) answer))
   | inr d ↦ answer_as (P n) (Q n) b (on n d) (off n d) (are n b (stands_set_other flags i n c b d s))
@@ -71,8 +45,3 @@ flags_put P Q flags i c are on off answer n b s = elim (told n i) [
 
 pub flags_none : (P : ℕ → Type 0) (count : ℕ) → ((n : ℕ) → P n → ⊥) → AreFlags P (replicate count false)
 flags_none P count lacks n b s = subst (λ (z : Bool). IsAnswer z (P n)) (sym (stands_repeat count n false b s)) (lacks n)
-
--- what holds of a success holds of it in another form
-pub ok_as : (P Q : Type 0) (r : Result (Unit {0}) Memory) → (P → Q) → IfOk r (λ _. P) → IfOk r (λ _. Q)
-ok_as P Q (Ok x) f h = f h
-ok_as P Q (Err e) f h = tt

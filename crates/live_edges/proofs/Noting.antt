@@ -1,21 +1,17 @@
 -- What events share, one live edge after the other.
 use Rattle.std.proofs.Common.{◌≡◌, ◌<◌, ◌≤◌, ◌+◌, ℕ, zero, suc, ◌⊎◌, inl, inr, Bool, true, false, cond, nat_lt, List, [], ◌∷◌, ◌++◌, length, get_or, set, Option, Some, None, refl, sym, ap, ◌∙◌, subst, arith}
 use Rattle.std.proofs.lemmas.Bool.Decides.{nat_tests}
+use Rattle.std.proofs.lemmas.Bool.{cases_eq, ltb-false}
+use Rattle.std.proofs.lemmas.List.{length-set}
 use Rattle.ar_base.specs.Lists.{Stands}
 use Rattle.ar_base.specs.Numbers.{EventId}
-use Rattle.ar_base.proofs.Standing.{stands_one, stands_none, stands_left, stands_split, stands_next, at_most}
+use Rattle.ar_base.proofs.Standing.{stands_one, stands_none, stands_left, stands_split, stands_next, at_most, stands_get}
+use Rattle.ar_base.proofs.Comparing.{low, three}
 use Rattle.kept_ways.specs.Events.{IsLeast}
-use Rattle.kept_ways.proofs.Reading.{told, stands_read, stands_set_other, stands_set_same, long_set, stands_repeat, long_repeat}
+use Rattle.kept_ways.proofs.Reading.{stands_set_other, stands_set_same, stands_repeat, long_repeat}
 use Rattle.live_edges.specs.declared.listing.Live.{Live}
 use Rattle.live_edges.specs.declared.sharing.Sharing.{Sharing}
 use Rattle.live_edges.specs.Sharing.{IsFirstOf, HasFirst, IsKnown, IsShared, lesser_of, IsLiveIn, IsSharing, IsEmptySharing, Notes, again, fresh}
-use Rattle.live_edges.proofs.Usable.{order}
-
-low : (m n : ℕ) → nat_lt m n ≡ true → m ≤ n
-low m n e = grind (arith, nat_tests)
-
-high : (m n : ℕ) → nat_lt m n ≡ false → n ≤ m
-high m n e = grind (arith, nat_tests)
 
 least_lesser : (P Q : ℕ → Type 0) (v : ℕ) (old : Option ℕ) → IsLeast P old → ((n : ℕ) → Q n → P n ⊎ (n ≡ v)) → ((n : ℕ) → P n → Q n) → Q v → IsLeast Q (Some (lesser_of old v))
 least_lesser P Q v None h split grow here = (here, λ n q. elim (split n q) [ inl p ↦ absurd (h n p) | inr e ↦ omega arith ])
@@ -23,7 +19,7 @@ least_lesser P Q v (Some m) h split grow here = by (nat_lt v m) cc
   where
     by : (c : Bool) → nat_lt v m ≡ c → IsLeast Q (Some (cond c v m))
     by true t = (here, λ n q. elim (split n q) [ inl p ↦ (let u = h.1 n p in let w = low v m t in omega arith) | inr e ↦ omega arith ])
-    by false t = (grow m h.0, λ n q. elim (split n q) [ inl p ↦ h.1 n p | inr e ↦ (let w = high v m t in omega arith) ])
+    by false t = (grow m h.0, λ n q. elim (split n q) [ inl p ↦ h.1 n p | inr e ↦ (let w = ltb-false v m t in omega arith) ])
 
 least_same : (P Q : ℕ → Type 0) (old : Option ℕ) → IsLeast P old → ((n : ℕ) → Q n → P n) → ((n : ℕ) → P n → Q n) → IsLeast Q old
 least_same P Q None h back grow = λ n q. h n (back n q)
@@ -51,7 +47,7 @@ module _ (events : ℕ) (live : List Live) where
 
   -- the first live edges of one event stand at one place
   one_first : (e : ℕ) (m n : ℕ) (h : HasFirst live m e n) (k : ℕ) → IsFirstOf live e k → h.place ≡ k
-  one_first e m n h k f = by (order h.place k)
+  one_first e m n h k f = by (three h.place k)
     where
       by : (h.place < k) ⊎ ((h.place ≡ k) ⊎ (k < h.place)) → h.place ≡ k
       by (inl l) = absurd (f.before h.place h.first.live_edge l h.first.stands h.first.is_event)
@@ -117,8 +113,8 @@ module _ (events : ℕ) (live : List Live) where
         → IsSharing events live (i + 1) new
     noted_fresh sn ef ee el =
         let none = s.firsts one.edge.event.n None sn in record {
-          long = ap length ef ∙ long_set old.firsts.items one.edge.event.n (Some one.variable.n) ∙ s.long;
-          firsts = λ e o t. let t2 = subst (λ (z : List (Option ℕ)). Stands z e o) ef t in elim (told e one.edge.event.n) [
+          long = ap length ef ∙ length-set old.firsts.items one.edge.event.n (Some one.variable.n) ∙ s.long;
+          firsts = λ e o t. let t2 = subst (λ (z : List (Option ℕ)). Stands z e o) ef t in elim (cases_eq e one.edge.event.n) [
             | inl same ↦ (let u : o ≡ Some one.variable.n = stands_set_same old.firsts.items one.edge.event.n (Some one.variable.n) o (subst (λ (z : ℕ). Stands (set old.firsts.items one.edge.event.n (Some one.variable.n)) z o) same t2) in
                 subst (λ (z : Option ℕ). IsKnown live (i + 1) e z) (sym u) (record { place = i; below = omega arith; first = record { live_edge = one; stands = st; is_event = sym same; before = λ k l b q r. none k l b q (r ∙ same) }; number = refl }))
             | inr d ↦ known_on e o (λ x n. d (sym x)) (s.firsts e o (stands_set_other old.firsts.items one.edge.event.n e (Some one.variable.n) o d t2))
@@ -158,4 +154,4 @@ module _ (events : ℕ) (live : List Live) where
 
 -- one live edge more of a list
 pub shared_more : (events : ℕ) (live : List Live) (i : ℕ) (d : Live) (old new : Sharing) → i < length live → IsSharing events live i old → Notes (get_or live i d).edge.event (get_or live i d).variable.n old new → IsSharing events live (i + 1) new
-shared_more events live i d old new h s n = sharing_more events live i (get_or live i d) (stands_read live i d h) old new s n
+shared_more events live i d old new h s n = sharing_more events live i (get_or live i d) (stands_get live i d h) old new s n

@@ -1,16 +1,14 @@
 -- Ways that are put into the rows of their variables.
 use Rattle.std.proofs.Common.{◌≡◌, ◌<◌, ◌≤◌, ℕ, ◌+◌, inl, inr, Bool, true, false, not, ◌&&◌, cond, nat_eq, List, [], ◌∷◌, ◌++◌, take, take_all, length, get_or, set, Vec, Global, refl, sym, ap, ◌∙◌, subst, arith}
 use Rattle.std.proofs.lemmas.Bool.Decides.{nat_tests}
-use Rattle.std.proofs.lemmas.List.{append-nil, take_more, length_push}
+use Rattle.std.proofs.lemmas.List.{append-nil, take_more, length_push, length-set}
 use Rattle.std.proofs.lemmas.List.Elements.{filter-append}
+use Rattle.std.proofs.lemmas.Bool.{cases_eq, eq-eqb}
 use Rattle.ar_base.specs.Lists.{Stands}
-use Rattle.ar_base.proofs.Standing.{stands_none, stands_split, only_item}
+use Rattle.ar_base.proofs.Standing.{stands_none, stands_split, only_item, stands_get}
 use Rattle.kept_ways.specs.declared.kept.KeptWay.{KeptWay}
-use Rattle.kept_ways.proofs.Reading.{told, stands_set_other, stands_set_same, long_set, stands_read}
+use Rattle.kept_ways.proofs.Reading.{stands_set_other, stands_set_same}
 use Rattle.live_edges.specs.Rows.{is_of, ways_of, AreBelow, AreRows, Puts}
-
-same : (m n : ℕ) → m ≡ n → nat_eq m n ≡ true
-same m n e = grind (arith, nat_tests)
 
 other : (m n : ℕ) → (n ≡ m → ⊥) → nat_eq m n ≡ false
 other m n d = grind (arith, nat_tests)
@@ -34,12 +32,12 @@ pub puts_visible : (way : KeptWay) (rows : List (Vec KeptWay Global)) (old new :
     → Puts way rows (set rows way.mode.variable.n new)
 puts_visible way rows old new e st grown = record {
   on = λ count kept a. record {
-    long = long_set rows way.mode.variable.n new ∙ a.long;
-    row = λ n r s. elim (told n way.mode.variable.n) [
+    long = length-set rows way.mode.variable.n new ∙ a.long;
+    row = λ n r s. elim (cases_eq n way.mode.variable.n) [
       | inl i ↦ (let is : r ≡ new = stands_set_same rows way.mode.variable.n new r (subst (λ (z : ℕ). Stands (set rows way.mode.variable.n new) z r) i s) in
           let old_is : old.items ≡ ways_of n kept = a.row n old (subst (λ (z : ℕ). Stands rows z old) (sym i) st) in
           ap (λ (z : Vec KeptWay Global). z.items) is ∙ grown ∙ ap (λ (z : List KeptWay). z ++ way ∷ []) old_is
-          ∙ sym (one_more n kept way (ap (λ (b : Bool). b && nat_eq way.mode.variable.n n) e ∙ same way.mode.variable.n n (sym i))))
+          ∙ sym (one_more n kept way (ap (λ (b : Bool). b && nat_eq way.mode.variable.n n) e ∙ eq-eqb way.mode.variable.n n (sym i))))
       | inr d ↦ a.row n r (stands_set_other rows way.mode.variable.n n new r d s)
           ∙ sym (not_more n kept way (ap (λ (b : Bool). b && nat_eq way.mode.variable.n n) e ∙ other way.mode.variable.n n d))
     ];
@@ -63,14 +61,10 @@ pub rows_all : (count : ℕ) (kept : List KeptWay) (i : ℕ) (rows : List (Vec K
 rows_all count kept i rows h a = subst (λ (z : List KeptWay). AreRows count z rows) (take_all i kept h) a
 
 pub below_read : (count : ℕ) (kept : List KeptWay) (i : ℕ) (d : KeptWay) (rows : List (Vec KeptWay Global)) → i < length kept → AreBelow count kept → length rows ≡ count → (get_or kept i d).mode.variable.n < length rows
-below_read count kept i d rows h b e = let l = b.below i (get_or kept i d) (stands_read kept i d h) in omega arith
+below_read count kept i d rows h b e = let l = b.below i (get_or kept i d) (stands_get kept i d h) in omega arith
 
 pub rows_none : (rows : List (Vec KeptWay Global)) → rows ≡ [] → AreRows 0 [] rows
 rows_none rows e = subst (λ (z : List (Vec KeptWay Global)). AreRows 0 [] z) (sym e) (record { long = refl; row = λ n r s. absurd (stands_none n r s) })
-
-pub not_true : (b : Bool) → not b ≡ true → b ≡ false
-not_true true e = cc
-not_true false e = refl
 
 pub not_false : (b : Bool) → not b ≡ false → b ≡ true
 not_false true e = refl

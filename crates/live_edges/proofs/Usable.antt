@@ -5,6 +5,7 @@ use Rattle.std.proofs.lemmas.List.{length_push}
 use Rattle.ar_base.specs.Lists.{Stands}
 use Rattle.ar_base.specs.Numbers.{WayId}
 use Rattle.ar_base.proofs.Standing.{stands_one, stands_within, stands_none, stands_split, along_back, at_most, only_item}
+use Rattle.ar_base.proofs.Comparing.{three}
 use Rattle.ar_meaning.specs.Systems.{System, Leaf, Way as Ways}
 use Rattle.ar_meaning.specs.Runs.{Label}
 use Rattle.ar_firing.specs.Fragment.{IsModeOf}
@@ -60,12 +61,6 @@ module _ {A : Type 0} (test : A → Bool) where
       by h true s t = both h q r s t
       by h false s t = h q r s t
 
-pub order : (q r : ℕ) → (q < r) ⊎ ((q ≡ r) ⊎ (r < q))
-order zero zero = inr (inl refl)
-order zero (suc r) = inl (omega arith)
-order (suc q) zero = inr (inr (omega arith))
-order (suc q) (suc r) = elim (order q r) [ inl h ↦ inl (omega arith) | inr h ↦ elim h [ inl e ↦ inr (inl (ap suc e)) | inr k ↦ inr (inr (omega arith)) ] ]
-
 -- a mode variable is a variable
 mode_below : (system : System ℕ) (unit : ℕ) (w : Ways ℕ) (n : ℕ) → IsModeOf system unit w n → n < length system.net.variables
 mode_below system unit w n (f.named h) = stands_within system.net.variables n h.item h.stands
@@ -93,7 +88,7 @@ module _ (p : GtsParts) (sound : IsSound p) (kept : List KeptWay) (h : AreListed
   not_before l m e w (inr b) = omega (arith, b.1)
 
   pub all_apart : AreApart kept
-  all_apart = record { one = λ q r k j s t e. by q r k j s t e (order q r) }
+  all_apart = record { one = λ q r k j s t e. by q r k j s t e (three q r) }
     where
       by : (q r : ℕ) (k j : KeptWay) → Stands kept q k → Stands kept r j → k.way ≡ j.way → (q < r) ⊎ ((q ≡ r) ⊎ (r < q)) → q ≡ r
       by q r k j s t e (inl o) =
@@ -139,15 +134,6 @@ module _ (p : GtsParts) (sound : IsSound p) (kept : List KeptWay) (h : AreListed
 
 pub reaches_start : (p : GtsParts) (kept : List KeptWay) (reaches : List Reach) → reaches ≡ [] → AreReaches p kept 0 reaches
 reaches_start p kept reaches e = subst (λ (z : List Reach). AreReaches p kept 0 z) (sym e) (record { long = refl; each = λ n r s. absurd (stands_none n r s) })
-
--- what holds at a place and at none before it holds first there
-pub first_place : (P : ℕ → Type 0) (n : ℕ) → P n → ((k : ℕ) → k < n → P k → ⊥) → P n × ((k : ℕ) → P k → n ≤ k)
-first_place P n h before = (h, λ k q. by k q (order k n))
-  where
-    by : (k : ℕ) → P k → (k < n) ⊎ ((k ≡ n) ⊎ (n < k)) → n ≤ k
-    by k q (inl l) = absurd (before k l q)
-    by k q (inr (inl e)) = omega arith
-    by k q (inr (inr l)) = omega arith
 
 -- one place more at which it does not hold
 pub place_more : (P : ℕ → Type 0) (n : ℕ) → ((k : ℕ) → k < n → P k → ⊥) → (P n → ⊥) → (k : ℕ) → k < n + 1 → P k → ⊥

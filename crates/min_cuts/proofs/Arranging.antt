@@ -11,8 +11,8 @@ use Rattle.ar_base.proofs.Standing.{stands_get, stands_within, stands_map, stand
 use Rattle.zdd_families.specs.Families.{holds}
 use Rattle.zdd_families.proofs.Ascending.{IsAscending, ascends_from}
 use Rattle.zdd_families.proofs.Members.{holds_law}
-use Rattle.firable_families.proofs.Listing.{one_set}
 use Rattle.min_cuts.specs.Kept.{in_order, ArePlaces, IsKnown}
+use Rattle.ar_firing.proofs.OneListing.{ascending_same}
 
 module _ (set : List ℕ) where
   -- the places, counted from i, of the events that are in the set
@@ -190,7 +190,7 @@ module _ (order places set : List ℕ) (known : IsKnown order set) (are : ArePla
         (record { place = o.place; stands = stands_map place_of set o.place e o.stands })))
 
     spots_held : spots ≡ held set 0 order
-    spots_held = one_set spots (held set 0 order) spots_ascend
+    spots_held = ascending_same spots (held set 0 order) spots_ascend
         (ascends_from (held set 0 order) (held_ascends set 0 order))
         (record {
           each = λ p o. let s = spot_is p o in subst (λ z. IsOneOf (held set 0 order) z) (ahead s.0 p s.2)

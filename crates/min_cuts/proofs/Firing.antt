@@ -6,6 +6,8 @@ use Rattle.ar_base.specs.Lists.{Stands, IsOneOf, AreDifferent}
 use Rattle.ar_base.specs.Lists.Along.{none, one_and}
 use Rattle.ar_base.specs.Sets.{Ascends}
 use Rattle.ar_base.proofs.Standing.{stands_within, stands_split, stands_map_back, stands_map, one_here, one_cases, one_left, one_right, one_split}
+use Rattle.ar_base.proofs.Items.{different_both}
+use Rattle.ar_base.proofs.Truths.{alike}
 use Rattle.domains.specs.declared.Value.{Value}
 use Rattle.ar_meaning.specs.Runs.{Label}
 use Rattle.ar_firing.specs.Forest.{Row, ModeTree}
@@ -53,21 +55,6 @@ edged (t ∷ ts) e o = ⊎_elim
     record { k = suc b.k; tree = b.tree; row = b.row; stands = b.stands; one = b.one; is = b.is })
     (one_split (map event_of t.edges) (edge_events ts) e o)
 
--- ---- no event has two edges
-different_both : (xs ys : List ℕ) → AreDifferent xs → AreDifferent ys → ((x : ℕ) → IsOneOf xs x → IsOneOf ys x → ⊥)
-    → AreDifferent (xs ++ ys)
-different_both xs ys a b d = record {
-  one =
-      λ m n x h k. by m n x (stands_split xs ys m x h) (stands_split xs ys n x k);
-}
-  where
-    by : (m n : ℕ) (x : ℕ) → Stands xs m x ⊎ ((k : ℕ) × (m ≡ length xs + k) × Stands ys k x)
-        → Stands xs n x ⊎ ((k : ℕ) × (n ≡ length xs + k) × Stands ys k x) → m ≡ n
-    by m n x (inl h) (inl k) = a.one m n x h k
-    by m n x (inl h) (inr k) = absurd (d x (one_here xs m x h) (one_here ys k.0 x k.2))
-    by m n x (inr h) (inl k) = absurd (d x (one_here xs n x k) (one_here ys h.0 x h.2))
-    by m n x (inr h) (inr k) = let e : h.0 ≡ k.0 = b.one h.0 k.0 x h.2 k.2 in omega (arith, e, h.1, k.1)
-
 tail_trees : (t : ModeTree) (ts : List ModeTree) → AreTrees (t ∷ ts) → AreTrees ts
 tail_trees t ts a = record {
   each = λ k tree s. a.each (suc k) tree s;
@@ -114,11 +101,6 @@ some_on (x ∷ ls) r (suc k) l s e = either (eqb x.event r.label.event) (on ls r
     either : (a b : Bool) → b ≡ true → a || b ≡ true
     either true b h = refl
     either false b h = h
-
-alike : (a b : Bool) → (a ≡ true → b ≡ true) → (b ≡ true → a ≡ true) → a ≡ b
-alike true b f g = sym (f refl)
-alike false true f g = g refl
-alike false false f g = refl
 
 module _ (trees : List ModeTree) (are : AreTrees trees) (set : List ℕ) (fires : IsFirableOf trees set) where
   on_path : (k : ℕ) (tree : ModeTree) → Stands trees k tree → (r : Row) → IsOneOf tree.edges r

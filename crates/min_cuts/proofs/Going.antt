@@ -12,16 +12,17 @@ use Rattle.ar_base.specs.Numbers.{EventId}
 use Rattle.ar_firing.specs.Forest.{ModeTree}
 use Rattle.ar_firing.specs.Trees.{AreTrees}
 use Rattle.zdd_families.specs.Families.{Family, has}
+use Rattle.zdd_families.specs.Behind.{behind}
+use Rattle.zdd_families.proofs.Behind.{behind_none}
 use Rattle.zdd_nodes.specs.Nodes.{NodeId, Stored, family, IsNumber, IsSoundStore}
 use Rattle.firable_families.specs.Firable.{IsFirableOf}
 use Rattle.firable_families.proofs.Listing.{stands_has}
 use Rattle.min_cuts.specs.Lines.{AreInFiringOrder}
 use Rattle.min_cuts.specs.Sizes.{largest}
-use Rattle.min_cuts.specs.Kept.{numbers, taken, behind, waiting, to_give, in_order, edge_events, HasRoom, HaveRoom, ArePlaces, IsKnown}
+use Rattle.min_cuts.specs.Kept.{numbers, taken, waiting, to_give, in_order, edge_events, HasRoom, HaveRoom, ArePlaces, IsKnown}
 use Rattle.min_cuts.specs.Listing.{left_in, IsListing}
 use Rattle.min_cuts.specs.declared.lister.Lister.TheInside.{Inside}
 use Rattle.min_cuts.specs.declared.steps.Step.{Step}
-use Rattle.min_cuts.proofs.Walking.{behind_none}
 use Rattle.min_cuts.proofs.Firing.{firable_known, all_in_firing_order}
 use Rattle.min_cuts.proofs.Arranging.{inside, spots_inside, arranged}
 

@@ -3,6 +3,7 @@ use Rattle.std.proofs.Common.{◌≡◌, ⊎_elim, ℕ, zero, suc, ◌+◌, ◌<
 use Rattle.std.specs.List.{list_any}
 use Rattle.std.proofs.lemmas.List.Elements.{filter-append}
 use Rattle.std.proofs.lemmas.List.{reverse-append}
+use Rattle.std.proofs.lemmas.Bool.{false_from_ne_true}
 use Rattle.ar_base.specs.Lists.{Stands}
 use Rattle.ar_base.proofs.Standing.{stands_left, stands_right, stands_split, stands_within}
 use Rattle.domains.specs.declared.Value.{Value}
@@ -35,10 +36,6 @@ none_pass : (p : Row → Bool) (xs : List Row) → ((k : ℕ) (r : Row) → Stan
 none_pass p [] h = refl
 none_pass p (x ∷ xs) h = ap (λ b. cond b (x ∷ filter p xs) (filter p xs)) (h zero x refl)
     ∙ none_pass p xs (λ k r i. h (suc k) r i)
-
-is_false : (b : Bool) → (b ≡ true → ⊥) → b ≡ false
-is_false true h = absurd (h refl)
-is_false false h = refl
 
 pub on_some : (ls : List Label) (r : Row) → on ls r ≡ true
     → (k : ℕ) × (l : Label) × Stands ls k l × (l.event ≡ r.label.event)
@@ -110,10 +107,10 @@ module _ (tree : ModeTree) (t : IsTree tree) where
           let in_f2 = λ (j : ℕ) (q : Row) (i : Stands f2 j q). subst (λ z. Stands z (length f1 + suc j) q) (sym whole)
           (stands_right f1 (r ∷ f2 ++ back) (suc j) (length f1 + suc j) q refl (stands_left f2 back j q i)) in
           let first : filter (on (x ∷ xs)) f1 ≡ filter (on xs) f1 =
-          same_tests (on (x ∷ xs)) (on xs) f1 (λ j q i. ap (λ b. b || on xs q) (is_false (eqb x.event q.label.event)
+          same_tests (on (x ∷ xs)) (on xs) f1 (λ j q i. ap (λ b. b || on xs q) (false_from_ne_true (eqb x.event q.label.event)
           (λ y. let g : j ≡ k = t.event j k q r (in_f1 j q i) s.stands (sym (eqb-true x.event q.label.event y)) in
           omega (arith, g, c.3, within f1 j q i)))) in
-          let last : filter (on (x ∷ xs)) f2 ≡ [] = none_pass (on (x ∷ xs)) f2 (λ j q i. is_false (on (x ∷ xs) q) (λ y.
+          let last : filter (on (x ∷ xs)) f2 ≡ [] = none_pass (on (x ∷ xs)) f2 (λ j q i. false_from_ne_true (on (x ∷ xs) q) (λ y.
           let o = on_some (x ∷ xs) q y in
           late (length f1 + suc j) q (in_f2 j q i) (omega (arith, c.3)) o.0 o.1 o.2 o.3)) in
           let here : on (x ∷ xs) r ≡ true = ap (λ b. b || on xs r) (eq-eqb x.event x.event refl) in

@@ -3,25 +3,18 @@ use Rattle.std.proofs.Common.{◌≡◌, ◌≢◌, ⊎_elim, ◌<◌, ℕ, suc,
 use Rattle.std.proofs.lemmas.List.{map-append}
 use Rattle.ar_base.proofs.Standing.{stands_left, stands_next}
 use Rattle.zdd_families.specs.Families.{Family, node}
+use Rattle.zdd_families.specs.Behind.{behind}
+use Rattle.zdd_families.proofs.Behind.{behind_node}
 use Rattle.zdd_nodes.specs.Nodes.{Stored, family, IsNode}
 use Rattle.zdd_nodes.proofs.Lists.{slice_get-push_cases}
 use Rattle.min_cuts.specs.Sizes.{largest}
-use Rattle.min_cuts.specs.Kept.{taken, behind, waiting, to_give, HasRoom, HaveRoom}
+use Rattle.min_cuts.specs.Kept.{taken, waiting, to_give, HasRoom, HaveRoom}
 use Rattle.min_cuts.specs.declared.steps.Step.{Step}
 use Rattle.min_cuts.proofs.Sizing.{largest-node}
 
 with_event : (p : List ℕ) (v : ℕ) (hi : Family) → behind p (map (λ t. v ∷ t) hi) ≡ behind (p ++ v ∷ []) hi
 with_event p v [] = refl
 with_event p v (s ∷ hi) = ap₂ (λ (a : List ℕ) (b : Family). a ∷ b) (sym (append_assoc p (v ∷ []) s)) (with_event p v hi)
-
--- the sets of a node behind p: those of its upper half behind p and the event, then those of its lower half behind p
-node_behind : (p : List ℕ) (v : ℕ) (lo hi : Family) → behind p (node v lo hi) ≡ behind (p ++ v ∷ []) hi ++ behind p lo
-node_behind p v lo hi = map-append (λ t. p ++ t) (map (λ t. v ∷ t) hi) lo
-    ∙ ap (λ z. z ++ behind p lo) (with_event p v hi)
-
-pub behind_none : (f : Family) → behind [] f ≡ f
-behind_none [] = refl
-behind_none (t ∷ f) = ap (λ z. t ∷ z) (behind_none f)
 
 taken_push : (steps : List Step) (x : Step) → taken (steps ++ x ∷ []) ≡ taken steps ++ x.event.n ∷ []
 taken_push steps x = map-append (λ (x : Step). x.event.n) steps (x ∷ [])
@@ -45,7 +38,7 @@ step_gives s steps x n hi i =
     ap₂ (λ (a : List ℕ) (b : Family). behind a (family s hi) ++ b) (taken_push steps x) (waiting_push s [] steps x)
     ∙ sym (append_assoc (behind (taken steps ++ x.event.n ∷ []) (family s hi))
     (behind (taken steps) (family s x.rest.n)) (waiting s [] steps))
-    ∙ ap (λ z. z ++ waiting s [] steps) (sym (node_behind (taken steps) x.event.n (family s x.rest.n) (family s hi))
+    ∙ ap (λ z. z ++ waiting s [] steps) (sym (behind_node (taken steps) x.event.n (family s x.rest.n) (family s hi))
     ∙ ap (behind (taken steps)) (sym i.is))
 
 -- the last step goes where what it left is to be given

@@ -6,6 +6,7 @@ use Rattle.ar_base.specs.Sets.{Ascends}
 use Rattle.ar_base.specs.Numbers.{EventId}
 use Rattle.ar_firing.specs.Forest.{ModeTree}
 use Rattle.zdd_families.specs.Families.{Family, holds}
+use Rattle.zdd_families.specs.Behind.{behind}
 use Rattle.zdd_nodes.specs.Nodes.{Stored, family, IsNumber}
 use Rattle.min_cuts.specs.Sizes.{largest}
 use Rattle.min_cuts.specs.declared.steps.Step.{Step}
@@ -17,10 +18,6 @@ numbers events = map (λ (e : EventId). e.n) events
 -- the events that the steps took
 abbrev pub taken : List Step → List ℕ
 taken steps = map (λ (x : Step). x.event.n) steps
-
--- the sets, each behind some events that were taken before
-abbrev pub behind : List ℕ → Family → Family
-behind p f = map (λ t. p ++ t) f
 
 -- the sets that the steps left, where the events p were taken before them: the sets that a later step left come first
 abbrev pub waiting : Stored → List ℕ → List Step → Family

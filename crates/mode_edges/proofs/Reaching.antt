@@ -2,13 +2,13 @@
 use Rattle.std.proofs.Common.{◌≡◌, ℕ, zero, suc, ◌+◌, ◌<◌, ◌≤◌, ◌⊎◌, inl, inr, Bool, true, false, List, [], ◌∷◌, ◌++◌, map, length, get_or, Contains, refl, sym, ap, ◌∙◌, subst, arith}
 use Rattle.std.proofs.lemmas.List.{append-nil, map-append}
 use Rattle.ar_base.specs.Lists.{Stands, IsOneOf, AreDifferent}
-use Rattle.ar_base.proofs.Standing.{stands_one, stands_within, stands_none, stands_left, stands_split, stands_next, stands_map_back, one_here, one_first, one_none, one_cases, one_split, one_left, one_right, different_more, at_most, only_item}
+use Rattle.ar_base.proofs.Standing.{stands_one, stands_within, stands_none, stands_left, stands_split, stands_next, stands_map_back, one_here, one_first, one_none, one_cases, one_split, one_left, one_right, different_more, at_most, only_item, stands_get}
+use Rattle.ar_base.proofs.Items.{single as last_place}
 use Rattle.domains.specs.declared.Value.{Value}
 use Rattle.gts_core.specs.declared.system.GtsParts.{GtsParts}
 use Rattle.mode_ways.specs.declared.moves.Move.{Move}
 use Rattle.mode_ways.specs.declared.moves.Move.TheVariants.{Still, To, Wrong}
 use Rattle.kept_ways.specs.declared.kept.KeptWay.{KeptWay}
-use Rattle.kept_ways.proofs.Reading.{stands_read}
 use Rattle.mode_forests.specs.declared.forests.Edge.{Edge}
 use Rattle.mode_edges.specs.declared.searching.Reach.{Reach}
 use Rattle.mode_edges.specs.Reached.{AreApart, Leads, IsMoveOf, Setting, IsEdgeOf, IsReachable, here, along, EntersAgain, IsAgain, IsStart, AddsEdge, known, fresh, AddsMove, IsDone, IsRecorded, Records, IsFound, IsReaching, Expands}
@@ -34,10 +34,6 @@ recorded_grows : (way : KeptWay) (mode : Value) (move : Move) (old new : Reach) 
 recorded_grows way mode Still old new g h = h
 recorded_grows way mode Wrong old new g h = g.wrong h
 recorded_grows way mode (To v) old new g h = (g.modes v h.0, g.edges (record { from = mode; event = way.event; way = way.way; to = v }) h.1)
-
-last_place : {A : Type 0} (a b : A) (k : ℕ) → Stands (a ∷ []) k b → (k ≡ 0) × (a ≡ b)
-last_place a b zero s = (refl, cc)
-last_place a b (suc k) s = absurd (stands_none k b s)
 
 again_more : (first : Value) (edges : List Edge) (e : Edge) → EntersAgain first edges → EntersAgain first (edges ++ e ∷ [])
 again_more first edges e h = record {
@@ -285,7 +281,7 @@ pub expands_more : (p : GtsParts) (n : ℕ) (domain : List Value) (ways : List K
 expands_more p n domain ways mode i d old now new led h e is adds = record {
   on = λ first next apart st r.
       let k = e.on first next apart st r in
-      let way = stands_read ways i d h in
+      let way = stands_get ways i d h in
       let s : Setting = record { parts = p; number = n; domain = domain; ways = ways } in
       (stays s first next i now mode (get_or ways i d) apart k.0 way k.1 led new adds, step s first next i now mode (get_or ways i d) apart k.0 way k.1 led new is adds);
 }

@@ -1,24 +1,14 @@
 -- The next edge, one edge after the other, and the edges below it.
 use Rattle.std.proofs.Common.{◌≡◌, ◌<◌, ◌≤◌, ◌+◌, ◌++◌, ◌⊎◌, inl, inr, ℕ, zero, suc, Bool, true, false, nat_lt, if◌then◌else◌, append-nil, List, [], ◌∷◌, length, Option, Some, None, append_assoc, refl, sym, ◌∙◌, ap, subst, arith}
 use Rattle.std.proofs.lemmas.Bool.Decides.{nat_tests}
+use Rattle.std.proofs.lemmas.Bool.{ltb-false}
 use Rattle.ar_base.specs.Lists.{Stands}
-use Rattle.ar_base.proofs.Standing.{stands_one, stands_within, one_here}
+use Rattle.ar_base.proofs.Standing.{stands_one, stands_within, one_here, at_most}
+use Rattle.ar_base.proofs.Comparing.{low as low_of}
 use Rattle.domains.specs.declared.Value.{Value}
 use Rattle.mode_forests.specs.declared.forests.Edge.{Edge}
 use Rattle.mode_trees.specs.Below.{IsBelow, no_more, next}
 use Rattle.mode_trees.specs.Paths.{Leaves, IsNext, IsNextOrNone, earlier_of, GetsBelow}
-
-low_of : (m n : ℕ) → nat_lt m n ≡ true → m ≤ n
-low_of m n e = grind (arith, nat_tests)
-
-high_of : (m n : ℕ) → nat_lt m n ≡ false → n ≤ m
-high_of m n e = grind (arith, nat_tests)
-
-at_most : (k i : ℕ) → k < i + 1 → (k < i) ⊎ (k ≡ i)
-at_most zero zero h = inr refl
-at_most zero (suc i) h = inl (omega arith)
-at_most (suc k) zero h = absurd (omega arith)
-at_most (suc k) (suc i) h = elim (at_most k i (omega arith)) [ inl a ↦ inl (omega arith) | inr a ↦ inr (ap suc a) ]
 
 module _ (edges : List Edge) (from : Value) (low : ℕ) where
   -- of the first edges and the one behind them
@@ -68,7 +58,7 @@ module _ (edges : List Edge) (from : Value) (low : ℕ) where
                 (λ k f b u m. let q = h.least k f b u m in omega (arith, q, less)) (λ m. omega arith);
           }
       by false t =
-          let less = high_of e.event.n g.event.n t in
+          let less = ltb-false e.event.n g.event.n t in
           record {
             place = h.place;
             below = omega (arith, h.below);

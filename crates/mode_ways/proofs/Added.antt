@@ -1,69 +1,13 @@
--- Lists that are gathered item by item.
-use Rattle.std.proofs.Common.{◌≡◌, ℕ, zero, suc, ◌+◌, ◌<◌, ◌≤◌, ◌⊎◌, inl, inr, List, [], ◌∷◌, ◌++◌, length, drop, take, take_all, get_or, refl, sym, ap, ◌∙◌, subst, arith}
-use Rattle.std.proofs.lemmas.List.{at_drop_more, at_drop_all, take_more}
+-- Lists that are gathered for the items of another list, and what holds of each item so far.
+use Rattle.std.proofs.Common.{◌≡◌, ℕ, zero, suc, ◌+◌, ◌<◌, ◌≤◌, ◌⊎◌, inl, inr, List, [], ◌∷◌, ◌++◌, length, drop}
+use Rattle.std.proofs.Common.{take, take_all, get_or, refl, sym, ap, ◌∙◌, subst, arith}
+use Rattle.std.proofs.lemmas.List.{take_more}
 use Rattle.ar_base.specs.Lists.{Stands, IsOneOf}
-use Rattle.ar_base.proofs.Standing.{stands_none, one_none, one_here, one_first, one_split, one_left, one_right, only_item}
-use Rattle.mode_ways.specs.Adding.{Adds, HasThose, SomeHas, in_this, in_later}
-
-module _ {A : Type 0} where
-  pub adds_none : (P : A → Type 0) (xs : List A) → ((x : A) → P x → ⊥) → Adds P xs xs
-  adds_none P xs lacks = record { grows = λ q o. o; only = λ q o. inl o; all = λ x p. absurd (lacks x p) }
-
-  pub adds_then : (P Q R : A → Type 0) (a b c : List A) → Adds P a b → Adds Q b c → ((x : A) → R x → P x ⊎ Q x) → ((x : A) → P x → R x) → ((x : A) → Q x → R x) → Adds R a c
-  adds_then P Q R a b c f g split left right = record {
-    grows = λ q o. g.grows q (f.grows q o);
-    only = λ q o. elim (g.only q o) [
-      | inl h ↦ (elim (f.only q h) [ inl k ↦ inl k | inr k ↦ inr (left q k) ])
-      | inr k ↦ inr (right q k)
-    ];
-    all = λ x r. elim (split x r) [ inl p ↦ g.grows x (f.all x p) | inr q ↦ g.all x q ];
-  }
-
-  pub adds_as : (P R : A → Type 0) (a b : List A) → ((x : A) → R x → P x) → ((x : A) → P x → R x) → Adds P a b → Adds R a b
-  adds_as P R a b back there f = record {
-    grows = f.grows;
-    only = λ q o. elim (f.only q o) [ inl k ↦ inl k | inr k ↦ inr (there q k) ];
-    all = λ x r. f.all x (back x r);
-  }
-
-  -- these items more
-  pub adds_these : (R : A → Type 0) (ys a b : List A) → ((x : A) → IsOneOf ys x → R x) → ((x : A) → R x → IsOneOf ys x) → b ≡ a ++ ys → Adds R a b
-  adds_these R ys a b has only e = record {
-    grows = λ q o. subst (λ (z : List A). IsOneOf z q) (sym e) (one_left a ys q o);
-    only = λ q o. elim (one_split a ys q (subst (λ (z : List A). IsOneOf z q) e o)) [ inl k ↦ inl k | inr i ↦ inr (has q i) ];
-    all = λ x r. subst (λ (z : List A). IsOneOf z x) (sym e) (one_right a ys x (only x r));
-  }
-
-  pub adds_one : (R : A → Type 0) (y : A) (a b : List A) → R y → ((x : A) → R x → x ≡ y) → b ≡ a ++ y ∷ [] → Adds R a b
-  adds_one R y a b has only e = adds_these R (y ∷ []) a b (λ x o. subst R (only_item y x o) has)
-      (λ x r. subst (λ (z : A). IsOneOf (y ∷ []) z) (sym (only x r)) (one_first y [])) e
-
-  pub those_of_empty : (P : A → Type 0) (a b : List A) → a ≡ [] → Adds P a b → HasThose P b
-  those_of_empty P a b e h = record {
-    only = λ x o. elim (h.only x o) [ inl k ↦ absurd (one_none x (subst (λ (z : List A). IsOneOf z x) e k)) | inr k ↦ k ];
-    each = h.all;
-  }
-
-  -- once the things of what is left are there, the things of the whole are
-  pub record Remains (left whole : A → Type 0) (old now : List A) : Type 0 where
-    pub on : (end : List A) → Adds left now end → Adds whole old end
-
-  pub remains_start : (P : A → Type 0) (xs : List A) → Remains P P xs xs
-  remains_start P xs = record { on = λ f h. h }
-
-  pub remains_on : (P left after whole : A → Type 0) (old now new : List A) → Remains left whole old now → Adds P now new
-      → ((x : A) → left x → P x ⊎ after x) → ((x : A) → P x → left x) → ((x : A) → after x → left x) → Remains after whole old new
-  remains_on P left after whole old now new r p split a b = record { on = λ f h. r.on f (adds_then P after left now new f p h split a b) }
-
-  pub remains_all : (left whole : A → Type 0) (old now : List A) → Remains left whole old now → ((x : A) → left x → ⊥) → Adds whole old now
-  remains_all left whole old now r lacks = r.on now (adds_none left now lacks)
-
--- the first item of what is left of a list
-pub next_left : {A : Type 0} (xs : List A) (i : ℕ) (x : A) → i < length xs → x ≡ get_or xs i x → drop i xs ≡ x ∷ drop (i + 1) xs
-next_left {A} xs i x h is = at_drop_more (λ (z : List A). z) xs i x h ∙ ap (λ (z : A). z ∷ drop (i + 1) xs) (sym is)
-
-pub none_left : {A : Type 0} (xs : List A) (i : ℕ) → length xs ≤ i → drop i xs ≡ []
-none_left {A} xs i h = at_drop_all (λ (z : List A). z) xs i h
+use Rattle.ar_base.proofs.Standing.{stands_none, one_here, one_first, one_split, one_left, one_right, only_item}
+use Rattle.ar_base.proofs.Items.{next_left, none_left}
+use Rattle.gts_core.specs.Adding.{Adds}
+use Rattle.gts_core.proofs.Added.{Remains, remains_start, remains_on, remains_all}
+use Rattle.mode_ways.specs.Adding.{SomeHas, in_this, in_later}
 
 module _ {A B : Type 0} (P : B → A → Type 0) where
   pub some_cases : (b : B) (bs : List B) (x : A) → SomeHas P (b ∷ bs) x → P b x ⊎ SomeHas P bs x
@@ -120,9 +64,3 @@ module _ {A : Type 0} (xs : List A) (i : ℕ) where
 
   pub taken_more : (a x : A) → i < length xs → a ≡ get_or xs i a → IsOneOf (take i xs) x → IsOneOf (take (i + 1) xs) x
   taken_more a x h is o = subst (λ (z : List A). IsOneOf z x) (sym (take_more xs i a h ∙ ap (λ (z : A). take i xs ++ z ∷ []) (sym is))) (one_left (take i xs) (a ∷ []) x o)
-
--- what is read at a place of a list does not turn on what is read past the end
-pub any_default : {A : Type 0} (xs : List A) (i : ℕ) (d e : A) → i < length xs → get_or xs i d ≡ get_or xs i e
-any_default [] i d e h = absurd (omega arith)
-any_default (x ∷ xs) zero d e h = refl
-any_default (x ∷ xs) (suc i) d e h = any_default xs i d e (omega arith)

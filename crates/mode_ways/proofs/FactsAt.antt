@@ -1,9 +1,11 @@
 -- What yields from the values of one variable alone.
 use Rattle.std.proofs.Common.{◌≡◌, ℕ, ◌+◌, ◌<◌, ◌≤◌, Bool, true, false, cond, nat_eq, List, [], ◌∷◌, ◌++◌, map, length, drop, get_or, Contains, refl, sym, subst, arith}
 use Rattle.std.proofs.lemmas.Bool.Decides.{nat_tests}
+use Rattle.std.proofs.lemmas.Bool.{eqb-true}
 use Rattle.ar_base.specs.Lists.{IsOneOf}
 use Rattle.ar_base.specs.Numbers.{VarId}
 use Rattle.ar_base.proofs.Standing.{one_contains, contains_one, one_first, only_item}
+use Rattle.ar_base.proofs.Items.{next_left, none_left}
 use Rattle.domains.specs.declared.Value.{Value}
 use Rattle.domains.specs.declared.Value.TheVariants.{Truth}
 use Rattle.typed_expr.specs.Sets.{HasExactly}
@@ -15,12 +17,9 @@ use Rattle.ar_firing.specs.Fragment.{At}
 use Rattle.gts_core.specs.View.{numbered, condition_of, assign_of}
 use Rattle.gts_core.proofs.Numbering.{yields_numbered, yields_back}
 use Rattle.gts_core.specs.declared.system.Assign.{Assign}
-use Rattle.mode_ways.specs.Adding.{Adds}
+use Rattle.gts_core.specs.Adding.{Adds}
 use Rattle.mode_ways.specs.Moves.{values_at, HasAt, GivesValue}
-use Rattle.mode_ways.proofs.Added.{next_left, none_left, adds_none, adds_these}
-
-same : (m n : ℕ) → nat_eq m n ≡ true → m ≡ n
-same m n e = grind (arith, nat_tests)
+use Rattle.gts_core.proofs.Added.{adds_none, adds_these}
 
 itself : (n : ℕ) → nat_eq n n ≡ true
 itself n = grind (arith, nat_tests)
@@ -30,7 +29,7 @@ pub at_there : (x : ℕ) (m : Value) (n : ℕ) (v : Value) → HasAt x (m ∷ []
 at_there x m n v h = by (nat_eq n x) refl h
   where
     by : (b : Bool) → nat_eq n x ≡ b → Contains (cond b (m ∷ []) []) v → At x m n v
-    by true e c = record { key = same n x e; value = sym (only_item m v (one_contains (m ∷ []) v c)) }
+    by true e c = record { key = eqb-true n x e; value = sym (only_item m v (one_contains (m ∷ []) v c)) }
     by false e c = absurd (omega arith)
 
 pub at_back : (x : ℕ) (m : Value) (n : ℕ) (v : Value) → At x m n v → HasAt x (m ∷ []) n v

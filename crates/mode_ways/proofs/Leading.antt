@@ -20,7 +20,8 @@ use Rattle.gts_core.specs.View.{numbered, assign_of}
 use Rattle.gts_core.specs.declared.system.Assign.{Assign}
 use Rattle.mode_ways.specs.declared.moves.Move.{Move}
 use Rattle.mode_ways.specs.declared.moves.Move.TheVariants.{Still, To, Wrong}
-use Rattle.mode_ways.specs.Adding.{HasThose, SomeHas}
+use Rattle.gts_core.specs.Adding.{HasThose}
+use Rattle.mode_ways.specs.Adding.{SomeHas}
 use Rattle.mode_ways.specs.Modes.{transition_of}
 use Rattle.mode_ways.specs.Moves.{HasAt, GivesValue, IsMove, IsJudged}
 use Rattle.mode_ways.proofs.Added.{some_item, some_here}
@@ -74,11 +75,6 @@ module _ (x : ℕ) (m : Value) (g : Expr VarId) (action : List Assign) where
     judged_is Still h = absurd h
     judged_is (To v) h = record { can = can; gives = on v h.0; one = λ w e. h.1 w (off w e); in_domain = h.2 }
     judged_is Wrong h = record { can = can; gives = other_there h }
-
--- the first value of a list is in it
-pub first_in : (row : List Value) (v : Value) → slice_get row 0 ≡ Some v → Contains row v
-first_in [] v e = cc
-first_in (x ∷ xs) v e = let i : x ≡ v = cc in (0, omega arith, i)
 
 -- a list with no first value is empty
 pub none_in : (row : List Value) (v : Value) → slice_get row 0 ≡ None → Contains row v → ⊥

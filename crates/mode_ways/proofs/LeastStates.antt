@@ -1,9 +1,11 @@
 -- The least state variables that are named, and mode variables.
 use Rattle.std.proofs.Common.{◌≡◌, ℕ, ◌+◌, ◌<◌, ◌≤◌, ◌⊎◌, inl, inr, Bool, true, false, cond, nat_lt, List, length, take, take_all, get_or, Option, Some, None, MatchOption, sym, ap, ◌∙◌, subst, arith}
 use Rattle.std.proofs.lemmas.Bool.Decides.{nat_tests}
+use Rattle.std.proofs.lemmas.Bool.{ltb-false}
 use Rattle.ar_base.specs.Lists.{Stands, IsFirst, HasNo}
 use Rattle.ar_base.specs.Numbers.{VarId}
 use Rattle.ar_base.proofs.Standing.{one_none}
+use Rattle.ar_base.proofs.Comparing.{low}
 use Rattle.typed_expr.specs.Mentions.{Mentions}
 use Rattle.typed_expr.specs.declared.expr.Expr.{Expr, out-Expr}
 use Rattle.ar_meaning.specs.Systems as s
@@ -15,17 +17,11 @@ use Rattle.gts_core.specs.View.{net_of, variable_of}
 use Rattle.gts_core.proofs.Viewing.{variable_there, variable_back}
 use Rattle.gts_core.specs.declared.system.Assign.{Assign}
 use Rattle.gts_core.specs.declared.system.GtsParts.{GtsParts}
-use Rattle.mode_ways.specs.Adding.{HasThose}
+use Rattle.gts_core.specs.Adding.{HasThose}
 use Rattle.mode_ways.specs.Named.{OneNames}
 use Rattle.mode_ways.specs.Modes.{IsStateAt, IsNamedState, IsLeast, lesser_of, else_of, IsAlone, NamesAlone, number_in, transition_of}
 use Rattle.mode_ways.proofs.Added.{taken_cases, taken_here, taken_more}
 use Rattle.mode_ways.proofs.NamesNumbered.{guard_there, guard_back, action_there, action_back}
-
-low : (m n : ℕ) → nat_lt m n ≡ true → m ≤ n
-low m n e = grind (arith, nat_tests)
-
-high : (m n : ℕ) → nat_lt m n ≡ false → n ≤ m
-high m n e = grind (arith, nat_tests)
 
 module _ (P Q R : ℕ → Type 0) (split : (n : ℕ) → R n → P n ⊎ Q n) (left : (n : ℕ) → P n → R n) (right : (n : ℕ) → Q n → R n) where
   pub lesser_is : (a b : Option VarId) → IsLeast P a → IsLeast Q b → IsLeast R (lesser_of a b)
@@ -36,7 +32,7 @@ module _ (P Q R : ℕ → Type 0) (split : (n : ℕ) → R n → P n ⊎ Q n) (l
     where
       by : (c : Bool) → nat_lt y.n x.n ≡ c → IsLeast R (cond c (Some y) (Some x))
       by true e = (right y.n k.0, λ n q. elim (split n q) [ inl p ↦ (let u = h.1 n p in let v = low y.n x.n e in omega arith) | inr p ↦ k.1 n p ])
-      by false e = (left x.n h.0, λ n q. elim (split n q) [ inl p ↦ h.1 n p | inr p ↦ (let u = k.1 n p in let v = high y.n x.n e in omega arith) ])
+      by false e = (left x.n h.0, λ n q. elim (split n q) [ inl p ↦ h.1 n p | inr p ↦ (let u = k.1 n p in let v = ltb-false y.n x.n e in omega arith) ])
 
 module _ (p : GtsParts) (unit : ℕ) where
   -- the number is that of this variable, a state variable of the unit

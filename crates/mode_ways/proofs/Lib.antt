@@ -1,5 +1,4 @@
 pub mod Added
-mod NamedVariables
 mod NamesNumbered
 mod LeastStates
 mod FactsAt

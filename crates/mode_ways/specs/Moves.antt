@@ -24,11 +24,6 @@ values_at x values y = if nat_eq y.n x then values else []
 abbrev pub HasAt : ℕ → List Value → ℕ → Value → Type 0
 HasAt x values n v = Contains (if nat_eq n x then values else []) v
 
--- what an assignment that is reached yields, or that it is not reached
-abbrev pub Reaches : (ℕ → Value → Type 0) → s.Assign ℕ → Option (List Value) → Type 0
-Reaches facts a None = Passes facts a.conditions → ⊥
-Reaches facts a (Some set) = Passes facts a.conditions × HasExactly set (Yields facts (out-Expr ℕ a.value))
-
 -- the assignment gives the variable of number x this value
 pub record GivesValue (facts : ℕ → Value → Type 0) (x : ℕ) (a : Assign) (v : Value) : Type 0 where
   pub target : a.target.n ≡ x

@@ -4,12 +4,14 @@ ghost use Rattle.std.specs.Prelude.{◌≡◌, ◌++◌, IfOk, Contains, map};
 ghost use Rattle.domains.specs.Domains.{IsDomain, values_of};
 ghost use Rattle.ar_meaning.specs.Facts.{Passes};
 ghost use Rattle.ar_meaning.specs.Found.{IsAnswer};
+ghost use Rattle.ar_meaning.specs.Reached.{Reaches};
 ghost use Rattle.ar_firing.specs.Fragment.{At};
 ghost use Rattle.gts_core.specs.View.{assign_of, condition_of};
-ghost use Rattle.mode_ways.specs.Adding.{Adds, HasThose, SomeHas};
+ghost use Rattle.gts_core.specs.Adding.{Adds, HasThose};
+ghost use Rattle.mode_ways.specs.Adding.{SomeHas};
 ghost use Rattle.mode_ways.specs.Modes.{transition_of};
 ghost use Rattle.ar_base.specs.Lists.{HasOther};
-ghost use Rattle.mode_ways.specs.Moves.{HasAt, IsMove, IsJudged, Reaches, GivesValue};
+ghost use Rattle.mode_ways.specs.Moves.{HasAt, IsMove, IsJudged, GivesValue};
 
 use ar_base::{Memory, VarId};
 use domains::{Domain, Value};

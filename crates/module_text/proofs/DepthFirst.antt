@@ -9,7 +9,7 @@ use Rattle.hierarchy.specs.Units.{Level, UnitPath, Thing, names_at}
 use Rattle.hierarchy.specs.Walks.{thing, is_event}
 use Rattle.hierarchy.specs.Listing.{Lists, Insides, Makes, unit, none, makes, passes, things_in, events, AreUnits}
 use Rattle.hierarchy.proofs.Apart.{units_different, members_apart}
-use Rattle.hierarchy.proofs.Places.{AreApart, IsUnder, made_named, lists_under}
+use Rattle.hierarchy.proofs.Places.{AreApart, IsUnder, made_named, lists_under, apart_rest, two_members}
 
 -- ---- units within units
 pub under_through : {u v w : UnitPath} → IsUnder u v → IsUnder v w → IsUnder u w
@@ -36,22 +36,6 @@ made_under : (m : RootedModel) (u v w : UnitPath) (g : NamedMember) → Makes m 
 made_under m u v w g k i =
     let n = made_named m u v g k in
     under_through (record { levels = n.level ∷ []; is = n.is }) i
-
--- the members that make two units with a common unit within them, and no other common unit round it, are one
-one_member : (m : RootedModel) (u v z w : UnitPath) (g n : NamedMember) → Makes m u g v → Makes m u n z → IsUnder v w → IsUnder z w → g.name ≡ n.name
-one_member m u v z w g n k h i j =
-    let a = made_named m u v g k in
-    let b = made_named m u z n h in
-    let la = ap length a.is in
-    let lb = ap length b.is in
-    let long : length v ≡ length z = omega (arith, la, lb) in
-    let same : v ≡ z = same_long (round_both i j (omega (arith, long))) long in
-    let levels : a.level ∷ u ≡ b.level ∷ u = sym a.is ∙ same ∙ b.is in
-    let one : a.level ≡ b.level = cc in
-    sym a.name ∙ ap (λ (l : Level). l.name) one ∙ b.name
-
-apart_rest : {g : NamedMember} {gs : List NamedMember} → AreApart (g ∷ gs) → AreApart gs
-apart_rest a = record { apart = λ i j g n p q e. let h = a.apart (suc i) (suc j) g n p q e in omega (arith, h) }
 
 -- a unit within one that a member makes
 record IsUnderMade (m : RootedModel) (u : UnitPath) (gs : List NamedMember) (w : UnitPath) : Type 0 where
@@ -109,7 +93,7 @@ mutual
             let o = made_named m u e.made_unit e.member e.made in
             let ln = ap length n.is in
             let lo = ap length o.is in
-            let one = one_member m u made e.made_unit v g e.member k e.made (round_both (lists_under d a ia) x (omega (arith, l, ln))) (round_both e.under y (omega (arith, l, lo))) in
+            let one = two_members m u made e.made_unit v g e.member k e.made (round_both (lists_under d a ia) x (omega (arith, l, ln))) (round_both e.under y (omega (arith, l, lo))) in
             let h = far.apart 0 (suc e.place) g e.member refl e.stands one in
             omega (arith, h)
             )

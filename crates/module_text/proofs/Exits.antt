@@ -5,7 +5,4 @@ use Rattle.ar_io.specs.declared.outside.SinkFailed.{SinkFailed}
 use Rattle.cut_text.specs.Answers.{Prints}
 use Rattle.cut_text.specs.declared.faults.PrintFault.{PrintFault}
 use Rattle.cut_text.specs.declared.faults.PrintFault.TheVariants.{Write}
-
-pub failed : {a b : SinkState} {text : List ℕ} {e : SinkFailed} (r : Result (Unit {0}) PrintFault) → r ≡ Err Write
-    → Writes a b text (Err e) → Prints a b text r
-failed {a = a} {b = b} {text = text} r i h = subst (λ (z : Result (Unit {0}) PrintFault). Prints a b text z) (sym i) h
+use Rattle.cut_text.proofs.Answering.{failed}

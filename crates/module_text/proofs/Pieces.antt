@@ -13,6 +13,7 @@ use Rattle.mode_forests.specs.declared.forests.ModeTree.{ModeTree}
 use Rattle.zdd_families.specs.Families.{holds}
 use Rattle.ar_base.specs.Numbers.{UnitId}
 use Rattle.ar_base.proofs.Standing.{one_none, one_first, one_rest, one_cases, one_split, one_here, stands_map, stands_map_back, stands_within, along_back}
+use Rattle.ar_base.proofs.Lines.{line_after}
 use Rattle.mode_forests.specs.Ways.{OwnTheirWays}
 use Rattle.replayer.specs.Flat.{way_label}
 use Rattle.gate_modules.specs.Shortened.{numbers, set_of, module_of, form_of}
@@ -29,6 +30,7 @@ use Rattle.module_text.specs.declared.arranging.Piece.TheVariants.{Unit as AUnit
 use Rattle.module_text.specs.declared.arranging.Line.{Line}
 use Rattle.module_text.specs.declared.arranging.Group.{Group}
 use Rattle.cut_text.specs.Printed.{edges_of}
+use Rattle.cut_text.proofs.TableLemmas.{tree_of_edge}
 
 pub held_at : (e : ℕ) (xs : List EventId) (k : ℕ) (d : EventId) → k < length xs → e ≡ (get_or xs k d).n → holds e (numbers xs) ≡ true
 held_at e [] k d l h = absurd (omega (arith, l))
@@ -87,17 +89,10 @@ one_filtered q (x ∷ xs) e i = step (one_filtered q xs e) (q x) i
     step ih true i = elim (one_cases x (filter q xs) e i) [ inl h ↦ subst (λ z. IsOneOf (x ∷ xs) z) h (one_first x xs) | inr j ↦ one_rest x xs e (ih j) ]
     step ih false i = one_rest x xs e (ih i)
 
-edge_tree : (ts : List ModeTree) (e : Edge) → IsOneOf (edges_of ts) e → (t : ModeTree) × IsOneOf ts t × IsOneOf t.edges.items e
-edge_tree [] e i = absurd (one_none e i)
-edge_tree (t ∷ ts) e i = elim (one_split t.edges.items (edges_of ts) e i) [
-  | inl j ↦ (t, one_first t ts, j)
-  | inr j ↦ (let r = edge_tree ts e j in (r.0, one_rest t ts r.0 r.1, r.2))
-]
-
 module _ (p : GtsParts) (ts : List ModeTree) (own : OwnTheirWays p ts) where
   edge_inside : (e : Edge) → IsOneOf (edges_of ts) e → e.way.n < length p.ways.items
   edge_inside e i =
-      let r = edge_tree ts e i in
+      let r = tree_of_edge ts e i in
       let o = (own.each r.0 r.1).each e r.2 in
       stands_within p.ways.items e.way.n o.way o.stands
 
@@ -125,10 +120,6 @@ module _ (p : GtsParts) (ts : List ModeTree) (own : OwnTheirWays p ts) where
 
   pub groups_inside : (ms : List Module) (gs : List Group) → Along (IsGroupOf (edges_of ts)) ms gs → GroupsInside p gs
   groups_inside ms gs a = record { each = λ g i. let t = along_back ms gs a i.place g i.stands in parts_inside t.0.sets.items g.lines.items t.2.lines }
-
--- ---- texts in pieces
-line_after : (a t rest : List ℕ) → rest ≡ line t → a ++ rest ≡ line (a ++ t)
-line_after a t rest e = ap (λ (z : List ℕ). a ++ z) e ∙ sym (append_assoc a t (10 ∷ []))
 
 pub head_pieces : (path t : List ℕ) → path ≡ t → codes "module " ++ (path ++ 10 ∷ []) ≡ module_line t
 head_pieces path t e = line_after (codes "module ") path _ refl ∙ ap module_line e

@@ -8,8 +8,9 @@ use Rattle.hierarchy.specs.declared.tree.MemNode.{MemNode}
 use Rattle.hierarchy.specs.declared.tree.UnitNode.{UnitNode}
 use Rattle.gate_modules.specs.Modules.{lies}
 use Rattle.gate_modules.specs.declared.ranges.Range.{Range}
+use Rattle.gate_modules.proofs.Exchange.{lies_in, in_lies}
 use Rattle.module_text.specs.Spans.{AreBelow, IsOver, here, above, IsOf, Gains, AllGain, IsAt, IsAtFirst, IsEmpty, AreEmpty, ReachesTo, AllReach}
-use Rattle.module_text.proofs.Spanning.{lies_in, in_lies, over_least}
+use Rattle.module_text.proofs.Spanning.{over_least}
 
 -- a range that has numbers and reaches up to the event ends before it
 pub reached_end : (event : ℕ) (r : Range) → ReachesTo event r → r.from < r.to → r.to ≡ event

@@ -16,6 +16,7 @@ use Rattle.ar_meaning.specs.TraceText.{Naming, label_text, way_text, ways_of}
 use Rattle.ar_meaning.specs.FlatOf.{IsNumber, IsFlatOf}
 use Rattle.ar_meaning.specs.Image.{Event_renames, Expr_renames}
 use Rattle.ar_meaning.proofs.FlatSystems.{flat_image, flat_back}
+use Rattle.ar_meaning.proofs.ImageWays.{ways_count}
 use Rattle.ar_firing.specs.Cuts.{Cut}
 use Rattle.ar_firing.specs.Forest.{Row}
 use Rattle.ar_firing.specs.Forest as firing
@@ -46,14 +47,6 @@ use Rattle.gate_modules.specs.declared.ranges.Short.{Short}
 use Rattle.module_text.specs.Printed.{labels_in, module_lines, form_line, short_lines}
 use Rattle.module_text.specs.Ranges.{AreRangesOf}
 use Rattle.module_text.specs.Texts.{labels_of, in_firing_order, module_line, part_line, unit_mark, lines_line, module_text, form_text, short_text, IsModuleText}
-
--- events that rename each other have as many ways
-ways_count : {V W : Type 0} (same : V → W → Type 0) {es : List (Event V)} {fs : List (Event W)}
-    → Along (Event_renames same) es fs → (n : ℕ) → ways_of (slice_get es n) ≡ ways_of (slice_get fs n)
-ways_count same l.none zero = refl
-ways_count same l.none (suc n) = refl
-ways_count same (l.one_and r rs) zero = along_length _ _ r.ways
-ways_count same (l.one_and r rs) (suc n) = ways_count same rs n
 
 flat_same : {A B : Type 0} (f g : A → List B) → ((a : A) → f a ≡ g a) → (xs : List A) → flat_map f xs ≡ flat_map g xs
 flat_same f g h [] = refl

@@ -1,6 +1,6 @@
 -- Events gathered in the ranges of units: what each step adds, and that all of them are there in the end.
 use Rattle.std.proofs.Common.{◌≡◌, ◌↔◌, ◌⊎◌, inl, inr, ⊎_elim, ℕ, suc, ◌+◌, ◌-◌, ◌<◌, ◌≤◌, Bool, true, false, not, ◌&&◌, nat_lt, List, length, Some, refl, sym, ◌∙◌, ap, ap₂, subst, arith, true≢false}
-use Rattle.std.proofs.lemmas.Bool.{cases_lt}
+use Rattle.std.proofs.lemmas.Bool.{cases_lt, ltb-false}
 use Rattle.ar_base.specs.Lists.{Stands}
 use Rattle.ar_base.specs.Numbers.{UnitId}
 use Rattle.ar_base.proofs.Standing.{stands_one, stands_within, at_most}
@@ -8,31 +8,8 @@ use Rattle.hierarchy.specs.declared.tree.MemNode.{MemNode}
 use Rattle.hierarchy.specs.declared.tree.UnitNode.{UnitNode}
 use Rattle.gate_modules.specs.Modules.{lies, AreRanges, AreApart, Covers, HasEvents}
 use Rattle.gate_modules.specs.declared.ranges.Range.{Range}
+use Rattle.gate_modules.proofs.Exchange.{lies_in, in_lies}
 use Rattle.module_text.specs.Spans.{AreBelow, IsOver, here, above, IsOf, GainsAt, AllGain, IsAt, IsAtOver, IsAtFirst, IsEmpty, AreEmpty}
-
--- the range's test, number by number
-below_is : (x y : ℕ) → nat_lt x y ≡ true → x < y
-below_is x y e = grind arith
-
-is_below : (x y : ℕ) → x < y → nat_lt x y ≡ true
-is_below x y l = grind arith
-
-not_below_is : (x y : ℕ) → nat_lt x y ≡ false → y ≤ x
-not_below_is x y e = grind arith
-
-not_below : (x y : ℕ) → y ≤ x → nat_lt x y ≡ false
-not_below x y l = grind arith
-
-pub lies_in : (r : Range) (x : ℕ) → r.from ≤ x → x < r.to → lies r x ≡ true
-lies_in r x a b = ap₂ (λ p q. not p && q) (not_below x r.from a) (is_below x r.to b)
-
-pub in_lies : (r : Range) (x : ℕ) → lies r x ≡ true → (r.from ≤ x) × (x < r.to)
-in_lies r x h = step (nat_lt x r.from) refl (nat_lt x r.to) refl
-  where
-    step : (p : Bool) → nat_lt x r.from ≡ p → (q : Bool) → nat_lt x r.to ≡ q → (r.from ≤ x) × (x < r.to)
-    step true e q k = absurd (true≢false (sym h ∙ ap (λ p. not p && nat_lt x r.to) e))
-    step false e false k = absurd (true≢false (sym h ∙ ap₂ (λ p q. not p && q) e k))
-    step false e true k = (not_below_is x r.from e, below_is x r.to k)
 
 -- a range with events whose events are all of the other one lies within it
 pub covers_by : (a b : Range) → ((y : ℕ) → lies b y ≡ true → lies a y ≡ true) → HasEvents b → Covers a b

@@ -13,12 +13,9 @@ use Rattle.std.proofs.lemmas.List.Kept.{Contains-dedup, Contains-from_dedup, IsS
 use Rattle.ar_base.specs.declared.faults.Memory.{Memory}
 use Rattle.ar_base.specs.Lists.{Stands, IsOneOf}
 use Rattle.ar_base.proofs.Standing.{stands_none, stands_map, stands_map_back, one_here, one_none, one_split, one_left, one_right, one_contains, contains_one}
+use Rattle.ar_base.proofs.Items.{all_stand}
 use Rattle.ar_base.specs.Sets.{Ascends}
 use Rattle.number_pairs.specs.Pairing.{IsPaired, AddsRun}
-
-pub ok_as : (P Q : Type 0) (r : Result (Unit {0}) Memory) → (P → Q) → IfOk r (λ _. P) → IfOk r (λ _. Q)
-ok_as P Q (Ok x) f h = f h
-ok_as P Q (Err e) f h = tt
 
 -- the pairs with a first give their numbers
 pub run_added : (pairs : List (ℕ × ℕ)) (first : ℕ) (run : List (ℕ × ℕ)) (old new : List ℕ) → new ≡ old ++ map (λ (q : ℕ × ℕ). q.1) run
@@ -81,18 +78,13 @@ paired_more pairs xs i d old new h before adds n = (on, off)
       | inr e ↦ (adds.each n).1 (inr (subst (λ (z : ℕ). IsOneOf pairs (z, n)) (sym e) p.pair))
     ]
 
-less_all : (P : ℕ → Type 0) (xs : List ℕ) (k r : ℕ) → AllByRecursion P xs → Stands xs k r → P r
-less_all P [] k r a s = absurd (stands_none k r s)
-less_all P (x ∷ xs) zero r a s = let e : x ≡ r = cc in subst P e a.0
-less_all P (x ∷ xs) (suc k) r a s = less_all P xs k r a.1 s
-
 strictly : (xs : List ℕ) (j k q r : ℕ) → IsStrictlySortedBy nat_cmp xs → j < k → Stands xs j q → Stands xs k r → q < r
 unfolding IsStrictlySortedBy
 strictly [] j k q r s h a b = absurd (stands_none j q a)
 strictly (x ∷ xs) j zero q r s h a b = absurd (omega arith)
 strictly (x ∷ xs) zero (suc k) q r s h a b =
     let e : x ≡ q = cc in
-    ranked q r Less (sym (subst (λ (z : ℕ). nat_cmp z r ≡ Less) e (less_all (λ y. nat_cmp x y ≡ Less) xs k r s.0 b)))
+    ranked q r Less (sym (subst (λ (z : ℕ). nat_cmp z r ≡ Less) e (all_stand (λ y. nat_cmp x y ≡ Less) xs k r s.0 b)))
 strictly (x ∷ xs) (suc j) (suc k) q r s h a b = strictly xs j k q r s.1 (omega arith) a b
 
 -- the numbers, sorted and each once, ascend and are the same

@@ -1,2 +1,3 @@
 mod Runs
 mod Firsts
+pub mod PairRuns

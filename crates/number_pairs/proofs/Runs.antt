@@ -6,14 +6,10 @@ use Rattle.std.specs.List.Sorted.{IsPartitionPoint}
 use Rattle.std.proofs.lemmas.Option.{get_or_from_slice_get}
 use Rattle.ar_base.specs.Lists.{IsOneOf}
 use Rattle.ar_base.proofs.Standing.{stands_within, stands_some, one_contains, contains_one}
+use Rattle.ar_base.proofs.Comparing.{side}
 
 abbrev Pair : Type 0
 Pair = ℕ × ℕ
-
-side : (m n : ℕ) → (m ≤ n) ⊎ (n < m)
-side zero n = inl (omega arith)
-side (suc m) zero = inr (omega arith)
-side (suc m) (suc n) = elim (side m n) [ inl h ↦ inl (omega arith) | inr h ↦ inr (omega arith) ]
 
 -- what lies between the pairs of lesser and of greater firsts
 module _ (pairs : List Pair) (t from to : ℕ) (low : IsPartitionPoint (λ (r : Pair). ltb r.0 t ≡ true) (λ (r : Pair). ltb r.0 t ≡ false) pairs from)

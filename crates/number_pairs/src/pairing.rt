@@ -6,6 +6,7 @@ ghost use Rattle.ar_base.specs.Lists.{IsOneOf};
 ghost use Rattle.ar_base.specs.Sets.{Ascends};
 ghost use Rattle.number_pairs.specs.Pairing.{AddsRun, IsPaired};
 
+use crate::indexed::{IndexedPairs, run_in};
 use ar_base::Memory;
 use std::alloc::Global;
 
@@ -22,6 +23,27 @@ pub fn paired(alloc: Global, pairs: &[(u32, u32)], firsts: &[u32]) -> Result<Vec
     all.sort_unstable();
     all.dedup();
     Ok(all)
+}
+
+/// The same by indexed pairs, each first in constant time.
+pub fn paired_by(alloc: Global, pairs: &IndexedPairs, firsts: &[u32]) -> Result<Vec<u32>, Memory>
+    ensures ascends { IfOk result (λ all. Ascends all.items) }
+    ensures each { IfOk result (λ all. (n : ℕ) → (IsOneOf all.items n ↔ IsPaired pairs.now.pairs.items firsts.now n)) }
+{
+    let mut all = Vec::new(alloc);
+    for first in firsts {
+        add_indexed(pairs, *first, &mut all)?;
+    }
+    all.sort_unstable();
+    all.dedup();
+    Ok(all)
+}
+
+// Adds the numbers that stand in indexed pairs with a first.
+fn add_indexed(pairs: &IndexedPairs, first: u32, all: &mut Vec<u32>) -> Result<(), Memory>
+    ensures { IfOk result (λ _. AddsRun pairs.now.pairs.items first all.old.items all.new.items) }
+{
+    add_numbers(run_in(pairs, first), all)
 }
 
 // Adds the numbers that stand in pairs with a first.

@@ -5,6 +5,7 @@ use Rattle.ar_base.specs.Numbers.{VarId}
 use Rattle.ar_base.specs.Texts.{line, separated, text_at}
 use Rattle.ar_base.specs.declared.places.Place.{Place}
 use Rattle.ar_base.proofs.Standing.{stands_map}
+use Rattle.ar_base.proofs.Lines.{line_after}
 use Rattle.ar_meaning.specs.TraceText.{Naming, place_text}
 use Rattle.ar_meaning.specs.ValueTexts.{value_text}
 use Rattle.flow_rounds.specs.Reasons.{Reason}
@@ -14,10 +15,6 @@ use Rattle.gts_flatten.specs.Flat.{naming_of_parts}
 use Rattle.flow_reasons.specs.Answers.{numbers_of}
 use Rattle.reason_text.specs.Texts.{path_of, paths_of, from_text, added_text, why_text, reason_line}
 
--- a piece before the rest of its line
-line_after : (a t rest : List ℕ) → rest ≡ line t → a ++ rest ≡ line (a ++ t)
-line_after a t rest e = ap (λ (z : List ℕ). a ++ z) e ∙ sym (append_assoc a t (10 ∷ []))
-
 pub reason_pieces : (names : Naming) (r : Reason) (path : List ℕ) → path ≡ text_at names.variables r.flow
     → path ++ (codes " = " ++ (value_text names.symbols r.value ++ (why_text names r.by r.round r.rests_on ++ 10 ∷ []))) ≡ reason_line names r
 reason_pieces names r path e =
@@ -26,11 +23,6 @@ reason_pieces names r path e =
     ap (λ (z : List ℕ). z ++ (codes " = " ++ (value ++ (why ++ 10 ∷ [])))) e
     ∙ line_after (text_at names.variables r.flow) (codes " = " ++ (value ++ why)) _
     (line_after (codes " = ") (value ++ why) _ (line_after value why _ refl))
-
--- the place of an assignment
-pub place_is : (p : GtsParts) (n : ℕ) (a : Assign) → Stands p.assigns.items n a
-    → decimal a.at.line ++ (codes ":" ++ decimal a.at.column) ≡ place_text (slice_get (naming_of_parts p).places n)
-place_is p n a s = sym (ap (λ (o : Option Place). place_text o) (stands_map (λ (b : Assign). b.at) p.assigns.items n a s))
 
 pub added_pieces : (names : Naming) (a round : ℕ) (ns : List ℕ) (at : List ℕ) → at ≡ place_text (slice_get names.places a)
     → codes " round " ++ (decimal round ++ (codes " assignment " ++ (decimal (a + 1) ++ (codes " at " ++ (at ++ from_text names ns)))))

@@ -4,6 +4,8 @@ use Rattle.ar_base.specs.Lists.{Stands, IsOneOf}
 use Rattle.ar_base.specs.Numbers.{VarId}
 use Rattle.ar_base.specs.Sets.{Ascends}
 use Rattle.ar_base.proofs.Standing.{stands_within, stands_some, stands_none, stands_map, stands_get, one_first, one_rest, one_cases, one_here}
+use Rattle.ar_base.proofs.Sets.{ascends_rest, ascends_first}
+use Rattle.ar_base.proofs.Comparing.{three}
 use Rattle.domains.specs.declared.Value.{Value}
 use Rattle.domains.specs.Same.{is_same}
 use Rattle.domains.proofs.Same.{same_is, same_self}
@@ -12,23 +14,12 @@ use Rattle.gts_core.specs.Readings.{value_at}
 use Rattle.gts_core.proofs.Reading.{read_value}
 use Rattle.value_changes.specs.Changes.{numbers, HasChanged, AreChanges}
 use Rattle.replayer.specs.Printing.{change_text, changes_from, texts_of}
+use Rattle.stepper.proofs.Kept.{kept_value}
 
 -- the texts of so many numbers from n on
 abbrev span : (ℕ → List ℕ) → ℕ → ℕ → List ℕ
 span text n zero = []
 span text n (suc k) = text n ++ span text (n + 1) k
-
-ascends_tail : (n : ℕ) (ns : List ℕ) → Ascends (n ∷ ns) → Ascends ns
-ascends_tail n ns up = record { ascends = λ j k a b l s t. up.ascends (suc j) (suc k) a b (omega (arith, l)) s t }
-
-above_head : (n : ℕ) (ns : List ℕ) → Ascends (n ∷ ns) → (m : ℕ) → IsOneOf ns m → n < m
-above_head n ns up m o = up.ascends 0 (suc o.place) n m (omega arith) refl o.stands
-
-compare : (m n : ℕ) → (m < n) ⊎ ((m ≡ n) ⊎ (n < m))
-compare zero zero = inr (inl refl)
-compare zero (suc n) = inl (omega arith)
-compare (suc m) zero = inr (inr (omega arith))
-compare (suc m) (suc n) = elim (compare m n) [ inl h ↦ inl (omega (arith, h)) | inr h ↦ (elim h [ inl e ↦ inr (inl (ap suc e)) | inr g ↦ inr (inr (omega (arith, g))) ]) ]
 
 -- all texts are those of the numbers whose texts are not empty
 span_texts : (text : ℕ → List ℕ) (k n : ℕ) (ns : List ℕ) → Ascends ns → ((m : ℕ) → IsOneOf ns m → (n ≤ m) × (m < n + k))
@@ -38,14 +29,14 @@ span_texts text zero n (m ∷ ns) up within empty = let h = within m (one_first 
 span_texts text (suc k) n [] up within empty =
     ap (λ (z : List ℕ). z ++ span text (n + 1) k) (empty n (omega arith) (omega arith) (λ o. stands_none o.place n o.stands))
     ∙ span_texts text k (n + 1) [] up (λ m o. absurd (stands_none o.place m o.stands)) (λ m a b o. empty m (omega (arith, a)) (omega (arith, b)) o)
-span_texts text (suc k) n (m ∷ ns) up within empty = elim (compare n m) [
+span_texts text (suc k) n (m ∷ ns) up within empty = elim (three n m) [
   | inl h ↦ (
       ap (λ (z : List ℕ). z ++ span text (n + 1) k) (empty n (omega arith) (omega arith) (absent h))
       ∙ span_texts text k (n + 1) (m ∷ ns) up (λ j o. later h j o) (λ j a b o. empty j (omega (arith, a)) (omega (arith, b)) o)
       )
   | inr g ↦ (elim g [
     | inl e ↦ (
-        ap (λ (z : List ℕ). text n ++ z) (span_texts text k (n + 1) ns (ascends_tail m ns up) (λ j o. rest e j o) (λ j a b o. empty j (omega (arith, a)) (omega (arith, b)) (other e j a o)))
+        ap (λ (z : List ℕ). text n ++ z) (span_texts text k (n + 1) ns (ascends_rest m ns up) (λ j o. rest e j o) (λ j a b o. empty j (omega (arith, a)) (omega (arith, b)) (other e j a o)))
         ∙ ap (λ (z : ℕ). text z ++ texts_of text ns) e
         )
     | inr h ↦ (let a = (within m (one_first m ns)).0 in absurd (omega (arith, a, h)))
@@ -53,7 +44,7 @@ span_texts text (suc k) n (m ∷ ns) up within empty = elim (compare n m) [
 ]
   where
     least : (j : ℕ) → IsOneOf (m ∷ ns) j → m ≤ j
-    least j o = elim (one_cases m ns j o) [ inl e ↦ omega (arith, e) | inr r ↦ (let a = above_head m ns up j r in omega (arith, a)) ]
+    least j o = elim (one_cases m ns j o) [ inl e ↦ omega (arith, e) | inr r ↦ (let a = ascends_first m ns up j r in omega (arith, a)) ]
 
     absent : n < m → IsOneOf (m ∷ ns) n → ⊥
     absent h o = let a = least n o in omega (arith, a, h)
@@ -62,7 +53,7 @@ span_texts text (suc k) n (m ∷ ns) up within empty = elim (compare n m) [
     later h j o = let a = least j o in let b = (within j o).1 in (omega (arith, a, h), omega (arith, b))
 
     rest : n ≡ m → (j : ℕ) → IsOneOf ns j → (n + 1 ≤ j) × (j < n + 1 + k)
-    rest e j o = let a = above_head m ns up j o in let b = (within j (one_rest m ns j o)).1 in (omega (arith, a, e), omega (arith, b))
+    rest e j o = let a = ascends_first m ns up j o in let b = (within j (one_rest m ns j o)).1 in (omega (arith, a, e), omega (arith, b))
 
     other : n ≡ m → (j : ℕ) → n + 1 ≤ j → (IsOneOf ns j → ⊥) → IsOneOf (m ∷ ns) j → ⊥
     other e j a lacks o = elim (one_cases m ns j o) [ inl i ↦ omega (arith, a, e, i) | inr r ↦ lacks r ]
@@ -129,24 +120,6 @@ module _ (one : ℕ → Value → List ℕ) where
       differs : (m : ℕ) → HasChanged old new m → change_text one m (value_at old m) (value_at new m) ≡ one m (value_at new m)
       differs m h = changed m (value_at old m) (value_at new m) (λ e. h.differ (sym (read_value old m h.before h.had) ∙ e ∙ read_value new m h.after h.has))
 
--- a value that did not change
-pub kept_value : (old new : List Value) → length old ≡ length new → (n : ℕ) → (HasChanged old new n → ⊥) → value_at old n ≡ value_at new n
-kept_value old new long n kept = elim (compare n (length old)) [
-  | inl h ↦ (
-      let v = stands_some old n h in
-      let w = stands_some new n (omega (arith, h, long)) in
-      let i : v.0 ≡ w.0 = same_value v.0 w.0 (λ differ. kept (record { before = v.0; after = w.0; had = v.1; has = w.1; differ = differ })) in
-      read_value old n v.0 v.1 ∙ i ∙ sym (read_value new n w.0 w.1)
-      )
-  | inr h ↦ (let l : length old ≤ n = elim h [ inl e ↦ omega (arith, e) | inr g ↦ omega (arith, g) ] in past old n l ∙ sym (past new n (omega (arith, l, long))))
-]
-  where
-    past : (t : List Value) (n : ℕ) → length t ≤ n → value_at t n ≡ value_at [] 0
-    past [] zero h = refl
-    past [] (suc n) h = refl
-    past (v ∷ t) zero h = absurd (omega (arith, h))
-    past (v ∷ t) (suc n) h = past t n (omega (arith, h))
-
 -- lists with the same values
 same_lists : (xs ys : List Value) → length xs ≡ length ys → ((n : ℕ) → value_at xs n ≡ value_at ys n) → xs ≡ ys
 same_lists [] [] e same = refl
@@ -189,7 +162,7 @@ set_other (x ∷ xs) (suc n) (suc m) v h = set_other xs n m v (λ e. h (ap suc e
 pub but_next : (values next : List Value) (x : VarId) (left : List VarId) (v : Value) → x.n < length values → Stands next x.n v → AreBut values next (x ∷ left) → AreBut (set values x.n v) next left
 but_next values next x left v h s are = record {
   long = set_long values x.n v ∙ are.long;
-  same = λ n lacks. at n lacks (compare n x.n);
+  same = λ n lacks. at n lacks (three n x.n);
 }
   where
     other : (n : ℕ) → (IsOneOf (numbers left) n → ⊥) → (n ≡ x.n → ⊥) → value_at (set values x.n v) n ≡ value_at next n

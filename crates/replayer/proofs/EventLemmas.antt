@@ -4,6 +4,7 @@ use Rattle.std.specs.List.{flat_map, filter}
 use Rattle.ar_base.specs.Lists.{Stands, IsOneOf, Along, AreDifferent}
 use Rattle.ar_base.specs.Lists as l
 use Rattle.ar_base.proofs.Standing.{stands_none, stands_split, stands_map_back, one_here}
+use Rattle.ar_base.proofs.Items.{last_one}
 use Rattle.ar_syntax.specs.declared.paths.PathStart.TheVariants.{Here}
 use Rattle.class_table.specs.Members.{NamedMember, MemberKind}
 use Rattle.hierarchy.specs.Models.{RootedModel, IsKept}
@@ -91,18 +92,6 @@ module _ {m : RootedModel} (kept : IsKept m) where
       (λ u v t o q. sym (thing_unit m is_event u t o) ∙ thing_unit m is_event v t q) units (units_different kept d)
 
 -- Names and what they name
-
-last_one : {A : Type 0} (xs ys : List A) (a b : A) → xs ++ a ∷ [] ≡ ys ++ b ∷ [] → (xs ≡ ys) × (a ≡ b)
-last_one [] [] a b e = (refl, cc)
-last_one [] (y ∷ []) a b e = cc
-last_one [] (y ∷ z ∷ ys) a b e = cc
-last_one (x ∷ []) [] a b e = cc
-last_one (x ∷ z ∷ xs) [] a b e = cc
-last_one (x ∷ xs) (y ∷ ys) a b e =
-    let r = last_one xs ys a b (cc) in
-    let i = r.0 in
-    let j : x ≡ y = cc in
-    (cc, r.1)
 
 -- names name one thing
 pub one_thing : {m : RootedModel} (test : MemberKind → Bool) (names : List ℕ) (t u : Thing) → IsThingAt m test [] Here names t → IsThingAt m test [] Here names u → t ≡ u

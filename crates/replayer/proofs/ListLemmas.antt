@@ -20,6 +20,7 @@ use Rattle.ar_meaning.specs.TraceText.{label_text, label_lines}
 use Rattle.ar_meaning.proofs.Answering.{can_told}
 use Rattle.ar_meaning.proofs.OneRun.{means_same}
 use Rattle.ar_meaning.proofs.Outcomes.{values_known}
+use Rattle.ar_meaning.proofs.Found.{same_answer}
 use Rattle.gts_core.specs.View.{Views, IsEvent, IsWayAt, net_of, bodies_of, body_of}
 use Rattle.gts_core.specs.Sound.{IsSound, IsListed}
 use Rattle.gts_core.specs.declared.system.Event.{Event}
@@ -178,13 +179,6 @@ module _ (p : GtsParts) (sound : IsSound p) (t : List Value) where
   -- whether each way can fire can be told
   pub some_answers : (may : ℕ → Bool) × AreAnswers p t may
   some_answers = (λ n. (answered n).answer, record { each = λ n w m. (answered n).is w m })
-
--- two answers to one question are the same
-same_answer : (P : Type 0) (a b : Bool) → IsAnswer a P → IsAnswer b P → a ≡ b
-same_answer P true true h k = refl
-same_answer P true false h k = absurd (k h)
-same_answer P false true h k = absurd (h k)
-same_answer P false false h k = refl
 
 -- what is answered for a way is what the test says
 pub enabled_so : (p q : GtsParts) (t : List Value) (may : ℕ → Bool) (n : ℕ) (b : Bool) → q ≡ p → IsSound p → n < length p.ways.items → AreAnswers p t may

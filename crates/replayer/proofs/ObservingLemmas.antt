@@ -2,9 +2,11 @@
 use Rattle.std.proofs.Common.{◌≡◌, ◌<◌, ◌≤◌, ◌+◌, ◌⊎◌, ℕ, zero, suc, List, [], ◌∷◌, ◌++◌, length, slice_get, inl, inr, refl, sym, ◌∙◌, ap, subst, arith}
 use Rattle.std.specs.List.Sorted.{IsNonDecreasingBy, IsPermutation}
 use Rattle.std.proofs.lemmas.List.Sorted.{Contains-permutation, IsPermutation-sym}
+use Rattle.std.proofs.lemmas.Bool.{cases_eq}
 use Rattle.ar_base.specs.Lists.{Stands, IsOneOf}
 use Rattle.ar_base.specs.Numbers.{VarId}
 use Rattle.ar_base.proofs.Standing.{stands_within, stands_one, stands_none, stands_map, stands_map_back, stands_some, one_here, one_first, one_rest, one_cases, one_contains, contains_one}
+use Rattle.ar_base.proofs.Sets.{member_told}
 use Rattle.domains.specs.declared.Value.{Value}
 use Rattle.typed_expr.specs.Yields.{Yields}
 use Rattle.typed_expr.specs.Mentions.{Mentions}
@@ -28,14 +30,9 @@ use Rattle.value_changes.specs.Changes.{numbers, AreChanges}
 use Rattle.way_flags.proofs.SameReadings.{same_in}
 use Rattle.replayer.specs.Observing.{Observes, AreObserved, AreInOrder, AreTouched}
 use Rattle.replayer.specs.Printing.{seen_by, observed_value, observer_value, texts_of, change_text, changes_from, observer_changes, changes_text}
-use Rattle.replayer.proofs.ChangeLemmas.{changes_texts, changes_named, kept_value, texts_same}
+use Rattle.replayer.proofs.ChangeLemmas.{changes_texts, changes_named, texts_same}
 use Rattle.replayer.proofs.ValueLemmas.{changes_alike}
-
-number_told : (m n : ℕ) → (m ≡ n) ⊎ (m ≡ n → ⊥)
-number_told zero zero = inl refl
-number_told zero (suc n) = inr (λ e. omega (arith, e))
-number_told (suc m) zero = inr (λ e. omega (arith, e))
-number_told (suc m) (suc n) = elim (number_told m n) [ inl e ↦ inl (ap suc e) | inr f ↦ inr (λ e. f (omega (arith, e))) ]
+use Rattle.stepper.proofs.Kept.{kept_value}
 
 seen_at : (os : List Observer) (t : List Value) (n : ℕ) → value_at (seen_by os t) n ≡ observed_value (slice_get os n) t
 seen_at [] t zero = refl
@@ -46,13 +43,6 @@ seen_at (o ∷ os) t (suc n) = seen_at os t n
 seen_count : (os : List Observer) (t : List Value) → length (seen_by os t) ≡ length os
 seen_count [] t = refl
 seen_count (o ∷ os) t = ap suc (seen_count os t)
-
-member_told : (ns : List ℕ) (m : ℕ) → IsOneOf ns m ⊎ (IsOneOf ns m → ⊥)
-member_told [] m = inr (λ o. stands_none o.place m o.stands)
-member_told (n ∷ ns) m = elim (number_told n m) [
-  | inl e ↦ inl (subst (λ (z : ℕ). IsOneOf (n ∷ ns) z) e (one_first n ns))
-  | inr f ↦ (elim (member_told ns m) [ inl o ↦ inl (one_rest n ns m o) | inr g ↦ inr (λ o. elim (one_cases n ns m o) [ inl e ↦ f e | inr r ↦ g r ]) ])
-]
 
 -- the line of this observer, where its value changed
 abbrev pub observer_text : GtsParts → List Value → List Value → ℕ → List ℕ
@@ -116,7 +106,7 @@ observed_more p i o old new st before adds = record {
     here q x d first second = record { observer = o; stands = subst (λ (z : ℕ). Stands p.observers.items z o) (sym second) st; variable = x; is = sym first; names = d }
 
     below_more : (n : ℕ) → n < i + 1 → (n < i) ⊎ (n ≡ i)
-    below_more n h = elim (number_told n i) [ inl e ↦ inr e | inr f ↦ inl (grind (arith, h, f)) ]
+    below_more n h = elim (cases_eq n i) [ inl e ↦ inr e | inr f ↦ inl (grind (arith, h, f)) ]
 
     at : (x n : ℕ) → Observes p x n → (n < i) ⊎ (n ≡ i) → IsOneOf new (x, n)
     at x n r (inl l) = adds.grows (x, n) (before.all x n l r)

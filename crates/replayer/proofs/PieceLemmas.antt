@@ -5,6 +5,7 @@ use Rattle.std.proofs.lemmas.List.{take_all, drop_all, length-take-le, length-dr
 use Rattle.std.proofs.lemmas.Bool.{leb-true, leb-false, not-false, eqb-true}
 use Rattle.std.specs.Prelude.{filter}
 use Rattle.std.specs.List.{prefix_len}
+use Rattle.ar_base.proofs.Fronts.{HeadFails, run_stops}
 use Rattle.replayer.specs.Lines.{pieces, is_space_or_tab, is_some_word, words_of, without_return}
 
 module _ (cuts : ℕ → Bool) where
@@ -33,22 +34,6 @@ module _ (cuts : ℕ → Bool) where
           let k = subst (λ z. cond (not z) (1 + front bs) 0 < suc (length bs)) e l in
           let i : 1 + front bs ≡ suc (front bs) = omega arith in
           rw (e, more (omega (arith, k)), i) refl
-
--- the first byte, if there is one, fails the test
-abbrev HeadFails : (ℕ → Bool) → List ℕ → Type 0
-HeadFails test [] = Unit {0}
-HeadFails test (b ∷ bs) = test b ≡ false
-
-fails_cons : (test : ℕ → Bool) (b : ℕ) (bs : List ℕ) (r : Bool) → test b ≡ r → HeadFails test (drop (prefix_len test bs) bs) → HeadFails test (drop (cond r (1 + prefix_len test bs) 0) (b ∷ bs))
-fails_cons test b bs true e h =
-    let q : 1 + prefix_len test bs ≡ suc (prefix_len test bs) = omega arith in
-    subst (λ n. HeadFails test (drop n (b ∷ bs))) (sym q) h
-fails_cons test b bs false e h = e
-
--- what stands behind a run does not go on with it
-run_stops : (test : ℕ → Bool) (bs : List ℕ) → HeadFails test (drop (prefix_len test bs) bs)
-run_stops test [] = tt
-run_stops test (b ∷ bs) = fails_cons test b bs (test b) refl (run_stops test bs)
 
 some_word : (w : List ℕ) → 0 < length w → is_some_word w ≡ true
 some_word [] h = absurd (omega arith)

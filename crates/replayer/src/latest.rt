@@ -7,7 +7,7 @@ ghost use Rattle.replayer.specs.Observing.{AreObserved, AreInOrder};
 
 use ar_base::{Memory, VarId};
 use domains::Value;
-use flow_propagate::add_named;
+use flow_propagate::add_named_pairs;
 use gts_core::GtsParts;
 use std::alloc::Global;
 
@@ -47,9 +47,10 @@ fn all_named(alloc: Global, parts: &GtsParts) -> Result<Vec<(u32, u32)>, Memory>
     requires { IsSound parts.now }
     ensures { IfOk result (λ pairs. AreObserved parts.now (length parts.now.observers.items) pairs.items) }
 {
+    let mut names = Vec::new(alloc);
     let mut pairs = Vec::new(alloc);
     for (place, observer) in parts.observers.iter().enumerate() {
-        add_named(&observer.value, place as u32, &mut pairs)?;
+        add_named_pairs(&observer.value, place as u32, &mut names, &mut pairs)?;
     }
     Ok(pairs)
 }

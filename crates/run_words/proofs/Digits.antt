@@ -25,10 +25,3 @@ out_of_range word r least most m n is outside isn num = go outside
 
 pub other_digits : {E : Type 0} (word text : List ℕ) (r : Result ℕ E) (least most m n : ℕ) → r ≡ Ok m → text ≡ decimal m → r ≡ Ok n → IsNumber least most word n → text ≡ word
 other_digits word text r least most m n is digits isn num = digits ∙ ap decimal (same_ok is isn) ∙ sym num.digits
-
--- equal texts are told equal
-pub equal_is_false : (text word : List ℕ) (b : Bool) → text ≡ word → b ≡ bytes_eq text word → b ≡ false → ⊥
-equal_is_false text word b same is told =
-    let yes : b ≡ true = is ∙ (bytes_eq-Decides text word).1 same in
-    let bad : true ≡ false = sym yes ∙ told in
-    absurd (cc)

@@ -3,6 +3,7 @@ use Rattle.std.proofs.Common.{◌≡◌, ◌∙◌, ◌<◌, ◌^◌, ℕ, List,
 use Rattle.std.specs.Prelude.{Option, Some, None, if◌then◌else◌}
 use Rattle.std.specs.Str.{bytes_eq}
 use Rattle.std.proofs.lemmas.Fmt.{decimal_injective}
+use Rattle.std.proofs.lemmas.Option.{same_Some}
 use Rattle.run_words.specs.Lines.{Line}
 use Rattle.run_words.specs.Jobs.{IsJob, IsJobOf, IsNodes, IsNumber, NamesFiles, form_of, word_of}
 use Rattle.run_words.specs.declared.jobs.Job.{Job}
@@ -29,9 +30,6 @@ named_back Make = refl
 named_back Explain = refl
 named_back CheckCuts = refl
 named_back Modules = refl
-
-some_same : {A : Type 0} {a b : A} → Some a ≡ Some b → a ≡ b
-some_same e = cc
 
 one_and_same : {A : Type 0} {a b : A} → a ∷ [] ≡ b ∷ [] → a ≡ b
 one_and_same e = cc
@@ -79,7 +77,7 @@ same_job a b command files nodes main observer value dropped =
 
 of_one_line : (l : Line) (a b : Job) → IsJobOf l a → IsJobOf l b → a ≡ b
 of_one_line l a b x y =
-    let command = same_command a.command b.command (some_same (sym x.command ∙ y.command)) in
+    let command = same_command a.command b.command (same_Some _ _ (sym x.command ∙ y.command)) in
     let files = same_files (form_of b.command) l.files a.model b.model a.script b.script a.number b.number
     (subst (λ v. NamesFiles (form_of v) l.files a.model a.script a.number) command x.files) y.files in
     let nodes = same_nodes b.command l.nodes a.nodes b.nodes (subst (λ v. IsNodes v l.nodes a.nodes) command x.nodes) y.nodes in

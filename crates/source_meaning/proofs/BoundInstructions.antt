@@ -6,6 +6,7 @@ use Rattle.ar_base.specs.Lists as along
 use Rattle.ar_base.specs.Numbers.{VarId}
 use Rattle.ar_base.specs.declared.places.Place.{Place}
 use Rattle.ar_base.proofs.Standing.{one_first, one_rest}
+use Rattle.ar_base.proofs.Items.{along_append}
 use Rattle.ar_syntax.specs.declared.expressions.RawExpr.{RawExpr}
 use Rattle.ar_syntax.specs.declared.instructions.Instr.{Instr, out-Instr}
 use Rattle.ar_syntax.specs.declared.instructions.Instr.TheOpen as instr
@@ -18,11 +19,11 @@ use Rattle.typed_expr.specs.declared.expr.Expr.TheOpen.{Variable}
 use Rattle.ar_meaning.specs.Systems as s
 use Rattle.ar_meaning.specs.Image.{Assign_renames, Conditions_rename}
 use Rattle.ar_meaning.specs.Image as i
-use Rattle.ar_meaning.proofs.ImageWays.{along_append}
 use Rattle.gts_core.specs.View.{numbered}
 use Rattle.gts_core.specs.Bound as g
 use Rattle.gts_core.specs.Bound.{act_step, assigns_under, place_step, places_of_act}
 use Rattle.gts_core.proofs.Numbering.{source_numbered}
+use Rattle.gts_core.proofs.ActForms.{placed, each_placed}
 use Rattle.gts_core.specs.declared.bound.Act.{Act, out-Act}
 use Rattle.gts_core.specs.declared.bound.Act.TheOpen as act
 use Rattle.gts_core.specs.declared.bound.Act.TheOpen.{Act-F}
@@ -55,16 +56,9 @@ under b x e ds =
     ap (λ (h : g.Conditions → List (s.Assign ℕ)). h ds)
     (fold_out-Act (g.Conditions → List (s.Assign ℕ)) act_step b ∙ ap (λ (y : Act-F Act). act_step (map-Act Act (g.Conditions → List (s.Assign ℕ)) assigns_under y)) e)
 
-placed_in : (b : Act) (x : Act-F Act) → out-Act b ≡ x → places_of_act b ≡ place_step (map-Act Act (List Place) places_of_act x)
-placed_in b x e = fold_out-Act (List Place) place_step b ∙ ap (λ (y : Act-F Act). place_step (map-Act Act (List Place) places_of_act y)) e
-
 pub each_under : (bs : List Act) (ds : g.Conditions) → flat_map (λ (f : g.Conditions → List (s.Assign ℕ)). f ds) (map assigns_under bs) ≡ flat_map (λ (b : Act). assigns_under b ds) bs
 each_under [] ds = refl
 each_under (b ∷ bs) ds = ap (λ z. assigns_under b ds ++ z) (each_under bs ds)
-
-each_placed : (bs : List Act) → flat_map (λ (ps : List Place). ps) (map places_of_act bs) ≡ flat_map places_of_act bs
-each_placed [] = refl
-each_placed (b ∷ bs) = ap (λ z. places_of_act b ++ z) (each_placed bs)
 
 module _ (m : RootedModel) (units : List UnitPath) (u : UnitPath) (leaves : Path → Leaf) where
   -- the number stands for the variable
@@ -154,7 +148,7 @@ module _ (m : RootedModel) (units : List UnitPath) (u : UnitPath) (leaves : Path
     placed = [];
     are_sets = h;
     numbers = subst (λ z. Along (Assign_renames R) [] z) (sym (under b act.Skip e ds)) along.none;
-    places = sym (placed_in b act.Skip e);
+    places = sym (placed b act.Skip e);
   }
 
   both_numbers : (acts_of : List Act) (b c : Act) (ds : g.Conditions) (xs : List (s.Assign Thing)) → acts_of ≡ b ∷ c ∷ [] → Along (Assign_renames R) xs (assigns_under b ds ++ (assigns_under c ds ++ []))
@@ -176,10 +170,10 @@ module _ (m : RootedModel) (units : List UnitPath) (u : UnitPath) (leaves : Path
       let joined = subst (λ z. Along (Assign_renames R) xs (z ++ (assigns_under k.second ds ++ []))) (sym at_first)
       (subst (λ z. Along (Assign_renames R) xs ((record { target = x.n; conditions = ds; value = numbered first.value } ∷ []) ++ (z ++ []))) (sym at_second) (along.one_and one_of (along.one_and other_of along.none))) in
       let whole = under b (act.All k.acts) k.is ds ∙ each_under k.acts.items ds in
-      let place_first = placed_in k.first (act.Set x first.value p.at) first.is in
-      let place_second = placed_in k.second (act.Set y second.value q.at) second.is in
+      let place_first = placed k.first (act.Set x first.value p.at) first.is in
+      let place_second = placed k.second (act.Set y second.value q.at) second.is in
       let places_joined = ap (λ z. z ++ (places_of_act k.second ++ [])) place_first ∙ ap (λ z. (p.at ∷ []) ++ (z ++ [])) place_second in
-      let places_all = placed_in b (act.All k.acts) k.is ∙ (each_placed k.acts.items ∙ (ap (λ (z : List Act). flat_map places_of_act z) k.are ∙ places_joined)) in
+      let places_all = placed b (act.All k.acts) k.is ∙ (each_placed k.acts.items ∙ (ap (λ (z : List Act). flat_map places_of_act z) k.are ∙ places_joined)) in
       record {
         placed = sets f.thing cs e p.at ∷ sets h.thing cs d q.at ∷ [];
         are_sets = a.tie f.finds h.finds (named_is f.thing) (named_is h.thing);
@@ -206,7 +200,7 @@ module _ (m : RootedModel) (units : List UnitPath) (u : UnitPath) (leaves : Path
           are_sets = a.assign t.finds n.means;
           numbers = subst (λ z. Along (Assign_renames R) (assigns_of (sets t.thing cs n.meaning p.at ∷ [])) z) (sym (under b (act.Set x f p.at) e ds))
               (along.one_and (one_assign t.thing cs n.meaning p.at x ds f t.stands_for w (by_number v f n)) along.none);
-          places = sym (placed_in b (act.Set x f p.at) e);
+          places = sym (placed b (act.Set x f p.at) e);
         }
     bound (acts.no_target {p = p} {r = v} c k e) l cs ds w =
         absurd (no_value p (leaves p) c (l.targets (instr.Assign p v) p part.itself assigned) (l.of_targets (instr.Assign p v) p part.itself assigned) k)
@@ -226,7 +220,7 @@ module _ (m : RootedModel) (units : List UnitPath) (u : UnitPath) (leaves : Path
           are_sets = a.conditional n.meaning n.means x.are_sets y.are_sets;
           numbers = subst (λ z. Along (Assign_renames R) (assigns_of (x.placed ++ y.placed)) z) (sym (under b (act.If f c d) e ds))
               (joined_numbers x.placed y.placed _ _ x.numbers y.numbers);
-          places = joined_places x.placed y.placed _ _ x.places y.places ∙ sym (placed_in b (act.If f c d) e);
+          places = joined_places x.placed y.placed _ _ x.places y.places ∙ sym (placed b (act.If f c d) e);
         }
     bound {b = b} (acts.all {is = is} bs e h) l cs ds w =
         let x = bound_all is.items h (λ j o. inner (λ k p. part.item j o p) l) cs ds w in
@@ -234,7 +228,7 @@ module _ (m : RootedModel) (units : List UnitPath) (u : UnitPath) (leaves : Path
           placed = x.placed;
           are_sets = a.all x.are_sets;
           numbers = subst (λ z. Along (Assign_renames R) (assigns_of x.placed) z) (sym (under b (act.All bs) e ds ∙ each_under bs.items ds)) x.numbers;
-          places = x.places ∙ sym (placed_in b (act.All bs) e ∙ each_placed bs.items);
+          places = x.places ∙ sym (placed b (act.All bs) e ∙ each_placed bs.items);
         }
 
     bound_else : (v : RawExpr) (first : Box Instr Global) {second : Option (Box Instr Global)} {b : Act} → ElseActs leaves second b → AreLeaves m units u leaves (instr.If v first second) → (cs : Conditions)
@@ -243,7 +237,7 @@ module _ (m : RootedModel) (units : List UnitPath) (u : UnitPath) (leaves : Path
       placed = [];
       are_sets = a.no_branch;
       numbers = subst (λ z. Along (Assign_renames R) [] z) (sym (under b act.Skip e ds)) along.none;
-      places = sym (placed_in b act.Skip e);
+      places = sym (placed b act.Skip e);
     }
     bound_else v first (acts.branch h) l cs ds w =
         let x = bound h (inner (λ j p. part.second p) l) cs ds w in

@@ -9,3 +9,4 @@ pub mod BoundInstructions
 pub mod RuleCases
 pub mod SoundActs
 pub mod BoundFlows
+pub mod Attributed

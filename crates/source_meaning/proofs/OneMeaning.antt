@@ -63,7 +63,7 @@ leads_same {m = m} {u = u} {start = start} {t = t} {s = s} d e =
     thing_same (unit_of_reaches (walks_same d.reaches there)) (lasts_same d.front e.front t.name s.name joined)
 
 -- a variable is no parameter
-apart : (w : MemberKind) → is_variable w ≡ true → is_valued w ≡ true → ⊥
+pub apart : (w : MemberKind) → is_variable w ≡ true → is_valued w ≡ true → ⊥
 apart (Variable d settings) p q = cc
 apart (Inner b from) p q = cc
 apart (Clone l) p q = cc

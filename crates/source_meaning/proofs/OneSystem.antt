@@ -4,6 +4,7 @@ use Rattle.ar_base.specs.Lists.{Stands, AreDifferent, Along}
 use Rattle.std.specs.Global.{Global}
 use Rattle.ar_base.specs.Lists as along
 use Rattle.ar_base.specs.declared.places.Place.{Place}
+use Rattle.ar_base.proofs.Items.{along_append}
 use Rattle.ar_syntax.specs.declared.instructions.Instr.{Instr}
 use Rattle.ar_syntax.specs.declared.members.Part.{Part}
 use Rattle.typed_expr.specs.Renames.{Renames}
@@ -16,10 +17,11 @@ use Rattle.ar_meaning.specs.Image as i
 use Rattle.ar_meaning.specs.Expand.{Declared, Member, AreKeyed}
 use Rattle.ar_meaning.specs.ExpandImage.{Part_renames, Member_renames, transitions, synchronise, Declared_renames}
 use Rattle.ar_meaning.specs.Found.{IsAnswer}
-use Rattle.ar_meaning.proofs.ImageWays.{along_append, along_map, events_along}
+use Rattle.ar_meaning.proofs.ImageWays.{along_map, events_along}
 use Rattle.ar_meaning.proofs.OneRun.{events_same}
 use Rattle.ar_meaning.proofs.ImageTurned.{along_turned}
 use Rattle.ar_meaning.proofs.ImageFlows.{partner}
+use Rattle.ar_meaning.proofs.Found.{same_answer}
 use Rattle.class_table.specs.Declaring.{MemberForm}
 use Rattle.class_table.specs.Members.{Variable, Observer}
 use Rattle.hierarchy.specs.Models.{RootedModel}
@@ -57,12 +59,6 @@ named_same d e {t = t} {u = u} p q o =
 
 one_item : {A : Type 0} {o : Option A} {a b : A} → o ≡ Some a → o ≡ Some b → a ≡ b
 one_item p q = cc
-
-answers_same : (P : Type 0) (a b : Bool) → IsAnswer a P → IsAnswer b P → a ≡ b
-answers_same P true true p q = refl
-answers_same P true false p q = absurd (q p)
-answers_same P false true p q = absurd (p q)
-answers_same P false false p q = refl
 
 along_both : {A B C : Type 0} {R : A → B → Type 0} {S : A → C → Type 0} {T : B → C → Type 0} → ((a : A) (b : B) (m : C) → R a b → S a m → T b m)
     → {es : List A} {bs : List B} {cs : List C} → Along R es bs → Along S es cs → Along T bs cs
@@ -136,7 +132,7 @@ module _ (m : RootedModel) (different : AreDifferent m.declared.symbols) where
   event_same {units = units} k t d e p q = record {
     key = p.key ∙ sym q.key;
     unit = k.one d.unit e.unit t.unit p.unit q.unit;
-    hidden = answers_same (IsHidden m units t) d.hidden e.hidden p.hidden q.hidden;
+    hidden = same_answer (IsHidden m units t) d.hidden e.hidden p.hidden q.hidden;
     members = along_both (member_same t.unit) p.members q.members;
   }
 

@@ -15,7 +15,7 @@ use Rattle.source_meaning.specs.SoundBound as sound
 use Rattle.source_meaning.proofs.BoundInstructions.{under, each_under}
 
 -- an item of joined lists is one of one of them
-joined_one : {A B : Type 0} (f : A → List B) (xs : List A) (b : B) → IsOneOf (flat_map f xs) b → (x : A) × IsOneOf xs x × IsOneOf (f x) b
+pub joined_one : {A B : Type 0} (f : A → List B) (xs : List A) (b : B) → IsOneOf (flat_map f xs) b → (x : A) × IsOneOf xs x × IsOneOf (f x) b
 joined_one f [] b i = absurd (one_none b i)
 joined_one f (x ∷ xs) b i = elim (one_split (f x) (flat_map f xs) b i) [
   | inl j ↦ (x, one_first x xs, j)

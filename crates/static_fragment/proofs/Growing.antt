@@ -4,13 +4,13 @@ use Rattle.ar_base.specs.Lists.{Stands}
 use Rattle.ar_base.specs.Numbers.{VarId}
 use Rattle.ar_base.proofs.Standing.{stands_one, stands_within, stands_none, stands_left, stands_split, stands_next, at_most}
 use Rattle.ar_meaning.specs.Found.{IsAnswer}
+use Rattle.ar_meaning.proofs.Found.{holds, fails}
 use Rattle.gts_core.specs.declared.system.Variable.{Variable}
 use Rattle.gts_core.specs.declared.system.GtsParts.{GtsParts}
 use Rattle.mode_forests.specs.declared.forests.ModeTree.{ModeTree}
 use Rattle.mode_edges.specs.declared.searching.Reach.{Reach}
 use Rattle.mode_trees.specs.Below.{IsBelow}
 use Rattle.fragment_units.specs.Units.{IsMovingState}
-use Rattle.fragment_edges.proofs.Leading.{flag_says}
 use Rattle.static_fragment.specs.Trees.{IsTreeAt, AreTreesBelow, HasTree, GetsTree, stays, adds}
 
 pub trees_start : (p : GtsParts) (moving : List Bool) (reaches : List Reach) (trees : List ModeTree) → trees ≡ []
@@ -21,10 +21,6 @@ trees_start p moving reaches trees e = subst (λ (z : List ModeTree). AreTreesBe
       whole = λ n h. absurd (omega arith);
       ascend = λ j k s t h u v. absurd (stands_none j s u);
     })
-
-denies : (P : Type 0) (b : Bool) → b ≡ false → IsAnswer b P → P → ⊥
-denies P true e h = absurd (cc e)
-denies P false e h = h
 
 module _ (p : GtsParts) (moving : List Bool) (reaches : List Reach) (n : ℕ) (x : Variable)
     (sx : Stands p.variables.items n x)
@@ -112,7 +108,7 @@ module _ (p : GtsParts) (moving : List Bool) (reaches : List Reach) (n : ℕ) (x
       → IsAnswer b (HasTree moving x) → (new : List ModeTree)
       → GetsTree number x b r old new → AreTreesBelow p moving reaches (n + 1) new
   trees_more r sr number is b h new (stays e i) = subst (λ (z : List ModeTree). AreTreesBelow p moving reaches (n + 1)
-      z) (sym i) (none_more (denies (HasTree moving x) b e h))
+      z) (sym i) (none_more (fails (HasTree moving x) b e h))
   trees_more r sr number is b h new (adds e tree i v f d) = subst
       (λ (z : List ModeTree). AreTreesBelow p moving reaches (n + 1) z) (sym i)
-      (one_more r sr (flag_says (HasTree moving x) b e h) tree (ap (λ (z : VarId). z.n) v ∙ is) f d)
+      (one_more r sr (holds (HasTree moving x) b e h) tree (ap (λ (z : VarId). z.n) v ∙ is) f d)

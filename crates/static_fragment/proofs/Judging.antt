@@ -1,6 +1,7 @@
 -- What the searches say of the rules, one rule after the other.
 use Rattle.std.proofs.Common.{◌≡◌, ◌≤◌, ◌+◌, ℕ, ◌⊎◌, inl, inr, Bool, true, false, cond, nat_lt, List, length, Option, Some, None, Result, Ok, Err, IfErr, refl, sym, ap, ◌∙◌, subst, arith}
 use Rattle.std.proofs.lemmas.Bool.Decides.{nat_tests}
+use Rattle.std.proofs.lemmas.Bool.{cases_eq, ltb-false}
 use Rattle.ar_base.specs.Numbers.{VarId}
 use Rattle.ar_meaning.specs.Systems.{System}
 use Rattle.ar_firing.specs.Rules.{BreaksS3, BreaksS4, BreaksS5, BreaksS6, AtEvent, AtUnit, AtVariable, AtObserver, AtWhole, IsShownBefore, variables, Rule, S1, S2, S3, S4, S5, S6, S7, S8, Breaks, s3, s4, s5, s6, s8, Keeps, KeepsAll, number_of}
@@ -13,8 +14,8 @@ use Rattle.gts_core.specs.declared.system.GtsParts.{GtsParts}
 use Rattle.kept_ways.specs.Events.{IsLeast, AreMarks, AreMoving, AreFirstStates, IsJointAt, IsStateless}
 use Rattle.kept_ways.specs.Kept.{AreKept, OtherInGuard, OtherInAction}
 use Rattle.kept_ways.specs.declared.kept.KeptWay.{KeptWay}
-use Rattle.kept_ways.proofs.Reading.{told}
 use Rattle.ar_base.proofs.Standing.{at_most}
+use Rattle.ar_base.proofs.Comparing.{low}
 use Rattle.mode_edges.specs.declared.searching.Reach.{Reach}
 use Rattle.live_edges.specs.Reaches.{IsWrongAt, IsAgainAt}
 use Rattle.live_edges.specs.Sharing.{IsShared, IsSharing}
@@ -49,12 +50,6 @@ pub if_err : {A : Type 0} (P : FragmentFault → Type 0) (r : Result A FragmentF
     → P e → IfErr r P
 if_err {A} P r e is h = subst (λ (z : Result A FragmentFault). IfErr z P) (sym is) h
 
-low : (m n : ℕ) → nat_lt m n ≡ true → m ≤ n
-low m n e = grind (arith, nat_tests)
-
-high : (m n : ℕ) → nat_lt m n ≡ false → n ≤ m
-high m n e = grind (arith, nat_tests)
-
 -- the lesser of two least numbers is the least of either kind
 pub lesser_least : (P Q : ℕ → Type 0) (a b : Option ℕ) → IsLeast P a → IsLeast Q b
     → IsLeast (λ n. P n ⊎ Q n) (lesser_of a b)
@@ -77,7 +72,7 @@ lesser_least P Q (Some x) (Some y) h k = by (nat_lt y x) refl
       λ n q. elim q [
         | inl u ↦ h.1 n u
         | inr u ↦
-            (let l = k.1 n u in let m = high y x e in omega arith)
+            (let l = k.1 n u in let m = ltb-false y x e in omega arith)
       ],
     )
 
@@ -195,7 +190,7 @@ module _ (system : System ℕ) (dropped : List ℕ) where
 
     pub kept3 : (least : Option ℕ) (u : Unit {0}) → IsLeast (OtherInGuard kept) least
         → IsShownWith 3 AtVariable least (Ok u) → KeepsBelow system dropped 4
-    kept3 least u h s = next_rule S3 below (keeps_s3 told system dropped (below S2 (omega arith))
+    kept3 least u h s = next_rule S3 below (keeps_s3 cases_eq system dropped (below S2 (omega arith))
         (unbroken_s3 c (below S1 (omega arith)) (below S2 (omega arith))
         (nowhere (OtherInGuard kept) 3 AtVariable least u h s)))
 
@@ -224,7 +219,7 @@ module _ (system : System ℕ) (dropped : List ℕ) where
             let none = nowhere BreaksFour 4 AtVariable (lesser_of x y) u
             (lesser_least (OtherInAction kept) (IsWrongAt reaches) x y h k)
             (subst (λ (o : Option ℕ). IsShownWith 4 AtVariable o (Ok u)) is s) in
-            next_rule S4 below (keeps_s4 told system dropped (unbroken_s4 a (below S1 (omega arith))
+            next_rule S4 below (keeps_s4 cases_eq system dropped (unbroken_s4 a (below S1 (omega arith))
             (below S2 (omega arith)) (λ n q. none n (inl q)) (λ n q. none n (inr q))))
 
       module _ (below : KeepsBelow system dropped 6) where
@@ -236,7 +231,7 @@ module _ (system : System ℕ) (dropped : List ℕ) where
 
         pub kept6 : (least : Option ℕ) (u : Unit {0}) → IsLeast (IsAgainAt reaches) least
             → IsShownWith 6 AtVariable least (Ok u) → KeepsBelow system dropped 7
-        kept6 least u h s = next_rule S6 below (keeps_s6 told system dropped
+        kept6 least u h s = next_rule S6 below (keeps_s6 cases_eq system dropped
             (unbroken_s6 a (below S1 (omega arith)) (below S2 (omega arith))
             (nowhere (IsAgainAt reaches) 6 AtVariable least u h s)))
 
@@ -252,7 +247,7 @@ module _ (system : System ℕ) (dropped : List ℕ) where
 
       pub kept5 : (least : Option ℕ) (u : Unit {0}) → IsLeast (IsShared live (length live)) least
           → IsShownWith 5 AtVariable least (Ok u) → KeepsBelow system dropped 6
-      kept5 least u h s = next_rule S5 below (keeps_s5 told system dropped
+      kept5 least u h s = next_rule S5 below (keeps_s5 cases_eq system dropped
           (unbroken_s5 d (below S1 (omega arith)) (below S2 (omega arith))
           (nowhere (IsShared live (length live)) 5 AtVariable least u h s)))
 

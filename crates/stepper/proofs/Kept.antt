@@ -1,17 +1,12 @@
 -- Values that did not change.
 use Rattle.std.proofs.Common.{◌≡◌, ◌<◌, ◌≤◌, ◌⊎◌, ℕ, zero, suc, List, [], ◌∷◌, length, inl, inr, refl, sym, ap, ◌∙◌, arith}
+use Rattle.std.proofs.lemmas.Bool.{cases_lt}
 use Rattle.ar_base.proofs.Standing.{stands_some}
 use Rattle.domains.specs.declared.Value.{Value}
 use Rattle.ar_meaning.proofs.OneAnswer.{same_value}
 use Rattle.gts_core.specs.Readings.{value_at}
 use Rattle.gts_core.proofs.Reading.{read_value}
 use Rattle.value_changes.specs.Changes.{HasChanged}
-
-below_or_past : (n m : ℕ) → (n < m) ⊎ (m ≤ n)
-below_or_past zero zero = inr (omega arith)
-below_or_past zero (suc m) = inl (omega arith)
-below_or_past (suc n) zero = inr (omega arith)
-below_or_past (suc n) (suc m) = elim (below_or_past n m) [ inl h ↦ inl (omega (arith, h)) | inr h ↦ inr (omega (arith, h)) ]
 
 past : (t : List Value) (n : ℕ) → length t ≤ n → value_at t n ≡ value_at [] 0
 past [] zero h = refl
@@ -21,7 +16,7 @@ past (v ∷ t) (suc n) h = past t n (omega (arith, h))
 
 -- a value that did not change
 pub kept_value : (old new : List Value) → length old ≡ length new → (n : ℕ) → (HasChanged old new n → ⊥) → value_at old n ≡ value_at new n
-kept_value old new long n kept = elim (below_or_past n (length old)) [
+kept_value old new long n kept = elim (cases_lt n (length old)) [
   | inl h ↦ (
       let v = stands_some old n h in
       let w = stands_some new n (omega (arith, h, long)) in

@@ -1,5 +1,6 @@
 -- Ways that are added to a plan, one piece after the other.
 use Rattle.std.proofs.Common.{◌≡◌, ℕ, zero, suc, ◌+◌, ◌-◌, ◌≤◌, Bool, List, [], ◌∷◌, ◌++◌, length, map, take, drop, refl, sym, ◌∙◌, ap, subst, arith, length-append, append_assoc}
+use Rattle.std.proofs.lemmas.List.{append-nil, length-map}
 use Rattle.std.specs.List.{flat_map}
 use Rattle.ar_base.specs.Lists.{Stands}
 use Rattle.ar_base.proofs.Standing.{stands_none}
@@ -14,14 +15,9 @@ use Rattle.sync_expand.specs.Planning.{Adds}
 use Rattle.sync_expand.specs.Plans.{PlannedWay, bodies_by, choices_by, numbered_from, planned_of, planned_ways, ways_of_event}
 use Rattle.sync_expand.specs.declared.plans.WayPlan.{WayPlan}
 use Rattle.sync_expand.proofs.Capping.{drop_next, drop_end}
-use Rattle.sync_expand.proofs.Choosing.{map_length}
 use Rattle.sync_expand.proofs.DeclaredLemmas.{declared_stands}
 use Rattle.sync_expand.proofs.Placed.{take_next}
 use Rattle.sync_expand.proofs.WaysLemmas.{map_join}
-
-pub append_nothing : {A : Type 0} (xs : List A) → xs ++ [] ≡ xs
-append_nothing [] = refl
-append_nothing (x ∷ xs) = ap (λ ys. x ∷ ys) (append_nothing xs)
 
 pub flat_map_join : {A B : Type 0} (f : A → List B) (xs ys : List A) → flat_map f (xs ++ ys) ≡ flat_map f xs ++ flat_map f ys
 flat_map_join f [] ys = refl
@@ -41,14 +37,14 @@ numbered_length e k (b ∷ bs) = ap suc (numbered_length e (k + 1) bs)
 pub adds_length : (e first : ℕ) (bs : List (Body ℕ)) (old new : List WayPlan) → Adds e first bs old new → length new ≡ length old + length bs
 adds_length e first bs old new a =
     let i = ap length a.is in
-    let m = map_length planned_of new in
-    let o = map_length planned_of old in
+    let m = length-map new planned_of in
+    let o = length-map old planned_of in
     let j = length-append (map planned_of old) (numbered_from e (length old - first + 1) bs) in
     let n = numbered_length e (length old - first + 1) bs in
     omega (arith, i, m, o, j, n)
 
 pub adds_none : (e first : ℕ) (old : List WayPlan) → Adds e first [] old old
-adds_none e first old = record { is = sym (append_nothing (map planned_of old)) }
+adds_none e first old = record { is = sym (append-nil (map planned_of old)) }
 
 pub adds_join : (e first : ℕ) (bs cs : List (Body ℕ)) (old mid new : List WayPlan) → first ≤ length old → Adds e first bs old mid → Adds e first cs mid new → Adds e first (bs ++ cs) old new
 adds_join e first bs cs old mid new l a b = record {
@@ -72,7 +68,7 @@ adds_choice e first i cs c old mid new l s a b =
 pub bodies_cons : {L M : Type 0} (act : ℕ → L → M) (counts : List ℕ) (k : ℕ) (m : Member L ℕ) (ms : List (Member L ℕ))
     → bodies_by act counts k (m ∷ ms) ≡ bodies_by act counts k (m ∷ []) ++ bodies_by act counts (k + 1) ms
 bodies_cons act counts k (One l) ms = refl
-bodies_cons act counts k (Synchronises parts) ms = ap (λ bs. bs ++ bodies_by act counts (k + 1) ms) (sym (append_nothing (map Joins (choices_by counts parts))))
+bodies_cons act counts k (Synchronises parts) ms = ap (λ bs. bs ++ bodies_by act counts (k + 1) ms) (sym (append-nil (map Joins (choices_by counts parts))))
 
 -- a member gives no more ways than all
 pub member_within : (counts : List ℕ) (ways : List DeclaredWay) (i : ℕ) (w : DeclaredWay) → Stands ways i w → member_count counts (member_of w) ≤ way_count counts (map member_of ways)
@@ -88,7 +84,7 @@ pub planned_next : {L : Type 0} (counts : List ℕ) (ds : List (Declared L ℕ))
 planned_next counts ds i d s =
     ap (planned_ways counts) (take_next ds i d s)
     ∙ (flat_map_join (ways_of_event counts) (take i ds) (d ∷ [])
-    ∙ ap (λ (ws : List PlannedWay). planned_ways counts (take i ds) ++ ws) (append_nothing (ways_of_event counts d)))
+    ∙ ap (λ (ws : List PlannedWay). planned_ways counts (take i ds) ++ ws) (append-nil (ways_of_event counts d)))
 
 pub plan_next : (counts : List ℕ) (events : List DeclaredEvent) (i : ℕ) (d : DeclaredEvent) (e : ℕ) (old new : List WayPlan) → Stands events i d → e ≡ i
     → map planned_of old ≡ planned_ways counts (take i (declared_from 0 events))
@@ -126,7 +122,7 @@ pub event_end : (counts : List ℕ) (ways : List DeclaredWay) (e first i : ℕ) 
     → Adds e first (bodies_by (λ (k : ℕ) (l : Transition ℕ). k) counts 0 (map member_of ways)) old new
 event_end counts ways e first i old new l so =
     let d = ap (λ (ws : List DeclaredWay). so.bodies ++ bodies_by (λ (k : ℕ) (l : Transition ℕ). k) counts i (map member_of ws)) (drop_end ways i l) in
-    let a : so.bodies ≡ bodies_by (λ (k : ℕ) (l : Transition ℕ). k) counts 0 (map member_of ways) = sym (append_nothing so.bodies) ∙ (sym d ∙ so.all) in
+    let a : so.bodies ≡ bodies_by (λ (k : ℕ) (l : Transition ℕ). k) counts 0 (map member_of ways) = sym (append-nil so.bodies) ∙ (sym d ∙ so.all) in
     subst (λ (bs : List (Body ℕ)). Adds e first bs old new) a so.adds
 
 -- the plan is as long as before or longer

@@ -2,6 +2,7 @@
 use Rattle.std.proofs.Common.{◌≡◌, ◌<◌, ◌≤◌, ◌+◌, ◌*◌, ℕ, zero, suc, Bool, List, [], ◌∷◌, ◌++◌, length, map, drop, slice_index, refl, sym, ◌∙◌, ap, subst, arith, inl, inr, length-append}
 use Rattle.std.proofs.Math.Nat.{mul-le-mul_left}
 use Rattle.std.proofs.lemmas.Bool.{cases_lt}
+use Rattle.std.proofs.lemmas.List.{length-map}
 use Rattle.std.specs.List.{flat_map, range_with_len}
 use Rattle.ar_base.specs.Lists.{Stands}
 use Rattle.ar_base.proofs.Standing.{stands_left, stands_right, stands_map}
@@ -11,10 +12,6 @@ use Rattle.gts_core.specs.Bound.{event_part_of}
 use Rattle.gts_core.specs.View.{part_of}
 use Rattle.sync_expand.specs.Plans.{choices_by, first_of}
 use Rattle.sync_expand.proofs.Capping.{drop_next, drop_end, choices_next, choices_end}
-
-pub map_length : {A B : Type 0} (f : A → B) (xs : List A) → length (map f xs) ≡ length xs
-map_length f [] = refl
-map_length f (x ∷ xs) = ap suc (map_length f xs)
 
 module _ {A B : Type 0} (f : ℕ → A → B) (cs : List A) where
   -- in blocks, one for each number, the items of a block stand behind those of the blocks before it
@@ -29,7 +26,7 @@ module _ {A B : Type 0} (f : ℕ → A → B) (cs : List A) where
       (subst (λ (m : ℕ). Stands (flat_map (λ n. map (f n) cs) (range_with_len first (suc count))) r (f m a)) g here)
   block_stands first (suc count) (suc q) r a l s =
       let rest = block_stands (first + 1) count q r a (omega (arith, l)) s in
-      let e : suc q * length cs + r ≡ length (map (f first) cs) + (q * length cs + r) = omega (arith, map_length (f first) cs) in
+      let e : suc q * length cs + r ≡ length (map (f first) cs) + (q * length cs + r) = omega (arith, length-map cs (f first)) in
       let g : first + 1 + q ≡ first + suc q = omega arith in
       subst (λ (m : ℕ). Stands (flat_map (λ n. map (f n) cs) (range_with_len first (suc count))) (suc q * length cs + r) (f m a)) g
       (stands_right (map (f first) cs) (flat_map (λ n. map (f n) cs) (range_with_len (first + 1) count)) (q * length cs + r) (suc q * length cs + r) (f (first + 1 + q) a) e rest)
@@ -39,7 +36,7 @@ module _ {A B : Type 0} (f : ℕ → A → B) (cs : List A) where
   block_length first (suc count) =
       let i = block_length (first + 1) count in
       let a = length-append (map (f first) cs) (flat_map (λ n. map (f n) cs) (range_with_len (first + 1) count)) in
-      let m = map_length (f first) cs in
+      let m = length-map cs (f first) in
       omega (arith, i, a, m)
 
 module _ (counts : List ℕ) where

@@ -5,10 +5,10 @@ use Rattle.ar_base.specs.Breach.{IsEarlier}
 use Rattle.ar_base.specs.Lists.{Stands}
 use Rattle.ar_base.specs.declared.places.Place.{Place}
 use Rattle.ar_base.proofs.Standing.{stands_one, stands_within}
+use Rattle.ar_base.proofs.Comparing.{lt_or_same, earlier_then, earlier_not}
 use Rattle.gts_core.specs.declared.bound.DeclaredEvent.{DeclaredEvent}
 use Rattle.sync_expand.specs.Links.{IsClimbIn, IsFirstLink, nowhere, there, IsEarlierOf, no_first, no_second, first, second, Until}
 use Rattle.sync_expand.specs.declared.links.Link.{Link}
-use Rattle.sync_expand.proofs.Placed.{lt_or_same}
 
 -- by equations of what the cases are
 pub of_first : (f g : Option Link) → f ≡ None → IsEarlierOf f g g
@@ -21,32 +21,6 @@ of_second f g p e i =
 pub of_both : (f g r : Option Link) (p q : Link) → f ≡ Some p → g ≡ Some q → IsEarlierOf (Some p) (Some q) r → IsEarlierOf f g r
 of_both f g r p q e i h =
     subst (λ (z : Option Link). IsEarlierOf z g r) (sym e) (subst (λ (z : Option Link). IsEarlierOf (Some p) z r) (sym i) h)
-
--- the order of places
-pub earlier_then : (p q r : Place) → IsEarlier p q → IsEarlier q r → IsEarlier p r
-earlier_then p q r (inl a) (inl b) = inl (omega (arith, a, b))
-earlier_then p q r (inl a) (inr b) = inl (omega (arith, a, b.0))
-earlier_then p q r (inr a) (inl b) = inl (omega (arith, a.0, b))
-earlier_then p q r (inr a) (inr b) = inr (omega (arith, a.0, b.0), omega (arith, a.1, b.1))
-
--- no place is before itself
-pub not_before : (q p : Place) → IsEarlier q p → q ≡ p → ⊥
-not_before q p b d = let g = ap (λ (z : Place). z.line) d in let i = ap (λ (z : Place). z.column) d in elim b [ inl l ↦ omega (arith, l, g) | inr l ↦ omega (arith, l.1, i) ]
-
--- what is before the first of two places that are in order is before the second
-pub earlier_not : (p q r : Place) → IsEarlier p q → (IsEarlier r q → ⊥) → IsEarlier p r
-earlier_not p q r h k = by h
-  where
-    lines : q.line ≤ r.line
-    lines = elim (cases_lt r.line q.line) [ inl a ↦ absurd (k (inl a)) | inr b ↦ b ]
-
-    by : IsEarlier p q → IsEarlier p r
-    by (inl a) = inl (omega (arith, a, lines))
-    by (inr a) = by_line (lt_or_same q.line r.line lines)
-      where
-        by_line : (q.line < r.line) ⊎ (q.line ≡ r.line) → IsEarlier p r
-        by_line (inl b) = inl (omega (arith, a.0, b))
-        by_line (inr b) = elim (cases_lt r.column q.column) [ inl c ↦ absurd (k (inr (sym b, c))) | inr c ↦ inr (omega (arith, a.0, b), omega (arith, a.1, c)) ]
 
 module _ {P Q : Link → Type 0} where
   -- the first link of either of two properties

@@ -3,6 +3,7 @@ use Rattle.std.proofs.Common.{◌≡◌, ℕ, zero, suc, ◌+◌, ◌*◌, ◌<�
 use Rattle.std.proofs.lemmas.Bool.{cases_lt}
 use Rattle.std.proofs.lemmas.List.{get_or_past}
 use Rattle.std.proofs.lemmas.List.Sums.{sum_by-cons, sum_by_more, sum_by-take-le}
+use Rattle.std.proofs.lemmas.Option.{same_Some}
 use Rattle.ar_base.specs.Lists.{Stands}
 use Rattle.ar_base.proofs.Standing.{stands_one, stands_none, stands_within, stands_get, stands_left, stands_next, stands_map_back}
 use Rattle.ar_meaning.specs.Expand.{Declared}
@@ -29,19 +30,16 @@ module _ {A : Type 0} where
   set_length (x ∷ xs) zero v = refl
   set_length (x ∷ xs) (suc i) v = ap suc (set_length xs i v)
 
-some_same : (a b : ℕ) → Some a ≡ Some b → a ≡ b
-some_same a b e = cc
-
 -- one count more is known
 pub known_set : (counts : List ℕ) (found : List (Option ℕ)) (n c : ℕ) → AreKnown counts found → Stands counts n c → c ≤ 256 → AreKnown counts (set found n (Some c))
 known_set counts found n c k s l = record {
   long = set_length found n (Some c) ∙ k.long;
   right = λ m d t. elim (stands_set found n (Some c) m (Some d) t) [
-    | inl h ↦ (let e = some_same d c h.1 in subst (λ (x : ℕ). Stands counts x d) (sym h.0) (subst (λ (x : ℕ). Stands counts n x) (sym e) s))
+    | inl h ↦ (let e = same_Some d c h.1 in subst (λ (x : ℕ). Stands counts x d) (sym h.0) (subst (λ (x : ℕ). Stands counts n x) (sym e) s))
     | inr t ↦ k.right m d t
   ];
   small = λ m d t. elim (stands_set found n (Some c) m (Some d) t) [
-    | inl h ↦ (let e = some_same d c h.1 in omega (arith, e, l))
+    | inl h ↦ (let e = same_Some d c h.1 in omega (arith, e, l))
     | inr t ↦ k.small m d t
   ];
 }
@@ -99,7 +97,7 @@ some_known counts found e l = record {
     right : (n c : ℕ) → Stands found n (Some c) → Stands counts n c
     right n c s =
         let b = stands_map_back Some counts n (Some c) (subst (λ (xs : List (Option ℕ)). Stands xs n (Some c)) e s) in
-        subst (λ (x : ℕ). Stands counts n x) (some_same b.0 c b.2) b.1
+        subst (λ (x : ℕ). Stands counts n x) (same_Some b.0 c b.2) b.1
 
 -- no event has more ways than the greatest
 pub few_of : {L : Type 0} (ds : List (Declared L ℕ)) (counts : List ℕ) → AreCounts ds counts → greatest counts ≤ 256 → AreFew counts ds
@@ -152,7 +150,7 @@ first_next counts found i count next after old new e small s n l each a g = (
     stands : Stands counts i count
     stands =
         let b = stands_map_back Some counts i (Some count) (subst (λ (xs : List (Option ℕ)). Stands xs i (Some count)) e s) in
-        subst (λ (x : ℕ). Stands counts i x) (some_same b.0 count b.2) b.1
+        subst (λ (x : ℕ). Stands counts i x) (same_Some b.0 count b.2) b.1
 
 -- all first numbers
 pub firsts_numbering : (counts : List ℕ) (found : List (Option ℕ)) (i : ℕ) (firsts : List ℕ) → found ≡ map Some counts → greatest counts ≤ 256 → sum counts < 2 ^ 32 → i ≤ length found → length found ≤ i

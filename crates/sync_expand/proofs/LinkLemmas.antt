@@ -6,13 +6,14 @@ use Rattle.ar_base.specs.Lists.{Stands, IsOneOf}
 use Rattle.ar_base.specs.Numbers.{EventId, VarId}
 use Rattle.ar_base.specs.declared.places.Place.{Place}
 use Rattle.ar_base.proofs.Standing.{one_here, one_none}
+use Rattle.ar_base.proofs.Comparing.{not_before}
 use Rattle.gts_core.specs.declared.bound.Act.{Act}
 use Rattle.gts_core.specs.declared.bound.DeclaredEvent.{DeclaredEvent}
 use Rattle.gts_core.specs.declared.bound.DeclaredWay.{DeclaredWay}
 use Rattle.gts_core.specs.declared.bound.DeclaredWay.TheVariants.{Local, Sync}
 use Rattle.sync_expand.specs.Links.{IsClimbAmong, IsClimbOf, IsClimbIn, IsClimb, IsFirstLink, nowhere, there, OpensWays, OpensParts, OpensOne, AreReached}
 use Rattle.sync_expand.specs.declared.links.Link.{Link}
-use Rattle.sync_expand.proofs.FirstLinks.{not_before, first_same, IsOfEvent, AtItem}
+use Rattle.sync_expand.proofs.FirstLinks.{first_same, IsOfEvent, AtItem}
 
 module _ (way : DeclaredWay) (event : EventId) (ranks : List ℕ) (gap : ℕ) where
   pub climb_none : (parts : Vec (Bool × EventId) Global) (at : Place) → way ≡ Sync parts at → ((part : EventId) → IsClimbAmong parts.items event ranks gap part → ⊥)

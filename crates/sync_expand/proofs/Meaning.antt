@@ -5,11 +5,12 @@ use Rattle.std.proofs.lemmas.List.Sums.{sum_by-cons}
 use Rattle.ar_base.specs.Lists.{Stands, IsOneOf, Along}
 use Rattle.ar_base.specs.Lists as l
 use Rattle.ar_base.proofs.Standing.{stands_one, stands_none, stands_left, stands_right, along_back, along_length, one_first, one_rest}
+use Rattle.ar_base.proofs.Items.{along_append}
 use Rattle.ar_meaning.specs.Systems.{Tree, Leaf, Joint, Branches, Empty, Branch}
 use Rattle.ar_meaning.specs.Expand.{Declared, Member, One, Synchronises, AreKeyed, Ways, Members_give, no_member, one, synchronises, Parts_give, no_part, choice, choices}
 use Rattle.ar_meaning.specs.Numbered.{Body, Acts, Joins, Means_way, leaf, joint, Mean_parts, part}
 use Rattle.ar_meaning.specs.Numbered as m
-use Rattle.ar_meaning.proofs.ImageWays.{along_append, along_map}
+use Rattle.ar_meaning.proofs.ImageWays.{along_map}
 use Rattle.ar_meaning.proofs.OneRun.{ways_same}
 use Rattle.sync_expand.specs.Expanding.{AreWays}
 use Rattle.sync_expand.specs.Plans.{first_of, choices_by, bodies_by, all_bodies, numbered_from, planned_ways, IsResolved, acts, joins}

@@ -7,15 +7,6 @@ use Rattle.std.proofs.lemmas.List.{take_more}
 use Rattle.ar_base.specs.Lists.{Stands, IsOneOf}
 use Rattle.ar_base.proofs.Standing.{stands_one, stands_get, stands_within, one_split}
 
--- what an answer without a value keeps
-pub on_ok : {A E : Type 0} {P Q : Type 0} (r : Result A E) → (P → Q) → OnOk r P → OnOk r Q
-on_ok (Ok a) f h = f h
-on_ok (Err e) f h = h
-
--- numbers by cases
-pub lt_or_same : (m n : ℕ) → m ≤ n → (m < n) ⊎ (m ≡ n)
-lt_or_same m n l = elim (cases_lt m n) [ inl a ↦ inl a | inr b ↦ inr (omega (arith, l, b)) ]
-
 module _ {A : Type 0} where
   -- the item of a loop stands at its index
   pub item_stands : (xs : List A) (i : ℕ) (a : A) → i < length xs → a ≡ get_or xs i a → Stands xs i a

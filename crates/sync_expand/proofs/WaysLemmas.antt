@@ -1,5 +1,6 @@
 -- The ways of declared events: how many there are, and that there are any.
 use Rattle.std.proofs.Common.{◌≡◌, ℕ, zero, suc, ◌+◌, ◌*◌, ◌<◌, Bool, List, [], ◌∷◌, ◌++◌, length, map, Vec, slice_index, refl, sym, ◌∙◌, ap, subst, arith, length-append}
+use Rattle.std.proofs.lemmas.List.{length-map}
 use Rattle.std.specs.Global.{Global}
 use Rattle.ar_base.specs.Lists.{Stands, IsOneOf, Along}
 use Rattle.ar_base.specs.Lists as l
@@ -17,7 +18,6 @@ use Rattle.sync_expand.specs.Counts.{AreCounts, choice_count, way_count, parts_g
 use Rattle.sync_expand.specs.Expanding.{AreWays, AreExpandable, parts_in, way_parts}
 use Rattle.sync_expand.specs.Links.{Falls}
 use Rattle.sync_expand.proofs.Capping.{read_number}
-use Rattle.sync_expand.proofs.Choosing.{map_length}
 use Rattle.sync_expand.proofs.DeclaredLemmas.{declared_stands, declared_back, declared_key, part_named}
 
 -- each choice has one of the first ways
@@ -26,7 +26,7 @@ choices_length must [] bss = omega arith
 choices_length must (t ∷ ts) bss =
     let i = choices_length must ts bss in
     let a = length-append (map (λ bs. Branch must t bs) bss) (choices must ts bss) in
-    let m = map_length (λ bs. Branch must t bs) bss in
+    let m = length-map bss (λ bs. Branch must t bs) in
     omega (arith, i, a, m)
 
 -- the parts of joined lists of ways
@@ -77,7 +77,7 @@ module _ {L : Type 0} (ds : List (Declared L ℕ)) (keyed : AreKeyed ds) (number
         let i = members_count d in
         let j = parts_count p in
         let a = length-append (map Joint bss) ts in
-        let m = map_length Joint bss in
+        let m = length-map bss Joint in
         omega (arith, i, j, a, m)
 
     pub parts_count : {ps : List (Bool × ℕ)} {bss : List (Branches L)} → Parts_give ds ps bss → length bss ≡ choice_count (map length wss) ps
@@ -120,7 +120,7 @@ module _ {L : Type 0} (ds : List (Declared L ℕ)) (keyed : AreKeyed ds) (number
   -- the numbers of ways are the counts
   pub are_counts : AreCounts ds (map length wss)
   are_counts = record {
-    long = map_length length wss ∙ sym (along_length ds wss are);
+    long = length-map wss length ∙ sym (along_length ds wss are);
     each = λ n d s.
         let a = along_on ds wss are n d s in
         subst (λ (k : ℕ). Stands (map length wss) n k) (members_count (own_members n d a.0 s a.2)) (stands_map length wss n a.0 a.1);

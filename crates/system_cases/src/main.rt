@@ -1,5 +1,6 @@
-//! What the layers over flat systems give for small models: the classes of flows in a plan, and the families that a store
-//! holds once the cuts are drawn, each looked up among those that the definition of what is needed lists.
+//! What the layers over flat systems give for small models: the classes of flows in a plan, the families that a store
+//! holds once the cuts are drawn, each looked up among those that the definition of what is needed lists, and where a
+//! stepper stands behind steps that are refused.
 //!
 //! The definition's own list is made here by enumeration, over sets of events as rows of bits: the firable sets from the
 //! paths of the trees, the families of operands and of the first so many operands of each gate, their sections, and what
@@ -11,6 +12,7 @@ mod analysing;
 mod families;
 mod firing;
 mod needing;
+mod stepping;
 mod stored;
 
 use analysing::{Analysed, analyse, flat_system};
@@ -20,6 +22,7 @@ use gate_diagrams::{Drawn, Family, diagrams};
 use needing::Needing;
 use std::alloc::AllocError;
 use std::{fs, io};
+use stepping::show_steps;
 use stored::stored_families;
 
 /// The models, the number of the observer of each, and the words for it.
@@ -106,5 +109,5 @@ fn main(rt: HostRuntime) -> io::Result<()> {
     for (name, observer) in MODELS {
         draw(&rt, name, observer)?;
     }
-    Ok(())
+    show_steps(&rt, "refused-step")
 }

@@ -10,9 +10,9 @@ use Rattle.eq_core.specs.Ordered.{AreBelow}
 use Rattle.eq_core.specs.Values.{Tells, EachTrue}
 use Rattle.eq_build.specs.Entries.{Entry, one_of_alls}
 use Rattle.eq_build.specs.Tells.{AreEntries}
+use Rattle.eq_build.proofs.EntriesTell.{is_so}
 use Rattle.table_steps.specs.Steps.{others_with, pairs_in, outside_terms, broken_terms}
 use Rattle.table_meaning.proofs.OperandsTell.{TellTogether, together_more, together_as, nothing_told, one_tells}
-use Rattle.table_meaning.proofs.TermsTell.{is_so}
 
 -- a list of an entry's operand and one of another value
 record IsOther (cs : List Operand) (e : Entry) (fs : List Entry) (os : List Operand) : Type 0 where

@@ -19,21 +19,10 @@ use Rattle.eq_core.proofs.Telling.{tells_always}
 use Rattle.eq_build.specs.Entries.{Entry, only}
 use Rattle.eq_build.specs.Tells.{AreEntries}
 use Rattle.eq_build.proofs.EntriesTell.{entries_as}
+use Rattle.eq_build.proofs.FormsTell.{only_tells}
 use Rattle.table_steps.specs.Steps.{in_order, modes_at, first_reading}
 use Rattle.table_meaning.proofs.OrderOfEntries.{order_tells}
 use Rattle.table_meaning.proofs.ModesTell.{TreeTells}
-
--- a constant's one entry
-one_tells : (set : List ℕ) (g : List Gate) (v : Value) → AreEntries set g (only v) (λ d. v ≡ d)
-one_tells set g v =
-    let e : Entry = record { value = v; operand = Always } in
-    record {
-      tells = λ x o. elim (one_cases e [] x o) [
-        | inl i ↦ subst (λ (z : Entry). Tells set g z.operand (v ≡ z.value)) i (tells_always refl)
-        | inr k ↦ absurd (one_none x k)
-      ];
-      whole = λ d i. (e, one_first e [], i);
-    }
 
 nothing_tells : {set : List ℕ} {g : List Gate} {P : Value → Type 0} → ((d : Value) → P d → ⊥) → AreEntries set g [] P
 nothing_tells n = record { tells = λ e o. absurd (one_none e o); whole = λ d p. absurd (n d p) }
@@ -174,7 +163,7 @@ module _ (sys : System ℕ) (dropped : List ℕ) (keyed : AreKeyed sys.net) (num
           let w = f.walks n x s i in
           subst (λ z. AreEntries set g z (λ m. Stands t n m)) (sym e)
           (entries_as (λ d q. subst (λ z. Stands t n z) (sym (keeps n x s i lacks w.0 w.1) ∙ q) w.1)
-          (λ d v. keeps n x s i lacks d v) (one_tells set g x.value))
+          (λ d v. keeps n x s i lacks d v) (only_tells set g x.value))
 
   -- what is read before the rounds
   pub first_tells : (g : List Gate) {rows : List (List Entry)} → TreesTell g trees rows → (n : ℕ)

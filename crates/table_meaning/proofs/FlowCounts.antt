@@ -7,6 +7,7 @@ use Rattle.ar_base.proofs.Standing.{stands_none, stands_one}
 use Rattle.ar_meaning.specs.Systems.{Variable, Net}
 use Rattle.ar_meaning.specs.Facts.{AreKeyed}
 use Rattle.ar_meaning.specs.Dependence.{flow_count, IsFlow}
+use Rattle.table_steps.proofs.Uses.{before_flow}
 
 -- a variable more
 one_counted : (v : Variable ℕ) (vs : List (Variable ℕ))
@@ -31,25 +32,11 @@ before_later (v ∷ vs) (suc p) (suc q) x l s f =
     let b = one_counted v (take q vs) in
     omega (arith, r, a, b)
 
--- and fewer than there are
-before_all : (vs : List (Variable ℕ)) (p : ℕ) (x : Variable ℕ) → Stands vs p x → x.is_state ≡ false
-    → flow_count (take p vs) < flow_count vs
-before_all [] p x s f = absurd (stands_none p x s)
-before_all (v ∷ vs) zero x s f =
-    let i : x ≡ v = stands_one (v ∷ vs) zero x v s refl in
-    let e = flow_counted v vs (subst (λ (z : Variable ℕ). z.is_state ≡ false) i f) in
-    subst (λ n. flow_count (take zero (v ∷ vs)) < n) (sym e) (omega arith)
-before_all (v ∷ vs) (suc p) x s f =
-    let r = before_all vs p x s f in
-    let a = one_counted v (take p vs) in
-    let b = one_counted v vs in
-    omega (arith, r, a, b)
-
 module _ (net : Net ℕ) where
   pub flow_within : (k x : ℕ) → IsFlow net k x → k < flow_count net.variables
   flow_within k x f =
       subst (λ n. n < flow_count net.variables) f.before
-      (before_all net.variables f.place f.variable f.stands f.is_flow)
+      (before_flow net.variables f.place f.variable f.stands f.is_flow)
 
   -- a flow has one number
   pub flow_number : AreKeyed net → (j k x : ℕ) → IsFlow net j x → IsFlow net k x → j ≡ k

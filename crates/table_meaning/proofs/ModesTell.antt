@@ -4,6 +4,7 @@ use Rattle.std.specs.Cmp.{unsigned_Decides}
 use Rattle.ar_base.specs.Lists.{Stands, IsOneOf, Along}
 use Rattle.ar_base.specs.Lists as l
 use Rattle.ar_base.proofs.Standing.{one_cases, one_first, one_rest, one_none}
+use Rattle.ar_base.proofs.Truths.{not_true, true_not}
 use Rattle.domains.specs.Same.{is_same}
 use Rattle.domains.specs.declared.Value.{Value}
 use Rattle.domains.proofs.Same.{same_is}
@@ -21,12 +22,11 @@ use Rattle.eq_core.specs.Values.{Tells, Grows, has_event}
 use Rattle.eq_core.proofs.Telling.{grows_self, grows_on, tells_kept, tells_as, all_tells, all_more}
 use Rattle.eq_build.specs.Entries.{Entry, Built}
 use Rattle.eq_build.specs.Tells.{AreEntries}
-use Rattle.eq_build.proofs.EntriesTell.{entries_kept, entry_cases}
+use Rattle.eq_build.proofs.EntriesTell.{entries_kept, entry_cases, true_kept, entry_first, entry_rest, is_so}
 use Rattle.table_steps.specs.Steps.{Threads, none, one_and, not_left, modes_of, Has_modes, modes}
 use Rattle.table_steps.specs.Steps as w
 use Rattle.table_meaning.proofs.OperandsTell.{TellTogether, together_before, together_as, nothing_told}
-use Rattle.table_meaning.proofs.TermsTell.{is_so}
-use Rattle.table_meaning.proofs.OrderOfEntries.{Differ, differ_more, true_somewhere, entry_first, entry_rest}
+use Rattle.table_meaning.proofs.OrderOfEntries.{Differ, differ_more}
 
 event_in : (set : List ℕ) (e : ℕ) → has_event set e ≡ true → IsOneOf set e
 event_in [] e h = absurd cc
@@ -46,14 +46,6 @@ in_event (x ∷ xs) e o = go (nat_eq x e) refl (one_cases x xs e o) (λ p. in_ev
     go true i q r = refl
     go false i (inl j) r = absurd (let k = (unsigned_Decides x e).1 j in cc)
     go false i (inr p) r = r p
-
-true_not : (b : Bool) → (b ≡ true → ⊥) → not b ≡ true
-true_not true h = absurd (h refl)
-true_not false h = refl
-
-not_true : (b : Bool) → not b ≡ true → b ≡ true → ⊥
-not_true true e f = cc
-not_true false e f = cc
 
 -- no two of the rows enter one mode
 abbrev pub RowsDiffer : List Row → Type 0
@@ -144,7 +136,7 @@ module _ (set : List ℕ) where
           | inl i ↦ (
             here,
             entry_first r.to m.operand b.entries
-                (true_somewhere set b.gates m.operand (t.so_true (subst (λ (z : Row). P z.to) (sym i) p))),
+                (true_kept set b.gates m.operand (t.so_true (subst (λ (z : Row). P z.to) (sym i) p))),
             ap (λ (z : Row). z.to) i,
           )
           | inr k ↦ let x = n.comes q k p in (x.0, entry_rest r.to m.operand b.entries x.0 x.1, x.2)
@@ -212,7 +204,7 @@ module _ (set : List ℕ) where
                 | inl i ↦ (
                   e0,
                   entry_first tree.first first.operand b.entries
-                      (true_somewhere set b.gates first.operand
+                      (true_kept set b.gates first.operand
                       (at_end.so_true (subst (λ z. Stands t n z) (i ∙ sym k.first) v))),
                   k.first ∙ sym i,
                 )

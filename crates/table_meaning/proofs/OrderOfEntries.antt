@@ -10,7 +10,7 @@ use Rattle.eq_core.specs.Gates.{Operand, Always, Never, EventIs, GateIs, Gate, M
 use Rattle.eq_core.specs.Values.{Tells, value_at}
 use Rattle.eq_build.specs.Entries.{Entry, Term, Group, with_term, with_terms, one_of_alls, is_never, with_entry, entries_of}
 use Rattle.eq_build.specs.Tells.{AreEntries}
-use Rattle.eq_build.proofs.EntriesTell.{entry_cases}
+use Rattle.eq_build.proofs.EntriesTell.{entry_cases, true_kept, entry_first, entry_rest}
 use Rattle.table_steps.specs.Steps.{as_terms, in_order}
 use Rattle.table_meaning.proofs.TermsTell.{own_term, own_of, of_own}
 
@@ -18,26 +18,6 @@ use Rattle.table_meaning.proofs.TermsTell.{own_term, own_of, of_own}
 abbrev pub Differ : List Entry → Type 0
 Differ [] = Unit {0}
 Differ (e ∷ es) = ((f : Entry) → IsOneOf es f → e.value ≡ f.value → ⊥) × Differ es
-
--- an operand that is true somewhere is not Never
-pub true_somewhere : (set : List ℕ) (g : List Gate) (o : Operand) → value_at g o set ≡ true → is_never o ≡ false
-true_somewhere set g Always h = refl
-true_somewhere set g Never h = cc
-true_somewhere set g (EventIs e sign) h = refl
-true_somewhere set g (GateIs n sign) h = refl
-
-pub entry_first : (d : Value) (o : Operand) (es : List Entry) → is_never o ≡ false
-    → IsOneOf (with_entry d o es) (record { value = d; operand = o })
-entry_first d o es n = subst (λ b. IsOneOf (if b then es else record { value = d; operand = o } ∷ es)
-    (record { value = d; operand = o })) (sym n) (one_first (record { value = d; operand = o }) es)
-
-pub entry_rest : (d : Value) (o : Operand) (es : List Entry) (e : Entry) → IsOneOf es e
-    → IsOneOf (with_entry d o es) e
-entry_rest d o es e m = go (is_never o)
-  where
-    go : (b : Bool) → IsOneOf (if b then es else record { value = d; operand = o } ∷ es) e
-    go true = m
-    go false = one_rest (record { value = d; operand = o }) es e m
 
 pub differ_more : (d : Value) (o : Operand) (es : List Entry) → Differ es
     → ((f : Entry) → IsOneOf es f → d ≡ f.value → ⊥) → Differ (with_entry d o es)
@@ -243,6 +223,6 @@ order_tells {set = set} {g = g} {es = es} {P = P} d a =
       whole = λ v p.
           let x = a.whole v p in
           let t = a.tells x.0 x.1 in
-          let n = true_somewhere set g x.0.operand (t.so_true (subst P (sym x.2) p)) in
+          let n = true_kept set g x.0.operand (t.so_true (subst P (sym x.2) p)) in
           (x.0, in_groups [] ps x.0 (h.new (own_term x.0) (of_own es x.0 x.1)) n, x.2);
     }

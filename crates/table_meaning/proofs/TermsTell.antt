@@ -14,9 +14,6 @@ use Rattle.eq_build.proofs.EntriesTell.{SomeTerm, terms_tell}
 use Rattle.table_steps.specs.Steps.{as_terms, given_terms, together}
 use Rattle.table_meaning.proofs.OperandsTell.{TellTogether, together_more, together_before, together_as, nothing_told}
 
-pub is_so : (v w : Value) → v ≡ w → is_same v w ≡ true
-is_so v w e = subst (λ z. is_same v z ≡ true) e (same_self v)
-
 -- an entry as a term of its own
 abbrev pub own_term : Entry → Term
 own_term e = record { value = e.value; operands = e.operand ∷ [] }

@@ -71,7 +71,7 @@ flow_at (z ∷ zs) k l = go (λ j m. flow_at zs j m) z.is_state refl
     go rest false e = first rest e k refl
 
 -- fewer flows stand before a flow than there are
-before_flow : (xs : List (Variable ℕ)) (n : ℕ) (x : Variable ℕ) → Stands xs n x → x.is_state ≡ false
+pub before_flow : (xs : List (Variable ℕ)) (n : ℕ) (x : Variable ℕ) → Stands xs n x → x.is_state ≡ false
     → flow_count (take n xs) < flow_count xs
 before_flow [] n x s e = absurd (stands_none n x s)
 before_flow (z ∷ zs) zero x s e =

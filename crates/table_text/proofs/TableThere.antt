@@ -3,6 +3,7 @@ use Rattle.std.proofs.Common.{◌≡◌, inl, inr, ℕ, Bool, true, false, if◌
 use Rattle.ar_base.specs.Lists.{Stands, IsOneOf, Along}
 use Rattle.ar_base.specs.Lists as l
 use Rattle.ar_base.proofs.Standing.{along_on, one_here}
+use Rattle.ar_base.proofs.Items.{along_append}
 use Rattle.domains.specs.declared.Value.{Value}
 use Rattle.typed_expr.specs.Pairs.{turned}
 use Rattle.typed_expr.specs.Mentions.{Mentions}
@@ -53,11 +54,6 @@ along_each : {A B : Type 0} {P Q : A → B → Type 0} → ((a : A) (b : B) → 
     → Along P xs ys → Along Q xs ys
 along_each f l.none = l.none
 along_each f (l.one_and {a = a} {b = b} p d) = l.one_and (f a b p) (along_each f d)
-
-along_both : {A B : Type 0} {P : A → B → Type 0} {xs us : List A} {ys vs : List B} → Along P xs ys → Along P us vs
-    → Along P (xs ++ us) (ys ++ vs)
-along_both l.none e = e
-along_both (l.one_and p d) e = l.one_and p (along_both d e)
 
 -- the same steps over lists that agree
 threads_there : {A B C : Type 0} {P : A → C → Type 0} {R : List Gate → A → B → List Gate → Type 0}
@@ -237,7 +233,7 @@ module _ (a b : Net ℕ) (vars : a.variables ≡ b.variables)
   all_leave_there {n = n} (s.flow_and {x = x} e d ds) =
       let r = leaves_there x (assigns_there n along) d in
       let q = all_leave_there ds in
-      (r.0 ++ q.0, s.flow_and e r.1 q.1, along_both r.2 q.2)
+      (r.0 ++ q.0, s.flow_and e r.1 q.1, along_append r.2 q.2)
 
   pub table_there : (trees : List ModeTree) (o p : Expr ℕ) → Renames Same (out-Expr ℕ o) (out-Expr ℕ p) → (wanted : Value)
       (t : Table) → IsTable a trees o wanted t → IsTable b trees p wanted t

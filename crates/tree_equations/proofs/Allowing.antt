@@ -46,18 +46,6 @@ module _ (p : GtsParts) (rows : Rows) (a : AreDomains p (length p.variables.item
       m.outside (inside m.value (exact.complete m.value
       (yields_back (RowFacts rows) (Allows (net_of p)) assign.value m.value (λ y w f. back p rows a y.n w f) m.may)))
 
-pub each_more : (P : Value → Type 0) (vs : List Value) (i : ℕ) (d : Value) → i < length vs
-    → ((v : Value) → Contains (take i vs) v → P v) → P (get_or vs i d) → (v : Value) → Contains (take (i + 1) vs) v → P v
-each_more P vs i d h all p v c = elim (Contains-push_cases (take i vs) (get_or vs i d) v
-    (subst (λ (z : List Value). Contains z v) (take_more vs i d h) c)) [
-      | inl a ↦ all v a
-      | inr e ↦ subst P e p
-    ]
-
-pub each_all : (P : Value → Type 0) (vs : List Value) (i : ℕ) → length vs ≤ i
-    → ((v : Value) → Contains (take i vs) v → P v) → (v : Value) → Contains vs v → P v
-each_all P vs i h all v c = all v (subst (λ (z : List Value). Contains z v) (sym (take_all i vs h)) c)
-
 -- what a test of the values says
 pub leave_answer : (p : GtsParts) (rows : Rows)
     (a : AreDomains p (length p.variables.items) rows) (x : Variable) (assign : Assign) (set : List Value)

@@ -12,11 +12,11 @@ use Rattle.eq_build.specs.Builds.{Builds, most_gates}
 use Rattle.eq_build.proofs.Growing.{longer_on, builds_more}
 use Rattle.table_steps.specs.Steps.{Reading, Threads, Has_modes, first_reading, All_rounds, AreBlocks, Sees_two, AllMayLeave, Sees_outside, Totals_of, Sees_broken, updated, flows_from}
 use Rattle.table_steps.specs.Table.{IsTable, flow_numbers}
+use Rattle.table_steps.proofs.Blocks.{blocks_same}
 use Rattle.tree_equations.specs.Answers.{TooMany}
 use Rattle.tree_equations.specs.Seen.{Conflicts, Conflicting}
 use Rattle.tree_equations.proofs.Determined.{threads_one, modes_one, two_one, out_one, total_one, broken_one, all_rounds_one, leaving_one}
 use Rattle.tree_equations.proofs.Rising.{threads_more, out_more, total_more, broken_more, two_more, all_rounds_more}
-use Rattle.tree_equations.proofs.IndexLemmas.{blocks_one}
 
 -- the same list of things and the same gates before them
 module _ {A B : Type 0} (R : List Gate → A → B → List Gate → Type 0) where
@@ -192,7 +192,7 @@ module _ (net : s.Net ℕ) (trees : List firing.ModeTree) (observer : Expr ℕ) 
         (subst (λ (z : List Gate). All_rounds net blocks z (first_reading trees w.modes 0 net.variables) w.known
         w.after_rounds) same.1
         (subst (λ (z : List (List ℕ)). All_rounds net z w.after_modes (first_reading trees w.modes 0 net.variables)
-        w.known w.after_rounds) (blocks_one net w.blocks blocks w.are_blocks are) w.has_rounds))
+        w.known w.after_rounds) (blocks_same net w.blocks blocks w.are_blocks are) w.has_rounds))
 
     pub table_second : TooMany (λ last h. All_rounds net blocks g1 first last h) → Needs
     table_second n table w = to_end table w (after_rounds table w) (n w.known w.after_rounds (rounds_there table w))

@@ -2,6 +2,7 @@
 use Rattle.std.proofs.Common.{◌≡◌, ℕ, suc, ◌+◌, ◌≤◌, List, [], ◌∷◌, ◌++◌, map, length, drop, Vec, Global, Result, refl, sym, ap, ◌∙◌, subst, add-one}
 use Rattle.std.specs.Result.{IsErrAnd}
 use Rattle.std.proofs.lemmas.List.{map-append}
+use Rattle.ar_base.proofs.Items.{none_left}
 use Rattle.eq_core.specs.Gates.{Gate}
 use Rattle.eq_core.specs.Values.{Grows}
 use Rattle.eq_core.specs.declared.joints.Gate as flat
@@ -9,7 +10,6 @@ use Rattle.eq_build.specs.Builds.{most_gates}
 use Rattle.eq_build.specs.Views.{Stops}
 use Rattle.eq_build.specs.declared.entries.BuildFault.{BuildFault}
 use Rattle.eq_build.proofs.Stopping.{stops_up, passed_on}
-use Rattle.eq_build.proofs.Places.{nothing_left}
 use Rattle.eq_build.proofs.Threading.{SoFar, Parted, nothing_yet, one_further, operand_stops, all_built}
 use Rattle.table_steps.specs.Steps.{Threads}
 use Rattle.table_steps.specs.Steps as t
@@ -79,4 +79,4 @@ module _ {A B X C : Type 0} (each : X → A) (view : C → B) (R : List Gate →
 
   pub each_ends : (g h : List Gate) (xs : List X) (i : ℕ) (out : List C) → length xs ≤ i → Sofar g xs i out h
       → All g xs (map view out) h
-  each_ends g h xs i out l s = all_built All (λ k. t.none) g h xs i (map view out) (nothing_left xs i l) s
+  each_ends g h xs i out l s = all_built All (λ k. t.none) g h xs i (map view out) (none_left xs i l) s

@@ -2,6 +2,7 @@
 use Rattle.std.proofs.Common.{◌≡◌, ℕ, zero, suc, ◌+◌, ◌<◌, ◌≤◌, Bool, true, false, if◌then◌else◌, nat_eq, List, [], ◌∷◌, ◌++◌, length, take, set, get_or, map, refl, sym, ap, ◌∙◌, subst, arith}
 use Rattle.std.proofs.lemmas.Bool.Decides.{nat_tests}
 use Rattle.std.proofs.lemmas.List.{take_more, map-append, length_push, length-map, length-take-le}
+use Rattle.std.proofs.lemmas.Bool.{eqb-true}
 use Rattle.ar_base.specs.Lists.{Stands}
 use Rattle.domains.specs.declared.Value.{Value}
 use Rattle.ar_firing.specs.Forest as firing
@@ -80,14 +81,11 @@ or_last n (u ∷ us) [] t es d l = absurd (omega (arith, l))
 or_last n (u ∷ us) (f ∷ fs) t es d l =
     ap (λ z. if nat_eq u.variable n then in_order f else z) (or_last n us fs t es d (omega (arith, l)))
 
-same_number : (n x : ℕ) → nat_eq n x ≡ true → n ≡ x
-same_number n x h = grind (arith, nat_tests)
-
 not_number : (n x : ℕ) → nat_eq n x ≡ false → n ≡ x → ⊥
 not_number n x h = grind (arith, nat_tests)
 
 first_number : (n x : ℕ) → nat_eq n x ≡ true → n + 0 ≡ x
-first_number n x h = let w = same_number n x h in omega (arith, w)
+first_number n x h = let w = eqb-true n x h in omega (arith, w)
 
 -- the variable at the place is a state variable
 abbrev pub IsStateAt : ℕ → List Variable → ℕ → Type 0
@@ -123,13 +121,13 @@ reading_last ts ess t es read next n (y ∷ ys) x l h k =
     state at true is =
         or_last n ts ess t es (read x) l
         ∙ ap (λ z. modes_or n ts ess z)
-        (ap (λ z. if nat_eq t.variable z then in_order es else read x) (same_number n x at)
+        (ap (λ z. if nat_eq t.variable z then in_order es else read x) (eqb-true n x at)
         ∙ sym (h (y, 0, first_number n x at, refl, is)))
     state at false is = sym (k (λ w. never w.0 w.1 w.2 w.3 w.4))
       where
         never : (v : Variable) (i : ℕ) → n + i ≡ x → Stands (y ∷ ys) i v → v.is_state ≡ true → ⊥
         never v zero i st st2 = absurd (cc (st, is, st2))
-        never v (suc j) i st st2 = let w = same_number n x at in absurd (omega (arith, w, i))
+        never v (suc j) i st st2 = let w = eqb-true n x at in absurd (omega (arith, w, i))
 
 -- no tree is left
 pub reading_none : (read : Reading) (n : ℕ) (ys : List Variable) (x : ℕ) → reading_or [] [] read n ys x ≡ read x
@@ -202,7 +200,7 @@ placed_put variables v number es rows new row st is under order e = record {
   where
     by : (x : ℕ) → (IsStateAt 0 variables x → ⊥) → (b : Bool) → nat_eq number x ≡ b
         → (if b then row_in row else row_at rows x) ≡ row_at rows x
-    by x never true t = absurd (never (v, number, zero_more number x (same_number number x t), st, is))
+    by x never true t = absurd (never (v, number, zero_more number x (eqb-true number x t), st, is))
       where
         zero_more : (n x : ℕ) → n ≡ x → 0 + n ≡ x
         zero_more n x e = omega (arith, e)
@@ -220,7 +218,7 @@ placed_skip variables number es rows none = record {
     by x w true t = absurd (none w.0 (subst (λ (k : ℕ). Stands variables k w.0) (at number x w.1 w.2 t) w.3) w.4)
       where
         at : (n x k : ℕ) → 0 + k ≡ x → nat_eq n x ≡ true → k ≡ n
-        at n x k e h = let s = same_number n x h in omega (arith, e, s)
+        at n x k e h = let s = eqb-true n x h in omega (arith, e, s)
     by x w false t = refl
 
 -- one tree less

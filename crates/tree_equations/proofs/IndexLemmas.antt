@@ -2,28 +2,28 @@
 use Rattle.std.proofs.Common.{◌≡◌, ℕ, zero, suc, ◌+◌, ◌<◌, inl, inr, Bool, true, false, not, cond, if◌then◌else◌, nat_eq, List, [], ◌∷◌, ◌++◌, length, take, drop, set, get_or, map, unwrap_or, Some, Vec, Global, refl, sym, ap, ◌∙◌, subst, arith, append_assoc, append-nil, add-one}
 use Rattle.std.proofs.lemmas.List.Sums.{sum_by-cons}
 use Rattle.std.proofs.lemmas.Bool.Decides.{nat_tests}
+use Rattle.std.proofs.lemmas.Option.{same_Some}
 use Rattle.ar_base.specs.Lists.{Stands, Along, IsOneOf}
 use Rattle.ar_base.specs.Lists as l
 use Rattle.ar_base.proofs.Standing.{one_cases, one_none, along_length, along_on, along_back, stands_one, stands_within}
+use Rattle.ar_base.proofs.Items.{along_push}
 use Rattle.ar_meaning.specs.Systems as s
 use Rattle.ar_meaning.specs.Systems.{Net}
 use Rattle.ar_meaning.specs.Dependence.{IsFlow, flow_count}
 use Rattle.flow_blocks.specs.Bits.{row_of}
 use Rattle.flow_blocks.specs.Blocks.{Depends, directly, through, Together, same, each_other, IsClass, MayBeGiven, Follow, all_given, next}
 use Rattle.flow_blocks.proofs.LawLemmas.{same_blocks}
+use Rattle.flow_blocks.proofs.RowLemmas.{row_set_same}
 use Rattle.gts_core.specs.View.{net_of, variables_from, variable_of}
 use Rattle.gts_core.specs.declared.system.Variable.{Variable}
 use Rattle.gts_core.specs.declared.system.Assign.{Assign}
 use Rattle.gts_core.specs.declared.system.GtsParts.{GtsParts}
+use Rattle.gts_core.proofs.Systems.{along_one}
 use Rattle.flow_propagate.specs.Plan as plan
 use Rattle.table_steps.specs.Steps.{flows_from, AreBlocks}
+use Rattle.table_steps.proofs.Blocks.{one_flow}
 use Rattle.tree_equations.specs.Index.{to_target, AreNumbersOf, AreByTarget, AreFlows, AreUnder}
 use Rattle.tree_equations.specs.Blocks.{ArePlaced, ArePlacedBlocks}
-
-pub along_push : {A B : Type 0} {R : A → B → Type 0} {xs : List A} {ys : List B} (x : A) (y : B) → Along R xs ys
-    → R x y → Along R (xs ++ x ∷ []) (ys ++ y ∷ [])
-along_push x y l.none r = l.one_and r l.none
-along_push x y (l.one_and s a) r = l.one_and s (along_push x y a r)
 
 pub along_as : {A B : Type 0} (R S : A → B → Type 0) → ((x : A) (y : B) → R x y → S x y) → {xs : List A} {ys : List B}
     → Along R xs ys → Along S xs ys
@@ -108,9 +108,6 @@ module _ (variables : List Variable) where
     | inr h ↦ flows_under a n h
   ]
 
-some_is : {A : Type 0} {x y : A} → Some x ≡ Some y → x ≡ y
-some_is {x = x} h = ap (λ o. unwrap_or o x) h
-
 -- a flow, by how many stand before it
 record IsFlowAt (m : ℕ) (ys : List (s.Variable ℕ)) (k : ℕ) (pair : ℕ × s.Variable ℕ) : Type 0 where
   pub place : ℕ
@@ -149,7 +146,7 @@ flow_at m (y ∷ ys) k pair st = by y.is_state refl (λ j h. flow_at (m + 1) ys 
       where
         first : (k : ℕ) → Stands ((m, y) ∷ flows_from (m + 1) ys) k pair → IsFlowAt m (y ∷ ys) k pair
         first zero f =
-            let e : (m, y) ≡ pair = some_is f in record {
+            let e : (m, y) ≡ pair = same_Some _ _ f in record {
               place = 0;
               number = ap (λ (p : ℕ × s.Variable ℕ). p.0) (sym e) ∙ omega arith;
               stands = ap (λ (p : ℕ × s.Variable ℕ). Some p.1) e;
@@ -257,43 +254,17 @@ flow_place [] i j x y st su f g e = absurd (cc st)
 flow_place (z ∷ ys) zero zero x y st su f g e = refl
 flow_place (z ∷ ys) zero (suc j) x y st su f g e =
     let c = sum_by-cons (λ (x : s.Variable ℕ). cond (not x.is_state) 1 0) z (take j ys) in
-    let d = ap (λ (b : Bool). cond (not b) 1 0 + flow_count (take j ys)) (ap (λ (v : s.Variable ℕ). v.is_state) (some_is st) ∙ f) in
+    let d = ap (λ (b : Bool). cond (not b) 1 0 + flow_count (take j ys)) (ap (λ (v : s.Variable ℕ). v.is_state) (same_Some _ _ st) ∙ f) in
     let h : 0 ≡ flow_count (z ∷ take j ys) = e in absurd (omega (arith, c, d, h))
 flow_place (z ∷ ys) (suc i) zero x y st su f g e =
     let c = sum_by-cons (λ (x : s.Variable ℕ). cond (not x.is_state) 1 0) z (take i ys) in
-    let d = ap (λ (b : Bool). cond (not b) 1 0 + flow_count (take i ys)) (ap (λ (v : s.Variable ℕ). v.is_state) (some_is su) ∙ g) in
+    let d = ap (λ (b : Bool). cond (not b) 1 0 + flow_count (take i ys)) (ap (λ (v : s.Variable ℕ). v.is_state) (same_Some _ _ su) ∙ g) in
     let h : flow_count (z ∷ take i ys) ≡ 0 = e in absurd (omega (arith, c, d, h))
 flow_place (z ∷ ys) (suc i) (suc j) x y st su f g e =
     let c = sum_by-cons (λ (x : s.Variable ℕ). cond (not x.is_state) 1 0) z (take i ys) in
     let d = sum_by-cons (λ (x : s.Variable ℕ). cond (not x.is_state) 1 0) z (take j ys) in
     let h : flow_count (z ∷ take i ys) ≡ flow_count (z ∷ take j ys) = e in
     let r = flow_place ys i j x y st su f g (omega (arith, c, d, h)) in omega (arith, r)
-
--- a flow's number is one
-flow_one : (net : Net ℕ) (k m n : ℕ) → IsFlow net k m → IsFlow net k n → m ≡ n
-flow_one net k m n f g =
-    let at = flow_place net.variables f.place g.place f.variable g.variable f.stands g.stands f.is_flow g.is_flow
-    (f.before ∙ sym g.before) in
-    let x = stands_one net.variables g.place f.variable g.variable
-    (subst (λ (i : ℕ). Stands net.variables i f.variable) at f.stands) g.stands in
-    sym f.is_key ∙ ap (λ (v : s.Variable ℕ). v.key) x ∙ g.is_key
-
-along_one : {A B : Type 0} (R : A → B → Type 0) → ((x : A) (y z : B) → R x y → R x z → y ≡ z) → {xs : List A}
-    {ys zs : List B} → Along R xs ys → Along R xs zs → ys ≡ zs
-along_one R one l.none l.none = refl
-along_one R one (l.one_and {a = x} {b = y} {ys = ys} r a) (l.one_and {b = z} q b) =
-    ap (λ w. w ∷ ys) (one x y z r q) ∙ ap (λ w. z ∷ w) (along_one R one a b)
-
--- the blocks of a net are determined
-pub blocks_one : (net : Net ℕ) (xs ys : List (List ℕ)) → AreBlocks net xs → AreBlocks net ys → xs ≡ ys
-blocks_one net xs ys a b =
-    let count = flow_count net.variables in
-    let moved = follow_on count b.uses a.uses (λ m n o. a.are_uses.all m n (b.are_uses.only m n o))
-    (λ m n o. b.are_uses.all m n (a.are_uses.only m n o)) b.follow in
-    let same = same_blocks a.classes b.classes a.follow moved in
-    let Row : List ℕ → List ℕ → Type 0 = Along (λ (k n : ℕ). IsFlow net k n) in
-    along_one Row (λ x y z d e. along_one (λ (k n : ℕ). IsFlow net k n) (flow_one net) d e) a.are
-    (subst (λ (z : List (List ℕ)). Along Row z ys) (sym same) b.are)
 
 -- the blocks by numbers are those of the net
 pub are_blocks : (p : GtsParts) (flows : List ℕ) (classes blocks : List (List ℕ))
@@ -344,11 +315,6 @@ to_target_push n (x ∷ xs) a =
 abbrev Row : Type 0
 Row = Vec ℕ Global
 
-set_same : (rows : List Row) (a : ℕ) (v : Row) → a < length rows → row_of (set rows a v) a ≡ v.items
-set_same [] a v l = absurd (omega (arith, l))
-set_same (r ∷ rows) zero v l = refl
-set_same (r ∷ rows) (suc a) v l = set_same rows a v (omega (arith, l))
-
 set_other : (rows : List Row) (a b : ℕ) (v : Row) → (b ≡ a → ⊥) → row_of (set rows a v) b ≡ row_of rows b
 set_other [] a b v n = refl
 set_other (r ∷ rows) zero zero v n = absurd (n refl)
@@ -360,11 +326,6 @@ set_long : (rows : List Row) (a : ℕ) (v : Row) → length (set rows a v) ≡ l
 set_long [] a v = refl
 set_long (r ∷ rows) zero v = refl
 set_long (r ∷ rows) (suc a) v = let e = set_long rows a v in omega (arith, e)
-
-pub row_got : (rows : List Row) (n : ℕ) (d : Row) → n < length rows → (get_or rows n d).items ≡ row_of rows n
-row_got [] n d l = absurd (omega (arith, l))
-row_got (r ∷ rows) zero d l = refl
-row_got (r ∷ rows) (suc n) d l = row_got rows n d (omega (arith, l))
 
 -- no assignment yet
 pub target_start : (count : ℕ) (assigns : List Assign) (rows : List Row) → length rows ≡ count
@@ -393,10 +354,10 @@ target_next count assigns old k a rows new pushed n st under at is e f = record 
         let i : a.target.n ≡ m = grind (arith, nat_tests) in
         let here : row_of (set rows a.target.n pushed) m ≡ row_of rows m ++ n ∷ [] =
         ap (row_of (set rows a.target.n pushed)) (sym i)
-        ∙ set_same rows a.target.n pushed (omega (arith, under, f.long)) ∙ is
+        ∙ row_set_same rows a.target.n pushed (omega (arith, under, f.long)) ∙ is
         ∙ ap (λ (z : ℕ). row_of rows z ++ n ∷ []) i in
         subst (λ (z : List ℕ). AreNumbersOf assigns z (to_target m old ++ a ∷ [])) (sym here)
-        (along_push n a (f.row m l) (subst (λ (z : ℕ). Stands assigns z a) (sym at) st))
+        (along_push _ _ n a (f.row m l) (subst (λ (z : ℕ). Stands assigns z a) (sym at) st))
     by m l false t =
         let i : m ≡ a.target.n → ⊥ = λ e. differs a.target.n m t (sym e) in
         subst (λ (z : List ℕ). AreNumbersOf assigns z (to_target m old)) (sym (set_other rows a.target.n m pushed i))

@@ -95,9 +95,3 @@ pub edge_stops : (n : ℕ) (all : List Row) (r : Row) (rest : List Row) (h : Lis
 edge_stops n all r rest h gates e l =
     let m = all_of h (EventIs r.label.event true ∷ not_left r.to all) in
     subst (λ z. n < length z) (sym e) (longer_on (entered_more all rest m.gates) l)
-
--- the length of a list in which one item is put
-pub long_set : {A : Type 0} (xs : List A) (i : ℕ) (x : A) → length (set xs i x) ≡ length xs
-long_set [] i x = refl
-long_set (y ∷ xs) zero x = refl
-long_set (y ∷ xs) (suc i) x = let e = long_set xs i x in omega (arith, e)

@@ -1,6 +1,7 @@
 -- Terms of entries, one entry at a time.
 use Rattle.std.proofs.Common.{◌≡◌, ℕ, ◌+◌, ◌<◌, Bool, true, false, if◌then◌else◌, List, [], ◌∷◌, ◌++◌, length, get_or, drop, Vec, Global, refl, sym, ap, ◌∙◌, subst, add-one, append_assoc}
 use Rattle.std.proofs.lemmas.List.{map-append}
+use Rattle.ar_base.proofs.Items.{next_left}
 use Rattle.domains.specs.Domains.{IsDomain, Holds, values_of}
 use Rattle.domains.specs.Same.{is_same, has_value}
 use Rattle.domains.specs.declared.Domain.{Domain}
@@ -15,15 +16,11 @@ use Rattle.eq_build.specs.Entries.{Group, with_terms, with_term}
 use Rattle.eq_build.specs.Views.{entry_of, entries_in, operands_in, terms_in}
 use Rattle.eq_build.specs.declared.entries.Entry.{Entry}
 use Rattle.eq_build.proofs.Places.{item_next}
+use Rattle.eq_build.proofs.EntriesTell.{is_so}
 use Rattle.table_steps.specs.Steps.{others_with, outside_terms, given_terms}
 
 abbrev Terms : Type 0
 Terms = Vec sign.Operand Global
-
--- what is left after an item
-left_after : {A : Type 0} (xs : List A) (i : ℕ) (x : A) → i < length xs → x ≡ get_or xs i x
-    → drop i xs ≡ x ∷ drop (i + 1) xs
-left_after xs i x l at = item_next xs i x l at ∙ ap (λ (k : ℕ). x ∷ drop k xs) (sym (add-one i))
 
 differs : (v w : Value) → (v ≡ w → ⊥) → is_same v w ≡ false
 differs v w d = by (is_same v w) refl
@@ -31,9 +28,6 @@ differs v w d = by (is_same v w) refl
     by : (b : Bool) → is_same v w ≡ b → b ≡ false
     by true h = absurd (d (same_is v w h))
     by false h = refl
-
-same_true : (v w : Value) → v ≡ w → is_same v w ≡ true
-same_true v w h = subst (λ (z : Value). is_same v z ≡ true) h (same_self v)
 
 -- one term more
 terms_more : (old new : List Terms) (term : Terms) (os : List Operand) (rest whole : List (List Operand))
@@ -55,7 +49,7 @@ module _ (cs : List Operand) (x : Entry) where
   others_put old new term others i y whole l at d is p h =
       let os = cs ++ operand_of x.operand ∷ operand_of y.operand ∷ [] in
       let rest = Others (drop (i + 1) others) in
-      let step = ap Others (left_after others i y l at)
+      let step = ap Others (next_left others i y l at)
       ∙ ap (λ (b : Bool). if b then rest else os ∷ rest) (differs x.value y.value d) in
       terms_more old new term os rest whole p is (ap (λ z. terms_in old ++ z) (sym step) ∙ h)
 
@@ -65,8 +59,8 @@ module _ (cs : List Operand) (x : Entry) where
   others_skip old others i y whole l at d h =
       let os = cs ++ operand_of x.operand ∷ operand_of y.operand ∷ [] in
       let rest = Others (drop (i + 1) others) in
-      let step = ap Others (left_after others i y l at)
-      ∙ ap (λ (b : Bool). if b then rest else os ∷ rest) (same_true x.value y.value d) in
+      let step = ap Others (next_left others i y l at)
+      ∙ ap (λ (b : Bool). if b then rest else os ∷ rest) (is_so x.value y.value d) in
       ap (λ z. terms_in old ++ z) (sym step) ∙ h
 
 has_yes : (d : Domain) (v : Value) → Holds d v → has_value v (values_of d) ≡ true
@@ -90,7 +84,7 @@ module _ (d : Domain) (cs : List Operand) where
   outside_put old new term es i y whole l at dom never is p h =
       let os = cs ++ operand_of y.operand ∷ [] in
       let rest = Outside (drop (i + 1) es) in
-      let step = ap Outside (left_after es i y l at)
+      let step = ap Outside (next_left es i y l at)
       ∙ ap (λ (b : Bool). if b then rest else os ∷ rest) (has_no d y.value dom never) in
       sym (terms_more old new term os rest whole p is (ap (λ z. terms_in old ++ z) (sym step) ∙ sym h))
 
@@ -100,7 +94,7 @@ module _ (d : Domain) (cs : List Operand) where
   outside_skip old es i y whole l at sure h =
       let os = cs ++ operand_of y.operand ∷ [] in
       let rest = Outside (drop (i + 1) es) in
-      let step = ap Outside (left_after es i y l at)
+      let step = ap Outside (next_left es i y l at)
       ∙ ap (λ (b : Bool). if b then rest else os ∷ rest) (has_yes d y.value sure) in
       h ∙ ap (λ z. terms_in old ++ z) step
 
@@ -114,7 +108,7 @@ module _ (d : Domain) (cs : List Operand) where
   given_put old new os es i y whole l at sure is p h =
       let t : List Operand → e.Term = λ z. record { value = y.value; operands = z } in
       let rest = Given (drop (i + 1) es) in
-      let step = ap Given (left_after es i y l at)
+      let step = ap Given (next_left es i y l at)
       ∙ ap (λ (b : Bool). if b then t (cs ++ operand_of y.operand ∷ []) ∷ rest else rest) (has_yes d y.value sure) in
       ap (with_terms rest) (p ∙ ap (λ z. with_term (t z) old) is)
       ∙ ap (λ z. with_terms z old) (sym step) ∙ h
@@ -125,7 +119,7 @@ module _ (d : Domain) (cs : List Operand) where
   given_skip old es i y whole l at dom never h =
       let t : List Operand → e.Term = λ z. record { value = y.value; operands = z } in
       let rest = Given (drop (i + 1) es) in
-      let step = ap Given (left_after es i y l at)
+      let step = ap Given (next_left es i y l at)
       ∙ ap (λ (b : Bool). if b then t (cs ++ operand_of y.operand ∷ []) ∷ rest else rest) (has_no d y.value dom never) in
       ap (λ z. with_terms z old) (sym step) ∙ h
 

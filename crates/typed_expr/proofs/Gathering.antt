@@ -6,7 +6,7 @@ use Rattle.std.proofs.lemmas.List.Elements.{Contains-append_left, Contains-push,
 use Rattle.domains.specs.Values.{IsAscending}
 use Rattle.domains.specs.declared.Value.{Value}
 use Rattle.domains.specs.declared.Value.TheVariants.{Truth, Whole}
-use Rattle.domains.proofs.Members.{contains-head, contains-cons, contains-cases, nothing-in}
+use Rattle.domains.proofs.Members.{contains-head, contains-cons, contains-cases, nothing-in, contains-one}
 use Rattle.domains.proofs.Order.{ascends-from, ascends-length}
 use Rattle.typed_expr.specs.Values.{whole_of, is_related}
 use Rattle.typed_expr.specs.Folds.{next_of}
@@ -177,9 +177,6 @@ next-here s first n values i d h = record {
   is = refl;
 }
 
-pub one-item : (n m : Value) → Contains (n ∷ []) m → n ≡ m
-one-item n m h = elim (contains-cases n m [] h) [ inl e ↦ e | inr k ↦ absurd (nothing-in m k) ]
-
 next-cases : (s : Step) (first : Bool) (n : Value) (values : List Value) (i : ℕ) (d v : Value) → i < length values
     → IsNext s first (n ∷ []) (take (i + 1) values) v
     → IsNext s first (n ∷ []) (take i values) v ⊎ (v ≡ Whole (next_of s first (whole_of n) (get_or values i d)))
@@ -188,7 +185,7 @@ next-cases s first n values i d v h m =
       | inl k ↦ inl (record { number = m.number; value = m.value; in_numbers = m.in_numbers; in_values = k; is = m.is })
       | inr e ↦
           inr
-          (m.is ∙ ap (λ z. Whole (next_of s first (whole_of z) m.value)) (sym (one-item n m.number m.in_numbers)) ∙ ap (λ z. Whole (next_of s first (whole_of n) z)) e)
+          (m.is ∙ ap (λ z. Whole (next_of s first (whole_of z) m.value)) (sym (contains-one n m.number m.in_numbers)) ∙ ap (λ z. Whole (next_of s first (whole_of n) z)) e)
     ]
 
 pub stepped-start : (most : Option ℕ) (s : Step) (first : Bool) (n : Value) (set values : List Value)
@@ -247,7 +244,7 @@ numbers_up s first ns values set i d n h e t v (inr m) = record {
   in_values = m.in_values;
   is = m.is;
   in_numbers =
-      subst (λ (z : Value). Contains (take (i + 1) ns) z) (sym e ∙ one-item n m.number m.in_numbers)
+      subst (λ (z : Value). Contains (take (i + 1) ns) z) (sym e ∙ contains-one n m.number m.in_numbers)
       (take-has ns i d h);
 }
 
@@ -320,19 +317,19 @@ truths-none most r g =
 pub truths-false : (most : Option ℕ) (r : Result (List Value) Stop) → Gathers most r (Contains (Truth false ∷ []))
     → Gathers most r (IsTruth true false)
 truths-false most r g = gathers-as most r {P = Contains (Truth false ∷ [])}
-    (λ v m. inl (refl, sym (one-item (Truth false) v m)))
+    (λ v m. inl (refl, sym (contains-one (Truth false) v m)))
     (λ v m. elim m [ inl h ↦ subst (λ (z : Value). Contains (Truth false ∷ []) z) (sym h.1) (contains-head (Truth false) []) | inr h ↦ cc ]) g
 
 pub truths-true : (most : Option ℕ) (r : Result (List Value) Stop) → Gathers most r (Contains (Truth true ∷ []))
     → Gathers most r (IsTruth false true)
 truths-true most r g = gathers-as most r {P = Contains (Truth true ∷ [])}
-    (λ v m. inr (refl, sym (one-item (Truth true) v m)))
+    (λ v m. inr (refl, sym (contains-one (Truth true) v m)))
     (λ v m. elim m [ inl h ↦ cc | inr h ↦ subst (λ (z : Value). Contains (Truth true ∷ []) z) (sym h.1) (contains-head (Truth true) []) ]) g
 
 pub truths-both : (most : Option ℕ) (r : Result (List Value) Stop)
     → Gathers most r (Contains (Truth false ∷ Truth true ∷ [])) → Gathers most r (IsTruth true true)
 truths-both most r g = gathers-as most r {P = Contains (Truth false ∷ Truth true ∷ [])}
-    (λ v m. elim (contains-cases (Truth false) v (Truth true ∷ []) m) [ inl e ↦ inl (refl, sym e) | inr k ↦ inr (refl, sym (one-item (Truth true) v k)) ])
+    (λ v m. elim (contains-cases (Truth false) v (Truth true ∷ []) m) [ inl e ↦ inl (refl, sym e) | inr k ↦ inr (refl, sym (contains-one (Truth true) v k)) ])
     (λ v m. elim m [
       | inl h ↦
           subst (λ (z : Value). Contains (Truth false ∷ Truth true ∷ []) z) (sym h.1)
@@ -351,7 +348,7 @@ right-more r a bs wanted b i d h f e n s =
       | inl k ↦ f (record { left = s.left; right = s.right; in_left = s.in_left; in_right = k; related = s.related })
       | inr q ↦
           n
-          (e ∙ ap (λ z. is_related r z (get_or bs i d)) (one-item a s.left s.in_left) ∙ ap (λ z. is_related r s.left z) (sym q) ∙ s.related)
+          (e ∙ ap (λ z. is_related r z (get_or bs i d)) (contains-one a s.left s.in_left) ∙ ap (λ z. is_related r s.left z) (sym q) ∙ s.related)
     ]
 
 pub left-more : (r : Relation) (us bs : List Value) (wanted : Bool) (i : ℕ) (d : Value) → i < length us
@@ -368,12 +365,6 @@ left-more r us bs wanted i d h f n s =
         in_left = subst (λ (z : Value). Contains (get_or us i d ∷ []) z) (sym q) (contains-head (get_or us i d) []);
       })
     ]
-
-pub not_equal : (a b : Bool) → beq a b ≡ false → a ≡ b → ⊥
-not_equal true true e i = cc
-not_equal true false e i = cc
-not_equal false true e i = cc
-not_equal false false e i = cc
 
 pub wanted-as : (most : Option ℕ) (set more values : List Value) (wanted : Bool) (r : Result (List Value) Stop)
     → wanted ≡ true → values ≡ more

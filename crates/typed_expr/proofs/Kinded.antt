@@ -2,6 +2,7 @@
 use Rattle.std.proofs.Common.{◌≡◌, ℕ, ◌+◌, ◌<◌, ◌≤◌, ◌↔◌, Bool, true, false, not, cond, nat_eq, IsTrue, List, [], ◌∷◌, ◌++◌, length, take, get_or, Contains, Box, Vec, Global, Option, Some, None, refl, sym, ap, ◌∙◌, subst, inl, inr, arith}
 use Rattle.std.proofs.lemmas.List.{take_all}
 use Rattle.std.proofs.lemmas.Bool.Decides.{nat_tests}
+use Rattle.ar_base.proofs.Items.{take_item}
 use Rattle.domains.specs.declared.Value.{Value}
 use Rattle.domains.proofs.Members.{contains-cases, nothing-in}
 use Rattle.typed_expr.specs.Yields.{Level}
@@ -16,7 +17,7 @@ use Rattle.typed_expr.specs.declared.expr.Expr as plain
 use Rattle.typed_expr.specs.declared.expr.Expr.TheOpen.{Constant, Variable, Not, All, Any, Compare, Sum, Product, Least, Greatest, Count, Choose}
 use Rattle.typed_expr.specs.declared.expr.Expr.TheViews as view
 use Rattle.typed_expr.proofs.Opened as opened
-use Rattle.typed_expr.proofs.Loops.{item-is-in, take-next}
+use Rattle.typed_expr.proofs.Loops.{item-is-in}
 
 module _ {V : Type 0} (kinds : V → ValueKind) where
   -- an expression has one kind
@@ -247,7 +248,7 @@ module _ {V : Type 0} (kinds : V → ValueKind) where
       → HasKind kinds (out-Expr V e) kind → Each kinds (take i es) kind → Each kinds (take (i + 1) es) kind
   each-more es i e kind h is d f =
       let P : List (Expr V) → Type 0 = λ l. Each kinds l kind in
-      subst P (sym (take-next es i e h is)) (each-append (take i es) (e ∷ []) kind f (k.one_and d k.none))
+      subst P (sym (take_item es i e h is)) (each-append (take i es) (e ∷ []) kind f (k.one_and d k.none))
 
   pub each-over : (es : List (Expr V)) (i : ℕ) (kind : ValueKind) → length es ≤ i → Each kinds (take i es) kind
       → Each kinds es kind
@@ -269,7 +270,7 @@ module _ {V : Type 0} (kinds : V → ValueKind) where
       → HasKind kinds (out-Expr V p.1) Whole → Each_part kinds (take i ps) → Each_part kinds (take (i + 1) ps)
   part-more ps i p h is d f =
       let P : List (Bool × Expr V) → Type 0 = λ l. Each_part kinds l in
-      subst P (sym (take-next ps i p h is)) (parts-append (take i ps) (p ∷ []) f (k.part_and d k.no_part))
+      subst P (sym (take_item ps i p h is)) (parts-append (take i ps) (p ∷ []) f (k.part_and d k.no_part))
 
   pub part-over : (ps : List (Bool × Expr V)) (i : ℕ) → length ps ≤ i → Each_part kinds (take i ps) → Each_part kinds ps
   part-over ps i h f = let P : List (Bool × Expr V) → Type 0 = λ l. Each_part kinds l in subst P (take_all i ps h) f
@@ -291,7 +292,7 @@ module _ {V : Type 0} (kinds : V → ValueKind) where
       → Each_case kinds (take i cs) kind → Each_case kinds (take (i + 1) cs) kind
   case-more cs i p kind h is c d f =
       let P : List (Expr V × Expr V) → Type 0 = λ l. Each_case kinds l kind in
-      subst P (sym (take-next cs i p h is)) (cases-append (take i cs) (p ∷ []) kind f (k.case_and c d k.no_case))
+      subst P (sym (take_item cs i p h is)) (cases-append (take i cs) (p ∷ []) kind f (k.case_and c d k.no_case))
 
   pub case-over : (cs : List (Expr V × Expr V)) (i : ℕ) (kind : ValueKind) → length cs ≤ i
       → Each_case kinds (take i cs) kind → Each_case kinds cs kind
@@ -309,10 +310,6 @@ pub record PartsSoFar {V : Type 0} (kinds : V → ValueKind) (ps : List (Bool ×
 pub record CasesSoFar {V : Type 0} (kinds : V → ValueKind) (cs : List (Expr V × Expr V)) (i : ℕ)
     (kind : ValueKind) : Type 0 where
   pub each : Each_case kinds (take i cs) kind
-
-pub not-true : (b : Bool) → not b ≡ true → b ≡ false
-not-true true e = cc
-not-true false e = refl
 
 module _ {V : Type 0} (kinds : V → ValueKind) where
   pub each-begins : (es : List (Expr V)) (kind : ValueKind) → EachSoFar kinds es 0 kind

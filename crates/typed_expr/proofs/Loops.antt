@@ -3,9 +3,10 @@ use Rattle.std.proofs.Common.{◌≡◌, ℕ, ◌+◌, ◌<◌, ◌≤◌, ◌�
 use Rattle.std.proofs.lemmas.List.{take_more, take_all, take-append-drop}
 use Rattle.std.proofs.lemmas.List.Sums.{fold_push}
 use Rattle.std.proofs.lemmas.Bool.{cases_lt}
+use Rattle.ar_base.proofs.Items.{take_item}
 use Rattle.domains.specs.declared.Value.{Value}
 use Rattle.domains.specs.declared.Value.TheVariants.{Truth, Whole}
-use Rattle.domains.proofs.Members.{contains-head, contains-cons, nothing-in}
+use Rattle.domains.proofs.Members.{contains-head, contains-cons, nothing-in, contains-one}
 use Rattle.typed_expr.specs.Values.{whole_of, added, sum_of}
 use Rattle.typed_expr.specs.Folds.{fold_of, next_of}
 use Rattle.typed_expr.specs.Sets.{HasExactly, HasMoreThan, AtLimit, KeepsLimit, Stopped, Gathers}
@@ -18,13 +19,8 @@ use Rattle.typed_expr.specs.declared.fold.Step.{Step}
 use Rattle.typed_expr.specs.declared.fold.Step.TheVariants.{Part}
 use Rattle.typed_expr.specs.declared.value_set.Stop.{Stop}
 use Rattle.typed_expr.proofs.Folding.{is_nil, fold_of-push}
-use Rattle.typed_expr.proofs.Gathering.{more-than, stopped-up, take-cases, one-item}
+use Rattle.typed_expr.proofs.Gathering.{more-than, stopped-up, take-cases}
 use Rattle.typed_expr.proofs.Forms.{not-more}
-
--- the first places of a list, one place on
-pub take-next : {X : Type 0} (xs : List X) (i : ℕ) (x : X) → i < length xs → x ≡ get_or xs i x
-    → take (i + 1) xs ≡ take i xs ++ x ∷ []
-take-next {X} xs i x h is = take_more xs i x h ∙ ap (λ (z : X). take i xs ++ z ∷ []) (sym is)
 
 pub item-in : {X : Type 0} (xs : List X) (i : ℕ) (d : X) → i < length xs → Contains xs (get_or xs i d)
 item-in [] i d h = absurd (omega (arith, h))
@@ -123,7 +119,7 @@ module _ {V : Type 0} (facts : V → Value → Type 0) where
       → Tallied facts b one each (take i es) → Tallied facts b one_more each_more (take (i + 1) es)
   tallied-more b one each one_more each_more other same es i e set h is k p q o a t =
       let T : List (Expr V) → Type 0 = λ l. Tallied facts b one_more each_more l in
-      subst T (sym (take-next es i e h is)) (record {
+      subst T (sym (take_item es i e h is)) (record {
         one = (
           (λ g. elim (o.0 g) [
             | inl m ↦ some-left (take i es) (e ∷ []) (Truth (not b)) (t.one.0 m)
@@ -201,7 +197,7 @@ module _ {V : Type 0} (facts : V → Value → Type 0) where
   pub fold-start : (s : Step) (es : List (Expr V)) (n : ℤ) (set : List Value) → n ≡ fold_of s []
       → HasExactly set (Contains (Whole n ∷ [])) → HasExactly set (FoldYields facts s es 0)
   fold-start s es n set e h = record {
-    sound = λ v m. ([], y.no_operand, sym (one-item (Whole n) v (h.sound v m)) ∙ ap Whole e);
+    sound = λ v m. ([], y.no_operand, sym (contains-one (Whole n) v (h.sound v m)) ∙ ap Whole e);
     complete = λ v p. let (vs, d, k) = p in
         h.complete v
         (subst (λ (z : Value). Contains (Whole n ∷ []) z) (ap Whole (e ∙ ap (fold_of s) (sym (picks_none vs d))) ∙ sym k) (contains-head (Whole n) []));
@@ -215,7 +211,7 @@ module _ {V : Type 0} (facts : V → Value → Type 0) where
   fold-up s first es i e so_far values h is f p q v m =
       let (vs, d, k) = p.sound m.number m.in_numbers in
       let all : Picks facts (take (i + 1) es) (vs ++ m.value ∷ []) =
-      subst (λ (l : List (Expr V)). Picks facts l (vs ++ m.value ∷ [])) (sym (take-next es i e h is))
+      subst (λ (l : List (Expr V)). Picks facts l (vs ++ m.value ∷ [])) (sym (take_item es i e h is))
       (picks-append (take i es) (e ∷ []) vs (m.value ∷ []) d (y.operand (q.sound m.value m.in_values) y.no_operand)) in (
         vs ++ m.value ∷ [],
         all,
@@ -229,7 +225,7 @@ module _ {V : Type 0} (facts : V → Value → Type 0) where
       → HasExactly so_far (FoldYields facts s es i) → HasExactly values (Yields facts (out-Expr V e)) → (v : Value)
       → FoldYields facts s es (i + 1) v → IsNext s first so_far values v
   fold-down s first es i e so_far values h is f p q v (vs, d, k) =
-      let l = last-pick (take i es) e vs (subst (λ (l : List (Expr V)). Picks facts l vs) (take-next es i e h is) d) in
+      let l = last-pick (take i es) e vs (subst (λ (l : List (Expr V)). Picks facts l vs) (take_item es i e h is) d) in
       record {
         number = Whole (fold_of s l.before);
         value = l.last;
@@ -251,7 +247,7 @@ module _ {V : Type 0} (facts : V → Value → Type 0) where
 
   pub first-more : (es : List (Expr V)) (i : ℕ) (e : Expr V) → i < length es → e ≡ get_or es i e
       → false ≡ is_nil (take (i + 1) es)
-  first-more es i e h is = sym (ap is_nil (take-next es i e h is) ∙ not_nil (take i es) e) where
+  first-more es i e h is = sym (ap is_nil (take_item es i e h is) ∙ not_nil (take i es) e) where
     not_nil : (xs : List (Expr V)) (e : Expr V) → is_nil (xs ++ e ∷ []) ≡ false
     not_nil [] e = refl
     not_nil (x ∷ xs) e = refl
@@ -310,7 +306,7 @@ module _ {V : Type 0} (facts : V → Value → Type 0) where
   pub sum-start : (ps : List (Bool × Expr V)) (n : ℤ) (set : List Value) → n ≡ sum_of []
       → HasExactly set (Contains (Whole n ∷ [])) → HasExactly set (SumYields facts ps 0)
   sum-start ps n set e h = record {
-    sound = λ v m. ([], y.no_part, sym (one-item (Whole n) v (h.sound v m)) ∙ ap Whole e);
+    sound = λ v m. ([], y.no_part, sym (contains-one (Whole n) v (h.sound v m)) ∙ ap Whole e);
     complete = λ v p. let (vs, d, k) = p in
         h.complete v
         (subst (λ (z : Value). Contains (Whole n ∷ []) z) (ap Whole (e ∙ ap sum_of (sym (parts_none vs d))) ∙ sym k) (contains-head (Whole n) []));
@@ -354,7 +350,7 @@ module _ {V : Type 0} (facts : V → Value → Type 0) where
       let (vs, d, k) = g.sound m.number m.in_numbers in
       let all : Picks_parts facts (take (i + 1) ps) (vs ++ (p.0, m.value) ∷ []) =
       subst (λ (l : List (Bool × Expr V)). Picks_parts facts l (vs ++ (p.0, m.value) ∷ []))
-      (sym (take-next ps i p h is))
+      (sym (take_item ps i p h is))
       (parts-append (take i ps) (p ∷ []) vs ((p.0, m.value) ∷ []) d (y.part (q.sound m.value m.in_values) y.no_part)) in (
         vs ++ (p.0, m.value) ∷ [],
         all,
@@ -369,7 +365,7 @@ module _ {V : Type 0} (facts : V → Value → Type 0) where
   sum-down ps i p so_far values h is g q v (vs, d, k) =
       let l =
       last-part (take i ps) p vs
-      (subst (λ (l : List (Bool × Expr V)). Picks_parts facts l vs) (take-next ps i p h is) d) in
+      (subst (λ (l : List (Bool × Expr V)). Picks_parts facts l vs) (take_item ps i p h is) d) in
       record {
         number = Whole (sum_of l.before);
         value = l.last;
@@ -467,7 +463,7 @@ module _ {V : Type 0} (facts : V → Value → Type 0) where
       → Chosen facts set passes (take i cs) → Chosen facts new passes_more (take (i + 1) cs)
   chosen-more cs i c set new tests passes passes_more can_pass h is t p q down up k =
       let P : List (Expr V × Expr V) → Type 0 = λ l. Chosen facts new passes_more l in
-      subst P (sym (take-next cs i c h is)) (record {
+      subst P (sym (take_item cs i c h is)) (record {
         exact = record {
           sound = λ v m. elim (down v m) [
             | inl n ↦ took-left (take i cs) (c ∷ []) v (k.exact.sound v n)
@@ -595,7 +591,7 @@ module _ {V : Type 0} (facts : V → Value → Type 0) (most : Option ℕ) where
   fold-begins-stop s es w stop e g =
       stopped-up most (λ k. HasMoreThan k (Contains (w ∷ [])))
       (λ k. SomeWide facts es k ⊎ SomeStep (FoldYields facts s es) k)
-      (λ k h. inr (record { place = 0; wide = more-than (λ v m. ([], y.no_operand, sym (one-item w v m) ∙ e)) h })) stop g
+      (λ k h. inr (record { place = 0; wide = more-than (λ v m. ([], y.no_operand, sym (contains-one w v m) ∙ e)) h })) stop g
 
   pub fold-goes-on : (s : Step) (first : Bool) (es : List (Expr V)) (i : ℕ) (e : Expr V) (set values new : List Value)
       → i < length es → e ≡ get_or es i e → FoldSoFar facts most s first set es i
@@ -646,7 +642,7 @@ module _ {V : Type 0} (facts : V → Value → Type 0) (most : Option ℕ) where
   sum-begins-stop ps n stop e g =
       stopped-up most (λ k. HasMoreThan k (Contains (Whole n ∷ [])))
       (λ k. PartWide facts ps k ⊎ SomeStep (SumYields facts ps) k)
-      (λ k h. inr (record { place = 0; wide = more-than (λ v m. ([], y.no_part, sym (one-item (Whole n) v m) ∙ ap Whole e)) h })) stop g
+      (λ k h. inr (record { place = 0; wide = more-than (λ v m. ([], y.no_part, sym (contains-one (Whole n) v m) ∙ ap Whole e)) h })) stop g
 
   pub sum-goes-on : (ps : List (Bool × Expr V)) (i : ℕ) (p : Bool × Expr V) (set values new : List Value)
       → i < length ps → p ≡ get_or ps i p → SumSoFar facts most set ps i
@@ -755,7 +751,7 @@ module _ {V : Type 0} (facts : V → Value → Type 0) (most : Option ℕ) where
         | inl b ↦ inl (record { case = c; in_list = item-is-in cs i c h is; wide = inr b })
         | inr m ↦ inr (more-than (λ v k. took_within cs (i + 1) v
             (let P : List (Expr V × Expr V) → Type 0 = λ l. Took facts l v in
-            subst P (sym (take-next cs i c h is))
+            subst P (sym (take_item cs i c h is))
             (elim (case_down cs i c set tests passes takes f t.0 (λ k. let z = p.0 k in (z.0, a.0 z.1)) v k) [
               | inl b ↦ took-left facts (take i cs) (c ∷ []) v (f.chosen.exact.sound v b)
               | inr b ↦ took-right facts (take i cs) (c ∷ []) v b.0 b.1
@@ -783,7 +779,3 @@ tally-stops-early facts (Some n) b one each es i o a m t = cc
 
 pub none-there : (there absent : Bool) → there ≡ not absent → absent ≡ true → there ≡ false
 none-there there absent e i = e ∙ ap not i
-
-pub not-true : (b : Bool) → not b ≡ true → b ≡ false
-not-true true e = cc
-not-true false e = refl

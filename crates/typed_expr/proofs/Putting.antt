@@ -3,7 +3,7 @@ use Rattle.std.proofs.Common.{◌≡◌, ℕ, ◌+◌, ◌<◌, ◌≤◌, Bool,
 use Rattle.std.specs.Prelude.{⊤}
 use Rattle.std.specs.List.{AllWithin}
 use Rattle.std.specs.List.Sorted.{IsPartitionPoint}
-use Rattle.std.proofs.lemmas.Bool.{cases_lt}
+use Rattle.std.proofs.lemmas.Bool.{cases_lt, false_from_ne_true}
 use Rattle.std.proofs.lemmas.List.{get_or_default}
 use Rattle.std.proofs.lemmas.List.Edits.{length-insert}
 use Rattle.domains.specs.Values.{is_before, IsAscending}
@@ -70,10 +70,6 @@ ascending-insert xs n v g a =
     ascending-from (insert xs n v)
     (ascends-insert xs n v g.within (λ k d l. g.lower k d (omega arith) l) (λ k d l i. g.upper k d l i) (ascends-from xs a))
 
-not_true : (b : Bool) → (b ≡ true → ⊥) → b ≡ false
-not_true true f = absurd (f refl)
-not_true false f = refl
-
 -- the values before a value stand before the others
 pub partitioned : (xs : List Value) (v : Value) → IsAscending xs → (i j : ℕ) (d : Value) → i ≤ j → j < length xs
     → is_before (get_or xs j d) v ≡ true → is_before (get_or xs i d) v ≡ true
@@ -94,7 +90,7 @@ pub upper-grows : (xs : List Value) (v : Value) (m : ℕ) → IsAscending xs
     → ((d : Value) → is_before (get_or xs m d) v ≡ false)
     → AllWithin (λ y. is_before y v ≡ false) xs m (length xs)
 upper-grows xs v m a b k d l i =
-    not_true (is_before (get_or xs k d) v) (λ e. let f = partitioned xs v a m k d l i e in let g = b d in cc)
+    false_from_ne_true (is_before (get_or xs k d) v) (λ e. let f = partitioned xs v a m k d l i e in let g = b d in cc)
 
 at_later : (xs : List Value) (v : Value) (n k : ℕ) (d : Value) → IsAscending xs → k < length xs → n ≤ k
     → is_before v (get_or xs n d) ≡ true → is_before v (get_or xs k d) ≡ true

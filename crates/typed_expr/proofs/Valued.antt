@@ -3,6 +3,7 @@ use Rattle.std.proofs.Common.{◌≡◌, ℕ, ◌+◌, ◌<◌, ◌≤◌, ◌^�
 use Rattle.std.specs.Int.{saturate_signed, w64}
 use Rattle.std.proofs.lemmas.Int.{ints}
 use Rattle.std.proofs.lemmas.List.Sums.{sum_by-cons}
+use Rattle.std.proofs.lemmas.Bool.{cond-true, cond-false}
 use Rattle.domains.specs.declared.Value.{Value}
 use Rattle.domains.specs.declared.Value.TheVariants as val
 use Rattle.domains.proofs.Members.{contains-head, contains-cases, nothing-in}
@@ -32,12 +33,6 @@ pub truth-form : (v : Value) → kind_of v ≡ Truth → v ≡ val.Truth (truth_
 truth-form (val.Truth b) h = refl
 truth-form (val.Whole n) h = cc
 truth-form (val.Symbol s) h = cc
-
-cond_true : {A : Type 0} (b : Bool) (x z : A) → b ≡ true → cond b x z ≡ x
-cond_true b x z h = rw h refl
-
-cond_false : {A : Type 0} (b : Bool) (x z : A) → b ≡ false → cond b x z ≡ z
-cond_false b x z h = rw h refl
 
 cond_both : {A : Type 0} (b : Bool) (x : A) → cond b x x ≡ x
 cond_both true x = refl
@@ -72,13 +67,13 @@ module _ {V : Type 0} (facts : V → Value → Type 0) (t : V → Value)
 
     pub some-false : {es : List (Expr V)} {w : Value} → Some_yields facts es w → w ≡ val.Truth false
         → all_true (map (value_of t) es) ≡ false
-    some-false (y.here {e = e} d) i = cond_false _ _ _ (ap truth_of (value_of-level t e ∙ sym (yielded-value d) ∙ i))
+    some-false (y.here {e = e} d) i = cond-false _ _ _ (ap truth_of (value_of-level t e ∙ sym (yielded-value d) ∙ i))
     some-false (y.later {e = e} d) i =
         ap (λ z. cond (truth_of (value_of t e)) z false) (some-false d i) ∙ cond_both (truth_of (value_of t e)) false
 
     pub some-true : {es : List (Expr V)} {w : Value} → Some_yields facts es w → w ≡ val.Truth true
         → one_true (map (value_of t) es) ≡ true
-    some-true (y.here {e = e} d) i = cond_true _ _ _ (ap truth_of (value_of-level t e ∙ sym (yielded-value d) ∙ i))
+    some-true (y.here {e = e} d) i = cond-true _ _ _ (ap truth_of (value_of-level t e ∙ sym (yielded-value d) ∙ i))
     some-true (y.later {e = e} d) i =
         ap (λ z. cond (truth_of (value_of t e)) true z) (some-true d i) ∙ cond_both (truth_of (value_of t e)) true
 
@@ -86,13 +81,13 @@ module _ {V : Type 0} (facts : V → Value → Type 0) (t : V → Value)
         → all_true (map (value_of t) es) ≡ true
     all-true y.none i = refl
     all-true (y.one_and {e = e} d ds) i =
-        cond_true _ _ _ (ap truth_of (value_of-level t e ∙ sym (yielded-value d) ∙ i)) ∙ all-true ds i
+        cond-true _ _ _ (ap truth_of (value_of-level t e ∙ sym (yielded-value d) ∙ i)) ∙ all-true ds i
 
     pub all-false : {es : List (Expr V)} {w : Value} → All_yield facts es w → w ≡ val.Truth false
         → one_true (map (value_of t) es) ≡ false
     all-false y.none i = refl
     all-false (y.one_and {e = e} d ds) i =
-        cond_false _ _ _ (ap truth_of (value_of-level t e ∙ sym (yielded-value d) ∙ i)) ∙ all-false ds i
+        cond-false _ _ _ (ap truth_of (value_of-level t e ∙ sym (yielded-value d) ∙ i)) ∙ all-false ds i
 
     pub picked : {es : List (Expr V)} {vs : List Value} → Picks facts es vs → vs ≡ map (value_of t) es
     picked y.no_operand = refl
@@ -111,10 +106,10 @@ module _ {V : Type 0} (facts : V → Value → Type 0) (t : V → Value)
     taken-value (y.otherwise d) = yielded-value d
     taken-value (y.taken {test = e} {value = f} c d) =
         yielded-value d ∙ sym (value_of-level t f) ∙ sym
-        (cond_true (truth_of (value_of t e)) _ _ (ap truth_of (value_of-level t e ∙ sym (yielded-value c))))
+        (cond-true (truth_of (value_of t e)) _ _ (ap truth_of (value_of-level t e ∙ sym (yielded-value c))))
     taken-value (y.passed {test = e} c d) =
         taken-value d ∙ sym
-        (cond_false (truth_of (value_of t e)) _ _ (ap truth_of (value_of-level t e ∙ sym (yielded-value c))))
+        (cond-false (truth_of (value_of t e)) _ _ (ap truth_of (value_of-level t e ∙ sym (yielded-value c))))
 
 -- the value is yielded, and is of the kind
 pub record Valued {V : Type 0} (facts : V → Value → Type 0) (t : V → Value) (e : Level V)
@@ -150,15 +145,15 @@ module _ {V : Type 0} (facts : V → Value → Type 0) (t : V → Value) (kinds 
 
   conjoin : (e : Expr V) (es : List (Expr V)) (b : Bool) → truth_of (value_of t e) ≡ b
       → Yields facts (out-Expr V e) (val.Truth b) → Conjoined facts t es → Conjoined facts t (e ∷ es)
-  conjoin e es true i d (each_true j c) = each_true (cond_true _ _ _ i ∙ j) (y.one_and d c)
-  conjoin e es true i d (some_false j c) = some_false (cond_true _ _ _ i ∙ j) (y.later c)
-  conjoin e es false i d c = some_false (cond_false _ _ _ i) (y.here d)
+  conjoin e es true i d (each_true j c) = each_true (cond-true _ _ _ i ∙ j) (y.one_and d c)
+  conjoin e es true i d (some_false j c) = some_false (cond-true _ _ _ i ∙ j) (y.later c)
+  conjoin e es false i d c = some_false (cond-false _ _ _ i) (y.here d)
 
   disjoin : (e : Expr V) (es : List (Expr V)) (b : Bool) → truth_of (value_of t e) ≡ b
       → Yields facts (out-Expr V e) (val.Truth b) → Disjoined facts t es → Disjoined facts t (e ∷ es)
-  disjoin e es true i d c = some_true (cond_true _ _ _ i) (y.here d)
-  disjoin e es false i d (each_false j c) = each_false (cond_false _ _ _ i ∙ j) (y.one_and d c)
-  disjoin e es false i d (some_true j c) = some_true (cond_false _ _ _ i ∙ j) (y.later c)
+  disjoin e es true i d c = some_true (cond-true _ _ _ i) (y.here d)
+  disjoin e es false i d (each_false j c) = each_false (cond-false _ _ _ i ∙ j) (y.one_and d c)
+  disjoin e es false i d (some_true j c) = some_true (cond-false _ _ _ i ∙ j) (y.later c)
 
   from_conjoined : (es : Vec (Expr V) Global) → Conjoined facts t es.items → Valued facts t (All es) Truth
   from_conjoined es (each_true j c) = record {
@@ -190,14 +185,14 @@ module _ {V : Type 0} (facts : V → Value → Type 0) (t : V → Value) (kinds 
       → Valued facts t (out-Expr V f) kind → Chosen_value cs other kind → Chosen_value ((e, f) ∷ cs) other kind
   choose e f cs other kind true i d h c =
       let w =
-      cond_true (truth_of (value_of t e)) (value_of t f)
+      cond-true (truth_of (value_of t e)) (value_of t f)
       (first_true (map (λ c. (value_of t c.0, value_of t c.1)) cs) (level_value t other)) i in
       let P : Value → Type 0 = λ z. Takes facts ((e, f) ∷ cs) other z in
       record
       { takes = subst P (sym w) (y.taken d (value_yields f kind h)); is_kind = ap kind_of w ∙ ap kind_of (value_of-level t f) ∙ h.is_kind }
   choose e f cs other kind false i d h c =
       let w =
-      cond_false (truth_of (value_of t e)) (value_of t f)
+      cond-false (truth_of (value_of t e)) (value_of t f)
       (first_true (map (λ c. (value_of t c.0, value_of t c.1)) cs) (level_value t other)) i in
       let P : Value → Type 0 = λ z. Takes facts ((e, f) ∷ cs) other z in
       record { takes = subst P (sym w) (y.passed d c.takes); is_kind = ap kind_of w ∙ c.is_kind }

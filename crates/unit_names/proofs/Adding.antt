@@ -70,11 +70,6 @@ not_nothing h v k = cc (leads_same h k)
 pub not_loops : {m : RootedModel} {u : UnitPath} {x : ℕ} → LeadsFrom m u x Loops → (v : UnitPath) → LeadsFrom m u x (Reaches v) → ⊥
 not_loops h v k = cc (leads_same h k)
 
--- a fact of an answer that is there, in other words
-pub on_ok : {A E : Type 0} {P Q : Type 0} (r : Result A E) → (P → Q) → OnOk r P → OnOk r Q
-on_ok (Ok a) f h = f h
-on_ok (Err e) f h = h
-
 -- the names of members, one after the other
 pub sites_next : (names : Owned → List ℕ) (d : Declared) (xs : List Site) (x : Site) → names_at_sites names d (xs ++ x ∷ []) ≡ names_at_sites names d xs ++ names_if names (owned_at d x)
 sites_next names d [] x = append-nil (names_if names (owned_at d x))

@@ -4,7 +4,7 @@ use Rattle.ar_base.specs.Breach.{IsEarlier}
 use Rattle.ar_base.specs.Lists.{Stands, IsOneOf}
 use Rattle.ar_base.specs.Numbers.{BodyId}
 use Rattle.ar_base.specs.declared.places.Place.{Place}
-use Rattle.ar_base.proofs.Standing.{stands_map, stands_map_back, stands_within, one_none, one_first, one_cases, along_on, along_back, along_length}
+use Rattle.ar_base.proofs.Standing.{stands_map, stands_map_back, stands_within, one_none, one_first, one_cases, along_on, along_back, along_length, only_item}
 use Rattle.std.proofs.lemmas.Option.{slice_get_past}
 use Rattle.std.proofs.lemmas.List.{length-map}
 use Rattle.ar_syntax.specs.declared.members.Member.{out-Member}
@@ -113,9 +113,6 @@ form_gives d s (member.Local y at guard action) p x e = cc e
 form_gives d s (member.Sync y at parts) p x e = cc e
 form_gives d s (member.Assert i) p x e = cc e
 
-one_only : {A : Type 0} (a b : A) → IsOneOf (a ∷ []) b → a ≡ b
-one_only a b o = elim (one_cases a [] b o) [ inl e ↦ e | inr r ↦ absurd (one_none b r) ]
-
 clone_path : {q p : Path} → HasPath (Clone q) p → q ≡ p
 clone_path clones = refl
 
@@ -129,12 +126,12 @@ form_takes : (d : Declared) (s : Site) (f : MemberForm) (g : NamedMember) (p : P
 form_takes d s (member.Extends y at) g p o h = absurd (one_none g o)
 form_takes d s (member.Declare t names settings) g p o h = absurd (declared_plain d s t.form settings.items names.items g p o h)
 form_takes d s (member.Block b) g p o h = absurd (one_none g o)
-form_takes d s (member.Clones q y at) g p o h = let e = one_only _ _ o in let a : q ≡ p = clone_path (kind_path e h) in let b : y.n ≡ g.name = ap (λ (z : NamedMember). z.name) e in cc
-form_takes d s (member.Embeds q y at) g p o h = let e = one_only _ _ o in let a : q ≡ p = alias_path (kind_path e h) in let b : y.n ≡ g.name = ap (λ (z : NamedMember). z.name) e in cc
-form_takes d s (member.Parameter t y at v) g p o h = elim (kind_path (one_only _ _ o) h) [ ]
-form_takes d s (member.Kept y at span) g p o h = elim (kind_path (one_only _ _ o) h) [ ]
-form_takes d s (member.Event y at span) g p o h = elim (kind_path (one_only _ _ o) h) [ ]
-form_takes d s (member.Observer t y at v) g p o h = elim (kind_path (one_only _ _ o) h) [ ]
+form_takes d s (member.Clones q y at) g p o h = let e = only_item _ _ o in let a : q ≡ p = clone_path (kind_path e h) in let b : y.n ≡ g.name = ap (λ (z : NamedMember). z.name) e in cc
+form_takes d s (member.Embeds q y at) g p o h = let e = only_item _ _ o in let a : q ≡ p = alias_path (kind_path e h) in let b : y.n ≡ g.name = ap (λ (z : NamedMember). z.name) e in cc
+form_takes d s (member.Parameter t y at v) g p o h = elim (kind_path (only_item _ _ o) h) [ ]
+form_takes d s (member.Kept y at span) g p o h = elim (kind_path (only_item _ _ o) h) [ ]
+form_takes d s (member.Event y at span) g p o h = elim (kind_path (only_item _ _ o) h) [ ]
+form_takes d s (member.Observer t y at v) g p o h = elim (kind_path (only_item _ _ o) h) [ ]
 form_takes d s (member.Hide q) g p o h = absurd (one_none g o)
 form_takes d s (member.Local y at guard action) g p o h = absurd (one_none g o)
 form_takes d s (member.Sync y at parts) g p o h = absurd (one_none g o)
@@ -186,7 +183,7 @@ unit_back {m = m} {u = u} {o = o} k p h =
     go : (s : Site) (t : Option Owned) → IsOneOf (names_of m.declared s t) h.given → SiteEndsSo m u o t p
     go s None i = absurd (one_none h.given i)
     go s (Some (Plain w)) i = owned (at (statement_form (out-Member w)) (form_takes m.declared s (out-Member w) h.given h.path i h.has_path))
-    go s (Some (Nested y b c)) i = elim (kind_path (one_only _ _ i) h.has_path) [ ]
+    go s (Some (Nested y b c)) i = elim (kind_path (only_item _ _ i) h.has_path) [ ]
 
 -- the earliest among the members that the table keeps is the earliest of the unit
 pub unit_ends : {m : RootedModel} {u : UnitPath} {o : Outcome} {all read : List (BodyId × ℕ)} → IsKept m → (r : Option Place) → members_at m u ≡ map site_of all → read ≡ all → IsEarliest (SitesEndSo m u o (map site_of read)) r → IsEarliest (EndsIn m u o) r

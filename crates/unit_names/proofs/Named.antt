@@ -6,7 +6,8 @@ use Rattle.std.proofs.lemmas.List.Sorted.{Contains-permutation, IsPermutation-sy
 use Rattle.ar_base.specs.Lists.{Stands, IsOneOf, Along}
 use Rattle.ar_base.specs.Numbers.{NameId, UnitId, BodyId}
 use Rattle.ar_base.specs.declared.places.Place.{Place}
-use Rattle.ar_base.proofs.Standing.{stands_one, stands_map, stands_map_back, one_none, one_cases, one_first, one_contains, contains_one, along_on}
+use Rattle.ar_base.proofs.Standing.{stands_one, stands_map, stands_map_back, one_none, one_cases, one_first, one_contains, contains_one, along_on, only_item}
+use Rattle.ar_base.proofs.Truths.{not_both}
 use Rattle.ar_syntax.specs.declared.members.Member.{Member, out-Member}
 use Rattle.ar_syntax.specs.declared.members.Member.TheOpen as member
 use Rattle.ar_syntax.specs.declared.members.Setting.{Setting}
@@ -34,15 +35,8 @@ use Rattle.unit_names.proofs.Adding.{adds_right, adds_all}
 
 -- One item
 
-not_both : (b : Bool) → b ≡ false → b ≡ true → ⊥
-not_both true e h = cc e
-not_both false e h = cc h
-
 none_there : {A : Type 0} {B : Type 0} (a : A) → IsOneOf [] a → B
 none_there a o = absurd (one_none a o)
-
-one_only : {A : Type 0} (a b : A) → IsOneOf (a ∷ []) b → a ≡ b
-one_only a b o = elim (one_cases a [] b o) [ inl e ↦ e | inr r ↦ absurd (one_none b r) ]
 
 -- Declarations
 
@@ -103,7 +97,7 @@ inner_form_gives : (d : Declared) (s : Site) (f : MemberForm) (x : ℕ) → ((p 
 inner_form_gives d s (member.Extends y at) x n o = none_there x o
 inner_form_gives d s (member.Declare t names settings) x n o = instance_gives d s t.form settings.items names.items x (λ h. n t.at (declares h)) o
 inner_form_gives d s (member.Block b) x n o = none_there x o
-inner_form_gives d s (member.Clones p y at) x n o = (record { name = y.n; at = at; kind = Clone p; site = s }, one_first _ _, one_only _ _ o, refl)
+inner_form_gives d s (member.Clones p y at) x n o = (record { name = y.n; at = at; kind = Clone p; site = s }, one_first _ _, only_item _ _ o, refl)
 inner_form_gives d s (member.Embeds p y at) x n o = none_there x o
 inner_form_gives d s (member.Parameter t y at e) x n o = none_there x o
 inner_form_gives d s (member.Kept y at span) x n o = none_there x o
@@ -118,12 +112,12 @@ inner_form_takes : (d : Declared) (s : Site) (f : MemberForm) (g : NamedMember) 
 inner_form_takes d s (member.Extends y at) g o h = none_there g o
 inner_form_takes d s (member.Declare t names settings) g o h = instance_takes d s t.form settings.items names.items g o h
 inner_form_takes d s (member.Block b) g o h = none_there g o
-inner_form_takes d s (member.Clones p y at) g o h = let e = one_only _ _ o in subst (λ (x : ℕ). IsOneOf (y.n ∷ []) x) (ap (λ (z : NamedMember). z.name) e) (one_first y.n [])
-inner_form_takes d s (member.Embeds p y at) g o h = let e = one_only _ _ o in absurd (not_both _ (sym (ap (λ (z : NamedMember). is_inner z.kind) e)) h)
-inner_form_takes d s (member.Parameter t y at v) g o h = let e = one_only _ _ o in absurd (not_both _ (sym (ap (λ (z : NamedMember). is_inner z.kind) e)) h)
-inner_form_takes d s (member.Kept y at span) g o h = let e = one_only _ _ o in absurd (not_both _ (sym (ap (λ (z : NamedMember). is_inner z.kind) e)) h)
-inner_form_takes d s (member.Event y at span) g o h = let e = one_only _ _ o in absurd (not_both _ (sym (ap (λ (z : NamedMember). is_inner z.kind) e)) h)
-inner_form_takes d s (member.Observer t y at v) g o h = let e = one_only _ _ o in absurd (not_both _ (sym (ap (λ (z : NamedMember). is_inner z.kind) e)) h)
+inner_form_takes d s (member.Clones p y at) g o h = let e = only_item _ _ o in subst (λ (x : ℕ). IsOneOf (y.n ∷ []) x) (ap (λ (z : NamedMember). z.name) e) (one_first y.n [])
+inner_form_takes d s (member.Embeds p y at) g o h = let e = only_item _ _ o in absurd (not_both _ (sym (ap (λ (z : NamedMember). is_inner z.kind) e)) h)
+inner_form_takes d s (member.Parameter t y at v) g o h = let e = only_item _ _ o in absurd (not_both _ (sym (ap (λ (z : NamedMember). is_inner z.kind) e)) h)
+inner_form_takes d s (member.Kept y at span) g o h = let e = only_item _ _ o in absurd (not_both _ (sym (ap (λ (z : NamedMember). is_inner z.kind) e)) h)
+inner_form_takes d s (member.Event y at span) g o h = let e = only_item _ _ o in absurd (not_both _ (sym (ap (λ (z : NamedMember). is_inner z.kind) e)) h)
+inner_form_takes d s (member.Observer t y at v) g o h = let e = only_item _ _ o in absurd (not_both _ (sym (ap (λ (z : NamedMember). is_inner z.kind) e)) h)
 inner_form_takes d s (member.Hide p) g o h = none_there g o
 inner_form_takes d s (member.Local y at guard action) g o h = none_there g o
 inner_form_takes d s (member.Sync y at parts) g o h = none_there g o
@@ -134,7 +128,7 @@ alias_form_gives d s (member.Extends y at) x o = none_there x o
 alias_form_gives d s (member.Declare t names settings) x o = none_there x o
 alias_form_gives d s (member.Block b) x o = none_there x o
 alias_form_gives d s (member.Clones p y at) x o = none_there x o
-alias_form_gives d s (member.Embeds p y at) x o = (record { name = y.n; at = at; kind = Alias p; site = s }, one_first _ _, one_only _ _ o, refl)
+alias_form_gives d s (member.Embeds p y at) x o = (record { name = y.n; at = at; kind = Alias p; site = s }, one_first _ _, only_item _ _ o, refl)
 alias_form_gives d s (member.Parameter t y at e) x o = none_there x o
 alias_form_gives d s (member.Kept y at span) x o = none_there x o
 alias_form_gives d s (member.Event y at span) x o = none_there x o
@@ -148,12 +142,12 @@ alias_form_takes : (d : Declared) (s : Site) (f : MemberForm) (g : NamedMember) 
 alias_form_takes d s (member.Extends y at) g o h = none_there g o
 alias_form_takes d s (member.Declare t names settings) g o h = absurd (not_both _ (declared_no_alias d s t.form settings.items names.items g o) h)
 alias_form_takes d s (member.Block b) g o h = none_there g o
-alias_form_takes d s (member.Clones p y at) g o h = let e = one_only _ _ o in absurd (not_both _ (sym (ap (λ (z : NamedMember). is_alias z.kind) e)) h)
-alias_form_takes d s (member.Embeds p y at) g o h = let e = one_only _ _ o in subst (λ (x : ℕ). IsOneOf (y.n ∷ []) x) (ap (λ (z : NamedMember). z.name) e) (one_first y.n [])
-alias_form_takes d s (member.Parameter t y at v) g o h = let e = one_only _ _ o in absurd (not_both _ (sym (ap (λ (z : NamedMember). is_alias z.kind) e)) h)
-alias_form_takes d s (member.Kept y at span) g o h = let e = one_only _ _ o in absurd (not_both _ (sym (ap (λ (z : NamedMember). is_alias z.kind) e)) h)
-alias_form_takes d s (member.Event y at span) g o h = let e = one_only _ _ o in absurd (not_both _ (sym (ap (λ (z : NamedMember). is_alias z.kind) e)) h)
-alias_form_takes d s (member.Observer t y at v) g o h = let e = one_only _ _ o in absurd (not_both _ (sym (ap (λ (z : NamedMember). is_alias z.kind) e)) h)
+alias_form_takes d s (member.Clones p y at) g o h = let e = only_item _ _ o in absurd (not_both _ (sym (ap (λ (z : NamedMember). is_alias z.kind) e)) h)
+alias_form_takes d s (member.Embeds p y at) g o h = let e = only_item _ _ o in subst (λ (x : ℕ). IsOneOf (y.n ∷ []) x) (ap (λ (z : NamedMember). z.name) e) (one_first y.n [])
+alias_form_takes d s (member.Parameter t y at v) g o h = let e = only_item _ _ o in absurd (not_both _ (sym (ap (λ (z : NamedMember). is_alias z.kind) e)) h)
+alias_form_takes d s (member.Kept y at span) g o h = let e = only_item _ _ o in absurd (not_both _ (sym (ap (λ (z : NamedMember). is_alias z.kind) e)) h)
+alias_form_takes d s (member.Event y at span) g o h = let e = only_item _ _ o in absurd (not_both _ (sym (ap (λ (z : NamedMember). is_alias z.kind) e)) h)
+alias_form_takes d s (member.Observer t y at v) g o h = let e = only_item _ _ o in absurd (not_both _ (sym (ap (λ (z : NamedMember). is_alias z.kind) e)) h)
 alias_form_takes d s (member.Hide p) g o h = none_there g o
 alias_form_takes d s (member.Local y at guard action) g o h = none_there g o
 alias_form_takes d s (member.Sync y at parts) g o h = none_there g o
@@ -166,12 +160,12 @@ typed_member k s w e p h = k.kept.kept 2 p (record { place = 1; stands = refl })
 inner_gives : {m : RootedModel} → IsKept m → (s : Site) (o : Option Owned) → owned_at m.declared s ≡ o → (x : ℕ) → IsOneOf (names_if inner_names o) x → Gives m.declared s (names_of m.declared s o) is_alias x
 inner_gives k s None e x o = none_there x o
 inner_gives {m = m} k s (Some (Plain w)) e x o = inner_form_gives m.declared s (out-Member w) x (typed_member k s w e) o
-inner_gives k s (Some (Nested y at b)) e x o = (record { name = y.n; at = at; kind = Inner b.n None; site = s }, one_first _ _, one_only _ _ o, refl)
+inner_gives k s (Some (Nested y at b)) e x o = (record { name = y.n; at = at; kind = Inner b.n None; site = s }, one_first _ _, only_item _ _ o, refl)
 
 inner_takes : (m : RootedModel) (s : Site) (o : Option Owned) (g : NamedMember) → IsOneOf (names_of m.declared s o) g → is_inner g.kind ≡ true → IsOneOf (names_if inner_names o) g.name
 inner_takes m s None g o h = none_there g o
 inner_takes m s (Some (Plain w)) g o h = inner_form_takes m.declared s (out-Member w) g o h
-inner_takes m s (Some (Nested y at b)) g o h = let e = one_only _ _ o in subst (λ (x : ℕ). IsOneOf (y.n ∷ []) x) (ap (λ (z : NamedMember). z.name) e) (one_first y.n [])
+inner_takes m s (Some (Nested y at b)) g o h = let e = only_item _ _ o in subst (λ (x : ℕ). IsOneOf (y.n ∷ []) x) (ap (λ (z : NamedMember). z.name) e) (one_first y.n [])
 
 alias_gives : {m : RootedModel} → IsKept m → (s : Site) (o : Option Owned) → owned_at m.declared s ≡ o → (x : ℕ) → IsOneOf (names_if alias_names o) x → Gives m.declared s (names_of m.declared s o) is_inner x
 alias_gives k s None e x o = none_there x o
@@ -181,7 +175,7 @@ alias_gives k s (Some (Nested y at b)) e x o = none_there x o
 alias_takes : (m : RootedModel) (s : Site) (o : Option Owned) (g : NamedMember) → IsOneOf (names_of m.declared s o) g → is_alias g.kind ≡ true → IsOneOf (names_if alias_names o) g.name
 alias_takes m s None g o h = none_there g o
 alias_takes m s (Some (Plain w)) g o h = alias_form_takes m.declared s (out-Member w) g o h
-alias_takes m s (Some (Nested y at b)) g o h = let e = one_only _ _ o in absurd (not_both _ (sym (ap (λ (z : NamedMember). is_alias z.kind) e)) h)
+alias_takes m s (Some (Nested y at b)) g o h = let e = only_item _ _ o in absurd (not_both _ (sym (ap (λ (z : NamedMember). is_alias z.kind) e)) h)
 
 -- Units
 

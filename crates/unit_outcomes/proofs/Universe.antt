@@ -3,11 +3,13 @@ use Rattle.std.proofs.Common.{◌≡◌, ℕ, zero, suc, ◌≤◌, ◌<◌, inl
 use Rattle.std.specs.List.{flat_map}
 use Rattle.ar_base.specs.Lists.{IsOneOf}
 use Rattle.ar_base.proofs.Standing.{one_first, one_rest, stands_map}
+use Rattle.ar_base.proofs.Comparing.{itself}
 use Rattle.hierarchy.specs.Models.{RootedModel}
 use Rattle.hierarchy.specs.Units.{Level, UnitPath, Thing, same_unit, same_thing, is_among}
 use Rattle.hierarchy.specs.Walks.{thing}
 use Rattle.hierarchy.proofs.Finding.{same_or_not}
 use Rattle.hierarchy.proofs.Things.{flat_one}
+use Rattle.hierarchy.proofs.SameUnits.{unit_itself}
 use Rattle.unit_outcomes.proofs.Passing.{passing, fewer}
 use Rattle.unit_outcomes.proofs.Made.{all_names, all_bodies, HasKeys}
 
@@ -33,20 +35,9 @@ among_plain (s ∷ f) u x =
     ap (λ (z : Bool). ((s.name == x) && z) || is_among f (thing (plain u) x)) (unit_plain s.unit u)
     ∙ ap (λ (z : Bool). ((s.name == x) && same_unit s.unit u) || z) (among_plain f u x)
 
-same_number : (n : ℕ) → (n == n) ≡ true
-same_number n = elim (same_or_not n n) [ inl e ↦ e.0 | inr e ↦ absurd (e.1 refl) ]
-
-unit_itself : (u : UnitPath) → same_unit u u ≡ true
-unit_itself [] = refl
-unit_itself (l ∷ u) =
-    let a = same_number l.name in
-    let b = same_number l.body in
-    let c = unit_itself u in
-    ap (λ (z : Bool). z && ((l.body == l.body) && same_unit u u)) a ∙ (ap (λ (z : Bool). z && same_unit u u) b ∙ c)
-
 among_first : (f : List Thing) (u : UnitPath) (x : ℕ) → is_among (thing u x ∷ f) (thing u x) ≡ true
 among_first f u x =
-    ap (λ (z : Bool). (z && same_unit u u) || is_among f (thing u x)) (same_number x)
+    ap (λ (z : Bool). (z && same_unit u u) || is_among f (thing u x)) (itself x)
     ∙ ap (λ (z : Bool). z || is_among f (thing u x)) (unit_itself u)
 
 -- the name in the unit is not being followed

@@ -4,6 +4,7 @@ use Rattle.ar_base.specs.Lists.{Stands}
 use Rattle.ar_base.specs.Numbers.{NameId}
 use Rattle.ar_base.specs.declared.places.Place.{Place}
 use Rattle.ar_base.proofs.Standing.{one_cases, one_none, one_first, stands_one, stands_none}
+use Rattle.ar_base.proofs.Comparing.{not_before}
 use Rattle.ar_syntax.specs.declared.members.Member.TheOpen as member
 use Rattle.ar_syntax.specs.declared.members.Member.{Member, Declare, out-Member}
 use Rattle.class_table.specs.declared.tables.Owned.TheVariants.{Plain}
@@ -12,7 +13,6 @@ use Rattle.ar_syntax.specs.declared.members.Setting.{Setting}
 use Rattle.ar_syntax.specs.declared.members.TypeName.{TypeName}
 use Rattle.class_table.specs.Declaring.{MemberForm, Declared}
 use Rattle.class_table.specs.Earliest.{IsEarliest, nowhere, there}
-use Rattle.class_table.proofs.FirstPlaces.{not_before}
 use Rattle.hierarchy.specs.Settings.{is_state, is_flow}
 use Rattle.unit_sizes.specs.Typing.{bounds_variables}
 use Rattle.unit_settings.specs.Rules.{BreaksForm, declares}

@@ -1,6 +1,6 @@
 -- Counts of lists of members, one after the other.
 use Rattle.std.proofs.Common.{◌≡◌, ℕ, ◌+◌, ◌≤◌, List, [], ◌∷◌, ◌++◌, take, length, unwrap_or, slice_get, Option, Some, None, Vec, Global, sym, ◌∙◌, ap, subst, arith}
-use Rattle.std.proofs.lemmas.List.{length-map}
+use Rattle.std.proofs.lemmas.List.{length-map, append-nil}
 use Rattle.std.specs.List.{flat_map}
 use Rattle.std.proofs.lemmas.List.Concat.{flat_map-append}
 use Rattle.std.proofs.lemmas.Option.{slice_get_past}
@@ -13,7 +13,6 @@ use Rattle.class_table.specs.Tables.{IsBodyOf, site_of}
 use Rattle.class_table.specs.declared.tables.Classes.{Classes}
 use Rattle.class_table.specs.declared.tables.Body.{Body}
 use Rattle.class_table.specs.declared.tables.Owned.{Owned}
-use Rattle.class_table.proofs.Laid.{append_none}
 use Rattle.class_table.proofs.OwnAt.{own_shown}
 use Rattle.class_table.proofs.MemberNames.{site_past}
 use Rattle.class_table.proofs.Taken.{take_next}
@@ -41,7 +40,7 @@ module _ (d : Declared) where
   pub at_one : (s : Site) (o : Option Owned) (c : Counts) → owned_at d s ≡ o → AreCounts (names_of d s o) (owned_size o) c → AreAt d (s ∷ []) c
   at_one s o c e h =
       let n : owned_size (owned_at d s) ≡ 0 + owned_size (owned_at d s) = omega arith in
-      counts_same (names_of d s (owned_at d s)) (named_at d (s ∷ [])) _ (nodes_at d (s ∷ [])) c (sym (append_none (names_of d s (owned_at d s)))) n
+      counts_same (names_of d s (owned_at d s)) (named_at d (s ∷ [])) _ (nodes_at d (s ∷ [])) c (sym (append-nil (names_of d s (owned_at d s)))) n
       (subst (λ (p : Option Owned). AreCounts (names_of d s p) (owned_size p) c) (sym e) h)
 
 module _ (d : Declared) (bodies : List Body) (rows : List (Vec Counts Global)) (shown : Along IsBodyOf bodies d.bodies) (own : Along (AreOwn d) bodies rows) where
@@ -86,5 +85,5 @@ module _ (m : RootedModel) (units : List UnitPath) (outlines : List Outline) (al
       let e = ap (λ (b : ℕ). unwrap_or (slice_get m.members b) []) w.2.body in
       let n : tree_nodes m (take (i + 1) units) ≡ tree_nodes m (take i units) + unit_size m w.0 = let j = sum_next (unit_size m) units i w.0 w.1 in omega (arith, j) in
       let g : flat_map (names_at m) (take (i + 1) units) ≡ flat_map (names_at m) (take i units) ++ names_at m w.0 =
-      ap (flat_map (names_at m)) (take_next units i w.0 w.1) ∙ (flat_map-append (names_at m) (take i units) (w.0 ∷ []) ∙ ap (λ (xs : List NamedMember). flat_map (names_at m) (take i units) ++ xs) (append_none (names_at m w.0))) in
+      ap (flat_map (names_at m)) (take_next units i w.0 w.1) ∙ (flat_map-append (names_at m) (take i units) (w.0 ∷ []) ∙ ap (λ (xs : List NamedMember). flat_map (names_at m) (take i units) ++ xs) (append-nil (names_at m w.0))) in
       counts_same _ _ _ _ c (ap (λ (ss : List Site). flat_map (names_at m) (take i units) ++ named_at m.declared ss) e ∙ sym g) (ap (λ (ss : List Site). tree_nodes m (take i units) + nodes_at m.declared ss) e ∙ sym n) h

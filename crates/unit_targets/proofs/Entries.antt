@@ -2,7 +2,7 @@
 use Rattle.std.proofs.Common.{◌≡◌, ℕ, ◌+◌, ◌≤◌, take, List, [], ◌∷◌, ◌++◌, length, Option, Some, None, option_map, option_and_then, slice_get, unwrap_or, refl, sym, ◌∙◌, ap, subst, arith}
 use Rattle.std.specs.List.{flat_map}
 use Rattle.std.proofs.lemmas.List.Concat.{flat_map-append}
-use Rattle.std.proofs.lemmas.List.{length-map}
+use Rattle.std.proofs.lemmas.List.{length-map, append-nil}
 use Rattle.std.proofs.lemmas.Option.{slice_get_past}
 use Rattle.ar_base.specs.Lists.{Stands}
 use Rattle.ar_base.specs.Numbers.{NameId, BodyId}
@@ -13,7 +13,6 @@ use Rattle.ar_syntax.specs.declared.members.TypeForm.{TypeForm}
 use Rattle.domains.specs.declared.Domain.{Domain}
 use Rattle.class_table.specs.Declaring.{Declared, NamedType}
 use Rattle.class_table.specs.Members.{Site, NamedMember, MemberKind, kind_of, all_named, named_at, names_of, owned_at}
-use Rattle.class_table.proofs.Laid.{append_none}
 use Rattle.class_table.proofs.Taken.{take_next}
 use Rattle.class_table.specs.Tables.{domain, class}
 use Rattle.class_table.specs.declared.tables.TypeBody.TheVariants as types
@@ -47,7 +46,7 @@ entries_join xs ys = flat_map-append (λ (g : NamedMember). one_entry g.name (se
 pub sites_next : (d : Declared) (xs : List Site) (x : Site)
     → entries_of (named_at d (xs ++ x ∷ [])) ≡ entries_of (named_at d xs) ++ entries_of (names_of d x (owned_at d x))
 sites_next d xs x =
-    ap entries_of (flat_map-append (λ (s : Site). names_of d s (owned_at d s)) xs (x ∷ []) ∙ ap (λ (gs : List NamedMember). named_at d xs ++ gs) (append_none (names_of d x (owned_at d x))))
+    ap entries_of (flat_map-append (λ (s : Site). names_of d s (owned_at d s)) xs (x ∷ []) ∙ ap (λ (gs : List NamedMember). named_at d xs ++ gs) (append-nil (names_of d x (owned_at d x))))
     ∙ entries_join (named_at d xs) (names_of d x (owned_at d x))
 
 -- those of one name more of a declaration

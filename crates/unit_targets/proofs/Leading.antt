@@ -17,6 +17,7 @@ use Rattle.hierarchy.specs.declared.outline.Outline.{Outline}
 use Rattle.class_table.specs.declared.tables.Classes.{Classes}
 use Rattle.hierarchy.proofs.Apart.{named_back}
 use Rattle.hierarchy.proofs.Outcomes.{leads_same}
+use Rattle.hierarchy.proofs.TargetWords.{one_init, one_reset, no_state}
 use Rattle.unit_settings.specs.Rules.{IsTarget, parameter, init, reset, inside}
 use Rattle.unit_targets.specs.declared.settables.Settable.{Settable}
 use Rattle.unit_targets.specs.declared.settables.Settable.TheVariants as settable
@@ -25,22 +26,8 @@ use Rattle.unit_targets.specs.Settables.{state_or_flow, variable_of, settable_of
 
 -- Kinds
 
-not_flow : (ws : List TargetWord) → is_reset ws ≡ true → is_init ws ≡ false
-not_flow [] e = refl
-not_flow (Init ∷ []) e = cc
-not_flow (Reset ∷ []) e = refl
-not_flow (Named x ∷ []) e = refl
-not_flow (Init ∷ w ∷ ws) e = refl
-not_flow (Reset ∷ w ∷ ws) e = refl
-not_flow (Named x ∷ w ∷ ws) e = refl
-
-flow_no_state : (settings : List Setting) → is_flow settings ≡ true → is_state settings ≡ false
-flow_no_state [] e = refl
-flow_no_state (s ∷ []) e = not_flow (target_of s) e
-flow_no_state (s ∷ t ∷ more) e = refl
-
 of_flow : (settings : List Setting) → is_flow settings ≡ true → variable_of settings ≡ Some settable.Flow
-of_flow settings e = ap (λ (b : Bool). state_or_flow b (is_flow settings)) (flow_no_state settings e) ∙ ap (state_or_flow false) e
+of_flow settings e = ap (λ (b : Bool). state_or_flow b (is_flow settings)) (no_state settings e) ∙ ap (state_or_flow false) e
 
 kind_parameter : (k : MemberKind) → is_parameter k ≡ true → settable_of k ≡ Some settable.Parameter
 kind_parameter (Parameter t e) h = refl
@@ -81,24 +68,6 @@ kind_inner (Alias p) h = cc
 kind_inner (Variable d settings) h = cc
 kind_inner Event h = cc
 kind_inner (Observer t e) h = cc
-
-one_init : (ws : List TargetWord) → is_init ws ≡ true → ws ≡ Init ∷ []
-one_init [] e = cc
-one_init (Init ∷ []) e = refl
-one_init (Reset ∷ []) e = cc
-one_init (Named x ∷ []) e = cc
-one_init (Init ∷ w ∷ ws) e = cc
-one_init (Reset ∷ w ∷ ws) e = cc
-one_init (Named x ∷ w ∷ ws) e = cc
-
-one_reset : (ws : List TargetWord) → is_reset ws ≡ true → ws ≡ Reset ∷ []
-one_reset [] e = cc
-one_reset (Init ∷ []) e = cc
-one_reset (Reset ∷ []) e = refl
-one_reset (Named x ∷ []) e = cc
-one_reset (Init ∷ w ∷ ws) e = cc
-one_reset (Reset ∷ w ∷ ws) e = cc
-one_reset (Named x ∷ w ∷ ws) e = cc
 
 -- the other way round
 settable_variable : (r : Settable) (a b : Bool) → state_or_flow a b ≡ Some r

@@ -4,11 +4,12 @@ use Rattle.ar_base.specs.Lists.{Stands, IsOneOf, Along}
 use Rattle.ar_base.specs.Numbers.{BodyId}
 use Rattle.ar_base.specs.declared.places.Place.{Place}
 use Rattle.ar_base.proofs.Standing.{stands_one, stands_none, one_here, along_on}
+use Rattle.ar_base.proofs.Comparing.{not_before}
 use Rattle.ar_syntax.specs.declared.members.Setting.{Setting}
 use Rattle.class_table.specs.Earliest.{IsEarliest, nowhere, there}
 use Rattle.class_table.specs.Members.{Site, owned_at}
 use Rattle.class_table.specs.Tables.{site_of}
-use Rattle.class_table.proofs.FirstPlaces.{not_before, earliest_same}
+use Rattle.class_table.proofs.FirstPlaces.{earliest_same}
 use Rattle.class_table.proofs.Looping.{AtItem}
 use Rattle.hierarchy.specs.Models.{RootedModel}
 use Rattle.hierarchy.specs.Units.{UnitPath, set_at_of}
@@ -17,9 +18,6 @@ use Rattle.hierarchy.specs.Tie.{IsOutline, IsSetAt, none, some}
 use Rattle.hierarchy.specs.declared.outline.Outline.{Outline}
 use Rattle.unit_settings.specs.Rules.{IsTarget, HasSetting, BreaksSetting, no_target, twice}
 use Rattle.unit_targets.specs.Wrong.{IsSetBefore, BreaksAt, BreaksIn, BreaksUnit}
-
-pub not_true : (b : Bool) → b ≡ false → b ≡ true → ⊥
-not_true b e f = let h : false ≡ true = sym e ∙ f in cc
 
 -- One setting
 
@@ -150,8 +148,3 @@ module _ (m : RootedModel) (units : List UnitPath) (outlines : List Outline) (al
       → IsEarliest (BreaksUnit m u) r → IsEarliest (BreaksNumber m units k o) r
   at_unit k o u r s h = earliest_same r (λ p b. record { unit = u; stands = s; breaks = b })
       (λ p b. subst (λ (v : UnitPath). BreaksUnit m v p) (stands_one units k b.unit u b.stands s) b.breaks) h
-
--- what holds of an answer, weakened
-pub if_ok : {T E : Type 0} {P Q : T → Type 0} (r : Result T E) → ((v : T) → P v → Q v) → IfOk r P → IfOk r Q
-if_ok (Ok v) f h = f v h
-if_ok (Err e) f h = h

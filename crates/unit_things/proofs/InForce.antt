@@ -19,6 +19,7 @@ use Rattle.hierarchy.specs.Units.{members_at}
 use Rattle.hierarchy.specs.Walks.{is_variable}
 use Rattle.hierarchy.specs.Listing.{form_of}
 use Rattle.hierarchy.specs.Settings.{settings_of}
+use Rattle.hierarchy.proofs.TargetWords.{one_init, one_reset}
 use Rattle.unit_settings.specs.Rules.{BreaksForm, declares}
 use Rattle.unit_settings.proofs.Sited.{one_flat}
 use Rattle.unit_things.specs.Nodes.{IsNodeSo}
@@ -54,28 +55,14 @@ pub record HasOne (settings : List Setting) (word : TargetWord) : Type 0 where
   pub is : settings ≡ one ∷ []
   pub target : target_of one ≡ word ∷ []
 
-init_word : (ws : List TargetWord) → is_init ws ≡ true → ws ≡ Init ∷ []
-init_word [] e = cc
-init_word (Init ∷ []) e = refl
-init_word (Named x ∷ ws) e = cc
-init_word (Reset ∷ ws) e = cc
-init_word (Init ∷ (w ∷ ws)) e = cc
-
-reset_word : (ws : List TargetWord) → is_reset ws ≡ true → ws ≡ Reset ∷ []
-reset_word [] e = cc
-reset_word (Reset ∷ []) e = refl
-reset_word (Named x ∷ ws) e = cc
-reset_word (Init ∷ ws) e = cc
-reset_word (Reset ∷ (w ∷ ws)) e = cc
-
 pub state_one : (settings : List Setting) → is_state settings ≡ true → HasOne settings Init
 state_one [] e = cc
-state_one (x ∷ []) e = record { one = x; is = refl; target = init_word (target_of x) e }
+state_one (x ∷ []) e = record { one = x; is = refl; target = one_init (target_of x) e }
 state_one (x ∷ (y ∷ more)) e = cc
 
 pub flow_one : (settings : List Setting) → is_flow settings ≡ true → HasOne settings Reset
 flow_one [] e = cc
-flow_one (x ∷ []) e = record { one = x; is = refl; target = reset_word (target_of x) e }
+flow_one (x ∷ []) e = record { one = x; is = refl; target = one_reset (target_of x) e }
 flow_one (x ∷ (y ∷ more)) e = cc
 
 -- the target of a variable with this one setting, and what it declares

@@ -1,6 +1,6 @@
 -- Members that give variables, and their values in force.
 use Rattle.std.proofs.Common.{◌≡◌, ℕ, Bool, true, false, cond, nat_eq, List, [], ◌∷◌, Option, Some, None, option_map, option_and_then, is_some, Vec, Global, refl, sym, ap, subst, inl, inr, ne_eqb}
-use Rattle.std.proofs.lemmas.Bool.{cases_eq}
+use Rattle.std.proofs.lemmas.Bool.{cases_eq, eqb-true}
 use Rattle.ar_base.specs.Lists.{Stands, IsOneOf}
 use Rattle.ar_base.specs.Numbers.{NameId}
 use Rattle.ar_base.specs.declared.places.Place.{Place}
@@ -20,21 +20,10 @@ use Rattle.hierarchy.specs.Units.{UnitPath, members_at, names_at, name_at}
 use Rattle.hierarchy.specs.Walks.{is_variable}
 use Rattle.hierarchy.specs.Listing.{form_of}
 use Rattle.hierarchy.specs.Settings.{settings_in, settings_of}
+use Rattle.hierarchy.proofs.Apart.{named_back}
 use Rattle.unit_sizes.specs.Typing.{bounds_variables}
 use Rattle.unit_settings.proofs.Sited.{flat_one}
 use Rattle.unit_things.specs.Values.{type_in, declared_type}
-
-same_number : (a b : ℕ) → nat_eq a b ≡ true → a ≡ b
-same_number a b e = elim (cases_eq a b) [ inl i ↦ i | inr n ↦ let f = ne_eqb a b n in cc ]
-
--- what is looked up by its name is one of the members, and has the name
-pub named_one : (gs : List NamedMember) (x : ℕ) (g : NamedMember) → member_named gs x ≡ Some g → IsOneOf gs g × (g.name ≡ x)
-named_one [] x g e = cc
-named_one (h ∷ hs) x g e = by (nat_eq h.name x) refl e (λ f. named_one hs x g f)
-  where
-    by : (b : Bool) → nat_eq h.name x ≡ b → cond b (Some h) (member_named hs x) ≡ Some g → (member_named hs x ≡ Some g → IsOneOf hs g × (g.name ≡ x)) → IsOneOf (h ∷ hs) g × (g.name ≡ x)
-    by true i f r = let same : h ≡ g = cc in (subst (λ (k : NamedMember). IsOneOf (h ∷ hs) k) same (one_first h hs), subst (λ (k : NamedMember). k.name ≡ x) same (same_number h.name x i))
-    by false i f r = let w = r f in (one_rest h hs g w.0, w.1)
 
 -- one of the names of a declaration
 pub record IsAllNamed (s : Site) (kind : Option MemberKind) (names : List (NameId × Place)) (g : NamedMember) : Type 0 where
@@ -83,7 +72,7 @@ pub record IsGivenAt (m : RootedModel) (u : UnitPath) (g : NamedMember) : Type 0
 
 pub given_at : (m : RootedModel) (u : UnitPath) (x : ℕ) (g : NamedMember) → name_at m u x ≡ Some g → IsGivenAt m u g
 given_at m u x g e =
-    let h = named_one (names_at m u) x g e in
+    let h = named_back (names_at m u) x g e in
     let w = flat_one (λ (t : Site). names_of m.declared t (owned_at m.declared t)) (members_at m u) g h.0 in
     let same = names_site m.declared w.1 (owned_at m.declared w.1) g w.3 in
     record {

@@ -94,11 +94,6 @@ module _ (unit : UnitId) where
 pub grown : {A : Type 0} (old mid new xs ys zs : List A) → mid ≡ old ++ xs → new ≡ mid ++ ys → zs ≡ xs ++ ys → new ≡ old ++ zs
 grown {A = A} old mid new xs ys zs e f g = f ∙ (ap (λ (us : List A). us ++ ys) e ∙ (append_assoc old xs ys ∙ ap (λ (us : List A). old ++ us) (sym g)))
 
--- what holds of an answer, weakened
-pub if_ok : {T E : Type 0} {P Q : T → Type 0} (r : Result T E) → ((v : T) → P v → Q v) → IfOk r P → IfOk r Q
-if_ok (Ok v) f h = f v h
-if_ok (Err e) f h = h
-
 -- the nodes of things are such nodes
 pub plain_nodes : (m : RootedModel) (units : List UnitPath) (test : MemberKind → Bool) (ts : List Thing) (ds : List MemNode) → Along (IsNodeSo m units test) ts ds → Along (IsPlainNode m units) ts ds
 plain_nodes m units test ts ds along_none = along_none

@@ -2,6 +2,7 @@
 use Rattle.std.proofs.Common.{◌≡◌, ℕ, zero, suc, ◌+◌, ◌≤◌, Bool, true, false, cond, ◌&&◌, List, [], ◌∷◌, map, length, drop, Some, None, refl, ◌∙◌, ap, arith}
 use Rattle.ar_base.specs.Lists.{Stands}
 use Rattle.ar_base.proofs.Standing.{stands_one, stands_none}
+use Rattle.ar_base.proofs.Items.{none_left}
 use Rattle.ar_syntax.specs.declared.members.Setting.{Setting}
 use Rattle.ar_syntax.specs.declared.members.Word.{Word}
 use Rattle.class_table.specs.Members.{Site}
@@ -13,12 +14,6 @@ pub drop_here : {A : Type 0} (xs : List A) (i : ℕ) (a : A) → Stands xs i a �
 drop_here [] i a s = absurd (stands_none i a s)
 drop_here {A = A} (x ∷ xs) zero a s = ap (λ (y : A). y ∷ xs) (stands_one (x ∷ xs) 0 x a refl s)
 drop_here {A = A} (x ∷ xs) (suc i) a s = drop_here xs i a s ∙ ap (λ (k : ℕ). a ∷ drop k (x ∷ xs)) (let e : suc (i + 1) ≡ suc i + 1 = omega arith in e)
-
-pub drop_past : {A : Type 0} (xs : List A) (i : ℕ) → length xs ≤ i → drop i xs ≡ []
-drop_past [] zero l = refl
-drop_past [] (suc i) l = refl
-drop_past (x ∷ xs) zero l = absurd (omega arith)
-drop_past (x ∷ xs) (suc i) l = drop_past xs i (omega arith)
 
 and_false : (b c : Bool) → c ≡ false → b && c ≡ false
 and_false true c e = e
@@ -40,8 +35,8 @@ from_word vs ws i v w s t =
 
 pub past_words : (vs ws : List Word) (i : ℕ) → length vs ≤ i → length ws ≤ i → same_target (map word_of (drop i vs)) (map word_of (drop i ws)) ≡ true
 past_words vs ws i l k =
-    ap (λ (us : List Word). same_target (map word_of us) (map word_of (drop i ws))) (drop_past vs i l)
-    ∙ ap (λ (us : List Word). same_target [] (map word_of us)) (drop_past ws i k)
+    ap (λ (us : List Word). same_target (map word_of us) (map word_of (drop i ws))) (none_left vs i l)
+    ∙ ap (λ (us : List Word). same_target [] (map word_of us)) (none_left ws i k)
 
 module _ (u : UnitPath) (s : Site) (target : List TargetWord) where
   -- settings from a place on
@@ -50,4 +45,4 @@ module _ (u : UnitPath) (s : Site) (target : List TargetWord) where
   from_setting xs i x t = ap (λ (ys : List Setting). setting_for u s i ys target) (drop_here xs i x t)
 
   pub past_settings : (xs : List Setting) (i : ℕ) → length xs ≤ i → setting_for u s i (drop i xs) target ≡ None
-  past_settings xs i l = ap (λ (ys : List Setting). setting_for u s i ys target) (drop_past xs i l)
+  past_settings xs i l = ap (λ (ys : List Setting). setting_for u s i ys target) (none_left xs i l)

@@ -1,6 +1,7 @@
 -- Units with the same names and bodies: a name ends in them alike, whatever declarations their settings come from.
 use Rattle.std.proofs.Common.{◌≡◌, ℕ, suc, Bool, true, false, List, [], ◌∷◌, Option, Some, None, refl, sym, ap, subst, arith, ◌==◌}
 use Rattle.std.proofs.lemmas.Bool.Decides.{nat_tests}
+use Rattle.ar_base.proofs.Comparing.{itself}
 use Rattle.ar_syntax.specs.declared.paths.PathStart.{PathStart}
 use Rattle.ar_syntax.specs.declared.paths.PathStart.TheVariants.{Here, Owner, Main}
 use Rattle.class_table.specs.Members.{MemberKind}
@@ -22,9 +23,6 @@ pub data AlikeIf : Option UnitPath → Option UnitPath → Type 0 where
 is_equal : (a b : ℕ) → (a == b) ≡ true → a ≡ b
 is_equal a b e = grind (arith, nat_tests)
 
-pub is_same : (a : ℕ) → (a == a) ≡ true
-is_same a = grind (arith, nat_tests)
-
 pub same_alike : (u w : UnitPath) → same_unit u w ≡ true → Alike u w
 same_alike [] [] e = main
 same_alike [] (k ∷ w) e = cc
@@ -35,10 +33,6 @@ same_alike (l ∷ u) (k ∷ w) e = go (same_alike u w) (l.name == k.name) (l.bod
     go r true true p q = let h = rw (p, q) at e in level (is_equal l.name k.name p) (is_equal l.body k.body q) (r h)
     go r true false p q = let h = rw (p, q) at e in cc
     go r false b p q = let h = rw p at e in cc
-
-pub same_refl : (u : UnitPath) → same_unit u u ≡ true
-same_refl [] = refl
-same_refl (l ∷ u) = let h = same_refl u in rw (is_same l.name, is_same l.body) h
 
 pub alike_sym : {u w : UnitPath} → Alike u w → Alike w u
 alike_sym main = main

@@ -1,22 +1,22 @@
 -- A derivation without the list is one with it.
 use Rattle.std.proofs.Common.{◌≡◌, ◌<◌, ◌≤◌, ℕ, suc, Bool, true, false, List, ◌∷◌, Option, Some, None, refl, sym, ap, subst, arith, ◌==◌}
 use Rattle.std.proofs.lemmas.Bool.Decides.{nat_tests}
+use Rattle.std.proofs.lemmas.Option.{same_Some}
+use Rattle.ar_base.proofs.Comparing.{itself}
 use Rattle.class_table.specs.Members.{MemberKind}
 use Rattle.hierarchy.specs.Models.{RootedModel}
 use Rattle.hierarchy.specs.Units.{UnitPath, Thing, body_of, set_at_of, bodies_of, has, is_among, same_thing, kind_at}
 use Rattle.hierarchy.specs.Walks.{Outcome, Reaches, Nothing, Loops, NameLeads, NamesLead, thing, cloned}
 use Rattle.hierarchy.specs.Walks as g
+use Rattle.hierarchy.proofs.SameUnits.{unit_itself}
 use Rattle.unit_walks.specs.Ends.{NameEnds, NamesEnd, AreHigher, AreEndless, inner, clones, clones_none, embeds, no_unit, absent, nowhere, arrives, on, stops}
-use Rattle.unit_walks.proofs.Alike.{Alike, same_alike, alike_sym, same_refl, is_same, ends_alike, kind_alike}
-
-pub some_same : {A : Type 0} {a b : A} → Some a ≡ Some b → a ≡ b
-some_same e = cc
+use Rattle.unit_walks.proofs.Alike.{Alike, same_alike, alike_sym, ends_alike, kind_alike}
 
 mutual
   pub ends_same : {s : RootedModel} {n k : ℕ} {u : UnitPath} {x : ℕ} {m : Option MemberKind} {o r : Option UnitPath} → NameEnds s n u x m o → NameEnds s k u x m r → (n ≡ k) × (o ≡ r)
   ends_same inner inner = (refl, refl)
   ends_same inner (no_unit y) = cc
-  ends_same {s = s} {u = u} {x = x} (clones r h) (clones q k) = let e = runs_same r q in (ap suc e.0, ap (λ t. Some (record { name = x; body = body_of s t; set_at = set_at_of t } ∷ u)) (some_same e.1))
+  ends_same {s = s} {u = u} {x = x} (clones r h) (clones q k) = let e = runs_same r q in (ap suc e.0, ap (λ t. Some (record { name = x; body = body_of s t; set_at = set_at_of t } ∷ u)) (same_Some _ _ e.1))
   ends_same (clones r h) (clones_none q) = cc (runs_same r q).1
   ends_same (clones r h) (no_unit y) = cc
   ends_same (clones_none r) (clones q k) = cc (runs_same r q).1
@@ -46,7 +46,7 @@ is_equal : (a b : ℕ) → (a == b) ≡ true → a ≡ b
 is_equal a b e = grind (arith, nat_tests)
 
 thing_refl : (t : Thing) → same_thing t t ≡ true
-thing_refl t = rw (is_same t.name) (same_refl t.unit)
+thing_refl t = rw (itself t.name) (unit_itself t.unit)
 
 pub among_first : (f : List Thing) (t : Thing) → is_among (t ∷ f) t ≡ true
 among_first f t = rw (thing_refl t) refl

@@ -1,6 +1,6 @@
 -- How the nodes grow by those of a unit, name by name.
 use Rattle.std.proofs.Common.{◌≡◌, ◌<◌, ◌≤◌, ◌+◌, ◌++◌, ℕ, zero, suc, Bool, true, false, List, [], ◌∷◌, Option, Some, None, Result, Ok, Err, IfErr, length, length-append, slice_get, get_or, drop, add-one, map, refl, sym, ◌∙◌, ap, subst, arith, append_assoc}
-use Rattle.std.proofs.lemmas.List.{drop_all}
+use Rattle.std.proofs.lemmas.List.{drop_all, append-nil}
 use Rattle.ar_base.specs.Counts.{limit_of}
 use Rattle.ar_base.specs.Lists.{Stands, IsOneOf, Along, one_and}
 use Rattle.ar_base.specs.Lists as l
@@ -17,6 +17,7 @@ use Rattle.hierarchy.specs.Walks as g
 use Rattle.hierarchy.specs.Listing.{Lists, Insides, Makes, MakesNone, is_inner, unit, none, cut, makes, makes_cut, passes}
 use Rattle.hierarchy.specs.Listing as h
 use Rattle.hierarchy.specs.Tie.{IsOwner, IsOutline, of_main, of_unit, IsName, IsSetAt}
+use Rattle.hierarchy.proofs.Outcomes.{unit_of_reaches}
 use Rattle.unit_walks.specs.Ends.{AreHigher, AreEndless}
 use Rattle.unit_walks.specs.Forms.{may_be_unit, only_units, IsUnitName, IsFormOf, IsFormsFor, list_at}
 use Rattle.unit_walks.specs.Forms as f
@@ -37,10 +38,6 @@ use Rattle.unit_walks.specs.declared.growing.Unfolded.{Unfolded}
 use Rattle.unit_walks.proofs.EndsLead.{ends_gives}
 use Rattle.unit_walks.proofs.LookUps.{list_along, only_kind, units_back}
 use Rattle.unit_walks.proofs.TableSteps.{IsWider, wider, stands_last, extends_both, extends_none, met_there}
-
-append_nil : {A : Type 0} (xs : List A) → xs ++ [] ≡ xs
-append_nil [] = refl
-append_nil (x ∷ xs) = ap (λ ys. x ∷ ys) (append_nil xs)
 
 -- What the table says, in the words of the definition
 
@@ -150,7 +147,7 @@ abbrev pub Front : RootedModel → UnitPath → List NamedMember → List NamedM
 Front s u all rest us = (whole : Bool) (vs : List UnitPath) → Insides s whole u rest vs → Insides s whole u all (us ++ vs)
 
 front_none : (s : RootedModel) (before paths : List UnitPath) (u : UnitPath) (all : List NamedMember) (old : List Node) → Grows s before paths (Front s u all all) old old
-front_none s before paths u all old = record { units = []; are = λ w vs d. d; shallow = tt; nodes = []; grown = sym (append_nil old); tied = l.none }
+front_none s before paths u all old = record { units = []; are = λ w vs d. d; shallow = tt; nodes = []; grown = sym (append-nil old); tied = l.none }
 
 front_pass : {s : RootedModel} {before paths more : List UnitPath} {u : UnitPath} {all ms : List NamedMember} {m : NamedMember} {old new : List Node}
     → IsWider paths more → MakesNone s u m → Grows s before paths (Front s u all (m ∷ ms)) old new → Grows s before more (Front s u all ms) old new
@@ -180,7 +177,7 @@ front_all : {s : RootedModel} {before paths : List UnitPath} {u : UnitPath} {all
     → Grows s before paths (Front s u all []) old new → Grows s before paths (Insides s true u all) old new
 front_all {s = s} {u = u} {all = all} g = record {
   units = g.units;
-  are = subst (λ ws. Insides s true u all ws) (append_nil g.units) (g.are true [] none);
+  are = subst (λ ws. Insides s true u all ws) (append-nil g.units) (g.are true [] none);
   shallow = g.shallow;
   nodes = g.nodes;
   grown = g.grown;
@@ -239,10 +236,6 @@ front_item {s = s} {before = before} {paths = paths} {u = u} {gs = gs} {old = ol
 more_length : (s : RootedModel) (before paths : List UnitPath) (old mid : List Node) (us : List UnitPath) (ds : List Node) → length before ≡ length old → mid ≡ old ++ ds → Tied s (before ++ us) paths us ds → length (before ++ us) ≡ length mid
 more_length s before paths old mid us ds l e t = length-append before us ∙ ap (λ n. n + length us) l ∙ ap (λ n. length old + n) (along_length us ds t) ∙ sym (length-append old ds) ∙ ap length (sym e)
 
--- what makes a unit makes it inside
-reaches_same : {v w : UnitPath} → Reaches v ≡ Reaches w → v ≡ w
-reaches_same e = cc
-
 clone_inside : (s : RootedModel) (u v : UnitPath) (x : ℕ) (r : Outcome) → Reaches v ≡ cloned s u x r → (l : Level) × (v ≡ l ∷ u)
 clone_inside s u v x g.Nothing e = cc
 clone_inside s u v x g.Loops e = cc
@@ -250,7 +243,7 @@ clone_inside s u v x (Reaches t) e = go (has (bodies_of s u) (body_of s t)) refl
   where
     go : (b : Bool) → has (bodies_of s u) (body_of s t) ≡ b → (l : Level) × (v ≡ l ∷ u)
     go true h = let k = rw h at e in absurd (cc k)
-    go false h = let k = rw h at e in (record { name = x; body = body_of s t; set_at = set_at_of t }, reaches_same k)
+    go false h = let k = rw h at e in (record { name = x; body = body_of s t; set_at = set_at_of t }, unit_of_reaches k)
 
 inside_of : (s : RootedModel) (f : List Thing) (u v : UnitPath) (x : ℕ) (m : MemberKind) → is_inner m ≡ true → NameLeads s f u x (Some m) (Reaches v) → (l : Level) × (v ≡ l ∷ u)
 inside_of s f u v x (Inner b a) o inner = (record { name = x; body = b; set_at = a }, refl)

@@ -1,6 +1,7 @@
 -- What is looked up of the names of a body is what they are.
 use Rattle.std.proofs.Common.{◌≡◌, ℕ, zero, suc, Bool, true, false, List, [], ◌∷◌, Option, Some, None, slice_get, unwrap_or, option_map, refl, sym, ◌∙◌, ap, subst, arith, ◌==◌, Vec}
 use Rattle.std.proofs.lemmas.Bool.Decides.{nat_tests}
+use Rattle.std.proofs.lemmas.Option.{same_Some}
 use Rattle.std.specs.Global.{Global}
 use Rattle.ar_base.specs.Lists.{Stands, Along, one_and}
 use Rattle.ar_base.specs.Lists as a
@@ -15,9 +16,6 @@ use Rattle.unit_walks.specs.declared.forms.UnitName.{UnitName}
 is_equal : (a b : ℕ) → (a == b) ≡ true → a ≡ b
 is_equal a b e = grind (arith, nat_tests)
 
-some_same : {A : Type 0} {a b : A} → Some a ≡ Some b → a ≡ b
-some_same e = cc
-
 none_some : {A P : Type 0} {c : A} → None ≡ Some c → P
 none_some e = cc
 
@@ -27,14 +25,14 @@ named_first [] x g e = none_some e
 named_first (h ∷ gs) x g e = go (named_first gs x g) (h.name == x) refl
   where
     go : (member_named gs x ≡ Some g → (n : ℕ) × Stands gs n g × (g.name ≡ x)) → (b : Bool) → (h.name == x) ≡ b → (n : ℕ) × Stands (h ∷ gs) n g × (g.name ≡ x)
-    go r true p = let k = rw p at e in let same : h ≡ g = some_same k in (0, ap Some same, ap (λ (g : NamedMember). g.name) (sym same) ∙ is_equal h.name x p)
+    go r true p = let k = rw p at e in let same : h ≡ g = same_Some _ _ k in (0, ap Some same, ap (λ (g : NamedMember). g.name) (sym same) ∙ is_equal h.name x p)
     go r false p = let k = rw p at e in let i = r k in (suc i.0, i.1, i.2)
 
 -- where one has the name, some first one has it
 first_named : (gs : List NamedMember) (n : ℕ) (g : NamedMember) → Stands gs n g → (h : NamedMember) × (member_named gs g.name ≡ Some h)
 first_named [] n g p = absurd (stands_none n g p)
 first_named (h ∷ gs) zero g p =
-    let same : h ≡ g = some_same p in
+    let same : h ≡ g = same_Some _ _ p in
     let e : (h.name == g.name) ≡ true = rw same (grind (arith, nat_tests)) in
     (h, rw e refl)
 first_named (h ∷ gs) (suc n) g p = go (first_named gs n g p) (h.name == g.name) refl
@@ -52,7 +50,7 @@ units_back (h ∷ gs) n g p = go (λ k q. units_back gs k g q) n p (may_be_unit 
     next r = ((suc r.0.0, r.0.1), r.1)
 
     at_head : ((k : ℕ) → Stands (only_units gs) k g → ((j : ℕ) × Stands gs j g) × (may_be_unit g.kind ≡ true)) → (n : ℕ) → may_be_unit h.kind ≡ true → Stands (h ∷ only_units gs) n g → ((k : ℕ) × Stands (h ∷ gs) k g) × (may_be_unit g.kind ≡ true)
-    at_head r zero e q = let same : h ≡ g = some_same q in ((0, q), subst (λ (g : NamedMember). may_be_unit g.kind ≡ true) same e)
+    at_head r zero e q = let same : h ≡ g = same_Some _ _ q in ((0, q), subst (λ (g : NamedMember). may_be_unit g.kind ≡ true) same e)
     at_head r (suc n) e q = next (r n q)
 
     go : ((k : ℕ) → Stands (only_units gs) k g → ((j : ℕ) × Stands gs j g) × (may_be_unit g.kind ≡ true)) → (n : ℕ) → Stands (only_units (h ∷ gs)) n g → (b : Bool) → may_be_unit h.kind ≡ b → ((k : ℕ) × Stands (h ∷ gs) k g) × (may_be_unit g.kind ≡ true)
@@ -63,7 +61,7 @@ units_back (h ∷ gs) n g p = go (λ k q. units_back gs k g q) n p (may_be_unit 
 pub units_there : (gs : List NamedMember) (n : ℕ) (g : NamedMember) → Stands gs n g → may_be_unit g.kind ≡ true → (k : ℕ) × Stands (only_units gs) k g
 units_there [] n g p u = absurd (stands_none n g p)
 units_there (h ∷ gs) zero g p u =
-    let same : h ≡ g = some_same p in
+    let same : h ≡ g = same_Some _ _ p in
     let e : may_be_unit h.kind ≡ true = subst (λ (g : NamedMember). may_be_unit g.kind ≡ true) (sym same) u in
     (0, rw e p)
 units_there (h ∷ gs) (suc n) g p u = go (units_there gs n g p u) (may_be_unit h.kind) refl

@@ -1,5 +1,6 @@
 -- Walks without an end loop.
 use Rattle.std.proofs.Common.{◌≡◌, ◌<◌, ◌+◌, ◌++◌, ℕ, suc, Bool, true, false, List, [], ◌∷◌, Option, Some, None, refl, sym, subst, arith}
+use Rattle.std.proofs.lemmas.Option.{same_Some}
 use Rattle.ar_syntax.specs.declared.paths.Path.{Path}
 use Rattle.class_table.specs.Members.{MemberKind}
 use Rattle.hierarchy.specs.Models.{RootedModel}
@@ -7,7 +8,7 @@ use Rattle.hierarchy.specs.Units.{UnitPath, Thing, start_of, body_of, bodies_of,
 use Rattle.hierarchy.specs.Walks.{Outcome, Reaches, Nothing, Loops, NameLeads, NamesLead, thing, cloned}
 use Rattle.hierarchy.specs.Walks as g
 use Rattle.unit_walks.specs.Ends.{NameEnds, NamesEnd, AreEndless, NeverEnds, Reached, IsStatement, clone, alias, clones, clones_none, embeds, no_unit, arrives, on, stops}
-use Rattle.unit_walks.proofs.EndsLead.{ends_same, runs_same, some_same, endless_more, higher_endless, among_first, among_more, runs_goes}
+use Rattle.unit_walks.proofs.EndsLead.{ends_same, runs_same, endless_more, higher_endless, among_first, among_more, runs_goes}
 
 -- a front of a run, and the rest
 pub runs_on : {s : RootedModel} {n k : ℕ} {u : Option UnitPath} {v : UnitPath} {xs ys : List ℕ} {o : Option UnitPath} → NamesEnd s n u xs (Some v) → NamesEnd s k (Some v) ys o → NamesEnd s (n + k) u (xs ++ ys) o
@@ -148,7 +149,7 @@ cloned_loops s u t x h = rw h refl
 -- a clone of a unit that has the body of a unit above it
 clone_never : {s : RootedModel} {u t : UnitPath} {x h : ℕ} {p : Path} {m : Option MemberKind} → IsStatement p true m → NamesEnd s h (start_of p.start u) (numbers p.names.items) (Some t) → has (bodies_of s u) (body_of s t) ≡ true
     → (n : ℕ) (o : Option UnitPath) → NameEnds s n u x m o → ⊥
-clone_never clone r h n o (clones {t = t} q k) = let e = some_same (runs_same r q).1 in cc
+clone_never clone r h n o (clones {t = t} q k) = let e = same_Some _ _ (runs_same r q).1 in cc
 clone_never clone r h n o (clones_none q) = cc (runs_same r q).1
 clone_never clone r h n o (no_unit y) = cc
 

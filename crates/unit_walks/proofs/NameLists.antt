@@ -1,6 +1,8 @@
 -- The names of bodies that may be units, as they are listed.
 use Rattle.std.proofs.Common.{◌≡◌, ◌<◌, ◌≤◌, ◌+◌, ◌⊎◌, ℕ, zero, suc, Bool, true, false, List, [], ◌∷◌, ◌++◌, map, length, take, get_or, slice_get, unwrap_or, Option, Some, None, option_map, option_and_then, refl, sym, ◌∙◌, ap, subst, inl, inr, arith, append_assoc, Vec}
 use Rattle.std.proofs.lemmas.Bool.{cases_eq}
+use Rattle.std.proofs.lemmas.List.{append-nil}
+use Rattle.std.proofs.lemmas.Option.{same_Some}
 use Rattle.std.specs.Global.{Global}
 use Rattle.std.specs.HashMap.{get, HashMap}
 use Rattle.ar_base.specs.Lists.{Along, Stands, IsOneOf}
@@ -8,6 +10,7 @@ use Rattle.ar_base.specs.Lists as a
 use Rattle.ar_base.specs.Numbers.{NameId, BodyId}
 use Rattle.ar_base.specs.declared.places.Place.{Place}
 use Rattle.ar_base.proofs.Standing.{stands_one, stands_within, stands_none, stands_get}
+use Rattle.ar_base.proofs.Items.{along_push}
 use Rattle.ar_syntax.specs.declared.members.Setting.{Setting}
 use Rattle.ar_syntax.specs.declared.members.TypeForm.{TypeForm}
 use Rattle.ar_syntax.specs.declared.members.TypeForm.TheVariants as form
@@ -17,7 +20,6 @@ use Rattle.class_table.specs.Rules.{l4}
 use Rattle.class_table.specs.declared.tables.Body.{Body}
 use Rattle.class_table.specs.Tables.{site_of}
 use Rattle.class_table.proofs.Taken.{map_next, item_stands}
-use Rattle.class_table.proofs.Laid.{append_none}
 use Rattle.hierarchy.specs.Models.{RootedModel, IsKept, sites_kept}
 use Rattle.hierarchy.specs.Units.{names_in}
 use Rattle.unit_walks.specs.Classes.{ClassBodies, instance_in, AreClasses}
@@ -27,18 +29,8 @@ use Rattle.unit_walks.specs.declared.forms.UnitForm.TheVariants as unit
 use Rattle.unit_walks.specs.declared.forms.UnitName.{UnitName}
 use Rattle.unit_walks.proofs.TableSteps.{pair_apart}
 
-some_same : {A : Type 0} {a b : A} → Some a ≡ Some b → a ≡ b
-some_same e = cc
-
 none_some : {A P : Type 0} {c : A} → None ≡ Some c → P
 none_some e = cc
-
--- one item more on both sides
-pub along_push : {A B : Type 0} {R : A → B → Type 0} (xs : List A) (ys : List B) (x : A) (y : B) → Along R xs ys → R x y → Along R (xs ++ x ∷ []) (ys ++ y ∷ [])
-along_push [] [] x y a.none r = a.one_and r a.none
-along_push [] (b ∷ ys) x y w r = elim w [ ]
-along_push (b ∷ xs) [] x y w r = elim w [ ]
-along_push (b ∷ xs) (c ∷ ys) x y (a.one_and q rest) r = a.one_and q (along_push xs ys x y rest r)
 
 -- Instances
 
@@ -75,7 +67,7 @@ declares_instances d classes s (form.Named x) settings names b k e = go (type_na
     go : (t : Option NamedType) → option_and_then class_body t ≡ Some b.n → only_units (all_named s (option_map (λ (t : NamedType). kind_of s (form.Named x) t settings) t) names) ≡ instances s b.n names
     go None h = none_some h
     go (Some (DomainType z)) h = none_some h
-    go (Some (ClassType z)) h = only_all s (Inner z (Some s)) names refl ∙ ap (λ n. instances s n names) (some_same h)
+    go (Some (ClassType z)) h = only_all s (Inner z (Some s)) names refl ∙ ap (λ n. instances s n names) (same_Some _ _ h)
 
 pub instances_next : (s : Site) (b : ℕ) (names : List (NameId × Place)) (i : ℕ) (n : NameId × Place) → Stands names i n
     → instances s b (take (i + 1) names) ≡ instances s b (take i names) ++ record { name = n.0.n; at = n.1; kind = Inner b (Some s); site = s } ∷ []
@@ -96,7 +88,7 @@ named_join d [] ys = refl
 named_join d (x ∷ xs) ys = ap (λ gs. names_of d x (owned_at d x) ++ gs) (named_join d xs ys) ∙ sym (append_assoc (names_of d x (owned_at d x)) (named_at d xs) (named_at d ys))
 
 pub units_next : (d : Declared) (xs : List Site) (x : Site) → only_units (named_at d (xs ++ x ∷ [])) ≡ only_units (named_at d xs) ++ only_units (names_of d x (owned_at d x))
-units_next d xs x = ap only_units (named_join d xs (x ∷ []) ∙ ap (λ gs. named_at d xs ++ gs) (append_none (names_of d x (owned_at d x)))) ∙ only_join (named_at d xs) (names_of d x (owned_at d x))
+units_next d xs x = ap only_units (named_join d xs (x ∷ []) ∙ ap (λ gs. named_at d xs ++ gs) (append-nil (names_of d x (owned_at d x)))) ∙ only_join (named_at d xs) (names_of d x (owned_at d x))
 
 -- Places
 
@@ -126,7 +118,7 @@ module _ {S : Type 0} (lists : List (Vec UnitName Global)) where
 
       found : (c y k : ℕ) → get same_pair new (c, y) ≡ Some k → (c ≡ b) ⊎ (c ≡ b → ⊥) → (y ≡ x) ⊎ (y ≡ x → ⊥) → HasName lists c k y
       found c y k e (inl p) (inl q) =
-          let z : i ≡ k = some_same (sym (same c y p q) ∙ e) in
+          let z : i ≡ k = same_Some _ _ (sym (same c y p q) ∙ e) in
           subst (λ c. HasName lists c k y) (sym p) (subst (λ y. HasName lists b k y) (sym q) (subst (λ k. HasName lists b k x) z n))
       found c y k e (inl p) (inr q) = w.found c y k (sym (back c y (λ z. q z.1)) ∙ e)
       found c y k e (inr p) q = w.found c y k (sym (back c y (λ z. p z.0)) ∙ e)

@@ -1,6 +1,7 @@
 -- What names lead to, by the numbers of the units.
 use Rattle.std.proofs.Common.{◌≡◌, ◌<◌, ◌≤◌, ◌+◌, ◌⊎◌, inl, inr, ℕ, nat_eq, Bool, true, false, List, [], Option, Some, None, option_map, unwrap_or, length, get_or, ne_eqb, refl, sym, ◌∙◌, ap, subst, arith}
 use Rattle.std.proofs.lemmas.Bool.{cases_eq}
+use Rattle.std.proofs.lemmas.Option.{same_Some}
 use Rattle.std.specs.HashMap.{get, HashMap}
 use Rattle.ar_base.specs.Lists.{Stands}
 use Rattle.ar_base.specs.Numbers.{UnitId}
@@ -27,9 +28,6 @@ use Rattle.unit_walks.proofs.Stepping.{unitless}
 use Rattle.unit_walks.proofs.TableSteps.{extends_both, extends_none}
 use Rattle.unit_walks.proofs.Fronts.{leads_to, leads_nowhere, none_endless}
 
-some_same : {A : Type 0} {a b : A} → Some a ≡ Some b → a ≡ b
-some_same e = cc
-
 none_some : {A P : Type 0} {c : A} → None ≡ Some c → P
 none_some e = cc
 
@@ -44,7 +42,7 @@ ids_more nodes old new i d id p e here other w = record { each = λ n k h. go n 
   where
     go : (n : ℕ) (k : UnitId) → get nat_eq new n ≡ Some k → (n ≡ d.unit) ⊎ (n ≡ d.unit → ⊥) → (d : Node) × Stands nodes k.n d × (d.unit ≡ n)
     go n k h (inl q) =
-        let z : id ≡ k = some_same (sym here ∙ subst (λ n. get nat_eq new n ≡ Some k) q h) in
+        let z : id ≡ k = same_Some _ _ (sym here ∙ subst (λ n. get nat_eq new n ≡ Some k) q h) in
         (d, subst (λ j. Stands nodes j d) (sym e ∙ ap (λ k. k.n) z) p, sym q)
     go n k h (inr q) = w.each n k (sym (other n (ne_eqb d.unit n (λ e. q (sym e)))) ∙ h)
 
@@ -110,7 +108,7 @@ settled_more m units n i x old new u g r w k d p q named = record { right = λ j
     right : (j y : ℕ) (z : Led) (v : UnitPath) → kept_at new j y ≡ Some z → Stands units j v → (j ≡ n) ⊎ (j ≡ n → ⊥) → (y ≡ x) ⊎ (y ≡ x → ⊥) → IsLed m units v y z
     right j y z v e s (inl a) (inl b) =
         let same : u ≡ v = stands_one units n u v p (subst (λ j. Stands units j v) a s) in
-        let is : r ≡ z = some_same (sym (here j y a b) ∙ e) in
+        let is : r ≡ z = same_Some _ _ (sym (here j y a b) ∙ e) in
         subst (λ y. IsLed m units v y z) (sym b) (subst (λ v. IsLed m units v x z) same (subst (λ r. IsLed m units u x r) is d))
     right j y z v e s (inl a) (inr b) = w.right j y z v (sym (k.other j y (λ h. b h.1)) ∙ e) s
     right j y z v e s (inr a) b = w.right j y z v (sym (k.other j y (λ h. a h.0)) ∙ e) s

@@ -22,6 +22,7 @@ use Rattle.unit_walks.specs.declared.tables.Known.TheVariants.{Following, ToUnit
 use Rattle.unit_walks.specs.declared.walking.Step.{Step}
 use Rattle.unit_walks.specs.declared.walking.Step.TheVariants.{On, Into, Done}
 use Rattle.ar_base.proofs.Standing.{stands_one}
+use Rattle.ar_base.proofs.Items.{last_one}
 use Rattle.unit_walks.proofs.LookUps.{looked_up}
 use Rattle.unit_walks.proofs.TableSteps.{extends_both, extends_none, set_wide, set_extends, grown_wide, grown_extends, grown_stands, frame_wide, table_set, table_grown, met_there}
 use Rattle.unit_walks.proofs.Stepping.{looked_none, looked_inner, looked_clone, looked_alias, entered_level, starts_none, starts_some, none_ends}
@@ -43,20 +44,12 @@ load_push (g ∷ fs) f = let h = load_push fs f in omega arith
 cons_same : {A : Type 0} {a b : A} {xs ys : List A} → a ≡ b → xs ≡ ys → a ∷ xs ≡ b ∷ ys
 cons_same p q = cc
 
-last_same : {A : Type 0} (xs ys : List A) (x y : A) → xs ++ x ∷ [] ≡ ys ++ y ∷ [] → (xs ≡ ys) × (x ≡ y)
-last_same [] [] x y e = (refl, cc)
-last_same [] (b ∷ []) x y e = cc
-last_same [] (b ∷ (d ∷ ys)) x y e = cc
-last_same (a ∷ []) [] x y e = cc
-last_same (a ∷ (d ∷ xs)) [] x y e = cc
-last_same {A = A} (a ∷ xs) (b ∷ ys) x y e = let r : xs ++ x ∷ [] ≡ ys ++ y ∷ [] = cc in let h = last_same xs ys x y r in let k : a ≡ b = cc in (cons_same k h.0, h.1)
-
 chain_pop : {s : RootedModel} {paths : List UnitPath} {all below : List Frame} {f : Frame} {v : UnitPath} {y : ℕ} → Chain s paths all v y → all ≡ below ++ f ∷ []
     → (u : UnitPath) × (here : UnitPath) × IsFrame s paths f u here × Chain s paths below u f.name.n
 chain_pop {below = []} bottom e = cc
 chain_pop {below = g ∷ gs} bottom e = cc
 chain_pop {s = s} {paths = paths} {below = below} {f = f} (above {below = lower} {f = g} {u = u} {v = v} e i r c) e' =
-    let h = last_same lower below g f (sym e ∙ e') in
+    let h = last_one lower below g f (sym e ∙ e') in
     (u, v, subst (λ f. IsFrame s paths f u v) h.1 i, subst (λ f. Chain s paths below u f.name.n) h.1 (subst (λ fs. Chain s paths fs u g.name.n) h.0 c))
 
 -- the walk of the frame below goes on

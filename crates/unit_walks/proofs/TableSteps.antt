@@ -2,6 +2,7 @@
 use Rattle.std.proofs.Common.{◌≡◌, ◌<◌, ◌+◌, ◌++◌, ◌⊎◌, inl, inr, ℕ, zero, suc, true, false, List, [], ◌∷◌, Option, Some, None, length, length-append, slice_get, nat_eq, ◌==◌, refl, sym, ◌∙◌, ap, subst, arith, option_map}
 use Rattle.std.proofs.lemmas.Bool.{cases_eq, and_left, and_right}
 use Rattle.std.proofs.lemmas.Bool.Decides.{nat_tests}
+use Rattle.std.proofs.lemmas.Option.{same_Some}
 use Rattle.ar_base.specs.Lists.{Stands}
 use Rattle.ar_base.specs.Numbers.{BodyId}
 use Rattle.ar_base.proofs.Standing.{stands_left, stands_one, stands_within, stands_some}
@@ -18,7 +19,6 @@ use Rattle.unit_walks.specs.declared.tables.Met.{Met}
 use Rattle.unit_walks.specs.declared.tables.Frame.{Frame}
 use Rattle.unit_walks.specs.declared.tables.Known.{Known}
 use Rattle.unit_walks.specs.declared.tables.Known.TheVariants.{Following, ToUnit, Nothing, Loops}
-use Rattle.unit_walks.proofs.EndsLead.{some_same}
 
 pub stands_last : {A : Type 0} (xs : List A) (x : A) (n : ℕ) → n ≡ length xs → Stands (xs ++ x ∷ []) n x
 stands_last [] x n e = rw e refl
@@ -107,7 +107,7 @@ table_set {s = s} {old = old} {new = new} {a = a} {x = x} {u = u} {c = c} frames
     same b y d w p q g l =
         let k : w ≡ u = stands_one (paths_of old) a w u (subst (λ b. Stands (paths_of old) b w) g p) h in
         let r : known_at new a x ≡ Some d = subst (λ y. known_at new a y ≡ Some d) l (subst (λ b. known_at new b y ≡ Some d) g q) in
-        let j : c ≡ d = some_same (sym i.here ∙ r) in
+        let j : c ≡ d = same_Some _ _ (sym i.here ∙ r) in
         let P : ℕ → UnitPath → ℕ → Known → Type 0 = λ b w y d. Means s (paths_of old) more b w y d in
         subst (λ b. P b w y d) (sym g) (subst (λ w. P a w y d) (sym k) (subst (λ y. P a u y d) (sym l) (subst (λ d. P a u x d) j m)))
 
@@ -248,7 +248,7 @@ module _ (s : RootedModel) (frames : List Frame) (t : Table) (k : IsTable s fram
     where
       go : (w : UnitPath) → Stands (paths_of t) at w → has (bodies_of s u) body ≡ has (bodies_of s w) body → body_of s w ≡ d.body.n → Above (paths_of t) w (Some m) → IsUp s (paths_of t) u m body
       go [] p q r h = cc
-      go (l ∷ w) p q r (j, z, h) = record { path = w; stands = subst (λ j. Stands (paths_of t) j w) (sym (some_same z)) h; same = q ∙ has_up s l w body (λ y. n (sym r ∙ y)) }
+      go (l ∷ w) p q r (j, z, h) = record { path = w; stands = subst (λ j. Stands (paths_of t) j w) (sym (same_Some _ _ z)) h; same = q ∙ has_up s l w body (λ y. n (sym r ∙ y)) }
 
 -- Entries
 
@@ -281,5 +281,5 @@ table_started s t d e o b z f = record {
     one n c u p q = both n (subst (λ ds. Stands ds n c) e p) (subst (λ ds. Stands (paths_from [] ds) n u) e q)
       where
         both : (n : ℕ) → Stands (d ∷ []) n c → Stands (paths_from [] (d ∷ [])) n u → (c ≡ d) × (u ≡ [])
-        both zero p q = (sym (some_same p), sym (some_same (sym (ap (λ o. Some (path_met [] o (level_of d))) o) ∙ q)))
+        both zero p q = (sym (same_Some _ _ p), sym (same_Some _ _ (sym (ap (λ o. Some (path_met [] o (level_of d))) o) ∙ q)))
         both (suc n) p q = cc

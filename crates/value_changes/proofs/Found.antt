@@ -5,6 +5,8 @@ use Rattle.ar_base.specs.Lists.{Stands, IsOneOf}
 use Rattle.ar_base.specs.Numbers.{VarId}
 use Rattle.ar_base.specs.Sets.{Ascends}
 use Rattle.ar_base.proofs.Standing.{stands_none, stands_within, stands_one, stands_some, stands_split, one_here, one_none, one_left, one_right, one_first, one_split, only_item}
+use Rattle.ar_base.proofs.Sets.{member_told, ascends_push}
+use Rattle.ar_base.proofs.Truths.{other_mark}
 use Rattle.domains.specs.declared.Value.{Value}
 use Rattle.gts_core.specs.Readings.{IsTotal}
 use Rattle.gts_core.specs.declared.system.Variable.{Variable}
@@ -13,7 +15,7 @@ use Rattle.value_changes.specs.Changes.{HasChanged, AreChanges, numbers}
 use Rattle.value_changes.specs.Codes.{coded}
 use Rattle.value_changes.specs.Picking.{KeepsOthers, ArePicked}
 use Rattle.value_changes.specs.Restoring.{decoded_in, decoded_at, restored, mark_at, turned, GivesBack}
-use Rattle.value_changes.proofs.Picks.{one_or_not, set_other, one_taken, one_before, one_now, keeps_same, back_next, back_done}
+use Rattle.value_changes.proofs.Picks.{set_other, one_taken, one_before, one_now, keeps_same, back_next, back_done}
 use Rattle.value_changes.proofs.Coding.{decoded_coded}
 use Rattle.value_changes.proofs.Restored.{restored_more}
 use Rattle.value_changes.proofs.Turns.{turned_last}
@@ -89,15 +91,6 @@ last_one xs a n b h = elim (stands_split xs (a ∷ []) n b h) [ inl k ↦ inl k 
     last zero e s = (omega (arith, e), cc)
     last (suc k) e s = absurd (stands_none k b s)
 
-ascends_more : (xs : List ℕ) (a : ℕ) → Ascends xs → ((b : ℕ) → IsOneOf xs b → b < a) → Ascends (xs ++ a ∷ [])
-ascends_more xs a h less = record { ascends = λ j k b c l s t. by j k b c l (last_one xs a j b s) (last_one xs a k c t) }
-  where
-    by : (j k b c : ℕ) → j < k → (Stands xs j b) ⊎ ((j ≡ length xs) × (b ≡ a)) → (Stands xs k c) ⊎ ((k ≡ length xs) × (c ≡ a)) → b < c
-    by j k b c l (inl p) (inl q) = h.ascends j k b c l p q
-    by j k b c l (inl p) (inr q) = let m = less b (one_here xs j b p) in omega (arith, m, q.1)
-    by j k b c l (inr p) (inl q) = let m = stands_within xs k c q in absurd (omega (arith, m, p.0))
-    by j k b c l (inr p) (inr q) = absurd (omega (arith, p.0, q.0))
-
 -- none of no members changed
 pub no_changes : (m : List ℕ) (old new : List Value) → AreFirstChanges (take 0 m) old new []
 no_changes m old new = record {
@@ -109,7 +102,7 @@ module _ (m : List ℕ) (i n : ℕ) (ascend : Ascends m) (s : Stands m i n) (old
   -- the next one changed
   pub changed_more : HasChanged old new n → (x : VarId) → x.n ≡ n → AreFirstChanges (take (i + 1) m) old new (xs ++ x ∷ [])
   changed_more changed x e = record {
-    ascend = subst Ascends (sym (numbers_more xs x)) (ascends_more (numbers xs) x.n are.ascend less);
+    ascend = subst Ascends (sym (numbers_more xs x)) (ascends_push (numbers xs) x.n are.ascend less);
     each = λ k. subst (λ (z : List ℕ). IsOneOf z k ↔ (IsOneOf (take (i + 1) m) k × HasChanged old new k)) (sym (numbers_more xs x)) (on k, off k);
   }
     where
@@ -148,7 +141,7 @@ module _ (m : List ℕ) (i n : ℕ) (ascend : Ascends m) (s : Stands m i n) (old
 pub changed_all : (m : List ℕ) (i : ℕ) (old new : List Value) (xs : List VarId) → length m ≤ i → KeepsOthers m old new → AreFirstChanges (take i m) old new xs → AreChanges old new xs
 changed_all m i old new xs l keeps are = record {
   ascend = are.ascend;
-  each = λ n. (λ h. ((are.each n).0 h).1, λ h. (are.each n).1 (subst (λ (z : List ℕ). IsOneOf z n) (sym (take_all i m l)) (member n h (one_or_not m n)), h));
+  each = λ n. (λ h. ((are.each n).0 h).1, λ h. (are.each n).1 (subst (λ (z : List ℕ). IsOneOf z n) (sym (take_all i m l)) (member n h (member_told m n)), h));
 }
   where
     member : (n : ℕ) → HasChanged old new n → IsOneOf m n ⊎ (IsOneOf m n → ⊥) → IsOneOf m n
@@ -226,12 +219,6 @@ module _ (p : GtsParts) (m : List ℕ) (old new : List Value) (ascend : Ascends 
 -- what a loop over the members keeps of the marks, whatever they were
 abbrev pub AreTurned : (members : List ℕ) → ℕ → (old new : List Bool) → List VarId → Type 0
 AreTurned m i old new variables = (before : List Bool) → ArePicked m before old → KeepsOthers m before new → IsBack (take i m) (drop i m) before new (turned new variables)
-
-other_mark : (a b : Bool) → (a ≡ b → ⊥) → not b ≡ a
-other_mark true true f = absurd (f refl)
-other_mark true false f = refl
-other_mark false true f = refl
-other_mark false false f = absurd (f refl)
 
 mark_there : (marks : List Bool) (n : ℕ) (b : Bool) → Stands marks n b → mark_at marks n ≡ b
 mark_there marks n b s = ap (λ (z : Option Bool). unwrap_or z false) s

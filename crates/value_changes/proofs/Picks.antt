@@ -2,25 +2,10 @@
 use Rattle.std.proofs.Common.{◌≡◌, ℕ, zero, suc, ◌+◌, ◌<◌, ◌≤◌, ◌⊎◌, inl, inr, List, [], ◌∷◌, ◌++◌, take, drop, length, get_or, set, slice_get, Some, refl, sym, ap, ◌∙◌, subst, arith, length-set, length-append, take_all}
 use Rattle.std.proofs.lemmas.List.{take_more, at_drop_more, at_drop_all}
 use Rattle.std.proofs.lemmas.Option.{get_or_from_slice_get}
+use Rattle.std.proofs.lemmas.Bool.{cases_eq}
 use Rattle.ar_base.specs.Lists.{Stands, IsOneOf}
 use Rattle.ar_base.proofs.Standing.{stands_get, stands_within, stands_some, stands_one, stands_left, stands_next, stands_split, one_none, one_cases, one_first, one_rest, one_left, one_right, one_split, only_item}
 use Rattle.value_changes.specs.Picking.{KeepsOthers, ArePicked, AreSet, AreWithin}
-
-pub same_number : (m n : ℕ) → (m ≡ n) ⊎ (m ≡ n → ⊥)
-same_number zero zero = inl refl
-same_number zero (suc n) = inr (λ e. omega (arith, e))
-same_number (suc m) zero = inr (λ e. omega (arith, e))
-same_number (suc m) (suc n) = elim (same_number m n) [ inl e ↦ inl (ap suc e) | inr f ↦ inr (λ e. f (omega (arith, e))) ]
-
--- a number is one of these or not
-pub one_or_not : (xs : List ℕ) (n : ℕ) → IsOneOf xs n ⊎ (IsOneOf xs n → ⊥)
-one_or_not [] n = inr (λ o. one_none n o)
-one_or_not (x ∷ xs) n = go (same_number x n) (one_or_not xs n)
-  where
-    go : (x ≡ n) ⊎ (x ≡ n → ⊥) → IsOneOf xs n ⊎ (IsOneOf xs n → ⊥) → IsOneOf (x ∷ xs) n ⊎ (IsOneOf (x ∷ xs) n → ⊥)
-    go (inl e) h = inl (record { place = 0; stands = ap Some e })
-    go (inr f) (inl o) = inl (one_rest x xs n o)
-    go (inr f) (inr g) = inr (λ o. elim (one_cases x xs n o) [ inl e ↦ f e | inr k ↦ g k ])
 
 module _ {A : Type 0} where
   -- what stands in a list where one item was set
@@ -99,7 +84,7 @@ module _ {A : Type 0} where
       long = length-set new n a ∙ s.keeps.long;
       others = λ m o. set_other new n m a (λ k. o (subst (λ (z : ℕ). IsOneOf (take (i + 1) numbers) z) (sym k) (one_now numbers i n st))) ∙ s.keeps.others m (λ k. o (one_before numbers i n m st k));
     };
-    each = λ m o. at m (same_number m n) (one_taken numbers i n m st o);
+    each = λ m o. at m (cases_eq m n) (one_taken numbers i n m st o);
   }
     where
       here : Stands (set new n a) n a
@@ -142,7 +127,7 @@ module _ {A : Type 0} where
 
   -- one item was written back
   pub back_next : (numbers : List ℕ) (was items all : List A) (i n : ℕ) (a : A) → Stands numbers i n → Stands items i a → n < length all → ArePicked numbers was items → KeepsOthers (drop i numbers) was all → KeepsOthers (drop (i + 1) numbers) was (set all n a)
-  back_next numbers was items all i n a st at below p k = record { long = length-set all n a ∙ k.long; others = λ m o. by m o (same_number m n) }
+  back_next numbers was items all i n a st at below p k = record { long = length-set all n a ∙ k.long; others = λ m o. by m o (cases_eq m n) }
     where
       here : slice_get (set all n a) n ≡ slice_get was n
       here =

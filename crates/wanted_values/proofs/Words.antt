@@ -30,13 +30,6 @@ parsed word r n fits parses is = parse-signed_decimal w64 n word r fits (within 
 pub same_number : {E : Type 0} {r : Result ℤ E} {m n : ℤ} → r ≡ Ok m → r ≡ Ok n → m ≡ n
 same_number a b = cc
 
--- equal texts are told equal
-pub equal_is_false : (text word : List ℕ) (b : Bool) → text ≡ word → b ≡ bytes_eq text word → b ≡ false → ⊥
-equal_is_false text word b same is told =
-    let yes : b ≡ true = is ∙ (bytes_eq-Decides text word).1 same in
-    let bad : true ≡ false = sym yes ∙ told in
-    absurd (cc)
-
 -- a word that writes a value of one kind
 pub not_truth : {symbols : List (List ℕ)} {word : List ℕ} → (word ≡ codes "true" → ⊥) → (word ≡ codes "false" → ⊥)
     → (v : Value) → Writes symbols word Truth v → ⊥

@@ -1,4 +1,3 @@
-mod Few
 mod Meeting
 mod Growing
 mod Taking

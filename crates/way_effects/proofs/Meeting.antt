@@ -14,7 +14,7 @@ use Rattle.way_effects.specs.Taking.{takes_part, TakesPart, HasWay, AreOnce, Are
 use Rattle.way_effects.specs.Taking as takes
 use Rattle.way_effects.specs.Meeting.{AreMet, Meets, IsTaken, MeetsParts, IsAlone}
 use Rattle.way_effects.specs.declared.takers.Met.{Met}
-use Rattle.way_effects.proofs.Few.{few_below}
+use Rattle.ar_base.proofs.Few.{few_below}
 
 -- the first way
 pub is_alone : (way : WayId) (old new : Met) → old.ways.items ≡ [] → Meets (λ n. n ≡ way.n) old new → IsAlone way new

@@ -19,6 +19,7 @@ use Rattle.gts_core.specs.Readings.{IsTotal}
 use Rattle.gts_core.proofs.Tests.{answer_true}
 use Rattle.gts_core.proofs.Viewing.{variable_there, variable_back}
 use Rattle.flow_propagate.specs.NewValues.{AreNewValues, IsNewValue, written}
+use Rattle.flow_propagate.proofs.Written.{written_long}
 use Rattle.way_flags.specs.Ways.{flag_at, AreFlags}
 use Rattle.way_effects.specs.Taking.{AreTakers}
 use Rattle.way_effects.specs.Effects.{taken_effects, Gives}
@@ -27,7 +28,7 @@ use Rattle.way_effects.specs.Ready.{IsReady}
 use Rattle.way_effects.specs.declared.effects.Effect.{Effect}
 use Rattle.way_effects.proofs.Acting.{given_effect, effect_given, to_state}
 use Rattle.way_effects.proofs.Neighbours.{gives_moved, gives_back}
-use Rattle.way_effects.proofs.Writing.{Writes, IsUnwritten, written_at, written_long, receives_each}
+use Rattle.way_effects.proofs.Writing.{Writes, IsUnwritten, written_at, receives_each}
 
 -- the effects on state variables alone, in any order
 pub moved_to_state : (p : GtsParts) (sound : IsSound p) (t : List Value) (ids : List WayId) (all sorted : List Effect) → all ≡ taken_effects t p.ways.items ids → IsPermutation all sorted → AreToState p sorted

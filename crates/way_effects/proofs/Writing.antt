@@ -13,10 +13,7 @@ use Rattle.gts_core.specs.declared.system.Variable.{Variable}
 use Rattle.gts_core.specs.declared.system.GtsParts.{GtsParts}
 use Rattle.flow_propagate.specs.Answers.{IsState}
 use Rattle.flow_propagate.specs.NewValues.{AreNewValues, written}
-
-pub written_long : (t : List Value) (new : List (VarId × Value)) → length (written t new) ≡ length t
-written_long t [] = refl
-written_long t (r ∷ new) = written_long (set t r.0.n r.1) new ∙ length-set t r.0.n r.1
+use Rattle.flow_propagate.proofs.Written.{written_long}
 
 module _ {A : Type 0} where
   -- what stands in a list where one item was set

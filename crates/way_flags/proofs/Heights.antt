@@ -42,9 +42,3 @@ part_low p (r ∷ parts) (s.Branch must t bs) left zero q (part m ms) low st =
     let same : r ≡ q = cc in
     subst (λ (z : Bool × WayId). HasTree p z.1.n left) same (t, m, le_trans (le-max_left (height t) (branches_height bs)) low)
 part_low p (r ∷ parts) (s.Branch must t bs) left (suc k) q (part m ms) low st = part_low p parts bs left k q ms (le_trans (le-max_right (height t) (branches_height bs)) low) st
-
--- what is read within a list stands there
-pub read_at : {A : Type 0} (xs : List A) (n : ℕ) (d : A) → n < length xs → Stands xs n (get_or xs n d)
-read_at [] n d low = absurd (omega (arith, low))
-read_at (x ∷ xs) zero d low = refl
-read_at (x ∷ xs) (suc n) d low = read_at xs n d (omega (arith, low))

@@ -2,9 +2,11 @@
 use Rattle.std.proofs.Common.{◌≡◌, ◌<◌, ◌≤◌, ◌+◌, ◌⊎◌, ◌↔◌, ℕ, zero, suc, Bool, List, [], ◌∷◌, ◌++◌, length, set, inl, inr, refl, sym, ◌∙◌, ap, subst, arith}
 use Rattle.std.specs.List.Sorted.{IsNonDecreasingBy, IsPermutation}
 use Rattle.std.proofs.lemmas.List.Sorted.{Contains-permutation, IsPermutation-sym}
+use Rattle.std.proofs.lemmas.Bool.{cases_eq}
 use Rattle.ar_base.specs.Lists.{Stands, IsOneOf}
 use Rattle.ar_base.specs.Numbers.{VarId, WayId}
-use Rattle.ar_base.proofs.Standing.{stands_within, stands_one, stands_none, stands_left, stands_next, stands_split, only_item, one_contains, contains_one}
+use Rattle.ar_base.proofs.Standing.{stands_within, stands_one, stands_none, stands_left, stands_next, stands_split, only_item, one_contains, contains_one, at_most, one_left}
+use Rattle.ar_base.proofs.Items.{one_last, last_cases}
 use Rattle.gts_core.specs.declared.system.Way.{Way}
 use Rattle.gts_core.specs.declared.system.WayBody.{WayBody}
 use Rattle.gts_core.specs.declared.system.GtsParts.{GtsParts}
@@ -13,22 +15,6 @@ use Rattle.way_flags.specs.Renewing.{IsPlaceOf}
 use Rattle.way_flags.specs.Index.{IsPlacedAt, GuardNames, AreGuards, IsAbove, AreAbove, AddsGuards, IsPartOf, AddsParts, ArePlacedUpTo, IsWayIndex}
 use Rattle.way_flags.specs.declared.index.WayIndex.{WayIndex}
 use Rattle.number_pairs.specs.Pairing.{IsPaired}
-use Rattle.way_flags.proofs.Lists.{same_number}
-
-below_more : (k i : ℕ) → k < i + 1 → (k < i) ⊎ (k ≡ i)
-below_more k i h = elim (same_number k i) [ inl e ↦ inr e | inr f ↦ inl (grind (arith, h, f)) ]
-
-pub one_left : {A : Type 0} (xs ys : List A) (x : A) → IsOneOf xs x → IsOneOf (xs ++ ys) x
-one_left xs ys x o = record { place = o.place; stands = stands_left xs ys o.place x o.stands }
-
-pub one_last : {A : Type 0} (xs : List A) (x : A) → IsOneOf (xs ++ x ∷ []) x
-one_last xs x = record { place = length xs; stands = stands_next xs x [] }
-
-pub last_cases : {A : Type 0} (xs : List A) (x y : A) → IsOneOf (xs ++ x ∷ []) y → IsOneOf xs y ⊎ (x ≡ y)
-last_cases xs x y o = elim (stands_split xs (x ∷ []) o.place y o.stands) [
-  | inl s ↦ inl (record { place = o.place; stands = s })
-  | inr r ↦ inr (only_item x y (record { place = r.0; stands = r.2 }))
-]
 
 module _ (p : GtsParts) where
   pub guards_start : AreGuards p 0 []
@@ -37,7 +23,7 @@ module _ (p : GtsParts) where
   pub guards_more : (i : ℕ) (way : Way) (old new : List (ℕ × ℕ)) → Stands p.ways.items i way → AreGuards p i old → AddsGuards way.body i old new → AreGuards p (i + 1) new
   guards_more i way old new here before adds = record {
     within = λ q o. elim (adds.only q o) [ inl k ↦ before.within q k | inr e ↦ (let h = stands_within p.ways.items i way here in omega (arith, e, h)) ];
-    all = λ k w x below st n. elim (below_more k i below) [
+    all = λ k w x below st n. elim (at_most k i below) [
       | inl l ↦ adds.grows (x.n, k) (before.all k w x l st n)
       | inr e ↦ (
           let same : w ≡ way = stands_one p.ways.items i w way (subst (λ (z : ℕ). Stands p.ways.items z w) e st) here in
@@ -48,11 +34,8 @@ module _ (p : GtsParts) where
   pub guards_all : (i : ℕ) (pairs : List (ℕ × ℕ)) → length p.ways.items ≤ i → AreGuards p i pairs → AreGuards p (length p.ways.items) pairs
   guards_all i pairs h are = record { within = are.within; all = λ k w x below. are.all k w x (omega (arith, below, h)) }
 
-  pub guards_sorted : (pairs sorted : List (ℕ × ℕ)) → AreGuards p (length p.ways.items) pairs → IsPermutation pairs sorted → AreGuards p (length p.ways.items) sorted
-  guards_sorted pairs sorted are perm = record {
-    within = λ q o. are.within q (one_contains pairs q (Contains-permutation sorted pairs q (IsPermutation-sym pairs sorted perm) (contains_one sorted q o)));
-    all = λ k w x below st n. one_contains sorted (x.n, k) (Contains-permutation pairs sorted (x.n, k) perm (contains_one pairs (x.n, k) (are.all k w x below st n)));
-  }
+  pub guards_moved : (pairs moved : List (ℕ × ℕ)) → AreGuards p (length p.ways.items) pairs → ((q : ℕ × ℕ) → (IsOneOf moved q ↔ IsOneOf pairs q)) → AreGuards p (length p.ways.items) moved
+  guards_moved pairs moved are same = record { within = λ q o. are.within q ((same q).0 o); all = λ k w x below st n. (same (x.n, k)).1 (are.all k w x below st n) }
 
   pub above_start : AreAbove p 0 []
   above_start = record { only = λ n k o. absurd (stands_none o.place (n, k) o.stands); all = λ n k h. absurd (omega (arith, h)) }
@@ -60,7 +43,7 @@ module _ (p : GtsParts) where
   pub above_more : (i : ℕ) (way : Way) (old new : List (ℕ × ℕ)) → Stands p.ways.items i way → AreAbove p i old → AddsParts (parts_of way.body) i old new → AreAbove p (i + 1) new
   above_more i way old new here before adds = record {
     only = λ n k o. elim (adds.only (n, k) o) [ inl q ↦ before.only n k q | inr r ↦ now n k r ];
-    all = λ n k below h. elim (below_more k i below) [
+    all = λ n k below h. elim (at_most k i below) [
       | inl l ↦ adds.grows (n, k) (before.all n k l h)
       | inr e ↦ (
           let same : h.has.way ≡ way = stands_one p.ways.items i h.has.way way (subst (λ (z : ℕ). Stands p.ways.items z h.has.way) e h.has.stands) here in
@@ -75,11 +58,8 @@ module _ (p : GtsParts) where
   pub above_all : (i : ℕ) (pairs : List (ℕ × ℕ)) → length p.ways.items ≤ i → AreAbove p i pairs → AreAbove p (length p.ways.items) pairs
   above_all i pairs h are = record { only = are.only; all = λ n k below q. are.all n k (omega (arith, below, h)) q }
 
-  pub above_sorted : (pairs sorted : List (ℕ × ℕ)) → AreAbove p (length p.ways.items) pairs → IsPermutation pairs sorted → AreAbove p (length p.ways.items) sorted
-  above_sorted pairs sorted are perm = record {
-    only = λ n k o. are.only n k (one_contains pairs (n, k) (Contains-permutation sorted pairs (n, k) (IsPermutation-sym pairs sorted perm) (contains_one sorted (n, k) o)));
-    all = λ n k below h. one_contains sorted (n, k) (Contains-permutation pairs sorted (n, k) perm (contains_one pairs (n, k) (are.all n k below h)));
-  }
+  pub above_moved : (pairs moved : List (ℕ × ℕ)) → AreAbove p (length p.ways.items) pairs → ((q : ℕ × ℕ) → (IsOneOf moved q ↔ IsOneOf pairs q)) → AreAbove p (length p.ways.items) moved
+  above_moved pairs moved are same = record { only = λ n k o. are.only n k ((same (n, k)).0 o); all = λ n k below h. (same (n, k)).1 (are.all n k below h) }
 
 -- places, one more of them written
 pub places_start : (order : List WayId) (places : List ℕ) → ArePlacedUpTo order 0 places
@@ -113,7 +93,7 @@ places_more order i id places here before = record { placed = λ k a place below
 
     go : (k : ℕ) (a : WayId) (place : ℕ) → k < i + 1 → Stands order k a → ((a.n ≡ id.n) × (place ≡ i)) ⊎ ((a.n ≡ id.n → ⊥) × Stands places a.n place) → IsPlacedAt order a.n place
     go k a place below st (inl h) = mine a place h.0 h.1
-    go k a place below st (inr h) = elim (below_more k i below) [
+    go k a place below st (inr h) = elim (at_most k i below) [
       | inl l ↦ before.placed k a place l st h.1
       | inr e ↦ absurd (h.0 (ap (λ (z : WayId). z.n) (stands_one order i a id (subst (λ (z : ℕ). Stands order z a) e st) here)))
     ]
@@ -121,7 +101,7 @@ places_more order i id places here before = record { placed = λ k a place below
 -- a way that is outside the list of places leaves it
 pub places_past : (order : List WayId) (i : ℕ) (id : WayId) (places : List ℕ) → Stands order i id → length places ≤ id.n → ArePlacedUpTo order i places → ArePlacedUpTo order (i + 1) places
 places_past order i id places here out before = record {
-  placed = λ k a place below st at. elim (below_more k i below) [
+  placed = λ k a place below st at. elim (at_most k i below) [
     | inl l ↦ before.placed k a place l st at
     | inr e ↦ (
         let same : a ≡ id = stands_one order i a id (subst (λ (z : ℕ). Stands order z a) e st) here in
@@ -158,34 +138,33 @@ parts_more parts part place first old new a e = record {
 
 -- the numbers that stand in pairs are those of ways
 module _ (p : GtsParts) (index : WayIndex) (ix : IsWayIndex p index) where
-  pub guard_within : (pairs : List (ℕ × ℕ)) (firsts : List ℕ) (n : ℕ) → pairs ≡ index.guards.items → IsPaired pairs firsts n → n < length index.places.items
-  guard_within pairs firsts n e s = let r = subst (λ (z : List (ℕ × ℕ)). IsPaired z firsts n) e s in let h = ix.guards.within (r.first, n) r.pair in omega (arith, h, ix.long)
+  pub guard_within : (firsts : List ℕ) (n : ℕ) → IsPaired index.guards.pairs.items firsts n → n < length index.places.items
+  guard_within firsts n r = let h = ix.guards.within (r.first, n) r.pair in omega (arith, h, ix.long)
 
-  pub above_within : (pairs : List (ℕ × ℕ)) (firsts : List ℕ) (n : ℕ) → pairs ≡ index.above.items → IsPaired pairs firsts n → n < length index.places.items
-  above_within pairs firsts n e s =
-      let r = subst (λ (z : List (ℕ × ℕ)). IsPaired z firsts n) e s in
+  pub above_within : (firsts : List ℕ) (n : ℕ) → IsPaired index.above.pairs.items firsts n → n < length index.places.items
+  above_within firsts n r =
       let a = ix.above.only r.first n r.pair in
       let h = stands_within p.ways.items n a.has.way a.has.stands in
       omega (arith, h, ix.long)
 
 -- the ways above one way
-pub above_added : (pairs above : List (ℕ × ℕ)) (places ways listed : List ℕ) (shown : List ℕ) (w : ℕ) (Old New : ℕ → Type 0) → pairs ≡ above → ways ≡ listed → places ≡ shown → ((n : ℕ) → (IsOneOf listed n ↔ IsPaired pairs (w ∷ []) n))
+pub above_added : (above : List (ℕ × ℕ)) (places ways listed : List ℕ) (shown : List ℕ) (w : ℕ) (Old New : ℕ → Type 0) → ways ≡ listed → places ≡ shown → ((n : ℕ) → (IsOneOf listed n ↔ IsPaired above (w ∷ []) n))
     → ((q : ℕ) → (New q ↔ (Old q ⊎ IsPlaceOf places (IsOneOf ways) q))) → (q : ℕ) → (New q ↔ (Old q ⊎ IsPlaceOf shown (λ n. IsOneOf above (w, n)) q))
-above_added pairs above places ways listed shown w Old New e f g each adds q = (there, back)
+above_added above places ways listed shown w Old New f g each adds q = (there, back)
   where
     there : New q → Old q ⊎ IsPlaceOf shown (λ n. IsOneOf above (w, n)) q
     there h = elim ((adds q).0 h) [
       | inl o ↦ inl o
       | inr r ↦ (
           let k = (each r.n).0 (subst (λ (z : List ℕ). IsOneOf z r.n) f r.has) in
-          inr (record { n = r.n; has = subst (λ (z : List (ℕ × ℕ)). IsOneOf z (w, r.n)) e (subst (λ (z : ℕ). IsOneOf pairs (z, r.n)) (sym (only_item w k.first k.is_one)) k.pair); stands = subst (λ (z : List ℕ). Stands z r.n q) g r.stands }))
+          inr (record { n = r.n; has = subst (λ (z : ℕ). IsOneOf above (z, r.n)) (sym (only_item w k.first k.is_one)) k.pair; stands = subst (λ (z : List ℕ). Stands z r.n q) g r.stands }))
     ]
 
     back : Old q ⊎ IsPlaceOf shown (λ n. IsOneOf above (w, n)) q → New q
     back h = elim h [
       | inl o ↦ (adds q).1 (inl o)
       | inr r ↦ (
-          let k : IsPaired pairs (w ∷ []) r.n = record { first = w; is_one = record { place = 0; stands = refl }; pair = subst (λ (z : List (ℕ × ℕ)). IsOneOf z (w, r.n)) (sym e) r.has } in
+          let k : IsPaired above (w ∷ []) r.n = record { first = w; is_one = record { place = 0; stands = refl }; pair = r.has } in
           (adds q).1 (inr (record { n = r.n; has = subst (λ (z : List ℕ). IsOneOf z r.n) (sym f) ((each r.n).1 k); stands = subst (λ (z : List ℕ). Stands z r.n q) (sym g) r.stands })))
     ]
 

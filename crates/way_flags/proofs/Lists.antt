@@ -41,12 +41,6 @@ flag_within [] n h = absurd (cc h)
 flag_within (f ∷ flags) zero h = omega arith
 flag_within (f ∷ flags) (suc n) h = let k = flag_within flags n h in omega (arith, k)
 
-pub same_number : (m n : ℕ) → (m ≡ n) ⊎ (m ≡ n → ⊥)
-same_number zero zero = inl refl
-same_number zero (suc n) = inr (λ e. omega (arith, e))
-same_number (suc m) zero = inr (λ e. omega (arith, e))
-same_number (suc m) (suc n) = elim (same_number m n) [ inl e ↦ inl (ap suc e) | inr h ↦ inr (λ e. h (omega (arith, e))) ]
-
 module _ {A : Type 0} where
   -- what an index read stands there
   pub read_stands : (xs : List A) (n : ℕ) (a : A) → n < length xs → a ≡ get_or xs n a → Stands xs n a

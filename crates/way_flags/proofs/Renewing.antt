@@ -1,5 +1,6 @@
 -- Flags that are set in the order of the ways.
 use Rattle.std.proofs.Common.{◌≡◌, ◌<◌, ◌≤◌, ◌+◌, ◌⊎◌, ℕ, Bool, List, length, set, sym, ap, ◌∙◌, subst, inl, inr, arith, length-set}
+use Rattle.std.proofs.lemmas.Bool.{cases_eq}
 use Rattle.ar_base.specs.Lists.{Stands, IsOneOf}
 use Rattle.ar_base.proofs.Standing.{stands_within, stands_one, stands_map_back}
 use Rattle.domains.specs.declared.Value.{Value}
@@ -15,7 +16,7 @@ use Rattle.gts_core.specs.declared.system.Way.{Way}
 use Rattle.gts_core.specs.declared.system.GtsParts.{GtsParts}
 use Rattle.gts_core.specs.Readings.{IsTotal}
 use Rattle.way_flags.specs.Ways.{flag_at, parts_of, IsOrder, AreFlags, can_by}
-use Rattle.way_flags.proofs.Lists.{flag_same, flag_other, same_number}
+use Rattle.way_flags.proofs.Lists.{flag_same, flag_other}
 use Rattle.way_flags.proofs.Firing.{can_answer}
 
 -- the flags of the first so many ways are right
@@ -32,7 +33,7 @@ module _ (p : GtsParts) (sound : IsSound p) (order : List WayId) (is : IsOrder p
   pub renew_more : (i : ℕ) (flags : List Bool) (id : WayId) (way : Way) (b : Bool) → AreSetTo p order t i flags → Stands order i id → Stands p.ways.items id.n way → b ≡ can_by t flags way.body → AreSetTo p order t (i + 1) (set flags id.n b)
   renew_more i flags id way b before at st e = record {
     long = length-set flags id.n b ∙ before.long;
-    flag = λ k a below s u m. go k a below s u m (same_number a.n id.n);
+    flag = λ k a below s u m. go k a below s u m (cases_eq a.n id.n);
   }
     where
       right : (q : Bool × WayId) → IsOneOf (parts_of way.body) q → (u : s.Way ℕ) → Means_way (bodies_of p) q.1.n u → IsAnswer (flag_at flags q.1.n) (Can (HasValue (net_of p) t) u)

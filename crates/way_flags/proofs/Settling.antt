@@ -6,10 +6,12 @@ use Rattle.std.specs.BTreeMap.{is_at}
 use Rattle.std.specs.List.{list_any}
 use Rattle.std.specs.Cmp.{nat_cmp_is}
 use Rattle.std.proofs.Common.{Equal}
+use Rattle.std.proofs.lemmas.Bool.{cases_eq}
 use mathlib.Core.Bool.{beq}
 use Rattle.ar_base.specs.Lists.{Stands, IsOneOf}
 use Rattle.ar_base.specs.Numbers.{VarId, WayId}
 use Rattle.ar_base.proofs.Standing.{stands_within, stands_one, stands_none, stands_some, one_first, one_rest, one_cases, stands_map}
+use Rattle.ar_base.proofs.Truths.{not_equal, other_mark}
 use Rattle.domains.specs.declared.Value.{Value}
 use Rattle.typed_expr.specs.Mentions.{Mentions}
 use Rattle.typed_expr.specs.declared.expr.Expr.{Expr, out-Expr}
@@ -18,6 +20,7 @@ use Rattle.ar_meaning.specs.Systems as s
 use Rattle.ar_meaning.specs.Facts.{HasValue}
 use Rattle.ar_meaning.specs.Found.{IsAnswer}
 use Rattle.ar_meaning.specs.Ways.{Can}
+use Rattle.ar_meaning.proofs.Found.{same_answer}
 use Rattle.number_pairs.specs.Pairing.{IsPaired}
 use Rattle.gts_core.specs.View.{net_of, IsWayAt}
 use Rattle.gts_core.specs.Sound.{IsSound}
@@ -31,17 +34,10 @@ use Rattle.way_flags.specs.Index.{IsPlacedAt, GuardNames, IsWayIndex, IsAbove}
 use Rattle.way_flags.specs.declared.index.WayIndex.{WayIndex}
 use Rattle.way_flags.specs.Renewing.{WereFlags, WaitsAt, Waits, IsPlaceOf, AreSettled, IsSettledBut}
 use Rattle.way_flags.proofs.Firing.{can_answer}
-use Rattle.way_flags.proofs.Lists.{flag_same, flag_other, same_number}
+use Rattle.way_flags.proofs.Lists.{flag_same, flag_other}
 use Rattle.way_flags.proofs.Renewing.{AreSetTo, renew_more, renewed}
 use Rattle.way_flags.proofs.SameReadings.{same_in}
 use Rattle.way_flags.proofs.Turned.{flip}
-
--- a question has one answer
-same_answer : (a b : Bool) (P : Type 0) → IsAnswer a P → IsAnswer b P → a ≡ b
-same_answer true true P h k = refl
-same_answer false false P h k = refl
-same_answer true false P h k = absurd (k h)
-same_answer false true P h k = absurd (h k)
 
 -- a place waits or does not
 waits_or_not : (w : BTreeSet ℕ) (place : ℕ) → WaitsAt w place ⊎ (WaitsAt w place → ⊥)
@@ -57,7 +53,7 @@ waits_or_not w place = go (contains nat_cmp w place) refl
 -- one of the parts has the number, or none has
 part_or_none : (ps : List (Bool × WayId)) (n : ℕ) → ((q : Bool × WayId) × IsOneOf ps q × (q.1.n ≡ n)) ⊎ ((q : Bool × WayId) → IsOneOf ps q → q.1.n ≡ n → ⊥)
 part_or_none [] n = inr (λ q o e. stands_none o.place q o.stands)
-part_or_none (p ∷ ps) n = elim (same_number p.1.n n) [
+part_or_none (p ∷ ps) n = elim (cases_eq p.1.n n) [
   | inl e ↦ inl (p, one_first p ps, e)
   | inr f ↦ (elim (part_or_none ps n) [
     | inl r ↦ inl (r.0, one_rest p ps r.0 r.1, r.2)
@@ -92,18 +88,12 @@ set_own [] (suc n) = refl
 set_own (f ∷ flags) zero = refl
 set_own (f ∷ flags) (suc n) = ap (λ z. f ∷ z) (set_own flags n)
 
-turned_to : (a b : Bool) → (a ≡ b → ⊥) → not b ≡ a
-turned_to true true f = absurd (f refl)
-turned_to true false f = refl
-turned_to false true f = refl
-turned_to false false f = absurd (f refl)
-
 module _ (p : GtsParts) (sound : IsSound p) where
   -- right flags say what a way's guard or the flags of its parts say
   pub flag_is : (t : List Value) → IsTotal p t → (flags : List Bool) → AreFlags p t flags → (n : ℕ) (way : Way) → Stands p.ways.items n way → flag_at flags n ≡ can_by t flags way.body
   flag_is t total flags are n way st =
       let tree = sound.trees n (stands_within p.ways.items n way st) in
-      same_answer (flag_at flags n) (can_by t flags way.body) (Can (HasValue (net_of p) t) tree.0) (are.flag n tree.0 tree.1)
+      same_answer (Can (HasValue (net_of p) t) tree.0) (flag_at flags n) (can_by t flags way.body) (are.flag n tree.0 tree.1)
       (can_answer p sound t total flags n way tree.0 st tree.1 (λ q o u m. are.flag q.1.n u m))
 
   module _ (index : WayIndex) (ix : IsWayIndex p index) (t : List Value) where
@@ -151,7 +141,7 @@ module _ (p : GtsParts) (sound : IsSound p) where
 
     -- the flag was turned, and the ways above wait
     pub looked_turned : (n place : ℕ) (way : Way) (old new : BTreeSet ℕ) (flags : List Bool) → Stands index.places.items n place → Stands p.ways.items n way
-        → (can_by t flags way.body ≡ flag_at flags n → ⊥) → ((q : ℕ) → (WaitsAt new q ↔ (WaitsAt old q ⊎ IsPlaceOf index.places.items (λ m. IsOneOf index.above.items (n, m)) q)))
+        → (can_by t flags way.body ≡ flag_at flags n → ⊥) → ((q : ℕ) → (WaitsAt new q ↔ (WaitsAt old q ⊎ IsPlaceOf index.places.items (λ m. IsOneOf index.above.pairs.items (n, m)) q)))
         → IsSettledBut p index.places.items t place old flags → AreSettled p index.places.items t new (flip flags n) × ((q : ℕ) → WaitsAt new q → place < q)
     looked_turned n place way old new flags at here differs adds but = (
       record {
@@ -160,7 +150,7 @@ module _ (p : GtsParts) (sound : IsSound p) where
           | inl k ↦ but.within q k
           | inr o ↦ (o.n, o.stands)
         ];
-        right = λ m w st. right m w st (part_or_none (parts_of w.body) n) (same_number m n) (but.right m w st);
+        right = λ m w st. right m w st (part_or_none (parts_of w.body) n) (cases_eq m n) (but.right m w st);
       },
       later,
     )
@@ -183,7 +173,7 @@ module _ (p : GtsParts) (sound : IsSound p) where
             let body : w ≡ way = stands_one p.ways.items n w way (subst (λ (z : ℕ). Stands p.ways.items z w) e st) here in
             ap (λ z. flag_at (flip flags n) z) e
             ∙ flag_same flags n (not (flag_at flags n)) (let h = stands_within p.ways.items n way here in omega (arith, h, but.long))
-            ∙ turned_to (can_by t flags way.body) (flag_at flags n) differs
+            ∙ other_mark (can_by t flags way.body) (flag_at flags n) differs
             ∙ sym (can_stay flags n (not (flag_at flags n)) t way.body (not_own n way here))
             ∙ ap (λ (z : Way). can_by t (flip flags n) z.body) (sym body)
 
@@ -193,7 +183,7 @@ module _ (p : GtsParts) (sound : IsSound p) where
             → Waits index.places.items new m ⊎ (flag_at (flip flags n) m ≡ can_by t (flip flags n) w.body)
         right m w st (inl r) told before =
             let below = stands_within p.ways.items m w st in
-            let o : IsOneOf index.above.items (n, m) = ix.above.all n m below (record { part = r.0; has = record { way = w; stands = st; is_part = r.1 }; number = r.2 }) in
+            let o : IsOneOf index.above.pairs.items (n, m) = ix.above.all n m below (record { part = r.0; has = record { way = w; stands = st; is_part = r.1 }; number = r.2 }) in
             let k = place_of m below in
             inl (k.0, k.1, (adds k.0).1 (inr (record { n = m; has = o; stands = k.1 })))
         right m w st (inr lacks) (inl e) before = inr (own m w st e)
@@ -217,7 +207,7 @@ module _ (p : GtsParts) (sound : IsSound p) where
 
     -- the ways whose guards name what changed wait at first
     pub first_settled : IsTotal p t → (changed : List VarId) (flags : List Bool) → WereFlags p t changed flags → (waiting : BTreeSet ℕ)
-        → ((q : ℕ) → (WaitsAt waiting q ↔ IsPlaceOf index.places.items (IsPaired index.guards.items (map (λ (x : VarId). x.n) changed)) q)) → AreSettled p index.places.items t waiting flags
+        → ((q : ℕ) → (WaitsAt waiting q ↔ IsPlaceOf index.places.items (IsPaired index.guards.pairs.items (map (λ (x : VarId). x.n) changed)) q)) → AreSettled p index.places.items t waiting flags
     first_settled total changed flags were waiting waits = record {
       long = were.were.long;
       within = λ q h. (let r = (waits q).0 h in (r.n, r.stands));
@@ -241,7 +231,7 @@ module _ (p : GtsParts) (sound : IsSound p) where
             k : (place : ℕ) × Stands index.places.items n place
             k = place_of n below
 
-            pair : (x : VarId) → Mentions x (out-Expr VarId guard) → IsOneOf index.guards.items (x.n, n)
+            pair : (x : VarId) → Mentions x (out-Expr VarId guard) → IsOneOf index.guards.pairs.items (x.n, n)
             pair x m = ix.guards.all n way x below st (subst (λ z. GuardNames z x) (sym e) m)
 
             kept : (WaitsAt waiting k.0 → ⊥) → (x : VarId) → Mentions x (out-Expr VarId guard) → value_at were.before x.n ≡ value_at t x.n
@@ -288,17 +278,8 @@ beq_same true false e = cc
 beq_same false true e = cc
 beq_same false false e = refl
 
-beq_other : (a b : Bool) → beq a b ≡ false → a ≡ b → ⊥
-beq_other true true e i = cc
-beq_other true false e i = cc
-beq_other false true e i = cc
-beq_other false false e i = cc
-
 pub same_flag : (a b : Bool) → beq a b ≡ true → b ≡ a
 same_flag a b e = sym (beq_same a b e)
-
-pub other_flag : (a b : Bool) → beq a b ≡ false → a ≡ b → ⊥
-other_flag = beq_other
 
 -- the way that a place is of
 module _ (p : GtsParts) (index : WayIndex) (ix : IsWayIndex p index) where
@@ -319,7 +300,7 @@ module _ (p : GtsParts) (index : WayIndex) (ix : IsWayIndex p index) where
     here = are.within place is;
     within = λ q h. are.within q ((rest q).0 h).0;
     later = later;
-    right = λ n way st. elim (are.right n way st) [ inl k ↦ waits n k (same_number k.0 place) | inr e ↦ inr (inr e) ];
+    right = λ n way st. elim (are.right n way st) [ inl k ↦ waits n k (cases_eq k.0 place) | inr e ↦ inr (inr e) ];
   }
     where
       waits : (n : ℕ) → (k : Waits index.places.items old n) → (k.0 ≡ place) ⊎ (k.0 ≡ place → ⊥) → {X : Type 0} → Stands index.places.items n place ⊎ (Waits index.places.items new n ⊎ X)

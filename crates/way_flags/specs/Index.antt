@@ -1,6 +1,5 @@
 -- Which ways have to be looked at again where a variable or the flag of a way changed.
 use Rattle.std.specs.Prelude.{◌≡◌, ◌⊎◌, ℕ, ◌<◌, Bool, List, length}
-use Rattle.std.specs.List.Sorted.{IsNonDecreasingBy}
 use Rattle.ar_base.specs.Lists.{Stands, IsOneOf}
 use Rattle.ar_base.specs.Numbers.{VarId, WayId}
 use Rattle.typed_expr.specs.Mentions.{Mentions}
@@ -44,10 +43,8 @@ pub record IsWayIndex (p : GtsParts) (index : WayIndex) : Type 0 where
   pub order : IsOrder p index.order.items
   pub long : length index.places.items ≡ length p.ways.items
   pub placed : (n place : ℕ) → Stands index.places.items n place → IsPlacedAt index.order.items n place
-  pub guards : AreGuards p (length p.ways.items) index.guards.items
-  pub by_variable : IsNonDecreasingBy (λ (q : ℕ × ℕ). q.0) index.guards.items
-  pub above : AreAbove p (length p.ways.items) index.above.items
-  pub by_part : IsNonDecreasingBy (λ (q : ℕ × ℕ). q.0) index.above.items
+  pub guards : AreGuards p (length p.ways.items) index.guards.pairs.items
+  pub above : AreAbove p (length p.ways.items) index.above.pairs.items
 
 -- the list got the pairs of the variables that the guard of this way names
 pub record AddsGuards (body : WayBody) (n : ℕ) (old new : List (ℕ × ℕ)) : Type 0 where

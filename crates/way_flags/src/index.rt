@@ -6,9 +6,10 @@ ghost use Rattle.way_flags.specs.Ways.{IsOrder, parts_of};
 ghost use Rattle.way_flags.specs.Index.{IsWayIndex, AreGuards, AreAbove, AddsGuards, AddsParts, ArePlacedUpTo};
 
 use crate::order::way_order;
-use ar_base::{Memory, WayId};
-use flow_propagate::add_named;
+use ar_base::{Memory, VarId, WayId};
+use flow_propagate::add_named_pairs;
 use gts_core::{GtsParts, WayBody};
+use number_pairs::{IndexedPairs, index_pairs};
 use std::alloc::Global;
 
 /// The ways of a system in an order, and which of them have to be looked at again where something changed.
@@ -18,10 +19,10 @@ pub struct WayIndex {
     pub order: Vec<WayId>,
     /// The place of each way in the order.
     pub places: Vec<usize>,
-    /// The pairs of a variable and a way whose guard names it, by ascending variables.
-    pub guards: Vec<(u32, u32)>,
-    /// The pairs of a way and a way that has it as a part, by ascending parts.
-    pub above: Vec<(u32, u32)>,
+    /// The pairs of a variable and a way whose guard names it.
+    pub guards: IndexedPairs,
+    /// The pairs of a way and a way that has it as a part.
+    pub above: IndexedPairs,
 }
 
 /// The index of a system's ways. The error is want of memory.
@@ -31,10 +32,10 @@ pub fn way_index(alloc: Global, parts: &GtsParts) -> Result<WayIndex, Memory>
 {
     let order = way_order(alloc, parts)?;
     let places = places_in(alloc, &order, parts.ways.len())?;
-    let mut guards = guards(alloc, parts)?;
-    guards.sort_unstable_by_key(|pair| pair.0);
-    let mut above = ways_above(alloc, parts)?;
-    above.sort_unstable_by_key(|pair| pair.0);
+    let named = guards(alloc, parts)?;
+    let guards = index_pairs(alloc, named)?;
+    let having = ways_above(alloc, parts)?;
+    let above = index_pairs(alloc, having)?;
     Ok(WayIndex {
         order,
         places,
@@ -63,19 +64,25 @@ fn guards(alloc: Global, parts: &GtsParts) -> Result<Vec<(u32, u32)>, Memory>
     requires { IsSound parts.now }
     ensures { IfOk result (λ pairs. AreGuards parts.now (length parts.now.ways.items) pairs.items) }
 {
+    let mut names = Vec::new(alloc);
     let mut pairs = Vec::new(alloc);
     for (n, way) in parts.ways.iter().enumerate() {
-        add_guards(&way.body, n as u32, &mut pairs)?;
+        add_guards(&way.body, n as u32, &mut names, &mut pairs)?;
     }
     Ok(pairs)
 }
 
-// Adds the pairs of a way.
-fn add_guards(body: &WayBody, n: u32, pairs: &mut Vec<(u32, u32)>) -> Result<(), Memory>
+// Adds the pairs of a way; the variables that its guard names are gathered in `names`, in place of what it has.
+fn add_guards(
+    body: &WayBody,
+    n: u32,
+    names: &mut Vec<VarId>,
+    pairs: &mut Vec<(u32, u32)>,
+) -> Result<(), Memory>
     ensures { IfOk result (λ _. AddsGuards body.now n pairs.old.items pairs.new.items) }
 {
     match body {
-        WayBody::Local(guard, _) => add_named(guard, n, pairs),
+        WayBody::Local(guard, _) => add_named_pairs(guard, n, names, pairs),
         WayBody::Sync(_) => Ok(()),
     }
 }

@@ -10,7 +10,7 @@ ghost use Rattle.way_flags.specs.Renewing.{WaitsAt, IsPlaceOf};
 
 use crate::index::WayIndex;
 use ar_base::{Memory, VarId, WayId};
-use number_pairs::paired;
+use number_pairs::paired_by;
 use std::alloc::Global;
 use std::collections::BTreeSet;
 
@@ -51,10 +51,10 @@ pub(crate) fn first_waiting(
     changed: &[VarId],
 ) -> Result<BTreeSet<usize>, Memory>
     requires { (p : Parts) × IsWayIndex p index.now }
-    ensures { IfOk result (λ waiting. (q : ℕ) → WaitsAt waiting q ↔ IsPlaceOf index.now.places.items (IsPaired index.now.guards.items (map (λ (x : Variables). x.n) changed.now)) q) }
+    ensures { IfOk result (λ waiting. (q : ℕ) → WaitsAt waiting q ↔ IsPlaceOf index.now.places.items (IsPaired index.now.guards.pairs.items (map (λ (x : Variables). x.n) changed.now)) q) }
 {
     let numbers = numbers_of(alloc, changed)?;
-    let ways = paired(alloc, &index.guards, &numbers)?;
+    let ways = paired_by(alloc, &index.guards, &numbers)?;
     let mut waiting = BTreeSet::new(alloc);
     add_ways(&mut waiting, &index.places, &ways)?;
     Ok(waiting)
@@ -79,8 +79,8 @@ pub(crate) fn add_above(
     waiting: &mut BTreeSet<usize>,
 ) -> Result<(), Memory>
     requires { (p : Parts) × IsWayIndex p index.now }
-    ensures { OnOk result ((q : ℕ) → WaitsAt waiting.new q ↔ (WaitsAt waiting.old q ⊎ IsPlaceOf index.now.places.items (λ n. IsOneOf index.now.above.items (way.n, n)) q)) }
+    ensures { OnOk result ((q : ℕ) → WaitsAt waiting.new q ↔ (WaitsAt waiting.old q ⊎ IsPlaceOf index.now.places.items (λ n. IsOneOf index.now.above.pairs.items (way.n, n)) q)) }
 {
-    let ways = paired(alloc, &index.above, &[way.n])?;
+    let ways = paired_by(alloc, &index.above, &[way.n])?;
     add_ways(waiting, &index.places, &ways)
 }

@@ -45,14 +45,3 @@ pub says_as : (rows : Rows) (P Q : GtsParts → Type 0) (r : Result Bool Memory)
     → IfOk r (Says rows P) → IfOk r (Says rows Q)
 says_as rows P Q (Ok b) f h = λ p a. f p a b (h p a)
 says_as rows P Q (Err e) f h = tt
-
--- what holds at a place and at none before it holds first there
-pub first_place : (P : ℕ → Type 0) (n : ℕ) → P n → ((k : ℕ) → k < n → P k → ⊥) → P n × ((k : ℕ) → P k → n ≤ k)
-first_place P n h before = (h, λ k q. by k q (order k n))
-  where
-    by : (k : ℕ) → P k → (k < n) ⊎ (n ≤ k) → n ≤ k
-    by k q (inl l) = absurd (before k l q)
-    by k q (inr l) = l
-
-    order : (k n : ℕ) → (k < n) ⊎ (n ≤ k)
-    order k n = grind arith

@@ -1,9 +1,11 @@
 -- Assignments with too many possible values, and the least of their targets.
 use Rattle.std.proofs.Common.{◌≡◌, ◌≤◌, ◌+◌, ◌⊎◌, inl, inr, ℕ, Bool, true, false, cond, nat_lt, length, Option, Some, None, Result, Ok, Err, IfOk, refl, sym, ap, ◌∙◌, subst, arith}
 use Rattle.std.proofs.lemmas.Bool.Decides.{nat_tests}
+use Rattle.std.proofs.lemmas.Bool.{ltb-false}
 use Rattle.ar_base.specs.Lists.{Stands, IsOneOf}
 use Rattle.ar_base.specs.declared.faults.Memory.{Memory}
 use Rattle.ar_base.proofs.Standing.{stands_one, stands_within, stands_map, stands_map_back, at_most}
+use Rattle.ar_base.proofs.Comparing.{low}
 use Rattle.typed_expr.specs.Possible.{IsWide}
 use Rattle.typed_expr.specs.declared.expr.Expr.{Expr, out-Expr}
 use Rattle.ar_meaning.specs.Systems as s
@@ -30,12 +32,6 @@ assign_wide p a false n h = λ w. elim (parts_of p (assign_of a) w) [
   | inr c ↦ (let k = stands_map_back condition_of a.when.items c.1.place c.0 c.1.stands in
       h (record { condition = k.0; is_one = record { place = c.1.place; stands = k.1 }; wide = subst (λ (z : Expr ℕ × Bool). IsWide (Allows (net_of p)) 64 (out-Expr ℕ z.0)) (sym k.2) c.2 }))
 ]
-
-low : (m n : ℕ) → nat_lt m n ≡ true → m ≤ n
-low m n e = grind (arith, nat_tests)
-
-high : (m n : ℕ) → nat_lt m n ≡ false → n ≤ m
-high m n e = grind (arith, nat_tests)
 
 module _ (p : GtsParts) where
   pub flows_start : IsLeast (IsWideFlow p 0) None
@@ -66,7 +62,7 @@ module _ (p : GtsParts) where
         where
           test : (c : Bool) → nat_lt a.target.n m ≡ c → IsLeast (IsWideFlow p (i + 1)) (Some (cond c a.target.n m))
           test true t = (this w, λ k q. elim (split k q) [ inl o ↦ (let u = h.1 k o in let v = low a.target.n m t in omega arith) | inr o ↦ (let u = o.0 in omega arith) ])
-          test false t = (grow m h.0, λ k q. elim (split k q) [ inl o ↦ h.1 k o | inr o ↦ (let u = o.0 in let v = high a.target.n m t in omega arith) ])
+          test false t = (grow m h.0, λ k q. elim (split k q) [ inl o ↦ h.1 k o | inr o ↦ (let u = o.0 in let v = ltb-false a.target.n m t in omega arith) ])
 
 module _ (p : GtsParts) where
   all_below : (count n : ℕ) → IsWideFlow p count n → IsWideFlow p (length p.assigns.items) n

@@ -4,6 +4,7 @@ use Rattle.std.specs.List.{AllByRecursion}
 use Rattle.ar_base.specs.Lists.{Stands, IsOneOf}
 use Rattle.ar_base.specs.Sets.{Ascends}
 use Rattle.ar_base.proofs.Standing.{one_here, stands_none}
+use Rattle.ar_base.proofs.Sets.{ascends_rest}
 
 -- the members ascend, in a form that computes
 abbrev pub IsAscending : List ℕ → Type 0
@@ -33,13 +34,10 @@ ascends_cons x s above up = record { ascends = λ j k a b l p q. by j k a b l p 
 pub ascends_head : (x : ℕ) (s : List ℕ) → Ascends (x ∷ s) → AllByRecursion (λ y. x < y) s
 ascends_head x s up = each_from x s (λ e i. up.ascends 0 (suc i.place) x e (omega arith) refl i.stands)
 
-pub ascends_tail : (x : ℕ) (s : List ℕ) → Ascends (x ∷ s) → Ascends s
-ascends_tail x s up = record { ascends = λ j k a b l p q. up.ascends (suc j) (suc k) a b (omega (arith, l)) p q }
-
 -- both forms say the same
 pub is_ascending : (s : List ℕ) → Ascends s → IsAscending s
 is_ascending [] up = tt
-is_ascending (x ∷ s) up = (ascends_head x s up, is_ascending s (ascends_tail x s up))
+is_ascending (x ∷ s) up = (ascends_head x s up, is_ascending s (ascends_rest x s up))
 
 pub ascends_from : (s : List ℕ) → IsAscending s → Ascends s
 ascends_from [] a = ascends_nil

@@ -2,10 +2,11 @@
 use Rattle.std.proofs.Common.{◌≡◌, ◌≢◌, ℕ, ◌≤◌, Bool, true, false, not, ◌||◌, eqb, List, [], ◌∷◌, refl, sym, ap, ap₂, ◌∙◌, subst, arith, eqb-true, true≢false, cond, map, filter, ◌++◌, ◌<◌, ◌⊎◌, inl, inr}
 use Rattle.std.specs.List.{AllByRecursion, list_any}
 use Rattle.std.proofs.lemmas.Bool.{cases_lt}
+use Rattle.ar_base.proofs.Sets.{ascends_rest}
 use Rattle.zdd_families.specs.Families.{Family, holds, node, IsAbove, minimal}
 use Rattle.zdd_families.specs.Sections.{section, IsCounted, IsPart, IsLeast, upper, lower, IsHalf, IsSetBelow}
 use Rattle.zdd_families.specs.Sections.IsHalf.{of_minimal, of_halves}
-use Rattle.zdd_families.proofs.Ascending.{ascends_nil, ascends_cons, ascends_head, ascends_tail}
+use Rattle.zdd_families.proofs.Ascending.{ascends_nil, ascends_cons, ascends_head}
 use Rattle.zdd_families.proofs.Laws.{IsAbove_set, IsAbove-node, above_less, eqb-refl, eqb-above, filter-node, filter-none, filter-all, every, each_of, holds_here, holds-above, minimal-nil}
 use Rattle.zdd_families.proofs.Sections.{AtLeast, section-whole, section-low, section-above, section-with, section-without, deep, counted_nil}
 use Rattle.zdd_families.proofs.Minimal.{witness, member_of}
@@ -27,11 +28,11 @@ at_least_node v f0 [] a b = each_of (IsAbove_set v) (AtLeast v) (at_least_set v)
 at_least_node v f0 (s ∷ f1) a b = ((omega arith, at_least_set v s b.0), at_least_node v f0 f1 a b.1)
 
 -- v is not in a set above it, and is taken off again where it was added
-keeps_above : (v : ℕ) (s : List ℕ) → IsAbove_set v s → filter (λ x. not (eqb v x)) s ≡ s
+pub keeps_above : (v : ℕ) (s : List ℕ) → IsAbove_set v s → filter (λ x. not (eqb v x)) s ≡ s
 keeps_above v [] a = refl
 keeps_above v (x ∷ s) a = ap (λ b. cond (not b) (x ∷ filter (λ x. not (eqb v x)) s) (filter (λ x. not (eqb v x)) s)) (eqb-above v x a.0) ∙ ap (λ t. x ∷ t) (keeps_above v s a.1)
 
-taken_off : (v : ℕ) (f : Family) → IsAbove v f → map (filter (λ x. not (eqb v x))) (map (λ s. v ∷ s) f ++ []) ≡ f
+pub taken_off : (v : ℕ) (f : Family) → IsAbove v f → map (filter (λ x. not (eqb v x))) (map (λ s. v ∷ s) f ++ []) ≡ f
 taken_off v [] a = refl
 taken_off v (s ∷ f) a = ap₂ (λ t g. t ∷ g)
     (ap (λ b. cond (not b) (v ∷ filter (λ x. not (eqb v x)) s) (filter (λ x. not (eqb v x)) s)) (eqb-refl v) ∙ keeps_above v s a.0)
@@ -118,7 +119,7 @@ module _ (v : ℕ) (f0 f1 : Family) (a0 : IsAbove v f0) (a1 : IsAbove v f1) wher
               inr (inr (record {
                 at = c.at;
                 taken = p;
-                taken_below = (ascends_tail x p u.0, u.1.1);
+                taken_below = (ascends_rest x p u.0, u.1.1);
                 is = same_section ∙ section-with v c.at p f0 f1 (omega (arith, is, u.1.0)) a0;
                 not_empty = c.not_empty;
                 not_unit = c.not_unit;

@@ -349,7 +349,7 @@ meet-filters p q f = filter_twice f (has_as f)
     filter_twice (s ∷ h) a = elim (p s) as (λ b. filter (has (filter q f)) (cond b (s ∷ filter p h) (filter p h)) ≡ cond (b && q s) (s ∷ filter (λ s. p s && q s) h) (filter (λ s. p s && q s) h))
         [ true ↦ ap₂ (λ b x. cond b (s ∷ x) x) a.0 (filter_twice h a.1) | false ↦ filter_twice h a.1 ]
 
-not-or : (a b : Bool) → not (a || b) ≡ (not b && not a)
+pub not-or : (a b : Bool) → not (a || b) ≡ (not b && not a)
 not-or true true = refl
 not-or true false = refl
 not-or false true = refl
@@ -380,7 +380,7 @@ within_each : (s t : List ℕ) → AllByRecursion (λ x. holds x t ≡ true) s �
 within_each [] t a = refl
 within_each (x ∷ s) t a = ap₂ (λ b c. b && c) a.0 (within_each s t a.1)
 
-holds_more : (x y : ℕ) (t : List ℕ) → holds x t ≡ true → holds x (y ∷ t) ≡ true
+pub holds_more : (x y : ℕ) (t : List ℕ) → holds x t ≡ true → holds x (y ∷ t) ≡ true
 holds_more x y t h = elim (eqb x y) as (λ b. (b || holds x t) ≡ true) [ true ↦ refl | false ↦ h ]
 
 each_held : (s : List ℕ) → AllByRecursion (λ x. holds x s ≡ true) s

@@ -7,3 +7,4 @@ pub mod Gates
 pub mod Members
 pub mod OneList
 pub mod Filters
+pub mod Behind

@@ -8,6 +8,7 @@ use Rattle.std.proofs.lemmas.Bool.Decides.{nat_tests}
 use Rattle.ar_base.specs.Lists.{IsOneOf}
 use Rattle.ar_base.specs.Sets.{Ascends, IsBefore}
 use Rattle.ar_base.proofs.Standing.{one_none, one_first, one_rest, one_cases}
+use Rattle.ar_base.proofs.Comparing.{three}
 use Rattle.zdd_families.specs.Families.{Family, order, same, holds, within, has, union, place, meet, minus, having, without, minimal}
 use Rattle.zdd_families.proofs.Ascending.{IsAscending, is_ascending}
 use Rattle.zdd_families.proofs.Laws.{same-true, same-refl}
@@ -69,9 +70,6 @@ cmp_greater x y h = grind (arith, nat_tests)
 
 cmp_same : (x : ℕ) → nat_cmp x x ≡ Equal
 cmp_same x = let h : nat_lt x x ≡ false = grind (arith, nat_tests) in ap₂ (λ b c. cond b Less (cond c Equal Greater)) h (eq-eqb x x refl)
-
-three : (x y : ℕ) → (x < y) ⊎ ((x ≡ y) ⊎ (y < x))
-three x y = grind arith
 
 then_is : (a b c : Ordering) → a ≡ b → ordering_then a c ≡ ordering_then b c
 then_is a b c e = ap (λ o. ordering_then o c) e

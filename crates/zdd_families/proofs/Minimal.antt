@@ -4,6 +4,7 @@ use Rattle.std.proofs.Math.Bool.{and-true}
 use Rattle.std.proofs.lemmas.Bool.{and_parts}
 use Rattle.std.proofs.lemmas.List.Folds.{list_any-append}
 use Rattle.ar_base.specs.Sets.{Ascends}
+use Rattle.ar_base.proofs.Truths.{alike}
 use Rattle.zdd_families.specs.Families.{Family, same, holds, within, has, node, IsAbove, without, minimal}
 use Rattle.zdd_families.proofs.Ascending.{IsAscending, is_ascending}
 use Rattle.zdd_families.proofs.Laws.{IsAbove_set, filter-node, filter_alike, every, each_of, same-refl, same-true, list_any-alike, list_any-map, within-more, within-both, within-not, same-with, same-under, any_more, has-filter-yes, within-refl, list_any-none}
@@ -98,12 +99,6 @@ any-filter p q (s ∷ f) h = step (any-filter p q f) (q s) refl
         first false x k = any_more p s f (ih (ap (λ b. b || list_any p (filter q f)) (sym x) ∙ k))
     step ih false e = any_more p s f (ih (ap (λ b. list_any p (cond b (s ∷ filter q f) (filter q f))) (sym e) ∙ h))
 
-bool_same : (a b : Bool) → (a ≡ true → b ≡ true) → (b ≡ true → a ≡ true) → a ≡ b
-bool_same true true f g = refl
-bool_same true false f g = sym (f refl)
-bool_same false true f g = g refl
-bool_same false false f g = refl
-
 abbrev pub proper : List ℕ → List ℕ → Bool
 proper t s = within t s && not (same t s)
 
@@ -130,7 +125,7 @@ unfolding minimal
 any-minimal p f h = any-filter p (λ s. not (list_any (λ t. proper t s) f)) f h
 
 pub any_within-minimal : (f : Family) → AllByRecursion Ascends f → (s : List ℕ) → list_any (λ t. within t s) f ≡ list_any (λ t. within t s) (minimal f)
-any_within-minimal f a s = bool_same _ _
+any_within-minimal f a s = alike _ _
     (λ h. let w = witness (λ t. within t s) f h in
     let m = some_minimal f a (suc (length w.set)) w.set (omega arith) w.in_family in
     any_from (λ t. within t s) (minimal f) m.set m.in_family (within-through m.set w.set s m.passes w.passes))

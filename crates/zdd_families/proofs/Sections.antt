@@ -1,5 +1,5 @@
 use Rattle.std.proofs.Common.{◌≡◌, ◌≢◌, ℕ, suc, ◌<◌, ◌≤◌, Bool, true, false, cond, ◌||◌, eqb, List, [], ◌∷◌, ◌++◌, length, map, drop, refl, sym, ap, ap₂, ◌∙◌, subst, arith, ⊎_elim, ◌⊎◌, inl, inr, filter, nat_lt, lt-ltb, zero-le, true≢false, eqb-true, eq-eqb}
-use Rattle.std.proofs.lemmas.Bool.{and_parts}
+use Rattle.std.proofs.lemmas.Bool.{and_parts, lt-ltb}
 use Rattle.std.specs.List.{AllByRecursion}
 use Rattle.std.proofs.lemmas.Bool.Decides.{nat_tests}
 use Rattle.ar_base.specs.Sets.{Ascends}
@@ -14,9 +14,6 @@ AtLeast i s = AllByRecursion (λ x. i ≤ x) s
 
 not_below : (i x : ℕ) → i ≤ x → nat_lt x i ≡ false
 not_below i x h = grind (arith, nat_tests)
-
-is_below : (v i : ℕ) → v < i → nat_lt v i ≡ true
-is_below v i h = lt-ltb v i h
 
 pub below-low : (i : ℕ) (s : List ℕ) → AtLeast i s → below i s ≡ []
 below-low i [] a = refl
@@ -45,7 +42,7 @@ section-low i f a = ap (map (drop 0)) (filter-all (λ s. same (below i s) []) f 
 pub section-whole : (f : Family) → section 0 [] f ≡ f
 section-whole f = section-low 0 f (every (AtLeast 0) at_least_zero f)
 
-section-low_none : (i x : ℕ) (p : List ℕ) (f : Family) → AllByRecursion (AtLeast i) f → section i (x ∷ p) f ≡ []
+pub section-low_none : (i x : ℕ) (p : List ℕ) (f : Family) → AllByRecursion (AtLeast i) f → section i (x ∷ p) f ≡ []
 unfolding section
 section-low_none i x p f a = ap (map (drop (length (x ∷ p)))) (filter-none (λ s. same (below i s) (x ∷ p)) f (each_of (AtLeast i) (λ s. same (below i s) (x ∷ p) ≡ false) (λ s k. ap (λ y. same y (x ∷ p)) (below-low i s k)) f a))
 
@@ -60,7 +57,7 @@ section-with v i p lo hi h a =
     ap (map (drop (suc (length p)))) (filter-node v q lo hi ∙ ap₂ (node v)
     (filter-none q lo (each_of (IsAbove_set v) (λ s. q s ≡ false) (λ s k. same-under v (below i s) p (below-above v i s k)) lo a))
     (filter_alike (λ s. q (v ∷ s)) (λ s. same (below i s) p) hi (every (λ s. q (v ∷ s) ≡ same (below i s) p)
-    (λ s. ap (λ b. same (cond b (v ∷ below i s) (below i s)) (v ∷ p)) (is_below v i h) ∙ same-with v (below i s) p) hi)))
+    (λ s. ap (λ b. same (cond b (v ∷ below i s) (below i s)) (v ∷ p)) (lt-ltb v i h) ∙ same-with v (below i s) p) hi)))
     ∙ map_drop-with v (length p) (filter (λ s. same (below i s) p) hi)
 
 pub section-without : (v i : ℕ) (p : List ℕ) (lo hi : Family) → v < i → IsAbove_set v p → section i p (node v lo hi) ≡ section i p lo
@@ -68,7 +65,7 @@ unfolding section
 section-without v i p lo hi h a =
     let q = λ (s : List ℕ). same (below i s) p in
     ap (map (drop (length p))) (filter-node v q lo hi ∙ ap (node v (filter q lo))
-    (filter-none (λ s. q (v ∷ s)) hi (every (λ s. q (v ∷ s) ≡ false) (λ s. ap (λ b. same (cond b (v ∷ below i s) (below i s)) p) (is_below v i h) ∙ same-above v (below i s) p a) hi)))
+    (filter-none (λ s. q (v ∷ s)) hi (every (λ s. q (v ∷ s) ≡ false) (λ s. ap (λ b. same (cond b (v ∷ below i s) (below i s)) p) (lt-ltb v i h) ∙ same-above v (below i s) p a) hi)))
 
 same-above_all : (v : ℕ) (s p : List ℕ) → IsAbove_set v s → same s p ≡ true → IsAbove_set v p
 same-above_all v [] [] a h = tt
@@ -127,7 +124,7 @@ IsCounted-upper v lo hi h a b c =
     record { at = d.at; taken = v ∷ d.taken; taken_below = (ascends_cons v d.taken d.above d.under.0, (d.after, d.under.1)); is = d.is ∙ sym (section-with v d.at d.taken lo hi d.after a); not_empty = c.not_empty; not_unit = c.not_unit }
 
 -- ---- Parts
-section-nil : (i : ℕ) (p : List ℕ) → section i p [] ≡ []
+pub section-nil : (i : ℕ) (p : List ℕ) → section i p [] ≡ []
 unfolding section
 section-nil i p = refl
 

@@ -5,6 +5,7 @@ use Rattle.std.proofs.lemmas.Bool.{and_parts}
 use Rattle.std.proofs.lemmas.Option.{slice_get_within, slice_get-get_or, get_or_from_slice_get}
 use Rattle.ar_base.specs.Lists.{AreDifferent}
 use Rattle.ar_base.specs.declared.numbers.Id.{Id}
+use Rattle.ar_base.proofs.Comparing.{id_from}
 use Rattle.zdd_families.specs.Families.{Family, node, IsAbove, IsFamily}
 use Rattle.zdd_nodes.specs.Nodes.{NodeId, all_of, at, IsNode}
 use Rattle.zdd_nodes.specs.Kept.{grown, families_of, node_eq, IsStore}
@@ -58,10 +59,6 @@ IsStore-new limit h = record {
   within_limit = omega arith;
   limit_small = h;
 }
-
--- equal numbers of one kind
-pub id_from : {K : Type 0} (a b : Id K) → a.n ≡ b.n → a ≡ b
-id_from a b e = ap (λ n. record { n = n; of = a.of }) e
 
 node_from : (a b : Node) → a.event ≡ b.event → a.lo ≡ b.lo → a.hi ≡ b.hi → a ≡ b
 node_from a b p q r =

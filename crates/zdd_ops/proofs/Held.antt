@@ -3,10 +3,10 @@ use Rattle.std.proofs.Common.{◌≡◌, ℕ, ◌+◌, ◌<◌, Bool, true, fals
 use Rattle.std.proofs.Math.Bool.{and-true}
 use Rattle.std.proofs.lemmas.Bool.{and_parts}
 use Rattle.std.specs.Map.{lookup}
+use Rattle.ar_base.proofs.Comparing.{id_from}
 use Rattle.zdd_families.specs.Families.{Family, having, without, minimal}
 use Rattle.zdd_nodes.specs.Nodes.{NodeId, Stored, at, Grows}
 use Rattle.zdd_nodes.proofs.Growing.{kept, still}
-use Rattle.zdd_nodes.proofs.Stored.{id_from}
 use Rattle.zdd_ops.specs.declared.memo.Join.{Join}
 use Rattle.zdd_ops.specs.declared.memo.Join.TheVariants.{Union, Meet, Minus}
 use Rattle.zdd_ops.specs.declared.memo.Operation.{Operation}

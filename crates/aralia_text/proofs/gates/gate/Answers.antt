@@ -1,5 +1,6 @@
+use Rattle.ar_base.proofs.Results.{ok_map}
 use Rattle.aralia_text.proofs.GateLines.{no_header, line_read, line_stuck}
-use Rattle.aralia_text.proofs.Results.{ok_map, err_map, stop_is}
+use Rattle.aralia_text.proofs.Results.{err_map, stop_is}
 use Rattle.aralia_text.proofs.gates.gate.Goals as goal
 
 pub returns-in_err-behind-clause-stuck : goal.returns-in_err-behind-clause-stuck

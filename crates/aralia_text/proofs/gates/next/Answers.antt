@@ -1,8 +1,9 @@
 use Rattle.std.proofs.Common.{List, ℕ, ◌++◌, ap, ◌∙◌, subst}
+use Rattle.ar_base.proofs.Results.{ok_map}
 use Rattle.eq_core.specs.Views.{all_needed, operand_of}
 use Rattle.aralia_text.specs.Texts.{operand_text, joint_text}
 use Rattle.aralia_text.specs.Fronts.{IsOperandAt, Stops, IsStuckIn}
-use Rattle.aralia_text.proofs.Results.{err_is, ok_map, err_map}
+use Rattle.aralia_text.proofs.Results.{err_is, err_map}
 use Rattle.aralia_text.proofs.Stuck.{no_prefix, prefixed_stuck, prefixed_read}
 use Rattle.aralia_text.proofs.gates.next.Goals as goal
 

@@ -1,5 +1,6 @@
 use Rattle.std.proofs.Common.{sym, ◌∙◌}
-use Rattle.aralia_text.proofs.Results.{ok_map, err_map, err_is}
+use Rattle.ar_base.proofs.Results.{ok_map}
+use Rattle.aralia_text.proofs.Results.{err_map, err_is}
 use Rattle.aralia_text.proofs.Tables.{always_read, never_read, always_stuck, never_stuck, other_read, other_stuck}
 use Rattle.aralia_text.proofs.reading.last_operand.Goals as goal
 

@@ -1,4 +1,5 @@
 use Rattle.std.proofs.Common.{List, Option, Box, Global, ◌∙◌, sym, ap, subst}
+use Rattle.ar_base.proofs.Results.{ok_map}
 use Rattle.ar_syntax.specs.declared.instructions.Instr.{Instr, out-Instr}
 use Rattle.ar_syntax.specs.declared.instructions.Instr.TheOpen as instr
 use Rattle.ar_syntax.proofs.Opened as opened
@@ -30,7 +31,7 @@ acted-returns-in-None g t c =
     let leaves = (g.L.Leaves.leaf_at c.args.leaves.now) in
     let q = opened.instr-if _ _ _ _ c.in-If.is ∙ ap (λ (z : Option (Box Instr Global)). instr.If c.in-If.test c.in-If.first z) c.in-None.is in
     let h = subst (λ (i : Instr). ActsAs leaves (out-Instr i) c.in_ok-here-in-If.here) c.deref.ensures c.in_ok-here-in-If.ensures in
-    form.ok_as c.conditional.result (λ a k. form.if_acted leaves c.args.instr.now c.in-If.test c.in-If.first c.in_ok-bound-in-If.bound c.in_ok-here-in-If.here a q c.in_ok-bound-in-If.ensures h k) c.conditional.ensures
+    ok_map c.conditional.result (λ a k. form.if_acted leaves c.args.instr.now c.in-If.test c.in-If.first c.in_ok-bound-in-If.bound c.in_ok-here-in-If.here a q c.in_ok-bound-in-If.ensures h k) c.conditional.ensures
 
 pub acted-returns-in_ok-there-in-Some : goal.acted-returns-in_ok-there-in-Some
 acted-returns-in_ok-there-in-Some g t c =
@@ -38,7 +39,7 @@ acted-returns-in_ok-there-in-Some g t c =
     let q = opened.instr-if _ _ _ _ c.in-If.is ∙ ap (λ (z : Option (Box Instr Global)). instr.If c.in-If.test c.in-If.first z) c.in-Some.is in
     let h = subst (λ (i : Instr). ActsAs leaves (out-Instr i) c.in_ok-here-in-If.here) c.deref.ensures c.in_ok-here-in-If.ensures in
     let m = subst (λ (i : Instr). ActsAs leaves (out-Instr i) c.in_ok-there-in-Some.there) c.deref-in-Some.ensures c.in_ok-there-in-Some.ensures in
-    form.ok_as c.conditional-in-Some.result
+    ok_map c.conditional-in-Some.result
     (λ a k. form.if_else_acted leaves c.args.instr.now c.in-If.test c.in-If.first c.in-Some.other c.in_ok-bound-in-If.bound c.in_ok-here-in-If.here c.in_ok-there-in-Some.there a q c.in_ok-bound-in-If.ensures h m k)
     c.conditional-in-Some.ensures
 

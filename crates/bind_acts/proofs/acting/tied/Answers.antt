@@ -1,6 +1,7 @@
 use Rattle.std.proofs.Common.{sym, ◌∙◌}
+use Rattle.ar_base.proofs.Results.{ok_map}
 use Rattle.bind_acts.specs.Acting.{tie, no_left, no_right}
-use Rattle.bind_acts.proofs.ActedForms.{opened_skip, ok_as}
+use Rattle.bind_acts.proofs.ActedForms.{opened_skip}
 use Rattle.bind_acts.proofs.acting.tied.Goals as goal
 
 pub returns-in-Constant : goal.returns-in-Constant
@@ -11,4 +12,4 @@ returns-in-Constant-leaf g c = no_right c.in-Constant-leaf.field-0 (sym c.leaf-i
 
 pub returns-in-Variable-leaf : goal.returns-in-Variable-leaf
 returns-in-Variable-leaf g c =
-    ok_as c.both.result (λ a h. tie c.in-Variable.first c.in-Variable-leaf.second (sym c.leaf.ensures ∙ c.in-Variable.is) (sym c.leaf-in-Variable.ensures ∙ c.in-Variable-leaf.is) h) c.both.ensures
+    ok_map c.both.result (λ a h. tie c.in-Variable.first c.in-Variable-leaf.second (sym c.leaf.ensures ∙ c.in-Variable.is) (sym c.leaf-in-Variable.ensures ∙ c.in-Variable-leaf.is) h) c.both.ensures

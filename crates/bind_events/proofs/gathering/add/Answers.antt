@@ -1,7 +1,7 @@
 use Rattle.std.proofs.Common.{[], ◌∷◌}
+use Rattle.std.proofs.lemmas.Result.{on_ok_weaker}
 use Rattle.ar_base.proofs.Standing.{one_first}
 use Rattle.ar_syntax.specs.declared.members.Member.{out-Member}
-use Rattle.bind_scopes.proofs.NameSets.{on_ok_next}
 use Rattle.bind_events.proofs.Gathered.{members_idle, members_named, members_unnamed, no_way}
 use Rattle.bind_events.proofs.gathering.add.Goals as goal
 
@@ -20,7 +20,7 @@ returns-in_ok-way-in-Some-event_at c = λ m units u st at mem.
     let f = out-Member c.args.member.now in
     let found = c.in-Some-event_at.ensures m units u st.are.is_tree at in
     let way = c.in_ok-way-in-Some-event_at.ensures m units u st at (mem f (one_first f [])) in
-    on_ok_next c.put.result
+    on_ok_weaker c.put.result
     (λ p. members_named m units c.args.scopes.now.tree.now st.are.is_tree u f c.in-Some.name.n c.in_ok-way-in-Some-event_at.way c.in-Some-event_at.event.n c.args.events.now.items c.put.new.events.items found.0 found.1
     found.2 c.in-Some.ensures way p)
     c.put.ensures

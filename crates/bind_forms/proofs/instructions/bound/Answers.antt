@@ -1,5 +1,5 @@
+use Rattle.ar_base.proofs.Results.{ok_map}
 use Rattle.ar_syntax.specs.declared.instructions.Instr.{out-Instr}
-use Rattle.bind_acts.proofs.ActedForms.{ok_as}
 use Rattle.bind_values.specs.declared.leaves.UnitLeaves.{UnitLeaves}
 use Rattle.bind_forms.proofs.Acting.{instruction_bound, instruction_sound}
 use Rattle.bind_forms.proofs.Settling.{settled_leaves}
@@ -10,4 +10,4 @@ returns c = λ m units u to_state s at keeps.
     let leaves : UnitLeaves = record { scopes = c.args.scopes; unit = c.args.unit; parameters = c.deref.result } in
     let h = settled_leaves leaves c.args.values.now s at c.deref.ensures.value in
     let whole = out-Instr c.args.written.now in
-    ok_as c.acted.result (λ a x. (instruction_bound h to_state whole a keeps x, instruction_sound h to_state whole a (c.has_full.ensures c.if-not-has_full.false) keeps x)) c.acted.ensures
+    ok_map c.acted.result (λ a x. (instruction_bound h to_state whole a keeps x, instruction_sound h to_state whole a (c.has_full.ensures c.if-not-has_full.false) keeps x)) c.acted.ensures

@@ -1,4 +1,5 @@
-use Rattle.bind_rules.proofs.Valued.{not_valued, not_read, is_read, parameter_scope, parameter_attribute, parameter_of_kind, parameter_earliest}
+use Rattle.ar_base.proofs.Truths.{not_read, is_read}
+use Rattle.bind_rules.proofs.Valued.{not_valued, parameter_scope, parameter_attribute, parameter_of_kind, parameter_earliest}
 use Rattle.bind_rules.proofs.values.in_parameter.Goals as goal
 
 pub returns-then-not-is_read : goal.returns-then-not-is_read

@@ -1,7 +1,8 @@
 use Rattle.std.proofs.Common.{sym, refl, arith}
 use Rattle.ar_base.proofs.Standing.{along_length, stands_within}
+use Rattle.ar_base.proofs.Results.{ok_map}
 use Rattle.bind_scopes.proofs.NamedPaths.{kind_one}
-use Rattle.bind_values.proofs.ValuesRight.{ok_more, value_right}
+use Rattle.bind_values.proofs.ValuesRight.{value_right}
 use Rattle.bind_values.proofs.computing.value_in.Goals as goal
 
 pub returns-in_default : goal.returns-in_default
@@ -18,5 +19,5 @@ returns-then-value-len c = λ m units t n are kept has h first names.
 pub returns : goal.returns
 returns c = λ m units t n are kept has h first names.
     let w = c.in-Some.ensures.in_force m units t c.args.value are.is_tree.table.table refl h in
-    ok_more c.computed.result
+    ok_map c.computed.result
     (λ v r. value_right are kept t has n c.args.parameters.now first names w.0 w.1 c.args.value.from.n w.2.unit c.in-Some.expr.now r.0 v (kind_one refl (sym w.3)) r.1 r.2) c.computed.ensures

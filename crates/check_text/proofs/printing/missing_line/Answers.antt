@@ -2,8 +2,9 @@ use Rattle.std.proofs.Common.{◌&&◌, Bool, ap, sym, ◌∙◌}
 use Rattle.ar_io.proofs.Writing.{writes_exit, writes_on, writes_cut, writes_as}
 use Rattle.min_cuts.specs.Kept.{numbers}
 use Rattle.cut_check.specs.Flat.{chain_lines}
-use Rattle.check_text.proofs.Listing.{listed_yes, listed_not, missing_none, missing_some, and_true, and_false, on_ok}
+use Rattle.check_text.proofs.Listing.{listed_yes, listed_not, missing_none, missing_some, and_false, on_ok}
 use Rattle.check_text.proofs.printing.missing_line.Goals as goal
+use Rattle.eq_core.proofs.Telling.{and_true}
 
 pub returns-then-is_listed-clause-text : goal.returns-then-is_listed-clause-text
 returns-then-is_listed-clause-text g c =

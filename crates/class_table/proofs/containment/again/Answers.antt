@@ -1,6 +1,7 @@
 use Rattle.std.proofs.Common.{ℕ, Option, Some, sym, ◌∙◌, ap}
+use Rattle.std.proofs.lemmas.Option.{same_Some}
 use Rattle.ar_base.specs.declared.places.Place.{Place}
-use Rattle.class_table.proofs.Enclosing.{again_none, again_there, again_not, some_same}
+use Rattle.class_table.proofs.Enclosing.{again_none, again_there, again_not}
 use Rattle.class_table.proofs.containment.again.Goals as goal
 
 pub returns-in-None : goal.returns-in-None
@@ -8,7 +9,7 @@ returns-in-None c = λ d known. again_none d _ _ (λ k p e. let g = c.in-None.en
 
 pub returns-in-None-at : goal.returns-in-None-at
 returns-in-None-at c = λ d known. again_none d _ _ (λ k p e.
-    let f = some_same _ _ (c.in-Some.ensures d known.known ∙ e) in
+    let f = same_Some _ _ (c.in-Some.ensures d known.known ∙ e) in
     let g = sym c.in-None-at.is ∙ ap (λ (z : ℕ × Option Place). z.1) f in cc)
 
 pub returns-then-branch : goal.returns-then-branch

@@ -1,6 +1,7 @@
 use Rattle.std.proofs.Common.{rules, w64, SFits}
 use Rattle.std.proofs.lemmas.Int.{to_z-of_z}
-use Rattle.class_table.proofs.FirstItems.{body_range, body_symbols, ok_map}
+use Rattle.ar_base.proofs.Results.{ok_map}
+use Rattle.class_table.proofs.FirstItems.{body_range, body_symbols}
 use Rattle.class_table.proofs.items.is_no_domain.Goals as goal
 
 pub returns-in-Range : goal.returns-in-Range

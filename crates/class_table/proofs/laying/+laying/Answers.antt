@@ -1,9 +1,9 @@
 use Rattle.std.proofs.Common.{◌≡◌, refl, sym, ◌∙◌, ap, arith, length}
 use Rattle.std.proofs.lemmas.List.{take_at}
+use Rattle.ar_base.proofs.Results.{ok_map}
 use Rattle.ar_syntax.specs.declared.members.Member.{out-Member}
 use Rattle.ar_syntax.specs.declared.members.Member as M
 use Rattle.ar_syntax.specs.declared.members.Member.TheViews as view
-use Rattle.class_table.proofs.FirstItems.{ok_map}
 use Rattle.class_table.proofs.Laid.{on_start, on_next, on_end, member_block, member_plain}
 use Rattle.class_table.proofs.laying.+laying.Goals as goal
 

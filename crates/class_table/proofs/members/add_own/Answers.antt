@@ -1,15 +1,14 @@
 use Rattle.std.proofs.Common.{◌≡◌, ℕ, ◌+◌, ◌++◌, ◌∷◌, [], List, map, take, length, sym, ◌∙◌, ap, arith, append_assoc}
-use Rattle.std.proofs.lemmas.List.{take_all, length-take-le}
+use Rattle.std.proofs.lemmas.List.{take_all, length-take-le, append-nil}
 use Rattle.class_table.specs.Members.{Site, sites_from}
 use Rattle.class_table.specs.Tables.{site_of}
 use Rattle.class_table.specs.declared.tables.Owned.{Owned}
 use Rattle.class_table.proofs.Taken.{take_item, map_join}
-use Rattle.class_table.proofs.Laid.{append_none}
 use Rattle.class_table.proofs.Inheriting.{sites_next}
 use Rattle.class_table.proofs.members.add_own.Goals as goal
 
 pub loop-place-init : goal.loop-place-init
-loop-place-init c = sym (append_none _)
+loop-place-init c = sym (append-nil _)
 
 pub loop-place-preserved : goal.loop-place-preserved
 loop-place-preserved c =

@@ -1,7 +1,7 @@
 use Rattle.std.proofs.Common.{sym, ◌∙◌, arith, ◌<◌, ◌≡◌, ◌-◌, ◌+◌, ◌/◌, true, false, subst}
+use Rattle.std.proofs.lemmas.List.{get_or_default}
 use Rattle.domains.specs.Values.{is_before}
 use Rattle.eq_build.specs.declared.groups.Group.{Group}
-use Rattle.eq_build.proofs.Places.{any_default}
 use Rattle.eq_build.proofs.Rising.{lower_to}
 use Rattle.eq_build.proofs.groups.place_of.Goals as goal
 
@@ -35,6 +35,6 @@ loop-low-preserved c =
       within = omega arith;
       lower = c.loop-low.invariant.lower;
       upper = λ l d. subst (λ (z : Group). is_before z.value c.args.value ≡ false)
-          (any_default c.args.groups.now m x d l)
+          (get_or_default c.args.groups.now m x d l)
           (sym c.before-in-loop-low.ensures ∙ c.if-before.false);
     }

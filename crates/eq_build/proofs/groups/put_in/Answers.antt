@@ -1,10 +1,10 @@
 use Rattle.std.proofs.Common.{◌≡◌, ◌<◌, ◌++◌, [], ◌∷◌, List, length, get_or, map, true, false, sym, ap, ◌∙◌, subst, arith}
+use Rattle.std.proofs.lemmas.List.{get_or_default}
 use Rattle.domains.specs.Values.{is_before}
 use Rattle.domains.specs.Same.{is_same}
 use Rattle.eq_build.specs.Entries.{Term, Rises}
 use Rattle.eq_build.specs.Views.{operands_in, group_of}
 use Rattle.eq_build.specs.declared.groups.Group as flat
-use Rattle.eq_build.proofs.Places.{any_default}
 use Rattle.eq_build.proofs.GroupsRise.{term_rises}
 use Rattle.eq_build.proofs.Rising.{set_same}
 use Rattle.eq_build.proofs.Grouping.{same_group, Lower, put_same, put_new, neither_same, one_pushed, one_alone}
@@ -25,7 +25,7 @@ returns-then-not-before-clause-put c =
     let l : k < length ps = omega (arith, c.if-place-len.true, c.len.ensures) in
     let p = c.index_mut-group.result.now in
     let at : p ≡ get_or ps k p = c.index_mut-group.ensures.value in
-    let from : (d : flat.Group) → p ≡ get_or ps k d = λ d. at ∙ any_default ps k p d l in
+    let from : (d : flat.Group) → p ≡ get_or ps k d = λ d. at ∙ get_or_default ps k p d l in
     let q = c.index.result.now in
     let after : is_before v p.value ≡ false =
     subst (λ (z : flat.Group). is_before v z.value ≡ false) (c.index.ensures ∙ sym (from q))
@@ -53,7 +53,7 @@ returns-clause-put c =
     elim c.else-place-len.branch [
       | else-place-len-via-then-place-len+else-not-before w ↦ λ l d.
           subst (λ (z : flat.Group). is_before v z.value ≡ true)
-          (w.index.ensures ∙ any_default ps k w.index.result.now d l)
+          (w.index.ensures ∙ get_or_default ps k w.index.result.now d l)
           (sym w.before-then-place-len.ensures ∙ w.if-not-before.false)
       | else-place-len-via-else-place-len w ↦ λ l d. absurd (omega (arith, l, w.if-place-len.false, c.len.ensures))
     ] in
@@ -79,7 +79,7 @@ returns-in_err-push-clause-rises c =
     let k = c.place_of-place.result in
     let p = c.index_mut-group.result.now in
     let l : k < length ps = omega (arith, c.if-place-len.true, c.len.ensures) in
-    let from : (d : flat.Group) → p ≡ get_or ps k d = λ d. c.index_mut-group.ensures.value ∙ any_default ps k p d l in
+    let from : (d : flat.Group) → p ≡ get_or ps k d = λ d. c.index_mut-group.ensures.value ∙ get_or_default ps k p d l in
     let same = same_group p c.push.new.self c.in_err-push.ensures.items in
     subst Rises (sym (set_same ps k (record { value = p.value; terms = c.push.new.self }) l (λ d. same ∙ ap group_of (from d))))
     c.requires

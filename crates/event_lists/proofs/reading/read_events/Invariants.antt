@@ -3,8 +3,10 @@ use Rattle.ar_base.specs.Numbers.{EventId}
 use Rattle.gts_flatten.specs.Elaborating.{Elaborated}
 use Rattle.replayer.specs.Flat.{IsOfTree}
 use Rattle.replayer.specs.Lines.{pieces}
-use Rattle.event_lists.specs.Naming.{is_comma, AreEventsOf}
-use Rattle.event_lists.proofs.ReadSoFar.{IsRead, parts_left, bytes_left}
+use Rattle.replayer.specs.Reads.{bytes_left}
+use Rattle.replayer.specs.CutLines.{is_comma}
+use Rattle.event_lists.specs.Naming.{AreEventsOf}
+use Rattle.event_lists.proofs.ReadSoFar.{IsRead, parts_left}
 use Rattle.event_lists.proofs.reading.read_events.Given as goal
 
 abbrev pub invariant-loop-rest : goal.invariant-loop-rest

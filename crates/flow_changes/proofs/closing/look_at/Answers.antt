@@ -1,28 +1,23 @@
-use Rattle.std.proofs.Common.{◌<◌, ◌≤◌, ℕ, Bool, List, Option, IfSome, length, subst, sym, arith}
-use Rattle.std.specs.List.Sorted.{IsNonDecreasingBy}
-use Rattle.ar_base.specs.Lists.{Stands, IsOneOf}
+use Rattle.std.proofs.Common.{◌<◌, ℕ, Bool, List, Option, IfSome, length, subst, sym, arith}
+use Rattle.ar_base.specs.Lists.{Stands}
 use Rattle.ar_base.proofs.Standing.{stands_item, stands_one}
 use Rattle.gts_core.specs.declared.system.Assign.{Assign}
 use Rattle.gts_core.specs.declared.system.Variable.{Variable}
-use Rattle.flow_propagate.specs.Plan.{Reader}
-use Rattle.flow_propagate.proofs.Worklists.{rising, readers_below}
+use Rattle.flow_propagate.proofs.Worklists.{readers_below}
 use Rattle.flow_changes.specs.Known.{Touches, Applies}
 use Rattle.flow_changes.specs.Queue.{AddsPlaces, IsPlaceOf}
 use Rattle.flow_changes.proofs.Looks.{looks_more}
 use Rattle.flow_changes.proofs.closing.look_at.Goals as goal
 
-pub pairs_of-run-requires : goal.pairs_of-run-requires
-pairs_of-run-requires c = subst (λ (z : List Reader). IsNonDecreasingBy (λ (r : Reader). r.0.n) z) (sym c.deref.ensures.value) (rising c.args.parts.now c.args.plan.now.readers.items c.requires.plan.readers)
-
 pub add_all-requires-clause-within : goal.add_all-requires-clause-within
 add_all-requires-clause-within c = λ r o.
-    let h = readers_below c.args.parts.now c.args.plan.now.readers.items c.requires.plan.readers r (subst (λ (z : List Reader). IsOneOf z r) c.deref.ensures.value (c.pairs_of-run.ensures.among r o)) in
-    subst (λ (z : List ℕ). r.1.n < length z) (sym c.deref-2.ensures.value) (omega (arith, h, c.requires.plan.schedule.long))
+    let h = readers_below c.args.parts.now c.args.plan.now.readers.pairs.items c.requires.plan.readers r (c.pairs_of-run.ensures.among r o) in
+    subst (λ (z : List ℕ). r.1.n < length z) (sym c.deref.ensures.value) (omega (arith, h, c.requires.plan.schedule.long))
 
 pub add_all-requires-clause-one : goal.add_all-requires-clause-one
 add_all-requires-clause-one c = λ r q o s.
     c.requires.listed c.index-assign.result.now r q (stands_item c.args.parts.now.assigns.items c.args.n c.index-assign.result.now c.requires.below c.index-assign.ensures)
-    (subst (λ (z : List Reader). IsOneOf z r) c.deref.ensures.value (c.pairs_of-run.ensures.among r o)) (c.pairs_of-run.ensures.exact r o) (subst (λ (z : List ℕ). Stands z r.1.n q) c.deref-2.ensures.value s)
+    (c.pairs_of-run.ensures.among r o) (c.pairs_of-run.ensures.exact r o) (subst (λ (z : List ℕ). Stands z r.1.n q) c.deref.ensures.value s)
 
 pub returns-in_err-add_all-clause-touches : goal.returns-in_err-add_all-clause-touches
 returns-in_err-add_all-clause-touches c = λ a x sa sx.
@@ -42,5 +37,5 @@ returns-clause-looks c = λ e.
     let sa = stands_item p.assigns.items c.args.n a c.requires.below c.index-assign.ensures in
     let applies = subst (λ (b : Bool). Applies p a c.args.values.now.items c.args.known.now.items c.apply.new.values.items c.apply.new.known.items b) c.if-not-changed.false (subst (λ (o : Option Bool). IfSome o (Applies p a c.args.values.now.items c.args.known.now.items c.apply.new.values.items c.apply.new.known.items)) c.in-Some.is c.in_ok-changed.ensures.applies) in
     looks_more p plan c.args.n a sa c.args.values.now.items c.args.known.now.items c.apply.new.values.items c.apply.new.known.items c.args.work.now c.add_all.new.work c.pairs_of-run.result.now c.requires.plan applies
-    (λ r o v. c.pairs_of-run.ensures.all r (subst (λ (z : List Reader). IsOneOf z r) (sym c.deref.ensures.value) o) v) (subst (λ (z : List Reader). length c.pairs_of-run.result.now ≤ length z) c.deref.ensures.value c.pairs_of-run.ensures.short)
-    (subst (λ (z : List ℕ). AddsPlaces (length c.pairs_of-run.result.now) (IsPlaceOf z c.pairs_of-run.result.now) c.args.work.now c.add_all.new.work) c.deref-2.ensures.value c.in_ok-add_all.ensures)
+    c.pairs_of-run.ensures.all c.pairs_of-run.ensures.short
+    (subst (λ (z : List ℕ). AddsPlaces (length c.pairs_of-run.result.now) (IsPlaceOf z c.pairs_of-run.result.now) c.args.work.now c.add_all.new.work) c.deref.ensures.value c.in_ok-add_all.ensures)

@@ -1,15 +1,12 @@
 use Rattle.std.proofs.Common.{◌<◌, ◌≤◌, length, rules, ◌∙◌, arith}
 use Rattle.ar_base.specs.Lists.{Stands}
 use Rattle.ar_base.proofs.Standing.{stands_item}
-use Rattle.flow_propagate.proofs.Worklists.{rising, readers_below}
+use Rattle.flow_propagate.proofs.Worklists.{readers_below}
 use Rattle.flow_changes.proofs.Seeing.{follows_more, follows_done}
 use Rattle.flow_changes.proofs.cone.follow.Goals as goal
 
-pub pairs_of-run-requires : goal.pairs_of-run-requires
-pairs_of-run-requires c = rising c.args.parts.now c.args.readers.now c.requires.readers
-
 pub see_targets-requires-clause-within : goal.see_targets-requires-clause-within
-see_targets-requires-clause-within c = λ r o. readers_below c.args.parts.now c.args.readers.now c.requires.readers r (c.pairs_of-run.ensures.among r o)
+see_targets-requires-clause-within c = λ r o. readers_below c.args.parts.now c.args.readers.now.pairs.items c.requires.readers r (c.pairs_of-run.ensures.among r o)
 
 pub follow-preserved : goal.follow-preserved
 follow-preserved c =
@@ -22,7 +19,7 @@ follow-preserved c =
     record {
       long = e.long ∙ v.long;
       marking = e.marking;
-      followed = follows_more p c.requires.sound c.args.readers.now c.requires.readers c.args.new.now found c.see_targets.new.found.items c.follow.at c.index.result.now st c.pairs_of-run.result.now c.pairs_of-run.ensures.all
+      followed = follows_more p c.requires.sound c.args.readers.now.pairs.items c.requires.readers c.args.new.now found c.see_targets.new.found.items c.follow.at c.index.result.now st c.pairs_of-run.result.now c.pairs_of-run.ensures.all
           c.follow.marks.items c.see_targets.new.marks.items e.sees v.followed;
       within = (let l = e.sees.longer in omega (arith, l, w));
     }

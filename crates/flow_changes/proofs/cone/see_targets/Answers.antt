@@ -1,10 +1,10 @@
 use Rattle.std.proofs.Common.{[], get_or, refl, rules, ◌∙◌, arith}
 use Rattle.ar_base.proofs.Standing.{stands_get, stands_item, stands_within, one_here}
 use Rattle.flow_changes.specs.Gathering.{IsTargetOf}
-use Rattle.flow_changes.proofs.Puts.{aims}
 use Rattle.flow_changes.proofs.Queueing.{no_reader}
 use Rattle.flow_changes.proofs.Seeing.{none_targets, sees_nothing, targets_next, sees_done}
 use Rattle.flow_changes.proofs.cone.see_targets.Goals as goal
+use Rattle.flow_changes.proofs.Puts.{aims}
 
 pub loop-assign-init : goal.loop-assign-init
 loop-assign-init c = record {

@@ -3,4 +3,4 @@ use Rattle.flow_changes.specs.Gathering.{ArePlacesTo}
 use Rattle.flow_changes.proofs.gathering.all_places.Given as goal
 
 abbrev pub invariant-loop-n : goal.invariant-loop-n
-invariant-loop-n l = ArePlacesTo l.givers l.places (take l.n-index l.members) l.list.items
+invariant-loop-n l = ArePlacesTo l.givers.pairs.items l.places (take l.n-index l.members) l.list.items

@@ -30,7 +30,7 @@ loop-n-preserved c =
     )
 
 pub loop-n-smaller : goal.loop-n-smaller
-loop-n-smaller c = left_less c.args.parts.now (length c.args.readers.now) _ c.in-Some.n c.loop-n.table.rows.items c.look_at.new.table.rows.items c.loop-n.work c.take.new.work c.look_at.new.work c.in-Some.ensures c.in_ok-look_at.ensures.looks
+loop-n-smaller c = left_less c.args.parts.now (length c.args.readers.now.pairs.items) _ c.in-Some.n c.loop-n.table.rows.items c.look_at.new.table.rows.items c.loop-n.work c.take.new.work c.look_at.new.work c.in-Some.ensures c.in_ok-look_at.ensures.looks
 
 pub returns : goal.returns
 returns c = record {

@@ -1,6 +1,5 @@
-use Rattle.std.proofs.Common.{◌≡◌, inl, ℕ, List, length, map, subst, sym, ap, ◌∙◌, arith}
+use Rattle.std.proofs.Common.{◌≡◌, inl, ℕ, List, length, subst, ap, ◌∙◌, arith}
 use Rattle.ar_base.proofs.Standing.{stands_within}
-use Rattle.flow_propagate.specs.Plan.{Reader, plain_pair, AreReaders}
 use Rattle.flow_propagate.specs.Closing.{IsWorklist}
 use Rattle.flow_propagate.proofs.Looking.{are_facts}
 use Rattle.flow_propagate.proofs.Starting.{starts_sound, starts_given}
@@ -12,7 +11,7 @@ close-requires c =
     let count : length c.deref-2.result.now ≡ length c.args.parts.now.assigns.items = ap (λ (z : List ℕ). length z) places ∙ c.requires.schedule.long in
     record {
       sound = c.requires.sound;
-      readers = subst (λ (z : List Reader). AreReaders c.args.parts.now (map plain_pair z)) (sym c.deref-3.ensures.value) c.requires.readers;
+      readers = c.requires.readers;
       long = c.in_ok-first.ensures.long;
       work = subst (λ (z : ℕ). IsWorklist z c.all_waiting-work.result) count c.all_waiting-work.ensures.is;
       settled = λ m a st. inl (c.all_waiting-work.ensures.all m (let h = stands_within c.args.parts.now.assigns.items m a st in omega (arith, h, count)));

@@ -1,34 +1,45 @@
-use Rattle.std.proofs.Common.{◌≤◌, ltb, leb, rules}
-use Rattle.std.proofs.lemmas.List.Sorted.{IsPartitionPoint-from_clause, IsPartitionedBy-ltb, IsPartitionedBy-leb}
-use Rattle.flow_propagate.specs.Plan.{Reader}
-use Rattle.flow_propagate.proofs.Worklists.{in_order, run_all, run_among, run_exact, run_short}
+use Rattle.std.proofs.Common.{◌≤◌, ◌+◌, ◌-◌, length, take, drop, List, rules, subst, arith, sym}
+use Rattle.ar_base.specs.Lists.{IsOneOf}
+use Rattle.ar_base.proofs.Standing.{stands_item}
+use Rattle.flow_propagate.specs.Runs.{Reader, IsStart}
+use Rattle.flow_propagate.proofs.PairRuns.{from_to, run_short, run_among, run_exact, run_all}
 use Rattle.flow_propagate.proofs.pairs.pairs_of.Goals as goal
 
 pub slice_bounds-result-count : goal.slice_bounds-result-count
 slice_bounds-result-count c =
-    let low = IsPartitionPoint-from_clause (λ (r : Reader). ltb r.0.n c.args.variable) _ _ c.partition_point-from.ensures.partitioned (IsPartitionedBy-ltb (λ (r : Reader). r.0.n) _ c.args.variable c.requires) (λ a r q k. search rules) in
-    let high = IsPartitionPoint-from_clause (λ (r : Reader). leb r.0.n c.args.variable) _ _ c.partition_point-to.ensures.partitioned (IsPartitionedBy-leb (λ (r : Reader). r.0.n) _ c.args.variable c.requires) (λ a r q k. search rules) in
-    in_order c.args.pairs.now c.args.variable c.partition_point-from.result c.partition_point-to.result low high c.partition_point-to.ensures.bound c.partition_point-from.ensures.bound
+    let runs = c.args.runs.now in
+    let low = runs.runs.each c.args.variable c.index.result.now (stands_item runs.starts.items c.args.variable c.index.result.now (omega arith) c.index.ensures) in
+    let high = runs.runs.each (c.args.variable + 1) c.index-2.result.now (stands_item runs.starts.items (c.args.variable + 1) c.index-2.result.now (omega arith) c.index-2.ensures) in
+    from_to runs.pairs.items c.args.variable c.index.result.now c.index-2.result.now low high
 
 pub slice_bounds-result-start : goal.slice_bounds-result-start
 slice_bounds-result-start c =
-    let low = IsPartitionPoint-from_clause (λ (r : Reader). ltb r.0.n c.args.variable) _ _ c.partition_point-from.ensures.partitioned (IsPartitionedBy-ltb (λ (r : Reader). r.0.n) _ c.args.variable c.requires) (λ a r q k. search rules) in
-    let high = IsPartitionPoint-from_clause (λ (r : Reader). leb r.0.n c.args.variable) _ _ c.partition_point-to.ensures.partitioned (IsPartitionedBy-leb (λ (r : Reader). r.0.n) _ c.args.variable c.requires) (λ a r q k. search rules) in
-    let h : c.partition_point-from.result ≤ c.partition_point-to.result = in_order c.args.pairs.now c.args.variable c.partition_point-from.result c.partition_point-to.result low high c.partition_point-to.ensures.bound c.partition_point-from.ensures.bound in
-    search (rules, h, c.partition_point-to.ensures.bound)
+    let runs = c.args.runs.now in
+    let low = runs.runs.each c.args.variable c.index.result.now (stands_item runs.starts.items c.args.variable c.index.result.now (omega arith) c.index.ensures) in
+    let high = runs.runs.each (c.args.variable + 1) c.index-2.result.now (stands_item runs.starts.items (c.args.variable + 1) c.index-2.result.now (omega arith) c.index-2.ensures) in
+    let h : c.index.result.now ≤ c.index-2.result.now = from_to runs.pairs.items c.args.variable c.index.result.now c.index-2.result.now low high in
+    search (rules, h)
+
+pub slice_bounds-result-end-2 : goal.slice_bounds-result-end-2
+slice_bounds-result-end-2 c =
+    let runs = c.args.runs.now in
+    let high = runs.runs.each (c.args.variable + 1) c.index-2.result.now (stands_item runs.starts.items (c.args.variable + 1) c.index-2.result.now (omega arith) c.index-2.ensures) in
+    let l : c.index-2.result.now ≤ length c.deref.result.now = subst (λ (z : List Reader). c.index-2.result.now ≤ length z) (sym c.deref.ensures.value) high.within in
+    search (rules, l)
 
 pub returns : goal.returns
 returns c =
-    let low = IsPartitionPoint-from_clause (λ (r : Reader). ltb r.0.n c.args.variable) _ _ c.partition_point-from.ensures.partitioned (IsPartitionedBy-ltb (λ (r : Reader). r.0.n) _ c.args.variable c.requires) (λ a r q k. search rules) in
-    let high = IsPartitionPoint-from_clause (λ (r : Reader). leb r.0.n c.args.variable) _ _ c.partition_point-to.ensures.partitioned (IsPartitionedBy-leb (λ (r : Reader). r.0.n) _ c.args.variable c.requires) (λ a r q k. search rules) in
-    let readers = c.args.pairs.now in
-    let from = c.partition_point-from.result in
-    let to = c.partition_point-to.result in
-    let bound = c.partition_point-to.ensures.bound in
-    let bound' = c.partition_point-from.ensures.bound in
+    let runs = c.args.runs.now in
+    let from = c.index.result.now in
+    let to = c.index-2.result.now in
+    let x = c.args.variable in
+    let pairs = c.deref.result.now in
+    let e = c.deref.ensures.value in
+    let low : IsStart pairs x from = subst (λ (z : List Reader). IsStart z x from) (sym e) (runs.runs.each x from (stands_item runs.starts.items x from (omega arith) c.index.ensures)) in
+    let high : IsStart pairs (x + 1) to = subst (λ (z : List Reader). IsStart z (x + 1) to) (sym e) (runs.runs.each (x + 1) to (stands_item runs.starts.items (x + 1) to (omega arith) c.index-2.ensures)) in
     record {
-      among = run_among readers c.args.variable from to low high bound bound';
-      exact = run_exact readers c.args.variable from to low high bound bound';
-      all = run_all readers c.args.variable from to low high bound bound';
-      short = run_short readers c.args.variable from to low high bound bound';
+      among = λ r o. subst (λ (z : List Reader). IsOneOf z r) e (run_among pairs x from to low high r o);
+      all = λ r o v. run_all pairs x from to low high r (subst (λ (z : List Reader). IsOneOf z r) (sym e) o) v;
+      exact = run_exact pairs x from to low high;
+      short = subst (λ (z : List Reader). length (take (to - from) (drop from pairs)) ≤ length z) e (run_short pairs x from to low high);
     }

@@ -1,10 +1,12 @@
 use Rattle.std.proofs.Common.{◌≡◌, ◌<◌, ◌≤◌, ℕ, List, length, get_or, subst, sym, ◌∙◌, arith}
+use Rattle.ar_base.proofs.Standing.{stands_item}
+use Rattle.ar_base.proofs.Items.{before_more}
 use Rattle.domains.specs.declared.Value.{Value}
 use Rattle.gts_core.specs.declared.system.Variable.{Variable}
 use Rattle.typed_expr.specs.Rows.{row_at}
 use Rattle.flow_propagate.specs.Searches.{IsTwo}
 use Rattle.flow_propagate.proofs.Putting.{row_here}
-use Rattle.flow_propagate.proofs.Searching.{two_found, two_none, stands_read, before_more}
+use Rattle.flow_propagate.proofs.Searching.{two_found, two_none}
 use Rattle.flow_propagate.proofs.searches.first_two.Goals as goal
 
 pub returns-then-is_two : goal.returns-then-is_two
@@ -14,7 +16,7 @@ returns-then-is_two c = λ t facts.
     let is = subst (λ (z : List Variable). c.variable-item.result ≡ get_or z c.loop-place.place c.variable-item.result) items c.variable-item.is in
     let row : row_at c.args.table.now.rows.items c.loop-place.place ≡ c.deref.result.now =
     row_here c.args.table.now.rows.items c.loop-place.place c.index.result.now (omega (arith, below, c.requires.long)) c.index.ensures ∙ sym c.deref.ensures.value in
-    two_found c.args.parts.now t c.args.table.now.rows.items facts c.loop-place.place c.variable-item.result (stands_read c.args.parts.now.variables.items c.loop-place.place c.variable-item.result below is)
+    two_found c.args.parts.now t c.args.table.now.rows.items facts c.loop-place.place c.variable-item.result (stands_item c.args.parts.now.variables.items c.loop-place.place c.variable-item.result below is)
     (subst (λ (z : List Value). IsTwo c.variable-item.result.is_state z) (sym row) c.if-is_two.ensures) c.loop-place.invariant
 
 pub loop-place-preserved : goal.loop-place-preserved
@@ -25,7 +27,7 @@ loop-place-preserved c =
     let row : row_at c.args.table.now.rows.items c.loop-place.place ≡ c.deref.result.now =
     row_here c.args.table.now.rows.items c.loop-place.place c.index.result.now (omega (arith, below, c.requires.long)) c.index.ensures ∙ sym c.deref.ensures.value in
     before_more c.args.parts.now.variables.items c.loop-place.place c.variable-item.result (λ (k : ℕ) (x : Variable). IsTwo x.is_state (row_at c.args.table.now.rows.items k)) c.loop-place.invariant
-    (stands_read c.args.parts.now.variables.items c.loop-place.place c.variable-item.result below is)
+    (stands_item c.args.parts.now.variables.items c.loop-place.place c.variable-item.result below is)
     (λ two. c.if-is_two.ensures (subst (λ (z : List Value). IsTwo c.variable-item.result.is_state z) row two))
 
 pub returns : goal.returns

@@ -2,11 +2,12 @@ use Rattle.std.proofs.Common.{◌≡◌, ◌<◌, List, length, get_or, subst, s
 use Rattle.domains.specs.declared.Value.{Value}
 use Rattle.domains.specs.declared.Value.TheVariants.{Truth}
 use Rattle.std.proofs.Common.{false}
+use Rattle.std.proofs.lemmas.List.{get_or_default}
+use Rattle.ar_base.proofs.Standing.{stands_item}
 use Rattle.gts_core.specs.declared.system.Variable.{Variable}
 use Rattle.typed_expr.specs.Rows.{row_at}
 use Rattle.flow_propagate.specs.Totals.{completed_value}
-use Rattle.flow_propagate.proofs.Putting.{row_here, same_read}
-use Rattle.flow_propagate.proofs.Searching.{stands_read}
+use Rattle.flow_propagate.proofs.Putting.{row_here}
 use Rattle.flow_propagate.proofs.Totalling.{completed_more}
 use Rattle.flow_propagate.proofs.totals.completed.Goals as goal
 
@@ -20,6 +21,6 @@ loop-place-preserved c =
     c.deref.ensures.value ∙ sym (row_here c.args.table.now.rows.items c.loop-place.place c.index.result.now (omega (arith, below, c.requires.rows)) c.index.ensures) in
     let v = get_or c.args.values.now c.loop-place.place (Truth false) in
     completed_more c.args.parts.now.variables.items c.args.values.now c.args.table.now.rows.items c.loop-place.place c.variable-item.result v c.loop-place.total.items c.push.new.self.items _ c.loop-place.invariant
-    (stands_read c.args.parts.now.variables.items c.loop-place.place c.variable-item.result below is)
-    (stands_read c.args.values.now c.loop-place.place v in_values (same_read c.args.values.now c.loop-place.place (Truth false) v in_values))
+    (stands_item c.args.parts.now.variables.items c.loop-place.place c.variable-item.result below is)
+    (stands_item c.args.values.now c.loop-place.place v in_values (get_or_default c.args.values.now c.loop-place.place (Truth false) v in_values))
     (c.value_for.ensures ∙ ap (λ (z : List Value). completed_value c.variable-item.result.is_state v z c.variable-item.result.value) row) c.in_ok-push.ensures.items

@@ -1,7 +1,8 @@
 use Rattle.std.proofs.Common.{ℕ, get_or, rules, arith}
 use Rattle.ar_base.specs.Lists.{Stands}
 use Rattle.ar_base.proofs.Standing.{stands_get, stands_item, one_here}
-use Rattle.flow_reasons.proofs.Readers.{reader_below, read_below}
+use Rattle.flow_propagate.proofs.ReaderPairs.{read_below}
+use Rattle.flow_reasons.proofs.Readers.{reader_below}
 use Rattle.flow_reasons.proofs.Standing.{target_below}
 use Rattle.flow_reasons.proofs.RestRows.{rests_more}
 use Rattle.flow_reasons.proofs.resting.rests.Goals as goal
@@ -27,7 +28,7 @@ add_rest-requires-clause-variable c =
     let pairs = c.args.pairs.now in
     let i = c.loop-variable.variable-index in
     let q : ℕ × ℕ = get_or pairs i (0, 0) in
-    let h = read_below c.args.parts.now c.requires.sound pairs c.requires.pairs q.0 q.1 (one_here pairs i q (stands_get pairs i (0, 0) c.loop-variable-test.true)) in
+    let h = read_below c.args.parts.now c.requires.sound pairs c.requires.pairs q (one_here pairs i q (stands_get pairs i (0, 0) c.loop-variable-test.true)) in
     omega (arith, h, c.requires.marks)
 
 pub loop-variable-preserved : goal.loop-variable-preserved
@@ -39,7 +40,7 @@ loop-variable-preserved c =
     let q : ℕ × ℕ = get_or pairs i (0, 0) in
     let at : Stands pairs i q = stands_get pairs i (0, 0) c.loop-variable-test.true in
     let h = reader_below p pairs c.requires.pairs q.0 q.1 (one_here pairs i q at) in
-    let r = read_below p c.requires.sound pairs c.requires.pairs q.0 q.1 (one_here pairs i q at) in
+    let r = read_below p c.requires.sound pairs c.requires.pairs q (one_here pairs i q at) in
     let st = stands_item p.assigns.items q.1 c.index.result.now h c.index.ensures in
     let t = target_below p c.requires.sound q.1 c.index.result.now st in
     rests_more p marks pairs c.requires.pairs i q.0 q.1 c.loop-variable-test.true at c.index.result.now st c.loop-variable.rests.items c.add_rest.new.rests.items

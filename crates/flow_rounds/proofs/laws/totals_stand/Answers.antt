@@ -1,5 +1,5 @@
-use Rattle.ar_meaning.proofs.StatesAlone.{same_flows}
-use Rattle.flow_rounds.proofs.Totals.{states_of, states_turned, reasons_same}
+use Rattle.ar_meaning.proofs.StatesAlone.{same_flows, turned}
+use Rattle.flow_rounds.proofs.Totals.{states_of, reasons_same}
 use Rattle.flow_rounds.proofs.laws.totals_stand.Goals as goal
 
 pub returns-clause-flows : goal.returns-clause-flows
@@ -7,4 +7,4 @@ returns-clause-flows g c = λ net t total flows. same_flows net (states_of flows
 
 pub returns-clause-reasons : goal.returns-clause-reasons
 returns-clause-reasons g c = λ net t total flows rs.
-    (λ d. reasons_same net t total (states_of flows) d, λ d. reasons_same net total t (states_turned (states_of flows)) d)
+    (λ d. reasons_same net t total (states_of flows) d, λ d. reasons_same net total t (turned (states_of flows)) d)

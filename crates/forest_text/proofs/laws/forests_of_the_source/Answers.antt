@@ -15,7 +15,7 @@ use Rattle.ar_firing.proofs.RulesHold.{all_static}
 use Rattle.ar_firing.proofs.Without.{no_more}
 use Rattle.gts_core.specs.View.{Views, net_of}
 use Rattle.gts_core.specs.declared.system.GtsParts.{GtsParts}
-use Rattle.gts_core.proofs.Viewing.{are_numbered}
+use Rattle.gts_core.proofs.Viewing.{are_numbered, keyed_by}
 use Rattle.gts_flatten.specs.Flat.{naming_of, naming_of_parts}
 use Rattle.hierarchy.specs.Listing.{variables}
 use Rattle.mode_forests.specs.Views.{trees_of, number_in}
@@ -26,9 +26,6 @@ use Rattle.forest_text.proofs.EdgeEvents.{events_of, are_live}
 use Rattle.forest_text.proofs.SameLines.{tree_texts, trees_same, events_counted}
 use Rattle.forest_text.proofs.LiveThere.{live_events_there}
 use Rattle.forest_text.proofs.laws.forests_of_the_source.Goals as goal
-
-keyed_by : (p : GtsParts) (flat : System ℕ) → Views p flat → AreKeyed flat.net
-keyed_by p flat views = subst (λ (net : Net ℕ). AreKeyed net) (sym views.net) (keyed (net_of p) (are_numbered p))
 
 flat_live : (p : GtsParts) (flat : System ℕ) (views : Views p flat) (dropped : List ℕ) (f : Forest) → KeepsAll flat dropped
     → IsForest flat dropped (trees_of (number_in p) f) → AreLiveEvents flat dropped (events_of (trees_of (number_in p) f))

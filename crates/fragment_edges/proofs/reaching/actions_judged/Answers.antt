@@ -1,5 +1,5 @@
+use Rattle.std.proofs.lemmas.Bool.{cases_eq}
 use Rattle.ar_firing.proofs.Unbroken.{keeps_s4}
-use Rattle.kept_ways.proofs.Reading.{told}
 use Rattle.fragment_edges.proofs.Naming.{action_breaks}
 use Rattle.fragment_edges.proofs.Leading.{wrong_breaks, broken_s4, unbroken_s4}
 use Rattle.fragment_edges.proofs.reaching.actions_judged.Goals as goal
@@ -14,5 +14,5 @@ pub returns-clause-broken : goal.returns-clause-broken
 returns-clause-broken c = λ p system dropped kept reaches a k1 k2 n h. broken_s4 a k1 k2 n h
 
 pub returns-clause-keeps : goal.returns-clause-keeps
-returns-clause-keeps c = λ p system dropped kept reaches a k1 k2 f g. keeps_s4 told system dropped
+returns-clause-keeps c = λ p system dropped kept reaches a k1 k2 f g. keeps_s4 cases_eq system dropped
     (unbroken_s4 a k1 k2 f g)

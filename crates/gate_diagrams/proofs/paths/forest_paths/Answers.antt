@@ -1,7 +1,7 @@
 use Rattle.std.proofs.Common.{[], sym, subst}
-use Rattle.ar_base.proofs.Standing.{stands_map}
+use Rattle.ar_base.proofs.Standing.{stands_map, stands_item}
 use Rattle.mode_forests.specs.Views.{tree_of}
-use Rattle.gate_diagrams.proofs.TreePaths.{AreDrawn, none_drawn, item_stands, next_drawn}
+use Rattle.gate_diagrams.proofs.TreePaths.{AreDrawn, none_drawn, next_drawn}
 use Rattle.gate_diagrams.proofs.paths.forest_paths.Goals as goal
 
 pub loop-tree-init : goal.loop-tree-init
@@ -14,7 +14,7 @@ tree_paths-requires-clause-tree c =
     let k = c.loop-tree.tree-index in
     let trees = c.args.trees.now in
     let tree = c.tree-item.result in
-    let stands = item_stands trees k tree c.loop-tree-test.true c.tree-item.is in
+    let stands = stands_item trees k tree c.loop-tree-test.true c.tree-item.is in
     c.requires.trees.each k (tree_of (λ n. n) tree) (stands_map (tree_of (λ n. n)) trees k tree stands)
 
 pub loop-tree-preserved : goal.loop-tree-preserved

@@ -1,10 +1,11 @@
 use Rattle.std.proofs.Common.{◌≡◌, ◌<◌, ℕ, List, length, map, sym, subst, arith}
+use Rattle.std.proofs.lemmas.List.{length-map}
 use Rattle.ar_base.specs.Lists.{Stands, IsOneOf}
 use Rattle.ar_base.proofs.Standing.{one_here, stands_map}
 use Rattle.zdd_nodes.specs.Nodes.{NodeId, IsNumber}
 use Rattle.gate_modules.specs.Shortened.{set_of}
 use Rattle.gate_modules.specs.Entries.{node_numbers, AllEnd, IsReference, EntriesAnswer}
-use Rattle.gate_modules.proofs.Deciding.{event_not_end, none_is_module, differs_no_module, few_no_module, is_module, length_map}
+use Rattle.gate_modules.proofs.Deciding.{event_not_end, none_is_module, differs_no_module, few_no_module, is_module}
 use Rattle.gate_modules.proofs.modules.module_sets.Goals as goal
 
 -- the entry at a place is an entry
@@ -39,7 +40,7 @@ returns-then-not-entries_agree-clause-sets c =
 pub returns-then-len-lt2-clause-sets : goal.returns-then-len-lt2-clause-sets
 returns-then-len-lt2-clause-sets c =
     let ref = subst (λ z. IsReference c.args.store.now c.args.range.to (node_numbers z) c.in-Some.node.n) c.deref.ensures.value c.in-Some.ensures in
-    let long = length_map set_of c.in_ok-sets.sets.items in
+    let long = length-map c.in_ok-sets.sets.items set_of in
     few_no_module c.args.store.now c.requires.sound c.args.root.n c.requires.root c.args.range (node_numbers c.in_ok-entries.entries.items) c.in_ok-entries.ensures
     c.in-Some.node.n c.entry_exit.result.n ref.is_entry c.entry_exit.ensures (map set_of c.in_ok-sets.sets.items) c.in_ok-sets.ensures (omega (arith, long, c.if-len-lt2.true, c.len.ensures))
 
@@ -47,6 +48,6 @@ pub returns-clause-sets : goal.returns-clause-sets
 returns-clause-sets c =
     let ref = subst (λ z. IsReference c.args.store.now c.args.range.to (node_numbers z) c.in-Some.node.n) c.deref.ensures.value c.in-Some.ensures in
     let answer = subst (λ z. EntriesAnswer c.args.store.now c.args.range.to c.in-Some.node.n c.entry_exit.result.n (node_numbers z) c.entries_agree.result) c.deref-2.ensures.value c.entries_agree.ensures.is in
-    let long = length_map set_of c.in_ok-sets.sets.items in
+    let long = length-map c.in_ok-sets.sets.items set_of in
     is_module c.args.store.now c.requires.sound c.args.root.n c.requires.root c.args.range (node_numbers c.in_ok-entries.entries.items) c.in_ok-entries.ensures
     c.in-Some.node.n c.entry_exit.result.n ref.is_entry c.entry_exit.ensures (map set_of c.in_ok-sets.sets.items) c.in_ok-sets.ensures (omega (arith, long, c.if-len-lt2.false, c.len.ensures)) (answer.yes c.if-not-entries_agree.false)

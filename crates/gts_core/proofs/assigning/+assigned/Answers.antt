@@ -1,4 +1,5 @@
-use Rattle.gts_core.proofs.ActForms.{gives_skip, gives_set, gives_if, gives_all, give_none, give_next, gives_as, on_ok}
+use Rattle.std.proofs.lemmas.Result.{on_ok_weaker}
+use Rattle.gts_core.proofs.ActForms.{gives_skip, gives_set, gives_if, gives_all, give_none, give_next, gives_as}
 use Rattle.gts_core.proofs.assigning.+assigned.Goals as goal
 
 pub assigned-returns-in-Skip : goal.assigned-returns-in-Skip
@@ -11,7 +12,7 @@ assigned-returns-in_ok-push-in-Set t c =
 
 pub assigned-returns-in_ok-there-in-If : goal.assigned-returns-in_ok-there-in-If
 assigned-returns-in_ok-there-in-If t c =
-    on_ok c.assigned-in-If.result
+    on_ok_weaker c.assigned-in-If.result
     (λ h. gives_if c.args.act.now c.args.when.now c.args.out.now.items c.in-If.test c.in-If.first c.in-If.second c.in_ok-here-in-If.here.items c.in_ok-there-in-If.there.items c.assigned.new.out.items c.assigned-in-If.new.out.items
     c.in-If.is c.in_ok-here-in-If.ensures
     (gives_as c.deref.result.now c.in-If.first.value c.deref-in-If.result.now c.in_ok-here-in-If.here.items c.args.out.now.items c.assigned.new.out.items c.deref.ensures c.deref-in-If.ensures.value c.in_ok-assigned-in-If.ensures)
@@ -21,7 +22,7 @@ assigned-returns-in_ok-there-in-If t c =
 
 pub assigned-returns-in-All : goal.assigned-returns-in-All
 assigned-returns-in-All t c =
-    on_ok c.all_assigned.result (λ h. gives_all c.args.act.now c.args.when.now c.args.out.now.items c.in-All.acts c.deref-in-All.result.now c.all_assigned.new.out.items c.in-All.is c.deref-in-All.ensures.value h) c.all_assigned.ensures
+    on_ok_weaker c.all_assigned.result (λ h. gives_all c.args.act.now c.args.when.now c.args.out.now.items c.in-All.acts c.deref-in-All.result.now c.all_assigned.new.out.items c.in-All.is c.deref-in-All.ensures.value h) c.all_assigned.ensures
 
 pub all_assigned-loop-act-init : goal.all_assigned-loop-act-init
 all_assigned-loop-act-init t c = give_none c.args.when.now c.args.out.now.items

@@ -1,9 +1,9 @@
 use Rattle.std.proofs.Common.{◌≡◌, ◌<◌, ◌≤◌, List, ℕ, length, get_or, subst, sym, arith}
 use Rattle.ar_base.specs.Numbers.{WayId}
 use Rattle.ar_base.proofs.Standing.{stands_within, stands_item}
+use Rattle.ar_base.proofs.Items.{before_more}
 use Rattle.gts_core.specs.declared.system.Event.{Event}
 use Rattle.kept_ways.specs.Events.{HasJoint}
-use Rattle.kept_ways.proofs.Reading.{before_more}
 use Rattle.kept_ways.proofs.Marking.{joint_at}
 use Rattle.kept_ways.proofs.events.first_joint.Goals as goal
 

@@ -2,8 +2,8 @@ use Rattle.std.proofs.Common.{◌≡◌, ◌<◌, ◌≤◌, ◌⊎◌, inl, inr
 use Rattle.std.specs.Option.{is_some}
 use Rattle.ar_base.specs.Lists.{Stands}
 use Rattle.ar_base.specs.Numbers.{VarId}
+use Rattle.ar_base.proofs.Standing.{stands_get}
 use Rattle.kept_ways.specs.Events.{IsStateless}
-use Rattle.kept_ways.proofs.Reading.{stands_read}
 use Rattle.kept_ways.proofs.events.first_stateless.Goals as goal
 
 none_is : (found : Option VarId) → is_some found ≡ false → found ≡ None
@@ -24,8 +24,8 @@ pub returns-then-is_none : goal.returns-then-is_none
 returns-then-is_none c =
     let unit = c.loop-unit.unit in (
       record {
-        moves = subst (λ (z : Bool). Stands c.args.moving.now unit z) c.if-moves.true (stands_read c.args.moving.now unit false c.loop-unit-test.true);
-        none = subst (λ (z : Option VarId). Stands c.args.firsts.now unit z) (none_is (get_or c.args.firsts.now unit None) c.if-is_none.ensures) (stands_read c.args.firsts.now unit None (omega (arith, c.loop-unit-test.true, c.requires.long)));
+        moves = subst (λ (z : Bool). Stands c.args.moving.now unit z) c.if-moves.true (stands_get c.args.moving.now unit false c.loop-unit-test.true);
+        none = subst (λ (z : Option VarId). Stands c.args.firsts.now unit z) (none_is (get_or c.args.firsts.now unit None) c.if-is_none.ensures) (stands_get c.args.firsts.now unit None (omega (arith, c.loop-unit-test.true, c.requires.long)));
       },
       below (IsStateless c.args.moving.now c.args.firsts.now) unit c.loop-unit.invariant,
     )

@@ -1,8 +1,7 @@
 use Rattle.std.proofs.Common.{◌≤◌, List, length, get_or, subst, arith}
 use Rattle.ar_base.specs.Lists.{Stands}
 use Rattle.ar_base.specs.Numbers.{WayId}
-use Rattle.ar_base.proofs.Standing.{stands_within}
-use Rattle.kept_ways.proofs.Reading.{stands_read}
+use Rattle.ar_base.proofs.Standing.{stands_within, stands_get}
 use Rattle.kept_ways.proofs.Keeping.{extends_more, extends_all}
 use Rattle.kept_ways.proofs.kept.add_event.Goals as goal
 
@@ -10,7 +9,7 @@ pub kept_way-requires-clause-inside : goal.kept_way-requires-clause-inside
 kept_way-requires-clause-inside c =
     let p = c.args.parts.now in
     let way : WayId = get_or c.deref-way-items.result.now c.loop-way.way-index (record { n = 0; of = record {} }) in
-    let has = subst (λ (z : List WayId). Stands z c.loop-way.way-index way) c.deref-way-items.ensures.value (stands_read c.deref-way-items.result.now c.loop-way.way-index (record { n = 0; of = record {} }) c.loop-way-test.true) in
+    let has = subst (λ (z : List WayId). Stands z c.loop-way.way-index way) c.deref-way-items.ensures.value (stands_get c.deref-way-items.result.now c.loop-way.way-index (record { n = 0; of = record {} }) c.loop-way-test.true) in
     let listed = c.requires.sound.event_ways c.args.id.n c.loop-way.way-index c.args.event.now way c.requires.event has in
     stands_within p.ways.items way.n listed.way listed.stands
 
@@ -18,7 +17,7 @@ pub loop-way-preserved : goal.loop-way-preserved
 loop-way-preserved c =
     let p = c.args.parts.now in
     let way : WayId = get_or c.deref-way-items.result.now c.loop-way.way-index (record { n = 0; of = record {} }) in
-    let has = subst (λ (z : List WayId). Stands z c.loop-way.way-index way) c.deref-way-items.ensures.value (stands_read c.deref-way-items.result.now c.loop-way.way-index (record { n = 0; of = record {} }) c.loop-way-test.true) in
+    let has = subst (λ (z : List WayId). Stands z c.loop-way.way-index way) c.deref-way-items.ensures.value (stands_get c.deref-way-items.result.now c.loop-way.way-index (record { n = 0; of = record {} }) c.loop-way-test.true) in
     extends_more p c.args.id c.args.event.now c.requires.event c.loop-way.way-index c.args.kept.now.items c.loop-way.kept.items c.push_some.new.kept.items way c.in_ok-more.more has c.loop-way.invariant c.in_ok-more.ensures c.in_ok-push_some.ensures
 
 pub returns : goal.returns

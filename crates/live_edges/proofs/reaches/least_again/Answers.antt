@@ -1,8 +1,9 @@
 use Rattle.std.proofs.Common.{ap, arith}
 use Rattle.ar_base.proofs.Standing.{stands_one, stands_within, stands_item}
+use Rattle.ar_base.proofs.Comparing.{first_place}
 use Rattle.mode_edges.specs.declared.searching.Reach.{Reach}
 use Rattle.live_edges.specs.Reaches.{IsAgainAt}
-use Rattle.live_edges.proofs.Usable.{first_place, place_more}
+use Rattle.live_edges.proofs.Usable.{place_more}
 use Rattle.live_edges.proofs.reaches.least_again.Goals as goal
 
 pub returns-then-reach : goal.returns-then-reach

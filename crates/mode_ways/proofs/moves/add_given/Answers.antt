@@ -1,10 +1,11 @@
 use Rattle.std.proofs.Common.{ap, ◌∙◌, ◌++◌, Option, List, subst}
+use Rattle.ar_base.proofs.Results.{ok_as}
 use Rattle.domains.specs.declared.Value.{Value}
 use Rattle.gts_core.specs.View.{assign_of}
-use Rattle.mode_ways.specs.Moves.{HasAt, Reaches}
+use Rattle.mode_ways.specs.Moves.{HasAt}
 use Rattle.mode_ways.proofs.FactsAt.{gives_set}
-use Rattle.mode_ways.proofs.NamedVariables.{ok_as}
 use Rattle.mode_ways.proofs.moves.add_given.Goals as goal
+use Rattle.ar_meaning.specs.Reached.{Reaches}
 
 pub returns : goal.returns
 returns c =

@@ -1,7 +1,7 @@
 use Rattle.std.proofs.Common.{[], drop}
 use Rattle.mode_ways.specs.Adding.{SomeHas}
 use Rattle.mode_ways.specs.Moves.{HasAt, GivesValue}
-use Rattle.mode_ways.proofs.Added.{Remains}
+use Rattle.gts_core.proofs.Added.{Remains}
 use Rattle.mode_ways.proofs.moves.given.Given as goal
 
 abbrev pub invariant-loop-assign : goal.invariant-loop-assign

@@ -1,6 +1,7 @@
 use Rattle.std.proofs.Common.{[], refl}
 use Rattle.mode_ways.specs.Named.{NamesVariable, OneNames}
-use Rattle.mode_ways.proofs.Added.{some_start, some_on, some_all, those_of_empty}
+use Rattle.gts_core.proofs.Added.{those_of_empty}
+use Rattle.mode_ways.proofs.Added.{some_start, some_on, some_all}
 use Rattle.mode_ways.proofs.names.action_names.Goals as goal
 
 pub loop-assign-init : goal.loop-assign-init

@@ -1,6 +1,6 @@
 use Rattle.std.proofs.Common.{[], drop}
 use Rattle.mode_ways.specs.Named.{OneNames}
-use Rattle.mode_ways.proofs.Added.{Remains}
+use Rattle.gts_core.proofs.Added.{Remains}
 use Rattle.mode_ways.proofs.names.action_names.Given as goal
 
 abbrev pub invariant-loop-assign : goal.invariant-loop-assign

@@ -3,7 +3,7 @@ use Rattle.std.proofs.lemmas.Result.{err_from_is_err_and}
 use Rattle.ar_base.specs.Lists.{Along}
 use Rattle.ar_io.proofs.Writing.{writes_on, writes_cut, writes_as}
 use Rattle.cut_text.specs.Printed.{edges_of}
-use Rattle.module_text.proofs.Exits.{failed}
+use Rattle.cut_text.proofs.Answering.{failed}
 use Rattle.gate_modules.specs.declared.ranges.Module.{Module}
 use Rattle.module_text.specs.Arranged.{IsGroupOf, pieces_of, form_pieces}
 use Rattle.module_text.specs.declared.arranging.Group.{Group}

@@ -1,4 +1,5 @@
-use Rattle.number_pairs.proofs.Firsts.{ok_as, run_added}
+use Rattle.ar_base.proofs.Results.{ok_as}
+use Rattle.number_pairs.proofs.Firsts.{run_added}
 use Rattle.number_pairs.proofs.pairing.add_run.Goals as goal
 
 pub returns : goal.returns

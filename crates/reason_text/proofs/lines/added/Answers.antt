@@ -5,8 +5,9 @@ use Rattle.ar_io.proofs.Writing.{writes_exit, writes_on, writes_cut, writes_as}
 use Rattle.ar_meaning.specs.TraceText.{place_text}
 use Rattle.gts_flatten.specs.Flat.{naming_of_parts}
 use Rattle.flow_reasons.specs.Answers.{numbers_of}
-use Rattle.reason_text.proofs.Pieces.{added_pieces, place_is}
+use Rattle.reason_text.proofs.Pieces.{added_pieces}
 use Rattle.reason_text.proofs.lines.added.Goals as goal
+use Rattle.replayer.proofs.WayLemmas.{place_read}
 
 pub returns-in_err-put : goal.returns-in_err-put
 returns-in_err-put g c =
@@ -46,7 +47,7 @@ pub returns-in_err-place : goal.returns-in_err-place
 returns-in_err-place g c =
     let names = naming_of_parts c.args.parts.now in
     let item = c.index.result.now in
-    let e = place_is c.args.parts.now c.args.by.n item (stands_item c.args.parts.now.assigns.items c.args.by.n item c.requires c.index.ensures) in
+    let e = place_read c.args.parts.now c.args.by.n item (stands_item c.args.parts.now.assigns.items c.args.by.n item c.requires c.index.ensures) in
     writes_exit _ _ c.from_residual-in_err-place.ensures.1
     (writes_as _ _ (added_pieces names c.args.by.n c.args.round (numbers_of c.args.rests_on.now) _ e)
     (writes_on c.in_ok-put.ensures (writes_on c.in_ok-number.ensures (writes_on c.in_ok-put-2.ensures (writes_on c.in_ok-count.ensures (writes_on c.in_ok-put-3.ensures (writes_cut _ _ c.in_err-place.ensures)))))))
@@ -55,6 +56,6 @@ pub returns : goal.returns
 returns g c =
     let names = naming_of_parts c.args.parts.now in
     let item = c.index.result.now in
-    let e = place_is c.args.parts.now c.args.by.n item (stands_item c.args.parts.now.assigns.items c.args.by.n item c.requires c.index.ensures) in
+    let e = place_read c.args.parts.now c.args.by.n item (stands_item c.args.parts.now.assigns.items c.args.by.n item c.requires c.index.ensures) in
     writes_as _ _ (added_pieces names c.args.by.n c.args.round (numbers_of c.args.rests_on.now) _ e)
     (writes_on c.in_ok-put.ensures (writes_on c.in_ok-number.ensures (writes_on c.in_ok-put-2.ensures (writes_on c.in_ok-count.ensures (writes_on c.in_ok-put-3.ensures (writes_on c.in_ok-place.ensures c.from.ensures))))))

@@ -17,7 +17,7 @@ loop-place-preserved c =
     let below = subst (λ (z : List Observer). i < length z) items c.loop-place-test.true in
     let is = subst (λ (z : List Observer). o ≡ get_or z i o) items c.observer-item.is in
     let st : Stands c.args.parts.now.observers.items i o = subst (λ (z : Observer). Stands c.args.parts.now.observers.items i z) (sym is) (stands_get c.args.parts.now.observers.items i o below) in
-    observed_more c.args.parts.now i o c.loop-place.pairs.items c.add_named.new.found.items st c.loop-place.invariant c.in_ok-add_named.ensures
+    observed_more c.args.parts.now i o c.loop-place.pairs.items c.add_named_pairs.new.found.items st c.loop-place.invariant c.in_ok-add_named_pairs.ensures
 
 pub returns : goal.returns
 returns c = observed_all c.args.parts.now c.loop-place.place c.loop-place.pairs.items (subst (λ (z : List Observer). length z ≤ c.loop-place.place) c.deref-observer-items.ensures.value c.loop-place-test.false) c.loop-place.invariant

@@ -1,5 +1,6 @@
 use Rattle.std.proofs.Common.{rules}
-use Rattle.run_words.proofs.Digits.{parsed, out_of_range, other_digits, equal_is_false}
+use Rattle.ar_base.proofs.Truths.{equal_is_false}
+use Rattle.run_words.proofs.Digits.{parsed, out_of_range, other_digits}
 use Rattle.run_words.proofs.numbers.number.Goals as goal
 
 pub returns-in_default : goal.returns-in_default

@@ -1,9 +1,10 @@
 use Rattle.std.proofs.Common.{◌≡◌, ◌+◌, ◌++◌, ◌∷◌, [], List, take, get_or, sym, ap, ◌∙◌, arith, ◌<◌, length}
+use Rattle.ar_base.proofs.Items.{take_item}
 use Rattle.domains.specs.declared.Value.{Value}
 use Rattle.ar_meaning.specs.Runs.{first_values}
 use Rattle.gts_core.specs.View.{variables_from}
 use Rattle.gts_core.specs.declared.system.Variable.{Variable}
-use Rattle.stepper.proofs.Growing.{first_more, take_item}
+use Rattle.stepper.proofs.Growing.{first_more}
 use Rattle.stepper.proofs.moves.declared.Goals as goal
 
 pub loop-variable-preserved : goal.loop-variable-preserved

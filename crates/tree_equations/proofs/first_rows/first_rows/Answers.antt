@@ -1,17 +1,15 @@
 use Rattle.std.proofs.Common.{◌≡◌, ◌<◌, ◌≤◌, ℕ, [], List, length, take, get_or, set, sym, ap, ◌∙◌, subst, rules, arith, take_all, Vec, Global, true, false}
 use Rattle.std.proofs.Math.Path.{fun_ext}
-use Rattle.std.proofs.lemmas.List.{length_push}
+use Rattle.std.proofs.lemmas.List.{length_push, get_or_default, length-set}
 use Rattle.ar_base.specs.Lists.{Stands}
 use Rattle.ar_base.proofs.Standing.{stands_one, stands_within, stands_item}
 use Rattle.eq_build.specs.Views.{row_at, lists_in, entries_in}
 use Rattle.eq_build.specs.declared.entries.Entry.{Entry}
-use Rattle.eq_build.proofs.Places.{any_default}
 use Rattle.gts_core.specs.declared.system.Variable.{Variable}
 use Rattle.gts_core.specs.View.{variables_from}
 use Rattle.mode_forests.specs.declared.forests.ModeTree.{ModeTree}
 use Rattle.table_steps.specs.Steps.{first_reading, in_order}
 use Rattle.tree_equations.specs.Answers.{Entries, row_in, trees_in}
-use Rattle.tree_equations.proofs.Rising.{long_set}
 use Rattle.tree_equations.proofs.FirstReading.{reading_or, first_from, first_step, first_done, IsPlaced, placed_put, placed_skip}
 use Rattle.tree_equations.proofs.first_rows.first_rows.Goals as goal
 use Rattle.tree_equations.proofs.first_rows.first_rows.Goals.{then-number-variables+then-variables-number+in_ok-row, else-number-variables, else-number-variables-via-then-number-variables+else-variables-number, else-number-variables-via-else-number-variables}
@@ -41,7 +39,7 @@ loop-entries-preserved c =
     let size : c.len.result ≡ length left = search rules in
     let long = ap length split ∙ length_push left es in
     let l : c.len.result < length trees = omega (arith, size, long, few) in
-    let at : tree ≡ get_or trees (length left) tree = any_default trees c.len.result c.index-trees-len.result tree l
+    let at : tree ≡ get_or trees (length left) tree = get_or_default trees c.len.result c.index-trees-len.result tree l
     ∙ ap (λ (k : ℕ). get_or trees k tree) size in
     let rows = c.loop-entries.rows.items in
     let step : (new : List Entries) → IsPlaced vs number (row_in es) rows new → (x : ℕ)
@@ -61,7 +59,7 @@ loop-entries-preserved c =
           let within = w.if-number-variables.true in
           record {
             few = omega (arith, long, few);
-            long = ap length items ∙ long_set rows number w.in_ok-row.row ∙ keeps;
+            long = ap length items ∙ length-set rows number w.in_ok-row.row ∙ keeps;
             same = step new (placed_put vs v number (row_in es) rows new w.in_ok-row.row st is
                 (omega (arith, within, keeps)) order items);
           }

@@ -3,8 +3,9 @@ use Rattle.std.proofs.lemmas.List.{take_more}
 use Rattle.ar_base.proofs.Standing.{one_here, stands_item}
 use Rattle.gts_core.specs.declared.system.Assign.{Assign}
 use Rattle.tree_equations.specs.Index.{AreByTarget}
-use Rattle.tree_equations.proofs.IndexLemmas.{target_start, target_next, row_got}
+use Rattle.tree_equations.proofs.IndexLemmas.{target_start, target_next}
 use Rattle.tree_equations.proofs.index.by_target.Goals as goal
+use Rattle.flow_blocks.proofs.RowLemmas.{row_got}
 
 pub loop-k-init : goal.loop-k-init
 loop-k-init c =

@@ -1,7 +1,8 @@
 use Rattle.std.proofs.Common.{refl, sym, subst, rules, ◌+◌}
 use Rattle.std.proofs.Common.{Vec, Global, ℕ}
-use Rattle.eq_build.proofs.Places.{item_next, nothing_left}
+use Rattle.eq_build.proofs.Places.{item_next}
 use Rattle.ar_base.proofs.Standing.{stands_item}
+use Rattle.ar_base.proofs.Items.{none_left}
 use Rattle.tree_equations.proofs.IndexLemmas.{FlowsSoFar, flows_state, flows_flow, flows_end}
 use Rattle.tree_equations.proofs.index.flow_numbers.Goals as goal
 use Rattle.tree_equations.proofs.index.flow_numbers.Goals.{then-not-variable+in_ok-push, else-not-variable}
@@ -26,4 +27,4 @@ loop-n-preserved c =
 pub returns : goal.returns
 returns c =
     flows_end c.args.variables.now c.loop-n.n c.loop-n.flows.items
-    (nothing_left c.args.variables.now c.loop-n.n c.loop-n-test.false) c.loop-n.invariant
+    (none_left c.args.variables.now c.loop-n.n c.loop-n-test.false) c.loop-n.invariant

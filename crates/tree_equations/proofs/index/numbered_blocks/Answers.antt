@@ -3,10 +3,10 @@ use Rattle.std.proofs.lemmas.List.{take_more, map-append}
 use Rattle.ar_base.specs.Lists.{IsOneOf}
 use Rattle.ar_base.specs.Lists as l
 use Rattle.ar_base.proofs.Standing.{one_here, stands_map, stands_item}
+use Rattle.ar_base.proofs.Items.{along_push}
 use Rattle.flow_blocks.specs.Table.{members_of}
 use Rattle.flow_blocks.specs.declared.graph.Block.{Block}
 use Rattle.tree_equations.specs.Blocks.{ArePlaced, ArePlacedBlocks, blocks_in}
-use Rattle.tree_equations.proofs.IndexLemmas.{along_push}
 use Rattle.tree_equations.proofs.index.numbered_blocks.Goals as goal
 
 pub loop-block-init : goal.loop-block-init
@@ -38,7 +38,7 @@ loop-block-preserved c =
     ∙ map-append (λ (b : Vec ℕ Global). b.items) c.loop-block.found.items (c.in_ok-numbers.numbers ∷ []) in
     subst (λ (z : List (List ℕ)). ArePlacedBlocks fs z (blocks_in c.push.new.self.items)) (sym more)
     (subst (λ (z : List (List ℕ)). ArePlacedBlocks fs (members_of (take i bs) ++ b.members.items ∷ []) z) (sym out)
-    (along_push b.members.items c.in_ok-numbers.numbers.items c.loop-block.invariant placed))
+    (along_push _ _ b.members.items c.in_ok-numbers.numbers.items c.loop-block.invariant placed))
 
 pub returns : goal.returns
 returns c =

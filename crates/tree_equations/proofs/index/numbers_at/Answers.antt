@@ -3,8 +3,8 @@ use Rattle.std.proofs.lemmas.List.{take_more}
 use Rattle.ar_base.specs.Lists.{Stands}
 use Rattle.ar_base.specs.Lists as l
 use Rattle.ar_base.proofs.Standing.{stands_get, one_here}
+use Rattle.ar_base.proofs.Items.{along_push}
 use Rattle.tree_equations.specs.Blocks.{ArePlaced}
-use Rattle.tree_equations.proofs.IndexLemmas.{along_push}
 use Rattle.tree_equations.proofs.index.numbers_at.Goals as goal
 
 pub loop-place-init : goal.loop-place-init
@@ -27,7 +27,7 @@ loop-place-preserved c =
     subst (λ (z : List ℕ). ArePlaced fs (take (i + 1) ps) z) (sym c.in_ok-push.ensures.items)
     (subst (λ (z : List ℕ). ArePlaced fs z (c.loop-place.numbers.items ++ get_or fs k 0 ∷ []))
     (sym (take_more ps i 0 c.loop-place-test.true))
-    (along_push k (get_or fs k 0) c.loop-place.invariant (stands_get fs k 0 under)))
+    (along_push _ _ k (get_or fs k 0) c.loop-place.invariant (stands_get fs k 0 under)))
 
 pub returns : goal.returns
 returns c =

@@ -1,12 +1,13 @@
 use Rattle.std.proofs.Common.{◌≡◌, ◌<◌, ◌+◌, ℕ, List, [], drop, length, get_or, sym, ap, ◌∙◌, subst, rules, arith, Vec, Global}
-use Rattle.eq_build.proofs.Places.{item_next, nothing_left}
+use Rattle.eq_build.proofs.Places.{item_next}
 use Rattle.gts_core.specs.declared.system.Variable.{Variable}
 use Rattle.tree_equations.specs.Index.{AreNumbersOf, to_target}
 use Rattle.ar_base.proofs.Standing.{stands_item}
-use Rattle.tree_equations.proofs.IndexLemmas.{row_got}
+use Rattle.ar_base.proofs.Items.{none_left}
 use Rattle.tree_equations.proofs.LeavingLemmas.{AllSoFar, all_start, all_state, all_flow, all_end}
 use Rattle.tree_equations.proofs.leaving.leaving.Goals as goal
 use Rattle.tree_equations.proofs.leaving.leaving.Goals.{then-not-variable+in_ok-push_leaving, else-not-variable}
+use Rattle.flow_blocks.proofs.RowLemmas.{row_got}
 
 pub loop-n-init : goal.loop-n-init
 loop-n-init c = all_start c.args.parts.now c.new-leaving.result.items c.new-leaving.ensures.items
@@ -48,4 +49,4 @@ returns c =
     let p = c.args.parts.now in
     all_end p c.loop-n.n c.loop-n.leaving.items
     (subst (λ (z : List Variable). drop c.loop-n.n z ≡ []) c.deref-variable-items.ensures.value
-    (nothing_left c.deref-variable-items.result.now c.loop-n.n c.loop-n-test.false)) c.loop-n.invariant
+    (none_left c.deref-variable-items.result.now c.loop-n.n c.loop-n-test.false)) c.loop-n.invariant

@@ -1,6 +1,7 @@
 use Rattle.std.proofs.Common.{◌<◌, ◌+◌, ℕ, length, get_or, sym, subst, rules, Vec, Global}
+use Rattle.std.proofs.lemmas.List.{get_or_default}
 use Rattle.ar_base.proofs.Standing.{stands_within, stands_one, stands_item}
-use Rattle.eq_build.proofs.Places.{any_default, nothing_left}
+use Rattle.ar_base.proofs.Items.{none_left}
 use Rattle.gts_core.specs.declared.system.Variable.{Variable}
 use Rattle.gts_core.specs.declared.system.Assign.{Assign}
 use Rattle.tree_equations.specs.Index.{to_target}
@@ -17,7 +18,7 @@ index-requires c =
     let i = c.loop-k.k-index in
     let k = get_or ks i 0 in
     let xs = c.args.parts.now.assigns.items in
-    let at = along_at c.requires.numbers i k c.loop-k-test.true (any_default ks i 0 k c.loop-k-test.true) in
+    let at = along_at c.requires.numbers i k c.loop-k-test.true (get_or_default ks i 0 k c.loop-k-test.true) in
     let h : k < length xs = stands_within xs k at.0 at.1 in
     search (rules, h)
 
@@ -39,7 +40,7 @@ loop-k-preserved c = λ x at.
     let i = c.loop-k.k-index in
     let k = get_or ks i 0 in
     let xs = p.assigns.items in
-    let a = along_at c.requires.numbers i k c.loop-k-test.true (any_default ks i 0 k c.loop-k-test.true) in
+    let a = along_at c.requires.numbers i k c.loop-k-test.true (get_or_default ks i 0 k c.loop-k-test.true) in
     let within = stands_within xs k a.0 a.1 in
     let item = c.index.result.now in
     let same = stands_one xs k item a.0 (stands_item xs k item within c.index.ensures) a.1 in
@@ -67,5 +68,5 @@ pub returns : goal.returns
 returns c = λ x at.
     let all = to_target c.args.flow c.args.parts.now.assigns.items in
     one_end c.args.parts.now c.args.flow x at c.args.leaving.now.items c.loop-k.k-index c.loop-k.leaving.items
-    (nothing_left all c.loop-k.k-index (along_end c.requires.numbers c.loop-k.k-index c.loop-k-test.false))
+    (none_left all c.loop-k.k-index (along_end c.requires.numbers c.loop-k.k-index c.loop-k-test.false))
     (c.loop-k.invariant x at)

@@ -1,7 +1,7 @@
 use Rattle.std.proofs.Common.{rules}
 use Rattle.domains.specs.Domains.{Holds}
-use Rattle.tree_equations.proofs.Allowing.{each_more, each_all}
 use Rattle.tree_equations.proofs.leaving.some_outside.Goals as goal
+use Rattle.flow_propagate.proofs.Values.{each_more, each_all}
 
 pub loop-v-preserved : goal.loop-v-preserved
 loop-v-preserved c = each_more (Holds c.args.domain.now) c.args.values.now c.loop-v.v-index _ c.loop-v-test.true c.loop-v.invariant (c.if-not-holds.ensures.0 (search rules))

@@ -1,10 +1,11 @@
 use Rattle.std.proofs.Common.{◌<◌, ◌∷◌, List, suc, true, get_or, length, drop, ap, ◌∙◌, sym, subst}
+use Rattle.std.proofs.lemmas.List.{get_or_default}
 use Rattle.eq_core.specs.Gates.{EventIs, all_of}
 use Rattle.eq_build.specs.Entries.{Built}
 use Rattle.eq_build.specs.Builds.{most_gates}
 use Rattle.eq_build.specs.Views.{gates_in}
 use Rattle.eq_build.proofs.Growing.{longer_on}
-use Rattle.eq_build.proofs.Places.{item_next, any_default}
+use Rattle.eq_build.proofs.Places.{item_next}
 use Rattle.eq_build.proofs.Stopping.{stops_up, entries_passed_on}
 use Rattle.mode_forests.specs.Views.{row_of}
 use Rattle.mode_forests.specs.declared.forests.Edge.{Edge}
@@ -38,7 +39,7 @@ returns-in_err-operand c =
     let es = c.deref-edge-items.result.now in
     let items = c.deref-edge-items.ensures.value in
     let e = get_or es i _ in
-    let left = item_next es i e c.loop-edge-test.true (any_default es i _ _ c.loop-edge-test.true) in
+    let left = item_next es i e c.loop-edge-test.true (get_or_default es i _ _ c.loop-edge-test.true) in
     let same = ap (λ (b : Built). b.gates) c.loop-edge.invariant.same
     ∙ ap (λ (z : List Edge). (entered all (edges_in (drop i z)) h).gates) (sym items)
     ∙ ap (λ (z : List Edge). (entered all (edges_in z) h).gates) left in

@@ -1,7 +1,8 @@
 use Rattle.std.proofs.Common.{ℕ, List, length, refl, sym, ◌∙◌, subst, add-one, Vec, Global}
 use Rattle.ar_base.proofs.Standing.{one_here, stands_map, stands_item}
+use Rattle.ar_base.proofs.Items.{none_left}
 use Rattle.eq_build.specs.Views.{gates_in, row_at}
-use Rattle.eq_build.proofs.Places.{item_next, nothing_left}
+use Rattle.eq_build.proofs.Places.{item_next}
 use Rattle.gts_core.specs.View.{net_of}
 use Rattle.table_steps.specs.Steps.{Rounds, All_rounds}
 use Rattle.tree_equations.specs.Answers.{TooMany}
@@ -74,6 +75,6 @@ returns-clause-rounds c =
     let bs = c.args.blocks.now in (
       blocks_end net bs (gates_in c.args.gates.now.items) (row_at c.args.rows.now.items) c.loop-block.block-index
           (gates_in c.loop-block.gates.items) (row_at c.loop-block.rows.items)
-          (nothing_left bs c.loop-block.block-index c.loop-block-test.false) c.loop-block.invariant.so_far,
+          (none_left bs c.loop-block.block-index c.loop-block-test.false) c.loop-block.invariant.so_far,
       c.loop-block.invariant.few,
     )

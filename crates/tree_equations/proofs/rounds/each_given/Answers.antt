@@ -1,8 +1,8 @@
 use Rattle.std.proofs.Common.{get_or, subst}
+use Rattle.std.proofs.lemmas.List.{get_or_default}
 use Rattle.ar_base.proofs.Standing.{stands_within, stands_one, stands_item}
 use Rattle.domains.specs.Domains.{values_of}
 use Rattle.eq_build.specs.Views.{gates_in, row_at, Stops}
-use Rattle.eq_build.proofs.Places.{any_default}
 use Rattle.gts_core.specs.View.{assign_of}
 use Rattle.gts_core.specs.declared.system.Assign.{Assign}
 use Rattle.table_steps.specs.Steps.{Gives_target}
@@ -30,7 +30,7 @@ bounds-assigns-number c =
     let i = c.loop-number.number-index in
     let n = get_or ns i 0 in
     let at = along_at c.requires.numbers.1 i n c.loop-number-test.true
-    (any_default ns i 0 n c.loop-number-test.true) in
+    (get_or_default ns i 0 n c.loop-number-test.true) in
     stands_within c.args.assigns.now n at.0 at.1
 
 pub loop-number-preserved : goal.loop-number-preserved
@@ -44,7 +44,7 @@ loop-number-preserved c =
     record {
       few = made.1;
       so_far = λ picked a.
-          let at = along_at a i n c.loop-number-test.true (any_default ns i 0 n c.loop-number-test.true) in
+          let at = along_at a i n c.loop-number-test.true (get_or_default ns i 0 n c.loop-number-test.true) in
           let here = stands_item c.args.assigns.now n c.index-assigns-number.result
           (stands_within c.args.assigns.now n at.0 at.1) c.index-assigns-number.is in
           let same = stands_one c.args.assigns.now n c.index-assigns-number.result at.0 here at.1 in
@@ -63,7 +63,7 @@ returns-in_err-list c = λ picked a.
     let ns = c.args.numbers.now in
     let i = c.loop-number.number-index in
     let n = get_or ns i 0 in
-    let at = along_at a i n c.loop-number-test.true (any_default ns i 0 n c.loop-number-test.true) in
+    let at = along_at a i n c.loop-number-test.true (get_or_default ns i 0 n c.loop-number-test.true) in
     let here = stands_item c.args.assigns.now n c.index-assigns-number.result
     (stands_within c.args.assigns.now n at.0 at.1) c.index-assigns-number.is in
     let same = stands_one c.args.assigns.now n c.index-assigns-number.result at.0 here at.1 in

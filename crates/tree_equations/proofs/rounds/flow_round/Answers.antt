@@ -10,9 +10,9 @@ use Rattle.tree_equations.specs.Index.{to_target, AreNumbersOf}
 use Rattle.ar_base.proofs.Standing.{stands_item}
 use Rattle.tree_equations.proofs.Determined.{round_one}
 use Rattle.tree_equations.proofs.Giving.{gives_on, entries_give}
-use Rattle.tree_equations.proofs.IndexLemmas.{row_got}
 use Rattle.tree_equations.proofs.Flowing.{round_given, round_stops}
 use Rattle.tree_equations.proofs.rounds.flow_round.Goals as goal
+use Rattle.flow_blocks.proofs.RowLemmas.{row_got}
 
 pub each_given-requires-clause-domain : goal.each_given-requires-clause-domain
 each_given-requires-clause-domain c =

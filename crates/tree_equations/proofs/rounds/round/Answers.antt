@@ -1,7 +1,8 @@
 use Rattle.std.proofs.Common.{get_or}
+use Rattle.std.proofs.lemmas.List.{get_or_default}
 use Rattle.ar_base.proofs.Standing.{stands_get, one_here}
 use Rattle.eq_build.specs.Views.{gates_in, row_at}
-use Rattle.eq_build.proofs.Places.{item_next, any_default}
+use Rattle.eq_build.proofs.Places.{item_next}
 use Rattle.gts_core.specs.View.{net_of}
 use Rattle.table_steps.specs.Steps.{RoundOf}
 use Rattle.tree_equations.specs.Answers.{row_in, itself}
@@ -38,7 +39,7 @@ loop-n-preserved c =
       so_far = each_next itself row_in (RoundOf net read) (round_one read net) (round_more read net)
           (gates_in c.args.gates.now.items) (gates_in c.loop-n.gates.items) (gates_in c.flow_round.new.gates.items) b i n
           c.loop-n.new.items c.push.new.self.items c.in_ok-row.row
-          (item_next b i n c.loop-n-test.true (any_default b i 0 n c.loop-n-test.true)) c.in_ok-row.ensures.0
+          (item_next b i n c.loop-n-test.true (get_or_default b i 0 n c.loop-n-test.true)) c.in_ok-row.ensures.0
           c.in_ok-push.ensures.items c.loop-n.invariant.so_far;
     }
 
@@ -52,7 +53,7 @@ returns-in_err-row c =
     each_stops itself row_in (RoundOf net read) (round_one read net) (round_more read net)
     (gates_in c.args.gates.now.items) (gates_in c.loop-n.gates.items) b i n c.loop-n.new.items c.from_residual.result
     c.in_err-row.field-0.0 c.flow_round.new.gates.items
-    (item_next b i n c.loop-n-test.true (any_default b i 0 n c.loop-n-test.true)) c.loop-n.invariant.so_far
+    (item_next b i n c.loop-n-test.true (get_or_default b i 0 n c.loop-n-test.true)) c.loop-n.invariant.so_far
     c.from_residual.ensures.1 c.in_err-row.ensures
 
 pub returns : goal.returns

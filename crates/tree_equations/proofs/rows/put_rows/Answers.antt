@@ -1,9 +1,8 @@
 use Rattle.std.proofs.Common.{◌≡◌, ◌<◌, ℕ, [], List, length, get_or, set, sym, ap, ◌∙◌, refl, rules, arith, take_all}
 use Rattle.std.proofs.Math.Path.{fun_ext}
 use Rattle.ar_base.proofs.Standing.{stands_get, one_here}
-use Rattle.std.proofs.lemmas.List.{length_push, length-set}
+use Rattle.std.proofs.lemmas.List.{length_push, length-set, get_or_default}
 use Rattle.eq_build.specs.Views.{row_at, lists_in}
-use Rattle.eq_build.proofs.Places.{any_default}
 use Rattle.table_steps.specs.Steps.{updated}
 use Rattle.tree_equations.proofs.RowsPut.{put_step, put_done}
 use Rattle.tree_equations.proofs.rows.put_rows.Goals as goal
@@ -42,7 +41,7 @@ loop-row-preserved c =
     let under = c.requires.under n (one_here ns c.len.result n (stands_get ns c.len.result 0 l)) in
     let keeps = c.loop-row.invariant.long in
     let within : n < length rows = omega (arith, under, keeps) in
-    let at : n ≡ get_or ns (length left) n = any_default ns c.len.result 0 n l
+    let at : n ≡ get_or ns (length left) n = get_or_default ns c.len.result 0 n l
     ∙ ap (λ (k : ℕ). get_or ns k n) size in
     record {
       long = length-set rows n c.in-Some.row ∙ keeps;

@@ -1,10 +1,10 @@
 use Rattle.std.proofs.Common.{◌<◌, ℕ, List, length, get_or, refl, sym, ap, ◌∙◌, subst, rules}
+use Rattle.std.proofs.lemmas.List.{get_or_default}
 use Rattle.ar_base.specs.Lists.{Stands}
 use Rattle.ar_base.proofs.Standing.{stands_within, stands_one, stands_item}
 use Rattle.ar_meaning.specs.Systems as s
 use Rattle.eq_core.specs.Views.{operand_of}
 use Rattle.eq_build.specs.Views.{gates_in, row_at, Stops}
-use Rattle.eq_build.proofs.Places.{any_default}
 use Rattle.gts_core.specs.View.{assign_of, variable_of}
 use Rattle.gts_core.specs.declared.system.Variable.{Variable}
 use Rattle.gts_core.specs.declared.system.Assign.{Assign}
@@ -21,7 +21,7 @@ index-assign-requires c =
     let ks = c.args.leaving.now in
     let i = c.loop-k.k-index in
     let k = get_or ks i 0 in
-    let at = along_at c.requires.leaving.1 i k c.loop-k-test.true (any_default ks i 0 k c.loop-k-test.true) in
+    let at = along_at c.requires.leaving.1 i k c.loop-k-test.true (get_or_default ks i 0 k c.loop-k-test.true) in
     let h : k < length c.args.parts.now.assigns.items = stands_within c.args.parts.now.assigns.items k at.1.assign at.1.stands in
     search (rules, h)
 
@@ -31,7 +31,7 @@ index-requires c =
     let i = c.loop-k.k-index in
     let k = get_or ks i 0 in
     let p = c.args.parts.now in
-    let at = along_at c.requires.leaving.1 i k c.loop-k-test.true (any_default ks i 0 k c.loop-k-test.true) in
+    let at = along_at c.requires.leaving.1 i k c.loop-k-test.true (get_or_default ks i 0 k c.loop-k-test.true) in
     let within = stands_within p.assigns.items k at.1.assign at.1.stands in
     let here = stands_item p.assigns.items k c.index-assign.result.now within c.index-assign.ensures in
     let same = stands_one p.assigns.items k at.1.assign c.index-assign.result.now at.1.stands here in
@@ -47,7 +47,7 @@ outside-requires-clause-domain c =
     let k = get_or ks i 0 in
     let p = c.args.parts.now in
     let n = c.index-assign.result.now.target.n in
-    let at = along_at c.requires.leaving.1 i k c.loop-k-test.true (any_default ks i 0 k c.loop-k-test.true) in
+    let at = along_at c.requires.leaving.1 i k c.loop-k-test.true (get_or_default ks i 0 k c.loop-k-test.true) in
     let within = stands_within p.assigns.items k at.1.assign at.1.stands in
     let here = stands_item p.assigns.items k c.index-assign.result.now within c.index-assign.ensures in
     let same = stands_one p.assigns.items k at.1.assign c.index-assign.result.now at.1.stands here in
@@ -80,7 +80,7 @@ loop-k-preserved c =
     record {
       few = made.1;
       so_far = λ pairs along.
-          let at = along_at along i k c.loop-k-test.true (any_default ks i 0 k c.loop-k-test.true) in
+          let at = along_at along i k c.loop-k-test.true (get_or_default ks i 0 k c.loop-k-test.true) in
           let within = stands_within p.assigns.items k at.1.assign at.1.stands in
           let here = stands_item p.assigns.items k a within c.index-assign.ensures in
           let same = stands_one p.assigns.items k at.1.assign a at.1.stands here in
@@ -109,7 +109,7 @@ returns-in_err-operand c = λ pairs along.
     let h = gates_in c.loop-k.gates.items in
     let f = c.in_err-operand.field-0.0 in
     let fails = c.in_err-operand.ensures (variable_of a.target.n x) refl in
-    let at = along_at along i k c.loop-k-test.true (any_default ks i 0 k c.loop-k-test.true) in
+    let at = along_at along i k c.loop-k-test.true (get_or_default ks i 0 k c.loop-k-test.true) in
     let within = stands_within p.assigns.items k at.1.assign at.1.stands in
     let here = stands_item p.assigns.items k a within c.index-assign.ensures in
     let same = stands_one p.assigns.items k at.1.assign a at.1.stands here in

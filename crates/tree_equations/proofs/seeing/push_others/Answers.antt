@@ -1,11 +1,11 @@
 use Rattle.std.proofs.Common.{◌≡◌, ◌+◌, ◌++◌, get_or, drop, rules, sym, subst, Vec, Global}
 use Rattle.std.proofs.Common.{false}
+use Rattle.std.proofs.lemmas.List.{get_or_default}
 use Rattle.domains.specs.declared.Value.TheVariants.{Truth}
 use Rattle.eq_core.specs.declared.joints.Operand.TheVariants.{Always}
 use Rattle.eq_core.specs.declared.joints.Operand as sign
 use Rattle.eq_build.specs.Views.{operands_in, entries_in, entry_of, terms_in}
 use Rattle.eq_build.specs.declared.entries.Entry.{Entry}
-use Rattle.eq_build.proofs.Places.{any_default}
 use Rattle.table_steps.specs.Steps.{others_with}
 use Rattle.tree_equations.proofs.SeeingLemmas.{others_put, others_skip}
 use Rattle.tree_equations.proofs.seeing.push_others.Goals as goal
@@ -28,9 +28,9 @@ loop-other-preserved c =
           let d : x.value ≡ (get_or ys i d0).value → ⊥ = search rules in
           subst so_far (sym w.terms-is)
           (others_put cs x old.items w.push.new.self.items w.in_ok-term.term ys i (get_or ys i d0) whole l
-          (any_default ys i _ _ l) d w.in_ok-term.ensures w.in_ok-push.ensures.items c.loop-other.invariant)
+          (get_or_default ys i _ _ l) d w.in_ok-term.ensures w.in_ok-push.ensures.items c.loop-other.invariant)
       | else-ne w ↦
           let s : x.value ≡ (get_or ys i d0).value = search rules in
           subst so_far (sym w.terms-is)
-          (others_skip cs x old.items ys i (get_or ys i d0) whole l (any_default ys i _ _ l) s c.loop-other.invariant)
+          (others_skip cs x old.items ys i (get_or ys i d0) whole l (get_or_default ys i _ _ l) s c.loop-other.invariant)
     ]

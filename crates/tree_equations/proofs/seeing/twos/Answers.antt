@@ -1,10 +1,11 @@
 use Rattle.std.proofs.Common.{◌≡◌, get_or, Ok, Err, ap, ◌∙◌, subst}
+use Rattle.std.proofs.lemmas.List.{get_or_default}
 use Rattle.ar_base.proofs.Standing.{stands_get, one_here}
 use Rattle.eq_core.specs.Views.{operand_of}
 use Rattle.eq_build.specs.Entries.{one_of_alls}
 use Rattle.eq_build.specs.Views.{gates_in, row_at, entries_in, terms_in, MakesOperand}
 use Rattle.eq_build.specs.declared.entries.BuildFault.{BuildFault}
-use Rattle.eq_build.proofs.Places.{item_next, any_default}
+use Rattle.eq_build.proofs.Places.{item_next}
 use Rattle.eq_build.proofs.Reading.{row_here}
 use Rattle.table_steps.specs.Steps.{Sees_two, pairs_in}
 use Rattle.table_steps.specs.Steps as t
@@ -50,7 +51,7 @@ loop-n-preserved c =
       so_far = each_next itself operand_of (Sees_two read) (two_one read) (two_more read)
           (gates_in c.args.gates.now.items) h (gates_in c.one_of_alls.new.gates.items) ns i n c.loop-n.seen.items
           c.push.new.self.items c.in_ok-operand.operand
-          (item_next ns i n c.loop-n-test.true (any_default ns i 0 n c.loop-n-test.true)) made.0
+          (item_next ns i n c.loop-n-test.true (get_or_default ns i 0 n c.loop-n-test.true)) made.0
           c.in_ok-push.ensures.items c.loop-n.invariant.so_far;
     }
 
@@ -72,7 +73,7 @@ returns-in_err-operand c =
     c.in_err-operand.ensures) in
     each_stops itself operand_of (Sees_two read) (two_one read) (two_more read) (gates_in c.args.gates.now.items) h ns
     i n c.loop-n.seen.items c.from_residual-in_err-operand.result fault c.one_of_alls.new.gates.items
-    (item_next ns i n c.loop-n-test.true (any_default ns i 0 n c.loop-n-test.true)) c.loop-n.invariant.so_far
+    (item_next ns i n c.loop-n-test.true (get_or_default ns i 0 n c.loop-n-test.true)) c.loop-n.invariant.so_far
     c.from_residual-in_err-operand.ensures.1 fails
 
 pub returns : goal.returns

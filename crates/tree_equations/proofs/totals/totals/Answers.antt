@@ -1,9 +1,9 @@
 use Rattle.std.proofs.Common.{◌≡◌, ◌<◌, ℕ, List, length, get_or, Ok, Err, sym, ap, ◌∙◌, subst, arith}
+use Rattle.std.proofs.lemmas.List.{get_or_default}
 use Rattle.ar_base.proofs.Standing.{stands_within, stands_get, stands_one, one_here, stands_item}
 use Rattle.ar_meaning.specs.Systems as s
 use Rattle.eq_build.specs.Views.{gates_in, row_at, entries_in, Stops, MakesEntries}
 use Rattle.eq_build.specs.Entries as e
-use Rattle.eq_build.proofs.Places.{any_default}
 use Rattle.eq_build.proofs.Reading.{row_here}
 use Rattle.gts_core.specs.View.{variables_from, variable_of}
 use Rattle.gts_core.specs.declared.system.Variable.{Variable}
@@ -59,7 +59,7 @@ loop-n-preserved c =
     let h = gates_in c.loop-n.gates.items in
     let k = gates_in c.total.new.gates.items in
     let x = c.index-variables-number.result in
-    let at = along_at c.requires.flows i n c.loop-n-test.true (any_default ns i 0 n c.loop-n-test.true) in
+    let at = along_at c.requires.flows i n c.loop-n-test.true (get_or_default ns i 0 n c.loop-n-test.true) in
     let within = stands_within vs n at.1.variable at.1.stands in
     let one = stands_one vs n at.1.variable x at.1.stands (stands_item vs n x within c.index-variables-number.is) in
     let pair = at.1.is ∙ ap (λ (z : Variable). (n, variable_of n z)) one in
@@ -92,7 +92,7 @@ returns-in_err-row c =
     let h = gates_in c.loop-n.gates.items in
     let f = c.in_err-row.field-0.0 in
     let x = c.index-variables-number.result in
-    let at = along_at c.requires.flows i n c.loop-n-test.true (any_default ns i 0 n c.loop-n-test.true) in
+    let at = along_at c.requires.flows i n c.loop-n-test.true (get_or_default ns i 0 n c.loop-n-test.true) in
     let within = stands_within vs n at.1.variable at.1.stands in
     let one = stands_one vs n at.1.variable x at.1.stands (stands_item vs n x within c.index-variables-number.is) in
     let pair = at.1.is ∙ ap (λ (z : Variable). (n, variable_of n z)) one in

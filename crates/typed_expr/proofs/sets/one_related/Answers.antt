@@ -1,4 +1,5 @@
-use Rattle.typed_expr.proofs.Gathering.{right-more, not_equal}
+use Rattle.ar_base.proofs.Truths.{not_equal}
+use Rattle.typed_expr.proofs.Gathering.{right-more}
 use Rattle.typed_expr.proofs.sets.one_related.Goals as goal
 
 pub loop-b-preserved : goal.loop-b-preserved

@@ -1,7 +1,8 @@
 use Rattle.std.proofs.Common.{sym, ◌∙◌, ap}
+use Rattle.ar_base.proofs.Results.{ok_map}
 use Rattle.class_table.specs.Tables.{site_of}
 use Rattle.hierarchy.specs.Settings.{settings_of}
-use Rattle.unit_targets.proofs.Searched.{no_declaration, no_settings, of_settings, set_nowhere, set_there, if_ok}
+use Rattle.unit_targets.proofs.Searched.{no_declaration, no_settings, of_settings, set_nowhere, set_there}
 use Rattle.unit_targets.proofs.wrong.wrong_in.Goals as goal
 
 pub returns-in_default : goal.returns-in_default
@@ -17,4 +18,4 @@ returns-in-Some-owned_at c = λ m units u o a t s i.
     let e = rw c.deref.ensures.value at (c.in-Some-owned_at.ensures m.declared) in
     let set = set_there u c.args.outline.now.set_at c.in-Some.site i.set_at c.in-Some.is in
     let same = c.settings_of.ensures ∙ ap settings_of (e o.table.table.holds.bodies) in
-    if_ok c.wrong_among.result (λ r h. of_settings m u (site_of c.in-Some.site) _ r set same h) (c.wrong_among.ensures m units c.args.classes.now u o a t s)
+    ok_map c.wrong_among.result (λ r h. of_settings m u (site_of c.in-Some.site) _ r set same h) (c.wrong_among.ensures m units c.args.classes.now u o a t s)

@@ -1,7 +1,7 @@
 use Rattle.std.proofs.Common.{◌≡◌, ◌∷◌, [], ◌++◌, OnOk, List, sym, ◌∙◌, ap, subst}
+use Rattle.std.proofs.lemmas.List.{append-nil}
 use Rattle.ar_syntax.specs.declared.members.Member.{out-Member}
 use Rattle.class_table.specs.Tables.{site_of}
-use Rattle.class_table.proofs.Laid.{append_none}
 use Rattle.hierarchy.specs.declared.tree.MemNode.{MemNode}
 use Rattle.unit_things.proofs.Noded.{declared_nodes, declared_none, singles}
 use Rattle.unit_things.proofs.nodes.add_member.Goals as goal
@@ -16,7 +16,7 @@ pub returns-in-Declare : goal.returns-in-Declare
 unfolding out-Member denote.Hole.Carrier.out
 returns-in-Declare c = λ d holds known. rw c.in-Plain.is (rw c.in-Declare.is (
     let e = declared_none c.args.unit (site_of c.args.site) d c.in-Declare.field-2.items c.in-Declare.names.items c.args.listed c.in-Declare.type_name.form (sym (c.declares.ensures d holds known) ∙ c.if-declares.false) in
-    sym (ap (λ (ds : List MemNode). c.args.nodes.now.items ++ ds) e ∙ append_none c.args.nodes.now.items)))
+    sym (ap (λ (ds : List MemNode). c.args.nodes.now.items ++ ds) e ∙ append-nil c.args.nodes.now.items)))
 
 pub returns-in_ok-push-in-Some : goal.returns-in_ok-push-in-Some
 returns-in_ok-push-in-Some c = λ d holds known. rw c.in-Plain.is (

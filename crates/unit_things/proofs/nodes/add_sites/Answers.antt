@@ -1,10 +1,10 @@
 use Rattle.std.proofs.Common.{◌<◌, ℕ, ◌++◌, map, take, length, ◌∙◌, ap, List, arith}
 use Rattle.std.proofs.lemmas.List.Concat.{flat_map-append}
+use Rattle.std.proofs.lemmas.List.{append-nil}
 use Rattle.ar_base.specs.Numbers.{BodyId}
 use Rattle.ar_base.proofs.Standing.{stands_get}
 use Rattle.class_table.specs.Members.{Site, NamedMember, named_at, names_of, owned_at}
 use Rattle.class_table.specs.Tables.{site_of}
-use Rattle.class_table.proofs.Laid.{append_none}
 use Rattle.class_table.proofs.Taken.{map_next}
 use Rattle.unit_things.specs.Nodes.{test_of, nodes_of}
 use Rattle.unit_things.proofs.Noded.{grown, nodes_join}
@@ -22,4 +22,4 @@ loop-site-preserved c = λ d holds known.
     let joined = nodes_join c.args.unit (test_of c.args.listed) (named_at d before) _ in
     grown _ _ _ _ _ _ (c.loop-site.invariant d holds known) (c.in_ok-add_site.ensures d holds known)
     (ap (λ (ss : List Site). nodes_of c.args.unit (test_of c.args.listed) (named_at d ss)) e
-    ∙ (ap (λ (gs : List NamedMember). nodes_of c.args.unit (test_of c.args.listed) gs) (f ∙ ap (λ (gs : List NamedMember). named_at d before ++ gs) (append_none _)) ∙ joined))
+    ∙ (ap (λ (gs : List NamedMember). nodes_of c.args.unit (test_of c.args.listed) gs) (f ∙ ap (λ (gs : List NamedMember). named_at d before ++ gs) (append-nil _)) ∙ joined))

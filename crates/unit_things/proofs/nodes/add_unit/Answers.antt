@@ -1,6 +1,6 @@
 use Rattle.std.proofs.Common.{◌≡◌, ℕ, ◌++◌, OnOk, List, sym, ◌∙◌, ap, subst, unwrap_or, slice_get, []}
+use Rattle.std.proofs.lemmas.List.{append-nil}
 use Rattle.class_table.specs.Members.{Site, named_at}
-use Rattle.class_table.proofs.Laid.{append_none}
 use Rattle.class_table.proofs.Taken.{item_stands}
 use Rattle.unit_things.specs.Nodes.{test_of, nodes_of}
 use Rattle.unit_things.proofs.OneName.{members_there, members_past}
@@ -10,7 +10,7 @@ pub returns-in-None : goal.returns-in-None
 returns-in-None c = λ m u table known b.
     let l = rw c.deref.ensures.value at c.in-None.ensures.lookup.3 in
     let e = ap (λ (n : ℕ). unwrap_or (slice_get m.members n) []) (sym b) ∙ members_past m c.args.classes.now table c.args.body.n l in
-    sym (ap (λ (ss : List Site). c.args.nodes.now.items ++ nodes_of c.args.unit (test_of c.args.listed) (named_at m.declared ss)) e ∙ append_none c.args.nodes.now.items)
+    sym (ap (λ (ss : List Site). c.args.nodes.now.items ++ nodes_of c.args.unit (test_of c.args.listed) (named_at m.declared ss)) e ∙ append-nil c.args.nodes.now.items)
 
 pub returns-in-Some : goal.returns-in-Some
 returns-in-Some c = λ m u table known b.

@@ -1,11 +1,11 @@
 use Rattle.std.proofs.Common.{◌≡◌, ◌<◌, ℕ, ◌++◌, ◌∷◌, [], List, length, None, take, sym, ◌∙◌, ap, subst, arith}
 use Rattle.std.specs.List.{flat_map}
-use Rattle.std.proofs.lemmas.List.{take_all}
+use Rattle.std.proofs.lemmas.List.{take_all, append-nil}
 use Rattle.std.proofs.lemmas.List.Concat.{flat_map-append}
 use Rattle.ar_base.specs.Lists.{Stands, Along}
 use Rattle.ar_base.specs.Lists.Along.{none as along_none}
 use Rattle.ar_base.proofs.Standing.{along_back, along_length, stands_get}
-use Rattle.class_table.proofs.Laid.{append_none, along_append}
+use Rattle.class_table.proofs.Laid.{along_append}
 use Rattle.class_table.proofs.Taken.{take_next}
 use Rattle.hierarchy.specs.Units.{UnitPath, Thing}
 use Rattle.hierarchy.specs.Listing.{things_in}
@@ -29,7 +29,7 @@ loop-place-preserved c = λ m units h known.
     let there = subst (λ (k : ℕ). Stands units k w.0) (sym n) w.1 in
     let grown = c.in_ok-add_unit.ensures m w.0 h.table.table known w.2.body in
     let things = ap (flat_map (things_in test m)) (take_next units c.loop-place.place w.0 w.1)
-    ∙ (flat_map-append (things_in test m) (take c.loop-place.place units) (w.0 ∷ []) ∙ ap (λ (ts : List Thing). flat_map (things_in test m) (take c.loop-place.place units) ++ ts) (append_none (things_in test m w.0))) in
+    ∙ (flat_map-append (things_in test m) (take c.loop-place.place units) (w.0 ∷ []) ∙ ap (λ (ts : List Thing). flat_map (things_in test m) (take c.loop-place.place units) ++ ts) (append-nil (things_in test m w.0))) in
     subst (λ (ts : List Thing). Along (IsNodeSo m units test) ts c.add_unit.new.nodes.items) (sym things)
     (subst (Along (IsNodeSo m units test) (flat_map (things_in test m) (take c.loop-place.place units) ++ things_in test m w.0)) (sym grown)
     (along_append _ _ _ _ (c.loop-place.invariant m units h known) (unit_nodes m units test c.new.result w.0 there h.table.kept)))

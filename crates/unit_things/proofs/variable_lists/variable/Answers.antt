@@ -7,8 +7,8 @@ use Rattle.class_table.specs.Tables.{site_of}
 use Rattle.hierarchy.specs.Units.{names_at}
 use Rattle.hierarchy.specs.Settings.{TargetWord, Named, word_of, is_state, settings_of, target_in, declared_in}
 use Rattle.hierarchy.specs.Tie.{HasDomain}
+use Rattle.hierarchy.proofs.Apart.{named_back}
 use Rattle.unit_things.specs.Values.{declared_type, last_of}
-use Rattle.unit_things.proofs.Named.{named_one}
 use Rattle.unit_things.proofs.InForce.{variable_at, target_one, declared_one}
 use Rattle.unit_things.proofs.variable_lists.variable.Goals as goal
 
@@ -24,7 +24,7 @@ returns c = λ m units t h known kept so.
     let form : c.in-Some-type_of.form ≡ v.type = cc in
     let settings = c.settings_of.ensures ∙ (ap settings_of there ∙ v.settings_are) in
     let state = c.is_state-is_state.ensures ∙ ap is_state settings in
-    let name : g.name ≡ c.args.node.name.n = (named_one (names_at m t.unit) t.name g so.node.is).1 ∙ sym so.node.name in
+    let name : g.name ≡ c.args.node.name.n = (named_back (names_at m t.unit) t.name g so.node.is).1 ∙ sym so.node.name in
     let words = c.in_ok-push-2.ensures.items
     ∙ ap (λ (ws : List Word). ws ++ c.last_word.result ∷ []) (c.in_ok-push.ensures.items ∙ ap (λ (ws : List Word). ws ++ word.Name c.args.node.name ∷ []) c.new-target.ensures.items) in
     let last = sym (c.last_word.ensures ∙ ap last_of state) in

@@ -1,16 +1,15 @@
 use Rattle.std.proofs.Common.{◌++◌, List, subst, arith}
-use Rattle.std.proofs.lemmas.List.{take_all}
+use Rattle.std.proofs.lemmas.List.{take_all, append-nil}
 use Rattle.ar_base.specs.Lists.{Along}
 use Rattle.ar_base.specs.Numbers.{NameId}
 use Rattle.ar_base.specs.declared.places.Place.{Place}
 use Rattle.class_table.specs.Tables.{site_of}
-use Rattle.class_table.proofs.Laid.{append_none}
 use Rattle.unit_walks.specs.Forms.{IsUnitName, instances}
 use Rattle.unit_walks.proofs.NameLists.{instance_pushed}
 use Rattle.unit_walks.proofs.indexing.add_instances.Goals as goal
 
 pub loop-name-init : goal.loop-name-init
-loop-name-init c = λ gs h. rw append_none h
+loop-name-init c = λ gs h. rw append-nil h
 
 pub loop-name-preserved : goal.loop-name-preserved
 loop-name-preserved c = λ gs h. instance_pushed c.loop-name.list.items c.push.new.self.items c.args.names.now c.loop-name.name-index gs c.args.body c.args.site _ (omega arith) c.in_ok-push.ensures.items (c.loop-name.invariant gs h)

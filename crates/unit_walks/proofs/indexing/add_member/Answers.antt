@@ -1,6 +1,6 @@
 use Rattle.std.proofs.Common.{refl}
+use Rattle.ar_base.proofs.Items.{along_push}
 use Rattle.unit_walks.specs.Forms.{inner}
-use Rattle.unit_walks.proofs.NameLists.{along_push}
 use Rattle.unit_walks.proofs.indexing.add_member.Goals as goal
 
 pub returns-in-Plain : goal.returns-in-Plain

@@ -2,7 +2,8 @@ use Rattle.std.proofs.Common.{ℤ, FitsSigned, sym, ◌∙◌, ap, subst}
 use Rattle.std.specs.Fmt.{signed_decimal}
 use Rattle.std.specs.Int.{w64}
 use Rattle.std.proofs.lemmas.Int.{to_z-of_z}
-use Rattle.wanted_values.proofs.Words.{parsed, same_number, equal_is_false}
+use Rattle.ar_base.proofs.Truths.{equal_is_false}
+use Rattle.wanted_values.proofs.Words.{parsed, same_number}
 use Rattle.wanted_values.proofs.values.number.Goals as goal
 
 pub returns-in_default-clause-none : goal.returns-in_default-clause-none

@@ -2,8 +2,9 @@ use Rattle.std.proofs.Common.{◌≡◌, ℕ, List, sym, ◌∙◌, subst, arith
 use Rattle.std.proofs.lemmas.Slice.Eq.{bytes_eq-Decides}
 use Rattle.ar_base.specs.Lists.{Stands}
 use Rattle.ar_base.proofs.Standing.{stands_within}
+use Rattle.ar_base.proofs.Truths.{equal_is_false}
 use Rattle.wanted_values.specs.Wanting as w
-use Rattle.wanted_values.proofs.Words.{none_more, not_symbol, equal_is_false, is_here, is_not}
+use Rattle.wanted_values.proofs.Words.{none_more, not_symbol, is_here, is_not}
 use Rattle.wanted_values.proofs.values.symbol.Goals as goal
 
 pub returns-then-eq : goal.returns-then-eq

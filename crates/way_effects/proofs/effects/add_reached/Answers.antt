@@ -1,13 +1,15 @@
 use Rattle.std.proofs.Common.{◌≡◌, ◌+◌, ◌++◌, ◌∷◌, [], Bool, cond, List, Vec, Global, take, sym, ap, ◌∙◌, append_assoc}
+use Rattle.std.proofs.lemmas.List.{append-nil}
 use Rattle.std.specs.List.{list_all}
 use Rattle.domains.specs.declared.Value.{Value}
 use Rattle.typed_expr.specs.declared.expr.Expr.{Expr}
 use Rattle.ar_base.specs.Numbers.{VarId}
+use Rattle.ar_base.proofs.Items.{take_item}
 use Rattle.gts_core.specs.declared.system.Assign.{Assign}
 use Rattle.gts_core.specs.Readings.{is_met}
 use Rattle.way_effects.specs.Effects.{action_effects, effect_of}
 use Rattle.way_effects.specs.declared.effects.Effect.{Effect}
-use Rattle.way_effects.proofs.Growing.{action_more, one_effect, take_item, add_nothing}
+use Rattle.way_effects.proofs.Growing.{action_more, one_effect}
 use Rattle.way_effects.proofs.effects.add_reached.Goals as goal
 use Rattle.way_effects.proofs.effects.add_reached.Goals.{then-are_met+in_ok-push, else-are_met}
 
@@ -29,5 +31,5 @@ loop-assign-preserved c =
           ∙ ap (λ (z : Value). (first ++ action_effects t (take i action)) ++ record { target = a.target; value = z } ∷ []) w.value_in.ensures ∙ ap (λ (z : List Effect). (first ++ action_effects t (take i action)) ++ z) (sym one) ∙ sym goal_is
       | else-are_met w ↦
           let one : one_effect t a ≡ [] = ap (λ (z : Bool). cond z (effect_of t a ∷ []) []) (sym met ∙ w.if-are_met.false) in
-          ap (λ (z : Vec Effect Global). z.items) w.all-is ∙ c.loop-assign.invariant ∙ sym (add_nothing (first ++ action_effects t (take i action))) ∙ ap (λ (z : List Effect). (first ++ action_effects t (take i action)) ++ z) (sym one) ∙ sym goal_is
+          ap (λ (z : Vec Effect Global). z.items) w.all-is ∙ c.loop-assign.invariant ∙ sym (append-nil (first ++ action_effects t (take i action))) ∙ ap (λ (z : List Effect). (first ++ action_effects t (take i action)) ++ z) (sym one) ∙ sym goal_is
     ]

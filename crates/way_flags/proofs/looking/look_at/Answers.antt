@@ -1,12 +1,13 @@
 use Rattle.std.proofs.Common.{◌≡◌, ◌<◌, ◌∙◌, ◌++◌, ◌∷◌, [], Bool, List, length, ap, sym, subst, arith}
 use Rattle.ar_base.specs.Lists.{Stands}
 use Rattle.ar_base.specs.Numbers.{WayId}
+use Rattle.ar_base.proofs.Truths.{not_equal}
 use Rattle.gts_core.specs.declared.system.Way.{Way}
 use Rattle.way_flags.specs.Ways.{can_by, flag_at}
 use Rattle.way_flags.specs.Renewing.{AreSettled, AreTurned, WaitsAt}
 use Rattle.way_flags.proofs.Lists.{read_stands}
 use Rattle.way_flags.proofs.Turned.{flip, turned_more}
-use Rattle.way_flags.proofs.Settling.{looked_still, looked_turned, same_flag, other_flag, within_order, here_way}
+use Rattle.way_flags.proofs.Settling.{looked_still, looked_turned, same_flag, within_order, here_way}
 use Rattle.way_flags.proofs.looking.look_at.Goals as goal
 
 pub index-way-requires : goal.index-way-requires
@@ -46,7 +47,7 @@ both c =
     let way = c.index.result.now in
     let st = read_stands p.ways.items id.n way (c.requires.index.order.inside c.args.place id at) c.index.ensures in
     let differs : can_by c.args.values.now can way.body ≡ flag_at can id.n → ⊥ =
-    λ e. other_flag c.can_fire-now.result c.is_set.result c.if-now-is_set.false
+    λ e. not_equal c.can_fire-now.result c.is_set.result c.if-now-is_set.false
     (c.can_fire-now.ensures ∙ ap (λ (z : List Bool). can_by c.args.values.now z way.body) c.deref.ensures.value ∙ e ∙ sym (c.is_set.ensures ∙ ap (λ (z : List Bool). flag_at z id.n) c.deref-2.ensures.value)) in
     let r = looked_turned p c.requires.sound ix c.requires.index c.args.values.now id.n c.args.place way c.args.waiting.now c.add_above.new.waiting can placed st differs c.in_ok-add_above.ensures c.requires.settled in
     (subst (λ (z : List Bool). AreSettled p ix.places.items c.args.values.now c.add_above.new.waiting z) (sym c.turn_one.ensures) r.0, r.1)

@@ -4,10 +4,10 @@ use Rattle.typed_expr.specs.Possible.{IsWide}
 use Rattle.typed_expr.specs.declared.expr.Expr.{out-Expr}
 use Rattle.ar_meaning.specs.Facts.{Allows}
 use Rattle.ar_base.proofs.Standing.{stands_one, stands_within, stands_item, at_most}
+use Rattle.ar_base.proofs.Comparing.{first_place}
 use Rattle.gts_core.specs.View.{net_of, numbered}
 use Rattle.gts_core.specs.declared.system.Observer.{Observer}
 use Rattle.wide_values.specs.Wide.{IsWideObserver}
-use Rattle.wide_values.proofs.Allowing.{first_place}
 use Rattle.ar_meaning.proofs.Found.{holds, fails}
 use Rattle.wide_values.proofs.searches.first_observer.Goals as goal
 

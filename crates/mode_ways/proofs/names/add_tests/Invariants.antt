@@ -1,7 +1,0 @@
-use Rattle.std.proofs.Common.{drop}
-use Rattle.ar_meaning.specs.Dependence.{Tests}
-use Rattle.mode_ways.proofs.Added.{Remains}
-use Rattle.mode_ways.proofs.names.add_tests.Given as goal
-
-abbrev pub invariant-loop-test : goal.invariant-loop-test
-invariant-loop-test l = Remains (λ x. Tests x (drop l.test-index l.tests)) (λ x. Tests x l.tests) l.initial.found.items l.found.items

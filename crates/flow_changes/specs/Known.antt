@@ -1,5 +1,5 @@
 -- What is known while facts are gathered in place.
-use Rattle.std.specs.Prelude.{◌≡◌, ◌<◌, ◌⊎◌, ◌+◌, ℕ, Bool, true, false, cond, List, [], ◌∷◌, Contains, Option, Some, None, slice_get, map}
+use Rattle.std.specs.Prelude.{◌≡◌, ◌<◌, ◌⊎◌, ◌+◌, ℕ, Bool, true, false, cond, List, [], ◌∷◌, length, Contains, Option, Some, None, slice_get, map}
 use Rattle.ar_base.specs.Lists.{Stands, IsOneOf}
 use Rattle.ar_base.specs.Numbers.{VarId}
 use Rattle.domains.specs.Domains.{Holds}
@@ -33,6 +33,14 @@ pub record Puts (domain : Domain) (target : ℕ) (set : List Value) (values_then
   pub still : changed ≡ false → (values ≡ values_then) × (known ≡ known_then)
   pub there : (v : Value) → Contains set v → Knows values known target v × Holds domain v
   pub less : changed ≡ true → unmarked known < unmarked known_then
+
+-- the value cannot become known: the domain lacks it, or another one is known
+abbrev pub IsBarred : Domain → ℕ → Value → List Value → List Bool → Type 0
+IsBarred domain target v values known = (Holds domain v → ⊥) ⊎ ((w : Value) × Knows values known target w × (w ≡ v → ⊥))
+
+-- these values cannot become known: there are two, or the only one cannot
+abbrev pub IsSetBarred : Domain → ℕ → List Value → List Value → List Bool → Type 0
+IsSetBarred domain target set values known = (1 < length set) ⊎ ((v : Value) × (set ≡ v ∷ []) × IsBarred domain target v values known)
 
 -- values that are given up or put: those of other variables stay, and this one's stays or is one of the domain
 pub record Touches (domain : Domain) (target : ℕ) (values_then : List Value) (known_then : List Bool) (values : List Value) (known : List Bool) : Type 0 where

@@ -19,7 +19,8 @@ pub(crate) fn all_hold(parts: &GtsParts, order: &[u32], list: &[usize], values: 
     requires total { IsTotal parts.now values.now }
     requires within { AreWithin list.now order.now }
     requires below { AreWithin order.now parts.now.assigns.items }
-    ensures { result ≡ true → (q n : ℕ) (a : Assigns) → IsOneOf list.now q → Stands order.now q n → Stands parts.now.assigns.items n a → IsBroken (net_of parts.now) values.now (assign_of a) → ⊥ }
+    ensures { IsAnswer result ((q n : ℕ) (a : Assigns) → IsOneOf list.now q → Stands order.now q n
+        → Stands parts.now.assigns.items n a → IsBroken (net_of parts.now) values.now (assign_of a) → ⊥) }
 {
     for place in list {
         if is_broken(parts, &parts.assigns[order[*place] as usize], values) {

@@ -1,11 +1,12 @@
 // Whether every variable that an assignment names is marked.
 
-ghost use Rattle.std.specs.Prelude.{◌≡◌, ℕ, true};
+ghost use Rattle.std.specs.Prelude.{◌≡◌, ◌&&◌, ℕ, true};
 ghost use Rattle.ar_base.specs.Lists.{Stands};
 ghost use Rattle.ar_base.specs.Numbers.{VarId as Numbered};
 ghost use Rattle.typed_expr.specs.Mentions.{Mentions, Some_mentions, Parts_mention, Cases_mention};
 ghost use Rattle.typed_expr.specs.declared.expr.Expr.{out-Expr};
 ghost use Rattle.ar_meaning.specs.Dependence.{Names, Tests};
+ghost use Rattle.ar_meaning.specs.Found.{IsAnswer};
 ghost use Rattle.gts_core.specs.View.{assign_of};
 ghost use Rattle.flow_changes.specs.Known.{MarksEach};
 
@@ -16,7 +17,7 @@ use typed_expr::Expr;
 
 // Whether every variable that the assignment names in its value or in a condition is marked.
 pub(crate) fn names_marked(assign: &Assign, marks: &[bool]) -> bool
-    ensures { result ≡ true → (n : ℕ) → Names (assign_of assign.now) n → Stands marks.now n true }
+    ensures { IsAnswer result ((n : ℕ) → Names (assign_of assign.now) n → Stands marks.now n true) }
 {
     if !is_marked(&assign.value, marks) {
         return false;
@@ -26,7 +27,7 @@ pub(crate) fn names_marked(assign: &Assign, marks: &[bool]) -> bool
 
 // The same for the conditions of an assignment.
 fn tests_marked(tests: &[(Expr<VarId>, bool)], marks: &[bool]) -> bool
-    ensures { result ≡ true → MarksEach marks.now (λ x. Tests x tests.now) }
+    ensures { IsAnswer result (MarksEach marks.now (λ x. Tests x tests.now)) }
 {
     for (test, _) in tests {
         if !is_marked(test, marks) {
@@ -39,7 +40,7 @@ fn tests_marked(tests: &[(Expr<VarId>, bool)], marks: &[bool]) -> bool
 // The same for an expression.
 #[cycle(marked)]
 fn is_marked(expr: &Expr<VarId>, marks: &[bool]) -> bool
-    ensures { result ≡ true → MarksEach marks.now (λ x. Mentions x (out-Expr Numbered expr.now)) }
+    ensures { IsAnswer result (MarksEach marks.now (λ x. Mentions x (out-Expr Numbered expr.now))) }
 {
     match expr {
         Expr::Constant(_) => true,
@@ -59,7 +60,7 @@ fn is_marked(expr: &Expr<VarId>, marks: &[bool]) -> bool
 
 // Whether both are true.
 fn both(a: bool, b: bool) -> bool
-    ensures { result ≡ true → (a ≡ true) × (b ≡ true) }
+    ensures { result ≡ (a && b) }
 {
     a && b
 }
@@ -67,7 +68,7 @@ fn both(a: bool, b: bool) -> bool
 // The same for each of these expressions.
 #[cycle(marked)]
 fn some_marked(es: &[Expr<VarId>], marks: &[bool]) -> bool
-    ensures { result ≡ true → MarksEach marks.now (λ x. Some_mentions x es.now) }
+    ensures { IsAnswer result (MarksEach marks.now (λ x. Some_mentions x es.now)) }
 {
     for e in es {
         if !is_marked(e, marks) {
@@ -80,7 +81,7 @@ fn some_marked(es: &[Expr<VarId>], marks: &[bool]) -> bool
 // The same for the parts of a sum.
 #[cycle(marked)]
 fn parts_marked(parts: &[(bool, Expr<VarId>)], marks: &[bool]) -> bool
-    ensures { result ≡ true → MarksEach marks.now (λ x. Parts_mention x parts.now) }
+    ensures { IsAnswer result (MarksEach marks.now (λ x. Parts_mention x parts.now)) }
 {
     for (_, e) in parts {
         if !is_marked(e, marks) {
@@ -93,7 +94,7 @@ fn parts_marked(parts: &[(bool, Expr<VarId>)], marks: &[bool]) -> bool
 // The same for the cases of a choice.
 #[cycle(marked)]
 fn cases_marked(cases: &[(Expr<VarId>, Expr<VarId>)], marks: &[bool]) -> bool
-    ensures { result ≡ true → MarksEach marks.now (λ x. Cases_mention x cases.now) }
+    ensures { IsAnswer result (MarksEach marks.now (λ x. Cases_mention x cases.now)) }
 {
     for (test, value) in cases {
         if !both(is_marked(test, marks), is_marked(value, marks)) {

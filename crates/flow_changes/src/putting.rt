@@ -1,6 +1,6 @@
 // Values that become known.
 
-ghost use Rattle.std.specs.Prelude.{◌≡◌, ◌<◌, ◌∷◌, [], ℕ, true, false, length, IfOk, IfSome};
+ghost use Rattle.std.specs.Prelude.{◌≡◌, ◌<◌, ◌∷◌, [], ℕ, true, false, length, IfOk, IfSome, IfNone};
 ghost use Rattle.ar_base.specs.Lists.{IsOneOf, Stands};
 ghost use Rattle.gts_core.specs.declared.system.Variable.{Variable};
 ghost use Rattle.domains.specs.Domains.{IsDomain};
@@ -9,7 +9,7 @@ ghost use Rattle.gts_core.specs.Readings.{IsTotal};
 ghost use Rattle.gts_core.specs.Sound.{IsSound};
 ghost use Rattle.gts_core.specs.View.{assign_of};
 ghost use Rattle.value_changes.specs.Picking.{KeepsOthers};
-ghost use Rattle.flow_changes.specs.Known.{Puts, Touches, Applies};
+ghost use Rattle.flow_changes.specs.Known.{Puts, Touches, Applies, IsBarred, IsSetBarred};
 
 use crate::known::{Known, yielded};
 use crate::marked::names_marked;
@@ -31,6 +31,7 @@ fn put(
     requires marked { target < length known.old.items }
     ensures touches { Touches domain.now target values.old.items known.old.items values.new.items known.new.items }
     ensures puts { IfSome result (Puts domain.now target (v ∷ []) values.old.items known.old.items values.new.items known.new.items) }
+    ensures none { IfNone result (IsBarred domain.now target v values.old.items known.old.items) }
 {
     if !domain.holds(v) {
         return None;
@@ -46,7 +47,8 @@ fn put(
 
 // Nothing new where the values are the same; none where they differ.
 fn confirm(old: Value, v: Value) -> Option<bool>
-    ensures { IfSome result (λ changed. (changed ≡ false) × (old ≡ v)) }
+    ensures same { IfSome result (λ changed. (changed ≡ false) × (old ≡ v)) }
+    ensures other { IfNone result (old ≡ v → ⊥) }
 {
     if old == v { Some(false) } else { None }
 }
@@ -64,6 +66,7 @@ fn put_all(
     requires marked { target < length known.old.items }
     ensures touches { Touches domain.now target values.old.items known.old.items values.new.items known.new.items }
     ensures puts { IfSome result (Puts domain.now target set.now values.old.items known.old.items values.new.items known.new.items) }
+    ensures none { IfNone result (IsSetBarred domain.now target set.now values.old.items known.old.items) }
 {
     if set.len() == 0 {
         return Some(false);

@@ -14,7 +14,7 @@ use Rattle.gts_core.specs.declared.system.GtsParts.{GtsParts}
 use Rattle.value_changes.specs.Changes.{HasChanged, AreChanges, numbers}
 use Rattle.value_changes.specs.Codes.{coded}
 use Rattle.value_changes.specs.Picking.{KeepsOthers, ArePicked}
-use Rattle.value_changes.specs.Restoring.{decoded_in, decoded_at, restored, mark_at, turned, GivesBack}
+use Rattle.value_changes.specs.Restoring.{decoded_in, decoded_at, restored, mark_at, turned, GivesBack, TurnsBack}
 use Rattle.value_changes.proofs.Picks.{set_other, one_taken, one_before, one_now, keeps_same, back_next, back_done}
 use Rattle.value_changes.proofs.Coding.{decoded_coded}
 use Rattle.value_changes.proofs.Restored.{restored_more}
@@ -76,7 +76,7 @@ module _ {A : Type 0} (m : List ℕ) (was old now : List A) (picked : ArePicked 
   back_all i back h is = back_done m was back i h is.back
 
 -- these are those of the first members that changed, ascending
-pub record AreFirstChanges (first : List ℕ) (old new : List Value) (variables : List VarId) : Type 0 where
+pub record AreFirstChanges {A : Type 0} (first : List ℕ) (old new : List A) (variables : List VarId) : Type 0 where
   pub ascend : Ascends (numbers variables)
   pub each : (n : ℕ) → (IsOneOf (numbers variables) n ↔ (IsOneOf first n × HasChanged old new n))
 
@@ -92,13 +92,13 @@ last_one xs a n b h = elim (stands_split xs (a ∷ []) n b h) [ inl k ↦ inl k 
     last (suc k) e s = absurd (stands_none k b s)
 
 -- none of no members changed
-pub no_changes : (m : List ℕ) (old new : List Value) → AreFirstChanges (take 0 m) old new []
+pub no_changes : {A : Type 0} (m : List ℕ) (old new : List A) → AreFirstChanges (take 0 m) old new []
 no_changes m old new = record {
   ascend = record { ascends = λ j k a b l s t. absurd (stands_none j a s) };
   each = λ n. (λ h. absurd (one_none n h), λ h. absurd (one_none n h.0));
 }
 
-module _ (m : List ℕ) (i n : ℕ) (ascend : Ascends m) (s : Stands m i n) (old new : List Value) (xs : List VarId) (are : AreFirstChanges (take i m) old new xs) where
+module _ {A : Type 0} (m : List ℕ) (i n : ℕ) (ascend : Ascends m) (s : Stands m i n) (old new : List A) (xs : List VarId) (are : AreFirstChanges (take i m) old new xs) where
   -- the next one changed
   pub changed_more : HasChanged old new n → (x : VarId) → x.n ≡ n → AreFirstChanges (take (i + 1) m) old new (xs ++ x ∷ [])
   changed_more changed x e = record {
@@ -138,8 +138,8 @@ module _ (m : List ℕ) (i n : ℕ) (ascend : Ascends m) (s : Stands m i n) (old
       before k h (inr e) = absurd (kept (subst (λ (z : ℕ). HasChanged old new z) (sym e) h))
 
 -- all were looked at, and the others are as they were
-pub changed_all : (m : List ℕ) (i : ℕ) (old new : List Value) (xs : List VarId) → length m ≤ i → KeepsOthers m old new → AreFirstChanges (take i m) old new xs → AreChanges old new xs
-changed_all m i old new xs l keeps are = record {
+pub changed_all : {A : Type 0} (m : List ℕ) (i : ℕ) (old new : List A) (xs : List VarId) → length m ≤ i → KeepsOthers m old new → AreFirstChanges (take i m) old new xs → AreChanges old new xs
+changed_all {A} m i old new xs l keeps are = record {
   ascend = are.ascend;
   each = λ n. (λ h. ((are.each n).0 h).1, λ h. (are.each n).1 (subst (λ (z : List ℕ). IsOneOf z n) (sym (take_all i m l)) (member n h (member_told m n)), h));
 }
@@ -149,14 +149,20 @@ changed_all m i old new xs l keeps are = record {
     member n h (inr f) = absurd (h.differ (stands_one new n h.before h.after (keeps.others n f ∙ h.had) h.has))
 
 -- what changed on the way there changes on the way back
-pub changes_back : (old new : List Value) (xs : List VarId) → AreChanges old new xs → AreChanges new old xs
-changes_back old new xs are = record {
+pub changes_back : {A : Type 0} (old new : List A) (xs : List VarId) → AreChanges old new xs → AreChanges new old xs
+changes_back {A} old new xs are = record {
   ascend = are.ascend;
   each = λ n. (λ h. other old new n ((are.each n).0 h), λ h. (are.each n).1 (other new old n h));
 }
   where
-    other : (a b : List Value) (n : ℕ) → HasChanged a b n → HasChanged b a n
+    other : (a b : List A) (n : ℕ) → HasChanged a b n → HasChanged b a n
     other a b n h = record { before = h.after; after = h.before; had = h.has; has = h.had; differ = λ e. h.differ (sym e) }
+
+-- what a member had
+had : {A : Type 0} (m : List ℕ) (old new before : List A) (i n : ℕ) (v w : A) → Stands m i n → Stands old i v → Stands new n w → ArePicked m before old → KeepsOthers m before new → Stands before n v
+had {A} m old new before i n v w s t u picked keeps =
+    let b = stands_some before n (let l = stands_within new n w u in omega (arith, l, keeps.long)) in
+    subst (λ (z : A). Stands before n z) (stands_one old i b.0 v (picked.each i n b.0 s b.1) t) b.1
 
 -- the variables found among the first members, the codes of their old values, and what these give back
 pub record IsFound (p : GtsParts) (first rest : List ℕ) (before new : List Value) (variables : List VarId) (codes : List ℕ) : Type 0 where
@@ -174,18 +180,12 @@ module _ (p : GtsParts) (m : List ℕ) (old new : List Value) (ascend : Ascends 
   found_none before picked keeps total = record { long = refl; back = back_none m before old new picked keeps; changes = no_changes m before new }
 
   module _ (i n : ℕ) (xs : List VarId) (cs : List ℕ) (s : Stands m i n) (found : AreFound p m i old new xs cs) (v w : Value) (t : Stands old i v) (u : Stands new n w) where
-    -- what the next member had
-    had : (before : List Value) → ArePicked m before old → KeepsOthers m before new → Stands before n v
-    had before picked keeps =
-        let b = stands_some before n (let l = stands_within new n w u in omega (arith, l, keeps.long)) in
-        subst (λ (z : Value). Stands before n z) (stands_one old i b.0 v (picked.each i n b.0 s b.1) t) b.1
-
     -- one more was found
     pub found_more : (v ≡ w → ⊥) → (x : VarId) → x.n ≡ n → (variable : Variable) → Stands p.variables.items n variable → AreFound p m (i + 1) old new (xs ++ x ∷ []) (cs ++ coded variable.domain v ∷ [])
     found_more differ x e variable stands before picked keeps total =
         let f = found before picked keeps total in
         let c = coded variable.domain v in
-        let here = had before picked keeps in
+        let here = had m old new before i n v w s t u picked keeps in
         let value : decoded_at p x.n c ≡ v =
         ap (λ (z : ℕ). decoded_at p z c) e ∙ ap (λ (z : Option Variable). decoded_in z c) stands ∙ decoded_coded variable.domain v (total.in_domain n variable v stands here) in
         let more : restored p new (xs ++ x ∷ []) (cs ++ c ∷ []) ≡ set (restored p new xs cs) n v =
@@ -202,7 +202,7 @@ module _ (p : GtsParts) (m : List ℕ) (old new : List Value) (ascend : Ascends 
     found_same e before picked keeps total =
         let f = found before picked keeps total in
         let there : Stands new n v = subst (λ (z : Value). Stands new n z) (sym e) u in
-        let here = had before picked keeps in
+        let here = had m old new before i n v w s t u picked keeps in
         record {
           long = f.long;
           back = back_keep m before old new picked i n (restored p new xs cs) ascend f.back s v t there (stands_within new n w u);
@@ -216,9 +216,14 @@ module _ (p : GtsParts) (m : List ℕ) (old new : List Value) (ascend : Ascends 
       let f = found before picked keeps total in
       record { long = f.long; changes = changed_all m i before new xs l keeps f.changes; values = back_all m before old new picked i (restored p new xs cs) l f.back }
 
+-- the variables found among the first members whose marks turned, and what these give back
+pub record IsTurned (first rest : List ℕ) (before new : List Bool) (variables : List VarId) : Type 0 where
+  pub back : IsBack first rest before new (turned new variables)
+  pub turns : AreFirstChanges first before new variables
+
 -- what a loop over the members keeps of the marks, whatever they were
 abbrev pub AreTurned : (members : List ℕ) → ℕ → (old new : List Bool) → List VarId → Type 0
-AreTurned m i old new variables = (before : List Bool) → ArePicked m before old → KeepsOthers m before new → IsBack (take i m) (drop i m) before new (turned new variables)
+AreTurned m i old new variables = (before : List Bool) → ArePicked m before old → KeepsOthers m before new → IsTurned (take i m) (drop i m) before new variables
 
 mark_there : (marks : List Bool) (n : ℕ) (b : Bool) → Stands marks n b → mark_at marks n ≡ b
 mark_there marks n b s = ap (λ (z : Option Bool). unwrap_or z false) s
@@ -226,7 +231,7 @@ mark_there marks n b s = ap (λ (z : Option Bool). unwrap_or z false) s
 module _ (m : List ℕ) (old new : List Bool) (ascend : Ascends m) where
   -- nothing was looked at
   pub turned_none : AreTurned m 0 old new []
-  turned_none before picked keeps = back_none m before old new picked keeps
+  turned_none before picked keeps = record { back = back_none m before old new picked keeps; turns = no_changes m before new }
 
   module _ (i n : ℕ) (xs : List VarId) (s : Stands m i n) (turning : AreTurned m i old new xs) (a b : Bool) (t : Stands old i a) (u : Stands new n b) where
     -- one more was turned
@@ -234,16 +239,27 @@ module _ (m : List ℕ) (old new : List Bool) (ascend : Ascends m) where
     turned_more differ x e before picked keeps =
         let f = turning before picked keeps in
         let back = turned new xs in
-        let there : mark_at back n ≡ b = mark_there back n b (still m before old new picked i n back ascend f s b u) in
+        let there : mark_at back n ≡ b = mark_there back n b (still m before old new picked i n back ascend f.back s b u) in
         let more : turned new (xs ++ x ∷ []) ≡ set back n a =
         turned_last new xs x ∙ ap (λ (z : ℕ). set back z (not (mark_at back z))) e ∙ ap (λ (z : Bool). set back n (not z)) there ∙ ap (λ (z : Bool). set back n z) (other_mark a b differ) in
-        subst (λ (z : List Bool). IsBack (take (i + 1) m) (drop (i + 1) m) before new z) (sym more) (back_set m before old new picked i n back ascend f s a t (stands_within new n b u))
+        record {
+          back = subst (λ (z : List Bool). IsBack (take (i + 1) m) (drop (i + 1) m) before new z) (sym more) (back_set m before old new picked i n back ascend f.back s a t (stands_within new n b u));
+          turns = changed_more m i n ascend s before new xs f.turns (record { before = a; after = b; had = had m old new before i n a b s t u picked keeps; has = u; differ = differ }) x e;
+        }
 
     -- the next one has the mark that it had
     pub turned_same : a ≡ b → AreTurned m (i + 1) old new xs
     turned_same e before picked keeps =
-        back_keep m before old new picked i n (turned new xs) ascend (turning before picked keeps) s a t (subst (λ (z : Bool). Stands new n z) (sym e) u) (stands_within new n b u)
+        let f = turning before picked keeps in
+        let there : Stands new n a = subst (λ (z : Bool). Stands new n z) (sym e) u in
+        let here = had m old new before i n a b s t u picked keeps in
+        record {
+          back = back_keep m before old new picked i n (turned new xs) ascend f.back s a t there (stands_within new n b u);
+          turns = changed_same m i n ascend s before new xs f.turns (λ h. h.differ (stands_one before n h.before a h.had here ∙ sym (stands_one new n h.after a h.has there)));
+        }
 
   -- all were looked at
-  pub turned_all : (i : ℕ) (xs : List VarId) → length m ≤ i → AreTurned m i old new xs → (before : List Bool) → ArePicked m before old → KeepsOthers m before new → turned new xs ≡ before
-  turned_all i xs l turning before picked keeps = back_all m before old new picked i (turned new xs) l (turning before picked keeps)
+  pub turned_all : (i : ℕ) (xs : List VarId) → length m ≤ i → AreTurned m i old new xs → (before : List Bool) → ArePicked m before old → KeepsOthers m before new → TurnsBack before new xs
+  turned_all i xs l turning before picked keeps =
+      let f = turning before picked keeps in
+      record { turns = changed_all m i before new xs l keeps f.turns; marks = back_all m before old new picked i (turned new xs) l f.back }

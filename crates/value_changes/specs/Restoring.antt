@@ -39,9 +39,15 @@ pub record GivesBack (p : GtsParts) (old new : List Value) (variables : List Var
   pub changes : AreChanges old new variables
   pub values : restored p new variables codes ≡ old
 
+-- these variables are those whose marks turned from some marks to others, and give the first back
+pub record TurnsBack (old new : List Bool) (variables : List VarId) : Type 0 where
+  pub turns : AreChanges old new variables
+  pub marks : turned new variables ≡ old
+
 -- these say what changed from one valuation with marks to another, and give the first back
 pub record TellsChanges (p : GtsParts) (old : List Value) (old_known : List Bool) (new : List Value) (known : List Bool) (c : Changes) : Type 0 where
   pub long : length c.variables.items ≡ length c.old.items
   pub changes : AreChanges old new c.variables.items
   pub values : restored p new c.variables.items c.old.items ≡ old
+  pub turns : AreChanges old_known known c.turned.items
   pub marks : turned known c.turned.items ≡ old_known

@@ -7,7 +7,7 @@ ghost use Rattle.domains.specs.declared.Value.{Value};
 ghost use Rattle.gts_core.specs.Readings.{IsTotal};
 ghost use Rattle.gts_core.specs.Sound.{IsSound};
 ghost use Rattle.value_changes.specs.Picking.{ArePicked, AreWithin, KeepsOthers};
-ghost use Rattle.value_changes.specs.Restoring.{GivesBack, TellsChanges, turned};
+ghost use Rattle.value_changes.specs.Restoring.{GivesBack, TellsChanges, TurnsBack};
 
 use crate::codes::code_of;
 use ar_base::{Memory, VarId};
@@ -106,7 +106,7 @@ fn differs(a: Value, b: Value) -> bool
     a != b
 }
 
-// Which of these variables have other marks than they had.
+// Which of these variables have other marks than they had, ascending.
 fn turned_marks(
     alloc: Global,
     members: &[u32],
@@ -117,7 +117,7 @@ fn turned_marks(
     requires within { AreWithin members.now known.now }
     requires long { length old_known.now ≡ length members.now }
     ensures { IfOk result (λ v. (before : List Bool) → ArePicked members.now before old_known.now
-        → KeepsOthers members.now before known.now → turned known.now v.items ≡ before) }
+        → KeepsOthers members.now before known.now → TurnsBack before known.now v.items) }
 {
     let mut variables = Vec::new(alloc);
     for (place, n) in members.iter().enumerate() {

@@ -1,6 +1,6 @@
 use Rattle.std.proofs.Common.{◌≡◌, ◌<◌, ℕ, List, inl, inr, length, get_or, rules, sym, subst, take_all}
 use Rattle.ar_base.specs.Lists.{Stands, IsOneOf}
-use Rattle.ar_base.proofs.Standing.{stands_get, stands_item, stands_one}
+use Rattle.ar_base.proofs.Standing.{stands_get, stands_item, stands_one, one_here}
 use Rattle.ar_meaning.specs.Flows.{IsBroken}
 use Rattle.gts_core.specs.View.{net_of, assign_of}
 use Rattle.gts_core.specs.declared.system.Assign.{Assign}
@@ -47,4 +47,16 @@ loop-place-preserved c = λ q n a o sq sa b.
     ]
 
 pub returns : goal.returns
-returns c = λ e q n a o. c.loop-place.invariant q n a (subst (λ (z : List ℕ). IsOneOf z q) (sym (take_all c.loop-place.place-index c.args.list.now c.loop-place-test.false)) o)
+returns c = λ q n a o. c.loop-place.invariant q n a (subst (λ (z : List ℕ). IsOneOf z q) (sym (take_all c.loop-place.place-index c.args.list.now c.loop-place-test.false)) o)
+
+pub returns-then-is_broken : goal.returns-then-is_broken
+returns-then-is_broken c = λ all.
+    let p = c.args.parts.now in
+    let i = c.loop-place.place-index in
+    let list = c.args.list.now in
+    let order = c.args.order.now in
+    let here = get_or list i 0 in
+    let h : here < length order = within_at list order c.requires.within i c.loop-place-test.true in
+    let n = get_or order here 0 in
+    let k : n < length p.assigns.items = within_at order p.assigns.items c.requires.below here h in
+    all here n c.index.result.now (one_here list i here (stands_get list i 0 c.loop-place-test.true)) (stands_get order here 0 h) (stands_item p.assigns.items n c.index.result.now k c.index.ensures) c.if-is_broken.ensures

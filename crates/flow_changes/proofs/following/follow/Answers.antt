@@ -3,6 +3,7 @@ use Rattle.ar_base.specs.Lists.{Stands, IsOneOf}
 use Rattle.domains.specs.declared.Value.{Value}
 use Rattle.ar_meaning.specs.Facts.{FactOf}
 use Rattle.ar_meaning.specs.Flows.{IsBroken}
+use Rattle.ar_meaning.proofs.Found.{holds}
 use Rattle.gts_core.specs.Readings.{IsTotal}
 use Rattle.gts_core.specs.View.{net_of, assign_of}
 use Rattle.flow_changes.specs.Cone.{Knows}
@@ -156,4 +157,4 @@ returns-clause-follows c = λ e.
     let up = subst (λ (z : List Value). ClosesUp p plan members z first closed marked list) c.write_new.ensures told in
     let resets = subst (λ (z : List Bool). Resets p members z closed values) c.deref.ensures.value c.reset.ensures in
     follows p c.requires.sound old known c.requires.determined new c.requires.new members c.requires.cone cleared first c.set_all.ensures c.mark_new.ensures plan c.requires.plan closed marked list of_values c.close.ensures.marks up values resets
-    (λ q n a o sq sa b. c.all_hold.ensures e q n a (subst (λ (z : List ℕ). IsOneOf z q) (sym c.deref-3.ensures.value) o) (subst (λ (z : List ℕ). Stands z q n) (sym c.deref-2.ensures.value) sq) sa (subst (λ (z : List Value). IsBroken (net_of p) z (assign_of a)) (sym c.deref-4.ensures.value) b))
+    (λ q n a o sq sa b. holds _ c.all_hold.result e c.all_hold.ensures q n a (subst (λ (z : List ℕ). IsOneOf z q) (sym c.deref-3.ensures.value) o) (subst (λ (z : List ℕ). Stands z q n) (sym c.deref-2.ensures.value) sq) sa (subst (λ (z : List Value). IsBroken (net_of p) z (assign_of a)) (sym c.deref-4.ensures.value) b))

@@ -1,5 +1,5 @@
 -- The pairs with a first among pairs in order.
-use Rattle.std.proofs.Common.{◌≡◌, ℕ, zero, suc, ◌+◌, ◌-◌, ◌<◌, ◌≤◌, ◌⊎◌, inl, inr, true, false, List, length, get_or, take, drop, sym, ap, ◌∙◌, arith, length-drop, ltb, leb}
+use Rattle.std.proofs.Common.{◌≡◌, ℕ, ◌+◌, ◌-◌, ◌<◌, ◌≤◌, ◌⊎◌, inl, inr, true, false, List, length, get_or, take, drop, sym, ap, ◌∙◌, arith, length-drop, ltb, leb}
 use Rattle.std.proofs.lemmas.Bool.{ltb-true, leb-false, ltb-false, leb-true}
 use Rattle.std.proofs.lemmas.List.{get_or-drop, get_or-take, length-take-le}
 use Rattle.std.specs.List.Sorted.{IsPartitionPoint}

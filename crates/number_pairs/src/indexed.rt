@@ -1,6 +1,6 @@
 // Pairs of numbers, and where the pairs of each first stand.
 
-ghost use Rattle.std.specs.Prelude.{◌≡◌, ◌↔◌, ◌+◌, ◌<◌, ◌≤◌, ℕ, length, IfOk};
+ghost use Rattle.std.specs.Prelude.{◌≡◌, ◌+◌, ◌<◌, ◌≤◌, ℕ, length, IfOk, IsPermutation};
 ghost use Rattle.std.specs.List.Sorted.{IsNonDecreasingBy};
 ghost use Rattle.ar_base.specs.Lists.{IsOneOf, Stands};
 ghost use Rattle.number_pairs.specs.Starts.{IsStart, AreRuns};
@@ -19,9 +19,9 @@ pub struct IndexedPairs {
     ghost runs: { AreRuns pairs.items starts.items },
 }
 
-/// The pairs in the order of their firsts. The error is want of memory.
+/// The pairs in the order of their firsts, each as often as it is given. The error is want of memory.
 pub fn index_pairs(alloc: Global, pairs: Vec<(u32, u32)>) -> Result<IndexedPairs, Memory>
-    ensures { IfOk result (λ indexed. (q : ℕ × ℕ) → (IsOneOf indexed.pairs.items q ↔ IsOneOf pairs.items q)) }
+    ensures { IfOk result (λ indexed. IsPermutation pairs.items indexed.pairs.items) }
 {
     let mut pairs = pairs;
     pairs.sort_unstable_by_key(|pair| pair.0);
@@ -32,7 +32,8 @@ pub fn index_pairs(alloc: Global, pairs: Vec<(u32, u32)>) -> Result<IndexedPairs
 // One more than the greatest first and one, which stands last; 0 where there is no pair.
 fn count_of(pairs: &[(u32, u32)]) -> usize
     requires { IsNonDecreasingBy (λ q. q.0) pairs.now }
-    ensures { (q : ℕ × ℕ) → IsOneOf pairs.now q → q.0 + 1 < result }
+    ensures above { (q : ℕ × ℕ) → IsOneOf pairs.now q → q.0 + 1 < result }
+    ensures least { 0 < result → (q : ℕ × ℕ) × IsOneOf pairs.now q × (q.0 + 2 ≡ result) }
 {
     match pairs.last() {
         Some(pair) => pair.0 as usize + 2,

@@ -18,11 +18,14 @@ use Rattle.number_pairs.specs.Pairing.{IsPaired}
 
 module _ (p : GtsParts) where
   pub guards_start : AreGuards p 0 []
-  guards_start = record { within = λ q o. absurd (stands_none o.place q o.stands); all = λ k w x h. absurd (omega (arith, h)) }
+  guards_start = record { only = λ q o. absurd (stands_none o.place q o.stands); all = λ k w x h. absurd (omega (arith, h)) }
 
   pub guards_more : (i : ℕ) (way : Way) (old new : List (ℕ × ℕ)) → Stands p.ways.items i way → AreGuards p i old → AddsGuards way.body i old new → AreGuards p (i + 1) new
   guards_more i way old new here before adds = record {
-    within = λ q o. elim (adds.only q o) [ inl k ↦ before.within q k | inr e ↦ (let h = stands_within p.ways.items i way here in omega (arith, e, h)) ];
+    only = λ q o. elim (adds.only q o) [
+      | inl k ↦ before.only q k
+      | inr r ↦ record { way = way; stands = subst (λ (z : ℕ). Stands p.ways.items z way) (sym r.second) here; variable = r.variable; names = r.has; number = sym r.first }
+    ];
     all = λ k w x below st n. elim (at_most k i below) [
       | inl l ↦ adds.grows (x.n, k) (before.all k w x l st n)
       | inr e ↦ (
@@ -32,10 +35,10 @@ module _ (p : GtsParts) where
   }
 
   pub guards_all : (i : ℕ) (pairs : List (ℕ × ℕ)) → length p.ways.items ≤ i → AreGuards p i pairs → AreGuards p (length p.ways.items) pairs
-  guards_all i pairs h are = record { within = are.within; all = λ k w x below. are.all k w x (omega (arith, below, h)) }
+  guards_all i pairs h are = record { only = are.only; all = λ k w x below. are.all k w x (omega (arith, below, h)) }
 
   pub guards_moved : (pairs moved : List (ℕ × ℕ)) → AreGuards p (length p.ways.items) pairs → ((q : ℕ × ℕ) → (IsOneOf moved q ↔ IsOneOf pairs q)) → AreGuards p (length p.ways.items) moved
-  guards_moved pairs moved are same = record { within = λ q o. are.within q ((same q).0 o); all = λ k w x below st n. (same (x.n, k)).1 (are.all k w x below st n) }
+  guards_moved pairs moved are same = record { only = λ q o. are.only q ((same q).0 o); all = λ k w x below st n. (same (x.n, k)).1 (are.all k w x below st n) }
 
   pub above_start : AreAbove p 0 []
   above_start = record { only = λ n k o. absurd (stands_none o.place (n, k) o.stands); all = λ n k h. absurd (omega (arith, h)) }
@@ -60,6 +63,13 @@ module _ (p : GtsParts) where
 
   pub above_moved : (pairs moved : List (ℕ × ℕ)) → AreAbove p (length p.ways.items) pairs → ((q : ℕ × ℕ) → (IsOneOf moved q ↔ IsOneOf pairs q)) → AreAbove p (length p.ways.items) moved
   above_moved pairs moved are same = record { only = λ n k o. are.only n k ((same (n, k)).0 o); all = λ n k below h. (same (n, k)).1 (are.all n k below h) }
+
+-- pairs in another order are the same ones
+pub same_pairs : (pairs moved : List (ℕ × ℕ)) → IsPermutation pairs moved → (q : ℕ × ℕ) → (IsOneOf moved q ↔ IsOneOf pairs q)
+same_pairs pairs moved perm q = (
+  λ o. one_contains pairs q (Contains-permutation moved pairs q (IsPermutation-sym pairs moved perm) (contains_one moved q o)),
+  λ o. one_contains moved q (Contains-permutation pairs moved q perm (contains_one pairs q o)),
+)
 
 -- places, one more of them written
 pub places_start : (order : List WayId) (places : List ℕ) → ArePlacedUpTo order 0 places
@@ -139,7 +149,10 @@ parts_more parts part place first old new a e = record {
 -- the numbers that stand in pairs are those of ways
 module _ (p : GtsParts) (index : WayIndex) (ix : IsWayIndex p index) where
   pub guard_within : (firsts : List ℕ) (n : ℕ) → IsPaired index.guards.pairs.items firsts n → n < length index.places.items
-  guard_within firsts n r = let h = ix.guards.within (r.first, n) r.pair in omega (arith, h, ix.long)
+  guard_within firsts n r =
+      let g = ix.guards.only (r.first, n) r.pair in
+      let h = stands_within p.ways.items n g.way g.stands in
+      omega (arith, h, ix.long)
 
   pub above_within : (firsts : List ℕ) (n : ℕ) → IsPaired index.above.pairs.items firsts n → n < length index.places.items
   above_within firsts n r =

@@ -31,6 +31,7 @@ module _ (p : GtsParts) (order : List WayId) (placed : List Bool) (is : IsPlacin
       | inl s ↦ (let i = is.inside k a s in (i.0, flag_kept placed id.n a.n i.1))
       | inr e ↦ (subst (λ (z : WayId). z.n < length p.ways.items) (sym e.1) below, subst (λ (z : WayId). flag_at (set placed id.n true) z.n ≡ true) (sym e.1) here)
     ];
+    once = λ j k a other s t e. once j k a other (one_more order id j a s) (one_more order id k other t) e;
     all = λ n h. elim (flag_from placed id.n n h) [
       | inl h ↦ (let a = is.all n h in (a.0, a.1, stands_left order (id ∷ []) a.0 a.1 a.2, a.3))
       | inr e ↦ (length order, id, stands_next order id [], sym e)
@@ -52,6 +53,16 @@ module _ (p : GtsParts) (order : List WayId) (placed : List Bool) (is : IsPlacin
       parts_ready part has =
           let same : has.way ≡ way = stands_one p.ways.items id.n has.way way has.stands st in
           placed_each placed way.body ready part (subst (λ (z : Way). IsOneOf (parts_of z.body) part) same has.is_part)
+
+      once : (j k : ℕ) (a other : WayId) → (Stands order j a) ⊎ ((j ≡ length order) × (a ≡ id)) → (Stands order k other) ⊎ ((k ≡ length order) × (other ≡ id)) → a.n ≡ other.n → j ≡ k
+      once j k a other (inl s) (inl t) e = is.once j k a other s t e
+      once j k a other (inl s) (inr t) e =
+          let n : a.n ≡ id.n = e ∙ ap (λ (z : WayId). z.n) t.1 in
+          absurd (fresh (subst (λ (z : ℕ). flag_at placed z ≡ true) n (is.inside j a s).1))
+      once j k a other (inr s) (inl t) e =
+          let n : other.n ≡ id.n = sym e ∙ ap (λ (z : WayId). z.n) s.1 in
+          absurd (fresh (subst (λ (z : ℕ). flag_at placed z ≡ true) n (is.inside k other t).1))
+      once j k a other (inr s) (inr t) e = s.0 ∙ sym t.0
 
       after : (j k : ℕ) (a other : WayId) (part : Bool × WayId) → (Stands order k a) ⊎ ((k ≡ length order) × (a ≡ id)) → HasPart p a.n part → (Stands order j other) ⊎ ((j ≡ length order) × (other ≡ id)) → other.n ≡ part.1.n → j < k
       after j k a other part (inl s) has (inl t) e = is.after j k a other part s has t e
@@ -88,6 +99,7 @@ pub all_ordered : (p : GtsParts) (order : List WayId) (placed : List Bool) (coun
     → ((k : ℕ) → k < count → flag_at placed k ≡ true) → IsOrder p order
 all_ordered p order placed count long is each = record {
   inside = λ k a s. (is.inside k a s).0;
+  once = is.once;
   all = λ n below. is.all n (each n (omega (arith, below, long)));
   after = is.after;
 }

@@ -1,5 +1,5 @@
 -- Ways that wait to be looked at, and the flags of the others.
-use Rattle.std.proofs.Common.{◌≡◌, ◌<◌, ◌≤◌, ◌+◌, ◌⊎◌, ◌↔◌, ◌-◌, ℕ, zero, suc, Bool, true, false, not, ◌||◌, ◌&&◌, cond, List, [], ◌∷◌, length, set, map, IsTrue, inl, inr, refl, sym, ◌∙◌, ap, subst, arith}
+use Rattle.std.proofs.Common.{◌≡◌, ◌<◌, ◌≤◌, ◌+◌, ◌⊎◌, ◌↔◌, ◌-◌, ℕ, zero, suc, Bool, true, false, not, ◌||◌, ◌&&◌, cond, List, [], ◌∷◌, ◌++◌, length, set, map, IsTrue, inl, inr, refl, sym, ◌∙◌, ap, subst, arith}
 use Rattle.std.specs.BTreeSet.{BTreeSet, contains}
 use Rattle.std.specs.Ordering.{nat_cmp, is_eq}
 use Rattle.std.specs.BTreeMap.{is_at}
@@ -10,7 +10,8 @@ use Rattle.std.proofs.lemmas.Bool.{cases_eq}
 use mathlib.Core.Bool.{beq}
 use Rattle.ar_base.specs.Lists.{Stands, IsOneOf}
 use Rattle.ar_base.specs.Numbers.{VarId, WayId}
-use Rattle.ar_base.proofs.Standing.{stands_within, stands_one, stands_none, stands_some, one_first, one_rest, one_cases, stands_map}
+use Rattle.ar_base.proofs.Standing.{stands_within, stands_one, stands_none, stands_some, one_first, one_here, one_none, one_rest, one_cases, stands_map}
+use Rattle.ar_base.proofs.Items.{last_cases}
 use Rattle.ar_base.proofs.Truths.{not_equal, other_mark}
 use Rattle.domains.specs.declared.Value.{Value}
 use Rattle.typed_expr.specs.Mentions.{Mentions}
@@ -32,9 +33,9 @@ use Rattle.gts_core.specs.declared.system.GtsParts.{GtsParts}
 use Rattle.way_flags.specs.Ways.{flag_at, parts_of, HasPart, IsOrder, AreFlags, can_by, musts_by, some_by, has_must_in}
 use Rattle.way_flags.specs.Index.{IsPlacedAt, GuardNames, IsWayIndex, IsAbove}
 use Rattle.way_flags.specs.declared.index.WayIndex.{WayIndex}
-use Rattle.way_flags.specs.Renewing.{WereFlags, WaitsAt, Waits, IsPlaceOf, AreSettled, IsSettledBut}
+use Rattle.way_flags.specs.Renewing.{WereFlags, WaitsAt, Waits, IsPlaceOf, AreSettled, IsSettledBut, AreBehind, AreLooked}
 use Rattle.way_flags.proofs.Firing.{can_answer}
-use Rattle.way_flags.proofs.Lists.{flag_same, flag_other}
+use Rattle.way_flags.proofs.Lists.{flag_same, flag_other, one_more}
 use Rattle.way_flags.proofs.Renewing.{AreSetTo, renew_more, renewed}
 use Rattle.way_flags.proofs.SameReadings.{same_in}
 use Rattle.way_flags.proofs.Turned.{flip}
@@ -306,3 +307,49 @@ module _ (p : GtsParts) (index : WayIndex) (ix : IsWayIndex p index) where
       waits : (n : ℕ) → (k : Waits index.places.items old n) → (k.0 ≡ place) ⊎ (k.0 ≡ place → ⊥) → {X : Type 0} → Stands index.places.items n place ⊎ (Waits index.places.items new n ⊎ X)
       waits n k (inl e) = inl (subst (λ (z : ℕ). Stands index.places.items n z) e k.1)
       waits n k (inr f) = inr (inl (k.0, k.1, (rest k.0).1 (k.2, f)))
+
+-- ways that were looked at
+module _ (p : GtsParts) (places : List ℕ) where
+  -- at first none was
+  pub looked_none : (waiting : BTreeSet ℕ) → AreLooked p places waiting []
+  looked_none waiting = record {
+    are = record { inside = λ id o. absurd (one_none id o); once = λ j k a b s t e. absurd (stands_none j a s) };
+    before = λ id q next o. absurd (one_none id o);
+  }
+
+  -- a place that waits comes after those of all ways that were
+  pub looked_behind : (waiting : BTreeSet ℕ) (ways : List WayId) (place : ℕ) → AreLooked p places waiting ways → WaitsAt waiting place → AreBehind p places place ways
+  looked_behind waiting ways place are is = record { are = are.are; before = λ id q o s. are.before id q place o s is }
+
+  -- the flag of the next one was right
+  pub behind_still : (waiting : BTreeSet ℕ) (ways : List WayId) (place : ℕ) → AreBehind p places place ways → ((q : ℕ) → WaitsAt waiting q → place < q) → AreLooked p places waiting ways
+  behind_still waiting ways place are later = record {
+    are = are.are;
+    before = λ id q next o s w. (let a = are.before id q o s in let b = later next w in omega (arith, a, b));
+  }
+
+  -- the flag of the next one was turned
+  pub behind_more : (waiting : BTreeSet ℕ) (ways : List WayId) (place : ℕ) (id : WayId) → id.n < length p.ways.items → Stands places id.n place → AreBehind p places place ways → ((q : ℕ) → WaitsAt waiting q → place < q)
+      → AreLooked p places waiting (ways ++ id ∷ [])
+  behind_more waiting ways place id within at are later = record {
+    are = record {
+      inside = λ a o. elim (last_cases ways id a o) [ inl k ↦ are.are.inside a k | inr e ↦ subst (λ (z : WayId). z.n < length p.ways.items) e within ];
+      once = λ j k a b s t e. once j k a b (one_more ways id j a s) (one_more ways id k b t) e;
+    };
+    before = λ a q next o s w. elim (last_cases ways id a o) [
+      | inl k ↦ (let f = are.before a q k s in let g = later next w in omega (arith, f, g))
+      | inr e ↦ (
+          let same : place ≡ q = stands_one places id.n place q at (subst (λ (z : WayId). Stands places z.n q) (sym e) s) in
+          let g = later next w in omega (arith, same, g))
+    ];
+  }
+    where
+      -- the way was not among those that were looked at
+      fresh : (k : ℕ) (a : WayId) → Stands ways k a → a.n ≡ id.n → ⊥
+      fresh k a s e = let h = are.before a place (one_here ways k a s) (subst (λ (z : ℕ). Stands places z place) (sym e) at) in omega (arith, h)
+
+      once : (j k : ℕ) (a b : WayId) → (Stands ways j a) ⊎ ((j ≡ length ways) × (a ≡ id)) → (Stands ways k b) ⊎ ((k ≡ length ways) × (b ≡ id)) → a.n ≡ b.n → j ≡ k
+      once j k a b (inl s) (inl t) e = are.are.once j k a b s t e
+      once j k a b (inl s) (inr t) e = absurd (fresh j a s (e ∙ ap (λ (z : WayId). z.n) t.1))
+      once j k a b (inr s) (inl t) e = absurd (fresh k b t (sym e ∙ ap (λ (z : WayId). z.n) s.1))
+      once j k a b (inr s) (inr t) e = s.0 ∙ sym t.0

@@ -8,6 +8,7 @@ use Rattle.gts_core.specs.declared.system.Way.{Way}
 use Rattle.gts_core.specs.declared.system.WayBody.{WayBody}
 use Rattle.gts_core.specs.declared.system.WayBody.TheVariants.{Local, Sync}
 use Rattle.gts_core.specs.declared.system.GtsParts.{GtsParts}
+use Rattle.flow_propagate.specs.Named.{IsPairFor}
 use Rattle.way_flags.specs.Ways.{parts_of, HasPart, IsOrder}
 use Rattle.way_flags.specs.declared.index.WayIndex.{WayIndex}
 
@@ -22,9 +23,17 @@ abbrev pub GuardNames : WayBody → VarId → Type 0
 GuardNames (Local guard action) x = Mentions x (out-Expr VarId guard)
 GuardNames (Sync parts) x = ⊥
 
--- pairs of a variable and a way, one for each variable that the guard of one of the first so many ways names
+-- a variable and a way whose guard names it, by their numbers
+pub record IsGuard (p : GtsParts) (q : ℕ × ℕ) : Type 0 where
+  pub way : Way
+  pub stands : Stands p.ways.items q.1 way
+  pub variable : VarId
+  pub names : GuardNames way.body variable
+  pub number : variable.n ≡ q.0
+
+-- the pairs of a variable and a way whose guard names it, of the first so many ways
 pub record AreGuards (p : GtsParts) (count : ℕ) (guards : List (ℕ × ℕ)) : Type 0 where
-  pub within : (q : ℕ × ℕ) → IsOneOf guards q → q.1 < length p.ways.items
+  pub only : (q : ℕ × ℕ) → IsOneOf guards q → IsGuard p q
   pub all : (n : ℕ) (way : Way) (x : VarId) → n < count → Stands p.ways.items n way → GuardNames way.body x → IsOneOf guards (x.n, n)
 
 -- way m has way n as a part
@@ -49,7 +58,7 @@ pub record IsWayIndex (p : GtsParts) (index : WayIndex) : Type 0 where
 -- the list got the pairs of the variables that the guard of this way names
 pub record AddsGuards (body : WayBody) (n : ℕ) (old new : List (ℕ × ℕ)) : Type 0 where
   pub grows : (q : ℕ × ℕ) → IsOneOf old q → IsOneOf new q
-  pub only : (q : ℕ × ℕ) → IsOneOf new q → IsOneOf old q ⊎ (q.1 ≡ n)
+  pub only : (q : ℕ × ℕ) → IsOneOf new q → IsOneOf old q ⊎ IsPairFor n (GuardNames body) q
   pub all : (x : VarId) → GuardNames body x → IsOneOf new (x.n, n)
 
 -- the pair of a part and of the way

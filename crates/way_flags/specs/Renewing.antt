@@ -9,7 +9,7 @@ use Rattle.gts_core.specs.Readings.{IsTotal, value_at}
 use Rattle.gts_core.specs.declared.system.Way.{Way}
 use Rattle.gts_core.specs.declared.system.GtsParts.{GtsParts}
 use Rattle.way_flags.specs.Ways.{flag_at, can_by, AreFlags}
-use Rattle.way_flags.specs.Turning.{turned}
+use Rattle.way_flags.specs.Turning.{turned, AreWays}
 
 -- the flags are those of a total valuation that differs from this one in none but these variables
 pub record WereFlags (p : GtsParts) (t : List Value) (changed : List VarId) (flags : List Bool) : Type 0 where
@@ -45,6 +45,16 @@ pub record IsSettledBut (p : GtsParts) (places : List ℕ) (t : List Value) (don
   pub within : (place : ℕ) → WaitsAt waiting place → (n : ℕ) × Stands places n place
   pub later : (place : ℕ) → WaitsAt waiting place → done < place
   pub right : (n : ℕ) (way : Way) → Stands p.ways.items n way → Stands places n done ⊎ (Waits places waiting n ⊎ (flag_at flags n ≡ can_by t flags way.body))
+
+-- ways that were looked at, each once: their places come before this one
+pub record AreBehind (p : GtsParts) (places : List ℕ) (place : ℕ) (ways : List WayId) : Type 0 where
+  pub are : AreWays p ways
+  pub before : (id : WayId) (q : ℕ) → IsOneOf ways id → Stands places id.n q → q < place
+
+-- ways that were looked at, each once: their places come before those that wait
+pub record AreLooked (p : GtsParts) (places : List ℕ) (waiting : BTreeSet ℕ) (ways : List WayId) : Type 0 where
+  pub are : AreWays p ways
+  pub before : (id : WayId) (q next : ℕ) → IsOneOf ways id → Stands places id.n q → WaitsAt waiting next → q < next
 
 -- the flags were turned from the first ones
 abbrev pub AreTurned : List Bool → List Bool → List WayId → Type 0

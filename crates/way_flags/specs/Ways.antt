@@ -30,9 +30,10 @@ pub record HasPart (p : GtsParts) (n : ℕ) (part : Bool × WayId) : Type 0 wher
   pub stands : Stands p.ways.items n way
   pub is_part : IsOneOf (parts_of way.body) part
 
--- the ways of the system, all of them, each after its parts and nowhere else
+-- the ways of the system, all of them, each once and after its parts
 pub record IsOrder (p : GtsParts) (order : List WayId) : Type 0 where
   pub inside : (k : ℕ) (id : WayId) → Stands order k id → id.n < length p.ways.items
+  pub once : (j k : ℕ) (id other : WayId) → Stands order j id → Stands order k other → id.n ≡ other.n → j ≡ k
   pub all : (n : ℕ) → n < length p.ways.items → (k : ℕ) × (id : WayId) × Stands order k id × (id.n ≡ n)
   pub after : (j k : ℕ) (id other : WayId) (part : Bool × WayId) → Stands order k id → HasPart p id.n part → Stands order j other → other.n ≡ part.1.n → j < k
 
@@ -40,6 +41,7 @@ pub record IsOrder (p : GtsParts) (order : List WayId) : Type 0 where
 pub record IsPlacing (p : GtsParts) (order : List WayId) (placed : List Bool) : Type 0 where
   pub long : length placed ≡ length p.ways.items
   pub inside : (k : ℕ) (id : WayId) → Stands order k id → (id.n < length p.ways.items) × (flag_at placed id.n ≡ true)
+  pub once : (j k : ℕ) (id other : WayId) → Stands order j id → Stands order k other → id.n ≡ other.n → j ≡ k
   pub all : (n : ℕ) → flag_at placed n ≡ true → (k : ℕ) × (id : WayId) × Stands order k id × (id.n ≡ n)
   pub after : (j k : ℕ) (id other : WayId) (part : Bool × WayId) → Stands order k id → HasPart p id.n part → Stands order j other → other.n ≡ part.1.n → j < k
   pub ready : (k : ℕ) (id : WayId) (part : Bool × WayId) → Stands order k id → HasPart p id.n part → flag_at placed part.1.n ≡ true

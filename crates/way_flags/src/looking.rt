@@ -5,8 +5,8 @@ ghost use Rattle.gts_core.specs.Sound.{IsSound};
 ghost use Rattle.gts_core.specs.Readings.{IsTotal};
 ghost use Rattle.way_flags.specs.Ways.{AreFlags};
 ghost use Rattle.way_flags.specs.Index.{IsWayIndex};
-ghost use Rattle.way_flags.specs.Turning.{turned};
-ghost use Rattle.way_flags.specs.Renewing.{WereFlags, WaitsAt, IsSettledBut, AreSettled, AreTurned};
+ghost use Rattle.way_flags.specs.Turning.{turned, AreWays};
+ghost use Rattle.way_flags.specs.Renewing.{WereFlags, WaitsAt, IsSettledBut, AreSettled, AreBehind, AreLooked, AreTurned};
 
 use crate::flags::{can_fire, is_set, set_all, unset};
 use crate::index::WayIndex;
@@ -35,7 +35,7 @@ pub fn way_flags(
     Ok(can)
 }
 
-/// Makes flags right after these variables changed, and answers the ways whose flags were turned. Only ways whose guards
+/// Makes flags right after these variables changed, and answers the ways whose flags were turned, each once. Only ways whose guards
 /// name one of the variables are looked at, and ways above one whose flag was turned. The error is want of memory; the
 /// flags are then as they were.
 pub fn renew(
@@ -51,6 +51,7 @@ pub fn renew(
     requires total { IsTotal parts.now values.now }
     requires were { WereFlags parts.now values.now changed.now can.old.items }
     ensures flags { OnOk result (AreFlags parts.now values.now can.new.items) }
+    ensures ways { IfOk result (λ ways. AreWays parts.now ways.items) }
     ensures back { IfOk result (λ ways. can.old.items ≡ turned can.new.items ways.items) }
     ensures err { OnErr result (can.new.items ≡ can.old.items) }
 {
@@ -81,6 +82,7 @@ fn look_at_all(
     requires settled { AreSettled parts.now index.now.places.items values.now waiting can.old.items }
     requires none { ways.old.items ≡ [] }
     ensures flags { OnOk result (AreFlags parts.now values.now can.new.items) }
+    ensures ways { OnOk result (AreWays parts.now ways.new.items) }
     ensures turned { AreTurned can.old.items can.new.items ways.new.items }
 {
     let mut waiting = waiting;
@@ -104,8 +106,10 @@ fn look_at(
     requires sound { IsSound parts.now }
     requires index { IsWayIndex parts.now index.now }
     requires settled { IsSettledBut parts.now index.now.places.items values.now place waiting.old can.old.items }
+    requires behind { AreBehind parts.now index.now.places.items place ways.old.items }
     ensures settled { OnOk result (AreSettled parts.now index.now.places.items values.now waiting.new can.new.items) }
     ensures later { OnOk result ((q : ℕ) → WaitsAt waiting.new q → place < q) }
+    ensures looked { OnOk result (AreLooked parts.now index.now.places.items waiting.new ways.new.items) }
     ensures turned { (first : List Bool) → AreTurned first can.old.items ways.old.items → AreTurned first can.new.items ways.new.items }
 {
     let way = index.order[place];

@@ -1,8 +1,7 @@
 use Rattle.std.proofs.Common.{ℕ, List, rules, sym, subst, arith}
 use Rattle.std.specs.List.Sorted.{IsNonDecreasingBy}
-use Rattle.std.proofs.lemmas.List.Sorted.{IsNonDecreasingBy-from_sort_by_key, Contains-permutation, IsPermutation-sym}
+use Rattle.std.proofs.lemmas.List.Sorted.{IsNonDecreasingBy-from_sort_by_key}
 use Rattle.ar_base.specs.Lists.{IsOneOf}
-use Rattle.ar_base.proofs.Standing.{one_contains, contains_one}
 use Rattle.number_pairs.specs.Starts.{IsStart}
 use Rattle.number_pairs.proofs.indexed.index_pairs.Goals as goal
 
@@ -19,16 +18,10 @@ invariant_of-result c = record {
   runs = record {
     each = λ x start s. subst (λ (z : List (ℕ × ℕ)). IsStart z x start) c.deref.ensures.value (c.in_ok-starts.ensures.each x start s);
     all = λ q o.
-        let h = c.count_of.ensures q (subst (λ (z : List (ℕ × ℕ)). IsOneOf z q) (sym c.deref-2.ensures.value) o) in
+        let h = c.count_of.ensures.above q (subst (λ (z : List (ℕ × ℕ)). IsOneOf z q) (sym c.deref-2.ensures.value) o) in
         let l = c.in_ok-starts.ensures.long in omega (arith, h, l);
   };
 }
 
 pub returns : goal.returns
-returns c = λ q.
-    let old = c.args.pairs.items in
-    let new = c.sort_unstable_by_key.new.self.items in
-    let perm = c.sort_unstable_by_key.ensures.permutation in (
-      λ o. one_contains old q (Contains-permutation new old q (IsPermutation-sym old new perm) (contains_one new q o)),
-      λ o. one_contains new q (Contains-permutation old new q perm (contains_one old q o)),
-    )
+returns c = c.sort_unstable_by_key.ensures.permutation

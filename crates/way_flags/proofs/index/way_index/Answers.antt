@@ -1,5 +1,5 @@
 use Rattle.std.proofs.Common.{◌≡◌, ℕ, List, length, sym, arith}
-use Rattle.way_flags.proofs.Indexed.{all_placed, guards_moved, above_moved}
+use Rattle.way_flags.proofs.Indexed.{all_placed, guards_moved, above_moved, same_pairs}
 use Rattle.way_flags.proofs.index.way_index.Goals as goal
 
 pub returns : goal.returns
@@ -10,6 +10,6 @@ returns c =
       order = c.in_ok-order.ensures;
       long = long;
       placed = all_placed p c.in_ok-order.order.items c.deref.result.now c.in_ok-places.places.items c.deref.ensures.value c.in_ok-order.ensures long c.in_ok-places.ensures.placed;
-      guards = guards_moved p c.in_ok-named.named.items c.in_ok-guards.guards.pairs.items c.in_ok-named.ensures c.in_ok-guards.ensures;
-      above = above_moved p c.in_ok-having.having.items c.in_ok-above.above.pairs.items c.in_ok-having.ensures c.in_ok-above.ensures;
+      guards = guards_moved p c.in_ok-named.named.items c.in_ok-guards.guards.pairs.items c.in_ok-named.ensures (same_pairs c.in_ok-named.named.items c.in_ok-guards.guards.pairs.items c.in_ok-guards.ensures);
+      above = above_moved p c.in_ok-having.having.items c.in_ok-above.above.pairs.items c.in_ok-having.ensures (same_pairs c.in_ok-having.having.items c.in_ok-above.above.pairs.items c.in_ok-above.ensures);
     }

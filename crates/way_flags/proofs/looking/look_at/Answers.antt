@@ -4,10 +4,10 @@ use Rattle.ar_base.specs.Numbers.{WayId}
 use Rattle.ar_base.proofs.Truths.{not_equal}
 use Rattle.gts_core.specs.declared.system.Way.{Way}
 use Rattle.way_flags.specs.Ways.{can_by, flag_at}
-use Rattle.way_flags.specs.Renewing.{AreSettled, AreTurned, WaitsAt}
+use Rattle.way_flags.specs.Renewing.{AreSettled, AreTurned, AreLooked, WaitsAt}
 use Rattle.way_flags.proofs.Lists.{read_stands}
 use Rattle.way_flags.proofs.Turned.{flip, turned_more}
-use Rattle.way_flags.proofs.Settling.{looked_still, looked_turned, same_flag, within_order, here_way}
+use Rattle.way_flags.proofs.Settling.{looked_still, looked_turned, same_flag, within_order, here_way, behind_still, behind_more}
 use Rattle.way_flags.proofs.looking.look_at.Goals as goal
 
 pub index-way-requires : goal.index-way-requires
@@ -64,3 +64,16 @@ returns-clause-turned c = λ first e.
     let one : AreTurned first (flip c.args.can.now.items id.n) (c.args.ways.now.items ++ id ∷ []) = turned_more first c.args.can.now.items c.args.ways.now.items id e in
     subst (λ (z : List WayId). AreTurned first c.turn_one.new.flags.items z) (sym c.in_ok-push.ensures.items)
     (subst (λ (z : List Bool). AreTurned first z (c.args.ways.now.items ++ id ∷ [])) (sym c.turn_one.ensures) one)
+
+pub returns-then-now-is_set-clause-looked : goal.returns-then-now-is_set-clause-looked
+returns-then-now-is_set-clause-looked c = behind_still c.args.parts.now c.args.index.now.places.items c.args.waiting.now c.args.ways.now.items c.args.place c.requires.behind c.requires.settled.later
+
+pub returns-clause-looked : goal.returns-clause-looked
+returns-clause-looked c =
+    let p = c.args.parts.now in
+    let ix = c.args.index.now in
+    let id = c.index-way.result.now in
+    let at = read_stands ix.order.items c.args.place id (within_order p ix c.requires.index c.requires.settled.here.0 c.args.place c.requires.settled.here.1) c.index-way.ensures in
+    let placed = here_way p ix c.requires.index c.requires.settled.here.0 c.args.place id c.requires.settled.here.1 at in
+    subst (λ (z : List WayId). AreLooked p ix.places.items c.add_above.new.waiting z) (sym c.in_ok-push.ensures.items)
+    (behind_more p ix.places.items c.add_above.new.waiting c.args.ways.now.items c.args.place id (c.requires.index.order.inside c.args.place id at) placed c.requires.behind (both c).1)

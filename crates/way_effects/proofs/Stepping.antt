@@ -24,7 +24,7 @@ use Rattle.way_flags.specs.Ways.{flag_at, AreFlags}
 use Rattle.way_effects.specs.Taking.{AreTakers}
 use Rattle.way_effects.specs.Effects.{taken_effects, Gives}
 use Rattle.way_effects.specs.Receiving.{AreToState, ReceivesOne, IsLeastClash, Keeps, IsLeastLeaving, AreOneEach}
-use Rattle.way_effects.specs.Ready.{IsReady}
+use Rattle.way_effects.specs.Ready.{IsReady, AreReceived}
 use Rattle.way_effects.specs.declared.effects.Effect.{Effect}
 use Rattle.way_effects.proofs.Acting.{given_effect, effect_given, to_state}
 use Rattle.way_effects.proofs.Neighbours.{gives_moved, gives_back}
@@ -104,6 +104,17 @@ module _ (p : GtsParts) (sound : IsSound p) (t : List Value) (total : IsTotal p 
         has = record { value = l.value; received = on x.n l.value l.gives; outside = λ c. l.outside (held l.variable.domain l.value (sound.variables x.n l.variable l.stands).domain c) };
         before = λ k a below st h. no_leave_at k a st (f.1 k below) h;
       })
+
+  -- the pairs are what is received
+  pub exactly : IsLeastClash sorted None → (new : List (VarId × Value)) → AreOneEach sorted new → AreReceived (net_of p) t w new
+  exactly one new each = record {
+    only = λ q o. on q.0.n q.1 (each.given q o);
+    all = λ n v e.
+        let g = off n v e in
+        let r = each.all n v g in
+        let h : Gives sorted n r.pair.1 = subst (λ (z : ℕ). Gives sorted z r.pair.1) r.is (each.given r.pair r.is_one) in
+        (r.pair, r.is_one, r.is, one n r.pair.1 v h g);
+  }
 
   pub ready : IsLeastClash sorted None → IsLeastLeaving p sorted None → (new : List (VarId × Value)) → AreOneEach sorted new → IsReady (net_of p) t w (written t new)
   ready one keeps new each = record {

@@ -1,6 +1,7 @@
 -- What a way that is fired leads to, before the flows.
-use Rattle.std.specs.Prelude.{ℕ, List, ⊤}
-use Rattle.ar_base.specs.Lists.{HasNo}
+use Rattle.std.specs.Prelude.{◌≡◌, ℕ, List, ⊤}
+use Rattle.ar_base.specs.Lists.{HasNo, IsOneOf}
+use Rattle.ar_base.specs.Numbers.{VarId}
 use Rattle.domains.specs.declared.Value.{Value}
 use Rattle.ar_meaning.specs.Systems as s
 use Rattle.ar_meaning.specs.Steps as steps
@@ -15,6 +16,11 @@ pub record IsReady (net : s.Net ℕ) (t : List Value) (w : s.Way ℕ) (state : L
   pub no_clash : HasNo net.variables (steps.Clashes (Effects (HasValue net t) w))
   pub no_range : HasNo net.variables (steps.LeavesDomain (Effects (HasValue net t) w))
   pub receives : steps.Receives (Effects (HasValue net t) w) net.variables t state
+
+-- the pairs are the variables that receive a value where the way is fired from t, each with that value
+pub record AreReceived (net : s.Net ℕ) (t : List Value) (w : s.Way ℕ) (new : List (VarId × Value)) : Type 0 where
+  pub only : (q : VarId × Value) → IsOneOf new q → Effects (HasValue net t) w q.0.n q.1
+  pub all : (n : ℕ) (v : Value) → Effects (HasValue net t) w n v → (q : VarId × Value) × IsOneOf new q × (q.0.n ≡ n) × (q.1 ≡ v)
 
 -- the fault is the one that firing the way from t gives; want of memory says nothing
 abbrev pub IsReceiveFault : s.Net ℕ → List Value → s.Way ℕ → ReceiveFault → Type 0

@@ -11,7 +11,7 @@ ghost use Rattle.flow_propagate.specs.Answers.{IsState};
 ghost use Rattle.flow_propagate.specs.NewValues.{AreNewValues, written};
 ghost use Rattle.way_flags.specs.Ways.{AreFlags, flag_at};
 ghost use Rattle.way_effects.specs.Receiving.{AddsOne, AreOneEach, AreToState, ClashOrAgree, IsLeastClash, IsLeastLeaving, LastOrOther, LeavesOrKeeps};
-ghost use Rattle.way_effects.specs.Ready.{IsReady, IsReceiveFault};
+ghost use Rattle.way_effects.specs.Ready.{AreReceived, IsReady, IsReceiveFault};
 
 use crate::effects::{Effect, effects, in_order};
 use crate::faults::ReceiveFault;
@@ -39,6 +39,8 @@ pub fn received(
     requires inside { way.n < length parts.now.ways.items }
     requires can { flag_at flags.now way.n ≡ true }
     ensures new { IfOk result (λ r. AreNewValues parts.now r.items) }
+    ensures exactly { IfOk result (λ r. (w : Way ℕ) → IsWayAt parts.now way.n w
+        → AreReceived (net_of parts.now) values.now w r.items) }
     ensures state { IfOk result (λ r. IsState parts.now (written values.now r.items)) }
     ensures received { IfOk result (λ r. (w : Way ℕ) → IsWayAt parts.now way.n w
         → IsReady (net_of parts.now) values.now w (written values.now r.items)) }

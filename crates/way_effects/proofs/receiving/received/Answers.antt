@@ -5,7 +5,7 @@ use Rattle.way_effects.specs.Effects.{taken_effects}
 use Rattle.way_effects.specs.Receiving.{AreToState, AreOneEach, IsLeastClash, IsLeastLeaving}
 use Rattle.way_effects.specs.declared.effects.Effect.{Effect}
 use Rattle.way_effects.proofs.Meeting.{taker_within}
-use Rattle.way_effects.proofs.Stepping.{moved_to_state, new_values, clash_step, range_step, ready}
+use Rattle.way_effects.proofs.Stepping.{moved_to_state, new_values, clash_step, range_step, exactly, ready}
 use Rattle.way_effects.proofs.Writing.{written_state}
 use Rattle.way_effects.proofs.receiving.received.Goals as goal
 
@@ -74,6 +74,18 @@ returns-clause-state c =
     let keeps : IsLeastLeaving p sorted None = subst (λ (z : List Effect). IsLeastLeaving p z None) c.deref-3.ensures.value c.in_default-first_leaving.ensures in
     let each : AreOneEach sorted c.in_ok-one_each.field-0.items = subst (λ (z : List Effect). AreOneEach z c.in_ok-one_each.field-0.items) c.deref-4.ensures.value c.in_ok-one_each.ensures in
     written_state p t c.in_ok-one_each.field-0.items c.requires.total (new_values p sorted c.in_ok-one_each.field-0.items states keeps each)
+
+pub returns-clause-exactly : goal.returns-clause-exactly
+returns-clause-exactly c = λ w m.
+    let p = c.args.parts.now in
+    let t = c.args.values.now in
+    let ids = c.in_ok-ways.ways.items in
+    let all = c.in_ok-all.all.items in
+    let sorted = c.in_ok-effects.effects.items in
+    let is : all ≡ taken_effects t p.ways.items ids = c.in_ok-all.ensures ∙ ap (taken_effects t p.ways.items) c.deref.ensures.value in
+    let none : IsLeastClash sorted None = subst (λ (z : List Effect). IsLeastClash z None) c.deref-2.ensures.value c.in_default.ensures in
+    let each : AreOneEach sorted c.in_ok-one_each.field-0.items = subst (λ (z : List Effect). AreOneEach z c.in_ok-one_each.field-0.items) c.deref-4.ensures.value c.in_ok-one_each.ensures in
+    exactly p c.requires.sound t c.requires.total c.args.flags.now c.requires.right c.args.way.n c.requires.can ids c.in_ok-ways.ensures all sorted is c.in_ok-effects.ensures.same w m none c.in_ok-one_each.field-0.items each
 
 pub returns-clause-received : goal.returns-clause-received
 returns-clause-received c = λ w m.

@@ -1,8 +1,8 @@
 -- Labels and paths: what each names is one thing.
-use Rattle.std.proofs.Common.{◌≡◌, ◌+◌, ◌<◌, ◌≤◌, ◌^◌, ◌==◌, ◌||◌, ℕ, zero, suc, Bool, true, false, if◌then◌else◌, List, [], ◌∷◌, ◌++◌, length, decimal, refl, sym, ◌∙◌, ap, subst, arith}
+use Rattle.std.proofs.Common.{◌≡◌, ◌+◌, ◌<◌, ◌^◌, ◌==◌, ◌||◌, ℕ, zero, suc, Bool, true, false, if◌then◌else◌, List, [], ◌∷◌, ◌++◌, length, decimal, refl, sym, ◌∙◌, ap, subst, arith}
 use Rattle.std.proofs.lemmas.Bool.{eqb-true}
 use Rattle.std.proofs.lemmas.Fmt.{decimal_injective}
-use Rattle.ar_base.specs.Lists.{Stands, IsOneOf, AreDifferent, Along, none, one_and}
+use Rattle.ar_base.specs.Lists.{Stands, AreDifferent, Along, none, one_and}
 use Rattle.ar_base.proofs.Standing.{stands_none, stands_one, along_on}
 use Rattle.ar_meaning.specs.Runs.{Label}
 use Rattle.ar_meaning.specs.Systems.{Event}
@@ -80,7 +80,8 @@ module _ {x : Elaborated} (is : NamesOnce x) where
   path_unmarked : (text : List ℕ) (names : List ℕ) → Spells x.declarations.model.names text names
       → has_mark text ≡ false
   path_unmarked text names s =
-      parts_unmarked text (λ n p stands. (let r = along_on (pieces is_dot text) names s n p stands in is.unmarked r.0 p r.2))
+      parts_unmarked text
+      (λ n p stands. (let r = along_on (pieces is_dot text) names s n p stands in is.unmarked r.0 p r.2))
 
   -- a text names one thing of a listing in which none stands twice
   pub one_named : (test : MemberKind → Bool) (listing : RootedModel → List UnitPath → List Thing)
@@ -88,7 +89,8 @@ module _ {x : Elaborated} (is : NamesOnce x) where
       → (text : List ℕ) (m n : ℕ) → NamesOne x test listing text m → NamesOne x test listing text n → m ≡ n
   one_named test listing different text m n a b =
       let model = x.declarations.model in
-      let spelled : b.is_thing.names ≡ a.is_thing.names = one_spelling model.names is.names b.is_thing.spells a.is_thing.spells in
+      let spelled : b.is_thing.names ≡ a.is_thing.names =
+      one_spelling model.names is.names b.is_thing.spells a.is_thing.spells in
       let there = subst (λ (ns : List ℕ). IsThingAt model test [] Here ns b.thing) spelled b.is_thing.is_thing in
       let same : b.thing ≡ a.thing = one_thing test a.is_thing.names b.thing a.thing there a.is_thing.is_thing in
       let number = subst (λ (t : Thing). Stands (listing model x.declarations.units) n t) same b.number in
@@ -121,7 +123,8 @@ module _ {x : Elaborated} (is : NamesOnce x) where
       → j < v → text ≡ q ++ (35 ∷ decimal (k + 1)) → NamesVisible x q f w → k < w
       → ◌≡◌ {A = Label} (record { event = e; way = j }) (record { event = f; way = k })
   both_numbered text p q e f j k v w s a l t b m =
-      let r = last_mark p q (decimal (j + 1)) (decimal (k + 1)) (sym s ∙ t) (decimal_unmarked (j + 1)) (decimal_unmarked (k + 1)) in
+      let r = last_mark p q (decimal (j + 1)) (decimal (k + 1)) (sym s ∙ t) (decimal_unmarked (j + 1))
+      (decimal_unmarked (k + 1)) in
       let i : e ≡ f = (one_visible p e f v w a (subst (λ (z : List ℕ). NamesVisible x z f w) (sym r.0) b)).0 in
       let y = few_ways p e v a in
       let z = few_ways q f w b in

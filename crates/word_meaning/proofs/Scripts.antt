@@ -1,5 +1,5 @@
 -- The commands of a script, and its first bad line: one reading each.
-use Rattle.std.proofs.Common.{◌≡◌, ◌+◌, ◌<◌, ℕ, zero, suc, List, [], ◌∷◌, Result, Ok, Err, refl, sym, ◌∙◌, ap, subst, arith, inl, inr}
+use Rattle.std.proofs.Common.{◌≡◌, ◌<◌, ℕ, zero, suc, List, [], ◌∷◌, Result, Ok, refl, sym, ◌∙◌, ap, subst, arith, inl, inr}
 use Rattle.std.proofs.lemmas.Bool.{cases_lt}
 use Rattle.ar_base.specs.Lists.{Stands}
 use Rattle.ar_base.proofs.Standing.{stands_none, stands_one}
@@ -127,7 +127,8 @@ module _ (x : Elaborated) (is : HaveOneMeaning x) where
   first_once : (lines : List (List ℕ)) (m n : ℕ) (v w : Why) → IsFirstBad x lines m v → IsFirstBad x lines n w
       → (m ≡ n) × (v ≡ w)
   first_once lines m n v w a b =
-      let e : m ≡ n = one_place m n (λ h. b.before m a.line v h a.stands a.bad) (λ h. a.before n b.line w h b.stands b.bad) in
+      let e : m ≡ n = one_place m n (λ h. b.before m a.line v h a.stands a.bad)
+      (λ h. a.before n b.line w h b.stands b.bad) in
       let there = subst (λ (k : ℕ). Stands lines k b.line) (sym e) b.stands in
       let i : b.line ≡ a.line = stands_one lines m b.line a.line there a.stands in
       (e, bad_once a.line v w a.bad (subst (λ (z : List ℕ). IsBad x w z) i b.bad))

@@ -1,4 +1,4 @@
-// How a job ends.
+//! How a job ends.
 
 ghost use Rattle.std.specs.Prelude.{◌≡◌};
 ghost use Rattle.altarica_run.specs.Statuses.{number_of};

@@ -1,4 +1,4 @@
-// What is counted, and its limits.
+//! What is counted, and its limits.
 
 ghost use Rattle.std.specs.Prelude.{◌≡◌};
 ghost use Rattle.ar_base.specs.Counts.{limit_of};

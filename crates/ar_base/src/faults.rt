@@ -1,4 +1,4 @@
-// Refusals that many layers share.
+//! Refusals that many layers share.
 
 use crate::{Count, Place};
 use std::alloc::{AllocError, AllocFailed};

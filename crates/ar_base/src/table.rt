@@ -1,4 +1,4 @@
-// The table of names.
+//! The table of names.
 
 ghost use Rattle.std.specs.Prelude.{◌≡◌, ◌^◌, ◌-◌, ◌<◌, ◌≤◌, [], length, IfOk, IfSome, IfNone, OnErr};
 ghost use Rattle.ar_base.specs.Lists.{Stands, HasNo, AreDifferent};

@@ -1,4 +1,4 @@
-// Texts.
+//! Texts.
 
 ghost use Rattle.std.specs.Prelude.{◌≡◌, IfOk};
 ghost use Rattle.std.specs.String.{string_bytes};

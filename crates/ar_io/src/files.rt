@@ -1,4 +1,4 @@
-// The file system and standard output.
+//! The file system and standard output.
 
 ghost use Rattle.std.specs.Prelude.{◌≡◌, ℕ, ◌+◌, ◌^◌, ◌<◌, ◌≤◌, None, length, IfOk, OnErr};
 ghost use Rattle.ar_io.specs.Outside.{Untold, Rose};

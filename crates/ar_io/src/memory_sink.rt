@@ -1,4 +1,4 @@
-// A sink in memory.
+//! A sink in memory.
 
 ghost use Rattle.std.specs.Prelude.{◌≡◌, ◌+◌, ◌<◌, ◌≤◌, ◌↔◌, [], ◌++◌, IfOk, OnOk, OnErr};
 ghost use Rattle.ar_io.specs.Writing.{Writes};

@@ -1,4 +1,4 @@
-// The traits of the outside.
+//! The traits of the outside.
 
 ghost use Rattle.std.specs.Prelude.{◌≡◌, ℕ, ◌^◌, ◌<◌, ◌≤◌, ◌⊎◌, List, length, IfOk};
 ghost use Rattle.ar_io.specs.Outside.{Told, Bytes, Absent, Rose};

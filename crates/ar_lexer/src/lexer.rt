@@ -1,4 +1,4 @@
-// The tokens of a text.
+//! The tokens of a text.
 
 ghost use Rattle.std.specs.Prelude.{◌≡◌, ◌+◌, ◌<◌, ◌≤◌, ◌^◌, ◌≢◌, IfOk, IfErr, IsErrAnd, MatchResult, length, take, drop};
 ghost use Rattle.ar_lexer.specs.Tokens.{AreTokens, IsFirstFault};

@@ -1,4 +1,4 @@
-// The place of a sign in the list of signs, by its bytes.
+//! The place of a sign in the list of signs, by its bytes.
 
 ghost use Rattle.std.specs.Prelude.{◌≡◌, [], ◌∷◌};
 ghost use Rattle.ar_lexer.specs.Spelling.{place_in, signs};

@@ -1,4 +1,4 @@
-// Whole and real numbers.
+//! Whole and real numbers.
 
 ghost use Rattle.std.specs.Prelude.{◌≡◌, ◌<◌, ◌≤◌, ◌^◌, IfSome, IfNone, length, pos};
 ghost use Rattle.std.specs.List.{prefix_len};

@@ -1,4 +1,4 @@
-// What stands at the front of a text: a blank, a comment, a token, or a fault.
+//! What stands at the front of a text: a blank, a comment, a token, or a fault.
 
 ghost use Rattle.std.specs.Prelude.{◌≡◌, ◌<◌, ◌≤◌, ◌++◌, IfSome, IfNone, length, Some};
 ghost use Rattle.ar_lexer.specs.Spelling.{place_in, signs, is_letter};

@@ -1,4 +1,4 @@
-// Runs of bytes of one class.
+//! Runs of bytes of one class.
 
 ghost use Rattle.std.specs.Prelude.{◌≡◌, ◌≤◌, length, not};
 ghost use Rattle.std.specs.Char.{is_ascii_digit};

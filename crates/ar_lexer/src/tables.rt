@@ -1,4 +1,4 @@
-// The table of reserved words.
+//! The table of reserved words.
 
 ghost use Rattle.std.specs.Prelude.{◌≡◌, ◌<◌, IfSome, length, map};
 ghost use Rattle.ar_lexer.specs.Spelling.{place_in, reserved_words};

@@ -1,4 +1,4 @@
-// Tokens, and why a text has none.
+//! Tokens, and why a text has none.
 
 ghost use Rattle.std.specs.Prelude.{◌≡◌};
 ghost use Rattle.ar_lexer.specs.declared.token.LexFault.TheVariants.{Memory};

@@ -1,4 +1,4 @@
-// Clauses, sections and bodies.
+//! Clauses, sections and bodies.
 
 ghost use Rattle.std.specs.Prelude.{◌≡◌, ◌≢◌, ◌++◌, ℕ, IfOk};
 ghost use Rattle.ar_lexer.specs.declared.token.TokenKind.TheVariants.{Name, Sign, Reserved, End};

@@ -1,4 +1,4 @@
-// The tokens that are left, and the steps over one of them.
+//! The tokens that are left, and the steps over one of them.
 
 ghost use Rattle.std.specs.Prelude.{◌≡◌, ◌≢◌, ◌∷◌, ◌++◌, ℕ, IfOk, IfErr, IfSome, IfNone};
 ghost use Rattle.std.specs.Bool.{OnTrue, OnFalse};

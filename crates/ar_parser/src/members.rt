@@ -1,4 +1,4 @@
-// The parts of members: types, settings, declarations, events, parts and transitions.
+//! The parts of members: types, settings, declarations, events, parts and transitions.
 
 ghost use Rattle.std.specs.Prelude.{◌≡◌, ◌++◌, ℕ, IfOk, if◌then◌else◌};
 ghost use Rattle.ar_lexer.specs.declared.token.TokenKind.TheVariants.{Name, Sign, Reserved};

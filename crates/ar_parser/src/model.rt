@@ -1,4 +1,4 @@
-// Domains, items and models.
+//! Domains, items and models.
 
 ghost use Rattle.std.specs.Prelude.{◌≡◌, ◌++◌, ℕ, Ok, IfOk, IfErr, IfSome};
 ghost use Rattle.ar_lexer.specs.declared.token.TokenKind.TheVariants.{End, Sign};

@@ -1,4 +1,4 @@
-// The tokens of a text, with the numbers of their names.
+//! The tokens of a text, with the numbers of their names.
 
 ghost use Rattle.std.specs.Prelude.{◌≡◌, ◌≢◌, ◌+◌, ◌-◌, ◌<◌, ◌≤◌, ◌^◌, [], ◌∷◌, ◌++◌, length, map, reverse, IfOk, IfErr};
 ghost use Rattle.ar_base.specs.Counts.{limit_of};

@@ -1,4 +1,4 @@
-// Names and paths.
+//! Names and paths.
 
 ghost use Rattle.std.specs.Prelude.{◌≡◌, ◌++◌, ℕ, IfOk};
 ghost use Rattle.ar_lexer.specs.declared.token.TokenKind.TheVariants.{Name, Sign};

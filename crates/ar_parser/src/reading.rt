@@ -1,4 +1,4 @@
-// The public call.
+//! The public call.
 
 ghost use Rattle.std.specs.Prelude.{◌≡◌, ◌≢◌, ◌≤◌, ℕ, length, IfOk, IfErr, IsErrAnd};
 ghost use Rattle.ar_base.specs.Counts.{limit_of};

@@ -1,4 +1,4 @@
-// Attributes of events and kept values, which are read over.
+//! Attributes of events and kept values, which are read over.
 
 ghost use Rattle.std.specs.Prelude.{◌≡◌, ◌≢◌, ℕ, IfOk, true};
 ghost use Rattle.ar_lexer.specs.declared.token.TokenKind.TheVariants.{Sign};

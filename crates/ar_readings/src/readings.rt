@@ -1,4 +1,4 @@
-// The laws of readings.
+//! The laws of readings.
 
 ghost use Rattle.std.specs.Prelude.{◌≡◌, ℕ, ℤ, List};
 ghost use Rattle.ar_lexer.specs.Tokens.{AreTokens, IsFirstFault};

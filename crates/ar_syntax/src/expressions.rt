@@ -1,4 +1,4 @@
-// Expressions.
+//! Expressions.
 
 use crate::paths::Path;
 use ar_base::{Place, Span};

@@ -1,4 +1,4 @@
-// Models and their items.
+//! Models and their items.
 
 use crate::members::Unit;
 use ar_base::{NameId, Names, Place};

@@ -1,4 +1,4 @@
-// Units and their members.
+//! Units and their members.
 
 use crate::expressions::RawExpr;
 use crate::instructions::Instr;

@@ -1,4 +1,4 @@
-// Paths.
+//! Paths.
 
 use ar_base::{NameId, Place};
 

@@ -1,4 +1,4 @@
-// What stands at the front of a text: a fixed text, an event's path, a gate's number, an operand.
+//! What stands at the front of a text: a fixed text, an event's path, a gate's number, an operand.
 
 ghost use Rattle.std.specs.Prelude.{◌≡◌, ◌≤◌, ◌<◌, ◌++◌, codes, ℕ, true, false, length, IfOk, IfErr, IfSome, IfNone};
 ghost use Rattle.std.specs.List.{prefix_len};

@@ -1,4 +1,4 @@
-// The operands of a gate, and its line.
+//! The operands of a gate, and its line.
 
 ghost use Rattle.std.specs.Prelude.{◌≡◌, ◌++◌, ℕ, IfOk, IfErr};
 ghost use Rattle.eq_core.specs.Views.{all_needed, operand_of, gate_of};

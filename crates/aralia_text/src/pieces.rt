@@ -1,4 +1,4 @@
-// Pieces of a text that go to a sink one behind the other.
+//! Pieces of a text that go to a sink one behind the other.
 
 ghost use Rattle.std.specs.Prelude.{◌≡◌, decimal};
 ghost use Rattle.ar_base.specs.Texts.{text_at};

@@ -1,4 +1,4 @@
-// The text of a table, written.
+//! The text of a table, written.
 
 ghost use Rattle.std.specs.Prelude.{◌≡◌, ◌<◌, ◌^◌, ◌++◌, codes, map};
 ghost use Rattle.ar_io.specs.Writing.{Writes};

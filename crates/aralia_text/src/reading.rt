@@ -1,4 +1,4 @@
-// The equations that a text says.
+//! The equations that a text says.
 
 ghost use Rattle.std.specs.Prelude.{◌≡◌, ◌≤◌, ◌<◌, ◌^◌, length, map, [], IfOk, IfErr, MatchResult};
 ghost use Rattle.ar_base.specs.Lists.{AreDifferent};

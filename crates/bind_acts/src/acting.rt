@@ -1,4 +1,4 @@
-// The bound instructions that written ones become.
+//! The bound instructions that written ones become.
 
 ghost use Rattle.std.specs.Prelude.{◌≡◌, IfOk};
 ghost use Rattle.ar_syntax.specs.declared.instructions.Instr.{out-Instr};

@@ -1,4 +1,4 @@
-// The transitions and synchronisations of events, from the members of units.
+//! The transitions and synchronisations of events, from the members of units.
 
 ghost use Rattle.std.specs.Prelude.{◌≡◌, ◌<◌, [], ◌∷◌, List, length, map, Some, OnOk};
 ghost use Rattle.std.specs.List.{flat_map};

@@ -1,4 +1,4 @@
-// Events that hide clauses name.
+//! Events that hide clauses name.
 
 ghost use Rattle.std.specs.Prelude.{◌≡◌, ◌<◌, true, false, List, length, map, replicate};
 ghost use Rattle.std.specs.Prelude.{slice_set, Some, IfOk};

@@ -1,4 +1,4 @@
-// The events of a tree by numbers.
+//! The events of a tree by numbers.
 
 ghost use Rattle.std.specs.Prelude.{◌≡◌, List, [], map, IfOk};
 ghost use Rattle.ar_base.specs.Lists.{Along};

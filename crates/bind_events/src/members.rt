@@ -1,4 +1,4 @@
-// The members of units.
+//! The members of units.
 
 ghost use Rattle.std.specs.Prelude.{◌≡◌, ◌<◌, List, length, IfOk};
 ghost use Rattle.ar_base.specs.Lists.{Stands};

@@ -1,4 +1,4 @@
-// Transitions and synchronisations by numbers.
+//! Transitions and synchronisations by numbers.
 
 ghost use Rattle.std.specs.Prelude.{◌≡◌, ◌<◌, List, length, IfOk};
 ghost use Rattle.ar_base.specs.Lists.{Stands, IsOneOf, Along};

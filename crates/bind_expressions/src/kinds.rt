@@ -1,4 +1,4 @@
-// The kinds of expressions by their forms.
+//! The kinds of expressions by their forms.
 
 ghost use Rattle.std.specs.Prelude.{◌≡◌};
 ghost use Rattle.bind_expressions.specs.Operands.{level_of};

@@ -1,4 +1,4 @@
-// Paths in expressions that name nothing.
+//! Paths in expressions that name nothing.
 
 ghost use Rattle.std.specs.Prelude.{◌++◌};
 ghost use Rattle.ar_syntax.specs.declared.expressions.RawExpr.{RawExpr};

@@ -1,4 +1,4 @@
-// Where expressions have a wrong kind.
+//! Where expressions have a wrong kind.
 
 ghost use Rattle.std.specs.Prelude.{◌≡◌, ◌++◌, ◌↔◌, IsTrue};
 ghost use Rattle.ar_syntax.specs.declared.expressions.RawExpr.{RawExpr};

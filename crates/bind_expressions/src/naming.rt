@@ -1,4 +1,4 @@
-// What paths name, as expressions ask it.
+//! What paths name, as expressions ask it.
 
 ghost use Rattle.std.specs.Prelude.{◌≡◌, Option};
 ghost use Rattle.ar_syntax.specs.declared.paths.Path.{Path};

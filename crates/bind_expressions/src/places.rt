@@ -1,4 +1,4 @@
-// The earlier of two places in the text.
+//! The earlier of two places in the text.
 
 ghost use Rattle.std.specs.Prelude.{◌↔◌, IsTrue, Some};
 ghost use Rattle.ar_base.specs.Breach.{IsEarlier};

@@ -1,4 +1,4 @@
-// The expressions by numbers that written expressions become.
+//! The expressions by numbers that written expressions become.
 
 ghost use Rattle.std.specs.Prelude.{◌≡◌, ◌∷◌, [], false, IfOk};
 ghost use Rattle.ar_base.specs.Numbers.{VarId};

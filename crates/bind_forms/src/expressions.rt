@@ -1,4 +1,4 @@
-// Expressions by numbers.
+//! Expressions by numbers.
 
 ghost use Rattle.std.specs.Prelude.{◌<◌, length, List, IfOk};
 ghost use Rattle.ar_base.specs.Lists.{Stands};

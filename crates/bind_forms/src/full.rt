@@ -1,4 +1,4 @@
-// Whether lists of operands are empty.
+//! Whether lists of operands are empty.
 
 ghost use Rattle.std.specs.Prelude.{IsTrue};
 ghost use Rattle.ar_syntax.specs.declared.instructions.Instr.{out-Instr};

@@ -1,4 +1,4 @@
-// Instructions by numbers.
+//! Instructions by numbers.
 
 ghost use Rattle.std.specs.Prelude.{◌<◌, Bool, true, false, length, List, IfOk};
 ghost use Rattle.ar_base.specs.Lists.{Stands, IsOneOf};

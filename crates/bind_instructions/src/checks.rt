@@ -1,4 +1,4 @@
-// The rules as they are tested in an instruction and in those that stand in it.
+//! The rules as they are tested in an instruction and in those that stand in it.
 
 ghost use Rattle.std.specs.Prelude.{true, false};
 ghost use Rattle.bind_expressions.specs.Wrong.{IsNamed, Names};

@@ -1,4 +1,4 @@
-// The instructions that stand in an instruction.
+//! The instructions that stand in an instruction.
 
 ghost use Rattle.ar_base.specs.declared.places.Place.{Place};
 ghost use Rattle.ar_syntax.specs.declared.instructions.Instr.{out-Instr};

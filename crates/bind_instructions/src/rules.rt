@@ -1,4 +1,4 @@
-// The rules of names, kinds and targets, as an instruction breaks them by itself.
+//! The rules of names, kinds and targets, as an instruction breaks them by itself.
 
 ghost use Rattle.std.specs.Prelude.{◌≡◌, Bool, true, false, Option};
 ghost use Rattle.ar_syntax.specs.declared.instructions.Instr.{out-Instr};

@@ -1,4 +1,4 @@
-// The assertions of a tree by numbers.
+//! The assertions of a tree by numbers.
 
 ghost use Rattle.std.specs.Prelude.{◌≡◌, ◌<◌, List, Some, length, map, option_copied, IfOk, OnOk};
 ghost use Rattle.std.specs.List.{flat_map};

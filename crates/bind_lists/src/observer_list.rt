@@ -1,4 +1,4 @@
-// The observers of a tree by numbers.
+//! The observers of a tree by numbers.
 
 ghost use Rattle.std.specs.Prelude.{◌≡◌, ◌<◌, List, length, map, IfOk};
 ghost use Rattle.ar_base.specs.Lists.{Along, IsOneOf};

@@ -1,4 +1,4 @@
-// The variables of a tree by numbers.
+//! The variables of a tree by numbers.
 
 ghost use Rattle.std.specs.Prelude.{◌≡◌, List, map, IfOk};
 ghost use Rattle.domains.specs.Domains.{Holds};

@@ -1,4 +1,4 @@
-// The call that binds a tree.
+//! The call that binds a tree.
 
 ghost use Rattle.std.specs.Prelude.{List};
 ghost use Rattle.hierarchy.specs.Finding.{IsSomeTree};

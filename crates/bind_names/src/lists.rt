@@ -1,4 +1,4 @@
-// The lists of bound forms.
+//! The lists of bound forms.
 
 ghost use Rattle.std.specs.Prelude.{List, IfOk};
 ghost use Rattle.hierarchy.specs.Models.{RootedModel};

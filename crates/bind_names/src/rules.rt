@@ -1,4 +1,4 @@
-// The rules of names, kinds, values and targets, over a whole tree.
+//! The rules of names, kinds, values and targets, over a whole tree.
 
 ghost use Rattle.std.specs.Prelude.{◌≡◌, List};
 ghost use Rattle.class_table.specs.Tabling.{kept_rule};

@@ -1,4 +1,4 @@
-// Names of events.
+//! Names of events.
 
 ghost use Rattle.std.specs.Prelude.{◌<◌, List, length};
 ghost use Rattle.ar_base.specs.Lists.{Stands};

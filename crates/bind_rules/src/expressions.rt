@@ -1,4 +1,4 @@
-// Expressions and instructions of units, and whether they break a rule.
+//! Expressions and instructions of units, and whether they break a rule.
 
 ghost use Rattle.std.specs.Prelude.{◌<◌, List, length};
 ghost use Rattle.ar_base.specs.Lists.{Stands};

@@ -1,4 +1,4 @@
-// The members of units, and where they break a rule.
+//! The members of units, and where they break a rule.
 
 ghost use Rattle.std.specs.Prelude.{◌<◌, List, length, map, Some};
 ghost use Rattle.std.specs.List.{flat_map};

@@ -1,4 +1,4 @@
-// The rules, and the earliest place at which a tree breaks one.
+//! The rules, and the earliest place at which a tree breaks one.
 
 ghost use Rattle.std.specs.Prelude.{List};
 ghost use Rattle.class_table.specs.Earliest.{IsEarliest};

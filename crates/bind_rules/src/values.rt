@@ -1,5 +1,5 @@
-// The values of variables and parameters and the expressions of observers, and where they break a
-// rule.
+//! The values of variables and parameters and the expressions of observers, and where they break a
+//! rule.
 
 ghost use Rattle.std.specs.Prelude.{◌≡◌, List, Some, option_map};
 ghost use Rattle.ar_base.specs.Lists.{Along, Stands};

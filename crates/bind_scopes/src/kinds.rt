@@ -1,4 +1,4 @@
-// The kinds of the values of domains.
+//! The kinds of the values of domains.
 
 ghost use Rattle.std.specs.Prelude.{◌≡◌};
 ghost use Rattle.gts_core.specs.Sound.{kind_of_domain as kind_of_values};

@@ -1,4 +1,4 @@
-// The names of members of bodies.
+//! The names of members of bodies.
 
 ghost use Rattle.std.specs.Prelude.{◌≡◌, ◌+◌, ℕ, List, [], ◌∷◌, map, length, OnOk, IfOk, Some};
 ghost use Rattle.ar_base.specs.Lists.{Along, Stands};

@@ -1,4 +1,4 @@
-// The kinds and sorts of what paths name in a unit.
+//! The kinds and sorts of what paths name in a unit.
 
 ghost use Rattle.std.specs.Prelude.{◌≡◌, ◌<◌, length, slice_get, option_map};
 ghost use Rattle.bind_scopes.specs.Scopes.{HasScopes};

@@ -1,4 +1,4 @@
-// What paths name in the units of a tree.
+//! What paths name in the units of a tree.
 
 ghost use Rattle.std.specs.Prelude.{◌≡◌, ◌↔◌, IsTrue, ◌<◌, ℕ, nat_eq, if◌then◌else◌, List, map, length, slice_get, option_map, Some, None, IfOk, IfSome, IfNone};
 ghost use Rattle.std.specs.HashMap.{get};

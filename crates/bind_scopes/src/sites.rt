@@ -1,4 +1,4 @@
-// What stands where the nodes of a tree say.
+//! What stands where the nodes of a tree say.
 
 ghost use Rattle.std.specs.Prelude.{◌≡◌, ℕ, List, Some, option_copied};
 ghost use Rattle.class_table.specs.Declaring.{Declared};

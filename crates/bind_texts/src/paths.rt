@@ -1,4 +1,4 @@
-// Canonical paths: the names from the main block down, with dots between them.
+//! Canonical paths: the names from the main block down, with dots between them.
 
 ghost use Rattle.std.specs.Prelude.{◌≡◌, ℕ, List, map, IfOk};
 ghost use Rattle.std.specs.String.{string_bytes};

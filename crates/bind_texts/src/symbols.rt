@@ -1,4 +1,4 @@
-// The texts of symbols.
+//! The texts of symbols.
 
 ghost use Rattle.std.specs.Prelude.{◌≡◌, List, map, IfOk};
 ghost use Rattle.hierarchy.specs.Models.{RootedModel};

@@ -1,4 +1,4 @@
-// The values of parameters and variables, computed one after the other.
+//! The values of parameters and variables, computed one after the other.
 
 ghost use Rattle.std.specs.Prelude.{◌≡◌, ℕ, false, [], List, IfOk};
 ghost use Rattle.ar_base.specs.Lists.{Stands, Along};

@@ -1,4 +1,4 @@
-// What paths stand for, where the values of parameters are known.
+//! What paths stand for, where the values of parameters are known.
 
 ghost use Rattle.std.specs.Prelude.{◌≡◌};
 ghost use Rattle.gts_core.specs.Readings.{value_at};

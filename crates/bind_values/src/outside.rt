@@ -1,4 +1,4 @@
-// Values outside their domains.
+//! Values outside their domains.
 
 ghost use Rattle.std.specs.Prelude.{◌↔◌, IsTrue, List};
 ghost use Rattle.ar_base.specs.Lists.{Along, IsOneOf};

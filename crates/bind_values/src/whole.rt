@@ -1,4 +1,4 @@
-// The values of all parameters and variables of a tree.
+//! The values of all parameters and variables of a tree.
 
 ghost use Rattle.std.specs.Prelude.{List, IfOk};
 ghost use Rattle.ar_base.specs.Lists.{Stands, Along};

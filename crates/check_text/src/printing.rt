@@ -1,4 +1,4 @@
-// The lines of verdicts and of missing cuts.
+//! The lines of verdicts and of missing cuts.
 
 ghost use Rattle.std.specs.Prelude.{◌≡◌, ◌++◌, ◌&&◌, true, false, codes, length, OnOk};
 ghost use Rattle.ar_base.specs.Texts.{separated};

@@ -1,4 +1,4 @@
-// The texts of the cases, each with the name of the main block that is asked for, or none.
+//! The texts of the cases, each with the name of the main block that is asked for, or none.
 
 pub(crate) const CASES: [(&str, &str); 50] = [
     ("domain N [0, 256] block B end", ""),

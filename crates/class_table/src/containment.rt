@@ -1,4 +1,4 @@
-// The first type name that breaks rule L3.
+//! The first type name that breaks rule L3.
 
 ghost use Rattle.std.specs.Prelude.{◌≡◌, ◌↔◌, ℕ, List, [], ◌∷◌, Some, IsTrue, IfOk, OnOk};
 ghost use Rattle.ar_base.specs.declared.places.Place.{Place};

@@ -1,4 +1,4 @@
-// What a model declares.
+//! What a model declares.
 
 ghost use Rattle.std.specs.Prelude.{IfOk};
 ghost use Rattle.class_table.specs.Laying.{AreParts};

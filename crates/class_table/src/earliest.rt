@@ -1,4 +1,4 @@
-// The earliest of the places where a rule is broken.
+//! The earliest of the places where a rule is broken.
 
 ghost use Rattle.std.specs.Prelude.{◌↔◌, IsTrue, Some};
 ghost use Rattle.ar_base.specs.Breach.{IsEarlier};

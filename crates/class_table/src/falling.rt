@@ -1,4 +1,4 @@
-// Whether each body has a greater rank than those inside it.
+//! Whether each body has a greater rank than those inside it.
 
 ghost use Rattle.std.specs.Prelude.{◌≡◌, ◌<◌, ℕ, Option, Some, IsTrue, slice_index};
 ghost use Rattle.ar_base.specs.Lists.{IsOneOf};

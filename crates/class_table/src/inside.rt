@@ -1,4 +1,4 @@
-// Which bodies are inside which.
+//! Which bodies are inside which.
 
 ghost use Rattle.std.specs.Prelude.{◌≡◌, option_map};
 ghost use Rattle.class_table.specs.Declaring.{Declared};

@@ -1,4 +1,4 @@
-// The first item that breaks rule L1.
+//! The first item that breaks rule L1.
 
 ghost use Rattle.std.specs.Prelude.{◌≡◌, ◌↔◌, IsTrue, IfOk};
 ghost use Rattle.class_table.specs.Earliest.{IsEarliest};

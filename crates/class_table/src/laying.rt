@@ -1,4 +1,4 @@
-// The bodies of units, numbered in the order of their headings.
+//! The bodies of units, numbered in the order of their headings.
 
 ghost use Rattle.std.specs.Prelude.{◌≡◌, ◌++◌, length, List, OnOk, IfOk};
 ghost use Rattle.class_table.specs.Laying.{LaysUnit, LaysMember, LaysBlock, KeepsOwn};

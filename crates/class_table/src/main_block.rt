@@ -1,4 +1,4 @@
-// The main block.
+//! The main block.
 
 ghost use Rattle.std.specs.Prelude.{◌≡◌, ℕ, Option, Some, map, option_map, IfSome, IfNone, IsTrue, ◌↔◌};
 ghost use Rattle.ar_base.specs.Lists.{Along, HasNo, IsOneOf};

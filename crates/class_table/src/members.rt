@@ -1,4 +1,4 @@
-// All members of each body, the inherited ones first.
+//! All members of each body, the inherited ones first.
 
 ghost use Rattle.std.specs.Prelude.{◌≡◌, ◌++◌, ℕ, Bool, true, length, map, OnOk, IfOk, IfSome, IsTrue, option_map};
 ghost use Rattle.ar_base.specs.Lists.{Along, Stands};

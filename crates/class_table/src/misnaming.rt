@@ -1,4 +1,4 @@
-// The first type name that breaks rule L2.
+//! The first type name that breaks rule L2.
 
 ghost use Rattle.std.specs.Prelude.{◌≡◌, is_some};
 ghost use Rattle.class_table.specs.Declaring.{Declared};

@@ -1,4 +1,4 @@
-// The first name of a member that breaks rule L4.
+//! The first name of a member that breaks rule L4.
 
 ghost use Rattle.std.specs.Prelude.{◌≡◌, ◌↔◌, ◌++◌, ℕ, List, map, OnOk, IfOk, true, slice_get, option_map, option_copied};
 ghost use Rattle.ar_base.specs.declared.places.Place.{Place};

@@ -1,4 +1,4 @@
-// An order of bodies in which each comes after those inside it.
+//! An order of bodies in which each comes after those inside it.
 
 use ar_base::{BodyId, Memory};
 use std::alloc::Global;

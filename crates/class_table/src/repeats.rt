@@ -1,4 +1,4 @@
-// The earliest of the places of names that stand twice in a list.
+//! The earliest of the places of names that stand twice in a list.
 
 ghost use Rattle.std.specs.Prelude.{◌++◌, [], ◌∷◌, List, ℕ, map, OnOk};
 ghost use Rattle.ar_base.specs.declared.places.Place.{Place};

@@ -1,4 +1,4 @@
-// Symbols, numbered in the order of their first appearance in declarations of domains.
+//! Symbols, numbered in the order of their first appearance in declarations of domains.
 
 ghost use Rattle.std.specs.Prelude.{◌≡◌, ◌∷◌, [], ℕ, List, map, OnOk, IfOk, None, nat_eq};
 ghost use Rattle.std.specs.HashMap.{get};

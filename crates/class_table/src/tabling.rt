@@ -1,4 +1,4 @@
-// The table of a model.
+//! The table of a model.
 
 ghost use Rattle.std.specs.Prelude.{◌≡◌, option_map};
 ghost use Rattle.ar_base.specs.Stages.{Meets};

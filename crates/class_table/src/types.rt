@@ -1,4 +1,4 @@
-// Types by their names.
+//! Types by their names.
 
 ghost use Rattle.std.specs.Prelude.{◌≡◌, ◌++◌, ◌∷◌, [], ℕ, List, IfOk, OnOk, option_map};
 ghost use Rattle.ar_base.specs.Lists.{Along};

@@ -1,4 +1,4 @@
-// The verdicts of lines.
+//! The verdicts of lines.
 
 ghost use Rattle.std.specs.Prelude.{◌≡◌, ◌<◌, ℕ, List, length, IfOk, IfSome, MatchOption};
 ghost use Rattle.ar_base.specs.Lists.{Stands};

@@ -1,4 +1,4 @@
-// Which lines are true.
+//! Which lines are true.
 
 ghost use Rattle.std.specs.Prelude.{◌≡◌, ◌≤◌, ◌<◌, ◌-◌, ◌++◌, ◌∷◌, ℕ, List, [], Bool, IsTrue, false, take, reverse, length, vec_len, IfOk, OnOk};
 ghost use Rattle.ar_base.specs.Lists.{Stands, IsOneOf};

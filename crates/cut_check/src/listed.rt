@@ -1,4 +1,4 @@
-// Whether a set is listed.
+//! Whether a set is listed.
 
 ghost use Rattle.std.specs.Prelude.{◌<◌, length};
 ghost use Rattle.ar_base.specs.Lists.{IsOneOf};

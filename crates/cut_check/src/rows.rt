@@ -1,4 +1,4 @@
-// The events of lines as rows of bits over all events.
+//! The events of lines as rows of bits over all events.
 
 ghost use Rattle.std.specs.Prelude.{◌≡◌, ◌+◌, ◌/◌, ◌<◌, ◌⊎◌, ◌↔◌, ◌&&◌, ◌^◌, ℕ, List, Bool, IsTrue, length, IfOk};
 ghost use Rattle.ar_meaning.specs.Found.{IsAnswer};

@@ -1,4 +1,4 @@
-// The fault that a set of events meets.
+//! The fault that a set of events meets.
 
 ghost use Rattle.std.specs.Prelude.{◌≡◌, ℕ, List, reverse, IfOk, IfSome};
 ghost use Rattle.ar_meaning.specs.Flows.{FlowFault as MetFault};

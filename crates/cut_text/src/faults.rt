@@ -1,4 +1,4 @@
-// Why a text was broken off.
+//! Why a text was broken off.
 
 use ar_base::Memory;
 use ar_io::SinkFailed;

@@ -1,4 +1,4 @@
-// The lines of sets of events.
+//! The lines of sets of events.
 
 ghost use Rattle.std.specs.Prelude.{◌≡◌, ◌++◌, ℕ, List, ◌∷◌, true, false, codes, decimal, reverse};
 ghost use Rattle.ar_base.specs.Texts.{line, separated};

@@ -1,4 +1,4 @@
-// The way of each event.
+//! The way of each event.
 
 ghost use Rattle.std.specs.Prelude.{◌≡◌, ◌<◌, length, IfOk};
 ghost use Rattle.ar_base.specs.Lists.{IsOneOf};

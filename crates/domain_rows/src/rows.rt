@@ -1,4 +1,4 @@
-// The domains of the variables as facts.
+//! The domains of the variables as facts.
 
 ghost use Rattle.std.specs.Prelude.{◌≡◌, ◌<◌, ◌+◌, ◌∷◌, [], true, false, pos, nat_abs, ◌+ℤ◌, ◌-ℤ◌, ◌≤ℤ◌, ◌<ℤ◌, map, length, IfOk};
 ghost use Rattle.std.specs.List.{range_with_len};

@@ -1,4 +1,4 @@
-// The entries of an expression.
+//! The entries of an expression.
 
 ghost use Rattle.std.specs.Prelude.{◌≡◌, ◌≤◌, IfOk, IfErr, OnOk, length};
 ghost use Rattle.typed_expr.specs.declared.expr.Expr.{out-Expr};

@@ -1,4 +1,4 @@
-// Entries, and the gates that they are made of.
+//! Entries, and the gates that they are made of.
 
 ghost use Rattle.std.specs.Prelude.{◌≡◌, ◌≤◌, ◌<◌, length, []};
 ghost use Rattle.eq_core.specs.Gates.{joined};

@@ -1,4 +1,4 @@
-// The entries that the forms of expressions make of those of their operands.
+//! The entries that the forms of expressions make of those of their operands.
 
 ghost use Rattle.std.specs.Prelude.{◌≡◌, ◌≤◌, OnOk, IfOk, length, map};
 ghost use Rattle.eq_core.specs.Views.{all_needed, operand_of};

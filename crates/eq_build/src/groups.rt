@@ -1,4 +1,4 @@
-// Terms by their values.
+//! Terms by their values.
 
 ghost use Rattle.std.specs.Prelude.{◌≡◌, ◌≤◌, ◌<◌, OnOk, length, [], map, slice_index_or, true, false};
 ghost use Rattle.std.specs.List.{AllWithin};

@@ -1,4 +1,4 @@
-// What entries tell, and what building is like.
+//! What entries tell, and what building is like.
 
 ghost use Rattle.eq_build.specs.Laws.{EntriesTell, HasOneBuilt, IsBuiltWhereTyped, OnlyAddsGates, KeepsOrder, NeverChangesNothing};
 

@@ -1,4 +1,4 @@
-// What two values make.
+//! What two values make.
 
 ghost use Rattle.std.specs.Prelude.{◌≡◌};
 ghost use Rattle.domains.specs.Values.{is_before};

@@ -1,4 +1,4 @@
-// Gates and how they are made.
+//! Gates and how they are made.
 
 ghost use Rattle.std.specs.Prelude.{◌≡◌, ◌<◌, ◌^◌, IfOk, nat_eq, map, length, []};
 ghost use Rattle.std.specs.List.{list_any};

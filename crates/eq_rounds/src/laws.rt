@@ -1,4 +1,4 @@
-// What the rounds come to.
+//! What the rounds come to.
 
 ghost use Rattle.std.specs.Prelude.{ℕ, List, Bool, ◌≡◌, true};
 ghost use Rattle.domains.specs.declared.Value.{Value};

@@ -1,4 +1,4 @@
-// The events that a list names.
+//! The events that a list names.
 
 ghost use Rattle.gts_flatten.specs.Elaborating.{Elaborated};
 ghost use Rattle.replayer.specs.Flat.{IsOfTree};

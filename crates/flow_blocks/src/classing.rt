@@ -1,4 +1,4 @@
-// The classes of mutual dependence, by their least members.
+//! The classes of mutual dependence, by their least members.
 
 ghost use Rattle.std.specs.Prelude.{◌≡◌, ◌≢◌, ℕ, ◌+◌, ◌<◌, ◌≤◌, List, [], ◌∷◌, ◌++◌, if◌then◌else◌, ◌↔◌, IsTrue, IfOk, length, slice_get};
 ghost use Rattle.ar_base.specs.Lists.{Stands, IsOneOf};

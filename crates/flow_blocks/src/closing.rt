@@ -1,4 +1,4 @@
-// The rows of all numbers on which each number depends.
+//! The rows of all numbers on which each number depends.
 
 ghost use Rattle.std.specs.Prelude.{◌≡◌, ℕ, ◌≤◌, ◌<◌, ◌⊎◌, ◌↔◌, IsTrue, ◌||◌, false, IfOk};
 ghost use Rattle.ar_base.specs.Lists.{IsOneOf};

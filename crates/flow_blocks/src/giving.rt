@@ -1,4 +1,4 @@
-// The order in which classes are given.
+//! The order in which classes are given.
 
 ghost use Rattle.std.specs.Prelude.{◌≡◌, ◌≢◌, ℕ, ◌+◌, ◌<◌, ◌≤◌, ◌⊎◌, ◌↔◌, IsTrue, true, false, List, [], ◌∷◌, IfOk, OnOk, IfSome, IfNone, length, slice_set, ◌^◌};
 ghost use Rattle.std.specs.Prelude.{Vec};

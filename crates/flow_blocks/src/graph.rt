@@ -1,4 +1,4 @@
-// The classes of a graph, in order.
+//! The classes of a graph, in order.
 
 ghost use Rattle.std.specs.Prelude.{◌≡◌, [], map, IfOk, IsTrue};
 ghost use Rattle.flow_blocks.specs.Blocks.{AreBelow, Follow};

@@ -1,4 +1,4 @@
-// Laws of the classes and their order.
+//! Laws of the classes and their order.
 
 ghost use Rattle.std.specs.Prelude.{◌≡◌, ℕ, ◌<◌, ◌⊎◌, List, [], take};
 ghost use Rattle.ar_base.specs.Lists.{Stands, IsOneOf};

@@ -1,4 +1,4 @@
-// One list for each number.
+//! One list for each number.
 
 ghost use Rattle.std.specs.Prelude.{◌≡◌, ℕ, IfOk, length};
 ghost use Rattle.ar_base.specs.Lists.{IsOneOf};

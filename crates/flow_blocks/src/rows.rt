@@ -1,4 +1,4 @@
-// One row of bits for each number.
+//! One row of bits for each number.
 
 ghost use Rattle.std.specs.Prelude.{◌≡◌, ℕ, ◌+◌, ◌/◌, ◌≤◌, ◌<◌, ◌⊎◌, ◌↔◌, IsTrue, false, IfOk, length};
 ghost use Rattle.flow_blocks.specs.Bits.{IsSet, HasBit, AreRows, room_of};

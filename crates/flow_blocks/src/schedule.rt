@@ -1,4 +1,4 @@
-// The order in which the rows of the uses are joined.
+//! The order in which the rows of the uses are joined.
 
 use crate::lists::empty_lists;
 use crate::search::{Search, places_from};

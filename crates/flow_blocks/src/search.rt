@@ -1,4 +1,4 @@
-// A depth-first search along the uses.
+//! A depth-first search along the uses.
 
 use crate::lists::empty_lists;
 use ar_base::Memory;

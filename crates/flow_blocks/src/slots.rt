@@ -1,4 +1,4 @@
-// The numbers by their rows, so that those with equal rows are found together.
+//! The numbers by their rows, so that those with equal rows are found together.
 
 ghost use Rattle.std.specs.Prelude.{◌≡◌, ◌<◌, ◌+◌, IfOk};
 ghost use Rattle.flow_blocks.specs.Bits.{row_of, AreRows};

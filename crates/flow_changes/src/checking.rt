@@ -1,4 +1,4 @@
-// Assignments that hold under a total valuation.
+//! Assignments that hold under a total valuation.
 
 ghost use Rattle.std.specs.Prelude.{◌≡◌, ◌<◌, ℕ, true, false, length};
 ghost use Rattle.ar_base.specs.Lists.{IsOneOf, Stands};

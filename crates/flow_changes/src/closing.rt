@@ -1,4 +1,4 @@
-// The facts of a cone, gathered in place.
+//! The facts of a cone, gathered in place.
 
 ghost use Rattle.std.specs.Prelude.{◌≡◌, ◌<◌, ℕ, true, length, IfOk, IfSome};
 ghost use Rattle.ar_base.specs.Lists.{IsOneOf, Stands};

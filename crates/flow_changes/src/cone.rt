@@ -1,4 +1,4 @@
-// What a change of the state reaches.
+//! What a change of the state reaches.
 
 ghost use Rattle.std.specs.Prelude.{◌≡◌, ◌<◌, ℕ, true, length, map, IfOk};
 ghost use Rattle.ar_base.specs.Lists.{IsOneOf, Stands};

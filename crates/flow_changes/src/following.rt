@@ -1,4 +1,4 @@
-// The quick way from what was determined to what the new state determines.
+//! The quick way from what was determined to what the new state determines.
 
 ghost use Rattle.std.specs.Prelude.{◌≡◌, true, IfOk};
 ghost use Rattle.gts_core.specs.Sound.{IsSound};

@@ -1,4 +1,4 @@
-// The places of the assignments to the members of a cone.
+//! The places of the assignments to the members of a cone.
 
 ghost use Rattle.std.specs.Prelude.{◌≡◌, ◌<◌, ℕ, length, IfOk};
 ghost use Rattle.ar_base.specs.Lists.{IsOneOf};

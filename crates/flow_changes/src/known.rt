@@ -1,4 +1,4 @@
-// What is known, as expressions read it.
+//! What is known, as expressions read it.
 
 ghost use Rattle.std.specs.Prelude.{◌≡◌, ◌∷◌, [], ℕ, map, Contains, IfOk};
 ghost use Rattle.domains.specs.declared.Value.{Value};

@@ -1,4 +1,4 @@
-// Whether every variable that an assignment names is marked.
+//! Whether every variable that an assignment names is marked.
 
 ghost use Rattle.std.specs.Prelude.{◌≡◌, ◌&&◌, ℕ, true};
 ghost use Rattle.ar_base.specs.Lists.{Stands};

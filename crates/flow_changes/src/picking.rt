@@ -1,4 +1,4 @@
-// Items that are picked out of lists by their numbers, and written back.
+//! Items that are picked out of lists by their numbers, and written back.
 
 ghost use Rattle.std.specs.Prelude.{◌≡◌, ◌<◌, ℕ, List, length, IfOk};
 ghost use Rattle.value_changes.specs.Picking.{KeepsOthers, ArePicked, AreSet, AreWithin};

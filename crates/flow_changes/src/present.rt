@@ -1,4 +1,4 @@
-// What a state determines, kept from change to change.
+//! What a state determines, kept from change to change.
 
 ghost use Rattle.std.specs.Prelude.{◌≡◌, ◌<◌, ℕ, Bool, true, false, List, length, replicate, IfOk, IfErr, IfSome, OnErr, None};
 ghost use Rattle.ar_base.specs.Lists.{Stands};

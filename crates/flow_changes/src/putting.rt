@@ -1,4 +1,4 @@
-// Values that become known.
+//! Values that become known.
 
 ghost use Rattle.std.specs.Prelude.{◌≡◌, ◌<◌, ◌∷◌, [], ℕ, true, false, length, IfOk, IfSome, IfNone};
 ghost use Rattle.ar_base.specs.Lists.{IsOneOf, Stands};

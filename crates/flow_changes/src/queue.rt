@@ -1,4 +1,4 @@
-// The places of the assignments that wait to be looked at.
+//! The places of the assignments that wait to be looked at.
 
 ghost use Rattle.std.specs.Prelude.{◌≡◌, ◌≢◌, ◌+◌, ◌<◌, ◌≤◌, ◌⊎◌, ◌↔◌, ℕ, true, length, IfOk, OnOk, IfSome, IfNone, MatchOption};
 ghost use Rattle.std.specs.BTreeSet.{btree_set_len};

@@ -1,4 +1,4 @@
-// The values of the new state, and the values of flows that have no fact.
+//! The values of the new state, and the values of flows that have no fact.
 
 ghost use Rattle.std.specs.Prelude.{◌≡◌, ◌<◌, true, false, length, if◌then◌else◌};
 ghost use Rattle.ar_base.specs.Lists.{IsOneOf};

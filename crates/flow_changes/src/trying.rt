@@ -1,4 +1,4 @@
-// The quick way, taken back where it fails.
+//! The quick way, taken back where it fails.
 
 ghost use Rattle.std.specs.Prelude.{◌≡◌, ◌<◌, ℕ, Bool, List, length, None, IfOk, IfSome, OnErr};
 ghost use Rattle.domains.specs.declared.Value.{Value as Values};

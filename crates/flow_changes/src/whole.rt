@@ -1,4 +1,4 @@
-// What the new state determines, found anew.
+//! What the new state determines, found anew.
 
 ghost use Rattle.std.specs.Prelude.{◌≡◌, ◌<◌, ◌^◌, ℕ, List, length, IfOk, IfErr, OnErr};
 ghost use Rattle.ar_base.specs.Lists.{Stands};

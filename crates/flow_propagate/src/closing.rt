@@ -1,4 +1,4 @@
-// The facts that follow from a state.
+//! The facts that follow from a state.
 
 ghost use Rattle.std.specs.Prelude.{◌≡◌, ◌<◌, ℕ, None, length, map, IfOk};
 ghost use Rattle.gts_core.specs.View.{net_of, assign_of};

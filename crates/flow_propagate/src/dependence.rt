@@ -1,4 +1,4 @@
-// How the flows depend on each other.
+//! How the flows depend on each other.
 
 ghost use Rattle.std.specs.Prelude.{◌≡◌, ◌<◌, ◌+◌, ◌^◌, if◌then◌else◌, length, IfOk};
 ghost use Rattle.gts_core.specs.Sound.{IsSound};

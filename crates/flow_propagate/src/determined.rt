@@ -1,4 +1,4 @@
-// What a state determines.
+//! What a state determines.
 
 ghost use Rattle.std.specs.Prelude.{◌≡◌, map};
 ghost use Rattle.gts_core.specs.Sound.{IsSound};

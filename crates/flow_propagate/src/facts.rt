@@ -1,4 +1,4 @@
-// The facts that follow from a state.
+//! The facts that follow from a state.
 
 ghost use Rattle.std.specs.Prelude.{true, false, [], ◌∷◌, if◌then◌else◌, ◌≡◌, ◌⊎◌, ◌<◌, length, IfOk};
 ghost use Rattle.ar_base.specs.Lists.{IsOneOf};

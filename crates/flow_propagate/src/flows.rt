@@ -1,4 +1,4 @@
-// Propagation.
+//! Propagation.
 
 ghost use Rattle.gts_core.specs.View.{net_of};
 ghost use Rattle.flow_propagate.specs.Plan.{IsPlan};

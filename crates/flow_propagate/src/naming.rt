@@ -1,4 +1,4 @@
-// The variables that expressions and assignments name, as pairs with a number.
+//! The variables that expressions and assignments name, as pairs with a number.
 
 ghost use Rattle.std.specs.Prelude.{IfOk};
 ghost use Rattle.ar_base.specs.Lists.{IsOneOf};

@@ -1,4 +1,4 @@
-// Pairs of a variable and an assignment.
+//! Pairs of a variable and an assignment.
 
 ghost use Rattle.std.specs.Prelude.{◌≡◌, ◌+◌, ◌<◌, ◌^◌, ◌≤◌, ℕ, length, IfOk};
 ghost use Rattle.std.specs.List.Sorted.{IsNonDecreasingBy};

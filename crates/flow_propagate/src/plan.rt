@@ -1,4 +1,4 @@
-// The plan of a system's flows.
+//! The plan of a system's flows.
 
 ghost use Rattle.std.specs.Prelude.{IfOk};
 ghost use Rattle.flow_propagate.specs.Plan.{IsPlan};

@@ -1,4 +1,4 @@
-// What a propagation answers.
+//! What a propagation answers.
 
 ghost use Rattle.std.specs.Prelude.{◌≡◌};
 ghost use Rattle.flow_propagate.specs.declared.propagation.PropagateFault.TheVariants as fault;

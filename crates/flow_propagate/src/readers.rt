@@ -1,4 +1,4 @@
-// Which assignments read which variable, and which give it a value.
+//! Which assignments read which variable, and which give it a value.
 
 ghost use Rattle.std.specs.Prelude.{◌≡◌, ◌<◌, ◌^◌, ℕ, length, map, IfOk};
 ghost use Rattle.ar_base.specs.Lists.{IsOneOf, Stands};

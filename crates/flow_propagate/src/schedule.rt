@@ -1,4 +1,4 @@
-// The order in which assignments are looked at.
+//! The order in which assignments are looked at.
 
 ghost use Rattle.std.specs.Prelude.{◌≡◌, ◌<◌, ◌^◌, ℕ, length, IfOk};
 ghost use Rattle.ar_base.specs.Lists.{IsOneOf, Stands};

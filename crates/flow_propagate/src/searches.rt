@@ -1,4 +1,4 @@
-// The searches for faults.
+//! The searches for faults.
 
 ghost use Rattle.std.specs.Prelude.{false, ◌≡◌, ◌<◌, ◌≤◌, ℕ, List, length, Contains};
 ghost use Rattle.ar_base.specs.Least.{least_with};

@@ -1,4 +1,4 @@
-// Tables of facts.
+//! Tables of facts.
 
 ghost use Rattle.std.specs.Prelude.{true, false, ◌≡◌, ◌⊎◌, ◌<◌, ◌≤◌, ℕ, List, length, map, IfOk, IsTrue, Contains};
 ghost use Rattle.domains.specs.Domains.{IsDomain, Holds as DomainHolds};

@@ -1,4 +1,4 @@
-// Total valuations.
+//! Total valuations.
 
 ghost use Rattle.std.specs.Prelude.{[], ◌∷◌, ◌≡◌, ◌<◌, ◌≤◌, ℕ, List, length, IfOk};
 ghost use Rattle.ar_base.specs.Lists.{Stands};

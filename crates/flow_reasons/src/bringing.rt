@@ -1,4 +1,4 @@
-// The assignments that bring a new fact.
+//! The assignments that bring a new fact.
 
 ghost use Rattle.std.specs.Prelude.{◌≡◌, ◌<◌, ◌^◌, ◌↔◌, ℕ, length, IfOk};
 ghost use Rattle.ar_base.specs.Lists.{IsOneOf};

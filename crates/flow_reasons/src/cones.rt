@@ -1,4 +1,4 @@
-// The cone of an observer.
+//! The cone of an observer.
 
 ghost use Rattle.std.specs.Prelude.{◌≡◌, ◌==◌, ◌<◌, ◌↔◌, ℕ, [], if◌then◌else◌, length, IfOk};
 ghost use Rattle.ar_base.specs.Lists.{Stands, IsOneOf};

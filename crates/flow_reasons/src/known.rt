@@ -1,4 +1,4 @@
-// What is known of the facts of a standing valuation after some rounds.
+//! What is known of the facts of a standing valuation after some rounds.
 
 ghost use Rattle.std.specs.Prelude.{◌≡◌, ◌<◌, ◌∷◌, [], true, length, map, slice_get, IfOk, Contains};
 ghost use Rattle.domains.specs.declared.Value.{Value};

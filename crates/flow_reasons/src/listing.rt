@@ -1,4 +1,4 @@
-// The reasons of a state.
+//! The reasons of a state.
 
 ghost use Rattle.std.specs.Prelude.{◌≡◌, ◌<◌, ℕ, length, IfOk};
 ghost use Rattle.ar_base.specs.Lists.{Stands};

@@ -1,4 +1,4 @@
-// The pairs of a variable and an assignment that names it.
+//! The pairs of a variable and an assignment that names it.
 
 ghost use Rattle.std.specs.Prelude.{◌≡◌, map, IfOk};
 ghost use Rattle.flow_propagate.specs.Plan.{plain_pair};

@@ -1,4 +1,4 @@
-// Reasons.
+//! Reasons.
 
 use ar_base::{AssignId, VarId};
 use domains::Value;

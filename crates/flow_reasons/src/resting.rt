@@ -1,4 +1,4 @@
-// The variables that the reasons of flows rest on.
+//! The variables that the reasons of flows rest on.
 
 ghost use Rattle.std.specs.Prelude.{◌≡◌, ◌<◌, ℕ, length, IfOk, IfOk};
 ghost use Rattle.ar_base.specs.Lists.{IsOneOf, Stands};

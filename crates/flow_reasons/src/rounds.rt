@@ -1,4 +1,4 @@
-// The rounds in which the facts of a standing valuation come.
+//! The rounds in which the facts of a standing valuation come.
 
 ghost use Rattle.std.specs.Prelude.{◌≡◌, ◌<◌, ◌+◌, ◌^◌, ◌↔◌, ℕ, true, false, if◌then◌else◌, length, map, IfOk};
 ghost use Rattle.std.specs.List.Sorted.{IsNonDecreasingBy};

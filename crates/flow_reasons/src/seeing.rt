@@ -1,4 +1,4 @@
-// Variables that were seen.
+//! Variables that were seen.
 
 ghost use Rattle.std.specs.Prelude.{◌<◌, ◌^◌, ℕ, length, IfOk};
 ghost use Rattle.ar_base.specs.Lists.{IsOneOf};

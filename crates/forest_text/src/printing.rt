@@ -1,4 +1,4 @@
-// The lines of a forest.
+//! The lines of a forest.
 
 ghost use Rattle.std.specs.Prelude.{◌≡◌, ◌<◌, ◌++◌, ◌^◌};
 ghost use Rattle.ar_io.specs.Writing.{Writes};

@@ -1,4 +1,4 @@
-// The kept ways and the third rule.
+//! The kept ways and the third rule.
 
 ghost use Rattle.std.specs.Prelude.{ℕ, List};
 ghost use Rattle.ar_meaning.specs.Systems.{System};

@@ -1,4 +1,4 @@
-// What the variables reach, and the fourth rule.
+//! What the variables reach, and the fourth rule.
 
 ghost use Rattle.std.specs.Prelude.{ℕ, ◌⊎◌, List, map};
 ghost use Rattle.ar_base.specs.Lists.{Stands, IsOneOf};

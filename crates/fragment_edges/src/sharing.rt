@@ -1,4 +1,4 @@
-// What the live edges share, and the last rules.
+//! What the live edges share, and the last rules.
 
 ghost use Rattle.std.specs.Prelude.{ℕ, ◌<◌, ◌≤◌, List, length};
 ghost use Rattle.ar_meaning.specs.Systems.{System};

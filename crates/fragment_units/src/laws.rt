@@ -1,4 +1,4 @@
-// Laws of events, units and values.
+//! Laws of events, units and values.
 
 ghost use Rattle.std.specs.Prelude.{◌≡◌, ◌↔◌, ℕ, Bool, List, length, Option};
 ghost use Rattle.ar_base.specs.Lists.{Stands};

@@ -1,4 +1,4 @@
-// The least firable sets at which a table's operands are true.
+//! The least firable sets at which a table's operands are true.
 
 ghost use Rattle.std.specs.Prelude.{◌≡◌, ◌≤◌, List, IfOk, OnOk, map, length};
 ghost use Rattle.std.specs.List.{All};

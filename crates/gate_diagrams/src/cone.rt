@@ -1,4 +1,4 @@
-// The gates that an operand rests on.
+//! The gates that an operand rests on.
 
 ghost use Rattle.std.specs.Prelude.{◌≡◌, ◌<◌, IfOk, map, length, replicate, false, [], ◌∷◌};
 ghost use Rattle.eq_core.specs.Ordered.{AreBelow, AreOrdered};

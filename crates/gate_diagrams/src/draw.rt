@@ -1,4 +1,4 @@
-// The family of an operand, with those of the gates that it rests on.
+//! The family of an operand, with those of the gates that it rests on.
 
 ghost use Rattle.std.specs.Prelude.{◌≡◌, map, length, cond, true, []};
 ghost use Rattle.zdd_families.specs.Families.{IsInOrder};

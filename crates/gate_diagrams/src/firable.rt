@@ -1,4 +1,4 @@
-// The family of the firable sets.
+//! The family of the firable sets.
 
 ghost use Rattle.std.specs.Prelude.{◌≡◌, List, OnOk};
 ghost use Rattle.ar_firing.specs.Forest.{ModeTree};

@@ -1,4 +1,4 @@
-// The least firable sets of a forest.
+//! The least firable sets of a forest.
 
 ghost use Rattle.std.specs.Prelude.{◌≡◌, ◌≤◌, IfOk, length};
 ghost use Rattle.ar_firing.specs.Listed.{AreListed};

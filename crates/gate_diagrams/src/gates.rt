@@ -1,4 +1,4 @@
-// The families of operands and gates.
+//! The families of operands and gates.
 
 ghost use Rattle.std.specs.Prelude.{◌≡◌, ◌<◌, ◌+◌, map, length, take, cond, true};
 ghost use Rattle.zdd_families.specs.Families.{meet, union};

@@ -1,4 +1,4 @@
-// The modes of a tree, each with the number of the family of one set: the events on the path to it.
+//! The modes of a tree, each with the number of the family of one set: the events on the path to it.
 
 ghost use Rattle.std.specs.Prelude.{◌≡◌, Some, IsSome, OnOk};
 ghost use Rattle.std.specs.HashMap.{Updates};

@@ -1,4 +1,4 @@
-// The families of the paths of trees.
+//! The families of the paths of trees.
 
 ghost use Rattle.std.specs.Prelude.{◌≡◌, ◌+◌, ℕ, List, [], IfOk, OnOk, map};
 ghost use Rattle.ar_base.specs.Lists.{Stands};

@@ -1,4 +1,4 @@
-// States of the walk: the number of what is left of each tree.
+//! States of the walk: the number of what is left of each tree.
 
 ghost use Rattle.std.specs.Prelude.{◌≡◌, ◌<◌, ◌++◌, ℕ, List, false, nat_eq, IfOk, [], ◌∷◌};
 ghost use Rattle.std.specs.List.{list_any};

@@ -1,4 +1,4 @@
-// The walk through the firable sets, event by event.
+//! The walk through the firable sets, event by event.
 
 ghost use Rattle.std.specs.Prelude.{◌≡◌, ℕ, OnOk};
 ghost use Rattle.zdd_families.specs.Sections.{IsCounted};

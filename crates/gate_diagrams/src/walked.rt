@@ -1,4 +1,4 @@
-// What the walk through the firable sets has met.
+//! What the walk through the firable sets has met.
 
 ghost use Rattle.std.specs.Prelude.{◌≡◌, ◌⊎◌, IfSome, [], Vec as Listed};
 ghost use Rattle.std.specs.Global.{Global as Heap};

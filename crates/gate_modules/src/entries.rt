@@ -1,4 +1,4 @@
-// The families that follow the events below a unit's range, and whether they go on alike after each part of the unit.
+//! The families that follow the events below a unit's range, and whether they go on alike after each part of the unit.
 
 ghost use Rattle.std.specs.Prelude.{◌≡◌, ◌<◌, ℕ, IfOk, OnOk, MatchOption, length, true, false};
 ghost use Rattle.ar_base.specs.Lists.{Stands};

@@ -1,4 +1,4 @@
-// The short forms of a family's sets.
+//! The short forms of a family's sets.
 
 ghost use Rattle.std.specs.Prelude.{◌≡◌, ◌<◌, ◌++◌, ◌∷◌, [], false, not, IfOk, OnOk, MatchOption, map};
 ghost use Rattle.std.specs.List.{filter};

@@ -1,4 +1,4 @@
-// Whether a unit is a module.
+//! Whether a unit is a module.
 
 ghost use Rattle.std.specs.Prelude.{◌≡◌, ◌+◌, IfOk, MatchOption, length, map};
 ghost use Rattle.zdd_nodes.specs.Nodes.{family, IsNumber, IsSoundStore};

@@ -1,4 +1,4 @@
-// The parts of a unit, by one entry of its range.
+//! The parts of a unit, by one entry of its range.
 
 ghost use Rattle.std.specs.Prelude.{◌≡◌, ◌++◌, ◌∷◌, [], IfOk, OnOk, map};
 ghost use Rattle.zdd_nodes.specs.Nodes.{family, IsNumber};

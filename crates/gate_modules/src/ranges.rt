@@ -1,4 +1,4 @@
-// Units with their events, and families in short.
+//! Units with their events, and families in short.
 
 use ar_base::{EventId, UnitId};
 

@@ -1,4 +1,4 @@
-// Whether two families have the same sets of events below a bound, each with one family that follows.
+//! Whether two families have the same sets of events below a bound, each with one family that follows.
 
 ghost use Rattle.std.specs.Prelude.{◌≡◌, ◌↔◌, ◌<◌, MatchOption, length, true, ◌⊎◌};
 ghost use Rattle.zdd_nodes.specs.Nodes.{Stored, IsNumber, IsSoundStore};

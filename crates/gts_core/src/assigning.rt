@@ -1,4 +1,4 @@
-// The assignments of instructions.
+//! The assignments of instructions.
 
 ghost use Rattle.std.specs.Prelude.{◌≡◌, OnOk, IfOk};
 ghost use Rattle.gts_core.specs.Bound.{assigns_of_act, places_of_act, places_in, AreAssigns, Gives, GiveAll, AreConditionCopies, IsUnder};

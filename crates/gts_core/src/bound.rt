@@ -1,4 +1,4 @@
-// What a model's declarations become before their ways are expanded.
+//! What a model's declarations become before their ways are expanded.
 
 use ar_base::{EventId, Place, Text, UnitId, VarId, WayId};
 use typed_expr::Expr;

@@ -1,4 +1,4 @@
-// Copies of expressions and domains.
+//! Copies of expressions and domains.
 
 ghost use Rattle.std.specs.Prelude.{IfOk};
 ghost use Rattle.gts_core.specs.Copies.{IsCopy, IsSameDomain, AreCopies, AreTermCopies, AreCaseCopies};

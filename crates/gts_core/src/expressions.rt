@@ -1,4 +1,4 @@
-// The text of expressions.
+//! The text of expressions.
 
 ghost use Rattle.std.specs.Prelude.{true, ◌≡◌, ◌++◌, codes, map};
 ghost use Rattle.ar_io.specs.Writing.{Writes};

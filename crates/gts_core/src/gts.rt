@@ -1,4 +1,4 @@
-// Flat systems.
+//! Flat systems.
 
 ghost use Rattle.std.specs.Prelude.{◌≡◌};
 ghost use Rattle.ar_io.specs.Writing.{Writes};

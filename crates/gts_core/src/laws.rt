@@ -1,4 +1,4 @@
-// Laws of flat systems.
+//! Laws of flat systems.
 
 ghost use Rattle.std.specs.Prelude.{◌≡◌, ℕ, List};
 ghost use Rattle.ar_base.specs.Lists.{Stands, IsOneOf};

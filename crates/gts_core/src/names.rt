@@ -1,4 +1,4 @@
-// The variables that expressions and conditions name.
+//! The variables that expressions and conditions name.
 
 ghost use Rattle.std.specs.Prelude.{◌≡◌, ◌++◌, ◌∷◌, [], IfOk};
 ghost use Rattle.typed_expr.specs.Mentions.{Mentions, Some_mentions, Parts_mention, Cases_mention};

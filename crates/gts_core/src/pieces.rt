@@ -1,4 +1,4 @@
-// Pieces of a text that go to a sink one behind the other.
+//! Pieces of a text that go to a sink one behind the other.
 
 ghost use Rattle.std.specs.Prelude.{◌≡◌, decimal, if◌then◌else◌};
 ghost use Rattle.std.specs.Fmt.{signed_decimal};

@@ -1,4 +1,4 @@
-// The text of a flat system.
+//! The text of a flat system.
 
 ghost use Rattle.std.specs.Prelude.{true, ◌≡◌, ◌++◌, ◌<◌, ◌^◌, length, codes, map, slice_get};
 ghost use Rattle.std.specs.Fmt.{signed_decimal};

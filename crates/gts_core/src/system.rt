@@ -1,4 +1,4 @@
-// Flat systems by their parts.
+//! Flat systems by their parts.
 
 use ar_base::{EventId, Place, Text, UnitId, VarId, WayId};
 use domains::{Domain, Value};

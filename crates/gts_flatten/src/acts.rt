@@ -1,4 +1,4 @@
-// How many nodes the assignments of instructions have.
+//! How many nodes the assignments of instructions have.
 
 ghost use Rattle.std.specs.Prelude.{◌≡◌, min};
 ghost use Rattle.std.specs.List.{flat_map};

@@ -1,4 +1,4 @@
-// Copies of what a flat system takes over as it is.
+//! Copies of what a flat system takes over as it is.
 
 ghost use Rattle.std.specs.Prelude.{◌≡◌, IfOk};
 ghost use Rattle.ar_base.specs.Lists.{Along};

@@ -1,4 +1,4 @@
-// The limit on the nodes of a flat system's expressions.
+//! The limit on the nodes of a flat system's expressions.
 
 ghost use Rattle.std.specs.Prelude.{◌≡◌, ℕ, List, map, min};
 ghost use Rattle.ar_base.specs.Stages.{Fits, Meets};

@@ -1,4 +1,4 @@
-// The call that makes the flat system of bound forms.
+//! The call that makes the flat system of bound forms.
 
 ghost use Rattle.std.specs.Prelude.{◌≡◌, ◌<◌, ◌^◌, ℕ, List, map, length, IfOk};
 ghost use Rattle.ar_base.specs.Stages.{Meets};

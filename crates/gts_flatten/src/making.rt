@@ -1,4 +1,4 @@
-// The ways, events and assignments of a flat system.
+//! The ways, events and assignments of a flat system.
 
 ghost use Rattle.std.specs.Prelude.{◌≡◌, ◌<◌, ◌^◌, ℕ, List, map, length, IfOk, option_copied};
 ghost use Rattle.std.specs.List.{flat_map};

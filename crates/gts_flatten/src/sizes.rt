@@ -1,4 +1,4 @@
-// How many nodes expressions have.
+//! How many nodes expressions have.
 
 ghost use Rattle.std.specs.Prelude.{◌≡◌, ◌+◌, min};
 ghost use Rattle.gts_flatten.specs.Sizes.{nodes_of, nodes_in, term_nodes_in, case_nodes_in};

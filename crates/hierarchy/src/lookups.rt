@@ -1,4 +1,4 @@
-// What paths name in a tree of units.
+//! What paths name in a tree of units.
 
 ghost use Rattle.std.specs.Prelude.{◌≡◌, ◌<◌, ℕ, List, length, option_map};
 ghost use Rattle.std.specs.List.Sorted.{IsNonDecreasingBy};

@@ -1,4 +1,4 @@
-// A unit before its names are known.
+//! A unit before its names are known.
 
 use ar_base::{BodyId, NameId, UnitId};
 

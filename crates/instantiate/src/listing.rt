@@ -1,4 +1,4 @@
-// The lists of the tree.
+//! The lists of the tree.
 
 ghost use Rattle.std.specs.Prelude.{IfOk};
 ghost use Rattle.hierarchy.specs.Listing.{Unfolded};

@@ -1,4 +1,4 @@
-// The rules that the units of a main block keep.
+//! The rules that the units of a main block keep.
 
 ghost use Rattle.std.specs.Prelude.{◌≡◌, List};
 ghost use Rattle.class_table.specs.Tabling.{kept_rule};

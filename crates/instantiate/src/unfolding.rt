@@ -1,4 +1,4 @@
-// The call that unfolds the main block.
+//! The call that unfolds the main block.
 
 ghost use Rattle.ar_base.specs.Stages.{Meets};
 ghost use Rattle.hierarchy.specs.Models.{RootedModel, IsKeptTable};

@@ -1,4 +1,4 @@
-// Dropped events, synchronised ways, and units that have transitions.
+//! Dropped events, synchronised ways, and units that have transitions.
 
 ghost use Rattle.std.specs.Prelude.{◌≡◌, ◌<◌, ◌^◌, true, length, slice_set, IfOk};
 ghost use Rattle.gts_core.specs.Sound.{IsSound};

@@ -1,4 +1,4 @@
-// The ways of the events that are not dropped, with their mode variables.
+//! The ways of the events that are not dropped, with their mode variables.
 
 ghost use Rattle.std.specs.Prelude.{◌≡◌, ◌++◌, ◌<◌, length, IfOk, MatchOption};
 ghost use Rattle.ar_base.specs.Lists.{Stands};

@@ -1,4 +1,4 @@
-// The first state variable of each unit.
+//! The first state variable of each unit.
 
 ghost use Rattle.std.specs.Prelude.{◌≡◌, length, IfOk};
 ghost use Rattle.gts_core.specs.Sound.{IsSound};

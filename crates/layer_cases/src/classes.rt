@@ -1,4 +1,4 @@
-// Classes of mutual dependence.
+//! Classes of mutual dependence.
 
 ghost use Rattle.std.specs.Prelude.{IsTrue};
 ghost use Rattle.flow_blocks.specs.Blocks.{AreBelow};

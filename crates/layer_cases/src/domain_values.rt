@@ -1,4 +1,4 @@
-// Values of domains, and clamped arithmetic.
+//! Values of domains, and clamped arithmetic.
 
 use domains::{Domain, Value, add, multiply, subtract};
 use std::io;

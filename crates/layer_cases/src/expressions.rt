@@ -1,4 +1,4 @@
-// Values of expressions, and the kinds that they have.
+//! Values of expressions, and the kinds that they have.
 
 ghost use Rattle.std.specs.Prelude.{◌≡◌, [], slice_get, unwrap_or, option_map, false};
 ghost use Rattle.domains.specs.declared.Value.TheVariants.{Truth};

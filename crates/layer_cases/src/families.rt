@@ -1,4 +1,4 @@
-// Families of sets of events, and operations on them.
+//! Families of sets of events, and operations on them.
 
 ghost use Rattle.std.specs.Prelude.{IsTrue};
 ghost use Rattle.zdd_families.specs.Families.{IsAbove};

@@ -1,4 +1,4 @@
-// Jobs of words, and a generated model.
+//! Jobs of words, and a generated model.
 
 use crate::no_memory;
 use ar_base::Text;

@@ -1,4 +1,4 @@
-// Numbers of names.
+//! Numbers of names.
 
 use crate::no_memory;
 use ar_base::Names;

@@ -1,4 +1,4 @@
-// Rows of words.
+//! Rows of words.
 
 use lane_rows::{covers, or_into};
 use std::io;

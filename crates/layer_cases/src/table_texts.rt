@@ -1,4 +1,4 @@
-// Texts of gate tables, and where other texts go wrong.
+//! Texts of gate tables, and where other texts go wrong.
 
 ghost use Rattle.std.specs.Prelude.{◌≤◌, IsTrue, length};
 ghost use Rattle.ar_base.specs.Lists.{AreDifferent};

@@ -1,4 +1,4 @@
-// The live edges in a row.
+//! The live edges in a row.
 
 ghost use Rattle.std.specs.Prelude.{◌≡◌, ◌<◌, ◌++◌, ◌^◌, length, map, IfOk};
 ghost use Rattle.live_edges.specs.Live.{AreEdgesApart, AreLive, live_at};

@@ -1,4 +1,4 @@
-// What each variable reaches.
+//! What each variable reaches.
 
 ghost use Rattle.std.specs.Prelude.{◌<◌, ◌^◌, length, IfOk};
 ghost use Rattle.gts_core.specs.Sound.{IsSound};

@@ -1,4 +1,4 @@
-// The ways of each variable.
+//! The ways of each variable.
 
 ghost use Rattle.std.specs.Prelude.{◌≡◌, ◌<◌, [], length, IfOk};
 ghost use Rattle.live_edges.specs.Rows.{AreRows, AreBelow, Puts};

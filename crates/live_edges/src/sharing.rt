@@ -1,4 +1,4 @@
-// Events with two live edges, and the events that have one.
+//! Events with two live edges, and the events that have one.
 
 ghost use Rattle.std.specs.Prelude.{◌≡◌, ◌<◌, length, IfOk};
 ghost use Rattle.live_edges.specs.Sharing.{AreWithin, IsSharing, Notes, lesser_of, IsEmptySharing};

@@ -1,4 +1,4 @@
-// The modes that one variable reaches.
+//! The modes that one variable reaches.
 
 ghost use Rattle.std.specs.Prelude.{◌<◌, length, IfOk, Contains};
 ghost use Rattle.ar_meaning.specs.Found.{IsAnswer};

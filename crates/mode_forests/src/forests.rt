@@ -1,4 +1,4 @@
-// Trees of modes.
+//! Trees of modes.
 
 use ar_base::{EventId, VarId, WayId};
 use domains::Value;

@@ -1,4 +1,4 @@
-// The edges of a tree of modes in order.
+//! The edges of a tree of modes in order.
 
 ghost use Rattle.std.specs.Prelude.{◌≡◌, ◌≤◌, ◌^◌, ◌∷◌, length, map, IfOk};
 ghost use Rattle.ar_base.specs.Lists.{AreDifferent};

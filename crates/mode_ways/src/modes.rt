@@ -1,4 +1,4 @@
-// The mode variables of transitions.
+//! The mode variables of transitions.
 
 ghost use Rattle.std.specs.Prelude.{◌≡◌, IfOk, MatchOption};
 ghost use Rattle.ar_base.specs.Lists.{HasNo};

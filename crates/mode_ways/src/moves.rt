@@ -1,4 +1,4 @@
-// Where transitions lead from the modes of their mode variables.
+//! Where transitions lead from the modes of their mode variables.
 
 ghost use Rattle.std.specs.Prelude.{◌≡◌, ◌++◌, IfOk, Contains, map};
 ghost use Rattle.domains.specs.Domains.{IsDomain, values_of};

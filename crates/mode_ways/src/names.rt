@@ -1,4 +1,4 @@
-// The variables that guards and actions name.
+//! The variables that guards and actions name.
 
 ghost use Rattle.std.specs.Prelude.{IfOk};
 ghost use Rattle.typed_expr.specs.Mentions.{Mentions};

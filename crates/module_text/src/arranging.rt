@@ -1,4 +1,4 @@
-// The lines of cuts in short, with the ways of their events in firing order.
+//! The lines of cuts in short, with the ways of their events in firing order.
 
 ghost use Rattle.std.specs.Prelude.{◌≡◌, ◌++◌, IfOk, OnOk, map};
 ghost use Rattle.std.specs.List.{filter};

@@ -1,4 +1,4 @@
-// The lines of cuts in short.
+//! The lines of cuts in short.
 
 ghost use Rattle.std.specs.Prelude.{◌≡◌, ◌++◌, true, false, codes, map};
 ghost use Rattle.ar_base.specs.Texts.{line, separated, text_at};

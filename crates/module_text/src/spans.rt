@@ -1,4 +1,4 @@
-// The events of each unit.
+//! The events of each unit.
 
 ghost use Rattle.std.specs.Prelude.{◌+◌, ◌<◌, ◌≡◌, ◌^◌, ℕ, List, length, IfOk};
 ghost use Rattle.ar_base.specs.Lists.{Stands};

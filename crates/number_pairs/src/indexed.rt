@@ -1,4 +1,4 @@
-// Pairs of numbers, and where the pairs of each first stand.
+//! Pairs of numbers, and where the pairs of each first stand.
 
 ghost use Rattle.std.specs.Prelude.{◌≡◌, ◌+◌, ◌<◌, ◌≤◌, ℕ, length, IfOk, IsPermutation};
 ghost use Rattle.std.specs.List.Sorted.{IsNonDecreasingBy};

@@ -1,4 +1,4 @@
-// The numbers that stand in pairs with some firsts.
+//! The numbers that stand in pairs with some firsts.
 
 ghost use Rattle.std.specs.Prelude.{◌≡◌, ◌++◌, ◌↔◌, ℕ, map, IfOk};
 ghost use Rattle.std.specs.List.Sorted.{IsNonDecreasingBy};

@@ -1,4 +1,4 @@
-// The lines of reasons.
+//! The lines of reasons.
 
 ghost use Rattle.std.specs.Prelude.{◌≡◌, ◌<◌, ◌++◌, true, false, length, codes};
 ghost use Rattle.ar_base.specs.Texts.{separated};

@@ -1,4 +1,4 @@
-// The text of why flows have their values.
+//! The text of why flows have their values.
 
 ghost use Rattle.std.specs.Prelude.{◌≡◌, length, IfOk};
 ghost use Rattle.gts_core.specs.View.{net_of};

@@ -1,4 +1,4 @@
-// Which flows are told.
+//! Which flows are told.
 
 ghost use Rattle.std.specs.Prelude.{◌≡◌, ◌<◌, true, length, slice_set, Some, IfOk};
 ghost use Rattle.flow_reasons.specs.Answers.{numbers_of, reasons_of, AreOfState};

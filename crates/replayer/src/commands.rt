@@ -1,4 +1,4 @@
-// The commands of a script.
+//! The commands of a script.
 
 ghost use Rattle.std.specs.Prelude.{◌≡◌, ◌≤◌, length, map, IfErr, OnOk};
 ghost use Rattle.ar_base.specs.Counts.{limit_of};

@@ -1,4 +1,4 @@
-// The lines of a list of cuts, and what each says.
+//! The lines of a list of cuts, and what each says.
 
 ghost use Rattle.std.specs.Prelude.{◌≡◌, ◌-◌, ◌≤◌, ◌++◌, ℕ, List, map, length, codes, MatchOption};
 ghost use Rattle.std.specs.List.{list_all, suffix_len};

@@ -1,4 +1,4 @@
-// The cuts of a list.
+//! The cuts of a list.
 
 ghost use Rattle.std.specs.Prelude.{◌≡◌, ◌≤◌, length, map, IfOk, IfErr, OnOk};
 ghost use Rattle.ar_base.specs.Counts.{limit_of};

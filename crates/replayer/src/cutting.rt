@@ -1,4 +1,4 @@
-// The pieces of a text between marks.
+//! The pieces of a text between marks.
 
 ghost use Rattle.std.specs.Prelude.{◌≡◌, ◌<◌, ◌≤◌, [], ◌∷◌, length, not, MatchOption};
 ghost use Rattle.std.specs.List.{prefix_len};

@@ -1,4 +1,4 @@
-// The lines of the ways that can fire.
+//! The lines of the ways that can fire.
 
 ghost use Rattle.std.specs.Prelude.{◌≡◌, ◌<◌, ◌++◌, ℕ, Bool, [], codes, length, if◌then◌else◌};
 ghost use Rattle.ar_base.specs.Texts.{line};

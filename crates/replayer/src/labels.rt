@@ -1,4 +1,4 @@
-// Canonical labels and the texts of flow faults.
+//! Canonical labels and the texts of flow faults.
 
 ghost use Rattle.std.specs.Prelude.{◌≡◌, ◌<◌, ◌+◌, ◌-◌, ◌++◌, codes, decimal, length, slice_get};
 ghost use Rattle.ar_base.specs.Texts.{text_at};

@@ -1,4 +1,4 @@
-// What the lines of changes are told from.
+//! What the lines of changes are told from.
 
 ghost use Rattle.std.specs.Prelude.{◌≡◌, length, IfOk};
 ghost use Rattle.gts_core.specs.Sound.{IsSound};

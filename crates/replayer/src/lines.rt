@@ -1,4 +1,4 @@
-// The lines of a script, and what each says.
+//! The lines of a script, and what each says.
 
 ghost use Rattle.std.specs.Prelude.{◌≡◌, ◌+◌, ◌<◌, ◌≤◌, [], ◌∷◌, length, not, MatchOption};
 ghost use Rattle.std.specs.List.{prefix_len};

@@ -1,4 +1,4 @@
-// What each command does.
+//! What each command does.
 
 ghost use Rattle.std.specs.Prelude.{◌≡◌, ◌<◌, ℕ, length, OnOk, IfOk};
 ghost use Rattle.ar_meaning.specs.Systems.{System};

@@ -1,4 +1,4 @@
-// The events that the paths of labels name.
+//! The events that the paths of labels name.
 
 ghost use Rattle.std.specs.Prelude.{IfOk, IfSome};
 ghost use Rattle.ar_base.specs.Lists.{AreDifferent};

@@ -1,4 +1,4 @@
-// Replays.
+//! Replays.
 
 ghost use Rattle.std.specs.Prelude.{◌≡◌, ℕ, List, [], map};
 ghost use Rattle.ar_meaning.specs.Runs.{Start, Command as RunCommand, FiresWays};

@@ -1,4 +1,4 @@
-// The ways that the labels of a script name.
+//! The ways that the labels of a script name.
 
 ghost use Rattle.std.specs.Prelude.{◌≡◌, ◌+◌, ◌<◌, ℕ, List, length, IfOk, MatchOption};
 ghost use Rattle.gts_core.specs.Sound.{IsSound};

@@ -1,4 +1,4 @@
-// Where runs stand at their end.
+//! Where runs stand at their end.
 
 ghost use Rattle.std.specs.Prelude.{◌≡◌, ◌<◌, ℕ, List, [], length, map, IfOk, IfSome};
 ghost use Rattle.ar_meaning.specs.Runs.{Start, Command as RunCommand};

@@ -1,5 +1,5 @@
-// The lines of variables and observers. A step's lines look at the variables that changed, and at the observers that name one
-// of them, and at no others.
+//! The lines of variables and observers. A step's lines look at the variables that changed, and at the observers that name one
+//! of them, and at no others.
 
 ghost use Rattle.std.specs.Prelude.{◌≡◌, ◌≢◌, ◌<◌, ◌≤◌, ◌^◌, ◌++◌, codes, length, map, slice_get, Some};
 ghost use Rattle.ar_base.specs.Texts.{text_at, line};

@@ -1,4 +1,4 @@
-// The observers that are looked at after a step.
+//! The observers that are looked at after a step.
 
 ghost use Rattle.std.specs.Prelude.{◌≡◌, IfOk};
 ghost use Rattle.std.specs.List.Sorted.{IsNonDecreasingBy};

@@ -1,4 +1,4 @@
-// The lines of a trace, moment by moment.
+//! The lines of a trace, moment by moment.
 
 ghost use Rattle.std.specs.Prelude.{◌≡◌, ◌<◌, ◌++◌, ℕ, Bool, codes, decimal, length};
 ghost use Rattle.ar_base.specs.Texts.{text_at, line};

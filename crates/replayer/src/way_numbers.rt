@@ -1,4 +1,4 @@
-// Labels that end in `#` and the number of a way.
+//! Labels that end in `#` and the number of a way.
 
 ghost use Rattle.std.specs.Prelude.{◌≡◌, ◌+◌, ◌<◌, ◌^◌, ◌++◌, ◌∷◌, ℕ, false, decimal, length, IfSome, IfNone, MatchOption};
 ghost use Rattle.ar_base.specs.Lists.{Stands};

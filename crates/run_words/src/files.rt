@@ -1,4 +1,4 @@
-// What stands behind the command.
+//! What stands behind the command.
 
 ghost use Rattle.std.specs.Prelude.{◌≡◌, ℕ, List, Option, map, option_map, IfOk, IfErr};
 ghost use Rattle.run_words.specs.declared.jobs.JobFault.TheVariants.{Usage, Memory as OutOfMemory};

@@ -1,4 +1,4 @@
-// The generator of example models.
+//! The generator of example models.
 
 ghost use Rattle.std.specs.Prelude.{◌≡◌, ◌≤◌, ◌+◌, ◌-◌, ◌*◌, ◌<◌, ◌++◌, IfOk, OnOk, decimal};
 ghost use Rattle.ar_base.specs.Texts.{line};

@@ -1,4 +1,4 @@
-// Jobs, and why words give none.
+//! Jobs, and why words give none.
 
 ghost use Rattle.std.specs.Prelude.{◌≡◌};
 ghost use Rattle.run_words.specs.declared.jobs.JobFault.TheVariants.{Memory as OutOfMemory};

@@ -1,4 +1,4 @@
-// Laws of the words, and of the models that the generator makes.
+//! Laws of the words, and of the models that the generator makes.
 
 ghost use Rattle.std.specs.Prelude.{◌≡◌, ◌≤◌, ℕ, List, length};
 ghost use Rattle.ar_base.specs.Counts.{limit_of};

@@ -1,4 +1,4 @@
-// The command line, as `clap` takes it apart.
+//! The command line, as `clap` takes it apart.
 
 ghost use Rattle.std.specs.Prelude.{◌≡◌, ◌≢◌, false, [], ◌∷◌, List, ℕ, map, codes, IfOk, option_map};
 ghost use Rattle.clap.specs.Words.{app_of, fault_of, found_of, matches_of, rows_of, first_of, all_of, rule_of};

@@ -1,4 +1,4 @@
-// Numbers in words.
+//! Numbers in words.
 
 ghost use Rattle.std.specs.Prelude.{ℕ, MatchOption};
 ghost use Rattle.run_words.specs.Jobs.{IsNumber};

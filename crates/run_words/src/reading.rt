@@ -1,4 +1,4 @@
-// The words read as a job.
+//! The words read as a job.
 
 ghost use Rattle.std.specs.Prelude.{◌≡◌, ◌↔◌, ℕ, List, Option, map, option_map, IfOk, IfErr, IsTrue, MatchOption, Some};
 ghost use Rattle.ar_base.specs.Texts.{bytes_of_all};

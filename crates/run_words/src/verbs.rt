@@ -1,4 +1,4 @@
-// The commands, and what each takes.
+//! The commands, and what each takes.
 
 ghost use Rattle.std.specs.Prelude.{◌≡◌, ◌≢◌, MatchOption};
 ghost use Rattle.run_words.specs.declared.verbs.Verb.{Verb as Verbs};

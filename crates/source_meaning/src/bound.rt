@@ -1,4 +1,4 @@
-// What the declarations of a tree say, by numbers.
+//! What the declarations of a tree say, by numbers.
 
 use ar_base::Text;
 use gts_core::{Act, DeclaredEvent, Observer, Variable};

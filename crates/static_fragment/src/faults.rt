@@ -1,4 +1,4 @@
-// Why a system has no forest.
+//! Why a system has no forest.
 
 ghost use Rattle.std.specs.Prelude.{◌≡◌};
 ghost use Rattle.static_fragment.specs.declared.faults.FragmentFault.TheVariants as fault;

@@ -1,4 +1,4 @@
-// From a flat system to the trees of its modes.
+//! From a flat system to the trees of its modes.
 
 ghost use Rattle.std.specs.Prelude.{ℕ, IfOk, IfErr};
 ghost use Rattle.ar_meaning.specs.Systems.{System};

@@ -1,4 +1,4 @@
-// Refusals with a rule and what it is shown with.
+//! Refusals with a rule and what it is shown with.
 
 ghost use Rattle.ar_firing.specs.Rules.{AtEvent, AtUnit, AtVariable};
 ghost use Rattle.static_fragment.specs.Shown.{IsShownWith, IsWideShown, IsCounted};

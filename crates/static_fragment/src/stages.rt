@@ -1,4 +1,4 @@
-// The stages from a flat system to what its variables reach, each with the rules that it judges.
+//! The stages from a flat system to what its variables reach, each with the rules that it judges.
 
 ghost use Rattle.std.specs.Prelude.{◌≡◌, ◌<◌, ◌^◌, length, IfOk};
 ghost use Rattle.gts_core.specs.Sound.{IsSound};

@@ -1,4 +1,4 @@
-// The trees of the mode variables.
+//! The trees of the mode variables.
 
 ghost use Rattle.std.specs.Prelude.{◌≡◌, ◌<◌, ◌∷◌, length, map, IfOk};
 ghost use Rattle.ar_base.specs.Lists.{AreDifferent};

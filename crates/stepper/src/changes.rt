@@ -1,4 +1,4 @@
-// What a step changed.
+//! What a step changed.
 
 use ar_base::WayId;
 use value_changes::Changes;

@@ -1,4 +1,4 @@
-// Why nothing was done.
+//! Why nothing was done.
 
 ghost use Rattle.std.specs.Prelude.{◌≡◌};
 ghost use Rattle.stepper.specs.declared.faults.StepFault.TheVariants as fault;

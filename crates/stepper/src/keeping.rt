@@ -1,4 +1,4 @@
-// The steps that stand.
+//! The steps that stand.
 
 ghost use Rattle.std.specs.Prelude.{◌≡◌, ◌<◌, ◌++◌, ◌∷◌, [], IsOk, OnOk};
 ghost use Rattle.std.specs.Vec.{vec_len, vec_capacity};

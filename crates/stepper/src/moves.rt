@@ -1,4 +1,4 @@
-// The start of a run, and what a way that is fired does to the state.
+//! The start of a run, and what a way that is fired does to the state.
 
 ghost use Rattle.std.specs.Prelude.{◌≡◌, ◌<◌, ℕ, length, IfErr, IfOk, OnErr, OnOk};
 ghost use Rattle.ar_meaning.specs.Systems.{Way};

@@ -1,4 +1,4 @@
-// Steppers.
+//! Steppers.
 
 ghost use Rattle.std.specs.Prelude.{◌≡◌, ◌<◌, ℕ, [], ◌∷◌, length, IfOk, IfErr, OnOk, OnErr};
 ghost use Rattle.ar_meaning.specs.Systems.{Way};

@@ -1,4 +1,4 @@
-// How many ways events have, and how many parts their synchronised ways have.
+//! How many ways events have, and how many parts their synchronised ways have.
 
 ghost use Rattle.std.specs.Prelude.{◌≡◌, ◌<◌, ◌≤◌, ℕ, List, Option, Some, map, min, length, Ok, OnOk, IfOk, IfErr, IsTrue};
 ghost use Rattle.ar_base.specs.Lists.{Stands};

@@ -1,4 +1,4 @@
-// The call that expands declared events.
+//! The call that expands declared events.
 
 ghost use Rattle.ar_base.specs.Stages.{Meets};
 ghost use Rattle.sync_expand.specs.Expanding.{AreExpandable, Expands};

@@ -1,4 +1,4 @@
-// The rule that no event is reached from one of its own synchronisations.
+//! The rule that no event is reached from one of its own synchronisations.
 
 ghost use Rattle.std.specs.Prelude.{◌≡◌, ◌↔◌, ◌≤◌, ℕ, Some, IsTrue, IfOk, IfErr, OnOk, IfNone, IfSome, length, slice_index};
 ghost use Rattle.ar_base.specs.Breach.{IsEarlier};

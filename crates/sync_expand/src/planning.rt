@@ -1,4 +1,4 @@
-// The plan of the ways of all events.
+//! The plan of the ways of all events.
 
 ghost use Rattle.std.specs.Prelude.{◌≡◌, ◌+◌, ◌*◌, ◌<◌, ◌≤◌, ◌^◌, ℕ, List, [], ◌∷◌, Some, map, sum, length, OnOk, IfOk, slice_index};
 ghost use Rattle.ar_base.specs.Lists.{Stands};

@@ -1,4 +1,4 @@
-// Planned ways.
+//! Planned ways.
 
 use ar_base::{EventId, WayId};
 

@@ -1,10 +1,10 @@
-// An order of events in which parts come first, and ranks by which those that lead back to
-// themselves are told.
-//
-// One search through the parts of each event, which opens each event once and holds the events that
-// are open in a list. Events that are reached from one another get one rank; any other event has a
-// greater rank than its parts. Nothing is proved of the order and the ranks: who uses them tests
-// what it rests on, and refuses for want of memory where the test fails.
+//! An order of events in which parts come first, and ranks by which those that lead back to
+//! themselves are told.
+//!
+//! One search through the parts of each event, which opens each event once and holds the events that
+//! are open in a list. Events that are reached from one another get one rank; any other event has a
+//! greater rank than its parts. Nothing is proved of the order and the ranks: who uses them tests
+//! what it rests on, and refuses for want of memory where the test fails.
 
 use ar_base::{EventId, Memory};
 use gts_core::{DeclaredEvent, DeclaredWay};

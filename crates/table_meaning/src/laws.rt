@@ -1,4 +1,4 @@
-// What the table of a static system tells.
+//! What the table of a static system tells.
 
 ghost use Rattle.table_meaning.specs.Laws.{TableAgrees, TableShowsLeast, TableIsOrdered};
 

@@ -1,4 +1,4 @@
-// What events are called.
+//! What events are called.
 
 ghost use Rattle.std.specs.Prelude.{◌≡◌, IfOk, map};
 ghost use Rattle.gts_core.specs.declared.system.Event.{Event as OneEvent};

@@ -1,4 +1,4 @@
-// Long texts.
+//! Long texts.
 
 use std::alloc::AllocError;
 

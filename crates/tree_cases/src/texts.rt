@@ -1,4 +1,4 @@
-// The texts of the cases.
+//! The texts of the cases.
 
 pub(crate) const CASES: [&str; 41] = [
     "block B end",

@@ -1,4 +1,4 @@
-// What the conditions and the expression of an assignment come to.
+//! What the conditions and the expression of an assignment come to.
 
 ghost use Rattle.std.specs.Prelude.{◌≡◌, ◌≤◌, ◌++◌, OnOk, IfOk, [], length, map};
 ghost use Rattle.domains.specs.Domains.{IsDomain, values_of};

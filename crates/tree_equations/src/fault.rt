@@ -1,4 +1,4 @@
-// Why there is no table.
+//! Why there is no table.
 
 ghost use Rattle.std.specs.Prelude.{◌≡◌};
 ghost use Rattle.tree_equations.specs.Faults.{fault_of};

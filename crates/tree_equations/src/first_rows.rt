@@ -1,4 +1,4 @@
-// What the variables read before the rounds.
+//! What the variables read before the rounds.
 
 ghost use Rattle.std.specs.Prelude.{◌≡◌, ℕ, IfOk, OnOk, [], length};
 ghost use Rattle.eq_build.specs.Views.{entries_in, lists_in, row_at};

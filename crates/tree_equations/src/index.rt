@@ -1,4 +1,4 @@
-// What is looked up in a system: its flows, and the assignments to each variable.
+//! What is looked up in a system: its flows, and the assignments to each variable.
 
 ghost use Rattle.std.specs.Prelude.{◌≡◌, ◌<◌, ◌^◌, ℕ, List, [], IfOk, length, map};
 ghost use Rattle.ar_base.specs.Lists.{IsOneOf};

@@ -1,4 +1,4 @@
-// The assignments that may give a value outside their targets' domains.
+//! The assignments that may give a value outside their targets' domains.
 
 ghost use Rattle.std.specs.Prelude.{◌≡◌, ◌<◌, ℕ, List, Contains, IfOk, OnOk, length, map};
 ghost use Rattle.ar_base.specs.Lists.{Stands};

@@ -1,4 +1,4 @@
-// The modes of trees.
+//! The modes of trees.
 
 ghost use Rattle.std.specs.Prelude.{◌≡◌, ◌≤◌, ◌++◌, OnOk, [], length};
 ghost use Rattle.eq_core.specs.Gates.{all_of};

@@ -1,4 +1,4 @@
-// Rounds of blocks of flows.
+//! Rounds of blocks of flows.
 
 ghost use Rattle.std.specs.Prelude.{◌≡◌, ◌≤◌, ◌<◌, ℕ, OnOk, List, length};
 ghost use Rattle.ar_base.specs.Lists.{IsOneOf};

@@ -1,4 +1,4 @@
-// Rows of entries by variable.
+//! Rows of entries by variable.
 
 ghost use Rattle.std.specs.Prelude.{◌≡◌, true, length};
 ghost use Rattle.eq_build.specs.Views.{lists_in, row_at};

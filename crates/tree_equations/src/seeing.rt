@@ -1,4 +1,4 @@
-// What tells of a conflict: two known values, a value outside its domain, an assignment that does not hold.
+//! What tells of a conflict: two known values, a value outside its domain, an assignment that does not hold.
 
 ghost use Rattle.std.specs.Prelude.{◌≡◌, ◌≤◌, ◌<◌, ◌++◌, ℕ, List, IfOk, OnOk, length};
 ghost use Rattle.ar_base.specs.Lists.{Along, IsOneOf};

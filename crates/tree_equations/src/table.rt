@@ -1,4 +1,4 @@
-// The table.
+//! The table.
 
 ghost use Rattle.std.specs.Prelude.{◌≡◌, ◌≤◌, ◌<◌, ◌++◌, ℕ, IfOk, IfErr, length, slice_get};
 ghost use Rattle.eq_core.specs.Gates.{Table};

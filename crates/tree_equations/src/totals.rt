@@ -1,4 +1,4 @@
-// The total values of flows.
+//! The total values of flows.
 
 ghost use Rattle.std.specs.Prelude.{◌≡◌, ◌≤◌, ◌<◌, IfOk, List, length};
 ghost use Rattle.eq_core.specs.Gates.{opposite};

@@ -1,4 +1,4 @@
-// What the variables of an expression stand for.
+//! What the variables of an expression stand for.
 
 ghost use Rattle.std.specs.Prelude.{◌≡◌, List};
 ghost use Rattle.domains.specs.declared.Value.{Value};

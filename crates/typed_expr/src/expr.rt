@@ -1,4 +1,4 @@
-// Expressions.
+//! Expressions.
 
 use domains::Value;
 

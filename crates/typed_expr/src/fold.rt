@@ -1,4 +1,4 @@
-// The folds, a step at a time.
+//! The folds, a step at a time.
 
 ghost use Rattle.std.specs.Prelude.{◌≡◌, []};
 ghost use Rattle.domains.specs.declared.Value.TheVariants.{Whole};

@@ -1,4 +1,4 @@
-// The kinds of expressions.
+//! The kinds of expressions.
 
 ghost use Rattle.std.specs.Prelude.{◌≡◌, ◌<◌, ◌↔◌, IsTrue, Some, None, if◌then◌else◌, length};
 ghost use Rattle.typed_expr.specs.declared.expr.Expr.{out-Expr};

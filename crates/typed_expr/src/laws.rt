@@ -1,4 +1,4 @@
-// Laws of expressions, which have no code.
+//! Laws of expressions, which have no code.
 
 ghost use Rattle.std.specs.Prelude.{◌≡◌, ◌↔◌, ◌⊎◌, ◌<◌, ◌^◌, IsTrue, Contains, Bool, List, [], ◌∷◌, length, count_by, pos};
 ghost use Rattle.domains.specs.declared.Value.{Value};

@@ -1,4 +1,4 @@
-// The values that an expression yields from facts.
+//! The values that an expression yields from facts.
 
 ghost use Rattle.std.specs.Prelude.{◌≡◌, IfOk, Contains, MatchOption, ⊤};
 ghost use Rattle.domains.specs.Values.{IsAscending};

@@ -1,4 +1,4 @@
-// Sets made of sets.
+//! Sets made of sets.
 
 ghost use Rattle.std.specs.Prelude.{◌≡◌, ◌↔◌, ◌⊎◌, IsTrue, Contains, [], ◌∷◌};
 ghost use Rattle.typed_expr.specs.Values.{is_related, whole_of};

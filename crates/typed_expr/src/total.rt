@@ -1,4 +1,4 @@
-// The value of an expression under one value for each variable.
+//! The value of an expression under one value for each variable.
 
 ghost use Rattle.std.specs.Prelude.{◌≡◌, map, unwrap_or};
 ghost use Rattle.domains.specs.declared.Value.{Value};

@@ -1,4 +1,4 @@
-// Sets of values.
+//! Sets of values.
 
 ghost use Rattle.std.specs.Prelude.{◌≡◌, ◌≤◌, ◌<◌, ◌↔◌, ⊤, [], MatchOption, MatchBool, IsTrue, Contains, OnOk, IfOk, IfErr, length, true, false, Option};
 ghost use Rattle.std.specs.List.Sorted.{IsPartitionPoint};

@@ -1,4 +1,4 @@
-// The index of a tree.
+//! The index of a tree.
 
 ghost use Rattle.std.specs.Prelude.{◌≡◌, ◌<◌, List, length, option_map, Some, IfOk, OnOk};
 ghost use Rattle.std.specs.HashMap.{get, Updates};

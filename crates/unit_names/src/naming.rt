@@ -1,4 +1,4 @@
-// The units that the names of a unit lead to.
+//! The units that the names of a unit lead to.
 
 ghost use Rattle.std.specs.Prelude.{ℕ, List, [], ◌∷◌, map, OnOk, IfOk};
 ghost use Rattle.std.specs.List.Sorted.{IsPermutation, IsNonDecreasingBy};

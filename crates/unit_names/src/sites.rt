@@ -1,4 +1,4 @@
-// The members of a body.
+//! The members of a body.
 
 ghost use Rattle.std.specs.Prelude.{◌≡◌, option_copied};
 ghost use Rattle.ar_base.specs.Lists.{Along};

@@ -1,4 +1,4 @@
-// Clones and aliases whose paths name no unit.
+//! Clones and aliases whose paths name no unit.
 
 ghost use Rattle.std.specs.Prelude.{◌≡◌, ◌<◌, ◌^◌, List, length, map};
 ghost use Rattle.ar_base.specs.Lists.{Stands, Along};

@@ -1,4 +1,4 @@
-// The first declaration of variables that breaks rule L8.
+//! The first declaration of variables that breaks rule L8.
 
 ghost use Rattle.std.specs.Prelude.{◌≡◌, [], ◌∷◌, List, map, IfOk, Some, Option, option_copied, unwrap_or, slice_get};
 ghost use Rattle.ar_base.specs.Lists.{Along};

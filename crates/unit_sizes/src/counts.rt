@@ -1,4 +1,4 @@
-// Counts of variables, events and nodes.
+//! Counts of variables, events and nodes.
 
 ghost use Rattle.std.specs.Prelude.{◌≡◌, ◌+◌, ◌++◌, [], List, ℕ};
 ghost use Rattle.class_table.specs.Members.{NamedMember};

@@ -1,4 +1,4 @@
-// Sizes of expressions and instructions.
+//! Sizes of expressions and instructions.
 
 ghost use Rattle.std.specs.Prelude.{◌≡◌, ◌+◌, ℕ, List, map, sum, Bool};
 ghost use Rattle.ar_syntax.specs.declared.expressions.RawExpr.{RawExpr as Expr};

@@ -1,4 +1,4 @@
-// The limits of the tree of units.
+//! The limits of the tree of units.
 
 ghost use Rattle.std.specs.Prelude.{◌≡◌, ◌<◌, ◌≤◌, ℕ, List, MatchResult};
 ghost use Rattle.ar_base.specs.Counts.{limit_of};

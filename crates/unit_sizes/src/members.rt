@@ -1,4 +1,4 @@
-// Counts of members.
+//! Counts of members.
 
 ghost use Rattle.std.specs.Prelude.{◌≡◌, ℕ, List, map, sum};
 ghost use Rattle.ar_base.specs.Lists.{Along};

@@ -1,4 +1,4 @@
-// Counts of bodies and of all units.
+//! Counts of bodies and of all units.
 
 ghost use Rattle.std.specs.Prelude.{List, [], ◌∷◌, map, IfOk, unwrap_or, slice_get};
 ghost use Rattle.std.specs.List.{flat_map};

@@ -1,4 +1,4 @@
-// Types by their names.
+//! Types by their names.
 
 ghost use Rattle.std.specs.Prelude.{◌≡◌, ◌++◌, ◌∷◌, [], ℕ, List, IfOk, OnOk, nat_eq, length, option_copied};
 ghost use Rattle.std.specs.HashMap as hash;

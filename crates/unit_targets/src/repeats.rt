@@ -1,4 +1,4 @@
-// Targets that were met before.
+//! Targets that were met before.
 
 ghost use Rattle.std.specs.Prelude.{◌≡◌, ◌+◌, ℕ, List, map, IfOk};
 ghost use Rattle.ar_base.specs.Lists.{Stands};

@@ -1,4 +1,4 @@
-// What may be set in the bodies of units, looked up by body and name.
+//! What may be set in the bodies of units, looked up by body and name.
 
 ghost use Rattle.std.specs.Prelude.{◌≡◌, [], ◌∷◌, List, map, OnOk, IfOk, Some, option_and_then, option_copied};
 ghost use Rattle.std.specs.List.{flat_map};

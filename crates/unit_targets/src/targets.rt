@@ -1,4 +1,4 @@
-// Where the words of a target lead.
+//! Where the words of a target lead.
 
 ghost use Rattle.std.specs.Prelude.{◌≡◌, ◌↔◌, IsTrue, List, map};
 ghost use Rattle.ar_base.specs.Lists.{Stands};

@@ -1,4 +1,4 @@
-// The first setting that sets nothing, or what an earlier one sets.
+//! The first setting that sets nothing, or what an earlier one sets.
 
 ghost use Rattle.std.specs.Prelude.{◌≡◌, ◌↔◌, ℕ, false, List, IfOk, Some};
 ghost use Rattle.ar_base.specs.Lists.{Stands};

@@ -1,4 +1,4 @@
-// The domains of variables and parameters.
+//! The domains of variables and parameters.
 
 ghost use Rattle.std.specs.Prelude.{ℕ, List, IfOk};
 ghost use Rattle.ar_syntax.specs.declared.items.DomainBody.{DomainBody};

@@ -1,4 +1,4 @@
-// The things of units, in the order of units and members.
+//! The things of units, in the order of units and members.
 
 ghost use Rattle.std.specs.Prelude.{◌≡◌, ◌++◌, [], ◌∷◌, List, map, OnOk, IfOk, Some};
 ghost use Rattle.std.specs.List.{flat_map};

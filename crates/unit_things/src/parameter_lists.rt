@@ -1,4 +1,4 @@
-// The parameters of a tree.
+//! The parameters of a tree.
 
 ghost use Rattle.std.specs.Prelude.{◌≡◌, List, IfOk, Some};
 ghost use Rattle.ar_base.specs.Lists.{Along};

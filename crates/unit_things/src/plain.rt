@@ -1,4 +1,4 @@
-// The events and observers of a tree.
+//! The events and observers of a tree.
 
 ghost use Rattle.std.specs.Prelude.{List, IfOk};
 ghost use Rattle.ar_base.specs.Lists.{Along};

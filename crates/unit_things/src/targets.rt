@@ -1,4 +1,4 @@
-// Settings of a declaration by their targets.
+//! Settings of a declaration by their targets.
 
 ghost use Rattle.std.specs.Prelude.{◌≡◌, map, Some};
 ghost use Rattle.class_table.specs.Members.{Site};

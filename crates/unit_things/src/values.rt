@@ -1,4 +1,4 @@
-// The values in force: those of the outermost unit that sets them.
+//! The values in force: those of the outermost unit that sets them.
 
 ghost use Rattle.std.specs.Prelude.{◌≡◌, List, map, Option, Some, IfOk};
 ghost use Rattle.ar_base.specs.Lists.{Stands};

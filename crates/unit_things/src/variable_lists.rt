@@ -1,4 +1,4 @@
-// The variables of a tree.
+//! The variables of a tree.
 
 ghost use Rattle.std.specs.Prelude.{◌≡◌, List, IfOk};
 ghost use Rattle.ar_base.specs.Lists.{Along};

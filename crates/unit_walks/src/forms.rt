@@ -1,4 +1,4 @@
-// What the names of bodies may be units by, looked up by body and name.
+//! What the names of bodies may be units by, looked up by body and name.
 
 ghost use Rattle.std.specs.Prelude.{◌≡◌, [], unwrap_or, option_copied};
 ghost use Rattle.unit_walks.specs.Forms.{list_at, place_at, form_at};

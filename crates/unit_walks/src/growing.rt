@@ -1,4 +1,4 @@
-// The units depth first, within the limits.
+//! The units depth first, within the limits.
 
 ghost use Rattle.std.specs.Prelude.{◌≡◌, ◌+◌, ◌≤◌, ◌++◌, ◌∷◌, length, List, [], map, true, Some, IfOk, IfErr, OnOk};
 ghost use Rattle.ar_base.specs.Lists.{Stands};

@@ -1,4 +1,4 @@
-// The names of bodies that may be units, listed and indexed once.
+//! The names of bodies that may be units, listed and indexed once.
 
 ghost use Rattle.std.specs.Prelude.{◌≡◌, ◌++◌, ◌∷◌, ◌+◌, [], ℕ, List, Vec, length, map, OnOk, IfOk, Some, option_copied};
 ghost use Rattle.std.specs.Global.{Global};

@@ -1,4 +1,4 @@
-// What each name leads to in each unit of the tree.
+//! What each name leads to in each unit of the tree.
 
 ghost use Rattle.std.specs.Prelude.{◌≡◌, ◌+◌, ℕ, List, [], IfOk, OnOk};
 ghost use Rattle.ar_base.specs.Lists.{Stands};

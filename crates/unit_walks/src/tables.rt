@@ -1,4 +1,4 @@
-// What walks have found: the units that they came to, and what names lead to in them.
+//! What walks have found: the units that they came to, and what names lead to in them.
 
 ghost use Rattle.std.specs.Prelude.{◌≡◌, ◌<◌, List, [], IfOk, OnOk, slice_get};
 ghost use Rattle.hierarchy.specs.Models.{RootedModel};

@@ -1,4 +1,4 @@
-// Walks along paths. What each name in a unit leads to is found once.
+//! Walks along paths. What each name in a unit leads to is found once.
 
 ghost use Rattle.std.specs.Prelude.{◌≡◌, List, [], ◌∷◌, true, IfOk, OnOk, Some};
 ghost use Rattle.ar_base.specs.Lists.{Stands};

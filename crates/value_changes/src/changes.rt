@@ -1,4 +1,4 @@
-// What changed between two valuations with marks.
+//! What changed between two valuations with marks.
 
 ghost use Rattle.std.specs.Prelude.{◌≡◌, ℕ, Bool, List, length, IfOk};
 ghost use Rattle.ar_base.specs.Sets.{Ascends};

@@ -1,4 +1,4 @@
-// Values as numbers by their domain.
+//! Values as numbers by their domain.
 
 ghost use Rattle.std.specs.Prelude.{◌≡◌};
 ghost use Rattle.domains.specs.Domains.{IsDomain};

@@ -1,4 +1,4 @@
-// The way back.
+//! The way back.
 
 ghost use Rattle.std.specs.Prelude.{◌≡◌, length, not, slice_set};
 ghost use Rattle.gts_core.specs.Sound.{IsSound};

@@ -1,4 +1,4 @@
-// The values that words write.
+//! The values that words write.
 
 ghost use Rattle.std.specs.Prelude.{◌≡◌, ◌<◌, ◌^◌, ℕ, ℤ, List, length, MatchOption, IfSome, IfNone, FitsSigned};
 ghost use Rattle.std.specs.Fmt.{signed_decimal};

@@ -1,4 +1,4 @@
-// The observer and the value that words name.
+//! The observer and the value that words name.
 
 ghost use Rattle.std.specs.Prelude.{IfOk};
 ghost use Rattle.gts_flatten.specs.Elaborating.{Elaborated};

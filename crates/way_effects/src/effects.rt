@@ -1,4 +1,4 @@
-// The effects of the ways that take part in a step.
+//! The effects of the ways that take part in a step.
 
 ghost use Rattle.std.specs.Prelude.{◌≡◌, ◌<◌, ◌++◌, ℕ, length, IfOk, OnOk};
 ghost use Rattle.std.specs.List.Sorted.{IsPermutation, IsNonDecreasingBy};

@@ -1,4 +1,4 @@
-// Why nothing is received.
+//! Why nothing is received.
 
 ghost use Rattle.std.specs.Prelude.{◌≡◌};
 ghost use Rattle.way_effects.specs.declared.faults.ReceiveFault.TheVariants as fault;

@@ -1,4 +1,4 @@
-// The ways that take part where a way is fired.
+//! The ways that take part where a way is fired.
 
 ghost use Rattle.std.specs.Prelude.{◌≡◌, ◌<◌, ◌⊎◌, ◌↔◌, ℕ, not, length, IfOk, OnOk};
 ghost use Rattle.std.specs.BTreeSet.{contains};

@@ -1,4 +1,4 @@
-// Which ways can fire.
+//! Which ways can fire.
 
 ghost use Rattle.std.specs.Prelude.{◌≡◌, ◌<◌, true, false, length, replicate, IfOk};
 ghost use Rattle.gts_core.specs.Sound.{IsSound};

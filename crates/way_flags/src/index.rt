@@ -1,4 +1,4 @@
-// Which ways have to be looked at again where a variable or the flag of a way changed.
+//! Which ways have to be looked at again where a variable or the flag of a way changed.
 
 ghost use Rattle.std.specs.Prelude.{◌≡◌, ◌<◌, ◌+◌, ◌^◌, length, IfOk};
 ghost use Rattle.gts_core.specs.Sound.{IsSound};

@@ -1,4 +1,4 @@
-// How the flags follow the values.
+//! How the flags follow the values.
 
 ghost use Rattle.std.specs.Prelude.{◌≡◌, ◌<◌, ℕ, Bool, List, [], IfOk, OnErr, OnOk};
 ghost use Rattle.gts_core.specs.Sound.{IsSound};

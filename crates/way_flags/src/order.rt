@@ -1,4 +1,4 @@
-// The ways in an order in which each comes after its parts.
+//! The ways in an order in which each comes after its parts.
 
 ghost use Rattle.std.specs.Prelude.{◌≡◌, ◌<◌, ◌≤◌, ℕ, true, length, map, IfOk, OnOk};
 ghost use Rattle.ar_meaning.specs.Systems.{Way, Branches, Transition};

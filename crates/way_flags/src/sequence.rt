@@ -1,7 +1,7 @@
-// A sequence of the ways in which parts come before the ways that name them.
-//
-// Nothing rests on the sequence but how deep the recursion goes that puts the ways in order: ways that are put in it one
-// by one find their parts there already.
+//! A sequence of the ways in which parts come before the ways that name them.
+//!
+//! Nothing rests on the sequence but how deep the recursion goes that puts the ways in order: ways that are put in it one
+//! by one find their parts there already.
 
 use crate::flags::{is_set, unset};
 use ar_base::{Memory, WayId};

@@ -1,4 +1,4 @@
-// Flags that are turned.
+//! Flags that are turned.
 
 ghost use Rattle.std.specs.Prelude.{◌≡◌, not, slice_set};
 ghost use Rattle.way_flags.specs.Ways.{flag_at};

@@ -1,4 +1,4 @@
-// The places of the ways that wait to be looked at.
+//! The places of the ways that wait to be looked at.
 
 ghost use Rattle.std.specs.Prelude.{◌≡◌, ◌≢◌, ◌⊎◌, ◌↔◌, ◌<◌, ◌∷◌, ℕ, length, map, IfOk, OnOk, IfSome, IfNone};
 ghost use Rattle.ar_base.specs.Lists.{IsOneOf};

@@ -1,4 +1,4 @@
-// The searches for too many possible values.
+//! The searches for too many possible values.
 
 ghost use Rattle.std.specs.Prelude.{◌≡◌, ℕ, length, IfOk};
 ghost use Rattle.typed_expr.specs.Possible.{IsWide};

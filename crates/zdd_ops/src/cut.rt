@@ -1,4 +1,4 @@
-// Two families at the least event of both.
+//! Two families at the least event of both.
 
 ghost use Rattle.std.specs.Prelude.{◌≡◌, ◌≤◌, ◌<◌, ◌⊎◌, IfSome};
 ghost use Rattle.zdd_nodes.specs.Nodes.{IsNumber};

@@ -1,4 +1,4 @@
-// Each operation by the halves of its operands.
+//! Each operation by the halves of its operands.
 
 ghost use Rattle.std.specs.Prelude.{◌≤◌, ◌⊎◌, MatchOption};
 ghost use Rattle.zdd_families.specs.Families.{having, without, minimal};

@@ -1,4 +1,4 @@
-// What operations gave.
+//! What operations gave.
 
 ghost use Rattle.std.specs.Prelude.{◌≡◌, ◌≤◌, [], length};
 ghost use Rattle.std.specs.Map.{lookup};

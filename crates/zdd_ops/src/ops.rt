@@ -1,4 +1,4 @@
-// The operations, over a store of their own.
+//! The operations, over a store of their own.
 
 ghost use Rattle.std.specs.Prelude.{◌≡◌, ◌≤◌, ◌↔◌, ◌⊎◌, [], IfOk, OnErr};
 ghost use Rattle.zdd_families.specs.Families.{node, IsAbove, union, meet, minus, having, minimal, without};

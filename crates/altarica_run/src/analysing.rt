@@ -52,7 +52,8 @@ pub fn forest_of(
     dropped: &[EventId],
 ) -> Result<Forest, Stop>
     requires { AreEventsOf system.now dropped.now }
-    ensures { (w : Ready) → IsFlat w.source system.now → w.dropped ≡ map (λ (e : EventNumber). e.n) dropped.now
+    ensures { (w : Ready) → IsFlat w.source system.now
+        → w.dropped ≡ map (λ (e : EventNumber). e.n) dropped.now
         → IsStageOf (λ (v : Ready). HasForest command system.now v.dropped)
         (Where (is_static command) Static w) result }
 {

@@ -76,7 +76,8 @@ fn said_of_lines(alloc: Global, prepared: &Prepared) -> Result<Vec<Verdict>, Mem
         → (flat : System ℕ) → Views prepared.now.system flat
         → (wanted : TheWanted) → w.wanted ≡ Some wanted
         → (o : Observer) → Stands prepared.now.system.observers.items wanted.observer o
-        → IfOk result (λ said. AreVerdicts prepared.now.system flat w.dropped (numbered o.value) wanted.value
+        → IfOk result (λ said. AreVerdicts prepared.now.system flat w.dropped (numbered o.value)
+        wanted.value
         prepared.now.request.chains.items said.items) }
 {
     let request = &prepared.request;

@@ -73,7 +73,8 @@ fn put_made<K: Sink>(
 
 // Writes a line with a number.
 fn put_line<K: Sink>(out: &mut K, named: &str, number: u128) -> Result<(), SinkFailed>
-    ensures { Writes (K.state out.old) (K.state out.new) (line (named.now ++ decimal number)) result }
+    ensures { Writes (K.state out.old) (K.state out.new) (line (named.now ++ decimal number))
+        result }
 {
     put(out, named)?;
     put_wide(out, number)?;

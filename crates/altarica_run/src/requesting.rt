@@ -46,9 +46,11 @@ pub fn request_of(
     requires short { IsShort script.now }
     requires there { IsThere (has_second job.now.command) script.now }
     requires observer { IsThere (has_table job.now.command) (observer_asked job.now) }
-    ensures { (texts : List (List ℕ)) (x : Elaborated) → IsSecond (has_second job.now.command) texts script.now
+    ensures { (texts : List (List ℕ)) (x : Elaborated)
+        → IsSecond (has_second job.now.command) texts script.now
         → IsFlattened x flattened.now
-        → IsStageOf (IsRequested job.now.command x flattened.now.system) (Asks job.now texts x) result }
+        → IsStageOf (IsRequested job.now.command x flattened.now.system) (Asks job.now texts x)
+        result }
 {
     let commands = commands_of(alloc, flattened, reads_script(job.command), script)?;
     let chains = chains_of(alloc, flattened, reads_list(job.command), script)?;
@@ -116,7 +118,8 @@ fn commands_of(
     requires source { (x : Elaborated) × IsFlattened x flattened.now }
     requires short { IsShort script.now }
     ensures { (x : Elaborated) → IsFlattened x flattened.now
-        → IsStageOf (AreCommands flattened.now.system) (ReadsScript (where_asked asked script.now) x) result }
+        → IsStageOf (AreCommands flattened.now.system)
+        (ReadsScript (where_asked asked script.now) x) result }
 {
     if !asked {
         return Ok(Vec::new(alloc));
@@ -140,7 +143,8 @@ fn chains_of(
     requires source { (x : Elaborated) × IsFlattened x flattened.now }
     requires short { IsShort list.now }
     ensures { (x : Elaborated) → IsFlattened x flattened.now
-        → IsStageOf (AreLines flattened.now.system) (ReadsCuts (where_asked asked list.now) x) result }
+        → IsStageOf (AreLines flattened.now.system) (ReadsCuts (where_asked asked list.now) x)
+        result }
 {
     if !asked {
         return Ok(Vec::new(alloc));
@@ -190,7 +194,8 @@ fn shown_of(
 ) -> Result<Option<u32>, Stop>
     requires source { (x : Elaborated) × IsFlattened x flattened.now }
     ensures { (x : Elaborated) → IsFlattened x flattened.now
-        → IsStageOf (IsShown flattened.now.system) (ReadsShown (where_asked asked path.now) x) result }
+        → IsStageOf (IsShown flattened.now.system) (ReadsShown (where_asked asked path.now) x)
+        result }
 {
     if !asked {
         return Ok(None);

@@ -104,7 +104,8 @@ fn ready(
     requires short { IsShort script.now }
     requires there { IsThere (has_second job.now.command) script.now }
     requires observer { IsThere (has_table job.now.command) (observer_asked job.now) }
-    ensures { (texts : List (List ℕ)) (x : Elaborated) → IsSecond (has_second job.now.command) texts script.now
+    ensures { (texts : List (List ℕ)) (x : Elaborated)
+        → IsSecond (has_second job.now.command) texts script.now
         → IsFlattened x flattened → IsStageOf (IsReady job.now) (Readies job.now texts x) result }
 {
     let request = request_of(alloc, job, &flattened, script)?;

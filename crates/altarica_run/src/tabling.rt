@@ -38,7 +38,8 @@ pub fn wanted_of(
 ) -> Result<Option<Wanted>, Stop>
     requires { (x : Elaborated) × IsFlattened x flattened.now }
     ensures { (x : Elaborated) → IsFlattened x flattened.now
-        → IsStageOf (AreWanted flattened.now.system) (ReadsWanted (option_map (λ t. t.now) observer.entry) value.now x) result }
+        → IsStageOf (AreWanted flattened.now.system)
+        (ReadsWanted (option_map (λ t. t.now) observer.entry) value.now x) result }
 {
     match observer {
         Some(path) => {
@@ -62,7 +63,8 @@ pub fn table_of(
     ensures { (command : Verb) (w : Ready) → IsFlat w.source system.now → w.wanted ≡ wanted
         → IsThere (has_table command) wanted
         → (has_table command ≡ true → IsForestOf system.now w.dropped forest.now)
-        → IsStageOf (HasTable command system.now forest.now) (Where (has_table command) Tabled w) result }
+        → IsStageOf (HasTable command system.now forest.now) (Where (has_table command) Tabled w)
+        result }
 {
     match wanted {
         Some(wanted) => tabled(alloc, system, forest, wanted),

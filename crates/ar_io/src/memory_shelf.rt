@@ -122,18 +122,26 @@ impl Shelf for MemoryShelf {
 
         // What every shelf promises.
         ensures room { IfOk result (λ bytes. length bytes.items ≤ most) }
-        ensures told { (bytes : List ℕ) → told_of (held_of self.old.texts name.now) ≡ Bytes bytes → IfOk result (λ loaded. loaded.items ≡ bytes) }
-        ensures failed { result ≡ Err LoadFault.Failed → Rose self.old.fault_count self.new.fault_count }
-        ensures too_long { (bytes : List ℕ) → told_of (held_of self.old.texts name.now) ≡ Bytes bytes → result ≡ Err LoadFault.TooLong → most < length bytes }
-        ensures absent { told_of (held_of self.old.texts name.now) ≡ Absent → (result ≡ Err LoadFault.Failed) ⊎ (result ≡ Err LoadFault.Memory) }
-        ensures keeps { (other : List ℕ) → told_of (held_of self.new.texts other) ≡ told_of (held_of self.old.texts other) }
+        ensures told { (bytes : List ℕ) → told_of (held_of self.old.texts name.now) ≡ Bytes bytes
+            → IfOk result (λ loaded. loaded.items ≡ bytes) }
+        ensures failed { result ≡ Err LoadFault.Failed
+            → Rose self.old.fault_count self.new.fault_count }
+        ensures too_long { (bytes : List ℕ)
+            → told_of (held_of self.old.texts name.now) ≡ Bytes bytes
+            → result ≡ Err LoadFault.TooLong → most < length bytes }
+        ensures absent { told_of (held_of self.old.texts name.now) ≡ Absent
+            → (result ≡ Err LoadFault.Failed) ⊎ (result ≡ Err LoadFault.Memory) }
+        ensures keeps { (other : List ℕ)
+            → told_of (held_of self.new.texts other) ≡ told_of (held_of self.old.texts other) }
         ensures rises { List ℕ → self.old.fault_count ≤ self.new.fault_count }
 
         // It fails exactly where it was asked to, or holds no such name, and counts its calls and its faults.
         ensures fails { (result ≡ Err LoadFault.Failed) ↔ FailsNext self.old name.now }
         ensures calls { self.new.calls ≡ next self.old.calls }
-        ensures counted { result ≡ Err LoadFault.Failed → self.new.fault_count ≡ next self.old.fault_count }
-        ensures uncounted { (result ≡ Err LoadFault.Failed → ⊥) → self.new.fault_count ≡ self.old.fault_count }
+        ensures counted { result ≡ Err LoadFault.Failed
+            → self.new.fault_count ≡ next self.old.fault_count }
+        ensures uncounted { (result ≡ Err LoadFault.Failed → ⊥)
+            → self.new.fault_count ≡ self.old.fault_count }
         ensures failing { self.new.failing ≡ self.old.failing }
         ensures texts { self.new.texts ≡ self.old.texts }
     {

@@ -35,12 +35,16 @@ pub trait Shelf {
 
         // The bytes are those that the shelf tells, and no more than were asked for.
         ensures room { IfOk result (λ bytes. length bytes.items ≤ most) }
-        ensures told { (bytes : List ℕ) → holds self.old name.now ≡ Bytes bytes → IfOk result (λ loaded. loaded.items ≡ bytes) }
+        ensures told { (bytes : List ℕ) → holds self.old name.now ≡ Bytes bytes
+            → IfOk result (λ loaded. loaded.items ≡ bytes) }
 
         // Each refusal has its cause. That memory is refused is always allowed.
-        ensures failed { result ≡ Err LoadFault.Failed → Rose (faults self.old name.now) (faults self.new name.now) }
-        ensures too_long { (bytes : List ℕ) → holds self.old name.now ≡ Bytes bytes → result ≡ Err LoadFault.TooLong → most < length bytes }
-        ensures absent { holds self.old name.now ≡ Absent → (result ≡ Err LoadFault.Failed) ⊎ (result ≡ Err LoadFault.Memory) }
+        ensures failed { result ≡ Err LoadFault.Failed
+            → Rose (faults self.old name.now) (faults self.new name.now) }
+        ensures too_long { (bytes : List ℕ) → holds self.old name.now ≡ Bytes bytes
+            → result ≡ Err LoadFault.TooLong → most < length bytes }
+        ensures absent { holds self.old name.now ≡ Absent
+            → (result ≡ Err LoadFault.Failed) ⊎ (result ≡ Err LoadFault.Memory) }
 
         // What is held stays, and no count falls.
         ensures keeps { (other : List ℕ) → holds self.new other ≡ holds self.old other }

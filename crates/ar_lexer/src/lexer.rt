@@ -63,7 +63,8 @@ impl<'a> Cursor<'a> {
 fn scanned(alloc: Global, text: &[u8]) -> Result<Vec<Token>, LexFault>
     requires { length text.now ≤ limit_of ModelBytes }
     ensures found { IfOk result (λ v. AreTokens text.now v.items) }
-    ensures refused { IfErr result (λ fault. fault ≢ LexFault.Memory → IsFirstFault text.now fault) }
+    ensures refused { IfErr result (λ fault. fault ≢ LexFault.Memory
+        → IsFirstFault text.now fault) }
 {
     let mut cursor = Cursor {
         rest: text,
@@ -94,11 +95,14 @@ fn scanned(alloc: Global, text: &[u8]) -> Result<Vec<Token>, LexFault>
 pub fn tokens(alloc: Global, text: &[u8]) -> Result<Vec<Token>, LexFault>
     requires { length text.now ≤ limit_of ModelBytes }
     ensures found { IfOk result (λ v. AreTokens text.now v.items) }
-    ensures refused { IfErr result (λ fault. fault ≢ LexFault.Memory → IsFirstFault text.now fault) }
+    ensures refused { IfErr result (λ fault. fault ≢ LexFault.Memory
+        → IsFirstFault text.now fault) }
 
     // A text that has tokens gives these, and a text with a fault is refused for its first one.
-    ensures only { (ts : _) → AreTokens text.now ts → MatchResult result (λ v. v.items ≡ ts) (λ fault. fault ≡ LexFault.Memory) }
-    ensures first { (fault : _) → IsFirstFault text.now fault → IsErrAnd result (λ e. e ≢ LexFault.Memory → e ≡ fault) }
+    ensures only { (ts : _) → AreTokens text.now ts
+        → MatchResult result (λ v. v.items ≡ ts) (λ fault. fault ≡ LexFault.Memory) }
+    ensures first { (fault : _) → IsFirstFault text.now fault
+        → IsErrAnd result (λ e. e ≢ LexFault.Memory → e ≡ fault) }
 {
     scanned(alloc, text)
 }

@@ -80,7 +80,8 @@ fn sign_front(rest: &[u8], len: usize) -> Option<u8>
 // The longest sign at the front, and its number of bytes.
 fn sign_at(rest: &[u8]) -> Option<(u8, usize)>
     ensures found { IfSome result (λ r. (1 ≤ r.1) × IsSignFront rest.now r.0 r.1) }
-    ensures none { IfNone result ((front back : _) (p : _) → rest.now ≡ front ++ back → place_in signs front ≡ Some p → ⊥) }
+    ensures none { IfNone result ((front back : _) (p : _) → rest.now ≡ front ++ back
+        → place_in signs front ≡ Some p → ⊥) }
 {
     if let Some(sign) = sign_front(rest, 3) {
         return Some((sign, 3));

@@ -28,9 +28,12 @@ impl<'a> Parser<'a> {
     ) -> Result<(NameId, Place), Refusal>
         requires opens { opens ≢ End }
         requires closes { closes ≢ End }
-        ensures found { Takes (λ x. between opens closes (IsPlacedName x)) result self.old.rest.now self.new.rest.now }
-        ensures only { (left : ℕ) → Finds (λ _. between opens closes (token Name)) anything left result self.old.rest.now self.new.rest.now }
-        ensures stuck { (left : ℕ) → Halts (λ _. between opens closes (token Name)) left result self.old.rest.now self.new.rest.now }
+        ensures found { Takes (λ x. between opens closes (IsPlacedName x)) result self.old.rest.now
+            self.new.rest.now }
+        ensures only { (left : ℕ) → Finds (λ _. between opens closes (token Name)) anything left
+            result self.old.rest.now self.new.rest.now }
+        ensures stuck { (left : ℕ) → Halts (λ _. between opens closes (token Name)) left result
+            self.old.rest.now self.new.rest.now }
     {
         self.expect(opens)?;
         let name = self.placed_name()?;
@@ -40,9 +43,13 @@ impl<'a> Parser<'a> {
 
     /// Takes a word, a path and "as" name ";".
     fn aliased(&mut self, word: u8) -> Result<(Path, NameId, Place), Refusal>
-        ensures found { Takes (λ x. token (Reserved word) ▸ IsPath x.0 ▸ between (Reserved AS) (Sign SEMICOLON) (IsPlacedName (x.1, x.2))) result self.old.rest.now self.new.rest.now }
-        ensures only { (left : ℕ) → Finds (λ _. token (Reserved word) ▸ alias_text) anything left result self.old.rest.now self.new.rest.now }
-        ensures stuck { (left : ℕ) → Halts (λ _. token (Reserved word) ▸ alias_text) left result self.old.rest.now self.new.rest.now }
+        ensures found { Takes (λ x. token (Reserved word) ▸ IsPath x.0
+            ▸ between (Reserved AS) (Sign SEMICOLON) (IsPlacedName (x.1, x.2))) result
+            self.old.rest.now self.new.rest.now }
+        ensures only { (left : ℕ) → Finds (λ _. token (Reserved word) ▸ alias_text) anything left
+            result self.old.rest.now self.new.rest.now }
+        ensures stuck { (left : ℕ) → Halts (λ _. token (Reserved word) ▸ alias_text) left result
+            self.old.rest.now self.new.rest.now }
     {
         self.expect(TokenKind::Reserved(word))?;
         let path = self.path()?;
@@ -55,7 +62,9 @@ impl<'a> Parser<'a> {
 
     /// Takes Type name "=" Expr ";".
     fn valued(&mut self, left: u32) -> Result<(TypeName, NameId, Place, RawExpr), Refusal>
-        ensures found { Takes (λ x. IsType x.0 ▸ IsPlacedName (x.1, x.2) ▸ between (Sign EQUALS) (Sign SEMICOLON) (Node (IsExpr left) x.3)) result self.old.rest.now self.new.rest.now }
+        ensures found { Takes (λ x. IsType x.0 ▸ IsPlacedName (x.1, x.2)
+            ▸ between (Sign EQUALS) (Sign SEMICOLON) (Node (IsExpr left) x.3)) result
+            self.old.rest.now self.new.rest.now }
         ensures only { Finds value_text anything left result self.old.rest.now self.new.rest.now }
         ensures stuck { Halts value_text left result self.old.rest.now self.new.rest.now }
     {
@@ -71,8 +80,11 @@ impl<'a> Parser<'a> {
 
     /// Takes "Real" name "=" Kept ";".
     fn kept_value(&mut self, left: u32) -> Result<(NameId, Place, Span), Refusal>
-        ensures found { Takes (λ x. token (Reserved REAL) ▸ IsPlacedName (x.0, x.1) ▸ between (Sign EQUALS) (Sign SEMICOLON) (covering x.2 (kept left))) result self.old.rest.now self.new.rest.now }
-        ensures only { Finds kept_value_text anything left result self.old.rest.now self.new.rest.now }
+        ensures found { Takes (λ x. token (Reserved REAL) ▸ IsPlacedName (x.0, x.1)
+            ▸ between (Sign EQUALS) (Sign SEMICOLON) (covering x.2 (kept left))) result
+            self.old.rest.now self.new.rest.now }
+        ensures only { Finds kept_value_text anything left result self.old.rest.now
+            self.new.rest.now }
         ensures stuck { Halts kept_value_text left result self.old.rest.now self.new.rest.now }
     {
         self.expect(TokenKind::Reserved(words::REAL))?;
@@ -117,7 +129,8 @@ impl<'a> Parser<'a> {
     /// Takes "parameter" ( "Real" name "=" Kept | Type name "=" Expr ) ";".
     fn parameter(&mut self, left: u32) -> Result<Member, Refusal>
         ensures found { Takes (IsSingle left) result self.old.rest.now self.new.rest.now }
-        ensures only { Finds parameter_text anything left result self.old.rest.now self.new.rest.now }
+        ensures only { Finds parameter_text anything left result self.old.rest.now
+            self.new.rest.now }
         ensures stuck { Halts parameter_text left result self.old.rest.now self.new.rest.now }
     {
         self.expect(TokenKind::Reserved(words::PARAMETER))?;
@@ -131,8 +144,10 @@ impl<'a> Parser<'a> {
 
     /// Takes one transition section or assertion section.
     fn section(&mut self, left: u32, members: &mut Vec<Member>) -> Result<(), Refusal>
-        ensures found { IfOk result (λ _. (ms : _) × (members.new.items ≡ members.old.items ++ ms) × Spans (IsSection left ms) self.old.rest.now self.new.rest.now) }
-        ensures only { Finds section_of ends_section left result self.old.rest.now self.new.rest.now }
+        ensures found { IfOk result (λ _. (ms : _) × (members.new.items ≡ members.old.items ++ ms)
+            × Spans (IsSection left ms) self.old.rest.now self.new.rest.now) }
+        ensures only { Finds section_of ends_section left result self.old.rest.now
+            self.new.rest.now }
         ensures stuck { Halts section_of left result self.old.rest.now self.new.rest.now }
     {
         if self.eat(TokenKind::Reserved(words::TRANSITION)) {
@@ -160,8 +175,10 @@ impl<'a> Parser<'a> {
     /// Takes a body, with room for `left` open productions: { Member } [ Section { Section | Keyed } ].
     #[cycle(body)]
     fn body(&mut self, left: u32) -> Result<Vec<Member>, Refusal>
-        ensures found { Takes (λ members. IsBody left members.items) result self.old.rest.now self.new.rest.now }
-        ensures only { Finds (body_text deep) ends_body left result self.old.rest.now self.new.rest.now }
+        ensures found { Takes (λ members. IsBody left members.items) result self.old.rest.now
+            self.new.rest.now }
+        ensures only { Finds (body_text deep) ends_body left result self.old.rest.now
+            self.new.rest.now }
         ensures stuck { Halts (body_text deep) left result self.old.rest.now self.new.rest.now }
     {
         let mut members = Vec::new(self.alloc);
@@ -179,9 +196,12 @@ impl<'a> Parser<'a> {
     /// Takes the members before the first section: { Member }.
     #[cycle(body)]
     fn members(&mut self, left: u32, members: &mut Vec<Member>) -> Result<(), Refusal>
-        ensures found { IfOk result (λ _. (ms : _) × (members.new.items ≡ members.old.items ++ ms) × Spans (groups (IsMember left (IsBody left)) ms) self.old.rest.now self.new.rest.now) }
-        ensures only { Finds (λ n. many (member_text n)) ends_members left result self.old.rest.now self.new.rest.now }
-        ensures stuck { Halts (λ n. many (member_text n)) left result self.old.rest.now self.new.rest.now }
+        ensures found { IfOk result (λ _. (ms : _) × (members.new.items ≡ members.old.items ++ ms)
+            × Spans (groups (IsMember left (IsBody left)) ms) self.old.rest.now self.new.rest.now) }
+        ensures only { Finds (λ n. many (member_text n)) ends_members left result self.old.rest.now
+            self.new.rest.now }
+        ensures stuck { Halts (λ n. many (member_text n)) left result self.old.rest.now
+            self.new.rest.now }
     {
         while begins_member(self.kind()) {
             self.member(left, members)?;
@@ -192,7 +212,8 @@ impl<'a> Parser<'a> {
     /// Takes Keyed | name Names [ Settings ] ";".
     #[cycle(body)]
     fn member(&mut self, left: u32, members: &mut Vec<Member>) -> Result<(), Refusal>
-        ensures found { IfOk result (λ _. (ms : _) × (members.new.items ≡ members.old.items ++ ms) × Spans (IsMember left (IsBody left) ms) self.old.rest.now self.new.rest.now) }
+        ensures found { IfOk result (λ _. (ms : _) × (members.new.items ≡ members.old.items ++ ms)
+            × Spans (IsMember left (IsBody left) ms) self.old.rest.now self.new.rest.now) }
         ensures only { Finds member_text anything left result self.old.rest.now self.new.rest.now }
         ensures stuck { Halts member_text left result self.old.rest.now self.new.rest.now }
     {
@@ -207,7 +228,8 @@ impl<'a> Parser<'a> {
     /// Takes a clause that begins with a reserved word.
     #[cycle(body)]
     fn keyed(&mut self, left: u32, members: &mut Vec<Member>) -> Result<(), Refusal>
-        ensures found { IfOk result (λ _. (ms : _) × (members.new.items ≡ members.old.items ++ ms) × Spans (IsKeyed left (IsBody left) ms) self.old.rest.now self.new.rest.now) }
+        ensures found { IfOk result (λ _. (ms : _) × (members.new.items ≡ members.old.items ++ ms)
+            × Spans (IsKeyed left (IsBody left) ms) self.old.rest.now self.new.rest.now) }
         ensures only { Finds keyed_of anything left result self.old.rest.now self.new.rest.now }
         ensures stuck { Halts keyed_of left result self.old.rest.now self.new.rest.now }
     {
@@ -230,8 +252,10 @@ impl<'a> Parser<'a> {
     /// Takes [ Section { Section | Keyed } ].
     #[cycle(body)]
     fn sections(&mut self, left: u32, members: &mut Vec<Member>) -> Result<(), Refusal>
-        ensures found { IfOk result (λ _. (ms : _) × (members.new.items ≡ members.old.items ++ ms) × Spans (AreSections left (IsBody left) ms) self.old.rest.now self.new.rest.now) }
-        ensures only { Finds sections_text ends_body left result self.old.rest.now self.new.rest.now }
+        ensures found { IfOk result (λ _. (ms : _) × (members.new.items ≡ members.old.items ++ ms)
+            × Spans (AreSections left (IsBody left) ms) self.old.rest.now self.new.rest.now) }
+        ensures only { Finds sections_text ends_body left result self.old.rest.now
+            self.new.rest.now }
         ensures stuck { Halts sections_text left result self.old.rest.now self.new.rest.now }
     {
         if !begins_section(self.kind()) {
@@ -245,9 +269,12 @@ impl<'a> Parser<'a> {
     /// Takes { Section | Keyed }.
     #[cycle(body)]
     fn later_clauses(&mut self, left: u32, members: &mut Vec<Member>) -> Result<(), Refusal>
-        ensures found { IfOk result (λ _. (ms : _) × (members.new.items ≡ members.old.items ++ ms) × Spans (groups (IsLater left (IsBody left)) ms) self.old.rest.now self.new.rest.now) }
-        ensures only { Finds (λ n. many (later_text n)) ends_body left result self.old.rest.now self.new.rest.now }
-        ensures stuck { Halts (λ n. later_text n ▸ many (later_text n)) left result self.old.rest.now self.new.rest.now }
+        ensures found { IfOk result (λ _. (ms : _) × (members.new.items ≡ members.old.items ++ ms)
+            × Spans (groups (IsLater left (IsBody left)) ms) self.old.rest.now self.new.rest.now) }
+        ensures only { Finds (λ n. many (later_text n)) ends_body left result self.old.rest.now
+            self.new.rest.now }
+        ensures stuck { Halts (λ n. later_text n ▸ many (later_text n)) left result
+            self.old.rest.now self.new.rest.now }
     {
         while begins_later(self.kind()) {
             self.later_clause(left, members)?;
@@ -258,8 +285,10 @@ impl<'a> Parser<'a> {
     /// Takes Section | Keyed.
     #[cycle(body)]
     fn later_clause(&mut self, left: u32, members: &mut Vec<Member>) -> Result<(), Refusal>
-        ensures found { IfOk result (λ _. (ms : _) × (members.new.items ≡ members.old.items ++ ms) × Spans (IsLater left (IsBody left) ms) self.old.rest.now self.new.rest.now) }
-        ensures only { Finds later_text ends_section left result self.old.rest.now self.new.rest.now }
+        ensures found { IfOk result (λ _. (ms : _) × (members.new.items ≡ members.old.items ++ ms)
+            × Spans (IsLater left (IsBody left) ms) self.old.rest.now self.new.rest.now) }
+        ensures only { Finds later_text ends_section left result self.old.rest.now
+            self.new.rest.now }
         ensures stuck { Halts later_text left result self.old.rest.now self.new.rest.now }
     {
         if begins_section(self.kind()) {

@@ -103,9 +103,12 @@ impl<'a> Parser<'a> {
     /// Takes the next token, which is to be of this kind.
     pub fn expect(&mut self, kind: TokenKind) -> Result<Lexeme, Refusal>
         requires { kind ≢ End }
-        ensures found { IfOk result (λ t. (self.old.rest.now ≡ t ∷ self.new.rest.now) × (t.kind ≡ kind)) }
-        ensures only { (left : ℕ) → Finds (λ _. token kind) anything left result self.old.rest.now self.new.rest.now }
-        ensures stuck { (left : ℕ) → Halts (λ _. token kind) left result self.old.rest.now self.new.rest.now }
+        ensures found { IfOk result (λ t. (self.old.rest.now ≡ t ∷ self.new.rest.now)
+            × (t.kind ≡ kind)) }
+        ensures only { (left : ℕ) → Finds (λ _. token kind) anything left result self.old.rest.now
+            self.new.rest.now }
+        ensures stuck { (left : ℕ) → Halts (λ _. token kind) left result self.old.rest.now
+            self.new.rest.now }
     {
         match self.rest.split_first() {
             Some((next, rest)) => {
@@ -121,16 +124,20 @@ impl<'a> Parser<'a> {
 
     /// Takes a name.
     pub fn name(&mut self) -> Result<Lexeme, Refusal>
-        ensures found { IfOk result (λ t. (self.old.rest.now ≡ t ∷ self.new.rest.now) × (t.kind ≡ Name)) }
-        ensures only { (left : ℕ) → Finds (λ _. token Name) anything left result self.old.rest.now self.new.rest.now }
-        ensures stuck { (left : ℕ) → Halts (λ _. token Name) left result self.old.rest.now self.new.rest.now }
+        ensures found { IfOk result (λ t. (self.old.rest.now ≡ t ∷ self.new.rest.now)
+            × (t.kind ≡ Name)) }
+        ensures only { (left : ℕ) → Finds (λ _. token Name) anything left result self.old.rest.now
+            self.new.rest.now }
+        ensures stuck { (left : ℕ) → Halts (λ _. token Name) left result self.old.rest.now
+            self.new.rest.now }
     {
         self.expect(TokenKind::Name)
     }
 
     /// The end of the last token before here, of those from `start`.
     fn end_since(&self, start: &[Lexeme]) -> u32
-        ensures { (t : _) (ts : _) → start.now ≡ (t ∷ ts) ++ self.now.rest.now → result ≡ end_of t.span.to ts }
+        ensures { (t : _) (ts : _) → start.now ≡ (t ∷ ts) ++ self.now.rest.now
+            → result ≡ end_of t.span.to ts }
     {
         let count = start.len().saturating_sub(self.rest.len());
         match start.get(count.saturating_sub(1)) {
@@ -159,7 +166,8 @@ impl<'a> Parser<'a> {
     /// The expression of this form that stands from `start` to here.
     pub fn node(&self, start: &[Lexeme], form: RawForm) -> RawExpr
         ensures form { result.form ≡ form }
-        ensures there { (t : _) (ts : _) → start.now ≡ (t ∷ ts) ++ self.now.rest.now → StandsAt result.at (t ∷ ts) }
+        ensures there { (t : _) (ts : _) → start.now ≡ (t ∷ ts) ++ self.now.rest.now
+            → StandsAt result.at (t ∷ ts) }
         ensures span { (ts : _) → start.now ≡ ts ++ self.now.rest.now → Covers result.span ts }
     {
         let span = self.span_since(start);

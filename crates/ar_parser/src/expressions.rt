@@ -23,7 +23,8 @@ impl<'a> Parser<'a> {
     #[cycle(expression)]
     pub fn expr(&mut self, left: u32) -> Result<RawExpr, Refusal>
         ensures found { Takes (Node (IsExpr left)) result self.old.rest.now self.new.rest.now }
-        ensures only { Finds (expr_text deep) ends_expr left result self.old.rest.now self.new.rest.now }
+        ensures only { Finds (expr_text deep) ends_expr left result self.old.rest.now
+            self.new.rest.now }
         ensures stuck { Halts (expr_text deep) left result self.old.rest.now self.new.rest.now }
     {
         if left == 0 {
@@ -46,9 +47,12 @@ impl<'a> Parser<'a> {
         requires opens { opens ≢ End }
         requires closes { closes ≢ End }
         requires ends { ends_expr closes ≡ true }
-        ensures found { Takes (λ e. between opens closes (Node (IsExpr left) e)) result self.old.rest.now self.new.rest.now }
-        ensures only { Finds (λ n. between opens closes (expr_text deep n)) anything left result self.old.rest.now self.new.rest.now }
-        ensures stuck { Halts (λ n. between opens closes (expr_text deep n)) left result self.old.rest.now self.new.rest.now }
+        ensures found { Takes (λ e. between opens closes (Node (IsExpr left) e)) result
+            self.old.rest.now self.new.rest.now }
+        ensures only { Finds (λ n. between opens closes (expr_text deep n)) anything left result
+            self.old.rest.now self.new.rest.now }
+        ensures stuck { Halts (λ n. between opens closes (expr_text deep n)) left result
+            self.old.rest.now self.new.rest.now }
     {
         self.expect(opens)?;
         let inner = self.expr(left)?;
@@ -59,9 +63,12 @@ impl<'a> Parser<'a> {
     /// Takes a choice between two values: "if" Expr "then" Expr "else" Expr.
     #[cycle(expression)]
     fn choice(&mut self, left: u32) -> Result<RawExpr, Refusal>
-        ensures found { Takes (Node (IsIf (IsExpr left))) result self.old.rest.now self.new.rest.now }
-        ensures only { Finds (λ n. if_text (expr_text deep n)) ends_expr left result self.old.rest.now self.new.rest.now }
-        ensures stuck { Halts (λ n. if_text (expr_text deep n)) left result self.old.rest.now self.new.rest.now }
+        ensures found { Takes (Node (IsIf (IsExpr left))) result self.old.rest.now
+            self.new.rest.now }
+        ensures only { Finds (λ n. if_text (expr_text deep n)) ends_expr left result
+            self.old.rest.now self.new.rest.now }
+        ensures stuck { Halts (λ n. if_text (expr_text deep n)) left result self.old.rest.now
+            self.new.rest.now }
     {
         let start = self.rest;
         let test = self.enclosed(
@@ -79,8 +86,10 @@ impl<'a> Parser<'a> {
     /// Takes operands with one separator between them; one operand alone is itself.
     #[cycle(expression)]
     fn chain(&mut self, chain: Chain, left: u32) -> Result<RawExpr, Refusal>
-        ensures found { Takes (Node (chain_form chain left)) result self.old.rest.now self.new.rest.now }
-        ensures only { Finds (chain_text chain) (ends_chain chain) left result self.old.rest.now self.new.rest.now }
+        ensures found { Takes (Node (chain_form chain left)) result self.old.rest.now
+            self.new.rest.now }
+        ensures only { Finds (chain_text chain) (ends_chain chain) left result self.old.rest.now
+            self.new.rest.now }
         ensures stuck { Halts (chain_text chain) left result self.old.rest.now self.new.rest.now }
     {
         let start = self.rest;
@@ -102,10 +111,15 @@ impl<'a> Parser<'a> {
         left: u32,
         operands: &mut Vec<RawExpr>,
     ) -> Result<(), Refusal>
-        ensures found { IfOk result (λ _. (more : _) × (operands.new.items ≡ operands.old.items ++ more) × Spans (each (λ e. token (separator_of chain) ▸ Node (operand_form chain left) e) more) self.old.rest.now self.new.rest.now) }
+        ensures found { IfOk result (λ _. (more : _)
+            × (operands.new.items ≡ operands.old.items ++ more)
+            × Spans (each (λ e. token (separator_of chain) ▸ Node (operand_form chain left) e) more)
+            self.old.rest.now self.new.rest.now) }
         ensures over { IfOk result (λ _. kind_at self.new.rest.now ≢ separator_of chain) }
-        ensures only { Finds (λ n. many (token (separator_of chain) ▸ operand_text chain n)) (ends_chain chain) left result self.old.rest.now self.new.rest.now }
-        ensures stuck { Halts (λ n. many (token (separator_of chain) ▸ operand_text chain n)) left result self.old.rest.now self.new.rest.now }
+        ensures only { Finds (λ n. many (token (separator_of chain) ▸ operand_text chain n))
+            (ends_chain chain) left result self.old.rest.now self.new.rest.now }
+        ensures stuck { Halts (λ n. many (token (separator_of chain) ▸ operand_text chain n)) left
+            result self.old.rest.now self.new.rest.now }
     {
         let separator = separator_of(chain);
         while self.eat(separator) {
@@ -118,8 +132,10 @@ impl<'a> Parser<'a> {
     /// Takes one operand of a chain.
     #[cycle(expression)]
     fn operand(&mut self, chain: Chain, left: u32) -> Result<RawExpr, Refusal>
-        ensures found { Takes (Node (operand_form chain left)) result self.old.rest.now self.new.rest.now }
-        ensures only { Finds (operand_text chain) (ends_operand chain) left result self.old.rest.now self.new.rest.now }
+        ensures found { Takes (Node (operand_form chain left)) result self.old.rest.now
+            self.new.rest.now }
+        ensures only { Finds (operand_text chain) (ends_operand chain) left result self.old.rest.now
+            self.new.rest.now }
         ensures stuck { Halts (operand_text chain) left result self.old.rest.now self.new.rest.now }
     {
         match chain {
@@ -133,7 +149,8 @@ impl<'a> Parser<'a> {
     #[cycle(expression)]
     fn not(&mut self, left: u32) -> Result<RawExpr, Refusal>
         ensures found { Takes (Node (IsNot left)) result self.old.rest.now self.new.rest.now }
-        ensures only { Finds (not_text deep) ends_not left result self.old.rest.now self.new.rest.now }
+        ensures only { Finds (not_text deep) ends_not left result self.old.rest.now
+            self.new.rest.now }
         ensures stuck { Halts (not_text deep) left result self.old.rest.now self.new.rest.now }
     {
         if left == 0 {
@@ -151,9 +168,12 @@ impl<'a> Parser<'a> {
     /// Takes Sum [ relation Sum ].
     #[cycle(expression)]
     fn compare(&mut self, left: u32) -> Result<RawExpr, Refusal>
-        ensures found { Takes (Node (IsCompare (IsSum (IsProduct (IsMinus left))))) result self.old.rest.now self.new.rest.now }
-        ensures only { Finds (λ n. compare_text (sum_text (product_text (minus_text deep n)))) ends_not left result self.old.rest.now self.new.rest.now }
-        ensures stuck { Halts (λ n. compare_text (sum_text (product_text (minus_text deep n)))) left result self.old.rest.now self.new.rest.now }
+        ensures found { Takes (Node (IsCompare (IsSum (IsProduct (IsMinus left))))) result
+            self.old.rest.now self.new.rest.now }
+        ensures only { Finds (λ n. compare_text (sum_text (product_text (minus_text deep n))))
+            ends_not left result self.old.rest.now self.new.rest.now }
+        ensures stuck { Halts (λ n. compare_text (sum_text (product_text (minus_text deep n)))) left
+            result self.old.rest.now self.new.rest.now }
     {
         let start = self.rest;
         let first = self.sum(left)?;
@@ -170,9 +190,12 @@ impl<'a> Parser<'a> {
     /// Takes Product { ( "+" | "-" ) Product }.
     #[cycle(expression)]
     fn sum(&mut self, left: u32) -> Result<RawExpr, Refusal>
-        ensures found { Takes (Node (IsSum (IsProduct (IsMinus left)))) result self.old.rest.now self.new.rest.now }
-        ensures only { Finds (λ n. sum_text (product_text (minus_text deep n))) ends_sum left result self.old.rest.now self.new.rest.now }
-        ensures stuck { Halts (λ n. sum_text (product_text (minus_text deep n))) left result self.old.rest.now self.new.rest.now }
+        ensures found { Takes (Node (IsSum (IsProduct (IsMinus left)))) result self.old.rest.now
+            self.new.rest.now }
+        ensures only { Finds (λ n. sum_text (product_text (minus_text deep n))) ends_sum left result
+            self.old.rest.now self.new.rest.now }
+        ensures stuck { Halts (λ n. sum_text (product_text (minus_text deep n))) left result
+            self.old.rest.now self.new.rest.now }
     {
         let start = self.rest;
         let first = self.chain(Chain::Product, left)?;
@@ -188,10 +211,14 @@ impl<'a> Parser<'a> {
     /// Takes the terms behind the first.
     #[cycle(expression)]
     fn more_terms(&mut self, left: u32, terms: &mut Vec<(bool, RawExpr)>) -> Result<(), Refusal>
-        ensures found { IfOk result (λ _. (more : _) × (terms.new.items ≡ terms.old.items ++ more) × Spans (each (IsTerm (IsProduct (IsMinus left))) more) self.old.rest.now self.new.rest.now) }
+        ensures found { IfOk result (λ _. (more : _) × (terms.new.items ≡ terms.old.items ++ more)
+            × Spans (each (IsTerm (IsProduct (IsMinus left))) more) self.old.rest.now
+            self.new.rest.now) }
         ensures over { IfOk result (λ _. begins_term (kind_at self.new.rest.now) ≡ false) }
-        ensures only { Finds (λ n. many (term_text n)) ends_sum left result self.old.rest.now self.new.rest.now }
-        ensures stuck { Halts (λ n. many (term_text n)) left result self.old.rest.now self.new.rest.now }
+        ensures only { Finds (λ n. many (term_text n)) ends_sum left result self.old.rest.now
+            self.new.rest.now }
+        ensures stuck { Halts (λ n. many (term_text n)) left result self.old.rest.now
+            self.new.rest.now }
     {
         while let Some(plus) = self.eat_plus() {
             let term = self.chain(Chain::Product, left)?;
@@ -204,7 +231,8 @@ impl<'a> Parser<'a> {
     #[cycle(expression)]
     fn minus(&mut self, left: u32) -> Result<RawExpr, Refusal>
         ensures found { Takes (Node (IsMinus left)) result self.old.rest.now self.new.rest.now }
-        ensures only { Finds (minus_text deep) ends_path left result self.old.rest.now self.new.rest.now }
+        ensures only { Finds (minus_text deep) ends_path left result self.old.rest.now
+            self.new.rest.now }
         ensures stuck { Halts (minus_text deep) left result self.old.rest.now self.new.rest.now }
     {
         if left == 0 {
@@ -222,9 +250,12 @@ impl<'a> Parser<'a> {
     /// Takes a constant, a path, a call, a choice or an expression in brackets.
     #[cycle(expression)]
     fn primary(&mut self, left: u32) -> Result<RawExpr, Refusal>
-        ensures found { Takes (Node (IsPrimary (IsExpr left))) result self.old.rest.now self.new.rest.now }
-        ensures only { Finds (λ n. primary_text (expr_text deep n)) ends_path left result self.old.rest.now self.new.rest.now }
-        ensures stuck { Halts (λ n. primary_text (expr_text deep n)) left result self.old.rest.now self.new.rest.now }
+        ensures found { Takes (Node (IsPrimary (IsExpr left))) result self.old.rest.now
+            self.new.rest.now }
+        ensures only { Finds (λ n. primary_text (expr_text deep n)) ends_path left result
+            self.old.rest.now self.new.rest.now }
+        ensures stuck { Halts (λ n. primary_text (expr_text deep n)) left result self.old.rest.now
+            self.new.rest.now }
     {
         let start = self.rest;
         if let Some(form) = self.eat_constant() {
@@ -252,9 +283,12 @@ impl<'a> Parser<'a> {
     /// Takes "(" Expr { "," Expr } ")".
     #[cycle(expression)]
     fn operands(&mut self, left: u32) -> Result<Vec<RawExpr>, Refusal>
-        ensures found { Takes (λ operands. AreOperands (IsExpr left) operands.items) result self.old.rest.now self.new.rest.now }
-        ensures only { Finds (λ n. operands_text (expr_text deep n)) anything left result self.old.rest.now self.new.rest.now }
-        ensures stuck { Halts (λ n. operands_text (expr_text deep n)) left result self.old.rest.now self.new.rest.now }
+        ensures found { Takes (λ operands. AreOperands (IsExpr left) operands.items) result
+            self.old.rest.now self.new.rest.now }
+        ensures only { Finds (λ n. operands_text (expr_text deep n)) anything left result
+            self.old.rest.now self.new.rest.now }
+        ensures stuck { Halts (λ n. operands_text (expr_text deep n)) left result self.old.rest.now
+            self.new.rest.now }
     {
         self.expect(TokenKind::Sign(signs::OPEN_PARENTHESIS))?;
         let first = self.expr(left)?;
@@ -268,9 +302,14 @@ impl<'a> Parser<'a> {
     /// Takes { "," Expr }.
     #[cycle(expression)]
     fn more_arguments(&mut self, left: u32, operands: &mut Vec<RawExpr>) -> Result<(), Refusal>
-        ensures found { IfOk result (λ _. (more : _) × (operands.new.items ≡ operands.old.items ++ more) × Spans (each (λ e. token (Sign COMMA) ▸ Node (IsExpr left) e) more) self.old.rest.now self.new.rest.now) }
-        ensures only { Finds (λ n. many (token (Sign COMMA) ▸ expr_text deep n)) ends_list left result self.old.rest.now self.new.rest.now }
-        ensures stuck { Halts (λ n. many (token (Sign COMMA) ▸ expr_text deep n)) left result self.old.rest.now self.new.rest.now }
+        ensures found { IfOk result (λ _. (more : _)
+            × (operands.new.items ≡ operands.old.items ++ more)
+            × Spans (each (λ e. token (Sign COMMA) ▸ Node (IsExpr left) e) more) self.old.rest.now
+            self.new.rest.now) }
+        ensures only { Finds (λ n. many (token (Sign COMMA) ▸ expr_text deep n)) ends_list left
+            result self.old.rest.now self.new.rest.now }
+        ensures stuck { Halts (λ n. many (token (Sign COMMA) ▸ expr_text deep n)) left result
+            self.old.rest.now self.new.rest.now }
     {
         while self.eat(TokenKind::Sign(signs::COMMA)) {
             let operand = self.expr(left)?;
@@ -282,9 +321,12 @@ impl<'a> Parser<'a> {
     /// Takes "switch" "{" Case { Case } "default" ":" Expr "}".
     #[cycle(expression)]
     fn switch(&mut self, left: u32) -> Result<RawExpr, Refusal>
-        ensures found { Takes (Node (IsSwitch (IsExpr left))) result self.old.rest.now self.new.rest.now }
-        ensures only { Finds (λ n. switch_text (expr_text deep n)) anything left result self.old.rest.now self.new.rest.now }
-        ensures stuck { Halts (λ n. switch_text (expr_text deep n)) left result self.old.rest.now self.new.rest.now }
+        ensures found { Takes (Node (IsSwitch (IsExpr left))) result self.old.rest.now
+            self.new.rest.now }
+        ensures only { Finds (λ n. switch_text (expr_text deep n)) anything left result
+            self.old.rest.now self.new.rest.now }
+        ensures stuck { Halts (λ n. switch_text (expr_text deep n)) left result self.old.rest.now
+            self.new.rest.now }
     {
         let start = self.rest;
         self.expect(TokenKind::Reserved(words::SWITCH))?;
@@ -306,10 +348,13 @@ impl<'a> Parser<'a> {
     /// Takes { "case" Expr ":" Expr }.
     #[cycle(expression)]
     fn cases(&mut self, left: u32) -> Result<Vec<(RawExpr, RawExpr)>, Refusal>
-        ensures found { Takes (λ cases. each (IsCase (IsExpr left)) cases.items) result self.old.rest.now self.new.rest.now }
+        ensures found { Takes (λ cases. each (IsCase (IsExpr left)) cases.items) result
+            self.old.rest.now self.new.rest.now }
         ensures over { IfOk result (λ _. kind_at self.new.rest.now ≢ Reserved CASE) }
-        ensures only { Finds (λ n. many (case_text n)) ends_cases left result self.old.rest.now self.new.rest.now }
-        ensures stuck { Halts (λ n. case_text n ▸ many (case_text n)) left result self.old.rest.now self.new.rest.now }
+        ensures only { Finds (λ n. many (case_text n)) ends_cases left result self.old.rest.now
+            self.new.rest.now }
+        ensures stuck { Halts (λ n. case_text n ▸ many (case_text n)) left result self.old.rest.now
+            self.new.rest.now }
     {
         let mut cases = Vec::new(self.alloc);
         while self.is_at(TokenKind::Reserved(words::CASE)) {

@@ -21,7 +21,8 @@ impl<'a> Parser<'a> {
     #[cycle(instruction)]
     pub fn instr(&mut self, left: u32) -> Result<Instr, Refusal>
         ensures found { Takes (IsInstr left) result self.old.rest.now self.new.rest.now }
-        ensures only { Finds (instr_text deep) anything left result self.old.rest.now self.new.rest.now }
+        ensures only { Finds (instr_text deep) anything left result self.old.rest.now
+            self.new.rest.now }
         ensures stuck { Halts (instr_text deep) left result self.old.rest.now self.new.rest.now }
     {
         if left == 0 {
@@ -40,8 +41,10 @@ impl<'a> Parser<'a> {
     #[cycle(instruction)]
     fn conditional(&mut self, left: u32) -> Result<Instr, Refusal>
         ensures found { Takes (IsConditional left) result self.old.rest.now self.new.rest.now }
-        ensures only { Finds (λ n. conditional_text (expr_text deep n) (instr_text deep n)) anything left result self.old.rest.now self.new.rest.now }
-        ensures stuck { Halts (λ n. conditional_text (expr_text deep n) (instr_text deep n)) left result self.old.rest.now self.new.rest.now }
+        ensures only { Finds (λ n. conditional_text (expr_text deep n) (instr_text deep n)) anything
+            left result self.old.rest.now self.new.rest.now }
+        ensures stuck { Halts (λ n. conditional_text (expr_text deep n) (instr_text deep n)) left
+            result self.old.rest.now self.new.rest.now }
     {
         let test = self.enclosed(
             TokenKind::Reserved(words::IF),
@@ -58,9 +61,11 @@ impl<'a> Parser<'a> {
     #[cycle(instruction)]
     fn other_branch(&mut self, left: u32) -> Result<Option<Box<Instr>>, Refusal>
         ensures found { Takes (IsElse (IsInstr left)) result self.old.rest.now self.new.rest.now }
-        ensures only { Finds (λ n. else_text (instr_text deep n)) anything left result self.old.rest.now self.new.rest.now }
+        ensures only { Finds (λ n. else_text (instr_text deep n)) anything left result
+            self.old.rest.now self.new.rest.now }
         ensures began { IfErr result (λ _. kind_at self.old.rest.now ≡ Reserved ELSE) }
-        ensures stuck { Halts (λ n. token (Reserved ELSE) ▸ instr_text deep n) left result self.old.rest.now self.new.rest.now }
+        ensures stuck { Halts (λ n. token (Reserved ELSE) ▸ instr_text deep n) left result
+            self.old.rest.now self.new.rest.now }
     {
         if self.eat(TokenKind::Reserved(words::ELSE)) {
             let inner = self.instr(left)?;
@@ -74,8 +79,10 @@ impl<'a> Parser<'a> {
     #[cycle(instruction)]
     fn group(&mut self, left: u32) -> Result<Instr, Refusal>
         ensures found { Takes (IsGroup left) result self.old.rest.now self.new.rest.now }
-        ensures only { Finds (λ n. group_text (instr_text deep n)) anything left result self.old.rest.now self.new.rest.now }
-        ensures stuck { Halts (λ n. group_text (instr_text deep n)) left result self.old.rest.now self.new.rest.now }
+        ensures only { Finds (λ n. group_text (instr_text deep n)) anything left result
+            self.old.rest.now self.new.rest.now }
+        ensures stuck { Halts (λ n. group_text (instr_text deep n)) left result self.old.rest.now
+            self.new.rest.now }
     {
         self.expect(TokenKind::Sign(signs::OPEN_BRACE))?;
         let mut instrs = Vec::new(self.alloc);
@@ -87,9 +94,12 @@ impl<'a> Parser<'a> {
     /// Takes the instructions of a group: { Instr }.
     #[cycle(instruction)]
     fn more_instrs(&mut self, left: u32, instrs: &mut Vec<Instr>) -> Result<(), Refusal>
-        ensures found { IfOk result (λ _. (more : _) × (instrs.new.items ≡ instrs.old.items ++ more) × Spans (each (IsInstr left) more) self.old.rest.now self.new.rest.now) }
-        ensures only { Finds (λ n. many (instr_text deep n)) ends_group left result self.old.rest.now self.new.rest.now }
-        ensures stuck { Halts (λ n. many (instr_text deep n)) left result self.old.rest.now self.new.rest.now }
+        ensures found { IfOk result (λ _. (more : _) × (instrs.new.items ≡ instrs.old.items ++ more)
+            × Spans (each (IsInstr left) more) self.old.rest.now self.new.rest.now) }
+        ensures only { Finds (λ n. many (instr_text deep n)) ends_group left result
+            self.old.rest.now self.new.rest.now }
+        ensures stuck { Halts (λ n. many (instr_text deep n)) left result self.old.rest.now
+            self.new.rest.now }
     {
         while !self.is_at(TokenKind::Sign(signs::CLOSE_BRACE)) {
             let inner = self.instr(left)?;
@@ -101,8 +111,10 @@ impl<'a> Parser<'a> {
     /// Takes Path ( ":=" Expr | ":=:" Path ) ";" or "skip" ";".
     fn simple(&mut self, left: u32) -> Result<Instr, Refusal>
         ensures found { Takes (IsSimple left) result self.old.rest.now self.new.rest.now }
-        ensures only { Finds (λ n. simple_text (expr_text deep n)) anything left result self.old.rest.now self.new.rest.now }
-        ensures stuck { Halts (λ n. simple_text (expr_text deep n)) left result self.old.rest.now self.new.rest.now }
+        ensures only { Finds (λ n. simple_text (expr_text deep n)) anything left result
+            self.old.rest.now self.new.rest.now }
+        ensures stuck { Halts (λ n. simple_text (expr_text deep n)) left result self.old.rest.now
+            self.new.rest.now }
     {
         if self.eat(TokenKind::Reserved(words::SKIP)) {
             self.expect(TokenKind::Sign(signs::SEMICOLON))?;
@@ -123,9 +135,12 @@ impl<'a> Parser<'a> {
 
     /// Takes ":=:" Path ";".
     fn tied(&mut self) -> Result<Path, Refusal>
-        ensures found { Takes (λ p. between (Sign TIE) (Sign SEMICOLON) (IsPath p)) result self.old.rest.now self.new.rest.now }
-        ensures only { (left : ℕ) → Finds (λ _. between (Sign TIE) (Sign SEMICOLON) path_text) anything left result self.old.rest.now self.new.rest.now }
-        ensures stuck { (left : ℕ) → Halts (λ _. between (Sign TIE) (Sign SEMICOLON) path_text) left result self.old.rest.now self.new.rest.now }
+        ensures found { Takes (λ p. between (Sign TIE) (Sign SEMICOLON) (IsPath p)) result
+            self.old.rest.now self.new.rest.now }
+        ensures only { (left : ℕ) → Finds (λ _. between (Sign TIE) (Sign SEMICOLON) path_text)
+            anything left result self.old.rest.now self.new.rest.now }
+        ensures stuck { (left : ℕ) → Halts (λ _. between (Sign TIE) (Sign SEMICOLON) path_text) left
+            result self.old.rest.now self.new.rest.now }
     {
         self.expect(TokenKind::Sign(signs::TIE))?;
         let path = self.path()?;

@@ -22,8 +22,10 @@ impl<'a> Parser<'a> {
     /// Takes a type: "Boolean" | "Integer" | name.
     pub fn type_name(&mut self) -> Result<TypeName, Refusal>
         ensures found { Takes IsType result self.old.rest.now self.new.rest.now }
-        ensures only { (left : ℕ) → Finds (λ _. one_of is_type) anything left result self.old.rest.now self.new.rest.now }
-        ensures stuck { (left : ℕ) → Halts (λ _. one_of is_type) left result self.old.rest.now self.new.rest.now }
+        ensures only { (left : ℕ) → Finds (λ _. one_of is_type) anything left result
+            self.old.rest.now self.new.rest.now }
+        ensures stuck { (left : ℕ) → Halts (λ _. one_of is_type) left result self.old.rest.now
+            self.new.rest.now }
     {
         let at = self.place();
         if self.eat(TokenKind::Reserved(words::BOOLEAN)) {
@@ -48,8 +50,10 @@ impl<'a> Parser<'a> {
     /// Takes a word of a target: name | "init" | "reset".
     fn word(&mut self) -> Result<Word, Refusal>
         ensures found { Takes IsWord result self.old.rest.now self.new.rest.now }
-        ensures only { (left : ℕ) → Finds (λ _. one_of is_target_word) anything left result self.old.rest.now self.new.rest.now }
-        ensures stuck { (left : ℕ) → Halts (λ _. one_of is_target_word) left result self.old.rest.now self.new.rest.now }
+        ensures only { (left : ℕ) → Finds (λ _. one_of is_target_word) anything left result
+            self.old.rest.now self.new.rest.now }
+        ensures stuck { (left : ℕ) → Halts (λ _. one_of is_target_word) left result
+            self.old.rest.now self.new.rest.now }
     {
         if self.eat(TokenKind::Reserved(words::INIT)) {
             return Ok(Word::Init);
@@ -63,9 +67,13 @@ impl<'a> Parser<'a> {
 
     /// Takes { "." Word }.
     fn more_words(&mut self, target: &mut Vec<Word>) -> Result<(), Refusal>
-        ensures found { IfOk result (λ _. (more : _) × (target.new.items ≡ target.old.items ++ more) × Spans (each (λ w. token (Sign DOT) ▸ IsWord w) more) self.old.rest.now self.new.rest.now) }
-        ensures only { (left : ℕ) → Finds (λ _. many (token (Sign DOT) ▸ one_of is_target_word)) ends_target left result self.old.rest.now self.new.rest.now }
-        ensures stuck { (left : ℕ) → Halts (λ _. many (token (Sign DOT) ▸ one_of is_target_word)) left result self.old.rest.now self.new.rest.now }
+        ensures found { IfOk result (λ _. (more : _) × (target.new.items ≡ target.old.items ++ more)
+            × Spans (each (λ w. token (Sign DOT) ▸ IsWord w) more) self.old.rest.now
+            self.new.rest.now) }
+        ensures only { (left : ℕ) → Finds (λ _. many (token (Sign DOT) ▸ one_of is_target_word))
+            ends_target left result self.old.rest.now self.new.rest.now }
+        ensures stuck { (left : ℕ) → Halts (λ _. many (token (Sign DOT) ▸ one_of is_target_word))
+            left result self.old.rest.now self.new.rest.now }
     {
         while self.eat(TokenKind::Sign(signs::DOT)) {
             let word = self.word()?;
@@ -76,9 +84,12 @@ impl<'a> Parser<'a> {
 
     /// Takes the target of a setting: Word { "." Word }.
     fn target(&mut self) -> Result<Vec<Word>, Refusal>
-        ensures found { Takes (λ target. separated (Sign DOT) IsWord target.items) result self.old.rest.now self.new.rest.now }
-        ensures only { (left : ℕ) → Finds (λ _. list_of (Sign DOT) (one_of is_target_word)) ends_target left result self.old.rest.now self.new.rest.now }
-        ensures stuck { (left : ℕ) → Halts (λ _. list_of (Sign DOT) (one_of is_target_word)) left result self.old.rest.now self.new.rest.now }
+        ensures found { Takes (λ target. separated (Sign DOT) IsWord target.items) result
+            self.old.rest.now self.new.rest.now }
+        ensures only { (left : ℕ) → Finds (λ _. list_of (Sign DOT) (one_of is_target_word))
+            ends_target left result self.old.rest.now self.new.rest.now }
+        ensures stuck { (left : ℕ) → Halts (λ _. list_of (Sign DOT) (one_of is_target_word)) left
+            result self.old.rest.now self.new.rest.now }
     {
         let first = self.word()?;
         let mut target = Vec::new(self.alloc);
@@ -90,8 +101,10 @@ impl<'a> Parser<'a> {
     /// Takes Word { "." Word } "=" Expr.
     fn setting(&mut self, left: u32) -> Result<Setting, Refusal>
         ensures found { Takes (IsSetting left) result self.old.rest.now self.new.rest.now }
-        ensures only { Finds (λ n. setting_text (expr_text deep n)) ends_expr left result self.old.rest.now self.new.rest.now }
-        ensures stuck { Halts (λ n. setting_text (expr_text deep n)) left result self.old.rest.now self.new.rest.now }
+        ensures only { Finds (λ n. setting_text (expr_text deep n)) ends_expr left result
+            self.old.rest.now self.new.rest.now }
+        ensures stuck { Halts (λ n. setting_text (expr_text deep n)) left result self.old.rest.now
+            self.new.rest.now }
     {
         let at = self.place();
         let target = self.target()?;
@@ -102,9 +115,14 @@ impl<'a> Parser<'a> {
 
     /// Takes { "," Setting }.
     fn more_settings(&mut self, left: u32, settings: &mut Vec<Setting>) -> Result<(), Refusal>
-        ensures found { IfOk result (λ _. (more : _) × (settings.new.items ≡ settings.old.items ++ more) × Spans (each (λ s. token (Sign COMMA) ▸ IsSetting left s) more) self.old.rest.now self.new.rest.now) }
-        ensures only { Finds (λ n. many (token (Sign COMMA) ▸ setting_text (expr_text deep n))) ends_list left result self.old.rest.now self.new.rest.now }
-        ensures stuck { Halts (λ n. many (token (Sign COMMA) ▸ setting_text (expr_text deep n))) left result self.old.rest.now self.new.rest.now }
+        ensures found { IfOk result (λ _. (more : _)
+            × (settings.new.items ≡ settings.old.items ++ more)
+            × Spans (each (λ s. token (Sign COMMA) ▸ IsSetting left s) more) self.old.rest.now
+            self.new.rest.now) }
+        ensures only { Finds (λ n. many (token (Sign COMMA) ▸ setting_text (expr_text deep n)))
+            ends_list left result self.old.rest.now self.new.rest.now }
+        ensures stuck { Halts (λ n. many (token (Sign COMMA) ▸ setting_text (expr_text deep n)))
+            left result self.old.rest.now self.new.rest.now }
     {
         while self.eat(TokenKind::Sign(signs::COMMA)) {
             let setting = self.setting(left)?;
@@ -115,9 +133,12 @@ impl<'a> Parser<'a> {
 
     /// Takes [ "(" Setting { "," Setting } ")" ].
     fn settings(&mut self, left: u32) -> Result<Vec<Setting>, Refusal>
-        ensures found { Takes (λ settings. AreSettings left settings.items) result self.old.rest.now self.new.rest.now }
-        ensures only { Finds (λ n. settings_text (expr_text deep n)) ends_attribute left result self.old.rest.now self.new.rest.now }
-        ensures stuck { Halts (λ n. settings_text (expr_text deep n)) left result self.old.rest.now self.new.rest.now }
+        ensures found { Takes (λ settings. AreSettings left settings.items) result self.old.rest.now
+            self.new.rest.now }
+        ensures only { Finds (λ n. settings_text (expr_text deep n)) ends_attribute left result
+            self.old.rest.now self.new.rest.now }
+        ensures stuck { Halts (λ n. settings_text (expr_text deep n)) left result self.old.rest.now
+            self.new.rest.now }
     {
         let mut settings = Vec::new(self.alloc);
         if !self.is_at(TokenKind::Sign(signs::OPEN_PARENTHESIS)) {
@@ -134,8 +155,10 @@ impl<'a> Parser<'a> {
     /// Takes a declaration: Type Names [ Settings ] ";".
     pub fn declaration(&mut self, left: u32) -> Result<Member, Refusal>
         ensures found { Takes (IsDeclared left) result self.old.rest.now self.new.rest.now }
-        ensures only { Finds (λ n. one_of is_type ▸ declared_rest (expr_text deep n)) anything left result self.old.rest.now self.new.rest.now }
-        ensures stuck { Halts (λ n. one_of is_type ▸ declared_rest (expr_text deep n)) left result self.old.rest.now self.new.rest.now }
+        ensures only { Finds (λ n. one_of is_type ▸ declared_rest (expr_text deep n)) anything left
+            result self.old.rest.now self.new.rest.now }
+        ensures stuck { Halts (λ n. one_of is_type ▸ declared_rest (expr_text deep n)) left result
+            self.old.rest.now self.new.rest.now }
     {
         let of_type = self.type_name()?;
         let names = self.names()?;
@@ -147,7 +170,8 @@ impl<'a> Parser<'a> {
     /// Takes name [ "(" Unread ")" ].
     fn event(&mut self, left: u32) -> Result<Member, Refusal>
         ensures found { Takes (IsEvent left) result self.old.rest.now self.new.rest.now }
-        ensures only { Finds event_text ends_attribute left result self.old.rest.now self.new.rest.now }
+        ensures only { Finds event_text ends_attribute left result self.old.rest.now
+            self.new.rest.now }
         ensures stuck { Halts event_text left result self.old.rest.now self.new.rest.now }
     {
         let (name, at) = self.placed_name()?;
@@ -157,9 +181,14 @@ impl<'a> Parser<'a> {
 
     /// Takes { "," Event }.
     fn more_events(&mut self, left: u32, members: &mut Vec<Member>) -> Result<(), Refusal>
-        ensures found { IfOk result (λ _. (more : _) × (members.new.items ≡ members.old.items ++ more) × Spans (each (λ m. token (Sign COMMA) ▸ IsEvent left m) more) self.old.rest.now self.new.rest.now) }
-        ensures only { Finds (λ n. many (token (Sign COMMA) ▸ event_text n)) ends_semicolon left result self.old.rest.now self.new.rest.now }
-        ensures stuck { Halts (λ n. many (token (Sign COMMA) ▸ event_text n)) left result self.old.rest.now self.new.rest.now }
+        ensures found { IfOk result (λ _. (more : _)
+            × (members.new.items ≡ members.old.items ++ more)
+            × Spans (each (λ m. token (Sign COMMA) ▸ IsEvent left m) more) self.old.rest.now
+            self.new.rest.now) }
+        ensures only { Finds (λ n. many (token (Sign COMMA) ▸ event_text n)) ends_semicolon left
+            result self.old.rest.now self.new.rest.now }
+        ensures stuck { Halts (λ n. many (token (Sign COMMA) ▸ event_text n)) left result
+            self.old.rest.now self.new.rest.now }
     {
         while self.eat(TokenKind::Sign(signs::COMMA)) {
             let event = self.event(left)?;
@@ -170,9 +199,14 @@ impl<'a> Parser<'a> {
 
     /// Takes "event" Event { "," Event } ";".
     pub fn events(&mut self, left: u32, members: &mut Vec<Member>) -> Result<(), Refusal>
-        ensures found { IfOk result (λ _. (ms : _) × (members.new.items ≡ members.old.items ++ ms) × Spans (between (Reserved EVENT) (Sign SEMICOLON) (separated (Sign COMMA) (IsEvent left) ms)) self.old.rest.now self.new.rest.now) }
-        ensures only { Finds (λ n. between (Reserved EVENT) (Sign SEMICOLON) (list_of (Sign COMMA) (event_text n))) anything left result self.old.rest.now self.new.rest.now }
-        ensures stuck { Halts (λ n. between (Reserved EVENT) (Sign SEMICOLON) (list_of (Sign COMMA) (event_text n))) left result self.old.rest.now self.new.rest.now }
+        ensures found { IfOk result (λ _. (ms : _) × (members.new.items ≡ members.old.items ++ ms)
+            × Spans (between (Reserved EVENT) (Sign SEMICOLON)
+            (separated (Sign COMMA) (IsEvent left) ms)) self.old.rest.now self.new.rest.now) }
+        ensures only { Finds (λ n. between (Reserved EVENT) (Sign SEMICOLON)
+            (list_of (Sign COMMA) (event_text n))) anything left result self.old.rest.now
+            self.new.rest.now }
+        ensures stuck { Halts (λ n. between (Reserved EVENT) (Sign SEMICOLON)
+            (list_of (Sign COMMA) (event_text n))) left result self.old.rest.now self.new.rest.now }
     {
         self.expect(TokenKind::Reserved(words::EVENT))?;
         let first = self.event(left)?;
@@ -185,8 +219,10 @@ impl<'a> Parser<'a> {
     /// Takes the path of a hidden event.
     fn hidden(&mut self) -> Result<Member, Refusal>
         ensures found { Takes IsHidden result self.old.rest.now self.new.rest.now }
-        ensures only { (left : ℕ) → Finds (λ _. path_text) ends_path left result self.old.rest.now self.new.rest.now }
-        ensures stuck { (left : ℕ) → Halts (λ _. path_text) left result self.old.rest.now self.new.rest.now }
+        ensures only { (left : ℕ) → Finds (λ _. path_text) ends_path left result self.old.rest.now
+            self.new.rest.now }
+        ensures stuck { (left : ℕ) → Halts (λ _. path_text) left result self.old.rest.now
+            self.new.rest.now }
     {
         let path = self.path()?;
         Ok(Member::Hide(path))
@@ -194,9 +230,14 @@ impl<'a> Parser<'a> {
 
     /// Takes { "," Path }.
     fn more_hidden(&mut self, members: &mut Vec<Member>) -> Result<(), Refusal>
-        ensures found { IfOk result (λ _. (more : _) × (members.new.items ≡ members.old.items ++ more) × Spans (each (λ m. token (Sign COMMA) ▸ IsHidden m) more) self.old.rest.now self.new.rest.now) }
-        ensures only { (left : ℕ) → Finds (λ _. many (token (Sign COMMA) ▸ path_text)) ends_semicolon left result self.old.rest.now self.new.rest.now }
-        ensures stuck { (left : ℕ) → Halts (λ _. many (token (Sign COMMA) ▸ path_text)) left result self.old.rest.now self.new.rest.now }
+        ensures found { IfOk result (λ _. (more : _)
+            × (members.new.items ≡ members.old.items ++ more)
+            × Spans (each (λ m. token (Sign COMMA) ▸ IsHidden m) more) self.old.rest.now
+            self.new.rest.now) }
+        ensures only { (left : ℕ) → Finds (λ _. many (token (Sign COMMA) ▸ path_text))
+            ends_semicolon left result self.old.rest.now self.new.rest.now }
+        ensures stuck { (left : ℕ) → Halts (λ _. many (token (Sign COMMA) ▸ path_text)) left result
+            self.old.rest.now self.new.rest.now }
     {
         while self.eat(TokenKind::Sign(signs::COMMA)) {
             let hidden = self.hidden()?;
@@ -207,9 +248,15 @@ impl<'a> Parser<'a> {
 
     /// Takes "hide" Path { "," Path } ";".
     pub fn hides(&mut self, members: &mut Vec<Member>) -> Result<(), Refusal>
-        ensures found { IfOk result (λ _. (ms : _) × (members.new.items ≡ members.old.items ++ ms) × Spans (between (Reserved HIDE) (Sign SEMICOLON) (separated (Sign COMMA) IsHidden ms)) self.old.rest.now self.new.rest.now) }
-        ensures only { (left : ℕ) → Finds (λ _. between (Reserved HIDE) (Sign SEMICOLON) (list_of (Sign COMMA) path_text)) anything left result self.old.rest.now self.new.rest.now }
-        ensures stuck { (left : ℕ) → Halts (λ _. between (Reserved HIDE) (Sign SEMICOLON) (list_of (Sign COMMA) path_text)) left result self.old.rest.now self.new.rest.now }
+        ensures found { IfOk result (λ _. (ms : _) × (members.new.items ≡ members.old.items ++ ms)
+            × Spans (between (Reserved HIDE) (Sign SEMICOLON) (separated (Sign COMMA) IsHidden ms))
+            self.old.rest.now self.new.rest.now) }
+        ensures only { (left : ℕ) → Finds
+            (λ _. between (Reserved HIDE) (Sign SEMICOLON) (list_of (Sign COMMA) path_text))
+            anything left result self.old.rest.now self.new.rest.now }
+        ensures stuck { (left : ℕ) → Halts
+            (λ _. between (Reserved HIDE) (Sign SEMICOLON) (list_of (Sign COMMA) path_text)) left
+            result self.old.rest.now self.new.rest.now }
     {
         self.expect(TokenKind::Reserved(words::HIDE))?;
         let first = self.hidden()?;
@@ -222,8 +269,10 @@ impl<'a> Parser<'a> {
     /// Takes "!" or "?": true for "!".
     fn must(&mut self) -> Result<bool, Refusal>
         ensures found { Takes (λ must. token (Sign (if must then EXCLAMATION else QUESTION))) result self.old.rest.now self.new.rest.now }
-        ensures only { (left : ℕ) → Finds (λ _. one_of is_part) anything left result self.old.rest.now self.new.rest.now }
-        ensures stuck { (left : ℕ) → Halts (λ _. one_of is_part) left result self.old.rest.now self.new.rest.now }
+        ensures only { (left : ℕ) → Finds (λ _. one_of is_part) anything left result
+            self.old.rest.now self.new.rest.now }
+        ensures stuck { (left : ℕ) → Halts (λ _. one_of is_part) left result self.old.rest.now
+            self.new.rest.now }
     {
         if self.eat(TokenKind::Sign(signs::EXCLAMATION)) {
             return Ok(true);
@@ -235,8 +284,10 @@ impl<'a> Parser<'a> {
     /// Takes ( "!" | "?" ) Path.
     fn part(&mut self) -> Result<Part, Refusal>
         ensures found { Takes IsPart result self.old.rest.now self.new.rest.now }
-        ensures only { (left : ℕ) → Finds (λ _. part_text) ends_path left result self.old.rest.now self.new.rest.now }
-        ensures stuck { (left : ℕ) → Halts (λ _. part_text) left result self.old.rest.now self.new.rest.now }
+        ensures only { (left : ℕ) → Finds (λ _. part_text) ends_path left result self.old.rest.now
+            self.new.rest.now }
+        ensures stuck { (left : ℕ) → Halts (λ _. part_text) left result self.old.rest.now
+            self.new.rest.now }
     {
         let must = self.must()?;
         let event = self.path()?;
@@ -245,9 +296,13 @@ impl<'a> Parser<'a> {
 
     /// Takes { "&" Part }.
     fn more_parts(&mut self, parts: &mut Vec<Part>) -> Result<(), Refusal>
-        ensures found { IfOk result (λ _. (more : _) × (parts.new.items ≡ parts.old.items ++ more) × Spans (each (λ p. token (Sign AMPERSAND) ▸ IsPart p) more) self.old.rest.now self.new.rest.now) }
-        ensures only { (left : ℕ) → Finds (λ _. many (token (Sign AMPERSAND) ▸ part_text)) ends_semicolon left result self.old.rest.now self.new.rest.now }
-        ensures stuck { (left : ℕ) → Halts (λ _. many (token (Sign AMPERSAND) ▸ part_text)) left result self.old.rest.now self.new.rest.now }
+        ensures found { IfOk result (λ _. (more : _) × (parts.new.items ≡ parts.old.items ++ more)
+            × Spans (each (λ p. token (Sign AMPERSAND) ▸ IsPart p) more) self.old.rest.now
+            self.new.rest.now) }
+        ensures only { (left : ℕ) → Finds (λ _. many (token (Sign AMPERSAND) ▸ part_text))
+            ends_semicolon left result self.old.rest.now self.new.rest.now }
+        ensures stuck { (left : ℕ) → Halts (λ _. many (token (Sign AMPERSAND) ▸ part_text)) left
+            result self.old.rest.now self.new.rest.now }
     {
         while self.eat(TokenKind::Sign(signs::AMPERSAND)) {
             let part = self.part()?;
@@ -258,9 +313,12 @@ impl<'a> Parser<'a> {
 
     /// Takes Part { "&" Part } ";".
     fn parts(&mut self) -> Result<Vec<Part>, Refusal>
-        ensures found { Takes (λ parts. separated (Sign AMPERSAND) IsPart parts.items ▸ token (Sign SEMICOLON)) result self.old.rest.now self.new.rest.now }
-        ensures only { (left : ℕ) → Finds (λ _. parts_text) anything left result self.old.rest.now self.new.rest.now }
-        ensures stuck { (left : ℕ) → Halts (λ _. parts_text) left result self.old.rest.now self.new.rest.now }
+        ensures found { Takes (λ parts. separated (Sign AMPERSAND) IsPart parts.items
+            ▸ token (Sign SEMICOLON)) result self.old.rest.now self.new.rest.now }
+        ensures only { (left : ℕ) → Finds (λ _. parts_text) anything left result self.old.rest.now
+            self.new.rest.now }
+        ensures stuck { (left : ℕ) → Halts (λ _. parts_text) left result self.old.rest.now
+            self.new.rest.now }
     {
         let first = self.part()?;
         let mut parts = Vec::new(self.alloc);
@@ -272,7 +330,8 @@ impl<'a> Parser<'a> {
 
     /// Takes Expr "->" Instr.
     fn guarded(&mut self, left: u32) -> Result<(RawExpr, Instr), Refusal>
-        ensures found { Takes (λ x. Node (IsExpr left) x.0 ▸ token (Sign ARROW) ▸ IsInstr left x.1) result self.old.rest.now self.new.rest.now }
+        ensures found { Takes (λ x. Node (IsExpr left) x.0 ▸ token (Sign ARROW) ▸ IsInstr left x.1)
+            result self.old.rest.now self.new.rest.now }
         ensures only { Finds guarded_text anything left result self.old.rest.now self.new.rest.now }
         ensures stuck { Halts guarded_text left result self.old.rest.now self.new.rest.now }
     {
@@ -293,7 +352,8 @@ impl<'a> Parser<'a> {
     /// Takes name ":" ( Part { "&" Part } ";" | Expr "->" Instr ).
     fn transition(&mut self, left: u32) -> Result<Member, Refusal>
         ensures found { Takes (IsTransition left) result self.old.rest.now self.new.rest.now }
-        ensures only { Finds transition_of anything left result self.old.rest.now self.new.rest.now }
+        ensures only { Finds transition_of anything left result self.old.rest.now
+            self.new.rest.now }
         ensures stuck { Halts transition_of left result self.old.rest.now self.new.rest.now }
     {
         let (name, at) = self.placed_name()?;
@@ -308,9 +368,13 @@ impl<'a> Parser<'a> {
 
     /// Takes { Transition }.
     pub fn transitions(&mut self, left: u32, members: &mut Vec<Member>) -> Result<(), Refusal>
-        ensures found { IfOk result (λ _. (more : _) × (members.new.items ≡ members.old.items ++ more) × Spans (each (IsTransition left) more) self.old.rest.now self.new.rest.now) }
-        ensures only { Finds (λ n. many (transition_of n)) ends_transitions left result self.old.rest.now self.new.rest.now }
-        ensures stuck { Halts (λ n. many (transition_of n)) left result self.old.rest.now self.new.rest.now }
+        ensures found { IfOk result (λ _. (more : _)
+            × (members.new.items ≡ members.old.items ++ more)
+            × Spans (each (IsTransition left) more) self.old.rest.now self.new.rest.now) }
+        ensures only { Finds (λ n. many (transition_of n)) ends_transitions left result
+            self.old.rest.now self.new.rest.now }
+        ensures stuck { Halts (λ n. many (transition_of n)) left result self.old.rest.now
+            self.new.rest.now }
     {
         while self.is_at(TokenKind::Name) {
             let transition = self.transition(left)?;
@@ -321,9 +385,13 @@ impl<'a> Parser<'a> {
 
     /// Takes the instructions of an assertion: { Instr }.
     pub fn assertions(&mut self, left: u32, members: &mut Vec<Member>) -> Result<(), Refusal>
-        ensures found { IfOk result (λ _. (more : _) × (members.new.items ≡ members.old.items ++ more) × Spans (each (IsAssertion left) more) self.old.rest.now self.new.rest.now) }
-        ensures only { Finds (λ n. many (instr_text deep n)) ends_assertions left result self.old.rest.now self.new.rest.now }
-        ensures stuck { Halts (λ n. many (instr_text deep n)) left result self.old.rest.now self.new.rest.now }
+        ensures found { IfOk result (λ _. (more : _)
+            × (members.new.items ≡ members.old.items ++ more)
+            × Spans (each (IsAssertion left) more) self.old.rest.now self.new.rest.now) }
+        ensures only { Finds (λ n. many (instr_text deep n)) ends_assertions left result
+            self.old.rest.now self.new.rest.now }
+        ensures stuck { Halts (λ n. many (instr_text deep n)) left result self.old.rest.now
+            self.new.rest.now }
     {
         while begins_instr(self.kind()) {
             let instr = self.instr(left)?;

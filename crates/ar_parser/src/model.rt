@@ -20,8 +20,10 @@ impl<'a> Parser<'a> {
     fn whole(&mut self) -> Result<i64, Refusal>
         requires { AreUnsigned self.old.rest.now }
         ensures found { Takes IsWhole result self.old.rest.now self.new.rest.now }
-        ensures only { (left : ℕ) → Finds (λ _. whole_text) anything left result self.old.rest.now self.new.rest.now }
-        ensures stuck { (left : ℕ) → Halts (λ _. whole_text) left result self.old.rest.now self.new.rest.now }
+        ensures only { (left : ℕ) → Finds (λ _. whole_text) anything left result self.old.rest.now
+            self.new.rest.now }
+        ensures stuck { (left : ℕ) → Halts (λ _. whole_text) left result self.old.rest.now
+            self.new.rest.now }
     {
         match self.eat_whole() {
             Some(n) => Ok(n),
@@ -33,8 +35,10 @@ impl<'a> Parser<'a> {
     fn bound(&mut self) -> Result<i64, Refusal>
         requires { AreUnsigned self.old.rest.now }
         ensures found { Takes IsBound result self.old.rest.now self.new.rest.now }
-        ensures only { (left : ℕ) → Finds (λ _. bound_text) anything left result self.old.rest.now self.new.rest.now }
-        ensures stuck { (left : ℕ) → Halts (λ _. bound_text) left result self.old.rest.now self.new.rest.now }
+        ensures only { (left : ℕ) → Finds (λ _. bound_text) anything left result self.old.rest.now
+            self.new.rest.now }
+        ensures stuck { (left : ℕ) → Halts (λ _. bound_text) left result self.old.rest.now
+            self.new.rest.now }
     {
         if self.eat(TokenKind::Sign(signs::MINUS)) {
             let n = self.whole()?;
@@ -47,8 +51,10 @@ impl<'a> Parser<'a> {
     fn domain_body(&mut self) -> Result<DomainBody, Refusal>
         requires { AreUnsigned self.old.rest.now }
         ensures found { Takes IsDomainBody result self.old.rest.now self.new.rest.now }
-        ensures only { (left : ℕ) → Finds (λ _. domain_body_text) anything left result self.old.rest.now self.new.rest.now }
-        ensures stuck { (left : ℕ) → Halts (λ _. domain_body_text) left result self.old.rest.now self.new.rest.now }
+        ensures only { (left : ℕ) → Finds (λ _. domain_body_text) anything left result
+            self.old.rest.now self.new.rest.now }
+        ensures stuck { (left : ℕ) → Halts (λ _. domain_body_text) left result self.old.rest.now
+            self.new.rest.now }
     {
         if self.eat(TokenKind::Sign(signs::OPEN_BRACE)) {
             let symbols = self.names()?;
@@ -65,8 +71,10 @@ impl<'a> Parser<'a> {
 
     /// Takes the semicolon that may stand behind a domain.
     fn skip_semicolon(&mut self)
-        ensures found { Spans (nothing ∣ token (Sign SEMICOLON)) self.old.rest.now self.new.rest.now }
-        ensures only { (left : ℕ) → Finds {A = Unit {0}} (λ _. maybe (token (Sign SEMICOLON))) ends_item left (Ok tt) self.old.rest.now self.new.rest.now }
+        ensures found { Spans (nothing ∣ token (Sign SEMICOLON)) self.old.rest.now
+            self.new.rest.now }
+        ensures only { (left : ℕ) → Finds {A = Unit {0}} (λ _. maybe (token (Sign SEMICOLON)))
+            ends_item left (Ok tt) self.old.rest.now self.new.rest.now }
     {
         self.eat(TokenKind::Sign(signs::SEMICOLON));
     }
@@ -75,8 +83,10 @@ impl<'a> Parser<'a> {
     fn domain(&mut self) -> Result<DomainDecl, Refusal>
         requires { AreUnsigned self.old.rest.now }
         ensures found { Takes IsDomain result self.old.rest.now self.new.rest.now }
-        ensures only { (left : ℕ) → Finds (λ _. domain_text) ends_item left result self.old.rest.now self.new.rest.now }
-        ensures stuck { (left : ℕ) → Halts (λ _. domain_text) left result self.old.rest.now self.new.rest.now }
+        ensures only { (left : ℕ) → Finds (λ _. domain_text) ends_item left result self.old.rest.now
+            self.new.rest.now }
+        ensures stuck { (left : ℕ) → Halts (λ _. domain_text) left result self.old.rest.now
+            self.new.rest.now }
     {
         self.expect(TokenKind::Reserved(words::DOMAIN))?;
         let (name, at) = self.placed_name()?;
@@ -89,7 +99,8 @@ impl<'a> Parser<'a> {
     fn item(&mut self, left: u32) -> Result<Item, Refusal>
         requires { AreUnsigned self.old.rest.now }
         ensures found { Takes (IsItem left) result self.old.rest.now self.new.rest.now }
-        ensures only { Finds (item_text deep) ends_item left result self.old.rest.now self.new.rest.now }
+        ensures only { Finds (item_text deep) ends_item left result self.old.rest.now
+            self.new.rest.now }
         ensures stuck { Halts (item_text deep) left result self.old.rest.now self.new.rest.now }
     {
         if self.is_at(TokenKind::Reserved(words::DOMAIN)) {
@@ -108,9 +119,12 @@ impl<'a> Parser<'a> {
     /// Takes the items behind the first.
     fn more_items(&mut self, left: u32, items: &mut Vec<Item>) -> Result<(), Refusal>
         requires { AreUnsigned self.old.rest.now }
-        ensures found { IfOk result (λ _. (more : _) × (items.new.items ≡ items.old.items ++ more) × Spans (each (IsItem left) more) self.old.rest.now self.new.rest.now) }
-        ensures only { Finds (λ n. many (item_text deep n)) is_end left result self.old.rest.now self.new.rest.now }
-        ensures stuck { Halts (λ n. many (item_text deep n)) left result self.old.rest.now self.new.rest.now }
+        ensures found { IfOk result (λ _. (more : _) × (items.new.items ≡ items.old.items ++ more)
+            × Spans (each (IsItem left) more) self.old.rest.now self.new.rest.now) }
+        ensures only { Finds (λ n. many (item_text deep n)) is_end left result self.old.rest.now
+            self.new.rest.now }
+        ensures stuck { Halts (λ n. many (item_text deep n)) left result self.old.rest.now
+            self.new.rest.now }
     {
         while begins_item(self.kind()) {
             let item = self.item(left)?;
@@ -122,8 +136,10 @@ impl<'a> Parser<'a> {
     /// Takes the items of a model: Item { Item }.
     fn items(&mut self, left: u32) -> Result<Vec<Item>, Refusal>
         requires { AreUnsigned self.old.rest.now }
-        ensures found { Takes (λ items. AreItems left items.items) result self.old.rest.now self.new.rest.now }
-        ensures only { Finds (model_text deep) is_end left result self.old.rest.now self.new.rest.now }
+        ensures found { Takes (λ items. AreItems left items.items) result self.old.rest.now
+            self.new.rest.now }
+        ensures only { Finds (model_text deep) is_end left result self.old.rest.now
+            self.new.rest.now }
         ensures stuck { Halts (model_text deep) left result self.old.rest.now self.new.rest.now }
     {
         let first = self.item(left)?;

@@ -26,7 +26,8 @@ impl From<ar_base::Memory> for ParseFault {
 fn number(text: &[u8], token: &Token, names: &mut Names) -> Result<NameId, ParseFault>
     requires spelled { token.now.kind ≡ Name → IsSpelled text.now token.now }
     requires room { length names.old < 2 ^ 32 - 1 }
-    ensures found { IfOk result (λ id. IsNumbered text.now names.old (lexeme_of token.now id) names.new) }
+    ensures found { IfOk result (λ id.
+        IsNumbered text.now names.old (lexeme_of token.now id) names.new) }
     ensures fault { IfErr result (λ e. e ≡ Memory) }
 {
     if token.kind != TokenKind::Name {
@@ -48,7 +49,8 @@ fn numbered(
 ) -> Result<Vec<Lexeme>, ParseFault>
     requires spelled { AreSpelled text.now (reverse left.items) }
     requires room { length names.old + length (reverse left.items) < 2 ^ 32 }
-    ensures found { IfOk result (λ ls. (map token_of ls.items ≡ reverse left.items) × AreNumbered text.now names.old ls.items names.new) }
+    ensures found { IfOk result (λ ls. (map token_of ls.items ≡ reverse left.items)
+        × AreNumbered text.now names.old ls.items names.new) }
     ensures fault { IfErr result (λ e. e ≡ Memory) }
 {
     let mut lexemes = Vec::new(alloc);
@@ -88,7 +90,8 @@ pub fn lexemes(
     requires size { length text.now ≤ limit_of ModelBytes }
     requires empty { names.old ≡ [] }
     ensures found { IfOk result (λ x. AreLexemes text.now x.0.items names.new x.1) }
-    ensures fault { IfErr result (λ e. e ≢ Memory → (at : _) × (e ≡ Lex at) × HasFaultAt text.now at) }
+    ensures fault { IfErr result (λ e. e ≢ Memory
+        → (at : _) × (e ≡ Lex at) × HasFaultAt text.now at) }
 {
     let mut all = match tokens(alloc, text) {
         Ok(all) => all,

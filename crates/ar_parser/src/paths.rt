@@ -18,8 +18,10 @@ impl<'a> Parser<'a> {
     /// Takes a name and gives its place too.
     pub fn placed_name(&mut self) -> Result<(NameId, Place), Refusal>
         ensures found { Takes IsPlacedName result self.old.rest.now self.new.rest.now }
-        ensures only { (left : ℕ) → Finds (λ _. token Name) anything left result self.old.rest.now self.new.rest.now }
-        ensures stuck { (left : ℕ) → Halts (λ _. token Name) left result self.old.rest.now self.new.rest.now }
+        ensures only { (left : ℕ) → Finds (λ _. token Name) anything left result self.old.rest.now
+            self.new.rest.now }
+        ensures stuck { (left : ℕ) → Halts (λ _. token Name) left result self.old.rest.now
+            self.new.rest.now }
     {
         let name = self.name()?;
         Ok((name.name, name.at))
@@ -27,9 +29,13 @@ impl<'a> Parser<'a> {
 
     /// Takes the names behind the first: { "," name }.
     fn more_names(&mut self, names: &mut Vec<(NameId, Place)>) -> Result<(), Refusal>
-        ensures found { IfOk result (λ _. (more : _) × (names.new.items ≡ names.old.items ++ more) × Spans (each (λ x. token (Sign COMMA) ▸ IsPlacedName x) more) self.old.rest.now self.new.rest.now) }
-        ensures only { (left : ℕ) → Finds (λ _. many (token (Sign COMMA) ▸ token Name)) ends_names left result self.old.rest.now self.new.rest.now }
-        ensures stuck { (left : ℕ) → Halts (λ _. many (token (Sign COMMA) ▸ token Name)) left result self.old.rest.now self.new.rest.now }
+        ensures found { IfOk result (λ _. (more : _) × (names.new.items ≡ names.old.items ++ more)
+            × Spans (each (λ x. token (Sign COMMA) ▸ IsPlacedName x) more) self.old.rest.now
+            self.new.rest.now) }
+        ensures only { (left : ℕ) → Finds (λ _. many (token (Sign COMMA) ▸ token Name)) ends_names
+            left result self.old.rest.now self.new.rest.now }
+        ensures stuck { (left : ℕ) → Halts (λ _. many (token (Sign COMMA) ▸ token Name)) left result
+            self.old.rest.now self.new.rest.now }
     {
         while self.eat(TokenKind::Sign(signs::COMMA)) {
             let name = self.placed_name()?;
@@ -40,9 +46,12 @@ impl<'a> Parser<'a> {
 
     /// Takes names with commas between them: name { "," name }.
     pub fn names(&mut self) -> Result<Vec<(NameId, Place)>, Refusal>
-        ensures found { Takes (λ names. AreNames names.items) result self.old.rest.now self.new.rest.now }
-        ensures only { (left : ℕ) → Finds (λ _. names_text) ends_names left result self.old.rest.now self.new.rest.now }
-        ensures stuck { (left : ℕ) → Halts (λ _. names_text) left result self.old.rest.now self.new.rest.now }
+        ensures found { Takes (λ names. AreNames names.items) result self.old.rest.now
+            self.new.rest.now }
+        ensures only { (left : ℕ) → Finds (λ _. names_text) ends_names left result self.old.rest.now
+            self.new.rest.now }
+        ensures stuck { (left : ℕ) → Halts (λ _. names_text) left result self.old.rest.now
+            self.new.rest.now }
     {
         let first = self.placed_name()?;
         let mut names = Vec::new(self.alloc);
@@ -54,8 +63,10 @@ impl<'a> Parser<'a> {
     /// Takes the start of a path: [ ( "owner" | "main" ) "." ].
     fn path_start(&mut self) -> Result<PathStart, Refusal>
         ensures found { Takes IsStart result self.old.rest.now self.new.rest.now }
-        ensures only { (left : ℕ) → Finds (λ _. Has IsStart) is_name left result self.old.rest.now self.new.rest.now }
-        ensures stuck { (left : ℕ) → Halts (λ _. Has IsStart) left result self.old.rest.now self.new.rest.now }
+        ensures only { (left : ℕ) → Finds (λ _. Has IsStart) is_name left result self.old.rest.now
+            self.new.rest.now }
+        ensures stuck { (left : ℕ) → Halts (λ _. Has IsStart) left result self.old.rest.now
+            self.new.rest.now }
     {
         if self.eat(TokenKind::Reserved(words::OWNER)) {
             self.expect(TokenKind::Sign(signs::DOT))?;
@@ -70,9 +81,13 @@ impl<'a> Parser<'a> {
 
     /// Takes the names of a path behind its first: { "." name }.
     fn more_steps(&mut self, names: &mut Vec<NameId>) -> Result<(), Refusal>
-        ensures found { IfOk result (λ _. (more : _) × (names.new.items ≡ names.old.items ++ more) × Spans (each (λ x. token (Sign DOT) ▸ IsName x) more) self.old.rest.now self.new.rest.now) }
-        ensures only { (left : ℕ) → Finds (λ _. many (token (Sign DOT) ▸ token Name)) ends_path left result self.old.rest.now self.new.rest.now }
-        ensures stuck { (left : ℕ) → Halts (λ _. many (token (Sign DOT) ▸ token Name)) left result self.old.rest.now self.new.rest.now }
+        ensures found { IfOk result (λ _. (more : _) × (names.new.items ≡ names.old.items ++ more)
+            × Spans (each (λ x. token (Sign DOT) ▸ IsName x) more) self.old.rest.now
+            self.new.rest.now) }
+        ensures only { (left : ℕ) → Finds (λ _. many (token (Sign DOT) ▸ token Name)) ends_path left
+            result self.old.rest.now self.new.rest.now }
+        ensures stuck { (left : ℕ) → Halts (λ _. many (token (Sign DOT) ▸ token Name)) left result
+            self.old.rest.now self.new.rest.now }
     {
         while self.eat(TokenKind::Sign(signs::DOT)) {
             let name = self.name()?;
@@ -84,8 +99,10 @@ impl<'a> Parser<'a> {
     /// Takes a path: [ ( "owner" | "main" ) "." ] name { "." name }.
     pub fn path(&mut self) -> Result<Path, Refusal>
         ensures found { Takes IsPath result self.old.rest.now self.new.rest.now }
-        ensures only { (left : ℕ) → Finds (λ _. path_text) ends_path left result self.old.rest.now self.new.rest.now }
-        ensures stuck { (left : ℕ) → Halts (λ _. path_text) left result self.old.rest.now self.new.rest.now }
+        ensures only { (left : ℕ) → Finds (λ _. path_text) ends_path left result self.old.rest.now
+            self.new.rest.now }
+        ensures stuck { (left : ℕ) → Halts (λ _. path_text) left result self.old.rest.now
+            self.new.rest.now }
     {
         let at = self.place();
         let start = self.path_start()?;

@@ -24,18 +24,22 @@ pub fn parse(alloc: Global, text: &[u8]) -> Result<Model, ParseFault>
     requires { length text.now ≤ limit_of ModelBytes }
     ensures found { IfOk result (λ model. Reads text.now model) }
     ensures lex { IfErr result (λ e. (at : _) → e ≡ Lex at → HasFaultAt text.now at) }
-    ensures faulty { (at : _) → HasFaultAt text.now at → IsErrAnd result (λ e. e ≢ Memory → e ≡ Lex at) }
+    ensures faulty { (at : _) → HasFaultAt text.now at
+        → IsErrAnd result (λ e. e ≢ Memory → e ≡ Lex at) }
 
     // A text that has a reading of any nesting is read, or refused for want of memory or, where the nesting is above the limit, of room.
-    ensures only { (n : ℕ) (model : _) → ReadsWithin n text.now model → Reaches (limit_of Nesting) n result }
+    ensures only { (n : ℕ) (model : _) → ReadsWithin n text.now model
+        → Reaches (limit_of Nesting) n result }
 
     // A text is refused at the first token that no text of the grammar goes on with, and only there.
     ensures syntax { IfErr result (λ e. (at : _) → e ≡ Syntax at → SyntaxStandsAt text.now at) }
-    ensures stuck { (at : _) → SyntaxStandsAt text.now at → IsErrAnd result (λ e. e ≢ Memory → e ≡ Syntax at) }
+    ensures stuck { (at : _) → SyntaxStandsAt text.now at
+        → IsErrAnd result (λ e. e ≢ Memory → e ≡ Syntax at) }
 
     // Unless a token before it, with which some text goes on, is too deep: then it is refused at the first of these, and only there.
     ensures depth { IfErr result (λ e. (at : _) → e ≡ Depth at → DepthStandsAt text.now at) }
-    ensures deep { (at : _) → DepthStandsAt text.now at → IsErrAnd result (λ e. e ≢ Memory → e ≡ Depth at) }
+    ensures deep { (at : _) → DepthStandsAt text.now at
+        → IsErrAnd result (λ e. e ≢ Memory → e ≡ Depth at) }
 {
     let mut names = Names::new(alloc);
     let (lexemes, end) = lexemes(alloc, text, &mut names)?;

@@ -30,8 +30,10 @@ impl<'a> Parser<'a> {
     #[cycle(unread)]
     fn unread(&mut self, left: u32) -> Result<(), Refusal>
         ensures found { IfOk result (λ _. Spans (unread left) self.old.rest.now self.new.rest.now) }
-        ensures only { Finds (λ n. many (unread_text n)) ends_unread left result self.old.rest.now self.new.rest.now }
-        ensures stuck { Halts (λ n. many (unread_text n)) left result self.old.rest.now self.new.rest.now }
+        ensures only { Finds (λ n. many (unread_text n)) ends_unread left result self.old.rest.now
+            self.new.rest.now }
+        ensures stuck { Halts (λ n. many (unread_text n)) left result self.old.rest.now
+            self.new.rest.now }
     {
         while self.is_at_unread() {
             self.unread_piece(left)?;
@@ -43,7 +45,8 @@ impl<'a> Parser<'a> {
     #[cycle(unread)]
     fn unread_piece(&mut self, left: u32) -> Result<(), Refusal>
         requires { goes_unread (kind_at self.old.rest.now) ≡ true }
-        ensures found { IfOk result (λ _. Spans (unread_piece left) self.old.rest.now self.new.rest.now) }
+        ensures found { IfOk result (λ _.
+            Spans (unread_piece left) self.old.rest.now self.new.rest.now) }
         ensures only { Finds unread_text anything left result self.old.rest.now self.new.rest.now }
         ensures stuck { Halts unread_text left result self.old.rest.now self.new.rest.now }
     {
@@ -58,9 +61,12 @@ impl<'a> Parser<'a> {
     #[cycle(unread)]
     fn unread_group(&mut self, left: u32) -> Result<(), Refusal>
         requires { kind_at self.old.rest.now ≡ Sign OPEN_PARENTHESIS }
-        ensures found { IfOk result (λ _. Spans (bracketed left) self.old.rest.now self.new.rest.now) }
-        ensures only { Finds (bracketed_text deep) anything left result self.old.rest.now self.new.rest.now }
-        ensures stuck { Halts (bracketed_text deep) left result self.old.rest.now self.new.rest.now }
+        ensures found { IfOk result (λ _.
+            Spans (bracketed left) self.old.rest.now self.new.rest.now) }
+        ensures only { Finds (bracketed_text deep) anything left result self.old.rest.now
+            self.new.rest.now }
+        ensures stuck { Halts (bracketed_text deep) left result self.old.rest.now
+            self.new.rest.now }
     {
         if left == 0 {
             return Err(no_room(true));
@@ -85,7 +91,8 @@ impl<'a> Parser<'a> {
     /// Takes [ "(" Unread ")" ] and gives the span of what is unread.
     pub fn attribute(&mut self, left: u32) -> Result<Option<Span>, Refusal>
         ensures found { Takes (IsAttribute left) result self.old.rest.now self.new.rest.now }
-        ensures only { Finds attribute_text ends_attribute left result self.old.rest.now self.new.rest.now }
+        ensures only { Finds attribute_text ends_attribute left result self.old.rest.now
+            self.new.rest.now }
         ensures stuck { Halts attribute_text left result self.old.rest.now self.new.rest.now }
     {
         if !self.is_at(TokenKind::Sign(signs::OPEN_PARENTHESIS)) {
@@ -105,8 +112,10 @@ impl<'a> Parser<'a> {
     /// Takes one token of a kept value, or brackets and what they hold.
     fn kept_piece(&mut self, left: u32) -> Result<(), Refusal>
         requires { goes_kept (kind_at self.old.rest.now) ≡ true }
-        ensures found { IfOk result (λ _. Spans (kept_piece left) self.old.rest.now self.new.rest.now) }
-        ensures only { Finds kept_piece_text anything left result self.old.rest.now self.new.rest.now }
+        ensures found { IfOk result (λ _.
+            Spans (kept_piece left) self.old.rest.now self.new.rest.now) }
+        ensures only { Finds kept_piece_text anything left result self.old.rest.now
+            self.new.rest.now }
         ensures stuck { Halts kept_piece_text left result self.old.rest.now self.new.rest.now }
     {
         if self.is_at(TokenKind::Sign(signs::OPEN_PARENTHESIS)) {
@@ -118,9 +127,12 @@ impl<'a> Parser<'a> {
 
     /// Takes the pieces of a kept value behind the first.
     fn more_kept(&mut self, left: u32) -> Result<(), Refusal>
-        ensures found { IfOk result (λ _. Spans (many (kept_piece left)) self.old.rest.now self.new.rest.now) }
-        ensures only { Finds (λ n. many (kept_piece_text n)) ends_kept left result self.old.rest.now self.new.rest.now }
-        ensures stuck { Halts (λ n. many (kept_piece_text n)) left result self.old.rest.now self.new.rest.now }
+        ensures found { IfOk result (λ _.
+            Spans (many (kept_piece left)) self.old.rest.now self.new.rest.now) }
+        ensures only { Finds (λ n. many (kept_piece_text n)) ends_kept left result self.old.rest.now
+            self.new.rest.now }
+        ensures stuck { Halts (λ n. many (kept_piece_text n)) left result self.old.rest.now
+            self.new.rest.now }
     {
         while self.is_at_kept() {
             self.kept_piece(left)?;
@@ -130,9 +142,12 @@ impl<'a> Parser<'a> {
 
     /// Takes a kept value and gives its span: Piece { Piece }.
     pub fn kept(&mut self, left: u32) -> Result<Span, Refusal>
-        ensures found { Takes (λ span. covering span (kept left)) result self.old.rest.now self.new.rest.now }
-        ensures only { Finds (λ n. kept_text (bracketed_text deep n)) ends_kept left result self.old.rest.now self.new.rest.now }
-        ensures stuck { Halts (λ n. kept_text (bracketed_text deep n)) left result self.old.rest.now self.new.rest.now }
+        ensures found { Takes (λ span. covering span (kept left)) result self.old.rest.now
+            self.new.rest.now }
+        ensures only { Finds (λ n. kept_text (bracketed_text deep n)) ends_kept left result
+            self.old.rest.now self.new.rest.now }
+        ensures stuck { Halts (λ n. kept_text (bracketed_text deep n)) left result self.old.rest.now
+            self.new.rest.now }
     {
         let start = self.rest;
         if !self.is_at_kept() {

@@ -73,7 +73,8 @@ pub fn literal<'a>(rest: &'a [u8], text: &[u8]) -> Result<&'a [u8], Stuck>
 // The event at the front: `e.` and its path, the longest run of its bytes.
 fn found_event<'a>(rest: &'a [u8], names: &Names) -> Option<(EventId, &'a [u8])>
     requires { AreEvents names.now }
-    ensures found { IfSome result (λ r. IsRead (IsPathOf names.now) (event_text names.now) Stops rest.now r.0.n r.1.now) }
+    ensures found { IfSome result (λ r.
+        IsRead (IsPathOf names.now) (event_text names.now) Stops rest.now r.0.n r.1.now) }
     ensures none { IfNone result (HasNoEvent names.now rest.now) }
 {
     let Ok(behind) = literal(rest, b"e.") else {
@@ -123,8 +124,10 @@ fn event_part(rest: &[u8], names: &Names) -> usize
 // The event at the front.
 fn event<'a>(rest: &'a [u8], names: &Names) -> Result<(EventId, &'a [u8]), Stuck>
     requires { AreEvents names.now }
-    ensures found { IfOk result (λ r. IsRead (IsPathOf names.now) (event_text names.now) Stops rest.now r.0.n r.1.now) }
-    ensures stuck { IfErr result (λ stuck. IsStuck (IsPathOf names.now) (event_text names.now) Stops rest.now stuck.left) }
+    ensures found { IfOk result (λ r.
+        IsRead (IsPathOf names.now) (event_text names.now) Stops rest.now r.0.n r.1.now) }
+    ensures stuck { IfErr result (λ stuck.
+        IsStuck (IsPathOf names.now) (event_text names.now) Stops rest.now stuck.left) }
 {
     match found_event(rest, names) {
         Some(read) => Ok(read),
@@ -178,8 +181,10 @@ fn goes_on(rest: &[u8]) -> bool
 
 // One of so many gates: `g` and its number, from 1.
 fn gate<'a>(rest: &'a [u8], gates: u32) -> Result<(GateId, &'a [u8]), Stuck>
-    ensures found { IfOk result (λ r. IsRead (IsBelowGate gates) name_text Stops rest.now r.0.n r.1.now) }
-    ensures stuck { IfErr result (λ stuck. IsStuck (IsBelowGate gates) name_text Stops rest.now stuck.left) }
+    ensures found { IfOk result (λ r.
+        IsRead (IsBelowGate gates) name_text Stops rest.now r.0.n r.1.now) }
+    ensures stuck { IfErr result (λ stuck.
+        IsStuck (IsBelowGate gates) name_text Stops rest.now stuck.left) }
 {
     if gates == 0 {
         return Err(Stuck { left: rest.len() });
@@ -216,8 +221,12 @@ pub fn has_operand(gates: u32, names: &Names) -> bool
 // An operand that is an event or one of so many gates, where there is one.
 fn signed<'a>(rest: &'a [u8], gates: u32, names: &Names) -> Result<(Operand, &'a [u8]), Stuck>
     requires { AreEvents names.now }
-    ensures found { IfOk result (λ r. IsRead (IsOperandAt gates names.now) (operand_text names.now) Stops rest.now (operand_of r.0) r.1.now) }
-    ensures stuck { IfErr result (λ stuck. HasOperand gates names.now → IsStuck (IsOperandAt gates names.now) (operand_text names.now) Stops rest.now stuck.left) }
+    ensures found { IfOk result (λ r.
+        IsRead (IsOperandAt gates names.now) (operand_text names.now) Stops rest.now
+        (operand_of r.0) r.1.now) }
+    ensures stuck { IfErr result (λ stuck. HasOperand gates names.now
+        → IsStuck (IsOperandAt gates names.now) (operand_text names.now) Stops rest.now
+        stuck.left) }
 {
     let (sign, named) = sign(rest);
     if begins_with(named, b'g') {
@@ -231,8 +240,11 @@ fn signed<'a>(rest: &'a [u8], gates: u32, names: &Names) -> Result<(Operand, &'a
 // An operand that is an event or one of so many gates.
 pub fn operand<'a>(rest: &'a [u8], gates: u32, names: &Names) -> Result<(Operand, &'a [u8]), Stuck>
     requires { AreEvents names.now }
-    ensures found { IfOk result (λ r. IsRead (IsOperandAt gates names.now) (operand_text names.now) Stops rest.now (operand_of r.0) r.1.now) }
-    ensures stuck { IfErr result (λ stuck. IsStuck (IsOperandAt gates names.now) (operand_text names.now) Stops rest.now stuck.left) }
+    ensures found { IfOk result (λ r.
+        IsRead (IsOperandAt gates names.now) (operand_text names.now) Stops rest.now
+        (operand_of r.0) r.1.now) }
+    ensures stuck { IfErr result (λ stuck.
+        IsStuck (IsOperandAt gates names.now) (operand_text names.now) Stops rest.now stuck.left) }
 {
     match signed(rest, gates, names) {
         Ok(read) => Ok(read),

@@ -56,7 +56,8 @@ impl<T: Drop> From<AllocFailed<T>> for Stop {
 
 // How the operand behind the front is joined to those before.
 fn joint(rest: &[u8]) -> Result<(Joint, &[u8]), Stuck>
-    ensures found { IfOk result (λ r. IsRead IsJoint joint_text IsAny rest.now (all_needed r.0) r.1.now) }
+    ensures found { IfOk result (λ r.
+        IsRead IsJoint joint_text IsAny rest.now (all_needed r.0) r.1.now) }
     ensures stuck { IfErr result (λ stuck. IsStuck IsJoint joint_text IsAny rest.now stuck.left) }
 {
     let behind = literal(rest, b" ")?;
@@ -77,8 +78,12 @@ fn next<'a>(
 ) -> Result<(Operand, &'a [u8]), Stuck>
     requires events { AreEvents names.now }
     requires some { HasOperand gates names.now }
-    ensures found { IfOk result (λ r. IsRead (IsOperandAt gates names.now) (next_text names.now (all_needed joint)) Stops rest.now (operand_of r.0) r.1.now) }
-    ensures stuck { IfErr result (λ stuck. IsStuck (IsOperandAt gates names.now) (next_text names.now (all_needed joint)) Stops rest.now stuck.left) }
+    ensures found { IfOk result (λ r.
+        IsRead (IsOperandAt gates names.now) (next_text names.now (all_needed joint)) Stops rest.now
+        (operand_of r.0) r.1.now) }
+    ensures stuck { IfErr result (λ stuck.
+        IsStuck (IsOperandAt gates names.now) (next_text names.now (all_needed joint)) Stops
+        rest.now stuck.left) }
 {
     let behind = literal(rest, between(joint).as_bytes())?;
     operand(behind, gates, names)
@@ -93,8 +98,11 @@ fn operands<'a>(
 ) -> Result<(Gate, &'a [u8]), Stop>
     requires events { AreEvents names.now }
     requires some { HasOperand gates names.now }
-    ensures found { IfOk result (λ r. IsRead (IsGateAt gates names.now) (operands_line names.now) IsAny rest.now (gate_of r.0) r.1.now) }
-    ensures stuck { IfErr result (λ stop. (stuck : _) → stop ≡ Stop.Stuck stuck → IsStuck (IsGateAt gates names.now) (operands_line names.now) IsAny rest.now stuck.left) }
+    ensures found { IfOk result (λ r.
+        IsRead (IsGateAt gates names.now) (operands_line names.now) IsAny rest.now (gate_of r.0)
+        r.1.now) }
+    ensures stuck { IfErr result (λ stop. (stuck : _) → stop ≡ Stop.Stuck stuck
+        → IsStuck (IsGateAt gates names.now) (operands_line names.now) IsAny rest.now stuck.left) }
 {
     let (first, behind) = operand(rest, gates, names)?;
     let (joint, behind) = joint(behind)?;
@@ -134,8 +142,12 @@ pub fn gate<'a>(
 ) -> Result<(Gate, &'a [u8]), Stop>
     requires events { AreEvents names.now }
     requires some { HasOperand gates names.now }
-    ensures found { IfOk result (λ r. IsRead (IsGateAt gates names.now) (gate_line names.now gates) IsAny rest.now (gate_of r.0) r.1.now) }
-    ensures stuck { IfErr result (λ stop. (stuck : _) → stop ≡ Stop.Stuck stuck → IsStuck (IsGateAt gates names.now) (gate_line names.now gates) IsAny rest.now stuck.left) }
+    ensures found { IfOk result (λ r.
+        IsRead (IsGateAt gates names.now) (gate_line names.now gates) IsAny rest.now (gate_of r.0)
+        r.1.now) }
+    ensures stuck { IfErr result (λ stop. (stuck : _) → stop ≡ Stop.Stuck stuck
+        → IsStuck (IsGateAt gates names.now) (gate_line names.now gates) IsAny rest.now
+        stuck.left) }
 {
     let behind = header(rest, gates)?;
     operands(alloc, behind, gates, names)

@@ -9,11 +9,13 @@ ghost use Rattle.aralia_text.specs.Readings.{ArePaths, NamesEvents, IsTextOf, Is
 /// Where the texts of the events are of letters, digits, `_` and `.`, what is written for a table is a text of that table: so
 /// `read` gives that table for it.
 pub fn printed_is_read()
-    ensures { (events : List (List ℕ)) (table : Table) → ArePaths events → IsOrderedTable table → NamesEvents events table
+    ensures { (events : List (List ℕ)) (table : Table) → ArePaths events → IsOrderedTable table
+        → NamesEvents events table
         → IsTextOf events (equations_text events table) table }
 {}
 
 /// A text goes wrong first at one place: so the place that `read` tells is the only one.
 pub fn first_wrong_is_one()
-    ensures { (events : List (List ℕ)) (text : List ℕ) (k m : ℕ) → IsFirstWrong events text k → IsFirstWrong events text m → k ≡ m }
+    ensures { (events : List (List ℕ)) (text : List ℕ) (k m : ℕ) → IsFirstWrong events text k
+        → IsFirstWrong events text m → k ≡ m }
 {}

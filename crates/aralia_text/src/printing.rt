@@ -15,7 +15,8 @@ use eq_core::{Equations, Gate, Joint, Operand};
 /// operands. Each event is written by its text, by number; past the last text an event is written by an empty one. Takes
 /// no memory.
 pub fn print<K: Sink>(equations: &Equations, events: &[Text], out: &mut K) -> Result<(), SinkFailed>
-    ensures { Writes (K.state out.old) (K.state out.new) (equations_text events.now (table_of equations.now)) result }
+    ensures { Writes (K.state out.old) (K.state out.new)
+        (equations_text events.now (table_of equations.now)) result }
 {
     lines(out, events, &equations.gates)?;
     last(out, events, equations.conflict, equations.top)
@@ -28,7 +29,8 @@ fn last<K: Sink>(
     conflict: Operand,
     top: Operand,
 ) -> Result<(), SinkFailed>
-    ensures { Writes (K.state out.old) (K.state out.new) (last_lines events.now (operand_of conflict) (operand_of top)) result }
+    ensures { Writes (K.state out.old) (K.state out.new)
+        (last_lines events.now (operand_of conflict) (operand_of top)) result }
 {
     put(out, "conflict := ")?;
     operand(out, events, conflict)?;
@@ -39,7 +41,8 @@ fn last<K: Sink>(
 
 // The lines of the gates.
 fn lines<K: Sink>(out: &mut K, events: &[Text], gates: &[Gate]) -> Result<(), SinkFailed>
-    ensures { Writes (K.state out.old) (K.state out.new) (gate_lines events.now 0 (map gate_of gates.now)) result }
+    ensures { Writes (K.state out.old) (K.state out.new)
+        (gate_lines events.now 0 (map gate_of gates.now)) result }
 {
     for (n, gate) in gates.iter().enumerate() {
         line(out, events, n, gate)?;
@@ -50,7 +53,8 @@ fn lines<K: Sink>(out: &mut K, events: &[Text], gates: &[Gate]) -> Result<(), Si
 // The line of a gate.
 fn line<K: Sink>(out: &mut K, events: &[Text], n: usize, gate: &Gate) -> Result<(), SinkFailed>
     requires { n < 2 ^ 63 }
-    ensures { Writes (K.state out.old) (K.state out.new) (gate_line events.now n (gate_of gate.now)) result }
+    ensures { Writes (K.state out.old) (K.state out.new) (gate_line events.now n (gate_of gate.now))
+        result }
 {
     name(out, n)?;
     put(out, " := ")?;
@@ -61,7 +65,8 @@ fn line<K: Sink>(out: &mut K, events: &[Text], n: usize, gate: &Gate) -> Result<
 // The operands of a gate.
 fn operands<K: Sink>(out: &mut K, events: &[Text], gate: &Gate) -> Result<(), SinkFailed>
     ensures { Writes (K.state out.old) (K.state out.new)
-        (operands_text events.now (all_needed gate.now.joint) (map operand_of gate.now.operands.items)) result }
+        (operands_text events.now (all_needed gate.now.joint)
+        (map operand_of gate.now.operands.items)) result }
 {
     let Some((first, others)) = gate.operands.split_first() else {
         return Ok(());
@@ -112,7 +117,8 @@ pub fn between(joint: Joint) -> &'static str
 
 // An operand.
 fn operand<K: Sink>(out: &mut K, events: &[Text], operand: Operand) -> Result<(), SinkFailed>
-    ensures { Writes (K.state out.old) (K.state out.new) (operand_text events.now (operand_of operand)) result }
+    ensures { Writes (K.state out.old) (K.state out.new)
+        (operand_text events.now (operand_of operand)) result }
 {
     match operand {
         Operand::Always => put(out, "true"),
@@ -124,7 +130,8 @@ fn operand<K: Sink>(out: &mut K, events: &[Text], operand: Operand) -> Result<()
 
 // An event with its sign.
 fn named<K: Sink>(out: &mut K, sign: bool, text: &str) -> Result<(), SinkFailed>
-    ensures { Writes (K.state out.old) (K.state out.new) (sign_text sign ++ (codes "e." ++ text.now)) result }
+    ensures { Writes (K.state out.old) (K.state out.new)
+        (sign_text sign ++ (codes "e." ++ text.now)) result }
 {
     put(out, minus(sign))?;
     put(out, "e.")?;

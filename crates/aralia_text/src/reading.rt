@@ -18,8 +18,11 @@ use std::alloc::Global;
 // An operand of one of the two last lines.
 fn last_operand<'a>(rest: &'a [u8], gates: u32, names: &Names) -> Result<(Operand, &'a [u8]), Stuck>
     requires { AreEvents names.now }
-    ensures found { IfOk result (λ r. IsRead (IsLastAt gates names.now) (operand_text names.now) Stops rest.now (operand_of r.0) r.1.now) }
-    ensures stuck { IfErr result (λ stuck. IsStuck (IsLastAt gates names.now) (operand_text names.now) Stops rest.now stuck.left) }
+    ensures found { IfOk result (λ r.
+        IsRead (IsLastAt gates names.now) (operand_text names.now) Stops rest.now (operand_of r.0)
+        r.1.now) }
+    ensures stuck { IfErr result (λ stuck.
+        IsStuck (IsLastAt gates names.now) (operand_text names.now) Stops rest.now stuck.left) }
 {
     if begins_with(rest, b't') {
         let left = literal(rest, b"true")?;
@@ -35,8 +38,11 @@ fn last_operand<'a>(rest: &'a [u8], gates: u32, names: &Names) -> Result<(Operan
 // The two last lines, with nothing behind them: the conflict operand and the top operand.
 fn last_lines(rest: &[u8], gates: u32, names: &Names) -> Result<(Operand, Operand), Stuck>
     requires { AreEvents names.now }
-    ensures found { IfOk result (λ r. IsRead (AreLast gates names.now) (last_text names.now) IsEnd rest.now (last_of (operand_of r.0) (operand_of r.1)) []) }
-    ensures stuck { IfErr result (λ stuck. IsStuck (AreLast gates names.now) (last_text names.now) IsEnd rest.now stuck.left) }
+    ensures found { IfOk result (λ r.
+        IsRead (AreLast gates names.now) (last_text names.now) IsEnd rest.now
+        (last_of (operand_of r.0) (operand_of r.1)) []) }
+    ensures stuck { IfErr result (λ stuck.
+        IsStuck (AreLast gates names.now) (last_text names.now) IsEnd rest.now stuck.left) }
 {
     let behind = literal(rest, b"conflict := ")?;
     let (conflict, left) = last_operand(behind, gates, names)?;
@@ -59,7 +65,8 @@ fn gate_lines<'a>(
     requires short { length text.now ≤ 2 ^ 31 }
     ensures found { IfOk result (λ r. AreRead names.now text.now (map gate_of r.0.items) r.1.now) }
     ensures end { IfOk result (λ r. HasNoGate r.1.now) }
-    ensures stuck { IfErr result (λ stop. (stuck : _) → stop ≡ Stop.Stuck stuck → IsNoTable names.now text.now stuck.left) }
+    ensures stuck { IfErr result (λ stop. (stuck : _) → stop ≡ Stop.Stuck stuck
+        → IsNoTable names.now text.now stuck.left) }
 {
     let mut gates = Vec::new(alloc);
     let mut left = text;
@@ -79,7 +86,8 @@ fn table(alloc: Global, text: &[u8], names: &Names) -> Result<Equations, Stop>
     requires events { AreEvents names.now }
     requires short { length text.now ≤ 2 ^ 31 }
     ensures found { IfOk result (λ q. IsOnlyTable names.now text.now (table_of q)) }
-    ensures stuck { IfErr result (λ stop. (stuck : _) → stop ≡ Stop.Stuck stuck → IsNoTable names.now text.now stuck.left) }
+    ensures stuck { IfErr result (λ stop. (stuck : _) → stop ≡ Stop.Stuck stuck
+        → IsNoTable names.now text.now stuck.left) }
 {
     let (gates, left) = gate_lines(alloc, text, names)?;
     let (conflict, top) = last_lines(left, gates.len() as u32, names)?;
@@ -152,8 +160,10 @@ pub fn read(alloc: Global, text: &[u8], events: &[Text]) -> Result<Equations, Ar
     requires different { AreDifferent events.now }
     requires few { length events.now < 2 ^ 32 }
     ensures found { IfOk result (λ q. IsTextOf events.now text.now (table_of q)) }
-    ensures refused { IfErr result (λ fault. (place : _) → fault ≡ AraliaFault.Syntax place → (table : gates.Table) → IsTextOf events.now text.now table → ⊥) }
-    ensures place { IfErr result (λ fault. (place : _) → fault ≡ AraliaFault.Syntax place → IsWrongPlace events.now text.now place) }
+    ensures refused { IfErr result (λ fault. (place : _) → fault ≡ AraliaFault.Syntax place
+        → (table : gates.Table) → IsTextOf events.now text.now table → ⊥) }
+    ensures place { IfErr result (λ fault. (place : _) → fault ≡ AraliaFault.Syntax place
+        → IsWrongPlace events.now text.now place) }
 
     // Nothing else is said of a text that is that of a table.
     ensures only { (table : gates.Table) → IsTextOf events.now text.now table

@@ -36,7 +36,8 @@ fn path_in(
 ) -> Result<String, Memory>
     ensures { (m : RootedModel) (u : UnitPath) → names.now ≡ m.names
         → IsFrontOf m prefixes.now unit.n u
-        → IfOk result (λ path. string_bytes path ≡ thing_path m (record { unit = u; name = name.n })) }
+        → IfOk result (λ path. string_bytes path
+        ≡ thing_path m (record { unit = u; name = name.n })) }
 {
     let Some(front) = prefixes.get(unit.n as usize) else {
         return Err(Memory {});

@@ -53,7 +53,8 @@ impl Env<VarId> for NoVariables {
 // The value that an expression comes to, where a variable counts as false.
 fn computed(alloc: Global, expr: &RawExpr, leaves: &UnitLeaves<'_, '_>) -> Result<Value, Memory>
     requires { IsInTree leaves.now }
-    ensures { IfOk result (λ v. (e : Expression VarNumber) × BecomesBy (leaf_in leaves.now) expr.now e
+    ensures { IfOk result (λ v. (e : Expression VarNumber)
+        × BecomesBy (leaf_in leaves.now) expr.now e
         × (v ≡ value_of (λ _. Truth false) e)) }
 {
     let expression = translated(alloc, expr, leaves)?;

@@ -46,7 +46,9 @@ pub fn check_of_the_source()
 /// The text of a check ends with the line `yes` exactly where the sets of the lines are the cuts, each
 /// once, and each line is an order of its events that ends with the wanted value.
 pub fn yes_exactly<V>()
-    ensures { (names : Naming) (sys : System V) (dropped : List ℕ) (observer : Expr V) (wanted : Value)
-        (cuts : List CutLine) (text : List ℕ) → IsCheckText names sys dropped observer wanted cuts text
+    ensures { (names : Naming) (sys : System V) (dropped : List ℕ) (observer : Expr V)
+        (wanted : Value)
+        (cuts : List CutLine) (text : List ℕ)
+        → IsCheckText names sys dropped observer wanted cuts text
         → (EndsYes text ↔ AreTheCuts sys dropped observer wanted (lines_in cuts)) }
 {}

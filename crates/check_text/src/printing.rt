@@ -46,7 +46,8 @@ pub fn print_check<K: Sink>(
     requires ways { HaveKnownWays gts.now chains.now }
     requires long { length verdicts.now ≡ length chains.now }
     ensures { Prints (K.state out.old) (K.state out.new)
-        (check_text gts.now (edges_of forest.now.trees.items) chains.now verdicts.now lister) result }
+        (check_text gts.now (edges_of forest.now.trees.items) chains.now verdicts.now lister)
+        result }
 {
     let ways = event_ways(alloc, gts, forest)?;
     let good = all_good(verdicts);
@@ -95,7 +96,8 @@ fn verdict_lines<K: Sink>(
     verdicts: &[Verdict],
 ) -> Result<(), SinkFailed>
     requires { length verdicts.now ≡ length chains.now }
-    ensures { Writes (K.state out.old) (K.state out.new) (verdict_lines chains.now verdicts.now) result }
+    ensures { Writes (K.state out.old) (K.state out.new) (verdict_lines chains.now verdicts.now)
+        result }
 {
     for (n, chain) in chains.iter().enumerate() {
         verdict_line(out, chain.line, verdicts[n])?;
@@ -127,7 +129,8 @@ fn said<K: Sink>(out: &mut K, verdict: Verdict) -> Result<(), SinkFailed>
 
 // That a line holds the line of this number.
 fn held<K: Sink>(out: &mut K, line: u32) -> Result<(), SinkFailed>
-    ensures { Writes (K.state out.old) (K.state out.new) (verdict_text (Verdict.Holds line)) result }
+    ensures { Writes (K.state out.old) (K.state out.new) (verdict_text (Verdict.Holds line))
+        result }
 {
     put(out, "holds line ")?;
     number(out, line)
@@ -146,7 +149,8 @@ fn missing_lines<K: Sink>(
     requires known { HaveKnownWays gts.now chains.now }
     ensures text { Writes (K.state out.old) (K.state out.new)
         (missing_at gts.now ways.now (chain_lines gts.now chains.now) lister.old) result }
-    ensures whole { OnOk result (whole.new ≡ (whole.old && all_listed (chain_lines gts.now chains.now) lister.old)) }
+    ensures whole { OnOk result (whole.new
+        ≡ (whole.old && all_listed (chain_lines gts.now chains.now) lister.old)) }
 {
     while let Some(events) = lister.next() {
         missing_line(out, gts, ways, chains, events, whole)?;
@@ -166,8 +170,10 @@ fn missing_line<K: Sink>(
     requires ways { HaveWays gts.now ways.now (numbers events.now) }
     requires known { HaveKnownWays gts.now chains.now }
     ensures text { Writes (K.state out.old) (K.state out.new)
-        (missing_one gts.now ways.now (chain_lines gts.now chains.now) (numbers events.now)) result }
-    ensures whole { OnOk result (whole.new ≡ (whole.old && listed_in (chain_lines gts.now chains.now) (numbers events.now))) }
+        (missing_one gts.now ways.now (chain_lines gts.now chains.now) (numbers events.now))
+        result }
+    ensures whole { OnOk result (whole.new
+        ≡ (whole.old && listed_in (chain_lines gts.now chains.now) (numbers events.now))) }
 {
     if is_listed(gts, chains, events) {
         return put(out, "");

@@ -95,7 +95,8 @@ fn add_inside(
 
 // Adds a body, where it is not seen yet.
 fn add_one(opened: &mut Vec<u32>, seen: &mut [bool], body: u32) -> Result<(), Memory>
-    ensures { IsSeen seen.old opened.old.items → OnOk result (OpensOne body opened.old.items opened.new.items seen.new) }
+    ensures { IsSeen seen.old opened.old.items
+        → OnOk result (OpensOne body opened.old.items opened.new.items seen.new) }
 {
     let place = body as usize;
     if place >= seen.len() {
@@ -117,7 +118,8 @@ fn in_body(
     body: u32,
     own: &[Owned],
 ) -> Result<Option<Place>, Memory>
-    ensures { (d : Declared) → Shows d bodies.now types.now → IfOk result (IsEarliest (NamesAgain d body own.now)) }
+    ensures { (d : Declared) → Shows d bodies.now types.now
+        → IfOk result (IsEarliest (NamesAgain d body own.now)) }
 {
     let mut found = None;
     for owned in own {
@@ -134,7 +136,8 @@ fn again(
     body: u32,
     owned: &Owned,
 ) -> Result<Option<Place>, Memory>
-    ensures { (d : Declared) → Shows d bodies.now types.now → IfOk result (IsEarliest (IsAgain d body owned.now)) }
+    ensures { (d : Declared) → Shows d bodies.now types.now
+        → IfOk result (IsEarliest (IsAgain d body owned.now)) }
 {
     match inside_of(owned, types) {
         None => Ok(None),
@@ -157,7 +160,8 @@ pub(crate) fn first_contained(
     bodies: &[Body],
     types: &TypeKinds,
 ) -> Result<Option<Place>, Memory>
-    ensures { (d : Declared) → Shows d bodies.now types.now → IfOk result (IsEarliest (BreaksContainment d)) }
+    ensures { (d : Declared) → Shows d bodies.now types.now
+        → IfOk result (IsEarliest (BreaksContainment d)) }
 {
     let mut found = None;
     for (place, body) in bodies.iter().enumerate() {

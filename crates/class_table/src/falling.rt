@@ -29,7 +29,8 @@ pub(crate) fn falls(bodies: &[Body], types: &TypeKinds, ranks: &[u32]) -> bool
 
 // Whether the bodies that these members put inside have lesser ranks.
 fn falls_in(own: &[Owned], types: &TypeKinds, ranks: &[u32], rank: u32) -> bool
-    ensures { (d : Declared) → KnowsTypes d types.now → IsTrue result → FallsIn d ranks.now own.now rank }
+    ensures { (d : Declared) → KnowsTypes d types.now → IsTrue result
+        → FallsIn d ranks.now own.now rank }
 {
     for owned in own {
         if !falls_one(owned, types, ranks, rank) {

@@ -21,7 +21,8 @@ pub(crate) struct Inside {
 
 /// The body that a member puts inside its own body, if it puts one there. Takes no memory.
 pub(crate) fn inside_of(owned: &Owned, types: &TypeKinds) -> Option<Inside>
-    ensures { (d : Declared) → KnowsTypes d types.now → option_map (λ i. (i.body.n, i.at)) result ≡ inside d owned.now }
+    ensures { (d : Declared) → KnowsTypes d types.now
+        → option_map (λ i. (i.body.n, i.at)) result ≡ inside d owned.now }
 {
     let member = match owned {
         Owned::Nested(_, _, body) => {

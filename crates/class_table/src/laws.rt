@@ -19,13 +19,15 @@ pub fn one_declared()
 
 /// A body has at most one list of members.
 pub fn one_list_of_members()
-    ensures { (d : Declared) (b : ℕ) (xs ys : List Site) → Members d b xs → Members d b ys → xs ≡ ys }
+    ensures { (d : Declared) (b : ℕ) (xs ys : List Site) → Members d b xs → Members d b ys
+        → xs ≡ ys }
 {}
 
 /// A model has a table or breaks a rule, never both, and it is refused with one rule at one place.
 pub fn one_refusal()
     ensures rule { (main : Option (List ℕ)) (model : Model) (r s : ℕ) (p q : Place)
-        → Tabulates main model (Err (Rule r p)) → Tabulates main model (Err (Rule s q)) → (r ≡ s) × (p ≡ q) }
+        → Tabulates main model (Err (Rule r p)) → Tabulates main model (Err (Rule s q))
+        → (r ≡ s) × (p ≡ q) }
     ensures apart { (main : Option (List ℕ)) (model : Model) (c : Classes) (f : RuleFault)
         → Tabulates main model (Ok c) → Tabulates main model (Err f) → ⊥ }
 {}
@@ -37,5 +39,6 @@ pub fn inherited_members_come_first()
         → Stands d.bodies a class → Stands d.bodies b block
         → class.own ≡ inherited ∷ [] → block.own ≡ clause ∷ own ∷ [] → extended inherited ≡ None
         → extended own ≡ None → extended clause ≡ Some x → class_named d x ≡ Some a
-        → Members d b (record { body = a; place = 0 } ∷ record { body = b; place = 0 } ∷ record { body = b; place = 1 } ∷ []) }
+        → Members d b (record { body = a; place = 0 } ∷ record { body = b; place = 0 }
+        ∷ record { body = b; place = 1 } ∷ []) }
 {}

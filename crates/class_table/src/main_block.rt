@@ -16,9 +16,11 @@ pub(crate) fn main_block(
     blocks: &[BodyId],
     main: Option<&str>,
 ) -> Option<BodyId>
-    ensures some { (d : Declared) → Along IsBodyOf bodies.now d.bodies → map (λ b. b.n) blocks.now ≡ d.blocks
+    ensures some { (d : Declared) → Along IsBodyOf bodies.now d.bodies
+        → map (λ b. b.n) blocks.now ≡ d.blocks
         → IfSome result (λ b. IsMain names.now d (option_map (λ t. t.now) main.entry) b.n) }
-    ensures none { (d : Declared) → Along IsBodyOf bodies.now d.bodies → map (λ b. b.n) blocks.now ≡ d.blocks
+    ensures none { (d : Declared) → Along IsBodyOf bodies.now d.bodies
+        → map (λ b. b.n) blocks.now ≡ d.blocks
         → IfNone result ((b : ℕ) → IsMain names.now d (option_map (λ t. t.now) main.entry) b → ⊥) }
 {
     match main {
@@ -29,9 +31,11 @@ pub(crate) fn main_block(
 
 // The top-level block of this name.
 fn main_named(names: &Names, bodies: &[Body], blocks: &[BodyId], text: &str) -> Option<BodyId>
-    ensures some { (d : Declared) → Along IsBodyOf bodies.now d.bodies → map (λ b. b.n) blocks.now ≡ d.blocks
+    ensures some { (d : Declared) → Along IsBodyOf bodies.now d.bodies
+        → map (λ b. b.n) blocks.now ≡ d.blocks
         → IfSome result (λ b. IsMain names.now d (Some text.now) b.n) }
-    ensures none { (d : Declared) → Along IsBodyOf bodies.now d.bodies → map (λ b. b.n) blocks.now ≡ d.blocks
+    ensures none { (d : Declared) → Along IsBodyOf bodies.now d.bodies
+        → map (λ b. b.n) blocks.now ≡ d.blocks
         → IfNone result ((b : ℕ) → IsMain names.now d (Some text.now) b → ⊥) }
 {
     match names.find(text) {

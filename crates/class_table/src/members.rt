@@ -74,7 +74,8 @@ fn inherit(
     room: usize,
 ) -> Result<(), Memory>
     ensures { (d : Declared) → KnowsTypes d types.now → AreListed d bodies.now listed.now
-        → OnOk result (InheritsMore d owned.now (map site_of all.old.items) (map site_of all.new.items)) }
+        → OnOk result (InheritsMore d owned.now (map site_of all.old.items)
+        (map site_of all.new.items)) }
 {
     match extended(owned) {
         None => Ok(()),
@@ -106,7 +107,8 @@ fn inherit_class(
 
 // Adds the members that stand in a body.
 fn add_own(all: &mut Vec<(BodyId, u32)>, body: BodyId, own: &[Owned]) -> Result<(), Memory>
-    ensures { OnOk result (map site_of all.new.items ≡ map site_of all.old.items ++ sites_from body.n 0 own.now) }
+    ensures { OnOk result (map site_of all.new.items ≡ map site_of all.old.items
+        ++ sites_from body.n 0 own.now) }
 {
     for (place, _) in own.iter().enumerate() {
         let Ok(number) = u32::try_from(place) else {
@@ -142,7 +144,8 @@ fn members_of(
 
 // Keeps the members of a body with it.
 fn keep_members(bodies: &mut [Body], listed: &mut [bool], body: BodyId, all: Vec<(BodyId, u32)>)
-    ensures { (d : Declared) → AreListed d bodies.old listed.old → Members d body.n (map site_of all.items)
+    ensures { (d : Declared) → AreListed d bodies.old listed.old
+        → Members d body.n (map site_of all.items)
         → AreListed d bodies.new listed.new }
 {
     let place = body.n as usize;
@@ -154,7 +157,8 @@ fn keep_members(bodies: &mut [Body], listed: &mut [bool], body: BodyId, all: Vec
 
 // Whether all are listed.
 fn are_all(listed: &[bool]) -> bool
-    ensures { IsTrue result → (k : ℕ) (is_listed : Bool) → Stands listed.now k is_listed → is_listed ≡ true }
+    ensures { IsTrue result → (k : ℕ) (is_listed : Bool) → Stands listed.now k is_listed
+        → is_listed ≡ true }
 {
     for is_listed in listed {
         if !*is_listed {

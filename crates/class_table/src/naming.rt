@@ -22,7 +22,8 @@ use std::alloc::Global;
 
 // Meets the names that a member gives.
 fn meet(names: &mut Repeats, owned: &Owned, types: &TypeKinds) -> Result<(), Memory>
-    ensures { (d : Declared) (s : Site) (met : List (ℕ × Place)) → KnowsTypes d types.now → HasMet names.old met
+    ensures { (d : Declared) (s : Site) (met : List (ℕ × Place)) → KnowsTypes d types.now
+        → HasMet names.old met
         → OnOk result (HasMet names.new (met ++ map member_place (names_of d s (Some owned.now)))) }
 {
     let member = match owned {
@@ -82,7 +83,8 @@ fn in_body(
     all: &[(BodyId, u32)],
 ) -> Result<Option<Place>, Memory>
     ensures { (d : Declared) → Shows d bodies.now types.now
-        → IfOk result (IsEarliest (IsRepeated (map member_place (named_at d (map site_of all.now))))) }
+        → IfOk result (IsEarliest (IsRepeated
+        (map member_place (named_at d (map site_of all.now))))) }
 {
     let mut names = Repeats::new(alloc);
     for site in all {
@@ -98,8 +100,10 @@ fn meet_site(
     types: &TypeKinds,
     site: (BodyId, u32),
 ) -> Result<(), Memory>
-    ensures { (d : Declared) (met : List (ℕ × Place)) → Shows d bodies.now types.now → HasMet names.old met
-        → OnOk result (HasMet names.new (met ++ map member_place (names_of d (site_of site) (declared_at d (site_of site))))) }
+    ensures { (d : Declared) (met : List (ℕ × Place)) → Shows d bodies.now types.now
+        → HasMet names.old met
+        → OnOk result (HasMet names.new (met
+        ++ map member_place (names_of d (site_of site) (declared_at d (site_of site))))) }
 {
     match owned_at(bodies, site) {
         None => Ok(()),
@@ -113,7 +117,8 @@ pub(crate) fn first_named_twice(
     bodies: &[Body],
     types: &TypeKinds,
 ) -> Result<Option<Place>, Memory>
-    ensures { (d : Declared) → KnowsTypes d types.now → IsListed d bodies.now → IfOk result (IsEarliest (BreaksNames d)) }
+    ensures { (d : Declared) → KnowsTypes d types.now → IsListed d bodies.now
+        → IfOk result (IsEarliest (BreaksNames d)) }
 {
     let mut found = None;
     for body in bodies {

@@ -38,7 +38,8 @@ impl Symbols {
     // The number of a symbol: its own, or the next one where it is new.
     fn number(&mut self, name: NameId) -> Result<u32, Memory>
         ensures { AreNumbered self.old
-            → IfOk result (λ n. UsesMore (name.n ∷ []) self.old self.new × Stands (list_of self.new) n name.n) }
+            → IfOk result (λ n. UsesMore (name.n ∷ []) self.old self.new
+            × Stands (list_of self.new) n name.n) }
     {
         match self.numbers.get(&name.n).copied() {
             Some(number) => Ok(number),
@@ -49,7 +50,8 @@ impl Symbols {
     // The next number for a new symbol.
     fn next_number(&mut self, name: NameId) -> Result<u32, Memory>
         ensures { AreNumbered self.old → get nat_eq self.old.numbers name.n ≡ None
-            → IfOk result (λ n. UsesMore (name.n ∷ []) self.old self.new × Stands (list_of self.new) n name.n) }
+            → IfOk result (λ n. UsesMore (name.n ∷ []) self.old self.new
+            × Stands (list_of self.new) n name.n) }
     {
         let Ok(number) = u32::try_from(self.list.len()) else {
             return Err(Memory {});

@@ -42,7 +42,8 @@ fn first_inside_itself(
     types: &TypeKinds,
     order: &Order,
 ) -> Result<Option<Place>, Memory>
-    ensures { (d : Declaration) → Shows d bodies.now types.now → IfOk result (IsEarliest (BreaksContainment d)) }
+    ensures { (d : Declaration) → Shows d bodies.now types.now
+        → IfOk result (IsEarliest (BreaksContainment d)) }
 {
     if falls(bodies, types, &order.ranks) {
         return Ok(None);
@@ -57,7 +58,8 @@ fn list_all(
     types: &TypeKinds,
     order: &[BodyId],
 ) -> Result<Vec<Body>, Memory>
-    ensures { (d : Declaration) → Shows d bodies.items types.now → IfOk result (λ listed. IsListed d listed.items) }
+    ensures { (d : Declaration) → Shows d bodies.items types.now
+        → IfOk result (λ listed. IsListed d listed.items) }
 {
     list_members(alloc, &mut bodies, types, order)?;
     Ok(bodies)
@@ -66,7 +68,8 @@ fn list_all(
 /// The table of a model, whose main block is the top-level block of the name `main`, else the last one. Refused with
 /// the least broken rule of L1 to L5, at the earliest place where it is broken; never for a limit.
 pub fn table(alloc: Global, model: Model, main: Option<&str>) -> Result<Classes, RuleFault>
-    ensures { Meets (Tabulates (option_map (λ t. t.now) main.entry)) (λ c answer. answer ≡ c) model result }
+    ensures { Meets (Tabulates (option_map (λ t. t.now) main.entry)) (λ c answer. answer ≡ c) model
+        result }
 {
     let Model { names, items, end } = model;
     let wrong_item = first_wrong_item(alloc, &items)?;

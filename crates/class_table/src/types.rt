@@ -42,7 +42,8 @@ fn kind_of(body: &TypeBody) -> Kind
 impl TypeKinds {
     /// The kinds of these types; of two of one name the first counts.
     pub(crate) fn new(alloc: Global, types: &[(NameId, TypeBody)]) -> Result<TypeKinds, Memory>
-        ensures { (d : Declared) → Along (IsNamedType d.symbols) types.now d.types → IfOk result (KnowsTypes d) }
+        ensures { (d : Declared) → Along (IsNamedType d.symbols) types.now d.types
+            → IfOk result (KnowsTypes d) }
     {
         let mut kinds = TypeKinds {
             kinds: HashMap::new(alloc),
@@ -56,7 +57,8 @@ impl TypeKinds {
     // Adds a type, where its name has none.
     fn add(&mut self, name: NameId, body: &TypeBody) -> Result<(), Memory>
         ensures { (types : List (Name × Body)) → ((x : ℕ) → kind_at self.old x ≡ kind_in types x)
-            → OnOk result ((x : ℕ) → kind_at self.new x ≡ kind_in (types ++ (name, body.now) ∷ []) x) }
+            → OnOk result ((x : ℕ) → kind_at self.new x
+            ≡ kind_in (types ++ (name, body.now) ∷ []) x) }
     {
         if self.kinds.contains_key(&name.n) {
             return Ok(());
@@ -74,7 +76,8 @@ impl TypeKinds {
 
     /// The body of the class of this name. Takes no memory.
     pub(crate) fn class(&self, name: NameId) -> Option<BodyId>
-        ensures { (d : Declared) → KnowsTypes d self.now → option_map (λ b. b.n) result ≡ class_named d name.n }
+        ensures { (d : Declared) → KnowsTypes d self.now
+            → option_map (λ b. b.n) result ≡ class_named d name.n }
     {
         match self.kind(name) {
             Some(Kind::Class(body)) => Some(body),

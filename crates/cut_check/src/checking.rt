@@ -52,7 +52,8 @@ pub fn verdicts(
     requires known { HaveKnownWays gts.now chains.now }
     ensures { (system : System ℕ) → Views gts.now system
         → (o : Observer) → Stands gts.now.observers.items observer o
-        → IfOk result (λ all. AreVerdicts gts.now system (numbers_of dropped.now) (numbered o.value) wanted chains.now all.items) }
+        → IfOk result (λ all. AreVerdicts gts.now system (numbers_of dropped.now) (numbered o.value)
+        wanted chains.now all.items) }
 {
     let parts = gts.parts();
     let allowed = open_events(alloc, parts, dropped)?;
@@ -72,7 +73,8 @@ fn verdict_of(chains: &[Chain], rows: &[Row], truths: &[bool], n: usize) -> Verd
     requires rows { length rows.now ≡ length chains.now }
     requires truths { length truths.now ≡ length chains.now }
     requires wide { AreWide rows.now }
-    ensures { (system : System ℕ) (dropped : List ℕ) (observer : TheExpr ℕ) (wanted : TheValue) (lines : List (List Label))
+    ensures { (system : System ℕ) (dropped : List ℕ) (observer : TheExpr ℕ) (wanted : TheValue)
+        (lines : List (List Label))
         → HaveBits lines rows.now → AreTruths system dropped observer wanted lines truths.now
         → IsVerdict system dropped observer wanted lines chains.now n result }
 {

@@ -45,7 +45,8 @@ pub(crate) fn true_lines(
     ensures long { IfOk result (λ truths. length truths.items ≡ length chains.now) }
     ensures truths { (system : System ℕ) → Views gts.now system → (dropped : List ℕ)
         → AreRows gts.now dropped chains.now rows.now
-        → IfOk result (λ truths. AreTruths system dropped (numbered observer.now.value) wanted (chain_lines gts.now chains.now) truths.items) }
+        → IfOk result (λ truths. AreTruths system dropped (numbered observer.now.value) wanted
+        (chain_lines gts.now chains.now) truths.items) }
 {
     let _sound_parts = gts.parts();
     match Stepper::start(alloc, gts) {
@@ -57,7 +58,8 @@ pub(crate) fn true_lines(
 // That none of so many lines is true where the start meets this fault, unless it is want of memory.
 fn unstarted(alloc: Global, fault: PropagateFault, count: usize) -> Result<Vec<bool>, Memory>
     ensures long { IfOk result (λ truths. length truths.items ≡ count) }
-    ensures none { IfOk result (λ truths. (n : ℕ) (b : Bool) → Stands truths.items n b → b ≡ false) }
+    ensures none { IfOk result (λ truths. (n : ℕ) (b : Bool) → Stands truths.items n b
+        → b ≡ false) }
     ensures fault { IfOk result (λ _. fault ≡ PropagateFault.Memory → ⊥) }
 {
     match fault {
@@ -69,7 +71,8 @@ fn unstarted(alloc: Global, fault: PropagateFault, count: usize) -> Result<Vec<b
 // That none of so many lines is true.
 fn none_true(alloc: Global, count: usize) -> Result<Vec<bool>, Memory>
     ensures long { IfOk result (λ truths. length truths.items ≡ count) }
-    ensures none { IfOk result (λ truths. (n : ℕ) (b : Bool) → Stands truths.items n b → b ≡ false) }
+    ensures none { IfOk result (λ truths. (n : ℕ) (b : Bool) → Stands truths.items n b
+        → b ≡ false) }
 {
     let truths = vec![in alloc; false; count]?;
     Ok(truths)
@@ -95,7 +98,8 @@ fn fired_lines(
     ensures long { IfOk result (λ truths. length truths.items ≡ length chains.now) }
     ensures truths { (system : System ℕ) → Views gts.now system → (dropped : List ℕ)
         → AreRows gts.now dropped chains.now rows.now
-        → IfOk result (λ truths. AreTruths system dropped (numbered observer.now.value) wanted (chain_lines gts.now chains.now) truths.items) }
+        → IfOk result (λ truths. AreTruths system dropped (numbered observer.now.value) wanted
+        (chain_lines gts.now chains.now) truths.items) }
 {
     let mut fired = Vec::new(alloc);
     let mut truths = Vec::new(alloc);
@@ -137,7 +141,9 @@ fn is_true(
     ensures answer { (system : System ℕ) → Views gts.now system → (dropped : List ℕ)
         → IsAnswer fit (IsFit gts.now dropped (labels_of gts.now ways.now))
         → HasFired gts.now system dropped fired.old.items stepper.old
-        → IfOk result (λ is. IsAnswer is (IsTrueLine system dropped (numbered observer.now.value) wanted (labels_of gts.now ways.now))) }
+        → IfOk result (λ is. IsAnswer is
+        (IsTrueLine system dropped (numbered observer.now.value) wanted
+        (labels_of gts.now ways.now))) }
 {
     if !fit {
         return Ok(false);
@@ -249,7 +255,8 @@ fn fire(
     requires same { stepper.old.system ≡ gts.now }
     requires known { way.n < length gts.now.ways.items }
     ensures system { stepper.new.system ≡ stepper.old.system }
-    ensures all { IfOk result (λ done. IsTrue done → fired.new.items ≡ fired.old.items ++ way ∷ []) }
+    ensures all { IfOk result (λ done. IsTrue done
+        → fired.new.items ≡ fired.old.items ++ way ∷ []) }
     ensures none { IfOk result (λ done. done ≡ false → fired.new ≡ fired.old) }
     ensures fired { (system : System ℕ) → Views gts.now system → (dropped : List ℕ)
         → (w : Way ℕ) → IsOpen system dropped (label_of gts.now way.n) w
@@ -258,7 +265,8 @@ fn fire(
     ensures stops { (system : System ℕ) → Views gts.now system → (dropped : List ℕ)
         → HasFired gts.now system dropped fired.old.items stepper.old
         → IfOk result (λ done. done ≡ false → (t : List TheValue)
-        → Reaches system dropped (label_of gts.now way.n ∷ reverse (labels_of gts.now fired.old.items)) t → ⊥) }
+        → Reaches system dropped (label_of gts.now way.n
+        ∷ reverse (labels_of gts.now fired.old.items)) t → ⊥) }
 {
     match stepper.fire(way) {
         Ok(_) => {

@@ -22,7 +22,8 @@ pub fn flat_checks<V>()
         (lines : List (List Label)) (n : ℕ) (said : Said)
         → (IsSaid sys dropped observer wanted lines n said
         ↔ IsSaid flat dropped other wanted lines n said) }
-    ensures missing { (things : List V) (sys : System V) (flat : System ℕ) → IsFlatOf things sys flat
+    ensures missing { (things : List V) (sys : System V) (flat : System ℕ)
+        → IsFlatOf things sys flat
         → (dropped : List ℕ) (observer : Expr V) (other : Expr ℕ)
         → Expr_renames (IsNumber things) observer other → (wanted : Value)
         (lines : List (List Label)) (set : List ℕ)
@@ -34,7 +35,8 @@ pub fn flat_checks<V>()
 pub fn one_verdict<V>()
     ensures { (sys : System V) (dropped : List ℕ) (observer : Expr V) (wanted : Value)
         (lines : List (List Label)) (n : ℕ) (a b : Said)
-        → IsSaid sys dropped observer wanted lines n a → IsSaid sys dropped observer wanted lines n b
+        → IsSaid sys dropped observer wanted lines n a
+        → IsSaid sys dropped observer wanted lines n b
         → a ≡ b }
 {}
 
@@ -44,5 +46,6 @@ pub fn one_verdict<V>()
 pub fn right_lists<V>()
     ensures { (sys : System V) (dropped : List ℕ) (observer : Expr V) (wanted : Value)
         (lines : List (List Label))
-        → (IsRight sys dropped observer wanted lines ↔ AreTheCuts sys dropped observer wanted lines) }
+        → (IsRight sys dropped observer wanted lines
+        ↔ AreTheCuts sys dropped observer wanted lines) }
 {}

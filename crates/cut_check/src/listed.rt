@@ -29,7 +29,8 @@ pub fn is_listed(gts: &Gts, chains: &[Chain], cut: &[EventId]) -> bool
 // Whether the events of a line are exactly these.
 fn has_events(parts: &GtsParts, ways: &[WayId], cut: &[EventId]) -> bool
     requires { AreKnownWays parts.now ways.now }
-    ensures { IsAnswer result (Within (events_of (labels_of parts.now ways.now)) (numbers_of cut.now)
+    ensures { IsAnswer result (Within (events_of (labels_of parts.now ways.now))
+        (numbers_of cut.now)
         × Within (numbers_of cut.now) (events_of (labels_of parts.now ways.now))) }
 {
     if are_among(parts, ways, cut) {
@@ -42,7 +43,8 @@ fn has_events(parts: &GtsParts, ways: &[WayId], cut: &[EventId]) -> bool
 // Whether each event of a line is one of these.
 fn are_among(parts: &GtsParts, ways: &[WayId], cut: &[EventId]) -> bool
     requires { AreKnownWays parts.now ways.now }
-    ensures { IsAnswer result (Within (events_of (labels_of parts.now ways.now)) (numbers_of cut.now)) }
+    ensures { IsAnswer result (Within (events_of (labels_of parts.now ways.now))
+        (numbers_of cut.now)) }
 {
     for way in ways {
         if !is_among(cut, parts.ways[way.n as usize].event.n) {
@@ -55,7 +57,8 @@ fn are_among(parts: &GtsParts, ways: &[WayId], cut: &[EventId]) -> bool
 // Whether each of these events is that of one of a line's labels.
 fn has_all(parts: &GtsParts, ways: &[WayId], cut: &[EventId]) -> bool
     requires { AreKnownWays parts.now ways.now }
-    ensures { IsAnswer result (Within (numbers_of cut.now) (events_of (labels_of parts.now ways.now))) }
+    ensures { IsAnswer result (Within (numbers_of cut.now)
+        (events_of (labels_of parts.now ways.now))) }
 {
     for event in cut {
         if !has_event(parts, ways, event.n) {

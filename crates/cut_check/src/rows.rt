@@ -35,7 +35,8 @@ pub(crate) fn open_events(
     dropped: &[EventId],
 ) -> Result<Vec<bool>, Memory>
     requires { AreEventsOf parts.now dropped.now }
-    ensures { IfOk result (λ allowed. AreOpenEvents parts.now (numbers_of dropped.now) allowed.items) }
+    ensures { IfOk result (λ allowed.
+        AreOpenEvents parts.now (numbers_of dropped.now) allowed.items) }
 {
     let mut allowed = visible_events(alloc, parts)?;
     for event in dropped {
@@ -109,8 +110,10 @@ fn add(row: &mut Row, allowed: &[bool], event: u32)
     requires inside { event / 64 < length row.old.words.items }
     requires allowed { event < length allowed.now }
     ensures long { length row.new.words.items ≡ length row.old.words.items }
-    ensures bits { (n : ℕ) → IsSet row.new.words.items n ↔ (IsSet row.old.words.items n ⊎ (n ≡ event)) }
-    ensures fit { (fresh : Bool) → IsAnswer fresh (IsFreshEvent allowed.now row.old.words.items event)
+    ensures bits { (n : ℕ) → IsSet row.new.words.items n
+        ↔ (IsSet row.old.words.items n ⊎ (n ≡ event)) }
+    ensures fit { (fresh : Bool) → IsAnswer fresh
+        (IsFreshEvent allowed.now row.old.words.items event)
         → row.new.fit ≡ (row.old.fit && fresh) }
 {
     let fresh = is_fresh(&row.words, allowed, event);

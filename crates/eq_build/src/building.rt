@@ -47,7 +47,8 @@ fn entries_of(
     expr: &Expr<VarId>,
 ) -> Result<Vec<Entry>, BuildFault>
     requires { length gates.old.items ≤ most_gates }
-    ensures { AnswersEntries rows.now (gates_in gates.old.items) (out-Expr VarNumber expr.now) result gates.new.items }
+    ensures { AnswersEntries rows.now (gates_in gates.old.items) (out-Expr VarNumber expr.now)
+        result gates.new.items }
 {
     match expr {
         Expr::Constant(v) => Ok(only(alloc, *v)?),

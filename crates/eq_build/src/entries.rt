@@ -66,7 +66,8 @@ pub fn made(
     operands: &[Operand],
 ) -> Result<Operand, BuildFault>
     requires { length gates.old.items ≤ most_gates }
-    ensures { MakesOperand (joined (all_needed joint) (gates_in gates.old.items) [] (operands_in operands.now))
+    ensures { MakesOperand (joined (all_needed joint) (gates_in gates.old.items) []
+        (operands_in operands.now))
         result gates.new.items }
 {
     let operand = join(alloc, gates, joint, operands)?;
@@ -83,7 +84,8 @@ pub fn one_of_alls(
     terms: &[Vec<Operand>],
 ) -> Result<Operand, BuildFault>
     requires { length gates.old.items ≤ most_gates }
-    ensures { MakesOperand (one_of_alls (gates_in gates.old.items) (terms_in terms.now)) result gates.new.items }
+    ensures { MakesOperand (one_of_alls (gates_in gates.old.items) (terms_in terms.now)) result
+        gates.new.items }
 {
     let mut all = Vec::new(alloc);
     for term in terms {

@@ -21,7 +21,8 @@ pub(crate) fn turned(
     entries: &[Entry],
 ) -> Result<Vec<Entry>, BuildFault>
     requires { length gates.old.items ≤ most_gates }
-    ensures { MakesEntries (entries_for (gates_in gates.old.items) (opposite_terms (entries_in entries.now)))
+    ensures { MakesEntries (entries_for (gates_in gates.old.items)
+        (opposite_terms (entries_in entries.now)))
         result gates.new.items }
 {
     let mut groups = Groups::new(alloc);
@@ -96,7 +97,8 @@ pub(crate) fn combined(
     right: &[Entry],
 ) -> Result<Vec<Entry>, BuildFault>
     requires { length gates.old.items ≤ most_gates }
-    ensures { MakesEntries (combined step (gates_in gates.old.items) (entries_in left.now) (entries_in right.now))
+    ensures { MakesEntries (combined step (gates_in gates.old.items) (entries_in left.now)
+        (entries_in right.now))
         result gates.new.items }
 {
     let mut groups = Groups::new(alloc);
@@ -155,7 +157,8 @@ pub(crate) fn led(
     operands: &[Vec<Entry>],
 ) -> Result<Vec<Entry>, BuildFault>
     requires { length gates.old.items ≤ most_gates }
-    ensures { MakesEntries (led step (gates_in gates.old.items) (lists_in operands.now)) result gates.new.items }
+    ensures { MakesEntries (led step (gates_in gates.old.items) (lists_in operands.now)) result
+        gates.new.items }
 {
     match operands.split_first() {
         Some((first, rest)) => folded(alloc, gates, first, step, rest),
@@ -190,7 +193,8 @@ pub(crate) fn chosen(
     other: Vec<Entry>,
 ) -> Result<Vec<Entry>, BuildFault>
     requires { length gates.old.items ≤ most_gates }
-    ensures { MakesEntries (chosen (gates_in gates.old.items) (cases_in cases.items) (entries_in other.items))
+    ensures { MakesEntries (chosen (gates_in gates.old.items) (cases_in cases.items)
+        (entries_in other.items))
         result gates.new.items }
 {
     let mut cases = cases;
@@ -212,7 +216,8 @@ fn with_case(
 ) -> Result<Vec<Entry>, BuildFault>
     requires { length gates.old.items ≤ most_gates }
     ensures { MakesEntries (entries_for (gates_in gates.old.items)
-        (case_terms (entries_in test.now) (entries_in value.now) (entries_in rest.now))) result gates.new.items }
+        (case_terms (entries_in test.now) (entries_in value.now) (entries_in rest.now))) result
+        gates.new.items }
 {
     let mut groups = Groups::new(alloc);
     put_behind(

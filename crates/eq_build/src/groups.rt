@@ -63,7 +63,8 @@ impl Groups {
     /// where that makes more gates than a table may have.
     pub fn entries(&self, alloc: Global, gates: &mut Vec<Gate>) -> Result<Vec<Entry>, BuildFault>
         requires { length gates.old.items ≤ most_gates }
-        ensures { MakesEntries (entries_of (gates_in gates.old.items) self.now) result gates.new.items }
+        ensures { MakesEntries (entries_of (gates_in gates.old.items) self.now) result
+            gates.new.items }
     {
         entries_in_order(alloc, gates, &self.groups)
     }
@@ -78,7 +79,8 @@ fn put_in(
 ) -> Result<(), Memory>
     requires { Rises (map group_of groups.old.items) }
     ensures put { OnOk result (map group_of groups.new.items ≡ with_term
-        (record { value = value; operands = operands_in operands.now }) (map group_of groups.old.items)) }
+        (record { value = value; operands = operands_in operands.now })
+        (map group_of groups.old.items)) }
     ensures rises { Rises (map group_of groups.new.items) }
 {
     let place = place_of(groups, value);
@@ -101,7 +103,8 @@ fn entries_in_order(
     groups: &[Group],
 ) -> Result<Vec<Entry>, BuildFault>
     requires { length gates.old.items ≤ most_gates }
-    ensures { MakesEntries (entries_of (gates_in gates.old.items) (map group_of groups.now)) result gates.new.items }
+    ensures { MakesEntries (entries_of (gates_in gates.old.items) (map group_of groups.now)) result
+        gates.new.items }
 {
     let mut entries = Vec::new(alloc);
     for group in groups {

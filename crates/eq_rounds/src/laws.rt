@@ -18,10 +18,12 @@ pub fn known_facts<V>()
 /// Of a state that has an outcome, as each has: where a conflict is seen, its flows are a fault, and where none is seen,
 /// it has flows, and they are the total values of what is known. So as many rounds as a block has flows are enough.
 pub fn seen_conflicts<V>()
-    ensures fault { (net : Net V) (t : List Value) (blocks : List (List V)) (known : V → Value → Bool) (o : Outcome)
+    ensures fault { (net : Net V) (t : List Value) (blocks : List (List V))
+        (known : V → Value → Bool) (o : Outcome)
         → AreKeyed net → AreOfFlows net blocks → IsKnown net t blocks known → Flows net t o
         → IsConflict net known → HasFault net t }
-    ensures flows { (net : Net V) (t : List Value) (blocks : List (List V)) (known : V → Value → Bool) (o : Outcome)
+    ensures flows { (net : Net V) (t : List Value) (blocks : List (List V))
+        (known : V → Value → Bool) (o : Outcome)
         → AreKeyed net → AreOfFlows net blocks → IsKnown net t blocks known → Flows net t o
         → (IsConflict net known → ⊥) → HasTotals net t known }
 {}

@@ -25,15 +25,18 @@ ghost use Rattle.firable_families.specs.Walk.{left, after, could, AreTreeFamilie
 /// The walk through the events lists the firable sets, and what it has left after some of them is a section of their
 /// family.
 pub fn walk()
-    ensures lists { (trees : List ModeTree) (fs : List Family) → AreTreeFamilies trees fs → (n : ℕ) → AreApart trees
+    ensures lists { (trees : List ModeTree) (fs : List Family) → AreTreeFamilies trees fs → (n : ℕ)
+        → AreApart trees
         → AreEventsBelow n fs → AreListed (IsFirableOf trees) (left n 0 fs) }
-    ensures sections { (m k : ℕ) (p : List ℕ) (fs : List Family) → Ascends p → AllByRecursion (λ x. x < m) p
+    ensures sections { (m k : ℕ) (p : List ℕ) (fs : List Family) → Ascends p
+        → AllByRecursion (λ x. x < m) p
         → section m p (left (m + k) 0 fs) ≡ cond (could m 0 p fs) (left k m (after m 0 p fs)) [] }
 {}
 
 /// The family of a tree's modes, each with the events of a path to it, lists the tree's paths.
 pub fn tree_families()
-    ensures { (tree : ModeTree) → IsTree tree → (entries : List (Value × List ℕ)) → AreEntries tree entries
+    ensures { (tree : ModeTree) → IsTree tree → (entries : List (Value × List ℕ))
+        → AreEntries tree entries
         → (f : Family) → IsFamily f → HasEntries entries f → AreListed (IsPathSet tree) f }
 {}
 
@@ -48,9 +51,11 @@ pub fn least_sets()
 pub fn in_forests<V>()
     ensures firable { (sys : System V) (dropped : List ℕ) → IsKeyedStatic sys dropped
         → (trees : List ModeTree) → IsForest sys dropped trees
-        → (set : List ℕ) → (IsFirableOf trees set ↔ ((t : List Value) × IsFirable sys dropped set t)) }
+        → (set : List ℕ) → (IsFirableOf trees set
+        ↔ ((t : List Value) × IsFirable sys dropped set t)) }
     ensures least { (sys : System V) (dropped : List ℕ) → IsKeyedStatic sys dropped
-        → (trees : List ModeTree) → IsForest sys dropped trees → (test : List ℕ → Bool) (sets : List (List ℕ))
+        → (trees : List ModeTree) → IsForest sys dropped trees
+        → (test : List ℕ → Bool) (sets : List (List ℕ))
         → ListsLeast trees test sets → AreListed (IsLeast (IsFirableWith sys dropped test)) sets }
 {}
 

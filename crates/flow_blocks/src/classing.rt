@@ -27,7 +27,8 @@ const NONE: u32 = u32::MAX;
 /// The classes of the numbers whose dependences have these rows.
 pub(crate) fn classes(alloc: Global, count: u32, rows: &[Vec<u64>]) -> Result<ClassTable, Memory>
     requires { AreRows count rows.now }
-    ensures { (uses : List (ℕ × ℕ)) → AreAllDependences count uses rows.now → IfOk result (λ t. IsClassTable count uses (members_of t.blocks.items) t.class_of.items) }
+    ensures { (uses : List (ℕ × ℕ)) → AreAllDependences count uses rows.now
+        → IfOk result (λ t. IsClassTable count uses (members_of t.blocks.items) t.class_of.items) }
 {
     let slots = slots(alloc, count, rows)?;
     let class_of = vec![in alloc; NONE; count as usize]?;
@@ -58,8 +59,10 @@ fn look_at(
     ensures long { IfOk result (λ _. length table.new.class_of.items ≡ count) }
     ensures few { IfOk result (λ _. length table.new.blocks.items ≤ number + 1) }
     ensures table { (uses : List (ℕ × ℕ)) → AreAllDependences count uses rows.now
-        → IsPartTable count NONE uses number (members_of table.old.blocks.items) table.old.class_of.items
-        → IfOk result (λ _. IsPartTable count NONE uses (number + 1) (members_of table.new.blocks.items) table.new.class_of.items) }
+        → IsPartTable count NONE uses number (members_of table.old.blocks.items)
+        table.old.class_of.items
+        → IfOk result (λ _. IsPartTable count NONE uses (number + 1)
+        (members_of table.new.blocks.items) table.new.class_of.items) }
 {
     if table.class_of[number as usize] != NONE {
         return Ok(());
@@ -82,8 +85,10 @@ fn class_from(
     requires slots { AreSlots count rows.now count slots.now }
     requires below { least < count }
     ensures first { IfOk result (λ members. Stands members.items 0 least) }
-    ensures within { IfOk result (λ members. (n : ℕ) → IsOneOf members.items n → (least ≤ n) × (n < count)) }
-    ensures is_class { (uses : List (ℕ × ℕ)) → AreAllDependences count uses rows.now → ((n : ℕ) → n < least → Together uses least n → ⊥)
+    ensures within { IfOk result (λ members. (n : ℕ) → IsOneOf members.items n
+        → (least ≤ n) × (n < count)) }
+    ensures is_class { (uses : List (ℕ × ℕ)) → AreAllDependences count uses rows.now
+        → ((n : ℕ) → n < least → Together uses least n → ⊥)
         → IfOk result (λ members. IsClass count uses members.items) }
 {
     let mut members = vec![in alloc; least]?;
@@ -123,7 +128,8 @@ fn is_other(count: u32, rows: &[Vec<u64>], least: u32, number: u32) -> bool
     requires rows { AreRows count rows.now }
     requires below { least < count }
     requires number { number < count }
-    ensures { IsTrue result ↔ ((least < number) × HasBit rows.now least number × HasBit rows.now number least) }
+    ensures { IsTrue result ↔ ((least < number) × HasBit rows.now least number
+        × HasBit rows.now number least) }
 {
     least < number && are_mutual(count, rows, least, number)
 }
@@ -152,7 +158,8 @@ fn are_mutual(count: u32, rows: &[Vec<u64>], a: u32, b: u32) -> bool
 fn enroll(class_of: &mut [u32], members: &[u32], class: u32)
     requires { (n : ℕ) → IsOneOf members.now n → n < length class_of.old }
     ensures members { (n : ℕ) → IsOneOf members.now n → Stands class_of.new n class }
-    ensures others { (n : ℕ) → (IsOneOf members.now n → ⊥) → slice_get class_of.new n ≡ slice_get class_of.old n }
+    ensures others { (n : ℕ) → (IsOneOf members.now n → ⊥)
+        → slice_get class_of.new n ≡ slice_get class_of.old n }
 {
     for member in members {
         class_of[*member as usize] = class;

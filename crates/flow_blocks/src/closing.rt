@@ -30,7 +30,8 @@ pub(crate) fn closed_rows(
 fn direct_rows(alloc: Global, count: u32, uses: &[(u32, u32)]) -> Result<Vec<Vec<u64>>, Memory>
     requires { AreBelow count uses.now }
     ensures rows { IfOk result (λ rows. AreRows count rows.items) }
-    ensures bits { IfOk result (λ rows. (a n : ℕ) → HasBit rows.items a n ↔ IsOneOf uses.now (a, n)) }
+    ensures bits { IfOk result (λ rows. (a n : ℕ) → HasBit rows.items a n
+        ↔ IsOneOf uses.now (a, n)) }
 {
     let mut rows = empty_rows(alloc, count)?;
     for (from, to) in uses {
@@ -45,7 +46,8 @@ fn mark(count: u32, rows: &mut [Vec<u64>], from: u32, to: u32)
     requires from { from < count }
     requires to { to < count }
     ensures rows { AreRows count rows.new }
-    ensures bits { (a n : ℕ) → HasBit rows.new a n ↔ (HasBit rows.old a n ⊎ ((a ≡ from) × (n ≡ to))) }
+    ensures bits { (a n : ℕ) → HasBit rows.new a n
+        ↔ (HasBit rows.old a n ⊎ ((a ≡ from) × (n ≡ to))) }
 {
     let row = &mut rows[from as usize];
     set(row, to);
@@ -133,7 +135,8 @@ fn join(alloc: Global, count: u32, rows: &mut [Vec<u64>], from: u32, to: u32) ->
     requires from { from < count }
     requires to { to < count }
     ensures rows { AreRows count rows.new }
-    ensures bits { (a n : ℕ) → HasBit rows.new a n ↔ (HasBit rows.old a n ⊎ ((a ≡ from) × HasBit rows.old to n)) }
+    ensures bits { (a n : ℕ) → HasBit rows.new a n
+        ↔ (HasBit rows.old a n ⊎ ((a ≡ from) × HasBit rows.old to n)) }
     ensures still { result ≡ false → (n : ℕ) → HasBit rows.old to n → HasBit rows.old from n }
     ensures less { IsTrue result → room_left rows.new < room_left rows.old }
     ensures no_more { room_left rows.new ≤ room_left rows.old }

@@ -35,7 +35,8 @@ pub(crate) fn in_order(
     uses: &[(u32, u32)],
     table: &ClassTable,
 ) -> Result<Vec<Block>, Memory>
-    requires table { IsClassTable count uses.now (members_of table.now.blocks.items) table.now.class_of.items }
+    requires table { IsClassTable count uses.now (members_of table.now.blocks.items)
+        table.now.class_of.items }
     requires below { AreBelow count uses.now }
     requires reaches { (rows : List (Vec ℕ Global)) × AreAllDependences count uses.now rows }
     ensures { IfOk result (λ found. Follow count uses.now [] (members_of found.items)) }
@@ -56,7 +57,8 @@ pub(crate) fn in_order(
 fn take_least(ready: &mut BTreeSet<u32>) -> Option<u32>
     ensures some { IfSome result (λ c. IsReady ready.old c) }
     ensures least { IfSome result (λ c. (e : ℕ) → IsReady ready.old e → c ≤ e) }
-    ensures rest { IfSome result (λ c. (e : ℕ) → IsReady ready.new e ↔ (IsReady ready.old e × (e ≢ c))) }
+    ensures rest { IfSome result (λ c. (e : ℕ) → IsReady ready.new e
+        ↔ (IsReady ready.old e × (e ≢ c))) }
     ensures none { IfNone result ((e : ℕ) → IsReady ready.old e → ⊥) }
 {
     ready.pop_first()
@@ -73,10 +75,13 @@ fn add_ready(ready: &mut BTreeSet<u32>, class: u32) -> Result<(), Memory>
 /// The last of the classes used that is another one and was not given. Those behind it are dropped.
 fn next_target(targets: &mut Vec<u32>, class: u32, given: &[bool]) -> Option<u32>
     requires { (d : ℕ) → IsOneOf targets.old.items d → d < length given.now }
-    ensures some { IfSome result (λ t. IsOneOf targets.old.items t × (t ≢ class) × (WasGiven given.now t → ⊥)) }
-    ensures none { IfNone result ((d : ℕ) → IsOneOf targets.old.items d → (d ≡ class) ⊎ WasGiven given.now d) }
+    ensures some { IfSome result (λ t. IsOneOf targets.old.items t × (t ≢ class)
+        × (WasGiven given.now t → ⊥)) }
+    ensures none { IfNone result ((d : ℕ) → IsOneOf targets.old.items d
+        → (d ≡ class) ⊎ WasGiven given.now d) }
     ensures fewer { (d : ℕ) → IsOneOf targets.new.items d → IsOneOf targets.old.items d }
-    ensures kept { (d : ℕ) → IsOneOf targets.old.items d → (d ≡ class) ⊎ (WasGiven given.now d ⊎ IsOneOf targets.new.items d) }
+    ensures kept { (d : ℕ) → IsOneOf targets.old.items d
+        → (d ≡ class) ⊎ (WasGiven given.now d ⊎ IsOneOf targets.new.items d) }
 {
     while let Some(target) = targets.last().copied() {
         if !is_passed(target, class, given) {
@@ -116,10 +121,12 @@ fn class_targets(
     uses: &[(u32, u32)],
     class_of: &[u32],
 ) -> Result<Vec<Vec<u32>>, Memory>
-    requires below { (a b : ℕ) → IsOneOf uses.now (a, b) → (a < length class_of.now) × (b < length class_of.now) }
+    requires below { (a b : ℕ) → IsOneOf uses.now (a, b)
+        → (a < length class_of.now) × (b < length class_of.now) }
     requires classes { (n c : ℕ) → Stands class_of.now n c → c < count }
     ensures long { IfOk result (λ lists. length lists.items ≡ count) }
-    ensures targets { IfOk result (λ lists. (e d : ℕ) → IsOneOf (row_of lists.items e) d ↔ Crosses uses.now class_of.now e d) }
+    ensures targets { IfOk result (λ lists. (e d : ℕ) → IsOneOf (row_of lists.items e) d
+        ↔ Crosses uses.now class_of.now e d) }
 {
     let mut lists = empty_lists(alloc, count)?;
     for (from, to) in uses {
@@ -130,10 +137,15 @@ fn class_targets(
 
 impl Waiting {
     fn new(alloc: Global, uses: &[(u32, u32)], table: &ClassTable) -> Result<Waiting, Memory>
-        requires below { (a b : ℕ) → IsOneOf uses.now (a, b) → (a < length table.now.class_of.items) × (b < length table.now.class_of.items) }
-        requires classes { (n c : ℕ) → Stands table.now.class_of.items n c → c < length table.now.blocks.items }
-        ensures waits { IfOk result (λ w. (pending : List ℕ) → ((e : ℕ) → e < length table.now.blocks.items → IsOneOf pending e) → ((e : ℕ) → IsOneOf pending e → e < length table.now.blocks.items)
-            → IsWaiting (length table.now.blocks.items) uses.now table.now.class_of.items w pending) }
+        requires below { (a b : ℕ) → IsOneOf uses.now (a, b)
+            → (a < length table.now.class_of.items) × (b < length table.now.class_of.items) }
+        requires classes { (n c : ℕ) → Stands table.now.class_of.items n c
+            → c < length table.now.blocks.items }
+        ensures waits { IfOk result (λ w. (pending : List ℕ)
+            → ((e : ℕ) → e < length table.now.blocks.items → IsOneOf pending e)
+            → ((e : ℕ) → IsOneOf pending e → e < length table.now.blocks.items)
+            → IsWaiting (length table.now.blocks.items) uses.now table.now.class_of.items w
+            pending) }
         ensures given { IfOk result (λ w. (e : ℕ) → WasGiven w.given.items e → ⊥) }
     {
         let count = table.blocks.len();
@@ -148,7 +160,9 @@ impl Waiting {
     /// Has a class wait for a class that it uses and that was not given, or be ready.
     fn examine(&mut self, class: u32) -> Result<(), Memory>
         requires { (pending : List ℕ) × Waits self.old (class ∷ pending) }
-        ensures waits { (count : ℕ) (uses : List (ℕ × ℕ)) (class_of pending : List ℕ) → IsWaiting count uses class_of self.old (class ∷ pending) → IfOk result (λ _. IsWaiting count uses class_of self.new pending) }
+        ensures waits { (count : ℕ) (uses : List (ℕ × ℕ)) (class_of pending : List ℕ)
+            → IsWaiting count uses class_of self.old (class ∷ pending)
+            → IfOk result (λ _. IsWaiting count uses class_of self.new pending) }
         ensures given { self.new.given.items ≡ self.old.given.items }
     {
         match next_target(&mut self.targets[class as usize], class, &self.given) {
@@ -166,7 +180,9 @@ impl Waiting {
     /// Looks at each of these classes.
     fn examine_all(&mut self, classes: &[u32]) -> Result<(), Memory>
         requires { Waits self.old classes.now }
-        ensures waits { (count : ℕ) (uses : List (ℕ × ℕ)) (class_of : List ℕ) → IsWaiting count uses class_of self.old classes.now → IfOk result (λ _. IsWaiting count uses class_of self.new []) }
+        ensures waits { (count : ℕ) (uses : List (ℕ × ℕ)) (class_of : List ℕ)
+            → IsWaiting count uses class_of self.old classes.now
+            → IfOk result (λ _. IsWaiting count uses class_of self.new []) }
         ensures given { self.new.given.items ≡ self.old.given.items }
     {
         for class in classes {
@@ -178,7 +194,9 @@ impl Waiting {
     /// Gives a class, and looks again at those that wait for it.
     fn give(&mut self, alloc: Global, class: u32) -> Result<(), Memory>
         requires { (w : Waits self.old (class ∷ [])) × IsTaken w.uses w.class_of self.old class }
-        ensures waits { (count : ℕ) (uses : List (ℕ × ℕ)) (class_of : List ℕ) → IsWaiting count uses class_of self.old (class ∷ []) → IsTaken uses class_of self.old class
+        ensures waits { (count : ℕ) (uses : List (ℕ × ℕ)) (class_of : List ℕ)
+            → IsWaiting count uses class_of self.old (class ∷ [])
+            → IsTaken uses class_of self.old class
             → IfOk result (λ _. IsWaiting count uses class_of self.new []) }
         ensures given { self.new.given.items ≡ slice_set self.old.given.items class true }
     {

@@ -30,7 +30,8 @@ pub struct Block {
 /// depends, and of those that may come the one with the least member is next.
 pub fn blocks(alloc: Global, graph: &Graph) -> Result<Vec<Block>, Memory>
     requires { AreBelow graph.now.count graph.now.uses.items }
-    ensures { IfOk result (λ found. Follow graph.now.count graph.now.uses.items [] (map (λ b. b.members.items) found.items)) }
+    ensures { IfOk result (λ found. Follow graph.now.count graph.now.uses.items []
+        (map (λ b. b.members.items) found.items)) }
 {
     let rows = closed_rows(alloc, graph.count, &graph.uses)?;
     let found = classes(alloc, graph.count, &rows)?;

@@ -20,7 +20,8 @@ pub(crate) fn all_hold(parts: &GtsParts, order: &[u32], list: &[usize], values: 
     requires within { AreWithin list.now order.now }
     requires below { AreWithin order.now parts.now.assigns.items }
     ensures { IsAnswer result ((q n : ℕ) (a : Assigns) → IsOneOf list.now q → Stands order.now q n
-        → Stands parts.now.assigns.items n a → IsBroken (net_of parts.now) values.now (assign_of a) → ⊥) }
+        → Stands parts.now.assigns.items n a → IsBroken (net_of parts.now) values.now (assign_of a)
+        → ⊥) }
 {
     for place in list {
         if is_broken(parts, &parts.assigns[order[*place] as usize], values) {

@@ -45,9 +45,16 @@ fn look_at(
     requires total { IsTotal parts.now values.old.items }
     requires marked { length known.old.items ≡ length parts.now.variables.items }
     requires queue { IsQueue work.old }
-    requires listed { (a : Assigns) (r : Reader) (q : ℕ) → Stands parts.now.assigns.items n a → IsOneOf plan.now.readers.pairs.items r → r.0.n ≡ a.target.n → Stands plan.now.places.items r.1.n q → IsOneOf work.old.list.items q }
-    ensures touches { (a : Assigns) (x : Variable) → Stands parts.now.assigns.items n a → Stands parts.now.variables.items a.target.n x → Touches x.domain a.target.n values.old.items known.old.items values.new.items known.new.items }
-    ensures looks { IfOk result (λ goes. goes ≡ true → Looks parts.now plan.now n values.old.items known.old.items work.old values.new.items known.new.items work.new) }
+    requires listed { (a : Assigns) (r : Reader) (q : ℕ) → Stands parts.now.assigns.items n a
+        → IsOneOf plan.now.readers.pairs.items r → r.0.n ≡ a.target.n
+        → Stands plan.now.places.items r.1.n q → IsOneOf work.old.list.items q }
+    ensures touches { (a : Assigns) (x : Variable) → Stands parts.now.assigns.items n a
+        → Stands parts.now.variables.items a.target.n x
+        → Touches x.domain a.target.n values.old.items known.old.items values.new.items
+        known.new.items }
+    ensures looks { IfOk result (λ goes. goes ≡ true
+        → Looks parts.now plan.now n values.old.items known.old.items work.old values.new.items
+        known.new.items work.new) }
 {
     let assign = &parts.assigns[n as usize];
     let Some(changed) = apply(alloc, parts, assign, values, known)? else {
@@ -74,11 +81,16 @@ pub(crate) fn close(
     requires plan { IsPlan parts.now plan.now }
     requires total { IsTotal parts.now values.old.items }
     requires marked { length known.old.items ≡ length parts.now.variables.items }
-    requires closed { (n m : ℕ) (a : Assigns) → IsOneOf members.now n → Stands parts.now.assigns.items m a → Names (assign_of a) n → IsOneOf members.now a.target.n }
-    requires facts { (n : ℕ) (v : Values) → Knows values.old.items known.old.items n v → FactOf (net_of parts.now) values.old.items n v }
+    requires closed { (n m : ℕ) (a : Assigns) → IsOneOf members.now n
+        → Stands parts.now.assigns.items m a → Names (assign_of a) n
+        → IsOneOf members.now a.target.n }
+    requires facts { (n : ℕ) (v : Values) → Knows values.old.items known.old.items n v
+        → FactOf (net_of parts.now) values.old.items n v }
     ensures values { KeepsOthers members.now values.old.items values.new.items }
     ensures marks { KeepsOthers members.now known.old.items known.new.items }
-    ensures closes { IfOk result (λ o. IfSome o (λ list. ClosesUp parts.now plan.now members.now values.old.items known.old.items values.new.items known.new.items list.items)) }
+    ensures closes { IfOk result (λ o.
+        IfSome o (λ list. ClosesUp parts.now plan.now members.now values.old.items known.old.items
+        values.new.items known.new.items list.items)) }
 {
     let mut work = queue_of(alloc, plan, members)?;
     while let Some(place) = take(&mut work) {
@@ -102,7 +114,8 @@ fn queue_of(alloc: Global, plan: &Plan, members: &[u32]) -> Result<Queue, Memory
     requires { (p : GtsPart) × IsPlan p plan.now }
     ensures is { IfOk result (λ work. IsQueue work) }
     ensures fresh { IfOk result (λ work. work.next ≡ 0) }
-    ensures places { (p : GtsPart) → IsPlan p plan.now → IfOk result (λ work. HasPlacesTo p plan.now members.now work.list.items) }
+    ensures places { (p : GtsPart) → IsPlan p plan.now
+        → IfOk result (λ work. HasPlacesTo p plan.now members.now work.list.items) }
 {
     let list = places_to(alloc, &plan.givers, &plan.places, members)?;
     let again = BTreeSet::new(alloc);

@@ -59,7 +59,8 @@ fn gather(
     requires empty { length found.old.items ≡ 0 }
     ensures long { length marks.new.items ≡ length marks.old.items }
     ensures marking { AreMarked marks.new.items found.new.items }
-    ensures reached { IfOk result (λ _. IsFollowed parts.now new.now found.new.items (length found.new.items)) }
+    ensures reached { IfOk result (λ _.
+        IsFollowed parts.now new.now found.new.items (length found.new.items)) }
 {
     see_new(new, marks, found)?;
     follow(parts, readers, new, marks, found)
@@ -80,7 +81,8 @@ fn follow(
     requires followed { IsFollowed parts.now new.now found.old.items 0 }
     ensures long { length marks.new.items ≡ length marks.old.items }
     ensures marking { AreMarked marks.new.items found.new.items }
-    ensures reached { IfOk result (λ _. IsFollowed parts.now new.now found.new.items (length found.new.items)) }
+    ensures reached { IfOk result (λ _.
+        IsFollowed parts.now new.now found.new.items (length found.new.items)) }
 {
     let mut at = 0;
     'follow: while at < found.len() {
@@ -101,7 +103,8 @@ fn see_new(
     requires marking { AreMarked marks.old.items found.old.items }
     ensures long { length marks.new.items ≡ length marks.old.items }
     ensures marking { AreMarked marks.new.items found.new.items }
-    ensures sees { IfOk result (λ _. Sees (IsRenewed new.now) marks.old.items found.old.items marks.new.items found.new.items) }
+    ensures sees { IfOk result (λ _. Sees (IsRenewed new.now) marks.old.items found.old.items
+        marks.new.items found.new.items) }
 {
     for (variable, _) in new {
         see(variable.n, marks, found)?;
@@ -122,7 +125,8 @@ fn see_targets(
     requires marking { AreMarked marks.old.items found.old.items }
     ensures long { length marks.new.items ≡ length marks.old.items }
     ensures marking { AreMarked marks.new.items found.new.items }
-    ensures sees { IfOk result (λ _. Sees (IsTargetOf parts.now pairs.now) marks.old.items found.old.items marks.new.items found.new.items) }
+    ensures sees { IfOk result (λ _. Sees (IsTargetOf parts.now pairs.now) marks.old.items
+        found.old.items marks.new.items found.new.items) }
 {
     for (_, assign) in pairs {
         see(parts.assigns[assign.n as usize].target.n, marks, found)?;
@@ -136,7 +140,8 @@ fn see(n: u32, marks: &mut Vec<bool>, found: &mut Vec<u32>) -> Result<(), Memory
     requires marking { AreMarked marks.old.items found.old.items }
     ensures long { length marks.new.items ≡ length marks.old.items }
     ensures marking { AreMarked marks.new.items found.new.items }
-    ensures sees { IfOk result (λ _. Sees (λ m. m ≡ n) marks.old.items found.old.items marks.new.items found.new.items) }
+    ensures sees { IfOk result (λ _. Sees (λ m. m ≡ n) marks.old.items found.old.items
+        marks.new.items found.new.items) }
 {
     let place = n as usize;
     if marks[place] {

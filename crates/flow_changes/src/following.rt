@@ -35,7 +35,9 @@ pub(crate) fn follow(
     requires determined { IsDetermined parts.now values.old.items known.old.items }
     ensures values { KeepsOthers members.now values.old.items values.new.items }
     ensures marks { KeepsOthers members.now known.old.items known.new.items }
-    ensures follows { IfOk result (λ done. done ≡ true → IsDeterminedBy parts.now (written values.old.items new.now) values.new.items known.new.items) }
+    ensures follows { IfOk result (λ done. done ≡ true
+        → IsDeterminedBy parts.now (written values.old.items new.now) values.new.items
+        known.new.items) }
 {
     set_all(members, false, known);
     write_new(new, values);

@@ -19,7 +19,8 @@ pub(crate) fn places_to(
 ) -> Result<Vec<usize>, Memory>
     requires { (r : Reader) → IsOneOf givers.now.pairs.items r → r.1.n < length places.now }
     ensures rises { IfOk result (λ list. Rises list.items) }
-    ensures are { IfOk result (λ list. ArePlacesTo givers.now.pairs.items places.now members.now list.items) }
+    ensures are { IfOk result (λ list.
+        ArePlacesTo givers.now.pairs.items places.now members.now list.items) }
 {
     let mut list = all_places(alloc, givers, places, members)?;
     list.sort_unstable();
@@ -34,7 +35,8 @@ fn all_places(
     members: &[u32],
 ) -> Result<Vec<usize>, Memory>
     requires { (r : Reader) → IsOneOf givers.now.pairs.items r → r.1.n < length places.now }
-    ensures { IfOk result (λ list. ArePlacesTo givers.now.pairs.items places.now members.now list.items) }
+    ensures { IfOk result (λ list. ArePlacesTo givers.now.pairs.items places.now members.now
+        list.items) }
 {
     let mut list = Vec::new(alloc);
     for n in members {

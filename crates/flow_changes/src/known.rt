@@ -80,7 +80,9 @@ fn has(values: &[Value], v: Value) -> bool
 
 // Whether every condition yields the truth value that it must have.
 fn reached(alloc: Global, conditions: &[(Expr<VarId>, bool)], known: &Known) -> Result<bool, Memory>
-    ensures { IfOk result (λ b. IsAnswer b (Passes (Knows known.now.values.now known.now.known.now) (map condition_of conditions.now))) }
+    ensures { IfOk result (λ b. IsAnswer b
+        (Passes (Knows known.now.values.now known.now.known.now)
+        (map condition_of conditions.now))) }
 {
     for (test, must) in conditions {
         let set = eval_set(alloc, test, known)?;
@@ -97,7 +99,8 @@ pub(crate) fn yielded(
     assign: &Assign,
     known: &Known,
 ) -> Result<Option<ValueSet>, Memory>
-    ensures { IfOk result (λ o. Reaches (Knows known.now.values.now known.now.known.now) (assign_of assign.now) o) }
+    ensures { IfOk result (λ o. Reaches (Knows known.now.values.now known.now.known.now)
+        (assign_of assign.now) o) }
 {
     let reaches = reached(alloc, &assign.when, known)?;
     if !reaches {

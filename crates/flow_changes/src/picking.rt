@@ -26,7 +26,8 @@ pub(crate) fn picked<T: Copy + Drop>(
 pub(crate) fn put_back<T: Copy>(numbers: &[u32], items: &[T], all: &mut Vec<T>)
     requires long { length items.now ≡ length numbers.now }
     requires within { AreWithin numbers.now all.old.items }
-    ensures { (was : List T) → ArePicked numbers.now was items.now → KeepsOthers numbers.now was all.old.items → all.new.items ≡ was }
+    ensures { (was : List T) → ArePicked numbers.now was items.now
+        → KeepsOthers numbers.now was all.old.items → all.new.items ≡ was }
 {
     for (place, n) in numbers.iter().enumerate() {
         all[*n as usize] = items[place];

@@ -71,9 +71,11 @@ pub fn propagate_from(
     requires present { IsPresent gts.now present.old }
     requires new { AreNewValues gts.now new.now }
     ensures present { IsPresent gts.now present.new }
-    ensures ok { IfOk result (Propagates gts.now (values_of present.old) (known_of present.old) new.now (values_of present.new) (known_of present.new)) }
+    ensures ok { IfOk result (Propagates gts.now (values_of present.old) (known_of present.old)
+        new.now (values_of present.new) (known_of present.new)) }
     ensures fault { IfErr result (IsFaultOf gts.now (written (values_of present.old) new.now)) }
-    ensures err { OnErr result ((values_of present.new ≡ values_of present.old) × (known_of present.new ≡ known_of present.old)) }
+    ensures err { OnErr result ((values_of present.new ≡ values_of present.old)
+        × (known_of present.new ≡ known_of present.old)) }
 {
     match quick(alloc, gts.parts(), plan, present, new)? {
         Some(changes) => Ok(changes),
@@ -94,9 +96,14 @@ fn quick(
     requires present { IsPresent parts.now present.old }
     requires new { AreNewValues parts.now new.now }
     ensures marks { present.new.marks.items ≡ present.old.marks.items }
-    ensures some { IfOk result (λ o. IfSome o (Propagates parts.now (values_of present.old) (known_of present.old) new.now (values_of present.new) (known_of present.new))) }
-    ensures none { IfOk result (λ o. o ≡ None → (values_of present.new ≡ values_of present.old) × (known_of present.new ≡ known_of present.old)) }
-    ensures err { OnErr result ((values_of present.new ≡ values_of present.old) × (known_of present.new ≡ known_of present.old)) }
+    ensures some { IfOk result (λ o. IfSome o
+        (Propagates parts.now (values_of present.old) (known_of present.old) new.now
+        (values_of present.new) (known_of present.new))) }
+    ensures none { IfOk result (λ o. o ≡ None
+        → (values_of present.new ≡ values_of present.old)
+        × (known_of present.new ≡ known_of present.old)) }
+    ensures err { OnErr result ((values_of present.new ≡ values_of present.old)
+        × (known_of present.new ≡ known_of present.old)) }
 {
     let members = cone(alloc, parts, &plan.readers, new, &mut present.marks)?;
     attempt(alloc, parts, plan, &members, new, &mut present.determined)
@@ -106,7 +113,9 @@ fn quick(
 pub fn restore(parts: &GtsParts, present: &mut Present, changes: &Changes)
     requires sound { IsSound parts.now }
     requires long { length changes.now.variables.items ≡ length changes.now.old.items }
-    ensures values { values_of present.new ≡ restored parts.now (values_of present.old) changes.now.variables.items changes.now.old.items }
+    ensures values { values_of present.new
+        ≡ restored parts.now (values_of present.old) changes.now.variables.items
+        changes.now.old.items }
     ensures known { known_of present.new ≡ turned (known_of present.old) changes.now.turned.items }
     ensures marks { present.new.marks.items ≡ present.old.marks.items }
 {

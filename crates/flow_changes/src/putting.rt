@@ -29,8 +29,10 @@ fn put(
     requires domain { IsDomain domain.now }
     requires within { target < length values.old.items }
     requires marked { target < length known.old.items }
-    ensures touches { Touches domain.now target values.old.items known.old.items values.new.items known.new.items }
-    ensures puts { IfSome result (Puts domain.now target (v ∷ []) values.old.items known.old.items values.new.items known.new.items) }
+    ensures touches { Touches domain.now target values.old.items known.old.items values.new.items
+        known.new.items }
+    ensures puts { IfSome result (Puts domain.now target (v ∷ []) values.old.items known.old.items
+        values.new.items known.new.items) }
     ensures none { IfNone result (IsBarred domain.now target v values.old.items known.old.items) }
 {
     if !domain.holds(v) {
@@ -64,9 +66,12 @@ fn put_all(
     requires domain { IsDomain domain.now }
     requires within { target < length values.old.items }
     requires marked { target < length known.old.items }
-    ensures touches { Touches domain.now target values.old.items known.old.items values.new.items known.new.items }
-    ensures puts { IfSome result (Puts domain.now target set.now values.old.items known.old.items values.new.items known.new.items) }
-    ensures none { IfNone result (IsSetBarred domain.now target set.now values.old.items known.old.items) }
+    ensures touches { Touches domain.now target values.old.items known.old.items values.new.items
+        known.new.items }
+    ensures puts { IfSome result (Puts domain.now target set.now values.old.items known.old.items
+        values.new.items known.new.items) }
+    ensures none { IfNone result (IsSetBarred domain.now target set.now values.old.items
+        known.old.items) }
 {
     if set.len() == 0 {
         return Some(false);
@@ -90,8 +95,12 @@ pub(crate) fn apply(
     requires one { IsOneOf parts.now.assigns.items assign.now }
     requires total { IsTotal parts.now values.old.items }
     requires marked { length known.old.items ≡ length parts.now.variables.items }
-    ensures touches { (x : Variable) → Stands parts.now.variables.items assign.now.target.n x → Touches x.domain assign.now.target.n values.old.items known.old.items values.new.items known.new.items }
-    ensures applies { IfOk result (λ o. IfSome o (Applies parts.now assign.now values.old.items known.old.items values.new.items known.new.items)) }
+    ensures touches { (x : Variable) → Stands parts.now.variables.items assign.now.target.n x
+        → Touches x.domain assign.now.target.n values.old.items known.old.items values.new.items
+        known.new.items }
+    ensures applies { IfOk result (λ o.
+        IfSome o (Applies parts.now assign.now values.old.items known.old.items values.new.items
+        known.new.items)) }
 {
     if names_marked(assign, known) {
         return Ok(apply_known(parts, assign, values, known));
@@ -111,8 +120,11 @@ fn apply_known(
     requires total { IsTotal parts.now values.old.items }
     requires marked { length known.old.items ≡ length parts.now.variables.items }
     requires named { (n : ℕ) → Names (assign_of assign.now) n → Stands known.old.items n true }
-    ensures touches { (x : Variable) → Stands parts.now.variables.items assign.now.target.n x → Touches x.domain assign.now.target.n values.old.items known.old.items values.new.items known.new.items }
-    ensures applies { IfSome result (Applies parts.now assign.now values.old.items known.old.items values.new.items known.new.items) }
+    ensures touches { (x : Variable) → Stands parts.now.variables.items assign.now.target.n x
+        → Touches x.domain assign.now.target.n values.old.items known.old.items values.new.items
+        known.new.items }
+    ensures applies { IfSome result (Applies parts.now assign.now values.old.items known.old.items
+        values.new.items known.new.items) }
 {
     if !are_met(values, &assign.when) {
         return Some(false);
@@ -134,8 +146,12 @@ fn apply_set(
     requires one { IsOneOf parts.now.assigns.items assign.now }
     requires long { length values.old.items ≡ length parts.now.variables.items }
     requires marked { length known.old.items ≡ length parts.now.variables.items }
-    ensures touches { (x : Variable) → Stands parts.now.variables.items assign.now.target.n x → Touches x.domain assign.now.target.n values.old.items known.old.items values.new.items known.new.items }
-    ensures applies { IfOk result (λ o. IfSome o (Applies parts.now assign.now values.old.items known.old.items values.new.items known.new.items)) }
+    ensures touches { (x : Variable) → Stands parts.now.variables.items assign.now.target.n x
+        → Touches x.domain assign.now.target.n values.old.items known.old.items values.new.items
+        known.new.items }
+    ensures applies { IfOk result (λ o.
+        IfSome o (Applies parts.now assign.now values.old.items known.old.items values.new.items
+        known.new.items)) }
 {
     let Some(set) = yielded(alloc, assign, &Known { values, known })? else {
         return Ok(Some(false));

@@ -27,7 +27,8 @@ pub(crate) struct Queue {
 pub(crate) fn take(work: &mut Queue) -> Option<usize>
     requires { IsQueue work.old }
     ensures same { work.new.list.items ≡ work.old.list.items }
-    ensures takes { MatchOption result ((q : ℕ) → WaitsAt work.old q → ⊥) (λ q. TakesPlace q work.old work.new) }
+    ensures takes { MatchOption result ((q : ℕ) → WaitsAt work.old q → ⊥)
+        (λ q. TakesPlace q work.old work.new) }
 {
     if let Some(place) = take_again(&mut work.again) {
         return Some(place);
@@ -43,7 +44,8 @@ pub(crate) fn take(work: &mut Queue) -> Option<usize>
 // Takes the least of the places that were added again.
 fn take_again(again: &mut BTreeSet<usize>) -> Option<usize>
     ensures some { IfSome result (λ place. IsAgain again.old place) }
-    ensures rest { IfSome result (λ place. (p : ℕ) → IsAgain again.new p ↔ (IsAgain again.old p × (p ≢ place))) }
+    ensures rest { IfSome result (λ place. (p : ℕ) → IsAgain again.new p
+        ↔ (IsAgain again.old p × (p ≢ place))) }
     ensures less { IfSome result (λ _. btree_set_len again.old ≡ btree_set_len again.new + 1) }
     ensures none { IfNone result ((p : ℕ) → IsAgain again.old p → ⊥) }
     ensures still { IfNone result ((p : ℕ) → IsAgain again.new p → ⊥) }
@@ -75,7 +77,8 @@ fn is_later(list: &[usize], next: usize, place: usize) -> bool
 
 // Adds a place to those that were added again.
 fn add_again(again: &mut BTreeSet<usize>, place: usize) -> Result<(), Memory>
-    ensures all { OnOk result ((p : ℕ) → IsAgain again.new p ↔ (IsAgain again.old p ⊎ (p ≡ place))) }
+    ensures all { OnOk result ((p : ℕ) → IsAgain again.new p
+        ↔ (IsAgain again.old p ⊎ (p ≡ place))) }
     ensures few { OnOk result (btree_set_len again.new ≤ btree_set_len again.old + 1) }
 {
     again.insert(place)?;
@@ -90,8 +93,10 @@ pub(crate) fn add_all(
 ) -> Result<(), Memory>
     requires is { IsQueue work.old }
     requires within { (r : Reader) → IsOneOf pairs.now r → r.1.n < length places.now }
-    requires one { (r : Reader) (q : ℕ) → IsOneOf pairs.now r → Stands places.now r.1.n q → IsOneOf work.old.list.items q }
-    ensures { IfOk result (λ _. AddsPlaces (length pairs.now) (IsPlaceOf places.now pairs.now) work.old work.new) }
+    requires one { (r : Reader) (q : ℕ) → IsOneOf pairs.now r → Stands places.now r.1.n q
+        → IsOneOf work.old.list.items q }
+    ensures { IfOk result (λ _. AddsPlaces (length pairs.now) (IsPlaceOf places.now pairs.now)
+        work.old work.new) }
 {
     for (_, assign) in pairs {
         add(places[assign.n as usize], work)?;

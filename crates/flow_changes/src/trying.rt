@@ -32,8 +32,10 @@ struct Snapshot {
 fn snapshot_of(alloc: Global, members: &[u32], determined: &Determined) -> Result<Snapshot, Memory>
     requires values { AreWithin members.now determined.now.values.values.items }
     requires known { AreWithin members.now determined.now.known.items }
-    ensures values { IfOk result (λ s. ArePicked members.now determined.now.values.values.items s.values.items) }
-    ensures known { IfOk result (λ s. ArePicked members.now determined.now.known.items s.known.items) }
+    ensures values { IfOk result (λ s.
+        ArePicked members.now determined.now.values.values.items s.values.items) }
+    ensures known { IfOk result (λ s.
+        ArePicked members.now determined.now.known.items s.known.items) }
 {
     let values = picked(alloc, members, &determined.values.values)?;
     let known = picked(alloc, members, &determined.known)?;
@@ -46,8 +48,12 @@ fn back(members: &[u32], snapshot: &Snapshot, determined: &mut Determined)
     requires known_long { length snapshot.now.known.items ≡ length members.now }
     requires values { AreWithin members.now determined.old.values.values.items }
     requires known { AreWithin members.now determined.old.known.items }
-    ensures values { (was : List Values) → ArePicked members.now was snapshot.now.values.items → KeepsOthers members.now was determined.old.values.values.items → determined.new.values.values.items ≡ was }
-    ensures known { (was : List Bool) → ArePicked members.now was snapshot.now.known.items → KeepsOthers members.now was determined.old.known.items → determined.new.known.items ≡ was }
+    ensures values { (was : List Values) → ArePicked members.now was snapshot.now.values.items
+        → KeepsOthers members.now was determined.old.values.values.items
+        → determined.new.values.values.items ≡ was }
+    ensures known { (was : List Bool) → ArePicked members.now was snapshot.now.known.items
+        → KeepsOthers members.now was determined.old.known.items
+        → determined.new.known.items ≡ was }
 {
     put_back(members, &snapshot.values, &mut determined.values.values);
     put_back(members, &snapshot.known, &mut determined.known);
@@ -67,12 +73,17 @@ fn go(
     requires plan { IsPlan parts.now plan.now }
     requires new { AreNewValues parts.now new.now }
     requires cone { IsCone parts.now new.now members.now }
-    requires determined { IsDetermined parts.now determined.old.values.values.items determined.old.known.items }
-    requires values { ArePicked members.now determined.old.values.values.items snapshot.now.values.items }
+    requires determined { IsDetermined parts.now determined.old.values.values.items
+        determined.old.known.items }
+    requires values { ArePicked members.now determined.old.values.values.items
+        snapshot.now.values.items }
     requires known { ArePicked members.now determined.old.known.items snapshot.now.known.items }
-    ensures values { KeepsOthers members.now determined.old.values.values.items determined.new.values.values.items }
+    ensures values { KeepsOthers members.now determined.old.values.values.items
+        determined.new.values.values.items }
     ensures known { KeepsOthers members.now determined.old.known.items determined.new.known.items }
-    ensures some { IfOk result (λ o. IfSome o (Propagates parts.now determined.old.values.values.items determined.old.known.items new.now determined.new.values.values.items determined.new.known.items)) }
+    ensures some { IfOk result (λ o. IfSome o
+        (Propagates parts.now determined.old.values.values.items determined.old.known.items new.now
+        determined.new.values.values.items determined.new.known.items)) }
 {
     let done = follow(
         alloc,
@@ -111,10 +122,17 @@ pub(crate) fn attempt(
     requires plan { IsPlan parts.now plan.now }
     requires new { AreNewValues parts.now new.now }
     requires cone { IsCone parts.now new.now members.now }
-    requires determined { IsDetermined parts.now determined.old.values.values.items determined.old.known.items }
-    ensures some { IfOk result (λ o. IfSome o (Propagates parts.now determined.old.values.values.items determined.old.known.items new.now determined.new.values.values.items determined.new.known.items)) }
-    ensures none { IfOk result (λ o. o ≡ None → (determined.new.values.values.items ≡ determined.old.values.values.items) × (determined.new.known.items ≡ determined.old.known.items)) }
-    ensures err { OnErr result ((determined.new.values.values.items ≡ determined.old.values.values.items) × (determined.new.known.items ≡ determined.old.known.items)) }
+    requires determined { IsDetermined parts.now determined.old.values.values.items
+        determined.old.known.items }
+    ensures some { IfOk result (λ o. IfSome o
+        (Propagates parts.now determined.old.values.values.items determined.old.known.items new.now
+        determined.new.values.values.items determined.new.known.items)) }
+    ensures none { IfOk result (λ o. o ≡ None
+        → (determined.new.values.values.items ≡ determined.old.values.values.items)
+        × (determined.new.known.items ≡ determined.old.known.items)) }
+    ensures err { OnErr result ((determined.new.values.values.items
+        ≡ determined.old.values.values.items)
+        × (determined.new.known.items ≡ determined.old.known.items)) }
 {
     let snapshot = snapshot_of(alloc, members, determined)?;
     match go(alloc, parts, plan, members, &snapshot, new, determined) {

@@ -27,10 +27,16 @@ pub(crate) fn whole(
 ) -> Result<Changes, PropagateFault>
     requires plan { IsPlan gts.now plan.now }
     requires new { AreNewValues gts.now new.now }
-    requires determined { IsDetermined gts.now determined.old.values.values.items determined.old.known.items }
-    ensures ok { IfOk result (Propagates gts.now determined.old.values.values.items determined.old.known.items new.now determined.new.values.values.items determined.new.known.items) }
-    ensures fault { IfErr result (IsFaultOf gts.now (written determined.old.values.values.items new.now)) }
-    ensures err { OnErr result ((determined.new.values.values.items ≡ determined.old.values.values.items) × (determined.new.known.items ≡ determined.old.known.items)) }
+    requires determined { IsDetermined gts.now determined.old.values.values.items
+        determined.old.known.items }
+    ensures ok { IfOk result (Propagates gts.now determined.old.values.values.items
+        determined.old.known.items new.now determined.new.values.values.items
+        determined.new.known.items) }
+    ensures fault { IfErr result (IsFaultOf gts.now
+        (written determined.old.values.values.items new.now)) }
+    ensures err { OnErr result ((determined.new.values.values.items
+        ≡ determined.old.values.values.items)
+        × (determined.new.known.items ≡ determined.old.known.items)) }
 {
     let parts = gts.parts();
     let state = renewed(alloc, &determined.values.values, new)?;

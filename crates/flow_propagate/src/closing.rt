@@ -44,8 +44,12 @@ fn look_at(
     requires long { length table.old.rows.items ≡ length parts.now.variables.items }
     requires work { IsWorklist (length parts.now.assigns.items) work.old }
     requires below { n < length parts.now.assigns.items }
-    ensures looks { IfOk result (λ _. LooksAt parts.now (length readers.now.pairs.items) n table.old.rows.items work.old table.new.rows.items work.new) }
-    ensures hears { IfOk result (λ _. Hears parts.now n table.old.rows.items outside.old work.old table.new.rows.items outside.new work.new) }
+    ensures looks { IfOk result (λ _.
+        LooksAt parts.now (length readers.now.pairs.items) n table.old.rows.items work.old
+        table.new.rows.items work.new) }
+    ensures hears { IfOk result (λ _.
+        Hears parts.now n table.old.rows.items outside.old work.old table.new.rows.items outside.new
+        work.new) }
 {
     let assign = &parts.assigns[n as usize];
     let look = apply(alloc, parts, assign, table)?;
@@ -70,9 +74,14 @@ fn close(
     requires work { IsWorklist (length parts.now.assigns.items) work }
     requires settled { IsSettled parts.now table.rows.items work }
     requires heard { IsHeard parts.now table.rows.items None work }
-    ensures moves { IfOk result (λ closed. Moves (net_of parts.now) table.rows.items closed.table.rows.items) }
-    ensures closed { IfOk result (λ closed. (n : ℕ) (a : Assign) → Stands parts.now.assigns.items n a → IsClosed (net_of parts.now) closed.table.rows.items (assign_of a)) }
-    ensures outside { IfOk result (λ closed. IsLeast parts.now.assigns.items (length parts.now.assigns.items) (LeavesDomain parts.now closed.table.rows.items) closed.outside) }
+    ensures moves { IfOk result (λ closed.
+        Moves (net_of parts.now) table.rows.items closed.table.rows.items) }
+    ensures closed { IfOk result (λ closed. (n : ℕ) (a : Assign)
+        → Stands parts.now.assigns.items n a
+        → IsClosed (net_of parts.now) closed.table.rows.items (assign_of a)) }
+    ensures outside { IfOk result (λ closed.
+        IsLeast parts.now.assigns.items (length parts.now.assigns.items)
+        (LeavesDomain parts.now closed.table.rows.items) closed.outside) }
 {
     let mut table = table;
     let mut work = work;
@@ -102,9 +111,13 @@ pub(crate) fn known(
     requires readers { AreReaders parts.now (map plain_pair plan.now.readers.pairs.items) }
     requires schedule { IsSchedule parts.now plan.now.order.items plan.now.places.items }
     requires long { length values.now ≡ length parts.now.variables.items }
-    ensures facts { IfOk result (λ known. AreFacts (net_of parts.now) values.now known.table.rows.items) }
-    ensures long { IfOk result (λ known. length known.table.rows.items ≡ length parts.now.variables.items) }
-    ensures outside { IfOk result (λ known. IsLeast parts.now.assigns.items (length parts.now.assigns.items) (LeavesDomain parts.now known.table.rows.items) known.outside) }
+    ensures facts { IfOk result (λ known.
+        AreFacts (net_of parts.now) values.now known.table.rows.items) }
+    ensures long { IfOk result (λ known.
+        length known.table.rows.items ≡ length parts.now.variables.items) }
+    ensures outside { IfOk result (λ known.
+        IsLeast parts.now.assigns.items (length parts.now.assigns.items)
+        (LeavesDomain parts.now known.table.rows.items) known.outside) }
 {
     let first = start(alloc, parts, values)?;
     let work = all_waiting(alloc, &plan.order, &plan.places);

@@ -22,7 +22,8 @@ pub(crate) struct FlowPlaces {
 // The places of the flows among the flows.
 pub(crate) fn flow_places(alloc: Global, variables: &[Variable]) -> Result<FlowPlaces, Memory>
     requires { length variables.now < 2 ^ 32 }
-    ensures places { IfOk result (λ places. ArePlaces variables.now (length variables.now) places.before.items) }
+    ensures places { IfOk result (λ places.
+        ArePlaces variables.now (length variables.now) places.before.items) }
     ensures count { IfOk result (λ places. places.count ≡ flows_in variables.now) }
 {
     let mut before = Vec::new(alloc);
@@ -50,7 +51,8 @@ pub(crate) fn dependences(
     readers: &[(u32, u32)],
 ) -> Result<Graph, Memory>
     requires sound { IsSound parts.now }
-    requires places { ArePlaces parts.now.variables.items (length parts.now.variables.items) places.now.before.items }
+    requires places { ArePlaces parts.now.variables.items (length parts.now.variables.items)
+        places.now.before.items }
     requires readers { AreReaders parts.now readers.now }
     ensures uses { IfOk result (λ graph. AreUses (net_of parts.now) graph.uses.items) }
     ensures count { IfOk result (λ graph. graph.count ≡ places.now.count) }
@@ -74,7 +76,8 @@ fn add_use(
     uses: &mut Vec<(u32, u32)>,
 ) -> Result<(), Memory>
     requires sound { IsSound parts.now }
-    requires places { ArePlaces parts.now.variables.items (length parts.now.variables.items) places.now.before.items }
+    requires places { ArePlaces parts.now.variables.items (length parts.now.variables.items)
+        places.now.before.items }
     requires reads { Reads (net_of parts.now) variable assign }
     ensures { IfOk result (λ _. AddsUse parts.now variable assign uses.old.items uses.new.items) }
 {

@@ -20,7 +20,8 @@ use std::alloc::Global;
 fn put(table: &mut Table, domain: &Domain, target: u32, v: Value) -> Result<bool, Memory>
     requires in_range { target < length table.old.rows.items }
     requires domain { IsDomain domain.now }
-    ensures { IfOk result (λ changed. Puts domain.now target v table.old.rows.items table.new.rows.items changed) }
+    ensures { IfOk result (λ changed.
+        Puts domain.now target v table.old.rows.items table.new.rows.items changed) }
 {
     if !domain.holds(v) {
         return Ok(false);
@@ -41,7 +42,8 @@ fn put_all(
 ) -> Result<bool, Memory>
     requires in_range { target < length table.old.rows.items }
     requires domain { IsDomain domain.now }
-    ensures { IfOk result (λ changed. PutsAll domain.now target values.now table.old.rows.items table.new.rows.items changed) }
+    ensures { IfOk result (λ changed.
+        PutsAll domain.now target values.now table.old.rows.items table.new.rows.items changed) }
 {
     let mut changed = false;
     for v in values {
@@ -77,8 +79,10 @@ pub(crate) fn apply(
     requires sound { IsSound parts.now }
     requires one { IsOneOf parts.now.assigns.items assign.now }
     requires long { length table.old.rows.items ≡ length parts.now.variables.items }
-    ensures applies { IfOk result (λ look. Applies parts.now assign.now table.old.rows.items table.new.rows.items look.changed) }
-    ensures outside { IfOk result (λ look. IsAnswer look.outside (LeavesDomain parts.now table.old.rows.items assign.now)) }
+    ensures applies { IfOk result (λ look.
+        Applies parts.now assign.now table.old.rows.items table.new.rows.items look.changed) }
+    ensures outside { IfOk result (λ look.
+        IsAnswer look.outside (LeavesDomain parts.now table.old.rows.items assign.now)) }
 {
     let Some(set) = yielded(alloc, assign, table)? else {
         return Ok(Look {
@@ -95,7 +99,8 @@ pub(crate) fn apply(
 // The table with the values of the state variables alone.
 pub(crate) fn start(alloc: Global, parts: &GtsParts, values: &[Value]) -> Result<Table, Memory>
     requires { length values.now ≡ length parts.now.variables.items }
-    ensures { IfOk result (λ table. Starts parts.now.variables.items values.now (length parts.now.variables.items) table.rows.items) }
+    ensures { IfOk result (λ table. Starts parts.now.variables.items values.now
+        (length parts.now.variables.items) table.rows.items) }
 {
     let mut rows = Vec::new(alloc);
     for (place, variable) in parts.variables.iter().enumerate() {

@@ -23,7 +23,8 @@ pub fn add_named_pairs(
     names: &mut Vec<VarId>,
     found: &mut Vec<(u32, u32)>,
 ) -> Result<(), Memory>
-    ensures { IfOk result (λ _. AddsNamed number (λ x. Mentions x (out-Expr Numbered expr.now)) found.old.items found.new.items) }
+    ensures { IfOk result (λ _. AddsNamed number (λ x. Mentions x (out-Expr Numbered expr.now))
+        found.old.items found.new.items) }
 {
     names.clear();
     add_named(expr, names)?;
@@ -37,7 +38,8 @@ pub(crate) fn add_readers(
     names: &mut Vec<VarId>,
     found: &mut Vec<(u32, u32)>,
 ) -> Result<(), Memory>
-    ensures { IfOk result (λ _. AddsNamed number (ReadsVariable assign.now) found.old.items found.new.items) }
+    ensures { IfOk result (λ _. AddsNamed number (ReadsVariable assign.now) found.old.items
+        found.new.items) }
 {
     names.clear();
     add_named(&assign.value, names)?;
@@ -47,7 +49,8 @@ pub(crate) fn add_readers(
 
 // Adds a pair for each of these variables.
 fn add_each(names: &[VarId], number: u32, found: &mut Vec<(u32, u32)>) -> Result<(), Memory>
-    ensures { IfOk result (λ _. AddsNamed number (λ x. IsOneOf names.now x) found.old.items found.new.items) }
+    ensures { IfOk result (λ _. AddsNamed number (λ x. IsOneOf names.now x) found.old.items
+        found.new.items) }
 {
     for name in names {
         found.push((name.n, number))?;

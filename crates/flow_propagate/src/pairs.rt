@@ -22,7 +22,8 @@ pub struct Runs {
 /// The pairs of a variable, in constant time; none for a number that stands for no variable.
 pub fn pairs_of(runs: &Runs, variable: u32) -> &[(VarId, AssignId)]
     ensures among { (r : Reader) → IsOneOf result.now r → IsOneOf runs.now.pairs.items r }
-    ensures all { (r : Reader) → IsOneOf runs.now.pairs.items r → r.0.n ≡ variable → IsOneOf result.now r }
+    ensures all { (r : Reader) → IsOneOf runs.now.pairs.items r → r.0.n ≡ variable
+        → IsOneOf result.now r }
     ensures exact { (r : Reader) → IsOneOf result.now r → r.0.n ≡ variable }
     ensures short { length result.now ≤ length runs.now.pairs.items }
 {
@@ -52,7 +53,8 @@ pub(crate) fn with_starts(
 fn starts_of(alloc: Global, pairs: &[(VarId, AssignId)], count: usize) -> Result<Vec<usize>, Memory>
     requires { IsNonDecreasingBy (λ r. r.0.n) pairs.now }
     ensures long { IfOk result (λ starts. length starts.items ≡ count) }
-    ensures each { IfOk result (λ starts. (x start : ℕ) → Stands starts.items x start → IsStart pairs.now x start) }
+    ensures each { IfOk result (λ starts. (x start : ℕ) → Stands starts.items x start
+        → IsStart pairs.now x start) }
 {
     let mut starts = Vec::new(alloc);
     for variable in 0..count {

@@ -43,7 +43,8 @@ fn ascending(pairs: Vec<(u32, u32)>) -> Vec<(u32, u32)>
 // The pair of each assignment's target and the assignment, by the assignments' numbers.
 fn all_targets(alloc: Global, parts: &GtsParts) -> Result<Vec<(u32, u32)>, Memory>
     requires { IsSound parts.now }
-    ensures { IfOk result (λ pairs. AreTargets parts.now (length parts.now.assigns.items) pairs.items) }
+    ensures { IfOk result (λ pairs. AreTargets parts.now (length parts.now.assigns.items)
+        pairs.items) }
 {
     let mut pairs = Vec::new(alloc);
     for (place, assign) in parts.assigns.iter().enumerate() {
@@ -55,7 +56,8 @@ fn all_targets(alloc: Global, parts: &GtsParts) -> Result<Vec<(u32, u32)>, Memor
 // The same in any order, and as often as the assignments name them.
 fn all_named(alloc: Global, parts: &GtsParts) -> Result<Vec<(u32, u32)>, Memory>
     requires { IsSound parts.now }
-    ensures { IfOk result (λ pairs. AreNamed parts.now (length parts.now.assigns.items) pairs.items) }
+    ensures { IfOk result (λ pairs. AreNamed parts.now (length parts.now.assigns.items)
+        pairs.items) }
 {
     let mut names = Vec::new(alloc);
     let mut pairs = Vec::new(alloc);
@@ -67,7 +69,8 @@ fn all_named(alloc: Global, parts: &GtsParts) -> Result<Vec<(u32, u32)>, Memory>
 
 // Ascending pairs of variables below a count by typed numbers, and where those of each variable stand.
 pub(crate) fn in_runs(alloc: Global, pairs: &[(u32, u32)], count: usize) -> Result<Runs, Memory>
-    requires ascending { (j k : ℕ) (q r : ℕ × ℕ) → j < k → Stands pairs.now j q → Stands pairs.now k r → ComesBefore q r }
+    requires ascending { (j k : ℕ) (q r : ℕ × ℕ) → j < k → Stands pairs.now j q
+        → Stands pairs.now k r → ComesBefore q r }
     requires below { (q : ℕ × ℕ) → IsOneOf pairs.now q → q.0 < count }
     requires few { count < 2 ^ 32 }
     ensures { IfOk result (λ runs. map plain_pair runs.pairs.items ≡ pairs.now) }

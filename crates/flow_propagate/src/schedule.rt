@@ -31,7 +31,8 @@ pub(crate) fn in_order(
 pub(crate) fn places_in(alloc: Global, order: &[u32], count: usize) -> Result<Vec<usize>, Memory>
     requires { IsOrder count order.now }
     ensures long { IfOk result (λ places. length places.items ≡ count) }
-    ensures placed { IfOk result (λ places. (n p : ℕ) → Stands places.items n p → Stands order.now p n) }
+    ensures placed { IfOk result (λ places. (n p : ℕ) → Stands places.items n p
+        → Stands order.now p n) }
 {
     let mut places = vec![in alloc; 0usize; count]?;
     for (place, n) in order.iter().enumerate() {

@@ -20,7 +20,8 @@ use gts_core::GtsParts;
 pub(crate) fn first_two(parts: &GtsParts, table: &Table) -> Option<u32>
     requires sound { IsSound parts.now }
     requires long { length table.now.rows.items ≡ length parts.now.variables.items }
-    ensures { (t : List Value) → AreFacts (net_of parts.now) t table.now.rows.items → IsFirstOrNone (net_of parts.now).variables (HasTwo (net_of parts.now) t) result }
+    ensures { (t : List Value) → AreFacts (net_of parts.now) t table.now.rows.items
+        → IsFirstOrNone (net_of parts.now).variables (HasTwo (net_of parts.now) t) result }
 {
     for (place, variable) in parts.variables.iter().enumerate() {
         if is_two(variable.is_state, &table.rows[place]) {
@@ -58,7 +59,8 @@ fn has_other(values: &[Value], v: Value) -> bool
 // Whether one of the values is outside the domain.
 pub(crate) fn some_outside(domain: &Domain, values: &[Value]) -> bool
     requires { IsDomain domain.now }
-    ensures { IsAnswer result ((v : Value) × Contains values.now v × (DomainHolds domain.now v → ⊥)) }
+    ensures { IsAnswer result ((v : Value) × Contains values.now v
+        × (DomainHolds domain.now v → ⊥)) }
 {
     for v in values {
         if !domain.holds(*v) {

@@ -59,7 +59,8 @@ pub(crate) fn reached(
     conditions: &[(Expr<VarId>, bool)],
     table: &Table,
 ) -> Result<bool, Memory>
-    ensures { IfOk result (λ b. IsAnswer b (Passes (Holds table.now.rows.items) (map condition_of conditions.now))) }
+    ensures { IfOk result (λ b. IsAnswer b
+        (Passes (Holds table.now.rows.items) (map condition_of conditions.now))) }
 {
     for (test, must) in conditions {
         let set = eval_set(alloc, test, table)?;

@@ -23,7 +23,8 @@ pub(crate) fn completed(
 ) -> Result<Vec<Value>, Memory>
     requires long { length values.now ≡ length parts.now.variables.items }
     requires rows { length table.now.rows.items ≡ length parts.now.variables.items }
-    ensures { IfOk result (λ total. Completed parts.now.variables.items values.now table.now.rows.items (length parts.now.variables.items) total.items) }
+    ensures { IfOk result (λ total. Completed parts.now.variables.items values.now
+        table.now.rows.items (length parts.now.variables.items) total.items) }
 {
     let mut total = Vec::new(alloc);
     for (place, variable) in parts.variables.iter().enumerate() {
@@ -52,7 +53,8 @@ fn value_for(is_state: bool, own: Value, row: &[Value], reset: Value) -> Value
 
 // Which rows of the table have a value.
 pub(crate) fn marks(alloc: Global, table: &Table) -> Result<Vec<bool>, Memory>
-    ensures { IfOk result (λ marks. AreMarks table.now.rows.items (length table.now.rows.items) marks.items) }
+    ensures { IfOk result (λ marks. AreMarks table.now.rows.items (length table.now.rows.items)
+        marks.items) }
 {
     let mut marks = Vec::new(alloc);
     for row in &table.rows {

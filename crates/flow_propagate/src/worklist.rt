@@ -31,7 +31,8 @@ pub(crate) struct Worklist<'a> {
 // Takes the next assignment.
 pub(crate) fn take(work: &mut Worklist<'_>) -> Option<u32>
     requires { IsWorklist (length work.old.places.now) work.old }
-    ensures { MatchOption result ((n : ℕ) → Waits work.old n → ⊥) (λ n. Takes (length work.old.places.now) n work.old work.new) }
+    ensures { MatchOption result ((n : ℕ) → Waits work.old n → ⊥)
+        (λ n. Takes (length work.old.places.now) n work.old work.new) }
 {
     let place = take_place(work)?;
     Some(work.order[place])
@@ -40,7 +41,8 @@ pub(crate) fn take(work: &mut Worklist<'_>) -> Option<u32>
 // Takes the first place that waits.
 fn take_place(work: &mut Worklist<'_>) -> Option<usize>
     requires { IsWorklist (length work.old.places.now) work.old }
-    ensures { MatchOption result ((p : ℕ) → p < length work.old.order.now → WaitsAt work.old p → ⊥) (λ place. TakesPlace place work.old work.new) }
+    ensures { MatchOption result ((p : ℕ) → p < length work.old.order.now → WaitsAt work.old p → ⊥)
+        (λ place. TakesPlace place work.old work.new) }
 {
     if let Some(place) = take_again(&mut work.again) {
         return Some(place);
@@ -56,7 +58,8 @@ fn take_place(work: &mut Worklist<'_>) -> Option<usize>
 // Takes the least place of those that were added again.
 fn take_again(again: &mut BTreeSet<usize>) -> Option<usize>
     ensures some { IfSome result (λ place. IsAgain again.old place) }
-    ensures rest { IfSome result (λ place. (p : ℕ) → IsAgain again.new p ↔ (IsAgain again.old p × (p ≢ place))) }
+    ensures rest { IfSome result (λ place. (p : ℕ) → IsAgain again.new p
+        ↔ (IsAgain again.old p × (p ≢ place))) }
     ensures less { IfSome result (λ _. btree_set_len again.old ≡ btree_set_len again.new + 1) }
     ensures none { IfNone result ((p : ℕ) → IsAgain again.old p → ⊥) }
     ensures still { IfNone result ((p : ℕ) → IsAgain again.new p → ⊥) }
@@ -69,7 +72,8 @@ fn take_again(again: &mut BTreeSet<usize>) -> Option<usize>
 fn add(assign: u32, work: &mut Worklist<'_>) -> Result<(), Memory>
     requires is { IsWorklist (length work.old.places.now) work.old }
     requires below { assign < length work.old.places.now }
-    ensures { IfOk result (λ _. AddsWork (length work.old.places.now) 1 (λ m. m ≡ assign) work.old work.new) }
+    ensures { IfOk result (λ _. AddsWork (length work.old.places.now) 1 (λ m. m ≡ assign) work.old
+        work.new) }
 {
     let place = work.places[assign as usize];
     if work.fresh <= place {
@@ -80,7 +84,8 @@ fn add(assign: u32, work: &mut Worklist<'_>) -> Result<(), Memory>
 
 // Adds a place to those that were added again.
 fn add_again(again: &mut BTreeSet<usize>, place: usize) -> Result<(), Memory>
-    ensures all { OnOk result ((p : ℕ) → IsAgain again.new p ↔ (IsAgain again.old p ⊎ (p ≡ place))) }
+    ensures all { OnOk result ((p : ℕ) → IsAgain again.new p
+        ↔ (IsAgain again.old p ⊎ (p ≡ place))) }
     ensures few { OnOk result (btree_set_len again.new ≤ btree_set_len again.old + 1) }
 {
     again.insert(place)?;
@@ -91,7 +96,8 @@ fn add_again(again: &mut BTreeSet<usize>, place: usize) -> Result<(), Memory>
 fn add_all(readers: &[(VarId, AssignId)], work: &mut Worklist<'_>) -> Result<(), Memory>
     requires is { IsWorklist (length work.old.places.now) work.old }
     requires below { (r : Reader) → IsOneOf readers.now r → r.1.n < length work.old.places.now }
-    ensures { IfOk result (λ _. AddsWork (length work.old.places.now) (length readers.now) (λ m. (r : Reader) × IsOneOf readers.now r × (r.1.n ≡ m)) work.old work.new) }
+    ensures { IfOk result (λ _. AddsWork (length work.old.places.now) (length readers.now)
+        (λ m. (r : Reader) × IsOneOf readers.now r × (r.1.n ≡ m)) work.old work.new) }
 {
     for (_, assign) in readers {
         add(assign.n, work)?;
@@ -106,8 +112,12 @@ pub(crate) fn add_readers(
     work: &mut Worklist<'_>,
 ) -> Result<(), Memory>
     requires is { IsWorklist (length work.old.places.now) work.old }
-    requires below { (r : Reader) → IsOneOf readers.now.pairs.items r → r.1.n < length work.old.places.now }
-    ensures { IfOk result (λ _. AddsWork (length work.old.places.now) (length readers.now.pairs.items) (λ m. (r : Reader) × IsOneOf readers.now.pairs.items r × (r.0.n ≡ variable) × (r.1.n ≡ m)) work.old work.new) }
+    requires below { (r : Reader) → IsOneOf readers.now.pairs.items r
+        → r.1.n < length work.old.places.now }
+    ensures { IfOk result (λ _. AddsWork (length work.old.places.now)
+        (length readers.now.pairs.items)
+        (λ m. (r : Reader) × IsOneOf readers.now.pairs.items r × (r.0.n ≡ variable) × (r.1.n ≡ m))
+        work.old work.new) }
 {
     let run = pairs_of(readers, variable);
     add_all(run, work)

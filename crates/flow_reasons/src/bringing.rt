@@ -25,7 +25,8 @@ pub(crate) fn bringing(
     requires marks { length marks.now ≡ length parts.now.variables.items }
     requires ascends { Ascends among.now }
     requires inside { (n : ℕ) → IsOneOf among.now n → n < length parts.now.assigns.items }
-    ensures { IfOk result (λ found. AreBringing parts.now values.now marks.now among.now found.items) }
+    ensures { IfOk result (λ found. AreBringing parts.now values.now marks.now among.now
+        found.items) }
 {
     let mut found = Vec::new(alloc);
     for n in among {

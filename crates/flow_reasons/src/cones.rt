@@ -28,7 +28,8 @@ pub fn cone(
     requires range { observer < length gts.now.observers.items }
     requires reasons { AreOfState gts.now reasons.now }
     ensures { (one : Observer) → Stands gts.now.observers.items observer one
-        → IfOk result (λ found. IsCone (net_of gts.now) (reasons_of reasons.now) (numbered one.value) (numbers_of found.items)) }
+        → IfOk result (λ found. IsCone (net_of gts.now) (reasons_of reasons.now)
+        (numbered one.value) (numbers_of found.items)) }
 {
     let parts = gts.parts();
     let first = named(alloc, &parts.observers[observer as usize].value)?;
@@ -38,7 +39,8 @@ pub fn cone(
 
 // The variables that an expression names, as often as it names them.
 fn named(alloc: Global, expr: &Expr<VarId>) -> Result<Vec<VarId>, Memory>
-    ensures { IfOk result (λ first. (n : ℕ) → (IsOneOf (numbers_of first.items) n ↔ NamesNumber expr.now n)) }
+    ensures { IfOk result (λ first. (n : ℕ)
+        → (IsOneOf (numbers_of first.items) n ↔ NamesNumber expr.now n)) }
 {
     let mut first = Vec::new(alloc);
     add_named(expr, &mut first)?;
@@ -55,7 +57,8 @@ fn reached(
     requires orderly { AreOrderly count (reasons_of reasons.now) }
     requires below { (n : ℕ) → IsOneOf (numbers_of first.now) n → n < count }
     ensures long { IfOk result (λ seen. length seen.items ≡ count) }
-    ensures reached { IfOk result (λ seen. AreReached (reasons_of reasons.now) (numbers_of first.now) seen.items) }
+    ensures reached { IfOk result (λ seen.
+        AreReached (reasons_of reasons.now) (numbers_of first.now) seen.items) }
 {
     let mut seen = vec![in alloc; false; count]?;
     let mut found = Vec::new(alloc);

@@ -88,7 +88,9 @@ fn reached(
     conditions: &[(Expr<VarId>, bool)],
     known: &Known<'_>,
 ) -> Result<bool, Memory>
-    ensures { IfOk result (λ b. IsAnswer b (Passes (IsKnown known.now.values.now known.now.marks.now) (map condition_of conditions.now))) }
+    ensures { IfOk result (λ b. IsAnswer b
+        (Passes (IsKnown known.now.values.now known.now.marks.now)
+        (map condition_of conditions.now))) }
 {
     for (test, must) in conditions {
         let set = eval_set(alloc, test, known)?;

@@ -47,7 +47,8 @@ fn reasons_of(
     requires sound { IsSound parts.now }
     requires pairs { AreReaders parts.now pairs.now }
     requires standing { IsStanding parts.now values.now }
-    ensures { IfOk result (λ found. AreReasons (net_of parts.now) values.now (reasons_of found.items)) }
+    ensures { IfOk result (λ found. AreReasons (net_of parts.now) values.now
+        (reasons_of found.items)) }
 {
     let marks = last_marks(alloc, parts, pairs, values)?;
     let rests = rests(alloc, parts, pairs, &marks)?;
@@ -66,7 +67,8 @@ fn listed(
     requires standing { IsStanding parts.now values.now }
     requires marks { AreLastMarks parts.now values.now marks.now }
     requires rests { HaveRests parts.now marks.now rests.now }
-    ensures { IfOk result (λ found. AreReasons (net_of parts.now) values.now (reasons_of found.items)) }
+    ensures { IfOk result (λ found. AreReasons (net_of parts.now) values.now
+        (reasons_of found.items)) }
 {
     let mut found = Vec::new(alloc);
     for (place, variable) in parts.variables.iter().enumerate() {

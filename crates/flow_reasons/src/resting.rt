@@ -55,7 +55,8 @@ fn add_rest(
     requires target { target < length marks.now }
     requires variable { variable < length marks.now }
     requires long { length rests.old.items ≡ length marks.now }
-    ensures { IfOk result (λ _. AddsRest marks.now target variable assign rests.old.items rests.new.items) }
+    ensures { IfOk result (λ _. AddsRest marks.now target variable assign rests.old.items
+        rests.new.items) }
 {
     if is_rest(marks[target as usize], assign, marks[variable as usize]) {
         rests[target as usize].push(VarId::new(variable))?;

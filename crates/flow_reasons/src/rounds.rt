@@ -90,7 +90,8 @@ fn next_bringing(
     requires pairs { AreReaders parts.now pairs.now }
     requires values { length values.now ≡ length parts.now.variables.items }
     requires marks { length marks.now ≡ length parts.now.variables.items }
-    requires named { (n : ℕ) → BringsAt parts.now values.now marks.now n → NameOne parts.now fresh.now n }
+    requires named { (n : ℕ) → BringsAt parts.now values.now marks.now n
+        → NameOne parts.now fresh.now n }
     ensures { IfOk result (λ found. BringAll parts.now values.now marks.now found.items) }
 {
     let readers = paired(alloc, pairs, fresh)?;
@@ -110,7 +111,8 @@ fn mark_all(
     requires marks { length marks.old ≡ length parts.now.variables.items }
     requires ascends { Ascends bringing.now }
     requires inside { (n : ℕ) → IsOneOf bringing.now n → n < length parts.now.assigns.items }
-    ensures { IfOk result (λ fresh. MarksAll parts.now bringing.now round marks.old marks.new fresh.items) }
+    ensures { IfOk result (λ fresh. MarksAll parts.now bringing.now round marks.old marks.new
+        fresh.items) }
 {
     let mut fresh = Vec::new(alloc);
     for n in bringing {

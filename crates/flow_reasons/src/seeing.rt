@@ -17,7 +17,8 @@ pub(crate) fn see_all(
 ) -> Result<(), Memory>
     requires are { AreMarked seen.old found.old.items }
     requires below { (n : ℕ) → IsOneOf (numbers_of variables.now) n → n < length seen.old }
-    ensures { IfOk result (λ _. SeesAll (numbers_of variables.now) seen.old seen.new found.old.items found.new.items) }
+    ensures { IfOk result (λ _. SeesAll (numbers_of variables.now) seen.old seen.new found.old.items
+        found.new.items) }
 {
     for variable in variables {
         see(variable.n, seen, found)?;
@@ -41,7 +42,8 @@ fn see(n: u32, seen: &mut [bool], found: &mut Vec<u32>) -> Result<(), Memory>
 // The variables that were seen, by number.
 pub(crate) fn members(alloc: Global, seen: &[bool]) -> Result<Vec<VarId>, Memory>
     requires { length seen.now < 2 ^ 32 }
-    ensures { IfOk result (λ found. AreMembers seen.now (length seen.now) (numbers_of found.items)) }
+    ensures { IfOk result (λ found. AreMembers seen.now (length seen.now)
+        (numbers_of found.items)) }
 {
     let mut found = Vec::new(alloc);
     for (place, is_seen) in seen.iter().enumerate() {

@@ -25,7 +25,8 @@ pub fn rounds_are_facts<V>()
 
 /// From the facts of a reason's variables alone the assignment is reached and yields the value.
 pub fn reasons_suffice<V>()
-    ensures facts { (net : Net V) (t : List Value) (x : Variable V) (r : Reason) → IsDerived net t x r
+    ensures facts { (net : Net V) (t : List Value) (x : Variable V) (r : Reason)
+        → IsDerived net t x r
         → (n : ℕ) (a : Assign V) → r.by ≡ Some n → Stands net.assertions n a
         → Passes (OfThese net r.rests_on (FactOf net t)) a.conditions
         × Yields (OfThese net r.rests_on (FactOf net t)) (out-Expr V a.value) r.value }
@@ -60,8 +61,10 @@ pub fn flat_reasons<V>()
     ensures rounds { (things : List V) (sys : System V) (flat : System ℕ) → IsFlatOf things sys flat
         → (t : List Value) (k : ℕ) (x : V) (n : ℕ) (v : Value) → Stands things n x
         → (Round sys.net t k x v ↔ Round flat.net t k n v) }
-    ensures reasons { (things : List V) (sys : System V) (flat : System ℕ) → IsFlatOf things sys flat
-        → (t : List Value) (rs : List Reason) → (AreReasons sys.net t rs ↔ AreReasons flat.net t rs) }
+    ensures reasons { (things : List V) (sys : System V) (flat : System ℕ)
+        → IsFlatOf things sys flat
+        → (t : List Value) (rs : List Reason)
+        → (AreReasons sys.net t rs ↔ AreReasons flat.net t rs) }
     ensures cones { (things : List V) (sys : System V) (flat : System ℕ) → IsFlatOf things sys flat
         → (reasons : List Reason) (e : Expr V) (f : Expr ℕ) → Expr_renames (IsNumber things) e f
         → (n : ℕ) → (InCone sys.net reasons e n ↔ InCone flat.net reasons f n) }

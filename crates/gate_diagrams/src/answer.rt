@@ -52,7 +52,8 @@ pub(crate) fn answer(
     requires table { IsOrderedTable (table_of equations.now) }
     ensures sets { (trees : List ModeTree) → AreListed (IsFirableOf trees) (family ops firable.n)
         → IfOk result (λ d. IsAnswer trees (table_of equations.now) d) }
-    ensures needed { IfOk result (λ d. AreNeeded (family ops firable.n) (table_of equations.now) d) }
+    ensures needed { IfOk result (λ d.
+        AreNeeded (family ops firable.n) (table_of equations.now) d) }
     ensures within { IfOk result (λ d. length (store_of d).families ≤ ops.limit) }
     ensures full { (trees : List ModeTree) → AreListed (IsFirableOf trees) (family ops firable.n)
         → result ≡ Err NodeFault.Full → NodesMay trees (table_of equations.now) ops.limit }
@@ -89,8 +90,10 @@ fn least(
     requires firable_in { IsNumber ops.old firable.n }
     requires ordered { AreOrdered (map gate_of gates.now) }
     requires root_in { IsBelow (length gates.now) (operand_of root) }
-    ensures drawn { Draws (IsNeeded (family ops.old firable.n) (map gate_of gates.now) (operand_of root))
-        (minimal (family_at (family ops.old firable.n) (map gate_of gates.now) (operand_of root))) ops.old ops.new result }
+    ensures drawn { Draws (IsNeeded (family ops.old firable.n) (map gate_of gates.now)
+        (operand_of root))
+        (minimal (family_at (family ops.old firable.n) (map gate_of gates.now) (operand_of root)))
+        ops.old ops.new result }
     ensures sound { OnOk result (IsSoundStore ops.new) }
 {
     let drawn = draw(alloc, ops, gates, firable, root)?;

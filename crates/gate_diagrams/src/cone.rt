@@ -14,7 +14,8 @@ use std::alloc::Global;
 pub(crate) fn cone(alloc: Global, gates: &[Gate], root: Operand) -> Result<Vec<bool>, Memory>
     requires ordered { AreOrdered (map gate_of gates.now) }
     requires root_in { IsBelow (length gates.now) (operand_of root) }
-    ensures { IfOk result (λ marks. AreMarks (map gate_of gates.now) (operand_of root) marks.items) }
+    ensures { IfOk result (λ marks. AreMarks (map gate_of gates.now) (operand_of root)
+        marks.items) }
 {
     let mut marks = unmarked(alloc, gates.len())?;
     mark(&mut marks, root);

@@ -29,8 +29,10 @@ pub(crate) fn draw(
     requires in_order { IsInOrder (family ops.old firable.n) }
     requires ordered { AreOrdered (map gate_of gates.now) }
     requires root_in { IsBelow (length gates.now) (operand_of root) }
-    ensures drawn { Draws (IsNeeded (family ops.old firable.n) (map gate_of gates.now) (operand_of root))
-        (family_at (family ops.old firable.n) (map gate_of gates.now) (operand_of root)) ops.old ops.new result }
+    ensures drawn { Draws (IsNeeded (family ops.old firable.n) (map gate_of gates.now)
+        (operand_of root))
+        (family_at (family ops.old firable.n) (map gate_of gates.now) (operand_of root)) ops.old
+        ops.new result }
 {
     let marks = cone(alloc, gates, root)?;
     let mut table = Vec::new(alloc);
@@ -52,9 +54,11 @@ fn next_gate(
     marked: bool,
 ) -> Result<NodeId, NodeFault>
     requires firable_in { IsNumber ops.old firable.n }
-    requires ready { marked ≡ true → IsReady (family ops.old firable.n) (map gate_of gates.now) (operand_of root)
+    requires ready { marked ≡ true → IsReady (family ops.old firable.n) (map gate_of gates.now)
+        (operand_of root)
         (length table.now) (gate_of next.now) table.now ops.old }
-    ensures drawn { Draws (IsNeeded (family ops.old firable.n) (map gate_of gates.now) (operand_of root))
+    ensures drawn { Draws (IsNeeded (family ops.old firable.n) (map gate_of gates.now)
+        (operand_of root))
         (cond marked (family_at (family ops.old firable.n) (map gate_of gates.now) (GateIs (length table.now) true)) [])
         ops.old ops.new result }
 {

@@ -29,8 +29,10 @@ pub(crate) fn firable_sets(
     requires in_store { AreNumbers trees.now paths.items }
     requires made { IsSoundStore ops.old }
     ensures sound { OnOk result (IsSoundStore ops.new) }
-    ensures drawn { (forest : List ModeTree) → AreTreeFamilies forest (families_left trees.now paths.items) → AreApart forest
-        → (all : Sets) → AreListed (IsFirableOf forest) all → Draws (IsCounted all) all ops.old ops.new result }
+    ensures drawn { (forest : List ModeTree)
+        → AreTreeFamilies forest (families_left trees.now paths.items) → AreApart forest
+        → (all : Sets) → AreListed (IsFirableOf forest) all
+        → Draws (IsCounted all) all ops.old ops.new result }
 {
     let mut walked = Walked::new(alloc);
     walk(alloc, ops, &mut walked, trees, paths)

@@ -23,10 +23,13 @@ pub(crate) fn operand(
     operand: Operand,
 ) -> Result<NodeId, NodeFault>
     requires firable_in { IsNumber ops.old firable.n }
-    requires table { IsTable (family ops.old firable.n) (map gate_of gates.now) table.now ops.old (operand_of operand) }
+    requires table { IsTable (family ops.old firable.n) (map gate_of gates.now) table.now ops.old
+        (operand_of operand) }
     requires named { IsNamed (map gate_of gates.now) (operand_of root) (operand_of operand) }
-    ensures drawn { Draws (IsNeeded (family ops.old firable.n) (map gate_of gates.now) (operand_of root))
-        (family_at (family ops.old firable.n) (map gate_of gates.now) (operand_of operand)) ops.old ops.new result }
+    ensures drawn { Draws (IsNeeded (family ops.old firable.n) (map gate_of gates.now)
+        (operand_of root))
+        (family_at (family ops.old firable.n) (map gate_of gates.now) (operand_of operand)) ops.old
+        ops.new result }
 {
     match operand {
         Operand::Always => Ok(firable),
@@ -73,12 +76,17 @@ pub(crate) fn one_more(
     so_far: NodeId,
 ) -> Result<NodeId, NodeFault>
     requires firable_in { IsNumber ops.old firable.n }
-    requires ready { IsReady (family ops.old firable.n) (map gate_of gates.now) (operand_of root) (length table.now) (gate_of gate.now) table.now ops.old }
+    requires ready { IsReady (family ops.old firable.n) (map gate_of gates.now) (operand_of root)
+        (length table.now) (gate_of gate.now) table.now ops.old }
     requires place_in { place < length gate.now.operands.items }
     requires so_far_in { IsNumber ops.old so_far.n }
-    requires so_far_is { family ops.old so_far.n ≡ joint_family (family ops.old firable.n) (map gate_of gates.now) (all_needed gate.now.joint) (take place (map operand_of gate.now.operands.items)) }
-    ensures drawn { Draws (IsNeeded (family ops.old firable.n) (map gate_of gates.now) (operand_of root))
-        (joint_family (family ops.old firable.n) (map gate_of gates.now) (all_needed gate.now.joint) (take (place + 1) (map operand_of gate.now.operands.items))) ops.old ops.new result }
+    requires so_far_is { family ops.old so_far.n
+        ≡ joint_family (family ops.old firable.n) (map gate_of gates.now)
+        (all_needed gate.now.joint) (take place (map operand_of gate.now.operands.items)) }
+    ensures drawn { Draws (IsNeeded (family ops.old firable.n) (map gate_of gates.now)
+        (operand_of root))
+        (joint_family (family ops.old firable.n) (map gate_of gates.now) (all_needed gate.now.joint)
+        (take (place + 1) (map operand_of gate.now.operands.items))) ops.old ops.new result }
 {
     let next = operand(ops, gates, root, table, firable, gate.operands[place])?;
     join(ops, gate.joint, so_far, next)
@@ -94,9 +102,12 @@ pub(crate) fn gate(
     gate: &Gate,
 ) -> Result<NodeId, NodeFault>
     requires firable_in { IsNumber ops.old firable.n }
-    requires ready { IsReady (family ops.old firable.n) (map gate_of gates.now) (operand_of root) (length table.now) (gate_of gate.now) table.now ops.old }
-    ensures drawn { Draws (IsNeeded (family ops.old firable.n) (map gate_of gates.now) (operand_of root))
-        (family_at (family ops.old firable.n) (map gate_of gates.now) (GateIs (length table.now) true)) ops.old ops.new result }
+    requires ready { IsReady (family ops.old firable.n) (map gate_of gates.now) (operand_of root)
+        (length table.now) (gate_of gate.now) table.now ops.old }
+    ensures drawn { Draws (IsNeeded (family ops.old firable.n) (map gate_of gates.now)
+        (operand_of root))
+        (family_at (family ops.old firable.n) (map gate_of gates.now)
+        (GateIs (length table.now) true)) ops.old ops.new result }
 {
     let mut so_far = operand(ops, gates, root, table, firable, gate.operands[0])?;
     for place in 1..gate.operands.len() {

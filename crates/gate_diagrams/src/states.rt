@@ -41,7 +41,8 @@ fn first_event(trees: &Store, tree: NodeId) -> Option<EventId>
 
 // The lesser of two events.
 fn sooner(a: Option<EventId>, b: Option<EventId>) -> Option<EventId>
-    ensures { (fs gs : List Sets) → IsLeastEvent fs a → IsLeastEvent gs b → IsLeastEvent (fs ++ gs) result }
+    ensures { (fs gs : List Sets) → IsLeastEvent fs a → IsLeastEvent gs b
+        → IsLeastEvent (fs ++ gs) result }
 {
     match (a, b) {
         (Some(first), Some(second)) => {
@@ -65,7 +66,8 @@ pub(crate) fn halves(
     taken: bool,
 ) -> Result<Vec<NodeId>, Memory>
     requires in_store { AreNumbers trees.now left.now }
-    requires least { (x : ℕ) → x < event.n → some_occurs x (families_left trees.now left.now) ≡ false }
+    requires least { (x : ℕ) → x < event.n
+        → some_occurs x (families_left trees.now left.now) ≡ false }
     ensures { IfOk result (λ halves. AreHalves trees.now event.n taken left.now halves.items) }
 {
     let mut made = Vec::new(alloc);

@@ -28,7 +28,8 @@ pub(crate) fn entries_of(
     from: u32,
 ) -> Result<Vec<NodeId>, Memory>
     requires { IsNumber store.now root.n }
-    ensures { IfOk result (λ entries. AreEntries store.now from root.n (node_numbers entries.items)) }
+    ensures { IfOk result (λ entries.
+        AreEntries store.now from root.n (node_numbers entries.items)) }
 {
     let mut seen = vec![in alloc; false; root.n as usize + 1]?;
     let mut entries = Vec::new(alloc);
@@ -51,7 +52,8 @@ fn collect(
     ensures covered { OnOk result
         (IsCovered store.now from (node_numbers entries.new.items) (family store.now number.n)) }
     ensures added { OnOk result
-        (Adds store.now from number.n (node_numbers entries.old.items) (node_numbers entries.new.items)) }
+        (Adds store.now from number.n (node_numbers entries.old.items)
+        (node_numbers entries.new.items)) }
     ensures long { OnOk result (length seen.new ≡ length seen.old) }
 {
     if seen[number.n as usize] {
@@ -166,7 +168,8 @@ pub(crate) fn entries_agree(
     requires end_some { 0 < reference.end.n }
     requires room { (k : ℕ) (e : NodeId) → Stands entries.now k e → e.n < length twins.old }
     requires known { AreTwins store.now twins.old }
-    ensures is { EntriesAnswer store.now to reference.node.n reference.end.n (node_numbers entries.now) result }
+    ensures is { EntriesAnswer store.now to reference.node.n reference.end.n
+        (node_numbers entries.now) result }
     ensures known { AreTwins store.now twins.new }
     ensures long { length twins.new ≡ length twins.old }
 {

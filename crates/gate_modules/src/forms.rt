@@ -62,9 +62,11 @@ fn add_leaf(
     forms: &mut Vec<ShortSet>,
 ) -> Result<(), Memory>
     requires { number.n < 2 }
-    ensures none { OnOk result (number.n ≡ 0 → map form_made forms.new.items ≡ map form_made forms.old.items) }
+    ensures none { OnOk result (number.n ≡ 0
+        → map form_made forms.new.items ≡ map form_made forms.old.items) }
     ensures one { OnOk result (number.n ≡ 1
-        → map form_made forms.new.items ≡ map form_made forms.old.items ++ short_form chosen.now (numbers taken.now) ∷ []) }
+        → map form_made forms.new.items ≡ map form_made forms.old.items
+        ++ short_form chosen.now (numbers taken.now) ∷ []) }
 {
     if number.n == 0 {
         return Ok(());
@@ -97,7 +99,8 @@ fn form_of(alloc: Global, chosen: &[Range], taken: &[EventId]) -> Result<ShortSe
 // The units of these ranges of which one of the events is.
 fn units_of(alloc: Global, chosen: &[Range], taken: &[EventId]) -> Result<Vec<UnitId>, Memory>
     ensures { IfOk result
-        (λ units. map (λ u. u.n) units.items ≡ units_where (has_touched (numbers taken.now)) chosen.now) }
+        (λ units. map (λ u. u.n) units.items
+        ≡ units_where (has_touched (numbers taken.now)) chosen.now) }
 {
     let mut units = Vec::new(alloc);
     for range in chosen {
@@ -111,7 +114,8 @@ fn units_of(alloc: Global, chosen: &[Range], taken: &[EventId]) -> Result<Vec<Un
 // Those of the events that are of none of these ranges.
 fn free_events(alloc: Global, chosen: &[Range], taken: &[EventId]) -> Result<Vec<EventId>, Memory>
     ensures { IfOk result
-        (λ events. numbers events.items ≡ filter (λ e. not (covered_by chosen.now e)) (numbers taken.now)) }
+        (λ events. numbers events.items ≡ filter (λ e. not (covered_by chosen.now e))
+        (numbers taken.now)) }
 {
     let mut events = Vec::new(alloc);
     for event in taken {
@@ -136,7 +140,8 @@ fn is_free(chosen: &[Range], event: EventId) -> bool
 
 // The range of which the event is.
 fn holder(chosen: &[Range], event: EventId) -> Option<Range>
-    ensures { MatchOption result (covered_by chosen.now event.n ≡ false) (λ r. IsHeld chosen.now event.n r) }
+    ensures { MatchOption result (covered_by chosen.now event.n ≡ false)
+        (λ r. IsHeld chosen.now event.n r) }
 {
     for range in chosen {
         if lies(*range, event) {

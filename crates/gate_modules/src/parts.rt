@@ -19,7 +19,8 @@ pub(crate) fn parts(
     number: NodeId,
 ) -> Result<Vec<EventSet>, Memory>
     requires { IsNumber store.now number.n }
-    ensures { IfOk result (λ sets. AreSomeHeads to (family store.now number.n) (map set_of sets.items)) }
+    ensures { IfOk result (λ sets. AreSomeHeads to (family store.now number.n)
+        (map set_of sets.items)) }
 {
     let mut sets = Vec::new(alloc);
     add_some_parts(alloc, store, to, number, &mut sets)?;
@@ -36,7 +37,8 @@ fn add_some_parts(
 ) -> Result<(), Memory>
     requires { IsNumber store.now number.n }
     ensures { OnOk result
-        (AddsSomeHeads store.now to number.n (map set_of sets.old.items) (map set_of sets.new.items)) }
+        (AddsSomeHeads store.now to number.n (map set_of sets.old.items)
+        (map set_of sets.new.items)) }
 {
     match below(store, to, number) {
         Some((event, lo, hi)) => {
@@ -60,7 +62,8 @@ fn add_parts(
 ) -> Result<(), Memory>
     requires { IsNumber store.now number.n }
     ensures { OnOk result
-        (AddsHeads store.now to number.n (numbers taken.now) (map set_of sets.old.items) (map set_of sets.new.items)) }
+        (AddsHeads store.now to number.n (numbers taken.now) (map set_of sets.old.items)
+        (map set_of sets.new.items)) }
 {
     match below(store, to, number) {
         Some((event, lo, hi)) => {

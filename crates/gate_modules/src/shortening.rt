@@ -24,7 +24,8 @@ use zdd_nodes::{NodeId, Store};
 pub fn shorten(alloc: Global, family: &Family, ranges: &[Range]) -> Result<Short, Memory>
     requires root { IsNumber family.now.store family.now.root.n }
     requires ranges { AreRanges ranges.now }
-    ensures short { IfOk result (λ s. Shortens (family_of family.now.store family.now.root.n) ranges.now s) }
+    ensures short { IfOk result (λ s.
+        Shortens (family_of family.now.store family.now.root.n) ranges.now s) }
     ensures stands { IfOk result (λ s. StandFor (family_of family.now.store family.now.root.n)
         (map module_of s.modules.items) (map form_of s.sets.items)) }
 {

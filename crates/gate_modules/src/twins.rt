@@ -54,7 +54,8 @@ pub(crate) fn below(store: &Store, to: u32, number: NodeId) -> Option<(EventId, 
 // Whether the table tells that the families agree as asked.
 fn is_known(twins: &[Twin], asked: Question, first: NodeId, second: NodeId) -> bool
     requires room { first.n < length twins.now }
-    ensures { (s : Stored) → AreTwins s twins.now → result ≡ true → Agrees s asked first.n second.n }
+    ensures { (s : Stored) → AreTwins s twins.now → result ≡ true
+        → Agrees s asked first.n second.n }
 {
     let known = twins[first.n as usize];
     known.node.n > 0 && is_asked(known, asked, second)

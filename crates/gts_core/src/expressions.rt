@@ -51,7 +51,8 @@ pub(crate) fn expression<K: Sink>(
 // The opposite of an expression.
 #[cycle(expression)]
 fn opposite<K: Sink>(out: &mut K, parts: &GtsParts, a: &Expr<VarId>) -> Result<(), SinkFailed>
-    ensures { Writes (K.state out.old) (K.state out.new) (codes "(not " ++ expr_text parts.now a.now ++ codes ")") result }
+    ensures { Writes (K.state out.old) (K.state out.new)
+        (codes "(not " ++ expr_text parts.now a.now ++ codes ")") result }
 {
     put(out, "(not ")?;
     expression(out, parts, a)?;
@@ -68,7 +69,8 @@ fn chosen<K: Sink>(
     choices: &[(Expr<VarId>, Expr<VarId>)],
 ) -> Result<(), SinkFailed>
     ensures { Writes (K.state out.old) (K.state out.new)
-        (cases_form one (map (λ c. (expr_text parts.now c.0, expr_text parts.now c.1)) choices.now)) result }
+        (cases_form one (map (λ c. (expr_text parts.now c.0, expr_text parts.now c.1)) choices.now))
+        result }
 {
     put(out, either(one, "", "switch {"))?;
     cases(out, parts, one, choices)?;
@@ -85,7 +87,8 @@ fn listed<K: Sink>(
     separator: &str,
 ) -> Result<(), SinkFailed>
     ensures { Writes (K.state out.old) (K.state out.new)
-        (opening.now ++ separated true separator.now (map (expr_text parts.now) es.now) ++ codes ")") result }
+        (opening.now ++ separated true separator.now (map (expr_text parts.now) es.now)
+        ++ codes ")") result }
 {
     put(out, opening)?;
     operands(out, parts, es, separator)?;
@@ -120,7 +123,8 @@ fn sum<K: Sink>(
     all: &[(bool, Expr<VarId>)],
 ) -> Result<(), SinkFailed>
     ensures { Writes (K.state out.old) (K.state out.new)
-        (codes "(" ++ summed true (map (λ p. (p.0, expr_text parts.now p.1)) all.now) ++ codes ")") result }
+        (codes "(" ++ summed true (map (λ p. (p.0, expr_text parts.now p.1)) all.now) ++ codes ")")
+        result }
 {
     put(out, "(")?;
     terms(out, parts, all)?;
@@ -155,7 +159,8 @@ fn cases<K: Sink>(
     choices: &[(Expr<VarId>, Expr<VarId>)],
 ) -> Result<(), SinkFailed>
     ensures { Writes (K.state out.old) (K.state out.new)
-        (concat (map (case_form one) (map (λ c. (expr_text parts.now c.0, expr_text parts.now c.1)) choices.now))) result }
+        (concat (map (case_form one) (map (λ c. (expr_text parts.now c.0, expr_text parts.now c.1))
+        choices.now))) result }
 {
     for (test, value) in choices {
         put(out, either(one, "(if ", "case "))?;

@@ -24,8 +24,11 @@ pub fn one_system()
 
 /// Numbered forms keep copies, and keep the numbers of a source's variables.
 pub fn numbered_expressions<V>()
-    ensures copies { (e f : Expr VarId) → IsCopy e f → Expr_renames (λ m n. m ≡ n) (numbered e) (numbered f) }
-    ensures sources { (things : List V) (e : Expr V) (f : Expr VarId) → Renames (λ x y. Stands things y.n x) (out-Expr V e) (out-Expr VarId f) → Expr_renames (IsNumber things) e (numbered f) }
+    ensures copies { (e f : Expr VarId) → IsCopy e f
+        → Expr_renames (λ m n. m ≡ n) (numbered e) (numbered f) }
+    ensures sources { (things : List V) (e : Expr V) (f : Expr VarId)
+        → Renames (λ x y. Stands things y.n x) (out-Expr V e) (out-Expr VarId f)
+        → Expr_renames (IsNumber things) e (numbered f) }
 {}
 
 /// The system of sound parts is lawful: its numbers are in range, its values are of their domains, and its assertions and

@@ -92,7 +92,8 @@ pub(crate) fn relation_text(relation: Relation) -> &'static str
 
 // A value.
 pub(crate) fn value<K: Sink>(out: &mut K, parts: &GtsParts, v: Value) -> Result<(), SinkFailed>
-    ensures { Writes (K.state out.old) (K.state out.new) (value_text parts.now.symbols.items v) result }
+    ensures { Writes (K.state out.old) (K.state out.new) (value_text parts.now.symbols.items v)
+        result }
 {
     match v {
         Value::Truth(true) => put(out, "true"),

@@ -29,7 +29,8 @@ pub(crate) fn system<K: Sink>(out: &mut K, parts: &GtsParts) -> Result<(), SinkF
 
 // The lines for the variables.
 fn variables<K: Sink>(out: &mut K, parts: &GtsParts, all: &[Variable]) -> Result<(), SinkFailed>
-    ensures { Writes (K.state out.old) (K.state out.new) (concat (map (variable_line parts.now) all.now)) result }
+    ensures { Writes (K.state out.old) (K.state out.new)
+        (concat (map (variable_line parts.now) all.now)) result }
 {
     for x in all {
         variable(out, parts, x)?;
@@ -64,7 +65,8 @@ fn domain<K: Sink>(out: &mut K, parts: &GtsParts, range: &Domain) -> Result<(), 
 // A set of symbols.
 fn symbol_set<K: Sink>(out: &mut K, parts: &GtsParts, symbols: &[u32]) -> Result<(), SinkFailed>
     ensures { Writes (K.state out.old) (K.state out.new)
-        (codes "{" ++ separated true (codes ", ") (map (text_at parts.now.symbols.items) symbols.now) ++ codes "}") result }
+        (codes "{" ++ separated true (codes ", ")
+        (map (text_at parts.now.symbols.items) symbols.now) ++ codes "}") result }
 {
     put(out, "{")?;
     symbol_names(out, parts, symbols)?;
@@ -73,7 +75,8 @@ fn symbol_set<K: Sink>(out: &mut K, parts: &GtsParts, symbols: &[u32]) -> Result
 
 // A range of whole numbers.
 fn interval<K: Sink>(out: &mut K, low: i64, high: i64) -> Result<(), SinkFailed>
-    ensures { Writes (K.state out.old) (K.state out.new) (codes "[" ++ signed_decimal low ++ codes ", " ++ signed_decimal high ++ codes "]") result }
+    ensures { Writes (K.state out.old) (K.state out.new)
+        (codes "[" ++ signed_decimal low ++ codes ", " ++ signed_decimal high ++ codes "]") result }
 {
     put(out, "[")?;
     whole(out, low)?;
@@ -84,7 +87,8 @@ fn interval<K: Sink>(out: &mut K, low: i64, high: i64) -> Result<(), SinkFailed>
 
 // The names of symbols.
 fn symbol_names<K: Sink>(out: &mut K, parts: &GtsParts, symbols: &[u32]) -> Result<(), SinkFailed>
-    ensures { Writes (K.state out.old) (K.state out.new) (separated true (codes ", ") (map (text_at parts.now.symbols.items) symbols.now)) result }
+    ensures { Writes (K.state out.old) (K.state out.new)
+        (separated true (codes ", ") (map (text_at parts.now.symbols.items) symbols.now)) result }
 {
     let mut first = true;
     for symbol in symbols {
@@ -97,7 +101,8 @@ fn symbol_names<K: Sink>(out: &mut K, parts: &GtsParts, symbols: &[u32]) -> Resu
 
 // The lines for the ways of all events.
 fn events<K: Sink>(out: &mut K, parts: &GtsParts, all: &[Event]) -> Result<(), SinkFailed>
-    ensures { Writes (K.state out.old) (K.state out.new) (concat (map (event_lines parts.now) all.now)) result }
+    ensures { Writes (K.state out.old) (K.state out.new)
+        (concat (map (event_lines parts.now) all.now)) result }
 {
     for event in all {
         ways(out, parts, event.hidden, &event.ways)?;
@@ -112,7 +117,9 @@ fn ways<K: Sink>(
     hidden: bool,
     all: &[WayId],
 ) -> Result<(), SinkFailed>
-    ensures { Writes (K.state out.old) (K.state out.new) (concat (map (λ (w : WayId). line_found parts.now hidden (slice_get parts.now.ways.items w.n)) all.now)) result }
+    ensures { Writes (K.state out.old) (K.state out.new)
+        (concat (map (λ (w : WayId). line_found parts.now hidden
+        (slice_get parts.now.ways.items w.n)) all.now)) result }
 {
     for id in all {
         way_at(out, parts, hidden, id.n)?;
@@ -122,7 +129,8 @@ fn ways<K: Sink>(
 
 // The line for the way of this number.
 fn way_at<K: Sink>(out: &mut K, parts: &GtsParts, hidden: bool, n: u32) -> Result<(), SinkFailed>
-    ensures { Writes (K.state out.old) (K.state out.new) (line_found parts.now hidden (slice_get parts.now.ways.items n)) result }
+    ensures { Writes (K.state out.old) (K.state out.new)
+        (line_found parts.now hidden (slice_get parts.now.ways.items n)) result }
 {
     match parts.ways.get(n as usize) {
         Some(way) => way_line(out, parts, hidden, way),
@@ -137,7 +145,8 @@ fn way_line<K: Sink>(
     hidden: bool,
     way: &Way,
 ) -> Result<(), SinkFailed>
-    ensures { Writes (K.state out.old) (K.state out.new) (way_line parts.now hidden way.now) result }
+    ensures { Writes (K.state out.old) (K.state out.new) (way_line parts.now hidden way.now)
+        result }
 {
     put(out, either(hidden, "hidden ", ""))?;
     put(out, "way ")?;
@@ -184,7 +193,8 @@ fn transition<K: Sink>(
     assigns: &[Assign],
 ) -> Result<(), SinkFailed>
     ensures { Writes (K.state out.old) (K.state out.new)
-        (expr_text parts.now guard.now ++ codes " -> " ++ action_text parts.now assigns.now) result }
+        (expr_text parts.now guard.now ++ codes " -> " ++ action_text parts.now assigns.now)
+        result }
 {
     expression(out, parts, guard)?;
     put(out, " -> ")?;
@@ -197,7 +207,8 @@ fn way_parts<K: Sink>(
     parts: &GtsParts,
     all: &[(bool, WayId)],
 ) -> Result<(), SinkFailed>
-    ensures { Writes (K.state out.old) (K.state out.new) (separated true (codes " & ") (map (part_text parts.now) all.now)) result }
+    ensures { Writes (K.state out.old) (K.state out.new)
+        (separated true (codes " & ") (map (part_text parts.now) all.now)) result }
 {
     let mut first = true;
     for part in all {
@@ -218,7 +229,8 @@ fn way_part<K: Sink>(out: &mut K, parts: &GtsParts, part: &(bool, WayId)) -> Res
 
 // The label of the way of this number.
 fn label_at<K: Sink>(out: &mut K, parts: &GtsParts, n: u32) -> Result<(), SinkFailed>
-    ensures { Writes (K.state out.old) (K.state out.new) (label_found parts.now (slice_get parts.now.ways.items n)) result }
+    ensures { Writes (K.state out.old) (K.state out.new)
+        (label_found parts.now (slice_get parts.now.ways.items n)) result }
 {
     match parts.ways.get(n as usize) {
         Some(way) => label(out, parts, way),
@@ -228,7 +240,8 @@ fn label_at<K: Sink>(out: &mut K, parts: &GtsParts, n: u32) -> Result<(), SinkFa
 
 // The assignments of an action.
 fn action<K: Sink>(out: &mut K, parts: &GtsParts, assigns: &[Assign]) -> Result<(), SinkFailed>
-    ensures { Writes (K.state out.old) (K.state out.new) (action_text parts.now assigns.now) result }
+    ensures { Writes (K.state out.old) (K.state out.new) (action_text parts.now assigns.now)
+        result }
 {
     if assigns.is_empty() {
         put(out, "skip")
@@ -239,7 +252,8 @@ fn action<K: Sink>(out: &mut K, parts: &GtsParts, assigns: &[Assign]) -> Result<
 
 // Assignments.
 fn sets<K: Sink>(out: &mut K, parts: &GtsParts, assigns: &[Assign]) -> Result<(), SinkFailed>
-    ensures { Writes (K.state out.old) (K.state out.new) (separated true (codes ", ") (map (set_text parts.now) assigns.now)) result }
+    ensures { Writes (K.state out.old) (K.state out.new)
+        (separated true (codes ", ") (map (set_text parts.now) assigns.now)) result }
 {
     let mut first = true;
     for assign in assigns {
@@ -266,7 +280,8 @@ fn conditions<K: Sink>(
     parts: &GtsParts,
     all: &[(Expr<VarId>, bool)],
 ) -> Result<(), SinkFailed>
-    ensures { Writes (K.state out.old) (K.state out.new) (concat (map (condition_text parts.now) all.now)) result }
+    ensures { Writes (K.state out.old) (K.state out.new)
+        (concat (map (condition_text parts.now) all.now)) result }
 {
     for condition in all {
         when(out, parts, condition)?;
@@ -280,7 +295,8 @@ fn when<K: Sink>(
     parts: &GtsParts,
     condition: &(Expr<VarId>, bool),
 ) -> Result<(), SinkFailed>
-    ensures { Writes (K.state out.old) (K.state out.new) (condition_text parts.now condition.now) result }
+    ensures { Writes (K.state out.old) (K.state out.new) (condition_text parts.now condition.now)
+        result }
 {
     put(out, either(condition.1, " when ", " unless "))?;
     expression(out, parts, &condition.0)
@@ -306,7 +322,8 @@ fn assert_line<K: Sink>(
     n: u32,
     assign: &Assign,
 ) -> Result<(), SinkFailed>
-    ensures { Writes (K.state out.old) (K.state out.new) (assert_line parts.now n assign.now) result }
+    ensures { Writes (K.state out.old) (K.state out.new) (assert_line parts.now n assign.now)
+        result }
 {
     put(out, "assert ")?;
     count(out, n)?;
@@ -321,7 +338,8 @@ fn assert_line<K: Sink>(
 
 // The lines for the observers.
 fn observers<K: Sink>(out: &mut K, parts: &GtsParts, all: &[Observer]) -> Result<(), SinkFailed>
-    ensures { Writes (K.state out.old) (K.state out.new) (concat (map (observer_line parts.now) all.now)) result }
+    ensures { Writes (K.state out.old) (K.state out.new)
+        (concat (map (observer_line parts.now) all.now)) result }
 {
     for o in all {
         observer(out, parts, o)?;

@@ -57,7 +57,8 @@ fn parts_of(alloc: Global, bound: &Bound, plan: &[WayPlan]) -> Result<GtsParts, 
 /// `expression nodes` that is passed, in this order.
 pub fn flatten(alloc: Global, bound: &Bound) -> Result<Gts, RuleFault>
     requires { IsSoundBound bound.now }
-    ensures { (m : RootedModel) (units : List UnitPath) (d : Declarations) → IsKept m → AreUnits m units
+    ensures { (m : RootedModel) (units : List UnitPath) (d : Declarations) → IsKept m
+        → AreUnits m units
         → AreOf m units d → IsBoundFrom d bound.now → Meets Flattens IsFlat d result }
 {
     let plan = ways(alloc, &bound.events)?;

@@ -15,9 +15,11 @@ ghost use Rattle.hierarchy.specs.Settings.{Named, Init, Attribute, outermost, se
 
 /// A name and a path come to one outcome.
 pub fn one_outcome()
-    ensures name { (m : RootedModel) (f : List Thing) (u : UnitPath) (x : ℕ) (w : Option MemberKind) (o p : Outcome)
+    ensures name { (m : RootedModel) (f : List Thing) (u : UnitPath) (x : ℕ) (w : Option MemberKind)
+        (o p : Outcome)
         → NameLeads m f u x w o → NameLeads m f u x w p → o ≡ p }
-    ensures names { (m : RootedModel) (f : List Thing) (u : Option UnitPath) (xs : List ℕ) (o p : Outcome)
+    ensures names { (m : RootedModel) (f : List Thing) (u : Option UnitPath) (xs : List ℕ)
+        (o p : Outcome)
         → NamesLead m f u xs o → NamesLead m f u xs p → o ≡ p }
 {}
 
@@ -39,7 +41,8 @@ pub fn outer_settings_win()
         → outermost m (i ∷ d ∷ []) (Named s ∷ Init ∷ []) ≡ Some z }
     ensures inner { (m : RootedModel) (d i : Level) (s : ℕ)
         → set_by m [] d.set_at (Named i.name ∷ Named s ∷ Init ∷ []) ≡ None
-        → outermost m (i ∷ d ∷ []) (Named s ∷ Init ∷ []) ≡ set_by m (d ∷ []) i.set_at (Named s ∷ Init ∷ []) }
+        → outermost m (i ∷ d ∷ []) (Named s ∷ Init ∷ [])
+        ≡ set_by m (d ∷ []) i.set_at (Named s ∷ Init ∷ []) }
 {}
 
 /// The table of a model that keeps the rules over the whole text is that of the model, seen from its main block.

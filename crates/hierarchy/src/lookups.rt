@@ -100,7 +100,8 @@ pub fn unit_at(tree: &Tree, from: UnitId, first: PathStart, names: &[NameId]) ->
     requires tree { IsSomeTree tree.now }
     requires in_range { from.n < length tree.now.units.items }
     ensures { (m : RootedModel) (units : List UnitPath) (u : UnitPath) → IsTreeOf m units tree.now
-        → Stands units from.n u → AnswersUnit m units u first (numbers names.now) (unit_number result) }
+        → Stands units from.n u → AnswersUnit m units u first (numbers names.now)
+        (unit_number result) }
 {
     let mut at = start_at(tree, from, first)?;
     for name in names {
@@ -131,7 +132,8 @@ pub fn var_at(tree: &Tree, from: UnitId, first: PathStart, names: &[NameId]) -> 
     requires tree { IsSomeTree tree.now }
     requires in_range { from.n < length tree.now.units.items }
     ensures { (m : RootedModel) (units : List UnitPath) (u : UnitPath) → IsTreeOf m units tree.now
-        → Stands units from.n u → AnswersThing m (variables m units) is_variable u first (numbers names.now)
+        → Stands units from.n u → AnswersThing m (variables m units) is_variable u first
+        (numbers names.now)
         (option_map (λ (v : VarNumber). v.n) result) }
 {
     let (unit, name) = owner_and_name(tree, from, first, names)?;
@@ -144,7 +146,8 @@ pub fn event_at(tree: &Tree, from: UnitId, first: PathStart, names: &[NameId]) -
     requires tree { IsSomeTree tree.now }
     requires in_range { from.n < length tree.now.units.items }
     ensures { (m : RootedModel) (units : List UnitPath) (u : UnitPath) → IsTreeOf m units tree.now
-        → Stands units from.n u → AnswersThing m (events m units) is_event u first (numbers names.now)
+        → Stands units from.n u → AnswersThing m (events m units) is_event u first
+        (numbers names.now)
         (option_map (λ (e : EventNumber). e.n) result) }
 {
     let (unit, name) = owner_and_name(tree, from, first, names)?;
@@ -158,7 +161,8 @@ pub fn par_at(tree: &Tree, from: UnitId, first: PathStart, names: &[NameId]) -> 
     requires tree { IsSomeTree tree.now }
     requires in_range { from.n < length tree.now.units.items }
     ensures { (m : RootedModel) (units : List UnitPath) (u : UnitPath) → IsTreeOf m units tree.now
-        → Stands units from.n u → AnswersThing m (parameters m units) is_parameter u first (numbers names.now) result }
+        → Stands units from.n u → AnswersThing m (parameters m units) is_parameter u first
+        (numbers names.now) result }
 {
     let (unit, name) = owner_and_name(tree, from, first, names)?;
     let place = place_of_parameter(&tree.parameters, unit, name)?;
@@ -171,7 +175,8 @@ pub fn observer_at(tree: &Tree, from: UnitId, first: PathStart, names: &[NameId]
     requires tree { IsSomeTree tree.now }
     requires in_range { from.n < length tree.now.units.items }
     ensures { (m : RootedModel) (units : List UnitPath) (u : UnitPath) → IsTreeOf m units tree.now
-        → Stands units from.n u → AnswersThing m (observers m units) is_observer u first (numbers names.now) result }
+        → Stands units from.n u → AnswersThing m (observers m units) is_observer u first
+        (numbers names.now) result }
 {
     let (unit, name) = owner_and_name(tree, from, first, names)?;
     let place = place_of_member(&tree.observers, unit, name)?;

@@ -13,7 +13,8 @@ const LANES: usize = 4;
 pub fn or_into(row: &mut [u64], with: &[u64]) -> bool
     requires { length row.old ≡ length with.now }
     ensures or { (k : ℕ) → k < length row.old → slice_index row.new k ≡ or_at row.old with.now k }
-    ensures changed { IsTrue result → (k : ℕ) × (k < length row.old) × (slice_index row.new k ≢ slice_index row.old k) }
+    ensures changed { IsTrue result → (k : ℕ) × (k < length row.old)
+        × (slice_index row.new k ≢ slice_index row.old k) }
     ensures same { result ≡ false → row.new ≡ row.old }
 {
     let mut at = 0;

@@ -104,7 +104,8 @@ pub fn move_at(
 // The values that an action gives the variable.
 fn given(alloc: Global, action: &[Assign], at: &AtMode<'_>) -> Result<Vec<Value>, Memory>
     ensures { IfOk result (λ values. HasThose (SomeHas
-        (GivesValue (HasAt at.now.variable.n at.now.values.now) at.now.variable.n) action.now) values.items) }
+        (GivesValue (HasAt at.now.variable.n at.now.values.now) at.now.variable.n) action.now)
+        values.items) }
 {
     let mut values = Vec::new(alloc);
     for assign in action {

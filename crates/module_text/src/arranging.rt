@@ -42,7 +42,8 @@ pub(crate) fn groups_of(
     forest: &Forest,
     modules: &[Module],
 ) -> Result<Vec<Group>, Memory>
-    ensures { IfOk result (λ groups. Along (IsGroupOf (edges_of forest.now.trees.items)) modules.now groups.items) }
+    ensures { IfOk result (λ groups. Along (IsGroupOf (edges_of forest.now.trees.items)) modules.now
+        groups.items) }
 {
     let mut groups = Vec::new(alloc);
     for module in modules {
@@ -58,7 +59,8 @@ pub(crate) fn groups_of(
 // The lines of sets.
 fn lines_of_sets(alloc: Global, forest: &Forest, sets: &[EventSet]) -> Result<Vec<Line>, Memory>
     ensures { IfOk result
-        (λ lines. map pieces_of lines.items ≡ map (part_pieces (edges_of forest.now.trees.items)) sets.now) }
+        (λ lines. map pieces_of lines.items
+        ≡ map (part_pieces (edges_of forest.now.trees.items)) sets.now) }
 {
     let mut lines = Vec::new(alloc);
     for set in sets {
@@ -74,7 +76,8 @@ pub(crate) fn lines_of_forms(
     forms: &[ShortSet],
 ) -> Result<Vec<Line>, Memory>
     ensures { IfOk result
-        (λ lines. map pieces_of lines.items ≡ map (form_pieces (edges_of forest.now.trees.items)) forms.now) }
+        (λ lines. map pieces_of lines.items
+        ≡ map (form_pieces (edges_of forest.now.trees.items)) forms.now) }
 {
     let mut lines = Vec::new(alloc);
     for form in forms {
@@ -113,7 +116,8 @@ fn add_units(pieces: &mut Vec<Piece>, units: &[UnitId]) -> Result<(), Memory>
 
 // Adds the ways of those of the edges that have one of the events.
 fn add_ways(pieces: &mut Vec<Piece>, edges: &[Edge], events: &[EventId]) -> Result<(), Memory>
-    ensures { OnOk result (pieces.new.items ≡ pieces.old.items ++ way_pieces edges.now (numbers events.now)) }
+    ensures { OnOk result (pieces.new.items ≡ pieces.old.items
+        ++ way_pieces edges.now (numbers events.now)) }
 {
     for edge in edges {
         if contains(events, edge.event) {

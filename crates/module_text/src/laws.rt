@@ -43,7 +43,8 @@ pub fn modules_of_the_source()
 /// each combination of one set of the module for each unit of a form, with the form's events, is a cut, and each cut comes
 /// from just one short form and one combination.
 pub fn combinations_are_cuts()
-    ensures { (x : Elaborated) (dropped : List ℕ) (observer : Expr Thing) (wanted : Value) (text : List ℕ)
+    ensures { (x : Elaborated) (dropped : List ℕ) (observer : Expr Thing) (wanted : Value)
+        (text : List ℕ)
         (t : IsModuleText x dropped observer wanted text) → IsKept x.declarations.model
         → AreUnits x.declarations.model x.declarations.units → StandFor t.cuts t.modules t.forms }
 {}

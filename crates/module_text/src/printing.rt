@@ -36,7 +36,8 @@ pub fn print_modules<K: Sink>(
     out: &mut K,
 ) -> Result<(), PrintFault>
     requires { OwnTheirWays gts.now forest.now.trees.items }
-    ensures { Prints (K.state out.old) (K.state out.new) (short_lines gts.now forest.now short.now) result }
+    ensures { Prints (K.state out.old) (K.state out.new) (short_lines gts.now forest.now short.now)
+        result }
 {
     let groups = groups_of(alloc, forest, &short.modules)?;
     let lines = lines_of_forms(alloc, forest, &short.sets)?;
@@ -68,7 +69,8 @@ fn group<K: Sink>(out: &mut K, gts: &Gts, group: &Group) -> Result<(), SinkFaile
 
 // The line of a module's unit.
 fn head<K: Sink>(out: &mut K, parts: &GtsParts, unit: UnitId) -> Result<(), SinkFailed>
-    ensures { Writes (K.state out.old) (K.state out.new) (module_line (text_at parts.now.units.items unit.n)) result }
+    ensures { Writes (K.state out.old) (K.state out.new)
+        (module_line (text_at parts.now.units.items unit.n)) result }
 {
     put(out, "module ")?;
     put(out, unit_path(parts, unit))?;
@@ -89,7 +91,8 @@ fn parts<K: Sink>(out: &mut K, gts: &Gts, lines: &[Line]) -> Result<(), SinkFail
 // The line of a set.
 fn part<K: Sink>(out: &mut K, gts: &Gts, line: &Line) -> Result<(), SinkFailed>
     requires { AreInside gts.now line.now.pieces.items }
-    ensures { Writes (K.state out.old) (K.state out.new) (part_line (line_text gts.now line.now)) result }
+    ensures { Writes (K.state out.old) (K.state out.new) (part_line (line_text gts.now line.now))
+        result }
 {
     put(out, "  ")?;
     between_braces(out, gts, line)?;
@@ -110,7 +113,8 @@ fn forms<K: Sink>(out: &mut K, gts: &Gts, lines: &[Line]) -> Result<(), SinkFail
 // The line of a short form.
 fn form<K: Sink>(out: &mut K, gts: &Gts, form: &Line) -> Result<(), SinkFailed>
     requires { AreInside gts.now form.now.pieces.items }
-    ensures { Writes (K.state out.old) (K.state out.new) (line (line_text gts.now form.now)) result }
+    ensures { Writes (K.state out.old) (K.state out.new) (line (line_text gts.now form.now))
+        result }
 {
     between_braces(out, gts, form)?;
     put(out, "\n")
@@ -163,7 +167,8 @@ fn more_pieces<K: Sink>(out: &mut K, gts: &Gts, pieces: &[Piece]) -> Result<(), 
 // A piece behind another one.
 fn next_piece<K: Sink>(out: &mut K, gts: &Gts, next: Piece) -> Result<(), SinkFailed>
     requires { IsInside gts.now next }
-    ensures { Writes (K.state out.old) (K.state out.new) (codes ", " ++ piece_text gts.now next) result }
+    ensures { Writes (K.state out.old) (K.state out.new) (codes ", " ++ piece_text gts.now next)
+        result }
 {
     put(out, ", ")?;
     piece(out, gts, next)
@@ -182,7 +187,8 @@ fn piece<K: Sink>(out: &mut K, gts: &Gts, piece: Piece) -> Result<(), SinkFailed
 
 // A unit in a line.
 fn mark<K: Sink>(out: &mut K, parts: &GtsParts, unit: UnitId) -> Result<(), SinkFailed>
-    ensures { Writes (K.state out.old) (K.state out.new) (unit_mark (text_at parts.now.units.items unit.n)) result }
+    ensures { Writes (K.state out.old) (K.state out.new)
+        (unit_mark (text_at parts.now.units.items unit.n)) result }
 {
     put(out, "[")?;
     put(out, unit_path(parts, unit))?;

@@ -45,7 +45,8 @@ fn count_of(pairs: &[(u32, u32)]) -> usize
 fn starts_of(alloc: Global, pairs: &[(u32, u32)], count: usize) -> Result<Vec<usize>, Memory>
     requires { IsNonDecreasingBy (λ q. q.0) pairs.now }
     ensures long { IfOk result (λ starts. length starts.items ≡ count) }
-    ensures each { IfOk result (λ starts. (x start : ℕ) → Stands starts.items x start → IsStart pairs.now x start) }
+    ensures each { IfOk result (λ starts. (x start : ℕ) → Stands starts.items x start
+        → IsStart pairs.now x start) }
 {
     let mut starts = Vec::new(alloc);
     for first in 0..count {
@@ -64,8 +65,10 @@ fn start_of(pairs: &[(u32, u32)], first: usize) -> usize
 
 // The pairs with a first, in constant time.
 pub(crate) fn run_in(indexed: &IndexedPairs, first: u32) -> &[(u32, u32)]
-    ensures among { (q : ℕ × ℕ) → IsOneOf result.now q → IsOneOf indexed.now.pairs.items q × (q.0 ≡ first) }
-    ensures all { (n : ℕ) → IsOneOf indexed.now.pairs.items (first, n) → IsOneOf result.now (first, n) }
+    ensures among { (q : ℕ × ℕ) → IsOneOf result.now q
+        → IsOneOf indexed.now.pairs.items q × (q.0 ≡ first) }
+    ensures all { (n : ℕ) → IsOneOf indexed.now.pairs.items (first, n)
+        → IsOneOf result.now (first, n) }
 {
     let place = first as usize;
     if place + 1 >= indexed.starts.len() {

@@ -14,7 +14,8 @@ use std::alloc::Global;
 pub fn paired(alloc: Global, pairs: &[(u32, u32)], firsts: &[u32]) -> Result<Vec<u32>, Memory>
     requires { IsNonDecreasingBy (λ q. q.0) pairs.now }
     ensures ascends { IfOk result (λ all. Ascends all.items) }
-    ensures each { IfOk result (λ all. (n : ℕ) → (IsOneOf all.items n ↔ IsPaired pairs.now firsts.now n)) }
+    ensures each { IfOk result (λ all. (n : ℕ)
+        → (IsOneOf all.items n ↔ IsPaired pairs.now firsts.now n)) }
 {
     let mut all = Vec::new(alloc);
     for first in firsts {
@@ -28,7 +29,8 @@ pub fn paired(alloc: Global, pairs: &[(u32, u32)], firsts: &[u32]) -> Result<Vec
 /// The same by indexed pairs, each first in constant time.
 pub fn paired_by(alloc: Global, pairs: &IndexedPairs, firsts: &[u32]) -> Result<Vec<u32>, Memory>
     ensures ascends { IfOk result (λ all. Ascends all.items) }
-    ensures each { IfOk result (λ all. (n : ℕ) → (IsOneOf all.items n ↔ IsPaired pairs.now.pairs.items firsts.now n)) }
+    ensures each { IfOk result (λ all. (n : ℕ)
+        → (IsOneOf all.items n ↔ IsPaired pairs.now.pairs.items firsts.now n)) }
 {
     let mut all = Vec::new(alloc);
     for first in firsts {

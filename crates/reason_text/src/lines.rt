@@ -22,7 +22,8 @@ pub(crate) fn told_lines<K: Sink>(
     reasons: &[Reason],
 ) -> Result<(), SinkFailed>
     requires { HaveAssigns parts.now reasons.now }
-    ensures { Writes (K.state out.old) (K.state out.new) (told_lines (naming_of_parts parts.now) told.now (reasons_of reasons.now)) result }
+    ensures { Writes (K.state out.old) (K.state out.new)
+        (told_lines (naming_of_parts parts.now) told.now (reasons_of reasons.now)) result }
 {
     for reason in reasons {
         told_line(out, parts, told, reason)?;
@@ -38,7 +39,8 @@ fn told_line<K: Sink>(
     reason: &Reason,
 ) -> Result<(), SinkFailed>
     requires { HasAssign parts.now reason.now }
-    ensures { Writes (K.state out.old) (K.state out.new) (told_line (naming_of_parts parts.now) told.now (reason_of reason.now)) result }
+    ensures { Writes (K.state out.old) (K.state out.new)
+        (told_line (naming_of_parts parts.now) told.now (reason_of reason.now)) result }
 {
     if is_told(told, reason.flow.n) {
         reason_line(out, parts, reason)
@@ -60,7 +62,8 @@ fn is_told(told: &[bool], n: u32) -> bool
 // The line of a reason.
 fn reason_line<K: Sink>(out: &mut K, parts: &GtsParts, reason: &Reason) -> Result<(), SinkFailed>
     requires { HasAssign parts.now reason.now }
-    ensures { Writes (K.state out.old) (K.state out.new) (reason_line (naming_of_parts parts.now) (reason_of reason.now)) result }
+    ensures { Writes (K.state out.old) (K.state out.new)
+        (reason_line (naming_of_parts parts.now) (reason_of reason.now)) result }
 {
     put(out, variable_path(parts, reason.flow.n))?;
     put(out, " = ")?;
@@ -73,7 +76,8 @@ fn reason_line<K: Sink>(out: &mut K, parts: &GtsParts, reason: &Reason) -> Resul
 fn why<K: Sink>(out: &mut K, parts: &GtsParts, reason: &Reason) -> Result<(), SinkFailed>
     requires { HasAssign parts.now reason.now }
     ensures { Writes (K.state out.old) (K.state out.new)
-        (why_text (naming_of_parts parts.now) (reason_of reason.now).by reason.now.round (numbers_of reason.now.rests_on.items)) result }
+        (why_text (naming_of_parts parts.now) (reason_of reason.now).by reason.now.round
+        (numbers_of reason.now.rests_on.items)) result }
 {
     match reason.by {
         None => put(out, " by reset"),
@@ -118,7 +122,8 @@ fn from<K: Sink>(out: &mut K, parts: &GtsParts, variables: &[VarId]) -> Result<(
 // Further paths.
 fn more_paths<K: Sink>(out: &mut K, parts: &GtsParts, variables: &[VarId]) -> Result<(), SinkFailed>
     ensures { Writes (K.state out.old) (K.state out.new)
-        (separated false (codes ", ") (paths_of (naming_of_parts parts.now) (numbers_of variables.now))) result }
+        (separated false (codes ", ") (paths_of (naming_of_parts parts.now)
+        (numbers_of variables.now))) result }
 {
     for variable in variables {
         next_path(out, parts, *variable)?;

@@ -36,7 +36,8 @@ pub fn print_reasons<K: Sink>(
     requires flows { HasFlows (net_of gts.now) state.now.values.items }
     requires range { IsObserverIn gts.now observer }
     ensures { Explains (K.state out.old) (K.state out.new)
-        (IsReasonText (naming_of_parts gts.now) (net_of gts.now) state.now.values.items (observed gts.now observer)) result }
+        (IsReasonText (naming_of_parts gts.now) (net_of gts.now) state.now.values.items
+        (observed gts.now observer)) result }
 {
     let found = reasons_in(alloc, gts, state)?;
     let told = told(alloc, gts, &found, observer)?;
@@ -48,7 +49,8 @@ pub fn print_reasons<K: Sink>(
 fn reasons_in(alloc: Global, gts: &Gts, state: &Valuation) -> Result<Vec<Reason>, Memory>
     requires state { IsState gts.now state.now.values.items }
     requires flows { HasFlows (net_of gts.now) state.now.values.items }
-    ensures { IfOk result (λ found. AreReasonsOf (net_of gts.now) state.now.values.items found.items) }
+    ensures { IfOk result (λ found. AreReasonsOf (net_of gts.now) state.now.values.items
+        found.items) }
 {
     match reasons(alloc, gts, state) {
         Ok(found) => Ok(found),

@@ -18,7 +18,8 @@ pub(crate) fn told(
 ) -> Result<Vec<bool>, Memory>
     requires reasons { AreOfState gts.now reasons.now }
     requires range { IsObserverIn gts.now observer }
-    ensures { IfOk result (λ told. AreTold gts.now (reasons_of reasons.now) (observed gts.now observer) told.items) }
+    ensures { IfOk result (λ told. AreTold gts.now (reasons_of reasons.now)
+        (observed gts.now observer) told.items) }
 {
     let count = gts.parts().variables.len();
     match observer {
@@ -46,7 +47,8 @@ fn those_of(
     requires reasons { AreOfState gts.now reasons.now }
     requires range { observer < length gts.now.observers.items }
     requires count { count ≡ length gts.now.variables.items }
-    ensures { IfOk result (λ told. AreTold gts.now (reasons_of reasons.now) (observed gts.now (Some observer)) told.items) }
+    ensures { IfOk result (λ told. AreTold gts.now (reasons_of reasons.now)
+        (observed gts.now (Some observer)) told.items) }
 {
     let found = cone(alloc, gts, observer, reasons)?;
     marks_of(alloc, &found, count)

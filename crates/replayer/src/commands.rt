@@ -97,9 +97,11 @@ fn add_line(
 ) -> Result<(), ScriptFault>
     requires { (x : Elaborated) × IsOfTree x tree.now gts.now }
     ensures added { (x : Elaborated) → IsOfTree x tree.now gts.now
-        → OnOk result (Adds x line.now (map (command_of gts.now) commands.old.items) (map (command_of gts.now) commands.new.items)) }
+        → OnOk result (Adds x line.now (map (command_of gts.now) commands.old.items)
+        (map (command_of gts.now) commands.new.items)) }
     ensures firable { (x : Elaborated) → IsOfTree x tree.now gts.now
-        → AreFirable gts.now commands.old.items → OnOk result (AreFirable gts.now commands.new.items) }
+        → AreFirable gts.now commands.old.items
+        → OnOk result (AreFirable gts.now commands.new.items) }
     ensures bad { (x : Elaborated) → IsOfTree x tree.now gts.now
         → IfErr result (λ fault. IsBadLine x line.now number fault) }
 {

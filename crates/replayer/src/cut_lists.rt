@@ -58,9 +58,11 @@ fn add_cut(
 ) -> Result<(), ScriptFault>
     requires { (x : Elaborated) × IsOfTree x tree.now gts.now }
     ensures added { (x : Elaborated) → IsOfTree x tree.now gts.now
-        → OnOk result (AddsCuts x line.now number (map (cut_of gts.now) chains.old.items) (map (cut_of gts.now) chains.new.items)) }
+        → OnOk result (AddsCuts x line.now number (map (cut_of gts.now) chains.old.items)
+        (map (cut_of gts.now) chains.new.items)) }
     ensures known { (x : Elaborated) → IsOfTree x tree.now gts.now
-        → HaveKnownWays gts.now chains.old.items → OnOk result (HaveKnownWays gts.now chains.new.items) }
+        → HaveKnownWays gts.now chains.old.items
+        → OnOk result (HaveKnownWays gts.now chains.new.items) }
     ensures bad { (x : Elaborated) → IsOfTree x tree.now gts.now
         → IfErr result (λ fault. IsBadCutLine x line.now number fault) }
 {

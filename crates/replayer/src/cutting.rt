@@ -7,7 +7,8 @@ ghost use Rattle.replayer.specs.Lines.{is_mark, pieces};
 /// The piece before the first mark, and what stands behind the mark, if there is one. Takes no memory.
 pub fn first_piece(bytes: &[u8], mark: u8) -> (&[u8], Option<&[u8]>)
     ensures { MatchOption result.1 (pieces (is_mark mark) bytes.now ≡ result.0.now ∷ [])
-        (λ rest. (pieces (is_mark mark) bytes.now ≡ result.0.now ∷ pieces (is_mark mark) rest.now) × (length rest.now < length bytes.now)) }
+        (λ rest. (pieces (is_mark mark) bytes.now ≡ result.0.now ∷ pieces (is_mark mark) rest.now)
+        × (length rest.now < length bytes.now)) }
 {
     let len = piece_len(bytes, mark);
     if len < bytes.len() {

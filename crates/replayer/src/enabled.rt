@@ -23,7 +23,8 @@ pub(crate) fn enabled_lines<K: Sink>(
 ) -> Result<(), SinkFailed>
     requires { stepper.now.system ≡ gts.now }
     ensures { (can : ℕ → Bool) → AreAnswers gts.now stepper.now.values can
-        → Writes (K.state out.old) (K.state out.new) (events_lines gts.now can gts.now.events.items) result }
+        → Writes (K.state out.old) (K.state out.new) (events_lines gts.now can gts.now.events.items)
+        result }
 {
     events_lines(out, gts, stepper, &gts.parts().events)
 }
@@ -109,7 +110,8 @@ fn way_line<K: Sink>(
 // The label of a way.
 fn label_line<K: Sink>(out: &mut K, gts: &Gts, way: WayId) -> Result<(), SinkFailed>
     requires { way.n < length gts.now.ways.items }
-    ensures { Writes (K.state out.old) (K.state out.new) (line (codes "  " ++ way_label gts.now way.n)) result }
+    ensures { Writes (K.state out.old) (K.state out.new)
+        (line (codes "  " ++ way_label gts.now way.n)) result }
 {
     put(out, "  ")?;
     print_label(gts, way, out)?;

@@ -31,7 +31,8 @@ pub fn print_label<K: Sink>(gts: &Gts, way: WayId, out: &mut K) -> Result<(), Si
 fn label<K: Sink>(out: &mut K, parts: &GtsParts, event: u32, k: u32) -> Result<(), SinkFailed>
     requires { 0 < k }
     ensures { Writes (K.state out.old) (K.state out.new)
-        (way_text (text_at (naming_of_parts parts.now).events event) (ways_found (slice_get parts.now.events.items event)) (k - 1)) result }
+        (way_text (text_at (naming_of_parts parts.now).events event)
+        (ways_found (slice_get parts.now.events.items event)) (k - 1)) result }
 {
     let path = event_path(parts, event);
     if way_count(parts, event) == 1 {
@@ -43,7 +44,8 @@ fn label<K: Sink>(out: &mut K, parts: &GtsParts, event: u32, k: u32) -> Result<(
 
 // A path and the number of a way.
 fn numbered<K: Sink>(out: &mut K, path: &str, k: u32) -> Result<(), SinkFailed>
-    ensures { Writes (K.state out.old) (K.state out.new) (path.now ++ (codes "#" ++ decimal k)) result }
+    ensures { Writes (K.state out.old) (K.state out.new) (path.now ++ (codes "#" ++ decimal k))
+        result }
 {
     put(out, path)?;
     put(out, "#")?;
@@ -53,7 +55,8 @@ fn numbered<K: Sink>(out: &mut K, path: &str, k: u32) -> Result<(), SinkFailed>
 /// Writes what a fault of the flows is, without a line feed. Takes no memory.
 pub fn print_flow_fault<K: Sink>(gts: &Gts, fault: FlowFault, out: &mut K) -> Result<(), SinkFailed>
     requires { IsInRange gts.now fault }
-    ensures { Writes (K.state out.old) (K.state out.new) (flow_fault_text (naming_of_parts gts.now) (fault_of fault)) result }
+    ensures { Writes (K.state out.old) (K.state out.new)
+        (flow_fault_text (naming_of_parts gts.now) (fault_of fault)) result }
 {
     let parts = gts.parts();
     match fault {
@@ -65,7 +68,8 @@ pub fn print_flow_fault<K: Sink>(gts: &Gts, fault: FlowFault, out: &mut K) -> Re
 
 // What a flow is.
 fn about_flow<K: Sink>(out: &mut K, parts: &GtsParts, n: u32, what: &str) -> Result<(), SinkFailed>
-    ensures { Writes (K.state out.old) (K.state out.new) (codes "flow " ++ (text_at (naming_of_parts parts.now).variables n ++ what.now)) result }
+    ensures { Writes (K.state out.old) (K.state out.new)
+        (codes "flow " ++ (text_at (naming_of_parts parts.now).variables n ++ what.now)) result }
 {
     put(out, "flow ")?;
     put(out, variable_path(parts, n))?;
@@ -76,7 +80,8 @@ fn about_flow<K: Sink>(out: &mut K, parts: &GtsParts, n: u32, what: &str) -> Res
 fn about_assignment<K: Sink>(out: &mut K, parts: &GtsParts, n: u32) -> Result<(), SinkFailed>
     requires sound { IsSound parts.now }
     requires inside { n < length parts.now.assigns.items }
-    ensures { Writes (K.state out.old) (K.state out.new) (flow_fault_text (naming_of_parts parts.now) (Broken n)) result }
+    ensures { Writes (K.state out.old) (K.state out.new)
+        (flow_fault_text (naming_of_parts parts.now) (Broken n)) result }
 {
     put(out, "assignment ")?;
     number(out, n + 1)?;

@@ -45,7 +45,8 @@ fn observed(alloc: Global, parts: &GtsParts) -> Result<Vec<(u32, u32)>, Memory>
 // The same in any order, and as often as the observers name them.
 fn all_named(alloc: Global, parts: &GtsParts) -> Result<Vec<(u32, u32)>, Memory>
     requires { IsSound parts.now }
-    ensures { IfOk result (λ pairs. AreObserved parts.now (length parts.now.observers.items) pairs.items) }
+    ensures { IfOk result (λ pairs. AreObserved parts.now (length parts.now.observers.items)
+        pairs.items) }
 {
     let mut names = Vec::new(alloc);
     let mut pairs = Vec::new(alloc);

@@ -57,7 +57,9 @@ fn word_len(bytes: &[u8]) -> usize
 
 /// The first line, and the bytes behind its line feed, if it has one.
 pub(crate) fn first_line(bytes: &[u8]) -> (&[u8], Option<&[u8]>)
-    ensures { MatchOption result.1 (lines_of bytes.now ≡ result.0.now ∷ []) (λ rest. (lines_of bytes.now ≡ result.0.now ∷ lines_of rest.now) × (length rest.now < length bytes.now)) }
+    ensures { MatchOption result.1 (lines_of bytes.now ≡ result.0.now ∷ [])
+        (λ rest. (lines_of bytes.now ≡ result.0.now ∷ lines_of rest.now)
+        × (length rest.now < length bytes.now)) }
 {
     first_piece(bytes, b'\n')
 }
@@ -77,7 +79,8 @@ pub(crate) fn without_return(line: &[u8]) -> &[u8]
 // The first word of a line, which is empty where there is none, and what stands behind it.
 fn first_word(line: &[u8]) -> (&[u8], &[u8])
     ensures none { length result.0.now ≡ 0 → words_of line.now ≡ [] }
-    ensures some { 0 < length result.0.now → words_of line.now ≡ result.0.now ∷ words_of result.1.now }
+    ensures some { 0 < length result.0.now
+        → words_of line.now ≡ result.0.now ∷ words_of result.1.now }
 {
     let blanks = blanks_len(line);
     let rest = &line[blanks..];

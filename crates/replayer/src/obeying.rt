@@ -38,9 +38,11 @@ pub(crate) fn obey<K: Sink>(
     requires firable { IsFirable gts.now command }
     ensures system { stepper.new.system ≡ stepper.old.system }
     ensures below { OnOk result (AreTotal gts.now stepper.new.below) }
-    ensures latest { IfOk result (λ end. end ≡ Done → IsLatest gts.now stepper.new.values latest.new) }
+    ensures latest { IfOk result (λ end. end ≡ Done
+        → IsLatest gts.now stepper.new.values latest.new) }
     ensures answers { (system : System ℕ) → Views gts.now system
-        → Answers (naming_of_parts gts.now) system stepper.old stepper.new (command_of gts.now command) (K.state out.old) (K.state out.new) result }
+        → Answers (naming_of_parts gts.now) system stepper.old stepper.new
+        (command_of gts.now command) (K.state out.old) (K.state out.new) result }
 {
     match command {
         Command::Fire(way) => fire(alloc, gts, stepper, latest, way, out),
@@ -66,9 +68,11 @@ fn fire<K: Sink>(
     requires inside { way.n < length gts.now.ways.items }
     ensures system { stepper.new.system ≡ stepper.old.system }
     ensures below { OnOk result (AreTotal gts.now stepper.new.below) }
-    ensures latest { IfOk result (λ end. end ≡ Done → IsLatest gts.now stepper.new.values latest.new) }
+    ensures latest { IfOk result (λ end. end ≡ Done
+        → IsLatest gts.now stepper.new.values latest.new) }
     ensures answers { (system : System ℕ) → Views gts.now system
-        → Answers (naming_of_parts gts.now) system stepper.old stepper.new (command_of gts.now (Command.Fire way)) (K.state out.old) (K.state out.new) result }
+        → Answers (naming_of_parts gts.now) system stepper.old stepper.new
+        (command_of gts.now (Command.Fire way)) (K.state out.old) (K.state out.new) result }
 {
     match stepper.fire(way) {
         Ok(_) => {
@@ -117,9 +121,11 @@ fn back<K: Sink>(
     requires latest { IsLatest gts.now stepper.old.values latest.old }
     ensures system { stepper.new.system ≡ stepper.old.system }
     ensures below { OnOk result (AreTotal gts.now stepper.new.below) }
-    ensures latest { IfOk result (λ end. end ≡ Done → IsLatest gts.now stepper.new.values latest.new) }
+    ensures latest { IfOk result (λ end. end ≡ Done
+        → IsLatest gts.now stepper.new.values latest.new) }
     ensures answers { (system : System ℕ) → Views gts.now system
-        → Answers (naming_of_parts gts.now) system stepper.old stepper.new (command_of gts.now Command.Back) (K.state out.old) (K.state out.new) result }
+        → Answers (naming_of_parts gts.now) system stepper.old stepper.new
+        (command_of gts.now Command.Back) (K.state out.old) (K.state out.new) result }
 {
     match stepper.back() {
         Ok(_) => {
@@ -143,7 +149,8 @@ fn show<K: Sink>(gts: &Gts, stepper: &Stepper, out: &mut K) -> Result<End, Repla
     requires same { stepper.now.system ≡ gts.now }
     requires below { AreTotal gts.now stepper.now.below }
     ensures { (system : System ℕ) → Views gts.now system
-        → Answers (naming_of_parts gts.now) system stepper.now stepper.now (command_of gts.now Command.Show) (K.state out.old) (K.state out.new) result }
+        → Answers (naming_of_parts gts.now) system stepper.now stepper.now
+        (command_of gts.now Command.Show) (K.state out.old) (K.state out.new) result }
 {
     shown(out, gts, &stepper.values().values)?;
     Ok(End::Done)
@@ -155,7 +162,8 @@ fn list<K: Sink>(gts: &Gts, stepper: &Stepper, out: &mut K) -> Result<End, Repla
     requires same { stepper.now.system ≡ gts.now }
     requires below { AreTotal gts.now stepper.now.below }
     ensures { (system : System ℕ) → Views gts.now system
-        → Answers (naming_of_parts gts.now) system stepper.now stepper.now (command_of gts.now Command.Enabled) (K.state out.old) (K.state out.new) result }
+        → Answers (naming_of_parts gts.now) system stepper.now stepper.now
+        (command_of gts.now Command.Enabled) (K.state out.old) (K.state out.new) result }
 {
     // The present valuation is total, and so the run goes on.
     let _values = stepper.values();

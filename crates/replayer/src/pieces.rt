@@ -88,7 +88,8 @@ pub fn way_count(parts: &GtsParts, n: u32) -> usize
 
 /// Writes a value, a symbol by its name.
 pub fn value<K: Sink>(out: &mut K, parts: &GtsParts, v: Value) -> Result<(), SinkFailed>
-    ensures { Writes (K.state out.old) (K.state out.new) (value_text parts.now.symbols.items v) result }
+    ensures { Writes (K.state out.old) (K.state out.new) (value_text parts.now.symbols.items v)
+        result }
 {
     match v {
         Value::Truth(true) => put(out, "true"),
@@ -100,7 +101,8 @@ pub fn value<K: Sink>(out: &mut K, parts: &GtsParts, v: Value) -> Result<(), Sin
 
 /// Writes a place in the model.
 pub fn place<K: Sink>(out: &mut K, at: Place) -> Result<(), SinkFailed>
-    ensures { Writes (K.state out.old) (K.state out.new) (decimal at.line ++ (codes ":" ++ decimal at.column)) result }
+    ensures { Writes (K.state out.old) (K.state out.new)
+        (decimal at.line ++ (codes ":" ++ decimal at.column)) result }
 {
     number(out, at.line)?;
     put(out, ":")?;

@@ -70,7 +70,8 @@ pub fn replay<K: Sink>(
 ) -> Result<End, ReplayFault>
     requires { AreFirable gts.now commands.now }
     ensures { (system : System ℕ) → Views gts.now system
-        → AnswersReplay (naming_of_parts gts.now) system (map (command_of gts.now) commands.now) (K.state out.old) (K.state out.new) result }
+        → AnswersReplay (naming_of_parts gts.now) system (map (command_of gts.now) commands.now)
+        (K.state out.old) (K.state out.new) result }
 {
     // The parts are sound, and so each run has its trace.
     let _sound_parts = gts.parts();
@@ -84,8 +85,10 @@ pub fn replay<K: Sink>(
 fn give_up<K: Sink>(gts: &Gts, fault: PropagateFault, out: &mut K) -> Result<End, ReplayFault>
     requires sound { IsSound gts.now }
     requires fault { IsStartFault (net_of gts.now) fault }
-    ensures { (system : System ℕ) → Views gts.now system → (commands : List RunCommand) → FiresWays system commands
-        → AnswersReplay (naming_of_parts gts.now) system commands (K.state out.old) (K.state out.new) result }
+    ensures { (system : System ℕ) → Views gts.now system → (commands : List RunCommand)
+        → FiresWays system commands
+        → AnswersReplay (naming_of_parts gts.now) system commands (K.state out.old)
+        (K.state out.new) result }
 {
     match fault {
         PropagateFault::Flow(flow) => {
@@ -110,7 +113,8 @@ fn play<K: Sink>(
     requires no_step { stepper.below ≡ [] }
     requires firable { AreFirable gts.now commands.now }
     ensures { (system : System ℕ) → Views gts.now system
-        → AnswersReplay (naming_of_parts gts.now) system (map (command_of gts.now) commands.now) (K.state out.old) (K.state out.new) result }
+        → AnswersReplay (naming_of_parts gts.now) system (map (command_of gts.now) commands.now)
+        (K.state out.old) (K.state out.new) result }
 {
     let mut latest = at_start(alloc, gts.parts(), &stepper.values().values)?;
     started(out, gts, &stepper.values().values)?;

@@ -89,7 +89,8 @@ fn way_numbered(
 
 // The way of this number, from 1, of an event.
 fn way_at(parts: &GtsParts, event: EventId, digits: &[u8]) -> Option<WayId>
-    ensures { MatchOption result (IsNoWayOf parts.now event digits.now) (λ way. IsWayOf parts.now event digits.now way) }
+    ensures { MatchOption result (IsNoWayOf parts.now event digits.now)
+        (λ way. IsWayOf parts.now event digits.now way) }
 {
     match parts.events.get(event.n as usize) {
         Some(found) => way_of(&found.ways, digits),

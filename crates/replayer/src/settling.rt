@@ -34,7 +34,8 @@ pub fn settle<K: Sink>(
 ) -> Result<Option<Valuation>, ReplayFault>
     requires { AreFirable gts.now commands.now }
     ensures answers { (system : System ℕ) → Views gts.now system
-        → AnswersSettle (naming_of_parts gts.now) system (map (command_of gts.now) commands.now) (K.state out.old) (K.state out.new) result }
+        → AnswersSettle (naming_of_parts gts.now) system (map (command_of gts.now) commands.now)
+        (K.state out.old) (K.state out.new) result }
     ensures total { IfOk result (λ found. IfSome found (λ t. IsTotal gts.now t.values.items)) }
 {
     // The parts are sound, and so each way that is fired has an answer.
@@ -54,7 +55,8 @@ fn unstarted<K: Sink>(
     requires sound { IsSound gts.now }
     requires fault { IsStartFault (net_of gts.now) fault }
     ensures answers { (system : System ℕ) → Views gts.now system → (commands : List RunCommand)
-        → AnswersSettle (naming_of_parts gts.now) system commands (K.state out.old) (K.state out.new) result }
+        → AnswersSettle (naming_of_parts gts.now) system commands (K.state out.old)
+        (K.state out.new) result }
     ensures total { IfOk result (λ found. IfSome found (λ t. IsTotal gts.now t.values.items)) }
 {
     match fault {
@@ -80,7 +82,8 @@ fn run<K: Sink>(
     requires no_step { stepper.below ≡ [] }
     requires firable { AreFirable gts.now commands.now }
     ensures answers { (system : System ℕ) → Views gts.now system
-        → AnswersSettle (naming_of_parts gts.now) system (map (command_of gts.now) commands.now) (K.state out.old) (K.state out.new) result }
+        → AnswersSettle (naming_of_parts gts.now) system (map (command_of gts.now) commands.now)
+        (K.state out.old) (K.state out.new) result }
     ensures total { IfOk result (λ found. IfSome found (λ t. IsTotal gts.now t.values.items)) }
 {
     for command in commands {
@@ -113,7 +116,8 @@ fn take<K: Sink>(
     requires firable { IsFirable gts.now command }
     ensures system { stepper.new.system ≡ stepper.old.system }
     ensures answers { (system : System ℕ) → Views gts.now system
-        → AnswersCommand (naming_of_parts gts.now) system stepper.old stepper.new (command_of gts.now command) (K.state out.old) (K.state out.new) result }
+        → AnswersCommand (naming_of_parts gts.now) system stepper.old stepper.new
+        (command_of gts.now command) (K.state out.old) (K.state out.new) result }
 {
     match command {
         Command::Fire(way) => fire(gts, stepper, way, out),
@@ -135,7 +139,8 @@ fn fire<K: Sink>(
     requires inside { way.n < length gts.now.ways.items }
     ensures system { stepper.new.system ≡ stepper.old.system }
     ensures answers { (system : System ℕ) → Views gts.now system
-        → AnswersCommand (naming_of_parts gts.now) system stepper.old stepper.new (command_of gts.now (Command.Fire way)) (K.state out.old) (K.state out.new) result }
+        → AnswersCommand (naming_of_parts gts.now) system stepper.old stepper.new
+        (command_of gts.now (Command.Fire way)) (K.state out.old) (K.state out.new) result }
 {
     match stepper.fire(way) {
         Ok(_) => Ok(End::Done),
@@ -149,7 +154,8 @@ fn back<K: Sink>(gts: &Gts, stepper: &mut Stepper, out: &mut K) -> Result<End, R
     requires same { stepper.old.system ≡ gts.now }
     ensures system { stepper.new.system ≡ stepper.old.system }
     ensures answers { (system : System ℕ) → Views gts.now system
-        → AnswersCommand (naming_of_parts gts.now) system stepper.old stepper.new (command_of gts.now Command.Back) (K.state out.old) (K.state out.new) result }
+        → AnswersCommand (naming_of_parts gts.now) system stepper.old stepper.new
+        (command_of gts.now Command.Back) (K.state out.old) (K.state out.new) result }
 {
     match stepper.back() {
         Ok(_) => Ok(End::Done),

@@ -49,7 +49,8 @@ pub(crate) fn changed_lines<K: Sink>(
     requires new { IsTotal parts.now new.now }
     requires changed { AreChanges old.now new.now changed.now }
     requires touched { AreTouched parts.now changed.now touched.now }
-    ensures { Writes (K.state out.old) (K.state out.new) (changes_text parts.now old.now new.now) result }
+    ensures { Writes (K.state out.old) (K.state out.new) (changes_text parts.now old.now new.now)
+        result }
 {
     variable_changes(out, parts, new, changed)?;
     observer_changes(out, parts, old, new, touched)
@@ -62,7 +63,8 @@ fn variable_lines<K: Sink>(
     values: &[Value],
 ) -> Result<(), SinkFailed>
     requires { length values.now < 2 ^ 32 }
-    ensures { Writes (K.state out.old) (K.state out.new) (lines_from (variable_line (naming_of_parts parts.now)) 0 values.now) result }
+    ensures { Writes (K.state out.old) (K.state out.new)
+        (lines_from (variable_line (naming_of_parts parts.now)) 0 values.now) result }
 {
     let mut number = 0;
     for v in values {
@@ -80,7 +82,8 @@ fn variable_changes<K: Sink>(
     changed: &[VarId],
 ) -> Result<(), SinkFailed>
     ensures { Writes (K.state out.old) (K.state out.new)
-        (texts_of (λ n. variable_line (naming_of_parts parts.now) n (value_at new.now n)) (numbers changed.now)) result }
+        (texts_of (λ n. variable_line (naming_of_parts parts.now) n (value_at new.now n))
+        (numbers changed.now)) result }
 {
     for variable in changed {
         variable_line(out, parts, variable.n, value_at(new, variable.n))?;
@@ -100,7 +103,8 @@ fn value_at(values: &[Value], n: u32) -> Value
 
 // The line of a variable.
 fn variable_line<K: Sink>(out: &mut K, parts: &GtsParts, n: u32, v: Value) -> Result<(), SinkFailed>
-    ensures { Writes (K.state out.old) (K.state out.new) (variable_line (naming_of_parts parts.now) n v) result }
+    ensures { Writes (K.state out.old) (K.state out.new)
+        (variable_line (naming_of_parts parts.now) n v) result }
 {
     put(out, "  ")?;
     named_value(out, parts, variable_path(parts, n), v)?;
@@ -114,7 +118,8 @@ fn named_value<K: Sink>(
     name: &str,
     v: Value,
 ) -> Result<(), SinkFailed>
-    ensures { Writes (K.state out.old) (K.state out.new) (name.now ++ (codes " = " ++ value_text parts.now.symbols.items v)) result }
+    ensures { Writes (K.state out.old) (K.state out.new)
+        (name.now ++ (codes " = " ++ value_text parts.now.symbols.items v)) result }
 {
     put(out, name)?;
     put(out, " = ")?;
@@ -129,7 +134,8 @@ fn observer_lines<K: Sink>(
     all: &[Observer],
 ) -> Result<(), SinkFailed>
     requires { length all.now < 2 ^ 32 }
-    ensures { Writes (K.state out.old) (K.state out.new) (observer_lines parts.now values.now 0 all.now) result }
+    ensures { Writes (K.state out.old) (K.state out.new)
+        (observer_lines parts.now values.now 0 all.now) result }
 {
     let mut number = 0;
     for observer in all {
@@ -148,7 +154,9 @@ fn observer_changes<K: Sink>(
     touched: &[u32],
 ) -> Result<(), SinkFailed>
     ensures { Writes (K.state out.old) (K.state out.new)
-        (texts_of (λ n. change_text (observer_line (naming_of_parts parts.now)) n (observer_value parts.now old.now n) (observer_value parts.now new.now n)) touched.now) result }
+        (texts_of (λ n. change_text (observer_line (naming_of_parts parts.now)) n
+        (observer_value parts.now old.now n) (observer_value parts.now new.now n)) touched.now)
+        result }
 {
     for number in touched {
         observer_change(out, parts, old, new, *number)?;
@@ -165,7 +173,8 @@ fn observer_change<K: Sink>(
     n: u32,
 ) -> Result<(), SinkFailed>
     ensures { Writes (K.state out.old) (K.state out.new)
-        (change_text (observer_line (naming_of_parts parts.now)) n (observer_value parts.now old.now n) (observer_value parts.now new.now n)) result }
+        (change_text (observer_line (naming_of_parts parts.now)) n
+        (observer_value parts.now old.now n) (observer_value parts.now new.now n)) result }
 {
     let was = observer_value(parts, old, n);
     let is = observer_value(parts, new, n);
@@ -188,7 +197,8 @@ fn observer_value(parts: &GtsParts, values: &[Value], n: u32) -> Value
 
 // The line of an observer.
 fn observer_line<K: Sink>(out: &mut K, parts: &GtsParts, n: u32, v: Value) -> Result<(), SinkFailed>
-    ensures { Writes (K.state out.old) (K.state out.new) (observer_line (naming_of_parts parts.now) n v) result }
+    ensures { Writes (K.state out.old) (K.state out.new)
+        (observer_line (naming_of_parts parts.now) n v) result }
 {
     put(out, "  observer ")?;
     named_value(out, parts, observer_path(parts, n), v)?;

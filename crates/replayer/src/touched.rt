@@ -17,7 +17,8 @@ pub(crate) fn touched(
     variables: &[VarId],
 ) -> Result<Vec<u32>, Memory>
     requires { IsNonDecreasingBy (λ q. q.0) pairs.now }
-    ensures { IfOk result (λ all. (p : Parts) → AreInOrder p pairs.now → AreTouched p variables.now all.items) }
+    ensures { IfOk result (λ all. (p : Parts) → AreInOrder p pairs.now
+        → AreTouched p variables.now all.items) }
 {
     let firsts = plain_numbers(alloc, variables)?;
     let all = paired(alloc, pairs, &firsts)?;

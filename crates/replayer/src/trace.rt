@@ -27,7 +27,8 @@ use stepper::{StepFault, Stepper};
 /// Writes the lines of a start.
 pub(crate) fn started<K: Sink>(out: &mut K, gts: &Gts, values: &[Value]) -> Result<(), SinkFailed>
     requires { length values.now ≡ length gts.now.variables.items }
-    ensures { Writes (K.state out.old) (K.state out.new) (line (codes "start") ++ values_text gts.now values.now) result }
+    ensures { Writes (K.state out.old) (K.state out.new)
+        (line (codes "start") ++ values_text gts.now values.now) result }
 {
     put(out, "start\n")?;
     all_lines(out, gts.parts(), values)
@@ -41,7 +42,8 @@ pub(crate) fn not_started<K: Sink>(
 ) -> Result<(), SinkFailed>
     requires { IsInRange gts.now fault }
     ensures { Writes (K.state out.old) (K.state out.new)
-        (line (codes "fault: start: " ++ flow_fault_text (naming_of_parts gts.now) (fault_of fault))) result }
+        (line (codes "fault: start: " ++ flow_fault_text (naming_of_parts gts.now)
+        (fault_of fault))) result }
 {
     put(out, "fault: start: ")?;
     print_flow_fault(gts, fault, out)?;
@@ -64,7 +66,8 @@ pub(crate) fn fired<K: Sink>(
     requires changed { AreChanges old.now new.now changed.now }
     requires touched { AreTouched gts.now changed.now touched.now }
     ensures { Writes (K.state out.old) (K.state out.new)
-        (line (codes "fire " ++ way_label gts.now way.n) ++ changes_text gts.now old.now new.now) result }
+        (line (codes "fire " ++ way_label gts.now way.n) ++ changes_text gts.now old.now new.now)
+        result }
 {
     put(out, "fire ")?;
     print_label(gts, way, out)?;
@@ -82,7 +85,8 @@ pub(crate) fn not_fired<K: Sink>(
     requires way { way.n < length gts.now.ways.items }
     requires range { IsFaultInRange gts.now fault }
     ensures { Writes (K.state out.old) (K.state out.new)
-        (line (codes "fault: " ++ (way_label gts.now way.n ++ (codes ": " ++ step_text gts.now fault)))) result }
+        (line (codes "fault: " ++ (way_label gts.now way.n
+        ++ (codes ": " ++ step_text gts.now fault)))) result }
 {
     put(out, "fault: ")?;
     print_label(gts, way, out)?;
@@ -107,7 +111,8 @@ fn step_fault<K: Sink>(out: &mut K, gts: &Gts, fault: StepFault) -> Result<(), S
 
 // That a variable receives two values.
 fn clash<K: Sink>(out: &mut K, gts: &Gts, n: u32) -> Result<(), SinkFailed>
-    ensures { Writes (K.state out.old) (K.state out.new) (codes "two values for " ++ text_at (naming_of_parts gts.now).variables n) result }
+    ensures { Writes (K.state out.old) (K.state out.new)
+        (codes "two values for " ++ text_at (naming_of_parts gts.now).variables n) result }
 {
     put(out, "two values for ")?;
     put(out, variable_path(gts.parts(), n))
@@ -115,7 +120,8 @@ fn clash<K: Sink>(out: &mut K, gts: &Gts, n: u32) -> Result<(), SinkFailed>
 
 // That a variable receives a value outside its domain.
 fn outside<K: Sink>(out: &mut K, gts: &Gts, n: u32) -> Result<(), SinkFailed>
-    ensures { Writes (K.state out.old) (K.state out.new) (text_at (naming_of_parts gts.now).variables n ++ codes " outside its domain") result }
+    ensures { Writes (K.state out.old) (K.state out.new)
+        (text_at (naming_of_parts gts.now).variables n ++ codes " outside its domain") result }
 {
     put(out, variable_path(gts.parts(), n))?;
     put(out, " outside its domain")
@@ -134,7 +140,8 @@ pub(crate) fn gone_back<K: Sink>(
     requires new { IsTotal gts.now new.now }
     requires changed { AreChanges old.now new.now changed.now }
     requires touched { AreTouched gts.now changed.now touched.now }
-    ensures { Writes (K.state out.old) (K.state out.new) (line (codes "back") ++ changes_text gts.now old.now new.now) result }
+    ensures { Writes (K.state out.old) (K.state out.new)
+        (line (codes "back") ++ changes_text gts.now old.now new.now) result }
 {
     put(out, "back\n")?;
     changed_lines(out, gts.parts(), old, new, changed, touched)
@@ -142,7 +149,8 @@ pub(crate) fn gone_back<K: Sink>(
 
 /// Writes that there is no step to take back.
 pub(crate) fn no_step<K: Sink>(out: &mut K) -> Result<(), SinkFailed>
-    ensures { Writes (K.state out.old) (K.state out.new) (line (codes "fault: back: no step")) result }
+    ensures { Writes (K.state out.old) (K.state out.new) (line (codes "fault: back: no step"))
+        result }
 {
     put(out, "fault: back: no step\n")
 }
@@ -150,7 +158,8 @@ pub(crate) fn no_step<K: Sink>(out: &mut K) -> Result<(), SinkFailed>
 /// Writes the lines of all variables and observers.
 pub(crate) fn shown<K: Sink>(out: &mut K, gts: &Gts, values: &[Value]) -> Result<(), SinkFailed>
     requires { length values.now ≡ length gts.now.variables.items }
-    ensures { Writes (K.state out.old) (K.state out.new) (line (codes "show") ++ values_text gts.now values.now) result }
+    ensures { Writes (K.state out.old) (K.state out.new)
+        (line (codes "show") ++ values_text gts.now values.now) result }
 {
     put(out, "show\n")?;
     all_lines(out, gts.parts(), values)
@@ -160,7 +169,8 @@ pub(crate) fn shown<K: Sink>(out: &mut K, gts: &Gts, values: &[Value]) -> Result
 pub(crate) fn listed<K: Sink>(out: &mut K, gts: &Gts, stepper: &Stepper) -> Result<(), SinkFailed>
     requires { stepper.now.system ≡ gts.now }
     ensures { (can : ℕ → Bool) → AreAnswers gts.now stepper.now.values can
-        → Writes (K.state out.old) (K.state out.new) (line (codes "enabled") ++ events_lines gts.now can gts.now.events.items) result }
+        → Writes (K.state out.old) (K.state out.new)
+        (line (codes "enabled") ++ events_lines gts.now can gts.now.events.items) result }
 {
     put(out, "enabled\n")?;
     enabled_lines(out, gts, stepper)
@@ -168,7 +178,8 @@ pub(crate) fn listed<K: Sink>(out: &mut K, gts: &Gts, stepper: &Stepper) -> Resu
 
 /// Writes the line of the end, where so many steps stand.
 pub(crate) fn ended<K: Sink>(out: &mut K, steps: usize) -> Result<(), SinkFailed>
-    ensures { Writes (K.state out.old) (K.state out.new) (line (codes "end " ++ decimal steps)) result }
+    ensures { Writes (K.state out.old) (K.state out.new) (line (codes "end " ++ decimal steps))
+        result }
 {
     put(out, "end ")?;
     count(out, steps)?;

@@ -31,8 +31,12 @@ pub(crate) fn named_files(
     form: Form,
     files: Option<&[&str]>,
 ) -> Result<Named, JobFault>
-    ensures found { IfOk result (λ n. NamesFiles form (or_none (option_map (λ s. map (λ w. w.now) s.now) files.entry)) n.model n.script n.number) }
-    ensures usage { result ≡ Err Usage → (model : List ℕ) (script : Option (List ℕ)) (number : ℕ) → NamesFiles form (or_none (option_map (λ s. map (λ w. w.now) s.now) files.entry)) model script number → ⊥ }
+    ensures found { IfOk result (λ n.
+        NamesFiles form (or_none (option_map (λ s. map (λ w. w.now) s.now) files.entry)) n.model
+        n.script n.number) }
+    ensures usage { result ≡ Err Usage → (model : List ℕ) (script : Option (List ℕ)) (number : ℕ)
+        → NamesFiles form (or_none (option_map (λ s. map (λ w. w.now) s.now) files.entry)) model
+        script number → ⊥ }
 {
     match form {
         Form::Model => only_model(alloc, files),
@@ -51,8 +55,12 @@ pub(crate) fn text(alloc: Global, word: &str) -> Result<Text, JobFault>
 }
 
 fn only_model(alloc: Global, files: Option<&[&str]>) -> Result<Named, JobFault>
-    ensures found { IfOk result (λ n. NamesFiles Model (or_none (option_map (λ s. map (λ w. w.now) s.now) files.entry)) n.model n.script n.number) }
-    ensures usage { result ≡ Err Usage → (model : List ℕ) (script : Option (List ℕ)) (number : ℕ) → NamesFiles Model (or_none (option_map (λ s. map (λ w. w.now) s.now) files.entry)) model script number → ⊥ }
+    ensures found { IfOk result (λ n.
+        NamesFiles Model (or_none (option_map (λ s. map (λ w. w.now) s.now) files.entry)) n.model
+        n.script n.number) }
+    ensures usage { result ≡ Err Usage → (model : List ℕ) (script : Option (List ℕ)) (number : ℕ)
+        → NamesFiles Model (or_none (option_map (λ s. map (λ w. w.now) s.now) files.entry)) model
+        script number → ⊥ }
 {
     match files {
         Some([model]) => Ok(Named {
@@ -65,8 +73,12 @@ fn only_model(alloc: Global, files: Option<&[&str]>) -> Result<Named, JobFault>
 }
 
 fn model_and_script(alloc: Global, files: Option<&[&str]>) -> Result<Named, JobFault>
-    ensures found { IfOk result (λ n. NamesFiles ModelAndScript (or_none (option_map (λ s. map (λ w. w.now) s.now) files.entry)) n.model n.script n.number) }
-    ensures usage { result ≡ Err Usage → (model : List ℕ) (script : Option (List ℕ)) (number : ℕ) → NamesFiles ModelAndScript (or_none (option_map (λ s. map (λ w. w.now) s.now) files.entry)) model script number → ⊥ }
+    ensures found { IfOk result (λ n.
+        NamesFiles ModelAndScript (or_none (option_map (λ s. map (λ w. w.now) s.now) files.entry))
+        n.model n.script n.number) }
+    ensures usage { result ≡ Err Usage → (model : List ℕ) (script : Option (List ℕ)) (number : ℕ)
+        → NamesFiles ModelAndScript (or_none (option_map (λ s. map (λ w. w.now) s.now) files.entry))
+        model script number → ⊥ }
 {
     match files {
         Some([model, script]) => Ok(Named {
@@ -79,8 +91,12 @@ fn model_and_script(alloc: Global, files: Option<&[&str]>) -> Result<Named, JobF
 }
 
 fn components(alloc: Global, files: Option<&[&str]>) -> Result<Named, JobFault>
-    ensures found { IfOk result (λ n. NamesFiles Number (or_none (option_map (λ s. map (λ w. w.now) s.now) files.entry)) n.model n.script n.number) }
-    ensures usage { result ≡ Err Usage → (model : List ℕ) (script : Option (List ℕ)) (number : ℕ) → NamesFiles Number (or_none (option_map (λ s. map (λ w. w.now) s.now) files.entry)) model script number → ⊥ }
+    ensures found { IfOk result (λ n.
+        NamesFiles Number (or_none (option_map (λ s. map (λ w. w.now) s.now) files.entry)) n.model
+        n.script n.number) }
+    ensures usage { result ≡ Err Usage → (model : List ℕ) (script : Option (List ℕ)) (number : ℕ)
+        → NamesFiles Number (or_none (option_map (λ s. map (λ w. w.now) s.now) files.entry)) model
+        script number → ⊥ }
 {
     match files {
         Some([word]) => match number(word, LEAST_COMPONENTS, MOST_COMPONENTS) {

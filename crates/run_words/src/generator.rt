@@ -168,7 +168,8 @@ fn put_first_link(text: &mut Vec<u8>, number: u32) -> Result<(), Memory>
 fn put_links(text: &mut Vec<u8>, number: u32) -> Result<(), Memory>
     requires at_least { 1 ≤ number }
     requires at_most { number ≤ 200 }
-    ensures { OnOk result (text.new.items ≡ text.old.items ++ up_to (link number) (pairs number - 1)) }
+    ensures { OnOk result (text.new.items ≡ text.old.items
+        ++ up_to (link number) (pairs number - 1)) }
 {
     for j in 0..pairs(number) - 1 {
         put_link(text, number, j + 1)?;

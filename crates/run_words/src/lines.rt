@@ -41,7 +41,8 @@ fn described<'a>(alloc: Global) -> Result<Command<'a>, AllocError>
 // What `clap` finds in the words, of which the first is the program's.
 pub(crate) fn matches<'a>(alloc: Global, words: &'a [&'a str]) -> Result<ArgMatches<'a>, JobFault>
     ensures taken { IfOk result (λ m. fault_of program (map (λ w. w.now) words.now) ≡ []) }
-    ensures rows { IfOk result (λ m. rows_of (found_of m) ≡ matches_of program (map (λ w. w.now) words.now)) }
+    ensures rows { IfOk result (λ m. rows_of (found_of m)
+        ≡ matches_of program (map (λ w. w.now) words.now)) }
     ensures usage { result ≡ Err Usage → fault_of program (map (λ w. w.now) words.now) ≢ [] }
 {
     let command = described(alloc)?;
@@ -70,7 +71,8 @@ fn value<'a>(matches: &ArgMatches<'a>, id: &str) -> Option<&'a str>
 
 // The words behind the command that belong to no option, where there are any.
 fn files<'m, 'a>(matches: &'m ArgMatches<'a>) -> Option<&'m [&'a str]>
-    ensures { option_map (λ s. map (λ w. w.now) s.now) result ≡ all_of (codes "file") (rows_of (found_of matches.now)) }
+    ensures { option_map (λ s. map (λ w. w.now) s.now) result
+        ≡ all_of (codes "file") (rows_of (found_of matches.now)) }
 {
     matches.get_strs("file")
 }

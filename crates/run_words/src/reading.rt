@@ -43,7 +43,8 @@ pub fn read_job(alloc: Global, words: &[String]) -> Result<Job, JobFault>
 
 // The program's word and then the words.
 fn with_program<'a>(alloc: Global, words: &'a [String]) -> Result<Vec<&'a str>, JobFault>
-    ensures given { IfOk result (λ given. map (λ w. w.now) given.items ≡ given_words (bytes_of_all words.now)) }
+    ensures given { IfOk result (λ given.
+        map (λ w. w.now) given.items ≡ given_words (bytes_of_all words.now)) }
     ensures memory { IfErr result (λ e. e ≡ OutOfMemory) }
 {
     let mut given: Vec<&'a str> = Vec::new(alloc);
@@ -88,7 +89,9 @@ fn job_of(alloc: Global, line: &CommandLine<'_, '_>) -> Result<Job, JobFault>
 
 // The command that the word names.
 fn command_of(word: Option<&str>) -> Option<Verb>
-    ensures { MatchOption result ((verb : Verbs) → option_map (λ s. s.now) word.entry ≡ Some (word_of verb) → ⊥) (λ verb. option_map (λ s. s.now) word.entry ≡ Some (word_of verb)) }
+    ensures { MatchOption result ((verb : Verbs)
+        → option_map (λ s. s.now) word.entry ≡ Some (word_of verb) → ⊥)
+        (λ verb. option_map (λ s. s.now) word.entry ≡ Some (word_of verb)) }
 {
     match word {
         Some(word) => named_verb(word),
@@ -116,7 +119,8 @@ fn is_taken(takes: bool, given: Option<&str>) -> bool
 
 // The node limit.
 fn nodes_of(command: Verb, given: Option<&str>) -> Option<u32>
-    ensures { MatchOption result ((n : ℕ) → IsNodes command (option_map (λ s. s.now) given.entry) n → ⊥) (λ n. IsNodes command (option_map (λ s. s.now) given.entry) n) }
+    ensures { MatchOption result ((n : ℕ) → IsNodes command (option_map (λ s. s.now) given.entry) n
+        → ⊥) (λ n. IsNodes command (option_map (λ s. s.now) given.entry) n) }
 {
     match given {
         None => Some(usual_nodes(command)),

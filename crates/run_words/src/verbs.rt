@@ -114,7 +114,8 @@ impl Verb {
 
 // The command that a word names.
 pub(crate) fn named(word: &str) -> Option<Verb>
-    ensures { MatchOption result ((verb : Verbs) → word.now ≢ word_of verb) (λ verb. word.now ≡ word_of verb) }
+    ensures { MatchOption result ((verb : Verbs) → word.now ≢ word_of verb)
+        (λ verb. word.now ≡ word_of verb) }
 {
     match word {
         "check" => Some(Verb::Check),

@@ -39,8 +39,10 @@ pub(crate) fn next_values(
     requires right { AreFlags gts.now values.now flags.now }
     requires inside { way.n < length gts.now.ways.items }
     ensures new { IfOk result (λ new. AreNewValues gts.now new.items) }
-    ensures ready { IfOk result (λ new. (w : Way ℕ) → IsWayAt gts.now way.n w → IsReady (net_of gts.now) values.now w (written values.now new.items)) }
-    ensures fault { IfErr result (λ f. (w : Way ℕ) → IsWayAt gts.now way.n w → IsStepFault (net_of gts.now) values.now w f) }
+    ensures ready { IfOk result (λ new. (w : Way ℕ) → IsWayAt gts.now way.n w
+        → IsReady (net_of gts.now) values.now w (written values.now new.items)) }
+    ensures fault { IfErr result (λ f. (w : Way ℕ) → IsWayAt gts.now way.n w
+        → IsStepFault (net_of gts.now) values.now w f) }
 {
     if !is_set(flags, way) {
         return Err(StepFault::NotEnabled);
@@ -75,7 +77,8 @@ pub(crate) fn first(alloc: Global, gts: &Gts, plan: &Plan) -> Result<Present, Pr
 
 // The declared values.
 fn declared(alloc: Global, parts: &GtsParts) -> Result<Valuation, Memory>
-    ensures { IfOk result (λ state. state.values.items ≡ first_values (net_of parts.now).variables) }
+    ensures { IfOk result (λ state. state.values.items
+        ≡ first_values (net_of parts.now).variables) }
 {
     let mut values = Vec::new(alloc);
     for variable in &parts.variables {
@@ -102,12 +105,21 @@ pub(crate) fn go_on(
     requires new { AreNewValues gts.now new.now }
     ensures present { IsPresent gts.now present.new }
     ensures flags { AreFlags gts.now present.new.determined.values.values.items can.new.items }
-    ensures flows { OnOk result (Flows (net_of gts.now) (written present.old.determined.values.values.items new.now) (Total present.new.determined.values.values.items)) }
-    ensures back { IfOk result (λ step. before gts.now (point_at present.new can.new.items) step ≡ point_at present.old can.old.items) }
-    ensures long { IfOk result (λ step. length step.flows.variables.items ≡ length step.flows.old.items) }
-    ensures changes { IfOk result (λ step. AreChanges present.old.determined.values.values.items present.new.determined.values.values.items step.flows.variables.items) }
-    ensures fault { IfErr result (IsFaultOf gts.now (written present.old.determined.values.values.items new.now)) }
-    ensures err { OnErr result (point_at present.new can.new.items ≡ point_at present.old can.old.items) }
+    ensures flows { OnOk result (Flows (net_of gts.now)
+        (written present.old.determined.values.values.items new.now)
+        (Total present.new.determined.values.values.items)) }
+    ensures back { IfOk result (λ step.
+        before gts.now (point_at present.new can.new.items) step
+        ≡ point_at present.old can.old.items) }
+    ensures long { IfOk result (λ step.
+        length step.flows.variables.items ≡ length step.flows.old.items) }
+    ensures changes { IfOk result (λ step.
+        AreChanges present.old.determined.values.values.items
+        present.new.determined.values.values.items step.flows.variables.items) }
+    ensures fault { IfErr result (IsFaultOf gts.now
+        (written present.old.determined.values.values.items new.now)) }
+    ensures err { OnErr result (point_at present.new can.new.items
+        ≡ point_at present.old can.old.items) }
 {
     let parts = gts.parts();
     let flows = propagate_from(alloc, gts, plan, present, new)?;

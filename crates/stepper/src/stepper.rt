@@ -88,7 +88,13 @@ impl<'a> Stepper<'a> {
     ) -> Result<Stepper<'a>, Memory>
         requires plan { IsPlan gts.now plan }
         requires present { IsPresent gts.now present }
-        ensures { IfOk result (λ stepper. stepper ≡ record { system = gts.now; values = present.determined.values.values.items; below = []; changed = [] }) }
+        ensures { IfOk result (λ stepper.
+            stepper ≡ record {
+              system = gts.now;
+              values = present.determined.values.values.items;
+              below = [];
+              changed = [];
+            }) }
     {
         let parts = gts.parts();
         let index = way_index(alloc, parts)?;
@@ -120,7 +126,8 @@ impl<'a> Stepper<'a> {
         ensures step { OnOk result ((w : Way ℕ) → IsWayAt self.old.system way.n w
             → Step (net_of self.old.system) self.old.values w (Next self.new.values)) }
         ensures below { OnOk result (self.new.below ≡ self.old.values ∷ self.old.below) }
-        ensures changed { OnOk result (AreChanges self.old.values self.new.values self.new.changed) }
+        ensures changed { OnOk result (AreChanges self.old.values self.new.values
+            self.new.changed) }
         ensures fault { IfErr result (λ f. (w : Way ℕ) → IsWayAt self.old.system way.n w
             → IsStepFault (net_of self.old.system) self.old.values w f) }
         ensures err { OnErr result (self.new ≡ self.old) }
@@ -144,9 +151,11 @@ impl<'a> Stepper<'a> {
     // was.
     fn go(&mut self, new: &[(VarId, Value)]) -> Result<(), PropagateFault>
         requires { AreNewValues self.old.system new.now }
-        ensures flows { OnOk result (Flows (net_of self.old.system) (written self.old.values new.now) (Total self.new.values)) }
+        ensures flows { OnOk result (Flows (net_of self.old.system)
+            (written self.old.values new.now) (Total self.new.values)) }
         ensures below { OnOk result (self.new.below ≡ self.old.values ∷ self.old.below) }
-        ensures changed { OnOk result (AreChanges self.old.values self.new.values self.new.changed) }
+        ensures changed { OnOk result (AreChanges self.old.values self.new.values
+            self.new.changed) }
         ensures fault { IfErr result (IsFaultOf self.old.system (written self.old.values new.now)) }
         ensures err { OnErr result (self.new ≡ self.old) }
         ensures system { self.new.system ≡ self.old.system }
@@ -169,7 +178,8 @@ impl<'a> Stepper<'a> {
     /// Takes the last standing step back, or says that there is none. Takes no memory.
     pub fn back(&mut self) -> Result<(), NoStep>
         ensures back { OnOk result (self.old.below ≡ self.new.values ∷ self.new.below) }
-        ensures changed { OnOk result (AreChanges self.old.values self.new.values self.new.changed) }
+        ensures changed { OnOk result (AreChanges self.old.values self.new.values
+            self.new.changed) }
         ensures none { OnErr result (self.old.below ≡ []) }
         ensures err { OnErr result (self.new ≡ self.old) }
         ensures system { self.new.system ≡ self.old.system }

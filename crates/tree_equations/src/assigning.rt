@@ -33,7 +33,8 @@ pub(crate) fn built(
     expr: &Expr<VarId>,
 ) -> Result<Vec<Entry>, BuildFault>
     requires { length gates.old.items ≤ most_gates }
-    ensures { GivesBuilt (row_at rows.now) (gates_in gates.old.items) (numbered expr.now) result gates.new.items }
+    ensures { GivesBuilt (row_at rows.now) (gates_in gates.old.items) (numbered expr.now) result
+        gates.new.items }
 {
     build(alloc, gates, rows, expr)
 }
@@ -46,7 +47,8 @@ pub(crate) fn build_assign(
     assign: &Assign,
 ) -> Result<BuiltAssign, BuildFault>
     requires { length gates.old.items ≤ most_gates }
-    ensures { GivesAssign (row_at rows.now) (gates_in gates.old.items) (assign_of assign.now) result gates.new.items }
+    ensures { GivesAssign (row_at rows.now) (gates_in gates.old.items) (assign_of assign.now) result
+        gates.new.items }
 {
     let conditions = conditions(alloc, gates, rows, &assign.when)?;
     let entries = built(alloc, gates, rows, &assign.value)?;
@@ -115,7 +117,8 @@ pub(crate) fn behind(
     front: &[Operand],
     back: &[Operand],
 ) -> Result<Vec<Operand>, Memory>
-    ensures { IfOk result (λ os. operands_in os.items ≡ operands_in front.now ++ operands_in back.now) }
+    ensures { IfOk result (λ os. operands_in os.items ≡ operands_in front.now
+        ++ operands_in back.now) }
 {
     let mut operands = Vec::from_slice(alloc, front)?;
     operands.extend_from_slice(back)?;

@@ -24,7 +24,8 @@ pub(crate) fn first_rows(
     requires { length modes.items ≡ length trees.now }
     ensures long { IfOk result (λ rows. length rows.items ≡ length variables.now) }
     ensures reading { IfOk result (λ rows. row_at rows.items
-        ≡ first_reading (trees_in trees.now) (lists_in modes.items) 0 (variables_from 0 variables.now)) }
+        ≡ first_reading (trees_in trees.now) (lists_in modes.items) 0
+        (variables_from 0 variables.now)) }
 {
     let mut rows = init_rows(alloc, variables)?;
     let mut modes = modes;

@@ -38,7 +38,8 @@ pub(crate) fn make_index(alloc: Global, parts: &GtsParts) -> Result<Index, Memor
 // The numbers of the flows.
 fn flow_numbers(alloc: Global, variables: &[Variable]) -> Result<Vec<u32>, Memory>
     requires { length variables.now < 2 ^ 32 }
-    ensures { IfOk result (λ flows. AreFlows variables.now flows.items (flows_from 0 (variables_from 0 variables.now))) }
+    ensures { IfOk result (λ flows. AreFlows variables.now flows.items
+        (flows_from 0 (variables_from 0 variables.now))) }
 {
     let mut flows = Vec::new(alloc);
     for (n, variable) in variables.iter().enumerate() {
@@ -77,7 +78,8 @@ fn no_numbers(alloc: Global, count: usize) -> Result<Vec<Vec<u32>>, Memory>
 
 // The blocks of a system in their order, by the numbers of their flows.
 pub(crate) fn blocks(alloc: Global, gts: &Gts, flows: &[u32]) -> Result<Vec<Vec<u32>>, Memory>
-    requires { AreFlows gts.now.variables.items flows.now (flows_from 0 (net_of gts.now).variables) }
+    requires { AreFlows gts.now.variables.items flows.now
+        (flows_from 0 (net_of gts.now).variables) }
     ensures { IfOk result (λ blocks. AreBlocks (net_of gts.now) (blocks_in blocks.items)) }
 {
     let plan = make_plan(alloc, gts)?;
@@ -86,8 +88,10 @@ pub(crate) fn blocks(alloc: Global, gts: &Gts, flows: &[u32]) -> Result<Vec<Vec<
 
 // The numbers of the flows of each block.
 fn numbered_blocks(alloc: Global, flows: &[u32], blocks: &[Block]) -> Result<Vec<Vec<u32>>, Memory>
-    requires { (members : List ℕ) → IsOneOf (members_of blocks.now) members → AreUnder (length flows.now) members }
-    ensures { IfOk result (λ found. ArePlacedBlocks flows.now (members_of blocks.now) (blocks_in found.items)) }
+    requires { (members : List ℕ) → IsOneOf (members_of blocks.now) members
+        → AreUnder (length flows.now) members }
+    ensures { IfOk result (λ found. ArePlacedBlocks flows.now (members_of blocks.now)
+        (blocks_in found.items)) }
 {
     let mut found = Vec::new(alloc);
     for block in blocks {

@@ -46,11 +46,14 @@ fn push_leaving(
     leaving: &mut Vec<u32>,
 ) -> Result<(), Memory>
     requires sound { IsSound parts.now }
-    requires domains { AreDomains parts.now (length parts.now.variables.items) domains.now.rows.items }
+    requires domains { AreDomains parts.now (length parts.now.variables.items)
+        domains.now.rows.items }
     requires flow { flow < length parts.now.variables.items }
-    requires numbers { AreNumbersOf parts.now.assigns.items numbers.now (to_target flow parts.now.assigns.items) }
+    requires numbers { AreNumbersOf parts.now.assigns.items numbers.now
+        (to_target flow parts.now.assigns.items) }
     ensures { OnOk result ((x : FlatVariable) → Stands parts.now.variables.items flow x
-        → AddsLeaving parts.now (variable_of flow x) (map assign_of (to_target flow parts.now.assigns.items))
+        → AddsLeaving parts.now (variable_of flow x)
+        (map assign_of (to_target flow parts.now.assigns.items))
         leaving.old.items leaving.new.items) }
 {
     let variable = &parts.variables[flow];
@@ -80,7 +83,8 @@ fn may_leave(
 // Whether one of the values is outside the domain.
 fn some_outside(domain: &Domain, values: &[Value]) -> bool
     requires { IsDomain domain.now }
-    ensures { IsAnswer result ((v : FlatValue) × Contains values.now v × (DomainHolds domain.now v → ⊥)) }
+    ensures { IsAnswer result ((v : FlatValue) × Contains values.now v
+        × (DomainHolds domain.now v → ⊥)) }
 {
     for v in values {
         if !domain.holds(*v) {

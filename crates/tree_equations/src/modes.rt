@@ -23,7 +23,8 @@ pub(crate) fn modes(
     trees: &[ModeTree],
 ) -> Result<Vec<Vec<Entry>>, BuildFault>
     requires { length gates.old.items ≤ most_gates }
-    ensures { GivesEach rows_in tree_in Has_modes (gates_in gates.old.items) trees.now result gates.new.items }
+    ensures { GivesEach rows_in tree_in Has_modes (gates_in gates.old.items) trees.now result
+        gates.new.items }
 {
     let mut rows = Vec::new(alloc);
     for tree in trees {
@@ -40,7 +41,8 @@ fn tree_modes(
     tree: &ModeTree,
 ) -> Result<Vec<Entry>, BuildFault>
     requires { length gates.old.items ≤ most_gates }
-    ensures { MakesEntries (modes_of (tree_in tree.now) (gates_in gates.old.items)) result gates.new.items }
+    ensures { MakesEntries (modes_of (tree_in tree.now) (gates_in gates.old.items)) result
+        gates.new.items }
 {
     let mut entries = Vec::new(alloc);
     let first = mode(alloc, gates, &[], tree.first, &tree.edges)?;

@@ -38,7 +38,8 @@ pub(crate) fn all_rounds(
     requires under { (block : List ℕ) → IsOneOf (blocks_in blocks.now) block
         → AreUnder (length parts.now.variables.items) block }
     ensures rounds { LeadsTo (λ last h. All_rounds (net_of parts.now) (blocks_in blocks.now)
-        (gates_in gates.old.items) (row_at rows.old.items) last h) result rows.new.items gates.new.items }
+        (gates_in gates.old.items) (row_at rows.old.items) last h) result rows.new.items
+        gates.new.items }
     ensures long { OnOk result (length rows.new.items ≡ length rows.old.items) }
 {
     for block in blocks {
@@ -63,7 +64,8 @@ fn rounds(
     requires long { length rows.old.items ≡ length parts.now.variables.items }
     requires under { AreUnder (length parts.now.variables.items) block.now }
     ensures rounds { LeadsTo (λ last h. Rounds (net_of parts.now) block.now (length block.now)
-        (gates_in gates.old.items) (row_at rows.old.items) last h) result rows.new.items gates.new.items }
+        (gates_in gates.old.items) (row_at rows.old.items) last h) result rows.new.items
+        gates.new.items }
     ensures long { OnOk result (length rows.new.items ≡ length rows.old.items) }
 {
     for _ in 0..block.len() {
@@ -90,7 +92,8 @@ fn round(
     requires sound { IsSound parts.now }
     requires index { IsIndex parts.now index.now }
     requires under { AreUnder (length parts.now.variables.items) block.now }
-    ensures { GivesEach rows_in itself (RoundOf (net_of parts.now) (row_at rows.now)) (gates_in gates.old.items)
+    ensures { GivesEach rows_in itself (RoundOf (net_of parts.now) (row_at rows.now))
+        (gates_in gates.old.items)
         block.now result gates.new.items }
 {
     let mut new = Vec::new(alloc);
@@ -114,7 +117,8 @@ fn flow_round(
     requires sound { IsSound parts.now }
     requires index { IsIndex parts.now index.now }
     requires under { n < length parts.now.variables.items }
-    ensures { Gives row_in (λ es h. RoundOf (net_of parts.now) (row_at rows.now) (gates_in gates.old.items) n es h)
+    ensures { Gives row_in (λ es h. RoundOf (net_of parts.now) (row_at rows.now)
+        (gates_in gates.old.items) n es h)
         result gates.new.items }
 {
     let domain = &parts.variables[n as usize].domain;

@@ -11,7 +11,8 @@ use eq_build::Entry;
 pub(crate) fn put_rows(rows: &mut Vec<Vec<Entry>>, numbers: &[u32], new: Vec<Vec<Entry>>)
     requires long { length new.items ≡ length numbers.now }
     requires under { AreUnder (length rows.old.items) numbers.now }
-    ensures reading { row_at rows.new.items ≡ updated (row_at rows.old.items) numbers.now (lists_in new.items) }
+    ensures reading { row_at rows.new.items
+        ≡ updated (row_at rows.old.items) numbers.now (lists_in new.items) }
     ensures long { length rows.new.items ≡ length rows.old.items }
 {
     let mut new = new;
@@ -25,7 +26,8 @@ pub(crate) fn put_rows(rows: &mut Vec<Vec<Entry>>, numbers: &[u32], new: Vec<Vec
 pub(crate) fn are_rows(rows: &[Vec<Entry>], numbers: &[u32], new: &[Vec<Entry>]) -> bool
     requires long { length new.now ≡ length numbers.now }
     requires under { AreUnder (length rows.now) numbers.now }
-    ensures { result ≡ true → row_at rows.now ≡ updated (row_at rows.now) numbers.now (lists_in new.now) }
+    ensures { result ≡ true → row_at rows.now
+        ≡ updated (row_at rows.now) numbers.now (lists_in new.now) }
 {
     for k in 0..new.len() {
         if !same_row(&rows[numbers[k] as usize], &new[k]) {

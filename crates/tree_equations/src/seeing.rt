@@ -30,7 +30,8 @@ pub(crate) fn twos(
 ) -> Result<Vec<Operand>, BuildFault>
     requires few { length gates.old.items ≤ most_gates }
     requires under { AreUnder (length rows.now) flows.now }
-    ensures { GivesEach signs_in itself (Sees_two (row_at rows.now)) (gates_in gates.old.items) flows.now
+    ensures { GivesEach signs_in itself (Sees_two (row_at rows.now)) (gates_in gates.old.items)
+        flows.now
         result gates.new.items }
 {
     let mut seen = Vec::new(alloc);
@@ -83,9 +84,12 @@ pub(crate) fn outs(
 ) -> Result<Vec<Operand>, BuildFault>
     requires few { length gates.old.items ≤ most_gates }
     requires sound { IsSound parts.now }
-    requires leaving { (pairs : List (system.Variable ℕ × system.Assign ℕ)) × Along (IsLeaving parts.now) leaving.now pairs }
-    ensures { (pairs : List (system.Variable ℕ × system.Assign ℕ)) → Along (IsLeaving parts.now) leaving.now pairs
-        → Gives signs_in (λ os h. Threads (Sees_outside (row_at rows.now)) (gates_in gates.old.items) pairs os h)
+    requires leaving { (pairs : List (system.Variable ℕ × system.Assign ℕ))
+        × Along (IsLeaving parts.now) leaving.now pairs }
+    ensures { (pairs : List (system.Variable ℕ × system.Assign ℕ))
+        → Along (IsLeaving parts.now) leaving.now pairs
+        → Gives signs_in (λ os h. Threads (Sees_outside (row_at rows.now))
+        (gates_in gates.old.items) pairs os h)
         result gates.new.items }
 {
     let mut seen = Vec::new(alloc);
@@ -108,8 +112,10 @@ fn outside(
 ) -> Result<Operand, BuildFault>
     requires few { length gates.old.items ≤ most_gates }
     requires domain { IsDomain domain.now }
-    ensures { (x : system.Variable ℕ) → x.domain ≡ values_of domain.now → GivesOperand (λ o h. Sees_outside
-        (row_at rows.now) (gates_in gates.old.items) (x, assign_of assign.now) o h) result gates.new.items }
+    ensures { (x : system.Variable ℕ) → x.domain ≡ values_of domain.now
+        → GivesOperand (λ o h. Sees_outside
+        (row_at rows.now) (gates_in gates.old.items) (x, assign_of assign.now) o h) result
+        gates.new.items }
 {
     let assigned = build_assign(alloc, gates, rows, assign)?;
     let terms = terms_outside(alloc, domain, &assigned)?;
@@ -145,7 +151,8 @@ pub(crate) fn broken(
 ) -> Result<Vec<Operand>, BuildFault>
     requires few { length gates.old.items ≤ most_gates }
     requires under { (a : FlatAssign) → IsOneOf assigns.now a → a.target.n < length rows.now }
-    ensures { GivesEach signs_in assign_of (Sees_broken (row_at rows.now)) (gates_in gates.old.items) assigns.now
+    ensures { GivesEach signs_in assign_of (Sees_broken (row_at rows.now))
+        (gates_in gates.old.items) assigns.now
         result gates.new.items }
 {
     let mut seen = Vec::new(alloc);
@@ -165,7 +172,8 @@ fn breaks(
 ) -> Result<Operand, BuildFault>
     requires few { length gates.old.items ≤ most_gates }
     requires under { assign.now.target.n < length rows.now }
-    ensures { GivesOperand (λ o h. Sees_broken (row_at rows.now) (gates_in gates.old.items) (assign_of assign.now) o h)
+    ensures { GivesOperand (λ o h. Sees_broken (row_at rows.now) (gates_in gates.old.items)
+        (assign_of assign.now) o h)
         result gates.new.items }
 {
     let assigned = build_assign(alloc, gates, rows, assign)?;

@@ -43,7 +43,8 @@ pub fn equations(
     ensures table { IfOk result (λ q. AtObserver (slice_get gts.now.observers.items observer)
         (IsTableOf gts.now forest.now wanted (table_of q))) }
     ensures few { IfOk result (λ q. length q.gates.items ≤ most_gates) }
-    ensures gates { result ≡ Err EqFault.Gates → AtObserver (slice_get gts.now.observers.items observer)
+    ensures gates { result ≡ Err EqFault.Gates
+        → AtObserver (slice_get gts.now.observers.items observer)
         (NeedsTooMany gts.now forest.now wanted) }
 {
     Ok(table(alloc, gts, forest, observer, wanted)?)
@@ -61,7 +62,8 @@ fn table(
     ensures table { IfOk result (λ q. AtObserver (slice_get gts.now.observers.items observer)
         (IsTableOf gts.now forest.now wanted (table_of q))) }
     ensures few { IfOk result (λ q. length q.gates.items ≤ most_gates) }
-    ensures gates { IfErr result (λ fault. Stops fault (AtObserver (slice_get gts.now.observers.items observer)
+    ensures gates { IfErr result (λ fault.
+        Stops fault (AtObserver (slice_get gts.now.observers.items observer)
         (NeedsTooMany gts.now forest.now wanted))) }
 {
     let parts = gts.parts();
@@ -98,7 +100,8 @@ fn conflicts(
     requires sound { IsSound parts.now }
     requires index { IsIndex parts.now index.now }
     requires long { length rows.old.items ≡ length parts.now.variables.items }
-    ensures { GivesConflict (net_of parts.now) (row_at rows.old.items) (gates_in gates.old.items) result
+    ensures { GivesConflict (net_of parts.now) (row_at rows.old.items) (gates_in gates.old.items)
+        result
         rows.new.items gates.new.items }
 {
     let seen_twice = twos(alloc, gates, rows, &index.flows)?;

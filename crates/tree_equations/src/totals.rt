@@ -29,8 +29,10 @@ pub(crate) fn totals(
 ) -> Result<Vec<Vec<Entry>>, BuildFault>
     requires few { length gates.old.items ≤ most_gates }
     requires long { length rows.now ≡ length variables.now }
-    requires flows { AreFlows variables.now flows.now (flows_from 0 (variables_from 0 variables.now)) }
-    ensures { Gives rows_in (λ ess h. Threads (Totals_of (row_at rows.now)) (gates_in gates.old.items)
+    requires flows { AreFlows variables.now flows.now
+        (flows_from 0 (variables_from 0 variables.now)) }
+    ensures { Gives rows_in (λ ess h.
+        Threads (Totals_of (row_at rows.now)) (gates_in gates.old.items)
         (flows_from 0 (variables_from 0 variables.now)) ess h) result gates.new.items }
 {
     let mut totals = Vec::new(alloc);
@@ -50,7 +52,8 @@ fn total(
     reset: Value,
 ) -> Result<Vec<Entry>, BuildFault>
     requires { length gates.old.items ≤ most_gates }
-    ensures { MakesEntries (total_of (gates_in gates.old.items) (entries_in row.now) reset) result gates.new.items }
+    ensures { MakesEntries (total_of (gates_in gates.old.items) (entries_in row.now) reset) result
+        gates.new.items }
 {
     let unknown = opposites(alloc, row)?;
     let none = made(alloc, gates, Joint::And, &unknown)?;

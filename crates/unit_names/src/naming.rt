@@ -26,8 +26,10 @@ type Entries = Vec<(NameId, UnitId)>;
 
 // Adds the unit that a name leads to, if it leads to one.
 fn add(entries: &mut Entries, walks: &Walks, unit: UnitId, name: NameId) -> Result<(), Memory>
-    ensures { (m : RootedModel) (units : List UnitPath) (u : UnitPath) → AreOutcomes m units walks.now
-        → Stands units unit.n u → OnOk result (AddsName m units u name.n entries.old.items entries.new.items) }
+    ensures { (m : RootedModel) (units : List UnitPath) (u : UnitPath)
+        → AreOutcomes m units walks.now
+        → Stands units unit.n u → OnOk result
+        (AddsName m units u name.n entries.old.items entries.new.items) }
 {
     match walks.outcome(unit, name) {
         Led::Unit(found) => entries.push((name, found))?,
@@ -44,9 +46,11 @@ fn add_all(
     unit: UnitId,
     names: &[(NameId, Place)],
 ) -> Result<(), Memory>
-    ensures { (m : RootedModel) (units : List UnitPath) (u : UnitPath) → AreOutcomes m units walks.now
+    ensures { (m : RootedModel) (units : List UnitPath) (u : UnitPath)
+        → AreOutcomes m units walks.now
         → Stands units unit.n u
-        → OnOk result (AddsNames m units u entries.old.items (map (λ (n : Name × PlaceOf). n.0.n) names.now) entries.new.items) }
+        → OnOk result (AddsNames m units u entries.old.items
+        (map (λ (n : Name × PlaceOf). n.0.n) names.now) entries.new.items) }
 {
     for (name, _) in names {
         add(entries, walks, unit, *name)?;
@@ -62,9 +66,11 @@ fn add_declared(
     form: TypeForm,
     names: &[(NameId, Place)],
 ) -> Result<(), Memory>
-    ensures { (m : RootedModel) (units : List UnitPath) (u : UnitPath) → AreOutcomes m units walks.now
+    ensures { (m : RootedModel) (units : List UnitPath) (u : UnitPath)
+        → AreOutcomes m units walks.now
         → Stands units unit.n u
-        → OnOk result (AddsNames m units u entries.old.items (instance_names form names.now) entries.new.items) }
+        → OnOk result (AddsNames m units u entries.old.items (instance_names form names.now)
+        entries.new.items) }
 {
     match form {
         TypeForm::Named(_) => add_all(entries, walks, unit, names),
@@ -75,7 +81,8 @@ fn add_declared(
 
 // Adds the unit of one name to a list that gets no other.
 fn add_one(entries: &mut Entries, walks: &Walks, unit: UnitId, name: NameId) -> Result<(), Memory>
-    ensures { (m : RootedModel) (units : List UnitPath) (u : UnitPath) → AreOutcomes m units walks.now
+    ensures { (m : RootedModel) (units : List UnitPath) (u : UnitPath)
+        → AreOutcomes m units walks.now
         → Stands units unit.n u
         → OnOk result (AddsNames m units u entries.old.items (name.n ∷ []) entries.new.items) }
 {
@@ -84,9 +91,11 @@ fn add_one(entries: &mut Entries, walks: &Walks, unit: UnitId, name: NameId) -> 
 
 // Adds the units in the unit that the names of a member lead to.
 fn add_inner(inner: &mut Entries, walks: &Walks, unit: UnitId, owned: &Owned) -> Result<(), Memory>
-    ensures { (m : RootedModel) (units : List UnitPath) (u : UnitPath) → AreOutcomes m units walks.now
+    ensures { (m : RootedModel) (units : List UnitPath) (u : UnitPath)
+        → AreOutcomes m units walks.now
         → Stands units unit.n u
-        → OnOk result (AddsNames m units u inner.old.items (inner_names owned.now) inner.new.items) }
+        → OnOk result (AddsNames m units u inner.old.items (inner_names owned.now)
+        inner.new.items) }
 {
     let member = match owned {
         Owned::Nested(name, _, _) => return add_one(inner, walks, unit, *name),
@@ -123,9 +132,11 @@ fn add_inner_at(
     unit: UnitId,
     site: (BodyId, u32),
 ) -> Result<(), Memory>
-    ensures { (d : Declared) (m : RootedModel) (units : List UnitPath) (u : UnitPath) → Along IsBodyOf bodies.now d.bodies
+    ensures { (d : Declared) (m : RootedModel) (units : List UnitPath) (u : UnitPath)
+        → Along IsBodyOf bodies.now d.bodies
         → AreOutcomes m units walks.now → Stands units unit.n u
-        → OnOk result (AddsNames m units u inner.old.items (names_if inner_names (declared_at d (site_of site))) inner.new.items) }
+        → OnOk result (AddsNames m units u inner.old.items
+        (names_if inner_names (declared_at d (site_of site))) inner.new.items) }
 {
     match owned_at(bodies, site) {
         None => Ok(()),
@@ -140,9 +151,11 @@ fn add_alias(
     unit: UnitId,
     owned: &Owned,
 ) -> Result<(), Memory>
-    ensures { (m : RootedModel) (units : List UnitPath) (u : UnitPath) → AreOutcomes m units walks.now
+    ensures { (m : RootedModel) (units : List UnitPath) (u : UnitPath)
+        → AreOutcomes m units walks.now
         → Stands units unit.n u
-        → OnOk result (AddsNames m units u aliases.old.items (alias_names owned.now) aliases.new.items) }
+        → OnOk result (AddsNames m units u aliases.old.items (alias_names owned.now)
+        aliases.new.items) }
 {
     let member = match owned {
         Owned::Nested(_, _, _) => return Ok(()),
@@ -173,9 +186,11 @@ fn add_alias_at(
     unit: UnitId,
     site: (BodyId, u32),
 ) -> Result<(), Memory>
-    ensures { (d : Declared) (m : RootedModel) (units : List UnitPath) (u : UnitPath) → Along IsBodyOf bodies.now d.bodies
+    ensures { (d : Declared) (m : RootedModel) (units : List UnitPath) (u : UnitPath)
+        → Along IsBodyOf bodies.now d.bodies
         → AreOutcomes m units walks.now → Stands units unit.n u
-        → OnOk result (AddsNames m units u aliases.old.items (names_if alias_names (declared_at d (site_of site))) aliases.new.items) }
+        → OnOk result (AddsNames m units u aliases.old.items
+        (names_if alias_names (declared_at d (site_of site))) aliases.new.items) }
 {
     match owned_at(bodies, site) {
         None => Ok(()),
@@ -191,9 +206,11 @@ fn inner_of(
     unit: UnitId,
     all: &[(BodyId, u32)],
 ) -> Result<Entries, Memory>
-    ensures { (d : Declared) (m : RootedModel) (units : List UnitPath) (u : UnitPath) → Along IsBodyOf bodies.now d.bodies
+    ensures { (d : Declared) (m : RootedModel) (units : List UnitPath) (u : UnitPath)
+        → Along IsBodyOf bodies.now d.bodies
         → AreOutcomes m units walks.now → Stands units unit.n u
-        → IfOk result (λ r. AddsNames m units u [] (names_at_sites inner_names d (map site_of all.now)) r.items) }
+        → IfOk result (λ r. AddsNames m units u []
+        (names_at_sites inner_names d (map site_of all.now)) r.items) }
 {
     let mut inner = Vec::new(alloc);
     for site in all {
@@ -210,9 +227,11 @@ fn aliases_of(
     unit: UnitId,
     all: &[(BodyId, u32)],
 ) -> Result<Entries, Memory>
-    ensures { (d : Declared) (m : RootedModel) (units : List UnitPath) (u : UnitPath) → Along IsBodyOf bodies.now d.bodies
+    ensures { (d : Declared) (m : RootedModel) (units : List UnitPath) (u : UnitPath)
+        → Along IsBodyOf bodies.now d.bodies
         → AreOutcomes m units walks.now → Stands units unit.n u
-        → IfOk result (λ r. AddsNames m units u [] (names_at_sites alias_names d (map site_of all.now)) r.items) }
+        → IfOk result (λ r. AddsNames m units u []
+        (names_at_sites alias_names d (map site_of all.now)) r.items) }
 {
     let mut aliases = Vec::new(alloc);
     for site in all {
@@ -264,8 +283,10 @@ pub fn name_units(
     outlines: &[Outline],
     walks: &Walks,
 ) -> Result<Vec<UnitNode>, Memory>
-    ensures { (m : RootedModel) (units : List UnitPath) → AreOutlines m units classes.now outlines.now
-        → AreOutcomes m units walks.now → IfOk result (λ nodes. Along (IsUnit m units) units nodes.items) }
+    ensures { (m : RootedModel) (units : List UnitPath)
+        → AreOutlines m units classes.now outlines.now
+        → AreOutcomes m units walks.now → IfOk result
+        (λ nodes. Along (IsUnit m units) units nodes.items) }
 {
     let mut nodes = Vec::new(alloc);
     for (place, outline) in outlines.iter().enumerate() {

@@ -48,8 +48,10 @@ fn statement(owned: &Owned) -> Option<(&Path, NameId)>
 
 // Where the path of a clone or an alias stands, where its walk loops, or else where it names nothing.
 fn broken_at(owned: &Owned, walks: &Walks, unit: UnitId, looping: bool) -> Option<Place>
-    ensures { (m : RootedModel) (units : List UnitPath) (u : UnitPath) → AreOutcomes m units walks.now
-        → Stands units unit.n u → IsEarliest (EndsSo m u (broken_so looping) (statement_of owned.now)) result }
+    ensures { (m : RootedModel) (units : List UnitPath) (u : UnitPath)
+        → AreOutcomes m units walks.now
+        → Stands units unit.n u → IsEarliest
+        (EndsSo m u (broken_so looping) (statement_of owned.now)) result }
 {
     let (path, name) = statement(owned)?;
     match walks.outcome(unit, name) {
@@ -67,9 +69,11 @@ fn broken_at_site(
     site: (BodyId, u32),
     looping: bool,
 ) -> Option<Place>
-    ensures { (m : RootedModel) (units : List UnitPath) (u : UnitPath) → Along IsBodyOf bodies.now m.declared.bodies
+    ensures { (m : RootedModel) (units : List UnitPath) (u : UnitPath)
+        → Along IsBodyOf bodies.now m.declared.bodies
         → AreOutcomes m units walks.now → Stands units unit.n u
-        → IsEarliest (SiteEndsSo m u (broken_so looping) (declared_at m.declared (site_of site))) result }
+        → IsEarliest (SiteEndsSo m u (broken_so looping) (declared_at m.declared (site_of site)))
+        result }
 {
     match owned_at(bodies, site) {
         None => None,
@@ -85,7 +89,8 @@ fn broken_among(
     all: &[(BodyId, u32)],
     looping: bool,
 ) -> Option<Place>
-    ensures { (m : RootedModel) (units : List UnitPath) (u : UnitPath) → Along IsBodyOf bodies.now m.declared.bodies
+    ensures { (m : RootedModel) (units : List UnitPath) (u : UnitPath)
+        → Along IsBodyOf bodies.now m.declared.bodies
         → AreOutcomes m units walks.now → Stands units unit.n u
         → IsEarliest (SitesEndSo m u (broken_so looping) (map site_of all.now)) result }
 {
@@ -120,7 +125,8 @@ fn first_broken(
     looping: bool,
 ) -> Option<Place>
     requires { length outlines.now < 2 ^ 32 }
-    ensures { (m : RootedModel) (units : List UnitPath) → AreOutlines m units classes.now outlines.now
+    ensures { (m : RootedModel) (units : List UnitPath)
+        → AreOutlines m units classes.now outlines.now
         → AreOutcomes m units walks.now → IsEarliest (WalkEnds m units (broken_so looping)) result }
 {
     let mut found = None;
@@ -138,7 +144,8 @@ fn first_broken(
 /// no memory.
 pub fn first_lost(classes: &Classes, outlines: &[Outline], walks: &Walks) -> Option<Place>
     requires { length outlines.now < 2 ^ 32 }
-    ensures { (m : RootedModel) (units : List UnitPath) → AreOutlines m units classes.now outlines.now
+    ensures { (m : RootedModel) (units : List UnitPath)
+        → AreOutlines m units classes.now outlines.now
         → AreOutcomes m units walks.now → IsEarliest (WalkEnds m units Nothing) result }
 {
     first_broken(classes, outlines, walks, false)
@@ -148,7 +155,8 @@ pub fn first_lost(classes: &Classes, outlines: &[Outline], walks: &Walks) -> Opt
 /// of a unit above it; None where there is none. Takes no memory.
 pub fn first_looping(classes: &Classes, outlines: &[Outline], walks: &Walks) -> Option<Place>
     requires { length outlines.now < 2 ^ 32 }
-    ensures { (m : RootedModel) (units : List UnitPath) → AreOutlines m units classes.now outlines.now
+    ensures { (m : RootedModel) (units : List UnitPath)
+        → AreOutlines m units classes.now outlines.now
         → AreOutcomes m units walks.now → IsEarliest (WalkEnds m units Loops) result }
 {
     first_broken(classes, outlines, walks, true)

@@ -14,7 +14,8 @@ ghost use Rattle.hierarchy.specs.Listing.{AreUnits};
 pub fn some_outcome()
     ensures name { (m : RootedModel) → IsKept m → (f : List Thing) (u : UnitPath) (x : ℕ)
         → (o : Outcome) × NameLeads m f u x (kind_at m u x) o }
-    ensures names { (m : RootedModel) → IsKept m → (f : List Thing) (u : Option UnitPath) (xs : List ℕ)
+    ensures names { (m : RootedModel) → IsKept m
+        → (f : List Thing) (u : Option UnitPath) (xs : List ℕ)
         → (o : Outcome) × NamesLead m f u xs o }
 {}
 

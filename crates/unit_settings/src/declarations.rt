@@ -124,7 +124,8 @@ fn of_bodies(
 fn of_body(firsts: &[Option<Place>], body: BodyId) -> Option<Place>
     ensures { (m : RootedModel) (classes : Table) → IsTableFor m classes
         → Along (IsFirstIn m.declared) classes.bodies.items firsts.now
-        → IsEarliest (BreaksOne m.declared (forms_of m.declared (unwrap_or (slice_get m.members body.n) []))) result }
+        → IsEarliest (BreaksOne m.declared
+        (forms_of m.declared (unwrap_or (slice_get m.members body.n) []))) result }
 {
     match firsts.get(body.n as usize) {
         Some(found) => *found,
@@ -135,7 +136,8 @@ fn of_body(firsts: &[Option<Place>], body: BodyId) -> Option<Place>
 // The earliest place of a wrong declaration of all units, by those of their bodies.
 fn of_units(firsts: &[Option<Place>], outlines: &[Outline]) -> Option<Place>
     ensures { (m : RootedModel) (units : List UnitPath) (classes : Table)
-        → AreOutlines m units classes outlines.now → Along (IsFirstIn m.declared) classes.bodies.items firsts.now
+        → AreOutlines m units classes outlines.now
+        → Along (IsFirstIn m.declared) classes.bodies.items firsts.now
         → IsEarliest (BreaksDeclaration m units) result }
 {
     let mut found = None;
@@ -152,7 +154,8 @@ pub fn first_wrong_declaration(
     classes: &Classes,
     outlines: &[Outline],
 ) -> Result<Option<Place>, Memory>
-    ensures { (m : RootedModel) (units : List UnitPath) → AreOutlines m units classes.now outlines.now
+    ensures { (m : RootedModel) (units : List UnitPath)
+        → AreOutlines m units classes.now outlines.now
         → IfOk result (IsEarliest (BreaksDeclaration m units)) }
 {
     let places = TypePlaces::new(alloc, &classes.types)?;

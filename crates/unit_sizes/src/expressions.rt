@@ -57,7 +57,8 @@ fn summed(parts: &[(bool, RawExpr)]) -> u64
 // The sizes of the cases of a choice together.
 #[cycle(sized)]
 fn chosen(cases: &[(RawExpr, RawExpr)]) -> u64
-    ensures { result ≡ capped (sum (map (λ (c : Expr × Expr). size_of c.0 + size_of c.1) cases.now)) }
+    ensures { result ≡ capped (sum (map (λ (c : Expr × Expr). size_of c.0 + size_of c.1)
+        cases.now)) }
 {
     let mut size = 0;
     for (test, value) in cases {

@@ -18,7 +18,8 @@ use std::alloc::Global;
 // Refuses the number where it passes the limit of the count.
 fn within(count: Count, number: u64) -> Result<(), RuleFault>
     ensures { (n : ℕ) → number ≡ capped n
-        → MatchResult result (λ _. n ≤ limit_of count) (λ e. (limit_of count < n) × (e ≡ Limit count)) }
+        → MatchResult result (λ _. n ≤ limit_of count)
+        (λ e. (limit_of count < n) × (e ≡ Limit count)) }
 {
     if number > u64::from(count.limit()) {
         return Err(RuleFault::Limit(count));
@@ -31,7 +32,8 @@ fn within(count: Count, number: u64) -> Result<(), RuleFault>
 ///
 /// The first count that passes its limit is told. Want of memory may be told in place of any answer.
 pub fn fit(alloc: Global, classes: &Classes, outlines: &[Outline]) -> Result<(), RuleFault>
-    ensures { (m : RootedModel) (units : List UnitPath) → AreOutlines m units classes.now outlines.now
+    ensures { (m : RootedModel) (units : List UnitPath)
+        → AreOutlines m units classes.now outlines.now
         → AnswersLimits m units result }
 {
     let counts = totals(alloc, classes, outlines)?;

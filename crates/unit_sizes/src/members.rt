@@ -20,7 +20,8 @@ use class_table::{Owned, TypeBody};
 
 /// The counts of a member.
 pub(crate) fn counts_of(owned: &Owned, types: &[(NameId, TypeBody)], places: &TypePlaces) -> Counts
-    ensures { (d : Declared) → Along (IsNamedType d.symbols) types.now d.types → KnowsPlaces types.now places.now
+    ensures { (d : Declared) → Along (IsNamedType d.symbols) types.now d.types
+        → KnowsPlaces types.now places.now
         → AreOf d owned.now result }
 {
     match owned {

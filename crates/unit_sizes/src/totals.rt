@@ -29,7 +29,8 @@ fn own_counts(
     types: &[(NameId, TypeBody)],
     places: &TypePlaces,
 ) -> Result<Vec<Counts>, Memory>
-    ensures { (d : Declared) → Along (IsNamedType d.symbols) types.now d.types → KnowsPlaces types.now places.now
+    ensures { (d : Declared) → Along (IsNamedType d.symbols) types.now d.types
+        → KnowsPlaces types.now places.now
         → IfOk result (λ v. Along (AreOf d) own.now v.items) }
 {
     let mut counts = Vec::new(alloc);
@@ -46,7 +47,8 @@ fn all_own(
     types: &[(NameId, TypeBody)],
     places: &TypePlaces,
 ) -> Result<Vec<Vec<Counts>>, Memory>
-    ensures { (d : Declared) → Along (IsNamedType d.symbols) types.now d.types → KnowsPlaces types.now places.now
+    ensures { (d : Declared) → Along (IsNamedType d.symbols) types.now d.types
+        → KnowsPlaces types.now places.now
         → IfOk result (λ v. Along (AreOwn d) bodies.now v.items) }
 {
     let mut rows = Vec::new(alloc);
@@ -58,7 +60,8 @@ fn all_own(
 
 // The counts of the member at a site.
 fn at_site(rows: &[Vec<Counts>], site: (BodyId, u32)) -> Counts
-    ensures { (d : Declared) (bodies : List BodyOf) → Along IsBodyOf bodies d.bodies → Along (AreOwn d) bodies rows.now
+    ensures { (d : Declared) (bodies : List BodyOf) → Along IsBodyOf bodies d.bodies
+        → Along (AreOwn d) bodies rows.now
         → AreAt d (site_of site ∷ []) result }
 {
     match rows.get(site.0.n as usize) {
@@ -72,7 +75,8 @@ fn at_site(rows: &[Vec<Counts>], site: (BodyId, u32)) -> Counts
 
 // The counts of the members at these sites.
 fn at_sites(rows: &[Vec<Counts>], sites: &[(BodyId, u32)]) -> Counts
-    ensures { (d : Declared) (bodies : List BodyOf) → Along IsBodyOf bodies d.bodies → Along (AreOwn d) bodies rows.now
+    ensures { (d : Declared) (bodies : List BodyOf) → Along IsBodyOf bodies d.bodies
+        → Along (AreOwn d) bodies rows.now
         → AreAt d (map site_of sites.now) result }
 {
     let mut counts = Counts::none();
@@ -84,7 +88,8 @@ fn at_sites(rows: &[Vec<Counts>], sites: &[(BodyId, u32)]) -> Counts
 
 // The counts of all members of each body.
 fn of_bodies(alloc: Global, rows: &[Vec<Counts>], bodies: &[Body]) -> Result<Vec<Counts>, Memory>
-    ensures { (d : Declared) → Along IsBodyOf bodies.now d.bodies → Along (AreOwn d) bodies.now rows.now
+    ensures { (d : Declared) → Along IsBodyOf bodies.now d.bodies
+        → Along (AreOwn d) bodies.now rows.now
         → IfOk result (λ v. Along (AreOfBody d) bodies.now v.items) }
 {
     let mut counts = Vec::new(alloc);
@@ -109,7 +114,8 @@ fn at_body(counts: &[Counts], body: BodyId) -> Counts
 // The counts of all units, by those of their bodies.
 fn of_units(counts: &[Counts], outlines: &[Outline]) -> Counts
     ensures { (m : RootedModel) (units : List UnitPath) (classes : Table)
-        → AreOutlines m units classes outlines.now → Along (AreOfBody m.declared) classes.bodies.items counts.now
+        → AreOutlines m units classes outlines.now
+        → Along (AreOfBody m.declared) classes.bodies.items counts.now
         → AreCounts (flat_map (names_at m) units) (tree_nodes m units) result }
 {
     let mut total = Counts::none();
@@ -125,7 +131,8 @@ pub(crate) fn totals(
     classes: &Classes,
     outlines: &[Outline],
 ) -> Result<Counts, Memory>
-    ensures { (m : RootedModel) (units : List UnitPath) → AreOutlines m units classes.now outlines.now
+    ensures { (m : RootedModel) (units : List UnitPath)
+        → AreOutlines m units classes.now outlines.now
         → IfOk result (AreCounts (flat_map (names_at m) units) (tree_nodes m units)) }
 {
     let places = TypePlaces::new(alloc, &classes.types)?;

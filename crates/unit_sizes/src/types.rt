@@ -41,7 +41,8 @@ impl TypePlaces {
     fn add(&mut self, name: NameId, place: usize) -> Result<(), Memory>
         ensures { (types : List (Name × Body)) (body : Body) → length types ≡ place
             → ((x : ℕ) → hash.get nat_eq self.old.places x ≡ place_in types x)
-            → OnOk result ((x : ℕ) → hash.get nat_eq self.new.places x ≡ place_in (types ++ (name, body) ∷ []) x) }
+            → OnOk result ((x : ℕ) → hash.get nat_eq self.new.places x
+            ≡ place_in (types ++ (name, body) ∷ []) x) }
     {
         if self.places.contains_key(&name.n) {
             return Ok(());
@@ -52,7 +53,8 @@ impl TypePlaces {
 
     /// The type of this name, among the types of the table, where there is one. Takes no memory.
     pub fn find<'a>(&self, types: &'a [(NameId, TypeBody)], name: NameId) -> Option<&'a TypeBody>
-        ensures { (d : Declared) → Along (IsNamedType d.symbols) types.now d.types → KnowsPlaces types.now self.now
+        ensures { (d : Declared) → Along (IsNamedType d.symbols) types.now d.types
+            → KnowsPlaces types.now self.now
             → IsFound d.symbols (type_named d name.n) (option_copied result) }
     {
         let place = *self.places.get(&name.n)?;
@@ -64,7 +66,8 @@ impl TypePlaces {
 
     /// Whether a declaration by this type, among the types of the table, declares variables. Takes no memory.
     pub fn is_domain(&self, types: &[(NameId, TypeBody)], form: TypeForm) -> bool
-        ensures { (d : Declared) → Along (IsNamedType d.symbols) types.now d.types → KnowsPlaces types.now self.now
+        ensures { (d : Declared) → Along (IsNamedType d.symbols) types.now d.types
+            → KnowsPlaces types.now self.now
             → result ≡ bounds_variables d form }
     {
         match form {

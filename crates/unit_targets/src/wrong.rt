@@ -123,7 +123,8 @@ pub fn first_wrong_setting(
     outlines: &[Outline],
     walks: &Walks,
 ) -> Result<Option<Place>, Memory>
-    ensures { (m : RootedModel) (units : List UnitPath) → AreOutlines m units classes.now outlines.now
+    ensures { (m : RootedModel) (units : List UnitPath)
+        → AreOutlines m units classes.now outlines.now
         → AreOutcomes m units walks.now → IfOk result (IsEarliest (BreaksSetting m units)) }
 {
     let settables = Settables::new(alloc, classes, outlines)?;

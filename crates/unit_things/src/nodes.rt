@@ -85,7 +85,8 @@ fn add_names(
     site: (BodyId, u32),
     names: &[(NameId, Place)],
 ) -> Result<(), Memory>
-    ensures { OnOk result (nodes.new.items ≡ nodes.old.items ++ names_nodes unit (site_of site) names.now) }
+    ensures { OnOk result (nodes.new.items ≡ nodes.old.items
+        ++ names_nodes unit (site_of site) names.now) }
 {
     for (name, _) in names {
         nodes.push(node(unit, site, *name))?;
@@ -137,7 +138,8 @@ fn add_site(
 ) -> Result<(), Memory>
     ensures { (d : Declared) → Holds d classes.now → KnowsPlaces classes.now.types.items places.now
         → OnOk result (nodes.new.items ≡ nodes.old.items
-        ++ nodes_of unit (test_of listed) (names_of d (site_of site) (declared_at d (site_of site)))) }
+        ++ nodes_of unit (test_of listed)
+        (names_of d (site_of site) (declared_at d (site_of site)))) }
 {
     match owned_at(&classes.bodies, site) {
         None => Ok(()),
@@ -173,9 +175,11 @@ fn add_unit(
     places: &TypePlaces,
     listed: Listed,
 ) -> Result<(), Memory>
-    ensures { (m : RootedModel) (u : UnitPath) → IsTableFor m classes.now → KnowsPlaces classes.now.types.items places.now
+    ensures { (m : RootedModel) (u : UnitPath) → IsTableFor m classes.now
+        → KnowsPlaces classes.now.types.items places.now
         → body.n ≡ body_of m u
-        → OnOk result (nodes.new.items ≡ nodes.old.items ++ nodes_of unit (test_of listed) (names_at m u)) }
+        → OnOk result (nodes.new.items ≡ nodes.old.items
+        ++ nodes_of unit (test_of listed) (names_at m u)) }
 {
     match classes.bodies.get(body.n as usize) {
         None => Ok(()),
@@ -191,9 +195,11 @@ pub(crate) fn nodes(
     outlines: &[Outline],
     listed: Listed,
 ) -> Result<Vec<MemNode>, Memory>
-    ensures { (m : RootedModel) (units : List UnitPath) → AreOutlines m units classes.now outlines.now
+    ensures { (m : RootedModel) (units : List UnitPath)
+        → AreOutlines m units classes.now outlines.now
         → KnowsPlaces classes.now.types.items places.now
-        → IfOk result (λ v. Along (IsNodeSo m units (test_of listed)) (flat_map (things_in (test_of listed) m) units) v.items) }
+        → IfOk result (λ v. Along (IsNodeSo m units (test_of listed))
+        (flat_map (things_in (test_of listed) m) units) v.items) }
 {
     let mut nodes = Vec::new(alloc);
     for (place, outline) in outlines.iter().enumerate() {

@@ -48,7 +48,8 @@ fn parameter_domain(
     places: &TypePlaces,
     form: TypeForm,
 ) -> Result<Option<Domain>, Memory>
-    ensures { (d : Declared) (value : RawExpr) → Holds d classes.now → KnowsPlaces classes.now.types.items places.now
+    ensures { (d : Declared) (value : RawExpr) → Holds d classes.now
+        → KnowsPlaces classes.now.types.items places.now
         → IfOk result (HasParameterDomain d (Parameter form value)) }
 {
     match form {
@@ -69,9 +70,12 @@ fn typed(
     node: MemNode,
     form: TypeForm,
 ) -> Result<ParNode, Memory>
-    ensures { (m : RootedModel) (units : List UnitPath) (t : Thing) (g : NamedMember) (value : RawExpr)
-        → AreOutlines m units classes.now outlines.now → KnowsPlaces classes.now.types.items places.now
-        → IsNode m units t g node → g.kind ≡ Parameter form value → IfOk result (IsParameter m units t) }
+    ensures { (m : RootedModel) (units : List UnitPath) (t : Thing) (g : NamedMember)
+        (value : RawExpr)
+        → AreOutlines m units classes.now outlines.now
+        → KnowsPlaces classes.now.types.items places.now
+        → IsNode m units t g node → g.kind ≡ Parameter form value
+        → IfOk result (IsParameter m units t) }
 {
     let domain = parameter_domain(classes, places, form)?;
     let mut target = Vec::new(alloc);
@@ -92,7 +96,8 @@ fn parameter(
     outlines: &[Outline],
     node: MemNode,
 ) -> Result<ParNode, Memory>
-    ensures { (m : RootedModel) (units : List UnitPath) (t : Thing) → AreOutlines m units classes.now outlines.now
+    ensures { (m : RootedModel) (units : List UnitPath) (t : Thing)
+        → AreOutlines m units classes.now outlines.now
         → KnowsPlaces classes.now.types.items places.now → IsNodeSo m units is_parameter t node
         → IfOk result (IsParameter m units t) }
 {
@@ -120,7 +125,8 @@ pub fn parameters(
     classes: &Classes,
     outlines: &[Outline],
 ) -> Result<Vec<ParNode>, Memory>
-    ensures { (m : RootedModel) (units : List UnitPath) → AreOutlines m units classes.now outlines.now
+    ensures { (m : RootedModel) (units : List UnitPath)
+        → AreOutlines m units classes.now outlines.now
         → IfOk result (λ v. Along (IsParameter m units) (parameters_of m units) v.items) }
 {
     let places = TypePlaces::new(alloc, &classes.types)?;

@@ -21,7 +21,8 @@ pub fn events(
     classes: &Classes,
     outlines: &[Outline],
 ) -> Result<Vec<MemNode>, Memory>
-    ensures { (m : RootedModel) (units : List UnitPath) → AreOutlines m units classes.now outlines.now
+    ensures { (m : RootedModel) (units : List UnitPath)
+        → AreOutlines m units classes.now outlines.now
         → IfOk result (λ v. Along (IsPlainNode m units) (events_of m units) v.items) }
 {
     let places = TypePlaces::new(alloc, &classes.types)?;
@@ -34,7 +35,8 @@ pub fn observers(
     classes: &Classes,
     outlines: &[Outline],
 ) -> Result<Vec<MemNode>, Memory>
-    ensures { (m : RootedModel) (units : List UnitPath) → AreOutlines m units classes.now outlines.now
+    ensures { (m : RootedModel) (units : List UnitPath)
+        → AreOutlines m units classes.now outlines.now
         → IfOk result (λ v. Along (IsPlainNode m units) (observers_of m units) v.items) }
 {
     let places = TypePlaces::new(alloc, &classes.types)?;

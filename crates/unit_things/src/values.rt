@@ -26,7 +26,8 @@ fn set_here(
     target: &[Word],
 ) -> Result<Option<Attribute>, Memory>
     ensures { (m : RootedModel) (units : List UnitPath) (above : UnitPath) (site : Option Site)
-        → Holds m.declared classes.now → IsSetAt site outline.now.set_at → Stands units owner.n above
+        → Holds m.declared classes.now → IsSetAt site outline.now.set_at
+        → Stands units owner.n above
         → IfOk result (AreAttribute units (set_by m above site (map word_of target.now))) }
 {
     let Some(site) = outline.set_at else {
@@ -56,7 +57,8 @@ pub(crate) fn outermost(
     unit: UnitId,
     mut target: Vec<Word>,
 ) -> Result<Option<Attribute>, Memory>
-    ensures { (m : RootedModel) (units : List UnitPath) (u : UnitPath) → AreOutlines m units classes.now outlines.now
+    ensures { (m : RootedModel) (units : List UnitPath) (u : UnitPath)
+        → AreOutlines m units classes.now outlines.now
         → Stands units unit.n u
         → IfOk result (AreAttribute units (outermost_of m u (map word_of target.items))) }
 {
@@ -87,7 +89,8 @@ pub(crate) fn value_of(
     target: Vec<Word>,
     own: Option<u32>,
 ) -> Result<Attribute, Memory>
-    ensures { (m : RootedModel) (units : List UnitPath) (t : Thing) (g : NamedMember) (value : RawExpr)
+    ensures { (m : RootedModel) (units : List UnitPath) (t : Thing) (g : NamedMember)
+        (value : RawExpr)
         → AreOutlines m units classes.now outlines.now → IsNode m units t g node
         → target_in g.name g.kind ≡ Some (map word_of target.items)
         → declared_in t.unit g.site g.kind

@@ -40,7 +40,8 @@ fn variable(
     outlines: &[Outline],
     node: MemNode,
 ) -> Result<VarNode, Memory>
-    ensures { (m : RootedModel) (units : List UnitPath) (t : Thing) → AreOutlines m units classes.now outlines.now
+    ensures { (m : RootedModel) (units : List UnitPath) (t : Thing)
+        → AreOutlines m units classes.now outlines.now
         → KnowsPlaces classes.now.types.items places.now → KeepsDeclarations m units
         → IsNodeSo m units is_variable t node → IfOk result (IsVariable m units t) }
 {
@@ -72,7 +73,8 @@ pub fn variables(
     classes: &Classes,
     outlines: &[Outline],
 ) -> Result<Vec<VarNode>, Memory>
-    ensures { (m : RootedModel) (units : List UnitPath) → AreOutlines m units classes.now outlines.now
+    ensures { (m : RootedModel) (units : List UnitPath)
+        → AreOutlines m units classes.now outlines.now
         → KeepsDeclarations m units
         → IfOk result (λ v. Along (IsVariable m units) (variables_of m units) v.items) }
 {

@@ -115,7 +115,8 @@ fn add_plain<'a>(
     site: (BodyId, u32),
 ) -> Result<(), Memory>
     ensures { (d : Declared) → AreClasses d classes.now
-        → OnOk result (AddsNames (only_units (names_of_form d (site_of site) (out-Member member.now)))
+        → OnOk result (AddsNames (only_units
+        (names_of_form d (site_of site) (out-Member member.now)))
         list.old.items list.new.items) }
 {
     match member {
@@ -179,7 +180,8 @@ fn add_site<'a>(
     site: (BodyId, u32),
 ) -> Result<(), Memory>
     ensures { (d : Declared) → AreClasses d classes.now → Along IsBodyOf bodies.now d.bodies
-        → OnOk result (AddsNames (only_units (names_of d (site_of site) (owned_at d (site_of site))))
+        → OnOk result (AddsNames (only_units
+        (names_of d (site_of site) (owned_at d (site_of site))))
         list.old.items list.new.items) }
 {
     match member_at(bodies, site) {

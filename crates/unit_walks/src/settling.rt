@@ -75,7 +75,8 @@ fn ids_of(alloc: Global, nodes: &[Node]) -> Result<Ids, Memory>
 
 // What is known of a name, by the numbers of units depth first.
 fn led_by(ids: &Ids, known: Known) -> Result<Led, Memory>
-    ensures { IfOk result (λ r. (m : RootedModel) (units paths : List UnitPath) (a x : ℕ) (u : UnitPath)
+    ensures { IfOk result (λ r. (m : RootedModel) (units paths : List UnitPath) (a x : ℕ)
+        (u : UnitPath)
         → AreNumbers units paths ids.now → Means m paths [] a u x known → IsLed m units u x r) }
 {
     match known {

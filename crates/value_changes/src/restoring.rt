@@ -14,7 +14,8 @@ use gts_core::GtsParts;
 pub fn restore(parts: &GtsParts, values: &mut Vec<Value>, known: &mut Vec<bool>, changes: &Changes)
     requires sound { IsSound parts.now }
     requires long { length changes.now.variables.items ≡ length changes.now.old.items }
-    ensures values { values.new.items ≡ restored parts.now values.old.items changes.now.variables.items changes.now.old.items }
+    ensures values { values.new.items
+        ≡ restored parts.now values.old.items changes.now.variables.items changes.now.old.items }
     ensures known { known.new.items ≡ turned known.old.items changes.now.turned.items }
 {
     put(parts, values, &changes.variables, &changes.old);
@@ -64,7 +65,8 @@ fn turn(marks: &mut Vec<bool>, variables: &[VarId])
 
 // Turns the mark of a variable round.
 fn turn_one(marks: &mut Vec<bool>, variable: VarId)
-    ensures { marks.new.items ≡ slice_set marks.old.items variable.n (not (mark_at marks.old.items variable.n)) }
+    ensures { marks.new.items ≡ slice_set marks.old.items variable.n
+        (not (mark_at marks.old.items variable.n)) }
 {
     let n = variable.n as usize;
     if n < marks.len() {

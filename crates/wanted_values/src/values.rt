@@ -43,7 +43,8 @@ fn written(symbols: &[Text], kind: ValueKind, word: &str) -> Option<Value>
 
 // The truth value that the word writes.
 fn truth(word: &str) -> Option<Value>
-    ensures { (symbols : List (List ℕ)) → MatchOption result ((v : AnyValue) → Writes symbols word.now kind.Truth v → ⊥)
+    ensures { (symbols : List (List ℕ))
+        → MatchOption result ((v : AnyValue) → Writes symbols word.now kind.Truth v → ⊥)
         (λ v. Writes symbols word.now kind.Truth v) }
 {
     match word {
@@ -55,7 +56,8 @@ fn truth(word: &str) -> Option<Value>
 
 // The whole number that the word writes.
 fn whole(word: &str) -> Option<Value>
-    ensures { (symbols : List (List ℕ)) → MatchOption result ((v : AnyValue) → Writes symbols word.now kind.Whole v → ⊥)
+    ensures { (symbols : List (List ℕ))
+        → MatchOption result ((v : AnyValue) → Writes symbols word.now kind.Whole v → ⊥)
         (λ v. Writes symbols word.now kind.Whole v) }
 {
     match word {

@@ -28,7 +28,8 @@ pub(crate) fn effects(
     ways: &[WayId],
 ) -> Result<Vec<Effect>, Memory>
     requires { (k : ℕ) (id : Number) → Stands ways.now k id → id.n < length parts.now.ways.items }
-    ensures { IfOk result (λ all. all.items ≡ taken_effects values.now parts.now.ways.items ways.now) }
+    ensures { IfOk result (λ all. all.items
+        ≡ taken_effects values.now parts.now.ways.items ways.now) }
 {
     let mut all = Vec::new(alloc);
     for way in ways {

@@ -47,7 +47,8 @@ pub fn way_index(alloc: Global, parts: &GtsParts) -> Result<WayIndex, Memory>
 // The place of each way in the order.
 fn places_in(alloc: Global, order: &[WayId], count: usize) -> Result<Vec<usize>, Memory>
     ensures long { IfOk result (λ places. length places.items ≡ count) }
-    ensures placed { IfOk result (λ places. ArePlacedUpTo order.now (length order.now) places.items) }
+    ensures placed { IfOk result (λ places.
+        ArePlacedUpTo order.now (length order.now) places.items) }
 {
     let mut places = vec![in alloc; 0usize; count]?;
     for (place, way) in order.iter().enumerate() {

@@ -79,7 +79,8 @@ fn look_at_all(
     requires sound { IsSound parts.now }
     requires index { IsWayIndex parts.now index.now }
     requires total { IsTotal parts.now values.now }
-    requires settled { AreSettled parts.now index.now.places.items values.now waiting can.old.items }
+    requires settled { AreSettled parts.now index.now.places.items values.now waiting
+        can.old.items }
     requires none { ways.old.items ≡ [] }
     ensures flags { OnOk result (AreFlags parts.now values.now can.new.items) }
     ensures ways { OnOk result (AreWays parts.now ways.new.items) }
@@ -105,12 +106,16 @@ fn look_at(
 ) -> Result<(), Memory>
     requires sound { IsSound parts.now }
     requires index { IsWayIndex parts.now index.now }
-    requires settled { IsSettledBut parts.now index.now.places.items values.now place waiting.old can.old.items }
+    requires settled { IsSettledBut parts.now index.now.places.items values.now place waiting.old
+        can.old.items }
     requires behind { AreBehind parts.now index.now.places.items place ways.old.items }
-    ensures settled { OnOk result (AreSettled parts.now index.now.places.items values.now waiting.new can.new.items) }
+    ensures settled { OnOk result (AreSettled parts.now index.now.places.items values.now
+        waiting.new can.new.items) }
     ensures later { OnOk result ((q : ℕ) → WaitsAt waiting.new q → place < q) }
-    ensures looked { OnOk result (AreLooked parts.now index.now.places.items waiting.new ways.new.items) }
-    ensures turned { (first : List Bool) → AreTurned first can.old.items ways.old.items → AreTurned first can.new.items ways.new.items }
+    ensures looked { OnOk result (AreLooked parts.now index.now.places.items waiting.new
+        ways.new.items) }
+    ensures turned { (first : List Bool) → AreTurned first can.old.items ways.old.items
+        → AreTurned first can.new.items ways.new.items }
 {
     let way = index.order[place];
     let now = can_fire(values, can, &parts.ways[way.n as usize].body);

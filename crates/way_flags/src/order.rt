@@ -70,7 +70,8 @@ fn place_each(
 fn place(parts: &GtsParts, way: WayId, left: u32, placing: &mut Placing) -> Result<(), Memory>
     requires deep { (w : Way ℕ) × IsWayAt parts.now way.n w × (height w ≤ left) }
     requires order { IsPlacing parts.now placing.old.order.items placing.old.placed.items }
-    ensures order { OnOk result (IsPlacing parts.now placing.new.order.items placing.new.placed.items) }
+    ensures order { OnOk result (IsPlacing parts.now placing.new.order.items
+        placing.new.placed.items) }
     ensures keeps { OnOk result (Keeps placing.old.placed.items placing.new.placed.items) }
     ensures placed { OnOk result (flag_at placing.new.placed.items way.n ≡ true) }
 {
@@ -89,9 +90,11 @@ fn place_parts(
     left: u32,
     placing: &mut Placing,
 ) -> Result<(), Memory>
-    requires deep { (bs : Branches (Transition ℕ)) × Mean_parts (bodies_of parts.now) (map part_of ways.now) bs × (branches_height bs ≤ left) }
+    requires deep { (bs : Branches (Transition ℕ))
+        × Mean_parts (bodies_of parts.now) (map part_of ways.now) bs × (branches_height bs ≤ left) }
     requires order { IsPlacing parts.now placing.old.order.items placing.old.placed.items }
-    ensures order { OnOk result (IsPlacing parts.now placing.new.order.items placing.new.placed.items) }
+    ensures order { OnOk result (IsPlacing parts.now placing.new.order.items
+        placing.new.placed.items) }
     ensures keeps { OnOk result (Keeps placing.old.placed.items placing.new.placed.items) }
     ensures placed { OnOk result (are_set placing.new.placed.items ways.now ≡ true) }
 {
@@ -107,8 +110,10 @@ fn place_parts(
 fn put(parts: &GtsParts, way: WayId, placing: &mut Placing) -> Result<(), Memory>
     requires within { way.n < length parts.now.ways.items }
     requires order { IsPlacing parts.now placing.old.order.items placing.old.placed.items }
-    requires ready { (x : Ways) → Stands parts.now.ways.items way.n x → are_placed placing.old.placed.items x.body ≡ true }
-    ensures order { OnOk result (IsPlacing parts.now placing.new.order.items placing.new.placed.items) }
+    requires ready { (x : Ways) → Stands parts.now.ways.items way.n x
+        → are_placed placing.old.placed.items x.body ≡ true }
+    ensures order { OnOk result (IsPlacing parts.now placing.new.order.items
+        placing.new.placed.items) }
     ensures keeps { OnOk result (Keeps placing.old.placed.items placing.new.placed.items) }
     ensures placed { OnOk result (flag_at placing.new.placed.items way.n ≡ true) }
 {

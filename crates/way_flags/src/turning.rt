@@ -17,7 +17,8 @@ pub fn turn(flags: &mut Vec<bool>, ways: &[WayId])
 
 // Turns the flag of a way round.
 pub(crate) fn turn_one(flags: &mut Vec<bool>, way: WayId)
-    ensures { flags.new.items ≡ slice_set flags.old.items way.n (not (flag_at flags.old.items way.n)) }
+    ensures { flags.new.items ≡ slice_set flags.old.items way.n
+        (not (flag_at flags.old.items way.n)) }
 {
     let n = way.n as usize;
     if n < flags.len() {

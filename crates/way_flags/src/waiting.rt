@@ -17,7 +17,8 @@ use std::collections::BTreeSet;
 /// Takes the first place that waits.
 pub(crate) fn take_place(waiting: &mut BTreeSet<usize>) -> Option<usize>
     ensures first { IfSome result (λ place. waiting.old.keys ≡ place ∷ waiting.new.keys) }
-    ensures rest { IfSome result (λ place. (q : ℕ) → WaitsAt waiting.new q ↔ (WaitsAt waiting.old q × (q ≢ place))) }
+    ensures rest { IfSome result (λ place. (q : ℕ) → WaitsAt waiting.new q
+        ↔ (WaitsAt waiting.old q × (q ≢ place))) }
     ensures is { IfSome result (λ place. WaitsAt waiting.old place) }
     ensures later { IfSome result (λ place. (q : ℕ) → WaitsAt waiting.new q → place < q) }
     ensures none { IfNone result ((q : ℕ) → WaitsAt waiting.old q → ⊥) }
@@ -27,7 +28,8 @@ pub(crate) fn take_place(waiting: &mut BTreeSet<usize>) -> Option<usize>
 
 // Adds a place.
 fn add_place(waiting: &mut BTreeSet<usize>, place: usize) -> Result<(), Memory>
-    ensures { OnOk result ((q : ℕ) → WaitsAt waiting.new q ↔ (WaitsAt waiting.old q ⊎ (q ≡ place))) }
+    ensures { OnOk result ((q : ℕ) → WaitsAt waiting.new q
+        ↔ (WaitsAt waiting.old q ⊎ (q ≡ place))) }
 {
     waiting.insert(place)?;
     Ok(())
@@ -36,7 +38,8 @@ fn add_place(waiting: &mut BTreeSet<usize>, place: usize) -> Result<(), Memory>
 // Adds the places of these ways.
 fn add_ways(waiting: &mut BTreeSet<usize>, places: &[usize], ways: &[u32]) -> Result<(), Memory>
     requires { (n : ℕ) → IsOneOf ways.now n → n < length places.now }
-    ensures { OnOk result ((q : ℕ) → WaitsAt waiting.new q ↔ (WaitsAt waiting.old q ⊎ IsPlaceOf places.now (IsOneOf ways.now) q)) }
+    ensures { OnOk result ((q : ℕ) → WaitsAt waiting.new q
+        ↔ (WaitsAt waiting.old q ⊎ IsPlaceOf places.now (IsOneOf ways.now) q)) }
 {
     for way in ways {
         add_place(waiting, places[*way as usize])?;
@@ -51,7 +54,9 @@ pub(crate) fn first_waiting(
     changed: &[VarId],
 ) -> Result<BTreeSet<usize>, Memory>
     requires { (p : Parts) × IsWayIndex p index.now }
-    ensures { IfOk result (λ waiting. (q : ℕ) → WaitsAt waiting q ↔ IsPlaceOf index.now.places.items (IsPaired index.now.guards.pairs.items (map (λ (x : Variables). x.n) changed.now)) q) }
+    ensures { IfOk result (λ waiting. (q : ℕ) → WaitsAt waiting q
+        ↔ IsPlaceOf index.now.places.items
+        (IsPaired index.now.guards.pairs.items (map (λ (x : Variables). x.n) changed.now)) q) }
 {
     let numbers = numbers_of(alloc, changed)?;
     let ways = paired_by(alloc, &index.guards, &numbers)?;
@@ -79,7 +84,9 @@ pub(crate) fn add_above(
     waiting: &mut BTreeSet<usize>,
 ) -> Result<(), Memory>
     requires { (p : Parts) × IsWayIndex p index.now }
-    ensures { OnOk result ((q : ℕ) → WaitsAt waiting.new q ↔ (WaitsAt waiting.old q ⊎ IsPlaceOf index.now.places.items (λ n. IsOneOf index.now.above.pairs.items (way.n, n)) q)) }
+    ensures { OnOk result ((q : ℕ) → WaitsAt waiting.new q
+        ↔ (WaitsAt waiting.old q ⊎ IsPlaceOf index.now.places.items
+        (λ n. IsOneOf index.now.above.pairs.items (way.n, n)) q)) }
 {
     let ways = paired_by(alloc, &index.above, &[way.n])?;
     add_ways(waiting, &index.places, &ways)

@@ -33,7 +33,8 @@ pub fn order_of_sets()
     ensures order { (s t : List ℕ) → Ascends s → Ascends t → ((order s t ≡ Less) ↔ IsBefore s t) }
     ensures equal { (s t : List ℕ) → order s t ≡ Equal → s ≡ t }
     ensures holds { (x : ℕ) (s : List ℕ) → ((holds x s ≡ true) ↔ IsOneOf s x) }
-    ensures within { (s t : List ℕ) → ((within s t ≡ true) ↔ ((x : ℕ) → IsOneOf s x → IsOneOf t x)) }
+    ensures within { (s t : List ℕ) → ((within s t ≡ true)
+        ↔ ((x : ℕ) → IsOneOf s x → IsOneOf t x)) }
     ensures same { (s t : List ℕ) → ((same s t ≡ true) ↔ (s ≡ t)) }
 {}
 
@@ -42,9 +43,12 @@ pub fn sets_of_operations()
     ensures union { (f g : Family) (s : List ℕ) → has (union f g) s ≡ (has f s || has g s) }
     ensures meet { (f g : Family) (s : List ℕ) → has (meet f g) s ≡ (has f s && has g s) }
     ensures minus { (f g : Family) (s : List ℕ) → has (minus f g) s ≡ (has f s && not (has g s)) }
-    ensures having { (f : Family) (e : ℕ) (s : List ℕ) → has (having f e) s ≡ (has f s && holds e s) }
-    ensures without { (f g : Family) (s : List ℕ) → has (without f g) s ≡ (has f s && not (list_any (λ t. within t s) g)) }
-    ensures minimal { (f : Family) (s : List ℕ) → has (minimal f) s ≡ (has f s && not (list_any (λ t. within t s && not (same t s)) f)) }
+    ensures having { (f : Family) (e : ℕ) (s : List ℕ)
+        → has (having f e) s ≡ (has f s && holds e s) }
+    ensures without { (f g : Family) (s : List ℕ)
+        → has (without f g) s ≡ (has f s && not (list_any (λ t. within t s) g)) }
+    ensures minimal { (f : Family) (s : List ℕ)
+        → has (minimal f) s ≡ (has f s && not (list_any (λ t. within t s && not (same t s)) f)) }
 {}
 
 /// Two families with the same sets are the same list.

@@ -109,7 +109,8 @@ impl Store {
     /// for 0 and 1. Takes no memory.
     pub fn split(&self, node: NodeId) -> Option<(EventId, NodeId, NodeId)>
         requires { IsNumber self.now node.n }
-        ensures halves { MatchOption result (node.n < 2) (λ t. IsNode self.now.families node.n t.0.n t.1.n t.2.n) }
+        ensures halves { MatchOption result (node.n < 2)
+            (λ t. IsNode self.now.families node.n t.0.n t.1.n t.2.n) }
         ensures sound { IsSoundStore self.now }
     {
         let nodes = self.nodes.as_slice();
@@ -128,8 +129,11 @@ impl Store {
         requires hi_in { IsNumber self.old hi.n }
         requires lo_above { IsAbove event.n (family self.old lo.n) }
         requires hi_above { IsAbove event.n (family self.old hi.n) }
-        ensures made { IfOk result (λ n. Makes (node event.n (family self.old lo.n) (family self.old hi.n)) self.old self.new n.n) }
-        ensures full { result ≡ Err NodeFault.Full ↔ HasNoRoom (node event.n (family self.old lo.n) (family self.old hi.n)) self.old }
+        ensures made { IfOk result (λ n.
+            Makes (node event.n (family self.old lo.n) (family self.old hi.n)) self.old self.new
+            n.n) }
+        ensures full { result ≡ Err NodeFault.Full
+            ↔ HasNoRoom (node event.n (family self.old lo.n) (family self.old hi.n)) self.old }
         ensures err { OnErr result (self.new ≡ self.old) }
         ensures lo { hi.n ≡ 0 → result ≡ Ok lo }
         ensures drawn { let made = node event.n (family self.old lo.n) (family self.old hi.n) in

@@ -107,7 +107,8 @@ pub fn without_in(
     requires store { IsSoundStore store.old }
     ensures sound { IsSound memo.new store.new.families }
     ensures store { IsSoundStore store.new }
-    ensures drawn { Draws (IsPart (family store.old f.n) (family store.old g.n)) (without (family store.old f.n) (family store.old g.n)) store.old store.new result }
+    ensures drawn { Draws (IsPart (family store.old f.n) (family store.old g.n))
+        (without (family store.old f.n) (family store.old g.n)) store.old store.new result }
 {
     let left = pass(store, f, g);
     if let Some(number) = known_without(f, left) {
@@ -170,7 +171,8 @@ pub fn minimal_in(store: &mut Store, memo: &mut Memo, f: NodeId) -> Result<NodeI
     requires store { IsSoundStore store.old }
     ensures sound { IsSound memo.new store.new.families }
     ensures store { IsSoundStore store.new }
-    ensures drawn { Draws (IsHalf (family store.old f.n)) (minimal (family store.old f.n)) store.old store.new result }
+    ensures drawn { Draws (IsHalf (family store.old f.n)) (minimal (family store.old f.n)) store.old
+        store.new result }
 {
     let Some((event, f0, f1)) = store.split(f) else {
         return Ok(f);

@@ -52,8 +52,11 @@ impl Ops {
         requires hi_in { IsNumber self.old hi.n }
         requires lo_above { IsAbove event.n (family self.old lo.n) }
         requires hi_above { IsAbove event.n (family self.old hi.n) }
-        ensures made { IfOk result (λ n. Makes (node event.n (family self.old lo.n) (family self.old hi.n)) self.old self.new n.n) }
-        ensures full { result ≡ Err NodeFault.Full ↔ HasNoRoom (node event.n (family self.old lo.n) (family self.old hi.n)) self.old }
+        ensures made { IfOk result (λ n.
+            Makes (node event.n (family self.old lo.n) (family self.old hi.n)) self.old self.new
+            n.n) }
+        ensures full { result ≡ Err NodeFault.Full
+            ↔ HasNoRoom (node event.n (family self.old lo.n) (family self.old hi.n)) self.old }
         ensures err { OnErr result (self.new ≡ self.old) }
         ensures lo { hi.n ≡ 0 → result ≡ Ok lo }
         ensures drawn { let made = node event.n (family self.old lo.n) (family self.old hi.n) in
@@ -71,7 +74,8 @@ impl Ops {
         ensures drawn { let made = union (family self.old f.n) (family self.old g.n) in
             Draws (IsCounted made) made self.old self.new result }
         ensures full { result ≡ Err NodeFault.Full → IsMoreThan self.old.limit
-            (λ h. IsStored h self.old ⊎ IsCounted (union (family self.old f.n) (family self.old g.n)) h) }
+            (λ h. IsStored h self.old ⊎ IsCounted
+            (union (family self.old f.n) (family self.old g.n)) h) }
         ensures sound { IsSoundStore self.new }
     {
         join_in(&mut self.store, &mut self.memo, Join::Union, f, g)
@@ -85,7 +89,8 @@ impl Ops {
         ensures drawn { let made = meet (family self.old f.n) (family self.old g.n) in
             Draws (IsCounted made) made self.old self.new result }
         ensures full { result ≡ Err NodeFault.Full → IsMoreThan self.old.limit
-            (λ h. IsStored h self.old ⊎ IsCounted (meet (family self.old f.n) (family self.old g.n)) h) }
+            (λ h. IsStored h self.old ⊎ IsCounted (meet (family self.old f.n) (family self.old g.n))
+            h) }
         ensures sound { IsSoundStore self.new }
     {
         join_in(&mut self.store, &mut self.memo, Join::Meet, f, g)
@@ -99,7 +104,8 @@ impl Ops {
         ensures drawn { let made = minus (family self.old f.n) (family self.old g.n) in
             Draws (IsCounted made) made self.old self.new result }
         ensures full { result ≡ Err NodeFault.Full → IsMoreThan self.old.limit
-            (λ h. IsStored h self.old ⊎ IsCounted (minus (family self.old f.n) (family self.old g.n)) h) }
+            (λ h. IsStored h self.old ⊎ IsCounted
+            (minus (family self.old f.n) (family self.old g.n)) h) }
         ensures sound { IsSoundStore self.new }
     {
         join_in(&mut self.store, &mut self.memo, Join::Minus, f, g)
@@ -122,7 +128,8 @@ impl Ops {
     /// halves and the families stored before are together more than the limit.
     pub fn minimal(&mut self, f: NodeId) -> Result<NodeId, NodeFault>
         requires { IsNumber self.old f.n }
-        ensures drawn { Draws (IsHalf (family self.old f.n)) (minimal (family self.old f.n)) self.old self.new result }
+        ensures drawn { Draws (IsHalf (family self.old f.n)) (minimal (family self.old f.n))
+            self.old self.new result }
         ensures full { result ≡ Err NodeFault.Full → IsMoreThan self.old.limit
             (λ h. IsStored h self.old ⊎ IsHalf (family self.old f.n) h) }
         ensures sound { IsSoundStore self.new }
@@ -135,7 +142,8 @@ impl Ops {
     pub fn without(&mut self, f: NodeId, g: NodeId) -> Result<NodeId, NodeFault>
         requires f_in { IsNumber self.old f.n }
         requires g_in { IsNumber self.old g.n }
-        ensures drawn { Draws (IsPart (family self.old f.n) (family self.old g.n)) (without (family self.old f.n) (family self.old g.n)) self.old self.new result }
+        ensures drawn { Draws (IsPart (family self.old f.n) (family self.old g.n))
+            (without (family self.old f.n) (family self.old g.n)) self.old self.new result }
         ensures full { result ≡ Err NodeFault.Full → IsMoreThan self.old.limit
             (λ h. IsStored h self.old ⊎ IsPart (family self.old f.n) (family self.old g.n) h) }
         ensures sound { IsSoundStore self.new }

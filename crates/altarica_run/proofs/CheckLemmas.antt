@@ -37,10 +37,13 @@ pub said_same : (p : GtsParts) (flat : System ℕ) (dropped : List ℕ) (events 
     → dropped ≡ numbers_of events → (o : Observer) → Stands p.observers.items wanted.observer o
     → (r : Result (Vec Verdict Global) Memory)
     → ((other : Observer) → Stands p.observers.items t.observer other
-    → IfOk r (λ (all : Vec Verdict Global). AreVerdicts p flat (numbers_of events) (numbered other.value) t.value chains all.items))
+    → IfOk r (λ (all : Vec Verdict Global). AreVerdicts p flat (numbers_of events) (numbered other.value) t.value chains
+    all.items))
     → IfOk r (λ (all : Vec Verdict Global). AreVerdicts p flat dropped (numbered o.value) wanted.value chains all.items)
 said_same p flat dropped events chains asked given wanted t a b c d o stands r h =
     let e : t ≡ wanted = same_Some t wanted (sym c ∙ sym b ∙ a) in
     let moved = subst (λ (z : Wanted). Stands p.observers.items z.observer o
-    → IfOk r (λ (all : Vec Verdict Global). AreVerdicts p flat (numbers_of events) (numbered o.value) z.value chains all.items)) e (h o) in
-    subst (λ (z : List ℕ). IfOk r (λ (all : Vec Verdict Global). AreVerdicts p flat z (numbered o.value) wanted.value chains all.items)) (sym d) (moved stands)
+    → IfOk r (λ (all : Vec Verdict Global). AreVerdicts p flat (numbers_of events) (numbered o.value) z.value chains
+    all.items)) e (h o) in
+    subst (λ (z : List ℕ). IfOk r (λ (all : Vec Verdict Global). AreVerdicts p flat z (numbered o.value) wanted.value
+    chains all.items)) (sym d) (moved stands)

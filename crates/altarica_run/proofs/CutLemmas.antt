@@ -83,7 +83,8 @@ use Rattle.altarica_run.proofs.TellLemmas.{many_units, many_events}
 
 -- Texts that were printed, or broken off
 
-module _ {old new : SinkState} (told : List ℕ → Status → Type 0) (text : List ℕ) (ends : Status) (is : told text ends) where
+module _ {old new : SinkState} (told : List ℕ → Status → Type 0) (text : List ℕ) (ends : Status)
+    (is : told text ends) where
   pub printed_whole : (u : Unit {0}) → Prints old new text (Ok u) → IsWritten told old new ends
   printed_whole u h = whole is h.whole
 
@@ -100,7 +101,8 @@ module _ {old new : SinkState} (told : List ℕ → Status → Type 0) (text : L
 pub none_printed : {old : SinkState} (told : List ℕ → Status → Type 0) (r : Result Status PrintFault) (d : PrintFault)
     → r ≡ Err d → d ≡ print.Memory → IsWritten told old old (status_printed r)
 none_printed {old} told r d i j =
-    subst (λ (z : Result Status PrintFault). IsWritten told old old (status_printed z)) (sym (i ∙ ap Err j)) (nothing refl)
+    subst (λ (z : Result Status PrintFault). IsWritten told old old (status_printed z)) (sym (i ∙ ap Err j))
+    (nothing refl)
 
 -- a text with its count
 pub counted_text : (old new : SinkState) (p : GtsParts) (edges : List Edge) (lists : List (List ℕ)) (n m : ℕ) → n ≡ m
@@ -123,7 +125,8 @@ counted_stored law s (suc (suc n)) sound is h k =
 pub few_counted : SectionsAreStored → EachTakesANode → (s : Stored) (n limit : ℕ) → IsSoundStore s → IsNode s n
     → length s.families ≤ limit → IsMoreThan limit (IsCounted (family s n)) → ⊥
 few_counted sections room s n limit sound is few more =
-    let k = room s limit (IsMoreThan-weaker limit (IsCounted (family s n)) (λ h. IsStored h s) (λ h c. counted_stored sections s n sound is h c) more) in
+    let k = room s limit (IsMoreThan-weaker limit (IsCounted (family s n)) (λ h. IsStored h s)
+    (λ h c. counted_stored sections s n sound is h c) more) in
     absurd (omega (arith, k, few))
 
 -- a command that lists cuts, or tells of them, asks for a static system and is about the gate table
@@ -201,8 +204,10 @@ module _ (job : Job) (w : Ready) (p : Prepared) (is : IsReady job w p) (e : list
   abbrev pub observed : Expr ℕ
   observed = numbered seen.0.value
 
-  by_trees : IsTable (net_of p.system) (trees_of (number_in p.system) p.forest) (numbered seen.0.value) table.wanted.value (table_of p.table.equations)
-  by_trees = at_observer _ seen.0 (gives.IsTableOf p.system p.forest table.wanted.value (table_of p.table.equations)) seen.1 table.by_trees
+  by_trees : IsTable (net_of p.system) (trees_of (number_in p.system) p.forest) (numbered seen.0.value)
+      table.wanted.value (table_of p.table.equations)
+  by_trees = at_observer _ seen.0 (gives.IsTableOf p.system p.forest table.wanted.value (table_of p.table.equations))
+      seen.1 table.by_trees
 
   pub own_forest : IsForest flat w.dropped (trees_of (number_in p.system) p.forest)
   own_forest = own.is_forest flat is.flat.views
@@ -217,7 +222,8 @@ module _ (job : Job) (w : Ready) (p : Prepared) (is : IsReady job w p) (e : list
   pub ordered : TableIsOrdered → IsOrderedTable (table_of p.table.equations)
   ordered law =
       law (net_of p.system) (trees_of (number_in p.system) p.forest) (numbered seen.0.value) table.wanted.value
-      (table_of p.table.equations) (are_trees flat w.dropped both.keyed both.static (trees_of (number_in p.system) p.forest) own_forest)
+      (table_of p.table.equations) (are_trees flat w.dropped both.keyed both.static
+      (trees_of (number_in p.system) p.forest) own_forest)
       by_trees
 
   flat_is : IsFlatOf things w.source.system flat
@@ -235,13 +241,15 @@ module _ (job : Job) (w : Ready) (p : Prepared) (is : IsReady job w p) (e : list
         table = table_of p.table.equations;
         is_table = table.is_table;
         trees = trees_of (number_in p.system) p.forest;
-        is_forest = forest_there (turned (IsNumber things)) flat w.source.system (flat_back things w.source.system flat flat_is) w.dropped (own.is_forest flat is.flat.views);
+        is_forest = forest_there (turned (IsNumber things)) flat w.source.system
+            (flat_back things w.source.system flat flat_is) w.dropped (own.is_forest flat is.flat.views);
         may = law (λ n. n) (number_in p.system) p.forest (table_of p.table.equations) job.nodes
             (subst (λ (z : ℕ). NodesMay (trees_of (λ n. n) p.forest) (table_of p.table.equations) z) is.nodes h);
       }))
 
   module _ (kinds : IsLawful (net_of p.system) (kind_by_number p.system))
-      (typed : (o : Observer) → l.IsOneOf p.system.observers.items o → HasKind (kind_by_number p.system) (out-Expr ℕ (numbered o.value)) o.kind)
+      (typed : (o : Observer) → l.IsOneOf p.system.observers.items o
+      → HasKind (kind_by_number p.system) (out-Expr ℕ (numbered o.value)) o.kind)
     where
       -- the table agrees with the system
       pub agrees : TableAgrees → Agrees flat w.dropped (numbered seen.0.value) table.wanted.value
@@ -252,17 +260,20 @@ module _ (job : Job) (w : Ready) (p : Prepared) (is : IsReady job w p) (e : list
           (numbered seen.0.value) table.wanted.value (table_of p.table.equations)
           (subst (λ (z : Net ℕ). IsLawful z (kind_by_number p.system)) (sym is.flat.views.net) kinds) both
           own_forest (typed seen.0 (one_here _ _ seen.0 seen.1))
-          (subst (λ (z : Net ℕ). IsTable z (trees_of (number_in p.system) p.forest) (numbered seen.0.value) table.wanted.value (table_of p.table.equations)) (sym is.flat.views.net) by_trees)
+          (subst (λ (z : Net ℕ). IsTable z (trees_of (number_in p.system) p.forest) (numbered seen.0.value)
+          table.wanted.value (table_of p.table.equations)) (sym is.flat.views.net) by_trees)
 
       -- what is drawn
       pub are_drawn : DrawnAreMeant → (d : Drawn) → IsAnswer (trees_of (λ n. n) p.forest) (table_of p.table.equations) d
           → AreDrawn flat w.dropped (numbered seen.0.value) table.wanted.value d
       are_drawn meant d h =
-          meant flat w.dropped (kind_by_number p.system) seen.0.kind (number_in p.system) p.forest (numbered seen.0.value)
+          meant flat w.dropped (kind_by_number p.system) seen.0.kind (number_in p.system) p.forest
+          (numbered seen.0.value)
           table.wanted.value (table_of p.table.equations) d
           (subst (λ (z : Net ℕ). IsLawful z (kind_by_number p.system)) (sym is.flat.views.net) kinds) both
           (own.is_forest flat is.flat.views) (typed seen.0 (one_here _ _ seen.0 seen.1))
-          (subst (λ (z : Net ℕ). IsTable z (trees_of (number_in p.system) p.forest) (numbered seen.0.value) table.wanted.value (table_of p.table.equations)) (sym is.flat.views.net) by_trees)
+          (subst (λ (z : Net ℕ). IsTable z (trees_of (number_in p.system) p.forest) (numbered seen.0.value)
+          table.wanted.value (table_of p.table.equations)) (sym is.flat.views.net) by_trees)
           h
 
   -- the source's observer
@@ -270,7 +281,8 @@ module _ (job : Job) (w : Ready) (p : Prepared) (is : IsReady job w p) (e : list
       × Expr_renames (IsNumber things) o (numbered seen.0.value)
   sourced =
       along_back _ _ flat_is.observers table.wanted.observer (numbered seen.0.value)
-      (subst (λ (z : List (Expr ℕ)). Stands z table.wanted.observer (numbered seen.0.value)) (sym is.flat.views.observers)
+      (subst (λ (z : List (Expr ℕ)). Stands z table.wanted.observer (numbered seen.0.value))
+      (sym is.flat.views.observers)
       (stands_map (λ (z : Observer). numbered z.value) p.system.observers.items table.wanted.observer seen.0 seen.1))
 
   -- the cuts
@@ -298,8 +310,10 @@ module _ (job : Job) (w : Ready) (p : Prepared) (is : IsReady job w p) (e : list
       → AreListed (Cut w.source.system w.dropped source_observer table.wanted.value) sets
   listed_of_source sets listed =
       listed_as
-      (λ s c. cut_back (IsNumber things) w.source.system flat there w.dropped source_observer (numbered seen.0.value) renamed table.wanted.value s c)
-      (λ s c. cut_there (IsNumber things) w.source.system flat there w.dropped source_observer (numbered seen.0.value) renamed table.wanted.value s c)
+      (λ s c. cut_back (IsNumber things) w.source.system flat there w.dropped source_observer (numbered seen.0.value)
+      renamed table.wanted.value s c)
+      (λ s c. cut_there (IsNumber things) w.source.system flat there w.dropped source_observer (numbered seen.0.value)
+      renamed table.wanted.value s c)
       listed
 
   few_of : (sets : Sets) → (IsMoreThan p.nodes (IsCounted sets) → ⊥) → IsMoreThan job.nodes (IsCounted sets) → ⊥
@@ -308,7 +322,8 @@ module _ (job : Job) (w : Ready) (p : Prepared) (is : IsReady job w p) (e : list
   -- the events of a line of the source are those of its set
   line_events : (set : List ℕ) (ls : List Label) → IsLine w.source.system w.dropped set ls → AreEvents (reverse ls) set
   line_events set ls h =
-      (line_is_legal flat w.dropped both.keyed both.static (line_there (IsNumber things) w.source.system flat there w.dropped h)).events
+      (line_is_legal flat w.dropped both.keyed both.static
+      (line_there (IsNumber things) w.source.system flat there w.dropped h)).events
 
   pub cuts_told : job.command ≡ Cuts → (sets : Sets) (text : List ℕ) → (free : IsConflictFree flat w.dropped)
       → AreListed (Cut flat w.dropped (numbered seen.0.value) table.wanted.value) sets
@@ -319,7 +334,9 @@ module _ (job : Job) (w : Ready) (p : Prepared) (is : IsReady job w p) (e : list
       × Yields (HasValue w.source.system.net t) (out-Expr Thing source_observer) table.wanted.value)
       → (IsMoreThan p.nodes (IsCounted sets) → ⊥) → Tells job w text Done
   cuts_told i sets text free listed t replays few =
-      let same : t.sets ≡ sets = listed_same t.sets sets (Cut w.source.system w.dropped source_observer table.wanted.value) t.are_listed (listed_of_source sets listed) in
+      let same : t.sets ≡ sets = listed_same t.sets sets
+      (Cut w.source.system w.dropped source_observer table.wanted.value) t.are_listed
+      (listed_of_source sets listed) in
       cuts i
       (record {
         has = has_cuts free;
@@ -327,7 +344,8 @@ module _ (job : Job) (w : Ready) (p : Prepared) (is : IsReady job w p) (e : list
         few = λ more. few_of sets few (subst (λ (z : Sets). IsMoreThan job.nodes (IsCounted z)) same more);
         replay = λ k set ls s h.
             let g = along_on _ _ t.are_lines k set s in
-            let line = subst (λ (z : List Label). IsLine w.source.system w.dropped set z) (stands_one t.lines k g.0 ls g.1 h) g.2 in
+            let line = subst (λ (z : List Label). IsLine w.source.system w.dropped set z)
+            (stands_one t.lines k g.0 ls g.1 h) g.2 in
             let run = replays t.sets t.are_listed set (one_here t.sets k set s) ls line in
             record { events = line_events set ls line; values = run.0; reaches = run.2; shows = run.3 };
       })
@@ -336,13 +354,15 @@ module _ (job : Job) (w : Ready) (p : Prepared) (is : IsReady job w p) (e : list
   pub checks_told : job.command ≡ CheckCuts → (chains : List Chain) → chains ≡ p.request.chains.items
       → (sets : Sets) (text : List ℕ) → IsConflictFree flat w.dropped
       → AreListed (Cut flat w.dropped (numbered seen.0.value) table.wanted.value) sets
-      → IsCheckText (naming_of w.source.declarations) w.source.system w.dropped source_observer table.wanted.value (map (cut_of p.system) chains) text
+      → IsCheckText (naming_of w.source.declarations) w.source.system w.dropped source_observer table.wanted.value
+      (map (cut_of p.system) chains) text
       → (IsMoreThan p.nodes (IsCounted sets) → ⊥) → Tells job w text Done
   checks_told i chains same sets text free listed t few =
       checks i
       (record {
         has = has_cuts free;
-        is_text = subst (λ (z : List CutLine). IsCheckText (naming_of w.source.declarations) w.source.system w.dropped source_observer table.wanted.value z text)
+        is_text = subst (λ (z : List CutLine). IsCheckText (naming_of w.source.declarations) w.source.system w.dropped
+            source_observer table.wanted.value z text)
             (ap (λ (z : List Chain). map (cut_of p.system) z) same ∙ sym is.requested.lines.are) t;
         sets = sets;
         are_listed = listed_of_source sets listed;
@@ -355,7 +375,9 @@ module _ (job : Job) (w : Ready) (p : Prepared) (is : IsReady job w p) (e : list
       → IsModuleText w.source w.dropped source_observer table.wanted.value text
       → (IsMoreThan p.nodes (IsCounted sets) → ⊥) → Tells job w text Done
   short_told i sets text free listed t few =
-      let same : t.cuts ≡ sets = listed_same t.cuts sets (Cut w.source.system w.dropped source_observer table.wanted.value) t.are_listed (listed_of_source sets listed) in
+      let same : t.cuts ≡ sets = listed_same t.cuts sets
+      (Cut w.source.system w.dropped source_observer table.wanted.value) t.are_listed
+      (listed_of_source sets listed) in
       in_short i
       (record {
         has = has_cuts free;
@@ -366,7 +388,8 @@ module _ (job : Job) (w : Ready) (p : Prepared) (is : IsReady job w p) (e : list
   -- how many there are
   pub make_told : job.command ≡ Make → (sets : Sets) (text : List ℕ) → IsConflictFree flat w.dropped
       → AreListed (Cut flat w.dropped (numbered seen.0.value) table.wanted.value) sets
-      → text ≡ make_lines p.number (length p.system.units.items) (length p.system.events.items) (count sets) (largest sets)
+      → text ≡ make_lines p.number (length p.system.units.items) (length p.system.events.items) (count sets)
+      (largest sets)
       → (IsMoreThan p.nodes (IsCounted sets) → ⊥) → Tells job w text Done
   make_told i sets text free listed t few =
       make i
@@ -374,7 +397,8 @@ module _ (job : Job) (w : Ready) (p : Prepared) (is : IsReady job w p) (e : list
         has = has_cuts free;
         sets = sets;
         are_listed = listed_of_source sets listed;
-        is_text = t ∙ made_same is.number (many_units w.source p.system is.flat) (many_events w.source p.system is.flat) (count sets) (largest sets);
+        is_text = t ∙ made_same is.number (many_units w.source p.system is.flat) (many_events w.source p.system is.flat)
+            (count sets) (largest sets);
         few = few_of sets few;
       })
 
@@ -383,22 +407,26 @@ module _ (job : Job) (w : Ready) (p : Prepared) (is : IsReady job w p) (e : list
       (meets : (set : List ℕ) (sets : List (List ℕ)) (events : List ℕ) (lists : List (List ℕ))
       → AreListed (ConflictSet flat w.dropped) (set ∷ sets)
       → AreInFiringOrder (trees_of (λ n. n) p.forest) (set ∷ sets) (events ∷ lists)
-      → (fault : FlowFault) × Conflicts flat w.dropped (reverse (labels_in p.system (edges_of p.forest.trees.items) events)) fault)
+      → (fault : FlowFault) × Conflicts flat w.dropped
+      (reverse (labels_in p.system (edges_of p.forest.trees.items) events)) fault)
       (is_text : (set : List ℕ) (sets : List (List ℕ)) (events : List ℕ) (lists : List (List ℕ)) (fault : FlowFault)
       → AreListed (ConflictSet flat w.dropped) (set ∷ sets)
       → AreInFiringOrder (trees_of (λ n. n) p.forest) (set ∷ sets) (events ∷ lists)
       → Conflicts flat w.dropped (reverse (labels_in p.system (edges_of p.forest.trees.items) events)) fault
       → IsConflictText (naming_of w.source.declarations) w.source.system w.dropped
       (conflict_text p.system (edges_of p.forest.trees.items) events fault)) where
-    pub conflict_printed : (old new : SinkState) (r : Result (Unit {0}) PrintFault) (sets lists : List (List ℕ)) → sets ≢ []
+    pub conflict_printed : (old new : SinkState) (r : Result (Unit {0}) PrintFault) (sets lists : List (List ℕ))
+        → sets ≢ []
         → AreListed (ConflictSet flat w.dropped) sets → AreInFiringOrder (trees_of (λ n. n) p.forest) sets lists
-        → ((system : System ℕ) → Views p.system system → (dropped events : List ℕ) (later : List (List ℕ)) (fault : FlowFault)
+        → ((system : System ℕ) → Views p.system system
+        → (dropped events : List ℕ) (later : List (List ℕ)) (fault : FlowFault)
         → lists ≡ events ∷ later
         → Conflicts system dropped (reverse (labels_in p.system (edges_of p.forest.trees.items) events)) fault
         → Prints old new (conflict_text p.system (edges_of p.forest.trees.items) events fault) r)
         → (text : List ℕ) × Tells job w text Fault × Prints old new text r
     conflict_printed old new r sets lists some listed l.none prints = absurd (some refl)
-    conflict_printed old new r sets lists some listed (l.one_and {a = set} {b = events} {xs = xs} {ys = ys} h hs) prints =
+    conflict_printed old new r sets lists some listed (l.one_and {a = set} {b = events} {xs = xs} {ys = ys} h hs)
+        prints =
         let g = l.one_and h hs in
         let f = meets set xs events ys listed g in (
           conflict_text p.system (edges_of p.forest.trees.items) events f.0,

@@ -124,14 +124,16 @@ flattened t d x tree p is of f flat =
     }
 
 -- a last stage stops
-pub last_stops : {A B X : Type 0} (stage : A → Result B RuleFault → Type 0) (stands : B → X → Type 0) (a : A) (r : Result X RuleFault) (d e : RuleFault)
+pub last_stops : {A B X : Type 0} (stage : A → Result B RuleFault → Type 0) (stands : B → X → Type 0) (a : A)
+    (r : Result X RuleFault) (d e : RuleFault)
     → r ≡ Err d → d ≡ e
     → IsRefusal (stage a) (rule_told e) → Meets stage stands a r
 last_stops {X = X} stage stands a r d e i j h =
     subst (λ (z : Result X RuleFault). Meets stage stands a z) (sym (i ∙ ap Err j)) h
 
 -- a call of the job stops so
-pub at_stop : {B X : Type 0} (stands : B → X → Type 0) (stage : Result B Refusal → Type 0) (r : Result X Stop) (d : Stop)
+pub at_stop : {B X : Type 0} (stands : B → X → Type 0) (stage : Result B Refusal → Type 0) (r : Result X Stop)
+    (d : Stop)
     → r ≡ Err d → IsStageOf {X = X} stands stage (Err d)
     → IsStageOf stands stage r
 at_stop {X = X} stands stage r d i h = subst (λ (z : Result X Stop). IsStageOf stands stage z) (sym i) h

@@ -28,7 +28,8 @@ module _ (files : List ℕ → Told) (rose : List ℕ → Type 0) (words : List 
   said told f s (whole {text = text} t a) = says.says (f text s t) a
   said told f s (cut {text = text} {ends = ends} t c k) = says.not_written (says.said (f text ends t)) k c
   said told f s (stopped {text = text} {ends = ends} t c) = says.no_memory (says.said (f text ends t)) c
-  said told f s (nothing e) = says.no_memory says.nothing (cut_nothing old.bytes new.bytes (ap (λ (z : SinkState). z.bytes) e))
+  said told f s (nothing e) = says.no_memory says.nothing
+      (cut_nothing old.bytes new.bytes (ap (λ (z : SinkState). z.bytes) e))
 
   -- the text of the job was written
   pub job_told : (job : Job) (w : Ready) → IsJob words job → Passes files job (Ok w) → (s : Status)
@@ -57,7 +58,8 @@ module _ (files : List ℕ → Told) (rose : List ℕ → Type 0) (words : List 
       → EndsSo files rose words old.bytes new.bytes (Rose old.faults new.faults) s
   line_told r h s k =
       said (λ text ends. (text ≡ line_of r) × (ends ≡ status_of r))
-      (λ text ends t. subst (λ (z : Status). Says files words text z) (sym t.1) (subst (λ (z : List ℕ). Says files words z (status_of r)) (sym t.0) h)) s k
+      (λ text ends t. subst (λ (z : Status). Says files words text z) (sym t.1)
+      (subst (λ (z : List ℕ). Says files words z (status_of r)) (sym t.0) h)) s k
 
   -- the line of a refusal was written
   pub refusal_told : (r : Refusal) → RefusesWords files rose words r → (s : Status)

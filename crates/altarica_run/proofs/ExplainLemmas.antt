@@ -51,18 +51,21 @@ module _ {V : Type 0} (sys : System V)
   step_stays : (t u : List Value) (w : Way V) → Step sys.net t w (Next u) → Stays u
   step_stays t u w (moves state can one inside gets flows) = again state u flows
 
-  goes_stays : (below : List (List Value)) (t : List Value) (cs : List Command) (ms : List Moment) → Goes sys below t cs ms
+  goes_stays : (below : List (List Value)) (t : List Value) (cs : List Command) (ms : List Moment)
+      → Goes sys below t cs ms
       → Stays t → AllByRecursion Stays below → Stays (last_standing t ms)
   goes_stays below t [] ms ends h all = h
   goes_stays below t cs ms (fires {u = u} {cs = ds} {ms = ns} w is step g) h all =
       goes_stays (t ∷ below) u ds ns g (step_stays t u w step) (h, all)
   goes_stays below t cs ms (fails w is step) h all = h
-  goes_stays below t cs ms (back {below = rest} {u = u} {cs = ds} {ms = ns} g) h all = goes_stays rest u ds ns g all.0 all.1
+  goes_stays below t cs ms (back {below = rest} {u = u} {cs = ds} {ms = ns} g) h all =
+      goes_stays rest u ds ns g all.0 all.1
   goes_stays below t cs ms no_step h all = h
   goes_stays below t cs ms (shows {cs = ds} {ms = ns} g) h all = goes_stays below t ds ns g h all
   goes_stays below t cs ms (lists {cs = ds} {ms = ns} l g) h all = goes_stays below t ds ns g h all
 
-  runs_stay : (cs : List Command) (t : List Value) (ms : List Moment) → Runs sys cs (Starts t ∷ ms) → Stays (last_standing t ms)
+  runs_stay : (cs : List Command) (t : List Value) (ms : List Moment) → Runs sys cs (Starts t ∷ ms)
+      → Stays (last_standing t ms)
   runs_stay cs t ms (starts start g) = goes_stays [] t cs ms g (again (first_values sys.net.variables) t start) tt
 
   -- where a run settles, its valuation has flows
@@ -71,7 +74,8 @@ module _ {V : Type 0} (sys : System V)
 
 -- The text
 
-module _ (job : Job) (w : Ready) (p : Prepared) (is : IsReady job w p) (e : job.command ≡ Explain) (given_commands : List Given)
+module _ (job : Job) (w : Ready) (p : Prepared) (is : IsReady job w p) (e : job.command ≡ Explain)
+    (given_commands : List Given)
     (same_commands : given_commands ≡ p.request.commands.items) where
   abbrev flat : System ℕ
   flat = is.flat.flat
@@ -98,7 +102,8 @@ module _ (job : Job) (w : Ready) (p : Prepared) (is : IsReady job w p) (e : job.
     pub fault_told_whole : {old new : SinkState} (o : Option Valuation) → o ≡ None
         → AnswersSettle (naming_of_parts p.system) flat commands old new (Ok o) → IsWritten (Tells job w) old new Fault
     fault_told_whole {old} {new} o i h =
-        let k = subst (λ (z : Option Valuation). AnswersSettle (naming_of_parts p.system) flat commands old new (Ok z)) i h in
+        let k = subst (λ (z : Option Valuation). AnswersSettle (naming_of_parts p.system) flat commands old new (Ok z))
+        i h in
         whole (fault_told k.0 k.1) k.2.whole
 
     -- the run is told of as it ended in its fault, or memory was refused
@@ -107,7 +112,8 @@ module _ (job : Job) (w : Ready) (p : Prepared) (is : IsReady job w p) (e : job.
         → (r : Result Status ReplayFault) (d : ReplayFault) → r ≡ Err d → d ≡ f
         → IsWritten (Tells job w) old new (status_explained r)
     settle_stops {old} {new} f h r d i j =
-        subst (λ (z : Result Status ReplayFault). IsWritten (Tells job w) old new (status_explained z)) (sym (i ∙ ap Err j)) (go f h)
+        subst (λ (z : Result Status ReplayFault). IsWritten (Tells job w) old new (status_explained z))
+        (sym (i ∙ ap Err j)) (go f h)
       where
         go : (f : ReplayFault) → AnswersSettle (naming_of_parts p.system) flat commands old new (Err f)
             → IsWritten (Tells job w) old new (status_explained (Err f))
@@ -115,15 +121,18 @@ module _ (job : Job) (w : Ready) (p : Prepared) (is : IsReady job w p) (e : job.
         go fault.Memory h = nothing h
 
   -- the observer, where there is one
-  module _ (given : Option ℕ) (same : w.shown ≡ given) (known : (n : ℕ) → given ≡ Some n → n < length p.system.observers.items) where
+  module _ (given : Option ℕ) (same : w.shown ≡ given)
+      (known : (n : ℕ) → given ≡ Some n → n < length p.system.observers.items) where
     flat_is : IsFlatOf things w.source.system flat
     flat_is = is.flat.is_flat
 
-    pub source_observer : (o : Option (Expr Thing)) × IsObserverOf w.source.system given o × AreSameObserver things o (observed p.system given)
+    pub source_observer : (o : Option (Expr Thing)) × IsObserverOf w.source.system given o
+        × AreSameObserver things o (observed p.system given)
     source_observer = go given (λ n i. known n i)
       where
         go : (g : Option ℕ) → ((n : ℕ) → g ≡ Some n → n < length p.system.observers.items)
-            → (o : Option (Expr Thing)) × IsObserverOf w.source.system g o × AreSameObserver things o (observed p.system g)
+            → (o : Option (Expr Thing)) × IsObserverOf w.source.system g o
+            × AreSameObserver things o (observed p.system g)
         go None k = (None, refl, tt)
         go (Some n) k =
             let seen = stands_some p.system.observers.items n (k n refl) in
@@ -133,32 +142,39 @@ module _ (job : Job) (w : Ready) (p : Prepared) (is : IsReady job w p) (e : job.
             (Some f.0, (f.0, refl, f.1), at_observer seen.0 seen.1 f.0 f.2)
           where
             at_observer : (one : Observer) → Stands p.system.observers.items n one → (o : Expr Thing)
-                → Expr_renames (IsNumber things) o (numbered one.value) → AreSameObserver things (Some o) (observed p.system (Some n))
+                → Expr_renames (IsNumber things) o (numbered one.value)
+                → AreSameObserver things (Some o) (observed p.system (Some n))
             at_observer one s o r = rw s r
 
     -- the lines of the reasons
-    module _ (values : List Value) (source_settles : Settles flat commands values → Settles w.source.system commands values)
-        (there : (observer : Option (Expr Thing)) (other : Option (Expr ℕ)) → AreSameObserver things observer other → (text : List ℕ)
+    module _ (values : List Value) (source_settles : Settles flat commands values
+        → Settles w.source.system commands values)
+        (there : (observer : Option (Expr Thing)) (other : Option (Expr ℕ)) → AreSameObserver things observer other
+        → (text : List ℕ)
         → IsReasonText (naming_of_parts p.system) (net_of p.system) values other text
         → IsReasonText (naming_of w.source.declarations) w.source.system.net values observer text) where
       explained_told : Settles flat commands values → (text : List ℕ)
-          → IsReasonText (naming_of_parts p.system) (net_of p.system) values (observed p.system given) text → Tells job w text Done
+          → IsReasonText (naming_of_parts p.system) (net_of p.system) values (observed p.system given) text
+          → Tells job w text Done
       explained_told settles text h =
           let o = source_observer in
           explains e
           (record {
             values = values;
-            settles = subst (λ (z : List Command). Settles w.source.system z values) commands_are (source_settles settles);
+            settles = subst (λ (z : List Command). Settles w.source.system z values) commands_are
+                (source_settles settles);
             observer = o.0;
             is_observer = subst (λ (z : Option ℕ). IsObserverOf w.source.system z o.0) (sym same) o.1;
             is_text = there o.0 (observed p.system given) o.2 text h;
           })
 
       -- what the settling answered is that the run settles, and nothing is written yet
-      module _ (old mid : SinkState) (o : Option Valuation) (t : Valuation) (is_t : t.values.items ≡ values) (i : o ≡ Some t)
+      module _ (old mid : SinkState) (o : Option Valuation) (t : Valuation) (is_t : t.values.items ≡ values)
+          (i : o ≡ Some t)
           (answers : AnswersSettle (naming_of_parts p.system) flat commands old mid (Ok o)) where
         settled : Settles flat commands t.values.items × (mid ≡ old)
-        settled = subst (λ (z : Option Valuation). AnswersSettle (naming_of_parts p.system) flat commands old mid (Ok z)) i answers
+        settled = subst (λ (z : Option Valuation). AnswersSettle (naming_of_parts p.system) flat commands old mid
+            (Ok z)) i answers
 
         run_settles : Settles flat commands values
         run_settles = subst (λ (z : List Value). Settles flat commands z) is_t settled.0
@@ -166,7 +182,8 @@ module _ (job : Job) (w : Ready) (p : Prepared) (is : IsReady job w p) (e : job.
         abbrev Text : List ℕ → Type 0
         Text = IsReasonText (naming_of_parts p.system) (net_of p.system) values (observed p.system given)
 
-        pub explained_whole : {new : SinkState} {u : Unit {0}} → Explains mid new Text (Ok u) → IsWritten (Tells job w) old new Done
+        pub explained_whole : {new : SinkState} {u : Unit {0}} → Explains mid new Text (Ok u)
+            → IsWritten (Tells job w) old new Done
         explained_whole {new} {u} h =
             let k = subst (λ (z : SinkState). Explains z new Text (Ok u)) settled.1 h in
             whole (explained_told run_settles k.0 k.1) k.2.whole
@@ -175,10 +192,12 @@ module _ (job : Job) (w : Ready) (p : Prepared) (is : IsReady job w p) (e : job.
             → (r : Result Status ReplayFault) (d : ReplayFault) → r ≡ Err d → d ≡ f
             → IsWritten (Tells job w) old new (status_explained r)
         explained_cut {new} f h r d i j =
-            subst (λ (z : Result Status ReplayFault). IsWritten (Tells job w) old new (status_explained z)) (sym (i ∙ ap Err j))
+            subst (λ (z : Result Status ReplayFault). IsWritten (Tells job w) old new (status_explained z))
+            (sym (i ∙ ap Err j))
             (go f (subst (λ (z : SinkState). Explains z new Text (Err f)) settled.1 h))
           where
-            go : (f : ReplayFault) → Explains old new Text (Err f) → IsWritten (Tells job w) old new (status_explained (Err f))
+            go : (f : ReplayFault) → Explains old new Text (Err f)
+                → IsWritten (Tells job w) old new (status_explained (Err f))
             go fault.Write h = cut (explained_told run_settles h.0 h.1) h.2.cut h.2.rose
             go fault.Memory h = nothing h
 
@@ -186,7 +205,8 @@ module _ (job : Job) (w : Ready) (p : Prepared) (is : IsReady job w p) (e : job.
 pub total_state : (p : GtsParts) (o : Option Valuation) (t : Valuation) → o ≡ Some t
     → IfSome o (λ (v : Valuation). IsTotal p v.values.items) → IsState p t.values.items
 total_state p o t i h =
-    let k : IsTotal p t.values.items = subst (λ (z : Option Valuation). IfSome z (λ (v : Valuation). IsTotal p v.values.items)) i h in
+    let k : IsTotal p t.values.items =
+    subst (λ (z : Option Valuation). IfSome z (λ (v : Valuation). IsTotal p v.values.items)) i h in
     record { long = k.long; in_domain = λ n x v s state at. k.in_domain n x v s at }
 
 pub flows_at_end : (p : GtsParts) (flat : System ℕ) → Views p flat → (commands : List Command) (old mid : SinkState)

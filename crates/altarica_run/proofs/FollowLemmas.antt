@@ -70,7 +70,8 @@ of_cut IsNoCommand n = tt
 of_cut LacksWay n = tt
 of_cut NamesNoEvent n = tt
 
-of_cuts : (b : Bool) (texts : List (List ℕ)) (w : Ready) (r : Refusal) → Where b (ListsCuts texts) w (Err r) → IsOfStages r
+of_cuts : (b : Bool) (texts : List (List ℕ)) (w : Ready) (r : Refusal) → Where b (ListsCuts texts) w (Err r)
+    → IsOfStages r
 of_cuts true texts w r (stages.bad_line {l = l} i h) = of_cut l.why l.number
 of_cuts true texts w r (stages.exceeds_lines i h k) = tt
 of_cuts false texts w r h = cc
@@ -84,7 +85,8 @@ of_observer true observer word w r (stages.no_observer i h) = tt
 of_observer true observer word w r (stages.no_value i h) = tt
 of_observer false observer word w r h = cc
 
-of_shown : (b : Bool) (path : Option (List ℕ)) (w : Ready) (r : Refusal) → Where b (Showing path) w (Err r) → IsOfStages r
+of_shown : (b : Bool) (path : Option (List ℕ)) (w : Ready) (r : Refusal) → Where b (Showing path) w (Err r)
+    → IsOfStages r
 of_shown true path w r (stages.shows_none i h) = tt
 of_shown false path w r h = cc
 
@@ -103,11 +105,14 @@ of_stages files job r (loaded texts l t (then.passes x p (then.refuses (then.ref
     of_script (has_script job.command) texts (bare x) r h
 of_stages files job r (loaded texts l t (then.passes x p (then.refuses (then.passes w q (then.refuses h))))) =
     of_cuts (has_list job.command) texts w r h
-of_stages files job r (loaded texts l t (then.passes x p (then.refuses (then.passes w q (then.passes v k (then.refuses h)))))) =
+of_stages files job r (loaded texts l t
+    (then.passes x p (then.refuses (then.passes w q (then.passes v k (then.refuses h)))))) =
     of_list job.dropped v r h
-of_stages files job r (loaded texts l t (then.passes x p (then.refuses (then.passes w q (then.passes v k (then.passes u m (then.refuses h))))))) =
+of_stages files job r (loaded texts l t
+    (then.passes x p (then.refuses (then.passes w q (then.passes v k (then.passes u m (then.refuses h))))))) =
     of_observer (has_table job.command) (observer_asked job) job.value u r h
-of_stages files job r (loaded texts l t (then.passes x p (then.refuses (then.passes w q (then.passes v k (then.passes u m (then.passes y n h))))))) =
+of_stages files job r (loaded texts l t
+    (then.passes x p (then.refuses (then.passes w q (then.passes v k (then.passes u m (then.passes y n h))))))) =
     of_shown (explains job.command) job.observer y r h
 of_stages files job r (loaded texts l t (then.passes x p (then.passes w q (then.refuses h)))) =
     of_fragment (is_static job.command) w r h
@@ -182,7 +187,11 @@ module _ (c : Call) where
   fronts : (s : Status) → EndsSo c.files (RoseAt c) c.words c.old c.new (SinkRose c) s → IsPrefix c
   fronts s (says.says {text = text} h a) = record { text = text; begins = says.said h; cut = whole_front text a }
   fronts s (says.not_read {kind} {name} job is l r a) =
-      record { text = line_of (NotRead kind); begins = says.not_read job is l r; cut = whole_front (line_of (NotRead kind)) a }
+      record {
+        text = line_of (NotRead kind);
+        begins = says.not_read job is l r;
+        cut = whole_front (line_of (NotRead kind)) a;
+      }
   fronts s (says.not_written {text = text} b r h) = record { text = text; begins = b; cut = h }
   fronts s (says.no_memory {text = text} b h) = record { text = text; begins = b; cut = h }
 

@@ -68,13 +68,15 @@ module _ (x : Elaborated) (p : GtsParts) (of : IsFlat x p) (dropped : List ℕ) 
   pub source_keeps : KeepsAll of.flat dropped → KeepsAll x.system dropped
   source_keeps h =
       let things = variables x.declarations.model x.declarations.units in
-      keeps_all_there (turned (IsNumber things)) of.flat x.system (flat_back things x.system of.flat of.is_flat) dropped h
+      keeps_all_there (turned (IsNumber things)) of.flat x.system (flat_back things x.system of.flat of.is_flat) dropped
+      h
 
   pub source_breaks : {rule : Rule} {spot : Spot} → IsFirstBroken of.flat dropped rule spot
       → IsFirstBroken x.system dropped rule spot
   source_breaks h =
       let things = variables x.declarations.model x.declarations.units in
-      first_broken_there (turned (IsNumber things)) of.flat x.system (flat_back things x.system of.flat of.is_flat) dropped h
+      first_broken_there (turned (IsNumber things)) of.flat x.system (flat_back things x.system of.flat of.is_flat)
+      dropped h
 
   pub same_path : (s : Spot) → path_in p s ≡ spot_path x s
   same_path (AtEvent n) = ap (λ (z : Naming). text_at z.events n) of.names
@@ -98,7 +100,10 @@ module _ (w : Ready) (p : GtsParts) (of : IsFlat w.source p) where
     keeps (source_keeps w.source p of w.dropped (all of.flat of.views).keeps),
     record {
       written = written;
-      own = λ e. record { keeps = λ flat views. (all flat views).keeps; is_forest = λ flat views. (all flat views).forest };
+      own = λ e. record {
+        keeps = λ flat views. (all flat views).keeps;
+        is_forest = λ flat views. (all flat views).forest;
+      };
     },
   )
 
@@ -107,7 +112,8 @@ module _ (w : Ready) (p : GtsParts) (of : IsFlat w.source p) where
       → IsStageOf {X = Forest} (stands v) (Static w) (Err (Refused (Outside number path)))
   outside_given v number path s out e =
       subst (λ (z : Refusal). Static w (Err z))
-      (sym (refusals number (number_of out.rule) path (spot_path w.source (spot_of s)) (sym out.is_rule) (e ∙ same_path w.source p of w.dropped (spot_of s))))
+      (sym (refusals number (number_of out.rule) path (spot_path w.source (spot_of s)) (sym out.is_rule)
+      (e ∙ same_path w.source p of w.dropped (spot_of s))))
       (outside (source_breaks w.source p of w.dropped out.first))
     where
       refusals : (m n : ℕ) (a b : List ℕ) → m ≡ n → a ≡ b → Outside m a ≡ Outside n b
@@ -139,7 +145,8 @@ pub table_trees : (v : Verb) (p : GtsParts) (w : Ready) (f : Forest) → HasFore
 table_trees v p w f h e = h.own (table_static v e)
 
 -- no units, where the command does not speak of units
-pub no_ranges : (v : Verb) (x : Elaborated) (ranges : List Range) → ranges ≡ [] → (v ≡ Modules → ⊥) → HasRanges v x ranges
+pub no_ranges : (v : Verb) (x : Elaborated) (ranges : List Range) → ranges ≡ [] → (v ≡ Modules → ⊥)
+    → HasRanges v x ranges
 no_ranges v x ranges e other = record {
   are = record {
     ascend = λ j k a b h s t. absurd (stands_none j a (subst (λ (z : List Range). Stands z j a) e s));
@@ -186,10 +193,28 @@ module _ (job : Job) (w : Ready) (p : GtsParts) where
         → (ranges : Vec Range Global) → HasRanges job.command w.source ranges.items → (made : GateTable)
         → IsStageOf (HasTable job.command p f) (table w) (Ok made)
         → IsStageOf (IsReady job) (Demands job.command w)
-        (Ok (record { command = job.command; system = p; request = request; forest = f; table = made; ranges = ranges; nodes = job.nodes; number = job.number }))
+        (Ok (record {
+          command = job.command;
+          system = p;
+          request = request;
+          forest = f;
+          table = made;
+          ranges = ranges;
+          nodes = job.nodes;
+          number = job.number;
+        }))
     all_ready flat request are ranges units made h =
         let u : h.0 ≡ w = same_tabled (has_table job.command) w h.0 h.1 in
-        let done : Prepared = record { command = job.command; system = p; request = request; forest = f; table = made; ranges = ranges; nodes = job.nodes; number = job.number } in
+        let done : Prepared = record {
+          command = job.command;
+          system = p;
+          request = request;
+          forest = f;
+          table = made;
+          ranges = ranges;
+          nodes = job.nodes;
+          number = job.number;
+        } in
         let is : IsReady job w done = record {
           command = refl;
           flat = flat;

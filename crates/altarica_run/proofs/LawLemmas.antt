@@ -75,7 +75,8 @@ module _ (told : List ℕ → Told) (known : (name : List ℕ) → IsKnown (told
 -- Models that are too long
 
 -- the files of a job whose model is one
-model_first : (files : List ℕ → Told) (job : Job) → makes_model job.command ≡ false → (x : Result (List (List ℕ)) Refusal)
+model_first : (files : List ℕ → Told) (job : Job) → makes_model job.command ≡ false
+    → (x : Result (List (List ℕ)) Refusal)
     → Loaded files (files_of job) x → Loaded files (files_where false job) x
 model_first files job e x h = subst (λ (b : Bool). Loaded files (files_where b job) x) e h
 
@@ -123,7 +124,8 @@ module _ (files : List ℕ → Told) (name script : List ℕ) (is : files name �
         → x ≡ Err (Size ScriptBytes)
     files_refused x (long h) =
         absurd
-        (apart (Bytes model) (limit_of ModelBytes) model tt (record { held = refl; short = short }) (subst (λ (t : Told). MayBeLonger t (limit_of ModelBytes)) held h))
+        (apart (Bytes model) (limit_of ModelBytes) model tt (record { held = refl; short = short })
+        (subst (λ (t : Told). MayBeLonger t (limit_of ModelBytes)) held h))
     files_refused x (later {r = r} other h k) =
         let i : r ≡ Size ScriptBytes = ap (refusal_or r) (script_refused job.script named (Err r) k) in ap Err i
     files_refused x (whole {texts = ts} other h k) = not_ok _ _ (sym (script_refused job.script named (Ok ts) k))
@@ -131,7 +133,8 @@ module _ (files : List ℕ → Told) (name script : List ℕ) (is : files name �
     pub script_over : (x : Result Ready Refusal) → Passes files job x → x ≡ Err (Size ScriptBytes)
     script_over x (not_loaded {r = r} h) =
         let i : r ≡ Size ScriptBytes = ap (refusal_or r) (files_refused (Err r) (model_first files job loads (Err r) h)) in ap Err i
-    script_over x (loaded texts h t s) = not_ok _ _ (sym (files_refused (Ok texts) (model_first files job loads (Ok texts) h)))
+    script_over x (loaded texts h t s) =
+        not_ok _ _ (sym (files_refused (Ok texts) (model_first files job loads (Ok texts) h)))
 
 module _ (c : Call) (job : Job) (one : (a b : Job) → IsJob c.words a → IsJob c.words b → a ≡ b)
     (is : IsJob c.words job) where
@@ -196,17 +199,20 @@ module _ (c : Call) (job : Job) (one : (a b : Job) → IsJob c.words a → IsJob
     model_asked fs kind name (next text h k) r a = absurd (not_held text h)
 
     absent_ends : (s : Status) → EndsSo c.files (RoseAt c) c.words c.old c.new (SinkRose c) s
-        → ((s ≡ status.Read) × RoseAt c job.model × Wrote c (line_of (NotRead Model))) ⊎ (SinkRose c ⊎ (s ≡ status.Memory))
+        → ((s ≡ status.Read) × RoseAt c job.model × Wrote c (line_of (NotRead Model)))
+        ⊎ (SinkRose c ⊎ (s ≡ status.Memory))
     absent_ends s (says.says {text = said} h a) = absurd (absent_said said s h)
     absent_ends s (says.not_read {kind} {name} other at l r a) =
         let asked = same_job other at (λ j. Loads c.files (files_of j) kind name) l in
-        let m = model_asked _ kind name (subst (λ (b : Bool). Loads c.files (files_where b job) kind name) loads asked) r a in
+        let m = model_asked _ kind name (subst (λ (b : Bool). Loads c.files (files_where b job) kind name) loads asked)
+        r a in
         inl (refl, m.0, m.1)
     absent_ends s (says.not_written b r h) = inr (inl r)
     absent_ends s (says.no_memory b h) = inr (inr refl)
 
     pub absent_of : (s : Status) → Gave c s
-        → ((s ≡ status.Read) × RoseAt c job.model × Wrote c (line_of (NotRead Model))) ⊎ (SinkRose c ⊎ (s ≡ status.Memory))
+        → ((s ≡ status.Read) × RoseAt c job.model × Wrote c (line_of (NotRead Model)))
+        ⊎ (SinkRose c ⊎ (s ≡ status.Memory))
     absent_of s g = absent_ends s g.ends
 
   -- Models that are made

@@ -20,16 +20,23 @@ line_four a b c d = line_after a (b ++ (c ++ d)) (b ++ (c ++ (d ++ 10 ∷ []))) 
 
 -- the line of counts in its four parts
 pub line_counts : (u v e o : ℕ)
-    → (codes "ok units " ++ decimal u) ++ ((codes " variables " ++ decimal v) ++ ((codes " events " ++ decimal e) ++ ((codes " observers " ++ decimal o) ++ 10 ∷ []))) ≡ counts_line u v e o
+    → (codes "ok units " ++ decimal u)
+    ++ ((codes " variables " ++ decimal v)
+    ++ ((codes " events " ++ decimal e) ++ ((codes " observers " ++ decimal o) ++ 10 ∷ []))) ≡ counts_line u v e o
 line_counts u v e o =
     let o_line = line_two (codes " observers ") (decimal o) in
     let e_line = line_after (decimal e) (codes " observers " ++ decimal o) _ o_line in
     let e_all = line_after (codes " events ") (decimal e ++ (codes " observers " ++ decimal o)) _ e_line in
-    let v_line = line_after (decimal v) (codes " events " ++ (decimal e ++ (codes " observers " ++ decimal o))) _ e_all in
-    let v_all = line_after (codes " variables ") (decimal v ++ (codes " events " ++ (decimal e ++ (codes " observers " ++ decimal o)))) _ v_line in
-    let u_line = line_after (decimal u) (codes " variables " ++ (decimal v ++ (codes " events " ++ (decimal e ++ (codes " observers " ++ decimal o))))) _ v_all in
+    let v_line = line_after (decimal v) (codes " events " ++ (decimal e ++ (codes " observers " ++ decimal o))) _
+    e_all in
+    let v_all = line_after (codes " variables ")
+    (decimal v ++ (codes " events " ++ (decimal e ++ (codes " observers " ++ decimal o)))) _ v_line in
+    let u_line = line_after (decimal u)
+    (codes " variables " ++ (decimal
+    v ++ (codes " events " ++ (decimal e ++ (codes " observers " ++ decimal o))))) _ v_all in
     line_after (codes "ok units ")
-    (decimal u ++ (codes " variables " ++ (decimal v ++ (codes " events " ++ (decimal e ++ (codes " observers " ++ decimal o)))))) _ u_line
+    (decimal u ++ (codes " variables "
+    ++ (decimal v ++ (codes " events " ++ (decimal e ++ (codes " observers " ++ decimal o)))))) _ u_line
 
 pub counts_same : {u v e o m n k l : ℕ} → u ≡ m → v ≡ n → e ≡ k → o ≡ l → counts_line u v e o ≡ counts_line m n k l
 counts_same {u = u} {v = v} {e = e} {n = n} {k = k} {l = l} h i j q =

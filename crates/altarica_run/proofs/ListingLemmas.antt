@@ -98,8 +98,13 @@ module _ (c : Call) (job : Job) (w : Ready) (passes : Passes c.files job (Ok w))
       → (k : ℕ) × (ls : List Label) × Stands lines k ls × AreEvents (reverse ls) set
   is_whole set is =
       let o = h.is_text.are_listed.whole set is in
-      let g = along_on sets lines h.is_text.are_lines o.1.place o.0 o.1.stands in
-      (o.1.place, g.0, g.1, events_alike (reverse g.0) o.0 set (h.replay o.1.place o.0 g.0 o.1.stands g.1).events o.3 o.2)
+      let g = along_on sets lines h.is_text.are_lines o.1.place o.0 o.1.stands in (
+        o.1.place,
+        g.0,
+        g.1,
+        events_alike (reverse g.0) o.0 set (h.replay o.1.place o.0 g.0 o.1.stands g.1).events o.3
+            o.2,
+      )
 
   -- a set with the events of two lines has those of their sets, which are one
   same_sets : (j k : ℕ) (ls ms : List Label) (set : List ℕ) → Stands lines j ls → Stands lines k ms

@@ -79,7 +79,8 @@ module _ (x : Elaborated) (p : GtsParts) (bytes : Vec ℕ Global) where
 
 -- What a command asks
 
--- the system with the commands of the script, the cut lines of the list, the events that are dropped and the observer with
+-- the system with the commands of the script, the cut lines of the list, the events that are dropped and the observer
+-- with
 -- its value
 abbrev asked_so_far : Elaborated → List runs.Command → List CutLine → List ℕ → Option Wanted → Option ℕ → Ready
 asked_so_far x cs cuts events wanted shown =
@@ -217,7 +218,8 @@ wants_good false observer word w given e there (passing.wants {path = path} i h)
     let k : None ≡ Some path = sym there ∙ i in cc
 
 -- the observer is the one to explain, where one is asked for
-shows_bad : (b : Bool) (path : Option (List ℕ)) (w : Ready) (r : Refusal) → ReadsShown (where_asked b path) w.source (Err r)
+shows_bad : (b : Bool) (path : Option (List ℕ)) (w : Ready) (r : Refusal)
+    → ReadsShown (where_asked b path) w.source (Err r)
     → Where b (Showing path) w (Err r)
 shows_bad true path w r (shows_none i h) = stages.shows_none i h
 shows_bad false path w r (shows_none {text = text} i h) = let k : None ≡ Some text = i in cc
@@ -250,7 +252,8 @@ module _ (job : Job) (texts : List (List ℕ)) (x : Elaborated) (p : GtsParts) (
   -- a refusal at a stage, or want of memory
   refused_at : {A : Type 0} (Q : Result A Refusal → Type 0) → ((e : Refusal) → Q (Err e) → asks (Err e))
       → (r : Result Request Stop) (d e : Stop) → r ≡ Err d → d ≡ e → IsRefusal Q (stop_told e) → IsStageOf stands asks r
-  refused_at Q on r d e i j h = subst (λ (z : Result Request Stop). IsStageOf stands asks z) (sym (i ∙ ap Err j)) (go e h)
+  refused_at Q on r d e i j h = subst (λ (z : Result Request Stop). IsStageOf stands asks z) (sym (i ∙ ap Err j))
+      (go e h)
     where
       go : (e : Stop) → IsRefusal Q (stop_told e) → IsStageOf {X = Request} stands asks (Err e)
       go (Refused f) h = on f h
@@ -272,7 +275,8 @@ module _ (job : Job) (texts : List (List ℕ)) (x : Elaborated) (p : GtsParts) (
         → IsRefusal (ReadsCuts the_list x) (stop_told e) → IsStageOf stands asks r
     lines_refused = refused_at (ReadsCuts the_list x) (λ f h.
         then.passes (with_commands x cs) script_passed
-        (then.refuses (lists_bad (has_list job.command) texts the_list (with_commands x cs) f (list_second job.command texts s second)
+        (then.refuses (lists_bad (has_list job.command) texts the_list (with_commands x cs) f
+        (list_second job.command texts s second)
         (list_given_there job.command s there) h)))
 
     module _ (cuts : List CutLine) (listed : ReadsCuts the_list x (Ok cuts)) where
@@ -300,25 +304,30 @@ module _ (job : Job) (texts : List (List ℕ)) (x : Elaborated) (p : GtsParts) (
             (then.refuses (wants_bad (has_table job.command) (observer_asked job) job.value dropped f seen h))))
 
         module _ (wanted : Option Wanted) (wants : ReadsWanted (observer_asked job) job.value x (Ok wanted)) where
-          wants_passed : Where (has_table job.command) (Wanting (observer_asked job) job.value) dropped (Ok (with_wanted x cs cuts events wanted))
+          wants_passed : Where (has_table job.command) (Wanting (observer_asked job) job.value) dropped
+              (Ok (with_wanted x cs cuts events wanted))
               × IsThere (has_table job.command) wanted
-          wants_passed = wants_good (has_table job.command) (observer_asked job) job.value dropped wanted refl seen wants
+          wants_passed = wants_good (has_table job.command) (observer_asked job) job.value dropped wanted refl seen
+              wants
 
           -- the observer to explain comes last
           last : (answer : Result Ready Refusal)
-              → Where (explains job.command) (Showing job.observer) (with_wanted x cs cuts events wanted) answer → asks answer
+              → Where (explains job.command) (Showing job.observer) (with_wanted x cs cuts events wanted) answer
+              → asks answer
           last answer h =
               behind answer (then.passes dropped (drops_good job.dropped x cs cuts events named)
               (then.passes (with_wanted x cs cuts events wanted) wants_passed.0 h))
 
           pub shown_refused : (r : Result Request Stop) (d e : Stop) → r ≡ Err d → d ≡ e
-              → IsRefusal (ReadsShown (where_asked (explains job.command) job.observer) x) (stop_told e) → IsStageOf stands asks r
+              → IsRefusal (ReadsShown (where_asked (explains job.command) job.observer) x) (stop_told e)
+              → IsStageOf stands asks r
           shown_refused = refused_at (ReadsShown (where_asked (explains job.command) job.observer) x) (λ f h.
               last (Err f) (shows_bad (explains job.command) job.observer (with_wanted x cs cuts events wanted) f h))
 
           pub all_given : (request : Request) (shown : Option ℕ)
               → ReadsShown (where_asked (explains job.command) job.observer) x (Ok shown)
-              → AreCommands p cs request.commands → AreLines p cuts request.chains → AreDropped p events request.dropped.items
+              → AreCommands p cs request.commands → AreLines p cuts request.chains
+              → AreDropped p events request.dropped.items
               → AreWanted p wanted request.wanted → IsShown p shown request.shown → IsStageOf stands asks (Ok request)
           all_given request shown h are_commands are_lines drops wants one = (
             asked_so_far x cs cuts events wanted shown,
@@ -354,15 +363,18 @@ module _ (x : Elaborated) (p : GtsParts) (bytes : Vec ℕ Global) where
       go script.Memory h = tt
 
   pub cuts_many : (chains : Vec Chain Global) → AnswersCuts x p bytes.items (Ok chains)
-      → limit_of CutLines < vec_len chains → IsStageOf (AreLines p) (ReadsCuts (Some bytes) x) (Err (Refused (Size CutLines)))
+      → limit_of CutLines < vec_len chains
+      → IsStageOf (AreLines p) (ReadsCuts (Some bytes) x) (Err (Refused (Size CutLines)))
   cuts_many chains h k =
-      too_many bytes refl h.0 (subst (λ (n : ℕ). limit_of CutLines < n) (vec_len-items chains ∙ sym (length-map chains.items (cut_of p))) k)
+      too_many bytes refl h.0 (subst (λ (n : ℕ). limit_of CutLines < n)
+      (vec_len-items chains ∙ sym (length-map chains.items (cut_of p))) k)
 
   pub cuts_given : (chains : Vec Chain Global) → AnswersCuts x p bytes.items (Ok chains)
       → vec_len chains ≤ limit_of CutLines → IsStageOf (AreLines p) (ReadsCuts (Some bytes) x) (Ok chains)
   cuts_given chains h k = (
     map (cut_of p) chains.items,
-    lists bytes refl h.0 (subst (λ (n : ℕ). n ≤ limit_of CutLines) (vec_len-items chains ∙ sym (length-map chains.items (cut_of p))) k),
+    lists bytes refl h.0 (subst (λ (n : ℕ). n ≤ limit_of CutLines)
+        (vec_len-items chains ∙ sym (length-map chains.items (cut_of p))) k),
     record { are = refl; known = h.1 },
   )
 
@@ -379,10 +391,12 @@ observer_known x p is text n h =
 pub shown_here : (x : Elaborated) (p : GtsParts) → IsFlat x p → (a b : List ℕ) → a ≡ b → (o : Option ℕ) (n : ℕ)
     → o ≡ Some n → AnswersObserver x a o → IsStageOf {X = Option ℕ} (IsShown p) (ReadsShown (Some b) x) (Ok (Some n))
 shown_here x p of a b e o n i h =
-    let k : NamesObserver x b n = subst (λ (z : List ℕ). NamesObserver x z n) e (subst (λ (z : Option ℕ). AnswersObserver x a z) i h) in
+    let k : NamesObserver x b n = subst (λ (z : List ℕ). NamesObserver x z n) e
+    (subst (λ (z : Option ℕ). AnswersObserver x a z) i h) in
     (Some n, shows refl k, record { are = refl; inside = observer_known x p of b n k })
 
-pub shown_none : (x : Elaborated) (p : GtsParts) (a b : List ℕ) → a ≡ b → (o : Option ℕ) → o ≡ None → AnswersObserver x a o
+pub shown_none : (x : Elaborated) (p : GtsParts) (a b : List ℕ) → a ≡ b → (o : Option ℕ) → o ≡ None
+    → AnswersObserver x a o
     → IsStageOf {X = Option ℕ} (IsShown p) (ReadsShown (Some b) x) (Err (Refused NoObserver))
 shown_none x p a b e o i h =
     shows_none refl (subst (λ (z : List ℕ). NamesNone x z) e (subst (λ (z : Option ℕ). AnswersObserver x a z) i h))
@@ -423,22 +437,28 @@ list_given_same x p a b events e h = subst (λ (z : List ℕ). AnswersEvents x p
 module _ (x : Elaborated) (p : GtsParts) (text : List ℕ) where
   pub list_stops : (r : Result (Vec EventId Global) Stop) (d : Stop) (e : ListFault) → r ≡ Err d → d ≡ stop_of_list e
       → AnswersEvents x p text (Err e)
-      → IsStageOf (λ dropped (events : Vec EventId Global). AreDropped p dropped events.items) (ReadsList (Some text) x) r
+      → IsStageOf (λ dropped (events : Vec EventId Global). AreDropped p dropped events.items) (ReadsList (Some text) x)
+      r
   list_stops r d e i j h =
-      subst (λ (z : Result (Vec EventId Global) Stop). IsStageOf (λ dropped (events : Vec EventId Global). AreDropped p dropped events.items) (ReadsList (Some text) x) z)
+      subst (λ (z : Result (Vec EventId Global) Stop). IsStageOf
+      (λ dropped (events : Vec EventId Global). AreDropped p dropped events.items) (ReadsList (Some text) x) z)
       (sym (i ∙ ap Err j)) (go e h)
     where
       go : (e : ListFault) → AnswersEvents x p text (Err e)
-          → IsStageOf {X = Vec EventId Global} (λ dropped (events : Vec EventId Global). AreDropped p dropped events.items) (ReadsList (Some text) x) (Err (stop_of_list e))
+          → IsStageOf {X = Vec EventId Global}
+          (λ dropped (events : Vec EventId Global). AreDropped p dropped events.items) (ReadsList (Some text) x)
+          (Err (stop_of_list e))
       go list.NoEvent h = names_none refl h
       go list.Memory h = tt
 
   pub list_given : (events : Vec EventId Global) → AnswersEvents x p text (Ok events)
-      → IsStageOf (λ dropped (given : Vec EventId Global). AreDropped p dropped given.items) (ReadsList (Some text) x) (Ok events)
+      → IsStageOf (λ dropped (given : Vec EventId Global). AreDropped p dropped given.items) (ReadsList (Some text) x)
+      (Ok events)
   list_given events h = (map (λ (e : EventId). e.n) events.items, names refl h.0, record { are = refl; inside = h.1 })
 
 -- a job names a second file exactly where its command reads one
-command_asks : (v : Verb) (files : List (List ℕ)) (model : List ℕ) (name : Option (List ℕ)) (n : ℕ) (s : Option (Vec ℕ Global))
+command_asks : (v : Verb) (files : List (List ℕ)) (model : List ℕ) (name : Option (List ℕ)) (n : ℕ)
+    (s : Option (Vec ℕ Global))
     → NamesFiles (form_of v) files model name n → IsLoadedScript name s → IsThere (has_second v) s
 command_asks Check files model name n s f l = l.none f.1
 command_asks Flat files model name n s f l = l.none f.1
@@ -477,7 +497,8 @@ line_sees line job of =
     subst (λ (z : Option (List ℕ)). IsThere (has_table job.command) (path_asked job.command z)) (sym of.observer)
     (command_sees job.command line of.options)
 
-pub observer_there : (words : List (List ℕ)) (job : Job) → IsJob words job → IsThere (has_table job.command) (observer_asked job)
+pub observer_there : (words : List (List ℕ)) (job : Job) → IsJob words job
+    → IsThere (has_table job.command) (observer_asked job)
 observer_there words job b = line_sees _ job b.job_of
 
 -- a script that a command reads is the second of the texts
@@ -524,19 +545,32 @@ module _ (files : List ℕ → Told) (rose : List ℕ → Type 0) (words : List 
     pub job_passed : (t : Texts) → AreTexts files job t → (r : Result Prepared Stop)
         → IsStageOf (IsReady job) (Stages job (texts_of job t) t.model.items) r → AnswersWords files rose words r
     job_passed t l (Ok p) h =
-        record { job = job; is_job = is; ready = h.0; passes = loaded (texts_of job t) l.loaded l.is_text h.1; is_ready = h.2 }
+        record {
+          job = job;
+          is_job = is;
+          ready = h.0;
+          passes = loaded (texts_of job t) l.loaded l.is_text h.1;
+          is_ready = h.2;
+        }
     job_passed t l (Err (Refused r)) h = stage job is (loaded (texts_of job t) l.loaded l.is_text h)
     job_passed t l (Err Memory) h = tt
 
 -- want of memory says nothing
-pub memory_ready : (job : Job) (texts : List (List ℕ)) (x : Elaborated) (r : Result Prepared Stop) (d : Stop) → r ≡ Err d
+pub memory_ready : (job : Job) (texts : List (List ℕ)) (x : Elaborated) (r : Result Prepared Stop) (d : Stop)
+    → r ≡ Err d
     → d ≡ Memory → IsStageOf (IsReady job) (Readies job texts x) r
 memory_ready job texts x r d i j =
     subst (λ (z : Result Prepared Stop). IsStageOf (IsReady job) (Readies job texts x) z) (sym (i ∙ ap Err j)) tt
 
 -- no cut lines
 pub no_lines : (p : GtsParts) (chains : Vec Chain Global) → chains.items ≡ [] → AreLines p [] chains
-no_lines p chains e = record { are = sym (ap (map (cut_of p)) e); known = record { each = λ chain one w way. absurd (stands_none one.place chain (subst (λ (z : List Chain). Stands z one.place chain) e one.stands)) } }
+no_lines p chains e = record {
+  are = sym (ap (map (cut_of p)) e);
+  known = record {
+    each = λ chain one w way. absurd
+        (stands_none one.place chain (subst (λ (z : List Chain). Stands z one.place chain) e one.stands));
+  };
+}
 
 -- no commands
 pub no_commands : (p : GtsParts) (commands : Vec Command Global) → commands.items ≡ [] → AreCommands p [] commands
@@ -544,7 +578,10 @@ no_commands p commands e =
     record {
       are = sym (ap (map (command_of p)) e);
       firable =
-          record { each = λ w h. absurd (stands_none h.place (Fire w) (subst (λ (z : List Command). Stands z h.place (Fire w)) e h.stands)) };
+          record {
+            each = λ w h. absurd (stands_none h.place (Fire w)
+                (subst (λ (z : List Command). Stands z h.place (Fire w)) e h.stands));
+          };
     }
 
 -- a script behind a model is the second of the texts

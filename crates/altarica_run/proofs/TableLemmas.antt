@@ -111,14 +111,16 @@ module _ (v : Verb) (p : GtsParts) (w : Ready) (f : Forest) (wanted : Wanted) (o
             are = are;
             inside = inside;
             is_table = subst (λ (z : Equations). IsTableOf w.source w.dropped wanted (table_of z)) (sym e) is;
-            by_trees = subst (λ (z : Equations). AtObserver (slice_get p.observers.items wanted.observer) (gives.IsTableOf p f wanted.value (table_of z))) (sym e) h;
+            by_trees = subst (λ (z : Equations). AtObserver (slice_get p.observers.items wanted.observer)
+                (gives.IsTableOf p f wanted.value (table_of z))) (sym e) h;
             events = names;
           };
         },
       )
 
 -- want of memory
-pub memory_refused : (v : Verb) (p : GtsParts) (f : Forest) (w : Ready) (r : Result GateTable Stop) (d : Stop) → r ≡ Err d
+pub memory_refused : (v : Verb) (p : GtsParts) (f : Forest) (w : Ready) (r : Result GateTable Stop) (d : Stop)
+    → r ≡ Err d
     → d ≡ Memory → IsStageOf (HasTable v p f) (Tabled w) r
 memory_refused v p f w r d i j =
     subst (λ (z : Result GateTable Stop). IsStageOf (HasTable v p f) (Tabled w) z) (sym (i ∙ ap Err j)) tt

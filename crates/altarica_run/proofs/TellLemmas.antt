@@ -34,7 +34,8 @@ use Rattle.altarica_run.specs.declared.status.Status.{Status}
 use Rattle.altarica_run.specs.declared.status.Status.TheVariants.{Done}
 
 -- a text that was written, or was cut
-pub text_written : {old new : SinkState} (told : List ℕ → Status → Type 0) (text : List ℕ) (ends s : Status) (r : Result (Unit {0}) SinkFailed)
+pub text_written : {old new : SinkState} (told : List ℕ → Status → Type 0) (text : List ℕ) (ends s : Status)
+    (r : Result (Unit {0}) SinkFailed)
     → s ≡ status_written ends r → told text ends
     → Writes old new text r → IsWritten told old new s
 text_written {old} {new} told text ends s r e t w = subst (λ (z : Status). IsWritten told old new z) (sym e) (go r w)
@@ -64,7 +65,8 @@ module _ (x : Elaborated) (p : GtsParts) (is : IsFlat x p) where
       sym (length-map p.observers.items (λ (o : Observer). o.path)) ∙ ap (λ (n : Naming). length n.observers) is.names
       ∙ length-map (observers x.declarations.model x.declarations.units) (thing_path x.declarations.model)
 
-  counted : counts_line (length p.units.items) (length p.variables.items) (length p.events.items) (length p.observers.items) ≡ check_text x.declarations
+  counted : counts_line (length p.units.items) (length p.variables.items) (length p.events.items)
+      (length p.observers.items) ≡ check_text x.declarations
   counted = simp (many_units, many_variables, many_events, many_observers) refl
 
 -- The commands
@@ -72,7 +74,8 @@ module _ (x : Elaborated) (p : GtsParts) (is : IsFlat x p) where
 module _ (job : Job) (w : Ready) (p : Prepared) (is : IsReady job w p) where
   pub checked : {old new : SinkState} → job.command ≡ Check → (s : Status) (r : Result (Unit {0}) SinkFailed)
       → s ≡ status_written Done r
-      → Writes old new (counts_line (length p.system.units.items) (length p.system.variables.items) (length p.system.events.items) (length p.system.observers.items)) r
+      → Writes old new (counts_line (length p.system.units.items) (length p.system.variables.items)
+      (length p.system.events.items) (length p.system.observers.items)) r
       → IsWritten (Tells job w) old new s
   checked e s r k h =
       let i = counted w.source p.system is.flat in
@@ -106,23 +109,27 @@ module _ (job : Job) (w : Ready) (p : Prepared) (is : IsReady job w p) where
       })) h
 
   module _
-      (there : (cs : List Command) (text : List ℕ) (end : End) → IsReplay (naming_of_parts p.system) is.flat.flat cs text end
+      (there : (cs : List Command) (text : List ℕ) (end : End)
+      → IsReplay (naming_of_parts p.system) is.flat.flat cs text end
       → IsReplay (naming_of w.source.declarations) w.source.system cs text end) (e : job.command ≡ Replay) where
     said : (text : List ℕ) (end : End)
         → IsReplay (naming_of_parts p.system) is.flat.flat (map (command_of p.system) p.request.commands.items) text end
         → Tells job w text (status_at end)
     said text end h =
         replay e
-        (subst (λ (z : List Command). IsReplay (naming_of w.source.declarations) w.source.system z text end) (sym is.requested.commands.are)
+        (subst (λ (z : List Command). IsReplay (naming_of w.source.declarations) w.source.system z text end)
+        (sym is.requested.commands.are)
         (there (map (command_of p.system) p.request.commands.items) text end h))
 
     pub replayed : {old new : SinkState} (s : Status) (r : Result End ReplayFault) → s ≡ status_replayed r
-        → AnswersReplay (naming_of_parts p.system) is.flat.flat (map (command_of p.system) p.request.commands.items) old new r
+        → AnswersReplay (naming_of_parts p.system) is.flat.flat (map (command_of p.system) p.request.commands.items) old
+        new r
         → IsWritten (Tells job w) old new s
     replayed {old} {new} s r i h = subst (λ (z : Status). IsWritten (Tells job w) old new z) (sym i) (go r h)
       where
         go : (r : Result End ReplayFault)
-            → AnswersReplay (naming_of_parts p.system) is.flat.flat (map (command_of p.system) p.request.commands.items) old new r
+            → AnswersReplay (naming_of_parts p.system) is.flat.flat (map (command_of p.system) p.request.commands.items)
+            old new r
             → IsWritten (Tells job w) old new (status_replayed r)
         go r (replays.whole {text = text} {end = end} h a k) = whole (said text end h) a
         go r (replays.write {text = text} {end = end} h c k) = cut (said text end h) c k

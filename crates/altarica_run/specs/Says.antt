@@ -37,7 +37,8 @@ pub data Begins (files : List ℕ → Told) (rose : List ℕ → Type 0) (words 
 -- How a call ends: it says what its words say; or a file was not read, whose count of faults rose; or the sink's count
 -- rose; or memory was refused.
 -- In the last two cases the sink has some first bytes of a text that the call may write.
-pub data EndsSo (files : List ℕ → Told) (rose : List ℕ → Type 0) (words : List (List ℕ)) (old new : Option (List ℕ)) (sink_rose : Type 0) : Status
+pub data EndsSo (files : List ℕ → Told) (rose : List ℕ → Type 0) (words : List (List ℕ)) (old new : Option (List ℕ))
+    (sink_rose : Type 0) : Status
     → Type 0 where
   says : {text : List ℕ} {ends : Status} → Says files words text ends → Appended old new text
       → EndsSo files rose words old new sink_rose ends

@@ -27,7 +27,8 @@ use Rattle.altarica_run.specs.declared.refusals.Refusal.{Refusal}
 use Rattle.altarica_run.specs.declared.refusals.Refusal.TheVariants.{NoCommand, NoCut, NeedsWay, NoEvent, NoDropped, NoObserver, NoValue, Size, Outside}
 
 -- what stands ready: the source's system over paths with its names, the commands of the script, the cut lines of the
--- list, the events that are dropped, the observer and the value that are asked for, and the observer alone whose cone is
+-- list, the events that are dropped, the observer and the value that are asked for, and the observer alone whose cone
+-- is
 -- to be explained
 pub record Ready : Type 0 where
   pub source : Elaborated
@@ -82,7 +83,8 @@ pub data ListsCuts (texts : List (List ℕ)) (w : Ready) : Result Ready Refusal 
       → ListsCuts texts w (Ok (record w { lines = cuts }))
   bad_line : {model list : List ℕ} {l : BadLine} → texts ≡ model ∷ list ∷ [] → CutList list w.source (Err l)
       → ListsCuts texts w (Err (cut_refused l.why l.number))
-  exceeds_lines : {model list : List ℕ} {cuts : List CutLine} → texts ≡ model ∷ list ∷ [] → CutList list w.source (Ok cuts)
+  exceeds_lines : {model list : List ℕ} {cuts : List CutLine} → texts ≡ model ∷ list ∷ []
+      → CutList list w.source (Ok cuts)
       → limit_of CutLines < length cuts
       → ListsCuts texts w (Err (Size CutLines))
 
@@ -146,7 +148,8 @@ pub data Showing (observer : Option (List ℕ)) (w : Ready) : Result Ready Refus
 abbrev pub AsksByWords : Job → Ready → Result Ready Refusal → Type 0
 AsksByWords job =
     Then (Drops job.dropped)
-    (Then (Where (has_table job.command) (Wanting (observer_asked job) job.value)) (Where (explains job.command) (Showing job.observer)))
+    (Then (Where (has_table job.command) (Wanting (observer_asked job) job.value))
+    (Where (explains job.command) (Showing job.observer)))
 
 -- what the words, the script, the list and the command ask of the system
 abbrev pub Asks : Job → List (List ℕ) → Elaborated → Result Ready Refusal → Type 0

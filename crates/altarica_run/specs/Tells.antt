@@ -43,7 +43,8 @@ use Rattle.altarica_run.specs.declared.status.Status.TheVariants.{Done, Fault, N
 abbrev pub counts_line : ℕ → ℕ → ℕ → ℕ → List ℕ
 counts_line u v e o =
     line
-    (codes "ok units " ++ (decimal u ++ (codes " variables " ++ (decimal v ++ (codes " events " ++ (decimal e ++ (codes " observers " ++ decimal o)))))))
+    (codes "ok units " ++ (decimal u ++ (codes
+    " variables " ++ (decimal v ++ (codes " events " ++ (decimal e ++ (codes " observers " ++ decimal o)))))))
 
 -- how many units, variables, events and observers are declared
 abbrev pub check_text : Declarations → List ℕ
@@ -87,7 +88,8 @@ pub record IsCutsText (w : Ready) (limit : ℕ) (text : List ℕ) : Type 0 where
 -- has at most so many counted sections
 pub record IsCheckedText (w : Ready) (limit : ℕ) (text : List ℕ) : Type 0 where
   pub has : HasCuts w
-  pub is_text : IsCheckText (naming_of w.source.declarations) w.source.system w.dropped has.observed has.wanted.value w.lines text
+  pub is_text : IsCheckText (naming_of w.source.declarations) w.source.system w.dropped has.observed has.wanted.value
+      w.lines text
   pub sets : List (List ℕ)
   pub are_listed : AreListed (Cut w.source.system w.dropped has.observed has.wanted.value) sets
   pub few : IsMoreThan limit (IsCounted sets) → ⊥
@@ -158,7 +160,8 @@ pub data Tells (job : Job) (w : Ready) : List ℕ → Status → Type 0 where
   fragment : {text : List ℕ} → job.command ≡ Fragment
       → IsForestText (naming_of w.source.declarations) w.source.system w.dropped text → Tells job w text Done
   equations : {text : List ℕ} {wanted : Wanted} → job.command ≡ Equations → w.wanted ≡ Some wanted
-      → IsTableText (variables w.source.declarations.model w.source.declarations.units) (naming_of w.source.declarations)
+      → IsTableText (variables w.source.declarations.model w.source.declarations.units)
+      (naming_of w.source.declarations)
       w.source.system w.dropped wanted.observer wanted.value text → Tells job w text Done
   cuts : {text : List ℕ} → job.command ≡ Cuts → IsCutsText w job.nodes text → Tells job w text Done
   make : {text : List ℕ} → job.command ≡ Make → IsMakeText w job.number job.nodes text → Tells job w text Done

@@ -61,4 +61,5 @@ earlier_not p q r h k = by h
       where
         by_line : (q.line < r.line) ⊎ (q.line ≡ r.line) → IsEarlier p r
         by_line (inl b) = inl (omega (arith, a.0, b))
-        by_line (inr b) = elim (cases_lt r.column q.column) [ inl c ↦ absurd (k (inr (sym b, c))) | inr c ↦ inr (omega (arith, a.0, b), omega (arith, a.1, c)) ]
+        by_line (inr b) = elim (cases_lt r.column q.column)
+            [ inl c ↦ absurd (k (inr (sym b, c))) | inr c ↦ inr (omega (arith, a.0, b), omega (arith, a.1, c)) ]

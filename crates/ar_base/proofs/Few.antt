@@ -25,17 +25,30 @@ pub record Without (n : ℕ) (xs : List ℕ) : Type 0 where
   pub lacks : (y : ℕ) → IsOneOf rest y → y ≡ n → ⊥
 
 pub take_out : (n : ℕ) (xs : List ℕ) → AllDiffer xs → Without n xs
-take_out n [] d = record { rest = []; differ = nothing; long = omega arith; of = λ y i. i; lacks = λ y i e. one_none y i }
+take_out n [] d = record {
+  rest = [];
+  differ = nothing;
+  long = omega arith;
+  of = λ y i. i;
+  lacks = λ y i e. one_none y i;
+}
 take_out n (x ∷ xs) (new f d) = by (take_out n xs d) (cases_eq x n)
   where
     by : Without n xs → (x ≡ n) ⊎ (x ≡ n → ⊥) → Without n (x ∷ xs)
-    by r (inl e) = record { rest = xs; differ = d; long = omega arith; of = λ y i. one_rest x xs y i; lacks = λ y i k. f (subst (λ (z : ℕ). IsOneOf xs z) (k ∙ sym e) i) }
+    by r (inl e) = record {
+      rest = xs;
+      differ = d;
+      long = omega arith;
+      of = λ y i. one_rest x xs y i;
+      lacks = λ y i k. f (subst (λ (z : ℕ). IsOneOf xs z) (k ∙ sym e) i);
+    }
     by r (inr e) =
         record {
           rest = x ∷ r.rest;
           differ = new (λ i. f (r.of x i)) r.differ;
           long = let l = r.long in omega (arith, l);
-          of = λ y i. elim (one_cases x r.rest y i) [ inl k ↦ subst (λ (z : ℕ). IsOneOf (x ∷ xs) z) k (one_first x xs) | inr j ↦ one_rest x xs y (r.of y j) ];
+          of = λ y i. elim (one_cases x r.rest y i)
+              [ inl k ↦ subst (λ (z : ℕ). IsOneOf (x ∷ xs) z) k (one_first x xs) | inr j ↦ one_rest x xs y (r.of y j) ];
           lacks = λ y i k. elim (one_cases x r.rest y i) [ inl j ↦ e (j ∙ k) | inr j ↦ r.lacks y j k ];
         }
 

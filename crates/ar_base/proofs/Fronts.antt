@@ -7,7 +7,8 @@ abbrev pub HeadFails : (ℕ → Bool) → List ℕ → Type 0
 HeadFails test [] = Unit {0}
 HeadFails test (b ∷ bs) = test b ≡ false
 
-fails_cons : (test : ℕ → Bool) (b : ℕ) (bs : List ℕ) (r : Bool) → test b ≡ r → HeadFails test (drop (prefix_len test bs) bs)
+fails_cons : (test : ℕ → Bool) (b : ℕ) (bs : List ℕ) (r : Bool) → test b ≡ r
+    → HeadFails test (drop (prefix_len test bs) bs)
     → HeadFails test (drop (cond r (1 + prefix_len test bs) 0) (b ∷ bs))
 fails_cons test b bs true e h =
     let q : 1 + prefix_len test bs ≡ suc (prefix_len test bs) = omega arith in

@@ -6,11 +6,13 @@ use Rattle.ar_base.specs.Lists.{Stands, IsOneOf, AreDifferent, Along, none, one_
 use Rattle.ar_base.proofs.Standing.{stands_one, stands_none, stands_next, stands_split, only_item, at_most, one_here}
 
 -- the items up to one more, where it was read
-pub take_item : {A : Type 0} (xs : List A) (i : ℕ) (x : A) → i < length xs → x ≡ get_or xs i x → take (i + 1) xs ≡ take i xs ++ x ∷ []
+pub take_item : {A : Type 0} (xs : List A) (i : ℕ) (x : A) → i < length xs → x ≡ get_or xs i x
+    → take (i + 1) xs ≡ take i xs ++ x ∷ []
 take_item xs i x h e = take_more xs i x h ∙ ap (λ z. take i xs ++ z ∷ []) (sym e)
 
 -- the first item of what is left of a list
-pub next_left : {A : Type 0} (xs : List A) (i : ℕ) (x : A) → i < length xs → x ≡ get_or xs i x → drop i xs ≡ x ∷ drop (i + 1) xs
+pub next_left : {A : Type 0} (xs : List A) (i : ℕ) (x : A) → i < length xs → x ≡ get_or xs i x
+    → drop i xs ≡ x ∷ drop (i + 1) xs
 next_left {A} xs i x h is = at_drop_more (λ (z : List A). z) xs i x h ∙ ap (λ (z : A). z ∷ drop (i + 1) xs) (sym is)
 
 -- past the end nothing is left
@@ -65,7 +67,8 @@ all_stand P (x ∷ xs) zero r a s = let e : x ≡ r = cc in subst P e a.0
 all_stand P (x ∷ xs) (suc k) r a s = all_stand P xs k r a.1 s
 
 -- one item more that has not P
-pub before_more : {A : Type 0} (xs : List A) (i : ℕ) (a : A) (P : ℕ → A → Type 0) → ((k : ℕ) (x : A) → k < i → Stands xs k x → P k x → ⊥) → Stands xs i a → (P i a → ⊥)
+pub before_more : {A : Type 0} (xs : List A) (i : ℕ) (a : A) (P : ℕ → A → Type 0)
+    → ((k : ℕ) (x : A) → k < i → Stands xs k x → P k x → ⊥) → Stands xs i a → (P i a → ⊥)
     → (k : ℕ) (x : A) → k < i + 1 → Stands xs k x → P k x → ⊥
 before_more {A} xs i a P before st n k x l s h = go (at_most k i l)
   where
@@ -76,7 +79,8 @@ before_more {A} xs i a P before st n k x l s h = go (at_most k i l)
         n (subst (λ (z : A). P i z) same (subst (λ (z : ℕ). P z x) j h))
 
 -- two lists of different items with none in common, one behind the other
-pub different_both : {A : Type 0} (xs ys : List A) → AreDifferent xs → AreDifferent ys → ((x : A) → IsOneOf xs x → IsOneOf ys x → ⊥)
+pub different_both : {A : Type 0} (xs ys : List A) → AreDifferent xs → AreDifferent ys
+    → ((x : A) → IsOneOf xs x → IsOneOf ys x → ⊥)
     → AreDifferent (xs ++ ys)
 different_both {A} xs ys a b d = record {
   one =
@@ -96,7 +100,8 @@ pub along_by : {A B : Type 0} (R : A → B → Type 0) (xs : List A) (ys : List 
 along_by R [] [] l f = none
 along_by R [] (y ∷ ys) l f = absurd (omega (arith, l))
 along_by R (x ∷ xs) [] l f = absurd (omega (arith, l))
-along_by R (x ∷ xs) (y ∷ ys) l f = one_and (f 0 x y refl refl) (along_by R xs ys (omega (arith, l)) (λ n a b p q. f (suc n) a b p q))
+along_by R (x ∷ xs) (y ∷ ys) l f = one_and (f 0 x y refl refl)
+    (along_by R xs ys (omega (arith, l)) (λ n a b p q. f (suc n) a b p q))
 
 -- one item more in both
 pub along_push : {A B : Type 0} {R : A → B → Type 0} (xs : List A) (ys : List B) (a : A) (b : B) → Along R xs ys → R a b

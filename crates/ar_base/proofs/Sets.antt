@@ -15,7 +15,8 @@ ascends_first x xs up n o = up.ascends 0 (suc o.place) x n (omega arith) refl o.
 
 -- a new greatest item keeps the list ascending
 pub ascends_push : (xs : List ℕ) (x : ℕ) → Ascends xs → ((n : ℕ) → IsOneOf xs n → n < x) → Ascends (xs ++ x ∷ [])
-ascends_push xs x up below = record { ascends = λ j k m n lt p q. by j k m n lt (stands_split xs (x ∷ []) j m p) (stands_split xs (x ∷ []) k n q) }
+ascends_push xs x up below = record
+    { ascends = λ j k m n lt p q. by j k m n lt (stands_split xs (x ∷ []) j m p) (stands_split xs (x ∷ []) k n q) }
   where
     last : (k n : ℕ) → Stands (x ∷ []) k n → (k ≡ 0) × (n ≡ x)
     last zero n p = (refl, cc)

@@ -35,10 +35,12 @@ module _ {A : Type 0} where
   stands_right (x ∷ xs) ys k (suc n) a e p = stands_right xs ys k n a (omega arith) p
 
   -- what stands in the whole stands in the front or in the rest
-  pub stands_split : (xs ys : List A) (n : ℕ) (a : A) → Stands (xs ++ ys) n a → Stands xs n a ⊎ ((k : ℕ) × (n ≡ length xs + k) × Stands ys k a)
+  pub stands_split : (xs ys : List A) (n : ℕ) (a : A) → Stands (xs ++ ys) n a
+      → Stands xs n a ⊎ ((k : ℕ) × (n ≡ length xs + k) × Stands ys k a)
   stands_split [] ys n a p = inr (n, omega arith, p)
   stands_split (x ∷ xs) ys zero a p = inl p
-  stands_split (x ∷ xs) ys (suc n) a p = elim (stands_split xs ys n a p) [ inl h ↦ inl h | inr h ↦ inr (h.0, omega (arith, h.1), h.2) ]
+  stands_split (x ∷ xs) ys (suc n) a p =
+      elim (stands_split xs ys n a p) [ inl h ↦ inl h | inr h ↦ inr (h.0, omega (arith, h.1), h.2) ]
 
   -- the item after the front stands at the front's length
   pub stands_next : (xs : List A) (a : A) (ys : List A) → Stands (xs ++ a ∷ ys) (length xs) a
@@ -46,14 +48,16 @@ module _ {A : Type 0} where
 
   -- a new item keeps the items different
   pub different_more : (xs : List A) (a : A) → AreDifferent xs → HasNo xs (λ x. x ≡ a) → AreDifferent (xs ++ a ∷ [])
-  different_more xs a d lacks = record { one = λ m n x p q. both m n x (stands_split xs (a ∷ []) m x p) (stands_split xs (a ∷ []) n x q) }
+  different_more xs a d lacks = record
+      { one = λ m n x p q. both m n x (stands_split xs (a ∷ []) m x p) (stands_split xs (a ∷ []) n x q) }
     where
       one_item : (k : ℕ) (x : A) → Stands (a ∷ []) k x → (k ≡ 0) × (x ≡ a)
       one_item zero x p = (refl, cc)
       one_item (suc zero) x p = cc
       one_item (suc (suc k)) x p = cc
 
-      both : (m n : ℕ) (x : A) → Stands xs m x ⊎ ((k : ℕ) × (m ≡ length xs + k) × Stands (a ∷ []) k x) → Stands xs n x ⊎ ((k : ℕ) × (n ≡ length xs + k) × Stands (a ∷ []) k x) → m ≡ n
+      both : (m n : ℕ) (x : A) → Stands xs m x ⊎ ((k : ℕ) × (m ≡ length xs + k) × Stands (a ∷ []) k x)
+          → Stands xs n x ⊎ ((k : ℕ) × (n ≡ length xs + k) × Stands (a ∷ []) k x) → m ≡ n
       both m n x (inl p) (inl q) = d.one m n x p q
       both m n x (inl p) (inr q) = absurd (lacks.has_not m x p (one_item q.0 x q.2).1)
       both m n x (inr p) (inl q) = absurd (lacks.has_not n x q (one_item p.0 x p.2).1)
@@ -109,7 +113,8 @@ module _ {A : Type 0} where
 
   -- one of two joined lists is one of the first or one of the second
   pub one_split : (xs ys : List A) (a : A) → IsOneOf (xs ++ ys) a → IsOneOf xs a ⊎ IsOneOf ys a
-  one_split xs ys a h = elim (stands_split xs ys h.place a h.stands) [ inl p ↦ inl (one_here xs h.place a p) | inr p ↦ inr (one_here ys p.0 a p.2) ]
+  one_split xs ys a h = elim (stands_split xs ys h.place a h.stands)
+      [ inl p ↦ inl (one_here xs h.place a p) | inr p ↦ inr (one_here ys p.0 a p.2) ]
 
   -- one of the first is one of the joined
   pub one_left : (xs ys : List A) (a : A) → IsOneOf xs a → IsOneOf (xs ++ ys) a
@@ -117,7 +122,8 @@ module _ {A : Type 0} where
 
   -- one of the second is one of the joined
   pub one_right : (xs ys : List A) (a : A) → IsOneOf ys a → IsOneOf (xs ++ ys) a
-  one_right xs ys a h = one_here (xs ++ ys) (length xs + h.place) a (stands_right xs ys h.place (length xs + h.place) a refl h.stands)
+  one_right xs ys a h = one_here (xs ++ ys) (length xs + h.place) a
+      (stands_right xs ys h.place (length xs + h.place) a refl h.stands)
 
   -- what the standard library's `Contains` says and what `IsOneOf` says
   pub one_contains : (xs : List A) (a : A) → Contains xs a → IsOneOf xs a
@@ -129,7 +135,8 @@ module _ {A : Type 0} where
       (h.place, within, stands_one xs h.place (get_or xs h.place a) a (stands_get xs h.place a within) h.stands)
 
   -- it is decided by a test whether some item has P, and the first has it or none has
-  pub first_or_none : (P : A → Type 0) → ((a : A) → P a ⊎ (P a → ⊥)) → (xs : List A) → ((n : ℕ) × IsFirst xs P n) ⊎ HasNo xs P
+  pub first_or_none : (P : A → Type 0) → ((a : A) → P a ⊎ (P a → ⊥)) → (xs : List A)
+      → ((n : ℕ) × IsFirst xs P n) ⊎ HasNo xs P
   first_or_none P test [] = inr (record { has_not = λ k a p h. stands_none k a p })
   first_or_none P test (x ∷ xs) = by (test x) (first_or_none P test xs)
     where
@@ -144,26 +151,35 @@ module _ {A : Type 0} where
       none_here lacks f zero a p q = lacks (subst P (sym (stands_one (x ∷ xs) 0 x a refl p)) q)
       none_here lacks f (suc k) a p q = f.has_not k a p q
 
-      by : P x ⊎ (P x → ⊥) → ((n : ℕ) × IsFirst xs P n) ⊎ HasNo xs P → ((n : ℕ) × IsFirst (x ∷ xs) P n) ⊎ HasNo (x ∷ xs) P
+      by : P x ⊎ (P x → ⊥) → ((n : ℕ) × IsFirst xs P n) ⊎ HasNo xs P
+          → ((n : ℕ) × IsFirst (x ∷ xs) P n) ⊎ HasNo (x ∷ xs) P
       by (inl h) rest = inl (0, first_here h)
-      by (inr lacks) (inl f) = inl (suc f.0, record { item = f.1.item; stands = f.1.stands; has = f.1.has; before = next_before f.0 lacks f.1 })
+      by (inr lacks) (inl f) = inl (
+        suc f.0,
+        record
+            { item = f.1.item; stands = f.1.stands; has = f.1.has; before = next_before f.0 lacks f.1 },
+      )
       by (inr lacks) (inr f) = inr (record { has_not = none_here lacks f })
 
 module _ {A B : Type 0} {R : A → B → Type 0} where
   -- lists that are related item by item: what stands in the first is related to what stands there in the second
-  pub along_on : (xs : List A) (ys : List B) → Along R xs ys → (n : ℕ) (a : A) → Stands xs n a → (b : B) × Stands ys n b × R a b
+  pub along_on : (xs : List A) (ys : List B) → Along R xs ys → (n : ℕ) (a : A) → Stands xs n a
+      → (b : B) × Stands ys n b × R a b
   along_on [] [] none n a p = absurd (stands_none n a p)
   along_on [] (y ∷ ys) h n a p = elim h [ ]
   along_on (x ∷ xs) [] h n a p = elim h [ ]
-  along_on (x ∷ xs) (y ∷ ys) (one_and r rest) zero a p = (y, refl, subst (λ (z : A). R z y) (stands_one (x ∷ xs) 0 x a refl p) r)
+  along_on (x ∷ xs) (y ∷ ys) (one_and r rest) zero a p =
+      (y, refl, subst (λ (z : A). R z y) (stands_one (x ∷ xs) 0 x a refl p) r)
   along_on (x ∷ xs) (y ∷ ys) (one_and r rest) (suc n) a p = along_on xs ys rest n a p
 
   -- and the other way round
-  pub along_back : (xs : List A) (ys : List B) → Along R xs ys → (n : ℕ) (b : B) → Stands ys n b → (a : A) × Stands xs n a × R a b
+  pub along_back : (xs : List A) (ys : List B) → Along R xs ys → (n : ℕ) (b : B) → Stands ys n b
+      → (a : A) × Stands xs n a × R a b
   along_back [] [] none n b p = absurd (stands_none n b p)
   along_back [] (y ∷ ys) h n b p = elim h [ ]
   along_back (x ∷ xs) [] h n b p = elim h [ ]
-  along_back (x ∷ xs) (y ∷ ys) (one_and r rest) zero b p = (x, refl, subst (λ (z : B). R x z) (stands_one (y ∷ ys) 0 y b refl p) r)
+  along_back (x ∷ xs) (y ∷ ys) (one_and r rest) zero b p =
+      (x, refl, subst (λ (z : B). R x z) (stands_one (y ∷ ys) 0 y b refl p) r)
   along_back (x ∷ xs) (y ∷ ys) (one_and r rest) (suc n) b p = along_back xs ys rest n b p
 
   -- they are equally long

@@ -8,7 +8,8 @@ use Rattle.ar_base.specs.declared.faults.RuleFault.TheVariants.{Rule, Limit, Mem
 use Rattle.ar_base.specs.declared.places.Place.{Place}
 
 -- two stages: the first refuses, or it passes something on and the second answers
-pub data Then {A B C R : Type 0} (first : A → Result B R → Type 0) (second : B → Result C R → Type 0) (a : A) : Result C R → Type 0 where
+pub data Then {A B C R : Type 0} (first : A → Result B R → Type 0) (second : B → Result C R → Type 0) (a : A) : Result C
+    R → Type 0 where
   refuses : {r : R} → first a (Err r) → Then first second a (Err r)
   passes : {answer : Result C R} (b : B) → first a (Ok b) → second b answer → Then first second a answer
 
@@ -17,8 +18,10 @@ abbrev pub Where : {A R : Type 0} → Bool → (A → Result A R → Type 0) →
 Where true stage a answer = stage a answer
 Where false stage a answer = answer ≡ Ok a
 
--- a test of rules: what is given passes where none is broken, else the least that is broken is told, with its earliest place
-pub data Keeps {A : Type 0} (rules : List ℕ) (breaks : A → ℕ → Place → Type 0) (a : A) : Result A RuleFault → Type 0 where
+-- a test of rules: what is given passes where none is broken, else the least that is broken is told, with its earliest
+-- place
+pub data Keeps {A : Type 0} (rules : List ℕ) (breaks : A → ℕ → Place → Type 0) (a : A) : Result A RuleFault
+    → Type 0 where
   kept : AreKept rules (breaks a) → Keeps rules breaks a (Ok a)
   broken : {r : ℕ} {p : Place} → IsBroken rules (breaks a) r p → Keeps rules breaks a (Err (Rule r p))
 
@@ -32,9 +35,11 @@ abbrev pub IsRefusal : {B R : Type 0} → (Result B R → Type 0) → Option R �
 IsRefusal stage (Some r) = stage (Err r)
 IsRefusal stage None = Unit {0}
 
--- a call that stands for a stage: what it gives stands for what the stage gives, its refusal is the stage's, and memory may be refused
+-- a call that stands for a stage: what it gives stands for what the stage gives, its refusal is the stage's, and memory
+-- may be refused
 -- (told: the stage's refusal that an error of the call tells, None for want of memory)
-abbrev pub IsStage : {B R X E : Type 0} → (E → Option R) → (B → X → Type 0) → (Result B R → Type 0) → Result X E → Type 0
+abbrev pub IsStage : {B R X E : Type 0} → (E → Option R) → (B → X → Type 0) → (Result B R → Type 0) → Result X E
+    → Type 0
 IsStage {B = B} told stands stage (Ok x) = (b : B) × stage (Ok b) × stands b x
 IsStage told stands stage (Err e) = IsRefusal stage (told e)
 
@@ -45,5 +50,6 @@ rule_told (Limit n) = Some (Limit n)
 rule_told Memory = None
 
 -- a call that stands for a stage of rules and limits, over what it is given
-abbrev pub Meets : {A B X : Type 0} → (A → Result B RuleFault → Type 0) → (B → X → Type 0) → A → Result X RuleFault → Type 0
+abbrev pub Meets : {A B X : Type 0} → (A → Result B RuleFault → Type 0) → (B → X → Type 0) → A → Result X RuleFault
+    → Type 0
 Meets stage stands a answer = IsStage rule_told stands (stage a) answer

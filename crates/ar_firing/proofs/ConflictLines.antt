@@ -34,7 +34,8 @@ module _ {V : Type 0} (sys : System V) (dropped : List ℕ) (keyed : AreKeyed sy
       let n = onward sys dropped keyed static l b r.1 (goes_on sys dropped keyed static [] l b o r.1) in
       let k =
       agrees.fault set n.values
-      (firable_as sys dropped (events_within (l ∷ b) set o.events) (set_within (l ∷ b) set o.events) n.is_firable) c.has.holds in
+      (firable_as sys dropped (events_within (l ∷ b) set o.events) (set_within (l ∷ b) set o.events) n.is_firable)
+      c.has.holds in
       (k.fault, n.fails k.fault k.flows)
     where
       in_set : (e : ℕ) → IsOneOf (map (λ k. k.event) b) e → IsOneOf set e

@@ -41,8 +41,11 @@ module _ {V : Type 0} (sys : System V) (dropped : List ℕ) (keyed : AreKeyed sy
       let s = agrees.total set c.values f (free set c.values f) in
       let e = flows_same sys.net c.flows s.flows in
       let u : m.values ≡ s.values = cc in
-      record
-      { values = c.values; is_firable = f; holds = answered _ s.shows (subst (λ z. Yields (HasValue sys.net z) (out-Expr V observer) wanted) u m.shows) }
+      record {
+        values = c.values;
+        is_firable = f;
+        holds = answered _ s.shows (subst (λ z. Yields (HasValue sys.net z) (out-Expr V observer) wanted) u m.shows);
+      }
 
   pub counted_is_made : {set : List ℕ} → IsFirableWith sys dropped top set → Makes sys dropped observer wanted set
   counted_is_made {set = set} i =
@@ -56,8 +59,12 @@ module _ {V : Type 0} (sys : System V) (dropped : List ℕ) (keyed : AreKeyed sy
       (set_within o.1.labels set o.1.events) in
       let e = flows_same sys.net (same_flows sys.net h c.flows) s.flows in
       let u : o.0 ≡ s.values = cc in
-      record
-      { values = o.0; order = o.1; shows = subst (λ z. Yields (HasValue sys.net z) (out-Expr V observer) wanted) (sym u) (answer _ s.shows i.holds) }
+      record {
+        values = o.0;
+        order = o.1;
+        shows = subst (λ z. Yields (HasValue sys.net z) (out-Expr V observer) wanted) (sym u)
+            (answer _ s.shows i.holds);
+      }
 
 -- where no list meets a conflict, the conflict test is false at each firable set
 module _ {V : Type 0} (sys : System V) (dropped : List ℕ) (keyed : AreKeyed sys.net) (static : IsStatic sys dropped)

@@ -69,7 +69,8 @@ module _ {V : Type 0} (sys : System V) (dropped : List ℕ) (keyed : AreKeyed sy
         inl (
           e.to,
           subst (λ z. Effects (HasValue sys.net t) w z.key e.to) j
-              (only_effects e.variable.key (value_from sys dropped keyed t e.number e.variable e.from e.stands e.value) e.alone e.facts.gives),
+              (only_effects e.variable.key (value_from sys dropped keyed t e.number e.variable e.from e.stands e.value)
+              e.alone e.facts.gives),
         ))
         (λ i. inr (λ v d. i (keyed.one o.place e.number x e.variable o.stands e.stands (only_target e.alone d))))
         (cases_eq o.place e.number))
@@ -99,7 +100,8 @@ module _ {V : Type 0} (sys : System V) (dropped : List ℕ) (keyed : AreKeyed sy
           stands_one sys.net.variables e.number x e.variable
           (subst (λ z. Stands sys.net.variables z x) j st) e.stands in
           h.outside
-          (subst (λ z. Contains z.domain h.value) (sym b) (subst (λ v. Contains e.variable.domain v) (sym a) e.facts.in_domain));
+          (subst (λ z. Contains z.domain h.value) (sym b)
+          (subst (λ v. Contains e.variable.domain v) (sym a) e.facts.in_domain));
     }
 
 module _ {V : Type 0} (sys : System V) (dropped : List ℕ) (keyed : AreKeyed sys.net) (static : IsStatic sys dropped)
@@ -120,7 +122,15 @@ module _ {V : Type 0} (sys : System V) (dropped : List ℕ) (keyed : AreKeyed sy
   begun =
       let nothing : Within [] limit = record { each = λ e o. absurd (one_none e o) } in
       let f = total [] (first_values sys.net.variables) (none_firable sys dropped keyed) nothing
-      (λ f k. ([], record { labels = []; fault = f; conflicts = cuts.start k; events = self_events [] (record { once = λ j k l m a b e. cc }) })) in
+      (λ f k. (
+        [],
+        record {
+          labels = [];
+          fault = f;
+          conflicts = cuts.start k;
+          events = self_events [] (record { once = λ j k l m a b e. cc });
+        },
+      )) in
       record {
         labels = [];
         values = f.values;
@@ -202,7 +212,8 @@ module _ {V : Type 0} (sys : System V) (dropped : List ℕ) (keyed : AreKeyed sy
             events = self_events (l ∷ b.labels) once_more;
             conflicts =
                 cuts.fire e.way b.reaches e.is_open
-                (flow r.values can_fire (no_clash sys dropped keyed static b.firable l e.way the_edge) (no_leave sys dropped keyed static b.firable l e.way the_edge) r.receives k);
+                (flow r.values can_fire (no_clash sys dropped keyed static b.firable l e.way the_edge)
+                (no_leave sys dropped keyed static b.firable l e.way the_edge) r.receives k);
           },
         )) in
         record {
@@ -210,7 +221,8 @@ module _ {V : Type 0} (sys : System V) (dropped : List ℕ) (keyed : AreKeyed sy
           values = f.values;
           reaches =
               cuts.fire e.way b.reaches e.is_open
-              (moves r.values can_fire (no_clash sys dropped keyed static b.firable l e.way the_edge) (no_leave sys dropped keyed static b.firable l e.way the_edge) r.receives f.flows);
+              (moves r.values can_fire (no_clash sys dropped keyed static b.firable l e.way the_edge)
+              (no_leave sys dropped keyed static b.firable l e.way the_edge) r.receives f.flows);
           firable = firable_flows sys dropped keyed f.flows m;
           as_wanted = λ k. subst (λ z. longer z l b.firable.path k ≡ longer n l want k) (sym at_n) (longer_as k);
           once = once_more;

@@ -41,12 +41,26 @@ module _ {V : Type 0} (sys : System V) (dropped : List ℕ) (keyed : AreKeyed sy
   split (root s i e) k l h = cc
   split {n = n} (edge {l = j} {ls = ls} {m = m} {to = to} p e) zero l h =
       let i : j ≡ l = cc in
-      record
-      { front = []; rest = ls; is = ap (λ z. z ∷ ls) i; from = m; to = to; path = p; edge = subst (λ z. Edge sys dropped z n m to) i e }
+      record {
+        front = [];
+        rest = ls;
+        is = ap (λ z. z ∷ ls) i;
+        from = m;
+        to = to;
+        path = p;
+        edge = subst (λ z. Edge sys dropped z n m to) i e;
+      }
   split (edge {l = j} p e) (suc k) l h =
       let r = split p k l h in
-      record
-      { front = j ∷ r.front; rest = r.rest; is = ap (λ z. j ∷ z) r.is; from = r.from; to = r.to; path = r.path; edge = r.edge }
+      record {
+        front = j ∷ r.front;
+        rest = r.rest;
+        is = ap (λ z. j ∷ z) r.is;
+        from = r.from;
+        to = r.to;
+        path = r.path;
+        edge = r.edge;
+      }
 
   pub live : {n : ℕ} {ls : List Label} {l : Label} {from to : Value} → Path sys dropped n ls from
       → Edge sys dropped l n from to → IsLive sys dropped l n from to
@@ -116,7 +130,8 @@ module _ {V : Type 0} (sys : System V) (dropped : List ℕ) (keyed : AreKeyed sy
   path_same p q h k = tails_same (tail_of p q h) (tail_of q p k)
 
   -- the paths of one set are one
-  pub on_path : {set part : List ℕ} {t u : List Value} (a : IsFirable sys dropped part t) (b : IsFirable sys dropped set u)
+  pub on_path : {set part : List ℕ} {t u : List Value} (a : IsFirable sys dropped part t)
+      (b : IsFirable sys dropped set u)
       → Within part set
       → (n : ℕ) (x : Variable V) → Stands sys.net.variables n x → x.is_state ≡ true → (l : Label) → IsOneOf (a.path n) l
       → IsOneOf (b.path n) l
@@ -154,8 +169,12 @@ module _ {V : Type 0} (sys : System V) (dropped : List ℕ) (keyed : AreKeyed sy
   }
   came (cuts.fire {l = l} w r o (moves new can n m d f)) =
       let h = all_firable sys dropped keyed static r in
-      record
-      { values = new; flows = f; is_firable = moved sys dropped keyed static h l w (next_edge sys dropped keyed static h l w o can) new d }
+      record {
+        values = new;
+        flows = f;
+        is_firable = moved sys dropped keyed static h l w
+            (next_edge sys dropped keyed static h l w o can) new d;
+      }
 
   pub one_end : {ls ks : List Label} {t u : List Value} → Reaches sys dropped ls t → Reaches sys dropped ks u
       → Within (map (λ l. l.event) ls) (map (λ l. l.event) ks) → Within (map (λ l. l.event) ks) (map (λ l. l.event) ls)

@@ -164,7 +164,13 @@ module _ {V : Type 0} (sys : System V) (dropped : List ℕ) (keyed : AreKeyed sy
         let can = only_can h.variable.key (value_at t h.number h.variable k.0 h.stands k.1) h.alone c in
         let e =
         static.leads l w h.number h.variable k.0
-        (record { is_open = o; is_mode = h.is_mode; stands = h.stands; reached = record { labels = firable.path h.number; path = k.2 }; can = can }) in
+        (record {
+          is_open = o;
+          is_mode = h.is_mode;
+          stands = h.stands;
+          reached = record { labels = firable.path h.number; path = k.2 };
+          can = can;
+        }) in
         record {
           number = h.number;
           variable = h.variable;
@@ -192,7 +198,8 @@ module _ {V : Type 0} (sys : System V) (dropped : List ℕ) (keyed : AreKeyed sy
         | by_effect v d k ↦ subst (λ z. Stands new e.number z) (to_alone l w e v d) k
         | by_old n k ↦
             absurd
-            (n e.to (only_effects e.variable.key (value_from t e.number e.variable e.from e.stands e.value) e.alone e.facts.gives))
+            (n e.to (only_effects e.variable.key (value_from t e.number e.variable e.from e.stands e.value) e.alone
+            e.facts.gives))
       ]
 
       pub stands_old : (n : ℕ) (x : Variable V) → Stands sys.net.variables n x → (n ≡ e.number → ⊥) → (v : Value)
@@ -223,8 +230,16 @@ module _ {V : Type 0} (sys : System V) (dropped : List ℕ) (keyed : AreKeyed sy
           × IsOneOf (longer e.number l firable.path n) m × (m.event ≡ k)
       whole_at k zero h =
           let i : l.event ≡ k = cc in
-          let a : IsOneOf (l ∷ firable.path e.number) l = record { place = zero; stands = refl } in
-          (e.number, e.variable, l, e.stands, e.is_state, subst (λ p. IsOneOf p l) (sym (longer_here e.number l firable.path)) a, i)
+          let a : IsOneOf (l ∷ firable.path e.number) l = record { place = zero; stands = refl } in (
+            e.number,
+            e.variable,
+            l,
+            e.stands,
+            e.is_state,
+            subst (λ p. IsOneOf p l)
+                (sym (longer_here e.number l firable.path)) a,
+            i,
+          )
       whole_at k (suc n) h =
           let w = firable.whole k (record { place = n; stands = h }) in
           (w.0, w.1, w.2, w.3, w.4, still w.0 w.2 w.5, w.6)
@@ -238,13 +253,19 @@ module _ {V : Type 0} (sys : System V) (dropped : List ℕ) (keyed : AreKeyed sy
               e.to,
               subst (λ k. Stands new k e.to) (sym q) stands_new,
               subst (λ k. Path sys dropped k (longer e.number l firable.path k) e.to) (sym q)
-                  (subst (λ p. Path sys dropped e.number p e.to) (sym (longer_here e.number l firable.path)) (edge e.path e.edge)),
+                  (subst (λ p. Path sys dropped e.number p e.to) (sym (longer_here e.number l firable.path))
+                  (edge e.path e.edge)),
             ))
-            (λ q. let k = firable.walks n x st i in
-            (k.0, stands_old n x st q k.0 k.1, subst (λ p. Path sys dropped n p k.0) (sym (longer_there e.number n l firable.path q)) k.2))
+            (λ q. let k = firable.walks n x st i in (
+              k.0,
+              stands_old n x st q k.0 k.1,
+              subst (λ p. Path sys dropped n p k.0)
+                  (sym (longer_there e.number n l firable.path q)) k.2,
+            ))
             (cases_eq n e.number);
         sound = λ n x st i k m h. ⊎_elim
-            (λ q. sound_here k m (subst (λ p. Stands p k m) (longer_here e.number l firable.path) (subst (λ j. Stands (longer e.number l firable.path j) k m) q h)))
+            (λ q. sound_here k m (subst (λ p. Stands p k m) (longer_here e.number l firable.path)
+            (subst (λ j. Stands (longer e.number l firable.path j) k m) q h)))
             (λ q. let o = firable.sound n x st i k m (subst (λ p. Stands p k m) (longer_there e.number n l firable.path q) h) in record { place = suc o.place; stands = o.stands })
             (cases_eq n e.number);
         whole = λ k o. whole_at k o.place o.stands;
@@ -294,7 +315,8 @@ module _ {V : Type 0} (sys : System V) (dropped : List ℕ) (keyed : AreKeyed sy
         stands_one sys.net.variables e.number k.item e.variable
         (subst (λ z. Stands sys.net.variables z k.item) i k.stands) e.stands in
         absurd
-        (h.outside (subst (λ z. Contains z.domain h.value) (sym b) (subst (λ v. Contains e.variable.domain v) (sym a) e.facts.in_domain)))
+        (h.outside (subst (λ z. Contains z.domain h.value) (sym b)
+        (subst (λ v. Contains e.variable.domain v) (sym a) e.facts.in_domain)))
     ready l w o c (flow new d n m r k) = record {
       values = new;
       moves_to = cuts.fails k;

@@ -34,14 +34,21 @@ module _ {V W : Type 0} (same : V → W → Type 0) (here : System V) (there : S
       record {
         way = w.item;
         is_open =
-            record { is_kept = record { is_way = record { event = e.item; is_event = e.stands; is_way = w.stands }; stays = k.stays }; visible = sym e.related.hidden ∙ o.visible };
+            record {
+              is_kept = record {
+                is_way = record { event = e.item; is_event = e.stands; is_way = w.stands };
+                stays = k.stays;
+              };
+              visible = sym e.related.hidden ∙ o.visible;
+            };
         related = w.related;
       }
 
   pub reaches_there : {ls : List Label} {t : List Value} → Reaches here dropped ls t → Reaches there dropped ls t
   reaches_there (start {t = t} f) =
       start
-      (subst (λ z. Flows there.net z (Total t)) (first_values_there same here there image image.net.variables) (flows_there same here.net there.net image.net f))
+      (subst (λ z. Flows there.net z (Total t)) (first_values_there same here there image image.net.variables)
+      (flows_there same here.net there.net image.net f))
   reaches_there (fire w r o s) =
       let p = open_there o in
       fire p.way (reaches_there r) p.is_open (step_there same here.net there.net image.net p.related s)
@@ -49,7 +56,8 @@ module _ {V W : Type 0} (same : V → W → Type 0) (here : System V) (there : S
   pub conflicts_there : {ls : List Label} {f : FlowFault} → Conflicts here dropped ls f → Conflicts there dropped ls f
   conflicts_there (cuts.start {f = k} f) =
       cuts.start
-      (subst (λ z. Flows there.net z (Fails k)) (first_values_there same here there image image.net.variables) (flows_there same here.net there.net image.net f))
+      (subst (λ z. Flows there.net z (Fails k)) (first_values_there same here there image image.net.variables)
+      (flows_there same here.net there.net image.net f))
   conflicts_there (cuts.fire w r o s) =
       let p = open_there o in
       cuts.fire p.way (reaches_there r) p.is_open (step_there same here.net there.net image.net p.related s)

@@ -35,8 +35,11 @@ condition_there {V = V} {W = W} {same = same} (i.one_and {e = d} {f = f} {b = c}
     let p : ◌≡◌ {A = Expr V × Bool} (d, c) (e, b) = cc in
     let j : d ≡ e = ap (λ (z : Expr V × Bool). z.0) p in
     let k : c ≡ b = ap (λ (z : Expr V × Bool). z.1) p in
-    record
-    { expr = f; stands = ap (λ z. Some (f, z)) k; renames = subst (λ z. Renames same (out-Expr V z) (out-Expr W f)) j q }
+    record {
+      expr = f;
+      stands = ap (λ z. Some (f, z)) k;
+      renames = subst (λ z. Renames same (out-Expr V z) (out-Expr W f)) j q;
+    }
 condition_there (i.one_and q qs) (suc n) e b s =
     let r = condition_there qs n e b s in
     record { expr = r.expr; stands = r.stands; renames = r.renames }
@@ -68,8 +71,11 @@ module _ {V W : Type 0} (same : V → W → Type 0) (x : V) where
   action_there (leaves q) (action a o m) =
       let b = partner q.action o.place a o.stands in
       let n = assign_there b.related m in
-      record
-      { other = n.other; related = n.related; stands = action b.item (record { place = o.place; stands = b.stands }) n.stands }
+      record {
+        other = n.other;
+        related = n.related;
+        stands = action b.item (record { place = o.place; stands = b.stands }) n.stands;
+      }
   action_there (i.joints q) h = elim h [ ]
 
   way_there : {v : Way V} {w : Way W} → Way_renames same v w → WayNames x v → Mentioned same x (λ y. WayNames y w)
@@ -93,8 +99,15 @@ module _ {V W : Type 0} (same : V → W → Type 0) (here : System V) (there : S
   kept_there {l = l} {v = v} o =
       let e = partner image.events l.event o.is_way.event o.is_way.is_event in
       let w = partner e.related.ways l.way v o.is_way.is_way in
-      record
-      { way = w.item; is_kept = record { is_way = record { event = e.item; is_event = e.stands; is_way = w.stands }; stays = o.stays }; is_unit = sym e.related.unit; related = w.related }
+      record {
+        way = w.item;
+        is_kept = record {
+          is_way = record { event = e.item; is_event = e.stands; is_way = w.stands };
+          stays = o.stays;
+        };
+        is_unit = sym e.related.unit;
+        related = w.related;
+      }
 
   pub transitions_there : (unit : ℕ) → HasTransitions here dropped unit → HasTransitions there dropped unit
   transitions_there unit h =
@@ -104,8 +117,13 @@ module _ {V W : Type 0} (same : V → W → Type 0) (here : System V) (there : S
   pub mode_variable_there : (n : ℕ) → IsModeVariable here dropped n → IsModeVariable there dropped n
   mode_variable_there n h =
       let p = partner image.net.variables n h.variable h.stands in
-      record
-      { variable = p.item; stands = p.stands; is_state = sym p.related.is_state ∙ h.is_state; moves = subst (λ z. HasTransitions there dropped z) p.related.unit (transitions_there h.variable.unit h.moves) }
+      record {
+        variable = p.item;
+        stands = p.stands;
+        is_state = sym p.related.is_state ∙ h.is_state;
+        moves = subst (λ z. HasTransitions there dropped z) p.related.unit
+            (transitions_there h.variable.unit h.moves);
+      }
 
   state_there : (unit : ℕ) (x : Variable V) (y : Variable W) → Variable_renames same x y → IsStateOf unit x
       → IsStateOf unit y
@@ -115,8 +133,11 @@ module _ {V W : Type 0} (same : V → W → Type 0) (here : System V) (there : S
       → Variable_renames same x y → IsNamedStateOf unit v x → IsNamedStateOf unit w y
   named_there unit {w = w} q x y r h =
       let n = way_there same x.key q h.named in
-      record
-      { is_state = sym r.is_state ∙ h.is_state; is_unit = sym r.unit ∙ h.is_unit; named = subst (λ z. WayNames z w) (image.net.one x.key n.other y.key n.related r.key) n.stands }
+      record {
+        is_state = sym r.is_state ∙ h.is_state;
+        is_unit = sym r.unit ∙ h.is_unit;
+        named = subst (λ z. WayNames z w) (image.net.one x.key n.other y.key n.related r.key) n.stands;
+      }
 
   at_there : (x : V) (y : W) (m : Value) → same x y → (z : V) (u : W) (v : Value) → same z u → At x m z v → At y m u v
   at_there x y m s z u v r h = record { key = image.net.one x u y (subst (λ k. same k u) h.key r) s; value = h.value }
@@ -168,7 +189,13 @@ module _ {V W : Type 0} (same : V → W → Type 0) (here : System V) (there : S
       record {
         way = w.item;
         is_open =
-            record { is_kept = record { is_way = record { event = p.item; is_event = p.stands; is_way = w.stands }; stays = k.stays }; visible = sym p.related.hidden ∙ e.is_open.visible };
+            record {
+              is_kept = record {
+                is_way = record { event = p.item; is_event = p.stands; is_way = w.stands };
+                stays = k.stays;
+              };
+              visible = sym p.related.hidden ∙ e.is_open.visible;
+            };
         variable = x.item;
         is_variable = x.stands;
         is_mode =
@@ -176,7 +203,8 @@ module _ {V W : Type 0} (same : V → W → Type 0) (here : System V) (there : S
             (subst (λ z. IsModeOf here z e.way n) p.related.unit e.is_mode);
         can = can_at_there same here there image dropped e.variable.key x.item.key from w.related x.related.key e.can;
         gives =
-            effects_at_there same here there image dropped e.variable.key x.item.key from to w.related x.related.key e.gives;
+            effects_at_there same here there image dropped e.variable.key x.item.key from to w.related x.related.key
+            e.gives;
         one = λ v d. e.one v (effects_at_back e.variable.key x.item.key from v w.related x.related.key d);
         in_domain = subst (λ d. Contains d to) x.related.domain e.in_domain;
       }

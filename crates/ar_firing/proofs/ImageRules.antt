@@ -40,8 +40,12 @@ module _ {V W : Type 0} (same : V → W → Type 0) (here : System V) (there : S
       let p = partner image.events e b.event b.stands in
       let w = partner p.related.ways b.has.place (Joint b.parts) b.has.stands in
       let j = joint_of b.parts w.item w.related in
-      record
-      { event = p.item; stands = p.stands; parts = j.0; has = record { place = b.has.place; stands = subst (λ z. Stands p.item.ways b.has.place z) j.1 w.stands } }
+      record {
+        event = p.item;
+        stands = p.stands;
+        parts = j.0;
+        has = record { place = b.has.place; stands = subst (λ z. Stands p.item.ways b.has.place z) j.1 w.stands };
+      }
     where
       joint_of : (bs : Branches (Transition V)) (w : Way W) → Way_renames same (Joint bs) w
           → (cs : Branches (Transition W)) × (w ≡ Joint cs)
@@ -53,8 +57,16 @@ module _ {V W : Type 0} (same : V → W → Type 0) (here : System V) (there : S
       each = λ unit h.
           let s = k.each unit (transitions_there (turned same) there here (image_turned same image) dropped unit h) in
           let p = partner image.net.variables s.number s.variable s.stands in
-          record
-          { number = s.number; variable = p.item; stands = p.stands; is_state = record { is_state = sym p.related.is_state ∙ s.is_state.is_state; is_unit = sym p.related.unit ∙ s.is_state.is_unit } };
+          record {
+            number = s.number;
+            variable = p.item;
+            stands = p.stands;
+            is_state = record {
+              is_state = sym p.related.is_state ∙ s.is_state.is_state;
+              is_unit = sym p.related.unit
+                  ∙ s.is_state.is_unit;
+            };
+          };
     }
 
     pub breaks_s2_there : (unit : ℕ) → BreaksS2 here dropped unit → BreaksS2 there dropped unit
@@ -88,7 +100,12 @@ module _ {V W : Type 0} (same : V → W → Type 0) (here : System V) (there : S
           way_related = k.related;
           variable_related = p.related;
           mode =
-              record { is_kept = k.is_kept; stands = p.stands; is_mode = is_mode_there same here there image dropped k.is_kept.is_way.event.unit k.related (subst (λ z. IsModeOf here z v n) (sym k.is_unit) h.is_mode) };
+              record {
+                is_kept = k.is_kept;
+                stands = p.stands;
+                is_mode = is_mode_there same here there image dropped k.is_kept.is_way.event.unit k.related
+                    (subst (λ z. IsModeOf here z v n) (sym k.is_unit) h.is_mode);
+              };
         }
 
     pub breaks_s3_there : (n : ℕ) → BreaksS3 here dropped n → BreaksS3 there dropped n
@@ -104,7 +121,8 @@ module _ {V W : Type 0} (same : V → W → Type 0) (here : System V) (there : S
           named = g.stands;
           differs = λ e.
               b.differs
-              (image.net.one_back b.other b.variable.key m.variable.key (subst (λ z. same b.other z) e g.related) m.variable_related.key);
+              (image.net.one_back b.other b.variable.key m.variable.key (subst (λ z. same b.other z) e g.related)
+              m.variable_related.key);
         }
 
     -- the way and variable of the image, at the same mode
@@ -129,7 +147,13 @@ module _ {V W : Type 0} (same : V → W → Type 0) (here : System V) (there : S
           variable_related = p.related;
           is_live = record {
             is_open =
-                record { is_kept = record { is_way = record { event = e.item; is_event = e.stands; is_way = w.stands }; stays = k.stays }; visible = sym e.related.hidden ∙ h.is_open.visible };
+                record {
+                  is_kept = record {
+                    is_way = record { event = e.item; is_event = e.stands; is_way = w.stands };
+                    stays = k.stays;
+                  };
+                  visible = sym e.related.hidden ∙ h.is_open.visible;
+                };
             is_mode =
                 is_mode_there same here there image dropped e.item.unit w.related
                 (subst (λ z. IsModeOf here z v n) e.related.unit h.is_mode);
@@ -154,8 +178,10 @@ module _ {V W : Type 0} (same : V → W → Type 0) (here : System V) (there : S
     breaks_s4_there n (gives l v x m h o) =
         let k = live_at_there h in
         gives l k.way k.variable m k.is_live
-        (gives_other_there (λ d e. effects_at_there same here there image dropped x.key k.variable.key m d k.way_related k.variable_related.key e)
-        (λ d e. effects_at_back same here there image dropped x.key k.variable.key m d k.way_related k.variable_related.key e) k.variable_related.domain o)
+        (gives_other_there (λ d e. effects_at_there same here there image dropped x.key k.variable.key m d k.way_related
+        k.variable_related.key e)
+        (λ d e. effects_at_back same here there image dropped x.key k.variable.key m d k.way_related
+        k.variable_related.key e) k.variable_related.domain o)
 
     pub has_live_there : (e n : ℕ) → HasLive here dropped e n → HasLive there dropped e n
     has_live_there e n h = record {
@@ -281,10 +307,12 @@ module _ {V W : Type 0} (same : V → W → Type 0) (here : System V) (there : S
               value = g.value;
               gives =
                   effects_at_back
-                  (turned same) there here behind dropped y.key v.variable.key m g.value v.way_related v.variable_related.key g.gives;
+                  (turned same) there here behind dropped y.key v.variable.key m g.value v.way_related
+                  v.variable_related.key g.gives;
               one = λ d e.
                   g.one d
-                  (effects_at_there (turned same) there here behind dropped y.key v.variable.key m d v.way_related v.variable_related.key e);
+                  (effects_at_there (turned same) there here behind dropped y.key v.variable.key m d v.way_related
+                  v.variable_related.key e);
               in_domain = subst (λ z. Contains z g.value) (sym v.variable_related.domain) g.in_domain;
             };
       }
@@ -320,7 +348,11 @@ module _ {V W : Type 0} (same : V → W → Type 0) (here : System V) (there : S
     few = k.few;
     whole = λ e h.
         k.whole e
-        (record { number = h.number; live = has_live_there (turned same) there here (image_turned same image) dropped e h.number h.live });
+        (record {
+          number = h.number;
+          live = has_live_there (turned same) there here (image_turned same image) dropped e
+              h.number h.live;
+        });
   }
 
   pub breaks_there : {rule : Rule} {spot : Spot} → Breaks here dropped rule spot → Breaks there dropped rule spot

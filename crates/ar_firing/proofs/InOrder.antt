@@ -60,10 +60,20 @@ module _ {V : Type 0} (sys : System V) (dropped : List ℕ) (keyed : AreKeyed sy
   leaves (x ∷ []) {n = n} {from = from} (edge {m = u} {to = to} p e) d =
       let i : u ≡ from = path_end sys dropped keyed static p d in
       inr
-      (record { label = x; to = to; edge_on = subst (λ z. Edge sys dropped x n z to) i e; is_one = record { place = zero; stands = refl } })
+      (record {
+        label = x;
+        to = to;
+        edge_on = subst (λ z. Edge sys dropped x n z to) i e;
+        is_one = record { place = zero; stands = refl };
+      })
   leaves (x ∷ y ∷ fr) {n = n} {q = q} {from = from} (edge p e) d =
       ⊎_elim (λ i. absurd (full i))
-      (λ r. inr (record { label = r.label; to = r.to; edge_on = r.edge_on; is_one = record { place = suc r.is_one.place; stands = r.is_one.stands } }))
+      (λ r. inr (record {
+        label = r.label;
+        to = r.to;
+        edge_on = r.edge_on;
+        is_one = record { place = suc r.is_one.place; stands = r.is_one.stands };
+      }))
       (leaves (y ∷ fr) p d)
     where
       full : y ∷ fr ≡ [] → ⊥
@@ -86,10 +96,16 @@ module _ {V : Type 0} (sys : System V) (dropped : List ℕ) (keyed : AreKeyed sy
         ⊎_elim (λ i. sym (tail.is ∙ ap (λ z. z ++ s.rest) i)) (λ k. absurd (never g s tail k))
         (leaves tail.front (subst (λ z. Path sys dropped n z v.0) tail.is v.2) s.path) in
         let m : v.0 ≡ s.from =
-        path_end sys dropped keyed static v.2 (subst (λ z. Path sys dropped n z s.from) e s.path) in
-        (s.from, s.to, s.edge, enabled sys dropped keyed g static l n s.from s.to s.edge (subst (λ z. Stands u n z) m v.1))
+        path_end sys dropped keyed static v.2 (subst (λ z. Path sys dropped n z s.from) e s.path) in (
+          s.from,
+          s.to,
+          s.edge,
+          enabled sys dropped keyed g static l n s.from s.to s.edge
+              (subst (λ z. Stands u n z) m v.1),
+        )
       where
-        in_path : (g : IsFirable sys dropped (map (λ l. l.event) b) u) (s : Split sys dropped n (f.path n) l) (m : Label)
+        in_path : (g : IsFirable sys dropped (map (λ l. l.event) b) u) (s : Split sys dropped n (f.path n) l)
+            (m : Label)
             → IsOneOf s.rest m → IsOneOf (g.path n) m
         in_path g s m o =
             let a = before order (length front) l (at_front front l b) s.path s.edge o.place m o.stands in
@@ -112,7 +128,8 @@ module _ {V : Type 0} (sys : System V) (dropped : List ℕ) (keyed : AreKeyed sy
               subst (λ z. IsOneOf set z) a.2 (events.sound c.0 a.0 c.2);
         }
 
-        never : (g : IsFirable sys dropped (map (λ l. l.event) b) u) (s : Split sys dropped n (f.path n) l) (t : Tail sys dropped keyed static s.rest (g.path n))
+        never : (g : IsFirable sys dropped (map (λ l. l.event) b) u) (s : Split sys dropped n (f.path n) l)
+            (t : Tail sys dropped keyed static s.rest (g.path n))
             → LeavesBy n (t.front ++ s.rest) s.from → ⊥
         never g s t k =
             let i = k.label in

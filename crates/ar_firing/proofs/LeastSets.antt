@@ -18,7 +18,12 @@ pub record Left (xs ys : List ℕ) : Type 0 where
 pub decided : (xs ys : List ℕ) → Within xs ys ⊎ Left xs ys
 decided [] ys = inl (record { each = λ e o. let h = o.stands in cc })
 decided (x ∷ xs) ys = ⊎_elim
-    (λ o. ⊎_elim (λ w. inl (record { each = λ e i. both o w e i.place i.stands })) (λ l. inr (record { event = l.event; is_one = record { place = suc l.is_one.place; stands = l.is_one.stands }; is_not = l.is_not })) (decided xs ys))
+    (λ o. ⊎_elim (λ w. inl (record { each = λ e i. both o w e i.place i.stands }))
+    (λ l. inr (record {
+      event = l.event;
+      is_one = record { place = suc l.is_one.place; stands = l.is_one.stands };
+      is_not = l.is_not;
+    })) (decided xs ys))
     (λ n. inr (record { event = x; is_one = record { place = zero; stands = refl }; is_not = n }))
     (member_told ys x)
   where
@@ -49,7 +54,8 @@ no_more_counted (x ∷ xs) part whole w = go (member_told part x) (member_told w
   where
     go : (a : IsOneOf part x ⊎ (IsOneOf part x → ⊥)) (b : IsOneOf whole x ⊎ (IsOneOf whole x → ⊥))
         → counted xs part ≤ counted xs whole
-        → ⊎_elim (λ o. suc (counted xs part)) (λ n. counted xs part) a ≤ ⊎_elim (λ o. suc (counted xs whole)) (λ n. counted xs whole) b
+        → ⊎_elim (λ o. suc (counted xs part)) (λ n. counted xs part) a ≤ ⊎_elim (λ o. suc (counted xs whole))
+        (λ n. counted xs whole) b
     go (inl o) (inl i) h = omega (arith, h)
     go (inl o) (inr n) h = absurd (n (w.each x o))
     go (inr n) (inl i) h = omega (arith, h)
@@ -58,22 +64,26 @@ no_more_counted (x ∷ xs) part whole w = go (member_told part x) (member_told w
 pub fewer : (xs part whole : List ℕ) (e k : ℕ) → Within part whole → Stands xs k e → IsOneOf whole e
     → (IsOneOf part e → ⊥) → counted xs part < counted xs whole
 fewer [] part whole e k w s i n = cc
-fewer (x ∷ xs) part whole e zero w s i n = go (member_told part x) (member_told whole x) (no_more_counted xs part whole w)
+fewer (x ∷ xs) part whole e zero w s i n =
+    go (member_told part x) (member_told whole x) (no_more_counted xs part whole w)
   where
     same : x ≡ e
     same = cc
 
     go : (a : IsOneOf part x ⊎ (IsOneOf part x → ⊥)) (b : IsOneOf whole x ⊎ (IsOneOf whole x → ⊥))
         → counted xs part ≤ counted xs whole
-        → ⊎_elim (λ o. suc (counted xs part)) (λ n. counted xs part) a < ⊎_elim (λ o. suc (counted xs whole)) (λ n. counted xs whole) b
+        → ⊎_elim (λ o. suc (counted xs part)) (λ n. counted xs part) a < ⊎_elim (λ o. suc (counted xs whole))
+        (λ n. counted xs whole) b
     go (inl o) b h = absurd (n (subst (λ z. IsOneOf part z) same o))
     go (inr m) (inl o) h = omega (arith, h)
     go (inr m) (inr l) h = absurd (l (subst (λ z. IsOneOf whole z) (sym same) i))
-fewer (x ∷ xs) part whole e (suc k) w s i n = go (member_told part x) (member_told whole x) (fewer xs part whole e k w s i n)
+fewer (x ∷ xs) part whole e (suc k) w s i n =
+    go (member_told part x) (member_told whole x) (fewer xs part whole e k w s i n)
   where
     go : (a : IsOneOf part x ⊎ (IsOneOf part x → ⊥)) (b : IsOneOf whole x ⊎ (IsOneOf whole x → ⊥))
         → counted xs part < counted xs whole
-        → ⊎_elim (λ o. suc (counted xs part)) (λ n. counted xs part) a < ⊎_elim (λ o. suc (counted xs whole)) (λ n. counted xs whole) b
+        → ⊎_elim (λ o. suc (counted xs part)) (λ n. counted xs part) a < ⊎_elim (λ o. suc (counted xs whole))
+        (λ n. counted xs whole) b
     go (inl o) (inl i) h = omega (arith, h)
     go (inl o) (inr n) h = absurd (n (w.each x o))
     go (inr n) (inl i) h = omega (arith, h)
@@ -102,7 +112,11 @@ module _ (P Q : List ℕ → Type 0) (on : (set : List ℕ) → P set → Q set)
   pub least_back : {set : List ℕ} → IsLeast P set → IsLeast Q set
   least_back {set = set} h =
       from_words Q
-      (record { has = on set h.has; no_lesser = λ part w k q. none_below set h (suc (counted set part)) part (omega arith) w k q })
+      (record {
+        has = on set h.has;
+        no_lesser = λ part w k q. none_below set h (suc (counted set part)) part
+            (omega arith) w k q;
+      })
 
 -- it is refuted that a set has P and that no least such set is within it
 module _ (P : List ℕ → Type 0) (set : List ℕ) (none : (part : List ℕ) → Within part set → IsLeast P part → ⊥) where

@@ -66,15 +66,19 @@ module _ (P : List ℕ → Type 0) (told : (set : List ℕ) → Told (P set))
   none_lesser set none part w n p =
       let down : Within (picked set part) part = record { each = λ e o. picked_within set part e o } in
       let up : Within part (picked set part) = record { each = λ e o. picked_all set part e (w.each e o) o } in
-      none
-      (picked set part, picked_in set part, ((within_then down w, λ b. n (within_then b down)), same part (picked set part) up down p))
+      none (
+        picked set part,
+        picked_in set part,
+        ((within_then down w, λ b. n (within_then b down)), same part (picked set part) up down p),
+      )
 
   least_of : (set : List ℕ) (most : ℕ) (part : List ℕ) → counted set part < most → Within part set → P part
       → (q : List ℕ) × Within q set × IsLeast P q
   least_of set zero part c w p = absurd (omega (arith, c))
   least_of set (suc most) part c w p =
       go
-      (some_told (Lesser part) (parts part) (λ q m. both_told (both_told (within_told q part) (not_told (within_told part q))) (told q)))
+      (some_told (Lesser part) (parts part)
+      (λ q m. both_told (both_told (within_told q part) (not_told (within_told part q))) (told q)))
       (λ q d v r. least_of set most q d v r)
     where
       lesser : (q : List ℕ) → Lesser part q

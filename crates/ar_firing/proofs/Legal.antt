@@ -73,7 +73,8 @@ module _ {V : Type 0} (sys : System V) (dropped : List ℕ) (keyed : AreKeyed sy
 
   -- where the firable sets of the events so far have flows, the labels so far fire without fault
   pub fires_all : {set : List ℕ} (front b : List Label) → IsLegalOrder sys dropped set (front ++ b)
-      → ((part : List ℕ) (t : List Value) → IsFirable sys dropped part t → Within part (map (λ k. k.event) b) → HasFlows sys.net t)
+      → ((part : List ℕ) (t : List Value) → IsFirable sys dropped part t → Within part (map (λ k. k.event) b)
+      → HasFlows sys.net t)
       → (u : List Value) × Reaches sys dropped b u
   fires_all front [] o total =
       let f =

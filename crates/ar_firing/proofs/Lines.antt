@@ -25,7 +25,8 @@ turned_round : {V : Type 0} (n : ℕ) (xs : List (Variable V)) (path : ℕ → L
 turned_round n [] path = refl
 turned_round n (x ∷ xs) path =
     reverse-append (cond x.is_state (reverse (path n)) []) (firing_line (suc n) xs path) ∙
-    (ap (λ z. z ++ reverse (cond x.is_state (reverse (path n)) [])) (turned_round (suc n) xs path) ∙ ap (λ z. backward (suc n) xs path ++ z) (inner x.is_state))
+    (ap (λ z. z ++ reverse (cond x.is_state (reverse (path n)) [])) (turned_round (suc n) xs path)
+    ∙ ap (λ z. backward (suc n) xs path ++ z) (inner x.is_state))
   where
     inner : (b : Bool) → reverse (cond b (reverse (path n)) []) ≡ cond b (path n) []
     inner true = reverse-reverse (path n)
@@ -46,8 +47,15 @@ comes_from : {V : Type 0} (n : ℕ) (xs : List (Variable V)) (path : ℕ → Lis
 comes_from n [] path l o = let h = o.stands in cc
 comes_from {V = V} n (x ∷ xs) path l o = ⊎_elim
     (λ h. let c = comes_from (suc n) xs path l (record { place = o.place; stands = h }) in
-    record
-    { place = suc c.place; variable = c.variable; stands = c.stands; is_state = c.is_state; number = c.number; is = omega (arith, c.is); on_path = c.on_path })
+    record {
+      place = suc c.place;
+      variable = c.variable;
+      stands = c.stands;
+      is_state = c.is_state;
+      number = c.number;
+      is = omega (arith, c.is);
+      on_path = c.on_path;
+    })
     (λ h. here x.is_state refl h.0 h.2)
     (stands_split (backward (suc n) xs path) (cond x.is_state (path n) []) o.place l o.stands)
   where
@@ -94,7 +102,8 @@ piece n (y ∷ ys) path (suc k) m x s i e =
       rest = p.rest ++ cond y.is_state (path n) [];
       is =
           ap (λ z. z ++ cond y.is_state (path n) []) p.is ∙
-          (append_assoc p.front (path m ++ p.rest) (cond y.is_state (path n) []) ∙ ap (λ z. p.front ++ z) (append_assoc (path m) p.rest (cond y.is_state (path n) [])));
+          (append_assoc p.front (path m ++ p.rest) (cond y.is_state (path n) [])
+          ∙ ap (λ z. p.front ++ z) (append_assoc (path m) p.rest (cond y.is_state (path n) [])));
     }
 
 -- no two labels of the joined lists have one event
@@ -195,8 +204,11 @@ module _ {V : Type 0} (sys : System V) (dropped : List ℕ) (keyed : AreKeyed sy
     in_whole n x s i l o =
         let p = piece 0 sys.net.variables f.path n n x s i (omega arith) in
         let a : Stands (f.path n ++ p.rest) o.place l = stands_left (f.path n) p.rest o.place l o.stands in
-        record
-        { place = length p.front + o.place; stands = subst (λ z. Stands z (length p.front + o.place) l) (sym p.is) (stands_right p.front (f.path n ++ p.rest) o.place (length p.front + o.place) l refl a) }
+        record {
+          place = length p.front + o.place;
+          stands = subst (λ z. Stands z (length p.front + o.place) l) (sym p.is)
+              (stands_right p.front (f.path n ++ p.rest) o.place (length p.front + o.place) l refl a);
+        }
 
     line_events : AreEvents whole set
     line_events = record {
@@ -216,7 +228,8 @@ module _ {V : Type 0} (sys : System V) (dropped : List ℕ) (keyed : AreKeyed sy
           (split_live sys dropped keyed static r) refl in
           let u : m ∷ ms ≡ r.rest =
           path_unique sys dropped keyed static p
-          (subst (λ z. Path sys dropped n r.rest z) (sym d.2) (subst (λ z. Path sys dropped z r.rest r.from) (sym d.1) r.path)) in
+          (subst (λ z. Path sys dropped n r.rest z) (sym d.2)
+          (subst (λ z. Path sys dropped z r.rest r.from) (sym d.1) r.path)) in
           let q = piece 0 sys.net.variables f.path c.0 c.0 c.1 c.2 c.3 (omega arith) in
           let here : f.path c.0 ≡ r.front ++ (l ∷ (m ∷ ms)) = r.is ∙ ap (λ z. r.front ++ (l ∷ z)) (sym u) in
           follow k l m ms s c.0 q r.front here;
@@ -237,10 +250,12 @@ module _ {V : Type 0} (sys : System V) (dropped : List ℕ) (keyed : AreKeyed sy
             (stands_right front (l ∷ (m ∷ ms)) 1 (length front + 1) m refl refl) in
             let c : Stands whole (length q.front + length front) l =
             subst (λ z. Stands z (length q.front + length front) l) (sym q.is)
-            (stands_right q.front (f.path n ++ q.rest) (length front) (length q.front + length front) l refl (stands_left (f.path n) q.rest (length front) l a)) in
+            (stands_right q.front (f.path n ++ q.rest) (length front) (length q.front + length front) l refl
+            (stands_left (f.path n) q.rest (length front) l a)) in
             let d : Stands whole (length q.front + (length front + 1)) m =
             subst (λ z. Stands z (length q.front + (length front + 1)) m) (sym q.is)
-            (stands_right q.front (f.path n ++ q.rest) (length front + 1) (length q.front + (length front + 1)) m refl (stands_left (f.path n) q.rest (length front + 1) m b)) in
+            (stands_right q.front (f.path n ++ q.rest) (length front + 1) (length q.front + (length front + 1)) m refl
+            (stands_left (f.path n) q.rest (length front + 1) m b)) in
             let i : k ≡ length q.front + length front =
             line_events.once k (length q.front + length front) l l s c refl in
             (length q.front + (length front + 1), omega (arith, i), d)
@@ -253,7 +268,13 @@ module _ {V : Type 0} (sys : System V) (dropped : List ℕ) (keyed : AreKeyed sy
       let e : reverse ls ≡ backward 0 sys.net.variables f.path =
       ap reverse h.is ∙ turned_round 0 sys.net.variables f.path in
       subst (λ z. IsLegalOrder sys dropped set z) (sym e)
-      (record { values = h.values; is_firable = f; on_paths = on_paths f; events = line_events f; in_order = line_in_order f })
+      (record {
+        values = h.values;
+        is_firable = f;
+        on_paths = on_paths f;
+        events = line_events f;
+        in_order = line_in_order f;
+      })
 
   -- a set has one line
   pub one_line : {set other : List ℕ} {ls ks : List Label} → Within set other → Within other set
@@ -277,6 +298,7 @@ module _ {V : Type 0} (sys : System V) (dropped : List ℕ) (keyed : AreKeyed sy
 
           here : (b' : Bool) → x.is_state ≡ b'
               → firing_line (suc n) xs a.is_firable.path ≡ firing_line (suc n) xs b.is_firable.path
-              → cond b' (reverse (a.is_firable.path n)) [] ++ firing_line (suc n) xs a.is_firable.path ≡ cond b' (reverse (b.is_firable.path n)) [] ++ firing_line (suc n) xs b.is_firable.path
+              → cond b' (reverse (a.is_firable.path n)) [] ++ firing_line (suc n) xs a.is_firable.path
+              ≡ cond b' (reverse (b.is_firable.path n)) [] ++ firing_line (suc n) xs b.is_firable.path
           here true i r = let q = paths i in cc
           here false i r = r

@@ -115,8 +115,12 @@ module _ {V : Type 0} (sys : System V) (dropped : List ℕ) (keyed : AreKeyed sy
             subst (λ z. Path sys dropped z (put n ls f.path z) from) (sym i)
                 (subst (λ z. Path sys dropped n z from) (sym (put_here n ls f.path)) p),
           ))
-          (λ i. let w = f.walks m y sy iy in
-          (w.0, changed_there t n m from w.0 i w.1, subst (λ z. Path sys dropped m z w.0) (sym (put_there n m ls f.path i)) w.2))
+          (λ i. let w = f.walks m y sy iy in (
+            w.0,
+            changed_there t n m from w.0 i w.1,
+            subst (λ z. Path sys dropped m z w.0)
+                (sym (put_there n m ls f.path i)) w.2,
+          ))
           (cases_eq m n);
       sound = λ m y sy iy k j h.
           let a = still m k j h in
@@ -157,7 +161,8 @@ module _ {V : Type 0} (sys : System V) (dropped : List ℕ) (keyed : AreKeyed sy
         let in_set : IsOneOf set l.event = f.sound n x st state zero l (subst (λ z. Stands z zero l) (sym is) refl) in
         let fine =
         λ (a : List ℕ) (u : List Value) (h : IsFirable sys dropped a u) (w : Within a part)
-        (m : (f : FlowFault) → Flows sys.net u (Fails f) → (set : List ℕ) × MeetsConflict sys dropped set). flows_of a u h w in_set
+        (m : (f : FlowFault) → Flows sys.net u (Fails f) → (set : List ℕ) × MeetsConflict sys dropped set). flows_of a u
+        h w in_set
         (conflict a) refl in
         let r = has_order sys dropped keyed static part fine g (record { each = λ e o. o }) in
         let h = all_firable sys dropped keyed static r.1.reaches in
@@ -176,7 +181,8 @@ module _ {V : Type 0} (sys : System V) (dropped : List ℕ) (keyed : AreKeyed sy
           fault = k.fault;
           conflicts =
               cuts.fire e.way r.1.reaches e.is_open
-              (flow new.values can (no_clash sys dropped keyed static h l e.way edge_on) (no_leave sys dropped keyed static h l e.way edge_on) new.receives k.flows);
+              (flow new.values can (no_clash sys dropped keyed static h l e.way edge_on)
+              (no_leave sys dropped keyed static h l e.way edge_on) new.receives k.flows);
           events = record {
             sound = λ k j s. sound_at r.1.labels r.1.events in_set k j s;
             whole = λ a o. whole_at r.1.labels r.1.events a o;

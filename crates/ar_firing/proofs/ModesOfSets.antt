@@ -50,7 +50,8 @@ module _ {V : Type 0} (sys : System V) (dropped : List ℕ) (keyed : AreKeyed sy
       (λ e. let k : w.0 ≡ m = path_end sys dropped keyed static (subst (λ z. Path sys dropped n (z ++ ls) w.0) e q) p in subst (λ z. Stands t n z) k w.1)
       (λ b. let o : IsOneOf (f.path n) b.label = subst (λ z. IsOneOf z b.label) (sym is) b.is_one in
       absurd
-      (h b.label b.to (record { reached = record { labels = ls; path = p }; edge = b.edge_on }) (f.sound n x s state o.place b.label o.stands)))
+      (h b.label b.to (record { reached = record { labels = ls; path = p }; edge = b.edge_on })
+      (f.sound n x s state o.place b.label o.stands)))
       (leaves sys dropped keyed static front q p)
 
   pub entered : (l : Label) (from m : Value) → IsLive sys dropped l n from m → Stands t n m → IsOneOf set l.event
@@ -99,5 +100,10 @@ module _ {V : Type 0} (sys : System V) (dropped : List ℕ) (keyed : AreKeyed sy
       go [] is k (root {x = y} st i e) j =
           inl (sym j ∙ (sym e ∙ ap (λ z. z.value) (stands_one sys.net.variables n y x st s)))
       go (a ∷ ls) is k (edge {m = u} p d) j =
-          inr
-          (a, u, subst (λ z. IsLive sys dropped a n u z) j (live sys dropped keyed static p d), f.sound n x s state zero a (subst (λ z. Stands z zero a) (sym is) refl))
+          inr (
+            a,
+            u,
+            subst (λ z. IsLive sys dropped a n u z) j (live sys dropped keyed static p d),
+            f.sound n x s state zero
+                a (subst (λ z. Stands z zero a) (sym is) refl),
+          )

@@ -69,10 +69,12 @@ module _ (P : Rule → Type 0) (step : (r : Rule) → ((l : Rule) → number_of 
   one_more : (n : ℕ) → ((l : Rule) → number_of l < n → P l) → (((l : Rule) → number_of l < suc n → P l) → ⊥)
       → (number_of (rule_of n) ≡ n) ⊎ (number_of (rule_of n) ≡ n → ⊥) → ⊥
   one_more n below k (inl e) = step (rule_of n) (λ l h. below l (omega (arith, h, e)))
-      (λ p. k (λ l h. ⊎_elim (λ i. subst P (ap rule_of (sym i) ∙ numbered l) p) (λ d. below l (omega (arith, h, d))) (cases_eq (number_of l) n)))
+      (λ p. k (λ l h. ⊎_elim (λ i. subst P (ap rule_of (sym i) ∙ numbered l) p) (λ d. below l (omega (arith, h, d)))
+      (cases_eq (number_of l) n)))
   one_more n below k (inr d) =
       k
-      (λ l h. ⊎_elim (λ i. absurd (d (ap number_of (ap rule_of (sym i) ∙ numbered l) ∙ i))) (λ q. below l (omega (arith, h, q))) (cases_eq (number_of l) n))
+      (λ l h. ⊎_elim (λ i. absurd (d (ap number_of (ap rule_of (sym i) ∙ numbered l) ∙ i)))
+      (λ q. below l (omega (arith, h, q))) (cases_eq (number_of l) n))
 
   by_number : (n : ℕ) → (((l : Rule) → number_of l < n → P l) → ⊥) → ⊥
   by_number zero k = k (λ l h. absurd (omega (arith, h)))

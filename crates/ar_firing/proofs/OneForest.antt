@@ -34,7 +34,8 @@ module _ {V : Type 0} (sys : System V) (dropped : List ℕ) (keyed : AreKeyed sy
       rows m l k to on es gs fs hs j t a b
     where
       rows : (m : Value) (l k : Label) (to on : Value) (es gs fs hs : List Row) → l ≡ k → to ≡ on → es ≡ gs → fs ≡ hs
-          → ◌≡◌ {A = List Row} (record { from = m; label = l; to = to } ∷ (es ++ fs)) (record { from = m; label = k; to = on } ∷ (gs ++ hs))
+          → ◌≡◌ {A = List Row} (record { from = m; label = l; to = to } ∷ (es ++ fs))
+          (record { from = m; label = k; to = on } ∷ (gs ++ hs))
       rows m l k to on es gs fs hs j t a b = cc
 
 module _ {V : Type 0} (sys : System V) (dropped : List ℕ) (keyed : AreKeyed sys.net)
@@ -54,7 +55,8 @@ module _ {V : Type 0} (sys : System V) (dropped : List ℕ) (keyed : AreKeyed sy
       (under_same sys dropped keyed static y.variable p d b.edges)
     where
       trees : (m n : ℕ) (u v : Value) (es fs : List Row) → m ≡ n → u ≡ v → es ≡ fs
-          → ◌≡◌ {A = ModeTree} (record { variable = m; first = u; edges = es }) (record { variable = n; first = v; edges = fs })
+          → ◌≡◌ {A = ModeTree} (record { variable = m; first = u; edges = es })
+          (record { variable = n; first = v; edges = fs })
       trees m n u v es fs e f g = cc
 
   -- the trees of the mode variables from a number on

@@ -10,7 +10,8 @@ use Rattle.ar_firing.specs.Listed.{AreListed}
 pub not_both : {s t : List ℕ} → IsBefore s t → IsBefore t s → ⊥
 not_both {s = s} {t = t} a b = ⊎_elim
     (λ i. b.not_in_second (subst (λ z. IsOneOf s z) i a.in_first))
-    (λ o. ⊎_elim (λ h. a.not_in_second ((b.same_below a.least h).1 a.in_first)) (λ h. b.not_in_second ((a.same_below b.least h).1 b.in_first)) o)
+    (λ o. ⊎_elim (λ h. a.not_in_second ((b.same_below a.least h).1 a.in_first))
+    (λ h. b.not_in_second ((a.same_below b.least h).1 b.in_first)) o)
     (cases_order a.least b.least)
 
 -- no set is before one with the same members

@@ -56,7 +56,8 @@ module _ {V : Type 0} (sys : System V) where
   pub s1_excludes : (e : ℕ) → KeepsS1 sys → BreaksS1 sys e → ⊥
   s1_excludes e k b =
       go
-      (k.each (record { event = e; way = b.has.place }) (Joint b.parts) (record { event = b.event; is_event = b.stands; is_way = b.has.stands }))
+      (k.each (record { event = e; way = b.has.place }) (Joint b.parts)
+      (record { event = b.event; is_event = b.stands; is_way = b.has.stands }))
     where
       go : IsTransition (Joint b.parts) → ⊥
       go h = elim h [ ]
@@ -70,7 +71,8 @@ module _ {V : Type 0} (sys : System V) where
         → HasModeVariable sys dropped l w n y → (m ≡ n) × (x ≡ y)
     one_mode {l = l} {w = w} {m = m} {n = n} {x = x} {y = y} a b =
         let e =
-        stands_one sys.events l.event a.is_kept.is_way.event b.is_kept.is_way.event a.is_kept.is_way.is_event b.is_kept.is_way.is_event in
+        stands_one sys.events l.event a.is_kept.is_way.event b.is_kept.is_way.event a.is_kept.is_way.is_event
+        b.is_kept.is_way.is_event in
         let i : m ≡ n = mode_same (subst (λ z. IsModeOf sys z.unit w m) e a.is_mode) b.is_mode in
         (i, stands_one sys.net.variables n x y (subst (λ z. Stands sys.net.variables z x) i a.stands) b.stands)
 
@@ -98,7 +100,8 @@ module _ {V : Type 0} (sys : System V) where
     pub s5_excludes : (n : ℕ) → KeepsS5 sys dropped → BreaksS5 sys dropped n → ⊥
     s5_excludes n k b =
         let e =
-        k.one b.first.label b.second.label b.first_variable b.second_variable b.first.from b.second.from b.first.to b.second.to b.first.is_live b.second.is_live
+        k.one b.first.label b.second.label b.first_variable b.second_variable b.first.from b.second.from b.first.to
+        b.second.to b.first.is_live b.second.is_live
         (b.first.is_event ∙ sym b.second.is_event) in
         not_two e.0 e.1 e.2 b.two
 
@@ -126,7 +129,8 @@ module _ {V : Type 0} (sys : System V) where
       modes = λ l w o.
           let k = k3.each l w o.is_kept in
           let e =
-          stands_one sys.events l.event k.mode.is_kept.is_way.event o.is_kept.is_way.event k.mode.is_kept.is_way.is_event o.is_kept.is_way.is_event in
+          stands_one sys.events l.event k.mode.is_kept.is_way.event o.is_kept.is_way.event
+          k.mode.is_kept.is_way.is_event o.is_kept.is_way.is_event in
           let m = subst (λ z. IsModeOf sys z.unit w k.number) e k.mode.is_mode in
           record {
             number = k.number;
@@ -139,8 +143,20 @@ module _ {V : Type 0} (sys : System V) where
           };
       leads = λ l w n x m a.
           let h = k4.gives l w n x m a in
-          record
-          { to = h.value; edge = record { way = w; is_open = a.is_open; variable = x; is_variable = a.stands; is_mode = a.is_mode; can = a.can; gives = h.gives; one = h.one; in_domain = h.in_domain } };
+          record {
+            to = h.value;
+            edge = record {
+              way = w;
+              is_open = a.is_open;
+              variable = x;
+              is_variable = a.stands;
+              is_mode = a.is_mode;
+              can = a.can;
+              gives = h.gives;
+              one = h.one;
+              in_domain = h.in_domain;
+            };
+          };
       one_edge = k5;
       enters_once = k6;
     }
@@ -151,7 +167,10 @@ module _ {V : Type 0} (sys : System V) where
             (λ n a s. record {
               target = k a.target (action a (record { place = n; stands = s }) (as_target refl));
               conditions = λ j e b t.
-                  record { only = λ y m. k y (action a (record { place = n; stands = s }) (as_source (inr (tests_at y a.conditions j e b t m)))) };
+                  record {
+                    only = λ y m. k y (action a (record { place = n; stands = s })
+                        (as_source (inr (tests_at y a.conditions j e b t m))));
+                  };
               value = record { only = λ y m. k y (action a (record { place = n; stands = s }) (as_source (inl m))) };
             })
 
@@ -199,8 +218,11 @@ module _ {V : Type 0} (sys : System V) where
         let k : number_of q < number_of r → ⊥ = λ l. excludes q b (x.lesser_kept q l) y.breaks in
         let n : number_of r ≡ number_of q = same_number (number_of r) (number_of q) h k in
         let e : r ≡ q = sym (numbered r) ∙ (ap rule_of n ∙ numbered q) in
-        let z : Breaks sys dropped q a = subst (λ z. Breaks sys dropped z a) e x.breaks in
-        (e, same_spot z y.breaks (λ l. y.is_first a l z) (λ l. x.is_first b l (subst (λ z. Breaks sys dropped z b) (sym e) y.breaks)))
+        let z : Breaks sys dropped q a = subst (λ z. Breaks sys dropped z a) e x.breaks in (
+          e,
+          same_spot z y.breaks (λ l. y.is_first a l z)
+              (λ l. x.is_first b l (subst (λ z. Breaks sys dropped z b) (sym e) y.breaks)),
+        )
 
     pub kept_or_broken : {r : Rule} {a : Spot} → KeepsAll sys dropped → Breaks sys dropped r a → ⊥
     kept_or_broken {r = r} {a = a} k b = excludes r a (k.each r) b

@@ -61,8 +61,13 @@ module _ {V : Type 0} (sys : System V) (dropped : List ℕ) where
           let g = ap (λ (z : Event V). z.hidden) same in let v = o.visible in cc)
       at_way e s w i false h (inl d) = inr (λ k. k.1.is_kept.stays d)
       at_way e s w i false h (inr n) =
-          inl
-          (w, record { is_kept = record { is_way = record { event = e; is_event = s; is_way = i }; stays = n }; visible = h })
+          inl (
+            w,
+            record {
+              is_kept = record { is_way = record { event = e; is_event = s; is_way = i }; stays = n };
+              visible = h;
+            },
+          )
 
       at_ways : (e : Event V) → Stands sys.events l.event e → (o : Option (Way V)) → slice_get e.ways l.way ≡ o
           → Told ((w : Way V) × IsOpen sys dropped l w)
@@ -149,7 +154,8 @@ module _ {V : Type 0} (sys : System V) (dropped : List ℕ) where
             let e = reaches_same q r in
             let i : x ≡ w = way_same sys p.is_kept.is_way o.is_kept.is_way in
             step_same sys.net s
-            (subst (λ (z : Way V). Step sys.net t z (Refused (Flow f))) i (subst (λ z. Step sys.net z x (Refused (Flow f))) e k))
+            (subst (λ (z : Way V). Step sys.net t z (Refused (Flow f))) i
+            (subst (λ z. Step sys.net z x (Refused (Flow f))) e k))
 
         fired : (t : List Value) (w : Way V) → Reaches sys dropped ls t → IsOpen sys dropped l w
             → (a : Answer) × Step sys.net t w a → Told ((f : FlowFault) × Conflicts sys dropped (l ∷ ls) f)
@@ -191,8 +197,10 @@ module _ {V : Type 0} (sys : System V) (dropped : List ℕ) where
   in_labels_of l zero h = absurd (omega (arith, h))
   in_labels_of l (suc n) h =
       ⊎_elim
-      (λ e. subst (λ (z : ℕ). Contains (record { event = l.event; way = z } ∷ labels_of l.event n) l) e (contains-head l (labels_of l.event n)))
-      (λ d. contains-cons (record { event = l.event; way = n }) l (labels_of l.event n) (in_labels_of l n (omega (arith, h, d))))
+      (λ e. subst (λ (z : ℕ). Contains (record { event = l.event; way = z } ∷ labels_of l.event n) l) e
+      (contains-head l (labels_of l.event n)))
+      (λ d. contains-cons (record { event = l.event; way = n }) l (labels_of l.event n)
+      (in_labels_of l n (omega (arith, h, d))))
       (cases_eq l.way n)
 
   labels : List ℕ → List Label
@@ -204,7 +212,8 @@ module _ {V : Type 0} (sys : System V) (dropped : List ℕ) where
   in_labels [] l w i o = absurd (one_none l.event o)
   in_labels (e ∷ es) l w i o = elim (one_cases e es l.event o) [
     | inl q ↦ Contains-append_left (labels_of e (ways_of (slice_get sys.events e))) (labels es) l
-        (subst (λ z. Contains (labels_of z (ways_of (slice_get sys.events z))) l) (sym q) (in_labels_of l (ways_of (slice_get sys.events l.event)) (count l w i)))
+        (subst (λ z. Contains (labels_of z (ways_of (slice_get sys.events z))) l) (sym q)
+        (in_labels_of l (ways_of (slice_get sys.events l.event)) (count l w i)))
     | inr p ↦
         Contains-append_right (labels_of e (ways_of (slice_get sys.events e))) (labels es) l (in_labels es l w i p)
   ]
@@ -241,7 +250,8 @@ module _ {V : Type 0} (sys : System V) (dropped : List ℕ) where
   in_lists all (suc n) [] h k = contains-head [] (before_each all (lists all n))
   in_lists all (suc n) (l ∷ ls) h k =
       contains-cons [] (l ∷ ls) (before_each all (lists all n))
-      (in_before_each all (lists all n) l ls (k l (one_first l ls)) (in_lists all n ls (omega (arith, h)) (λ m o. k m (one_rest l ls m o))))
+      (in_before_each all (lists all n) l ls (k l (one_first l ls))
+      (in_lists all n ls (omega (arith, h)) (λ m o. k m (one_rest l ls m o))))
 
 -- the events of the labels are those of the set, each once, said of the list of these events
 record HasEvents (ls : List Label) (set : List ℕ) : Type 0 where
@@ -303,7 +313,8 @@ different_told (x ∷ xs) = go (member_told xs x) (different_told xs)
 events_told : (ls : List Label) (set : List ℕ) → Told (AreEvents ls set)
 events_told ls set =
     elim
-    (both_told (within_told (map (λ l. l.event) ls) set) (both_told (within_told set (map (λ l. l.event) ls)) (different_told (map (λ l. l.event) ls)))) [
+    (both_told (within_told (map (λ l. l.event) ls) set)
+    (both_told (within_told set (map (λ l. l.event) ls)) (different_told (map (λ l. l.event) ls)))) [
       | inl h ↦ inl (have_events ls set (record { sound = h.0; whole = h.1.0; once = h.1.1 }))
       | inr n ↦ inr (λ a. let h = events_have ls set a in n (h.sound, (h.whole, h.once)))
     ]
@@ -322,7 +333,8 @@ module _ {V : Type 0} (key_told : AreTold V) (sys : System V) (dropped set : Lis
       (λ k n s. e.sound.each n (one_here (map (λ l. l.event) ls) k n s)) in
       in_lists sys dropped (labels sys dropped set) (length set) ls
       (subst (λ n. n ≤ length set) (length-map ls (λ (l : Label). l.event)) few)
-      (λ l o. one_contains (labels sys dropped set) l (in_labels sys dropped set l (h l o).0 (h l o).1 (a.sound o.place l o.stands)))
+      (λ l o. one_contains (labels sys dropped set) l
+      (in_labels sys dropped set l (h l o).0 (h l o).1 (a.sound o.place l o.stands)))
 
   module _ (observer : Expr V) (wanted : Value) where
     abbrev Ends : List Label → Type 0
@@ -336,7 +348,8 @@ module _ {V : Type 0} (key_told : AreTold V) (sys : System V) (dropped set : Lis
         at t r (inl y) = inl (t, r, y)
         at t r (inr n) =
             inr
-            (λ h. n (subst (λ z. Yields (HasValue sys.net z) (out-Expr V observer) wanted) (reaches_same sys dropped h.1 r) h.2))
+            (λ h. n (subst (λ z. Yields (HasValue sys.net z) (out-Expr V observer) wanted)
+            (reaches_same sys dropped h.1 r) h.2))
 
         go : Told ((t : List Value) × Reaches sys dropped ls t) → Told (Ends ls)
         go (inl r) = at r.0 r.1 (yields_told (HasValue sys.net r.0) (values_known key_told sys.net r.0) observer wanted)
@@ -346,24 +359,39 @@ module _ {V : Type 0} (key_told : AreTold V) (sys : System V) (dropped set : Lis
     pub makes_told : Told (Makes sys dropped observer wanted set)
     makes_told =
         elim
-        (some_told (λ ls. AreEvents ls set × Ends ls) candidates (λ ls m. both_told (events_told ls set) (ends_told ls))) [
+        (some_told (λ ls. AreEvents ls set × Ends ls) candidates
+        (λ ls m. both_told (events_told ls set) (ends_told ls))) [
           | inl h ↦
               inl
-              (record { values = h.2.1.0; order = record { labels = h.0; events = h.2.0; reaches = h.2.1.1 }; shows = h.2.1.2 })
+              (record {
+                values = h.2.1.0;
+                order = record { labels = h.0; events = h.2.0; reaches = h.2.1.1 };
+                shows = h.2.1.2;
+              })
           | inr n ↦
               inr
-              (λ k. n (k.order.labels, is_candidate k.order.labels k.order.events (reached_ways sys dropped k.order.reaches), (k.order.events, (k.values, k.order.reaches, k.shows))))
+              (λ k. n (
+                k.order.labels,
+                is_candidate k.order.labels k.order.events
+                    (reached_ways sys dropped k.order.reaches),
+                (k.order.events, (k.values, k.order.reaches, k.shows)),
+              ))
         ]
 
   -- whether the set meets a conflict
   pub meets_told : Told (MeetsConflict sys dropped set)
   meets_told =
       elim
-      (some_told (λ ls. AreEvents ls set × ((f : FlowFault) × Conflicts sys dropped ls f)) candidates (λ ls m. both_told (events_told ls set) (conflict_told sys dropped key_told ls))) [
+      (some_told (λ ls. AreEvents ls set × ((f : FlowFault) × Conflicts sys dropped ls f)) candidates
+      (λ ls m. both_told (events_told ls set) (conflict_told sys dropped key_told ls))) [
         | inl h ↦ inl (record { labels = h.0; events = h.2.0; fault = h.2.1.0; conflicts = h.2.1.1 })
         | inr n ↦
             inr
-            (λ k. n (k.labels, is_candidate k.labels k.events (conflict_ways sys dropped k.conflicts), (k.events, (k.fault, k.conflicts))))
+            (λ k. n (
+              k.labels,
+              is_candidate k.labels k.events (conflict_ways sys dropped k.conflicts),
+              (k.events, (k.fault, k.conflicts)),
+            ))
       ]
 
 -- what sets with the same members have in common
@@ -379,8 +407,12 @@ module _ {V : Type 0} (sys : System V) (dropped : List ℕ) where
   pub makes_as : (observer : Expr V) (wanted : Value) (set other : List ℕ) → Within set other → Within other set
       → Makes sys dropped observer wanted set → Makes sys dropped observer wanted other
   makes_as observer wanted set other w v m =
-      record
-      { values = m.values; order = record { labels = m.order.labels; events = events_as m.order.labels w v m.order.events; reaches = m.order.reaches }; shows = m.shows }
+      record {
+        values = m.values;
+        order = record
+            { labels = m.order.labels; events = events_as m.order.labels w v m.order.events; reaches = m.order.reaches };
+        shows = m.shows;
+      }
 
   pub meets_as : (set other : List ℕ) → Within set other → Within other set → MeetsConflict sys dropped set
       → MeetsConflict sys dropped other

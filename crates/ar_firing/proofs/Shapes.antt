@@ -30,8 +30,12 @@ module _ {V : Type 0} (sys : System V) (dropped : List ℕ) (keyed : AreKeyed sy
       let i : to ≡ r.to = cc in subst (Goes_on n ls low) i (record { front = []; step = l; late = b; path = edge p e })
   goes_on {n = n} {low = low} {ls = ls} p (next {to = to} {l = l} {es = es} {fs = fs} b e h d f) (suc k) r s = ⊎_elim
       (λ q. let g = goes_on (edge p e) d k r q in
-      record
-      { front = g.front ++ g.step ∷ []; step = l; late = b; path = subst (λ z. Path sys dropped n z r.to) (sym (append_assoc g.front (g.step ∷ []) (l ∷ ls))) g.path })
+      record {
+        front = g.front ++ g.step ∷ [];
+        step = l;
+        late = b;
+        path = subst (λ z. Path sys dropped n z r.to) (sym (append_assoc g.front (g.step ∷ []) (l ∷ ls))) g.path;
+      })
       (λ q. let g = goes_on p f q.0 r q.2 in record { front = g.front; step = g.step; late = omega (arith, b, g.late); path = g.path })
       (stands_split es fs k r s)
 
@@ -75,8 +79,13 @@ module _ {V : Type 0} (sys : System V) (dropped : List ℕ) (keyed : AreKeyed sy
           path_unique sys dropped keyed static
           (subst (Path sys dropped n (g.front ++ g.step ∷ x ∷ ls)) w g.path) o.path in
           let z : length o.front ≡ length (g.front ++ g.step ∷ []) =
-          omega
-          (arith, ap length u, length-append g.front (g.step ∷ x ∷ ls), length-append o.front (o.step ∷ ls), length-append g.front (g.step ∷ [])) in
+          omega (
+            arith,
+            ap length u,
+            length-append g.front (g.step ∷ x ∷ ls),
+            length-append o.front (o.step ∷ ls),
+            length-append g.front (g.step ∷ []),
+          ) in
           let v : Stands ((g.front ++ g.step ∷ []) ++ x ∷ ls) (length (g.front ++ g.step ∷ [])) o.step =
           subst (λ c. Stands c (length (g.front ++ g.step ∷ [])) o.step)
           (sym (append_assoc g.front (g.step ∷ []) (x ∷ ls) ∙ u))
@@ -94,7 +103,14 @@ module _ {V : Type 0} (sys : System V) (dropped : List ℕ) (keyed : AreKeyed sy
       (λ y. ⊎_elim (λ i. inr (zero, record { from = m; label = l; to = to }, omega arith, refl, sym i))
       (λ o. inr (suc o.0, o.1, omega (arith, o.2), stands_left es fs o.0 o.1 o.3, o.4)) (leaves d k r y))
       (λ y. ⊎_elim (λ i. inl i)
-      (λ o. inr (suc (length es + o.0), o.1, omega (arith, o.2, y.1), stands_right es fs o.0 (length es + o.0) o.1 refl o.3, o.4))
+      (λ o. inr (
+        suc (length es + o.0),
+        o.1,
+        omega (arith, o.2, y.1),
+        stands_right es fs o.0 (length es + o.0) o.1 refl
+            o.3,
+        o.4,
+      ))
       (leaves f y.0 r y.2))
       (stands_split es fs k r s)
 
@@ -103,10 +119,12 @@ module _ {V : Type 0} (sys : System V) (dropped : List ℕ) (keyed : AreKeyed sy
     from = leaves h.edges;
     begins = λ k r s w.
         static.enters_once.begins r.label tree.variable r.from h.is_mode.variable h.is_mode.stands
-        (subst (λ z. IsLive sys dropped r.label tree.variable r.from z) (w ∙ h.first) (row_is_live sys dropped keyed static tree h r (record { place = k; stands = s })));
+        (subst (λ z. IsLive sys dropped r.label tree.variable r.from z) (w ∙ h.first)
+        (row_is_live sys dropped keyed static tree h r (record { place = k; stands = s })));
     enters = λ j k q r s t w.
         ⊎_elim (λ e. e)
-        (λ o. ⊎_elim (λ l. absurd (entered_once here h.edges j k q r l s t w)) (λ l. absurd (entered_once here h.edges k j r q l t s (sym w))) o)
+        (λ o. ⊎_elim (λ l. absurd (entered_once here h.edges j k q r l s t w))
+        (λ l. absurd (entered_once here h.edges k j r q l t s (sym w))) o)
         (cases_order j k);
     event = λ j k q r s t w.
         let a = row_is_live sys dropped keyed static tree h q (record { place = j; stands = s }) in
@@ -117,7 +135,8 @@ module _ {V : Type 0} (sys : System V) (dropped : List ℕ) (keyed : AreKeyed sy
         (subst (λ z. Edge sys dropped z tree.variable q.from q.to) (label_same q.label r.label w u.0) a.edge)
         (subst (λ z. Edge sys dropped r.label tree.variable z r.to) (sym u.2) b.edge) in
         ⊎_elim (λ e. e)
-        (λ o. ⊎_elim (λ l. absurd (entered_once here h.edges j k q r l s t g)) (λ l. absurd (entered_once here h.edges k j r q l t s (sym g))) o)
+        (λ o. ⊎_elim (λ l. absurd (entered_once here h.edges j k q r l s t g))
+        (λ l. absurd (entered_once here h.edges k j r q l t s (sym g))) o)
         (cases_order j k);
   }
     where

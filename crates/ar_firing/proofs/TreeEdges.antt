@@ -55,7 +55,12 @@ module _ {V : Type 0} (sys : System V) (dropped : List ℕ) (keyed : AreKeyed sy
           let w : ◌≡◌ {A = Row} (record { from = m; label = k; to = on }) (record { from = m; label = l; to = to }) =
           rows k l on to j g in
           subst (λ z. Below n (record { from = m; label = k; to = on } ∷ (es ++ fs)) z) w
-          (record { is_one = record { place = zero; stands = refl }; under = es; is_under = u; all = λ q o. record { place = suc o.place; stands = stands_left es fs o.place q o.stands } })
+          (record {
+            is_one = record { place = zero; stands = refl };
+            under = es;
+            is_under = u;
+            all = λ q o. record { place = suc o.place; stands = stands_left es fs o.place q o.stands };
+          })
         where
           rows : (k l : Label) (on to : Value) → k ≡ l → on ≡ to
               → ◌≡◌ {A = Row} (record { from = m; label = k; to = on }) (record { from = m; label = l; to = to })
@@ -88,8 +93,11 @@ module _ {V : Type 0} (sys : System V) (dropped : List ℕ) (keyed : AreKeyed sy
       let j : h.is_mode.variable ≡ x =
       stands_one sys.net.variables tree.variable h.is_mode.variable x h.is_mode.stands s in
       let k : tree.first ≡ m = h.first ∙ (ap (λ z. z.value) j ∙ e) in
-      record
-      { under = tree.edges; is_under = subst (λ z. Under sys dropped tree.variable z 0 tree.edges) k h.edges; all = λ q o. o }
+      record {
+        under = tree.edges;
+        is_under = subst (λ z. Under sys dropped tree.variable z 0 tree.edges) k h.edges;
+        all = λ q o. o;
+      }
   among tree h (edge {l = l} {to = to} p e) =
       let a = among tree h p in
       let b = below p a.is_under l to (omega arith) e in

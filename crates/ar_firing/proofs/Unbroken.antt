@@ -96,7 +96,12 @@ module _ {V : Type 0} (key_told : AreTold V) (sys : System V) (dropped : List �
       go l (Leaf d) i = transition
       go l (Joint bs) i =
           absurd
-          (none (AtEvent l.event) (s1 (record { event = i.event; stands = i.is_event; parts = bs; has = one_here i.event.ways l.way (Joint bs) i.is_way })))
+          (none (AtEvent l.event) (s1 (record {
+            event = i.event;
+            stands = i.is_event;
+            parts = bs;
+            has = one_here i.event.ways l.way (Joint bs) i.is_way;
+          })))
 
   state_told : (unit : ℕ) (x : Variable V) → Told (IsStateOf unit x)
   state_told unit x = elim (both_told (bool_told x.is_state true) (cases_eq x.unit unit)) [
@@ -130,7 +135,8 @@ module _ {V : Type 0} (key_told : AreTold V) (sys : System V) (dropped : List �
       go (first_or_none (IsNamedStateOf unit w) (named_told unit w) sys.net.variables)
       (first_or_none (IsStateOf unit) (state_told unit) sys.net.variables)
     where
-      go : ((n : ℕ) × IsFirst sys.net.variables (IsNamedStateOf unit w) n) ⊎ HasNo sys.net.variables (IsNamedStateOf unit w)
+      go : ((n : ℕ) × IsFirst sys.net.variables (IsNamedStateOf unit w) n)
+          ⊎ HasNo sys.net.variables (IsNamedStateOf unit w)
           → ((n : ℕ) × IsFirst sys.net.variables (IsStateOf unit) n) ⊎ HasNo sys.net.variables (IsStateOf unit)
           → HasMode unit w
       go (inl f) q = record { number = f.0; variable = f.1.item; stands = f.1.stands; is_mode = named f.1 }
@@ -150,7 +156,16 @@ module _ {V : Type 0} (key_told : AreTold V) (sys : System V) (dropped : List �
           mode = m;
           alone = λ y g.
               ⊎_elim (λ e. e)
-              (λ n. absurd (none (AtVariable h.number) (s3 (record { label = l; way = w; variable = h.variable; mode = m; other = y; named = g; differs = n }))))
+              (λ n. absurd (none (AtVariable h.number)
+              (s3 (record {
+                label = l;
+                way = w;
+                variable = h.variable;
+                mode = m;
+                other = y;
+                named = g;
+                differs = n;
+              }))))
               (key_told y h.variable.key);
         };
   }
@@ -189,7 +204,17 @@ module _ {V : Type 0} (key_told : AreTold V) (sys : System V) (dropped : List �
       let there : HasLive sys dropped k.event n =
       record { label = l; is_event = sym e; from = v; to = y; is_live = b } in
       least_refuted (HasLive sys dropped k.event)
-      (λ i h least. none (AtVariable i) (s5 (record { event = k.event; first_variable = m; second_variable = n; first = here; second = there; two = t; has = h; least = least })))
+      (λ i h least. none (AtVariable i) (s5
+      (record {
+        event = k.event;
+        first_variable = m;
+        second_variable = n;
+        first = here;
+        second = there;
+        two = t;
+        has = h;
+        least = least;
+      })))
       (suc m) m (omega arith) here
 
   pub keeps_s5 : Unbroken sys dropped S5 → KeepsS5 sys dropped
@@ -209,8 +234,12 @@ module _ {V : Type 0} (key_told : AreTold V) (sys : System V) (dropped : List �
         let e : k.event ≡ l.event =
         ⊎_elim (λ i. i) (λ d. absurd (none (AtVariable n) (s6 (by_events k l u v x h i d))))
         (cases_eq k.event l.event) in
-        let broken : AreTwo k l n n u v → ⊥ = λ t. none (AtVariable n) (s6 (by_edges k l u v x h i e t)) in
-        (e, ⊎_elim (λ i. i) (λ d. absurd (broken (ways d))) (cases_eq k.way l.way), ⊎_elim (λ i. i) (λ d. absurd (broken (modes d))) (value_told u v));
+        let broken : AreTwo k l n n u v → ⊥ = λ t. none (AtVariable n) (s6 (by_edges k l u v x h i e t)) in (
+          e,
+          ⊎_elim (λ i. i) (λ d. absurd (broken (ways d))) (cases_eq k.way l.way),
+          ⊎_elim (λ i. i)
+              (λ d. absurd (broken (modes d))) (value_told u v),
+        );
     begins = λ l n u x s h. none (AtVariable n) (s6 (initial l u x s h));
   }
 
@@ -219,7 +248,14 @@ module _ {V : Type 0} (key_told : AreTold V) (sys : System V) (dropped : List �
     assignments = λ k a s w.
         let t = targets.each k a s in
         none (AtVariable t.0)
-        (s7 (record { variable = t.1; stands = t.2; assign = a; is_one = one_here sys.net.assertions k a s; is_target = t.3; wide = w }));
+        (s7 (record {
+          variable = t.1;
+          stands = t.2;
+          assign = a;
+          is_one = one_here sys.net.assertions k a s;
+          is_target = t.3;
+          wide = w;
+        }));
     observers = λ k e s w. none (AtObserver k) (s7_observer (record { observer = e; stands = s; wide = w }));
   }
 
@@ -232,13 +268,20 @@ module _ {V : Type 0} (key_told : AreTold V) (sys : System V) (dropped : List �
           → ((e : ℕ) → IsOneOf events e → IsLiveEvent sys dropped e) → more + length events ≡ 2049 → ⊥
       grow zero events d live long =
           none AtWhole
-          (s8 (record { events = events; differ = d; live = λ k e s. live e (one_here events k e s); many = omega (arith, long) }))
+          (s8 (record {
+            events = events;
+            differ = d;
+            live = λ k e s. live e (one_here events k e s);
+            many = omega (arith, long);
+          }))
       grow (suc more) events d live long = kept (record {
         events = events;
         few = omega (arith, long);
         whole = λ e h. ⊎_elim (λ o. o) (λ lacks. absurd (grow more (events ++ e ∷ [])
-            (different_more events e d (record { has_not = λ k a s i. lacks (subst (λ (z : ℕ). IsOneOf events z) i (one_here events k a s)) }))
-            (λ f o. ⊎_elim (λ p. live f p) (λ p. ⊎_elim (λ i. subst (λ (z : ℕ). IsLiveEvent sys dropped z) i h) (λ q. absurd (one_none f q)) (one_cases e [] f p)) (one_split events (e ∷ []) f o))
+            (different_more events e d (record
+            { has_not = λ k a s i. lacks (subst (λ (z : ℕ). IsOneOf events z) i (one_here events k a s)) }))
+            (λ f o. ⊎_elim (λ p. live f p) (λ p. ⊎_elim (λ i. subst (λ (z : ℕ). IsLiveEvent sys dropped z) i h)
+            (λ q. absurd (one_none f q)) (one_cases e [] f p)) (one_split events (e ∷ []) f o))
             (longer more events e long))) (member_told events e);
       })
         where

@@ -35,7 +35,11 @@ module _ {V W : Type 0} (same : V → W → Type 0) where
       → Operand fs e
   operand r.none e c = absurd (omega (arith, c.1))
   operand (r.one_and {a = a} {es = es} {b = b} {fs = fs} q qs) e c = ⊎_elim
-      (λ i. record { other = b; is_one = contains-head b fs; renames = subst (λ z. Renames same (out-Expr V z) (out-Expr W b)) i q })
+      (λ i. record {
+        other = b;
+        is_one = contains-head b fs;
+        renames = subst (λ z. Renames same (out-Expr V z) (out-Expr W b)) i q;
+      })
       (λ h. let o = operand qs e h in record { other = o.other; is_one = is_later b fs o.other o.is_one; renames = o.renames })
       (first_or a es e c)
 
@@ -51,8 +55,11 @@ module _ {V W : Type 0} (same : V → W → Type 0) where
   summand (r.part {plus = s} {a = a} {ps = ps} {b = b} {qs = qs} q rest) plus e c = ⊎_elim
       (λ i. let j : s ≡ plus = ap (λ (z : Bool × Expr V). z.0) i in
       let k : a ≡ e = ap (λ (z : Bool × Expr V). z.1) i in
-      record
-      { other = b; is_one = subst (λ z. Contains ((s, b) ∷ qs) (z, b)) j (contains-head (s, b) qs); renames = subst (λ z. Renames same (out-Expr V z) (out-Expr W b)) k q })
+      record {
+        other = b;
+        is_one = subst (λ z. Contains ((s, b) ∷ qs) (z, b)) j (contains-head (s, b) qs);
+        renames = subst (λ z. Renames same (out-Expr V z) (out-Expr W b)) k q;
+      })
       (λ h. let o = summand rest plus e h in record { other = o.other; is_one = is_later (s, b) qs (plus, o.other) o.is_one; renames = o.renames })
       (first_or (s, a) ps (plus, e) c)
 
@@ -78,8 +85,14 @@ module _ {V W : Type 0} (same : V → W → Type 0) where
         renames_value = subst (λ z. Renames same (out-Expr V z) (out-Expr W d)) k s;
       })
       (λ k. let o = case_there rest test value k in
-      record
-      { other_test = o.other_test; other_value = o.other_value; is_one = is_later (c, d) ds (o.other_test, o.other_value) o.is_one; renames_test = o.renames_test; renames_value = o.renames_value })
+      record {
+        other_test = o.other_test;
+        other_value = o.other_value;
+        is_one = is_later (c, d) ds (o.other_test, o.other_value) o.is_one;
+        renames_test =
+            o.renames_test;
+        renames_value = o.renames_value;
+      })
       (first_or (a, b) cs (test, value) h)
 
   -- the subexpression at the same place

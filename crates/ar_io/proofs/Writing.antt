@@ -14,11 +14,19 @@ rose_after a b c h (inr r) = inr r
 
 -- the first bytes of a text are first bytes of a longer one
 pub front_left : (front s t : List ℕ) → IsFront front s → IsFront front (s ++ t)
-front_left front s t i = record { rest = i.rest ++ t; joined = sym (append_assoc front i.rest t) ∙ ap (λ (z : List ℕ). z ++ t) i.joined }
+front_left front s t i = record {
+  rest = i.rest ++ t;
+  joined = sym (append_assoc front i.rest t)
+      ∙ ap (λ (z : List ℕ). z ++ t) i.joined;
+}
 
 -- a text and the first bytes of the next are first bytes of both
 pub front_right : (s front t : List ℕ) → IsFront front t → IsFront (s ++ front) (s ++ t)
-front_right s front t i = record { rest = i.rest; joined = append_assoc s front i.rest ∙ ap (λ (z : List ℕ). s ++ z) i.joined }
+front_right s front t i = record {
+  rest = i.rest;
+  joined = append_assoc s front i.rest
+      ∙ ap (λ (z : List ℕ). s ++ z) i.joined;
+}
 
 -- one text and then the next
 pub appended_more : (a b c : Option (List ℕ)) (s t : List ℕ) → Appended a b s → Appended b c t → Appended a c (s ++ t)
@@ -52,15 +60,18 @@ pub writes_cut : {a b : SinkState} {e : SinkFailed} (s t : List ℕ) → Writes 
 writes_cut s t h = record { whole = tt; cut = cut_longer s t h.cut; rose = h.rose; rises = h.rises }
 
 -- what is returned at the exit of a `?`
-pub writes_exit : {a b : SinkState} {e : SinkFailed} {s : List ℕ} (r : Result (Unit {0}) SinkFailed) (Q : SinkFailed → Type 0) → IsErrAnd r Q → Writes a b s (Err e) → Writes a b s r
-writes_exit {a = a} {b = b} {s = s} r Q i h = subst (λ (z : Result (Unit {0}) SinkFailed). Writes a b s z) (sym (err_from_is_err_and r i).1) h
+pub writes_exit : {a b : SinkState} {e : SinkFailed} {s : List ℕ} (r : Result (Unit {0}) SinkFailed)
+    (Q : SinkFailed → Type 0) → IsErrAnd r Q → Writes a b s (Err e) → Writes a b s r
+writes_exit {a = a} {b = b} {s = s} r Q i h =
+    subst (λ (z : Result (Unit {0}) SinkFailed). Writes a b s z) (sym (err_from_is_err_and r i).1) h
 
 -- nothing is written
 pub writes_none : (s : SinkState) → Writes s s [] (Ok tt)
 writes_none s = record { whole = λ bytes e. rw append-nil e; cut = tt; rose = tt; rises = omega arith }
 
 -- the same text in another form
-pub writes_as : {a b : SinkState} {r : Result (Unit {0}) SinkFailed} (s t : List ℕ) → s ≡ t → Writes a b s r → Writes a b t r
+pub writes_as : {a b : SinkState} {r : Result (Unit {0}) SinkFailed} (s t : List ℕ) → s ≡ t → Writes a b s r
+    → Writes a b t r
 writes_as {a = a} {b = b} {r = r} s t e h = subst (λ (z : List ℕ). Writes a b z r) e h
 
 -- all of a text is left before its first piece
@@ -69,27 +80,40 @@ leaves_all s text = record { front = []; writes = writes_none s; joined = refl }
 
 module _ {a b c : SinkState} {text piece : List ℕ} where
   -- the next piece of what is left is written
-  pub leaves_on : (old left : List ℕ) → Leaves a b old text → Writes b c piece (Ok tt) → old ≡ piece ++ left → Leaves a c left text
-  leaves_on old left r h e = record { front = r.front ++ piece; writes = writes_on r.writes h; joined = append_assoc r.front piece left ∙ ap (λ (z : List ℕ). r.front ++ z) (sym e) ∙ r.joined }
+  pub leaves_on : (old left : List ℕ) → Leaves a b old text → Writes b c piece (Ok tt) → old ≡ piece ++ left
+      → Leaves a c left text
+  leaves_on old left r h e = record {
+    front = r.front ++ piece;
+    writes = writes_on r.writes h;
+    joined = append_assoc r.front piece left ∙ ap (λ (z : List ℕ). r.front ++ z) (sym e) ∙ r.joined;
+  }
 
   -- the next piece is cut, and with it the text
-  pub leaves_cut : {e : SinkFailed} (old left : List ℕ) → Leaves a b old text → Writes b c piece (Err e) → old ≡ piece ++ left → Writes a c text (Err e)
-  leaves_cut {e = d} old left g h e = writes_as (g.front ++ old) text g.joined (writes_on g.writes (writes_as (piece ++ left) old (sym e) (writes_cut piece left h)))
+  pub leaves_cut : {e : SinkFailed} (old left : List ℕ) → Leaves a b old text → Writes b c piece (Err e)
+      → old ≡ piece ++ left → Writes a c text (Err e)
+  leaves_cut {e = d} old left g h e =
+      writes_as (g.front ++ old) text g.joined
+      (writes_on g.writes (writes_as (piece ++ left) old (sym e) (writes_cut piece left h)))
 
 -- nothing is left, and the text is written
-pub leaves_none : {a b : SinkState} {text : List ℕ} (left : List ℕ) → Leaves a b left text → left ≡ [] → Writes a b text (Ok tt)
-leaves_none {a = a} {b = b} {text = text} left g e = writes_as g.front text (sym (append-nil g.front) ∙ ap (λ (z : List ℕ). g.front ++ z) (sym e) ∙ g.joined) g.writes
+pub leaves_none : {a b : SinkState} {text : List ℕ} (left : List ℕ) → Leaves a b left text → left ≡ []
+    → Writes a b text (Ok tt)
+leaves_none {a = a} {b = b} {text = text} left g e =
+    writes_as g.front text (sym (append-nil g.front) ∙ ap (λ (z : List ℕ). g.front ++ z) (sym e) ∙ g.joined) g.writes
 
 -- what is left of a list begins with the item at hand
-pub next_item : {A : Type 0} (F : List A → List ℕ) (xs : List A) (i : ℕ) (x : A) → i < length xs → x ≡ get_or xs i x → F (drop i xs) ≡ F (x ∷ drop (i + 1) xs)
+pub next_item : {A : Type 0} (F : List A → List ℕ) (xs : List A) (i : ℕ) (x : A) → i < length xs → x ≡ get_or xs i x
+    → F (drop i xs) ≡ F (x ∷ drop (i + 1) xs)
 next_item F xs i x h is = at_drop_more F xs i x h ∙ ap (λ z. F (z ∷ drop (i + 1) xs)) (sym is)
 
 -- the same for an item that is read at its place
-pub next_read : {A : Type 0} (F : List A → List ℕ) (xs : List A) (i : ℕ) (d : A) → i < length xs → F (drop i xs) ≡ F (get_or xs i d ∷ drop (i + 1) xs)
+pub next_read : {A : Type 0} (F : List A → List ℕ) (xs : List A) (i : ℕ) (d : A) → i < length xs
+    → F (drop i xs) ≡ F (get_or xs i d ∷ drop (i + 1) xs)
 next_read F xs i d h = at_drop_more F xs i d h
 
 -- the same for some item
-pub next_some : {A : Type 0} (F : List A → List ℕ) (xs : List A) (i : ℕ) → i < length xs → (x : A) × (F (drop i xs) ≡ F (x ∷ drop (i + 1) xs))
+pub next_some : {A : Type 0} (F : List A → List ℕ) (xs : List A) (i : ℕ) → i < length xs
+    → (x : A) × (F (drop i xs) ≡ F (x ∷ drop (i + 1) xs))
 next_some F xs i h = let p = stands_some xs i h in (get_or xs i p.0, next_read F xs i p.0 h)
 
 -- nothing is left of a list

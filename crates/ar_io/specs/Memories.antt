@@ -8,14 +8,16 @@ use Rattle.std.specs.Str.{bytes_eq}
 use Rattle.ar_io.specs.Outside.{Told, Bytes, Absent}
 use Rattle.ar_io.specs.Writing.{SinkState}
 
--- a shelf in memory: the named texts, the numbers of the calls that are to fail, the calls so far, and the faults so far
+-- a shelf in memory: the named texts, the numbers of the calls that are to fail, the calls so far, and the faults so
+-- far
 pub record Shelved : Type 0 where
   pub texts : List (List ℕ × List ℕ)
   pub failing : List ℕ
   pub calls : ℕ
   pub fault_count : ℕ
 
--- a sink in memory: what was written, the room for it, the numbers of the calls that are to fail, the calls and the faults so far
+-- a sink in memory: what was written, the room for it, the numbers of the calls that are to fail, the calls and the
+-- faults so far
 pub record Sunk : Type 0 where
   pub bytes : List ℕ
   pub room : ℕ

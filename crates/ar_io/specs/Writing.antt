@@ -19,7 +19,8 @@ Appended old new text = (bytes : List ℕ) → old ≡ Some bytes → new ≡ So
 
 -- where the sink tells its bytes, they are the old ones and the first bytes of the text, or all
 abbrev pub Cut : Option (List ℕ) → Option (List ℕ) → List ℕ → Type 0
-Cut old new text = (bytes : List ℕ) → old ≡ Some bytes → (front : List ℕ) × IsFront front text × (new ≡ Some (bytes ++ front))
+Cut old new text = (bytes : List ℕ) → old ≡ Some bytes
+    → (front : List ℕ) × IsFront front text × (new ≡ Some (bytes ++ front))
 
 -- the text is written, or it is cut and the count of faults rose; the count falls in no case
 pub record Writes (old new : SinkState) (text : List ℕ) (result : Result (Unit {0}) SinkFailed) : Type 0 where

@@ -43,12 +43,15 @@ sign_len (b ∷ bs) h = let l = leb-true (length bs) 2 (and_parts _ (nat_le (len
 pub sign_short : (text : List ℕ) (n : ℕ) → place_in signs text ≡ Some n → (1 ≤ length text) × (length text ≤ 3)
 sign_short text n h = sign_len text (sign_passes text n h)
 
-pub sign_head : (b : ℕ) (bs : List ℕ) (n : ℕ) → place_in signs (b ∷ bs) ≡ Some n → (is_letter b ≡ false) × ((is_ascii_digit b ≡ false) × (is_blank b ≡ false))
-sign_head b bs n h = none_of (is_letter b) (is_ascii_digit b) (is_blank b) (and_parts (not (is_letter b || (is_ascii_digit b || is_blank b))) _ (sign_passes (b ∷ bs) n h)).0
+pub sign_head : (b : ℕ) (bs : List ℕ) (n : ℕ) → place_in signs (b ∷ bs) ≡ Some n
+    → (is_letter b ≡ false) × ((is_ascii_digit b ≡ false) × (is_blank b ≡ false))
+sign_head b bs n h = none_of (is_letter b) (is_ascii_digit b) (is_blank b)
+    (and_parts (not (is_letter b || (is_ascii_digit b || is_blank b))) _ (sign_passes (b ∷ bs) n h)).0
 
 -- Fronts of a text, by its first byte
 
-front_head : (b : ℕ) (rest front back : List ℕ) → (b ∷ rest) ≡ front ++ back → IsTokenText front → (more : List ℕ) × (front ≡ b ∷ more)
+front_head : (b : ℕ) (rest front back : List ℕ) → (b ∷ rest) ≡ front ++ back → IsTokenText front
+    → (more : List ℕ) × (front ≡ b ∷ more)
 front_head b rest [] back e (word h) = elim h [ ]
 front_head b rest [] back e (whole h) = elim h [ ]
 front_head b rest [] back e (real h) = absurd (no_real h)
@@ -80,14 +83,16 @@ word_form b bs l (real h) = absurd (letter_no_digit b l (real_head b bs h))
 word_form b bs l (sign n h) = let q : true ≡ false = sym l ∙ (sign_head b bs n h).0 in absurd (cc)
 
 -- what begins with a digit is a number
-pub number_form : (b : ℕ) (bs : List ℕ) → is_ascii_digit b ≡ true → IsTokenText (b ∷ bs) → IsDigits (b ∷ bs) ⊎ IsReal (b ∷ bs)
+pub number_form : (b : ℕ) (bs : List ℕ) → is_ascii_digit b ≡ true → IsTokenText (b ∷ bs)
+    → IsDigits (b ∷ bs) ⊎ IsReal (b ∷ bs)
 number_form b bs d (word h) = absurd (letter_no_digit b h.0 d)
 number_form b bs d (whole h) = inl h
 number_form b bs d (real h) = inr h
 number_form b bs d (sign n h) = let q : true ≡ false = sym d ∙ (sign_head b bs n h).1.0 in absurd (cc)
 
 -- what begins with neither is a sign
-pub sign_form : (b : ℕ) (bs : List ℕ) → is_letter b ≡ false → is_ascii_digit b ≡ false → IsTokenText (b ∷ bs) → (n : ℕ) × (place_in signs (b ∷ bs) ≡ Some n)
+pub sign_form : (b : ℕ) (bs : List ℕ) → is_letter b ≡ false → is_ascii_digit b ≡ false → IsTokenText (b ∷ bs)
+    → (n : ℕ) × (place_in signs (b ∷ bs) ≡ Some n)
 sign_form b bs l d (word h) = let q : true ≡ false = sym h.0 ∙ l in absurd (cc)
 sign_form b bs l d (whole h) = let q : true ≡ false = sym (digits_head b bs h) ∙ d in absurd (cc)
 sign_form b bs l d (real h) = let q : true ≡ false = sym (real_head b bs h) ∙ d in absurd (cc)
@@ -102,39 +107,53 @@ blank_form b bs k (sign n h) = let q : true ≡ false = sym k ∙ (sign_head b b
 
 -- What the fronts of a text that are tokens are
 
-pub word_fronts : (b : ℕ) (rest front back : List ℕ) → is_letter b ≡ true → (b ∷ rest) ≡ front ++ back → IsTokenText front → length front ≤ prefix_len is_word_byte (b ∷ rest)
+pub word_fronts : (b : ℕ) (rest front back : List ℕ) → is_letter b ≡ true → (b ∷ rest) ≡ front ++ back
+    → IsTokenText front → length front ≤ prefix_len is_word_byte (b ∷ rest)
 word_fronts b rest front back l e h =
     let f = front_head b rest front back e h in
     let w : IsWord (b ∷ f.0) = word_form b f.0 l (subst IsTokenText f.1 h) in
     let q : (b ∷ rest) ≡ (b ∷ f.0) ++ back = e ∙ ap (λ (s : List ℕ). s ++ back) f.1 in
     let n : length front ≡ length (b ∷ f.0) = ap length f.1 in
-    let r : length (b ∷ f.0) ≤ prefix_len is_word_byte ((b ∷ f.0) ++ back) = run_longest is_word_byte (b ∷ f.0) back (letter_of_word b l, w.1) in
-    let k : prefix_len is_word_byte (b ∷ rest) ≡ prefix_len is_word_byte ((b ∷ f.0) ++ back) = ap (prefix_len is_word_byte) q in
+    let r : length (b ∷ f.0) ≤ prefix_len is_word_byte ((b ∷ f.0) ++ back) =
+    run_longest is_word_byte (b ∷ f.0) back (letter_of_word b l, w.1) in
+    let k : prefix_len is_word_byte (b ∷ rest) ≡ prefix_len is_word_byte ((b ∷ f.0) ++ back) =
+    ap (prefix_len is_word_byte) q in
     omega (arith, n, r, k)
 
-number_front : (rest front back : List ℕ) (t : ℕ) → IsLongestFront IsTail (drop (prefix_len is_ascii_digit rest) rest) t → rest ≡ front ++ back → IsDigits front ⊎ IsReal front → length front ≤ prefix_len is_ascii_digit rest + t
+number_front : (rest front back : List ℕ) (t : ℕ) → IsLongestFront IsTail (drop (prefix_len is_ascii_digit rest) rest) t
+    → rest ≡ front ++ back → IsDigits front ⊎ IsReal front → length front ≤ prefix_len is_ascii_digit rest + t
 number_front rest front back t tail e (inl h) = let l = digits_longest front rest back e h in omega (arith, l)
 number_front rest front back t tail e (inr h) =
     let a : rest ≡ h.0 ++ (h.1 ++ back) = e ∙ ap (λ (s : List ℕ). s ++ back) h.2 ∙ append_assoc h.0 h.1 back in
-    let d : prefix_len is_ascii_digit rest ≡ length h.0 = ap (prefix_len is_ascii_digit) a ∙ run_exact is_ascii_digit h.0 (h.1 ++ back) (digits_pass h.0 h.3) (tail_fails h.1 back h.4) in
-    let r : drop (prefix_len is_ascii_digit rest) rest ≡ h.1 ++ back = ap (drop (prefix_len is_ascii_digit rest)) a ∙ drop_at h.0 (h.1 ++ back) (prefix_len is_ascii_digit rest) (sym d) in
+    let d : prefix_len is_ascii_digit rest ≡ length h.0 =
+    ap (prefix_len is_ascii_digit) a
+    ∙ run_exact is_ascii_digit h.0 (h.1 ++ back) (digits_pass h.0 h.3) (tail_fails h.1 back h.4) in
+    let r : drop (prefix_len is_ascii_digit rest) rest ≡ h.1 ++ back =
+    ap (drop (prefix_len is_ascii_digit rest)) a
+    ∙ drop_at h.0 (h.1 ++ back) (prefix_len is_ascii_digit rest) (sym d) in
     let l = tail.none_longer h.1 back r h.4 in
     let n : length front ≡ length h.0 + length h.1 = ap length h.2 ∙ length-append h.0 h.1 in
     omega (arith, d, l, n)
 
-pub number_fronts : (b : ℕ) (rest front back : List ℕ) (t : ℕ) → is_ascii_digit b ≡ true → IsLongestFront IsTail (drop (prefix_len is_ascii_digit (b ∷ rest)) (b ∷ rest)) t → (b ∷ rest) ≡ front ++ back → IsTokenText front → length front ≤ prefix_len is_ascii_digit (b ∷ rest) + t
+pub number_fronts : (b : ℕ) (rest front back : List ℕ) (t : ℕ) → is_ascii_digit b ≡ true
+    → IsLongestFront IsTail (drop (prefix_len is_ascii_digit (b ∷ rest)) (b ∷ rest)) t → (b ∷ rest) ≡ front ++ back
+    → IsTokenText front → length front ≤ prefix_len is_ascii_digit (b ∷ rest) + t
 number_fronts b rest front back t d tail e h =
     let f = front_head b rest front back e h in
-    number_front (b ∷ rest) front back t tail e (subst (λ (s : List ℕ). IsDigits s ⊎ IsReal s) (sym f.1) (number_form b f.0 d (subst IsTokenText f.1 h)))
+    number_front (b ∷ rest) front back t tail e
+    (subst (λ (s : List ℕ). IsDigits s ⊎ IsReal s) (sym f.1) (number_form b f.0 d (subst IsTokenText f.1 h)))
 
-pub sign_fronts : (b : ℕ) (rest front back : List ℕ) → is_letter b ≡ false → is_ascii_digit b ≡ false → (b ∷ rest) ≡ front ++ back → IsTokenText front → (n : ℕ) × (place_in signs front ≡ Some n)
+pub sign_fronts : (b : ℕ) (rest front back : List ℕ) → is_letter b ≡ false → is_ascii_digit b ≡ false
+    → (b ∷ rest) ≡ front ++ back → IsTokenText front → (n : ℕ) × (place_in signs front ≡ Some n)
 sign_fronts b rest front back l d e h =
     let f = front_head b rest front back e h in
     let s = sign_form b f.0 l d (subst IsTokenText f.1 h) in
     (s.0, subst (λ (s' : List ℕ). place_in signs s' ≡ Some s.0) (sym f.1) s.1)
 
 -- A token of so many bytes at the front
-pub token_front : (kind : TokenKind) (rest : List ℕ) (n : ℕ) → n ≤ length rest → IsOfKind kind (take n rest) → ((front back : List ℕ) → rest ≡ front ++ back → IsTokenText front → length front ≤ n) → (BeginsComment rest → ⊥) → IsTokenOf kind (take n rest) (drop n rest)
+pub token_front : (kind : TokenKind) (rest : List ℕ) (n : ℕ) → n ≤ length rest → IsOfKind kind (take n rest)
+    → ((front back : List ℕ) → rest ≡ front ++ back → IsTokenText front → length front ≤ n) → (BeginsComment rest → ⊥)
+    → IsTokenOf kind (take n rest) (drop n rest)
 token_front kind rest n within of longest none = record {
   of_kind = of;
   longest = λ front back e h.

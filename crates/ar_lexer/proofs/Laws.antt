@@ -29,7 +29,8 @@ longer_front (x ∷ xs) (y ∷ ys) a b e l =
     (more.0, ap (λ (z : ℕ). z ∷ ys) (sym (cons_head e)) ∙ ap (λ (s : List ℕ). x ∷ s) more.1)
 
 same_front : (xs ys a b : List ℕ) → xs ++ a ≡ ys ++ b → length xs ≡ length ys → xs ≡ ys
-same_front xs ys a b e l = sym (take_at xs a (length xs) refl) ∙ ap (take (length xs)) e ∙ take_at ys b (length xs) (sym l)
+same_front xs ys a b e l = sym (take_at xs a (length xs) refl) ∙ ap (take (length xs)) e
+    ∙ take_at ys b (length xs) (sym l)
 
 same_back : (xs ys a b : List ℕ) → xs ++ a ≡ ys ++ b → xs ≡ ys → a ≡ b
 same_back xs ys a b e same = append_cancel_left xs a b (e ∙ ap (λ (s : List ℕ). s ++ b) (sym same))
@@ -40,7 +41,8 @@ before_line_end : (after : List ℕ) → IsLineEnd after → HeadFails (λ b. no
 before_line_end [] h = tt
 before_line_end (b ∷ after) h = ap not h
 
-same_line : (body body' a b : List ℕ) → AllPass (λ b. not (is_line_feed b)) body → AllPass (λ b. not (is_line_feed b)) body' → IsLineEnd a → IsLineEnd b → body ++ a ≡ body' ++ b → body ≡ body'
+same_line : (body body' a b : List ℕ) → AllPass (λ b. not (is_line_feed b)) body
+    → AllPass (λ b. not (is_line_feed b)) body' → IsLineEnd a → IsLineEnd b → body ++ a ≡ body' ++ b → body ≡ body'
 same_line body body' a b h h' l l' e =
     let p = run_exact (λ b. not (is_line_feed b)) body a h (before_line_end a l) in
     let q = run_exact (λ b. not (is_line_feed b)) body' b h' (before_line_end b l') in
@@ -49,11 +51,15 @@ same_line body body' a b h h' l l' e =
 le_or_lt : (m n : ℕ) → (n ≤ m) ⊎ (m < n)
 le_or_lt m zero = inl (omega arith)
 le_or_lt zero (suc n) = inr (omega arith)
-le_or_lt (suc m) (suc n) = elim (le_or_lt m n) as (λ _. (suc n ≤ suc m) ⊎ (suc m < suc n)) [ inl l ↦ inl (omega (arith, l)) | inr l ↦ inr (omega (arith, l)) ]
+le_or_lt (suc m) (suc n) = elim (le_or_lt m n) as (λ _. (suc n ≤ suc m) ⊎ (suc m < suc n))
+    [ inl l ↦ inl (omega (arith, l)) | inr l ↦ inr (omega (arith, l)) ]
 
 -- the first close is not behind another
-close_not_longer : (body body' a b : List ℕ) → (body ++ codes "*/") ++ a ≡ (body' ++ codes "*/") ++ b → ((back : List ℕ) → Closes (body' ++ codes "*/") back → back ≡ []) → length body' ≤ length body
-close_not_longer body body' a b e first = elim (le_or_lt (length body) (length body')) as (λ _. length body' ≤ length body) [ inl l ↦ l | inr l ↦ absurd (longer l) ]
+close_not_longer : (body body' a b : List ℕ) → (body ++ codes "*/") ++ a ≡ (body' ++ codes "*/") ++ b
+    → ((back : List ℕ) → Closes (body' ++ codes "*/") back → back ≡ []) → length body' ≤ length body
+close_not_longer body body' a b e first =
+    elim (le_or_lt (length body) (length body')) as (λ _. length body' ≤ length body)
+    [ inl l ↦ l | inr l ↦ absurd (longer l) ]
   where
     longer : length body < length body' → ⊥
     longer l =
@@ -61,11 +67,14 @@ close_not_longer body body' a b e first = elim (le_or_lt (length body) (length b
         let n' : length (body' ++ codes "*/") ≡ length body' + 2 = length-append body' (codes "*/") in
         let more = longer_front (body ++ codes "*/") (body' ++ codes "*/") a b e (omega (arith, n, n', l)) in
         let none : more.0 ≡ [] = first more.0 (body, more.1 ∙ append_assoc body (codes "*/") more.0) in
-        let k : length (body' ++ codes "*/") ≡ length (body ++ codes "*/") + length more.0 = ap length more.1 ∙ length-append (body ++ codes "*/") more.0 in
+        let k : length (body' ++ codes "*/") ≡ length (body ++ codes "*/") + length more.0 =
+        ap length more.1 ∙ length-append (body ++ codes "*/") more.0 in
         let z : length more.0 ≡ 0 = ap length none in
         omega (arith, n, n', l, k, z)
 
-same_block : (body body' a b : List ℕ) → ((back : List ℕ) → Closes (body ++ codes "*/") back → back ≡ []) → ((back : List ℕ) → Closes (body' ++ codes "*/") back → back ≡ []) → (body ++ codes "*/") ++ a ≡ (body' ++ codes "*/") ++ b → body ++ codes "*/" ≡ body' ++ codes "*/"
+same_block : (body body' a b : List ℕ) → ((back : List ℕ) → Closes (body ++ codes "*/") back → back ≡ [])
+    → ((back : List ℕ) → Closes (body' ++ codes "*/") back → back ≡ [])
+    → (body ++ codes "*/") ++ a ≡ (body' ++ codes "*/") ++ b → body ++ codes "*/" ≡ body' ++ codes "*/"
 same_block body body' a b first first' e =
     let l = close_not_longer body body' a b e first' in
     let l' = close_not_longer body' body b a (sym e) first in
@@ -87,18 +96,22 @@ gap_one p q a b (blank x i h) (block_comment body j k) e =
 gap_one p q a b (line_comment body i h l) (blank y j k) e =
     let f : 47 ∷ 47 ∷ (body ++ a) ≡ y ∷ b = sym (ap (λ (s : List ℕ). s ++ a) i) ∙ e ∙ ap (λ (s : List ℕ). s ++ b) j in absurd (blank_no_slash y 0 k (sym (cons_head f)))
 gap_one p q a b (line_comment body i h l) (line_comment body' j k m) e =
-    let f : 47 ∷ 47 ∷ (body ++ a) ≡ 47 ∷ 47 ∷ (body' ++ b) = sym (ap (λ (s : List ℕ). s ++ a) i) ∙ e ∙ ap (λ (s : List ℕ). s ++ b) j in
+    let f : 47 ∷ 47 ∷ (body ++ a) ≡ 47 ∷ 47 ∷ (body' ++ b) =
+    sym (ap (λ (s : List ℕ). s ++ a) i) ∙ e ∙ ap (λ (s : List ℕ). s ++ b) j in
     i ∙ ap (λ (s : List ℕ). 47 ∷ 47 ∷ s) (same_line body body' a b h k l m (cons_tail (cons_tail f))) ∙ sym j
 gap_one p q a b (line_comment body i h l) (block_comment body' j k) e =
-    let f : 47 ∷ 47 ∷ (body ++ a) ≡ 47 ∷ 42 ∷ ((body' ++ codes "*/") ++ b) = sym (ap (λ (s : List ℕ). s ++ a) i) ∙ e ∙ ap (λ (s : List ℕ). s ++ b) j in
+    let f : 47 ∷ 47 ∷ (body ++ a) ≡ 47 ∷ 42 ∷ ((body' ++ codes "*/") ++ b) =
+    sym (ap (λ (s : List ℕ). s ++ a) i) ∙ e ∙ ap (λ (s : List ℕ). s ++ b) j in
     let g : 47 ≡ 42 = cons_head (cons_tail f) in absurd (omega (arith, g))
 gap_one p q a b (block_comment body i h) (blank y j k) e =
     let f : 47 ∷ 42 ∷ ((body ++ codes "*/") ++ a) ≡ y ∷ b = sym (ap (λ (s : List ℕ). s ++ a) i) ∙ e ∙ ap (λ (s : List ℕ). s ++ b) j in absurd (blank_no_slash y 0 k (sym (cons_head f)))
 gap_one p q a b (block_comment body i h) (line_comment body' j k m) e =
-    let f : 47 ∷ 42 ∷ ((body ++ codes "*/") ++ a) ≡ 47 ∷ 47 ∷ (body' ++ b) = sym (ap (λ (s : List ℕ). s ++ a) i) ∙ e ∙ ap (λ (s : List ℕ). s ++ b) j in
+    let f : 47 ∷ 42 ∷ ((body ++ codes "*/") ++ a) ≡ 47 ∷ 47 ∷ (body' ++ b) =
+    sym (ap (λ (s : List ℕ). s ++ a) i) ∙ e ∙ ap (λ (s : List ℕ). s ++ b) j in
     let g : 42 ≡ 47 = cons_head (cons_tail f) in absurd (omega (arith, g))
 gap_one p q a b (block_comment body i h) (block_comment body' j k) e =
-    let f : 47 ∷ 42 ∷ ((body ++ codes "*/") ++ a) ≡ 47 ∷ 42 ∷ ((body' ++ codes "*/") ++ b) = sym (ap (λ (s : List ℕ). s ++ a) i) ∙ e ∙ ap (λ (s : List ℕ). s ++ b) j in
+    let f : 47 ∷ 42 ∷ ((body ++ codes "*/") ++ a) ≡ 47 ∷ 42 ∷ ((body' ++ codes "*/") ++ b) =
+    sym (ap (λ (s : List ℕ). s ++ a) i) ∙ e ∙ ap (λ (s : List ℕ). s ++ b) j in
     i ∙ ap (λ (s : List ℕ). 47 ∷ 42 ∷ s) (same_block body body' a b h k (cons_tail (cons_tail f))) ∙ sym j
 
 -- Kinds
@@ -204,12 +217,16 @@ token_text_one k l p q a b h g e =
     let n = g.longest p a (sym e) (text_of_kind k p h.of_kind) in
     same_front p q a b e (omega (arith, m, n))
 
-token_one : (before p q a b : List ℕ) (t u : Token) → IsToken before p a t → IsToken before q b u → p ++ a ≡ q ++ b → (p ≡ q) × (t ≡ u)
+token_one : (before p q a b : List ℕ) (t u : Token) → IsToken before p a t → IsToken before q b u → p ++ a ≡ q ++ b
+    → (p ≡ q) × (t ≡ u)
 token_one before p q a b t u h g e =
     let s = token_text_one t.kind u.kind p q a b h.of_kind g.of_kind e in
     let n : length p ≡ length q = ap length s in
-    let x = h.to in let y = g.to in
-    (s, same_token t u (kind_one t.kind u.kind q (subst (IsOfKind t.kind) s h.of_kind.of_kind) g.of_kind.of_kind) (h.from ∙ sym g.from) (omega (arith, x, y, n)) (h.at ∙ sym g.at))
+    let x = h.to in let y = g.to in (
+      s,
+      same_token t u (kind_one t.kind u.kind q (subst (IsOfKind t.kind) s h.of_kind.of_kind) g.of_kind.of_kind)
+          (h.from ∙ sym g.from) (omega (arith, x, y, n)) (h.at ∙ sym g.at),
+    )
 
 no_empty_text : IsTokenText [] → ⊥
 no_empty_text (word h) = elim h [ ]
@@ -263,7 +280,8 @@ stuck_nothing rest n = record {
     no_gap : (p a : List ℕ) → rest ≡ p ++ a → IsGap p a → ⊥
     no_gap p a e (blank x i h) = n.no_blank x a (e ∙ ap (λ (t : List ℕ). t ++ a) i) h
     no_gap p a e (line_comment body i h l) = n.no_comment (body ++ a, inl (e ∙ ap (λ (t : List ℕ). t ++ a) i))
-    no_gap p a e (block_comment body i h) = n.no_comment ((body ++ codes "*/") ++ a, inr (e ∙ ap (λ (t : List ℕ). t ++ a) i))
+    no_gap p a e (block_comment body i h) =
+        n.no_comment ((body ++ codes "*/") ++ a, inr (e ∙ ap (λ (t : List ℕ). t ++ a) i))
 
 stuck_open : (rest : List ℕ) → IsOpenComment rest → IsStuck rest
 stuck_open rest o = record {
@@ -277,7 +295,8 @@ stuck_open rest o = record {
         let f : 47 ∷ 47 ∷ (body ++ a) ≡ 47 ∷ 42 ∷ o.0 = sym (ap (λ (t : List ℕ). t ++ a) i) ∙ sym e ∙ o.1 in
         let g : 47 ≡ 42 = cons_head (cons_tail f) in absurd (omega (arith, g))
     no_gap p a e (block_comment body i h) =
-        let f : 47 ∷ 42 ∷ ((body ++ codes "*/") ++ a) ≡ 47 ∷ 42 ∷ o.0 = sym (ap (λ (t : List ℕ). t ++ a) i) ∙ sym e ∙ o.1 in
+        let f : 47 ∷ 42 ∷ ((body ++ codes "*/") ++ a) ≡ 47 ∷ 42 ∷ o.0 =
+        sym (ap (λ (t : List ℕ). t ++ a) i) ∙ sym e ∙ o.1 in
         o.2 a (body, sym (cons_tail (cons_tail f)) ∙ append_assoc body (codes "*/") a)
 
 digits_no_gap : (p q a b : List ℕ) → IsGap p a → IsDigits q → p ++ a ≡ q ++ b → ⊥
@@ -324,7 +343,8 @@ pub record SameCut (ps qs : List (List ℕ)) (a b : List ℕ) (ts us : List Toke
   pub rests : a ≡ b
   pub found : ts ≡ us
 
-pub cut_one : (before : List ℕ) (ps qs : List (List ℕ)) (a b : List ℕ) (ts us : List Token) → AreCut before ps a ts → AreCut before qs b us → joined ps a ≡ joined qs b → IsStuck a → IsStuck b → SameCut ps qs a b ts us
+pub cut_one : (before : List ℕ) (ps qs : List (List ℕ)) (a b : List ℕ) (ts us : List Token) → AreCut before ps a ts
+    → AreCut before qs b us → joined ps a ≡ joined qs b → IsStuck a → IsStuck b → SameCut ps qs a b ts us
 cut_one before [] [] a b ts us h g e s t = record { pieces = refl; rests = e; found = h ∙ sym g }
 cut_one before [] (q ∷ qs) a b ts us h (inl g) e s t = absurd (s.no_gap q (joined qs b) e g.0)
 cut_one before [] (q ∷ qs) a b ts us h (inr g) e s t = absurd (s.no_token g.0.kind q (joined qs b) e g.3.of_kind)
@@ -332,13 +352,22 @@ cut_one before (p ∷ ps) [] a b ts us (inl h) g e s t = absurd (t.no_gap p (joi
 cut_one before (p ∷ ps) [] a b ts us (inr h) g e s t = absurd (t.no_token h.0.kind p (joined ps a) (sym e) h.3.of_kind)
 cut_one before (p ∷ ps) (q ∷ qs) a b ts us (inl h) (inl g) e s t =
     let same = gap_one p q (joined ps a) (joined qs b) h.0 g.0 e in
-    let more = cut_one (before ++ q) ps qs a b ts us (subst (λ (r : List ℕ). AreCut (before ++ r) ps a ts) same h.1) g.1 (same_back p q (joined ps a) (joined qs b) e same) s t in
-    record { pieces = ap (λ (r : List ℕ). r ∷ ps) same ∙ ap (λ (rs : List (List ℕ)). q ∷ rs) more.pieces; rests = more.rests; found = more.found }
-cut_one before (p ∷ ps) (q ∷ qs) a b ts us (inl h) (inr g) e s t = absurd (gap_no_token g.0.kind p q (joined ps a) (joined qs b) h.0 g.3.of_kind e)
-cut_one before (p ∷ ps) (q ∷ qs) a b ts us (inr h) (inl g) e s t = absurd (gap_no_token h.0.kind q p (joined qs b) (joined ps a) g.0 h.3.of_kind (sym e))
+    let more = cut_one (before ++ q) ps qs a b ts us (subst (λ (r : List ℕ). AreCut (before ++ r) ps a ts) same h.1) g.1
+    (same_back p q (joined ps a) (joined qs b) e same) s t in
+    record {
+      pieces = ap (λ (r : List ℕ). r ∷ ps) same ∙ ap (λ (rs : List (List ℕ)). q ∷ rs) more.pieces;
+      rests = more.rests;
+      found = more.found;
+    }
+cut_one before (p ∷ ps) (q ∷ qs) a b ts us (inl h) (inr g) e s t =
+    absurd (gap_no_token g.0.kind p q (joined ps a) (joined qs b) h.0 g.3.of_kind e)
+cut_one before (p ∷ ps) (q ∷ qs) a b ts us (inr h) (inl g) e s t =
+    absurd (gap_no_token h.0.kind q p (joined qs b) (joined ps a) g.0 h.3.of_kind (sym e))
 cut_one before (p ∷ ps) (q ∷ qs) a b ts us (inr h) (inr g) e s t =
     let same = token_one before p q (joined ps a) (joined qs b) h.0 g.0 h.3 g.3 e in
-    let more = cut_one (before ++ q) ps qs a b h.1 g.1 (subst (λ (r : List ℕ). AreCut (before ++ r) ps a h.1) same.0 h.4) g.4 (same_back p q (joined ps a) (joined qs b) e same.0) s t in
+    let more = cut_one (before ++ q) ps qs a b h.1 g.1
+    (subst (λ (r : List ℕ). AreCut (before ++ r) ps a h.1) same.0 h.4) g.4
+    (same_back p q (joined ps a) (joined qs b) e same.0) s t in
     record {
       pieces = ap (λ (r : List ℕ). r ∷ ps) same.0 ∙ ap (λ (rs : List (List ℕ)). q ∷ rs) more.pieces;
       rests = more.rests;
@@ -350,13 +379,15 @@ cut_one before (p ∷ ps) (q ∷ qs) a b ts us (inr h) (inr g) e s t =
 -- a text has at most one list of tokens
 pub tokens_one : (text : List ℕ) (ts us : List Token) → AreTokens text ts → AreTokens text us → ts ≡ us
 tokens_one text ts us h g =
-    let same = cut_one [] h.pieces g.pieces [] [] h.found g.found h.cut g.cut (sym h.whole ∙ g.whole) stuck_end stuck_end in
+    let same = cut_one [] h.pieces g.pieces [] [] h.found g.found h.cut g.cut (sym h.whole ∙ g.whole) stuck_end
+    stuck_end in
     h.all ∙ ap (λ (xs : List Token). xs ++ end_of_text text ∷ []) same.found ∙ sym g.all
 
 -- a text that has tokens has no fault
 pub tokens_no_fault : (text : List ℕ) (ts : List Token) (f : LexFault) → AreTokens text ts → IsFirstFault text f → ⊥
 tokens_no_fault text ts f h g =
-    let same = cut_one [] h.pieces g.pieces [] g.rest h.found g.found h.cut g.cut (sym h.whole ∙ g.whole) stuck_end (stuck_fault (joined g.pieces []) g.rest f g.fault_there) in
+    let same = cut_one [] h.pieces g.pieces [] g.rest h.found g.found h.cut g.cut (sym h.whole ∙ g.whole) stuck_end
+    (stuck_fault (joined g.pieces []) g.rest f g.fault_there) in
     no_fault f (subst (λ (r : List ℕ). IsFault (joined g.pieces []) r f) (sym same.rests) g.fault_there)
   where
     no_fault : (f : LexFault) → IsFault (joined g.pieces []) [] f → ⊥
@@ -396,20 +427,30 @@ fault_at_one before rest Memory g h k = elim h [ ]
 -- a text has at most one first fault
 pub fault_one : (text : List ℕ) (f g : LexFault) → IsFirstFault text f → IsFirstFault text g → f ≡ g
 fault_one text f g h k =
-    let same = cut_one [] h.pieces k.pieces h.rest k.rest h.found k.found h.cut k.cut (sym h.whole ∙ k.whole) (stuck_fault (joined h.pieces []) h.rest f h.fault_there) (stuck_fault (joined k.pieces []) k.rest g k.fault_there) in
+    let same = cut_one [] h.pieces k.pieces h.rest k.rest h.found k.found h.cut k.cut (sym h.whole ∙ k.whole)
+    (stuck_fault (joined h.pieces []) h.rest f h.fault_there)
+    (stuck_fault (joined k.pieces []) k.rest g k.fault_there) in
     fault_at_one (joined k.pieces []) k.rest f g
-    (subst (λ (r : List ℕ). IsFault (joined k.pieces []) r f) same.rests (subst (λ (ps : List (List ℕ)). IsFault (joined ps []) h.rest f) same.pieces h.fault_there))
+    (subst (λ (r : List ℕ). IsFault (joined k.pieces []) r f) same.rests
+    (subst (λ (ps : List (List ℕ)). IsFault (joined ps []) h.rest f) same.pieces h.fault_there))
     k.fault_there
 
 -- what a call answers, by what it found
 
-pub answers_only : (text : List ℕ) (r : Result (Vec Token Global) LexFault) → IfOk r (λ v. AreTokens text v.items) → IfErr r (λ f. f ≢ Memory → IsFirstFault text f) → (ts : List Token) → AreTokens text ts → MatchResult r (λ v. v.items ≡ ts) (λ f. f ≡ Memory)
+pub answers_only : (text : List ℕ) (r : Result (Vec Token Global) LexFault) → IfOk r (λ v. AreTokens text v.items)
+    → IfErr r (λ f. f ≢ Memory → IsFirstFault text f) → (ts : List Token) → AreTokens text ts
+    → MatchResult r (λ v. v.items ≡ ts) (λ f. f ≡ Memory)
 answers_only text (Ok v) found refused ts h = tokens_one text v.items ts found h
 answers_only text (Err Memory) found refused ts h = refl
-answers_only text (Err (Byte at)) found refused ts h = absurd (tokens_no_fault text ts (Byte at) h (refused (λ e. absurd (cc))))
-answers_only text (Err (OpenComment at)) found refused ts h = absurd (tokens_no_fault text ts (OpenComment at) h (refused (λ e. absurd (cc))))
-answers_only text (Err (Number at)) found refused ts h = absurd (tokens_no_fault text ts (Number at) h (refused (λ e. absurd (cc))))
+answers_only text (Err (Byte at)) found refused ts h =
+    absurd (tokens_no_fault text ts (Byte at) h (refused (λ e. absurd (cc))))
+answers_only text (Err (OpenComment at)) found refused ts h =
+    absurd (tokens_no_fault text ts (OpenComment at) h (refused (λ e. absurd (cc))))
+answers_only text (Err (Number at)) found refused ts h =
+    absurd (tokens_no_fault text ts (Number at) h (refused (λ e. absurd (cc))))
 
-pub answers_first : (text : List ℕ) (r : Result (Vec Token Global) LexFault) → IfOk r (λ v. AreTokens text v.items) → IfErr r (λ f. f ≢ Memory → IsFirstFault text f) → (fault : LexFault) → IsFirstFault text fault → IsErrAnd r (λ e. e ≢ Memory → e ≡ fault)
+pub answers_first : (text : List ℕ) (r : Result (Vec Token Global) LexFault) → IfOk r (λ v. AreTokens text v.items)
+    → IfErr r (λ f. f ≢ Memory → IsFirstFault text f) → (fault : LexFault) → IsFirstFault text fault
+    → IsErrAnd r (λ e. e ≢ Memory → e ≡ fault)
 answers_first text (Ok v) found refused fault h = absurd (tokens_no_fault text v.items fault found h)
 answers_first text (Err f) found refused fault h = λ other. fault_one text f fault (refused other) h

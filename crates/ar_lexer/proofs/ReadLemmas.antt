@@ -22,19 +22,23 @@ pub record HasRead (text rest : List ℕ) (start : ℕ) (there : Place) (found :
 pub read_start : (text : List ℕ) → HasRead text text 0 (record { line = 1; column = 1 }) []
 read_start text = record { pieces = []; whole = refl; cut = refl; start_is = refl; there_is = refl }
 
-module _ (text rest rest' : List ℕ) (start start' n : ℕ) (there there' : Place) (found : List Token) (h : HasRead text rest start there found) (within : n ≤ length rest) (left : rest' ≡ drop n rest) (moved : start' ≡ start + n) (moves : Moves (take n rest) there there') where
+module _ (text rest rest' : List ℕ) (start start' n : ℕ) (there there' : Place) (found : List Token)
+    (h : HasRead text rest start there found) (within : n ≤ length rest) (left : rest' ≡ drop n rest)
+    (moved : start' ≡ start + n) (moves : Moves (take n rest) there there') where
   cut_there : AreCut [] h.pieces (take n rest ++ drop n rest) found
   cut_there = subst (λ (s : List ℕ). AreCut [] h.pieces s found) (sym (take-append-drop n rest)) h.cut
 
   whole_there : text ≡ joined (h.pieces ++ take n rest ∷ []) rest'
   whole_there =
-      h.whole ∙ ap (joined h.pieces) (sym (take-append-drop n rest)) ∙ sym (joined_push h.pieces (take n rest) (drop n rest))
+      h.whole ∙ ap (joined h.pieces) (sym (take-append-drop n rest))
+      ∙ sym (joined_push h.pieces (take n rest) (drop n rest))
       ∙ ap (joined (h.pieces ++ take n rest ∷ [])) (sym left)
 
   start_there : start' ≡ length (joined (h.pieces ++ take n rest ∷ []) [])
   start_there =
       let a = h.start_is in
-      let b : length (joined (h.pieces ++ take n rest ∷ []) []) ≡ length (joined h.pieces []) + length (take n rest) = ap length (joined_last h.pieces (take n rest)) ∙ length-append (joined h.pieces []) (take n rest) in
+      let b : length (joined (h.pieces ++ take n rest ∷ []) []) ≡ length (joined h.pieces []) + length (take n rest) =
+      ap length (joined_last h.pieces (take n rest)) ∙ length-append (joined h.pieces []) (take n rest) in
       let c : length (take n rest) ≡ n = length-take-le n rest within in
       omega (arith, a, b, c, moved)
 
@@ -45,12 +49,14 @@ module _ (text rest rest' : List ℕ) (start start' n : ℕ) (there there' : Pla
   read_gap gap = record {
     pieces = h.pieces ++ take n rest ∷ [];
     whole = whole_there;
-    cut = subst (λ (s : List ℕ). AreCut [] (h.pieces ++ take n rest ∷ []) s found) (sym left) (cut_gap [] h.pieces (take n rest) (drop n rest) found cut_there gap);
+    cut = subst (λ (s : List ℕ). AreCut [] (h.pieces ++ take n rest ∷ []) s found) (sym left)
+        (cut_gap [] h.pieces (take n rest) (drop n rest) found cut_there gap);
     start_is = start_there;
     there_is = place_there;
   }
 
-  token_there : (kind : TokenKind) (t : Token) → IsTokenOf kind (take n rest) (drop n rest) → IsTokenAt start there kind n t → IsToken ([] ++ joined h.pieces []) (take n rest) (drop n rest) t
+  token_there : (kind : TokenKind) (t : Token) → IsTokenOf kind (take n rest) (drop n rest)
+      → IsTokenAt start there kind n t → IsToken ([] ++ joined h.pieces []) (take n rest) (drop n rest) t
   token_there kind t of stands =
       let c : length (take n rest) ≡ n = length-take-le n rest within in
       let a = stands.from in let b = stands.to in let s = h.start_is in
@@ -61,7 +67,8 @@ module _ (text rest rest' : List ℕ) (start start' n : ℕ) (there there' : Pla
         at = stands.at ∙ h.there_is;
       }
 
-  pub read_token : (kind : TokenKind) (t : Token) (found' : List Token) → IsTokenOf kind (take n rest) (drop n rest) → IsTokenAt start there kind n t → found' ≡ found ++ t ∷ [] → HasRead text rest' start' there' found'
+  pub read_token : (kind : TokenKind) (t : Token) (found' : List Token) → IsTokenOf kind (take n rest) (drop n rest)
+      → IsTokenAt start there kind n t → found' ≡ found ++ t ∷ [] → HasRead text rest' start' there' found'
   read_token kind t found' of stands pushed = record {
     pieces = h.pieces ++ take n rest ∷ [];
     whole = whole_there;
@@ -72,11 +79,14 @@ module _ (text rest rest' : List ℕ) (start start' n : ℕ) (there there' : Pla
     there_is = place_there;
   }
 
-pub same_token : (t u : Token) → t.kind ≡ u.kind → t.span.from ≡ u.span.from → t.span.to ≡ u.span.to → t.at ≡ u.at → t ≡ u
+pub same_token : (t u : Token) → t.kind ≡ u.kind → t.span.from ≡ u.span.from → t.span.to ≡ u.span.to → t.at ≡ u.at
+    → t ≡ u
 same_token t u k f o a = λ i. record { kind = k i; span = record { from = f i; to = o i }; at = a i }
 
 -- at the end of the text
-pub read_end : (text rest : List ℕ) (start : ℕ) (there : Place) (found all : List Token) (t : Token) → HasRead text rest start there found → rest ≡ [] → IsTokenAt start there End 0 t → all ≡ found ++ t ∷ [] → AreTokens text all
+pub read_end : (text rest : List ℕ) (start : ℕ) (there : Place) (found all : List Token) (t : Token)
+    → HasRead text rest start there found → rest ≡ [] → IsTokenAt start there End 0 t → all ≡ found ++ t ∷ []
+    → AreTokens text all
 read_end text rest start there found all t h empty stands pushed =
     let w : text ≡ joined h.pieces [] = h.whole ∙ ap (joined h.pieces) empty in
     let s : start ≡ length text = h.start_is ∙ sym (ap length w) in
@@ -86,11 +96,14 @@ read_end text rest start there found all t h empty stands pushed =
       found = found;
       whole = w;
       cut = subst (λ (r : List ℕ). AreCut [] h.pieces r found) empty h.cut;
-      all = pushed ∙ ap (λ (u : Token). found ++ u ∷ []) (same_token t (end_of_text text) stands.kind (stands.from ∙ s) (omega (arith, a, s)) (stands.at ∙ h.there_is ∙ sym (ap place_after w)));
+      all = pushed ∙ ap (λ (u : Token). found ++ u ∷ [])
+          (same_token t (end_of_text text) stands.kind (stands.from ∙ s) (omega (arith, a, s))
+          (stands.at ∙ h.there_is ∙ sym (ap place_after w)));
     }
 
 -- where nothing goes on
-pub read_fault : (text rest : List ℕ) (start : ℕ) (there : Place) (found : List Token) (fault : LexFault) → (h : HasRead text rest start there found) → IsFault (joined h.pieces []) rest fault → IsFirstFault text fault
+pub read_fault : (text rest : List ℕ) (start : ℕ) (there : Place) (found : List Token) (fault : LexFault)
+    → (h : HasRead text rest start there found) → IsFault (joined h.pieces []) rest fault → IsFirstFault text fault
 read_fault text rest start there found fault h there_is = record {
   pieces = h.pieces;
   found = found;
@@ -111,10 +124,12 @@ column_bound before =
     let n : length (reverse before) ≡ length before = length-reverse before in
     omega (arith, l, n)
 
-module _ (text rest : List ℕ) (start n : ℕ) (there : Place) (found : List Token) (h : HasRead text rest start there found) (small : length text ≤ 4194304) (within : n ≤ length rest) where
+module _ (text rest : List ℕ) (start n : ℕ) (there : Place) (found : List Token)
+    (h : HasRead text rest start there found) (small : length text ≤ 4194304) (within : n ≤ length rest) where
   within_text : length (joined h.pieces []) + n ≤ 4194304
   within_text =
-      let e : length text ≡ length (joined h.pieces []) + length rest = ap length (h.whole ∙ joined_split h.pieces rest) ∙ length-append (joined h.pieces []) rest in
+      let e : length text ≡ length (joined h.pieces []) + length rest =
+      ap length (h.whole ∙ joined_split h.pieces rest) ∙ length-append (joined h.pieces []) rest in
       omega (arith, e, small, within)
 
   pub start_fits : start + n < 2 ^ 32

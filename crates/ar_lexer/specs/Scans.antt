@@ -24,7 +24,8 @@ pub record ClosesFirst (bytes : List ℕ) (n : ℕ) : Type 0 where
 pub record IsSignFront (bytes : List ℕ) (place n : ℕ) : Type 0 where
   pub within : n ≤ length bytes
   pub is : place_in signs (take n bytes) ≡ Some place
-  pub none_longer : (front back : List ℕ) (p : ℕ) → bytes ≡ front ++ back → place_in signs front ≡ Some p → length front ≤ n
+  pub none_longer : (front back : List ℕ) (p : ℕ) → bytes ≡ front ++ back → place_in signs front ≡ Some p
+      → length front ≤ n
 
 -- what stands at the front of the text
 abbrev pub IsPieceAt : List ℕ → Piece → Type 0
@@ -52,7 +53,8 @@ sign_len (b ∷ bs) = cond ((b == 43) || (b == 45)) 1 0
 
 -- what a look at one length for a sign says
 abbrev pub IsSignOfLen : List ℕ → ℕ → Option ℕ → Type 0
-IsSignOfLen rest len None = (front back : List ℕ) (p : ℕ) → rest ≡ front ++ back → length front ≡ len → place_in signs front ≡ Some p → ⊥
+IsSignOfLen rest len None = (front back : List ℕ) (p : ℕ) → rest ≡ front ++ back → length front ≡ len
+    → place_in signs front ≡ Some p → ⊥
 IsSignOfLen rest len (Some place) = (len ≤ length rest) × (place_in signs (take len rest) ≡ Some place)
 
 -- there is a first byte, and it passes the test

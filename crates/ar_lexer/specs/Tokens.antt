@@ -41,9 +41,11 @@ Closes text back = (front : List ℕ) × (text ≡ front ++ (codes "*/" ++ back)
 pub data IsGap (gap after : List ℕ) : Type 0 where
   blank : (b : ℕ) → gap ≡ b ∷ [] → is_blank b ≡ true → IsGap gap after
   -- from `//` to the next line feed or the end of the text
-  line_comment : (body : List ℕ) → gap ≡ codes "//" ++ body → AllPass (λ b. not (is_line_feed b)) body → IsLineEnd after → IsGap gap after
+  line_comment : (body : List ℕ) → gap ≡ codes "//" ++ body → AllPass (λ b. not (is_line_feed b)) body → IsLineEnd after
+      → IsGap gap after
   -- from `/*` to the next `*/`
-  block_comment : (body : List ℕ) → gap ≡ codes "/*" ++ (body ++ codes "*/") → ((back : List ℕ) → Closes (body ++ codes "*/") back → back ≡ []) → IsGap gap after
+  block_comment : (body : List ℕ) → gap ≡ codes "/*" ++ (body ++ codes "*/")
+      → ((back : List ℕ) → Closes (body ++ codes "*/") back → back ≡ []) → IsGap gap after
 
 abbrev pub BeginsComment : List ℕ → Type 0
 BeginsComment rest = (more : List ℕ) × ((rest ≡ codes "//" ++ more) ⊎ (rest ≡ codes "/*" ++ more))
@@ -52,7 +54,8 @@ BeginsComment rest = (more : List ℕ) × ((rest ≡ codes "//" ++ more) ⊎ (re
 
 -- no longer front of the text and of what stands behind it is the text of a token
 abbrev pub IsLongest : List ℕ → List ℕ → Type 0
-IsLongest text after = (front back : List ℕ) → text ++ after ≡ front ++ back → IsTokenText front → length front ≤ length text
+IsLongest text after = (front back : List ℕ) → text ++ after ≡ front ++ back → IsTokenText front
+    → length front ≤ length text
 
 -- A token of this kind, with `after` behind it.
 pub record IsTokenOf (kind : TokenKind) (text after : List ℕ) : Type 0 where
@@ -72,12 +75,14 @@ abbrev pub joined : List (List ℕ) → List ℕ → List ℕ
 joined [] rest = rest
 joined (piece ∷ pieces) rest = piece ++ joined pieces rest
 
--- Behind `before` stand these pieces, and then the rest. Each piece is a blank, a comment or a token, and these are the tokens.
+-- Behind `before` stand these pieces, and then the rest. Each piece is a blank, a comment or a token, and these are the
+-- tokens.
 abbrev pub AreCut : List ℕ → List (List ℕ) → List ℕ → List Token → Type 0
 AreCut before [] rest ts = ts ≡ []
 AreCut before (piece ∷ pieces) rest ts =
     (IsGap piece (joined pieces rest) × AreCut (before ++ piece) pieces rest ts)
-    ⊎ ((t : Token) × (more : List Token) × (ts ≡ t ∷ more) × IsToken before piece (joined pieces rest) t × AreCut (before ++ piece) pieces rest more)
+    ⊎ ((t : Token) × (more : List Token) × (ts ≡ t ∷ more) × IsToken before piece (joined pieces rest) t
+    × AreCut (before ++ piece) pieces rest more)
 
 -- the token behind the whole text
 abbrev pub end_of_text : List ℕ → Token
@@ -107,7 +112,8 @@ IsOpenComment rest = (more : List ℕ) × (rest ≡ codes "/*" ++ more) × ((bac
 -- the token that begins here is a whole number above 2^63 - 1
 abbrev pub IsTooLarge : List ℕ → Type 0
 IsTooLarge rest =
-    (text : List ℕ) × (after : List ℕ) × (rest ≡ text ++ after) × IsDigits text × IsLongest text after × (2 ^ 63 ≤ number_of text)
+    (text : List ℕ) × (after : List ℕ) × (rest ≡ text ++ after) × IsDigits text × IsLongest text after
+    × (2 ^ 63 ≤ number_of text)
 
 -- what keeps any piece from standing behind `before`, and the place that is told
 abbrev pub IsFault : List ℕ → List ℕ → LexFault → Type 0

@@ -21,7 +21,8 @@ module _ {V : Type 0} (facts : V → Value → Type 0) (known : (x : V) → List
   leaf_told : (d : Transition V) → Told (Can facts (Leaf d))
   leaf_told d =
       elim
-      (yields_told facts known d.guard (Truth true)) [ inl h ↦ inl (guard_holds h) | inr n ↦ inr (λ c. elim c [ guard_holds h ↦ n h ]) ]
+      (yields_told facts known d.guard (Truth true))
+      [ inl h ↦ inl (guard_holds h) | inr n ↦ inr (λ c. elim c [ guard_holds h ↦ n h ]) ]
 
   joint_told : (bs : Branches (Transition V)) (b : Bool) → has_must bs ≡ b → Told (Musts_can facts bs)
       → Told (Some_can facts bs) → Told (Can facts (Joint bs))
@@ -75,7 +76,8 @@ module _ {V : Type 0} (facts : V → Value → Type 0) (known : (x : V) → List
     }
     acts_listed (a ∷ xs) =
         listed_as
-        (listed_or (listed_where (both_told (key_told a.target x) (passes_told facts known a.conditions)) (yields_listed facts known a.value)) (acts_listed xs)) on back
+        (listed_or (listed_where (both_told (key_told a.target x) (passes_told facts known a.conditions))
+        (yields_listed facts known a.value)) (acts_listed xs)) on back
       where
         on : (v : Value)
             → (((a.target ≡ x) × Passes facts a.conditions) × Yields facts (out-Expr V a.value) v) ⊎ Acts xs v
@@ -154,10 +156,17 @@ module _ {V : Type 0} (key_told : (x y : V) → Told (x ≡ y)) (net : Net V) (t
   clash_told x =
       let l = given x.key in
       elim
-      (some_told (λ v. (u : Value) × Contains l.items u × (v ≡ u → ⊥)) l.items (λ v m. some_told (λ u. v ≡ u → ⊥) l.items (λ u n. not_told (value_told v u)))) [
+      (some_told (λ v. (u : Value) × Contains l.items u × (v ≡ u → ⊥)) l.items
+      (λ v m. some_told (λ u. v ≡ u → ⊥) l.items (λ u n. not_told (value_told v u)))) [
         | inl r ↦
             inl
-            (record { first = r.0; second = r.2.0; is_first = l.sound r.0 r.1; is_second = l.sound r.2.0 r.2.1; differ = r.2.2 })
+            (record {
+              first = r.0;
+              second = r.2.0;
+              is_first = l.sound r.0 r.1;
+              is_second = l.sound r.2.0 r.2.1;
+              differ = r.2.2;
+            })
         | inr n ↦ inr (λ h. n (h.first, l.whole h.first h.is_first, (h.second, l.whole h.second h.is_second, h.differ)))
       ]
 

@@ -67,7 +67,8 @@ module _ (P : ℕ → Value → Type 0) where
       (opposite (subst (λ z. Yields P (out-Expr ℕ z) (Truth b)) (sym i.is_operand) d))
 
   pub either_is : (e a b : Expr ℕ) (v : Value) → IsEither e a b → Yields P (out-Expr ℕ e) v
-      → ((Yields P (out-Expr ℕ a) (Truth true) ⊎ Yields P (out-Expr ℕ b) (Truth true)) × (v ≡ Truth true)) ⊎ (Yields P (out-Expr ℕ a) (Truth false) × Yields P (out-Expr ℕ b) (Truth false) × (v ≡ Truth false))
+      → ((Yields P (out-Expr ℕ a) (Truth true) ⊎ Yields P (out-Expr ℕ b) (Truth true)) × (v ≡ Truth true))
+      ⊎ (Yields P (out-Expr ℕ a) (Truth false) × Yields P (out-Expr ℕ b) (Truth false) × (v ≡ Truth false))
   either_is e a b v i d = ⊎_elim
       (λ r. inl (some_of_two a b (Truth true) (subst (λ z. Some_yields P z (Truth true)) i.are_operands r.0), r.1))
       (λ r. let k = all_of_two a b (Truth false) (subst (λ z. All_yield P z (Truth false)) i.are_operands r.0) in inr (k.0, k.1, r.1))
@@ -82,8 +83,14 @@ module _ (P : ℕ → Value → Type 0) where
   pub equal_is : (e a b : Expr ℕ) (v : Value) → IsEqual e a b → Yields P (out-Expr ℕ e) v → (x : Value) ×
       (y : Value) × Yields P (out-Expr ℕ a) x × Yields P (out-Expr ℕ b) y × (v ≡ Truth (is_related Equal x y))
   equal_is e a b v i d =
-      let r = at_equal i.left i.right v (subst (λ z. Yields P z v) i.is d) in
-      (r.0, r.1, subst (λ z. Yields P (out-Expr ℕ z) r.0) i.is_left r.2, subst (λ z. Yields P (out-Expr ℕ z) r.1) i.is_right r.3, r.4)
+      let r = at_equal i.left i.right v (subst (λ z. Yields P z v) i.is d) in (
+        r.0,
+        r.1,
+        subst (λ z. Yields P (out-Expr ℕ z) r.0) i.is_left r.2,
+        subst (λ z. Yields P (out-Expr ℕ z) r.1)
+            i.is_right r.3,
+        r.4,
+      )
 
   -- whether the switch is closed
   pub closed_is : (e : Expr ℕ) (v : Value) → IsClosed e → Yields P (out-Expr ℕ e) v

@@ -16,8 +16,11 @@ use Rattle.ar_meaning.proofs.ImageRuns.{runs_there}
 module _ {V W : Type 0} (same : V → W → Type 0) (here : Net V) (there : Net W)
     (image : IsNetImage same here there) where
   pub same_facts : (t : List Value) (x : V) (y : W) (v : Value) → same x y → FactOf here t x v ↔ FactOf there t y v
-  same_facts t x y v s =
-      (fact_there same here there image t x y v s, fact_there (turned same) there here (net_turned same image) t y x v s)
+  same_facts t x y v s = (
+    fact_there same here there image t x y v s,
+    fact_there (turned same) there here (net_turned same image) t y x v
+        s,
+  )
 
   pub same_flows : (t : List Value) (o : Outcome) → Flows here t o ↔ Flows there t o
   same_flows t o =
@@ -45,8 +48,11 @@ module _ {V W : Type 0} (same : V → W → Type 0) (here : Net V) (there : Net 
 
   pub same_steps : (t : List Value) (v : Way V) (w : Way W) → Way_renames same v w → (a : Answer)
       → Step here t v a ↔ Step there t w a
-  same_steps t v w q a =
-      (λ s. step_there same here there image q s, λ s. step_there (turned same) there here (net_turned same image) (way_turned same q) s)
+  same_steps t v w q a = (
+    λ s. step_there same here there image q s,
+    λ s. step_there (turned same) there here (net_turned same image)
+        (way_turned same q) s,
+  )
 
 pub same_runs : {V W : Type 0} (same : V → W → Type 0) (here : System V) (there : System W) → IsImage same here there
     → (cs : List Command) (ms : List Moment) → Runs here cs ms ↔ Runs there cs ms

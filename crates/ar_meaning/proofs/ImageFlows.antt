@@ -96,7 +96,8 @@ module _ (V W : Type 0) (P : V → Value → Type 0) (Q : W → Value → Type 0
     effects_there {y = y} {d = d} (leaves {e = f} q) s (acts a m p e) =
         let b = partner q.action m.place a m.stands in
         subst (λ z. Effects Q (Leaf f) z d) (one a.target b.item.target y b.related.target s)
-        (acts b.item (record { place = m.place; stands = b.stands }) (passes_carry V W P Q same kept p b.related.conditions) (carries V W P Q same kept e b.related.value))
+        (acts b.item (record { place = m.place; stands = b.stands })
+        (passes_carry V W P Q same kept p b.related.conditions) (carries V W P Q same kept e b.related.value))
     effects_there (joints q) s (by_part e) = by_part (part_effects_there q s e)
 
     pub part_effects_there : {bs : Branches (Transition V)} {cs : Branches (Transition W)} {x : V} {y : W} {d : Value}
@@ -111,8 +112,13 @@ module _ {V W : Type 0} (same : V → W → Type 0) (A : Net V) (B : Net W) (ima
   pub value_there : (t : List Value) (x : V) (y : W) (v : Value) → same x y → HasValue A t x v → HasValue B t y v
   value_there t x y v s h =
       let p = partner image.variables h.place h.variable h.stands in
-      record
-      { place = h.place; variable = p.item; stands = p.stands; is_key = image.one x p.item.key y (subst (λ z. same z p.item.key) h.is_key p.related.key) s; value = h.value }
+      record {
+        place = h.place;
+        variable = p.item;
+        stands = p.stands;
+        is_key = image.one x p.item.key y (subst (λ z. same z p.item.key) h.is_key p.related.key) s;
+        value = h.value;
+      }
 
   pub given_there : (t : List Value) (x : V) (y : W) (v : Value) → same x y → IsGiven A t x v → IsGiven B t y v
   given_there t x y v s h =
@@ -180,7 +186,8 @@ module _ {V W : Type 0} (same : V → W → Type 0) (A : Net V) (B : Net W) (ima
         outside = λ c. h.outside (subst (λ d. Contains d h.value) (sym r.domain) c);
       }
 
-pub completes_there : {V W : Type 0} {same : V → W → Type 0} {P : V → Value → Type 0} {Q : W → Value → Type 0} {xs : List (Variable V)} {ys : List (Variable W)} {vs ws : List Value}
+pub completes_there : {V W : Type 0} {same : V → W → Type 0} {P : V → Value → Type 0} {Q : W → Value → Type 0}
+    {xs : List (Variable V)} {ys : List (Variable W)} {vs ws : List Value}
     → ((x : V) (y : W) (v : Value) → same x y → P x v → Q y v)
     → ((y : W) (x : V) (v : Value) → same x y → Q y v → P x v)
     → Along (Variable_renames same) xs ys → Completes P xs vs ws → Completes Q ys vs ws
@@ -192,7 +199,8 @@ completes_there {Q = Q} {ys = y ∷ ys} {vs = v ∷ vs} {ws = w ∷ ws} on off (
     subst (λ z. Completes Q (y ∷ ys) (v ∷ vs) (z ∷ ws)) (sym r.value)
     (unknown (sym r.is_state ∙ s) (λ u q. h u (off y.key x.key u r.key q)) (completes_there on off rs d))
 
-pub receives_there : {V W : Type 0} {same : V → W → Type 0} {P : V → Value → Type 0} {Q : W → Value → Type 0} {xs : List (Variable V)} {ys : List (Variable W)} {vs ws : List Value}
+pub receives_there : {V W : Type 0} {same : V → W → Type 0} {P : V → Value → Type 0} {Q : W → Value → Type 0}
+    {xs : List (Variable V)} {ys : List (Variable W)} {vs ws : List Value}
     → ((x : V) (y : W) (v : Value) → same x y → P x v → Q y v)
     → ((y : W) (x : V) (v : Value) → same x y → Q y v → P x v)
     → Along (Variable_renames same) xs ys → Receives P xs vs ws → Receives Q ys vs ws
@@ -254,15 +262,19 @@ module _ {V W : Type 0} (same : V → W → Type 0) (A : Net V) (B : Net W) (ima
       elim h as (λ k _. Flows B t k) [
         | two f ↦
             two
-            (first_there image.variables back.variables (two_there same A B image t) (two_there (turned same) B A back t) f)
+            (first_there image.variables back.variables (two_there same A B image t)
+            (two_there (turned same) B A back t) f)
         | outside n f ↦
             outside (no_two n)
-            (first_there image.variables back.variables (outside_there same A B image t) (outside_there (turned same) B A back t) f)
+            (first_there image.variables back.variables (outside_there same A B image t)
+            (outside_there (turned same) B A back t) f)
         | broken total n m c f ↦ broken total (no_two n) (no_outside m) (completes_there on off image.variables c)
-            (first_there image.assertions back.assertions (broken_there same A B image total) (broken_there (turned same) B A back total) f)
+            (first_there image.assertions back.assertions (broken_there same A B image total)
+            (broken_there (turned same) B A back total) f)
         | all_hold {total = total} n m c f ↦
             all_hold (no_two n) (no_outside m) (completes_there on off image.variables c)
-            (none_there image.assertions back.assertions (broken_there same A B image total) (broken_there (turned same) B A back total) f)
+            (none_there image.assertions back.assertions (broken_there same A B image total)
+            (broken_there (turned same) B A back total) f)
       ]
 
   pub step_there : {t : List Value} {v : Way V} {w : Way W} {o : Answer} → Way_renames same v w → Step A t v o
@@ -296,10 +308,12 @@ module _ {V W : Type 0} (same : V → W → Type 0) (A : Net V) (B : Net W) (ima
         | not_enabled n ↦ not_enabled (λ c. n (can_back c))
         | clash c f ↦
             clash (can c)
-            (first_there image.variables back.variables (clashes_there same A B image P Q on) (clashes_there (turned same) B A back Q P off) f)
+            (first_there image.variables back.variables (clashes_there same A B image P Q on)
+            (clashes_there (turned same) B A back Q P off) f)
         | range c n f ↦
             range (can c) (no_clash n)
-            (first_there image.variables back.variables (leaves_there same A B image P Q on) (leaves_there (turned same) B A back Q P off) f)
+            (first_there image.variables back.variables (leaves_there same A B image P Q on)
+            (leaves_there (turned same) B A back Q P off) f)
         | flow u c n m r f ↦
             flow u (can c) (no_clash n) (no_leave m) (receives_there on off image.variables r) (flows_there f)
         | moves u c n m r f ↦

@@ -20,12 +20,14 @@ module _ {V W : Type 0} (same : V → W → Type 0) (A : System V) (B : System W
   ways_listed_there t l.none r.none = r.none
   ways_listed_there t (l.one_and q qs) (can c d) =
       can
-      (can_there V W (HasValue A.net t) (HasValue B.net t) same (λ x y d s h. value_there same A.net B.net image.net t x y d s h) image.net.one q c)
+      (can_there V W (HasValue A.net t) (HasValue B.net t) same
+      (λ x y d s h. value_there same A.net B.net image.net t x y d s h) image.net.one q c)
       (ways_listed_there t qs d)
   ways_listed_there t (l.one_and q qs) (cannot n d) =
       let behind = net_turned same image.net in
       cannot
-      (λ c. n (can_there W V (HasValue B.net t) (HasValue A.net t) (turned same) (λ y x d s h. value_there (turned same) B.net A.net behind t y x d s h) behind.one (way_turned same q) c))
+      (λ c. n (can_there W V (HasValue B.net t) (HasValue A.net t) (turned same)
+      (λ y x d s h. value_there (turned same) B.net A.net behind t y x d s h) behind.one (way_turned same q) c))
       (ways_listed_there t qs d)
 
   pub listed_there : (t : List Value) {vs : List (Event V)} {ws : List (Event W)} {e : ℕ} {ls : List Label}
@@ -62,8 +64,10 @@ module _ {V W : Type 0} (same : V → W → Type 0) (A : System V) (B : System W
   pub runs_there : {cs : List Command} {ms : List Moment} → Runs A cs ms → Runs B cs ms
   runs_there (starts {t = t} f d) =
       starts
-      (subst (λ z. Flows B.net z (Total t)) (first_values_there image.net.variables) (flows_there same A.net B.net image.net f))
+      (subst (λ z. Flows B.net z (Total t)) (first_values_there image.net.variables)
+      (flows_there same A.net B.net image.net f))
       (goes_there d)
   runs_there (start_fails {f = x} f) =
       start_fails
-      (subst (λ z. Flows B.net z (Fails x)) (first_values_there image.net.variables) (flows_there same A.net B.net image.net f))
+      (subst (λ z. Flows B.net z (Fails x)) (first_values_there image.net.variables)
+      (flows_there same A.net B.net image.net f))

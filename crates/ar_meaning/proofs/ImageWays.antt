@@ -22,7 +22,8 @@ along_map f g k (l.one_and {a = a} {b = b} r rs) = l.one_and (k a b r) (along_ma
 
 -- related choices
 module _ {L M : Type 0} (same : L → M → Type 0) where
-  pub choices_along : (must : Bool) {ts : List (Tree L)} {us : List (Tree M)} {bss : List (Branches L)} {css : List (Branches M)}
+  pub choices_along : (must : Bool) {ts : List (Tree L)} {us : List (Tree M)} {bss : List (Branches L)}
+      {css : List (Branches M)}
       → Along (Trees_along same) ts us
       → Along (Branches_along same) bss css → Along (Branches_along same) (choices must ts bss) (choices must us css)
   choices_along m l.none d = l.none
@@ -62,8 +63,13 @@ module _ {L M E F : Type 0} (same : L → M → Type 0) (event_same : E → F �
     parts_along l.none no_part = (Empty ∷ [], no_part, l.one_and no_branch l.none)
     parts_along (l.one_and {b = (k, f)} r rs) (choice {must = m} {ts = ts} {bss = bss} w p) =
         let v = ways_along r.key w in
-        let o = parts_along rs p in
-        (choices k v.0 o.0, choice v.1 o.1, subst (λ z. Along (Branches_along same) (choices m ts bss) (choices z v.0 o.0)) r.must (choices_along same m v.2 o.2))
+        let o = parts_along rs p in (
+          choices k v.0 o.0,
+          choice v.1 o.1,
+          subst
+              (λ z. Along (Branches_along same) (choices m ts bss) (choices z v.0 o.0)) r.must
+              (choices_along same m v.2 o.2),
+        )
 
   -- a part there for a part here
   pub record Part_there (d : F) (e : E) : Type 0 where
@@ -96,7 +102,10 @@ module _ {L M E F : Type 0} (same : L → M → Type 0) (event_same : E → F �
           is_key = k;
           parts = qs.0;
           is_member =
-              record { place = h.is_member.place; stands = subst (λ z. Stands p.item.members h.is_member.place z) qs.1 m.stands };
+              record {
+                place = h.is_member.place;
+                stands = subst (λ z. Stands p.item.members h.is_member.place z) qs.1 m.stands;
+              };
           must = q.item.0;
           is_part = one_part qs.0 h.is_part.place q.item q.stands;
         };
@@ -193,7 +202,8 @@ module _ {V W E F : Type 0} (same : V → W → Type 0) (event_same : E → F �
     (ds : List (Declared (Transition V) E)) (es : List (Declared (Transition W) F))
     (related : Along (Declared_renames same event_same) ds es)
     (single : (x : E) (y z : F) → event_same x y → event_same x z → y ≡ z) where
-  pub events_along : {ds' : List (Declared (Transition V) E)} {es' : List (Declared (Transition W) F)} {vs : List (Event V)}
+  pub events_along : {ds' : List (Declared (Transition V) E)} {es' : List (Declared (Transition W) F)}
+      {vs : List (Event V)}
       → Along (Declared_renames same event_same) ds' es' → Along (IsExpanded ds) ds' vs
       → (ws : List (Event W)) × Along (IsExpanded es) es' ws × Along (Event_renames same) vs ws
   events_along l.none l.none = ([], l.none, l.none)
@@ -206,7 +216,8 @@ module _ {V W E F : Type 0} (same : V → W → Type 0) (event_same : E → F �
       )
 
 -- the events there are given by events here
-pub events_back : {V W E F : Type 0} (same : V → W → Type 0) (event_same : E → F → Type 0) (ds : List (Declared (Transition V) E)) (es : List (Declared (Transition W) F))
+pub events_back : {V W E F : Type 0} (same : V → W → Type 0) (event_same : E → F → Type 0)
+    (ds : List (Declared (Transition V) E)) (es : List (Declared (Transition W) F))
     → Along (Declared_renames same event_same) ds es → ((x y : E) (z : F) → event_same x z → event_same y z → x ≡ y)
     → {ws : List (Event W)} → Along (IsExpanded es) es ws
     → (vs : List (Event V)) × Along (IsExpanded ds) ds vs × Along (Event_renames same) vs ws

@@ -20,7 +20,8 @@ module _ (V : Type 0) (P Q : V → Value → Type 0) (more : (x : V) (v : Value)
 -- the least: what holds of the state and is closed holds of every fact
 pub least : {V : Type 0} (assigns : List (Assign V)) (allows state P : V → Value → Type 0)
     → ((x : V) (v : Value) → state x v → P x v)
-    → ((a : Assign V) (v : Value) → IsOneOf assigns a → Passes P a.conditions → Yields P (out-Expr V a.value) v → allows a.target v → P a.target v)
+    → ((a : Assign V) (v : Value) → IsOneOf assigns a → Passes P a.conditions → Yields P (out-Expr V a.value) v
+    → allows a.target v → P a.target v)
     → (x : V) (v : Value) → Fact assigns allows state x v → P x v
 least assigns allows state P g c x v (given h) = g x v h
 least {V = V} assigns allows state P g c x v (assigned a K m h p d l) =
@@ -38,8 +39,10 @@ passes_need {V = V} P (f.one_and d ds) =
       hold = either_holds P n.pairs k.pairs n.hold k.hold;
       suffice =
           f.one_and
-          (yields_more V (Has n.pairs) (Has (n.pairs ++ k.pairs)) (λ x v m. Contains-append_left n.pairs k.pairs (x, v) m) n.suffice)
-          (passes_more V (Has k.pairs) (Has (n.pairs ++ k.pairs)) (λ x v m. Contains-append_right n.pairs k.pairs (x, v) m) k.suffice);
+          (yields_more V (Has n.pairs) (Has (n.pairs ++ k.pairs))
+          (λ x v m. Contains-append_left n.pairs k.pairs (x, v) m) n.suffice)
+          (passes_more V (Has k.pairs) (Has (n.pairs ++ k.pairs))
+          (λ x v m. Contains-append_right n.pairs k.pairs (x, v) m) k.suffice);
     }
 
 -- the facts are closed under the assignments
@@ -51,5 +54,7 @@ closed {V = V} assigns allows state a v m p d l =
     let F = Fact assigns allows state in
     let n = passes_need F p in let k = needs V F d in
     assigned a (n.pairs ++ k.pairs) m (either_holds F n.pairs k.pairs n.hold k.hold)
-    (passes_more V (Has n.pairs) (Has (n.pairs ++ k.pairs)) (λ x v m. Contains-append_left n.pairs k.pairs (x, v) m) n.suffice)
-    (yields_more V (Has k.pairs) (Has (n.pairs ++ k.pairs)) (λ x v m. Contains-append_right n.pairs k.pairs (x, v) m) k.suffice) l
+    (passes_more V (Has n.pairs) (Has (n.pairs ++ k.pairs)) (λ x v m. Contains-append_left n.pairs k.pairs (x, v) m)
+    n.suffice)
+    (yields_more V (Has k.pairs) (Has (n.pairs ++ k.pairs)) (λ x v m. Contains-append_right n.pairs k.pairs (x, v) m)
+    k.suffice) l

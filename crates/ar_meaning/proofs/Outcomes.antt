@@ -44,8 +44,12 @@ module _ {A : Type 0} (P : A → Type 0) where
   pub some_told : (xs : List A) → ((x : A) → Contains xs x → Told (P x)) → Told ((x : A) × Contains xs x × P x)
   some_told xs t = elim (search_list xs t) [
     | inl k ↦
-        inl
-        (k.item, subst (λ zs. Contains zs k.item) (sym k.is) (Contains-append_right k.front (k.item ∷ k.rest) k.item (contains-head k.item k.rest)), k.has)
+        inl (
+          k.item,
+          subst (λ zs. Contains zs k.item) (sym k.is)
+              (Contains-append_right k.front (k.item ∷ k.rest) k.item (contains-head k.item k.rest)),
+          k.has,
+        )
     | inr n ↦ inr (λ h. n h.0 h.1 h.2)
   ]
 
@@ -123,7 +127,8 @@ in_universe [] k x v s c = absurd (stands_none k x s)
 in_universe {V = V} (z ∷ xs) zero x v s c =
     let e : z ≡ x = cc in let p : Pair V = (x.key, v) in
     Contains-append_left (row z) (universe xs) p
-    (subst (λ (u : Variable V). Contains (row u) p) (sym e) (contains-map {X = Value} {Y = Pair V} (λ d. (x.key, d)) v x.domain c))
+    (subst (λ (u : Variable V). Contains (row u) p) (sym e)
+    (contains-map {X = Value} {Y = Pair V} (λ d. (x.key, d)) v x.domain c))
 in_universe {V = V} (z ∷ xs) (suc k) x v s c =
     let p : Pair V = (x.key, v) in
     Contains-append_right (row z) (universe xs) p (in_universe xs k x v s c)
@@ -133,8 +138,14 @@ from_universe : {V : Type 0} (xs : List (Variable V)) (x : V) (v : Value) → Co
 from_universe {V = V} [] x v m = let p : Pair V = (x, v) in absurd (nothing-in p m)
 from_universe {V = V} (z ∷ xs) x v m =
     let p : Pair V = (x, v) in elim (Contains-append_cases (row z) (universe xs) p m) [
-      | inl n ↦ (let r = contains-from_map {X = Value} {Y = Pair V} (λ d. (z.key, d)) p z.domain n in
-          (zero, z, refl, ap (λ (q : Pair V). q.0) r.2, subst (λ d. Contains z.domain d) (ap (λ (q : Pair V). q.1) r.2) r.1))
+      | inl n ↦ (let r = contains-from_map {X = Value} {Y = Pair V} (λ d. (z.key, d)) p z.domain n in (
+        zero,
+        z,
+        refl,
+        ap (λ (q : Pair V). q.0) r.2,
+        subst (λ d. Contains z.domain d) (ap (λ (q : Pair V). q.1) r.2)
+            r.1,
+      ))
       | inr n ↦ (let r = from_universe xs x v n in (suc r.0, r.1, r.2, r.3, r.4))
     ]
 
@@ -148,7 +159,8 @@ pairs_of test [] ts = []
 pairs_of test (x ∷ xs) [] = []
 pairs_of test (x ∷ xs) (v ∷ ts) = entry (test x) x v ++ pairs_of test xs ts
 
-in_pairs : {V : Type 0} (test : Variable V → Bool) (xs : List (Variable V)) (ts : List Value) (k : ℕ) (x : Variable V) (v : Value)
+in_pairs : {V : Type 0} (test : Variable V → Bool) (xs : List (Variable V)) (ts : List Value) (k : ℕ) (x : Variable V)
+    (v : Value)
     → Stands xs k x → Stands ts k v → test x ≡ true
     → Contains (pairs_of test xs ts) (x.key, v)
 in_pairs test [] ts k x v s r i = absurd (stands_none k x s)
@@ -157,7 +169,8 @@ in_pairs {V = V} test (z ∷ xs) (u ∷ ts) zero x v s r i =
     let e : z ≡ x = cc in let j : u ≡ v = cc in let p : Pair V = (x.key, v) in
     let h : Contains (entry (test x) x v) p = subst (λ b. Contains (entry b x v) p) (sym i) (contains-head p []) in
     Contains-append_left (entry (test z) z u) (pairs_of test xs ts) p
-    (subst (λ (y : Variable V). Contains (entry (test y) y u) p) (sym e) (subst (λ (d : Value). Contains (entry (test x) x d) p) (sym j) h))
+    (subst (λ (y : Variable V). Contains (entry (test y) y u) p) (sym e)
+    (subst (λ (d : Value). Contains (entry (test x) x d) p) (sym j) h))
 in_pairs {V = V} test (z ∷ xs) (u ∷ ts) (suc k) x v s r i =
     let p : Pair V = (x.key, v) in
     Contains-append_right (entry (test z) z u) (pairs_of test xs ts) p (in_pairs test xs ts k x v s r i)
@@ -228,7 +241,8 @@ module _ {V : Type 0} (key_told : (x y : V) → Told (x ≡ y)) where
         sound = λ v m. contains-cons (k, u) (x, v) ps (r.sound v m);
         whole = λ v m.
             elim
-            (contains-cases (k, u) (x, v) ps m) [ inl i ↦ absurd (n (ap (λ (p : V × Value). p.0) i)) | inr l ↦ r.whole v l ];
+            (contains-cases (k, u) (x, v) ps m)
+            [ inl i ↦ absurd (n (ap (λ (p : V × Value). p.0) i)) | inr l ↦ r.whole v l ];
       }
 
   module _ (net : Net V) (t : List Value) where
@@ -243,8 +257,11 @@ module _ {V : Type 0} (key_told : (x y : V) → Told (x ≡ y)) where
     derives_told : (K : List (Pair V)) (p : Pair V) → Told (Derives K p)
     derives_told K p =
         elim
-        (one_told (λ (a : Assign V). (a.target ≡ p.0) × (Passes (Has K) a.conditions × Yields (Has K) (out-Expr V a.value) p.1)) net.assertions
-        (λ a o. both_told (key_told a.target p.0) (both_told (passes_told (Has K) (pairs_listed K) a.conditions) (yields_told (Has K) (pairs_listed K) a.value p.1)))) [
+        (one_told (λ (a : Assign V). (a.target ≡ p.0)
+        × (Passes (Has K) a.conditions × Yields (Has K) (out-Expr V a.value) p.1)) net.assertions
+        (λ a o. both_told (key_told a.target p.0)
+        (both_told (passes_told (Has K) (pairs_listed K) a.conditions)
+        (yields_told (Has K) (pairs_listed K) a.value p.1)))) [
           | inl r ↦ inl (record { assign = r.0; is_one = r.1; is_target = r.2.0; passes = r.2.1.0; yields = r.2.1.1 })
           | inr n ↦ inr (λ d. n (d.assign, d.is_one, (d.is_target, (d.passes, d.yields))))
         ]
@@ -343,13 +360,21 @@ module _ {V : Type 0} (key_told : (x y : V) → Told (x ≡ y)) where
       pairs = given_pairs;
       sound = λ x v m. let r = from_pairs (λ x. x.is_state) net.variables t x v m in
           given
-          (record { place = r.place; variable = r.variable; stands = r.stands; is_key = r.is_key; is_state = r.holds; value = r.value });
+          (record {
+            place = r.place;
+            variable = r.variable;
+            stands = r.stands;
+            is_key = r.is_key;
+            is_state = r.holds;
+            value = r.value;
+          });
       begins = λ x v g.
           subst (λ z. Has given_pairs z v) g.is_key
           (in_pairs (λ x. x.is_state) net.variables t g.place g.variable v g.stands g.value g.is_state);
       covers = λ x v a.
           inr
-          (subst (λ (z : V). Contains {X = Pair V} (universe net.variables) (z, v)) a.is_key (in_universe net.variables a.place a.variable v a.stands a.has));
+          (subst (λ (z : V). Contains {X = Pair V} (universe net.variables) (z, v)) a.is_key
+          (in_universe net.variables a.place a.variable v a.stands a.has));
     })
 
     -- the facts of a variable
@@ -358,13 +383,15 @@ module _ {V : Type 0} (key_told : (x y : V) → Told (x ≡ y)) where
         let s = saturated in
         listed_as (pairs_listed s.pairs x) (λ v h. s.sound x v h)
         (λ v h. least net.assertions (Allows net) (IsGiven net t) (Has s.pairs) s.begins
-        (λ a d o p y l. s.closes a.target d l (record { assign = a; is_one = o; is_target = refl; passes = p; yields = y })) x v h)
+        (λ a d o p y l. s.closes a.target d l
+        (record { assign = a; is_one = o; is_target = refl; passes = p; yields = y })) x v h)
 
     -- the values of a valuation
     pub values_known : (x : V) → Listed (HasValue net t x)
     values_known x = listed_as (pairs_listed (pairs_of (λ x. true) net.variables t) x)
         (λ v h. let r = from_pairs (λ x. true) net.variables t x v h in record { place = r.place; variable = r.variable; stands = r.stands; is_key = r.is_key; value = r.value })
-        (λ v h. subst (λ (z : V). Has (pairs_of (λ x. true) net.variables t) z v) h.is_key (in_pairs (λ x. true) net.variables t h.place h.variable v h.stands h.value refl))
+        (λ v h. subst (λ (z : V). Has (pairs_of (λ x. true) net.variables t) z v) h.is_key
+        (in_pairs (λ x. true) net.variables t h.place h.variable v h.stands h.value refl))
 
 -- each variable's value, where the facts of each are listed
 pub completed : {V : Type 0} (P : V → Value → Type 0) → ((x : V) → Listed (P x))
@@ -391,13 +418,29 @@ module _ {V : Type 0} (key_told : (x y : V) → Told (x ≡ y)) (net : Net V) (t
   two_told x =
       let l = known x.key in
       elim
-      (both_told (bool_told x.is_state false) (some_told (λ v. (u : Value) × Contains l.items u × (v ≡ u → ⊥)) l.items (λ v m. some_told (λ u. v ≡ u → ⊥) l.items (λ u n. not_told (value_told v u))))) [
+      (both_told (bool_told x.is_state false)
+      (some_told (λ v. (u : Value) × Contains l.items u × (v ≡ u → ⊥)) l.items
+      (λ v m. some_told (λ u. v ≡ u → ⊥) l.items (λ u n. not_told (value_told v u))))) [
         | inl r ↦
             inl
-            (record { is_flow = r.0; first = r.1.0; second = r.1.2.0; is_first = l.sound r.1.0 r.1.1; is_second = l.sound r.1.2.0 r.1.2.1; differ = r.1.2.2 })
+            (record {
+              is_flow = r.0;
+              first = r.1.0;
+              second = r.1.2.0;
+              is_first = l.sound r.1.0 r.1.1;
+              is_second = l.sound r.1.2.0 r.1.2.1;
+              differ = r.1.2.2;
+            })
         | inr n ↦
             inr
-            (λ h. n (h.is_flow, (h.first, l.whole h.first h.is_first, (h.second, l.whole h.second h.is_second, h.differ))))
+            (λ h. n (
+              h.is_flow,
+              (
+                h.first,
+                l.whole h.first h.is_first,
+                (h.second, l.whole h.second h.is_second, h.differ),
+              ),
+            ))
       ]
 
   -- the values that an assignment yields
@@ -409,10 +452,14 @@ module _ {V : Type 0} (key_told : (x y : V) → Told (x ≡ y)) (net : Net V) (t
   outside_told x =
       let P : Assign V → Type 0 =
       λ a. (a.target ≡ x.key) ×
-      (Passes (FactOf net t) a.conditions × ((v : Value) × Contains (given_by (FactOf net t) known a).items v × (Contains x.domain v → ⊥))) in
+      (Passes (FactOf net t) a.conditions
+      × ((v : Value) × Contains (given_by (FactOf net t) known a).items v × (Contains x.domain v → ⊥))) in
       elim
-      (both_told (bool_told x.is_state false) (one_told P net.assertions (λ a o. both_told (key_told a.target x.key) (both_told (passes_told (FactOf net t) known a.conditions)
-      (some_told (λ v. Contains x.domain v → ⊥) (given_by (FactOf net t) known a).items (λ v m. not_told (contains_told x.domain v))))))) [
+      (both_told (bool_told x.is_state false)
+      (one_told P net.assertions (λ a o. both_told (key_told a.target x.key)
+      (both_told (passes_told (FactOf net t) known a.conditions)
+      (some_told (λ v. Contains x.domain v → ⊥) (given_by (FactOf net t) known a).items
+      (λ v m. not_told (contains_told x.domain v))))))) [
         | inl r ↦ inl (record {
           is_flow = r.0;
           assign = r.1.0;
@@ -425,7 +472,24 @@ module _ {V : Type 0} (key_told : (x y : V) → Told (x ≡ y)) (net : Net V) (t
         })
         | inr n ↦
             inr
-            (λ h. n (h.is_flow, (h.assign, h.is_one, (h.is_target, (h.passes, (h.value, (given_by (FactOf net t) known h.assign).whole h.value h.yields, h.outside))))))
+            (λ h. n (
+              h.is_flow,
+              (
+                h.assign,
+                h.is_one,
+                (
+                  h.is_target,
+                  (
+                    h.passes,
+                    (
+                      h.value,
+                      (given_by (FactOf net t) known h.assign).whole h.value h.yields,
+                      h.outside,
+                    ),
+                  ),
+                ),
+              ),
+            ))
       ]
 
   broken_told : (total : List Value) (a : Assign V) → Told (IsBroken net total a)
@@ -433,7 +497,8 @@ module _ {V : Type 0} (key_told : (x y : V) → Told (x ≡ y)) (net : Net V) (t
       let k = values_known key_told net total in
       let l = given_by (HasValue net total) k a in
       elim
-      (both_told (passes_told (HasValue net total) k a.conditions) (some_told (λ v. HasValue net total a.target v → ⊥) l.items (λ v m. not_told (listed_told (k a.target) v)))) [
+      (both_told (passes_told (HasValue net total) k a.conditions)
+      (some_told (λ v. HasValue net total a.target v → ⊥) l.items (λ v m. not_told (listed_told (k a.target) v)))) [
         | inl r ↦ inl (record { passes = r.0; value = r.1.0; yields = l.sound r.1.0 r.1.1; differs = r.1.2 })
         | inr n ↦ inr (λ h. n (h.passes, (h.value, l.whole h.value h.yields, h.differs)))
       ]

@@ -47,7 +47,14 @@ module _ {V : Type 0} (net : Net V) where
   same_fact : {t u : List Value} → Same_states net.variables t u → (x : V) (v : Value) → FactOf net t x v
       → FactOf net u x v
   same_fact {t = t} {u = u} d = least net.assertions (Allows net) (IsGiven net t) (FactOf net u)
-      (λ x v h. given (record { place = h.place; variable = h.variable; stands = h.stands; is_key = h.is_key; is_state = h.is_state; value = same_at d h.place h.variable h.stands h.is_state v h.value }))
+      (λ x v h. given (record {
+        place = h.place;
+        variable = h.variable;
+        stands = h.stands;
+        is_key = h.is_key;
+        is_state = h.is_state;
+        value = same_at d h.place h.variable h.stands h.is_state v h.value;
+      }))
       (λ a v m p y l. closed net.assertions (Allows net) (IsGiven net u) a v m p y l)
 
   same_two : {t u : List Value} → Same_states net.variables t u → (x : Variable V) → HasTwo net t x → HasTwo net u x

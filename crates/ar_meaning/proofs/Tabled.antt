@@ -45,7 +45,8 @@ Starts net t table =
 abbrev pub Closes : Net ℕ → List (Option Value) → Type 0
 Closes net table =
     AllFrom
-    (λ n (a : Assign ℕ). (v : Value) → Passes (Known table) a.conditions → Yields (Known table) (out-Expr ℕ a.value) v → Known table a.target v) 0 net.assertions
+    (λ n (a : Assign ℕ). (v : Value) → Passes (Known table) a.conditions → Yields (Known table) (out-Expr ℕ a.value) v
+    → Known table a.target v) 0 net.assertions
 
 module _ (net : Net ℕ) (numbered : AllFrom (λ n (x : Variable ℕ). x.key ≡ n) 0 net.variables) where
   pub is_numbered : AreNumbered net
@@ -73,40 +74,51 @@ module _ (net : Net ℕ) (numbered : AllFrom (λ n (x : Variable ℕ). x.key ≡
     at_most = least net.assertions (Allows net) (IsGiven net t) (Known table)
         (λ x v h. let e : h.place ≡ x = sym (is_numbered.key h.place h.variable h.stands) ∙ h.is_key in
         subst (λ z. Known table z v) e
-        (at_place (λ n (x : Variable ℕ). x.is_state ≡ true → (v : Value) → Stands t n v → Known table n v) 0 net.variables starts h.place h.place h.variable h.stands (omega arith) h.is_state v h.value))
-        (λ a v o p d l. in_list (λ (a : Assign ℕ). (v : Value) → Passes (Known table) a.conditions → Yields (Known table) (out-Expr ℕ a.value) v → Known table a.target v) net.assertions closes o.place a o.stands v p d)
+        (at_place (λ n (x : Variable ℕ). x.is_state ≡ true → (v : Value) → Stands t n v → Known table n v) 0
+        net.variables starts h.place h.place h.variable h.stands (omega arith) h.is_state v h.value))
+        (λ a v o p d l. in_list (λ (a : Assign ℕ). (v : Value) → Passes (Known table) a.conditions
+        → Yields (Known table) (out-Expr ℕ a.value) v → Known table a.target v) net.assertions closes o.place a
+        o.stands v p d)
 
     pub no_two : HasNo net.variables (HasTwo net t)
     no_two = record {
       has_not = λ k x s h.
           h.differ
-          (known_one table x.key h.first h.second (at_most x.key h.first h.is_first) (at_most x.key h.second h.is_second));
+          (known_one table x.key h.first h.second (at_most x.key h.first h.is_first)
+          (at_most x.key h.second h.is_second));
     }
 
     module _
-        (fits : AllFrom (λ n (x : Variable ℕ). (v : Value) → Known table n v → Contains x.domain v) 0 net.variables) where
+        (fits : AllFrom (λ n (x : Variable ℕ). (v : Value) → Known table n v → Contains x.domain v) 0
+        net.variables) where
       pub none_outside : HasNo net.variables (IsOutside net t)
       none_outside = record {
         has_not = λ k x s h.
             let c =
             in_list
-            (λ (a : Assign ℕ). (v : Value) → Passes (Known table) a.conditions → Yields (Known table) (out-Expr ℕ a.value) v → Known table a.target v) net.assertions closes h.is_one.place h.assign h.is_one.stands in
+            (λ (a : Assign ℕ). (v : Value) → Passes (Known table) a.conditions
+            → Yields (Known table) (out-Expr ℕ a.value) v → Known table a.target v) net.assertions closes
+            h.is_one.place h.assign h.is_one.stands in
             let n : Known table h.assign.target h.value =
             c h.value (passes_more ℕ (FactOf net t) (Known table) at_most h.passes)
             (yields_more ℕ (FactOf net t) (Known table) at_most h.yields) in
             let m : Known table k h.value =
             subst (λ z. Known table z h.value) (h.is_target ∙ is_numbered.key k x s) n in
             h.outside
-            (at_place (λ n (x : Variable ℕ). (v : Value) → Known table n v → Contains x.domain v) 0 net.variables fits k k x s (omega arith) h.value m);
+            (at_place (λ n (x : Variable ℕ). (v : Value) → Known table n v → Contains x.domain v) 0 net.variables fits k
+            k x s (omega arith) h.value m);
       }
 
       pub flows : (total : List Value) → Completes (FactOf net t) net.variables t total
-          → AllFrom (λ n (a : Assign ℕ). (v : Value) → Passes (Stands total) a.conditions → Yields (Stands total) (out-Expr ℕ a.value) v → HasValue net total a.target v) 0 net.assertions
+          → AllFrom (λ n (a : Assign ℕ). (v : Value) → Passes (Stands total) a.conditions
+          → Yields (Stands total) (out-Expr ℕ a.value) v → HasValue net total a.target v) 0 net.assertions
           → Flows net t (Total total)
       flows total c h = all_hold no_two none_outside c (record {
         has_not = λ k a s b.
             b.differs
-            (in_list (λ (a : Assign ℕ). (v : Value) → Passes (Stands total) a.conditions → Yields (Stands total) (out-Expr ℕ a.value) v → HasValue net total a.target v) net.assertions h k a s b.value
+            (in_list (λ (a : Assign ℕ). (v : Value) → Passes (Stands total) a.conditions
+            → Yields (Stands total) (out-Expr ℕ a.value) v → HasValue net total a.target v) net.assertions h k a s
+            b.value
             (passes_more ℕ (HasValue net total) (Stands total) (value_at net is_numbered total) b.passes)
             (yields_more ℕ (HasValue net total) (Stands total) (value_at net is_numbered total) b.yields));
       })

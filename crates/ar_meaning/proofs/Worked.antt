@@ -52,8 +52,11 @@ follows e i s f =
     (λ v p d. variable_is (Known table) e 0 v i d, tt)
     (λ v k. in_truths_as s v (known_is (Truth s) v k), (λ v k. in_truths_as s v (known_is (Truth s) v k), tt))
     total
-    (state refl (known refl h flowing.none))
-    (λ v p d. value_from net (is_numbered net (refl, (refl, tt))) total 1 (flow_of 1 truths (Truth false)) v refl (variable_is (Stands total) e 0 v i d), tt)
+    (state refl (known refl h flowing.none)) (
+      λ v p d. value_from net (is_numbered net (refl, (refl, tt))) total 1 (flow_of 1 truths (Truth false)) v refl
+          (variable_is (Stands total) e 0 v i d),
+      tt,
+    )
 
 none_known : (v : Value) → ◌≡◌ {A = Option (Option Value)} (Some None) (Some (Some v)) → ⊥
 none_known v e = cc
@@ -88,7 +91,8 @@ module _ (first second third : Expr ℕ) (i : IsRing first second third) where
       (either_is P first i.last i.test v i.is_either d)
 
   pub ring_on : (x y z : Bool)
-      → Flows around (closed ∷ Truth x ∷ Truth y ∷ Truth z ∷ []) (Total (closed ∷ Truth true ∷ Truth true ∷ Truth true ∷ []))
+      → Flows around (closed ∷ Truth x ∷ Truth y ∷ Truth z ∷ [])
+      (Total (closed ∷ Truth true ∷ Truth true ∷ Truth true ∷ []))
   ring_on x y z =
       let t : List Value = closed ∷ Truth x ∷ Truth y ∷ Truth z ∷ [] in
       let table : List (Option Value) = Some closed ∷ Some (Truth true) ∷ Some (Truth true) ∷ Some (Truth true) ∷ [] in
@@ -108,24 +112,43 @@ module _ (first second third : Expr ℕ) (i : IsRing first second third) where
       added_fact around (refl, (refl, (refl, (refl, tt)))) t 2 (sets 3 third) 3 (flow_of 3 truths (Truth false))
       (Truth true) refl refl refl (in_truths true) facts.none
       (variable_yields F third 2 (Truth true) i.is_third c) in
-      flows around (refl, (refl, (refl, (refl, tt)))) t table
-      (λ k v o. known_as closed v o, (λ k v o. absurd (is_flow k), (λ k v o. absurd (is_flow k), (λ k v o. absurd (is_flow k), tt)))) (
+      flows around (refl, (refl, (refl, (refl, tt)))) t table (
+        λ k v o. known_as closed v o,
+        (
+          λ k v o. absurd (is_flow k),
+          (λ k v o. absurd (is_flow k), (λ k v o. absurd (is_flow k), tt)),
+        ),
+      ) (
         λ v p e. ⊎_elim (λ r. known_value (Truth true) v r.1)
             (λ r. absurd (apart true (known_is (Truth true) (Truth false) r.0))) (first_is (Known table) v e),
-        (λ v p e. variable_is (Known table) second 1 v i.is_second e, (λ v p e. variable_is (Known table) third 2 v i.is_third e, tt)),
+        (
+          λ v p e. variable_is (Known table) second 1 v i.is_second e,
+          (λ v p e. variable_is (Known table) third 2 v i.is_third e, tt),
+        ),
       ) (
         λ v k. subst (λ z. Contains switches z) (known_is closed v k) (0, omega arith, refl),
-        (λ v k. in_truths_as true v (known_is (Truth true) v k), (λ v k. in_truths_as true v (known_is (Truth true) v k), (λ v k. in_truths_as true v (known_is (Truth true) v k), tt))),
+        (
+          λ v k. in_truths_as true v (known_is (Truth true) v k),
+          (
+            λ v k. in_truths_as true v (known_is (Truth true) v k),
+            (λ v k. in_truths_as true v (known_is (Truth true) v k), tt),
+          ),
+        ),
       )
       total
       (state refl (known refl b (known refl c (known refl d flowing.none)))) (
         λ v p e. ⊎_elim
-            (λ r. value_from around (is_numbered around (refl, (refl, (refl, (refl, tt))))) total 1 (flow_of 1 truths (Truth false)) v refl (stands_value (Truth true) v r.1))
+            (λ r. value_from around (is_numbered around (refl, (refl, (refl, (refl, tt))))) total 1
+            (flow_of 1 truths (Truth false)) v refl (stands_value (Truth true) v r.1))
             (λ r. absurd (apart true (stands_is (Truth true) (Truth false) r.0))) (first_is (Stands total) v e),
         (
           λ v p e. value_from around (is_numbered around (refl, (refl, (refl, (refl, tt))))) total 2
               (flow_of 2 truths (Truth false)) v refl (variable_is (Stands total) second 1 v i.is_second e),
-          (λ v p e. value_from around (is_numbered around (refl, (refl, (refl, (refl, tt))))) total 3 (flow_of 3 truths (Truth false)) v refl (variable_is (Stands total) third 2 v i.is_third e), tt),
+          (
+            λ v p e. value_from around (is_numbered around (refl, (refl, (refl, (refl, tt))))) total 3
+                (flow_of 3 truths (Truth false)) v refl (variable_is (Stands total) third 2 v i.is_third e),
+            tt,
+          ),
         ),
       )
 
@@ -139,19 +162,28 @@ module _ (first second third : Expr ℕ) (i : IsRing first second third) where
       r.2 ∙ ap (λ z. Truth (is_related Equal z closed)) e in apart true f
 
   pub ring_off : (x y z : Bool)
-      → Flows around (opened ∷ Truth x ∷ Truth y ∷ Truth z ∷ []) (Total (opened ∷ Truth false ∷ Truth false ∷ Truth false ∷ []))
+      → Flows around (opened ∷ Truth x ∷ Truth y ∷ Truth z ∷ [])
+      (Total (opened ∷ Truth false ∷ Truth false ∷ Truth false ∷ []))
   ring_off x y z =
       let t : List Value = opened ∷ Truth x ∷ Truth y ∷ Truth z ∷ [] in
       let table : List (Option Value) = Some opened ∷ None ∷ None ∷ None ∷ [] in
       let total : List Value = opened ∷ Truth false ∷ Truth false ∷ Truth false ∷ [] in
-      let starts : Starts around t table =
-      (λ k v o. known_as opened v o, (λ k v o. absurd (is_flow k), (λ k v o. absurd (is_flow k), (λ k v o. absurd (is_flow k), tt)))) in
+      let starts : Starts around t table = (
+        λ k v o. known_as opened v o,
+        (
+          λ k v o. absurd (is_flow k),
+          (λ k v o. absurd (is_flow k), (λ k v o. absurd (is_flow k), tt)),
+        ),
+      ) in
       let opened_alone : (v : Value) → Known table 0 v → v ≡ opened = λ v h. sym (known_is opened v h) in
       let closes : Closes around table = (
         λ v p e. ⊎_elim
             (λ r. absurd (⊎_elim (λ h. none_known (Truth true) h) (λ h. not_closed (Known table) opened_alone h) r.0))
             (λ r. absurd (none_known (Truth false) r.0)) (first_is (Known table) v e),
-        (λ v p e. variable_is (Known table) second 1 v i.is_second e, (λ v p e. variable_is (Known table) third 2 v i.is_third e, tt)),
+        (
+          λ v p e. variable_is (Known table) second 1 v i.is_second e,
+          (λ v p e. variable_is (Known table) third 2 v i.is_third e, tt),
+        ),
       ) in
       let still : (v : Value) → Stands total 0 v → v ≡ opened = λ v h. sym (stands_is opened v h) in
       let most = at_most around (refl, (refl, (refl, (refl, tt)))) t table starts closes in
@@ -160,15 +192,23 @@ module _ (first second third : Expr ℕ) (i : IsRing first second third) where
         (λ v k. absurd (none_known v k), (λ v k. absurd (none_known v k), (λ v k. absurd (none_known v k), tt))),
       )
       total
-      (state refl (unknown refl (λ w f. none_known w (most 1 w f)) (unknown refl (λ w f. none_known w (most 2 w f)) (unknown refl (λ w f. none_known w (most 3 w f)) flowing.none)))) (
+      (state refl (unknown refl (λ w f. none_known w (most 1 w f))
+      (unknown refl (λ w f. none_known w (most 2 w f))
+      (unknown refl (λ w f. none_known w (most 3 w f)) flowing.none)))) (
         λ v p e. ⊎_elim
-            (λ r. absurd (⊎_elim (λ h. apart false (stands_is (Truth false) (Truth true) h)) (λ h. not_closed (Stands total) still h) r.0))
-            (λ r. value_from around (is_numbered around (refl, (refl, (refl, (refl, tt))))) total 1 (flow_of 1 truths (Truth false)) v refl (stands_value (Truth false) v r.1))
+            (λ r. absurd (⊎_elim (λ h. apart false (stands_is (Truth false) (Truth true) h))
+            (λ h. not_closed (Stands total) still h) r.0))
+            (λ r. value_from around (is_numbered around (refl, (refl, (refl, (refl, tt))))) total 1
+            (flow_of 1 truths (Truth false)) v refl (stands_value (Truth false) v r.1))
             (first_is (Stands total) v e),
         (
           λ v p e. value_from around (is_numbered around (refl, (refl, (refl, (refl, tt))))) total 2
               (flow_of 2 truths (Truth false)) v refl (variable_is (Stands total) second 1 v i.is_second e),
-          (λ v p e. value_from around (is_numbered around (refl, (refl, (refl, (refl, tt))))) total 3 (flow_of 3 truths (Truth false)) v refl (variable_is (Stands total) third 2 v i.is_third e), tt),
+          (
+            λ v p e. value_from around (is_numbered around (refl, (refl, (refl, (refl, tt))))) total 3
+                (flow_of 3 truths (Truth false)) v refl (variable_is (Stands total) third 2 v i.is_third e),
+            tt,
+          ),
         ),
       )
 
@@ -201,7 +241,8 @@ module _ (test on opposite off first : Expr ℕ) (i : IsQuarrel test on opposite
   is_false =
       added_fact torn (refl, (refl, (refl, tt))) before 1 (sets_where test false 1 opposite) 1
       (flow_of 1 truths (Truth false)) (Truth false) refl refl refl (in_truths false) passes
-      (not_yields (FactOf torn before) opposite i.second true i.is_opposite (variable_yields (FactOf torn before) i.second 2 (Truth true) i.is_second second_true))
+      (not_yields (FactOf torn before) opposite i.second true i.is_opposite
+      (variable_yields (FactOf torn before) i.second 2 (Truth true) i.is_second second_true))
 
   abbrev is_state_or : Option (Variable ℕ) → Bool
   is_state_or None = true
@@ -216,7 +257,14 @@ module _ (test on opposite off first : Expr ℕ) (i : IsQuarrel test on opposite
     item = flow_of 1 truths (Truth false);
     stands = refl;
     has =
-        record { is_flow = refl; first = Truth true; second = Truth false; is_first = is_true; is_second = is_false; differ = λ e. apart true e };
+        record {
+          is_flow = refl;
+          first = Truth true;
+          second = Truth false;
+          is_first = is_true;
+          is_second = is_false;
+          differ = λ e. apart true e;
+        };
     before = state_first;
   })
 
@@ -248,7 +296,9 @@ module _ (first second off : Expr ℕ) (i : AreTurns first second off) where
   second_cannot : Can Before (turns second 1 off) → ⊥
   second_cannot c =
       apart false
-      (stands_is (Truth false) (Truth true) (value_at pair (is_numbered pair (refl, (refl, tt))) (Truth true ∷ Truth false ∷ []) 1 (Truth true) (turn_can Before second off 1 1 i.is_second c)))
+      (stands_is (Truth false) (Truth true)
+      (value_at pair (is_numbered pair (refl, (refl, tt))) (Truth true ∷ Truth false ∷ []) 1 (Truth true)
+      (turn_can Before second off 1 1 i.is_second c)))
 
   gives : (x : ℕ) (v : Value) → Effects Before (one_way false) x v → (0 ≡ x) × (v ≡ Truth false)
   gives x v (by_part (by_may c e)) =
@@ -260,32 +310,44 @@ module _ (first second off : Expr ℕ) (i : AreTurns first second off) where
   set_off : Effects Before (one_way false) 0 (Truth false)
   set_off =
       by_part
-      (by_may first_can (acts (sets 0 off) (record { place = 0; stands = refl }) facts.none (constant_yields Before off (Truth false) i.is_off)))
+      (by_may first_can (acts (sets 0 off) (record { place = 0; stands = refl }) facts.none
+      (constant_yields Before off (Truth false) i.is_off)))
     where
       first_can : Can Before (turns first 0 off)
       first_can =
           guard_holds
-          (variable_yields Before first 0 (Truth true) i.is_first (value_from pair (is_numbered pair (refl, (refl, tt))) (Truth true ∷ Truth false ∷ []) 0 (state_of 0 truths (Truth true)) (Truth true) refl refl))
+          (variable_yields Before first 0 (Truth true) i.is_first
+          (value_from pair (is_numbered pair (refl, (refl, tt))) (Truth true ∷ Truth false ∷ []) 0
+          (state_of 0 truths (Truth true)) (Truth true) refl refl))
 
   pub may : Step pair (Truth true ∷ Truth false ∷ []) (one_way false) (Next (Truth false ∷ Truth false ∷ []))
   may = moves (Truth false ∷ Truth false ∷ [])
-      (some_may refl (this (guard_holds (variable_yields Before first 0 (Truth true) i.is_first (value_from pair (is_numbered pair (refl, (refl, tt))) (Truth true ∷ Truth false ∷ []) 0 (state_of 0 truths (Truth true)) (Truth true) refl refl)))))
+      (some_may refl (this (guard_holds (variable_yields Before first 0 (Truth true) i.is_first
+      (value_from pair (is_numbered pair (refl, (refl, tt))) (Truth true ∷ Truth false ∷ []) 0
+      (state_of 0 truths (Truth true)) (Truth true) refl refl)))))
       (record { has_not = λ k x s h. let a = gives x.key h.first h.is_first in let b = gives x.key h.second h.is_second in h.differ (a.1 ∙ sym b.1) })
       (record { has_not = λ k x s h. let a = gives x.key h.value h.received in h.outside (subst (λ z. Contains x.domain z) (sym a.1) (in_list (λ (x : Variable ℕ). Contains x.domain (Truth false)) pair.variables (in_truths false, (in_truths false, tt)) k x s)) })
       (changed set_off (kept (λ w e. let a = gives 1 w e in absurd (omega (arith, a.0))) steps.none))
-      (flows pair (refl, (refl, tt)) (Truth false ∷ Truth false ∷ []) (Some (Truth false) ∷ Some (Truth false) ∷ []) (λ k v o. known_as (Truth false) v o, (λ k v o. known_as (Truth false) v o, tt)) tt
-      (λ v k. in_truths_as false v (known_is (Truth false) v k), (λ v k. in_truths_as false v (known_is (Truth false) v k), tt))
+      (flows pair (refl, (refl, tt)) (Truth false ∷ Truth false ∷ []) (Some (Truth false) ∷ Some (Truth false) ∷ [])
+      (λ k v o. known_as (Truth false) v o, (λ k v o. known_as (Truth false) v o, tt)) tt (
+        λ v k. in_truths_as false v (known_is (Truth false) v k),
+        (λ v k. in_truths_as false v (known_is (Truth false) v k), tt),
+      )
       (Truth false ∷ Truth false ∷ []) (state refl (state refl flowing.none)) tt)
 
   first_off : Can After (turns first 0 off) → ⊥
   first_off c =
       apart false
-      (stands_is (Truth false) (Truth true) (value_at pair (is_numbered pair (refl, (refl, tt))) (Truth false ∷ Truth false ∷ []) 0 (Truth true) (turn_can After first off 0 0 i.is_first c)))
+      (stands_is (Truth false) (Truth true)
+      (value_at pair (is_numbered pair (refl, (refl, tt))) (Truth false ∷ Truth false ∷ []) 0 (Truth true)
+      (turn_can After first off 0 0 i.is_first c)))
 
   second_off : Can After (turns second 1 off) → ⊥
   second_off c =
       apart false
-      (stands_is (Truth false) (Truth true) (value_at pair (is_numbered pair (refl, (refl, tt))) (Truth false ∷ Truth false ∷ []) 1 (Truth true) (turn_can After second off 1 1 i.is_second c)))
+      (stands_is (Truth false) (Truth true)
+      (value_at pair (is_numbered pair (refl, (refl, tt))) (Truth false ∷ Truth false ∷ []) 1 (Truth true)
+      (turn_can After second off 1 1 i.is_second c)))
 
   pub none_may : Step pair (Truth false ∷ Truth false ∷ []) (one_way false) (Refused NotEnabled)
   none_may = not_enabled neither

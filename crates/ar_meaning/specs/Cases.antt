@@ -80,12 +80,16 @@ pub record IsClosed (e : Expr ℕ) : Type 0 where
 
 -- flow 1 follows state 0
 abbrev pub follower : Expr ℕ → Net ℕ
-follower state = record { variables = state_of 0 truths (Truth false) ∷ flow_of 1 truths (Truth false) ∷ []; assertions = sets 1 state ∷ [] }
+follower state = record {
+  variables = state_of 0 truths (Truth false) ∷ flow_of 1 truths (Truth false) ∷ [];
+  assertions = sets 1 state ∷ [];
+}
 
 -- flow 1 is true where the switch is closed or flow 3 is true, flow 2 follows flow 1, and flow 3 follows flow 2
 abbrev pub ring : Expr ℕ → Expr ℕ → Expr ℕ → Net ℕ
 ring either second third = record {
-  variables = state_of 0 switches closed ∷ flow_of 1 truths (Truth false) ∷ flow_of 2 truths (Truth false) ∷ flow_of 3 truths (Truth false) ∷ [];
+  variables = state_of 0 switches closed ∷ flow_of 1 truths (Truth false) ∷ flow_of 2 truths (Truth false) ∷ flow_of 3
+      truths (Truth false) ∷ [];
   assertions = sets 1 either ∷ sets 2 second ∷ sets 3 third ∷ [];
 }
 

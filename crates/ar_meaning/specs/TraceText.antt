@@ -93,7 +93,9 @@ place_text (Some p) = decimal p.line ++ (codes ":" ++ decimal p.column)
 abbrev pub flow_fault_text : Naming → FlowFault → List ℕ
 flow_fault_text names (Two n) = codes "flow " ++ (text_at names.variables n ++ codes " has two values")
 flow_fault_text names (Outside n) = codes "flow " ++ (text_at names.variables n ++ codes " is outside its domain")
-flow_fault_text names (Broken i) = codes "assignment " ++ (decimal (i + 1) ++ (codes " at " ++ (place_text (slice_get names.places i) ++ codes " does not hold")))
+flow_fault_text names (Broken i) = codes
+    "assignment " ++ (decimal (i + 1) ++ (codes
+    " at " ++ (place_text (slice_get names.places i) ++ codes " does not hold")))
 
 -- a fault of a step
 abbrev pub step_fault_text : Naming → StepFault → List ℕ
@@ -111,7 +113,8 @@ pub data MomentText {V : Type 0} (names : Naming) (sys : System V) : Moment → 
   fires : {l : Label} {old new : List Value} {text : List ℕ} → ChangedLines names sys old new text
       → MomentText names sys (Fires l old new) (line (codes "fire " ++ label_text names sys l) ++ text)
   fire_fails : {l : Label} {f : StepFault}
-      → MomentText names sys (Fire_fails l f) (line (codes "fault: " ++ (label_text names sys l ++ (codes ": " ++ step_fault_text names f))))
+      → MomentText names sys (Fire_fails l f)
+      (line (codes "fault: " ++ (label_text names sys l ++ (codes ": " ++ step_fault_text names f))))
   goes_back : {old new : List Value} {text : List ℕ} → ChangedLines names sys old new text
       → MomentText names sys (Goes_back old new) (line (codes "back") ++ text)
   no_step : MomentText names sys No_step (line (codes "fault: back: no step"))

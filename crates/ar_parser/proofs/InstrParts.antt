@@ -21,19 +21,23 @@ not_sign n k h = by_test (is_sign n k) refl
 pub pushed_all : {X : Type 0} {empty items more : List X} → items ≡ empty ++ more → empty ≡ [] → items ≡ more
 pushed_all {more = more} e z = e ∙ ap (λ (xs : List _). xs ++ more) z
 
-pub between_kind : {opens closes next : TokenKind} {ts : Tokens} {A B : Form} → (between opens closes A ▸ B) next ts → kind_or next ts ≡ opens
+pub between_kind : {opens closes next : TokenKind} {ts : Tokens} {A B : Form} → (between opens closes A ▸ B) next ts
+    → kind_or next ts ≡ opens
 between_kind {next = next} h = ap (kind_or next) h.split ∙ kind_join h.front h.back next ∙ then_kind h.first
 
 -- the first token of a simple instruction
-pub conditional_in : (n : ℕ) (i : Instr) (next : TokenKind) (ts : Tokens) → n ≢ 0 → IsConditional (n - 1) i next ts → IsInstr n i next ts
+pub conditional_in : (n : ℕ) (i : Instr) (next : TokenKind) (ts : Tokens) → n ≢ 0 → IsConditional (n - 1) i next ts
+    → IsInstr n i next ts
 conditional_in zero i next ts some h = absurd (some refl)
 conditional_in (suc n) i next ts some h = conditional (subst (λ (m : ℕ). IsConditional m i next ts) (sub-one (suc n)) h)
 
-pub group_in : (n : ℕ) (i : Instr) (next : TokenKind) (ts : Tokens) → n ≢ 0 → IsGroup (n - 1) i next ts → IsInstr n i next ts
+pub group_in : (n : ℕ) (i : Instr) (next : TokenKind) (ts : Tokens) → n ≢ 0 → IsGroup (n - 1) i next ts
+    → IsInstr n i next ts
 group_in zero i next ts some h = absurd (some refl)
 group_in (suc n) i next ts some h = group (subst (λ (m : ℕ). IsGroup m i next ts) (sub-one (suc n)) h)
 
-pub simple_in : (n : ℕ) (i : Instr) (next : TokenKind) (ts : Tokens) → n ≢ 0 → IsSimple (n - 1) i next ts → IsInstr n i next ts
+pub simple_in : (n : ℕ) (i : Instr) (next : TokenKind) (ts : Tokens) → n ≢ 0 → IsSimple (n - 1) i next ts
+    → IsInstr n i next ts
 simple_in zero i next ts some h = absurd (some refl)
 simple_in (suc n) i next ts some h = simple (subst (λ (m : ℕ). IsSimple m i next ts) (sub-one (suc n)) h)
 

@@ -43,29 +43,41 @@ word_ascii : (bs : List ℕ) → IsWord bs → IsAscii bs
 word_ascii [] h = elim h [ ]
 word_ascii (b ∷ bs) h = IsAscii-cons b bs (word_byte_ascii b (letter_of_word b h.0)) (bytes_ascii bs h.1)
 
-piece_text : (bytes before p after : List ℕ) (from to : ℕ) → bytes ≡ before ++ (p ++ after) → from ≡ length before → to ≡ length before + length p → take (to - from) (drop from bytes) ≡ p
+piece_text : (bytes before p after : List ℕ) (from to : ℕ) → bytes ≡ before ++ (p ++ after) → from ≡ length before
+    → to ≡ length before + length p → take (to - from) (drop from bytes) ≡ p
 piece_text bytes before p after from to e f t =
     let n : to - from ≡ length p = omega (arith, f, t) in
-    ap (λ (k : ℕ). take k (drop from bytes)) n ∙ ap (λ (k : ℕ). take (length p) (drop k bytes)) f ∙ ap (λ (bs : List ℕ). take (length p) (drop (length before) bs)) e
+    ap (λ (k : ℕ). take k (drop from bytes)) n ∙ ap (λ (k : ℕ). take (length p) (drop k bytes)) f
+    ∙ ap (λ (bs : List ℕ). take (length p) (drop (length before) bs)) e
     ∙ ap (take (length p)) (drop-append_seam before (p ++ after)) ∙ take_at p after (length p) refl
 
-name_spelled : (bytes before p after : List ℕ) (t : Token) → bytes ≡ before ++ (p ++ after) → IsToken before p after t → t.kind ≡ Name → IsSpelled bytes t
+name_spelled : (bytes before p after : List ℕ) (t : Token) → bytes ≡ before ++ (p ++ after) → IsToken before p after t
+    → t.kind ≡ Name → IsSpelled bytes t
 name_spelled bytes before p after t e h k =
     let of_name : IsOfKind Name p = subst (λ (kind : TokenKind). IsOfKind kind p) k h.of_kind.of_kind in
-    let n : length bytes ≡ length before + (length p + length after) = ap length e ∙ length-append before (p ++ after) ∙ ap (λ (k : ℕ). length before + k) (length-append p after) in
+    let n : length bytes ≡ length before + (length p + length after) =
+    ap length e ∙ length-append before (p ++ after)
+    ∙ ap (λ (k : ℕ). length before + k) (length-append p after) in
     let f : t.span.from ≡ length before = h.from in
     let o : t.span.to ≡ length before + length p = h.to in
     record {
       ordered = omega (arith, f, o);
       within = omega (arith, o, n);
-      utf8 = subst IsUtf8 (sym (piece_text bytes before p after t.span.from t.span.to e f o)) (IsUtf8-from_ascii p (word_ascii p of_name.0));
+      utf8 = subst IsUtf8 (sym (piece_text bytes before p after t.span.from t.span.to e f o))
+          (IsUtf8-from_ascii p (word_ascii p of_name.0));
     }
 
-cut_spelled : (bytes before : List ℕ) (ps : List (List ℕ)) (rest : List ℕ) (ts : List Token) → bytes ≡ before ++ joined ps rest → AreCut before ps rest ts → AreSpelled bytes ts
+cut_spelled : (bytes before : List ℕ) (ps : List (List ℕ)) (rest : List ℕ) (ts : List Token)
+    → bytes ≡ before ++ joined ps rest → AreCut before ps rest ts → AreSpelled bytes ts
 cut_spelled bytes before [] rest ts e h = subst (AreSpelled bytes) (sym h) tt
-cut_spelled bytes before (p ∷ ps) rest ts e (inl h) = cut_spelled bytes (before ++ p) ps rest ts (e ∙ sym (append_assoc before p (joined ps rest))) h.1
+cut_spelled bytes before (p ∷ ps) rest ts e (inl h) =
+    cut_spelled bytes (before ++ p) ps rest ts (e ∙ sym (append_assoc before p (joined ps rest))) h.1
 cut_spelled bytes before (p ∷ ps) rest ts e (inr h) =
-    subst (AreSpelled bytes) (sym h.2) (name_spelled bytes before p (joined ps rest) h.0 e h.3, cut_spelled bytes (before ++ p) ps rest h.1 (e ∙ sym (append_assoc before p (joined ps rest))) h.4)
+    subst (AreSpelled bytes) (sym h.2) (
+      name_spelled bytes before p (joined ps rest) h.0 e h.3,
+      cut_spelled bytes (before ++ p) ps rest h.1
+          (e ∙ sym (append_assoc before p (joined ps rest))) h.4,
+    )
 
 -- How many tokens there are
 
@@ -88,7 +100,8 @@ piece_some : (k : TokenKind) (p : List ℕ) → IsOfKind k p → 0 < length p
 piece_some k [] h = absurd (kind_not_empty k h)
 piece_some k (b ∷ p) h = omega arith
 
-cut_count : (before : List ℕ) (ps : List (List ℕ)) (rest : List ℕ) (ts : List Token) → AreCut before ps rest ts → length ts ≤ length (joined ps rest)
+cut_count : (before : List ℕ) (ps : List (List ℕ)) (rest : List ℕ) (ts : List Token) → AreCut before ps rest ts
+    → length ts ≤ length (joined ps rest)
 cut_count before [] rest ts h = let n : length ts ≡ 0 = ap length h in omega (arith, n)
 cut_count before (p ∷ ps) rest ts (inl h) =
     let n : length (p ++ joined ps rest) ≡ length p + length (joined ps rest) = length-append p (joined ps rest) in
@@ -121,7 +134,8 @@ pub record AreFront (bytes : List ℕ) (found : List Token) (end : Token) : Type
   pub count : length found ≤ length bytes
   pub last : end ≡ end_of_text bytes
 
-pub front_of : (bytes : List ℕ) (all found : List Token) (end : Token) → AreTokens bytes all → all ≡ found ++ end ∷ [] → AreFront bytes found end
+pub front_of : (bytes : List ℕ) (all found : List Token) (end : Token) → AreTokens bytes all → all ≡ found ++ end ∷ []
+    → AreFront bytes found end
 front_of bytes all found end h e =
     let same = snoc_front found h.found end (end_of_text bytes) (sym e ∙ h.all) in
     let l = cut_count [] h.pieces [] h.found h.cut in
@@ -142,7 +156,8 @@ all_some bytes all h e = no h.found (sym h.all ∙ e)
 
 -- Numbering
 
-pub numbered_push : (bytes : List ℕ) (ls : Tokens) (l : Lexeme) (old mid new : List (List ℕ)) → AreNumbered bytes old ls mid → IsNumbered bytes mid l new → AreNumbered bytes old (ls ++ l ∷ []) new
+pub numbered_push : (bytes : List ℕ) (ls : Tokens) (l : Lexeme) (old mid new : List (List ℕ))
+    → AreNumbered bytes old ls mid → IsNumbered bytes mid l new → AreNumbered bytes old (ls ++ l ∷ []) new
 numbered_push bytes [] l old mid new h n = (new, subst (λ (t : List (List ℕ)). IsNumbered bytes t l new) h n, refl)
 numbered_push bytes (x ∷ ls) l old mid new h n = (h.0, h.1, numbered_push bytes ls l h.0 mid new h.2 n)
 
@@ -153,7 +168,8 @@ interned_count old new t known_or = by_case new known_or
     by_case new (known h) = omega arith
     by_case new (added h) = let n = length-append old (t ∷ []) in omega (arith, n)
 
-pub numbered_count : (bytes : List ℕ) (old new : List (List ℕ)) (l : Lexeme) → IsNumbered bytes old l new → length new ≤ length old + 1
+pub numbered_count : (bytes : List ℕ) (old new : List (List ℕ)) (l : Lexeme) → IsNumbered bytes old l new
+    → length new ≤ length old + 1
 numbered_count bytes old new l (name k i s) = interned_count old new (text_of bytes l) i
 numbered_count bytes old new l (other k e z) = let n : length new ≡ length old = ap length e in omega (arith, n)
 
@@ -162,13 +178,15 @@ map_push [] l = refl
 map_push (x ∷ ls) l = ap (λ (ts : List Token). token_of x ∷ ts) (map_push ls l)
 
 -- Of these tokens all but `rest` are numbered.
-pub record Numbering (bytes : List ℕ) (start names : List (List ℕ)) (tokens rest : List Token) (ls : Tokens) : Type 0 where
+pub record Numbering (bytes : List ℕ) (start names : List (List ℕ)) (tokens rest : List Token) (ls : Tokens) : Type
+    0 where
   pub done : map token_of ls ++ rest ≡ tokens
   pub numbers : AreNumbered bytes start ls names
   pub spelled : AreSpelled bytes rest
   pub room : length names + length rest < 2 ^ 32
 
-pub numbering_start : (bytes : List ℕ) (names : List (List ℕ)) (tokens : List Token) (ls : Tokens) → ls ≡ [] → AreSpelled bytes tokens → length names + length tokens < 2 ^ 32 → Numbering bytes names names tokens tokens ls
+pub numbering_start : (bytes : List ℕ) (names : List (List ℕ)) (tokens : List Token) (ls : Tokens) → ls ≡ []
+    → AreSpelled bytes tokens → length names + length tokens < 2 ^ 32 → Numbering bytes names names tokens tokens ls
 numbering_start bytes names tokens ls e s r = record {
   done = ap (λ (xs : Tokens). map token_of xs ++ tokens) e;
   numbers = subst (λ (xs : Tokens). AreNumbered bytes names xs names) (sym e) refl;
@@ -176,53 +194,76 @@ numbering_start bytes names tokens ls e s r = record {
   room = r;
 }
 
-pub numbering_next : (bytes : List ℕ) (start names names' : List (List ℕ)) (tokens rest more : List Token) (ls ls' : Tokens) (t : Token) (id : NameId) → Numbering bytes start names tokens rest ls →
-    IsFirstAndRest rest t more → IsNumbered bytes names (lexeme_of t id) names' → ls' ≡ ls ++ lexeme_of t id ∷ [] → Numbering bytes start names' tokens more ls'
+pub numbering_next : (bytes : List ℕ) (start names names' : List (List ℕ)) (tokens rest more : List Token)
+    (ls ls' : Tokens) (t : Token) (id : NameId) → Numbering bytes start names tokens rest ls →
+    IsFirstAndRest rest t more → IsNumbered bytes names (lexeme_of t id) names' → ls' ≡ ls ++ lexeme_of t id ∷ []
+    → Numbering bytes start names' tokens more ls'
 numbering_next bytes start names names' tokens rest more ls ls' t id n e h p =
     let c = numbered_count bytes names names' (lexeme_of t id) h in
     let l : length more + 1 ≡ length rest = e.1 in
     let r : length names + length rest < 2 ^ 32 = n.room in
     record {
-      done = ap (λ (xs : Tokens). map token_of xs ++ more) p ∙ ap (λ (xs : List Token). xs ++ more) (map_push ls (lexeme_of t id)) ∙ append_assoc (map token_of ls) (t ∷ []) more ∙ ap (λ (xs : List Token). map token_of ls ++ xs) (sym e.0) ∙ n.done;
-      numbers = subst (λ (xs : Tokens). AreNumbered bytes start xs names') (sym p) (numbered_push bytes ls (lexeme_of t id) start names names' n.numbers h);
+      done = ap (λ (xs : Tokens). map token_of xs ++ more) p
+          ∙ ap (λ (xs : List Token). xs ++ more) (map_push ls (lexeme_of t id))
+          ∙ append_assoc (map token_of ls) (t ∷ []) more ∙ ap (λ (xs : List Token). map token_of ls ++ xs) (sym e.0)
+          ∙ n.done;
+      numbers = subst (λ (xs : Tokens). AreNumbered bytes start xs names') (sym p)
+          (numbered_push bytes ls (lexeme_of t id) start names names' n.numbers h);
       spelled = (subst (AreSpelled bytes) e.0 n.spelled).1;
       room = omega (arith, c, l, r);
     }
 
-pub numbering_spelled : (bytes : List ℕ) (start names : List (List ℕ)) (tokens rest more : List Token) (ls : Tokens) (t : Token) → Numbering bytes start names tokens rest ls → IsFirstAndRest rest t more → t.kind ≡ Name → IsSpelled bytes t
+pub numbering_spelled : (bytes : List ℕ) (start names : List (List ℕ)) (tokens rest more : List Token) (ls : Tokens)
+    (t : Token) → Numbering bytes start names tokens rest ls → IsFirstAndRest rest t more → t.kind ≡ Name
+    → IsSpelled bytes t
 numbering_spelled bytes start names tokens rest more ls t n e = (subst (AreSpelled bytes) e.0 n.spelled).0
 
-pub numbering_room : (bytes : List ℕ) (start names : List (List ℕ)) (tokens rest more : List Token) (ls : Tokens) (t : Token) → Numbering bytes start names tokens rest ls → IsFirstAndRest rest t more → length names < 2 ^ 32 - 1
+pub numbering_room : (bytes : List ℕ) (start names : List (List ℕ)) (tokens rest more : List Token) (ls : Tokens)
+    (t : Token) → Numbering bytes start names tokens rest ls → IsFirstAndRest rest t more → length names < 2 ^ 32 - 1
 numbering_room bytes start names tokens rest more ls t n e =
     let l : length more + 1 ≡ length rest = e.1 in
     let r : length names + length rest < 2 ^ 32 = n.room in
     omega (arith, l, r)
 
 -- the last of a list is the first of it turned round
-pub popped : {old mid new : List Token} {t : Token} → old ≡ mid ++ t ∷ [] → new ≡ mid → IsFirstAndRest (reverse old) t (reverse new)
+pub popped : {old mid new : List Token} {t : Token} → old ≡ mid ++ t ∷ [] → new ≡ mid
+    → IsFirstAndRest (reverse old) t (reverse new)
 popped {old} {mid} {new} {t} e n =
-    let r : reverse old ≡ t ∷ reverse new = ap (λ (xs : List Token). reverse xs) e ∙ reverse-append mid (t ∷ []) ∙ ap (λ (xs : List Token). t ∷ reverse xs) (sym n) in
+    let r : reverse old ≡ t ∷ reverse new =
+    ap (λ (xs : List Token). reverse xs) e ∙ reverse-append mid (t ∷ [])
+    ∙ ap (λ (xs : List Token). t ∷ reverse xs) (sym n) in
     (r, let l : length (reverse old) ≡ length (t ∷ reverse new) = ap length r in omega (arith, l))
 
-pub turned_twice : {all turned : List Token} (found : List Token) (end : Token) → all ≡ found ++ end ∷ [] → turned ≡ reverse found → all ≡ reverse turned ++ end ∷ []
-turned_twice found end e t = e ∙ ap (λ (xs : List Token). xs ++ end ∷ []) (sym (reverse-reverse found) ∙ ap (λ (xs : List Token). reverse xs) (sym t))
+pub turned_twice : {all turned : List Token} (found : List Token) (end : Token) → all ≡ found ++ end ∷ []
+    → turned ≡ reverse found → all ≡ reverse turned ++ end ∷ []
+turned_twice found end e t = e ∙ ap (λ (xs : List Token). xs ++ end ∷ [])
+    (sym (reverse-reverse found) ∙ ap (λ (xs : List Token). reverse xs) (sym t))
 
-pub last_of : {all : List Token} (found : List Token) {end : Token} {r : Option Token} → all ≡ found ++ option_to_list r → r ≡ Some end → all ≡ found ++ end ∷ []
+pub last_of : {all : List Token} (found : List Token) {end : Token} {r : Option Token} → all ≡ found ++ option_to_list r
+    → r ≡ Some end → all ≡ found ++ end ∷ []
 last_of found e s = e ∙ ap (λ (x : Option Token). found ++ option_to_list x) s
 
 no_length : (xs : List Token) → length xs ≡ 0 → xs ≡ []
 no_length [] e = refl
 no_length (x ∷ xs) e = absurd (omega (arith, e))
 
-pub numbering_done : (bytes : List ℕ) (start names : List (List ℕ)) (tokens rest : List Token) (ls : Tokens) → Numbering bytes start names tokens rest ls → length rest ≡ 0 → (map token_of ls ≡ tokens) × AreNumbered bytes start ls names
-numbering_done bytes start names tokens rest ls n e =
-    (sym (append-nil (map token_of ls)) ∙ ap (λ (xs : List Token). map token_of ls ++ xs) (sym (no_length rest e)) ∙ n.done, n.numbers)
+pub numbering_done : (bytes : List ℕ) (start names : List (List ℕ)) (tokens rest : List Token) (ls : Tokens)
+    → Numbering bytes start names tokens rest ls → length rest ≡ 0
+    → (map token_of ls ≡ tokens) × AreNumbered bytes start ls names
+numbering_done bytes start names tokens rest ls n e = (
+  sym (append-nil (map token_of ls)) ∙ ap (λ (xs : List Token). map token_of ls ++ xs) (sym (no_length rest e))
+      ∙ n.done,
+  n.numbers,
+)
 
-pub lexemes_made : (bytes : List ℕ) (all found : List Token) (end : Token) (ls : Tokens) (old names : List (List ℕ)) → AreTokens bytes all → all ≡ found ++ end ∷ [] → (map token_of ls ≡ found) × AreNumbered bytes old ls names → old ≡ [] → AreLexemes bytes ls names end.at
+pub lexemes_made : (bytes : List ℕ) (all found : List Token) (end : Token) (ls : Tokens) (old names : List (List ℕ))
+    → AreTokens bytes all → all ≡ found ++ end ∷ [] → (map token_of ls ≡ found) × AreNumbered bytes old ls names
+    → old ≡ [] → AreLexemes bytes ls names end.at
 lexemes_made bytes all found end ls old names h e n o =
     let f = front_of bytes all found end h e in
     record {
-      tokens = subst (AreTokens bytes) (e ∙ ap (λ (xs : List Token). xs ++ end ∷ []) (sym n.0) ∙ ap (λ (t : Token). map token_of ls ++ t ∷ []) f.last) h;
+      tokens = subst (AreTokens bytes) (e ∙ ap (λ (xs : List Token). xs ++ end ∷ []) (sym n.0)
+          ∙ ap (λ (t : Token). map token_of ls ++ t ∷ []) f.last) h;
       names_are = subst (λ (t : List (List ℕ)). AreNumbered bytes t ls names) o n.1;
       end_is = ap (λ (t : Token). t.at) f.last;
     }
@@ -256,20 +297,25 @@ pub record SameNumber (l m : Lexeme) (new new' : List (List ℕ)) : Type 0 where
   pub table : new ≡ new'
   pub different : AreDifferent new
 
-one_number : (bytes : List ℕ) (old new new' : List (List ℕ)) (l m : Lexeme) → AreDifferent old → token_of l ≡ token_of m → IsNumbered bytes old l new → IsNumbered bytes old m new' → SameNumber l m new new'
+one_number : (bytes : List ℕ) (old new new' : List (List ℕ)) (l m : Lexeme) → AreDifferent old → token_of l ≡ token_of m
+    → IsNumbered bytes old l new → IsNumbered bytes old m new' → SameNumber l m new new'
 one_number bytes old new new' l m d e (name k i s) (name k' i' s') =
-    let t : text_of bytes l ≡ text_of bytes m = ap (λ (t : Token). take (t.span.to - t.span.from) (drop t.span.from bytes)) e in
+    let t : text_of bytes l ≡ text_of bytes m =
+    ap (λ (t : Token). take (t.span.to - t.span.from) (drop t.span.from bytes)) e in
     let i2 : Interns old (text_of bytes l) new' = subst (λ (x : List ℕ). Interns old x new') (sym t) i' in
     let same : new ≡ new' = one_interned old (text_of bytes l) new new' i i2 in
     let dn : AreDifferent new = interned_different old new (text_of bytes l) d i in
-    let s2 : Stands new m.name.n (text_of bytes l) = subst (λ (x : List ℕ). Stands new m.name.n x) (sym t) (subst (λ (x : List (List ℕ)). Stands x m.name.n (text_of bytes m)) (sym same) s') in
+    let s2 : Stands new m.name.n (text_of bytes l) =
+    subst (λ (x : List ℕ). Stands new m.name.n x) (sym t)
+    (subst (λ (x : List (List ℕ)). Stands x m.name.n (text_of bytes m)) (sym same) s') in
     record { same = same_lexeme l m e (dn.one l.name.n m.name.n (text_of bytes l) s s2); table = same; different = dn }
 one_number bytes old new new' l m d e (name k i s) (other k' f z) = absurd (k' (sym (ap (λ (t : Token). t.kind) e) ∙ k))
 one_number bytes old new new' l m d e (other k f z) (name k' i s) = absurd (k (ap (λ (t : Token). t.kind) e ∙ k'))
 one_number bytes old new new' l m d e (other k f z) (other k' f' z') =
     record { same = same_lexeme l m e (z ∙ sym z'); table = f ∙ sym f'; different = subst AreDifferent (sym f) d }
 
-one_numbering : (bytes : List ℕ) (ls ms : Tokens) (old new new' : List (List ℕ)) → AreDifferent old → map token_of ls ≡ map token_of ms → AreNumbered bytes old ls new → AreNumbered bytes old ms new' → ls ≡ ms
+one_numbering : (bytes : List ℕ) (ls ms : Tokens) (old new new' : List (List ℕ)) → AreDifferent old
+    → map token_of ls ≡ map token_of ms → AreNumbered bytes old ls new → AreNumbered bytes old ms new' → ls ≡ ms
 one_numbering bytes [] [] old new new' d e h k = refl
 one_numbering bytes [] (m ∷ ms) old new new' d e h k = absurd (cc)
 one_numbering bytes (l ∷ ls) [] old new new' d e h k = absurd (cc)
@@ -277,7 +323,8 @@ one_numbering bytes (l ∷ ls) (m ∷ ms) old new new' d e h k =
     let first : token_of l ≡ token_of m = cc in
     let rest : map token_of ls ≡ map token_of ms = cc in
     let s = one_number bytes old h.0 k.0 l m d first h.1 k.1 in
-    let more = one_numbering bytes ls ms h.0 new new' s.different rest h.2 (subst (λ (t : List (List ℕ)). AreNumbered bytes t ms new') (sym s.table) k.2) in
+    let more = one_numbering bytes ls ms h.0 new new' s.different rest h.2
+    (subst (λ (t : List (List ℕ)). AreNumbered bytes t ms new') (sym s.table) k.2) in
     ap (λ (x : Lexeme). x ∷ ls) s.same ∙ ap (λ (xs : Tokens). m ∷ xs) more
 
 none_different : AreDifferent {A = List ℕ} []
@@ -287,15 +334,21 @@ none_different = record { one = λ m n a p q. absurd (nowhere m a p) }
     nowhere zero a p = absurd (cc)
     nowhere (suc m) a p = absurd (cc)
 
-pub one_lexing : (bytes : List ℕ) (ls ms : Tokens) (names names' : List (List ℕ)) (end end' : Place) → AreLexemes bytes ls names end → AreLexemes bytes ms names' end' → ls ≡ ms
+pub one_lexing : (bytes : List ℕ) (ls ms : Tokens) (names names' : List (List ℕ)) (end end' : Place)
+    → AreLexemes bytes ls names end → AreLexemes bytes ms names' end' → ls ≡ ms
 one_lexing bytes ls ms names names' end end' h k =
-    let all = tokens_one bytes (map token_of ls ++ end_of_text bytes ∷ []) (map token_of ms ++ end_of_text bytes ∷ []) h.tokens k.tokens in
-    one_numbering bytes ls ms [] names names' none_different (snoc_front (map token_of ls) (map token_of ms) (end_of_text bytes) (end_of_text bytes) all).0 h.names_are k.names_are
+    let all = tokens_one bytes (map token_of ls ++ end_of_text bytes ∷ []) (map token_of ms ++ end_of_text bytes ∷ [])
+    h.tokens k.tokens in
+    one_numbering bytes ls ms [] names names' none_different
+    (snoc_front (map token_of ls) (map token_of ms) (end_of_text bytes) (end_of_text bytes) all).0 h.names_are
+    k.names_are
 
 -- Faults
 
-pub no_fault_there : (bytes : List ℕ) (ls : Tokens) (names : List (List ℕ)) (end at : Place) → AreLexemes bytes ls names end → HasFaultAt bytes at → ⊥
-no_fault_there bytes ls names end at h f = tokens_no_fault bytes (map token_of ls ++ end_of_text bytes ∷ []) f.fault h.tokens f.first
+pub no_fault_there : (bytes : List ℕ) (ls : Tokens) (names : List (List ℕ)) (end at : Place)
+    → AreLexemes bytes ls names end → HasFaultAt bytes at → ⊥
+no_fault_there bytes ls names end at h f =
+    tokens_no_fault bytes (map token_of ls ++ end_of_text bytes ∷ []) f.fault h.tokens f.first
 
 one_place : (f : LexFault) (a b : Place) → IsPlaceOf f a → IsPlaceOf f b → a ≡ b
 one_place (lex_fault.Byte p) a b x y = sym x ∙ y
@@ -304,10 +357,15 @@ one_place (lex_fault.Number p) a b x y = sym x ∙ y
 one_place lex_fault.Memory a b x y = elim x [ ]
 
 pub one_fault_place : (bytes : List ℕ) (a b : Place) → HasFaultAt bytes a → HasFaultAt bytes b → a ≡ b
-one_fault_place bytes a b f g = one_place f.fault a b f.there (subst (λ (x : LexFault). IsPlaceOf x b) (fault_one bytes g.fault f.fault g.first f.first) g.there)
+one_fault_place bytes a b f g = one_place f.fault a b f.there
+    (subst (λ (x : LexFault). IsPlaceOf x b) (fault_one bytes g.fault f.fault g.first f.first) g.there)
 
-pub lexical_told : (bytes : List ℕ) (f : LexFault) (r : ParseFault) → r ≡ fault_of f → (f ≢ lex_fault.Memory → IsFirstFault bytes f) → r ≢ Memory → (at : Place) × (r ≡ Lex at) × HasFaultAt bytes at
-lexical_told bytes (lex_fault.Byte at) r e h = λ m. (at, e, record { fault = lex_fault.Byte at; first = h (λ q. absurd (cc)); there = refl })
-lexical_told bytes (lex_fault.OpenComment at) r e h = λ m. (at, e, record { fault = lex_fault.OpenComment at; first = h (λ q. absurd (cc)); there = refl })
-lexical_told bytes (lex_fault.Number at) r e h = λ m. (at, e, record { fault = lex_fault.Number at; first = h (λ q. absurd (cc)); there = refl })
+pub lexical_told : (bytes : List ℕ) (f : LexFault) (r : ParseFault) → r ≡ fault_of f
+    → (f ≢ lex_fault.Memory → IsFirstFault bytes f) → r ≢ Memory → (at : Place) × (r ≡ Lex at) × HasFaultAt bytes at
+lexical_told bytes (lex_fault.Byte at) r e h =
+    λ m. (at, e, record { fault = lex_fault.Byte at; first = h (λ q. absurd (cc)); there = refl })
+lexical_told bytes (lex_fault.OpenComment at) r e h =
+    λ m. (at, e, record { fault = lex_fault.OpenComment at; first = h (λ q. absurd (cc)); there = refl })
+lexical_told bytes (lex_fault.Number at) r e h =
+    λ m. (at, e, record { fault = lex_fault.Number at; first = h (λ q. absurd (cc)); there = refl })
 lexical_told bytes lex_fault.Memory r e h = λ m. absurd (m e)

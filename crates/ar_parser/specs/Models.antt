@@ -40,11 +40,13 @@ pub data IsBound (z : ℤ) (next : TokenKind) (ts : Tokens) : Type 0 where
 -- DomainBody = "{" name { "," name } "}" | "[" Bound "," Bound "]"
 abbrev pub IsDomainBody : DomainBody → Form
 IsDomainBody (domain.Symbols names) = between (Sign OPEN_BRACE) (Sign CLOSE_BRACE) (AreNames names.items)
-IsDomainBody (domain.Range low high) = between (Sign OPEN_BRACKET) (Sign COMMA) (IsBound low) ▸ IsBound high ▸ token (Sign CLOSE_BRACKET)
+IsDomainBody (domain.Range low high) =
+    between (Sign OPEN_BRACKET) (Sign COMMA) (IsBound low) ▸ IsBound high ▸ token (Sign CLOSE_BRACKET)
 
 -- "domain" name DomainBody [ ";" ]
 abbrev pub IsDomain : DomainDecl → Form
-IsDomain d = token (Reserved DOMAIN) ▸ IsPlacedName (d.name, d.at) ▸ IsDomainBody d.body ▸ (nothing ∣ token (Sign SEMICOLON))
+IsDomain d = token (Reserved DOMAIN) ▸ IsPlacedName (d.name, d.at) ▸ IsDomainBody
+    d.body ▸ (nothing ∣ token (Sign SEMICOLON))
 
 -- Item = Domain | "class" name Body "end" | "block" name Body "end"
 abbrev pub IsItem : ℕ → Item → Form
@@ -65,17 +67,21 @@ token_of l = record { kind = l.kind; span = l.span; at = l.at }
 abbrev pub text_of : List ℕ → Lexeme → List ℕ
 text_of bytes l = take (l.span.to - l.span.from) (drop l.span.from bytes)
 
--- The table `new` is `old` with the text of this token, if it is a name, and the name's number stands for it. A token that is no name has the number 0.
+-- The table `new` is `old` with the text of this token, if it is a name, and the name's number stands for it. A token
+-- that is no name has the number 0.
 pub data IsNumbered (bytes : List ℕ) (old : List (List ℕ)) (l : Lexeme) (new : List (List ℕ)) : Type 0 where
-  name : l.kind ≡ Name → Interns old (text_of bytes l) new → Stands new l.name.n (text_of bytes l) → IsNumbered bytes old l new
+  name : l.kind ≡ Name → Interns old (text_of bytes l) new → Stands new l.name.n (text_of bytes l)
+      → IsNumbered bytes old l new
   other : l.kind ≢ Name → new ≡ old → l.name.n ≡ 0 → IsNumbered bytes old l new
 
--- The table `new` is `old` with the texts of the names, in the order of their first use, and each name's number stands for its text.
+-- The table `new` is `old` with the texts of the names, in the order of their first use, and each name's number stands
+-- for its text.
 abbrev pub AreNumbered : List ℕ → List (List ℕ) → Tokens → List (List ℕ) → Type 0
 AreNumbered bytes old [] new = new ≡ old
 AreNumbered bytes old (l ∷ ls) new = (mid : List (List ℕ)) × IsNumbered bytes old l mid × AreNumbered bytes mid ls new
 
--- The tokens of the text but for its end, with the numbers of their names, the table of these, and the place behind the text.
+-- The tokens of the text but for its end, with the numbers of their names, the table of these, and the place behind the
+-- text.
 pub record AreLexemes (bytes : List ℕ) (ls : Tokens) (names : List (List ℕ)) (end : Place) : Type 0 where
   pub tokens : AreTokens bytes (map token_of ls ++ end_of_text bytes ∷ [])
   pub names_are : AreNumbered bytes [] ls names

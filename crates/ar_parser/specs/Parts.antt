@@ -1,4 +1,5 @@
--- The texts that single calls take, with at most n productions open at one token. Where one more would open stands one token `deep`.
+-- The texts that single calls take, with at most n productions open at one token. Where one more would open stands one
+-- token `deep`.
 use Rattle.std.specs.Prelude.{ℕ}
 use Rattle.ar_lexer.specs.declared.token.TokenKind.TheVariants.{Name, Sign, Reserved}
 use Rattle.ar_lexer.specs.declared.signs.TheConstants.{OPEN_BRACE, CLOSE_BRACE, OPEN_BRACKET, CLOSE_BRACKET, COMMA, SEMICOLON, EQUALS, ARROW, AMPERSAND}
@@ -68,7 +69,8 @@ abbrev pub value_text : ℕ → Form
 value_text n = valued_text (expr_text deep n)
 
 abbrev pub kept_value_text : ℕ → Form
-kept_value_text n = token (Reserved REAL) ▸ token Name ▸ between (Sign EQUALS) (Sign SEMICOLON) (kept_text (bracketed_text deep n))
+kept_value_text n = token (Reserved REAL) ▸ token Name ▸ between (Sign EQUALS) (Sign SEMICOLON)
+    (kept_text (bracketed_text deep n))
 
 abbrev pub parameter_text : ℕ → Form
 parameter_text n = token (Reserved PARAMETER) ▸ (kept_value_text n ∣ value_text n)

@@ -52,21 +52,25 @@ Plain (t ∷ ts) = (t.kind ≢ no_kind) × Plain ts
 
 -- The call stands at `new`. Whatever stood there in its place, if its first token had the same kind: a front of this
 -- form, of any nesting, with what ends it behind it, would end right there.
-pub record Finds {A : Type 0} (P : ℕ → Form) (ends : TokenKind → Bool) (left : ℕ) (result : Result A Refusal) (old new : Tokens) : Type 0 where
+pub record Finds {A : Type 0} (P : ℕ → Form) (ends : TokenKind → Bool) (left : ℕ) (result : Result A Refusal)
+    (old new : Tokens) : Type 0 where
   pub front : Tokens
   pub passed : old ≡ front ++ new
-  pub only : Plain old → (n : ℕ) (other ts after : Tokens) → kind_at other ≡ kind_at new → P n (kind_at after) ts → front ++ other ≡ ts ++ after → ends (kind_at after) ≡ true → Arrives left n result other after
+  pub only : Plain old → (n : ℕ) (other ts after : Tokens) → kind_at other ≡ kind_at new → P n (kind_at after) ts
+      → front ++ other ≡ ts ++ after → ends (kind_at after) ≡ true → Arrives left n result other after
 
 -- Some text of this form begins with these tokens, whatever follows it.
 pub record Begins (A : Form) (front : Tokens) : Type 0 where
   pub more : Tokens
   pub form : (next : TokenKind) → A next (front ++ more)
 
--- What a refusal at `new` with room for `left` open productions tells of the tokens passed, with `more` of the next ones:
+-- What a refusal at `new` with room for `left` open productions tells of the tokens passed, with `more` of the next
+-- ones:
 -- that they begin a text with at most m open.
 pub data Tells (left : ℕ) (e : Refusal) (new : Tokens) (m : ℕ) (more : Tokens) : Type 0 where
   before : m ≡ left → more ≡ [] → Tells left e new m more
-  through : (t : Lexeme) (rest : Tokens) → e ≡ Depth → new ≡ t ∷ rest → m ≡ left + 3 → more ≡ t ∷ [] → Tells left e new m more
+  through : (t : Lexeme) (rest : Tokens) → e ≡ Depth → new ≡ t ∷ rest → m ≡ left + 3 → more ≡ t ∷ []
+      → Tells left e new m more
 
 -- A refusal stands where the call stopped: what was passed begins a text of this form with no token that opens a
 -- production too deep, and at Depth some text of the form goes on with the next token.
@@ -137,7 +141,8 @@ ends_sum k = ends_product k && not (begins_term k)
 
 -- a sign that compares
 abbrev pub is_relation : TokenKind → Bool
-is_relation k = is_sign EQUAL k || (is_sign DIFFERS k || (is_sign LESS k || (is_sign AT_MOST k || (is_sign MORE k || is_sign AT_LEAST k))))
+is_relation k = is_sign EQUAL k || (is_sign DIFFERS k ||
+    (is_sign LESS k || (is_sign AT_MOST k || (is_sign MORE k || is_sign AT_LEAST k))))
 
 -- what goes on with no comparison either
 abbrev pub ends_not : TokenKind → Bool
@@ -165,7 +170,8 @@ begins_primary Name = true
 begins_primary (Whole n) = true
 begins_primary Real = true
 begins_primary (Sign s) = s == OPEN_PARENTHESIS
-begins_primary (Reserved w) = (w == OWNER) || (w == MAIN) || (w == TRUE) || (w == FALSE) || (w == MIN) || (w == MAX) || (w == COUNT) || (w == SWITCH)
+begins_primary (Reserved w) = (w == OWNER) || (w == MAIN) || (w == TRUE) || (w == FALSE) || (w == MIN) || (w == MAX) ||
+    (w == COUNT) || (w == SWITCH)
 begins_primary End = false
 
 -- an operand of a product
@@ -245,7 +251,8 @@ begins_part k = is_sign EXCLAMATION k || is_sign QUESTION k
 
 -- a clause that begins with a reserved word
 abbrev pub begins_keyed : TokenKind → Bool
-begins_keyed (Reserved w) = (w == EXTENDS) || (w == BOOLEAN) || (w == BLOCK) || (w == CLONES) || (w == EMBEDS) || (w == PARAMETER) || (w == EVENT) || (w == OBSERVER) || (w == HIDE)
+begins_keyed (Reserved w) = (w == EXTENDS) || (w == BOOLEAN) || (w == BLOCK) || (w == CLONES) || (w == EMBEDS) ||
+    (w == PARAMETER) || (w == EVENT) || (w == OBSERVER) || (w == HIDE)
 begins_keyed _ = false
 
 -- a member

@@ -67,11 +67,13 @@ abbrev pub case_form : Form → Form
 case_form Expr = between (Reserved CASE) (Sign COLON) Expr ▸ Expr
 
 abbrev pub switch_text : Form → Form
-switch_text Expr = token (Reserved SWITCH) ▸ token (Sign OPEN_BRACE) ▸ case_form Expr ▸ many (case_form Expr) ▸ token (Reserved DEFAULT) ▸ between (Sign COLON) (Sign CLOSE_BRACE) Expr
+switch_text Expr = token (Reserved SWITCH) ▸ token (Sign OPEN_BRACE) ▸ case_form Expr ▸ many (case_form Expr) ▸ token
+    (Reserved DEFAULT) ▸ between (Sign COLON) (Sign CLOSE_BRACE) Expr
 
 -- "(" Expr { "," Expr } ")"
 abbrev pub operands_text : Form → Form
-operands_text Expr = token (Sign OPEN_PARENTHESIS) ▸ Expr ▸ many (token (Sign COMMA) ▸ Expr) ▸ token (Sign CLOSE_PARENTHESIS)
+operands_text Expr = token (Sign OPEN_PARENTHESIS) ▸ Expr ▸ many (token (Sign COMMA) ▸ Expr) ▸ token
+    (Sign CLOSE_PARENTHESIS)
 
 -- a whole number, a real number, "true" or "false"
 abbrev pub begins_constant : TokenKind → Bool
@@ -102,7 +104,8 @@ abbrev mutual
   -- Not = "not" Not | Compare
   pub not_text : Form → ℕ → TokenKind → Tokens → Type 0
   not_text cut zero next ts = cut next ts
-  not_text cut (suc n) next ts = ((token (Reserved NOT) ▸ not_text cut n) ∣ compare_text (sum_text (product_text (minus_text cut n)))) next ts
+  not_text cut (suc n) next ts = ((token (Reserved NOT) ▸ not_text cut n) ∣ compare_text
+      (sum_text (product_text (minus_text cut n)))) next ts
 
   -- Minus = "-" Minus | Primary
   pub minus_text : Form → ℕ → TokenKind → Tokens → Type 0
@@ -157,7 +160,8 @@ abbrev pub setting_text : Form → Form
 setting_text Expr = list_of (Sign DOT) (one_of is_target_word) ▸ token (Sign EQUALS) ▸ Expr
 
 abbrev pub settings_text : Form → Form
-settings_text Expr = maybe (between (Sign OPEN_PARENTHESIS) (Sign CLOSE_PARENTHESIS) (list_of (Sign COMMA) (setting_text Expr)))
+settings_text Expr = maybe (between (Sign OPEN_PARENTHESIS) (Sign CLOSE_PARENTHESIS)
+    (list_of (Sign COMMA) (setting_text Expr)))
 
 -- any token but "(" and ")", and but ";" too where the text is kept
 abbrev pub is_unread : TokenKind → Bool
@@ -173,7 +177,8 @@ is_kept _ = true
 -- "(" Unread ")"
 abbrev pub bracketed_text : Form → ℕ → TokenKind → Tokens → Type 0
 bracketed_text cut zero next ts = cut next ts
-bracketed_text cut (suc n) next ts = between (Sign OPEN_PARENTHESIS) (Sign CLOSE_PARENTHESIS) (many (one_of is_unread ∣ bracketed_text cut n)) next ts
+bracketed_text cut (suc n) next ts =
+    between (Sign OPEN_PARENTHESIS) (Sign CLOSE_PARENTHESIS) (many (one_of is_unread ∣ bracketed_text cut n)) next ts
 
 -- Kept = Piece { Piece }, Piece = any token but "(", ")" and ";" | "(" Unread ")"
 abbrev pub kept_text : Form → Form
@@ -194,11 +199,13 @@ is_part _ = false
 
 abbrev pub transition_text : Form → Form → Form
 transition_text Expr Instr =
-    token Name ▸ token (Sign COLON) ▸ ((list_of (Sign AMPERSAND) (one_of is_part ▸ path_text) ▸ token (Sign SEMICOLON)) ∣ (Expr ▸ token (Sign ARROW) ▸ Instr))
+    token Name ▸ token (Sign COLON) ▸ ((list_of (Sign AMPERSAND) (one_of is_part ▸ path_text) ▸ token (Sign SEMICOLON))
+    ∣ (Expr ▸ token (Sign ARROW) ▸ Instr))
 
 -- Section = "transition" { Transition } | "assertion" { Instr }
 abbrev pub section_text : Form → Form → Form
-section_text Expr Instr = (token (Reserved TRANSITION) ▸ many (transition_text Expr Instr)) ∣ (token (Reserved ASSERTION) ▸ many Instr)
+section_text Expr Instr = (token (Reserved TRANSITION) ▸ many (transition_text Expr Instr)) ∣
+    (token (Reserved ASSERTION) ▸ many Instr)
 
 -- name Body "end"
 abbrev pub unit_text : Form → Form
@@ -206,16 +213,22 @@ unit_text Body = token Name ▸ Body ▸ token (Reserved END)
 
 -- A clause that begins with a reserved word.
 pub data keyed_text (Expr Bracketed Body : Form) (next : TokenKind) (ts : Tokens) : Type 0 where
-  extends : (token (Reserved EXTENDS) ▸ token Name ▸ token (Sign SEMICOLON)) next ts → keyed_text Expr Bracketed Body next ts
+  extends : (token (Reserved EXTENDS) ▸ token Name ▸ token (Sign SEMICOLON)) next ts
+      → keyed_text Expr Bracketed Body next ts
   boolean : (token (Reserved BOOLEAN) ▸ declared_rest Expr) next ts → keyed_text Expr Bracketed Body next ts
-  clones : (token (Reserved CLONES) ▸ path_text ▸ between (Reserved AS) (Sign SEMICOLON) (token Name)) next ts → keyed_text Expr Bracketed Body next ts
-  embeds : (token (Reserved EMBEDS) ▸ path_text ▸ between (Reserved AS) (Sign SEMICOLON) (token Name)) next ts → keyed_text Expr Bracketed Body next ts
-  kept : (token (Reserved PARAMETER) ▸ token (Reserved REAL) ▸ token Name ▸ between (Sign EQUALS) (Sign SEMICOLON) (kept_text Bracketed)) next ts → keyed_text Expr Bracketed Body next ts
+  clones : (token (Reserved CLONES) ▸ path_text ▸ between (Reserved AS) (Sign SEMICOLON) (token Name)) next ts
+      → keyed_text Expr Bracketed Body next ts
+  embeds : (token (Reserved EMBEDS) ▸ path_text ▸ between (Reserved AS) (Sign SEMICOLON) (token Name)) next ts
+      → keyed_text Expr Bracketed Body next ts
+  kept : (token (Reserved PARAMETER) ▸ token (Reserved REAL) ▸ token Name ▸ between (Sign EQUALS) (Sign SEMICOLON)
+      (kept_text Bracketed)) next ts → keyed_text Expr Bracketed Body next ts
   parameter : (token (Reserved PARAMETER) ▸ valued_text Expr) next ts → keyed_text Expr Bracketed Body next ts
   observer : (token (Reserved OBSERVER) ▸ valued_text Expr) next ts → keyed_text Expr Bracketed Body next ts
   block : (token (Reserved BLOCK) ▸ unit_text Body) next ts → keyed_text Expr Bracketed Body next ts
-  event : between (Reserved EVENT) (Sign SEMICOLON) (list_of (Sign COMMA) (token Name ▸ maybe Bracketed)) next ts → keyed_text Expr Bracketed Body next ts
-  hide : between (Reserved HIDE) (Sign SEMICOLON) (list_of (Sign COMMA) path_text) next ts → keyed_text Expr Bracketed Body next ts
+  event : between (Reserved EVENT) (Sign SEMICOLON) (list_of (Sign COMMA) (token Name ▸ maybe Bracketed)) next ts
+      → keyed_text Expr Bracketed Body next ts
+  hide : between (Reserved HIDE) (Sign SEMICOLON) (list_of (Sign COMMA) path_text) next ts
+      → keyed_text Expr Bracketed Body next ts
 
 -- Body = { Keyed | name Names [ Settings ] ";" } [ Section { Section | Keyed } ]
 abbrev pub body_of : Form → Form → Form → Form → Form
@@ -226,7 +239,8 @@ body_of Expr Instr Bracketed Body =
 -- An empty body is open nowhere.
 abbrev pub body_text : Form → ℕ → TokenKind → Tokens → Type 0
 body_text cut zero next ts = (nothing ∣ cut) next ts
-body_text cut (suc n) next ts = body_of (expr_text cut n) (instr_text cut n) (bracketed_text cut n) (body_text cut n) next ts
+body_text cut (suc n) next ts = body_of (expr_text cut n) (instr_text cut n) (bracketed_text cut n) (body_text cut n)
+    next ts
 
 -- Items
 
@@ -243,11 +257,13 @@ bound_text = whole_text ∣ (token (Sign MINUS) ▸ whole_text)
 abbrev pub domain_text : Form
 domain_text =
     token (Reserved DOMAIN) ▸ token Name
-    ▸ (between (Sign OPEN_BRACE) (Sign CLOSE_BRACE) names_text ∣ (between (Sign OPEN_BRACKET) (Sign COMMA) bound_text ▸ bound_text ▸ token (Sign CLOSE_BRACKET)))
+    ▸ (between (Sign OPEN_BRACE) (Sign CLOSE_BRACE) names_text ∣
+    (between (Sign OPEN_BRACKET) (Sign COMMA) bound_text ▸ bound_text ▸ token (Sign CLOSE_BRACKET)))
     ▸ maybe (token (Sign SEMICOLON))
 
 abbrev pub item_text : Form → ℕ → Form
-item_text cut n = domain_text ∣ (token (Reserved CLASS) ▸ unit_text (body_text cut n)) ∣ (token (Reserved BLOCK) ▸ unit_text (body_text cut n))
+item_text cut n = domain_text ∣ (token (Reserved CLASS) ▸ unit_text (body_text cut n)) ∣
+    (token (Reserved BLOCK) ▸ unit_text (body_text cut n))
 
 -- Model = Item { Item }
 abbrev pub model_text : Form → ℕ → Form
@@ -276,7 +292,8 @@ pub record IsSyntaxAt (n : ℕ) (front rest : Tokens) : Type 0 where
   pub fits : FitsNesting n front
   pub ends : Ends front rest
 
--- A refusal at the first of `rest`: it is the first token that opens a production inside n others, and some text goes on with it.
+-- A refusal at the first of `rest`: it is the first token that opens a production inside n others, and some text goes
+-- on with it.
 pub record IsDepthAt (n : ℕ) (front rest : Tokens) : Type 0 where
   pub t : Lexeme
   pub back : Tokens

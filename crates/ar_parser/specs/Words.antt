@@ -9,7 +9,8 @@ use Rattle.ar_parser.specs.declared.lexeme.Lexeme.{Lexeme}
 abbrev pub Tokens : Type 0
 Tokens = List Lexeme
 
--- A form of texts: which tokens have it, before a token of this kind. Only an `if` without `else` looks at what follows.
+-- A form of texts: which tokens have it, before a token of this kind. Only an `if` without `else` looks at what
+-- follows.
 abbrev pub Form : Type 1
 Form = TokenKind → Tokens → Type 0
 

@@ -17,7 +17,8 @@ no_list count v n e = absurd (cc)
 whole_in : (n m : ℤ) → form.Whole n ≡ form.Whole m → n ≡ m
 whole_in n m e = cc
 
-pub one_number : {Same : RawExpr → RawExpr → Type 0} (f g : RawForm) (n m : ℤ) → SameParts Same f g → f ≡ form.Whole n → g ≡ form.Whole m → n ≡ m
+pub one_number : {Same : RawExpr → RawExpr → Type 0} (f g : RawForm) (n m : ℤ) → SameParts Same f g → f ≡ form.Whole n
+    → g ≡ form.Whole m → n ≡ m
 one_number f g n m (equal e) u w = whole_in n m (sym u ∙ e ∙ w)
 one_number f g n m (path p q x y s) u w = let z : form.Path p ≡ form.Whole n = sym x ∙ u in absurd (cc)
 one_number f g n m (negation p q x y s) u w = let z : form.Not p ≡ form.Whole n = sym x ∙ u in absurd (cc)

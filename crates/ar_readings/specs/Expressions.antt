@@ -1,4 +1,5 @@
--- What it is that two expressions or instructions agree: they say the same and say it in the same places. The room that a list
+-- What it is that two expressions or instructions agree: they say the same and say it in the same places. The room that
+-- a list
 -- has for more items plays no part.
 use Rattle.std.specs.Prelude.{◌≡◌, ℕ, zero, suc, Bool, Option, Some, None, Vec, Box}
 use Rattle.std.specs.declared.alloc.Global.{Global}
@@ -40,10 +41,14 @@ pub data SameParts (Same : RawExpr → RawExpr → Type 0) (f g : RawForm) : Typ
   path : (p q : Path) → f ≡ form.Path p → g ≡ form.Path q → SamePath p q → SameParts Same f g
   negation : (x y : Box RawExpr Global) → f ≡ form.Not x → g ≡ form.Not y → Same x.value y.value → SameParts Same f g
   minus : (x y : Box RawExpr Global) → f ≡ form.Minus x → g ≡ form.Minus y → Same x.value y.value → SameParts Same f g
-  listed : (k : Listed) (v w : Vec RawExpr Global) → f ≡ form_of k v → g ≡ form_of k w → Along Same v.items w.items → SameParts Same f g
-  compared : (r : RawRelation) (x y x' y' : Box RawExpr Global) → f ≡ form.Compare r x y → g ≡ form.Compare r x' y' → Same x.value x'.value → Same y.value y'.value → SameParts Same f g
-  sum : (v w : Vec (Bool × RawExpr) Global) → f ≡ form.Sum v → g ≡ form.Sum w → Along (λ s t. (s.0 ≡ t.0) × Same s.1 t.1) v.items w.items → SameParts Same f g
-  choice : (v w : Vec (RawExpr × RawExpr) Global) (x y : Box RawExpr Global) → f ≡ form.Choose v x → g ≡ form.Choose w y →
+  listed : (k : Listed) (v w : Vec RawExpr Global) → f ≡ form_of k v → g ≡ form_of k w → Along Same v.items w.items
+      → SameParts Same f g
+  compared : (r : RawRelation) (x y x' y' : Box RawExpr Global) → f ≡ form.Compare r x y → g ≡ form.Compare r x' y'
+      → Same x.value x'.value → Same y.value y'.value → SameParts Same f g
+  sum : (v w : Vec (Bool × RawExpr) Global) → f ≡ form.Sum v → g ≡ form.Sum w
+      → Along (λ s t. (s.0 ≡ t.0) × Same s.1 t.1) v.items w.items → SameParts Same f g
+  choice : (v w : Vec (RawExpr × RawExpr) Global) (x y : Box RawExpr Global) → f ≡ form.Choose v x → g ≡ form.Choose w y
+      →
       Along (λ s t. Same s.0 t.0 × Same s.1 t.1) v.items w.items → Same x.value y.value → SameParts Same f g
 
 -- the same down to depth d: one place, one span and, above the depth, the same parts
@@ -67,9 +72,12 @@ SameOption Same (Some x) (Some y) = Same x y
 -- One kind of instruction, whose parts are the same.
 pub data SameSteps (Same : Instr → Instr → Type 0) (i j : Instr) : Type 0 where
   equal : i ≡ j → SameSteps Same i j
-  assign : (p q : Path) (e f : RawExpr) → i ≡ instr.Assign p e → j ≡ instr.Assign q f → SamePath p q → SameExpr e f → SameSteps Same i j
-  tie : (p q p' q' : Path) → i ≡ instr.Tie p q → j ≡ instr.Tie p' q' → SamePath p p' → SamePath q q' → SameSteps Same i j
-  conditional : (e f : RawExpr) (x y : Box Instr Global) (other other' : Option (Box Instr Global)) → i ≡ instr.If e x other → j ≡ instr.If f y other' →
+  assign : (p q : Path) (e f : RawExpr) → i ≡ instr.Assign p e → j ≡ instr.Assign q f → SamePath p q → SameExpr e f
+      → SameSteps Same i j
+  tie : (p q p' q' : Path) → i ≡ instr.Tie p q → j ≡ instr.Tie p' q' → SamePath p p' → SamePath q q'
+      → SameSteps Same i j
+  conditional : (e f : RawExpr) (x y : Box Instr Global) (other other' : Option (Box Instr Global))
+      → i ≡ instr.If e x other → j ≡ instr.If f y other' →
       SameExpr e f → Same x.value y.value → SameOption (λ a b. Same a.value b.value) other other' → SameSteps Same i j
   group : (v w : Vec Instr Global) → i ≡ instr.All v → j ≡ instr.All w → Along Same v.items w.items → SameSteps Same i j
 

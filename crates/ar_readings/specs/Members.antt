@@ -35,16 +35,23 @@ pub record SameUnitBy (Same : Member → Member → Type 0) (u w : UnitTree) : T
 -- One kind of member, whose parts are the same.
 pub data SameMemberBy (Same : Member → Member → Type 0) (m n : Member) : Type 0 where
   equal : m ≡ n → SameMemberBy Same m n
-  declared : (t : TypeName) (v w : Vec (NameId × Place) Global) (s r : Vec Setting Global) → m ≡ member.Declare t v s → n ≡ member.Declare t w r →
+  declared : (t : TypeName) (v w : Vec (NameId × Place) Global) (s r : Vec Setting Global) → m ≡ member.Declare t v s
+      → n ≡ member.Declare t w r →
       v.items ≡ w.items → Along SameSetting s.items r.items → SameMemberBy Same m n
   block : (u w : UnitTree) → m ≡ member.Block u → n ≡ member.Block w → SameUnitBy Same u w → SameMemberBy Same m n
-  clones : (p q : Path) (name : NameId) (at : Place) → m ≡ member.Clones p name at → n ≡ member.Clones q name at → SamePath p q → SameMemberBy Same m n
-  embeds : (p q : Path) (name : NameId) (at : Place) → m ≡ member.Embeds p name at → n ≡ member.Embeds q name at → SamePath p q → SameMemberBy Same m n
-  parameter : (t : TypeName) (name : NameId) (at : Place) (e f : RawExpr) → m ≡ member.Parameter t name at e → n ≡ member.Parameter t name at f → SameExpr e f → SameMemberBy Same m n
-  observer : (t : TypeName) (name : NameId) (at : Place) (e f : RawExpr) → m ≡ member.Observer t name at e → n ≡ member.Observer t name at f → SameExpr e f → SameMemberBy Same m n
+  clones : (p q : Path) (name : NameId) (at : Place)
+      → m ≡ member.Clones p name at → n ≡ member.Clones q name at → SamePath p q → SameMemberBy Same m n
+  embeds : (p q : Path) (name : NameId) (at : Place)
+      → m ≡ member.Embeds p name at → n ≡ member.Embeds q name at → SamePath p q → SameMemberBy Same m n
+  parameter : (t : TypeName) (name : NameId) (at : Place) (e f : RawExpr) → m ≡ member.Parameter t name at e
+      → n ≡ member.Parameter t name at f → SameExpr e f → SameMemberBy Same m n
+  observer : (t : TypeName) (name : NameId) (at : Place) (e f : RawExpr) → m ≡ member.Observer t name at e
+      → n ≡ member.Observer t name at f → SameExpr e f → SameMemberBy Same m n
   hidden : (p q : Path) → m ≡ member.Hide p → n ≡ member.Hide q → SamePath p q → SameMemberBy Same m n
-  local : (name : NameId) (at : Place) (e f : RawExpr) (i j : Instr) → m ≡ member.Local name at e i → n ≡ member.Local name at f j → SameExpr e f → SameInstr i j → SameMemberBy Same m n
-  sync : (name : NameId) (at : Place) (v w : Vec Part Global) → m ≡ member.Sync name at v → n ≡ member.Sync name at w → Along SamePart v.items w.items → SameMemberBy Same m n
+  local : (name : NameId) (at : Place) (e f : RawExpr) (i j : Instr) → m ≡ member.Local name at e i
+      → n ≡ member.Local name at f j → SameExpr e f → SameInstr i j → SameMemberBy Same m n
+  sync : (name : NameId) (at : Place) (v w : Vec Part Global) → m ≡ member.Sync name at v → n ≡ member.Sync name at w
+      → Along SamePart v.items w.items → SameMemberBy Same m n
   assertion : (i j : Instr) → m ≡ member.Assert i → n ≡ member.Assert j → SameInstr i j → SameMemberBy Same m n
 
 -- the same down to depth d

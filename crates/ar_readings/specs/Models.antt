@@ -16,7 +16,8 @@ use Rattle.ar_readings.specs.Members.{SameUnit}
 
 -- the same symbols in one order, each in its place, or the same bounds
 pub data SameDomain (x y : DomainBody) : Type 0 where
-  symbols : (v w : Vec (NameId × Place) Global) → x ≡ domain.Symbols v → y ≡ domain.Symbols w → v.items ≡ w.items → SameDomain x y
+  symbols : (v w : Vec (NameId × Place) Global) → x ≡ domain.Symbols v → y ≡ domain.Symbols w → v.items ≡ w.items
+      → SameDomain x y
   range : x ≡ y → SameDomain x y
 
 -- one name, one place and the same values

@@ -16,49 +16,64 @@ text_is events e path s = ap (λ (z : _). unwrap_or z []) s
 
 module _ (events : List (List ℕ)) (rest : List ℕ) where
   module _ (behind run left : List ℕ) (begun : rest ≡ codes "e." ++ behind) (cut : IsRun behind run left) where
-    pub event_read : (n m : ℕ) → AreDifferent events → Stands events n run → m ≡ n → IsRead (IsPathOf events) (event_text events) Stops rest m left
-    event_read n m different stands new = subst (λ (k : ℕ). IsRead (IsPathOf events) (event_text events) Stops rest k left) (sym new) (record {
-      sought = record { path = run; stands = stands; is_path = run_path behind run left cut };
-      joined = begun ∙ ap (λ (z : List ℕ). codes "e." ++ z) (cut.joined ∙ ap (λ (z : List ℕ). z ++ left) (sym (text_is events n run stands)));
-      only = λ b back other is stop alike e.
-          let path : run ++ other ≡ is.path ++ back =
-          sym (ap (λ (z : List ℕ). z ++ other) (text_is events n run stands))
-          ∙ append_cancel_left (codes "e.") (text_at events n ++ other) (text_at events b ++ back) e
-          ∙ ap (λ (z : List ℕ). z ++ back) (text_is events b is.path is.stands) in
-          let one = path_unique run is.path other back (run_path behind run left cut) is.is_path (alike_stops left other alike (run_left behind run left cut)) stop path in
-          (different.one b n run (subst (λ (z : List ℕ). Stands events b z) one.0 is.stands) stands, one.1);
-    })
+    pub event_read : (n m : ℕ) → AreDifferent events → Stands events n run → m ≡ n
+        → IsRead (IsPathOf events) (event_text events) Stops rest m left
+    event_read n m different stands new =
+        subst (λ (k : ℕ). IsRead (IsPathOf events) (event_text events) Stops rest k left) (sym new) (record {
+          sought = record { path = run; stands = stands; is_path = run_path behind run left cut };
+          joined = begun ∙ ap (λ (z : List ℕ). codes "e." ++ z)
+              (cut.joined ∙ ap (λ (z : List ℕ). z ++ left) (sym (text_is events n run stands)));
+          only = λ b back other is stop alike e.
+              let path : run ++ other ≡ is.path ++ back =
+              sym (ap (λ (z : List ℕ). z ++ other) (text_is events n run stands))
+              ∙ append_cancel_left (codes "e.") (text_at events n ++ other) (text_at events b ++ back) e
+              ∙ ap (λ (z : List ℕ). z ++ back) (text_is events b is.path is.stands) in
+              let one = path_unique run is.path other back (run_path behind run left cut) is.is_path
+              (alike_stops left other alike (run_left behind run left cut)) stop path in
+              (different.one b n run (subst (λ (z : List ℕ). Stands events b z) one.0 is.stands) stands, one.1);
+        })
 
     pub event_not_found : HasNo events (λ t. t ≡ run) → HasNoEvent events rest
     event_not_found lacks = record {
       none = λ e back is stop f.
           let path : run ++ left ≡ is.path ++ back =
-          sym cut.joined ∙ append_cancel_left (codes "e.") behind (text_at events e ++ back) (sym begun ∙ f) ∙ ap (λ (z : List ℕ). z ++ back) (text_is events e is.path is.stands) in
-          lacks.has_not e is.path is.stands (path_unique run is.path left back (run_path behind run left cut) is.is_path (run_left behind run left cut) stop path).0;
+          sym cut.joined ∙ append_cancel_left (codes "e.") behind (text_at events e ++ back) (sym begun ∙ f)
+          ∙ ap (λ (z : List ℕ). z ++ back) (text_is events e is.path is.stands) in
+          lacks.has_not e is.path is.stands
+          (path_unique run is.path left back (run_path behind run left cut) is.is_path
+          (run_left behind run left cut) stop path).0;
     }
 
   pub no_event_mark : (n : ℕ) → IsStuckIn (codes "e.") rest n → HasNoEvent events rest
   no_event_mark n k = record {
-    none = λ e back is stop f. not_stuck (λ u. Unit {0}) (λ u. codes "e.") IsAny rest n k tt (text_at events e ++ back) tt tt f;
+    none = λ e back is stop f. not_stuck (λ u. Unit {0}) (λ u. codes "e.") IsAny rest n k tt (text_at events e ++ back)
+        tt tt f;
   }
 
   -- the bytes of a path behind `e.`
-  inside : (a b : ℕ) (d : ℕ) (x more : List ℕ) → (is : IsPathOf events b) → event_text events b ≡ (event_text events a ++ (d ∷ x)) ++ more → is_path_byte d ≡ true
+  inside : (a b : ℕ) (d : ℕ) (x more : List ℕ) → (is : IsPathOf events b)
+      → event_text events b ≡ (event_text events a ++ (d ∷ x)) ++ more → is_path_byte d ≡ true
   inside a b d x more is e =
-      let path : text_at events b ≡ (text_at events a ++ (d ∷ x)) ++ more = append_cancel_left (codes "e.") (text_at events b) ((text_at events a ++ (d ∷ x)) ++ more) e in
-      path_byte (text_at events a) d (x ++ more) (subst IsPath (sym (text_is events b is.path is.stands) ∙ path ∙ append_assoc (text_at events a) (d ∷ x) more) is.is_path)
+      let path : text_at events b ≡ (text_at events a ++ (d ∷ x)) ++ more =
+      append_cancel_left (codes "e.") (text_at events b) ((text_at events a ++ (d ∷ x)) ++ more) e in
+      path_byte (text_at events a) d (x ++ more)
+      (subst IsPath (sym (text_is events b is.path is.stands) ∙ path ∙ append_assoc (text_at events a) (d ∷ x) more)
+      is.is_path)
 
-  pub event_stuck : (n : ℕ) → IsEventPart events rest n → HasNoEvent events rest → IsStuck (IsPathOf events) (event_text events) Stops rest (length rest - n)
+  pub event_stuck : (n : ℕ) → IsEventPart events rest n → HasNoEvent events rest
+      → IsStuck (IsPathOf events) (event_text events) Stops rest (length rest - n)
   event_stuck n event lacks = record {
     front = take n rest;
     left = drop n rest;
     joined = sym (take-append-drop n rest);
     count = length-drop n rest;
     begun = event.begun;
-    wrong = λ a back other is stop alike e. by a back other is stop alike (compared (take n rest) (event_text events a) other back e);
+    wrong = λ a back other is stop alike e. by a back other is stop alike
+        (compared (take n rest) (event_text events a) other back e);
   }
     where
-      not_longer : (a : ℕ) (d : ℕ) (x : List ℕ) → is_path_byte d ≡ false → take n rest ≡ event_text events a ++ (d ∷ x) → AreBegun (IsPathOf events) (event_text events) (take n rest) → ⊥
+      not_longer : (a : ℕ) (d : ℕ) (x : List ℕ) → is_path_byte d ≡ false → take n rest ≡ event_text events a ++ (d ∷ x)
+          → AreBegun (IsPathOf events) (event_text events) (take n rest) → ⊥
       not_longer a d x stop i (none e) =
           let two : ◌≡◌ {A = List ℕ} [] (101 ∷ 46 ∷ (text_at events a ++ (d ∷ x))) = sym e ∙ i in
           let size : 0 ≡ length (101 ∷ 46 ∷ (text_at events a ++ (d ∷ x))) = ap length two in
@@ -66,10 +81,12 @@ module _ (events : List (List ℕ)) (rest : List ℕ) where
       not_longer a d x stop i (part b more is e) =
           true≢false (sym (inside a b d x more is (e ∙ ap (λ (z : List ℕ). z ++ more) i)) ∙ stop)
 
-      by : (a : ℕ) (back other : List ℕ) → IsPathOf events a → Stops back → BeginAlike (drop n rest) other → Compared (take n rest) (event_text events a) other back → ⊥
+      by : (a : ℕ) (back other : List ℕ) → IsPathOf events a → Stops back → BeginAlike (drop n rest) other
+          → Compared (take n rest) (event_text events a) other back → ⊥
       by a back other is stop alike (shorter d x i j) =
           let head = alike_head (drop n rest) other d (x ++ back) alike j in
-          let short = event.most a is (take n rest) d head.0 x (sym (take-append-drop n rest) ∙ ap (λ (z : List ℕ). take n rest ++ z) head.1) i in
+          let short = event.most a is (take n rest) d head.0 x
+          (sym (take-append-drop n rest) ∙ ap (λ (z : List ℕ). take n rest ++ z) head.1) i in
           let long = length-take-le n rest event.within in
           omega (arith, short, long)
       by a back other is stop alike (same i j) =
@@ -81,7 +98,8 @@ module _ (events : List (List ℕ)) (rest : List ℕ) where
   pub record IsPartSoFar (n most : ℕ) : Type 0 where
     pub within : most ≤ length rest
     pub begun : AreBegun (IsPathOf events) (event_text events) (take most rest)
-    pub longest : (e : ℕ) → e < n → IsPathOf events e → (front : List ℕ) (c : ℕ) (x y : List ℕ) → rest ≡ front ++ c ∷ x → event_text events e ≡ front ++ c ∷ y → length front < most
+    pub longest : (e : ℕ) → e < n → IsPathOf events e → (front : List ℕ) (c : ℕ) (x y : List ℕ) → rest ≡ front ++ c ∷ x
+        → event_text events e ≡ front ++ c ∷ y → length front < most
 
   pub part_start : IsPartSoFar 0 0
   part_start = record { within = omega arith; begun = none refl; longest = λ e below. absurd (omega (arith, below)) }
@@ -93,24 +111,30 @@ module _ (events : List (List ℕ)) (rest : List ℕ) where
     most = λ e is. let inside = stands_within events e is.path is.stands in far.longest e (omega (arith, all, inside)) is;
   }
 
-  pub part_passed : (n most : ℕ) (path : List ℕ) → IsPartSoFar n most → Stands events n path → (IsPath path → ⊥) → IsPartSoFar (n + 1) most
+  pub part_passed : (n most : ℕ) (path : List ℕ) → IsPartSoFar n most → Stands events n path → (IsPath path → ⊥)
+      → IsPartSoFar (n + 1) most
   part_passed n most path far stands other = record {
     within = far.within;
     begun = far.begun;
     longest = λ e below is front c x y i j. elim (at_most e n below) [
       | inl before ↦ far.longest e before is front c x y i j
-      | inr now ↦ absurd (other (subst IsPath (stands_one events n is.path path (subst (λ (k : ℕ). Stands events k is.path) now is.stands) stands) is.is_path))
+      | inr now ↦ absurd (other (subst IsPath
+          (stands_one events n is.path path (subst (λ (k : ℕ). Stands events k is.path) now is.stands) stands)
+          is.is_path))
     ];
   }
 
-  module _ (n most new k : ℕ) (path : List ℕ) (far : IsPartSoFar n most) (stands : Stands events n path) (is_path : IsPath path) (common : AreCommon rest (codes "e." ++ path) k) where
+  module _ (n most new k : ℕ) (path : List ℕ) (far : IsPartSoFar n most) (stands : Stands events n path)
+      (is_path : IsPath path) (common : AreCommon rest (codes "e." ++ path) k) where
     here : IsPathOf events n
     here = record { path = path; stands = stands; is_path = is_path }
 
     path_begun : AreBegun (IsPathOf events) (event_text events) (take k rest)
     path_begun =
         part n (drop k (codes "e." ++ path)) here
-        (ap (λ (z : List ℕ). codes "e." ++ z) (text_is events n path stands) ∙ sym (take-append-drop k (codes "e." ++ path)) ∙ ap (λ (z : List ℕ). z ++ drop k (codes "e." ++ path)) (sym common.same))
+        (ap (λ (z : List ℕ). codes "e." ++ z) (text_is events n path stands)
+        ∙ sym (take-append-drop k (codes "e." ++ path))
+        ∙ ap (λ (z : List ℕ). z ++ drop k (codes "e." ++ path)) (sym common.same))
 
     more : most ≤ new → k ≤ new → (new ≡ most) ⊎ (new ≡ k) → IsPartSoFar (n + 1) new
     more above over which = record {
@@ -140,7 +164,8 @@ module _ (events : List (List ℕ)) (rest : List ℕ) where
 -- The same bytes of a text and of `e.` with a path behind it
 
 module _ (rest path : List ℕ) where
-  pub mark_common : (behind : List ℕ) (n : ℕ) → rest ≡ codes "e." ++ behind → AreCommon behind path n → AreCommon rest (codes "e." ++ path) (2 + n)
+  pub mark_common : (behind : List ℕ) (n : ℕ) → rest ≡ codes "e." ++ behind → AreCommon behind path n
+      → AreCommon rest (codes "e." ++ path) (2 + n)
   mark_common behind n e common = record {
     in_a = let size : length rest ≡ length (codes "e." ++ behind) = ap length e in let w = common.in_a in omega (arith, size, w);
     in_b = let w = common.in_b in omega (arith, w);
@@ -148,12 +173,15 @@ module _ (rest path : List ℕ) where
     most = λ front c x y i j. by front c x y (sym e ∙ i) j;
   }
     where
-      two_on : (m : ℕ) → take (2 + m) rest ≡ take (2 + m) (codes "e." ++ behind) → take m behind ≡ take m path → take (2 + m) rest ≡ take (2 + m) (codes "e." ++ path)
+      two_on : (m : ℕ) → take (2 + m) rest ≡ take (2 + m) (codes "e." ++ behind) → take m behind ≡ take m path
+          → take (2 + m) rest ≡ take (2 + m) (codes "e." ++ path)
       two_on m i s =
           let q : 2 + m ≡ suc (suc m) = omega arith in
-          i ∙ ap (λ (k : ℕ). take k (codes "e." ++ behind)) q ∙ ap (λ (z : List ℕ). codes "e." ++ z) s ∙ ap (λ (k : ℕ). take k (codes "e." ++ path)) (sym q)
+          i ∙ ap (λ (k : ℕ). take k (codes "e." ++ behind)) q ∙ ap (λ (z : List ℕ). codes "e." ++ z) s
+          ∙ ap (λ (k : ℕ). take k (codes "e." ++ path)) (sym q)
 
-      by : (front : List ℕ) (c : ℕ) (x y : List ℕ) → codes "e." ++ behind ≡ front ++ c ∷ x → codes "e." ++ path ≡ front ++ c ∷ y → length front < 2 + n
+      by : (front : List ℕ) (c : ℕ) (x y : List ℕ) → codes "e." ++ behind ≡ front ++ c ∷ x
+          → codes "e." ++ path ≡ front ++ c ∷ y → length front < 2 + n
       by [] c x y i j = omega arith
       by (a ∷ []) c x y i j = omega arith
       by (a ∷ b ∷ front) c x y i j =
@@ -163,7 +191,8 @@ module _ (rest path : List ℕ) where
           omega (arith, l)
 
   -- `e.` itself does not stand there
-  pub mark_part : (n k : ℕ) → IsStuckIn (codes "e.") rest k → AreCommon rest (codes "e.") n → AreCommon rest (codes "e." ++ path) n
+  pub mark_part : (n k : ℕ) → IsStuckIn (codes "e.") rest k → AreCommon rest (codes "e.") n
+      → AreCommon rest (codes "e." ++ path) n
   mark_part n k stuck common = record {
     in_a = common.in_a;
     in_b = let w = common.in_b in omega (arith, w);
@@ -171,7 +200,8 @@ module _ (rest path : List ℕ) where
     most = λ front c x y i j. by front c x y i j;
   }
     where
-      by : (front : List ℕ) (c : ℕ) (x y : List ℕ) → rest ≡ front ++ c ∷ x → codes "e." ++ path ≡ front ++ c ∷ y → length front < n
+      by : (front : List ℕ) (c : ℕ) (x y : List ℕ) → rest ≡ front ++ c ∷ x → codes "e." ++ path ≡ front ++ c ∷ y
+          → length front < n
       by [] c x y i j =
           let two : ◌≡◌ {A = List ℕ} (101 ∷ 46 ∷ path) (c ∷ y) = j in
           let head : ◌≡◌ {A = ℕ} 101 c = cc in
@@ -186,4 +216,5 @@ module _ (rest path : List ℕ) where
           let first : ◌≡◌ {A = ℕ} 101 a = cc in
           let second : ◌≡◌ {A = ℕ} 46 b = cc in
           absurd (not_stuck (λ u. Unit {0}) (λ u. codes "e.") IsAny rest k stuck tt (front ++ c ∷ x) tt tt
-          (i ∙ ap (λ (z : ℕ). z ∷ b ∷ (front ++ c ∷ x)) (sym first) ∙ ap (λ (z : ℕ). 101 ∷ z ∷ (front ++ c ∷ x)) (sym second)))
+          (i ∙ ap (λ (z : ℕ). z ∷ b ∷ (front ++ c ∷ x)) (sym first)
+          ∙ ap (λ (z : ℕ). 101 ∷ z ∷ (front ++ c ∷ x)) (sym second)))

@@ -40,11 +40,13 @@ pub record IsSigned (rest named : List ℕ) (s : Bool) : Type 0 where
   pub joined : rest ≡ sign_text s ++ named
   pub plain : s ≡ true → HasNoMinus rest
 
-sign_same : (rest named other : List ℕ) (s t : Bool) (c : ℕ) (more : List ℕ) → IsSigned rest named s → 46 ≤ c → BeginAlike named other → sign_text s ++ other ≡ sign_text t ++ (c ∷ more)
+sign_same : (rest named other : List ℕ) (s t : Bool) (c : ℕ) (more : List ℕ) → IsSigned rest named s → 46 ≤ c
+    → BeginAlike named other → sign_text s ++ other ≡ sign_text t ++ (c ∷ more)
     → (t ≡ s) × (other ≡ c ∷ more)
 sign_same rest named other true true c more is h alike e = (refl, e)
 sign_same rest named other true false c more is h alike e =
-    let here : begins_with 45 other ≡ false = alike_first 45 named other alike ∙ ap (begins_with 45) (sym is.joined) ∙ is.plain refl in
+    let here : begins_with 45 other ≡ false =
+    alike_first 45 named other alike ∙ ap (begins_with 45) (sym is.joined) ∙ is.plain refl in
     absurd (true≢false (sym (ap (begins_with 45) e) ∙ here))
 sign_same rest named other false true c more is h alike e =
     let both : ◌≡◌ {A = List ℕ} (45 ∷ other) (c ∷ more) = e in
@@ -56,18 +58,22 @@ sign_same rest named other false false c more is h alike e =
 
 -- behind the sign stands an event or a gate
 pub data Behind (gates : ℕ) (events : List (List ℕ)) (s : Bool) (other back : List ℕ) (o : Operand) : Type 0 where
-  event : (e : ℕ) → o ≡ EventIs e s → IsPathOf events e → other ≡ event_text events e ++ back → Behind gates events s other back o
+  event : (e : ℕ) → o ≡ EventIs e s → IsPathOf events e → other ≡ event_text events e ++ back
+      → Behind gates events s other back o
   gate : (g : ℕ) → o ≡ GateIs g s → g < gates → other ≡ name_text g ++ back → Behind gates events s other back o
 
 module _ (gates : ℕ) (events : List (List ℕ)) (rest named : List ℕ) (s : Bool) (cut : IsSigned rest named s) where
-  behind : (o : Operand) (back other : List ℕ) → IsOperandAt gates events o → BeginAlike named other → sign_text s ++ other ≡ operand_text events o ++ back → Behind gates events s other back o
+  behind : (o : Operand) (back other : List ℕ) → IsOperandAt gates events o → BeginAlike named other
+      → sign_text s ++ other ≡ operand_text events o ++ back → Behind gates events s other back o
   behind Always back other is alike e = absurd is.earlier
   behind Never back other is alike e = absurd is.earlier
   behind (EventIs n t) back other is alike e =
-      let one = sign_same rest named other s t 101 (46 ∷ (text_at events n ++ back)) cut (omega arith) alike (e ∙ append_assoc (sign_text t) (101 ∷ 46 ∷ text_at events n) back) in
+      let one = sign_same rest named other s t 101 (46 ∷ (text_at events n ++ back)) cut (omega arith) alike
+      (e ∙ append_assoc (sign_text t) (101 ∷ 46 ∷ text_at events n) back) in
       event n (ap (λ (z : Bool). EventIs n z) one.0) is.named one.1
   behind (GateIs n t) back other is alike e =
-      let one = sign_same rest named other s t 103 (decimal (n + 1) ++ back) cut (omega arith) alike (e ∙ append_assoc (sign_text t) (103 ∷ decimal (n + 1)) back) in
+      let one = sign_same rest named other s t 103 (decimal (n + 1) ++ back) cut (omega arith) alike
+      (e ∙ append_assoc (sign_text t) (103 ∷ decimal (n + 1)) back) in
       gate n (ap (λ (z : Bool). GateIs n z) one.0) is.earlier one.1
 
   event_not_gate : (e g : ℕ) (other back : List ℕ) → event_text events e ++ other ≡ name_text g ++ back → ⊥
@@ -80,14 +86,18 @@ module _ (gates : ℕ) (events : List (List ℕ)) (rest named : List ℕ) (s : B
       → IsRead (IsOperandAt gates events) (operand_text events) Stops rest (EventIs n s) left
   event_read n left r = record {
     sought = record { earlier = tt; named = r.sought };
-    joined = cut.joined ∙ ap (λ (z : List ℕ). sign_text s ++ z) r.joined ∙ sym (append_assoc (sign_text s) (event_text events n) left);
+    joined = cut.joined ∙ ap (λ (z : List ℕ). sign_text s ++ z) r.joined
+        ∙ sym (append_assoc (sign_text s) (event_text events n) left);
     only = λ o back other is stop alike e.
         by o back other stop alike
-        (behind o back (event_text events n ++ other) is (subst (λ (z : List ℕ). BeginAlike z (event_text events n ++ other)) (sym r.joined) (alike_behind (event_text events n) left other alike))
+        (behind o back (event_text events n ++ other) is
+        (subst (λ (z : List ℕ). BeginAlike z (event_text events n ++ other)) (sym r.joined)
+        (alike_behind (event_text events n) left other alike))
         (sym (append_assoc (sign_text s) (event_text events n) other) ∙ e));
   }
     where
-      by : (o : Operand) (back other : List ℕ) → Stops back → BeginAlike left other → Behind gates events s (event_text events n ++ other) back o → (o ≡ EventIs n s) × (back ≡ other)
+      by : (o : Operand) (back other : List ℕ) → Stops back → BeginAlike left other
+          → Behind gates events s (event_text events n ++ other) back o → (o ≡ EventIs n s) × (back ≡ other)
       by o back other stop alike (event k is p f) = let both = r.only k back other p stop alike f in (is ∙ ap (λ (z : ℕ). EventIs z s) both.0, both.1)
       by o back other stop alike (gate k is p f) = absurd (event_not_gate n k other back f)
 
@@ -95,49 +105,73 @@ module _ (gates : ℕ) (events : List (List ℕ)) (rest named : List ℕ) (s : B
       → IsRead (IsOperandAt gates events) (operand_text events) Stops rest (GateIs n s) left
   gate_read n left r = record {
     sought = record { earlier = r.sought; named = tt };
-    joined = cut.joined ∙ ap (λ (z : List ℕ). sign_text s ++ z) r.joined ∙ sym (append_assoc (sign_text s) (name_text n) left);
+    joined = cut.joined ∙ ap (λ (z : List ℕ). sign_text s ++ z) r.joined
+        ∙ sym (append_assoc (sign_text s) (name_text n) left);
     only = λ o back other is stop alike e.
         by o back other stop alike
-        (behind o back (name_text n ++ other) is (subst (λ (z : List ℕ). BeginAlike z (name_text n ++ other)) (sym r.joined) (alike_behind (name_text n) left other alike))
+        (behind o back (name_text n ++ other) is
+        (subst (λ (z : List ℕ). BeginAlike z (name_text n ++ other)) (sym r.joined)
+        (alike_behind (name_text n) left other alike))
         (sym (append_assoc (sign_text s) (name_text n) other) ∙ e));
   }
     where
-      by : (o : Operand) (back other : List ℕ) → Stops back → BeginAlike left other → Behind gates events s (name_text n ++ other) back o → (o ≡ GateIs n s) × (back ≡ other)
+      by : (o : Operand) (back other : List ℕ) → Stops back → BeginAlike left other
+          → Behind gates events s (name_text n ++ other) back o → (o ≡ GateIs n s) × (back ≡ other)
       by o back other stop alike (event k is p f) = absurd (event_not_gate k n back other (sym f))
       by o back other stop alike (gate k is p f) = let both = r.only k back other p stop alike f in (is ∙ ap (λ (z : ℕ). GateIs z s) both.0, both.1)
 
   -- the sign is the first part of an operand, where there is one
-  sign_begun : (t : Bool) → HasOperand gates events → AreBegun (IsOperandAt gates events) (operand_text events) (sign_text t)
+  sign_begun : (t : Bool) → HasOperand gates events
+      → AreBegun (IsOperandAt gates events) (operand_text events) (sign_text t)
   sign_begun true some = none refl
   sign_begun false some = by some.0 some.1
     where
-      by : (o : Operand) → IsOperandAt gates events o → AreBegun (IsOperandAt gates events) (operand_text events) (codes "-")
+      by : (o : Operand) → IsOperandAt gates events o
+          → AreBegun (IsOperandAt gates events) (operand_text events) (codes "-")
       by Always is = absurd is.earlier
       by Never is = absurd is.earlier
-      by (EventIs e t) is = part (EventIs e false) (event_text events e) (record { earlier = tt; named = is.named }) refl
+      by (EventIs e t) is = part (EventIs e false) (event_text events e) (record { earlier = tt; named = is.named })
+          refl
       by (GateIs g t) is = part (GateIs g false) (name_text g) (record { earlier = is.earlier; named = tt }) refl
 
   module _ (some : HasOperand gates events) (n : ℕ) where
-    pub event_stuck : begins_with 103 named ≡ false → IsStuck (IsPathOf events) (event_text events) Stops named n → IsStuck (IsOperandAt gates events) (operand_text events) Stops rest n
+    pub event_stuck : begins_with 103 named ≡ false → IsStuck (IsPathOf events) (event_text events) Stops named n
+        → IsStuck (IsOperandAt gates events) (operand_text events) Stops rest n
     event_stuck no_gate k =
-        stuck_behind (IsPathOf events) (event_text events) Stops (IsOperandAt gates events) (operand_text events) Stops rest (sign_text s) named n cut.joined (sign_begun s some)
-        (λ a is. record { b = EventIs a s; more = []; sought = record { earlier = tt; named = is }; is = ap (λ (z : List ℕ). sign_text s ++ z) (sym (append-nil (event_text events a))) })
+        stuck_behind (IsPathOf events) (event_text events) Stops (IsOperandAt gates events) (operand_text events) Stops
+        rest (sign_text s) named n cut.joined (sign_begun s some)
+        (λ a is. record {
+          b = EventIs a s;
+          more = [];
+          sought = record { earlier = tt; named = is };
+          is = ap (λ (z : List ℕ). sign_text s ++ z) (sym (append-nil (event_text events a)));
+        })
         (λ o back other is stop alike e. by o back other stop alike (behind o back other is alike e)) k
       where
-        by : (o : Operand) (back other : List ℕ) → Stops back → BeginAlike named other → Behind gates events s other back o
-            → Inside (IsPathOf events) (event_text events) Stops (IsOperandAt gates events) (operand_text events) Stops other
+        by : (o : Operand) (back other : List ℕ) → Stops back → BeginAlike named other
+            → Behind gates events s other back o
+            → Inside (IsPathOf events) (event_text events) Stops (IsOperandAt gates events) (operand_text events) Stops
+            other
         by o back other stop alike (event k is p f) = record { a = k; back = back; sought = p; ends = stop; is = f }
         by o back other stop alike (gate k is p f) =
             let here : begins_with 103 other ≡ false = alike_first 103 named other alike ∙ no_gate in
             absurd (true≢false (sym (ap (begins_with 103) f) ∙ here))
 
-    pub gate_stuck : begins_with 103 named ≡ true → IsStuck (IsBelowGate gates) name_text Stops named n → IsStuck (IsOperandAt gates events) (operand_text events) Stops rest n
+    pub gate_stuck : begins_with 103 named ≡ true → IsStuck (IsBelowGate gates) name_text Stops named n
+        → IsStuck (IsOperandAt gates events) (operand_text events) Stops rest n
     gate_stuck a_gate k =
-        stuck_behind (IsBelowGate gates) name_text Stops (IsOperandAt gates events) (operand_text events) Stops rest (sign_text s) named n cut.joined (sign_begun s some)
-        (λ a is. record { b = GateIs a s; more = []; sought = record { earlier = is; named = tt }; is = ap (λ (z : List ℕ). sign_text s ++ z) (sym (append-nil (name_text a))) })
+        stuck_behind (IsBelowGate gates) name_text Stops (IsOperandAt gates events) (operand_text events) Stops rest
+        (sign_text s) named n cut.joined (sign_begun s some)
+        (λ a is. record {
+          b = GateIs a s;
+          more = [];
+          sought = record { earlier = is; named = tt };
+          is = ap (λ (z : List ℕ). sign_text s ++ z) (sym (append-nil (name_text a)));
+        })
         (λ o back other is stop alike e. by o back other stop alike (behind o back other is alike e)) k
       where
-        by : (o : Operand) (back other : List ℕ) → Stops back → BeginAlike named other → Behind gates events s other back o
+        by : (o : Operand) (back other : List ℕ) → Stops back → BeginAlike named other
+            → Behind gates events s other back o
             → Inside (IsBelowGate gates) name_text Stops (IsOperandAt gates events) (operand_text events) Stops other
         by o back other stop alike (event k is p f) =
             let here : begins_with 103 other ≡ true = alike_first 103 named other alike ∙ a_gate in
@@ -149,5 +183,6 @@ no_minus [] n k = refl
 no_minus (b ∷ bs) n k = by (b == 45) refl
   where
     by : (r : Bool) → (b == 45) ≡ r → (b == 45) ≡ false
-    by true e = absurd (not_stuck (λ u. Unit {0}) (λ u. codes "-") IsAny (b ∷ bs) n k tt bs tt tt (ap (λ (z : ℕ). z ∷ bs) (eqb-true b 45 e)))
+    by true e = absurd (not_stuck (λ u. Unit {0}) (λ u. codes "-") IsAny (b ∷ bs) n k tt bs tt tt
+        (ap (λ (z : ℕ). z ∷ bs) (eqb-true b 45 e)))
     by false e = e

@@ -12,10 +12,23 @@ use Rattle.aralia_text.proofs.Stuck.{not_stuck}
 
 module _ (events : List (List ℕ)) where
   written : (text : List ℕ) (table : Table) → IsTextOf events text table → IsWritten events table
-  written text table is = record { ordered = is.ordered; gates = is.gates; conflict = is.conflict; top = is.top; is_text = refl }
+  written text table is = record {
+    ordered = is.ordered;
+    gates = is.gates;
+    conflict = is.conflict;
+    top = is.top;
+    is_text = refl;
+  }
 
-  text_of : (text : List ℕ) (table : Table) → IsWritten events table → text ≡ equations_text events table → IsTextOf events text table
-  text_of text table is e = record { ordered = is.ordered; gates = is.gates; conflict = is.conflict; top = is.top; is_text = e }
+  text_of : (text : List ℕ) (table : Table) → IsWritten events table → text ≡ equations_text events table
+      → IsTextOf events text table
+  text_of text table is e = record {
+    ordered = is.ordered;
+    gates = is.gates;
+    conflict = is.conflict;
+    top = is.top;
+    is_text = e;
+  }
 
   -- the table with no gates
   abbrev no_gates : Table
@@ -36,11 +49,13 @@ module _ (events : List (List ℕ)) where
 
     pub only_table : (table other : Table) → IsOnlyTable events text table → IsTextOf events text other → other ≡ table
     only_table table other r is =
-        (r.only other [] [] (written text other is) refl tt (sym r.joined ∙ is.is_text ∙ sym (append-nil (equations_text events other)))).0
+        (r.only other [] [] (written text other is) refl tt
+        (sym r.joined ∙ is.is_text ∙ sym (append-nil (equations_text events other)))).0
 
     module _ (n : ℕ) (k : IsNoTable events text n) where
       pub no_table : (table : Table) → IsTextOf events text table → ⊥
-      no_table table is = not_stuck (IsWritten events) (equations_text events) IsEnd text n k table [] (written text table is) refl (is.is_text ∙ sym (append-nil (equations_text events table)))
+      no_table table is = not_stuck (IsWritten events) (equations_text events) IsEnd text n k table []
+          (written text table is) refl (is.is_text ∙ sym (append-nil (equations_text events table)))
 
       whole_len : length text ≡ length k.front + n
       whole_len = ap length k.joined ∙ length-append k.front k.left ∙ ap (λ (z : ℕ). length k.front + z) k.count
@@ -55,20 +70,32 @@ module _ (events : List (List ℕ)) where
       front_is = ap (take (length text - n)) k.joined ∙ take_at k.front k.left (length text - n) front_len
 
       begins : AreBegun (IsWritten events) (equations_text events) k.front → Begins events k.front
-      begins (none e) = (no_gates, equations_text events no_gates, text_of (k.front ++ equations_text events no_gates) no_gates no_gates_written (ap (λ (z : List ℕ). z ++ equations_text events no_gates) e))
+      begins (none e) = (
+        no_gates,
+        equations_text events no_gates,
+        text_of (k.front ++ equations_text events no_gates)
+            no_gates no_gates_written (ap (λ (z : List ℕ). z ++ equations_text events no_gates) e),
+      )
       begins (part table more is e) = (table, more, text_of (k.front ++ more) table is (sym e))
 
-      not_further : (left : List ℕ) → k.left ≡ left → length text - n < length text → Begins events (take (length text - n + 1) text) → ⊥
+      not_further : (left : List ℕ) → k.left ≡ left → length text - n < length text
+          → Begins events (take (length text - n + 1) text) → ⊥
       not_further [] i inside b =
           let none_left : n ≡ 0 = sym k.count ∙ ap length i in
           omega (arith, none_left, inside)
       not_further (c ∷ more) i inside b =
-          let text_is : text ≡ (k.front ++ c ∷ []) ++ more = k.joined ∙ ap (λ (z : List ℕ). k.front ++ z) i ∙ sym (append_assoc k.front (c ∷ []) more) in
-          let size : length (k.front ++ c ∷ []) ≡ length text - n + 1 = length-append k.front (c ∷ []) ∙ ap (λ (z : ℕ). z + 1) front_len in
-          let taken : take (length text - n + 1) text ≡ k.front ++ c ∷ [] = ap (take (length text - n + 1)) text_is ∙ take_at (k.front ++ c ∷ []) more (length text - n + 1) size in
+          let text_is : text ≡ (k.front ++ c ∷ []) ++ more =
+          k.joined ∙ ap (λ (z : List ℕ). k.front ++ z) i ∙ sym (append_assoc k.front (c ∷ []) more) in
+          let size : length (k.front ++ c ∷ []) ≡ length text - n + 1 =
+          length-append k.front (c ∷ []) ∙ ap (λ (z : ℕ). z + 1) front_len in
+          let taken : take (length text - n + 1) text ≡ k.front ++ c ∷ [] =
+          ap (take (length text - n + 1)) text_is
+          ∙ take_at (k.front ++ c ∷ []) more (length text - n + 1) size in
           let whole : k.front ++ (c ∷ b.1) ≡ equations_text events b.0 ++ [] =
-          sym (append_assoc k.front (c ∷ []) b.1) ∙ ap (λ (z : List ℕ). z ++ b.1) (sym taken) ∙ b.2.is_text ∙ sym (append-nil (equations_text events b.0)) in
-          k.wrong b.0 [] (c ∷ b.1) (written (take (length text - n + 1) text ++ b.1) b.0 b.2) refl (subst (λ (z : List ℕ). BeginAlike z (c ∷ b.1)) (sym i) refl) whole
+          sym (append_assoc k.front (c ∷ []) b.1) ∙ ap (λ (z : List ℕ). z ++ b.1) (sym taken) ∙ b.2.is_text
+          ∙ sym (append-nil (equations_text events b.0)) in
+          k.wrong b.0 [] (c ∷ b.1) (written (take (length text - n + 1) text ++ b.1) b.0 b.2) refl
+          (subst (λ (z : List ℕ). BeginAlike z (c ∷ b.1)) (sym i) refl) whole
 
       pub first_wrong : IsFirstWrong events text (length text - n)
       first_wrong = record {
@@ -78,7 +105,8 @@ module _ (events : List (List ℕ)) where
         open_end = λ e table is. no_table table is;
       }
 
-      pub wrong_place : (place : Place) → place ≡ place_after (take (length text - n) text) → IsWrongPlace events text place
+      pub wrong_place : (place : Place) → place ≡ place_after (take (length text - n) text)
+          → IsWrongPlace events text place
       wrong_place place e = record { at = length text - n; first = first_wrong; place_is = e }
 
     -- a first part of a first part
@@ -86,7 +114,8 @@ module _ (events : List (List ℕ)) where
     fewer j m within b =
         let taken : take j (take m text) ≡ take j text = take-take j m text within in
         let parts : take m text ++ b.1 ≡ take j text ++ (drop j (take m text) ++ b.1) =
-        ap (λ (z : List ℕ). z ++ b.1) (sym (take-append-drop j (take m text)) ∙ ap (λ (z : List ℕ). z ++ drop j (take m text)) taken)
+        ap (λ (z : List ℕ). z ++ b.1) (sym (take-append-drop j (take m text))
+        ∙ ap (λ (z : List ℕ). z ++ drop j (take m text)) taken)
         ∙ append_assoc (take j text) (drop j (take m text)) b.1 in
         (b.0, drop j (take m text) ++ b.1, subst (λ (z : List ℕ). IsTextOf events z b.0) parts b.2)
 

@@ -12,7 +12,8 @@ named events paths Never h = tt
 named events paths (EventIs e s) h = let p = stands_some events e h in record { path = p.0; stands = p.1; is_path = paths.each e p.0 p.1 }
 named events paths (GateIs g s) h = tt
 
-pub printed_text : (events : List (List ℕ)) (table : Table) → ArePaths events → IsOrderedTable table → NamesEvents events table → IsTextOf events (equations_text events table) table
+pub printed_text : (events : List (List ℕ)) (table : Table) → ArePaths events → IsOrderedTable table
+    → NamesEvents events table → IsTextOf events (equations_text events table) table
 printed_text events table paths ordered names = record {
   ordered = ordered;
   gates = λ n gate s. record { each = λ o one. named events paths o (names.gates n gate o s one) };

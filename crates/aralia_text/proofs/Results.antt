@@ -16,12 +16,14 @@ err_is P (Ok a) x h p = tt
 err_is P (Err e) x h p = subst P (sym h) p
 
 -- the error is this one, said of a reading
-pub stop_is : {A : Type 0} (P : Stuck → Type 0) (r : Result A Stop) (x : Stuck) → IsErrAnd r (λ e. e ≡ stop.Stuck x) → P x
+pub stop_is : {A : Type 0} (P : Stuck → Type 0) (r : Result A Stop) (x : Stuck) → IsErrAnd r (λ e. e ≡ stop.Stuck x)
+    → P x
     → IfErr r (λ e. (stuck : Stuck) → e ≡ stop.Stuck stuck → P stuck)
 stop_is P (Ok a) x h p = tt
 stop_is P (Err e) x h p = λ stuck i. let j : ◌≡◌ {A = Stop} (stop.Stuck x) (stop.Stuck stuck) = sym h ∙ i in let same : ◌≡◌ {A = Stuck} x stuck = cc in subst P same p
 
-pub stuck_same : (P : Stuck → Type 0) (x : Stuck) → P x → (stuck : Stuck) → ◌≡◌ {A = Stop} (stop.Stuck x) (stop.Stuck stuck) → P stuck
+pub stuck_same : (P : Stuck → Type 0) (x : Stuck) → P x → (stuck : Stuck)
+    → ◌≡◌ {A = Stop} (stop.Stuck x) (stop.Stuck stuck) → P stuck
 stuck_same P x p stuck e = let same : ◌≡◌ {A = Stuck} x stuck = cc in subst P same p
 
 -- how many items a vector has

@@ -8,7 +8,8 @@ use Rattle.std.proofs.lemmas.Fmt.{decimal_by_steps}
 use Rattle.aralia_text.specs.Readings.{is_path_byte, IsPath}
 use Rattle.aralia_text.specs.Fronts.{Stops}
 
-passes_cons : (b : ℕ) (bs : List ℕ) (r : Bool) → is_path_byte b ≡ r → IsPath (take (prefix_len is_path_byte bs) bs) → IsPath (take (cond r (1 + prefix_len is_path_byte bs) 0) (b ∷ bs))
+passes_cons : (b : ℕ) (bs : List ℕ) (r : Bool) → is_path_byte b ≡ r → IsPath (take (prefix_len is_path_byte bs) bs)
+    → IsPath (take (cond r (1 + prefix_len is_path_byte bs) 0) (b ∷ bs))
 passes_cons b bs true e h =
     let q : 1 + prefix_len is_path_byte bs ≡ suc (prefix_len is_path_byte bs) = omega arith in
     subst (λ n. IsPath (take n (b ∷ bs))) (sym q) (e, h)
@@ -24,7 +25,8 @@ stop_len [] h = refl
 stop_len (b ∷ back) h = ap (λ r. cond r (1 + prefix_len is_path_byte back) 0) h
 
 -- a path before a stop is the run
-pub run_exact : (front back : List ℕ) → IsPath front → Stops back → prefix_len is_path_byte (front ++ back) ≡ length front
+pub run_exact : (front back : List ℕ) → IsPath front → Stops back
+    → prefix_len is_path_byte (front ++ back) ≡ length front
 run_exact [] back h f = stop_len back f
 run_exact (b ∷ front) back h f =
     let more : prefix_len is_path_byte (front ++ back) ≡ length front = run_exact front back h.1 f in
@@ -38,18 +40,21 @@ pub record IsRun (rest run left : List ℕ) : Type 0 where
 pub run_path : (rest run left : List ℕ) → IsRun rest run left → IsPath run
 run_path rest run left r = subst IsPath (sym r.run_is) (run_passes rest)
 
-pub run_only : (rest run left path back : List ℕ) → IsRun rest run left → IsPath path → Stops back → rest ≡ path ++ back → (path ≡ run) × (back ≡ left)
+pub run_only : (rest run left path back : List ℕ) → IsRun rest run left → IsPath path → Stops back → rest ≡ path ++ back
+    → (path ≡ run) × (back ≡ left)
 run_only rest run left path back r p s e =
     let n : prefix_len is_path_byte rest ≡ length path = ap (prefix_len is_path_byte) e ∙ run_exact path back p s in
     let same : path ≡ run =
-    sym (take_at path back (length path) refl) ∙ ap (take (length path)) (sym e) ∙ ap (λ (k : ℕ). take k rest) (sym n) ∙ sym r.run_is in
+    sym (take_at path back (length path) refl) ∙ ap (take (length path)) (sym e) ∙ ap (λ (k : ℕ). take k rest) (sym n)
+    ∙ sym r.run_is in
     (same, append_cancel_left path back left (sym e ∙ r.joined ∙ ap (λ (z : List ℕ). z ++ left) (sym same)))
 
 run_stops : (bs : List ℕ) → Stops (drop (prefix_len is_path_byte bs) bs)
 run_stops [] = tt
 run_stops (b ∷ bs) = by (is_path_byte b) refl (run_stops bs)
   where
-    by : (r : Bool) → is_path_byte b ≡ r → Stops (drop (prefix_len is_path_byte bs) bs) → Stops (drop (cond r (1 + prefix_len is_path_byte bs) 0) (b ∷ bs))
+    by : (r : Bool) → is_path_byte b ≡ r → Stops (drop (prefix_len is_path_byte bs) bs)
+        → Stops (drop (cond r (1 + prefix_len is_path_byte bs) 0) (b ∷ bs))
     by true e h =
         let q : 1 + prefix_len is_path_byte bs ≡ suc (prefix_len is_path_byte bs) = omega arith in
         subst (λ n. Stops (drop n (b ∷ bs))) (sym q) h
@@ -59,11 +64,13 @@ run_stops (b ∷ bs) = by (is_path_byte b) refl (run_stops bs)
 pub run_left : (rest run left : List ℕ) → IsRun rest run left → Stops left
 run_left rest run left r =
     let whole : run ++ drop (prefix_len is_path_byte rest) rest ≡ run ++ left =
-    ap (λ (z : List ℕ). z ++ drop (prefix_len is_path_byte rest) rest) r.run_is ∙ take-append-drop (prefix_len is_path_byte rest) rest ∙ r.joined in
+    ap (λ (z : List ℕ). z ++ drop (prefix_len is_path_byte rest) rest) r.run_is
+    ∙ take-append-drop (prefix_len is_path_byte rest) rest ∙ r.joined in
     subst Stops (append_cancel_left run (drop (prefix_len is_path_byte rest) rest) left whole) (run_stops rest)
 
 -- a text is cut in one way into a path and what stops it
-pub path_unique : (one two left back : List ℕ) → IsPath one → IsPath two → Stops left → Stops back → one ++ left ≡ two ++ back → (two ≡ one) × (back ≡ left)
+pub path_unique : (one two left back : List ℕ) → IsPath one → IsPath two → Stops left → Stops back
+    → one ++ left ≡ two ++ back → (two ≡ one) × (back ≡ left)
 path_unique one two left back p q s t e =
     run_only (one ++ left) one left two back (record {
       run_is = sym (ap (λ (k : ℕ). take k (one ++ left)) (run_exact one left p s) ∙ take_at one left (length one) refl);
@@ -77,12 +84,15 @@ path_byte (c ∷ front) b back h = path_byte front b back h.1
 
 -- fixed texts
 
-pub text_found : (rest text left : List ℕ) → bytes_eq (take (length text) rest) text ≡ true → left ≡ drop (length text) rest → rest ≡ text ++ left
+pub text_found : (rest text left : List ℕ) → bytes_eq (take (length text) rest) text ≡ true
+    → left ≡ drop (length text) rest → rest ≡ text ++ left
 text_found rest text left h e =
     let same : take (length text) rest ≡ text = (bytes_eq-Decides (take (length text) rest) text).0 h in
-    sym (take-append-drop (length text) rest) ∙ ap (λ (z : List ℕ). z ++ drop (length text) rest) same ∙ ap (λ (z : List ℕ). text ++ z) (sym e)
+    sym (take-append-drop (length text) rest) ∙ ap (λ (z : List ℕ). z ++ drop (length text) rest) same
+    ∙ ap (λ (z : List ℕ). text ++ z) (sym e)
 
-pub text_not_found : (rest text back : List ℕ) → bytes_eq (take (length text) rest) text ≡ false → rest ≡ text ++ back → ⊥
+pub text_not_found : (rest text back : List ℕ) → bytes_eq (take (length text) rest) text ≡ false → rest ≡ text ++ back
+    → ⊥
 text_not_found rest text back h e =
     let same : take (length text) rest ≡ text = ap (take (length text)) e ∙ take_at text back (length text) refl in
     true≢false (sym ((bytes_eq-Decides (take (length text) rest) text).1 same) ∙ h)
@@ -98,4 +108,5 @@ path_more (c ∷ front) b p h = (p.0, path_more front b p.1 h)
 
 pub number_passes : (n : ℕ) → n < 2 ^ 64 → IsPath (decimal n)
 number_passes n small =
-    decimal_by_steps (λ k ds. IsPath ds) (λ k h. (digit_passes k h, tt)) (λ k ds h more. path_more ds (48 + k % 10) more (digit_passes (k % 10) (omega arith))) n small
+    decimal_by_steps (λ k ds. IsPath ds) (λ k h. (digit_passes k h, tt))
+    (λ k ds h more. path_more ds (48 + k % 10) more (digit_passes (k % 10) (omega arith))) n small

@@ -33,7 +33,8 @@ stops_alike (b ∷ bs) [] h s = absurd h
 stops_alike (b ∷ bs) (d ∷ ds) h s = subst (λ (z : ℕ). is_path_byte z ≡ false) (sym h) s
 
 -- what stands first in `other`, which begins as `left` does
-pub alike_head : (left other : List ℕ) (d : ℕ) (z : List ℕ) → BeginAlike left other → other ≡ d ∷ z → (y : List ℕ) × (left ≡ d ∷ y)
+pub alike_head : (left other : List ℕ) (d : ℕ) (z : List ℕ) → BeginAlike left other → other ≡ d ∷ z
+    → (y : List ℕ) × (left ≡ d ∷ y)
 alike_head left other d z h e = by left (subst (BeginAlike left) e h)
   where
     by : (left : List ℕ) → BeginAlike left (d ∷ z) → (y : List ℕ) × (left ≡ d ∷ y)
@@ -47,10 +48,14 @@ pub data Compared (front text other back : List ℕ) : Type 0 where
   same : text ≡ front → other ≡ back → Compared front text other back
   longer : (d : ℕ) (x : List ℕ) → front ≡ text ++ (d ∷ x) → back ≡ d ∷ (x ++ other) → Compared front text other back
 
-further : (c d : ℕ) (front text other back : List ℕ) → c ≡ d → Compared front text other back → Compared (c ∷ front) (d ∷ text) other back
-further c d front text other back h (shorter e x i j) = shorter e x (ap (λ (z : ℕ). z ∷ text) (sym h) ∙ ap (λ (z : List ℕ). c ∷ z) i) j
-further c d front text other back h (same i j) = same (ap (λ (z : ℕ). z ∷ text) (sym h) ∙ ap (λ (z : List ℕ). c ∷ z) i) j
-further c d front text other back h (longer e x i j) = longer e x (ap (λ (z : ℕ). z ∷ front) h ∙ ap (λ (z : List ℕ). d ∷ z) i) j
+further : (c d : ℕ) (front text other back : List ℕ) → c ≡ d → Compared front text other back
+    → Compared (c ∷ front) (d ∷ text) other back
+further c d front text other back h (shorter e x i j) =
+    shorter e x (ap (λ (z : ℕ). z ∷ text) (sym h) ∙ ap (λ (z : List ℕ). c ∷ z) i) j
+further c d front text other back h (same i j) =
+    same (ap (λ (z : ℕ). z ∷ text) (sym h) ∙ ap (λ (z : List ℕ). c ∷ z) i) j
+further c d front text other back h (longer e x i j) =
+    longer e x (ap (λ (z : ℕ). z ∷ front) h ∙ ap (λ (z : List ℕ). d ∷ z) i) j
 
 pub compared : (front text other back : List ℕ) → front ++ other ≡ text ++ back → Compared front text other back
 compared [] [] other back e = same refl e
@@ -64,7 +69,8 @@ compared (c ∷ front) (d ∷ text) other back e =
 
 -- What is stuck behind a front is stuck
 
-module _ {A B : Type 0} (S : A → Type 0) (s : A → List ℕ) (E : List ℕ → Type 0) (T : B → Type 0) (t : B → List ℕ) (F : List ℕ → Type 0) where
+module _ {A B : Type 0} (S : A → Type 0) (s : A → List ℕ) (E : List ℕ → Type 0) (T : B → Type 0) (t : B → List ℕ)
+    (F : List ℕ → Type 0) where
   -- the text of something sought has this front and then that of the part
   pub record Whole (front : List ℕ) (a : A) : Type 0 where
     pub b : B
@@ -83,15 +89,19 @@ module _ {A B : Type 0} (S : A → Type 0) (s : A → List ℕ) (E : List ℕ �
   -- the part is begun, so the whole is
   module _ (front part_front : List ℕ) (begun : AreBegun T t front) (whole : (a : A) → S a → Whole front a) where
     pub begun_behind : AreBegun S s part_front → AreBegun T t (front ++ part_front)
-    begun_behind (none e) = subst (AreBegun T t) (sym (append-nil front) ∙ ap (λ (z : List ℕ). front ++ z) (sym e)) begun
+    begun_behind (none e) = subst (AreBegun T t) (sym (append-nil front) ∙ ap (λ (z : List ℕ). front ++ z) (sym e))
+        begun
     begun_behind (part a more is e) =
         let w = whole a is in
         part w.b (more ++ w.more) w.sought
-        (w.is ∙ ap (λ (z : List ℕ). front ++ (z ++ w.more)) e ∙ ap (λ (z : List ℕ). front ++ z) (append_assoc part_front more w.more)
+        (w.is ∙ ap (λ (z : List ℕ). front ++ (z ++ w.more)) e
+        ∙ ap (λ (z : List ℕ). front ++ z) (append_assoc part_front more w.more)
         ∙ sym (append_assoc front part_front (more ++ w.more)))
 
-  pub stuck_behind : (rest front behind : List ℕ) (n : ℕ) → rest ≡ front ++ behind → AreBegun T t front → ((a : A) → S a → Whole front a)
-      → ((b : B) (back other : List ℕ) → T b → F back → BeginAlike behind other → front ++ other ≡ t b ++ back → Inside other)
+  pub stuck_behind : (rest front behind : List ℕ) (n : ℕ) → rest ≡ front ++ behind → AreBegun T t front
+      → ((a : A) → S a → Whole front a)
+      → ((b : B) (back other : List ℕ) → T b → F back → BeginAlike behind other → front ++ other ≡ t b ++ back
+      → Inside other)
       → IsStuck S s E behind n → IsStuck T t F rest n
   stuck_behind rest front behind n c begun whole split k = record {
     front = front ++ k.front;
@@ -100,7 +110,9 @@ module _ {A B : Type 0} (S : A → Type 0) (s : A → List ℕ) (E : List ℕ �
     count = k.count;
     begun = begun_behind front k.front begun whole k.begun;
     wrong = λ b back other is ends alike e.
-        let as_one : BeginAlike behind (k.front ++ other) = subst (λ (z : List ℕ). BeginAlike z (k.front ++ other)) (sym k.joined) (alike_behind k.front k.left other alike) in
+        let as_one : BeginAlike behind (k.front ++ other) =
+        subst (λ (z : List ℕ). BeginAlike z (k.front ++ other)) (sym k.joined)
+        (alike_behind k.front k.left other alike) in
         let i = split b back (k.front ++ other) is ends as_one (sym (append_assoc front k.front other) ∙ e) in
         k.wrong i.a i.back other i.sought i.ends alike i.is;
   }
@@ -112,7 +124,8 @@ module _ {A B : Type 0} (S : A → Type 0) (s : A → List ℕ) (E : List ℕ �
   stuck_here rest n whole split k = stuck_behind rest [] rest n refl (none refl) whole split k
 
 module _ {A : Type 0} (S : A → Type 0) (s : A → List ℕ) (E : List ℕ → Type 0) where
-  pub not_stuck : (rest : List ℕ) (n : ℕ) → IsStuck S s E rest n → (a : A) (back : List ℕ) → S a → E back → rest ≡ s a ++ back → ⊥
+  pub not_stuck : (rest : List ℕ) (n : ℕ) → IsStuck S s E rest n → (a : A) (back : List ℕ) → S a → E back
+      → rest ≡ s a ++ back → ⊥
   not_stuck rest n k a back is ends e = k.wrong a back k.left is ends (alike_self k.left) (sym k.joined ∙ e)
 
   -- nothing is sought
@@ -130,14 +143,24 @@ module _ {A : Type 0} (S : A → Type 0) (s : A → List ℕ) (E : List ℕ → 
 
 pub text_first : (one more rest : List ℕ) (n : ℕ) → IsStuckIn one rest n → IsStuckIn (one ++ more) rest n
 text_first one more rest n k =
-    stuck_here (λ u. Unit {0}) (λ u. one) IsAny (λ u. Unit {0}) (λ u. one ++ more) IsAny rest n (λ a is. record { b = tt; more = more; sought = tt; is = refl })
-    (λ b back other is ends alike e. record { a = tt; back = more ++ back; sought = tt; ends = tt; is = e ∙ append_assoc one more back }) k
+    stuck_here (λ u. Unit {0}) (λ u. one) IsAny (λ u. Unit {0}) (λ u. one ++ more) IsAny rest n
+    (λ a is. record { b = tt; more = more; sought = tt; is = refl })
+    (λ b back other is ends alike e. record
+    { a = tt; back = more ++ back; sought = tt; ends = tt; is = e ∙ append_assoc one more back }) k
 
-pub text_next : (one two rest behind : List ℕ) (n : ℕ) → rest ≡ one ++ behind → IsStuckIn two behind n → IsStuckIn (one ++ two) rest n
+pub text_next : (one two rest behind : List ℕ) (n : ℕ) → rest ≡ one ++ behind → IsStuckIn two behind n
+    → IsStuckIn (one ++ two) rest n
 text_next one two rest behind n c k =
-    stuck_behind (λ u. Unit {0}) (λ u. two) IsAny (λ u. Unit {0}) (λ u. one ++ two) IsAny rest one behind n c (part tt two tt refl)
+    stuck_behind (λ u. Unit {0}) (λ u. two) IsAny (λ u. Unit {0}) (λ u. one ++ two) IsAny rest one behind n c
+    (part tt two tt refl)
     (λ a is. record { b = tt; more = []; sought = tt; is = ap (λ (z : List ℕ). one ++ z) (sym (append-nil two)) })
-    (λ b back other is ends alike e. record { a = tt; back = back; sought = tt; ends = tt; is = append_cancel_left one other (two ++ back) (e ∙ append_assoc one two back) }) k
+    (λ b back other is ends alike e. record {
+      a = tt;
+      back = back;
+      sought = tt;
+      ends = tt;
+      is = append_cancel_left one other (two ++ back) (e ∙ append_assoc one two back);
+    }) k
 
 -- as many bytes of the text as are common to both
 module _ (text rest : List ℕ) (n : ℕ) (common : AreCommon rest text n) where
@@ -157,10 +180,12 @@ module _ (text rest : List ℕ) (n : ℕ) (common : AreCommon rest text n) where
       by : (back other : List ℕ) → BeginAlike (drop n rest) other → Compared (take n rest) text other back → ⊥
       by back other alike (shorter d x i j) =
           let head = alike_head (drop n rest) other d (x ++ back) alike j in
-          let short = common.most (take n rest) d head.0 x (sym (take-append-drop n rest) ∙ ap (λ (z : List ℕ). take n rest ++ z) head.1) i in
+          let short = common.most (take n rest) d head.0 x
+          (sym (take-append-drop n rest) ∙ ap (λ (z : List ℕ). take n rest ++ z) head.1) i in
           let long = length-take-le n rest common.in_a in
           omega (arith, short, long)
-      by back other alike (same i j) = not_all (drop n rest) (sym (take-append-drop n rest) ∙ ap (λ (z : List ℕ). z ++ drop n rest) (sym i))
+      by back other alike (same i j) = not_all (drop n rest)
+          (sym (take-append-drop n rest) ∙ ap (λ (z : List ℕ). z ++ drop n rest) (sym i))
       by back other alike (longer d x i j) =
           let size : length (take n rest) ≡ length text + length (d ∷ x) = ap length i ∙ length-append text (d ∷ x) in
           let some : length (d ∷ x) ≡ length x + 1 = omega arith in
@@ -175,20 +200,30 @@ module _ {A : Type 0} (S : A → Type 0) (s : A → List ℕ) (E : List ℕ → 
 
   pub no_prefix : (a : A) → S a → (n : ℕ) → IsStuckIn text rest n → IsStuck S prefixed E rest n
   no_prefix a sought n k =
-      stuck_here (λ u. Unit {0}) (λ u. text) IsAny S prefixed E rest n (λ u is. record { b = a; more = s a; sought = sought; is = refl })
-      (λ b back other is ends alike e. record { a = tt; back = s b ++ back; sought = tt; ends = tt; is = e ∙ append_assoc text (s b) back }) k
+      stuck_here (λ u. Unit {0}) (λ u. text) IsAny S prefixed E rest n
+      (λ u is. record { b = a; more = s a; sought = sought; is = refl })
+      (λ b back other is ends alike e. record
+      { a = tt; back = s b ++ back; sought = tt; ends = tt; is = e ∙ append_assoc text (s b) back }) k
 
   module _ (behind : List ℕ) (begun : rest ≡ text ++ behind) where
     pub prefixed_stuck : (a : A) → S a → (n : ℕ) → IsStuck S s E behind n → IsStuck S prefixed E rest n
     prefixed_stuck a sought n k =
         stuck_behind S s E S prefixed E rest text behind n begun (part a (s a) sought refl)
         (λ b is. record { b = b; more = []; sought = is; is = ap (λ (z : List ℕ). text ++ z) (sym (append-nil (s b))) })
-        (λ b back other is ends alike e. record { a = b; back = back; sought = is; ends = ends; is = append_cancel_left text other (s b ++ back) (e ∙ append_assoc text (s b) back) }) k
+        (λ b back other is ends alike e. record {
+          a = b;
+          back = back;
+          sought = is;
+          ends = ends;
+          is = append_cancel_left text other (s b ++ back) (e ∙ append_assoc text (s b) back);
+        }) k
 
     pub prefixed_read : (a : A) (left : List ℕ) → IsRead S s E behind a left → IsRead S prefixed E rest a left
     prefixed_read a left r = record {
       sought = r.sought;
       joined = begun ∙ ap (λ (z : List ℕ). text ++ z) r.joined ∙ sym (append_assoc text (s a) left);
       only = λ b back other is ends alike e.
-          r.only b back other is ends alike (append_cancel_left text (s a ++ other) (s b ++ back) (sym (append_assoc text (s a) other) ∙ e ∙ append_assoc text (s b) back));
+          r.only b back other is ends alike
+          (append_cancel_left text (s a ++ other) (s b ++ back)
+          (sym (append_assoc text (s a) other) ∙ e ∙ append_assoc text (s b) back));
     }

@@ -39,10 +39,12 @@ BeginAlike (b ∷ bs) (c ∷ cs) = b ≡ c
 
 -- Of what is sought, this stands at the front, with what is left behind it; nothing else does, whatever stands behind
 -- the next byte.
-pub record IsRead {A : Type 0} (Sought : A → Type 0) (text : A → List ℕ) (Ends : List ℕ → Type 0) (rest : List ℕ) (a : A) (left : List ℕ) : Type 0 where
+pub record IsRead {A : Type 0} (Sought : A → Type 0) (text : A → List ℕ) (Ends : List ℕ → Type 0) (rest : List ℕ)
+    (a : A) (left : List ℕ) : Type 0 where
   pub sought : Sought a
   pub joined : rest ≡ text a ++ left
-  pub only : (b : A) (back other : List ℕ) → Sought b → Ends back → BeginAlike left other → text a ++ other ≡ text b ++ back → (b ≡ a) × (back ≡ other)
+  pub only : (b : A) (back other : List ℕ) → Sought b → Ends back → BeginAlike left other
+      → text a ++ other ≡ text b ++ back → (b ≡ a) × (back ≡ other)
 
 -- the bytes are none, or the first part of the text of something that is sought
 pub data AreBegun {A : Type 0} (Sought : A → Type 0) (text : A → List ℕ) (front : List ℕ) : Type 0 where
@@ -51,13 +53,15 @@ pub data AreBegun {A : Type 0} (Sought : A → Type 0) (text : A → List ℕ) (
 
 -- Nothing that is sought stands at the front: the bytes before the last so many are a first part of something that is
 -- sought, and with the byte behind them, or with the end, they are no more.
-pub record IsStuck {A : Type 0} (Sought : A → Type 0) (text : A → List ℕ) (Ends : List ℕ → Type 0) (rest : List ℕ) (last : ℕ) : Type 0 where
+pub record IsStuck {A : Type 0} (Sought : A → Type 0) (text : A → List ℕ) (Ends : List ℕ → Type 0) (rest : List ℕ)
+    (last : ℕ) : Type 0 where
   pub front : List ℕ
   pub left : List ℕ
   pub joined : rest ≡ front ++ left
   pub count : length left ≡ last
   pub begun : AreBegun Sought text front
-  pub wrong : (a : A) (back other : List ℕ) → Sought a → Ends back → BeginAlike left other → front ++ other ≡ text a ++ back → ⊥
+  pub wrong : (a : A) (back other : List ℕ) → Sought a → Ends back → BeginAlike left other
+      → front ++ other ≡ text a ++ back → ⊥
 
 -- so it is of a fixed text
 abbrev pub IsStuckIn : List ℕ → List ℕ → ℕ → Type 0
@@ -92,7 +96,8 @@ pub record HasNoEvent (events : List (List ℕ)) (rest : List ℕ) : Type 0 wher
 pub record IsEventPart (events : List (List ℕ)) (rest : List ℕ) (n : ℕ) : Type 0 where
   pub within : n ≤ length rest
   pub begun : AreBegun (IsPathOf events) (event_text events) (take n rest)
-  pub most : (e : ℕ) → IsPathOf events e → (front : List ℕ) (c : ℕ) (x y : List ℕ) → rest ≡ front ++ c ∷ x → event_text events e ≡ front ++ c ∷ y → length front < n
+  pub most : (e : ℕ) → IsPathOf events e → (front : List ℕ) (c : ℕ) (x y : List ℕ) → rest ≡ front ++ c ∷ x
+      → event_text events e ≡ front ++ c ∷ y → length front < n
 
 -- a gate of so many
 abbrev pub IsBelowGate : ℕ → ℕ → Type 0
@@ -190,7 +195,8 @@ pub record AreRead (events : List (List ℕ)) (text : List ℕ) (gates : List Ga
   pub named : (n : ℕ) (gate : Gate) → Stands gates n gate → r.AreNamed events gate
   pub joined : text ≡ gate_lines events 0 gates ++ left
   pub few : length gates + length left ≤ length text
-  pub only : (table : Table) (other : List ℕ) → IsWritten events table → BeginAlike left other → gate_lines events 0 gates ++ other ≡ equations_text events table → GoesOn events gates other table
+  pub only : (table : Table) (other : List ℕ) → IsWritten events table → BeginAlike left other
+      → gate_lines events 0 gates ++ other ≡ equations_text events table → GoesOn events gates other table
 
 -- no further gate stands there
 abbrev pub HasNoGate : List ℕ → Type 0

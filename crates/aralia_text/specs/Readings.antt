@@ -47,7 +47,8 @@ pub record IsTextOf (events : List (List ℕ)) (text : List ℕ) (table : Table)
 abbrev pub Begins : List (List ℕ) → List ℕ → Type 0
 Begins events front = (table : Table) × (more : List ℕ) × IsTextOf events (front ++ more) table
 
--- The first so many bytes of the text are the first part of a text of a table. With the next byte they are that of none,
+-- The first so many bytes of the text are the first part of a text of a table. With the next byte they are that of
+-- none,
 -- or the text ends there and is that of no table.
 pub record IsFirstWrong (events : List (List ℕ)) (text : List ℕ) (k : ℕ) : Type 0 where
   pub within : k ≤ length text
@@ -74,6 +75,7 @@ NamesOneOf n (GateIs g sign) = Unit {0}
 
 -- every event that the table names has a text
 pub record NamesEvents (events : List (List ℕ)) (table : Table) : Type 0 where
-  pub gates : (n : ℕ) (gate : Gate) (o : Operand) → Stands table.gates n gate → IsOneOf gate.operands o → NamesOneOf (length events) o
+  pub gates : (n : ℕ) (gate : Gate) (o : Operand) → Stands table.gates n gate → IsOneOf gate.operands o
+      → NamesOneOf (length events) o
   pub conflict : NamesOneOf (length events) table.conflict
   pub top : NamesOneOf (length events) table.top

@@ -46,7 +46,8 @@ gate_lines events n (gate ∷ gates) = gate_line events n gate ++ gate_lines eve
 -- the two last lines
 abbrev pub last_lines : List (List ℕ) → Operand → Operand → List ℕ
 last_lines events conflict top =
-    codes "conflict := " ++ (operand_text events conflict ++ (codes ";\ntop := " ++ (operand_text events top ++ codes ";\n")))
+    codes "conflict := " ++ (operand_text events
+    conflict ++ (codes ";\ntop := " ++ (operand_text events top ++ codes ";\n")))
 
 -- the whole text: the lines of the gates, and then `conflict := OPERAND;` and `top := OPERAND;`
 abbrev pub equations_text : List (List ℕ) → Table → List ℕ

@@ -31,8 +31,10 @@ opened_set x e p = out-roll-Act (act.Set x e p)
 pub set_one : (x : VarId) (at : Place) (y : VarId) → SetsTo x at y (Set x (Variable y) at)
 set_one x at y = record { value = Variable y; names = opened-variable y; is = opened_set x (Variable y) at }
 
-pub set_both : (x : VarId) (at : Place) (y : VarId) (other : Place) (v : Vec Act Global) (b c : Act) → v.items ≡ b ∷ c ∷ [] → SetsTo x at y b → SetsTo y other x c → SetsBoth x at y other (All v)
-set_both x at y other v b c e h k = record { acts = v; is = outs-All v; first = b; second = c; are = e; sets_first = h; sets_second = k }
+pub set_both : (x : VarId) (at : Place) (y : VarId) (other : Place) (v : Vec Act Global) (b c : Act)
+    → v.items ≡ b ∷ c ∷ [] → SetsTo x at y b → SetsTo y other x c → SetsBoth x at y other (All v)
+set_both x at y other v b c e h k =
+    record { acts = v; is = outs-All v; first = b; second = c; are = e; sets_first = h; sets_second = k }
 
 module _ (leaves : Path → Leaf) where
   moved : (i : Instr) (l : InstrForm) (a : Act) → out-Instr i ≡ l → ActsAs leaves l a → ActsAs leaves (out-Instr i) a
@@ -41,38 +43,51 @@ module _ (leaves : Path → Leaf) where
   pub skip_acted : (i : Instr) → out-Instr i ≡ instr.Skip → ActsAs leaves (out-Instr i) Skip
   skip_acted i e = moved i instr.Skip Skip e (acts.skip opened_skip)
 
-  pub assign_acted : (i : Instr) (p : Path) (r : RawExpr) (x : VarId) (e : Expr VarId) → out-Instr i ≡ instr.Assign p r → leaves p ≡ leaf.Variable x → BecomesBy leaves r e
+  pub assign_acted : (i : Instr) (p : Path) (r : RawExpr) (x : VarId) (e : Expr VarId) → out-Instr i ≡ instr.Assign p r
+      → leaves p ≡ leaf.Variable x → BecomesBy leaves r e
       → ActsAs leaves (out-Instr i) (Set x e p.at)
   assign_acted i p r x e q l b = moved i (instr.Assign p r) (Set x e p.at) q (acts.assign x e l b (opened_set x e p.at))
 
-  pub assign_nothing : (i : Instr) (p : Path) (r : RawExpr) (v : Value) → out-Instr i ≡ instr.Assign p r → leaves p ≡ leaf.Constant v → ActsAs leaves (out-Instr i) Skip
+  pub assign_nothing : (i : Instr) (p : Path) (r : RawExpr) (v : Value) → out-Instr i ≡ instr.Assign p r
+      → leaves p ≡ leaf.Constant v → ActsAs leaves (out-Instr i) Skip
   assign_nothing i p r v q l = moved i (instr.Assign p r) Skip q (acts.no_target v l opened_skip)
 
-  pub tie_acted : (i : Instr) (p q : Path) (a : Act) → out-Instr i ≡ instr.Tie p q → ActsAs leaves (instr.Tie p q) a → ActsAs leaves (out-Instr i) a
+  pub tie_acted : (i : Instr) (p q : Path) (a : Act) → out-Instr i ≡ instr.Tie p q → ActsAs leaves (instr.Tie p q) a
+      → ActsAs leaves (out-Instr i) a
   tie_acted i p q a e h = moved i (instr.Tie p q) a e h
 
-  pub if_acted : (i : Instr) (r : RawExpr) (x : Box Instr Global) (e : Expr VarId) (b a : Act) → out-Instr i ≡ instr.If r x None → BecomesBy leaves r e
+  pub if_acted : (i : Instr) (r : RawExpr) (x : Box Instr Global) (e : Expr VarId) (b a : Act)
+      → out-Instr i ≡ instr.If r x None → BecomesBy leaves r e
       → ActsAs leaves (out-Instr x.value) b → IsConditional e b Skip a → ActsAs leaves (out-Instr i) a
   if_acted i r x e b a q h k c = moved i (instr.If r x None) a q
-      (acts.conditional e c.here c.there h c.is (subst (λ (z : Act). ActsAs leaves (out-Instr x.value) z) (sym c.is_first) k) (acts.no_branch (ap out-Act c.is_second ∙ opened_skip)))
+      (acts.conditional e c.here c.there h c.is
+      (subst (λ (z : Act). ActsAs leaves (out-Instr x.value) z) (sym c.is_first) k)
+      (acts.no_branch (ap out-Act c.is_second ∙ opened_skip)))
 
-  pub if_else_acted : (i : Instr) (r : RawExpr) (x y : Box Instr Global) (e : Expr VarId) (b d a : Act) → out-Instr i ≡ instr.If r x (Some y) → BecomesBy leaves r e
-      → ActsAs leaves (out-Instr x.value) b → ActsAs leaves (out-Instr y.value) d → IsConditional e b d a → ActsAs leaves (out-Instr i) a
+  pub if_else_acted : (i : Instr) (r : RawExpr) (x y : Box Instr Global) (e : Expr VarId) (b d a : Act)
+      → out-Instr i ≡ instr.If r x (Some y) → BecomesBy leaves r e
+      → ActsAs leaves (out-Instr x.value) b → ActsAs leaves (out-Instr y.value) d → IsConditional e b d a
+      → ActsAs leaves (out-Instr i) a
   if_else_acted i r x y e b d a q h k m c = moved i (instr.If r x (Some y)) a q
-      (acts.conditional e c.here c.there h c.is (subst (λ (z : Act). ActsAs leaves (out-Instr x.value) z) (sym c.is_first) k)
+      (acts.conditional e c.here c.there h c.is
+      (subst (λ (z : Act). ActsAs leaves (out-Instr x.value) z) (sym c.is_first) k)
       (acts.branch (subst (λ (z : Act). ActsAs leaves (out-Instr y.value) z) (sym c.is_second) m)))
 
-  pub all_acted : (i : Instr) (is : Vec Instr Global) (v : Vec Act Global) → out-Instr i ≡ instr.All is → All_act leaves is.items v.items → ActsAs leaves (out-Instr i) (All v)
+  pub all_acted : (i : Instr) (is : Vec Instr Global) (v : Vec Act Global) → out-Instr i ≡ instr.All is
+      → All_act leaves is.items v.items → ActsAs leaves (out-Instr i) (All v)
   all_acted i is v q h = moved i (instr.All is) (All v) q (acts.all v (outs-All v) h)
 
-  all_more : (i : Instr) (a : Act) {is : List Instr} {v : List Act} → All_act leaves is v → ActsAs leaves (out-Instr i) a → All_act leaves (is ++ i ∷ []) (v ++ a ∷ [])
+  all_more : (i : Instr) (a : Act) {is : List Instr} {v : List Act} → All_act leaves is v
+      → ActsAs leaves (out-Instr i) a → All_act leaves (is ++ i ∷ []) (v ++ a ∷ [])
   all_more i a acts.none h = acts.one_and h acts.none
   all_more i a (acts.one_and k ks) h = acts.one_and k (all_more i a ks h)
 
-  pub all_next : (is : List Instr) (n : ℕ) (i : Instr) (a : Act) (v w : List Act) → n < length is → i ≡ get_or is n i → All_act leaves (take n is) v → ActsAs leaves (out-Instr i) a
+  pub all_next : (is : List Instr) (n : ℕ) (i : Instr) (a : Act) (v w : List Act) → n < length is → i ≡ get_or is n i
+      → All_act leaves (take n is) v → ActsAs leaves (out-Instr i) a
       → w ≡ v ++ a ∷ [] → All_act leaves (take (n + 1) is) w
   all_next is n i a v w h e k c j =
-      subst (λ (z : List Act). All_act leaves (take (n + 1) is) z) (sym j) (subst (λ (z : List Instr). All_act leaves z (v ++ a ∷ [])) (sym (take_item is n i h e)) (all_more i a k c))
+      subst (λ (z : List Act). All_act leaves (take (n + 1) is) z) (sym j)
+      (subst (λ (z : List Instr). All_act leaves z (v ++ a ∷ [])) (sym (take_item is n i h e)) (all_more i a k c))
 
   pub all_start : (v : List Act) → v ≡ [] → All_act leaves [] v
   all_start v j = subst (λ (z : List Act). All_act leaves [] z) (sym j) acts.none

@@ -34,22 +34,30 @@ pub record SetsBoth (x : VarId) (at : Place) (y : VarId) (other : Place) (a : Ac
   pub sets_second : SetsTo y other x second
 
 mutual
-  -- the written instruction becomes this one, where paths stand for these variables and values; a `:=:` becomes its two assignments, and
+  -- the written instruction becomes this one, where paths stand for these variables and values; a `:=:` becomes its two
+  -- assignments, and
   -- what assigns or ties a value, which no rule lets stand, becomes nothing
   pub data ActsAs (leaves : Path → Leaf) : InstrForm → Act → Type 0 where
     skip : {a : Act} → out-Act a ≡ act.Skip → ActsAs leaves instr.Skip a
-    assign : {p : Path} {r : RawExpr} {a : Act} (x : VarId) (e : Expr VarId) → leaves p ≡ leaf.Variable x → BecomesBy leaves r e
+    assign : {p : Path} {r : RawExpr} {a : Act} (x : VarId) (e : Expr VarId) → leaves p ≡ leaf.Variable x
+        → BecomesBy leaves r e
         → out-Act a ≡ act.Set x e p.at → ActsAs leaves (instr.Assign p r) a
     no_target : {p : Path} {r : RawExpr} {a : Act} (v : Value) → leaves p ≡ leaf.Constant v → out-Act a ≡ act.Skip
         → ActsAs leaves (instr.Assign p r) a
-    tie : {p q : Path} {a : Act} (x y : VarId) → leaves p ≡ leaf.Variable x → leaves q ≡ leaf.Variable y → SetsBoth x p.at y q.at a
+    tie : {p q : Path} {a : Act} (x y : VarId) → leaves p ≡ leaf.Variable x → leaves q ≡ leaf.Variable y
+        → SetsBoth x p.at y q.at a
         → ActsAs leaves (instr.Tie p q) a
-    no_left : {p q : Path} {a : Act} (v : Value) → leaves p ≡ leaf.Constant v → out-Act a ≡ act.Skip → ActsAs leaves (instr.Tie p q) a
-    no_right : {p q : Path} {a : Act} (v : Value) → leaves q ≡ leaf.Constant v → out-Act a ≡ act.Skip → ActsAs leaves (instr.Tie p q) a
-    conditional : {r : RawExpr} {first : Box Instr Global} {second : Option (Box Instr Global)} {a : Act} (e : Expr VarId) (b c : Box Act Global)
-        → BecomesBy leaves r e → out-Act a ≡ act.If e b c → ActsAs leaves (out-Instr first.value) b.value → ElseActs leaves second c.value
+    no_left : {p q : Path} {a : Act} (v : Value) → leaves p ≡ leaf.Constant v → out-Act a ≡ act.Skip
+        → ActsAs leaves (instr.Tie p q) a
+    no_right : {p q : Path} {a : Act} (v : Value) → leaves q ≡ leaf.Constant v → out-Act a ≡ act.Skip
+        → ActsAs leaves (instr.Tie p q) a
+    conditional : {r : RawExpr} {first : Box Instr Global} {second : Option (Box Instr Global)} {a : Act}
+        (e : Expr VarId) (b c : Box Act Global)
+        → BecomesBy leaves r e → out-Act a ≡ act.If e b c → ActsAs leaves (out-Instr first.value) b.value
+        → ElseActs leaves second c.value
         → ActsAs leaves (instr.If r first second) a
-    all : {is : Vec Instr Global} {a : Act} (acts : Vec Act Global) → out-Act a ≡ act.All acts → All_act leaves is.items acts.items
+    all : {is : Vec Instr Global} {a : Act} (acts : Vec Act Global) → out-Act a ≡ act.All acts
+        → All_act leaves is.items acts.items
         → ActsAs leaves (instr.All is) a
 
   -- a second branch that is not there does nothing
@@ -60,7 +68,8 @@ mutual
   -- the same of several, one after the other
   pub data All_act (leaves : Path → Leaf) : List Instr → List Act → Type 0 where
     none : All_act leaves [] []
-    one_and : {i : Instr} {is : List Instr} {a : Act} {acts : List Act} → ActsAs leaves (out-Instr i) a → All_act leaves is acts
+    one_and : {i : Instr} {is : List Instr} {a : Act} {acts : List Act} → ActsAs leaves (out-Instr i) a
+        → All_act leaves is acts
         → All_act leaves (i ∷ is) (a ∷ acts)
 
 -- a conditional of this test and these branches

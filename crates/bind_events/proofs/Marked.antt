@@ -23,14 +23,18 @@ use Rattle.bind_events.specs.Hiding.{HidesIn, Marks, AreHidden}
 
 -- Names name one thing
 
-pub one_thing : {m : RootedModel} {u : UnitPath} {start : PathStart} (test : MemberKind → Bool) (names : List ℕ) (t s : Thing)
+pub one_thing : {m : RootedModel} {u : UnitPath} {start : PathStart} (test : MemberKind → Bool) (names : List ℕ)
+    (t s : Thing)
     → IsThingAt m test u start names t → IsThingAt m test u start names s → t ≡ s
 one_thing {m = m} {u = u} {start = start} test names t s p q =
     let e = last_one p.leads.front q.leads.front t.name s.name (sym p.leads.split ∙ q.leads.split) in
-    let w = unit_of_reaches (walks_same (subst (λ (ns : List ℕ). NamesLead m [] (start_of start u) ns (Reaches t.unit)) e.0 p.leads.reaches) q.leads.reaches) in
+    let w = unit_of_reaches (walks_same
+    (subst (λ (ns : List ℕ). NamesLead m [] (start_of start u) ns (Reaches t.unit)) e.0 p.leads.reaches)
+    q.leads.reaches) in
     both t.unit s.unit t.name s.name w e.1
   where
-    both : (v w : UnitPath) (x y : ℕ) → v ≡ w → x ≡ y → ◌≡◌ {A = Thing} (record { unit = v; name = x }) (record { unit = w; name = y })
+    both : (v w : UnitPath) (x y : ℕ) → v ≡ w → x ≡ y
+        → ◌≡◌ {A = Thing} (record { unit = v; name = x }) (record { unit = w; name = y })
     both v w x y e i = cc
 
 -- Marks
@@ -60,10 +64,16 @@ replicate_next n = go n ∙ ap (λ (k : ℕ). replicate k false) (more n)
 module _ (things : List Thing) where
   -- nothing is marked
   pub marks_none : (P : Thing → Type 0) (old : List Bool) → ((t : Thing) → P t → ⊥) → Marks things P old old
-  marks_none P old n = record { same = refl; kept = λ k s. s; set = λ k t l s p. absurd (n t p); only = λ k t s h. inl h }
+  marks_none P old n = record {
+    same = refl;
+    kept = λ k s. s;
+    set = λ k t l s p. absurd (n t p);
+    only = λ k t s h. inl h;
+  }
 
   -- the same by another name
-  pub marks_same : (P Q : Thing → Type 0) (old new : List Bool) → ((t : Thing) → P t → Q t) → ((t : Thing) → Q t → P t) → Marks things P old new → Marks things Q old new
+  pub marks_same : (P Q : Thing → Type 0) (old new : List Bool) → ((t : Thing) → P t → Q t) → ((t : Thing) → Q t → P t)
+      → Marks things P old new → Marks things Q old new
   marks_same P Q old new to from h = record {
     same = h.same;
     kept = h.kept;
@@ -72,7 +82,8 @@ module _ (things : List Thing) where
   }
 
   -- one after the other
-  pub marks_join : (P Q R : Thing → Type 0) (old mid new : List Bool) → ((t : Thing) → P t ⊎ Q t → R t) → ((t : Thing) → R t → P t ⊎ Q t)
+  pub marks_join : (P Q R : Thing → Type 0) (old mid new : List Bool) → ((t : Thing) → P t ⊎ Q t → R t)
+      → ((t : Thing) → R t → P t ⊎ Q t)
       → Marks things P old mid → Marks things Q mid new → Marks things R old new
   marks_join P Q R old mid new to from h k = record {
     same = k.same ∙ h.same;
@@ -88,14 +99,16 @@ module _ (things : List Thing) where
   }
 
   -- one thing is marked
-  pub marks_one : AreDifferent things → (P : Thing → Type 0) (old new : List Bool) (n : ℕ) (t : Thing) → Stands things n t → P t → ((s : Thing) → P s → s ≡ t)
+  pub marks_one : AreDifferent things → (P : Thing → Type 0) (old new : List Bool) (n : ℕ) (t : Thing)
+      → Stands things n t → P t → ((s : Thing) → P s → s ≡ t)
       → new ≡ set old n true → Marks things P old new
   marks_one d P old new n t at p one e = subst (λ (z : List Bool). Marks things P old z) (sym e) (record {
     same = length-set old n true;
     kept = λ k s. set_kept old n k s;
     set = λ k s l st q.
         let j = d.one k n s st (subst (λ (z : Thing). Stands things n z) (sym (one s q)) at) in
-        subst (λ (z : ℕ). Stands (set old n true) z true) (sym j) (set_here old n (subst (λ (z : ℕ). z < length old) j l));
+        subst (λ (z : ℕ). Stands (set old n true) z true) (sym j)
+        (set_here old n (subst (λ (z : ℕ). z < length old) j l));
     only = λ k s st h. elim (stands_set old n true k true h) [
       | inl i ↦ inr (subst P (stands_one things n t s at (subst (λ (z : ℕ). Stands things z s) i.0 st)) p)
       | inr o ↦ inl o
@@ -123,20 +136,23 @@ module _ (m : RootedModel) (u : UnitPath) (t : Thing) where
   pub hides_join : (xs ys : List MemberForm) → HidesIn m u xs t ⊎ HidesIn m u ys t → HidesIn m u (xs ++ ys) t
   hides_join xs ys (inl h) = record {
     path = h.path;
-    is_clause = subst (λ (ps : List Path). IsOneOf ps h.path) (sym (flat_map-append hidden xs ys)) (one_left (flat_map hidden xs) (flat_map hidden ys) h.path h.is_clause);
+    is_clause = subst (λ (ps : List Path). IsOneOf ps h.path) (sym (flat_map-append hidden xs ys))
+        (one_left (flat_map hidden xs) (flat_map hidden ys) h.path h.is_clause);
     names = h.names;
   }
   hides_join xs ys (inr h) = record {
     path = h.path;
-    is_clause = subst (λ (ps : List Path). IsOneOf ps h.path) (sym (flat_map-append hidden xs ys)) (one_right (flat_map hidden xs) (flat_map hidden ys) h.path h.is_clause);
+    is_clause = subst (λ (ps : List Path). IsOneOf ps h.path) (sym (flat_map-append hidden xs ys))
+        (one_right (flat_map hidden xs) (flat_map hidden ys) h.path h.is_clause);
     names = h.names;
   }
 
   pub hides_split : (xs ys : List MemberForm) → HidesIn m u (xs ++ ys) t → HidesIn m u xs t ⊎ HidesIn m u ys t
-  hides_split xs ys h = elim (one_split (flat_map hidden xs) (flat_map hidden ys) h.path (subst (λ (ps : List Path). IsOneOf ps h.path) (flat_map-append hidden xs ys) h.is_clause)) [
-    | inl i ↦ inl (record { path = h.path; is_clause = i; names = h.names })
-    | inr i ↦ inr (record { path = h.path; is_clause = i; names = h.names })
-  ]
+  hides_split xs ys h = elim (one_split (flat_map hidden xs) (flat_map hidden ys) h.path
+      (subst (λ (ps : List Path). IsOneOf ps h.path) (flat_map-append hidden xs ys) h.is_clause)) [
+        | inl i ↦ inl (record { path = h.path; is_clause = i; names = h.names })
+        | inr i ↦ inr (record { path = h.path; is_clause = i; names = h.names })
+      ]
 
 -- Units
 
@@ -152,12 +168,15 @@ module _ (m : RootedModel) (units : List UnitPath) (i : ℕ) (u : UnitPath) (at 
   paths_next =
       let f = λ (v : UnitPath). all_in v (flat_map hidden (forms_at m v)) in
       ap (flat_map f) (take_next units i u at)
-      ∙ (flat_map-append f (take i units) (u ∷ []) ∙ ap (λ (cs : List (In Path)). flat_map f (take i units) ++ cs) (append-nil (f u)))
+      ∙ (flat_map-append f (take i units) (u ∷ [])
+      ∙ ap (λ (cs : List (In Path)). flat_map f (take i units) ++ cs) (append-nil (f u)))
 
-  pub hidden_next : (t : Thing) → IsHidden m (take i units) t ⊎ HidesIn m u (forms_at m u) t → IsHidden m (take (i + 1) units) t
+  pub hidden_next : (t : Thing) → IsHidden m (take i units) t ⊎ HidesIn m u (forms_at m u) t
+      → IsHidden m (take (i + 1) units) t
   hidden_next t (inl h) = record {
     clause = h.clause;
-    is_clause = subst (λ (cs : List (In Path)). IsOneOf cs h.clause) (sym paths_next) (one_left (hidden_paths m (take i units)) of_unit h.clause h.is_clause);
+    is_clause = subst (λ (cs : List (In Path)). IsOneOf cs h.clause) (sym paths_next)
+        (one_left (hidden_paths m (take i units)) of_unit h.clause h.is_clause);
     names = h.names;
   }
   hidden_next t (inr h) =
@@ -165,22 +184,25 @@ module _ (m : RootedModel) (units : List UnitPath) (i : ℕ) (u : UnitPath) (at 
       let s = stands_map (in_this u) (flat_map hidden (forms_at m u)) h.is_clause.place h.path h.is_clause.stands in
       record {
         clause = c;
-        is_clause = subst (λ (cs : List (In Path)). IsOneOf cs c) (sym paths_next) (one_right (hidden_paths m (take i units)) of_unit c (one_here of_unit h.is_clause.place c s));
+        is_clause = subst (λ (cs : List (In Path)). IsOneOf cs c) (sym paths_next)
+            (one_right (hidden_paths m (take i units)) of_unit c (one_here of_unit h.is_clause.place c s));
         names = h.names;
       }
 
-  pub hidden_back : (t : Thing) → IsHidden m (take (i + 1) units) t → IsHidden m (take i units) t ⊎ HidesIn m u (forms_at m u) t
-  hidden_back t h = elim (one_split (hidden_paths m (take i units)) of_unit h.clause (subst (λ (cs : List (In Path)). IsOneOf cs h.clause) paths_next h.is_clause)) [
-    | inl o ↦ inl (record { clause = h.clause; is_clause = o; names = h.names })
-    | inr o ↦
-        let f = in_this u in
-        let w = stands_map_back f (flat_map hidden (forms_at m u)) o.place h.clause o.stands in
-        inr (record {
-          path = w.0;
-          is_clause = one_here (flat_map hidden (forms_at m u)) o.place w.0 w.1;
-          names = subst (λ (c : In Path). Finds m is_event c.unit c.item t) (sym w.2) h.names;
-        })
-  ]
+  pub hidden_back : (t : Thing) → IsHidden m (take (i + 1) units) t
+      → IsHidden m (take i units) t ⊎ HidesIn m u (forms_at m u) t
+  hidden_back t h = elim (one_split (hidden_paths m (take i units)) of_unit h.clause
+      (subst (λ (cs : List (In Path)). IsOneOf cs h.clause) paths_next h.is_clause)) [
+        | inl o ↦ inl (record { clause = h.clause; is_clause = o; names = h.names })
+        | inr o ↦
+            let f = in_this u in
+            let w = stands_map_back f (flat_map hidden (forms_at m u)) o.place h.clause o.stands in
+            inr (record {
+              path = w.0;
+              is_clause = one_here (flat_map hidden (forms_at m u)) o.place w.0 w.1;
+              names = subst (λ (c : In Path). Finds m is_event c.unit c.item t) (sym w.2) h.names;
+            })
+      ]
 
 -- the marks, where none was set before
 module _ (m : RootedModel) (units : List UnitPath) where
@@ -189,13 +211,15 @@ module _ (m : RootedModel) (units : List UnitPath) where
   unset_is (suc k) zero s = cc
   unset_is (suc k) (suc n) s = unset_is k n s
 
-  pub marks_tell : (k : ℕ) (marks : List Bool) → k ≡ length (events m units) → Marks (events m units) (IsHidden m units) (replicate k false) marks → AreHidden m units marks
+  pub marks_tell : (k : ℕ) (marks : List Bool) → k ≡ length (events m units)
+      → Marks (events m units) (IsHidden m units) (replicate k false) marks → AreHidden m units marks
   marks_tell k marks e h = record { tell = tell }
     where
       apart : Some true ≡ Some false → ⊥
       apart q = cc
 
-      tell : (n : ℕ) (t : Thing) (b : Bool) → Stands (events m units) n t → Stands marks n b → IsAnswer b (IsHidden m units t)
+      tell : (n : ℕ) (t : Thing) (b : Bool) → Stands (events m units) n t → Stands marks n b
+          → IsAnswer b (IsHidden m units t)
       tell n t true s is = elim (h.only n t s is) [ inl o ↦ absurd (unset_is k n o) | inr p ↦ p ]
       tell n t false s is = λ p.
           let w = stands_within (events m units) n t s in

@@ -21,4 +21,5 @@ sites_next d sites i s at =
     let f = λ (t : Site). form_of (owned_at d t) in
     let before = map site_of (take i sites) in
     ap (flat_map f) (map_next site_of sites i s at)
-    ∙ (flat_map-append f before (site_of s ∷ []) ∙ ap (λ (fs : List MemberForm). flat_map f before ++ fs) (append-nil (f (site_of s))))
+    ∙ (flat_map-append f before (site_of s ∷ [])
+    ∙ ap (λ (fs : List MemberForm). flat_map f before ++ fs) (append-nil (f (site_of s))))

@@ -41,13 +41,16 @@ module _ {A B : Type 0} {R : A → B → Type 0} where
   pub rows_start : (ys : List B) → ys ≡ [] → Along R [] ys
   rows_start ys e = subst (λ (zs : List B). Along R [] zs) (sym e) l.none
 
-  pub rows_more : (xs : List A) (n : ℕ) (x : A) (y : B) (ys zs : List B) → Stands xs n x → Along R (take n xs) ys → R x y → zs ≡ ys ++ y ∷ [] → Along R (take (n + 1) xs) zs
+  pub rows_more : (xs : List A) (n : ℕ) (x : A) (y : B) (ys zs : List B) → Stands xs n x → Along R (take n xs) ys
+      → R x y → zs ≡ ys ++ y ∷ [] → Along R (take (n + 1) xs) zs
   rows_more xs n x y ys zs s k r e =
       subst (λ (ws : List B). Along R (take (n + 1) xs) ws) (sym e)
-      (subst (λ (ws : List A). Along R ws (ys ++ y ∷ [])) (sym (take_next xs n x s)) (along_append _ _ _ _ k (l.one_and r l.none)))
+      (subst (λ (ws : List A). Along R ws (ys ++ y ∷ [])) (sym (take_next xs n x s))
+      (along_append _ _ _ _ k (l.one_and r l.none)))
 
   -- by the index and the item of a loop
-  pub rows_next : (xs : List A) (n : ℕ) (x : A) (y : B) (ys zs : List B) → n < length xs → x ≡ get_or xs n x → Along R (take n xs) ys → R x y → zs ≡ ys ++ y ∷ []
+  pub rows_next : (xs : List A) (n : ℕ) (x : A) (y : B) (ys zs : List B) → n < length xs → x ≡ get_or xs n x
+      → Along R (take n xs) ys → R x y → zs ≡ ys ++ y ∷ []
       → Along R (take (n + 1) xs) zs
   rows_next xs n x y ys zs h i k r e = rows_more xs n x y ys zs (item_stands xs n x h i) k r e
 
@@ -57,12 +60,17 @@ module _ {A B : Type 0} {R : A → B → Type 0} where
 -- Members
 
 module _ (m : RootedModel) (units : List UnitPath) (tree : Tree) (u : UnitPath) where
-  pub bound_local : (x : NameId) (at : Place) (guard : RawExpr) (action : Instr) (test : Expr VarId) (act : Act) → IsBoundExpression m units u guard test → IsTypedIn tree test Truth
-      → IsBoundInstruction m units u (out-Instr action) act → IsSoundIn tree true (out-Act act) → IsBoundWay m units tree u (member.Local x at guard action) (Local test act)
+  pub bound_local : (x : NameId) (at : Place) (guard : RawExpr) (action : Instr) (test : Expr VarId) (act : Act)
+      → IsBoundExpression m units u guard test → IsTypedIn tree test Truth
+      → IsBoundInstruction m units u (out-Instr action) act → IsSoundIn tree true (out-Act act)
+      → IsBoundWay m units tree u (member.Local x at guard action) (Local test act)
   bound_local x at guard action test act e typed i sound = record {
     meaning = One (record { guard = e.meaning; action = assigns_of i.placed });
     is = is.local e.means i.sets;
-    numbers = transitions (record { guard = source_numbered (variables m units) e.meaning test e.numbers; action = i.numbers });
+    numbers = transitions (record {
+      guard = source_numbered (variables m units) e.meaning test e.numbers;
+      action = i.numbers;
+    });
     place = has.local;
     sound = (typed, sound);
   }
@@ -73,15 +81,21 @@ module _ (m : RootedModel) (units : List UnitPath) (tree : Tree) (u : UnitPath) 
     pub are : Along (IsPart m u) parts named
     pub numbers : Along (Part_renames (λ x n. Stands (events m units) n x)) named (map event_part_of bound)
 
-  parted : (parts : List Part) (bound : List (Bool × EventId)) → Along (IsBoundPart m units u) parts bound → Parted parts bound
+  parted : (parts : List Part) (bound : List (Bool × EventId)) → Along (IsBoundPart m units u) parts bound
+      → Parted parts bound
   parted [] (b ∷ bs) h = elim h [ ]
   parted (p ∷ ps) [] h = elim h [ ]
   parted [] [] l.none = record { named = []; are = l.none; numbers = l.none }
   parted (p ∷ ps) (b ∷ bs) (l.one_and h r) =
       let w = parted ps bs r in
-      record { named = (b.0, h.event) ∷ w.named; are = l.one_and h.is w.are; numbers = l.one_and (record { must = refl; key = h.number }) w.numbers }
+      record {
+        named = (b.0, h.event) ∷ w.named;
+        are = l.one_and h.is w.are;
+        numbers = l.one_and (record { must = refl; key = h.number }) w.numbers;
+      }
 
-  pub bound_sync : (x : NameId) (at : Place) (parts : Vec Part Global) (bound : Vec (Bool × EventId) Global) → IsTreeOf m units tree → Along (IsBoundPart m units u) parts.items bound.items
+  pub bound_sync : (x : NameId) (at : Place) (parts : Vec Part Global) (bound : Vec (Bool × EventId) Global)
+      → IsTreeOf m units tree → Along (IsBoundPart m units u) parts.items bound.items
       → IsBoundWay m units tree u (member.Sync x at parts) (Sync bound at)
   bound_sync x at parts bound t h =
       let w = parted parts.items bound.items h in

@@ -28,10 +28,12 @@ module _ (m : RootedModel) (units : List UnitPath) (tree : Tree) where
   record AreMeant (u : UnitPath) (forms : List MemberForm) (ways : List DeclaredWay) : Type 0 where
     pub meanings : List (Member (Transition Thing) Thing)
     pub are : Along (IsMember m u) forms meanings
-    pub numbers : Along (Member_renames (λ x n. Stands (variables m units) n x) (λ x n. Stands (events m units) n x)) meanings (map member_of ways)
+    pub numbers : Along (Member_renames (λ x n. Stands (variables m units) n x) (λ x n. Stands (events m units) n x))
+        meanings (map member_of ways)
     pub places : Along HasPlace forms ways
 
-  meant : (u : UnitPath) (forms : List MemberForm) (ways : List DeclaredWay) → Along (IsBoundWay m units tree u) forms ways → AreMeant u forms ways
+  meant : (u : UnitPath) (forms : List MemberForm) (ways : List DeclaredWay)
+      → Along (IsBoundWay m units tree u) forms ways → AreMeant u forms ways
   meant u [] (w ∷ ws) h = elim h [ ]
   meant u (f ∷ fs) [] h = elim h [ ]
   meant u [] [] l.none = record { meanings = []; are = l.none; numbers = l.none; places = l.none }
@@ -45,8 +47,10 @@ module _ (m : RootedModel) (units : List UnitPath) (tree : Tree) where
       }
 
   -- the event, by its parts
-  pub bound_event : (t : Thing) (e : DeclaredEvent) → IsTreeOf m units tree → Stands units e.unit.n t.unit → e.path ≡ thing_path m t → IsAnswer e.hidden (IsHidden m units t)
-      → Along (IsBoundWay m units tree t.unit) (ways_declared m t) e.ways.items → length e.ways.items < 2 ^ 32 → IsBoundEvent m units tree t e
+  pub bound_event : (t : Thing) (e : DeclaredEvent) → IsTreeOf m units tree → Stands units e.unit.n t.unit
+      → e.path ≡ thing_path m t → IsAnswer e.hidden (IsHidden m units t)
+      → Along (IsBoundWay m units tree t.unit) (ways_declared m t) e.ways.items → length e.ways.items < 2 ^ 32
+      → IsBoundEvent m units tree t e
   bound_event t e is at path told ways few = record {
     meaning = record { key = t; unit = e.unit.n; hidden = e.hidden; members = k.meanings };
     is = record { key = refl; unit = at; hidden = told; members = k.are };

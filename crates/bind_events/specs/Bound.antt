@@ -26,18 +26,23 @@ use Rattle.bind_forms.specs.Typed.{IsTypedIn, IsSoundIn}
 pub record IsSoundEvent (tree : Tree) (e : DeclaredEvent) : Type 0 where
   pub unit : e.unit.n < length tree.units.items
   pub few : length e.ways.items < 2 ^ 32
-  pub guards : (guard : Expr VarId) (action : Act) → IsOneOf e.ways.items (Local guard action) → IsTypedIn tree guard Truth
-  pub actions : (guard : Expr VarId) (action : Act) → IsOneOf e.ways.items (Local guard action) → IsSoundIn tree true (out-Act action)
-  pub parts : (parts : Vec (Bool × EventId) Global) (at : Place) (part : Bool × EventId) → IsOneOf e.ways.items (Sync parts at)
+  pub guards : (guard : Expr VarId) (action : Act) → IsOneOf e.ways.items (Local guard action)
+      → IsTypedIn tree guard Truth
+  pub actions : (guard : Expr VarId) (action : Act) → IsOneOf e.ways.items (Local guard action)
+      → IsSoundIn tree true (out-Act action)
+  pub parts : (parts : Vec (Bool × EventId) Global) (at : Place) (part : Bool × EventId)
+      → IsOneOf e.ways.items (Sync parts at)
       → IsOneOf parts.items part → part.1.n < length tree.events.items
 
 -- the declared event is that of the tree, with numbers for things
-pub record IsBoundEvent (m : RootedModel) (units : List UnitPath) (tree : Tree) (t : Thing) (e : DeclaredEvent) : Type 0 where
+pub record IsBoundEvent (m : RootedModel) (units : List UnitPath) (tree : Tree) (t : Thing) (e : DeclaredEvent) : Type
+    0 where
   pub meaning : Declared (Transition Thing) Thing
   pub is : IsEvent m units t meaning
   pub unit : meaning.unit ≡ e.unit.n
   pub hidden : meaning.hidden ≡ e.hidden
-  pub members : Along (Member_renames (λ x n. Stands (variables m units) n x) (λ x n. Stands (events m units) n x)) meaning.members
+  pub members : Along (Member_renames (λ x n. Stands (variables m units) n x) (λ x n. Stands (events m units) n x))
+      meaning.members
       (map member_of e.ways.items)
   pub path : e.path ≡ thing_path m t
   pub places : Along HasPlace (ways_declared m t) e.ways.items

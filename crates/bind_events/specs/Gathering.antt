@@ -15,7 +15,8 @@ use Rattle.hierarchy.specs.declared.tree.Tree.{Tree}
 use Rattle.source_meaning.specs.Systems.{IsHidden}
 use Rattle.bind_events.specs.Ways.{IsBoundWay}
 
--- the answer is the name of the event of which the member is a transition or a synchronisation, and none where it is neither
+-- the answer is the name of the event of which the member is a transition or a synchronisation, and none where it is
+-- neither
 abbrev pub NamesEvent : MemberForm → Option NameId → Type 0
 NamesEvent f None = (x : ℕ) → is_way_of x f ≡ false
 NamesEvent f (Some y) = (x : ℕ) → is_way_of x f ≡ (y.n == x)
@@ -27,13 +28,15 @@ pub record IsHead (m : RootedModel) (units : List UnitPath) (t : Thing) (e : Dec
   pub hidden : IsAnswer e.hidden (IsHidden m units t)
 
 -- the same, and its ways are those that these members of its unit are
-pub record HasWays (m : RootedModel) (units : List UnitPath) (tree : Tree) (forms : List MemberForm) (t : Thing) (e : DeclaredEvent) : Type 0 where
+pub record HasWays (m : RootedModel) (units : List UnitPath) (tree : Tree) (forms : List MemberForm) (t : Thing)
+    (e : DeclaredEvent) : Type 0 where
   pub head : IsHead m units t e
   pub few : length e.ways.items < 2 ^ 32
   pub ways : Along (IsBoundWay m units tree t.unit) (filter (is_way_of t.name) forms) e.ways.items
 
 -- event n of these is that of the thing, with the ways that these members are
-pub record HasWaysAt (m : RootedModel) (units : List UnitPath) (tree : Tree) (list : List DeclaredEvent) (n : ℕ) (t : Thing) (forms : List MemberForm) : Type 0 where
+pub record HasWaysAt (m : RootedModel) (units : List UnitPath) (tree : Tree) (list : List DeclaredEvent) (n : ℕ)
+    (t : Thing) (forms : List MemberForm) : Type 0 where
   pub event : DeclaredEvent
   pub stands : Stands list n event
   pub has : HasWays m units tree forms t event
@@ -48,9 +51,12 @@ pub record PutsWay (n : ℕ) (w : DeclaredWay) (old new : List DeclaredEvent) : 
   pub new_is : new ≡ set old n (record event { ways = ways })
 
 -- the ways that these members of the unit u are were added to the events of u, and nothing to others
-pub record AddsMembers (m : RootedModel) (units : List UnitPath) (tree : Tree) (u : UnitPath) (forms : List MemberForm) (old new : List DeclaredEvent) : Type 0 where
+pub record AddsMembers (m : RootedModel) (units : List UnitPath) (tree : Tree) (u : UnitPath) (forms : List MemberForm)
+    (old new : List DeclaredEvent) : Type 0 where
   pub same : length new ≡ length old
-  pub added : (n : ℕ) (t : Thing) (before : List MemberForm) → Stands (events m units) n t → t.unit ≡ u → HasWaysAt m units tree old n t before
+  pub added : (n : ℕ) (t : Thing) (before : List MemberForm) → Stands (events m units) n t → t.unit ≡ u
+      → HasWaysAt m units tree old n t before
       → HasWaysAt m units tree new n t (before ++ forms)
-  pub kept : (n : ℕ) (t : Thing) (before : List MemberForm) → Stands (events m units) n t → (t.unit ≡ u → ⊥) → HasWaysAt m units tree old n t before
+  pub kept : (n : ℕ) (t : Thing) (before : List MemberForm) → Stands (events m units) n t → (t.unit ≡ u → ⊥)
+      → HasWaysAt m units tree old n t before
       → HasWaysAt m units tree new n t before

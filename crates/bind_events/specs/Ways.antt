@@ -21,7 +21,8 @@ use Rattle.source_meaning.specs.Systems.{IsMember, IsPart}
 use Rattle.bind_forms.specs.Typed.{IsTypedIn, IsSoundIn}
 
 -- the bound part has the mark of the written one, and the number of the event that it names
-pub record IsBoundPart (m : RootedModel) (units : List UnitPath) (u : UnitPath) (part : Part) (p : Bool × EventId) : Type 0 where
+pub record IsBoundPart (m : RootedModel) (units : List UnitPath) (u : UnitPath) (part : Part)
+    (p : Bool × EventId) : Type 0 where
   pub event : Thing
   pub is : IsPart m u part (p.0, event)
   pub number : Stands (events m units) p.1.n event
@@ -29,13 +30,16 @@ pub record IsBoundPart (m : RootedModel) (units : List UnitPath) (u : UnitPath) 
 -- the way is sound over the variables and events of the tree
 abbrev pub IsSoundWay : Tree → DeclaredWay → Type 0
 IsSoundWay tree (Local guard action) = IsTypedIn tree guard Truth × IsSoundIn tree true (out-Act action)
-IsSoundWay tree (Sync parts at) = (part : Bool × EventId) → IsOneOf parts.items part → part.1.n < length tree.events.items
+IsSoundWay tree (Sync parts at) = (part : Bool × EventId) → IsOneOf parts.items part
+    → part.1.n < length tree.events.items
 
 -- the bound way is the member of the unit u, with numbers for things
-pub record IsBoundWay (m : RootedModel) (units : List UnitPath) (tree : Tree) (u : UnitPath) (f : MemberForm) (w : DeclaredWay) : Type 0 where
+pub record IsBoundWay (m : RootedModel) (units : List UnitPath) (tree : Tree) (u : UnitPath) (f : MemberForm)
+    (w : DeclaredWay) : Type 0 where
   pub meaning : Member (Transition Thing) Thing
   pub is : IsMember m u f meaning
-  pub numbers : Member_renames (λ x n. Stands (variables m units) n x) (λ x n. Stands (events m units) n x) meaning (member_of w)
+  pub numbers : Member_renames (λ x n. Stands (variables m units) n x) (λ x n. Stands (events m units) n x) meaning
+      (member_of w)
   pub place : HasPlace f w
   pub sound : IsSoundWay tree w
 

@@ -25,7 +25,8 @@ module _ (P : Operand → Place → Type 0) where
         | inr n ↦ absurd (one_none a.operand n)
       ]
 
-  pub both_among : (xs ys : List Operand) (f g r : Option Place) → IsEarliest (Among P xs) f → IsEarliest (Among P ys) g → IsEarlierOf f g r
+  pub both_among : (xs ys : List Operand) (f g r : Option Place) → IsEarliest (Among P xs) f → IsEarliest (Among P ys) g
+      → IsEarlierOf f g r
       → IsEarliest (Among P (xs ++ ys)) r
   both_among xs ys f g r h k e = earliest_same r to from (earliest_both f g r h k e)
     where
@@ -40,13 +41,18 @@ module _ (P : Operand → Place → Type 0) where
       ]
 
   -- two operands
-  pub two_among : (o q : Operand) (f g r : Option Place) → IsEarliest (P o) f → IsEarliest (P q) g → IsEarlierOf f g r → IsEarliest (Among P (o ∷ q ∷ [])) r
+  pub two_among : (o q : Operand) (f g r : Option Place) → IsEarliest (P o) f → IsEarliest (P q) g → IsEarlierOf f g r
+      → IsEarliest (Among P (o ∷ q ∷ [])) r
   two_among o q f g r h k e = both_among (o ∷ []) (q ∷ []) f g r (one_among o f h) (one_among q g k) e
 
   -- operands by the items of a list, one for each
   module _ {A : Type 0} (f : A → Operand) (xs : List A) where
     pub mapped_to : (k : ℕ) (a : A) (p : Place) → Stands xs k a → P (f a) p → Among P (map f xs) p
-    mapped_to k a p s h = record { operand = f a; is_operand = one_here (map f xs) k (f a) (stands_map f xs k a s); has = h }
+    mapped_to k a p s h = record {
+      operand = f a;
+      is_operand = one_here (map f xs) k (f a) (stands_map f xs k a s);
+      has = h;
+    }
 
     pub mapped_back : (p : Place) → Among P (map f xs) p → (k : ℕ) × AtItem xs (λ (k : ℕ) (a : A). P (f a)) k p
     mapped_back p a =
@@ -55,7 +61,8 @@ module _ (P : Operand → Place → Type 0) where
 
   -- operands by the items of a list, two for each
   module _ {A : Type 0} (f g : A → Operand) (xs : List A) where
-    pub paired_to : (k : ℕ) (a : A) (p : Place) → Stands xs k a → P (f a) p ⊎ P (g a) p → Among P (map f xs ++ map g xs) p
+    pub paired_to : (k : ℕ) (a : A) (p : Place) → Stands xs k a → P (f a) p ⊎ P (g a) p
+        → Among P (map f xs ++ map g xs) p
     paired_to k a p s (inl h) =
         let m = mapped_to f xs k a p s h in
         record { operand = m.operand; is_operand = one_left (map f xs) (map g xs) m.operand m.is_operand; has = m.has }
@@ -63,7 +70,8 @@ module _ (P : Operand → Place → Type 0) where
         let m = mapped_to g xs k a p s h in
         record { operand = m.operand; is_operand = one_right (map f xs) (map g xs) m.operand m.is_operand; has = m.has }
 
-    pub paired_back : (p : Place) → Among P (map f xs ++ map g xs) p → (k : ℕ) × AtItem xs (λ (k : ℕ) (a : A) (p : Place). P (f a) p ⊎ P (g a) p) k p
+    pub paired_back : (p : Place) → Among P (map f xs ++ map g xs) p
+        → (k : ℕ) × AtItem xs (λ (k : ℕ) (a : A) (p : Place). P (f a) p ⊎ P (g a) p) k p
     paired_back p a = elim (one_split (map f xs) (map g xs) a.operand a.is_operand) [
       | inl i ↦
           let m = mapped_back f xs p (record { operand = a.operand; is_operand = i; has = a.has }) in

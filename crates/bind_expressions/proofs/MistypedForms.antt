@@ -41,21 +41,27 @@ module _ (kinds : Path → Option ValueKind) where
   place_of d e p (wrong.another k want h w n i) = i
   place_of d e p (wrong.real h i) = i
 
-  pub wrong_real : (d : Demand) (e : RawExpr) → level_of e ≡ raw.Real → IsEarliest (IsWrongItself (Names kinds) d e) (Some e.at)
+  pub wrong_real : (d : Demand) (e : RawExpr) → level_of e ≡ raw.Real
+      → IsEarliest (IsWrongItself (Names kinds) d e) (Some e.at)
   wrong_real d e i = there (wrong.real i refl) (λ p b w. not_before p e.at b (place_of d e p w))
 
-  two_wrong : (e : RawExpr) (found want : Option ValueKind) → IsFormOf (Names kinds) (level_of e) found → AreTwo found want → IsWrongItself (Names kinds) (demanding want) e e.at
+  two_wrong : (e : RawExpr) (found want : Option ValueKind) → IsFormOf (Names kinds) (level_of e) found
+      → AreTwo found want → IsWrongItself (Names kinds) (demanding want) e e.at
   two_wrong e found want h (two {j = j} {k = k} n) = wrong.another j k h this n refl
 
-  pub wrong_kind : (e : RawExpr) (found want : Option ValueKind) → IsFormOf (Names kinds) (level_of e) found → AreTwo found want
+  pub wrong_kind : (e : RawExpr) (found want : Option ValueKind) → IsFormOf (Names kinds) (level_of e) found
+      → AreTwo found want
       → IsEarliest (IsWrongItself (Names kinds) (demanding want) e) (Some e.at)
-  wrong_kind e found want h t = there (two_wrong e found want h t) (λ p b w. not_before p e.at b (place_of (demanding want) e p w))
+  wrong_kind e found want h t = there (two_wrong e found want h t)
+      (λ p b w. not_before p e.at b (place_of (demanding want) e p w))
 
-  pub right_kind : (e : RawExpr) (found want : Option ValueKind) → (level_of e ≡ raw.Real → ⊥) → IsFormOf (Names kinds) (level_of e) found → (AreTwo found want → ⊥)
+  pub right_kind : (e : RawExpr) (found want : Option ValueKind) → (level_of e ≡ raw.Real → ⊥)
+      → IsFormOf (Names kinds) (level_of e) found → (AreTwo found want → ⊥)
       → IsEarliest (IsWrongItself (Names kinds) (demanding want) e) None
   right_kind e found want r h n = nowhere none
     where
-      differs : (found : Option ValueKind) (k j : ValueKind) → IsFormOf (Names kinds) (level_of e) found → HasForm (Names kinds) (level_of e) k → (k ≡ j → ⊥) → AreTwo found (Some j)
+      differs : (found : Option ValueKind) (k j : ValueKind) → IsFormOf (Names kinds) (level_of e) found
+          → HasForm (Names kinds) (level_of e) k → (k ≡ j → ⊥) → AreTwo found (Some j)
       differs None k j h g d = absurd (h k g)
       differs (Some i) k j h g d = two (λ q. d (one_of g h ∙ q))
 
@@ -65,74 +71,94 @@ module _ (kinds : Path → Option ValueKind) where
 
   -- The expression with its operands
 
-  pub wrong_both : (d : Demand) (e : RawExpr) (l : RawLevel) (f g r : Option Place) → level_of e ≡ l → IsEarliest (IsWrongItself (Names kinds) d e) f
-      → IsEarliest (Among (MistypedOperand (Names kinds)) (operands_of l)) g → IsEarlierOf f g r → IsEarliest (IsMistyped (Names kinds) d e) r
+  pub wrong_both : (d : Demand) (e : RawExpr) (l : RawLevel) (f g r : Option Place) → level_of e ≡ l
+      → IsEarliest (IsWrongItself (Names kinds) d e) f
+      → IsEarliest (Among (MistypedOperand (Names kinds)) (operands_of l)) g → IsEarlierOf f g r
+      → IsEarliest (IsMistyped (Names kinds) d e) r
   wrong_both d e l f g r i h k o = earliest_same r to from (earliest_both f g r h k o)
     where
       here : (p : Place) → p ≡ e.at → IsMistyped (Names kinds) d e e.at → IsMistyped (Names kinds) d e p
       here p q m = subst (λ (z : Place). IsMistyped (Names kinds) d e z) (sym q) m
 
-      to : (p : Place) → IsWrongItself (Names kinds) d e p ⊎ Among (MistypedOperand (Names kinds)) (operands_of l) p → IsMistyped (Names kinds) d e p
+      to : (p : Place) → IsWrongItself (Names kinds) d e p ⊎ Among (MistypedOperand (Names kinds)) (operands_of l) p
+          → IsMistyped (Names kinds) d e p
       to p (inl (wrong.another k want h w n q)) = here p q (wrong.itself k want h w n)
       to p (inl (wrong.real h q)) = here p q (wrong.real h)
-      to p (inr a) = wrong.inside a.operand (subst (λ (z : RawLevel). IsOneOf (operands_of z) a.operand) (sym i) a.is_operand) a.has
+      to p (inr a) = wrong.inside a.operand
+          (subst (λ (z : RawLevel). IsOneOf (operands_of z) a.operand) (sym i) a.is_operand) a.has
 
-      from : (p : Place) → IsMistyped (Names kinds) d e p → IsWrongItself (Names kinds) d e p ⊎ Among (MistypedOperand (Names kinds)) (operands_of l) p
+      from : (p : Place) → IsMistyped (Names kinds) d e p
+          → IsWrongItself (Names kinds) d e p ⊎ Among (MistypedOperand (Names kinds)) (operands_of l) p
       from p (wrong.itself k want h w n) = inl (wrong.another k want h w n refl)
       from p (wrong.real h) = inl (wrong.real h refl)
       from p (wrong.inside o q h) =
           inr (record { operand = o; is_operand = subst (λ (z : RawLevel). IsOneOf (operands_of z) o) i q; has = h })
 
   -- a form without operands
-  pub wrong_leaf : (d : Demand) (e : RawExpr) (l : RawLevel) (f : Option Place) → level_of e ≡ l → operands_of l ≡ [] → IsEarliest (IsWrongItself (Names kinds) d e) f
+  pub wrong_leaf : (d : Demand) (e : RawExpr) (l : RawLevel) (f : Option Place) → level_of e ≡ l → operands_of l ≡ []
+      → IsEarliest (IsWrongItself (Names kinds) d e) f
       → IsEarliest (IsMistyped (Names kinds) d e) f
   wrong_leaf d e l f i n h =
       wrong_both d e l f None f i h
-      (subst (λ (os : List Operand). IsEarliest (Among (MistypedOperand (Names kinds)) os) None) (sym n) (none_among (MistypedOperand (Names kinds)))) (only_first f)
+      (subst (λ (os : List Operand). IsEarliest (Among (MistypedOperand (Names kinds)) os) None) (sym n)
+      (none_among (MistypedOperand (Names kinds)))) (only_first f)
 
   -- Operands
 
   -- an operand of which the kind of another expression is wanted, by that kind
-  pub wrong_like : (first e : RawExpr) (found : Option ValueKind) (f : Option Place) → IsFormOf (Names kinds) (level_of first) found → IsEarliest (IsMistyped (Names kinds) (demanding found) e) f
+  pub wrong_like : (first e : RawExpr) (found : Option ValueKind) (f : Option Place)
+      → IsFormOf (Names kinds) (level_of first) found → IsEarliest (IsMistyped (Names kinds) (demanding found) e) f
       → IsEarliest (IsMistyped (Names kinds) (Like first) e) f
   wrong_like first e found f h = earliest_same f (to found h) (from found h)
     where
-      to : (found : Option ValueKind) → IsFormOf (Names kinds) (level_of first) found → (p : Place) → IsMistyped (Names kinds) (demanding found) e p → IsMistyped (Names kinds) (Like first) e p
+      to : (found : Option ValueKind) → IsFormOf (Names kinds) (level_of first) found → (p : Place)
+          → IsMistyped (Names kinds) (demanding found) e p → IsMistyped (Names kinds) (Like first) e p
       to None h p (wrong.itself k want g w n) = absurd (no_any w)
       to (Some j) h p (wrong.itself k want g w n) =
-          wrong.itself k want g (that_of (subst (λ (z : ValueKind). HasForm (Names kinds) (level_of first) z) (of_kind w) h)) n
+          wrong.itself k want g (that_of (subst (λ (z : ValueKind). HasForm (Names kinds) (level_of first) z)
+          (of_kind w) h)) n
       to found h p (wrong.real i) = wrong.real i
       to found h p (wrong.inside o i m) = wrong.inside o i m
 
       that : {k : ValueKind} → IsWanted (Names kinds) (Like first) k → HasForm (Names kinds) (level_of first) k
       that (that_of g) = g
 
-      from : (found : Option ValueKind) → IsFormOf (Names kinds) (level_of first) found → (p : Place) → IsMistyped (Names kinds) (Like first) e p → IsMistyped (Names kinds) (demanding found) e p
+      from : (found : Option ValueKind) → IsFormOf (Names kinds) (level_of first) found → (p : Place)
+          → IsMistyped (Names kinds) (Like first) e p → IsMistyped (Names kinds) (demanding found) e p
       from None h p (wrong.itself k want g w n) = absurd (h want (that w))
       from (Some j) h p (wrong.itself k want g w n) =
-          wrong.itself k want g (subst (λ (z : ValueKind). IsWanted (Names kinds) (OfKind j) z) (one_of h (that w)) this) n
+          wrong.itself k want g (subst (λ (z : ValueKind). IsWanted (Names kinds) (OfKind j) z) (one_of h (that w))
+          this) n
       from found h p (wrong.real i) = wrong.real i
       from found h p (wrong.inside o i m) = wrong.inside o i m
 
   -- the sides of a comparison
-  pub wrong_sides : (equal : Bool) (a b : RawExpr) (want : Option ValueKind × Option ValueKind) (f g r : Option Place) → AreWanted (Names kinds) equal (level_of a) want
-      → IsEarliest (IsMistyped (Names kinds) (demanding want.0) a) f → IsEarliest (IsMistyped (Names kinds) (demanding want.1) b) g → IsEarlierOf f g r
+  pub wrong_sides : (equal : Bool) (a b : RawExpr) (want : Option ValueKind × Option ValueKind) (f g r : Option Place)
+      → AreWanted (Names kinds) equal (level_of a) want
+      → IsEarliest (IsMistyped (Names kinds) (demanding want.0) a) f
+      → IsEarliest (IsMistyped (Names kinds) (demanding want.1) b) g → IsEarlierOf f g r
       → IsEarliest (Among (MistypedOperand (Names kinds)) (sides_by equal a b)) r
   wrong_sides true a b want f g r w h k o =
       two_among (MistypedOperand (Names kinds)) (wanting AnyKind a) (wanting (Like a) b) f g r
-      (subst (λ (z : Option ValueKind). IsEarliest (IsMistyped (Names kinds) (demanding z) a) f) w.0 h) (wrong_like a b want.1 g w.1 k) o
+      (subst (λ (z : Option ValueKind). IsEarliest (IsMistyped (Names kinds) (demanding z) a) f) w.0 h)
+      (wrong_like a b want.1 g w.1 k) o
   wrong_sides false a b want f g r w h k o =
       two_among (MistypedOperand (Names kinds)) (wanting (OfKind Whole) a) (wanting (OfKind Whole) b) f g r
       (subst (λ (z : Option ValueKind). IsEarliest (IsMistyped (Names kinds) (demanding z) a) f) w.0 h)
       (subst (λ (z : Option ValueKind). IsEarliest (IsMistyped (Names kinds) (demanding z) b) g) w.1 k) o
 
   -- the operands of a choice
-  pub wrong_choices : (e : RawExpr) (cases : Vec (RawExpr × RawExpr) Global) (other : Box RawExpr Global) (found : Option ValueKind) (f g r : Option Place)
+  pub wrong_choices : (e : RawExpr) (cases : Vec (RawExpr × RawExpr) Global) (other : Box RawExpr Global)
+      (found : Option ValueKind) (f g r : Option Place)
       → level_of e ≡ raw.Choose cases other → IsFormOf (Names kinds) (level_of e) found
-      → ((first : RawExpr) → IsFormOf (Names kinds) (level_of first) found → IsEarliest (Among (MistypedOperand (Names kinds)) (tests cases.items ++ branches first cases.items)) f)
-      → IsEarliest (IsMistyped (Names kinds) (demanding found) other.value) g → IsEarlierOf f g r → IsEarliest (Among (MistypedOperand (Names kinds)) (choices cases.items other.value)) r
+      → ((first : RawExpr) → IsFormOf (Names kinds) (level_of first) found
+      → IsEarliest (Among (MistypedOperand (Names kinds)) (tests cases.items ++ branches first cases.items)) f)
+      → IsEarliest (IsMistyped (Names kinds) (demanding found) other.value) g → IsEarlierOf f g r
+      → IsEarliest (Among (MistypedOperand (Names kinds)) (choices cases.items other.value)) r
   wrong_choices e cases other found f g r i k h m o =
       let first = first_branch cases.items other.value in
       let kind = first_of_choice (Names kinds) e cases other found i k in
-      both_among (MistypedOperand (Names kinds)) (tests cases.items ++ branches first cases.items) (wanting (Like first) other.value ∷ []) f g r (h first kind)
-      (one_among (MistypedOperand (Names kinds)) (wanting (Like first) other.value) g (wrong_like first other.value found g kind m)) o
+      both_among (MistypedOperand (Names kinds)) (tests cases.items ++ branches first cases.items)
+      (wanting (Like first) other.value ∷ []) f g r (h first kind)
+      (one_among (MistypedOperand (Names kinds)) (wanting (Like first) other.value) g
+      (wrong_like first other.value found g kind m)) o

@@ -26,7 +26,8 @@ own_kind (raw.Greatest es) = Some Whole
 own_kind (raw.Count es) = Some Whole
 own_kind (raw.Choose cases other) = None
 
--- the kind of an expression by its form, where paths name things of these kinds; a choice has the kind of its first branch
+-- the kind of an expression by its form, where paths name things of these kinds; a choice has the kind of its first
+-- branch
 pub data HasForm (names : Path → ValueKind → Type 0) : RawLevel → ValueKind → Type 0 where
   own : {l : RawLevel} {k : ValueKind} → own_kind l ≡ Some k → HasForm names l k
   path : {p : Path} {k : ValueKind} → names p k → HasForm names (raw.Path p) k

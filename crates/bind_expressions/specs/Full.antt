@@ -24,4 +24,5 @@ HasOperands (raw.Choose cases other) = 0 < length cases.items
 
 -- no list of operands in the expression is empty
 pub data IsFull : RawLevel → Type 0 where
-  full : {l : RawLevel} → HasOperands l → ((o : Operand) → IsOneOf (operands_of l) o → IsFull (level_of o.written)) → IsFull l
+  full : {l : RawLevel} → HasOperands l → ((o : Operand) → IsOneOf (operands_of l) o → IsFull (level_of o.written))
+      → IsFull l

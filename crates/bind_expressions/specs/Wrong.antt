@@ -26,9 +26,11 @@ pub data IsWanted (names : Path → ValueKind → Type 0) : Demand → ValueKind
   this : {k : ValueKind} → IsWanted names (OfKind k) k
   that_of : {e : RawExpr} {k : ValueKind} → HasForm names (level_of e) k → IsWanted names (Like e) k
 
--- the expression, of which this is wanted, has another kind, or it is a real, or one in it has a wrong kind; that one stands here
+-- the expression, of which this is wanted, has another kind, or it is a real, or one in it has a wrong kind; that one
+-- stands here
 pub data IsMistyped (names : Path → ValueKind → Type 0) : Demand → RawExpr → Place → Type 0 where
-  itself : {d : Demand} {e : RawExpr} (k want : ValueKind) → HasForm names (level_of e) k → IsWanted names d want → (k ≡ want → ⊥)
+  itself : {d : Demand} {e : RawExpr} (k want : ValueKind) → HasForm names (level_of e) k → IsWanted names d want
+      → (k ≡ want → ⊥)
       → IsMistyped names d e e.at
   real : {d : Demand} {e : RawExpr} → level_of e ≡ raw.Real → IsMistyped names d e e.at
   inside : {d : Demand} {e : RawExpr} {at : Place} (o : Operand) → IsOneOf (operands_of (level_of e)) o
@@ -58,7 +60,8 @@ AreWanted names false a kinds = (kinds.0 ≡ Some Whole) × (kinds.1 ≡ Some Wh
 
 -- the expression itself has another kind than is wanted of it, or it is a real
 pub data IsWrongItself (names : Path → ValueKind → Type 0) (d : Demand) (e : RawExpr) (at : Place) : Type 0 where
-  another : (k want : ValueKind) → HasForm names (level_of e) k → IsWanted names d want → (k ≡ want → ⊥) → at ≡ e.at → IsWrongItself names d e at
+  another : (k want : ValueKind) → HasForm names (level_of e) k → IsWanted names d want → (k ≡ want → ⊥) → at ≡ e.at
+      → IsWrongItself names d e at
   real : level_of e ≡ raw.Real → at ≡ e.at → IsWrongItself names d e at
 
 -- Operands

@@ -50,35 +50,43 @@ use Rattle.bind_forms.specs.Typed.{kind_of_node, IsSymbolIn}
 
 -- symbols in domains are those of the model
 module _ (m : RootedModel) (tree : Tree) (same : length m.declared.symbols ≡ length tree.classes.symbols.items) where
-  within : (names : List (NameId × Place)) (numbers : List ℕ) → Along (λ (n : NameId × Place) (k : ℕ). Stands m.declared.symbols k n.0.n) names numbers → (k : ℕ) → IsOneOf numbers k
+  within : (names : List (NameId × Place)) (numbers : List ℕ)
+      → Along (λ (n : NameId × Place) (k : ℕ). Stands m.declared.symbols k n.0.n) names numbers → (k : ℕ)
+      → IsOneOf numbers k
       → k < length tree.classes.symbols.items
   within names numbers h k i =
       let a = along_back names numbers h i.place k i.stands in
       subst (λ (z : ℕ). k < z) same (stands_within m.declared.symbols k a.0.0.n a.2)
 
-  held_symbol : (type : TypeForm) (d : Domain) → HasDomain m.declared type d → (v : Value) → HoldsIn (Some d) v → IsSymbolIn tree v
+  held_symbol : (type : TypeForm) (d : Domain) → HasDomain m.declared type d → (v : Value) → HoldsIn (Some d) v
+      → IsSymbolIn tree v
   held_symbol type d h (value.Truth b) k = record {}
   held_symbol type d h (value.Whole n) k = record {}
   held_symbol type d boolean (value.Symbol n) k = absurd k
   held_symbol type d (named e range) (value.Symbol n) k = absurd k
-  held_symbol type d (named e (symbols {names = names} {numbers = numbers} h)) (value.Symbol n) k = within names.items numbers.items h n (one_contains numbers.items n k)
+  held_symbol type d (named e (symbols {names = names} {numbers = numbers} h)) (value.Symbol n) k =
+      within names.items numbers.items h n (one_contains numbers.items n k)
 
-  in_domain : (g : MemberKind) (o : Option Domain) → HasParameterDomain m.declared g o → (v : Value) → HoldsIn o v → kind_of v ≡ kind_of_parameter o → IsSymbolIn tree v
+  in_domain : (g : MemberKind) (o : Option Domain) → HasParameterDomain m.declared g o → (v : Value) → HoldsIn o v
+      → kind_of v ≡ kind_of_parameter o → IsSymbolIn tree v
   in_domain g None h (value.Truth b) k e = record {}
   in_domain g None h (value.Whole n) k e = record {}
   in_domain g None h (value.Symbol n) k e = cc
   in_domain g (Some d) (domain {type = type} h) v k e = held_symbol type d h v k
 
 -- the symbols that the table keeps are those of the model
-pub symbols_same : {m : RootedModel} (tree : Tree) → IsKeptTable m tree.classes → length m.declared.symbols ≡ length tree.classes.symbols.items
-symbols_same tree t = ap length (sym t.table.holds.symbols) ∙ length-map tree.classes.symbols.items (λ (x : NameId). x.n)
+pub symbols_same : {m : RootedModel} (tree : Tree) → IsKeptTable m tree.classes
+    → length m.declared.symbols ≡ length tree.classes.symbols.items
+symbols_same tree t = ap length (sym t.table.holds.symbols)
+    ∙ length-map tree.classes.symbols.items (λ (x : NameId). x.n)
 
 -- what is known of the leaves of a unit
 pub record AreLeavesOf (m : RootedModel) (units : List UnitPath) (u : UnitPath) (leaves : UnitLeaves) : Type 0 where
   pub are : AreScopes m units leaves.scopes.now
   pub at : Stands units leaves.unit.n u
   pub along : Along (IsParameterValue m) (parameters m units) leaves.parameters.now
-  pub held : Along (λ (d : ParNode) (v : Value). HoldsIn d.domain v) leaves.scopes.now.tree.now.parameters.items leaves.parameters.now
+  pub held : Along (λ (d : ParNode) (v : Value). HoldsIn d.domain v) leaves.scopes.now.tree.now.parameters.items
+      leaves.parameters.now
 
 -- the names of the unit
 abbrev pub names_for : UnitLeaves → Sort → UnitNames
@@ -87,7 +95,8 @@ names_for leaves sort = record { scopes = leaves.scopes; unit = leaves.unit; sco
 abbrev pub tree_for : UnitLeaves → Tree
 tree_for leaves = leaves.scopes.now.tree.now
 
-module _ {m : RootedModel} {units : List UnitPath} {u : UnitPath} {leaves : UnitLeaves} (h : AreLeavesOf m units u leaves) where
+module _ {m : RootedModel} {units : List UnitPath} {u : UnitPath} {leaves : UnitLeaves}
+    (h : AreLeavesOf m units u leaves) where
   pub names_of : (sort : Sort) → AreNamesOf m units u s.Everything (names_for leaves sort)
   names_of sort = record { are = h.are; at = h.at; in_scope = everything }
 
@@ -98,43 +107,55 @@ module _ {m : RootedModel} {units : List UnitPath} {u : UnitPath} {leaves : Unit
   vs = leaves.parameters.now
 
   -- the value of a parameter
-  parameter_value : (n : ℕ) (t : Thing) → Stands (parameters m units) n t → Has m is_valued t → IsValue m t (value_at vs n)
+  parameter_value : (n : ℕ) (t : Thing) → Stands (parameters m units) n t → Has m is_valued t
+      → IsValue m t (value_at vs n)
   parameter_value n t st has =
       let b = along_on (parameters m units) vs h.along n t st in
       subst (λ (z : Value). IsValue m t z) (sym (read_value vs n b.0 b.1)) (b.2.value has)
 
-  parameter_symbol : (n : ℕ) (t : Thing) → Stands (parameters m units) n t → Has m is_valued t → IsSymbolIn tree (value_at vs n)
+  parameter_symbol : (n : ℕ) (t : Thing) → Stands (parameters m units) n t → Has m is_valued t
+      → IsSymbolIn tree (value_at vs n)
   parameter_symbol n t st has =
       let a = along_on (parameters m units) tree.parameters.items h.are.is_tree.parameters_are n t st in
       let b = along_on tree.parameters.items vs h.held n a.0 a.1 in
       let e = read_value vs n b.0 b.1 in
       let w = valued_kind h.are.is_tree n t st has in
-      let k : kind_of_parameter a.0.domain ≡ w.0 = kind_one (ap (λ (o : Option ParNode). option_map (λ (d : ParNode). kind_of_parameter d.domain) o) a.1) w.1 in
-      let q : kind_of b.0 ≡ kind_of_parameter a.0.domain = ap kind_of (sym e) ∙ (one_of_kind (parameter_value n t st has).kind w.2 ∙ sym k) in
-      subst (IsSymbolIn tree) (sym e) (in_domain m tree (symbols_same tree h.are.is_tree.table) a.2.given.kind a.0.domain a.2.domain b.0 b.2 q)
+      let k : kind_of_parameter a.0.domain ≡ w.0 =
+      kind_one (ap (λ (o : Option ParNode). option_map (λ (d : ParNode). kind_of_parameter d.domain) o) a.1)
+      w.1 in
+      let q : kind_of b.0 ≡ kind_of_parameter a.0.domain =
+      ap kind_of (sym e) ∙ (one_of_kind (parameter_value n t st has).kind w.2 ∙ sym k) in
+      subst (IsSymbolIn tree) (sym e) (in_domain m tree (symbols_same tree h.are.is_tree.table) a.2.given.kind
+      a.0.domain a.2.domain b.0 b.2 q)
 
   module _ (p : Path) where
     is_named : IsNamedIn m units u p (named_in leaves.scopes.now leaves.unit.n p)
     is_named = names_right h.are leaves.unit.n u h.at p
 
-    kind_by : (k : ValueKind) (r : Option Named) → IsNamedIn m units u p r → option_and_then (kind_named tree) r ≡ Some k → HasKind (typed.kind_in tree) (leaf_level (leaf_of vs r)) k
+    kind_by : (k : ValueKind) (r : Option Named) → IsNamedIn m units u p r
+        → option_and_then (kind_named tree) r ≡ Some k → HasKind (typed.kind_in tree) (leaf_level (leaf_of vs r)) k
     kind_by k r (variable {v = v} t f st) e =
         let a = along_on (variables m units) tree.variables.items h.are.is_tree.variables_are v.n t st in
         let q : kind_of_node (slice_get tree.variables.items v.n) ≡ kind_of_domain a.0.domain = ap kind_of_node a.1 in
-        let w : kind_of_domain a.0.domain ≡ k = kind_one (ap (λ (o : Option VarNode). option_map (λ (d : VarNode). kind_of_domain d.domain) o) a.1) e in
+        let w : kind_of_domain a.0.domain ≡ k =
+        kind_one (ap (λ (o : Option VarNode). option_map (λ (d : VarNode). kind_of_domain d.domain) o) a.1) e in
         subst (λ (z : ValueKind). HasKind (typed.kind_in tree) (Variable v) z) (q ∙ w) kind.variable
     kind_by k r (parameter {k = n} t f st) e =
         let w = valued_kind h.are.is_tree n t st f.has in
         let q : kind_of (value_at vs n) ≡ k = one_of_kind (parameter_value n t st f.has).kind w.2 ∙ kind_one w.1 e in
         subst (λ (z : ValueKind). HasKind (typed.kind_in tree) (Constant (value_at vs n)) z) q kind.constant
-    kind_by k r (symbol {k = n} i) e = subst (λ (z : ValueKind). HasKind (typed.kind_in tree) (Constant (value.Symbol n)) z) (kind_one refl e) kind.constant
+    kind_by k r (symbol {k = n} i) e =
+        subst (λ (z : ValueKind). HasKind (typed.kind_in tree) (Constant (value.Symbol n)) z) (kind_one refl e)
+        kind.constant
     kind_by k r (nothing n) e = cc
 
     -- what stands for a path has the kind of what it names
-    pub leaf_kind : (sort : Sort) (k : ValueKind) → kind_in (names_for leaves sort) p ≡ Some k → HasKind (typed.kind_in tree) (leaf_level (leaf_in leaves p)) k
+    pub leaf_kind : (sort : Sort) (k : ValueKind) → kind_in (names_for leaves sort) p ≡ Some k
+        → HasKind (typed.kind_in tree) (leaf_level (leaf_in leaves p)) k
     leaf_kind sort k e = kind_by k (named_in leaves.scopes.now leaves.unit.n p) is_named e
 
-    number_by : (x : VarId) (r : Option Named) → IsNamedIn m units u p r → leaf_of vs r ≡ leaf.Variable x → x.n < length tree.variables.items
+    number_by : (x : VarId) (r : Option Named) → IsNamedIn m units u p r → leaf_of vs r ≡ leaf.Variable x
+        → x.n < length tree.variables.items
     number_by x r (variable {v = v} t f st) e =
         let q : v ≡ x = cc in
         let a = along_on (variables m units) tree.variables.items h.are.is_tree.variables_are v.n t st in
@@ -147,7 +168,8 @@ module _ {m : RootedModel} {units : List UnitPath} {u : UnitPath} {leaves : Unit
     pub leaf_number : (x : VarId) → leaf_in leaves p ≡ leaf.Variable x → x.n < length tree.variables.items
     leaf_number x e = number_by x (named_in leaves.scopes.now leaves.unit.n p) is_named e
 
-    variable_by : (x : VarId) (r : Option Named) → IsNamedIn m units u p r → leaf_of vs r ≡ leaf.Variable x → (t : Thing) × Finds m is_variable u p t × Stands (variables m units) x.n t
+    variable_by : (x : VarId) (r : Option Named) → IsNamedIn m units u p r → leaf_of vs r ≡ leaf.Variable x
+        → (t : Thing) × Finds m is_variable u p t × Stands (variables m units) x.n t
     variable_by x r (variable {v = v} t f st) e =
         let q : v ≡ x = cc in (t, f, subst (λ (z : VarId). Stands (variables m units) z.n t) q st)
     variable_by x r (parameter t f st) e = cc
@@ -155,17 +177,20 @@ module _ {m : RootedModel} {units : List UnitPath} {u : UnitPath} {leaves : Unit
     variable_by x r (nothing n) e = cc
 
     -- the path of a variable names it
-    pub leaf_variable : (x : VarId) → leaf_in leaves p ≡ leaf.Variable x → (t : Thing) × Finds m is_variable u p t × Stands (variables m units) x.n t
+    pub leaf_variable : (x : VarId) → leaf_in leaves p ≡ leaf.Variable x
+        → (t : Thing) × Finds m is_variable u p t × Stands (variables m units) x.n t
     leaf_variable x e = variable_by x (named_in leaves.scopes.now leaves.unit.n p) is_named e
 
-    symbol_by : (v : Value) (r : Option Named) → IsNamedIn m units u p r → leaf_of vs r ≡ leaf.Constant v → IsSymbolIn tree v
+    symbol_by : (v : Value) (r : Option Named) → IsNamedIn m units u p r → leaf_of vs r ≡ leaf.Constant v
+        → IsSymbolIn tree v
     symbol_by v r (variable t f st) e = cc
     symbol_by v r (parameter {k = n} t f st) e =
         let q : value_at vs n ≡ v = cc in
         subst (IsSymbolIn tree) q (parameter_symbol n t st f.has)
     symbol_by v r (symbol {k = n} i) e =
         let q : value.Symbol n ≡ v = cc in
-        subst (IsSymbolIn tree) q (subst (λ (z : ℕ). n < z) (symbols_same tree h.are.is_tree.table) (stands_within m.declared.symbols n i.name i.stands))
+        subst (IsSymbolIn tree) q (subst (λ (z : ℕ). n < z) (symbols_same tree h.are.is_tree.table)
+        (stands_within m.declared.symbols n i.name i.stands))
     symbol_by v r (nothing n) e =
         let q : value.Truth false ≡ v = cc in
         subst (IsSymbolIn tree) q (record {})

@@ -56,40 +56,55 @@ module _ {names : Path → ValueKind → Type 0} where
   wanted_some this e = cc
   wanted_some (that_of h) e = cc
 
-  mistyped_as : {d : Demand} (k : ValueKind) {e : RawExpr} {at : Place} → IsMistyped names d e at → d ≡ AnyKind → IsMistyped names (OfKind k) e at
+  mistyped_as : {d : Demand} (k : ValueKind) {e : RawExpr} {at : Place} → IsMistyped names d e at → d ≡ AnyKind
+      → IsMistyped names (OfKind k) e at
   mistyped_as k (itself j want h w n) q = absurd (wanted_some w q)
   mistyped_as k (real q) e = real q
   mistyped_as k (inside o i h) e = inside o i h
 
-  pub any_mistyped : (k : ValueKind) {e : RawExpr} {at : Place} → IsMistyped names AnyKind e at → IsMistyped names (OfKind k) e at
+  pub any_mistyped : (k : ValueKind) {e : RawExpr} {at : Place}
+      → IsMistyped names AnyKind e at → IsMistyped names (OfKind k) e at
   any_mistyped k h = mistyped_as k h refl
 
-module _ {m : RootedModel} {units : List UnitPath} {u : UnitPath} {leaves : UnitLeaves} (h : AreLeavesOf m units u leaves) where
+module _ {m : RootedModel} {units : List UnitPath} {u : UnitPath} {leaves : UnitLeaves}
+    (h : AreLeavesOf m units u leaves) where
   -- the variables and symbols of what an expression becomes
-  pub variables_in : {l : RawLevel} {y : Level VarId} → Becomes (StandsFor (leaf_in leaves)) l y → (x : VarId) → Mentions x y → x.n < length (tree_for leaves).variables.items
-  variables_in b x k = mentioned (leaf_in leaves) x (x.n < length (tree_for leaves).variables.items) (λ p e. leaf_number h p x e) b k
+  pub variables_in : {l : RawLevel} {y : Level VarId} → Becomes (StandsFor (leaf_in leaves)) l y → (x : VarId)
+      → Mentions x y → x.n < length (tree_for leaves).variables.items
+  variables_in b x k = mentioned (leaf_in leaves) x (x.n < length (tree_for leaves).variables.items)
+      (λ p e. leaf_number h p x e) b k
 
-  pub symbols_in : {l : RawLevel} {y : Level VarId} → Becomes (StandsFor (leaf_in leaves)) l y → (v : Value) → IsPart (Constant v) y → IsSymbolIn (tree_for leaves) v
-  symbols_in b v k = constant (leaf_in leaves) (IsSymbolIn (tree_for leaves)) (λ c. record {}) (λ n. record {}) (λ p w e. leaf_symbol h p w e) b v k
+  pub symbols_in : {l : RawLevel} {y : Level VarId} → Becomes (StandsFor (leaf_in leaves)) l y → (v : Value)
+      → IsPart (Constant v) y → IsSymbolIn (tree_for leaves) v
+  symbols_in b v k = constant (leaf_in leaves) (IsSymbolIn (tree_for leaves)) (λ c. record {}) (λ n. record {})
+      (λ p w e. leaf_symbol h p w e) b v k
 
-  told : (e : RawExpr) → ((at : Place) → IsMisnamed (s.MayName m u s.Everything) (level_of e) at → ⊥) → (p : Path) → PathIn p (level_of e) → (r : Option ValueKind) → kind_in (names_for leaves States) p ≡ r
+  told : (e : RawExpr) → ((at : Place) → IsMisnamed (s.MayName m u s.Everything) (level_of e) at → ⊥) → (p : Path)
+      → PathIn p (level_of e) → (r : Option ValueKind) → kind_in (names_for leaves States) p ≡ r
       → s.MayName m u s.Everything p
   told e named p i (Some k) q = named_may (names_of h States) p (k, q)
   told e named p i None q = absurd (named p.at (record { path = p; is_in = i; not = λ may. let w = may_named (names_of h States) p may in let o = w.1 in cc; place = refl }))
 
   -- each path of an expression has what it stands for as its leaf
-  pub path_leaf : (e : RawExpr) → ((at : Place) → IsMisnamed (s.MayName m u s.Everything) (level_of e) at → ⊥) → (p : Path) → PathIn p (level_of e) → s.MayName m u s.Everything p
+  pub path_leaf : (e : RawExpr) → ((at : Place) → IsMisnamed (s.MayName m u s.Everything) (level_of e) at → ⊥)
+      → (p : Path) → PathIn p (level_of e) → s.MayName m u s.Everything p
   path_leaf e named p i = told e named p i (kind_in (names_for leaves States) p) refl
 
-  module _ (e : RawExpr) (f : Expr VarId) (k : ValueKind) (named : (at : Place) → IsMisnamed (s.MayName m u s.Everything) (level_of e) at → ⊥)
+  module _ (e : RawExpr) (f : Expr VarId) (k : ValueKind)
+      (named : (at : Place) → IsMisnamed (s.MayName m u s.Everything) (level_of e) at → ⊥)
       (right : (at : Place) → IsMistyped (HasKindAt m u) (OfKind k) e at → ⊥) (b : BecomesBy (leaf_in leaves) e f) where
     pub expression_bound : IsBoundExpression m units u e f
-    expression_bound = bound_meaning m units u (leaf_in leaves) e f (λ p i. leaf_for h p (path_leaf e named p i)) (λ at x. right at (any_mistyped k x)) b
+    expression_bound = bound_meaning m units u (leaf_in leaves) e f (λ p i. leaf_for h p (path_leaf e named p i))
+        (λ at x. right at (any_mistyped k x)) b
 
     pub expression_typed : IsFull (level_of e) → IsTypedIn (tree_for leaves) f k
     expression_typed g = record {
-      typed = typed_whole (StandsFor (leaf_in leaves)) (kind_in (names_for leaves States)) (typed.kind_in (tree_for leaves)) (λ p l j q w. subst (λ (z : Level VarId). HasKind (typed.kind_in (tree_for leaves)) z j) q (leaf_kind h p States j w)) e (out-Expr VarId f) k g
-          (λ at x. named at (misnamed_move (λ p may. may_named (names_of h States) p may) x)) (λ at x. right at (mistyped_move (λ p j n. kind_names (names_of h States) p j n) x)) b;
+      typed = typed_whole (StandsFor (leaf_in leaves)) (kind_in (names_for leaves States))
+          (typed.kind_in (tree_for leaves))
+          (λ p l j q w. subst (λ (z : Level VarId). HasKind (typed.kind_in (tree_for leaves)) z j) q
+          (leaf_kind h p States j w)) e (out-Expr VarId f) k g
+          (λ at x. named at (misnamed_move (λ p may. may_named (names_of h States) p may) x))
+          (λ at x. right at (mistyped_move (λ p j n. kind_names (names_of h States) p j n) x)) b;
       variables = λ x w. variables_in b x w;
       symbols = λ v w. symbols_in b v w;
     }

@@ -23,17 +23,21 @@ use Rattle.bind_forms.specs.Keeping.{KeepsInside}
 use Rattle.bind_forms.specs.Settled.{AreSettled}
 use Rattle.bind_forms.proofs.Leafing.{AreLeavesOf}
 
-pub settled_leaves : {m : RootedModel} {units : List UnitPath} {u : UnitPath} (leaves : UnitLeaves) (known : Values) → AreSettled m units leaves.scopes.now known → Stands units leaves.unit.n u
+pub settled_leaves : {m : RootedModel} {units : List UnitPath} {u : UnitPath} (leaves : UnitLeaves) (known : Values)
+    → AreSettled m units leaves.scopes.now known → Stands units leaves.unit.n u
     → leaves.parameters.now ≡ known.parameters.items → AreLeavesOf m units u leaves
 settled_leaves {m = m} {units = units} leaves known s at q = record {
   are = s.are;
   at = at;
   along = subst (λ (z : List Value). Along (IsParameterValue m) (parameters m units) z) (sym q) s.values.parameters_are;
-  held = subst (λ (z : List Value). Along (λ (d : ParNode) (v : Value). HoldsIn d.domain v) leaves.scopes.now.tree.now.parameters.items z) (sym q) s.values.parameters_held;
+  held = subst (λ (z : List Value). Along (λ (d : ParNode) (v : Value). HoldsIn d.domain v)
+      leaves.scopes.now.tree.now.parameters.items z) (sym q) s.values.parameters_held;
 }
 
-module _ {m : RootedModel} {units : List UnitPath} {scopes : Scopes} {known : Values} (s : AreSettled m units scopes known) (n : ℕ) (u : UnitPath) (at : Stands units n u) (written : Instr) where
-  pub settled_action : (x : NameId) (place : Place) (guard : RawExpr) → IsOneOf (forms_at m u) (Local x place guard written) → KeepsInside m u true (out-Instr written)
+module _ {m : RootedModel} {units : List UnitPath} {scopes : Scopes} {known : Values}
+    (s : AreSettled m units scopes known) (n : ℕ) (u : UnitPath) (at : Stands units n u) (written : Instr) where
+  pub settled_action : (x : NameId) (place : Place) (guard : RawExpr)
+      → IsOneOf (forms_at m u) (Local x place guard written) → KeepsInside m u true (out-Instr written)
   settled_action x place guard f = record {
     keeps = λ i p. record {
       naming = λ q w. s.names.naming q (rule.in_instruction i (one_here units n u at) (inl (here i p)) w);

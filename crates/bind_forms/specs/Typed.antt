@@ -49,4 +49,5 @@ pub data IsSoundIn (t : Tree) (to_state : Bool) : Act-F Act → Type 0 where
   conditional : {test : Expr VarId} {first second : Box Act Global} → IsTypedIn t test kind.Truth
       → IsSoundIn t to_state (out-Act first.value) → IsSoundIn t to_state (out-Act second.value)
       → IsSoundIn t to_state (act.If test first second)
-  all : {acts : Vec Act Global} → ((a : Act) → IsOneOf acts.items a → IsSoundIn t to_state (out-Act a)) → IsSoundIn t to_state (act.All acts)
+  all : {acts : Vec Act Global} → ((a : Act) → IsOneOf acts.items a → IsSoundIn t to_state (out-Act a))
+      → IsSoundIn t to_state (act.All acts)

@@ -14,19 +14,25 @@ use Rattle.bind_instructions.specs.Parts.{InstrForm}
 
 -- a path in its expression names nothing that it may name, or a path that is assigned or tied names no variable
 pub data MisnamesItself (may : Path → Type 0) (is_variable : Path → Type 0) : InstrForm → Place → Type 0 where
-  test : {e : RawExpr} {a : Box Instr Global} {b : Option (Box Instr Global)} {at : Place} → IsMisnamed may (level_of e) at
+  test : {e : RawExpr} {a : Box Instr Global} {b : Option (Box Instr Global)} {at : Place}
+      → IsMisnamed may (level_of e) at
       → MisnamesItself may is_variable (instr.If e a b) at
-  value : {p : Path} {e : RawExpr} {at : Place} → IsMisnamed may (level_of e) at → MisnamesItself may is_variable (instr.Assign p e) at
+  value : {p : Path} {e : RawExpr} {at : Place}
+      → IsMisnamed may (level_of e) at → MisnamesItself may is_variable (instr.Assign p e) at
   target : {p : Path} {e : RawExpr} → (is_variable p → ⊥) → MisnamesItself may is_variable (instr.Assign p e) p.at
   left : {p q : Path} → (is_variable p → ⊥) → MisnamesItself may is_variable (instr.Tie p q) p.at
   right : {p q : Path} → (is_variable q → ⊥) → MisnamesItself may is_variable (instr.Tie p q) q.at
 
--- its test is no truth value, its value is not of its target's kind, or its right path is not of the kind of its left one
+-- its test is no truth value, its value is not of its target's kind, or its right path is not of the kind of its left
+-- one
 pub data MistypesItself (names : Path → ValueKind → Type 0) : InstrForm → Place → Type 0 where
-  test : {e : RawExpr} {a : Box Instr Global} {b : Option (Box Instr Global)} {at : Place} → IsMistyped names (OfKind Truth) e at
+  test : {e : RawExpr} {a : Box Instr Global} {b : Option (Box Instr Global)} {at : Place}
+      → IsMistyped names (OfKind Truth) e at
       → MistypesItself names (instr.If e a b) at
-  value : {p : Path} {e : RawExpr} {at : Place} (k : ValueKind) → names p k → IsMistyped names (OfKind k) e at → MistypesItself names (instr.Assign p e) at
-  tied : {p q : Path} (j k : ValueKind) → names p j → names q k → (k ≡ j → ⊥) → MistypesItself names (instr.Tie p q) q.at
+  value : {p : Path} {e : RawExpr} {at : Place} (k : ValueKind) → names p k
+      → IsMistyped names (OfKind k) e at → MistypesItself names (instr.Assign p e) at
+  tied : {p q : Path} (j k : ValueKind) → names p j → names q k → (k ≡ j → ⊥)
+      → MistypesItself names (instr.Tie p q) q.at
 
 -- what a path that is assigned or tied names: a state variable, a flow, or no variable
 abbrev pub Targets : Type 0

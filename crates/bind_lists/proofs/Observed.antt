@@ -20,12 +20,15 @@ use Rattle.bind_rules.proofs.Valued.{observer_has}
 use Rattle.bind_lists.specs.Bound.{IsBoundObserver}
 
 -- what is listed among the observers is one
-pub listed_observer : (m : RootedModel) (units : List UnitPath) (t : Thing) → IsKept m → IsOneOf (observers m units) t → Has m is_observer t
+pub listed_observer : (m : RootedModel) (units : List UnitPath) (t : Thing) → IsKept m → IsOneOf (observers m units) t
+    → Has m is_observer t
 listed_observer m units t kept o = observer_has m units kept o.place t o.stands
 
 -- the observer, by its parts
-pub bound_observer : (m : RootedModel) (units : List UnitPath) (tree : Tree) (t : Thing) (o : flat.Observer) (type : TypeForm) (written : RawExpr) → kind_at m t.unit t.name ≡ Some (Observer type written)
-    → Some o.kind ≡ kind_of_type m type → IsBoundExpression m units t.unit written o.value → IsTypedIn tree o.value o.kind → o.path ≡ thing_path m t → IsBoundObserver m units tree t o
+pub bound_observer : (m : RootedModel) (units : List UnitPath) (tree : Tree) (t : Thing) (o : flat.Observer)
+    (type : TypeForm) (written : RawExpr) → kind_at m t.unit t.name ≡ Some (Observer type written)
+    → Some o.kind ≡ kind_of_type m type → IsBoundExpression m units t.unit written o.value
+    → IsTypedIn tree o.value o.kind → o.path ≡ thing_path m t → IsBoundObserver m units tree t o
 bound_observer m units tree t o type written is kind e typed path = record {
   meaning = e.meaning;
   is = record { type = type; written = written; is = is; means = e.means };

@@ -31,13 +31,20 @@ module _ (m : RootedModel) (units : List UnitPath) (t : Thing) (d : VarNode) (is
   -- it is the variable of the thing
   pub bound_variable : IsValue m t x.value → x.path ≡ thing_path m t → IsBoundVariable m units t x
   bound_variable value path = record {
-    meaning = record { key = t; unit = d.node.unit.n; domain = values_of d.domain; is_state = d.is_state; value = x.value };
+    meaning = record {
+      key = t;
+      unit = d.node.unit.n;
+      domain = values_of d.domain;
+      is_state = d.is_state;
+      value = x.value;
+    };
     is = record {
       key = refl;
       unit = is.node.unit;
       type = is.type;
       settings = is.settings;
-      is = ap (λ (o : Option NamedMember). option_map (λ (z : NamedMember). z.kind) o) is.node.is ∙ ap (λ (z : MemberKind). Some z) is.is;
+      is = ap (λ (o : Option NamedMember). option_map (λ (z : NamedMember). z.kind) o) is.node.is
+          ∙ ap (λ (z : MemberKind). Some z) is.is;
       domain = d.domain;
       has_domain = is.domain;
       values = refl;
@@ -78,20 +85,26 @@ module _ (m : RootedModel) (units : List UnitPath) (tree : Tree) (tied : IsTreeO
   }
 
   -- one variable more
-  pub first_next : (n : ℕ) (t : Thing) (d : VarNode) (x : Variable) (xs ys : List Variable) → Stands (variables m units) n t → Stands tree.variables.items n d → AreFirst m units tree n xs
+  pub first_next : (n : ℕ) (t : Thing) (d : VarNode) (x : Variable) (xs ys : List Variable)
+      → Stands (variables m units) n t → Stands tree.variables.items n d → AreFirst m units tree n xs
       → IsBoundVariable m units t x → IsSoundVariable tree d x → ys ≡ xs ++ x ∷ [] → AreFirst m units tree (n + 1) ys
   first_next n t d x xs ys s r h bound sound e = record {
-    are = subst (λ (zs : List Variable). Along (IsBoundVariable m units) (take (n + 1) (variables m units)) zs) (sym e) (along_next (variables m units) n t xs x s bound h.are);
-    sound = subst (λ (zs : List Variable). Along (IsSoundVariable tree) (take (n + 1) tree.variables.items) zs) (sym e) (along_next tree.variables.items n d xs x r sound h.sound);
+    are = subst (λ (zs : List Variable). Along (IsBoundVariable m units) (take (n + 1) (variables m units)) zs) (sym e)
+        (along_next (variables m units) n t xs x s bound h.are);
+    sound = subst (λ (zs : List Variable). Along (IsSoundVariable tree) (take (n + 1) tree.variables.items) zs) (sym e)
+        (along_next tree.variables.items n d xs x r sound h.sound);
   }
 
   -- all variables
-  pub first_all : (n : ℕ) (xs : List Variable) → length tree.variables.items ≤ n → AreFirst m units tree n xs → AreBoundVariables m units tree xs
+  pub first_all : (n : ℕ) (xs : List Variable) → length tree.variables.items ≤ n → AreFirst m units tree n xs
+      → AreBoundVariables m units tree xs
   first_all n xs past h = record {
-    are = along_end (variables m units) n xs (omega (arith, past, along_length (variables m units) tree.variables.items tied.variables_are)) h.are;
+    are = along_end (variables m units) n xs
+        (omega (arith, past, along_length (variables m units) tree.variables.items tied.variables_are)) h.are;
     sound = along_end tree.variables.items n xs past h.sound;
   }
 
 -- two lists that go along have their items at the same places in common
-pub along_at : {A B : Type 0} {R : A → B → Type 0} (xs : List A) (ys : List B) → Along R xs ys → (n : ℕ) (a : A) (b : B) → Stands xs n a → Stands ys n b → R a b
+pub along_at : {A B : Type 0} {R : A → B → Type 0} (xs : List A) (ys : List B) → Along R xs ys → (n : ℕ) (a : A) (b : B)
+    → Stands xs n a → Stands ys n b → R a b
 along_at {R = R} xs ys along n a b s r = let w = along_on xs ys along n a s in subst (R a) (stands_one ys n w.0 b w.1 r) w.2

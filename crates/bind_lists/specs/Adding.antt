@@ -27,12 +27,14 @@ asserted_in (Some (Plain m)) = asserted_form (out-Member m)
 asserted_in (Some (Nested x at b)) = None
 
 -- the instruction by numbers is that of the assertion, and sets flows alone
-pub record IsBoundAssertion (m : RootedModel) (units : List UnitPath) (tree : Tree) (i : In Instr) (a : Act) : Type 0 where
+pub record IsBoundAssertion (m : RootedModel) (units : List UnitPath) (tree : Tree) (i : In Instr) (a : Act) : Type
+    0 where
   pub bound : IsBoundInstruction m units i.unit (out-Instr i.item) a
   pub sound : IsSoundIn tree false (out-Act a)
 
 -- what these assertions become was added, in their order
-pub record AddsAssertions (m : RootedModel) (units : List UnitPath) (tree : Tree) (written : List (In Instr)) (old new : List Act) : Type 0 where
+pub record AddsAssertions (m : RootedModel) (units : List UnitPath) (tree : Tree) (written : List (In Instr))
+    (old new : List Act) : Type 0 where
   pub added : List Act
   pub is : new ≡ old ++ added
   pub are : Along (IsBoundAssertion m units tree) written added

@@ -39,7 +39,8 @@ pub record IsBoundVariable (m : RootedModel) (units : List UnitPath) (t : Thing)
   pub value : meaning.value ≡ x.value
   pub path : x.path ≡ thing_path m t
 
--- the variable has the unit, the domain and the sort of the tree's node, and a value of the domain, whose symbols are the model's
+-- the variable has the unit, the domain and the sort of the tree's node, and a value of the domain, whose symbols are
+-- the model's
 pub record IsSoundVariable (tree : Tree) (d : VarNode) (x : Variable) : Type 0 where
   pub unit : x.unit.n < length tree.units.items
   pub domain : IsSameDomain d.domain x.domain
@@ -62,7 +63,8 @@ pub record AreBoundAssertions (m : RootedModel) (units : List UnitPath) (tree : 
   pub sound : (a : Act) → IsOneOf acts a → IsSoundIn tree false (out-Act a)
 
 -- the observer by numbers is that of the tree
-pub record IsBoundObserver (m : RootedModel) (units : List UnitPath) (tree : Tree) (t : Thing) (o : Observer) : Type 0 where
+pub record IsBoundObserver (m : RootedModel) (units : List UnitPath) (tree : Tree) (t : Thing) (o : Observer) : Type
+    0 where
   pub meaning : Expr Thing
   pub is : IsObserver m t meaning
   pub numbers : Expr_renames (IsNumber m units) meaning (numbered o.value)

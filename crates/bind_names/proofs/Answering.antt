@@ -21,7 +21,8 @@ module _ (m : RootedModel) (units : List UnitPath) where
 
   -- there is no memory
   pub memory_refuses : (r : Result Bound RuleFault) (d : RuleFault) → r ≡ Err d → d ≡ Memory → BindsTo tree r
-  memory_refuses r d i j = subst (λ (z : Result Bound RuleFault). BindsTo tree z) (sym (i ∙ ap Err j)) (record { meets = tt; no_limit = λ c q. cc; sound = λ b q. cc })
+  memory_refuses r d i j = subst (λ (z : Result Bound RuleFault). BindsTo tree z) (sym (i ∙ ap Err j))
+      (record { meets = tt; no_limit = λ c q. cc; sound = λ b q. cc })
 
   module _ (scopes : Scopes) where
     -- the rules refuse

@@ -44,51 +44,67 @@ module _ {names other : Path → ValueKind → Type 0} (to : (p : Path) (k : Val
   mistypes_move (b.value {p = p} k n h) = b.value k (to p k n) (mistyped_move h)
   mistypes_move (b.tied {p = p} {q = q} j k n l d) = b.tied j k (to p j n) (to q k l) d
 
-misnames_move : {may other is its : Path → Type 0} {i : InstrForm} {at : Place} → ((p : Path) → other p → may p) → ((p : Path) → its p → is p) → MisnamesItself may is i at → MisnamesItself other its i at
+misnames_move : {may other is its : Path → Type 0} {i : InstrForm} {at : Place} → ((p : Path) → other p → may p)
+    → ((p : Path) → its p → is p) → MisnamesItself may is i at → MisnamesItself other its i at
 misnames_move f g (b.test h) = b.test (misnamed_move f h)
 misnames_move f g (b.value h) = b.value (misnamed_move f h)
 misnames_move f g (b.target {p = p} n) = b.target (λ v. n (g p v))
 misnames_move f g (b.left {p = p} n) = b.left (λ v. n (g p v))
 misnames_move f g (b.right {q = q} n) = b.right (λ v. n (g q v))
 
-acts_move : {no other : Path → Type 0} {i : InstrForm} {at : Place} → ((p : Path) → no p → other p) → MisplacedInAction no i at → MisplacedInAction other i at
+acts_move : {no other : Path → Type 0} {i : InstrForm} {at : Place} → ((p : Path) → no p → other p)
+    → MisplacedInAction no i at → MisplacedInAction other i at
 acts_move f (b.assigns {p = p} h) = b.assigns (f p h)
 acts_move f b.ties = b.ties
 
-asserts_move : {no other is its : Path → Type 0} {i : InstrForm} {at : Place} → ((p : Path) → no p → other p) → ((p : Path) → is p → its p) → MisplacedInAssertion no is i at → MisplacedInAssertion other its i at
+asserts_move : {no other is its : Path → Type 0} {i : InstrForm} {at : Place} → ((p : Path) → no p → other p)
+    → ((p : Path) → is p → its p) → MisplacedInAssertion no is i at → MisplacedInAssertion other its i at
 asserts_move f g (b.assigns {p = p} h) = b.assigns (f p h)
 asserts_move f g (b.left {p = p} h) = b.left (f p h)
 asserts_move f g (b.right {p = p} {q = q} h k) = b.right (g p h) (f q k)
 
-inside_move : {P Q : InstrForm → Place → Type 0} {whole : InstrForm} {at : Place} → ((i : InstrForm) → P i at → Q i at) → BreaksInside P whole at → BreaksInside Q whole at
+inside_move : {P Q : InstrForm → Place → Type 0} {whole : InstrForm} {at : Place} → ((i : InstrForm) → P i at → Q i at)
+    → BreaksInside P whole at → BreaksInside Q whole at
 inside_move f h = record { part = h.part; is_part = h.is_part; broken = f h.part h.broken }
 
 module _ {m : RootedModel} {units : List UnitPath} {u : UnitPath} {names : UnitNames} where
-  pub expression_named : {meant : s.Scope} → AreNamesOf m units u meant names → (e : RawExpr) (r : Option Place) → IsEarliest (IsMisnamed (IsNamed (kind_in names)) (level_of e)) r → IsEarliest (IsMisnamed (s.MayName m u meant) (level_of e)) r
-  expression_named h e r k = earliest_same r (λ p x. misnamed_move (λ q may. may_named h q may) x) (λ p x. misnamed_move (λ q n. named_may h q n) x) k
+  pub expression_named : {meant : s.Scope} → AreNamesOf m units u meant names → (e : RawExpr) (r : Option Place)
+      → IsEarliest (IsMisnamed (IsNamed (kind_in names)) (level_of e)) r
+      → IsEarliest (IsMisnamed (s.MayName m u meant) (level_of e)) r
+  expression_named h e r k = earliest_same r (λ p x. misnamed_move (λ q may. may_named h q may) x)
+      (λ p x. misnamed_move (λ q n. named_may h q n) x) k
 
   module _ (h : AreNamesOf m units u s.Everything names) where
-    pub expression_typed : (kind : ValueKind) (e : RawExpr) (r : Option Place) → IsEarliest (IsMistyped (Names (kind_in names)) (OfKind kind) e) r → IsEarliest (IsMistyped (HasKindAt m u) (OfKind kind) e) r
-    expression_typed kind e r k = earliest_same r (λ p x. mistyped_move (λ q j n. kind_names h q j n) x) (λ p x. mistyped_move (λ q j n. names_kind h q refl j n) x) k
+    pub expression_typed : (kind : ValueKind) (e : RawExpr) (r : Option Place)
+        → IsEarliest (IsMistyped (Names (kind_in names)) (OfKind kind) e) r
+        → IsEarliest (IsMistyped (HasKindAt m u) (OfKind kind) e) r
+    expression_typed kind e r k = earliest_same r (λ p x. mistyped_move (λ q j n. kind_names h q j n) x)
+        (λ p x. mistyped_move (λ q j n. names_kind h q refl j n) x) k
 
-    pub inside_named : (i : InstrForm) (r : Option Place) → IsEarliest (BreaksInside (MisnamesItself (IsNamed (kind_in names)) (IsTarget (sort_in names))) i) r
+    pub inside_named : (i : InstrForm) (r : Option Place)
+        → IsEarliest (BreaksInside (MisnamesItself (IsNamed (kind_in names)) (IsTarget (sort_in names))) i) r
         → IsEarliest (BreaksInside (MisnamesItself (s.MayName m u s.Everything) (s.NamesVariable m u)) i) r
     inside_named i r k = earliest_same r
         (λ p x. inside_move (λ j y. misnames_move (λ q may. may_named h q may) (λ q v. names_target h q v) y) x)
         (λ p x. inside_move (λ j y. misnames_move (λ q n. named_may h q n) (λ q v. target_names h q v) y) x) k
 
-    pub inside_typed : (i : InstrForm) (r : Option Place) → IsEarliest (BreaksInside (MistypesItself (Names (kind_in names))) i) r → IsEarliest (BreaksInside (MistypesItself (HasKindAt m u)) i) r
+    pub inside_typed : (i : InstrForm) (r : Option Place)
+        → IsEarliest (BreaksInside (MistypesItself (Names (kind_in names))) i) r
+        → IsEarliest (BreaksInside (MistypesItself (HasKindAt m u)) i) r
     inside_typed i r k = earliest_same r
         (λ p x. inside_move (λ j y. mistypes_move (λ q l n. kind_names h q l n) y) x)
         (λ p x. inside_move (λ j y. mistypes_move (λ q l n. names_kind h q refl l n) y) x) k
 
-    pub inside_acted : names.sort ≡ States → (i : InstrForm) (r : Option Place) → IsEarliest (BreaksInside (MisplacedInAction (IsSort (sort_in names) false)) i) r
+    pub inside_acted : names.sort ≡ States → (i : InstrForm) (r : Option Place)
+        → IsEarliest (BreaksInside (MisplacedInAction (IsSort (sort_in names) false)) i) r
         → IsEarliest (BreaksInside (MisplacedInAction (IsNot m is_state_variable u)) i) r
     inside_acted e i r k = earliest_same r
         (λ p x. inside_move (λ j y. acts_move (λ q n. no_state h q e n) y) x)
         (λ p x. inside_move (λ j y. acts_move (λ q n. state_no h q e n) y) x) k
 
-    pub inside_asserted : names.sort ≡ Flows → (i : InstrForm) (r : Option Place) → IsEarliest (BreaksInside (MisplacedInAssertion (IsSort (sort_in names) true) (IsSort (sort_in names) false)) i) r
+    pub inside_asserted : names.sort ≡ Flows → (i : InstrForm) (r : Option Place)
+        → IsEarliest (BreaksInside (MisplacedInAssertion (IsSort (sort_in names) true) (IsSort (sort_in names) false))
+        i) r
         → IsEarliest (BreaksInside (MisplacedInAssertion (IsNot m is_flow_variable u) (Is m is_flow_variable u)) i) r
     inside_asserted e i r k = earliest_same r
         (λ p x. inside_move (λ j y. asserts_move (λ q n. no_flow h q e n) (λ q n. is_flow_named h q e n) y) x)

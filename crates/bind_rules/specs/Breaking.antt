@@ -30,7 +30,8 @@ use Rattle.source_meaning.specs.Rules.{FindsNone, IsNot, Is}
 use Rattle.bind_rules.specs.declared.rules.Rule.{Rule}
 use Rattle.bind_rules.specs.declared.rules.Rule.TheVariants.{Names, Kinds, Targets}
 
--- the expression, which stands in the unit u in this scope and of which this kind is wanted, breaks the rule at the place
+-- the expression, which stands in the unit u in this scope and of which this kind is wanted, breaks the rule at the
+-- place
 abbrev pub BreaksExpression : RootedModel → Rule → UnitPath → Scope → ValueKind → RawExpr → Place → Type 0
 BreaksExpression m Names u s k e at = IsMisnamed (MayName m u s) (level_of e) at
 BreaksExpression m Kinds u s k e at = IsMistyped (HasKindAt m u) (OfKind k) e at
@@ -67,9 +68,12 @@ pub record IsNoOwnEvent (m : RootedModel) (u : UnitPath) (x : NameId) (here at :
 -- the member names no event where an event is needed
 pub data MisnamesEvent (m : RootedModel) (u : UnitPath) : MemberForm → Place → Type 0 where
   hides : {p : Path} {at : Place} → IsNoEvent m u p at → MisnamesEvent m u (member.Hide p) at
-  part : {x : NameId} {here : Place} {parts : Vec Part Global} {at : Place} → HasNoEvent m u parts.items at → MisnamesEvent m u (member.Sync x here parts) at
-  sync : {x : NameId} {here : Place} {parts : Vec Part Global} {at : Place} → IsNoOwnEvent m u x here at → MisnamesEvent m u (member.Sync x here parts) at
-  local : {x : NameId} {here : Place} {guard : RawExpr} {action : Instr} {at : Place} → IsNoOwnEvent m u x here at → MisnamesEvent m u (member.Local x here guard action) at
+  part : {x : NameId} {here : Place} {parts : Vec Part Global} {at : Place}
+      → HasNoEvent m u parts.items at → MisnamesEvent m u (member.Sync x here parts) at
+  sync : {x : NameId} {here : Place} {parts : Vec Part Global} {at : Place}
+      → IsNoOwnEvent m u x here at → MisnamesEvent m u (member.Sync x here parts) at
+  local : {x : NameId} {here : Place} {guard : RawExpr} {action : Instr} {at : Place}
+      → IsNoOwnEvent m u x here at → MisnamesEvent m u (member.Local x here guard action) at
 
 -- only the rule of names speaks of events
 abbrev pub BreaksEvent : RootedModel → Rule → UnitPath → MemberForm → Place → Type 0
@@ -80,14 +84,18 @@ BreaksEvent m Targets u f at = ⊥
 -- the member of the unit u breaks the rule at the place
 pub data BreaksMember (m : RootedModel) (rule : Rule) (u : UnitPath) : MemberForm → Place → Type 0 where
   event : {f : MemberForm} {at : Place} → BreaksEvent m rule u f at → BreaksMember m rule u f at
-  guard : {x : NameId} {here at : Place} {guard : RawExpr} {action : Instr} → BreaksExpression m rule u Everything Truth guard at
+  guard : {x : NameId} {here at : Place} {guard : RawExpr} {action : Instr}
+      → BreaksExpression m rule u Everything Truth guard at
       → BreaksMember m rule u (member.Local x here guard action) at
-  action : {x : NameId} {here at : Place} {guard : RawExpr} {action : Instr} → BreaksInside (BreaksAction m rule u) (out-Instr action) at
+  action : {x : NameId} {here at : Place} {guard : RawExpr} {action : Instr}
+      → BreaksInside (BreaksAction m rule u) (out-Instr action) at
       → BreaksMember m rule u (member.Local x here guard action) at
-  assertion : {at : Place} {i : Instr} → BreaksInside (BreaksAssertion m rule u) (out-Instr i) at → BreaksMember m rule u (member.Assert i) at
+  assertion : {at : Place} {i : Instr}
+      → BreaksInside (BreaksAssertion m rule u) (out-Instr i) at → BreaksMember m rule u (member.Assert i) at
 
 -- one of these members does so
-pub record BreaksOneMember (m : RootedModel) (rule : Rule) (u : UnitPath) (forms : List MemberForm) (at : Place) : Type 0 where
+pub record BreaksOneMember (m : RootedModel) (rule : Rule) (u : UnitPath) (forms : List MemberForm) (at : Place) : Type
+    0 where
   pub form : MemberForm
   pub is_one : IsOneOf forms form
   pub breaks : BreaksMember m rule u form at

@@ -46,23 +46,30 @@ use Rattle.bind_scopes.proofs.NamedPaths.{kind_one, NamesIn, scoped_names, symbo
 use Rattle.bind_scopes.proofs.Siting.{owned_same, variable_settings}
 
 -- a domain is of the kind of its declaration
-body_kind : (numbers : List ℕ) (b : DomainBody) (v : Domain) → IsDomainOf numbers b v → kind_of_body b ≡ kind_of_domain v
+body_kind : (numbers : List ℕ) (b : DomainBody) (v : Domain) → IsDomainOf numbers b v
+    → kind_of_body b ≡ kind_of_domain v
 body_kind numbers b v (symbols h) = refl
 body_kind numbers b v range = refl
 
-pub domain_kind : (m : RootedModel) (t : TypeForm) (v : Domain) → HasDomain m.declared t v → kind_of_type m t ≡ Some (kind_of_domain v)
+pub domain_kind : (m : RootedModel) (t : TypeForm) (v : Domain) → HasDomain m.declared t v
+    → kind_of_type m t ≡ Some (kind_of_domain v)
 domain_kind m t v boolean = refl
-domain_kind m t v (named {declared = b} e h) = ap (λ (o : Option DomainBody). option_map kind_of_body o) e ∙ ap (λ (z : ValueKind). Some z) (body_kind m.declared.symbols b v h)
+domain_kind m t v (named {declared = b} e h) =
+    ap (λ (o : Option DomainBody). option_map kind_of_body o) e
+    ∙ ap (λ (z : ValueKind). Some z) (body_kind m.declared.symbols b v h)
 
 -- a parameter with a value is of the kind of its domain, or a whole number
-pub parameter_kind : (m : RootedModel) (g : MemberKind) (v : Option Domain) → is_valued g ≡ true → HasParameterDomain m.declared g v → kind_of_member m g ≡ Some (kind_of_parameter v)
+pub parameter_kind : (m : RootedModel) (g : MemberKind) (v : Option Domain) → is_valued g ≡ true
+    → HasParameterDomain m.declared g v → kind_of_member m g ≡ Some (kind_of_parameter v)
 parameter_kind m g v e (domain {type = t} {v = w} h) = domain_kind m t w h
 parameter_kind m g v e integer = refl
 parameter_kind m g v e kept = cc
 
 module _ {m : RootedModel} {units : List UnitPath} {tree : Tree} (is : IsTreeOf m units tree) where
   -- the kind of a variable that is listed, and of a parameter
-  pub variable_kind : (n : ℕ) (t : Thing) → Stands (variables m units) n t → (j : ValueKind) × (option_map (λ (d : VarNode). kind_of_domain d.domain) (slice_get tree.variables.items n) ≡ Some j) × IsOfKind m t j
+  pub variable_kind : (n : ℕ) (t : Thing) → Stands (variables m units) n t
+      → (j : ValueKind) × (option_map (λ (d : VarNode). kind_of_domain d.domain) (slice_get tree.variables.items n)
+      ≡ Some j) × IsOfKind m t j
   variable_kind n t st =
       let a = along_on (variables m units) tree.variables.items is.variables_are n t st in
       let g = a.2.given in (
@@ -76,25 +83,33 @@ module _ {m : RootedModel} {units : List UnitPath} {tree : Tree} (is : IsTreeOf 
       )
 
   pub valued_kind : (n : ℕ) (t : Thing) → Stands (parameters m units) n t → Has m is_valued t
-      → (j : ValueKind) × (option_map (λ (d : ParNode). kind_of_parameter d.domain) (slice_get tree.parameters.items n) ≡ Some j) × IsOfKind m t j
+      → (j : ValueKind) × (option_map (λ (d : ParNode). kind_of_parameter d.domain) (slice_get tree.parameters.items n)
+      ≡ Some j) × IsOfKind m t j
   valued_kind n t st h =
       let a = along_on (parameters m units) tree.parameters.items is.parameters_are n t st in
       let g = a.2.given in
-      let e : kind_at m t.unit t.name ≡ Some g.kind = ap (λ (o : Option NamedMember). option_map (λ (z : NamedMember). z.kind) o) a.2.node.is in
+      let e : kind_at m t.unit t.name ≡ Some g.kind =
+      ap (λ (o : Option NamedMember). option_map (λ (z : NamedMember). z.kind) o) a.2.node.is in
       let q = kind_one h.is e in (
         kind_of_parameter a.0.domain,
         ap (λ (o : Option ParNode). option_map (λ (d : ParNode). kind_of_parameter d.domain) o) a.1,
-        record { member = g.kind; is = e; kind = parameter_kind m g.kind a.0.domain (sym (ap is_valued q) ∙ h.passes) a.2.domain },
+        record {
+          member = g.kind;
+          is = e;
+          kind = parameter_kind m g.kind a.0.domain (sym (ap is_valued q) ∙ h.passes) a.2.domain;
+        },
       )
 
   -- what is named has a kind
-  pub named_kind : (u : UnitPath) (p : Path) (r : Named) → IsNamedIn m units u p (Some r) → (j : ValueKind) × (kind_named tree r ≡ Some j) × HasKindAt m u p j
+  pub named_kind : (u : UnitPath) (p : Path) (r : Named) → IsNamedIn m units u p (Some r)
+      → (j : ValueKind) × (kind_named tree r ≡ Some j) × HasKindAt m u p j
   named_kind u p r (variable {v = v} t f st) = let w = variable_kind v.n t st in (w.0, w.1, k.thing t f.leads w.2)
   named_kind u p r (parameter {k = n} t f st) = let w = valued_kind n t st f.has in (w.0, w.1, k.thing t f.leads w.2)
   named_kind u p r (symbol {k = n} i) = (kind.Symbol, refl, k.symbol n i)
 
 -- what has a kind is a variable or a parameter with a value
-kinded : (m : RootedModel) (g : MemberKind) (j : ValueKind) → kind_of_member m g ≡ Some j → (is_variable g ≡ true) ⊎ (is_valued g ≡ true)
+kinded : (m : RootedModel) (g : MemberKind) (j : ValueKind) → kind_of_member m g ≡ Some j
+    → (is_variable g ≡ true) ⊎ (is_valued g ≡ true)
 kinded m (Variable t ss) j e = inl refl
 kinded m (Parameter t v) j e = inr refl
 kinded m Kept j e = cc
@@ -105,7 +120,8 @@ kinded m (Clone p) j e = cc
 kinded m (Alias p) j e = cc
 
 -- what has a kind may be named
-pub kind_may : {m : RootedModel} {u : UnitPath} {p : Path} {j : ValueKind} → HasKindAt m u p j → s.MayName m u s.Everything p
+pub kind_may : {m : RootedModel} {u : UnitPath} {p : Path} {j : ValueKind} → HasKindAt m u p j
+    → s.MayName m u s.Everything p
 kind_may {m = m} (k.thing {k = j} t l h) = elim (kinded m h.member j h.kind) [
   | inl v ↦ s.variable t (record { leads = l; has = record { kind = h.member; is = h.is; passes = v } })
   | inr v ↦ s.parameter t (record { leads = l; has = record { kind = h.member; is = h.is; passes = v } })
@@ -113,7 +129,8 @@ kind_may {m = m} (k.thing {k = j} t l h) = elim (kinded m h.member j h.kind) [
 kind_may (k.symbol n i) = s.symbol n i
 
 -- a path has one kind
-pub kind_same : {m : RootedModel} {u : UnitPath} {p : Path} {i j : ValueKind} → HasKindAt m u p i → HasKindAt m u p j → i ≡ j
+pub kind_same : {m : RootedModel} {u : UnitPath} {p : Path} {i j : ValueKind} → HasKindAt m u p i → HasKindAt m u p j
+    → i ≡ j
 kind_same {m = m} (k.thing t l h) (k.thing t' l' h') =
     let q = leads_same l l' in
     let e = kind_one (ap (λ (z : Thing). kind_at m z.unit z.name) (sym q) ∙ h.is) h'.is in
@@ -130,23 +147,29 @@ sort_kind States g = is_state_variable g
 sort_kind Flows g = not (is_flow_variable g)
 
 module _ {m : RootedModel} {units : List UnitPath} {tree : Tree} (is : IsTreeOf m units tree) where
-  node_sort : (sort : Sort) (t : Thing) (d : VarNode) (h : IsVariable m units t d) → sort_of tree sort d ≡ sort_kind sort h.given.kind
+  node_sort : (sort : Sort) (t : Thing) (d : VarNode) (h : IsVariable m units t d)
+      → sort_of tree sort d ≡ sort_kind sort h.given.kind
   node_sort States t d h = h.state ∙ sym (ap is_state_variable h.is)
   node_sort Flows t d h = ap not (
-      ap declares_flows (owned_same m.declared tree.classes is.table.table.holds.bodies d.node.source h.given.site None h.node.source)
-      ∙ (ap is_flow (variable_settings m t.unit t.name h.given h.type h.settings h.node.is h.is) ∙ sym (ap is_flow_variable h.is)))
+      ap declares_flows (owned_same m.declared tree.classes is.table.table.holds.bodies d.node.source h.given.site None
+      h.node.source)
+      ∙ (ap is_flow (variable_settings m t.unit t.name h.given h.type h.settings h.node.is h.is)
+      ∙ sym (ap is_flow_variable h.is)))
 
   pub listed_sort : (sort : Sort) (n : ℕ) (t : Thing) → Stands (variables m units) n t
-      → (g : MemberKind) × (kind_at m t.unit t.name ≡ Some g) × (option_map (sort_of tree sort) (slice_get tree.variables.items n) ≡ Some (sort_kind sort g))
+      → (g : MemberKind) × (kind_at m t.unit t.name ≡ Some g)
+      × (option_map (sort_of tree sort) (slice_get tree.variables.items n) ≡ Some (sort_kind sort g))
   listed_sort sort n t st =
       let a = along_on (variables m units) tree.variables.items is.variables_are n t st in (
         a.2.given.kind,
         ap (λ (o : Option NamedMember). option_map (λ (z : NamedMember). z.kind) o) a.2.node.is,
-        ap (λ (o : Option VarNode). option_map (sort_of tree sort) o) a.1 ∙ ap (λ (b : Bool). Some b) (node_sort sort t a.0 a.2),
+        ap (λ (o : Option VarNode). option_map (sort_of tree sort) o) a.1
+            ∙ ap (λ (b : Bool). Some b) (node_sort sort t a.0 a.2),
       )
 
 -- the names are those of the unit u, in this scope
-pub record AreNamesOf (m : RootedModel) (units : List UnitPath) (u : UnitPath) (scope : s.Scope) (names : UnitNames) : Type 0 where
+pub record AreNamesOf (m : RootedModel) (units : List UnitPath) (u : UnitPath) (scope : s.Scope)
+    (names : UnitNames) : Type 0 where
   pub are : AreScopes m units names.scopes.now
   pub at : Stands units names.unit.n u
   pub in_scope : IsScope m units u names.scope scope
@@ -159,19 +182,23 @@ pub record HasSort (m : RootedModel) (u : UnitPath) (sort : Sort) (p : Path) (b 
   pub is : kind_at m thing.unit thing.name ≡ Some member
   pub sort_is : sort_kind sort member ≡ b
 
-module _ {m : RootedModel} {units : List UnitPath} {u : UnitPath} {scope : s.Scope} {names : UnitNames} (h : AreNamesOf m units u scope names) (p : Path) where
+module _ {m : RootedModel} {units : List UnitPath} {u : UnitPath} {scope : s.Scope} {names : UnitNames}
+    (h : AreNamesOf m units u scope names) (p : Path) where
   abbrev pub tree_of : Tree
   tree_of = names.scopes.now.tree.now
 
-  may_by : (r : Option Named) → NamesIn m units u scope p r → (j : ValueKind) → option_and_then (kind_named tree_of) r ≡ Some j → s.MayName m u scope p
+  may_by : (r : Option Named) → NamesIn m units u scope p r → (j : ValueKind)
+      → option_and_then (kind_named tree_of) r ≡ Some j → s.MayName m u scope p
   may_by None n j e = cc
   may_by (Some f) n j e = n.0
 
-  named_by : (r : Option Named) → NamesIn m units u scope p r → s.MayName m u scope p → (j : ValueKind) × (option_and_then (kind_named tree_of) r ≡ Some j)
+  named_by : (r : Option Named) → NamesIn m units u scope p r → s.MayName m u scope p
+      → (j : ValueKind) × (option_and_then (kind_named tree_of) r ≡ Some j)
   named_by None n may = absurd (n may)
   named_by (Some f) n may = let w = named_kind h.are.is_tree u p f n.1 in (w.0, w.1)
 
-  kind_by : (r : Option Named) → NamesIn m units u scope p r → (j : ValueKind) → option_and_then (kind_named tree_of) r ≡ Some j → HasKindAt m u p j
+  kind_by : (r : Option Named) → NamesIn m units u scope p r → (j : ValueKind)
+      → option_and_then (kind_named tree_of) r ≡ Some j → HasKindAt m u p j
   kind_by None n j e = cc
   kind_by (Some f) n j e = let w = named_kind h.are.is_tree u p f n.1 in subst (λ (z : ValueKind). HasKindAt m u p z) (kind_one w.1 e) w.2
 
@@ -194,14 +221,17 @@ module _ {m : RootedModel} {units : List UnitPath} {u : UnitPath} {scope : s.Sco
       let w = may_named (subst (λ (z : s.Scope). s.MayName m u z p) (sym e) (kind_may k)) in
       w.1 ∙ ap (λ (z : ValueKind). Some z) (kind_same (kind_names w.0 w.1) k)
 
-  sort_by : (r : Option ℕ) → AnswersThing m (variables m units) is_variable u p.start (numbers p.names.items) r → (b : Bool)
-      → option_and_then (λ n. option_map (sort_of tree_of names.sort) (slice_get tree_of.variables.items n)) r ≡ Some b → HasSort m u names.sort p b
+  sort_by : (r : Option ℕ) → AnswersThing m (variables m units) is_variable u p.start (numbers p.names.items) r
+      → (b : Bool)
+      → option_and_then (λ n. option_map (sort_of tree_of names.sort) (slice_get tree_of.variables.items n)) r ≡ Some b
+      → HasSort m u names.sort p b
   sort_by None a b e = cc
   sort_by (Some n) a b e =
       let w = listed_sort h.are.is_tree names.sort n a.0 a.1 in
       record { thing = a.0; finds = a.2; member = w.0; is = w.1; sort_is = kind_one w.2 e }
 
-  by_sort : (r : Option ℕ) → AnswersThing m (variables m units) is_variable u p.start (numbers p.names.items) r → (b : Bool) → HasSort m u names.sort p b
+  by_sort : (r : Option ℕ) → AnswersThing m (variables m units) is_variable u p.start (numbers p.names.items) r
+      → (b : Bool) → HasSort m u names.sort p b
       → option_and_then (λ n. option_map (sort_of tree_of names.sort) (slice_get tree_of.variables.items n)) r ≡ Some b
   by_sort None a b k = absurd (a k.thing k.finds)
   by_sort (Some n) a b k =
@@ -222,35 +252,68 @@ module _ {m : RootedModel} {units : List UnitPath} {u : UnitPath} {scope : s.Sco
   target_names t = let k = sort_names t.0 t.1 in record { thing = k.thing; finds = k.finds }
 
   pub names_target : s.NamesVariable m u p → IsTarget (sort_in names) p
-  names_target n = (sort_kind names.sort n.finds.has.kind, names_sort (sort_kind names.sort n.finds.has.kind) (record { thing = n.thing; finds = n.finds; member = n.finds.has.kind; is = n.finds.has.is; sort_is = refl }))
+  names_target n = (
+    sort_kind names.sort n.finds.has.kind,
+    names_sort (sort_kind names.sort n.finds.has.kind)
+        (record { thing = n.thing; finds = n.finds; member = n.finds.has.kind; is = n.finds.has.is; sort_is = refl }),
+  )
 
   -- a variable that is no state variable
   pub no_state : names.sort ≡ States → IsSort (sort_in names) false p → IsNot m is_state_variable u p
   no_state e i =
       let k = sort_names false i in
-      record { thing = k.thing; finds = k.finds; member = k.member; is = k.is; fails = ap (λ (z : Sort). sort_kind z k.member) (sym e) ∙ k.sort_is }
+      record {
+        thing = k.thing;
+        finds = k.finds;
+        member = k.member;
+        is = k.is;
+        fails = ap (λ (z : Sort). sort_kind z k.member) (sym e) ∙ k.sort_is;
+      }
 
   pub state_no : names.sort ≡ States → IsNot m is_state_variable u p → IsSort (sort_in names) false p
-  state_no e n = names_sort false (record { thing = n.thing; finds = n.finds; member = n.member; is = n.is; sort_is = ap (λ (z : Sort). sort_kind z n.member) e ∙ n.fails })
+  state_no e n = names_sort false (record {
+    thing = n.thing;
+    finds = n.finds;
+    member = n.member;
+    is = n.is;
+    sort_is = ap (λ (z : Sort). sort_kind z n.member) e ∙ n.fails;
+  })
 
   -- a variable that is no flow, and a flow
   pub no_flow : names.sort ≡ Flows → IsSort (sort_in names) true p → IsNot m is_flow_variable u p
   no_flow e i =
       let k = sort_names true i in
-      record { thing = k.thing; finds = k.finds; member = k.member; is = k.is; fails = not_true (is_flow_variable k.member) (ap (λ (z : Sort). sort_kind z k.member) (sym e) ∙ k.sort_is) }
+      record {
+        thing = k.thing;
+        finds = k.finds;
+        member = k.member;
+        is = k.is;
+        fails = not_true (is_flow_variable k.member) (ap (λ (z : Sort). sort_kind z k.member) (sym e) ∙ k.sort_is);
+      }
     where
       not_true : (b : Bool) → not b ≡ true → b ≡ false
       not_true false e = refl
       not_true true e = cc
 
   pub flow_no : names.sort ≡ Flows → IsNot m is_flow_variable u p → IsSort (sort_in names) true p
-  flow_no e n = names_sort true (record { thing = n.thing; finds = n.finds; member = n.member; is = n.is; sort_is = ap (λ (z : Sort). sort_kind z n.member) e ∙ ap not n.fails })
+  flow_no e n = names_sort true (record {
+    thing = n.thing;
+    finds = n.finds;
+    member = n.member;
+    is = n.is;
+    sort_is = ap (λ (z : Sort). sort_kind z n.member) e ∙ ap not n.fails;
+  })
 
   pub is_flow_named : names.sort ≡ Flows → IsSort (sort_in names) false p → Is m is_flow_variable u p
   is_flow_named e i =
       let k = sort_names false i in
-      let q : is_flow_variable k.member ≡ true = not_false (is_flow_variable k.member) (ap (λ (z : Sort). sort_kind z k.member) (sym e) ∙ k.sort_is) in
-      record { thing = k.thing; finds = record { leads = k.finds.leads; has = record { kind = k.member; is = k.is; passes = q } } }
+      let q : is_flow_variable k.member ≡ true =
+      not_false (is_flow_variable k.member) (ap (λ (z : Sort). sort_kind z k.member) (sym e) ∙ k.sort_is) in
+      record {
+        thing = k.thing;
+        finds = record
+            { leads = k.finds.leads; has = record { kind = k.member; is = k.is; passes = q } };
+      }
     where
       not_false : (b : Bool) → not b ≡ false → b ≡ true
       not_false true e = refl
@@ -259,7 +322,14 @@ module _ {m : RootedModel} {units : List UnitPath} {u : UnitPath} {scope : s.Sco
   pub named_flow : names.sort ≡ Flows → Is m is_flow_variable u p → IsSort (sort_in names) false p
   named_flow e n = names_sort false (record {
     thing = n.thing;
-    finds = record { leads = n.finds.leads; has = record { kind = n.finds.has.kind; is = n.finds.has.is; passes = flow_variable n.finds.has.kind n.finds.has.passes } };
+    finds = record {
+      leads = n.finds.leads;
+      has = record {
+        kind = n.finds.has.kind;
+        is = n.finds.has.is;
+        passes = flow_variable n.finds.has.kind n.finds.has.passes;
+      };
+    };
     member = n.finds.has.kind;
     is = n.finds.has.is;
     sort_is = ap (λ (z : Sort). sort_kind z n.finds.has.kind) e ∙ ap not n.finds.has.passes;
@@ -277,24 +347,33 @@ module _ {m : RootedModel} {units : List UnitPath} {u : UnitPath} {scope : s.Sco
 
 -- what the code finds of a variable
 pub sort_found : (names : UnitNames) → IsInTree names → (p : Path) (r : Option ℕ)
-    → ((m : RootedModel) (units : List UnitPath) (u : UnitPath) → IsTreeOf m units names.scopes.now.tree.now → Stands units names.unit.n u → AnswersThing m (variables m units) is_variable u p.start (numbers p.names.items) r)
-    → option_and_then (λ n. option_map (sort_of names.scopes.now.tree.now names.sort) (slice_get names.scopes.now.tree.now.variables.items n)) r ≡ sort_in names p
+    → ((m : RootedModel) (units : List UnitPath) (u : UnitPath) → IsTreeOf m units names.scopes.now.tree.now
+    → Stands units names.unit.n u → AnswersThing m (variables m units) is_variable u p.start (numbers p.names.items)
+    r)
+    → option_and_then (λ n. option_map (sort_of names.scopes.now.tree.now names.sort)
+    (slice_get names.scopes.now.tree.now.variables.items n)) r ≡ sort_in names p
 sort_found names h p r a =
-    ap (λ (o : Option ℕ). option_and_then (λ n. option_map (sort_of names.scopes.now.tree.now names.sort) (slice_get names.scopes.now.tree.now.variables.items n)) o)
+    ap (λ (o : Option ℕ). option_and_then
+    (λ n. option_map (sort_of names.scopes.now.tree.now names.sort)
+    (slice_get names.scopes.now.tree.now.variables.items n)) o)
     (variable_there names.scopes.now h.scopes names.unit.n h.in_range p r a)
 
-pub sort_read : (t : Tree) (sort : Sort) (n : ℕ) (o : Option VarNode) → slice_get t.variables.items n ≡ o → option_map (sort_of t sort) o ≡ option_map (sort_of t sort) (slice_get t.variables.items n)
+pub sort_read : (t : Tree) (sort : Sort) (n : ℕ) (o : Option VarNode) → slice_get t.variables.items n ≡ o
+    → option_map (sort_of t sort) o ≡ option_map (sort_of t sort) (slice_get t.variables.items n)
 sort_read t sort n o e = ap (option_map (sort_of t sort)) (sym e)
 
 -- Types
 
 -- the kind of a type that is found
-pub type_kind : (numbers : List ℕ) (t : Option NamedType) (b : TypeBody) (v : Domain) → b ≡ types.Domain v → IsFound numbers t (Some b) → Some (kind_of_domain v) ≡ option_map kind_of_body (option_and_then domain_body t)
+pub type_kind : (numbers : List ℕ) (t : Option NamedType) (b : TypeBody) (v : Domain) → b ≡ types.Domain v
+    → IsFound numbers t (Some b) → Some (kind_of_domain v) ≡ option_map kind_of_body (option_and_then domain_body t)
 type_kind numbers t b v e (some (domain_type {declared = d} {v = w} h)) =
     let q : w ≡ v = cc in ap (λ (z : Domain). Some (kind_of_domain z)) (sym q) ∙ ap (λ (z : ValueKind). Some z) (sym (body_kind numbers d w h))
 type_kind numbers t b v e (some (class_type i)) = cc
 
-pub no_type_kind : (numbers : List ℕ) (t : Option NamedType) (r : Option TypeBody) → ((v : Domain) → r ≡ Some (types.Domain v) → ⊥) → IsFound numbers t r → None ≡ option_map kind_of_body (option_and_then domain_body t)
+pub no_type_kind : (numbers : List ℕ) (t : Option NamedType) (r : Option TypeBody)
+    → ((v : Domain) → r ≡ Some (types.Domain v) → ⊥) → IsFound numbers t r
+    → None ≡ option_map kind_of_body (option_and_then domain_body t)
 no_type_kind numbers t r n none = refl
 no_type_kind numbers t r n (some (domain_type {v = v} h)) = absurd (n v refl)
 no_type_kind numbers t r n (some (class_type i)) = refl

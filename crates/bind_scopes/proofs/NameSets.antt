@@ -49,13 +49,16 @@ module _ {S : Type 0} (b : ℕ) where
   adds_none s = record { kept = λ c x h. h; added = λ x n. absurd (so_none x n); only = λ c x h. inl h }
 
   -- one name is added
-  pub adds_one : (g : NamedMember) (x : ℕ) → g.name ≡ x → (old new : HashSet (ℕ × ℕ) S) → ((q : ℕ × ℕ) → contains same_pair new q ≡ cond (same_pair (b, x) q) true (contains same_pair old q)) → AddsNames b (g ∷ []) old new
+  pub adds_one : (g : NamedMember) (x : ℕ) → g.name ≡ x → (old new : HashSet (ℕ × ℕ) S)
+      → ((q : ℕ × ℕ) → contains same_pair new q ≡ cond (same_pair (b, x) q) true (contains same_pair old q))
+      → AddsNames b (g ∷ []) old new
   adds_one g x e old new u = record { kept = kept; added = added; only = only }
     where
       kept : (c y : ℕ) → HasName old c y → HasName new c y
       kept c y h = by (same_pair (b, x) (c, y)) (u (c, y))
         where
-          by : (t : Bool) → contains same_pair new (c, y) ≡ cond t true (contains same_pair old (c, y)) → HasName new c y
+          by : (t : Bool) → contains same_pair new (c, y) ≡ cond t true (contains same_pair old (c, y))
+              → HasName new c y
           by true f = f
           by false f = f ∙ h
 
@@ -71,12 +74,15 @@ module _ {S : Type 0} (b : ℕ) where
       only : (c y : ℕ) → HasName new c y → HasName old c y ⊎ ((c ≡ b) × NamesSo (g ∷ []) y)
       only c y h = by (same_pair (b, x) (c, y)) refl (u (c, y))
         where
-          by : (t : Bool) → same_pair (b, x) (c, y) ≡ t → contains same_pair new (c, y) ≡ cond t true (contains same_pair old (c, y)) → HasName old c y ⊎ ((c ≡ b) × NamesSo (g ∷ []) y)
+          by : (t : Bool) → same_pair (b, x) (c, y) ≡ t
+              → contains same_pair new (c, y) ≡ cond t true (contains same_pair old (c, y))
+              → HasName old c y ⊎ ((c ≡ b) × NamesSo (g ∷ []) y)
           by true f k = let w = pair_one b x c y f in inr (sym w.0, record { member = g; is_one = one_first g []; name = e ∙ w.1 })
           by false f k = inl (sym k ∙ h)
 
   -- more names are added
-  pub adds_more : (gs hs : List NamedMember) (old mid new : HashSet (ℕ × ℕ) S) → AddsNames b gs old mid → AddsNames b hs mid new → AddsNames b (gs ++ hs) old new
+  pub adds_more : (gs hs : List NamedMember) (old mid new : HashSet (ℕ × ℕ) S) → AddsNames b gs old mid
+      → AddsNames b hs mid new → AddsNames b (gs ++ hs) old new
   adds_more gs hs old mid new h k = record {
     kept = λ c x p. k.kept c x (h.kept c x p);
     added = λ x n. elim (so_split gs hs x n) [ inl i ↦ k.kept b x (h.added x i) | inr i ↦ k.added x i ];
@@ -87,39 +93,50 @@ module _ {S : Type 0} (b : ℕ) where
   }
 
   -- a declaration that declares nothing, or something
-  pub adds_declared : (d : Declared) (s : Site) (f : TypeForm) (settings : List Setting) (names : List (NameId × Place)) (old new : HashSet (ℕ × ℕ) S) → IsDeclaredBy d f true
-      → ((kind : MemberKind) → AddsNames b (all_named s (Some kind) names) old new) → AddsNames b (all_named s (declared_kind d s f settings) names) old new
+  pub adds_declared : (d : Declared) (s : Site) (f : TypeForm) (settings : List Setting) (names : List (NameId × Place))
+      (old new : HashSet (ℕ × ℕ) S) → IsDeclaredBy d f true
+      → ((kind : MemberKind) → AddsNames b (all_named s (Some kind) names) old new)
+      → AddsNames b (all_named s (declared_kind d s f settings) names) old new
   adds_declared d s form.Boolean settings names old new e h = h _
   adds_declared d s form.Integer settings names old new e h = cc
   adds_declared d s (form.Named x) settings names old new e h = by (type_named d x.n) e
     where
-      by : (t : Option NamedType) → true ≡ is_some t → AddsNames b (all_named s (option_map (λ (u : NamedType). kind_of s (form.Named x) u settings) t) names) old new
+      by : (t : Option NamedType) → true ≡ is_some t
+          → AddsNames b (all_named s (option_map (λ (u : NamedType). kind_of s (form.Named x) u settings) t) names) old
+          new
       by None i = cc
       by (Some t) i = h _
 
-  pub adds_nothing : (d : Declared) (s : Site) (f : TypeForm) (settings : List Setting) (names : List (NameId × Place)) (old : HashSet (ℕ × ℕ) S) → IsDeclaredBy d f false
+  pub adds_nothing : (d : Declared) (s : Site) (f : TypeForm) (settings : List Setting) (names : List (NameId × Place))
+      (old : HashSet (ℕ × ℕ) S) → IsDeclaredBy d f false
       → AddsNames b (all_named s (declared_kind d s f settings) names) old old
   adds_nothing d s form.Boolean settings names old e = cc
   adds_nothing d s form.Integer settings names old e = adds_none old
   adds_nothing d s (form.Named x) settings names old e = by (type_named d x.n) e
     where
-      by : (t : Option NamedType) → false ≡ is_some t → AddsNames b (all_named s (option_map (λ (u : NamedType). kind_of s (form.Named x) u settings) t) names) old old
+      by : (t : Option NamedType) → false ≡ is_some t
+          → AddsNames b (all_named s (option_map (λ (u : NamedType). kind_of s (form.Named x) u settings) t) names) old
+          old
       by None i = adds_none old
       by (Some t) i = cc
 
 -- names of one declaration more, and of one site more
 pub all_next : (s : Site) (kind : MemberKind) (names : List (NameId × Place)) (n : NameId × Place)
-    → all_named s (Some kind) (names ++ n ∷ []) ≡ all_named s (Some kind) names ++ record { name = n.0.n; at = n.1; kind = kind; site = s } ∷ []
+    → all_named s (Some kind) (names ++ n ∷ [])
+    ≡ all_named s (Some kind) names ++ record { name = n.0.n; at = n.1; kind = kind; site = s } ∷ []
 all_next s kind [] n = refl
-all_next s kind (x ∷ xs) n = ap (λ (gs : List NamedMember). record { name = x.0.n; at = x.1; kind = kind; site = s } ∷ gs) (all_next s kind xs n)
+all_next s kind (x ∷ xs) n = ap (λ (gs : List NamedMember). record
+    { name = x.0.n; at = x.1; kind = kind; site = s } ∷ gs) (all_next s kind xs n)
 
-pub named_more : (d : Declared) (xs : List Site) (x : Site) → named_at d (xs ++ x ∷ []) ≡ named_at d xs ++ names_of d x (owned_at d x)
+pub named_more : (d : Declared) (xs : List Site) (x : Site)
+    → named_at d (xs ++ x ∷ []) ≡ named_at d xs ++ names_of d x (owned_at d x)
 named_more d [] x = end (names_of d x (owned_at d x))
   where
     end : (gs : List NamedMember) → gs ++ [] ≡ gs
     end [] = refl
     end (g ∷ gs) = ap (λ (hs : List NamedMember). g ∷ hs) (end gs)
-named_more d (y ∷ ys) x = ap (λ (gs : List NamedMember). names_of d y (owned_at d y) ++ gs) (named_more d ys x) ∙ sym (append_assoc (names_of d y (owned_at d y)) (named_at d ys) (names_of d x (owned_at d x)))
+named_more d (y ∷ ys) x = ap (λ (gs : List NamedMember). names_of d y (owned_at d y) ++ gs) (named_more d ys x)
+    ∙ sym (append_assoc (names_of d y (owned_at d y)) (named_at d ys) (names_of d x (owned_at d x)))
 
 -- Bodies
 
@@ -130,7 +147,8 @@ module _ {S : Type 0} (m : RootedModel) where
       none : (b x : ℕ) → HasName s b x → ⊥
       none b x h = let g = rw e at h in cc
 
-  pub first_more : (c : Classes) → IsTableFor m c → (n : ℕ) (body : Body) → Stands c.bodies.items n body → (old new : HashSet (ℕ × ℕ) S) → AddsNames n (named_at m.declared (sites_kept body)) old new
+  pub first_more : (c : Classes) → IsTableFor m c → (n : ℕ) (body : Body) → Stands c.bodies.items n body
+      → (old new : HashSet (ℕ × ℕ) S) → AddsNames n (named_at m.declared (sites_kept body)) old new
       → HasFirst m n old → HasFirst m (n + 1) new
   first_more c t n body s old new a h = record { there = there; only = only }
     where
@@ -145,12 +163,14 @@ module _ {S : Type 0} (m : RootedModel) where
           by (inl q) =
               let e : b ≡ n = omega (arith, q, l) in
               subst (λ (z : ℕ). HasName new z x) (sym e)
-              (a.added x (subst (λ (z : List Site). NamesSo (named_at m.declared z) x) (sym same) (subst (λ (z : ℕ). NamesSo (names_in m z) x) e k)))
+              (a.added x (subst (λ (z : List Site). NamesSo (named_at m.declared z) x) (sym same)
+              (subst (λ (z : ℕ). NamesSo (names_in m z) x) e k)))
 
       only : (b x : ℕ) → HasName new b x → NamesSo (names_in m b) x
       only b x k = elim (a.only b x k) [
         | inl i ↦ h.only b x i
-        | inr i ↦ subst (λ (z : ℕ). NamesSo (names_in m z) x) (sym i.0) (subst (λ (z : List Site). NamesSo (named_at m.declared z) x) same i.1)
+        | inr i ↦ subst (λ (z : ℕ). NamesSo (names_in m z) x) (sym i.0)
+            (subst (λ (z : List Site). NamesSo (named_at m.declared z) x) same i.1)
       ]
 
 -- Symbols
@@ -167,7 +187,9 @@ module _ {S : Type 0} (list : List NameId) where
       none : (x k : ℕ) → hash.get nat_eq t x ≡ Some k → ⊥
       none x k h = let g = rw e at h in cc
 
-  pub numbers_more : (n : ℕ) (a : NameId) → Stands list n a → (old new : HashMap ℕ ℕ S) → ((q : ℕ) → hash.get nat_eq new q ≡ cond (nat_eq a.n q) (Some n) (hash.get nat_eq old q)) → AreNumbersOf list n old → AreNumbersOf list (n + 1) new
+  pub numbers_more : (n : ℕ) (a : NameId) → Stands list n a → (old new : HashMap ℕ ℕ S)
+      → ((q : ℕ) → hash.get nat_eq new q ≡ cond (nat_eq a.n q) (Some n) (hash.get nat_eq old q))
+      → AreNumbersOf list n old → AreNumbersOf list (n + 1) new
   numbers_more n a s old new u h = record { at = at; all = all }
     where
       here : Stands (map (λ (x : NameId). x.n) list) n a.n
@@ -176,10 +198,12 @@ module _ {S : Type 0} (list : List NameId) where
       at : (x k : ℕ) → hash.get nat_eq new x ≡ Some k → Stands (map (λ (x : NameId). x.n) list) k x
       at x k g = by (nat_eq a.n x) refl (sym (u x) ∙ g)
         where
-          by : (b : Bool) → nat_eq a.n x ≡ b → cond b (Some n) (hash.get nat_eq old x) ≡ Some k → Stands (map (λ (x : NameId). x.n) list) k x
+          by : (b : Bool) → nat_eq a.n x ≡ b → cond b (Some n) (hash.get nat_eq old x) ≡ Some k
+              → Stands (map (λ (x : NameId). x.n) list) k x
           by true e f =
               let i : a.n ≡ x = grind (arith, nat_tests) in let j : n ≡ k = cc in
-              subst (λ (z : ℕ). Stands (map (λ (x : NameId). x.n) list) k z) i (subst (λ (z : ℕ). Stands (map (λ (x : NameId). x.n) list) z a.n) j here)
+              subst (λ (z : ℕ). Stands (map (λ (x : NameId). x.n) list) k z) i
+              (subst (λ (z : ℕ). Stands (map (λ (x : NameId). x.n) list) z a.n) j here)
           by false e f = h.at x k f
 
       all : (x k : ℕ) → hash.get nat_eq new x ≡ None → k < n + 1 → Stands (map (λ (x : NameId). x.n) list) k x → ⊥
@@ -193,13 +217,16 @@ module _ {S : Type 0} (list : List NameId) where
               below (inr q) = h.all x k f q t
               below (inl q) =
                   let i : k ≡ n = omega (arith, q, l) in
-                  let j = stands_one (map (λ (x : NameId). x.n) list) n a.n x here (subst (λ (z : ℕ). Stands (map (λ (x : NameId). x.n) list) z x) i t) in
+                  let j = stands_one (map (λ (x : NameId). x.n) list) n a.n x here
+                  (subst (λ (z : ℕ). Stands (map (λ (x : NameId). x.n) list) z x) i t) in
                   let w : nat_eq a.n x ≡ true = grind (arith, nat_tests) in cc
 
 -- the table is that of the tree
 pub scopes_of : (m : RootedModel) (units : List UnitPath) (s : Scopes) → IsTreeOf m units s.tree.now
-    → ((x k : ℕ) → hash.get nat_eq s.symbols x ≡ Some k → Stands (map (λ (x : NameId). x.n) s.tree.now.classes.symbols.items) k x)
-    → ((x k : ℕ) → hash.get nat_eq s.symbols x ≡ None → Stands (map (λ (x : NameId). x.n) s.tree.now.classes.symbols.items) k x → ⊥)
+    → ((x k : ℕ) → hash.get nat_eq s.symbols x ≡ Some k
+    → Stands (map (λ (x : NameId). x.n) s.tree.now.classes.symbols.items) k x)
+    → ((x k : ℕ) → hash.get nat_eq s.symbols x ≡ None
+    → Stands (map (λ (x : NameId). x.n) s.tree.now.classes.symbols.items) k x → ⊥)
     → HasFirst m (length s.tree.now.classes.bodies.items) s.members → KnowsPlaces s.tree.now.classes.types.items s.types
     → IsIndexOf s.tree.now s.index → AreScopes m units s
 scopes_of m units s is at all first known index = record {
@@ -215,7 +242,8 @@ scopes_of m units s is at all first known index = record {
     within : (b x : ℕ) → NamesSo (names_in m b) x → b < length s.tree.now.classes.bodies.items
     within b x n = by (side (length s.tree.now.classes.bodies.items) b)
       where
-        by : (length s.tree.now.classes.bodies.items ≤ b) ⊎ (b < length s.tree.now.classes.bodies.items) → b < length s.tree.now.classes.bodies.items
+        by : (length s.tree.now.classes.bodies.items ≤ b) ⊎ (b < length s.tree.now.classes.bodies.items)
+            → b < length s.tree.now.classes.bodies.items
         by (inr l) = l
         by (inl l) =
             let e = members_past m s.tree.now.classes is.table.table b l in

@@ -44,5 +44,6 @@ kind_in s p = option_and_then (kind_named s.scopes.now.tree.now) (scoped_in s.sc
 
 -- the sort of the variable that a path names
 abbrev pub sort_in : UnitNames → Path → Option Bool
-sort_in s p = option_and_then (λ n. option_map (sort_of s.scopes.now.tree.now s.sort) (slice_get s.scopes.now.tree.now.variables.items n))
+sort_in s p = option_and_then (λ n. option_map (sort_of s.scopes.now.tree.now s.sort)
+    (slice_get s.scopes.now.tree.now.variables.items n))
     (variable_in s.scopes.now.tree.now s.unit.n p)

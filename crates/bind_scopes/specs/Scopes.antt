@@ -30,7 +30,8 @@ use Rattle.bind_scopes.specs.declared.scopes.Scopes.{Scopes}
 
 -- The table
 
--- the table is that of the tree of the model: it numbers the symbols, has the names of all members, knows the types and has
+-- the table is that of the tree of the model: it numbers the symbols, has the names of all members, knows the types and
+-- has
 -- the tree's index
 pub record AreScopes (m : RootedModel) (units : List UnitPath) (s : Scopes) : Type 0 where
   pub is_tree : IsTreeOf m units s.tree.now
@@ -51,8 +52,10 @@ pub record HasScopes (s : Scopes) : Type 0 where
 
 -- the path, read in the unit u, names this, where every variable, parameter and symbol may be named
 pub data IsNamedIn (m : RootedModel) (units : List UnitPath) (u : UnitPath) (p : Path) : Option Named → Type 0 where
-  variable : {v : VarId} (t : Thing) → Finds m is_variable u p t → Stands (variables m units) v.n t → IsNamedIn m units u p (Some (Variable v))
-  parameter : {k : ℕ} (t : Thing) → Finds m is_valued u p t → Stands (parameters m units) k t → IsNamedIn m units u p (Some (Parameter k))
+  variable : {v : VarId} (t : Thing) → Finds m is_variable u p t → Stands (variables m units) v.n t
+      → IsNamedIn m units u p (Some (Variable v))
+  parameter : {k : ℕ} (t : Thing) → Finds m is_valued u p t → Stands (parameters m units) k t
+      → IsNamedIn m units u p (Some (Parameter k))
   symbol : {k : ℕ} → IsSymbol m u p k → IsNamedIn m units u p (Some (Symbol k))
   nothing : (s.MayName m u s.Everything p → ⊥) → IsNamedIn m units u p None
 

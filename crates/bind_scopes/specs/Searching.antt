@@ -15,7 +15,8 @@ use Rattle.hierarchy.specs.declared.tree.Tree.{Tree}
 
 -- the number of the unit to which the name x leads from unit n
 abbrev pub step_in : List UnitNode → ℕ → ℕ → Option ℕ
-step_in nodes n x = option_and_then (λ (d : UnitNode). option_or (entry_in d.inner.items x) (entry_in d.aliases.items x)) (slice_get nodes n)
+step_in nodes n x = option_and_then
+    (λ (d : UnitNode). option_or (entry_in d.inner.items x) (entry_in d.aliases.items x)) (slice_get nodes n)
 
 -- the number of the unit to which all of these names but the last lead from unit n, with the last name
 abbrev pub owner_in : List UnitNode → List ℕ → ℕ → Option (ℕ × ℕ)
@@ -36,7 +37,8 @@ lead_in t n p = option_and_then (owner_in t.units.items (numbers p.names.items))
 -- the place of the first node with this unit and name
 abbrev pub node_in : {A : Type 0} → (A → MemNode) → List A → ℕ × ℕ → Option ℕ
 node_in node [] at = None
-node_in node (d ∷ ds) at = if ((node d).unit.n == at.0) && ((node d).name.n == at.1) then Some 0 else option_map (λ k. k + 1) (node_in node ds at)
+node_in node (d ∷ ds) at = if ((node d).unit.n == at.0) && ((node d).name.n == at.1) then Some 0
+    else option_map (λ k. k + 1) (node_in node ds at)
 
 -- the number of the variable, and of the parameter, that a path names in unit n
 abbrev pub variable_in : Tree → ℕ → Path → Option ℕ

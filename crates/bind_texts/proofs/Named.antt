@@ -27,10 +27,12 @@ module _ {A D : Type 0} (R : A → D → Type 0) (f : A → List ℕ) (xs : List
   item_of n d h e = along_back xs ds along n d (item_stands ds n d h e)
 
   -- one text more
-  pub texts_more : (n : ℕ) (a : A) (ts zs : List (List ℕ)) (t : List ℕ) → Stands xs n a → ts ≡ map f (take n xs) → t ≡ f a → zs ≡ ts ++ t ∷ []
+  pub texts_more : (n : ℕ) (a : A) (ts zs : List (List ℕ)) (t : List ℕ) → Stands xs n a → ts ≡ map f (take n xs)
+      → t ≡ f a → zs ≡ ts ++ t ∷ []
       → zs ≡ map f (take (n + 1) xs)
   texts_more n a ts zs t s e i j =
-      j ∙ (ap (λ (z : List (List ℕ)). z ++ t ∷ []) e ∙ (ap (λ (z : List ℕ). map f (take n xs) ++ z ∷ []) i ∙ sym (map_next f xs n a s)))
+      j ∙ (ap (λ (z : List (List ℕ)). z ++ t ∷ []) e
+      ∙ (ap (λ (z : List ℕ). map f (take n xs) ++ z ∷ []) i ∙ sym (map_next f xs n a s)))
 
   -- all texts
   pub texts_end : (n : ℕ) (ts : List (List ℕ)) → length ds ≤ n → ts ≡ map f (take n xs) → ts ≡ map f xs
@@ -40,7 +42,8 @@ module _ {A D : Type 0} (R : A → D → Type 0) (f : A → List ℕ) (xs : List
 
 module _ (m : RootedModel) (units : List UnitPath) where
   -- the first texts stand before names in the first units
-  pub fronts_taken : (n : ℕ) (ts : List (List ℕ)) → ts ≡ map (prefix m) (take n units) → (k : ℕ) (v : UnitPath) → Stands units k v → IsFrontOf m ts k v
+  pub fronts_taken : (n : ℕ) (ts : List (List ℕ)) → ts ≡ map (prefix m) (take n units) → (k : ℕ) (v : UnitPath)
+      → Stands units k v → IsFrontOf m ts k v
   fronts_taken n ts e k v s = record {
     is = λ t p.
         let w = stands_map_back (prefix m) (take n units) k t (subst (λ (z : List (List ℕ)). Stands z k t) e p) in
@@ -49,7 +52,8 @@ module _ (m : RootedModel) (units : List UnitPath) where
   }
 
   -- and all before names in all units
-  pub fronts_all : (ts : List (List ℕ)) → ts ≡ map (prefix m) units → (k : ℕ) (v : UnitPath) → Stands units k v → IsFrontOf m ts k v
+  pub fronts_all : (ts : List (List ℕ)) → ts ≡ map (prefix m) units → (k : ℕ) (v : UnitPath) → Stands units k v
+      → IsFrontOf m ts k v
   fronts_all ts e k v s = record {
     is = λ t p.
         let w = stands_map_back (prefix m) units k t (subst (λ (z : List (List ℕ)). Stands z k t) e p) in
@@ -58,9 +62,11 @@ module _ (m : RootedModel) (units : List UnitPath) where
   }
 
   -- what stands before a name in a unit: the unit's path, which is that of its name in the unit above, and a dot
-  pub prefix_below : (u : UnitPath) (id : UnitId) (x : NameId) (ts : List (List ℕ)) → ((n : ℕ) (v : UnitPath) → Stands units n v → IsFrontOf m ts n v)
+  pub prefix_below : (u : UnitPath) (id : UnitId) (x : NameId) (ts : List (List ℕ))
+      → ((n : ℕ) (v : UnitPath) → Stands units n v → IsFrontOf m ts n v)
       → IsOwner units u (Some id) → IsName u x → (before after t : List ℕ)
-      → ((v : UnitPath) → IsFrontOf m ts id.n v → before ≡ thing_path m (record { unit = v; name = x.n })) → after ≡ before ++ codes "." → t ≡ after → t ≡ prefix m u
+      → ((v : UnitPath) → IsFrontOf m ts id.n v → before ≡ thing_path m (record { unit = v; name = x.n }))
+      → after ≡ before ++ codes "." → t ≡ after → t ≡ prefix m u
   prefix_below u id x ts fronts (of_unit {l = l} {above = above} s) name before after t path e i =
       i ∙ (e ∙ (ap (λ (z : List ℕ). z ++ codes ".") (path above (fronts id.n above s))
       ∙ (append_assoc (prefix m above) (text_at m.names x.n) (codes ".")
@@ -68,11 +74,14 @@ module _ (m : RootedModel) (units : List UnitPath) where
 
 -- the texts of numbers that stand for names
 module _ (f : ℕ → List ℕ) (xs : List ℕ) (names : List NameId) (all : map (λ (x : NameId). x.n) names ≡ xs) where
-  pub symbols_more : (n : ℕ) (x : NameId) (ts zs : List (List ℕ)) (t : List ℕ) → Stands names n x → ts ≡ map f (take n xs) → t ≡ f x.n → zs ≡ ts ++ t ∷ []
+  pub symbols_more : (n : ℕ) (x : NameId) (ts zs : List (List ℕ)) (t : List ℕ) → Stands names n x
+      → ts ≡ map f (take n xs) → t ≡ f x.n → zs ≡ ts ++ t ∷ []
       → zs ≡ map f (take (n + 1) xs)
   symbols_more n x ts zs t s e i j =
-      let there : Stands xs n x.n = subst (λ (z : List ℕ). Stands z n x.n) all (stands_map (λ (y : NameId). y.n) names n x s) in
-      j ∙ (ap (λ (z : List (List ℕ)). z ++ t ∷ []) e ∙ (ap (λ (z : List ℕ). map f (take n xs) ++ z ∷ []) i ∙ sym (map_next f xs n x.n there)))
+      let there : Stands xs n x.n = subst (λ (z : List ℕ). Stands z n x.n) all
+      (stands_map (λ (y : NameId). y.n) names n x s) in
+      j ∙ (ap (λ (z : List (List ℕ)). z ++ t ∷ []) e
+      ∙ (ap (λ (z : List ℕ). map f (take n xs) ++ z ∷ []) i ∙ sym (map_next f xs n x.n there)))
 
   pub symbols_end : (n : ℕ) (ts : List (List ℕ)) → length names ≤ n → ts ≡ map f (take n xs) → ts ≡ map f xs
   symbols_end n ts h e =

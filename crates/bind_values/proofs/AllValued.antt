@@ -24,24 +24,31 @@ use Rattle.bind_values.proofs.ValuesRight.{parameter_attribute}
 
 module _ (m : RootedModel) (units : List UnitPath) where
   -- the earliest place among parameters and variables is that of the rule
-  pub whole_earliest : (f g r : Option Place) → IsEarliest (BreaksOne m units (parameters m units)) f → IsEarliest (BreaksOne m units (variables m units)) g → IsEarlierOf f g r
+  pub whole_earliest : (f g r : Option Place) → IsEarliest (BreaksOne m units (parameters m units)) f
+      → IsEarliest (BreaksOne m units (variables m units)) g → IsEarlierOf f g r
       → IsEarliest (BreaksValue m units) r
   whole_earliest f g r p v e = earliest_same r to from (earliest_both f g r p v e)
     where
-      to : (at : Place) → BreaksOne m units (parameters m units) at ⊎ BreaksOne m units (variables m units) at → BreaksValue m units at
+      to : (at : Place) → BreaksOne m units (parameters m units) at ⊎ BreaksOne m units (variables m units)
+          at → BreaksValue m units at
       to at (inl b) = b.breaks.breaks
       to at (inr b) = b.breaks.breaks
 
-      by : (at : Place) (b : BreaksValue m units at) → HasValue m units b.thing → BreaksOne m units (parameters m units) at ⊎ BreaksOne m units (variables m units) at
-      by at b (of_variable o) = inr (record { thing = b.thing; is_one = o; breaks = record { breaks = b; thing = refl } })
-      by at b (of_parameter o h) = inl (record { thing = b.thing; is_one = o; breaks = record { breaks = b; thing = refl } })
+      by : (at : Place) (b : BreaksValue m units at) → HasValue m units b.thing
+          → BreaksOne m units (parameters m units) at ⊎ BreaksOne m units (variables m units) at
+      by at b (of_variable o) = inr (record
+          { thing = b.thing; is_one = o; breaks = record { breaks = b; thing = refl } })
+      by at b (of_parameter o h) = inl (record
+          { thing = b.thing; is_one = o; breaks = record { breaks = b; thing = refl } })
 
-      from : (at : Place) → BreaksValue m units at → BreaksOne m units (parameters m units) at ⊎ BreaksOne m units (variables m units) at
+      from : (at : Place) → BreaksValue m units at → BreaksOne m units (parameters m units) at ⊎ BreaksOne m units
+          (variables m units) at
       from at b = by at b b.has_value
 
   -- where nothing breaks the rule, each value is in its domain
   module _ (none : (at : Place) → BreaksValue m units at → ⊥) where
-    holds_in : (t : Thing) (v : Value) → HasValue m units t → IsValue m t v → (d : Domain) → IsDomainAt m t d → (b : (a : Attribute) × (in_force m t ≡ Some a)) → Holds d v
+    holds_in : (t : Thing) (v : Value) → HasValue m units t → IsValue m t v → (d : Domain) → IsDomainAt m t d
+        → (b : (a : Attribute) × (in_force m t ≡ Some a)) → Holds d v
     holds_in t v has is d type b = holds_by d v (λ n. none b.0.value.at (record {
       thing = t;
       has_value = has;
@@ -59,11 +66,16 @@ module _ (m : RootedModel) (units : List UnitPath) where
       place = refl;
     }))
 
-    module _ (tree : Tree) (is_tree : IsTreeOf m units tree) (values : Values) (ps : Along (IsParameterValue m) (parameters m units) values.parameters.items) (vs : Along (IsValue m) (variables m units) values.variables.items) where
-      variable_held : (t : Thing) (d : VarNode) (v : Value) → IsOneOf (variables m units) t → IsVariable m units t d → IsValue m t v → Holds d.domain v
-      variable_held t d v one h is = holds_in t v (of_variable one) is d.domain (variable_domain m units t d h) (h.value.attribute, h.value.in_force)
+    module _ (tree : Tree) (is_tree : IsTreeOf m units tree) (values : Values)
+        (ps : Along (IsParameterValue m) (parameters m units) values.parameters.items)
+        (vs : Along (IsValue m) (variables m units) values.variables.items) where
+      variable_held : (t : Thing) (d : VarNode) (v : Value) → IsOneOf (variables m units) t → IsVariable m units t d
+          → IsValue m t v → Holds d.domain v
+      variable_held t d v one h is = holds_in t v (of_variable one) is d.domain (variable_domain m units t d h)
+          (h.value.attribute, h.value.in_force)
 
-      parameter_held : (t : Thing) (d : ParNode) (v : Value) → IsOneOf (parameters m units) t → IsParameter m units t d → IsParameterValue m t v → HoldsIn d.domain v
+      parameter_held : (t : Thing) (d : ParNode) (v : Value) → IsOneOf (parameters m units) t → IsParameter m units t d
+          → IsParameterValue m t v → HoldsIn d.domain v
       parameter_held t d v one h is = by d.domain refl
         where
           by : (o : Option Domain) → d.domain ≡ o → HoldsIn o v
@@ -71,14 +83,17 @@ module _ (m : RootedModel) (units : List UnitPath) where
           by (Some w) e =
               let valued = domain_valued m units t d h w e in
               let a = parameter_attribute m units t d h valued in
-              holds_in t v (of_parameter one valued) (is.value valued) w (parameter_domain m units t d h w e) (a.attribute, a.in_force)
+              holds_in t v (of_parameter one valued) (is.value valued) w (parameter_domain m units t d h w e)
+              (a.attribute, a.in_force)
 
       pub all_valued : AreValues m units tree values
       all_valued = record {
         parameters_are = ps;
         variables_are = vs;
-        parameters_held = along_both (parameters m units) tree.parameters.items values.parameters.items parameter_held is_tree.parameters_are ps;
-        variables_held = along_both (variables m units) tree.variables.items values.variables.items variable_held is_tree.variables_are vs;
+        parameters_held = along_both (parameters m units) tree.parameters.items values.parameters.items parameter_held
+            is_tree.parameters_are ps;
+        variables_held = along_both (variables m units) tree.variables.items values.variables.items variable_held
+            is_tree.variables_are vs;
       }
 
 -- nothing breaks the rule

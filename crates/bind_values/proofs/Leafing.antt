@@ -45,7 +45,8 @@ module _ {m : RootedModel} {u : UnitPath} {p : Path} (t : Thing) (f : Finds m is
 
 -- the values of the parameters that the path names
 abbrev pub Knows : RootedModel → List UnitPath → UnitPath → Path → List Value → Type 0
-Knows m units u p vs = (t : Thing) (n : ℕ) → Finds m is_valued u p t → Stands (parameters m units) n t → IsValue m t (value_at vs n)
+Knows m units u p vs = (t : Thing) (n : ℕ) → Finds m is_valued u p t → Stands (parameters m units) n t
+    → IsValue m t (value_at vs n)
 
 -- in a value a path stands for a value, of the kind of what it names
 record IsConstant (m : RootedModel) (u : UnitPath) (p : Path) (l : Leaf) : Type 0 where
@@ -54,27 +55,39 @@ record IsConstant (m : RootedModel) (u : UnitPath) (p : Path) (l : Leaf) : Type 
   kind : HasKindAt m u p (kind_of value)
   leaf_for : IsLeafFor m [] u p l
 
-module _ {m : RootedModel} {units : List UnitPath} {u : UnitPath} {p : Path} (vs : List Value) (known : Knows m units u p vs) where
-  leaf_right : (r : Option Named) → IsNamedIn m units u p r → s.MayName m u s.Everything p → IsLeafFor m units u p (leaf_of vs r)
+module _ {m : RootedModel} {units : List UnitPath} {u : UnitPath} {p : Path} (vs : List Value)
+    (known : Knows m units u p vs) where
+  leaf_right : (r : Option Named) → IsNamedIn m units u p r → s.MayName m u s.Everything p
+      → IsLeafFor m units u p (leaf_of vs r)
   leaf_right r (variable t f st) may = leaf.variable t f st
   leaf_right r (parameter {k = n} t f st) may = leaf.parameter t f (known t n f st).value
   leaf_right r (symbol {k = n} i) may = leaf.symbol n i
   leaf_right r (nothing n) may = absurd (n may)
 
-  constant_right : (r : Option Named) → IsNamedIn m units u p r → (x : ℕ) (o : Option ℕ) → ((s.MayName m u (s.scope_of x o) p → ⊥) → ⊥) → IsConstant m u p (leaf_of vs r)
+  constant_right : (r : Option Named) → IsNamedIn m units u p r → (x : ℕ) (o : Option ℕ)
+      → ((s.MayName m u (s.scope_of x o) p → ⊥) → ⊥) → IsConstant m u p (leaf_of vs r)
   constant_right r (variable t f st) x o nn = absurd (nn (λ may. no_variable t f x o may))
   constant_right r (parameter {k = n} t f st) x o nn =
       let v = known t n f st in
-      record { value = value_at vs n; is = refl; kind = k.thing t f.leads v.kind; leaf_for = leaf.parameter t f v.value }
-  constant_right r (symbol {k = n} i) x o nn = record { value = value.Symbol n; is = refl; kind = k.symbol n i; leaf_for = leaf.symbol n i }
+      record {
+        value = value_at vs n;
+        is = refl;
+        kind = k.thing t f.leads v.kind;
+        leaf_for = leaf.parameter t f v.value;
+      }
+  constant_right r (symbol {k = n} i) x o nn =
+      record { value = value.Symbol n; is = refl; kind = k.symbol n i; leaf_for = leaf.symbol n i }
   constant_right r (nothing n) x o nn = absurd (nn (λ may. n (may_more (s.scope_of x o) may)))
 
-module _ {m : RootedModel} {units : List UnitPath} {table : Scopes} (are : AreScopes m units table) (n : ℕ) (u : UnitPath) (at : Stands units n u) (vs : List Value) (p : Path) where
+module _ {m : RootedModel} {units : List UnitPath} {table : Scopes} (are : AreScopes m units table) (n : ℕ)
+    (u : UnitPath) (at : Stands units n u) (vs : List Value) (p : Path) where
   pub constant_leaf : Knows m units u p vs → (x : ℕ) (o : Option ℕ) → ((s.MayName m u (s.scope_of x o) p → ⊥) → ⊥)
-      → (v : Value) × (leaf_of vs (named_in table n p) ≡ stands.Constant v) × HasKindAt m u p (kind_of v) × IsLeafFor m [] u p (leaf_of vs (named_in table n p))
+      → (v : Value) × (leaf_of vs (named_in table n p) ≡ stands.Constant v) × HasKindAt m u p (kind_of v)
+      × IsLeafFor m [] u p (leaf_of vs (named_in table n p))
   constant_leaf known x o nn = let c = constant_right vs known (named_in table n p) (names_right are n u at p) x o nn in (c.value, c.is, c.kind, c.leaf_for)
 
-  pub right_leaf : Along (IsParameterValue m) (parameters m units) vs → s.MayName m u s.Everything p → IsLeafFor m units u p (leaf_of vs (named_in table n p))
+  pub right_leaf : Along (IsParameterValue m) (parameters m units) vs → s.MayName m u s.Everything p
+      → IsLeafFor m units u p (leaf_of vs (named_in table n p))
   right_leaf along may = leaf_right vs known (named_in table n p) (names_right are n u at p) may
     where
       known : Knows m units u p vs

@@ -50,23 +50,28 @@ uses_different old xs new (known {xs = ys} o h) d = uses_different old ys new h 
 uses_different old xs new (first {xs = ys} {x = x} n h) d = uses_different _ ys new h (different_more old x d n)
 
 pub symbols_different : {m : RootedModel} → IsKept m → AreDifferent m.declared.symbols
-symbols_different k = uses_different [] _ _ k.rooted.declared.symbols (record { one = λ i j a p q. absurd (stands_none i a p) })
+symbols_different k = uses_different [] _ _ k.rooted.declared.symbols
+    (record { one = λ i j a p q. absurd (stands_none i a p) })
 
 -- the domains of a type have the same values
-listed_same : (v w : Domain) (x : Value) (ks js : List ℕ) → values_of v ≡ values_of w → values_of v ≡ map Symbol ks → values_of w ≡ map Symbol js → (s : ℕ) → Contains ks s → Contains js s
+listed_same : (v w : Domain) (x : Value) (ks js : List ℕ) → values_of v ≡ values_of w → values_of v ≡ map Symbol ks
+    → values_of w ≡ map Symbol js → (s : ℕ) → Contains ks s → Contains js s
 listed_same v w x ks js e f g s h =
     let i = subst (λ (z : List Value). Contains z (Symbol s)) (sym f ∙ (e ∙ g)) (contains-map Symbol s ks h) in
     let r = contains-from_map Symbol (Symbol s) js i in
     let q : r.0 ≡ s = (let p = r.2 in cc) in
     subst (λ (z : ℕ). Contains js z) q r.1
 
-holds_body : {numbers : List ℕ} (v w : Domain) (b : _) → IsDomainOf numbers b v → IsDomainOf numbers b w → values_of v ≡ values_of w → (x : Value) → Holds v x → Holds w x
-holds_body v w b (symbols {numbers = ks} p) (symbols {numbers = js} q) e (Symbol s) h = listed_same v w (Symbol s) ks.items js.items e refl refl s h
+holds_body : {numbers : List ℕ} (v w : Domain) (b : _) → IsDomainOf numbers b v → IsDomainOf numbers b w
+    → values_of v ≡ values_of w → (x : Value) → Holds v x → Holds w x
+holds_body v w b (symbols {numbers = ks} p) (symbols {numbers = js} q) e (Symbol s) h =
+    listed_same v w (Symbol s) ks.items js.items e refl refl s h
 holds_body v w b (symbols {numbers = ks} p) (symbols {numbers = js} q) e (Truth t) h = absurd h
 holds_body v w b (symbols {numbers = ks} p) (symbols {numbers = js} q) e (Whole n) h = absurd h
 holds_body v w b range range e x h = h
 
-pub holds_same : {d : Declared} {t : TypeForm} {v w : Domain} → AreDifferent d.symbols → HasDomain d t v → HasDomain d t w → (x : Value) → Holds v x → Holds w x
+pub holds_same : {d : Declared} {t : TypeForm} {v w : Domain} → AreDifferent d.symbols → HasDomain d t v
+    → HasDomain d t w → (x : Value) → Holds v x → Holds w x
 holds_same s boolean boolean x h = h
 holds_same {d = d} {v = v} {w = w} s (named {x = y} {declared = b} e p) (named f q) x h =
     let same = values_same {d = d} s (named {x = y} e p) (named {x = y} f q) in
@@ -112,21 +117,25 @@ holds_by d v n = elim (holds_or_not d v) [ inl h ↦ h | inr h ↦ absurd (n h) 
 
 -- One thing
 
-module _ {m : RootedModel} {units : List UnitPath} (kept : IsKept m) (t : Thing) (v : Value) (is : IsValue m t v) (d : Domain) (at_type : IsDomainAt m t d) where
+module _ {m : RootedModel} {units : List UnitPath} (kept : IsKept m) (t : Thing) (v : Value) (is : IsValue m t v)
+    (d : Domain) (at_type : IsDomainAt m t d) where
   -- where the domain has the value, nothing is broken
   pub inside_none : Holds d v → IsEarliest (BreaksAs m units t) None
   inside_none h = nowhere (λ p b. never b.breaks b.thing)
     where
       never : {p : Place} (b : BreaksValue m units p) → b.thing ≡ t → ⊥
       never b e =
-          let w = value_same m (symbols_different kept) is.value (subst (λ (z : Thing). ValueOf m z b.value) e b.is_value) in
+          let w = value_same m (symbols_different kept) is.value
+          (subst (λ (z : Thing). ValueOf m z b.value) e b.is_value) in
           let g = kind_one at_type.is (ap (λ (z : Thing). kind_at m z.unit z.name) (sym e) ∙ b.is) in
           let q = kind_one at_type.is_type (ap type_of g ∙ b.is_type) in
           let there = subst (λ (z : TypeForm). HasDomain m.declared z b.domain) (sym q) b.is_domain in
-          b.outside (subst (λ (z : Value). Holds b.domain z) w (holds_same (symbols_different kept) at_type.domain there v h))
+          b.outside (subst (λ (z : Value). Holds b.domain z) w
+          (holds_same (symbols_different kept) at_type.domain there v h))
 
   -- where it has not, the value breaks the rule where it stands
-  pub outside_there : HasValue m units t → (a : Attribute) → in_force m t ≡ Some a → (Holds d v → ⊥) → (w : RawExpr) → a.value ≡ w → IsEarliest (BreaksAs m units t) (Some w.at)
+  pub outside_there : HasValue m units t → (a : Attribute) → in_force m t ≡ Some a → (Holds d v → ⊥) → (w : RawExpr)
+      → a.value ≡ w → IsEarliest (BreaksAs m units t) (Some w.at)
   outside_there has a force n w e = there (record { breaks = one; thing = refl }) (λ q l b. never q l b.breaks b.thing)
     where
       one : BreaksValue m units w.at
@@ -153,17 +162,20 @@ module _ {m : RootedModel} {units : List UnitPath} (kept : IsKept m) (t : Thing)
           not_before q w.at l (b.place ∙ (ap (λ (z : Attribute). z.value.at) f ∙ ap (λ (z : RawExpr). z.at) e))
 
 -- the domain of a parameter is that of its type
-parameter_type : {d : Declared} (k : MemberKind) (o : Option Domain) (v : Domain) → HasParameterDomain d k o → o ≡ Some v → (type : TypeForm) × (type_of k ≡ Some type) × HasDomain d type v
+parameter_type : {d : Declared} (k : MemberKind) (o : Option Domain) (v : Domain) → HasParameterDomain d k o
+    → o ≡ Some v → (type : TypeForm) × (type_of k ≡ Some type) × HasDomain d type v
 parameter_type {d = d} k o v (domain {type = f} {v = w} h) e = let q : w ≡ v = cc in (f, refl, subst (λ (z : Domain). HasDomain d f z) q h)
 parameter_type k o v integer e = cc
 parameter_type k o v kept e = cc
 
-has_value : {d : Declared} (k : MemberKind) (o : Option Domain) (v : Domain) → HasParameterDomain d k o → o ≡ Some v → is_valued k ≡ true
+has_value : {d : Declared} (k : MemberKind) (o : Option Domain) (v : Domain) → HasParameterDomain d k o → o ≡ Some v
+    → is_valued k ≡ true
 has_value k o v (domain h) e = refl
 has_value k o v integer e = cc
 has_value k o v kept e = cc
 
-no_type : {d : Declared} (k : MemberKind) (o : Option Domain) → HasParameterDomain d k o → o ≡ None → (f : TypeForm) (v : Domain) → type_of k ≡ Some f → HasDomain d f v → ⊥
+no_type : {d : Declared} (k : MemberKind) (o : Option Domain) → HasParameterDomain d k o → o ≡ None
+    → (f : TypeForm) (v : Domain) → type_of k ≡ Some f → HasDomain d f v → ⊥
 no_type k o (domain h) e f v i g = cc
 no_type k o integer e f v i boolean = cc
 no_type k o integer e f v i (named j g) = cc
@@ -174,7 +186,13 @@ module _ (m : RootedModel) (units : List UnitPath) (t : Thing) where
   given_is g e = ap (λ (o : Option NamedMember). option_map (λ (z : NamedMember). z.kind) o) e
 
   pub variable_domain : (d : VarNode) → IsVariable m units t d → IsDomainAt m t d.domain
-  variable_domain d h = record { member = h.given.kind; is = given_is h.given h.node.is; type = h.type; is_type = ap type_of h.is; domain = h.domain }
+  variable_domain d h = record {
+    member = h.given.kind;
+    is = given_is h.given h.node.is;
+    type = h.type;
+    is_type = ap type_of h.is;
+    domain = h.domain;
+  }
 
   module _ (d : ParNode) (h : IsParameter m units t d) where
     pub parameter_domain : (v : Domain) → d.domain ≡ Some v → IsDomainAt m t v
@@ -184,7 +202,11 @@ module _ (m : RootedModel) (units : List UnitPath) (t : Thing) where
 
     -- a parameter with a domain has a value
     pub domain_valued : (v : Domain) → d.domain ≡ Some v → Has m is_valued t
-    domain_valued v e = record { kind = h.given.kind; is = given_is h.given h.node.is; passes = has_value h.given.kind d.domain v h.domain e }
+    domain_valued v e = record {
+      kind = h.given.kind;
+      is = given_is h.given h.node.is;
+      passes = has_value h.given.kind d.domain v h.domain e;
+    }
 
     -- a parameter without a domain breaks nothing
     pub no_domain : d.domain ≡ None → IsEarliest (BreaksAs m units t) None
@@ -192,7 +214,8 @@ module _ (m : RootedModel) (units : List UnitPath) (t : Thing) where
       where
         never : {p : Place} (b : BreaksValue m units p) → b.thing ≡ t → ⊥
         never b i =
-            let g = kind_one (given_is h.given h.node.is) (ap (λ (z : Thing). kind_at m z.unit z.name) (sym i) ∙ b.is) in
+            let g = kind_one (given_is h.given h.node.is)
+            (ap (λ (z : Thing). kind_at m z.unit z.name) (sym i) ∙ b.is) in
             no_type h.given.kind d.domain h.domain e b.type b.domain (ap type_of g ∙ b.is_type) b.is_domain
 
 -- Things in lists
@@ -204,28 +227,41 @@ module _ (m : RootedModel) (units : List UnitPath) (things : List Thing) where
     pub stands : Stands things n thing
     pub breaks : BreaksAs m units thing at
 
-  pub thing_now : (n : ℕ) (t : Thing) (r : Option Place) → Stands things n t → IsEarliest (BreaksAs m units t) r → IsEarliest (BreaksAt n) r
+  pub thing_now : (n : ℕ) (t : Thing) (r : Option Place) → Stands things n t → IsEarliest (BreaksAs m units t) r
+      → IsEarliest (BreaksAt n) r
   thing_now n t r s h =
-      earliest_same r (λ at b. record { thing = t; stands = s; breaks = b }) (λ at b. subst (λ (z : Thing). BreaksAs m units z at) (stands_one things n b.thing t b.stands s) b.breaks) h
+      earliest_same r (λ at b. record { thing = t; stands = s; breaks = b })
+      (λ at b. subst (λ (z : Thing). BreaksAs m units z at) (stands_one things n b.thing t b.stands s) b.breaks) h
 
   module _ {A : Type 0} {R : Thing → A → Type 0} (nodes : List A) (rows : Along R things nodes) where
     pub thing_to : (k : ℕ) (d : A) (at : Place) → Stands nodes k d → BreaksAt k at → BreaksOne m units things at
     thing_to k d at s b = record { thing = b.thing; is_one = one_here things k b.thing b.stands; breaks = b.breaks }
 
-    pub thing_back : (at : Place) → BreaksOne m units things at → (k : ℕ) × AtItem nodes (λ (j : ℕ) (d : A) (q : Place). BreaksAt j q) k at
+    pub thing_back : (at : Place) → BreaksOne m units things at → (k : ℕ)
+        × AtItem nodes (λ (j : ℕ) (d : A) (q : Place). BreaksAt j q) k at
     thing_back at b =
-        let a = along_on things nodes rows b.is_one.place b.thing b.is_one.stands in
-        (b.is_one.place, record { item = a.0; stands = a.1; has = record { thing = b.thing; stands = b.is_one.stands; breaks = b.breaks } })
+        let a = along_on things nodes rows b.is_one.place b.thing b.is_one.stands in (
+          b.is_one.place,
+          record {
+            item = a.0;
+            stands = a.1;
+            has = record { thing = b.thing; stands = b.is_one.stands; breaks = b.breaks };
+          },
+        )
 
 -- two lists that go along a third go along each other
-pub along_both : {A B C : Type 0} {R : A → B → Type 0} {S : A → C → Type 0} {T : B → C → Type 0} (xs : List A) (ys : List B) (zs : List C)
+pub along_both : {A B C : Type 0} {R : A → B → Type 0} {S : A → C → Type 0} {T : B → C → Type 0} (xs : List A)
+    (ys : List B) (zs : List C)
     → ((a : A) (b : B) (c : C) → IsOneOf xs a → R a b → S a c → T b c) → Along R xs ys → Along S xs zs → Along T ys zs
 along_both xs ys zs f along.none along.none = along.none
-along_both xs ys zs f (along.one_and {a = a} {b = b} {xs = more} {ys = bs} r rs) (along.one_and {b = c} {ys = cs} s ss) =
-    along.one_and (f a b c (one_first a more) r s) (along_both more bs cs (λ d e g i p q. f d e g (one_rest a more d i) p q) rs ss)
+along_both xs ys zs f (along.one_and {a = a} {b = b} {xs = more} {ys = bs} r rs)
+    (along.one_and {b = c} {ys = cs} s ss) =
+    along.one_and (f a b c (one_first a more) r s)
+    (along_both more bs cs (λ d e g i p q. f d e g (one_rest a more d i) p q) rs ss)
 
 -- the value that stands at the place of a thing is the thing's
-pub known_value : (P : Thing → Value → Type 0) (things : List Thing) (vs : List Value) → Along P things vs → (k : ℕ) (t : Thing) (v : Value) → Stands things k t → v ≡ value_at vs k → P t v
+pub known_value : (P : Thing → Value → Type 0) (things : List Thing) (vs : List Value) → Along P things vs
+    → (k : ℕ) (t : Thing) (v : Value) → Stands things k t → v ≡ value_at vs k → P t v
 known_value P things vs rows k t v s e =
     let b = along_on things vs rows k t s in
     subst (λ (z : Value). P t z) (sym (e ∙ read_value vs k b.0 b.1)) b.2

@@ -61,13 +61,16 @@ module _ {A : Type 0} where
   take_stands (x ∷ xs) (suc n) (suc k) a l h = take_stands xs n k a (omega (arith, l)) h
 
 module _ {A B : Type 0} {R : A → B → Type 0} where
-  along_more : {xs : List A} {ys : List B} (a : A) (b : B) → Along R xs ys → R a b → Along R (xs ++ a ∷ []) (ys ++ b ∷ [])
+  along_more : {xs : List A} {ys : List B} (a : A) (b : B) → Along R xs ys → R a b
+      → Along R (xs ++ a ∷ []) (ys ++ b ∷ [])
   along_more a b along.none h = along.one_and h along.none
   along_more a b (along.one_and r rs) h = along.one_and r (along_more a b rs h)
 
   -- one item more
-  pub along_next : (xs : List A) (k : ℕ) (a : A) (ys : List B) (b : B) → Stands xs k a → R a b → Along R (take k xs) ys → Along R (take (k + 1) xs) (ys ++ b ∷ [])
-  along_next xs k a ys b s h r = subst (λ (zs : List A). Along R zs (ys ++ b ∷ [])) (sym (take_next xs k a s)) (along_more a b r h)
+  pub along_next : (xs : List A) (k : ℕ) (a : A) (ys : List B) (b : B) → Stands xs k a → R a b → Along R (take k xs) ys
+      → Along R (take (k + 1) xs) (ys ++ b ∷ [])
+  along_next xs k a ys b s h r = subst (λ (zs : List A). Along R zs (ys ++ b ∷ [])) (sym (take_next xs k a s))
+      (along_more a b r h)
 
   -- all items
   pub along_end : (xs : List A) (k : ℕ) (ys : List B) → length xs ≤ k → Along R (take k xs) ys → Along R xs ys
@@ -78,7 +81,8 @@ module _ {A B : Type 0} {R : A → B → Type 0} where
 -- Values
 
 -- what is wrong where any kind is wanted is wrong where one is
-any_wrong : {names : Path → ValueKind → Type 0} {e : RawExpr} {at : Place} (k : ValueKind) → IsMistyped names AnyKind e at → IsMistyped names (OfKind k) e at
+any_wrong : {names : Path → ValueKind → Type 0} {e : RawExpr} {at : Place} (k : ValueKind)
+    → IsMistyped names AnyKind e at → IsMistyped names (OfKind k) e at
 any_wrong k (itself j want h w n) = elim w [ ]
 any_wrong k (real q) = real q
 any_wrong k (inside o i h) = inside o i h
@@ -89,7 +93,8 @@ module _ {m : RootedModel} {units : List UnitPath} {table : Scopes} (are : AreSc
   value_kind t (of_variable o) = let w = variable_kind are.is_tree o.place t o.stands in (w.0, w.2)
   value_kind t (of_parameter o h) = let w = valued_kind are.is_tree o.place t o.stands h in (w.0, w.2)
 
-  module _ (kept : AreNamesKept m units) (t : Thing) (has : HasValue m units t) (n : ℕ) (vs : List Value) (first : AreFirst m units n vs) (names : NamesBefore m units t n)
+  module _ (kept : AreNamesKept m units) (t : Thing) (has : HasValue m units t) (n : ℕ) (vs : List Value)
+      (first : AreFirst m units n vs) (names : NamesBefore m units t n)
       (a : Attribute) (force : in_force m t ≡ Some a) (number : ℕ) (at : Stands units number a.unit) where
     abbrev stand : Path → Leaf
     stand p = leaf_of vs (named_in table number p)
@@ -100,7 +105,8 @@ module _ {m : RootedModel} {units : List UnitPath} {table : Scopes} (are : AreSc
     may : (p : Path) → PathIn p (level_of a.value) → (MayName m a.unit (scope_of t.name a.setting) p → ⊥) → ⊥
     may p i never =
         let w = value_kind t has in
-        kept.naming p.at (rules.in_expression (scope_of t.name a.setting) w.0 a.value (tested w.0 w.1) (record { path = p; is_in = i; not = never; place = refl }))
+        kept.naming p.at (rules.in_expression (scope_of t.name a.setting) w.0 a.value (tested w.0 w.1)
+        (record { path = p; is_in = i; not = never; place = refl }))
 
     knows : (p : Path) → PathIn p (level_of a.value) → Knows m units a.unit p vs
     knows p i r k f st =
@@ -108,7 +114,9 @@ module _ {m : RootedModel} {units : List UnitPath} {table : Scopes} (are : AreSc
         let b = along_on (take n (parameters m units)) vs first k r (take_stands (parameters m units) n k r l st) in
         subst (λ (z : Value). IsValue m r z) (sym (read_value vs k b.0 b.1)) (b.2.value f.has)
 
-    constant : (p : Path) → PathIn p (level_of a.value) → (v : Value) × (stand p ≡ stands.Constant v) × HasKindAt m a.unit p (kind_of v) × IsLeafFor m [] a.unit p (stand p)
+    constant : (p : Path) → PathIn p (level_of a.value)
+        → (v : Value) × (stand p ≡ stands.Constant v) × HasKindAt m a.unit p (kind_of v)
+        × IsLeafFor m [] a.unit p (stand p)
     constant p i = constant_leaf are number a.unit at vs p (knows p i) t.name a.setting (may p i)
 
     typed : (k : ValueKind) → IsOfKind m t k → (at : Place) → IsMistyped (HasKindAt m a.unit) (OfKind k) a.value at → ⊥
@@ -121,23 +129,34 @@ module _ {m : RootedModel} {units : List UnitPath} {table : Scopes} (are : AreSc
         none x v = ⊥
 
         meant : (k : ValueKind) → IsOfKind m t k → IsBoundExpression m [] a.unit a.value e
-        meant k i = bound_meaning m [] a.unit stand a.value e (λ p j. (constant p j).3) (λ q h. typed k i q (any_wrong k h)) b
+        meant k i = bound_meaning m [] a.unit stand a.value e (λ p j. (constant p j).3)
+            (λ q h. typed k i q (any_wrong k h)) b
 
         go : (k : ValueKind) × IsOfKind m t k → IsValue m t (value_of (λ _. Truth false) e)
         go (k, i) =
             let y = whole_valued (HasKindAt m a.unit) stand none (λ _. Truth false) a.value e k (λ p j. let c = constant p j in record { value = c.0; is = c.1; kind = c.2 }) (typed k i) b in
             let w = meant k i in
-            let z = carries VarId Thing none no_facts (λ x r. IsNumberOf m [] r x) (λ x r v q h. absurd h) y.0 (renames_turned (IsNumberOf m []) w.numbers) in
-            record { value = means.value a w.meaning force w.means z; kind = subst (λ (j : ValueKind). IsOfKind m t j) (sym y.1) i }
+            let z = carries VarId Thing none no_facts (λ x r. IsNumberOf m [] r x) (λ x r v q h. absurd h) y.0
+            (renames_turned (IsNumberOf m []) w.numbers) in
+            record {
+              value = means.value a w.meaning force w.means z;
+              kind = subst (λ (j : ValueKind). IsOfKind m t j) (sym y.1) i;
+            }
 
-    pub value_right : (w : RawExpr) (e : Expr VarId) (v : Value) → a.value ≡ w → BecomesBy stand w e → v ≡ value_of (λ _. Truth false) e → IsValue m t v
-    value_right w e v q b i = subst (λ (z : Value). IsValue m t z) (sym i) (right_of e (subst (λ (z : RawExpr). BecomesBy stand z e) (sym q) b))
+    pub value_right : (w : RawExpr) (e : Expr VarId) (v : Value) → a.value ≡ w → BecomesBy stand w e
+        → v ≡ value_of (λ _. Truth false) e → IsValue m t v
+    value_right w e v q b i = subst (λ (z : Value). IsValue m t z) (sym i)
+        (right_of e (subst (λ (z : RawExpr). BecomesBy stand z e) (sym q) b))
 
 -- all values are the first ones
-pub all_first : (m : RootedModel) (units : List UnitPath) (vs : List Value) → Along (IsParameterValue m) (parameters m units) vs → AreFirst m units (length (parameters m units)) vs
-all_first m units vs r = subst (λ (z : List Thing). Along (IsParameterValue m) z vs) (sym (take_all (length (parameters m units)) (parameters m units) (omega arith))) r
+pub all_first : (m : RootedModel) (units : List UnitPath) (vs : List Value)
+    → Along (IsParameterValue m) (parameters m units) vs → AreFirst m units (length (parameters m units)) vs
+all_first m units vs r = subst (λ (z : List Thing). Along (IsParameterValue m) z vs)
+    (sym (take_all (length (parameters m units)) (parameters m units) (omega arith))) r
 
-pub parameter_attribute : (m : RootedModel) (units : List UnitPath) (t : Thing) (d : ParNode) → IsParameter m units t d → Has m is_valued t → HasAttribute m units t d.value
+pub parameter_attribute : (m : RootedModel) (units : List UnitPath) (t : Thing) (d : ParNode) → IsParameter m units t d
+    → Has m is_valued t → HasAttribute m units t d.value
 parameter_attribute m units t d h v =
-    let e : kind_at m t.unit t.name ≡ Some h.given.kind = ap (λ (o : Option NamedMember). option_map (λ (z : NamedMember). z.kind) o) h.node.is in
+    let e : kind_at m t.unit t.name ≡ Some h.given.kind =
+    ap (λ (o : Option NamedMember). option_map (λ (z : NamedMember). z.kind) o) h.node.is in
     valued_attribute m units t h.given.kind d.value (sym (ap is_valued (kind_one v.is e)) ∙ v.passes) h.value

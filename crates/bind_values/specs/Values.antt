@@ -50,12 +50,14 @@ HoldsIn (Some d) v = Holds d v
 pub record AreValues (m : RootedModel) (units : List UnitPath) (tree : Tree) (values : Values) : Type 0 where
   pub parameters_are : Along (IsParameterValue m) (parameters m units) values.parameters.items
   pub variables_are : Along (IsValue m) (variables m units) values.variables.items
-  pub parameters_held : Along (λ (d : ParNode) (v : Value). HoldsIn d.domain v) tree.parameters.items values.parameters.items
+  pub parameters_held : Along (λ (d : ParNode) (v : Value). HoldsIn d.domain v) tree.parameters.items
+      values.parameters.items
   pub variables_held : Along (λ (d : VarNode) (v : Value). Holds d.domain v) tree.variables.items values.variables.items
 
 -- the values, where each is in its domain, or else the earliest place at which one is not
 pub data IsValued (m : RootedModel) (units : List UnitPath) (tree : Tree) : Result Values Place → Type 0 where
-  values : {vs : Values} → AreValues m units tree vs → IsEarliest (BreaksValue m units) None → IsValued m units tree (Ok vs)
+  values : {vs : Values} → AreValues m units tree vs → IsEarliest (BreaksValue m units) None
+      → IsValued m units tree (Ok vs)
   outside : {p : Place} → IsEarliest (BreaksValue m units) (Some p) → IsValued m units tree (Err p)
 
 -- One by one
@@ -66,7 +68,8 @@ AreFirst m units n vs = Along (IsParameterValue m) (take n (parameters m units))
 
 -- the parameters that the value in force of the thing may name stand before place n
 pub record NamesBefore (m : RootedModel) (units : List UnitPath) (t : Thing) (n : ℕ) : Type 0 where
-  pub before : (a : Attribute) (p : Path) (s : Thing) (k : ℕ) → in_force m t ≡ Some a → MayName m a.unit (scope_of t.name a.setting) p → Finds m is_valued a.unit p s
+  pub before : (a : Attribute) (p : Path) (s : Thing) (k : ℕ) → in_force m t ≡ Some a
+      → MayName m a.unit (scope_of t.name a.setting) p → Finds m is_valued a.unit p s
       → Stands (parameters m units) k s → k < n
 
 -- the domain is that of the thing's type

@@ -36,26 +36,37 @@ among_answer [] e = λ o. one_none e o
 among_answer (x ∷ xs) e =
     or_answer (nat_eq x e) (has_event xs e) (x ≡ e) (IsOneOf xs e) (IsOneOf (x ∷ xs) e)
     (λ i. subst (λ (z : ℕ). IsOneOf (x ∷ xs) z) i (one_first x xs)) (one_rest x xs e)
-    (λ n m o. elim (one_cases x xs e o) [ inl i ↦ n i | inr q ↦ m q ]) (eq_answer x e (nat_eq x e) refl) (among_answer xs e)
+    (λ n m o. elim (one_cases x xs e o) [ inl i ↦ n i | inr q ↦ m q ]) (eq_answer x e (nat_eq x e) refl)
+    (among_answer xs e)
 
 pub all_answer : (xs ys : List ℕ) → IsAnswer (all_among xs ys) (Within xs ys)
 all_answer [] ys = record { each = λ e o. absurd (one_none e o) }
 all_answer (x ∷ xs) ys =
     and_answer (has_event ys x) (all_among xs ys) (IsOneOf ys x) (Within xs ys) (Within (x ∷ xs) ys)
-    (λ o w. record { each = λ e q. elim (one_cases x xs e q) [ inl i ↦ subst (λ (z : ℕ). IsOneOf ys z) i o | inr r ↦ w.each e r ] })
-    (λ w. w.each x (one_first x xs)) (λ w. record { each = λ e o. w.each e (one_rest x xs e o) }) (among_answer ys x) (all_answer xs ys)
+    (λ o w. record {
+      each = λ e q. elim (one_cases x xs e q)
+          [ inl i ↦ subst (λ (z : ℕ). IsOneOf ys z) i o | inr r ↦ w.each e r ];
+    })
+    (λ w. w.each x (one_first x xs)) (λ w. record { each = λ e o. w.each e (one_rest x xs e o) }) (among_answer ys x)
+    (all_answer xs ys)
 
 pub listed_answer : (lines : List (List Label)) (set : List ℕ) → IsAnswer (listed_in lines set) (IsListed lines set)
 listed_answer [] set = λ h. one_none h.line h.is_line
 listed_answer (ls ∷ lines) set =
-    or_answer (all_among (events_of ls) set && all_among set (events_of ls)) (listed_in lines set) (Within (events_of ls) set × Within set (events_of ls)) (IsListed lines set) (IsListed (ls ∷ lines) set)
+    or_answer (all_among (events_of ls) set && all_among set (events_of ls)) (listed_in lines set)
+    (Within (events_of ls) set × Within set (events_of ls)) (IsListed lines set) (IsListed (ls ∷ lines) set)
     (λ w. record { line = ls; is_line = one_first ls lines; within = w.0; whole = w.1 })
     (λ h. record { line = h.line; is_line = one_rest ls lines h.line h.is_line; within = h.within; whole = h.whole })
     (λ n m h. elim (one_cases ls lines h.line h.is_line) [
-      | inl e ↦ n (subst (λ (z : List Label). Within (events_of z) set) (sym e) h.within, subst (λ (z : List Label). Within set (events_of z)) (sym e) h.whole)
+      | inl e ↦ n (
+        subst (λ (z : List Label). Within (events_of z) set) (sym e) h.within,
+        subst
+            (λ (z : List Label). Within set (events_of z)) (sym e) h.whole,
+      )
       | inr o ↦ m (record { line = h.line; is_line = o; within = h.within; whole = h.whole })
     ])
-    (and_answer (all_among (events_of ls) set) (all_among set (events_of ls)) (Within (events_of ls) set) (Within set (events_of ls)) (Within (events_of ls) set × Within set (events_of ls))
+    (and_answer (all_among (events_of ls) set) (all_among set (events_of ls)) (Within (events_of ls) set)
+    (Within set (events_of ls)) (Within (events_of ls) set × Within set (events_of ls))
     (λ a b. (a, b)) (λ w. w.0) (λ w. w.1) (all_answer (events_of ls) set) (all_answer set (events_of ls)))
     (listed_answer lines set)
 
@@ -67,14 +78,19 @@ pub listed_not : (lines : List (List Label)) (set : List ℕ) → (IsListed line
 listed_not lines set h = same_answer (IsListed lines set) (listed_in lines set) false (listed_answer lines set) h
 
 -- what is written of a set
-pub missing_none : (p : GtsParts) (ways : List WayId) (lines : List (List Label)) (set : List ℕ) → IsListed lines set → ◌≡◌ {A = List ℕ} [] (missing_one p ways lines set)
-missing_none p ways lines set h = sym (ap (λ (b : Bool). if b then [] else line (codes "missing " ++ braced (texts_at p ways set))) (listed_yes lines set h))
+pub missing_none : (p : GtsParts) (ways : List WayId) (lines : List (List Label)) (set : List ℕ) → IsListed lines set
+    → ◌≡◌ {A = List ℕ} [] (missing_one p ways lines set)
+missing_none p ways lines set h = sym
+    (ap (λ (b : Bool). if b then [] else line (codes "missing " ++ braced (texts_at p ways set)))
+    (listed_yes lines set h))
 
-pub missing_some : (p : GtsParts) (ways : List WayId) (lines : List (List Label)) (set : List ℕ) → (IsListed lines set → ⊥)
+pub missing_some : (p : GtsParts) (ways : List WayId) (lines : List (List Label)) (set : List ℕ)
+    → (IsListed lines set → ⊥)
     → codes "missing " ++ (braced (texts_at p ways set) ++ 10 ∷ []) ≡ missing_one p ways lines set
 missing_some p ways lines set h =
     sym (append_assoc (codes "missing ") (braced (texts_at p ways set)) (10 ∷ []))
-    ∙ sym (ap (λ (b : Bool). if b then [] else line (codes "missing " ++ braced (texts_at p ways set))) (listed_not lines set h))
+    ∙ sym (ap (λ (b : Bool). if b then [] else line (codes "missing " ++ braced (texts_at p ways set)))
+    (listed_not lines set h))
 
 pub and_false : (b : Bool) → false ≡ (b && false)
 and_false true = refl
@@ -89,27 +105,36 @@ on_ok P (Ok u) h = h
 on_ok P (Err e) h = tt
 
 -- the missing lines by the edges
-pub same_missing : (edges : List Edge) → HaveOneWay edges → (ways : List WayId) → AreWaysOf edges ways → (p : GtsParts) (lines : List (List Label)) (sets : List (List ℕ)) → AreOfEdges edges sets
+pub same_missing : (edges : List Edge) → HaveOneWay edges → (ways : List WayId) → AreWaysOf edges ways
+    → (p : GtsParts) (lines : List (List Label)) (sets : List (List ℕ)) → AreOfEdges edges sets
     → missing_at p ways lines sets ≡ missing_text p edges lines sets
 same_missing edges one ways are p lines [] h = refl
 same_missing edges one ways are p lines (s ∷ ss) h =
-    ap (λ (z : List (List ℕ)). (if listed_in lines s then [] else line (codes "missing " ++ braced z)) ++ missing_at p ways lines ss)
+    ap (λ (z : List (List ℕ)). (if listed_in lines s then [] else line (codes "missing " ++ braced z)) ++ missing_at p
+    ways lines ss)
     (same_map edges one ways are (way_label p) s (h.each s (one_first s ss)))
     ∙ ap (λ (z : List ℕ). (if listed_in lines s then [] else line (codes "missing " ++ events_text p edges s)) ++ z)
     (same_missing edges one ways are p lines ss (record { each = λ x o. h.each x (one_rest s ss x o) }))
 
 -- what is left of the verdicts begins with the next one
-pub next_verdict : (chains : List Chain) (vs : List Verdict) (i : ℕ) (c : Chain) (v : Verdict) → i < length chains → c ≡ get_or chains i c → length vs ≡ length chains
-    → verdict_lines (drop i chains) (drop i vs) ≡ verdict_line c.line (get_or vs i v) ++ verdict_lines (drop (i + 1) chains) (drop (i + 1) vs)
+pub next_verdict : (chains : List Chain) (vs : List Verdict) (i : ℕ) (c : Chain) (v : Verdict) → i < length chains
+    → c ≡ get_or chains i c → length vs ≡ length chains
+    → verdict_lines (drop i chains) (drop i vs)
+    ≡ verdict_line c.line (get_or vs i v) ++ verdict_lines (drop (i + 1) chains) (drop (i + 1) vs)
 next_verdict chains vs i c v lt is long =
     at_drop_more (λ (xs : List Chain). verdict_lines xs (drop i vs)) chains i c lt
-    ∙ at_drop_more (λ (xs : List Verdict). verdict_lines (get_or chains i c ∷ drop (i + 1) chains) xs) vs i v (omega (arith, lt, long))
-    ∙ ap (λ (d : Chain). verdict_line d.line (get_or vs i v) ++ verdict_lines (drop (i + 1) chains) (drop (i + 1) vs)) (sym is)
+    ∙ at_drop_more (λ (xs : List Verdict). verdict_lines (get_or chains i c ∷ drop (i + 1) chains) xs) vs i v
+    (omega (arith, lt, long))
+    ∙ ap (λ (d : Chain). verdict_line d.line (get_or vs i v) ++ verdict_lines (drop (i + 1) chains) (drop (i + 1) vs))
+    (sym is)
 
 -- the whole text by the table of ways
-pub whole_text : (edges : List Edge) → HaveOneWay edges → (ways : List WayId) → AreWaysOf edges ways → (p : GtsParts) (chains : List Chain) (vs : List Verdict) (sets : List (List ℕ)) → AreOfEdges edges sets
+pub whole_text : (edges : List Edge) → HaveOneWay edges → (ways : List WayId) → AreWaysOf edges ways
+    → (p : GtsParts) (chains : List Chain) (vs : List Verdict) (sets : List (List ℕ)) → AreOfEdges edges sets
     → (b : Bool) → b ≡ (all_verdicts_good vs && all_listed (chain_lines p chains) sets)
-    → verdict_lines chains vs ++ (missing_at p ways (chain_lines p chains) sets ++ last_line b) ≡ check_text p edges chains vs sets
+    → verdict_lines chains vs ++ (missing_at p ways (chain_lines p chains) sets ++ last_line b)
+    ≡ check_text p edges chains vs sets
 whole_text edges one ways are p chains vs sets h b e =
-    ap (λ (z : List ℕ). verdict_lines chains vs ++ (z ++ last_line b)) (same_missing edges one ways are p (chain_lines p chains) sets h)
+    ap (λ (z : List ℕ). verdict_lines chains vs ++ (z ++ last_line b))
+    (same_missing edges one ways are p (chain_lines p chains) sets h)
     ∙ ap (λ (z : Bool). verdict_lines chains vs ++ (missing_text p edges (chain_lines p chains) sets ++ last_line z)) e

@@ -28,12 +28,15 @@ reversed_one (x ∷ xs) a o = subst (λ z. IsOneOf z a) (sym (reverse-append (x 
     (λ q. one_left (reverse xs) (x ∷ []) a (reversed_one xs a q))
     (one_cases x xs a o))
 
-path_on_line : (k : ℕ) (ts : List ModeTree) (path : ℕ → List Label) (j : ℕ) (t : ModeTree) (x : Label) → Stands ts j t → IsOneOf (path (k + j)) x → IsOneOf (line_from k ts path) x
+path_on_line : (k : ℕ) (ts : List ModeTree) (path : ℕ → List Label) (j : ℕ) (t : ModeTree) (x : Label) → Stands ts j t
+    → IsOneOf (path (k + j)) x → IsOneOf (line_from k ts path) x
 path_on_line k [] path j t x s o = absurd (stands_none j t s)
 path_on_line k (u ∷ ts) path zero t x s o =
-    one_left (reverse (path k)) (line_from (suc k) ts path) x (reversed_one (path k) x (subst (λ (n : ℕ). IsOneOf (path n) x) (omega arith) o))
+    one_left (reverse (path k)) (line_from (suc k) ts path) x
+    (reversed_one (path k) x (subst (λ (n : ℕ). IsOneOf (path n) x) (omega arith) o))
 path_on_line k (u ∷ ts) path (suc j) t x s o =
-    one_right (reverse (path k)) (line_from (suc k) ts path) x (path_on_line (suc k) ts path j t x s (subst (λ (n : ℕ). IsOneOf (path n) x) (omega arith) o))
+    one_right (reverse (path k)) (line_from (suc k) ts path) x
+    (path_on_line (suc k) ts path j t x s (subst (λ (n : ℕ). IsOneOf (path n) x) (omega arith) o))
 
 -- the events of a set in firing order are its members
 module _ (ts : List ModeTree) (set events : List ℕ) (g : IsInFiringOrder ts set events) where
@@ -51,22 +54,28 @@ module _ (ts : List ModeTree) (set events : List ℕ) (g : IsInFiringOrder ts se
   within_order = record {
     each = λ e o.
         let w = g.is_firable.whole e o in
-        let q = path_on_line 0 ts g.is_firable.path w.0 w.1 w.2 w.3 (subst (λ (n : ℕ). IsOneOf (g.is_firable.path n) w.2) (omega arith) w.4) in
+        let q = path_on_line 0 ts g.is_firable.path w.0 w.1 w.2 w.3
+        (subst (λ (n : ℕ). IsOneOf (g.is_firable.path n) w.2) (omega arith) w.4) in
         subst (λ (z : List ℕ). IsOneOf z e) (sym g.is)
         (subst (λ (z : ℕ). IsOneOf (map (λ (k : Label). k.event) (line_from 0 ts g.is_firable.path)) z) w.5
-        (one_here (map (λ (k : Label). k.event) (line_from 0 ts g.is_firable.path)) q.place w.2.event (stands_map (λ (k : Label). k.event) (line_from 0 ts g.is_firable.path) q.place w.2 q.stands)));
+        (one_here (map (λ (k : Label). k.event) (line_from 0 ts g.is_firable.path)) q.place w.2.event
+        (stands_map (λ (k : Label). k.event) (line_from 0 ts g.is_firable.path) q.place w.2 q.stands)));
   }
 
-pub listed_members : (lines : List (List Label)) (s t : List ℕ) → Within s t → Within t s → IsListed lines s → IsListed lines t
-listed_members lines s t a b h = record { line = h.line; is_line = h.is_line; within = within_then h.within a; whole = within_then b h.whole }
+pub listed_members : (lines : List (List Label)) (s t : List ℕ) → Within s t → Within t s → IsListed lines s
+    → IsListed lines t
+listed_members lines s t a b h = record
+    { line = h.line; is_line = h.is_line; within = within_then h.within a; whole = within_then b h.whole }
 
 -- the lines of these missing sets
 abbrev pub missing_texts : GtsParts → List Edge → List (List ℕ) → List ℕ
 missing_texts p edges [] = []
-missing_texts p edges (events ∷ more) = line (codes "missing " ++ events_text p edges events) ++ missing_texts p edges more
+missing_texts p edges (events ∷ more) =
+    line (codes "missing " ++ events_text p edges events) ++ missing_texts p edges more
 
 -- those of the sets that are not listed, in order, with their lists
-pub record Unlisted (p : GtsParts) (edges : List Edge) (lines : List (List Label)) (ts : List ModeTree) (sets lists : List (List ℕ)) : Type 0 where
+pub record Unlisted (p : GtsParts) (edges : List Edge) (lines : List (List Label)) (ts : List ModeTree)
+    (sets lists : List (List ℕ)) : Type 0 where
   pub left : List (List ℕ)
   pub orders : List (List ℕ)
   pub along : AreInFiringOrder ts left orders
@@ -79,12 +88,14 @@ pub record Unlisted (p : GtsParts) (edges : List Edge) (lines : List (List Label
   pub whole : (k : ℕ) (s : List ℕ) → Stands sets k s → (IsListed lines s → ⊥) → IsOneOf left s
 
 module _ (p : GtsParts) (edges : List Edge) (lines : List (List Label)) (ts : List ModeTree) where
-  listed_first : (s es : List ℕ) (sets lists : List (List ℕ)) → listed_in lines es ≡ true → IsInFiringOrder ts s es → Unlisted p edges lines ts sets lists → Unlisted p edges lines ts (s ∷ sets) (es ∷ lists)
+  listed_first : (s es : List ℕ) (sets lists : List (List ℕ)) → listed_in lines es ≡ true → IsInFiringOrder ts s es
+      → Unlisted p edges lines ts sets lists → Unlisted p edges lines ts (s ∷ sets) (es ∷ lists)
   listed_first s es sets lists yes_listed g u = record {
     left = u.left;
     orders = u.orders;
     along = u.along;
-    text = ap (λ (b : Bool). (if b then [] else line (codes "missing " ++ events_text p edges es)) ++ missing_text p edges lines lists) yes_listed ∙ u.text;
+    text = ap (λ (b : Bool). (if b then [] else line (codes "missing " ++ events_text p edges es)) ++ missing_text p
+        edges lines lists) yes_listed ∙ u.text;
     none_left = ap (λ (b : Bool). b && all_listed lines lists) yes_listed ∙ u.none_left;
     unlisted = u.unlisted;
     place = λ k. suc (u.place k);
@@ -96,16 +107,19 @@ module _ (p : GtsParts) (edges : List Edge) (lines : List (List Label)) (ts : Li
       whole : (k : ℕ) (t : List ℕ) → Stands (s ∷ sets) k t → (IsListed lines t → ⊥) → IsOneOf u.left t
       whole zero t st n =
           let same : s ≡ t = cc in
-          let h = listed_members lines es s (order_within ts s es g) (within_order ts s es g) (answer_true (listed_in lines es) (IsListed lines es) yes_listed (listed_answer lines es)) in
+          let h = listed_members lines es s (order_within ts s es g) (within_order ts s es g)
+          (answer_true (listed_in lines es) (IsListed lines es) yes_listed (listed_answer lines es)) in
           absurd (n (subst (λ (z : List ℕ). IsListed lines z) same h))
       whole (suc k) t st n = u.whole k t st n
 
-  missing_first : (s es : List ℕ) (sets lists : List (List ℕ)) → listed_in lines es ≡ false → IsInFiringOrder ts s es → Unlisted p edges lines ts sets lists → Unlisted p edges lines ts (s ∷ sets) (es ∷ lists)
+  missing_first : (s es : List ℕ) (sets lists : List (List ℕ)) → listed_in lines es ≡ false → IsInFiringOrder ts s es
+      → Unlisted p edges lines ts sets lists → Unlisted p edges lines ts (s ∷ sets) (es ∷ lists)
   missing_first s es sets lists not_listed g u = record {
     left = s ∷ u.left;
     orders = es ∷ u.orders;
     along = l.one_and g u.along;
-    text = ap (λ (b : Bool). (if b then [] else line (codes "missing " ++ events_text p edges es)) ++ missing_text p edges lines lists) not_listed
+    text = ap (λ (b : Bool). (if b then [] else line (codes "missing " ++ events_text p edges es)) ++ missing_text p
+        edges lines lists) not_listed
         ∙ ap (λ (z : List ℕ). line (codes "missing " ++ events_text p edges es) ++ z) u.text;
     none_left = ap (λ (b : Bool). b && all_listed lines lists) not_listed;
     unlisted = unlisted;
@@ -119,7 +133,8 @@ module _ (p : GtsParts) (edges : List Edge) (lines : List (List Label)) (ts : Li
       unlisted zero t st h =
           let same : t ≡ s = cc in
           answer_false (listed_in lines es) (IsListed lines es) not_listed (listed_answer lines es)
-          (listed_members lines s es (within_order ts s es g) (order_within ts s es g) (subst (λ (z : List ℕ). IsListed lines z) same h))
+          (listed_members lines s es (within_order ts s es g) (order_within ts s es g)
+          (subst (λ (z : List ℕ). IsListed lines z) same h))
       unlisted (suc k) t st h = u.unlisted k t st h
 
       place : ℕ → ℕ
@@ -155,6 +170,7 @@ module _ (p : GtsParts) (edges : List Edge) (lines : List (List Label)) (ts : Li
   }
   unlisted_of (l.one_and {a = s} {b = es} {xs = sets} {ys = lists} g gs) = go (listed_in lines es) refl (unlisted_of gs)
     where
-      go : (b : Bool) → listed_in lines es ≡ b → Unlisted p edges lines ts sets lists → Unlisted p edges lines ts (s ∷ sets) (es ∷ lists)
+      go : (b : Bool) → listed_in lines es ≡ b → Unlisted p edges lines ts sets lists
+          → Unlisted p edges lines ts (s ∷ sets) (es ∷ lists)
       go true e u = listed_first s es sets lists e g u
       go false e u = missing_first s es sets lists e g u

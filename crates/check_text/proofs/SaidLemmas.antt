@@ -17,7 +17,8 @@ use Rattle.cut_check.specs.declared.checking.Verdict.TheVariants as verdict
 use Rattle.check_text.specs.Printed.{verdict_text, verdict_lines, all_verdicts_good}
 use Rattle.check_text.specs.Texts.{number_found, said_text, said_line, said_lines, is_good, all_good}
 
-module _ (p : GtsParts) (sys : System ℕ) (dropped : List ℕ) (observer : Expr ℕ) (wanted : Value) (lines : List (List Label)) (chains : List Chain) where
+module _ (p : GtsParts) (sys : System ℕ) (dropped : List ℕ) (observer : Expr ℕ) (wanted : Value)
+    (lines : List (List Label)) (chains : List Chain) where
   abbrev cuts : List CutLine
   cuts = map (cut_of p) chains
 
@@ -30,7 +31,8 @@ module _ (p : GtsParts) (sys : System ℕ) (dropped : List ℕ) (observer : Expr
       let same : number_found (slice_get cuts k) ≡ n = ap number_found at_k ∙ e in
       sym (ap (λ (z : ℕ). codes "holds line " ++ decimal z) same) ∙ sym (ap (said_text cuts) i)
 
-  good_same : (v : Verdict) (vs : List Verdict) (said : Said) (all : List Said) → Tells chains v said → all_verdicts_good vs ≡ all_good all
+  good_same : (v : Verdict) (vs : List Verdict) (said : Said) (all : List Said) → Tells chains v said
+      → all_verdicts_good vs ≡ all_good all
       → all_verdicts_good (v ∷ vs) ≡ all_good (said ∷ all)
   good_same verdict.Good vs said all e h = h ∙ ap (λ (z : Said). is_good z && all_good all) (sym e)
   good_same verdict.Fails vs said all e h = ap (λ (z : Said). is_good z && all_good all) (sym e)
@@ -45,24 +47,37 @@ module _ (p : GtsParts) (sys : System ℕ) (dropped : List ℕ) (observer : Expr
     pub good : all_verdicts_good vs ≡ all_good all
 
   pub all_said : (k : ℕ) (cs : List Chain) (vs : List Verdict) → length vs ≡ length cs
-      → ((n : ℕ) (v : Verdict) → Stands vs n v → IsVerdict sys dropped observer wanted lines chains (k + n) v) → AllSaid k cs vs
-  all_said k [] [] e h = record { all = []; long = refl; each = λ n s st. absurd (stands_none n s st); text = refl; good = refl }
+      → ((n : ℕ) (v : Verdict) → Stands vs n v → IsVerdict sys dropped observer wanted lines chains (k + n) v)
+      → AllSaid k cs vs
+  all_said k [] [] e h = record {
+    all = [];
+    long = refl;
+    each = λ n s st. absurd (stands_none n s st);
+    text = refl;
+    good = refl;
+  }
   all_said k [] (v ∷ vs) e h = absurd (omega (arith, e))
   all_said k (c ∷ cs) [] e h = absurd (omega (arith, e))
   all_said k (c ∷ cs) (v ∷ vs) e h = go (h zero v refl)
-      (all_said (suc k) cs vs (omega (arith, e)) (λ n w st. subst (λ (z : ℕ). IsVerdict sys dropped observer wanted lines chains z w) (omega arith) (h (suc n) w st)))
+      (all_said (suc k) cs vs (omega (arith, e))
+      (λ n w st. subst (λ (z : ℕ). IsVerdict sys dropped observer wanted lines chains z w) (omega arith)
+      (h (suc n) w st)))
     where
-      go : IsVerdict sys dropped observer wanted lines chains (k + zero) v → AllSaid (suc k) cs vs → AllSaid k (c ∷ cs) (v ∷ vs)
+      go : IsVerdict sys dropped observer wanted lines chains (k + zero) v → AllSaid (suc k) cs vs
+          → AllSaid k (c ∷ cs) (v ∷ vs)
       go (said, tells, is) more = record {
         all = said ∷ more.all;
         long = ap suc more.long;
         each = each;
         text =
-            ap (λ (z : List ℕ). line (codes "line " ++ (decimal c.line ++ (codes " " ++ z))) ++ verdict_lines cs vs) (text_same v said tells)
+            ap (λ (z : List ℕ). line (codes "line " ++ (decimal c.line ++ (codes " " ++ z))) ++ verdict_lines cs vs)
+            (text_same v said tells)
             ∙ ap (λ (z : List ℕ). said_line cuts (cut_of p c) said ++ z) more.text;
         good = good_same v vs said more.all tells more.good;
       }
         where
-          each : (n : ℕ) (other : Said) → Stands (said ∷ more.all) n other → IsSaid sys dropped observer wanted lines (k + n) other
+          each : (n : ℕ) (other : Said) → Stands (said ∷ more.all) n other
+              → IsSaid sys dropped observer wanted lines (k + n) other
           each zero other st = let same : said ≡ other = cc in subst (λ (z : Said). IsSaid sys dropped observer wanted lines (k + zero) z) same is
-          each (suc n) other st = subst (λ (z : ℕ). IsSaid sys dropped observer wanted lines z other) (omega arith) (more.each n other st)
+          each (suc n) other st = subst (λ (z : ℕ). IsSaid sys dropped observer wanted lines z other) (omega arith)
+              (more.each n other st)

@@ -36,13 +36,15 @@ good_at (a ∷ all) e (suc n) said s = good_at all (and_parts (is_good a) (all_g
 
 all_are_good : (all : List Said) → ((n : ℕ) (said : Said) → Stands all n said → said ≡ IsGood) → all_good all ≡ true
 all_are_good [] h = refl
-all_are_good (a ∷ all) h = ap (λ (z : Said). is_good z && all_good all) (h zero a refl) ∙ all_are_good all (λ n said s. h (suc n) said s)
+all_are_good (a ∷ all) h = ap (λ (z : Said). is_good z && all_good all) (h zero a refl)
+    ∙ all_are_good all (λ n said s. h (suc n) said s)
 
 none_is : {A : Type 0} (xs : List A) → is_none xs ≡ true → xs ≡ []
 none_is [] e = refl
 none_is (x ∷ xs) e = absurd (cc e)
 
-module _ {V : Type 0} (names : Naming) (sys : System V) (dropped : List ℕ) (observer : Expr V) (wanted : Value) (cuts : List CutLine) (text : List ℕ)
+module _ {V : Type 0} (names : Naming) (sys : System V) (dropped : List ℕ) (observer : Expr V) (wanted : Value)
+    (cuts : List CutLine) (text : List ℕ)
     (t : IsCheckText names sys dropped observer wanted cuts text) where
   abbrev right_word : Bool
   right_word = all_good t.said && is_none t.missing
@@ -56,13 +58,16 @@ module _ {V : Type 0} (names : Naming) (sys : System V) (dropped : List ℕ) (ob
       record {
         good = λ n ls s.
             let said = stands_some t.said n (let w = stands_within (lines_in cuts) n ls s in omega (arith, w, t.are_said.long)) in
-            subst (λ (z : Said). IsSaid sys dropped observer wanted (lines_in cuts) n z) (good_at t.said b.0 n said.0 said.1) (t.are_said.each n said.0 said.1);
+            subst (λ (z : Said). IsSaid sys dropped observer wanted (lines_in cuts) n z)
+            (good_at t.said b.0 n said.0 said.1) (t.are_said.each n said.0 said.1);
         whole = λ set m.
             let o = t.are_missing.whole set m in
             one_none o.0 (subst (λ (z : List (List ℕ)). IsOneOf z o.0) (none_is t.missing b.1) o.1);
       }
 
-  none_missing : IsRight sys dropped observer wanted (lines_in cuts) → (missing : List (List ℕ)) → ((k : ℕ) (s : List ℕ) → Stands missing k s → IsMissing sys dropped observer wanted (lines_in cuts) s) → is_none missing ≡ true
+  none_missing : IsRight sys dropped observer wanted (lines_in cuts) → (missing : List (List ℕ))
+      → ((k : ℕ) (s : List ℕ) → Stands missing k s → IsMissing sys dropped observer wanted (lines_in cuts) s)
+      → is_none missing ≡ true
   none_missing right [] h = refl
   none_missing right (s ∷ more) h = absurd (right.whole s (h zero s refl))
 
@@ -70,18 +75,23 @@ module _ {V : Type 0} (names : Naming) (sys : System V) (dropped : List ℕ) (ob
   word_right right =
       let all : all_good t.said ≡ true = all_are_good t.said (λ n said s.
       let ls = stands_some (lines_in cuts) n (let w = stands_within t.said n said s in omega (arith, w, t.are_said.long)) in
-      said_once sys dropped observer wanted (lines_in cuts) n said IsGood (t.are_said.each n said s) (right.good n ls.0 ls.1)) in
-      ap (λ (b : Bool). b && is_none t.missing) all ∙ none_missing right t.missing (λ k s st. t.are_missing.sound k s st)
+      said_once sys dropped observer wanted (lines_in cuts) n said IsGood (t.are_said.each n said s)
+      (right.good n ls.0 ls.1)) in
+      ap (λ (b : Bool). b && is_none t.missing) all
+      ∙ none_missing right t.missing (λ k s st. t.are_missing.sound k s st)
 
   pub yes_told : EndsYes text → AreTheCuts sys dropped observer wanted (lines_in cuts)
   yes_told y =
       right_cuts sys dropped observer wanted (lines_in cuts)
-      (right_list (ends_told text front_text right_word (t.is_text ∙ sym (append_assoc (said_lines cuts cuts t.said) (missing_lines names sys t.lines) (last_line right_word))) y))
+      (right_list (ends_told text front_text right_word
+      (t.is_text ∙ sym (append_assoc (said_lines cuts cuts t.said) (missing_lines names sys t.lines)
+      (last_line right_word))) y))
 
   pub told_yes : AreTheCuts sys dropped observer wanted (lines_in cuts) → EndsYes text
   told_yes c =
       let e = word_right (cuts_right sys dropped observer wanted (lines_in cuts) c) in
       record {
         front = front_text;
-        is = t.is_text ∙ sym (append_assoc (said_lines cuts cuts t.said) (missing_lines names sys t.lines) (last_line right_word)) ∙ ap (λ (b : Bool). front_text ++ last_line b) e;
+        is = t.is_text ∙ sym (append_assoc (said_lines cuts cuts t.said) (missing_lines names sys t.lines)
+            (last_line right_word)) ∙ ap (λ (b : Bool). front_text ++ last_line b) e;
       }

@@ -58,11 +58,13 @@ all_verdicts_good (Holds n ∷ vs) = false
 abbrev pub missing_text : GtsParts → List Edge → List (List Label) → List (List ℕ) → List ℕ
 missing_text p edges lines [] = []
 missing_text p edges lines (events ∷ more) =
-    (if listed_in lines events then [] else line (codes "missing " ++ events_text p edges events)) ++ missing_text p edges lines more
+    (if listed_in lines events then [] else line (codes "missing " ++ events_text p edges events)) ++ missing_text p
+    edges lines more
 
 -- the same by a table of the ways of events
 abbrev pub missing_one : GtsParts → List WayId → List (List Label) → List ℕ → List ℕ
-missing_one p ways lines events = if listed_in lines events then [] else line (codes "missing " ++ braced (texts_at p ways events))
+missing_one p ways lines events = if listed_in lines events then []
+    else line (codes "missing " ++ braced (texts_at p ways events))
 
 abbrev pub missing_at : GtsParts → List WayId → List (List Label) → List (List ℕ) → List ℕ
 missing_at p ways lines [] = []

@@ -41,7 +41,8 @@ said_lines cuts (c ∷ cs) (said ∷ all) = said_line cuts c said ++ said_lines 
 -- the labels of each missing cut on a line of its own
 abbrev pub missing_lines : {V : Type 0} → Naming → System V → List (List Label) → List ℕ
 missing_lines names sys [] = []
-missing_lines names sys (ls ∷ more) = line (codes "missing " ++ labels_text names sys ls) ++ missing_lines names sys more
+missing_lines names sys (ls ∷ more) =
+    line (codes "missing " ++ labels_text names sys ls) ++ missing_lines names sys more
 
 -- whether the line is good
 abbrev pub is_good : Said → Bool
@@ -64,20 +65,24 @@ abbrev pub last_line : Bool → List ℕ
 last_line right = line (if right then codes "yes" else codes "no")
 
 -- what is said of each line, in order
-pub record AreSaid {V : Type 0} (sys : System V) (dropped : List ℕ) (observer : Expr V) (wanted : Value) (lines : List (List Label)) (all : List Said) : Type 0 where
+pub record AreSaid {V : Type 0} (sys : System V) (dropped : List ℕ) (observer : Expr V) (wanted : Value)
+    (lines : List (List Label)) (all : List Said) : Type 0 where
   pub long : length all ≡ length lines
   pub each : (n : ℕ) (said : Said) → Stands all n said → IsSaid sys dropped observer wanted lines n said
 
--- the text of the check of these cut lines: what is said of each line; then, in the order of a listing, each missing cut
+-- the text of the check of these cut lines: what is said of each line; then, in the order of a listing, each missing
+-- cut
 -- with its labels in firing order; and last `yes` where each line is good and no cut is missing, else `no`
-pub record IsCheckText {V : Type 0} (names : Naming) (sys : System V) (dropped : List ℕ) (observer : Expr V) (wanted : Value) (cuts : List CutLine) (text : List ℕ) : Type 0 where
+pub record IsCheckText {V : Type 0} (names : Naming) (sys : System V) (dropped : List ℕ) (observer : Expr V)
+    (wanted : Value) (cuts : List CutLine) (text : List ℕ) : Type 0 where
   pub said : List Said
   pub are_said : AreSaid sys dropped observer wanted (lines_in cuts) said
   pub missing : List (List ℕ)
   pub are_missing : AreListed (IsMissing sys dropped observer wanted (lines_in cuts)) missing
   pub lines : List (List Label)
   pub are_lines : Along (IsLine sys dropped) missing lines
-  pub is_text : text ≡ said_lines cuts cuts said ++ (missing_lines names sys lines ++ last_line (all_good said && is_none missing))
+  pub is_text : text ≡ said_lines cuts cuts
+      said ++ (missing_lines names sys lines ++ last_line (all_good said && is_none missing))
 
 -- the text's last line is `yes`
 pub record EndsYes (text : List ℕ) : Type 0 where

@@ -61,7 +61,13 @@ module _ (model : Model) (main : Option (List ℕ)) (d : Declared) where
       by : (s : ℕ) (q : Place) → IsOneOf text_rules s → s < 1 → Breaks model main d s q → ⊥
       by s q o l b = elim (rules s o) [
         | inl e ↦ omega (arith, e, l)
-        | inr f ↦ elim f [ inl e ↦ omega (arith, e, l) | inr g ↦ elim g [ inl e ↦ omega (arith, e, l) | inr h ↦ elim h [ inl e ↦ omega (arith, e, l) | inr e ↦ omega (arith, e, l) ] ] ]
+        | inr f ↦ elim f [
+          | inl e ↦ omega (arith, e, l)
+          | inr g ↦ elim g [
+            | inl e ↦ omega (arith, e, l)
+            | inr h ↦ elim h [ inl e ↦ omega (arith, e, l) | inr e ↦ omega (arith, e, l) ]
+          ]
+        ]
       ]
 
   pub next_below : (n : ℕ) → KeptBelow n → ((q : Place) → Breaks model main d n q → ⊥) → KeptBelow (suc n)
@@ -80,11 +86,18 @@ module _ (model : Model) (main : Option (List ℕ)) (d : Declared) where
       below : (r : ℕ) → IsOneOf text_rules r → r < 6
       below r o = elim (rules r o) [
         | inl e ↦ omega (arith, e)
-        | inr f ↦ elim f [ inl e ↦ omega (arith, e) | inr g ↦ elim g [ inl e ↦ omega (arith, e) | inr h ↦ elim h [ inl e ↦ omega (arith, e) | inr e ↦ omega (arith, e) ] ] ]
+        | inr f ↦ elim f [
+          | inl e ↦ omega (arith, e)
+          | inr g ↦ elim g [
+            | inl e ↦ omega (arith, e)
+            | inr h ↦ elim h [ inl e ↦ omega (arith, e) | inr e ↦ omega (arith, e) ]
+          ]
+        ]
       ]
 
   -- the rule is broken first at the place that is found
-  pub broken_at : (n : ℕ) (p : Place) → IsOneOf text_rules n → KeptBelow n → IsEarliest (Breaks model main d n) (Some p) → IsBroken text_rules (Breaks model main d) n p
+  pub broken_at : (n : ℕ) (p : Place) → IsOneOf text_rules n → KeptBelow n → IsEarliest (Breaks model main d n) (Some p)
+      → IsBroken text_rules (Breaks model main d) n p
   broken_at n p o h (there b e) = record { is_one = o; breaks_there = b; no_lesser = h.kept; no_earlier = e }
 
   pub kept_none : (n : ℕ) → KeptBelow n → IsEarliest (Breaks model main d n) None → KeptBelow (suc n)

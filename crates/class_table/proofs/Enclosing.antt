@@ -22,21 +22,26 @@ use Rattle.class_table.proofs.Looping.{AtItem}
 use Rattle.class_table.proofs.OwnAt.{own_shown, shown_back}
 
 -- the class that a member names is what it puts inside
-pub names_inside : (d : Declared) (f : MemberForm) (c : ℕ) (p : Place) → NamesClass d f c p → inside_form d f ≡ Some (c, Some p)
+pub names_inside : (d : Declared) (f : MemberForm) (c : ℕ) (p : Place) → NamesClass d f c p
+    → inside_form d f ≡ Some (c, Some p)
 names_inside d f c p (extends e) = ap (option_map (λ (b : ℕ). (b, Some p))) e
-names_inside d f c p (instances {t = t} x e g) = ap (λ (h : TypeForm). inside_type d h t.at) e ∙ ap (option_map (λ (b : ℕ). (b, Some t.at))) g
+names_inside d f c p (instances {t = t} x e g) =
+    ap (λ (h : TypeForm). inside_type d h t.at) e ∙ ap (option_map (λ (b : ℕ). (b, Some t.at))) g
 
 -- where an option holds a pair, it held the first
-pub held_first : (o : Option ℕ) (at : Place) (c : ℕ) (p : Option Place) → option_map {U = ℕ × Option Place} (λ (b : ℕ). (b, Some at)) o ≡ Some (c, p) → (o ≡ Some c) × (p ≡ Some at)
+pub held_first : (o : Option ℕ) (at : Place) (c : ℕ) (p : Option Place)
+    → option_map {U = ℕ × Option Place} (λ (b : ℕ). (b, Some at)) o ≡ Some (c, p) → (o ≡ Some c) × (p ≡ Some at)
 held_first None at c p e = cc
 held_first (Some b) at c p e = let g = same_Some _ _ e in (ap (λ (z : ℕ × Option Place). Some z.0) g, sym (ap (λ (z : ℕ × Option Place). z.1) g))
 
 -- what a member puts inside is the class that it names
-pub inside_names : (d : Declared) (f : MemberForm) (c : ℕ) (p : Option Place) → inside_form d f ≡ Some (c, p) → (at : Place) × (p ≡ Some at) × NamesClass d f c at
+pub inside_names : (d : Declared) (f : MemberForm) (c : ℕ) (p : Option Place) → inside_form d f ≡ Some (c, p)
+    → (at : Place) × (p ≡ Some at) × NamesClass d f c at
 inside_names d (member.Extends x at) c p e = let h = held_first (class_named d x.n) at c p e in (at, h.1, extends h.0)
 inside_names d (member.Declare t names settings) c p e = by t.form refl
   where
-    by : (f : TypeForm) → t.form ≡ f → (at : Place) × (p ≡ Some at) × NamesClass d (member.Declare t names settings) c at
+    by : (f : TypeForm) → t.form ≡ f → (at : Place) × (p ≡ Some at)
+        × NamesClass d (member.Declare t names settings) c at
     by (form.Named x) i =
         let g = ap (λ (h : TypeForm). inside_type d h t.at) (sym i) ∙ e in
         let h = held_first (class_named d x.n) t.at c p g in
@@ -56,11 +61,13 @@ inside_names d (member.Sync x at parts) c p e = cc
 inside_names d (member.Assert i) c p e = cc
 
 -- what is inside a body stands in it
-pub inside_owned : (d : Declared) (a b : ℕ) → HasInside d a b → (o : Owned) × (at : Option Place) × IsOneOf (own_at d a) o × (inside d o ≡ Some (b, at))
+pub inside_owned : (d : Declared) (a b : ℕ) → HasInside d a b
+    → (o : Owned) × (at : Option Place) × IsOneOf (own_at d a) o × (inside d o ≡ Some (b, at))
 inside_owned d a b (class {p = p} m s n) = (Plain m, Some p, s, names_inside d (out-Member m) b p n)
 inside_owned d a b (block x at id s) = (Nested x at id, None, s, refl)
 
-pub owned_inside : (d : Declared) (a b : ℕ) (o : Owned) (at : Option Place) → IsOneOf (own_at d a) o → inside d o ≡ Some (b, at) → HasInside d a b
+pub owned_inside : (d : Declared) (a b : ℕ) (o : Owned) (at : Option Place) → IsOneOf (own_at d a) o
+    → inside d o ≡ Some (b, at) → HasInside d a b
 owned_inside d a b (Plain m) at s e = let h = inside_names d (out-Member m) b at e in class m s h.2
 owned_inside d a b (Nested x p id) at s e = let i : id.n ≡ b = ap (λ (z : ℕ × Option Place). z.0) (same_Some _ _ e) in subst (HasInside d a) i (block x p id s)
 
@@ -70,7 +77,8 @@ within_then d a b c itself h = further c h itself
 within_then d a b c (further e i w) h = further e i (within_then d e b c w h)
 
 -- where ranks fall, none is inside itself
-pub within_falls : (d : Declared) (ranks : List ℕ) → Falls d ranks → (a b : ℕ) → IsWithin d a b → slice_index ranks b ≤ slice_index ranks a
+pub within_falls : (d : Declared) (ranks : List ℕ) → Falls d ranks → (a b : ℕ) → IsWithin d a b
+    → slice_index ranks b ≤ slice_index ranks a
 within_falls d ranks f a b itself = omega arith
 within_falls d ranks f a b (further c h w) = let l = within_falls d ranks f c b w in let m = f.each a c h in omega arith
 
@@ -81,15 +89,18 @@ falls_none d ranks f p h =
     omega arith
 
 -- what a loop over members finds
-pub again_to : (d : Declared) (body : ℕ) (own : List Owned) (k : ℕ) (o : Owned) (p : Place) → Stands own k o → IsAgain d body o p → NamesAgain d body own p
+pub again_to : (d : Declared) (body : ℕ) (own : List Owned) (k : ℕ) (o : Owned) (p : Place) → Stands own k o
+    → IsAgain d body o p → NamesAgain d body own p
 again_to d body own k o p s h = record { owned = o; is_own = one_here own k o s; is_again = h }
 
-pub again_back : (d : Declared) (body : ℕ) (own : List Owned) (p : Place) → NamesAgain d body own p → (k : ℕ) × AtItem own (λ (k : ℕ) (o : Owned). IsAgain d body o) k p
+pub again_back : (d : Declared) (body : ℕ) (own : List Owned) (p : Place) → NamesAgain d body own p
+    → (k : ℕ) × AtItem own (λ (k : ℕ) (o : Owned). IsAgain d body o) k p
 again_back d body own p h = (h.is_own.place, record { item = h.owned; stands = h.is_own.stands; has = h.is_again })
 
 module _ (d : Declared) (bodies : List Body) (shown : Along IsBodyOf bodies d.bodies) where
   -- what a loop over bodies finds
-  pub contained_to : (k : ℕ) (b : Body) (p : Place) → Stands bodies k b → NamesAgain d k b.own.items p → BreaksContainment d p
+  pub contained_to : (k : ℕ) (b : Body) (p : Place) → Stands bodies k b → NamesAgain d k b.own.items p
+      → BreaksContainment d p
   contained_to k b p s h = by h.owned h.is_own h.is_again
     where
       by : (o : Owned) → IsOneOf b.own.items o → IsAgain d k o p → BreaksContainment d p
@@ -106,26 +117,39 @@ module _ (d : Declared) (bodies : List Body) (shown : Along IsBodyOf bodies d.bo
           }
       by (Nested x at c) i a = let g = ap (λ (z : ℕ × Option Place). z.1) (same_Some _ _ a.names) in absurd (cc)
 
-  pub contained_back : (p : Place) → BreaksContainment d p → (k : ℕ) × AtItem bodies (λ (k : ℕ) (b : Body). NamesAgain d k b.own.items) k p
+  pub contained_back : (p : Place) → BreaksContainment d p
+      → (k : ℕ) × AtItem bodies (λ (k : ℕ) (b : Body). NamesAgain d k b.own.items) k p
   contained_back p h =
       let w = shown_back d bodies shown h.body (Plain h.member) h.stands in (
         h.body,
         record {
           item = w.0;
           stands = w.1;
-          has = record { owned = Plain h.member; is_own = w.2; is_again = record { class = h.class; names = names_inside d (out-Member h.member) h.class p h.names; again = h.again } };
+          has = record {
+            owned = Plain h.member;
+            is_own = w.2;
+            is_again = record {
+              class = h.class;
+              names = names_inside d (out-Member h.member) h.class p h.names;
+              again = h.again;
+            };
+          };
         },
       )
 
 -- a member that puts no class inside, at a place
-pub again_none : (d : Declared) (body : ℕ) (o : Owned) → ((c : ℕ) (p : Place) → inside d o ≡ Some (c, Some p) → ⊥) → IsEarliest (IsAgain d body o) None
+pub again_none : (d : Declared) (body : ℕ) (o : Owned) → ((c : ℕ) (p : Place) → inside d o ≡ Some (c, Some p) → ⊥)
+    → IsEarliest (IsAgain d body o) None
 again_none d body o n = nowhere (λ p h. n h.class p h.names)
 
-pub again_there : (d : Declared) (body : ℕ) (o : Owned) (c : ℕ) (at : Place) → inside d o ≡ Some (c, Some at) → IsWithin d c body → IsEarliest (IsAgain d body o) (Some at)
-again_there d body o c at e w = there (record { class = c; names = e; again = w }) (λ q b h. not_before q at b (same q h))
+pub again_there : (d : Declared) (body : ℕ) (o : Owned) (c : ℕ) (at : Place) → inside d o ≡ Some (c, Some at)
+    → IsWithin d c body → IsEarliest (IsAgain d body o) (Some at)
+again_there d body o c at e w = there (record { class = c; names = e; again = w })
+    (λ q b h. not_before q at b (same q h))
   where
     same : (q : Place) → IsAgain d body o q → q ≡ at
     same q h = let g = same_Some _ _ (sym h.names ∙ e) in same_Some _ _ (ap (λ (z : ℕ × Option Place). z.1) g)
 
-pub again_not : (d : Declared) (body : ℕ) (o : Owned) (c : ℕ) (at : Place) → inside d o ≡ Some (c, Some at) → (IsWithin d c body → ⊥) → IsEarliest (IsAgain d body o) None
+pub again_not : (d : Declared) (body : ℕ) (o : Owned) (c : ℕ) (at : Place) → inside d o ≡ Some (c, Some at)
+    → (IsWithin d c body → ⊥) → IsEarliest (IsAgain d body o) None
 again_not d body o c at e n = nowhere (λ p h. let g = ap (λ (z : ℕ × Option Place). z.0) (same_Some _ _ (sym h.names ∙ e)) in n (subst (λ (x : ℕ). IsWithin d x body) g h.again))

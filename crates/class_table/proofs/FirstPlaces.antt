@@ -12,25 +12,32 @@ of_first f g e = subst (λ (z : Option Place). IsEarlierOf z g g) (sym e) no_fir
 
 pub of_second : (f g : Option Place) (p : Place) → f ≡ Some p → g ≡ None → IsEarlierOf f g (Some p)
 of_second f g p e i =
-    subst (λ (z : Option Place). IsEarlierOf z g (Some p)) (sym e) (subst (λ (z : Option Place). IsEarlierOf (Some p) z (Some p)) (sym i) no_second)
+    subst (λ (z : Option Place). IsEarlierOf z g (Some p)) (sym e)
+    (subst (λ (z : Option Place). IsEarlierOf (Some p) z (Some p)) (sym i) no_second)
 
-pub of_both : (f g r : Option Place) (p q : Place) → f ≡ Some p → g ≡ Some q → IsEarlierOf (Some p) (Some q) r → IsEarlierOf f g r
+pub of_both : (f g r : Option Place) (p q : Place) → f ≡ Some p → g ≡ Some q → IsEarlierOf (Some p) (Some q) r
+    → IsEarlierOf f g r
 of_both f g r p q e i h =
-    subst (λ (z : Option Place). IsEarlierOf z g r) (sym e) (subst (λ (z : Option Place). IsEarlierOf (Some p) z r) (sym i) h)
+    subst (λ (z : Option Place). IsEarlierOf z g r) (sym e)
+    (subst (λ (z : Option Place). IsEarlierOf (Some p) z r) (sym i) h)
 
 module _ {P Q : Place → Type 0} where
   -- the earliest place of either of two properties
-  pub earliest_both : (f g r : Option Place) → IsEarliest P f → IsEarliest Q g → IsEarlierOf f g r → IsEarliest (λ p. P p ⊎ Q p) r
+  pub earliest_both : (f g r : Option Place) → IsEarliest P f → IsEarliest Q g → IsEarlierOf f g r
+      → IsEarliest (λ p. P p ⊎ Q p) r
   earliest_both f g r (nowhere h) (nowhere k) no_first = nowhere (λ p b. elim b [ inl a ↦ h p a | inr a ↦ k p a ])
-  earliest_both f g r (nowhere h) (there a k) no_first = there (inr a) (λ q e b. elim b [ inl c ↦ h q c | inr c ↦ k q e c ])
-  earliest_both f g r (there a h) (nowhere k) no_second = there (inl a) (λ q e b. elim b [ inl c ↦ h q e c | inr c ↦ k q c ])
+  earliest_both f g r (nowhere h) (there a k) no_first =
+      there (inr a) (λ q e b. elim b [ inl c ↦ h q c | inr c ↦ k q e c ])
+  earliest_both f g r (there a h) (nowhere k) no_second =
+      there (inl a) (λ q e b. elim b [ inl c ↦ h q e c | inr c ↦ k q c ])
   earliest_both f g r (there {p = p} a h) (there {p = s} b k) (first n) =
       there (inl a) (λ q e d. elim d [ inl c ↦ h q e c | inr c ↦ k q (earlier_not q p s e n) c ])
   earliest_both f g r (there {p = p} a h) (there {p = s} b k) (second n) =
       there (inr b) (λ q e d. elim d [ inl c ↦ h q (earlier_then q s p e n) c | inr c ↦ k q e c ])
 
   -- the earliest place of a property that holds at the same places
-  pub earliest_same : (f : Option Place) → ((p : Place) → P p → Q p) → ((p : Place) → Q p → P p) → IsEarliest P f → IsEarliest Q f
+  pub earliest_same : (f : Option Place) → ((p : Place) → P p → Q p) → ((p : Place) → Q p → P p) → IsEarliest P f
+      → IsEarliest Q f
   earliest_same f to from (nowhere h) = nowhere (λ p q. h p (from p q))
   earliest_same f to from (there {p = p} a h) = there (to p a) (λ q e b. h q e (from q b))
 
@@ -39,7 +46,8 @@ module _ {P : ℕ → Place → Type 0} where
   pub earliest_start : IsEarliest (Until P 0) None
   earliest_start = nowhere (λ p u. omega (arith, u.below))
 
-  pub earliest_next : (n : ℕ) (f g r : Option Place) → IsEarliest (Until P n) f → IsEarliest (P n) g → IsEarlierOf f g r → IsEarliest (Until P (n + 1)) r
+  pub earliest_next : (n : ℕ) (f g r : Option Place) → IsEarliest (Until P n) f → IsEarliest (P n) g → IsEarlierOf f g r
+      → IsEarliest (Until P (n + 1)) r
   earliest_next n f g r h k e = earliest_same r to from (earliest_both f g r h k e)
     where
       to : (p : Place) → Until P n p ⊎ P n p → Until P (n + 1) p
@@ -50,4 +58,7 @@ module _ {P : ℕ → Place → Type 0} where
       last k l = lt_or_same k n (omega (arith, l))
 
       from : (p : Place) → Until P (n + 1) p → Until P n p ⊎ P n p
-      from p u = elim (last u.k u.below) [ inl l ↦ inl (record { k = u.k; below = l; holds = u.holds }) | inr e ↦ inr (subst (λ (m : ℕ). P m p) e u.holds) ]
+      from p u = elim (last u.k u.below) [
+        | inl l ↦ inl (record { k = u.k; below = l; holds = u.holds })
+        | inr e ↦ inr (subst (λ (m : ℕ). P m p) e u.holds)
+      ]

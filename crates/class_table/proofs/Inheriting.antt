@@ -17,7 +17,8 @@ use Rattle.class_table.proofs.Looping.{AtItem}
 
 module _ (d : Declared) where
   -- what members bring, one after the other
-  pub inherits_append : (os ps : List Owned) (xs ys : List Site) → Inherits d os xs → Inherits d ps ys → Inherits d (os ++ ps) (xs ++ ys)
+  pub inherits_append : (os ps : List Owned) (xs ys : List Site) → Inherits d os xs → Inherits d ps ys
+      → Inherits d (os ++ ps) (xs ++ ys)
   inherits_append os ps xs ys nothing k = k
   inherits_append os ps xs ys (from {o = o} {os = qs} {xs = us} {ys = vs} x b e f m r) k =
       subst (Inherits d (o ∷ qs ++ ps)) (sym (append_assoc us vs ys)) (from x b e f m (inherits_append qs ps vs ys r k))
@@ -26,15 +27,19 @@ module _ (d : Declared) where
   pub inherit_none : (o : Owned) (old : List Site) → extended o ≡ None → InheritsMore d o old old
   inherit_none o old e = record { sites = []; brings = passes e nothing; joined = sym (append-nil old) }
 
-  pub inherit_some : (o : Owned) (x : ℕ) (old new : List Site) → extended o ≡ Some x → AddsClass d x old new → InheritsMore d o old new
+  pub inherit_some : (o : Owned) (x : ℕ) (old new : List Site) → extended o ≡ Some x → AddsClass d x old new
+      → InheritsMore d o old new
   inherit_some o x old new e a = record {
     sites = a.sites;
-    brings = subst (Inherits d (o ∷ [])) (append-nil a.sites) (from x a.of_class.class e a.of_class.is_named a.of_class.are_members nothing);
+    brings = subst (Inherits d (o ∷ [])) (append-nil a.sites)
+        (from x a.of_class.class e a.of_class.is_named a.of_class.are_members nothing);
     joined = a.joined;
   }
 
-  pub inherit_next : (os : List Owned) (o : Owned) (old new : List Site) → Inherits d os old → InheritsMore d o old new → Inherits d (os ++ o ∷ []) new
-  inherit_next os o old new h k = subst (Inherits d (os ++ o ∷ [])) (sym k.joined) (inherits_append os (o ∷ []) old k.sites h k.brings)
+  pub inherit_next : (os : List Owned) (o : Owned) (old new : List Site) → Inherits d os old → InheritsMore d o old new
+      → Inherits d (os ++ o ∷ []) new
+  inherit_next os o old new h k = subst (Inherits d (os ++ o ∷ [])) (sym k.joined)
+      (inherits_append os (o ∷ []) old k.sites h k.brings)
 
   mutual
     -- one list of members for a body
@@ -42,7 +47,8 @@ module _ (d : Declared) where
     members_one b xs ys (members {inherited = us} body s i) (members {inherited = vs} other t j) =
         let e = stands_one d.bodies b body other s t in
         let k = subst (λ (z : TextBody). Inherits d z.own vs) (sym e) j in
-        ap (λ (zs : List Site). zs ++ sites_from b 0 body.own) (inherits_one body.own us vs i k) ∙ ap (λ (z : TextBody). vs ++ sites_from b 0 z.own) e
+        ap (λ (zs : List Site). zs ++ sites_from b 0 body.own) (inherits_one body.own us vs i k)
+        ∙ ap (λ (z : TextBody). vs ++ sites_from b 0 z.own) e
 
     pub inherits_one : (os : List Owned) (xs ys : List Site) → Inherits d os xs → Inherits d os ys → xs ≡ ys
     inherits_one os xs ys nothing nothing = refl
@@ -51,13 +57,15 @@ module _ (d : Declared) where
         let g = subst (λ (z : ℕ). class_named d z ≡ Some c) (sym i) f' in
         let j : b ≡ c = cc in
         let n = subst (λ (z : ℕ). Members d z us') (sym j) m' in
-        ap (λ (zs : List Site). zs ++ vs) (members_one b us us' m n) ∙ ap (λ (zs : List Site). us' ++ zs) (inherits_one _ vs vs' r r')
+        ap (λ (zs : List Site). zs ++ vs) (members_one b us us' m n)
+        ∙ ap (λ (zs : List Site). us' ++ zs) (inherits_one _ vs vs' r r')
     inherits_one os xs ys (from x b e f m r) (passes g s) = cc
     inherits_one os xs ys (passes g s) (from x b e f m r) = cc
     inherits_one os xs ys (passes g s) (passes h t) = inherits_one _ xs ys s t
 
   -- what a loop over bodies finds
-  pub named_to : (bodies : List Body) → IsListed d bodies → (k : ℕ) (b : Body) (p : Place) → Stands bodies k b → IsRepeated (map member_place (named_at d (map site_of b.all.items))) p → BreaksNames d p
+  pub named_to : (bodies : List Body) → IsListed d bodies → (k : ℕ) (b : Body) (p : Place) → Stands bodies k b
+      → IsRepeated (map member_place (named_at d (map site_of b.all.items))) p → BreaksNames d p
   named_to bodies l k b p s r =
       let ms = named_at d (map site_of b.all.items) in
       let x = stands_map_back member_place ms r.j r.first r.is_first in
@@ -81,7 +89,8 @@ module _ (d : Declared) where
   body_of b xs (members body s i) = (body, s)
 
   pub named_back : (bodies : List Body) → IsListed d bodies → (p : Place) → BreaksNames d p
-      → (k : ℕ) × AtItem bodies (λ (k : ℕ) (b : Body). IsRepeated (map member_place (named_at d (map site_of b.all.items)))) k p
+      → (k : ℕ) × AtItem bodies (λ (k : ℕ) (b : Body). IsRepeated
+      (map member_place (named_at d (map site_of b.all.items)))) k p
   named_back bodies l p h =
       let t = body_of h.body h.sites h.are_members in
       let w = along_back bodies d.bodies l.as_text h.body t.0 t.1 in
@@ -96,16 +105,25 @@ module _ (d : Declared) where
         is_later = stands_map member_place (named_at d h.sites) h.k h.later h.is_later;
         one_name = h.one_name;
         place = h.place;
-      } in
-      (h.body, record { item = w.0; stands = w.1; has = subst (λ (s : List Site). IsRepeated (map member_place (named_at d s)) p) e r })
+      } in (
+        h.body,
+        record {
+          item = w.0;
+          stands = w.1;
+          has = subst (λ (s : List Site). IsRepeated (map member_place (named_at d s)) p) e r;
+        },
+      )
 
 -- the members that stand in a body, with one more
-pub sites_next : (b k : ℕ) (os : List Owned) (o : Owned) → sites_from b k (os ++ o ∷ []) ≡ sites_from b k os ++ record { body = b; place = k + length os } ∷ []
+pub sites_next : (b k : ℕ) (os : List Owned) (o : Owned)
+    → sites_from b k (os ++ o ∷ []) ≡ sites_from b k os ++ record { body = b; place = k + length os } ∷ []
 sites_next b k [] o = ap (λ (n : ℕ). record { body = b; place = n } ∷ []) (let e : k ≡ k + 0 = omega arith in e)
 sites_next b k (x ∷ os) o = ap (λ (ss : List Site). record { body = b; place = k } ∷ ss) (sites_next b (k + 1) os o ∙ ap (λ (n : ℕ). sites_from b (k + 1) os ++ record { body = b; place = n } ∷ []) (let e : (k + 1) + length os ≡ k + suc (length os) = omega arith in e))
 
 -- the members of a body, put together
-pub members_made : (d : Declared) (bodies : List Body) → Along IsBodyOf bodies d.bodies → (b : ℕ) (body : Body) → Stands bodies b body → (xs ys : List Site) → Inherits d body.own.items xs → ys ≡ xs ++ sites_from b 0 body.own.items → Members d b ys
+pub members_made : (d : Declared) (bodies : List Body) → Along IsBodyOf bodies d.bodies → (b : ℕ) (body : Body)
+    → Stands bodies b body → (xs ys : List Site) → Inherits d body.own.items xs
+    → ys ≡ xs ++ sites_from b 0 body.own.items → Members d b ys
 members_made d bodies shown b body s xs ys h e =
     let w = along_on bodies d.bodies shown b body s in
     subst (Members d b) (sym (e ∙ ap (λ (os : List Owned). xs ++ sites_from b 0 os) w.2.own))

@@ -18,12 +18,14 @@ use Rattle.class_table.specs.declared.tables.Owned.{Owned}
 use Rattle.class_table.specs.declared.tables.Owned.TheVariants.{Plain, Nested}
 
 -- items related one after the other
-pub along_append : {A B : Type 0} {R : A → B → Type 0} (xs : List A) (ys : List B) (us : List A) (vs : List B) → Along R xs ys → Along R us vs → Along R (xs ++ us) (ys ++ vs)
+pub along_append : {A B : Type 0} {R : A → B → Type 0} (xs : List A) (ys : List B) (us : List A) (vs : List B)
+    → Along R xs ys → Along R us vs → Along R (xs ++ us) (ys ++ vs)
 along_append xs ys us vs along_none k = k
 along_append xs ys us vs (along_and {xs = as1} {ys = bs} r h) k = along_and r (along_append as1 bs us vs h k)
 
 -- members laid after others
-pub lays_append : (n m : ℕ) (ms ns : List Member) (os ps : List Owned) (bs cs : List TextBody) → m ≡ n + length bs → Lays n ms os bs → Lays m ns ps cs → Lays n (ms ++ ns) (os ++ ps) (bs ++ cs)
+pub lays_append : (n m : ℕ) (ms ns : List Member) (os ps : List Owned) (bs cs : List TextBody) → m ≡ n + length bs
+    → Lays n ms os bs → Lays m ns ps cs → Lays n (ms ++ ns) (os ++ ps) (bs ++ cs)
 lays_append n m ms ns os ps bs cs e none k = let i : m ≡ n = omega (arith, e) in subst (λ (z : ℕ). Lays z ns ps cs) i k
 lays_append n m ms ns os ps bs cs e (one_and {m = x} {ms = xs} {o = o} {os = qs} {bs = ds} {cs = es} h r) k =
     let i : m ≡ (n + length ds) + length es = let l = length-append ds es in omega (arith, e, l) in
@@ -31,7 +33,8 @@ lays_append n m ms ns os ps bs cs e (one_and {m = x} {ms = xs} {o = o} {os = qs}
     subst (Lays n (x ∷ xs ++ ns) (o ∷ qs ++ ps)) (sym (append_assoc ds es cs)) (one_and h rest)
 
 -- the bodies of a unit so far: its own one, whose members come last, and those of the blocks in it
-pub record LaysSoFar (name : NameId) (at : Place) (ms : List Member) (own : List Owned) (old new : List Body) : Type 0 where
+pub record LaysSoFar (name : NameId) (at : Place) (ms : List Member) (own : List Owned) (old new : List Body) : Type
+    0 where
   pub head : Body
   pub has_name : head.name ≡ name
   pub has_place : head.at ≡ at
@@ -41,7 +44,8 @@ pub record LaysSoFar (name : NameId) (at : Place) (ms : List Member) (own : List
   pub as_text : Along IsBodyOf rest inner
   pub lays : Lays (length old + 1) ms own inner
 
-pub so_far_start : (name : NameId) (at : Place) (own : List Owned) (old new : List Body) (b : Body) → own ≡ [] → b.name ≡ name → b.at ≡ at → new ≡ old ++ b ∷ [] → LaysSoFar name at [] own old new
+pub so_far_start : (name : NameId) (at : Place) (own : List Owned) (old new : List Body) (b : Body) → own ≡ []
+    → b.name ≡ name → b.at ≡ at → new ≡ old ++ b ∷ [] → LaysSoFar name at [] own old new
 so_far_start name at own old new b e f g h = record {
   head = b;
   has_name = f;
@@ -53,7 +57,8 @@ so_far_start name at own old new b e f g h = record {
   lays = subst (λ (os : List Owned). Lays (length old + 1) [] os []) (sym e) none;
 }
 
-pub so_far_next : (name : NameId) (at : Place) (ms : List Member) (own own' : List Owned) (old mid new : List Body) (m : Member) (o : Owned) → own' ≡ own ++ o ∷ [] → LaysSoFar name at ms own old mid
+pub so_far_next : (name : NameId) (at : Place) (ms : List Member) (own own' : List Owned) (old mid new : List Body)
+    (m : Member) (o : Owned) → own' ≡ own ++ o ∷ [] → LaysSoFar name at ms own old mid
     → LaysMember m o mid new → LaysSoFar name at (ms ++ m ∷ []) own' old new
 so_far_next name at ms own own' old mid new m o e s l = record {
   head = s.head;
@@ -63,7 +68,8 @@ so_far_next name at ms own own' old mid new m o e s l = record {
   inner = s.inner ++ l.inner;
   joined = l.joined ∙ (ap (λ (bs : List Body). bs ++ l.bodies) s.joined ∙ append_assoc old (s.head ∷ s.rest) l.bodies);
   as_text = along_append _ _ _ _ s.as_text l.as_text;
-  lays = subst (λ (os : List Owned). Lays (length old + 1) (ms ++ m ∷ []) os (s.inner ++ l.inner)) (sym e) (lays_append _ _ _ _ _ _ _ _ at_next s.lays last);
+  lays = subst (λ (os : List Owned). Lays (length old + 1) (ms ++ m ∷ []) os (s.inner ++ l.inner)) (sym e)
+      (lays_append _ _ _ _ _ _ _ _ at_next s.lays last);
 }
   where
     at_next : length mid ≡ (length old + 1) + length s.inner
@@ -76,7 +82,8 @@ so_far_next name at ms own own' old mid new m o e s l = record {
     last : Lays (length mid) (m ∷ []) (o ∷ []) l.inner
     last = subst (Lays (length mid) (m ∷ []) (o ∷ [])) (append-nil l.inner) (one_and l.lays none)
 
-pub so_far_end : (u : UnitTree) (own : Vec Owned Global) (old mid new : List Body) (place : ℕ) → place ≡ length old → LaysSoFar u.name u.at u.members.items own.items old mid → KeepsOwn own mid new place → LaysUnit u old new
+pub so_far_end : (u : UnitTree) (own : Vec Owned Global) (old mid new : List Body) (place : ℕ) → place ≡ length old
+    → LaysSoFar u.name u.at u.members.items own.items old mid → KeepsOwn own mid new place → LaysUnit u old new
 so_far_end u own old mid new place p s k = record {
   bodies = record s.head { own = own } ∷ s.rest;
   joined = k.kept old s.rest s.head s.joined p;
@@ -87,46 +94,66 @@ so_far_end u own old mid new place p s k = record {
 }
 
 -- a block is laid by its unit
-pub member_block : (u : UnitTree) (o : Owned) (old new : List Body) → LaysBlock u o old new → (f : MemberForm) (m : Member) → f ≡ member.Block u → out-Member m ≡ f → LaysMember m o old new
+pub member_block : (u : UnitTree) (o : Owned) (old new : List Body) → LaysBlock u o old new
+    → (f : MemberForm) (m : Member) → f ≡ member.Block u → out-Member m ≡ f → LaysMember m o old new
 member_block u o old new l f m e i = record {
   bodies = l.laid.bodies;
   joined = l.laid.joined;
   inner = record { name = u.name; at = u.at; own = l.laid.own } ∷ l.laid.inner;
   as_text = l.laid.as_text;
-  lays = subst (λ (q : Owned). Lays_one (length old) m (out-Member m) q (record { name = u.name; at = u.at; own = l.laid.own } ∷ l.laid.inner)) (sym l.kept)
-      (subst (λ (g : MemberForm). Lays_one (length old) m g (Nested u.name u.at l.id) (record { name = u.name; at = u.at; own = l.laid.own } ∷ l.laid.inner)) (sym (i ∙ e)) (block l.number l.laid.lays));
+  lays = subst (λ (q : Owned). Lays_one (length old) m (out-Member m) q
+      (record { name = u.name; at = u.at; own = l.laid.own } ∷ l.laid.inner)) (sym l.kept)
+      (subst (λ (g : MemberForm). Lays_one (length old) m g (Nested u.name u.at l.id)
+      (record { name = u.name; at = u.at; own = l.laid.own } ∷ l.laid.inner)) (sym (i ∙ e))
+      (block l.number l.laid.lays));
 }
 
 -- any other member stays
 pub member_plain : (m : Member) (old : List Body) → is_block (out-Member m) ≡ false → LaysMember m (Plain m) old old
-member_plain m old e = record { bodies = []; joined = sym (append-nil old); inner = []; as_text = along_none; lays = plain e }
+member_plain m old e = record {
+  bodies = [];
+  joined = sym (append-nil old);
+  inner = [];
+  as_text = along_none;
+  lays = plain e;
+}
 
 -- the members of a body between two parts are written
-pub keep_kept : (own : Vec Owned Global) (bodies : List Body) (place : ℕ) (d : Body) → KeepsOwn own bodies (set bodies place (record (get_or bodies place d) { own = own })) place
+pub keep_kept : (own : Vec Owned Global) (bodies : List Body) (place : ℕ) (d : Body)
+    → KeepsOwn own bodies (set bodies place (record (get_or bodies place d) { own = own })) place
 keep_kept own bodies place d = record { kept = λ front rest b e p. kept front rest b e p }
   where
-    kept : (front rest : List Body) (b : Body) → bodies ≡ front ++ b ∷ rest → place ≡ length front → set bodies place (record (get_or bodies place d) { own = own }) ≡ front ++ record b { own = own } ∷ rest
+    kept : (front rest : List Body) (b : Body) → bodies ≡ front ++ b ∷ rest → place ≡ length front
+        → set bodies place (record (get_or bodies place d) { own = own }) ≡ front ++ record b { own = own } ∷ rest
     kept front rest b e p =
-        let base = ap (λ (x : Body). set (front ++ b ∷ rest) (length front) (record x { own = own })) (get_between front rest b d) ∙ set_between front rest b (record b { own = own }) in
-        subst (λ (bs : List Body). set bs place (record (get_or bs place d) { own = own }) ≡ front ++ record b { own = own } ∷ rest) (sym e)
-        (subst (λ (n : ℕ). set (front ++ b ∷ rest) n (record (get_or (front ++ b ∷ rest) n d) { own = own }) ≡ front ++ record b { own = own } ∷ rest) (sym p) base)
+        let base = ap (λ (x : Body). set (front ++ b ∷ rest) (length front) (record x { own = own }))
+        (get_between front rest b d) ∙ set_between front rest b (record b { own = own }) in
+        subst (λ (bs : List Body). set bs place (record (get_or bs place d) { own = own })
+        ≡ front ++ record b { own = own } ∷ rest) (sym e)
+        (subst (λ (n : ℕ). set (front ++ b ∷ rest) n (record (get_or (front ++ b ∷ rest) n d) { own = own })
+        ≡ front ++ record b { own = own } ∷ rest) (sym p) base)
 
 -- where the place is not there, nothing is between two parts
-pub keep_past : (own : Vec Owned Global) (bodies : List Body) (place : ℕ) → length bodies ≤ place → KeepsOwn own bodies bodies place
+pub keep_past : (own : Vec Owned Global) (bodies : List Body) (place : ℕ) → length bodies ≤ place
+    → KeepsOwn own bodies bodies place
 keep_past own bodies place l = record { kept = λ front rest b e p. let a = ap (λ (bs : List Body). length bs) e in let c = length-append front (b ∷ rest) in absurd (omega (arith, a, c, p, l)) }
 
 -- a loop over the members of a unit: those that are done, and those that are left
-pub record LayingOn (u : UnitTree) (rest : List Member) (len : ℕ) (own : List Owned) (old new : List Body) : Type 0 where
+pub record LayingOn (u : UnitTree) (rest : List Member) (len : ℕ) (own : List Owned) (old new : List Body) : Type
+    0 where
   pub done : List Member
   pub all : done ++ rest ≡ u.members.items
   pub count : len ≡ length rest
   pub so_far : LaysSoFar u.name u.at done own old new
 
-pub on_start : (u : UnitTree) (rest : List Member) (len : ℕ) (own : List Owned) (old new : List Body) (b : Body) → rest ≡ u.members.items → len ≡ length rest → own ≡ [] → b.name ≡ u.name → b.at ≡ u.at → new ≡ old ++ b ∷ []
+pub on_start : (u : UnitTree) (rest : List Member) (len : ℕ) (own : List Owned) (old new : List Body) (b : Body)
+    → rest ≡ u.members.items → len ≡ length rest → own ≡ [] → b.name ≡ u.name → b.at ≡ u.at → new ≡ old ++ b ∷ []
     → LayingOn u rest len own old new
-on_start u rest len own old new b e c f g h i = record { done = []; all = e; count = c; so_far = so_far_start u.name u.at own old new b f g h i }
+on_start u rest len own old new b e c f g h i =
+    record { done = []; all = e; count = c; so_far = so_far_start u.name u.at own old new b f g h i }
 
-pub on_next : (u : UnitTree) (rest rest' : List Member) (len len' : ℕ) (own own' : List Owned) (old mid new : List Body) (m : Member) (o : Owned) → rest ≡ m ∷ rest' → len' + 1 ≡ len → own' ≡ own ++ o ∷ []
+pub on_next : (u : UnitTree) (rest rest' : List Member) (len len' : ℕ) (own own' : List Owned) (old mid new : List Body)
+    (m : Member) (o : Owned) → rest ≡ m ∷ rest' → len' + 1 ≡ len → own' ≡ own ++ o ∷ []
     → LayingOn u rest len own old mid → LaysMember m o mid new → LayingOn u rest' len' own' old new
 on_next u rest rest' len len' own own' old mid new m o e c f h l = record {
   done = h.done ++ m ∷ [];
@@ -135,12 +162,17 @@ on_next u rest rest' len len' own own' old mid new m o e c f h l = record {
   so_far = so_far_next u.name u.at h.done own own' old mid new m o f h.so_far l;
 }
 
-pub on_end : (u : UnitTree) (rest : List Member) (len : ℕ) (own : Vec Owned Global) (old mid new : List Body) (place : ℕ) → len ≡ 0 → place ≡ length old → LayingOn u rest len own.items old mid → KeepsOwn own mid new place → LaysUnit u old new
-on_end u rest len own old mid new place e p h k = so_far_end u own old mid new place p (subst (λ (ms : List Member). LaysSoFar u.name u.at ms own.items old mid) all h.so_far) k
+pub on_end : (u : UnitTree) (rest : List Member) (len : ℕ) (own : Vec Owned Global) (old mid new : List Body)
+    (place : ℕ) → len ≡ 0 → place ≡ length old → LayingOn u rest len own.items old mid → KeepsOwn own mid new place
+    → LaysUnit u old new
+on_end u rest len own old mid new place e p h k =
+    so_far_end u own old mid new place p
+    (subst (λ (ms : List Member). LaysSoFar u.name u.at ms own.items old mid) all h.so_far) k
   where
     empty : (ms : List Member) → 0 ≡ length ms → ms ≡ []
     empty [] f = refl
     empty (x ∷ xs) f = absurd (omega (arith, f))
 
     all : h.done ≡ u.members.items
-    all = sym (append-nil h.done) ∙ (ap (λ (ms : List Member). h.done ++ ms) (sym (empty rest (sym e ∙ h.count))) ∙ h.all)
+    all = sym (append-nil h.done) ∙ (ap (λ (ms : List Member). h.done ++ ms) (sym (empty rest (sym e ∙ h.count)))
+        ∙ h.all)

@@ -16,7 +16,8 @@ module _ {A : Type 0} (xs : List A) (P : ℕ → A → Place → Type 0) where
   pub loop_start : IsEarliest (Until (AtItem xs P) 0) None
   loop_start = earliest_start
 
-  pub loop_next : (i : ℕ) (a : A) (f g r : Option Place) → Stands xs i a → IsEarliest (Until (AtItem xs P) i) f → IsEarliest (P i a) g → IsEarlierOf f g r
+  pub loop_next : (i : ℕ) (a : A) (f g r : Option Place) → Stands xs i a → IsEarliest (Until (AtItem xs P) i) f
+      → IsEarliest (P i a) g → IsEarlierOf f g r
       → IsEarliest (Until (AtItem xs P) (i + 1)) r
   loop_next i a f g r s h k e = earliest_next i f g r h (earliest_same g to from k) e
     where
@@ -26,7 +27,8 @@ module _ {A : Type 0} (xs : List A) (P : ℕ → A → Place → Type 0) where
       from : (p : Place) → AtItem xs P i p → P i a p
       from p h = subst (λ (b : A). P i b p) (stands_one xs i h.item a h.stands s) h.has
 
-  pub loop_end : (Q : Place → Type 0) (i : ℕ) (f : Option Place) → length xs ≤ i → ((k : ℕ) (a : A) (p : Place) → Stands xs k a → P k a p → Q p)
+  pub loop_end : (Q : Place → Type 0) (i : ℕ) (f : Option Place) → length xs ≤ i
+      → ((k : ℕ) (a : A) (p : Place) → Stands xs k a → P k a p → Q p)
       → ((p : Place) → Q p → (k : ℕ) × AtItem xs P k p) → IsEarliest (Until (AtItem xs P) i) f → IsEarliest Q f
   loop_end Q i f l to from h = earliest_same f (λ p u. to u.k u.holds.item p u.holds.stands u.holds.has) back h
     where

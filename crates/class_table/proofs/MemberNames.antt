@@ -22,7 +22,8 @@ use Rattle.class_table.proofs.OwnAt.{own_shown}
 
 module _ (d : Declared) (bodies : List Body) (shown : Along IsBodyOf bodies d.bodies) where
   -- a member at a place of a body that is there
-  pub site_there : (b k : ℕ) (body : Body) → Stands bodies b body → slice_get body.own.items k ≡ slice_get (own_at d b) k
+  pub site_there : (b k : ℕ) (body : Body) → Stands bodies b body
+      → slice_get body.own.items k ≡ slice_get (own_at d b) k
   site_there b k body s = ap (λ (os : List Owned). slice_get os k) (sym (own_shown d bodies shown b body s))
 
   -- and of none
@@ -32,30 +33,42 @@ module _ (d : Declared) (bodies : List Body) (shown : Along IsBodyOf bodies d.bo
       sym (ap (λ (t : Option TextBody). slice_get (own_of t) k) e ∙ slice_get_past [] k (omega arith))
 
 -- the names of a declaration, as they are met
-same_names : (s : Site) (kind : MemberKind) (names : List (NameId × Place)) → map name_and_place names ≡ map member_place (all_named s (Some kind) names)
+same_names : (s : Site) (kind : MemberKind) (names : List (NameId × Place))
+    → map name_and_place names ≡ map member_place (all_named s (Some kind) names)
 same_names s kind [] = refl
 same_names s kind (n ∷ ns) = ap (λ (xs : List (ℕ × Place)). name_and_place n ∷ xs) (same_names s kind ns)
 
-pub declared_names : (d : Declared) (s : Site) (f : TypeForm) (settings : List Setting) (names : List (NameId × Place)) → IsDeclaredBy d f true → map name_and_place names ≡ map member_place (all_named s (declared_kind d s f settings) names)
+pub declared_names : (d : Declared) (s : Site) (f : TypeForm) (settings : List Setting) (names : List (NameId × Place))
+    → IsDeclaredBy d f true → map name_and_place names
+    ≡ map member_place (all_named s (declared_kind d s f settings) names)
 declared_names d s form.Boolean settings names e = same_names s _ names
 declared_names d s form.Integer settings names e = cc
 declared_names d s (form.Named x) settings names e = by (type_named d x.n) e
   where
-    by : (t : Option NamedType) → true ≡ is_some t → map name_and_place names ≡ map member_place (all_named s (option_map (λ (u : NamedType). kind_of s (form.Named x) u settings) t) names)
+    by : (t : Option NamedType) → true ≡ is_some t
+        → map name_and_place names ≡ map member_place
+        (all_named s (option_map (λ (u : NamedType). kind_of s (form.Named x) u settings) t) names)
     by None e = cc
     by (Some t) e = same_names s _ names
 
 -- the names of members, one after the other
-pub named_next : (d : Declared) (xs : List Site) (x : Site) → map member_place (named_at d (xs ++ x ∷ [])) ≡ map member_place (named_at d xs) ++ map member_place (names_of d x (owned_at d x))
+pub named_next : (d : Declared) (xs : List Site) (x : Site)
+    → map member_place (named_at d (xs ++ x ∷ []))
+    ≡ map member_place (named_at d xs) ++ map member_place (names_of d x (owned_at d x))
 named_next d [] x = ap (map member_place) (append-nil (names_of d x (owned_at d x)))
-named_next d (y ∷ ys) x = maps (names_of d y (owned_at d y)) (named_at d (ys ++ x ∷ [])) ∙ (ap (λ (ms : List (ℕ × Place)). map member_place (names_of d y (owned_at d y)) ++ ms) (named_next d ys x) ∙ (sym (append_assoc (map member_place (names_of d y (owned_at d y))) (map member_place (named_at d ys)) _) ∙ ap (λ (ms : List (ℕ × Place)). ms ++ map member_place (names_of d x (owned_at d x))) (sym (maps (names_of d y (owned_at d y)) (named_at d ys)))))
+named_next d (y ∷ ys) x = maps (names_of d y (owned_at d y)) (named_at d (ys ++ x ∷ []))
+    ∙ (ap (λ (ms : List (ℕ × Place)). map member_place (names_of d y (owned_at d y)) ++ ms) (named_next d ys x)
+    ∙ (sym (append_assoc (map member_place (names_of d y (owned_at d y))) (map member_place (named_at d ys)) _)
+    ∙ ap (λ (ms : List (ℕ × Place)). ms ++ map member_place (names_of d x (owned_at d x)))
+    (sym (maps (names_of d y (owned_at d y)) (named_at d ys)))))
   where
     maps : (us vs : List NamedMember) → map member_place (us ++ vs) ≡ map member_place us ++ map member_place vs
     maps [] vs = refl
     maps (u ∷ us) vs = ap (λ (ms : List (ℕ × Place)). member_place u ∷ ms) (maps us vs)
 
 -- what is read at a place of a list
-pub copied_get : {A : Type 0} (xs : List A) (k : ℕ) (r : Option (Bor A)) → is_some r ≡ ltb k (length xs) → IfSome r (λ x. x.now ≡ get_or xs k x.now) → option_copied r ≡ slice_get xs k
+pub copied_get : {A : Type 0} (xs : List A) (k : ℕ) (r : Option (Bor A)) → is_some r ≡ ltb k (length xs)
+    → IfSome r (λ x. x.now ≡ get_or xs k x.now) → option_copied r ≡ slice_get xs k
 copied_get xs k (Some x) e i = sym (item_stands xs k x.now (ltb-true _ _ (sym e)) i)
 copied_get xs k None e i = sym (slice_get_past xs k (ltb-false _ _ (sym e)))
 
@@ -63,6 +76,7 @@ pub none_of : {A : Type 0} (o : Option A) → ((a : A) → o ≡ Some a → ⊥)
 none_of None n = refl
 none_of (Some a) n = absurd (n a refl)
 
-pub copied_past : {A : Type 0} (xs : List A) (k : ℕ) (r : Option (Bor A)) → is_some r ≡ ltb k (length xs) → option_copied r ≡ None → length xs ≤ k
+pub copied_past : {A : Type 0} (xs : List A) (k : ℕ) (r : Option (Bor A)) → is_some r ≡ ltb k (length xs)
+    → option_copied r ≡ None → length xs ≤ k
 copied_past xs k (Some x) e i = absurd (cc)
 copied_past xs k None e i = ltb-false _ _ (sym e)

@@ -22,7 +22,8 @@ use Rattle.domains.specs.declared.Domain.TheVariants as values
 use Rattle.class_table.proofs.Laid.{along_append}
 
 -- uses after others
-pub uses_append : (old mid new xs ys : List ℕ) → FirstUses old xs mid → FirstUses mid ys new → FirstUses old (xs ++ ys) new
+pub uses_append : (old mid new xs ys : List ℕ) → FirstUses old xs mid → FirstUses mid ys new
+    → FirstUses old (xs ++ ys) new
 uses_append old mid new xs ys none k = k
 uses_append old mid new xs ys (known {xs = zs} o h) k = known o (uses_append old mid new zs ys h k)
 uses_append old mid new xs ys (first {xs = zs} {x = x} o h) k = first o (uses_append (old ++ x ∷ []) mid new zs ys h k)
@@ -31,19 +32,28 @@ uses_append old mid new xs ys (first {xs = zs} {x = x} o h) k = first o (uses_ap
 pub uses_stand : (old new xs : List ℕ) → FirstUses old xs new → (k x : ℕ) → Stands old k x → Stands new k x
 uses_stand old new xs none k x s = s
 uses_stand old new xs (known {xs = zs} o h) k x s = uses_stand old new zs h k x s
-uses_stand old new xs (first {xs = zs} {x = y} o h) k x s = uses_stand (old ++ y ∷ []) new zs h k x (stands_left old (y ∷ []) k x s)
+uses_stand old new xs (first {xs = zs} {x = y} o h) k x s =
+    uses_stand (old ++ y ∷ []) new zs h k x (stands_left old (y ∷ []) k x s)
 
 -- a symbol that was there
-pub number_known : (s : Symbols) (x k : ℕ) → hash.get nat_eq s.numbers x ≡ Some k → AreNumbered s → UsesMore (x ∷ []) s s × Stands (list_of s) k x
-number_known s x k e h = (record { numbered = h; uses_of = known (one_here (list_of s) k x (h.at x k e)) none }, h.at x k e)
+pub number_known : (s : Symbols) (x k : ℕ) → hash.get nat_eq s.numbers x ≡ Some k → AreNumbered s
+    → UsesMore (x ∷ []) s s × Stands (list_of s) k x
+number_known s x k e h = (
+  record { numbered = h; uses_of = known (one_here (list_of s) k x (h.at x k e)) none },
+  h.at x
+      k e,
+)
 
 -- a new symbol
-pub number_new : (old new : Symbols) (x k : ℕ) → hash.get nat_eq old.numbers x ≡ None → k ≡ length (list_of old) → list_of new ≡ list_of old ++ x ∷ []
-    → ((q : ℕ) → hash.get nat_eq new.numbers q ≡ cond (nat_eq x q) (Some k) (hash.get nat_eq old.numbers q)) → AreNumbered old → UsesMore (x ∷ []) old new × Stands (list_of new) k x
+pub number_new : (old new : Symbols) (x k : ℕ) → hash.get nat_eq old.numbers x ≡ None → k ≡ length (list_of old)
+    → list_of new ≡ list_of old ++ x ∷ []
+    → ((q : ℕ) → hash.get nat_eq new.numbers q ≡ cond (nat_eq x q) (Some k) (hash.get nat_eq old.numbers q))
+    → AreNumbered old → UsesMore (x ∷ []) old new × Stands (list_of new) k x
 number_new old new x k e l j u h = (record { numbered = record { at = at; all = all }; uses_of = uses }, here)
   where
     here : Stands (list_of new) k x
-    here = subst (λ (xs : List ℕ). Stands xs k x) (sym j) (subst (λ (n : ℕ). Stands (list_of old ++ x ∷ []) n x) (sym l) (stands_next (list_of old) x []))
+    here = subst (λ (xs : List ℕ). Stands xs k x) (sym j)
+        (subst (λ (n : ℕ). Stands (list_of old ++ x ∷ []) n x) (sym l) (stands_next (list_of old) x []))
 
     is_new : (y : ℕ) → x ≡ y → hash.get nat_eq new.numbers y ≡ Some k
     is_new y i = u y ∙ ap (λ (b : Bool). cond b (Some k) (hash.get nat_eq old.numbers y)) (eq-eqb x y i)
@@ -56,7 +66,8 @@ number_new old new x k e l j u h = (record { numbered = record { at = at; all = 
       where
         by : (x ≡ y) ⊎ (x ≡ y → ⊥) → Stands (list_of new) n y
         by (inl i) = let g = is_new y i in let m : k ≡ n = cc in subst (λ (z : ℕ). Stands (list_of new) n z) i (subst (λ (z : ℕ). Stands (list_of new) z x) m here)
-        by (inr i) = subst (λ (xs : List ℕ). Stands xs n y) (sym j) (stands_left (list_of old) (x ∷ []) n y (h.at y n (sym (is_old y i) ∙ f)))
+        by (inr i) = subst (λ (xs : List ℕ). Stands xs n y) (sym j)
+            (stands_left (list_of old) (x ∷ []) n y (h.at y n (sym (is_old y i) ∙ f)))
 
     all : (y : ℕ) → hash.get nat_eq new.numbers y ≡ None → IsOneOf (list_of new) y → ⊥
     all y f o = by (cases_eq x y) (one_split (list_of old) (x ∷ []) y (subst (λ (xs : List ℕ). IsOneOf xs y) j o))
@@ -67,29 +78,50 @@ number_new old new x k e l j u h = (record { numbered = record { at = at; all = 
         by (inr i) (inr p) = elim (one_cases x [] y p) [ inl q ↦ i q | inr q ↦ one_none y q ]
 
     uses : FirstUses (list_of old) (x ∷ []) (list_of new)
-    uses = first (record { has_not = λ n y s i. h.all x e (subst (IsOneOf (list_of old)) i (one_here (list_of old) n y s)) }) (subst (λ (xs : List ℕ). FirstUses (list_of old ++ x ∷ []) [] xs) (sym j) none)
+    uses = first (record {
+      has_not = λ n y s i. h.all x e
+          (subst (IsOneOf (list_of old)) i (one_here (list_of old) n y s));
+    })
+        (subst (λ (xs : List ℕ). FirstUses (list_of old ++ x ∷ []) [] xs) (sym j) none)
 
 -- the numbers of the symbols of a declaration so far
-pub numbers_next : (a b c : Symbols) (xs : List ℕ) (ns : List (NameId × Place)) (ks ks' : List ℕ) (n : NameId × Place) (k : ℕ) → ks' ≡ ks ++ k ∷ []
-    → UsesMore xs a b × Along (λ (m : NameId × Place) (i : ℕ). Stands (list_of b) i m.0.n) ns ks → UsesMore (n.0.n ∷ []) b c × Stands (list_of c) k n.0.n
-    → UsesMore (xs ++ n.0.n ∷ []) a c × Along (λ (m : NameId × Place) (i : ℕ). Stands (list_of c) i m.0.n) (ns ++ n ∷ []) ks'
+pub numbers_next : (a b c : Symbols) (xs : List ℕ) (ns : List (NameId × Place)) (ks ks' : List ℕ) (n : NameId × Place)
+    (k : ℕ) → ks' ≡ ks ++ k ∷ []
+    → UsesMore xs a b × Along (λ (m : NameId × Place) (i : ℕ). Stands (list_of b) i m.0.n) ns ks
+    → UsesMore (n.0.n ∷ []) b c × Stands (list_of c) k n.0.n
+    → UsesMore (xs ++ n.0.n ∷ []) a c × Along (λ (m : NameId × Place) (i : ℕ). Stands (list_of c) i m.0.n)
+    (ns ++ n ∷ []) ks'
 numbers_next a b c xs ns ks ks' n k e h g = (
-  record { numbered = g.0.numbered; uses_of = uses_append (list_of a) (list_of b) (list_of c) xs (n.0.n ∷ []) h.0.uses_of g.0.uses_of },
-  subst (Along (λ (m : NameId × Place) (i : ℕ). Stands (list_of c) i m.0.n) (ns ++ n ∷ [])) (sym e) (along_append ns ks (n ∷ []) (k ∷ []) (later ns ks h.1) (along_and g.1 along_none)),
+  record {
+    numbered = g.0.numbered;
+    uses_of = uses_append (list_of a) (list_of b) (list_of c) xs (n.0.n ∷ [])
+        h.0.uses_of g.0.uses_of;
+  },
+  subst (Along (λ (m : NameId × Place) (i : ℕ). Stands (list_of c) i m.0.n) (ns ++ n ∷ [])) (sym e)
+      (along_append ns ks (n ∷ []) (k ∷ []) (later ns ks h.1) (along_and g.1 along_none)),
 )
   where
-    later : (ms : List (NameId × Place)) (is : List ℕ) → Along (λ (m : NameId × Place) (i : ℕ). Stands (list_of b) i m.0.n) ms is → Along (λ (m : NameId × Place) (i : ℕ). Stands (list_of c) i m.0.n) ms is
+    later : (ms : List (NameId × Place)) (is : List ℕ)
+        → Along (λ (m : NameId × Place) (i : ℕ). Stands (list_of b) i m.0.n) ms is
+        → Along (λ (m : NameId × Place) (i : ℕ). Stands (list_of c) i m.0.n) ms is
     later ms is along_none = along_none
-    later ms is (along_and {a = m} {b = i} {xs = ns} {ys = js} s t) = along_and (uses_stand (list_of b) (list_of c) (n.0.n ∷ []) g.0.uses_of i m.0.n s) (later ns js t)
+    later ms is (along_and {a = m} {b = i} {xs = ns} {ys = js} s t) =
+        along_and (uses_stand (list_of b) (list_of c) (n.0.n ∷ []) g.0.uses_of i m.0.n s) (later ns js t)
 
 -- a type keeps the numbers of its symbols
-pub types_later : (old new xs : List ℕ) → FirstUses old xs new → (ts : List (NameId × TypeBody)) (ds : List (ℕ × NamedType)) → Along (IsNamedType old) ts ds → Along (IsNamedType new) ts ds
+pub types_later : (old new xs : List ℕ) → FirstUses old xs new
+    → (ts : List (NameId × TypeBody)) (ds : List (ℕ × NamedType)) → Along (IsNamedType old) ts ds
+    → Along (IsNamedType new) ts ds
 types_later old new xs u ts ds along_none = along_none
-types_later old new xs u ts ds (along_and {a = t} {b = d} {xs = us} {ys = es} h r) = along_and (record { name = h.name; is_type = one t.1 d.1 h.is_type }) (types_later old new xs u us es r)
+types_later old new xs u ts ds (along_and {a = t} {b = d} {xs = us} {ys = es} h r) =
+    along_and (record { name = h.name; is_type = one t.1 d.1 h.is_type }) (types_later old new xs u us es r)
   where
-    numbers : (ms : List (NameId × Place)) (is : List ℕ) → Along (λ (m : NameId × Place) (i : ℕ). Stands old i m.0.n) ms is → Along (λ (m : NameId × Place) (i : ℕ). Stands new i m.0.n) ms is
+    numbers : (ms : List (NameId × Place)) (is : List ℕ)
+        → Along (λ (m : NameId × Place) (i : ℕ). Stands old i m.0.n) ms is
+        → Along (λ (m : NameId × Place) (i : ℕ). Stands new i m.0.n) ms is
     numbers ms is along_none = along_none
-    numbers ms is (along_and {a = m} {b = i} {xs = ns} {ys = js} s q) = along_and (uses_stand old new xs u i m.0.n s) (numbers ns js q)
+    numbers ms is (along_and {a = m} {b = i} {xs = ns} {ys = js} s q) =
+        along_and (uses_stand old new xs u i m.0.n s) (numbers ns js q)
 
     values : (b : DomainBody) (v : Domain) → IsDomainOf old b v → IsDomainOf new b v
     values b v (symbols {names = ns} {numbers = ks} a) = symbols (numbers ns.items ks.items a)
@@ -99,17 +131,28 @@ types_later old new xs u ts ds (along_and {a = t} {b = d} {xs = us} {ys = es} h 
     one t d (domain {declared = b} {v = v} k) = domain (values b v k)
     one t d (class e) = class e
 
-pub numbers_start : (s : Symbols) (ks : List ℕ) → ks ≡ [] → AreNumbered s → UsesMore [] s s × Along (λ (m : NameId × Place) (i : ℕ). Stands (list_of s) i m.0.n) [] ks
-numbers_start s ks e h = (record { numbered = h; uses_of = none }, subst (Along (λ (m : NameId × Place) (i : ℕ). Stands (list_of s) i m.0.n) []) (sym e) along_none)
+pub numbers_start : (s : Symbols) (ks : List ℕ) → ks ≡ [] → AreNumbered s
+    → UsesMore [] s s × Along (λ (m : NameId × Place) (i : ℕ). Stands (list_of s) i m.0.n) [] ks
+numbers_start s ks e h = (
+  record { numbered = h; uses_of = none },
+  subst
+      (Along (λ (m : NameId × Place) (i : ℕ). Stands (list_of s) i m.0.n) []) (sym e) along_none,
+)
 
 -- the type of a declaration
-pub domain_symbols : (s t : Symbols) (b : DomainBody) (names : Vec (NameId × Place) Global) (numbers : Vec ℕ Global) → b ≡ body.Symbols names
-    → UsesMore (map (λ (n : NameId × Place). n.0.n) names.items) s t × Along (λ (m : NameId × Place) (i : ℕ). Stands (list_of t) i m.0.n) names.items numbers.items
+pub domain_symbols : (s t : Symbols) (b : DomainBody) (names : Vec (NameId × Place) Global) (numbers : Vec ℕ Global)
+    → b ≡ body.Symbols names
+    → UsesMore (map (λ (n : NameId × Place). n.0.n) names.items) s t
+    × Along (λ (m : NameId × Place) (i : ℕ). Stands (list_of t) i m.0.n) names.items numbers.items
     → UsesMore (symbols_in b) s t × IsTypeOf (list_of t) (DomainType b) (types.Domain (values.Symbols numbers))
 domain_symbols s t b names numbers e h =
-    subst (λ (z : DomainBody). UsesMore (symbols_in z) s t × IsTypeOf (list_of t) (DomainType z) (types.Domain (values.Symbols numbers))) (sym e) (h.0, domain (symbols h.1))
+    subst (λ (z : DomainBody). UsesMore (symbols_in z) s t
+    × IsTypeOf (list_of t) (DomainType z) (types.Domain (values.Symbols numbers))) (sym e)
+    (h.0, domain (symbols h.1))
 
 pub domain_range : (s : Symbols) (b : DomainBody) (low high : ℤ) → b ≡ body.Range low high → AreNumbered s
     → UsesMore (symbols_in b) s s × IsTypeOf (list_of s) (DomainType b) (types.Domain (values.Range low high))
 domain_range s b low high e h =
-    subst (λ (z : DomainBody). UsesMore (symbols_in z) s s × IsTypeOf (list_of s) (DomainType z) (types.Domain (values.Range low high))) (sym e) (record { numbered = h; uses_of = none }, domain range)
+    subst (λ (z : DomainBody). UsesMore (symbols_in z) s s
+    × IsTypeOf (list_of s) (DomainType z) (types.Domain (values.Range low high))) (sym e)
+    (record { numbered = h; uses_of = none }, domain range)

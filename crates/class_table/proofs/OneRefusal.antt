@@ -18,15 +18,19 @@ pub place_cases : (p q : Place) → IsEarlier p q ⊎ (IsEarlier q p ⊎ (p ≡ 
 place_cases p q = by_line (cases_lt p.line q.line)
   where
     one_place : p.line ≡ q.line → p.column ≡ q.column → p ≡ q
-    one_place e i = ap (λ (z : ℕ). record { line = z; column = p.column }) e ∙ ap (λ (z : ℕ). record { line = q.line; column = z }) i
+    one_place e i = ap (λ (z : ℕ). record { line = z; column = p.column }) e
+        ∙ ap (λ (z : ℕ). record { line = q.line; column = z }) i
 
-    by_column : p.line ≡ q.line → (p.column < q.column) ⊎ (q.column ≤ p.column) → IsEarlier p q ⊎ (IsEarlier q p ⊎ (p ≡ q))
+    by_column : p.line ≡ q.line → (p.column < q.column) ⊎ (q.column ≤ p.column)
+        → IsEarlier p q ⊎ (IsEarlier q p ⊎ (p ≡ q))
     by_column e (inl a) = inl (inr (e, a))
-    by_column e (inr b) = elim (lt_or_same q.column p.column b) [ inl c ↦ inr (inl (inr (sym e, c))) | inr c ↦ inr (inr (one_place e (sym c))) ]
+    by_column e (inr b) = elim (lt_or_same q.column p.column b)
+        [ inl c ↦ inr (inl (inr (sym e, c))) | inr c ↦ inr (inr (one_place e (sym c))) ]
 
     by_line : (p.line < q.line) ⊎ (q.line ≤ p.line) → IsEarlier p q ⊎ (IsEarlier q p ⊎ (p ≡ q))
     by_line (inl a) = inl (inl a)
-    by_line (inr b) = elim (lt_or_same q.line p.line b) [ inl c ↦ inr (inl (inl c)) | inr c ↦ by_column (sym c) (cases_lt p.column q.column) ]
+    by_line (inr b) = elim (lt_or_same q.line p.line b)
+        [ inl c ↦ inr (inl (inl c)) | inr c ↦ by_column (sym c) (cases_lt p.column q.column) ]
 
 module _ (rules : List ℕ) (breaks : ℕ → Place → Type 0) where
   -- one rule is the first that is broken
@@ -49,10 +53,12 @@ module _ (rules : List ℕ) (breaks : ℕ → Place → Type 0) where
       (e, place_one r p q b (subst (λ (t : ℕ). IsBroken rules breaks t q) (sym e) c))
 
 module _ (main : Option (List ℕ)) (model : Model) where
-  pub refusal_one : (r s : ℕ) (p q : Place) → Tabulates main model (Err (Rule r p)) → Tabulates main model (Err (Rule s q)) → (r ≡ s) × (p ≡ q)
+  pub refusal_one : (r s : ℕ) (p q : Place) → Tabulates main model (Err (Rule r p))
+      → Tabulates main model (Err (Rule s q)) → (r ≡ s) × (p ≡ q)
   refusal_one r s p q (breach d h b) (breach e k c) =
       let same = declared_one model d e h k in
-      breach_one text_rules (Breaks model main d) r s p q b (subst (λ (z : Declared). IsBroken text_rules (Breaks model main z) s q) (sym same) c)
+      breach_one text_rules (Breaks model main d) r s p q b
+      (subst (λ (z : Declared). IsBroken text_rules (Breaks model main z) s q) (sym same) c)
 
   pub never_both : (c : Classes) (f : RuleFault) → Tabulates main model (Ok c) → Tabulates main model (Err f) → ⊥
   never_both c f (table d t kept) (breach {r = r} {p = p} e k b) =

@@ -17,6 +17,7 @@ module _ (d : Declared) (bodies : List Body) (shown : Along IsBodyOf bodies d.bo
   pub shown_back : (k : ℕ) (o : Owned) → IsOneOf (own_at d k) o → (b : Body) × Stands bodies k b × IsOneOf b.own.items o
   shown_back k o h = by (slice_get d.bodies k) refl h
     where
-      by : (t : Option TextBody) → slice_get d.bodies k ≡ t → IsOneOf (own_of t) o → (b : Body) × Stands bodies k b × IsOneOf b.own.items o
+      by : (t : Option TextBody) → slice_get d.bodies k ≡ t → IsOneOf (own_of t) o
+          → (b : Body) × Stands bodies k b × IsOneOf b.own.items o
       by None e h = absurd (one_none o h)
       by (Some t) e h = let w = along_back bodies d.bodies shown k t e in (w.0, w.1, subst (λ (os : List Owned). IsOneOf os o) (sym w.2.own) h)

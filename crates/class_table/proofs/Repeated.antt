@@ -37,26 +37,49 @@ module _ (names : List (ℕ × Place)) (x : ℕ) (at : Place) where
   pub named_split : (q : ℕ) → IsNamed (names ++ (x, at) ∷ []) q → IsNamed names q ⊎ (x ≡ q)
   named_split q h = by (stands_split names ((x, at) ∷ []) h.k h.one h.stands)
     where
-      by : Stands names h.k h.one ⊎ ((k : ℕ) × (h.k ≡ length names + k) × Stands ((x, at) ∷ []) k h.one) → IsNamed names q ⊎ (x ≡ q)
+      by : Stands names h.k h.one ⊎ ((k : ℕ) × (h.k ≡ length names + k) × Stands ((x, at) ∷ []) k h.one)
+          → IsNamed names q ⊎ (x ≡ q)
       by (inl a) = inl (record { k = h.k; one = h.one; stands = a; name = h.name })
       by (inr a) = let e = (last_one a.0 h.one a.2).1 in inr (sym (ap (λ (n : ℕ × Place). n.0) e) ∙ h.name)
 
   pub named_before : (q : ℕ) → IsNamed names q → IsNamed (names ++ (x, at) ∷ []) q
-  named_before q h = record { k = h.k; one = h.one; stands = stands_left names ((x, at) ∷ []) h.k h.one h.stands; name = h.name }
+  named_before q h = record {
+    k = h.k;
+    one = h.one;
+    stands = stands_left names ((x, at) ∷ []) h.k h.one h.stands;
+    name = h.name;
+  }
 
   pub named_last : IsNamed (names ++ (x, at) ∷ []) x
   named_last = record { k = length names; one = (x, at); stands = stands_next names (x, at) []; name = refl }
 
-  pub repeated_split : (p : Place) → IsRepeated (names ++ (x, at) ∷ []) p → IsRepeated names p ⊎ (IsNamed names x × (p ≡ at))
-  repeated_split p r = by (stands_split names ((x, at) ∷ []) r.k r.later r.is_later) (stands_split names ((x, at) ∷ []) r.j r.first r.is_first)
+  pub repeated_split : (p : Place) → IsRepeated (names ++ (x, at) ∷ []) p
+      → IsRepeated names p ⊎ (IsNamed names x × (p ≡ at))
+  repeated_split p r = by (stands_split names ((x, at) ∷ []) r.k r.later r.is_later)
+      (stands_split names ((x, at) ∷ []) r.j r.first r.is_first)
     where
       by : Stands names r.k r.later ⊎ ((k : ℕ) × (r.k ≡ length names + k) × Stands ((x, at) ∷ []) k r.later)
-          → Stands names r.j r.first ⊎ ((k : ℕ) × (r.j ≡ length names + k) × Stands ((x, at) ∷ []) k r.first) → IsRepeated names p ⊎ (IsNamed names x × (p ≡ at))
-      by (inl a) (inl b) = inl (record { j = r.j; k = r.k; first = r.first; later = r.later; before = r.before; is_first = b; is_later = a; one_name = r.one_name; place = r.place })
+          → Stands names r.j r.first ⊎ ((k : ℕ) × (r.j ≡ length names + k) × Stands ((x, at) ∷ []) k r.first)
+          → IsRepeated names p ⊎ (IsNamed names x × (p ≡ at))
+      by (inl a) (inl b) = inl (record {
+        j = r.j;
+        k = r.k;
+        first = r.first;
+        later = r.later;
+        before = r.before;
+        is_first = b;
+        is_later = a;
+        one_name = r.one_name;
+        place = r.place;
+      })
       by (inl a) (inr b) = let h = stands_within names r.k r.later a in absurd (omega (arith, b.1, r.before))
       by (inr a) (inl b) =
           let e = (last_one a.0 r.later a.2).1 in
-          inr (record { k = r.j; one = r.first; stands = b; name = r.one_name ∙ ap (λ (n : ℕ × Place). n.0) e }, r.place ∙ ap (λ (n : ℕ × Place). n.1) e)
+          inr (
+            record { k = r.j; one = r.first; stands = b; name = r.one_name ∙ ap (λ (n : ℕ × Place). n.0) e },
+            r.place
+                ∙ ap (λ (n : ℕ × Place). n.1) e,
+          )
       by (inr a) (inr b) = let e = (last_one a.0 r.later a.2).0 in let f = (last_one b.0 r.first b.2).0 in absurd (omega (arith, a.1, b.1, r.before))
 
   pub repeated_before : (p : Place) → IsRepeated names p → IsRepeated (names ++ (x, at) ∷ []) p
@@ -85,14 +108,17 @@ module _ (names : List (ℕ × Place)) (x : ℕ) (at : Place) where
     place = refl;
   }
 
-  module _ (old new : Repeats) (h : HasMet old names) (adds : (q : ℕ) → bag.contains nat_eq new.names q ≡ cond (nat_eq x q) true (bag.contains nat_eq old.names q)) where
+  module _ (old new : Repeats) (h : HasMet old names)
+      (adds : (q : ℕ) → bag.contains nat_eq new.names q
+      ≡ cond (nat_eq x q) true (bag.contains nat_eq old.names q)) where
     -- the names that were met, with the new one
     met_more : (q : ℕ) → (bag.contains nat_eq new.names q ≡ true) ↔ IsNamed (names ++ (x, at) ∷ []) q
     met_more q = (λ e. to (cases_eq x q) e, λ n. from (named_split q n))
       where
         to : (x ≡ q) ⊎ (x ≡ q → ⊥) → bag.contains nat_eq new.names q ≡ true → IsNamed (names ++ (x, at) ∷ []) q
         to (inl i) e = subst (λ (z : ℕ). IsNamed (names ++ (x, at) ∷ []) z) i named_last
-        to (inr n) e = named_before q ((h.met q).0 (sym (adds q ∙ ap (λ (b : Bool). cond b true (bag.contains nat_eq old.names q)) (ne_eqb x q n)) ∙ e))
+        to (inr n) e = named_before q ((h.met q).0
+            (sym (adds q ∙ ap (λ (b : Bool). cond b true (bag.contains nat_eq old.names q)) (ne_eqb x q n)) ∙ e))
 
         from : IsNamed names q ⊎ (x ≡ q) → bag.contains nat_eq new.names q ≡ true
         from (inl n) = adds q ∙ both (nat_eq x q) (bag.contains nat_eq old.names q) ((h.met q).1 n)
@@ -106,14 +132,16 @@ module _ (names : List (ℕ × Place)) (x : ℕ) (at : Place) where
     pub met_new : bag.contains nat_eq old.names x ≡ false → new.found ≡ old.found → HasMet new (names ++ (x, at) ∷ [])
     met_new e f = record {
       met = met_more;
-      found = subst (λ (o : Option Place). IsEarliest (IsRepeated (names ++ (x, at) ∷ [])) o) (sym f) (earliest_same old.found repeated_before back h.found);
+      found = subst (λ (o : Option Place). IsEarliest (IsRepeated (names ++ (x, at) ∷ [])) o) (sym f)
+          (earliest_same old.found repeated_before back h.found);
     }
       where
         back : (p : Place) → IsRepeated (names ++ (x, at) ∷ []) p → IsRepeated names p
         back p r = elim (repeated_split p r) [ inl a ↦ a | inr a ↦ let g = (h.met x).1 a.0 in cc ]
 
     -- a name that was met is one
-    pub met_again : bag.contains nat_eq old.names x ≡ true → IsEarlierOf old.found (Some at) new.found → HasMet new (names ++ (x, at) ∷ [])
+    pub met_again : bag.contains nat_eq old.names x ≡ true → IsEarlierOf old.found (Some at) new.found
+        → HasMet new (names ++ (x, at) ∷ [])
     met_again e f = record {
       met = met_more;
       found = earliest_same new.found to repeated_split (earliest_both old.found (Some at) new.found h.found last f);

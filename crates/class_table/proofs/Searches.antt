@@ -18,24 +18,38 @@ use Rattle.class_table.proofs.OwnAt.{own_shown, shown_back}
 use Rattle.class_table.proofs.Enclosing.{inside_owned, owned_inside, within_then}
 
 -- a body that is seen is open
-pub opens_seen : (b : ℕ) (old : List ℕ) (seen : List Bool) → IsSeen seen old → Stands seen b true → OpensOne b old old seen
-opens_seen b old seen h s = record { added = []; joined = sym (append-nil old); only = λ c o. absurd (one_none c o); is_open = h.is_open b s; is_seen = h }
+pub opens_seen : (b : ℕ) (old : List ℕ) (seen : List Bool) → IsSeen seen old → Stands seen b true
+    → OpensOne b old old seen
+opens_seen b old seen h s = record {
+  added = [];
+  joined = sym (append-nil old);
+  only = λ c o. absurd (one_none c o);
+  is_open = h.is_open b s;
+  is_seen = h;
+}
 
 -- a body that is not is opened
-pub opens_new : (b : ℕ) (old new : List ℕ) (seen : List Bool) → new ≡ old ++ b ∷ [] → IsSeen seen old → OpensOne b old new (set seen b true)
+pub opens_new : (b : ℕ) (old new : List ℕ) (seen : List Bool) → new ≡ old ++ b ∷ [] → IsSeen seen old
+    → OpensOne b old new (set seen b true)
 opens_new b old new seen e h = record {
   added = b ∷ [];
   joined = e;
   only = λ c o. elim (one_cases b [] c o) [ inl i ↦ sym i | inr i ↦ absurd (one_none c i) ];
   is_open = is_last;
-  is_seen = record { is_open = λ c s. elim (stands_set seen b true c true s) [ inl i ↦ subst (IsOneOf new) (sym i.0) is_last | inr i ↦ subst (λ (xs : List ℕ). IsOneOf xs c) (sym e) (one_left old (b ∷ []) c (h.is_open c i)) ] };
+  is_seen = record {
+    is_open = λ c s. elim (stands_set seen b true c true s) [
+      | inl i ↦ subst (IsOneOf new) (sym i.0) is_last
+      | inr i ↦ subst (λ (xs : List ℕ). IsOneOf xs c) (sym e) (one_left old (b ∷ []) c (h.is_open c i))
+    ];
+  };
 }
   where
     is_last : IsOneOf new b
     is_last = subst (λ (xs : List ℕ). IsOneOf xs b) (sym e) (one_right old (b ∷ []) b (one_first b []))
 
 -- members that put nothing inside
-pub opens_none : (d : Declared) (own : List Owned) (old : List ℕ) (seen : List Bool) → ((o : Owned) → IsOneOf own o → inside d o ≡ None) → IsSeen seen old → Opens d own old old seen
+pub opens_none : (d : Declared) (own : List Owned) (old : List ℕ) (seen : List Bool)
+    → ((o : Owned) → IsOneOf own o → inside d o ≡ None) → IsSeen seen old → Opens d own old old seen
 opens_none d own old seen n h = record {
   added = [];
   joined = sym (append-nil old);
@@ -45,7 +59,8 @@ opens_none d own old seen n h = record {
 }
 
 -- a member that puts one inside
-pub opens_some : (d : Declared) (o : Owned) (b : ℕ) (at : Option Place) (old new : List ℕ) (seen : List Bool) → inside d o ≡ Some (b, at) → OpensOne b old new seen → Opens d (o ∷ []) old new seen
+pub opens_some : (d : Declared) (o : Owned) (b : ℕ) (at : Option Place) (old new : List ℕ) (seen : List Bool)
+    → inside d o ≡ Some (b, at) → OpensOne b old new seen → Opens d (o ∷ []) old new seen
 opens_some d o b at old new seen e h = record {
   added = h.added;
   joined = h.joined;
@@ -58,7 +73,8 @@ opens_some d o b at old new seen e h = record {
     is_it q s = elim (one_cases o [] q s) [ inl i ↦ i | inr i ↦ absurd (one_none q i) ]
 
 -- members after others
-pub opens_next : (d : Declared) (os ps : List Owned) (old mid new : List ℕ) (s t : List Bool) → Opens d os old mid s → Opens d ps mid new t → Opens d (os ++ ps) old new t
+pub opens_next : (d : Declared) (os ps : List Owned) (old mid new : List ℕ) (s t : List Bool) → Opens d os old mid s
+    → Opens d ps mid new t → Opens d (os ++ ps) old new t
 opens_next d os ps old mid new s t h k = record {
   added = h.added ++ k.added;
   joined = k.joined ∙ (ap (λ (xs : List ℕ). xs ++ k.added) h.joined ∙ append_assoc old h.added k.added);
@@ -75,7 +91,8 @@ opens_next d os ps old mid new s t h k = record {
 
 module _ (d : Declared) (bodies : List Body) (shown : Along IsBodyOf bodies d.bodies) where
   -- the members of a body, or no body
-  pub inside_all : (k : ℕ) (b : Body) (old new : List ℕ) (seen : List Bool) → Stands bodies k b → Opens d b.own.items old new seen → OpensInside d k old new seen
+  pub inside_all : (k : ℕ) (b : Body) (old new : List ℕ) (seen : List Bool) → Stands bodies k b
+      → Opens d b.own.items old new seen → OpensInside d k old new seen
   inside_all k b old new seen s h = record {
     added = h.added;
     joined = h.joined;
@@ -84,7 +101,8 @@ module _ (d : Declared) (bodies : List Body) (shown : Along IsBodyOf bodies d.bo
     is_seen = h.is_seen;
   }
 
-  pub inside_no : (k : ℕ) (old : List ℕ) (seen : List Bool) → length bodies ≤ k → IsSeen seen old → OpensInside d k old old seen
+  pub inside_no : (k : ℕ) (old : List ℕ) (seen : List Bool) → length bodies ≤ k → IsSeen seen old
+      → OpensInside d k old old seen
   inside_no k old seen l h = record {
     added = [];
     joined = sym (append-nil old);
@@ -100,7 +118,8 @@ pub record Search (d : Declared) (first to next : ℕ) (found : List ℕ) (seen 
   pub within : (b : ℕ) → IsOneOf found b → IsWithin d first b
   pub done : (k b : ℕ) → k < next → Stands found k b → (b ≡ to → ⊥) × ((c : ℕ) → HasInside d b c → IsOneOf found c)
 
-pub search_start : (d : Declared) (first to : ℕ) (found : List ℕ) (seen : List Bool) → found ≡ first ∷ [] → ((k : ℕ) → Stands seen k true → ⊥) → Search d first to 0 found seen
+pub search_start : (d : Declared) (first to : ℕ) (found : List ℕ) (seen : List Bool) → found ≡ first ∷ []
+    → ((k : ℕ) → Stands seen k true → ⊥) → Search d first to 0 found seen
 search_start d first to found seen e n = record {
   is_seen = record { is_open = λ b s. absurd (n b s) };
   start = subst (λ (xs : List ℕ). IsOneOf xs first) (sym e) (one_first first []);
@@ -108,7 +127,9 @@ search_start d first to found seen e n = record {
   done = λ k b l s. absurd (omega (arith, l));
 }
 
-pub search_next : (d : Declared) (first to next body : ℕ) (old new : List ℕ) (s t : List Bool) → Search d first to next old s → Stands old next body → (body ≡ to → ⊥) → OpensInside d body old new t → Search d first to (next + 1) new t
+pub search_next : (d : Declared) (first to next body : ℕ) (old new : List ℕ) (s t : List Bool)
+    → Search d first to next old s → Stands old next body → (body ≡ to → ⊥) → OpensInside d body old new t
+    → Search d first to (next + 1) new t
 search_next d first to next body old new s t h at n o = record {
   is_seen = o.is_seen;
   start = more first h.start;
@@ -140,7 +161,8 @@ search_next d first to next body old new s t h at n o = record {
     here k b e i = let j = in_old k b (omega (arith, e)) i in let m = subst (λ (x : ℕ). Stands old x b) e j in cc
 
 -- a search that is through has met all that is within
-pub search_end : (d : Declared) (first to next : ℕ) (found : List ℕ) (seen : List Bool) → length found ≤ next → Search d first to next found seen → IsWithin d first to → ⊥
+pub search_end : (d : Declared) (first to next : ℕ) (found : List ℕ) (seen : List Bool) → length found ≤ next
+    → Search d first to next found seen → IsWithin d first to → ⊥
 search_end d first to next found seen l h w = let i = closed first to h.start w in let m = stands_within found i.place to i.stands in (h.done i.place to (omega arith) i.stands).0 refl
   where
     closed : (a b : ℕ) → IsOneOf found a → IsWithin d a b → IsOneOf found b

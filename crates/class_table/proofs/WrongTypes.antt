@@ -35,10 +35,12 @@ bounds_wrong d form.Integer e = cc
 bounds_wrong d (form.Named x) e = no_domain (some_false (domain_named d x.n) e)
 
 -- what a loop over members finds
-pub one_to : (d : Declared) (own : List Owned) (k : ℕ) (o : Owned) (p : Place) → Stands own k o → MisnamesIn d o p → MisnamesOne d own p
+pub one_to : (d : Declared) (own : List Owned) (k : ℕ) (o : Owned) (p : Place) → Stands own k o → MisnamesIn d o p
+    → MisnamesOne d own p
 one_to d own k o p s h = record { owned = o; is_own = one_here own k o s; misnames = h }
 
-pub one_back : (d : Declared) (own : List Owned) (p : Place) → MisnamesOne d own p → (k : ℕ) × AtItem own (λ (k : ℕ) (o : Owned). MisnamesIn d o) k p
+pub one_back : (d : Declared) (own : List Owned) (p : Place) → MisnamesOne d own p
+    → (k : ℕ) × AtItem own (λ (k : ℕ) (o : Owned). MisnamesIn d o) k p
 one_back d own p h = (h.is_own.place, record { item = h.owned; stands = h.is_own.stands; has = h.misnames })
 
 module _ (d : Declared) (bodies : List Body) (shown : Along IsBodyOf bodies d.bodies) where
@@ -47,19 +49,32 @@ module _ (d : Declared) (bodies : List Body) (shown : Along IsBodyOf bodies d.bo
   misnamed_to k b p s h = by h.owned h.is_own h.misnames
     where
       by : (o : Owned) → IsOneOf b.own.items o → MisnamesIn d o p → BreaksTypes d p
-      by (Plain m) i n = record { body = k; member = m; stands = subst (λ (os : List Owned). IsOneOf os (Plain m)) (sym (own_shown d bodies shown k b s)) i; misnames = n }
+      by (Plain m) i n = record {
+        body = k;
+        member = m;
+        stands = subst (λ (os : List Owned). IsOneOf os (Plain m)) (sym (own_shown d bodies shown k b s)) i;
+        misnames = n;
+      }
       by (Nested x at c) i n = absurd n
 
-  pub misnamed_back : (p : Place) → BreaksTypes d p → (k : ℕ) × AtItem bodies (λ (k : ℕ) (b : Body). MisnamesOne d b.own.items) k p
+  pub misnamed_back : (p : Place) → BreaksTypes d p
+      → (k : ℕ) × AtItem bodies (λ (k : ℕ) (b : Body). MisnamesOne d b.own.items) k p
   misnamed_back p h =
-      let w = shown_back d bodies shown h.body (Plain h.member) h.stands in
-      (h.body, record { item = w.0; stands = w.1; has = record { owned = Plain h.member; is_own = w.2; misnames = h.misnames } })
+      let w = shown_back d bodies shown h.body (Plain h.member) h.stands in (
+        h.body,
+        record {
+          item = w.0;
+          stands = w.1;
+          has = record { owned = Plain h.member; is_own = w.2; misnames = h.misnames };
+        },
+      )
 
 -- the place that is found is that of the member, if it misnames a type
 pub form_found : (d : Declared) (f : MemberForm) → IsEarliest (Misnames d f) (misnamed_form d f)
 form_found d (member.Extends x at) = by (class_named d x.n) refl
   where
-    by : (o : Option ℕ) → class_named d x.n ≡ o → IsEarliest (Misnames d (member.Extends x at)) (place_unless (is_some o) at)
+    by : (o : Option ℕ) → class_named d x.n ≡ o
+        → IsEarliest (Misnames d (member.Extends x at)) (place_unless (is_some o) at)
     by None e = there (extends e) (λ q b h. only q b h)
       where
         only : (q : Place) → IsEarlier q at → Misnames d (member.Extends x at) q → ⊥
@@ -84,10 +99,12 @@ form_found d (member.Declare t names settings) = by t.form refl
     none : types_form d t.form ≡ true → (p : Place) → Misnames d (member.Declare t names settings) p → ⊥
     none e p (declares n) = right t.form e n
 
-    by : (f : TypeForm) → t.form ≡ f → IsEarliest (Misnames d (member.Declare t names settings)) (place_unless (types_form d t.form) t.at)
+    by : (f : TypeForm) → t.form ≡ f → IsEarliest (Misnames d (member.Declare t names settings))
+        (place_unless (types_form d t.form) t.at)
     by f i = cases (types_form d t.form) refl
       where
-        cases : (b : Bool) → types_form d t.form ≡ b → IsEarliest (Misnames d (member.Declare t names settings)) (place_unless b t.at)
+        cases : (b : Bool) → types_form d t.form ≡ b
+            → IsEarliest (Misnames d (member.Declare t names settings)) (place_unless b t.at)
         cases true e = nowhere (none e)
         cases false e = there (declares (wrong t.form e)) only
 form_found d (member.Parameter t x at v) = cases (bounds_form d t.form) refl
@@ -98,7 +115,8 @@ form_found d (member.Parameter t x at v) = cases (bounds_form d t.form) refl
     none : bounds_form d t.form ≡ true → (p : Place) → Misnames d (member.Parameter t x at v) p → ⊥
     none e p (parameter n) = bounds_right d t.form e n
 
-    cases : (b : Bool) → bounds_form d t.form ≡ b → IsEarliest (Misnames d (member.Parameter t x at v)) (place_unless b t.at)
+    cases : (b : Bool) → bounds_form d t.form ≡ b
+        → IsEarliest (Misnames d (member.Parameter t x at v)) (place_unless b t.at)
     cases true e = nowhere (none e)
     cases false e = there (parameter (bounds_wrong d t.form e)) only
 form_found d (member.Observer t x at v) = cases (bounds_form d t.form) refl
@@ -109,7 +127,8 @@ form_found d (member.Observer t x at v) = cases (bounds_form d t.form) refl
     none : bounds_form d t.form ≡ true → (p : Place) → Misnames d (member.Observer t x at v) p → ⊥
     none e p (observer n) = bounds_right d t.form e n
 
-    cases : (b : Bool) → bounds_form d t.form ≡ b → IsEarliest (Misnames d (member.Observer t x at v)) (place_unless b t.at)
+    cases : (b : Bool) → bounds_form d t.form ≡ b
+        → IsEarliest (Misnames d (member.Observer t x at v)) (place_unless b t.at)
     cases true e = nowhere (none e)
     cases false e = there (observer (bounds_wrong d t.form e)) only
 form_found d (member.Block u) = nowhere (λ q h. elim h [ ])

@@ -32,7 +32,8 @@ pub data NamedType : Type 0 where
   DomainType : DomainBody → NamedType
   ClassType : ℕ → NamedType
 
--- what a model declares: the bodies, the types by the numbers of their names, the symbols by the numbers of their names, and the
+-- what a model declares: the bodies, the types by the numbers of their names, the symbols by the numbers of their
+-- names, and the
 -- bodies of the top-level blocks
 pub record Declared : Type 0 where
   pub bodies : List TextBody
@@ -51,13 +52,15 @@ mutual
   -- where n is the next free number, these members of a body are kept so, and the blocks among them have these bodies
   pub data Lays : ℕ → List Member → List Owned → List TextBody → Type 0 where
     none : {n : ℕ} → Lays n [] [] []
-    one_and : {n : ℕ} {m : Member} {ms : List Member} {o : Owned} {os : List Owned} {bs cs : List TextBody} → Lays_one n m (out-Member m) o bs
+    one_and : {n : ℕ} {m : Member} {ms : List Member} {o : Owned} {os : List Owned} {bs cs : List TextBody}
+        → Lays_one n m (out-Member m) o bs
         → Lays (n + length bs) ms os cs → Lays n (m ∷ ms) (o ∷ os) (bs ++ cs)
 
   -- a block has the next number and the blocks in it the numbers after that; any other member stays as it is
   pub data Lays_one : ℕ → Member → MemberForm → Owned → List TextBody → Type 0 where
     plain : {n : ℕ} {m : Member} {f : MemberForm} → is_block f ≡ false → Lays_one n m f (Plain m) []
-    block : {n : ℕ} {m : Member} {u : UnitTree} {id : BodyId} {own : List Owned} {bs : List TextBody} → id.n ≡ n → Lays (n + 1) u.members.items own bs
+    block : {n : ℕ} {m : Member} {u : UnitTree} {id : BodyId} {own : List Owned} {bs : List TextBody} → id.n ≡ n
+        → Lays (n + 1) u.members.items own bs
         → Lays_one n m (member.Block u) (Nested u.name u.at id) (record { name = u.name; at = u.at; own = own } ∷ bs)
 
 -- Symbols
@@ -76,19 +79,24 @@ symbols_of (item.Block u) = []
 pub data FirstUses : List ℕ → List ℕ → List ℕ → Type 0 where
   none : {old : List ℕ} → FirstUses old [] old
   known : {old xs new : List ℕ} {x : ℕ} → IsOneOf old x → FirstUses old xs new → FirstUses old (x ∷ xs) new
-  first : {old xs new : List ℕ} {x : ℕ} → HasNo old (λ y. y ≡ x) → FirstUses (old ++ x ∷ []) xs new → FirstUses old (x ∷ xs) new
+  first : {old xs new : List ℕ} {x : ℕ} → HasNo old (λ y. y ≡ x) → FirstUses (old ++ x ∷ []) xs new
+      → FirstUses old (x ∷ xs) new
 
 -- Items
 
--- where n is the next free number, the bodies of these items, the types that they declare, and the bodies of their top-level blocks
+-- where n is the next free number, the bodies of these items, the types that they declare, and the bodies of their
+-- top-level blocks
 pub data Lays_items : ℕ → List Item → List TextBody → List (ℕ × NamedType) → List ℕ → Type 0 where
   none : {n : ℕ} → Lays_items n [] [] [] []
   domain : {n : ℕ} {d : DomainDecl} {items : List Item} {bs : List TextBody} {ts : List (ℕ × NamedType)} {ms : List ℕ}
       → Lays_items n items bs ts ms → Lays_items n (item.Domain d ∷ items) bs ((d.name.n, DomainType d.body) ∷ ts) ms
-  class : {n : ℕ} {u : UnitTree} {own : List Owned} {items : List Item} {bs cs : List TextBody} {ts : List (ℕ × NamedType)} {ms : List ℕ}
+  class : {n : ℕ} {u : UnitTree} {own : List Owned} {items : List Item} {bs cs : List TextBody}
+      {ts : List (ℕ × NamedType)} {ms : List ℕ}
       → Lays (n + 1) u.members.items own bs → Lays_items (n + 1 + length bs) items cs ts ms
-      → Lays_items n (item.Class u ∷ items) (record { name = u.name; at = u.at; own = own } ∷ bs ++ cs) ((u.name.n, ClassType n) ∷ ts) ms
-  block : {n : ℕ} {u : UnitTree} {own : List Owned} {items : List Item} {bs cs : List TextBody} {ts : List (ℕ × NamedType)} {ms : List ℕ}
+      → Lays_items n (item.Class u ∷ items) (record { name = u.name; at = u.at; own = own } ∷ bs ++ cs)
+      ((u.name.n, ClassType n) ∷ ts) ms
+  block : {n : ℕ} {u : UnitTree} {own : List Owned} {items : List Item} {bs cs : List TextBody}
+      {ts : List (ℕ × NamedType)} {ms : List ℕ}
       → Lays (n + 1) u.members.items own bs → Lays_items (n + 1 + length bs) items cs ts ms
       → Lays_items n (item.Block u ∷ items) (record { name = u.name; at = u.at; own = own } ∷ bs ++ cs) ts (n ∷ ms)
 

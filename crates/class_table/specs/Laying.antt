@@ -42,7 +42,8 @@ pub record AreParts (items : List Item) (p : Parts) : Type 0 where
 
 -- the body between the two parts has these members
 pub record KeepsOwn (own : Vec Owned Global) (old new : List Body) (place : ℕ) : Type 0 where
-  pub kept : (front rest : List Body) (b : Body) → old ≡ front ++ b ∷ rest → place ≡ length front → new ≡ front ++ record b { own = own } ∷ rest
+  pub kept : (front rest : List Body) (b : Body) → old ≡ front ++ b ∷ rest → place ≡ length front
+      → new ≡ front ++ record b { own = own } ∷ rest
 
 -- the block is kept by its body, which is laid
 pub record LaysBlock (u : UnitTree) (o : Owned) (old new : List Body) : Type 0 where

@@ -11,7 +11,8 @@ use Rattle.class_table.specs.declared.tables.Body.{Body}
 pub record AreListed (d : Declared) (bodies : List Body) (listed : List Bool) : Type 0 where
   pub as_text : Along IsBodyOf bodies d.bodies
   pub one_each : length listed ≡ length bodies
-  pub members : (b : ℕ) (body : Body) → Stands listed b true → Stands bodies b body → Members d b (map site_of body.all.items)
+  pub members : (b : ℕ) (body : Body) → Stands listed b true → Stands bodies b body
+      → Members d b (map site_of body.all.items)
 
 -- these are the members of the class of the name
 pub record IsOfClass (d : Declared) (name : ℕ) (sites : List Site) : Type 0 where

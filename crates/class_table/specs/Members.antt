@@ -85,9 +85,11 @@ mutual
   -- what these members bring of the classes that they extend
   pub data Inherits (d : Declared) : List Owned → List Site → Type 0 where
     nothing : Inherits d [] []
-    from : {o : Owned} {os : List Owned} {xs ys : List Site} (x b : ℕ) → extended o ≡ Some x → class_named d x ≡ Some b → Members d b xs → Inherits d os ys
+    from : {o : Owned} {os : List Owned} {xs ys : List Site} (x b : ℕ) → extended o ≡ Some x → class_named d x ≡ Some b
+        → Members d b xs → Inherits d os ys
         → Inherits d (o ∷ os) (xs ++ ys)
-    passes : {o : Owned} {os : List Owned} {xs : List Site} → extended o ≡ None → Inherits d os xs → Inherits d (o ∷ os) xs
+    passes : {o : Owned} {os : List Owned} {xs : List Site} → extended o ≡ None → Inherits d os xs
+        → Inherits d (o ∷ os) xs
 
 -- Names of members
 
@@ -130,7 +132,8 @@ declared_kind d s (form.Named x) settings = option_map (λ t. kind_of s (form.Na
 -- each of these names is the same, or none is anything
 abbrev pub all_named : Site → Option MemberKind → List (NameId × Place) → List NamedMember
 all_named s None names = []
-all_named s (Some kind) names = map (λ (n : NameId × Place). record { name = n.0.n; at = n.1; kind = kind; site = s }) names
+all_named s (Some kind) names = map (λ (n : NameId × Place). record { name = n.0.n; at = n.1; kind = kind; site = s })
+    names
 
 -- one name
 abbrev pub one_named : Site → NameId → Place → MemberKind → List NamedMember

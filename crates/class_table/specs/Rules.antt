@@ -38,7 +38,8 @@ item_place (item.Block u) = u.at
 
 -- a symbol stands twice, there are more than 256 values, or the bounds are turned round
 pub data IsNoDomain : DomainBody → Type 0 where
-  twice : {names : Vec (NameId × Place) Global} (j k : ℕ) (x y : NameId × Place) → j < k → Stands names.items j x → Stands names.items k y → x.0.n ≡ y.0.n
+  twice : {names : Vec (NameId × Place) Global} (j k : ℕ) (x y : NameId × Place) → j < k → Stands names.items j x
+      → Stands names.items k y → x.0.n ≡ y.0.n
       → IsNoDomain (body.Symbols names)
   many : {names : Vec (NameId × Place) Global} → 256 < length names.items → IsNoDomain (body.Symbols names)
   turned : {low high : ℤ} → high <ℤ low → IsNoDomain (body.Range low high)
@@ -46,7 +47,8 @@ pub data IsNoDomain : DomainBody → Type 0 where
 
 -- the later of two items of one name, or a domain that is none
 pub data BreaksItems (items : List Item) : Place → Type 0 where
-  one_name : (j k : ℕ) (x y : Item) → j < k → Stands items j x → Stands items k y → (item_name x).n ≡ (item_name y).n → BreaksItems items (item_place y)
+  one_name : (j k : ℕ) (x y : Item) → j < k → Stands items j x → Stands items k y → (item_name x).n ≡ (item_name y).n
+      → BreaksItems items (item_place y)
   no_domain : (d : DomainDecl) → IsOneOf items (item.Domain d) → IsNoDomain d.body → BreaksItems items d.at
 
 -- L2: types
@@ -62,9 +64,12 @@ pub data IsNoType (d : Declared) : TypeForm → Type 0 where
 -- the type name in a member that names nothing of its kind
 pub data Misnames (d : Declared) : MemberForm → Place → Type 0 where
   extends : {x : NameId} {p : Place} → class_named d x.n ≡ None → Misnames d (member.Extends x p) p
-  declares : {t : TypeName} {names : Vec (NameId × Place) Global} {settings : Vec Setting Global} → IsNoType d t.form → Misnames d (member.Declare t names settings) t.at
-  parameter : {t : TypeName} {x : NameId} {p : Place} {e : RawExpr} → IsNoDomainName d t.form → Misnames d (member.Parameter t x p e) t.at
-  observer : {t : TypeName} {x : NameId} {p : Place} {e : RawExpr} → IsNoDomainName d t.form → Misnames d (member.Observer t x p e) t.at
+  declares : {t : TypeName} {names : Vec (NameId × Place) Global} {settings : Vec Setting Global} → IsNoType d t.form
+      → Misnames d (member.Declare t names settings) t.at
+  parameter : {t : TypeName} {x : NameId} {p : Place} {e : RawExpr} → IsNoDomainName d t.form
+      → Misnames d (member.Parameter t x p e) t.at
+  observer : {t : TypeName} {x : NameId} {p : Place} {e : RawExpr} → IsNoDomainName d t.form
+      → Misnames d (member.Observer t x p e) t.at
 
 -- a member that stands in a body and is no block
 abbrev pub StandsIn : Declared → ℕ → Member → Type 0
@@ -82,7 +87,8 @@ pub record BreaksTypes (d : Declared) (p : Place) : Type 0 where
 -- the member names this class, at this type name, to extend it or for its instances
 pub data NamesClass (d : Declared) : MemberForm → ℕ → Place → Type 0 where
   extends : {x : NameId} {p : Place} {b : ℕ} → class_named d x.n ≡ Some b → NamesClass d (member.Extends x p) b p
-  instances : {t : TypeName} {names : Vec (NameId × Place) Global} {settings : Vec Setting Global} {b : ℕ} (x : NameId) → t.form ≡ form.Named x → class_named d x.n ≡ Some b
+  instances : {t : TypeName} {names : Vec (NameId × Place) Global} {settings : Vec Setting Global} {b : ℕ} (x : NameId)
+      → t.form ≡ form.Named x → class_named d x.n ≡ Some b
       → NamesClass d (member.Declare t names settings) b t.at
 
 -- the second body is that of a class that a member of the first names, or of a block in it

@@ -18,13 +18,15 @@ use Rattle.class_table.specs.declared.tables.Classes.{Classes}
 
 -- the domain that is declared so, where symbols are numbered by their places among these
 pub data IsDomainOf (symbols : List ℕ) : DomainBody → Domain → Type 0 where
-  symbols : {names : Vec (NameId × Place) Global} {numbers : Vec ℕ Global} → Along (λ (n : NameId × Place) (k : ℕ). Stands symbols k n.0.n) names.items numbers.items
+  symbols : {names : Vec (NameId × Place) Global} {numbers : Vec ℕ Global}
+      → Along (λ (n : NameId × Place) (k : ℕ). Stands symbols k n.0.n) names.items numbers.items
       → IsDomainOf symbols (body.Symbols names) (values.Symbols numbers)
   range : {low high : ℤ} → IsDomainOf symbols (body.Range low high) (values.Range low high)
 
 -- the type that is declared so
 pub data IsTypeOf (symbols : List ℕ) : NamedType → TypeBody → Type 0 where
-  domain : {declared : DomainBody} {v : Domain} → IsDomainOf symbols declared v → IsTypeOf symbols (DomainType declared) (types.Domain v)
+  domain : {declared : DomainBody} {v : Domain} → IsDomainOf symbols declared v
+      → IsTypeOf symbols (DomainType declared) (types.Domain v)
   class : {b : ℕ} {id : BodyId} → id.n ≡ b → IsTypeOf symbols (ClassType b) (types.Class id)
 
 -- the type with its name
@@ -46,7 +48,8 @@ pub record Holds (d : Declared) (c : Classes) : Type 0 where
 
 -- the main block is the top-level block of the name that is asked for, else the last one
 pub data IsMain (names : List (List ℕ)) (d : Declared) : Option (List ℕ) → ℕ → Type 0 where
-  named : {text : List ℕ} {b : ℕ} (block : TextBody) → IsOneOf d.blocks b → Stands d.bodies b block → Stands names block.name.n text → IsMain names d (Some text) b
+  named : {text : List ℕ} {b : ℕ} (block : TextBody) → IsOneOf d.blocks b → Stands d.bodies b block
+      → Stands names block.name.n text → IsMain names d (Some text) b
   last : {b : ℕ} (front : List ℕ) → d.blocks ≡ front ++ b ∷ [] → IsMain names d None b
 
 -- the site of a member of a body, as the table keeps it

@@ -12,8 +12,10 @@ use Rattle.class_table.specs.declared.tables.Classes.{Classes}
 
 -- the main block is asked for by its name, or not
 pub data Tabulates (main : Option (List ℕ)) (model : Model) : Result Classes RuleFault → Type 0 where
-  table : {c : Classes} (d : Declared) → IsTableOf model main d c → AreKept text_rules (Breaks model main d) → Tabulates main model (Ok c)
-  breach : {r : ℕ} {p : Place} (d : Declared) → IsDeclared model d → IsBroken text_rules (Breaks model main d) r p → Tabulates main model (Err (Rule r p))
+  table : {c : Classes} (d : Declared) → IsTableOf model main d c → AreKept text_rules (Breaks model main d)
+      → Tabulates main model (Ok c)
+  breach : {r : ℕ} {p : Place} (d : Declared) → IsDeclared model d → IsBroken text_rules (Breaks model main d) r p
+      → Tabulates main model (Err (Rule r p))
 
 -- the answer of the test of one rule
 abbrev pub kept_rule : ℕ → Option Place → Result (Unit {0}) RuleFault

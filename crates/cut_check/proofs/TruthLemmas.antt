@@ -56,26 +56,33 @@ parts_of : {A : Type 0} (n : ℕ) (xs : List A) → take n xs ++ drop n xs ≡ x
 parts_of n xs = take-append-drop n xs
 
 -- one way more is the first of the labels, the last first
-pub rev_more : (p : GtsParts) (ways : List WayId) (w : WayId) → reverse (labels_of p (ways ++ w ∷ [])) ≡ label_of p w.n ∷ reverse (labels_of p ways)
-rev_more p ways w = ap reverse (map-append (λ (v : WayId). label_of p v.n) ways (w ∷ [])) ∙ reverse-append (labels_of p ways) (label_of p w.n ∷ [])
+pub rev_more : (p : GtsParts) (ways : List WayId) (w : WayId)
+    → reverse (labels_of p (ways ++ w ∷ [])) ≡ label_of p w.n ∷ reverse (labels_of p ways)
+rev_more p ways w = ap reverse (map-append (λ (v : WayId). label_of p v.n) ways (w ∷ []))
+    ∙ reverse-append (labels_of p ways) (label_of p w.n ∷ [])
 
 -- What is reached
 
 module _ {V : Type 0} (sys : s.System V) (dropped : List ℕ) where
   -- what is reached was reached before
-  pub reaches_front : (later before : List Label) (t : List Value) → Reaches sys dropped (later ++ before) t → (u : List Value) × Reaches sys dropped before u
+  pub reaches_front : (later before : List Label) (t : List Value) → Reaches sys dropped (later ++ before) t
+      → (u : List Value) × Reaches sys dropped before u
   reaches_front [] before t r = (t, r)
   reaches_front (l ∷ later) before t r = go (λ z q. reaches_front later before z q) r
     where
-      go : ((z : List Value) → Reaches sys dropped (later ++ before) z → (v : List Value) × Reaches sys dropped before v)
-          → {u : List Value} → Reaches sys dropped (l ∷ (later ++ before)) u → (v : List Value) × Reaches sys dropped before v
+      go : ((z : List Value) → Reaches sys dropped (later ++ before) z
+          → (v : List Value) × Reaches sys dropped before v)
+          → {u : List Value} → Reaches sys dropped (l ∷ (later ++ before)) u
+          → (v : List Value) × Reaches sys dropped before v
       go on (cuts.fire {t = z} w q o step) = on z q
 
-  pub first_open : (l : Label) (ls : List Label) (t : List Value) → Reaches sys dropped (l ∷ ls) t → (w : s.Way V) × IsOpen sys dropped l w
+  pub first_open : (l : Label) (ls : List Label) (t : List Value) → Reaches sys dropped (l ∷ ls) t
+      → (w : s.Way V) × IsOpen sys dropped l w
   first_open l ls t (cuts.fire w r o step) = (w, o)
 
   -- a label that meets a fault is not fired
-  pub refused_not : (l : Label) (ls : List Label) (t u : List Value) (w : s.Way V) (f : steps.StepFault) → Reaches sys dropped ls t → IsWay sys l w → Step sys.net t w (Refused f)
+  pub refused_not : (l : Label) (ls : List Label) (t u : List Value) (w : s.Way V) (f : steps.StepFault)
+      → Reaches sys dropped ls t → IsWay sys l w → Step sys.net t w (Refused f)
       → Reaches sys dropped (l ∷ ls) u → ⊥
   refused_not l ls t u w f r is step (cuts.fire {t = v} x q p k) =
       let e = reaches_same sys dropped q r in
@@ -84,7 +91,8 @@ module _ {V : Type 0} (sys : s.System V) (dropped : List ℕ) where
       step_same sys.net (subst (λ (z : s.Way V). Step sys.net t z (Next u)) i (subst (λ z. Step sys.net z x (Next u)) e k)) step in cc
 
   -- nothing is reached where the start fails
-  pub start_not : (f : FlowFault) (ls : List Label) (t : List Value) → StartFails sys.net f → Reaches sys dropped ls t → ⊥
+  pub start_not : (f : FlowFault) (ls : List Label) (t : List Value) → StartFails sys.net f → Reaches sys dropped ls t
+      → ⊥
   start_not f [] t fails r = go r
     where
       go : {u : List Value} → Reaches sys dropped [] u → ⊥
@@ -95,40 +103,53 @@ module _ {V : Type 0} (sys : s.System V) (dropped : List ℕ) where
       go on (cuts.fire {t = z} w q o step) = on z q
 
 -- the standing run reaches its valuation
-pub stands_reaches : (sys : s.System ℕ) (dropped : List ℕ) {ls : List Label} {t : List Value} {below : List (List Value)} → StandsAt sys dropped ls t below → Reaches sys dropped ls t
+pub stands_reaches : (sys : s.System ℕ) (dropped : List ℕ) {ls : List Label} {t : List Value}
+    {below : List (List Value)} → StandsAt sys dropped ls t below → Reaches sys dropped ls t
 stands_reaches sys dropped (at.start f) = cuts.start f
 stands_reaches sys dropped (at.fire w r o step) = cuts.fire w (stands_reaches sys dropped r) o step
 
 -- the run without its last label
-stands_back : (sys : s.System ℕ) (dropped : List ℕ) (l : Label) (ls : List Label) (t u : List Value) (below rest : List (List Value)) → below ≡ u ∷ rest
+stands_back : (sys : s.System ℕ) (dropped : List ℕ) (l : Label) (ls : List Label) (t u : List Value)
+    (below rest : List (List Value)) → below ≡ u ∷ rest
     → StandsAt sys dropped (l ∷ ls) t below → StandsAt sys dropped ls u rest
 stands_back sys dropped l ls t u below rest e (at.fire {t = v} {below = old} w r o step) =
     let i : v ≡ u = cc in
     let j : old ≡ rest = cc in
-    subst (λ (z : List Value). StandsAt sys dropped ls z rest) i (subst (λ (z : List (List Value)). StandsAt sys dropped ls v z) j r)
+    subst (λ (z : List Value). StandsAt sys dropped ls z rest) i
+    (subst (λ (z : List (List Value)). StandsAt sys dropped ls v z) j r)
 
-stands_some_below : (sys : s.System ℕ) (dropped : List ℕ) (l : Label) (ls : List Label) (t : List Value) (below : List (List Value)) → below ≡ [] → StandsAt sys dropped (l ∷ ls) t below → ⊥
+stands_some_below : (sys : s.System ℕ) (dropped : List ℕ) (l : Label) (ls : List Label) (t : List Value)
+    (below : List (List Value)) → below ≡ [] → StandsAt sys dropped (l ∷ ls) t below → ⊥
 stands_some_below sys dropped l ls t below e (at.fire w r o step) = cc
 
 module _ (p : GtsParts) (sys : s.System ℕ) (dropped : List ℕ) where
   -- the last way taken back
-  pub fired_less : (old new : List WayId) (w : WayId) (before after : Standing) → old ≡ new ++ w ∷ [] → before.below ≡ after.values ∷ after.below
+  pub fired_less : (old new : List WayId) (w : WayId) (before after : Standing) → old ≡ new ++ w ∷ []
+      → before.below ≡ after.values ∷ after.below
       → HasFired p sys dropped old before → HasFired p sys dropped new after
   fired_less old new w before after e back h = record {
     stands =
-        let own = subst (λ (z : List Label). StandsAt sys dropped z before.values before.below) (ap (λ z. reverse (labels_of p z)) e ∙ rev_more p new w) h.stands in
-        stands_back sys dropped (label_of p w.n) (reverse (labels_of p new)) before.values after.values before.below after.below back own;
+        let own = subst (λ (z : List Label). StandsAt sys dropped z before.values before.below)
+        (ap (λ z. reverse (labels_of p z)) e ∙ rev_more p new w) h.stands in
+        stands_back sys dropped (label_of p w.n) (reverse (labels_of p new)) before.values after.values before.below
+        after.below back own;
   }
 
-  pub fired_none_below : (old new : List WayId) (w : WayId) (before : Standing) → old ≡ new ++ w ∷ [] → before.below ≡ [] → HasFired p sys dropped old before → ⊥
+  pub fired_none_below : (old new : List WayId) (w : WayId) (before : Standing) → old ≡ new ++ w ∷ []
+      → before.below ≡ [] → HasFired p sys dropped old before → ⊥
   fired_none_below old new w before e none h =
-      let own = subst (λ (z : List Label). StandsAt sys dropped z before.values before.below) (ap (λ z. reverse (labels_of p z)) e ∙ rev_more p new w) h.stands in
+      let own = subst (λ (z : List Label). StandsAt sys dropped z before.values before.below)
+      (ap (λ z. reverse (labels_of p z)) e ∙ rev_more p new w) h.stands in
       stands_some_below sys dropped (label_of p w.n) (reverse (labels_of p new)) before.values before.below none own
 
-  pub fired_as : (old new : List WayId) (before after : Standing) → old ≡ new → before ≡ after → HasFired p sys dropped old before → HasFired p sys dropped new after
-  fired_as old new before after e f h = subst (λ (z : List WayId). HasFired p sys dropped z after) e (subst (λ (z : Standing). HasFired p sys dropped old z) f h)
+  pub fired_as : (old new : List WayId) (before after : Standing) → old ≡ new → before ≡ after
+      → HasFired p sys dropped old before → HasFired p sys dropped new after
+  fired_as old new before after e f h =
+      subst (λ (z : List WayId). HasFired p sys dropped z after) e
+      (subst (λ (z : Standing). HasFired p sys dropped old z) f h)
 
-  pub fired_at_start : (views : Views p sys) (ways : List WayId) (start : Standing) → ways ≡ [] → Start (net_of p) start.values → start.below ≡ [] → HasFired p sys dropped ways start
+  pub fired_at_start : (views : Views p sys) (ways : List WayId) (start : Standing) → ways ≡ []
+      → Start (net_of p) start.values → start.below ≡ [] → HasFired p sys dropped ways start
   fired_at_start views ways start e f none = record {
     stands = subst (λ (z : List WayId). StandsAt sys dropped (reverse (labels_of p z)) start.values start.below) (sym e)
         (subst (λ (z : List (List Value)). StandsAt sys dropped [] start.values z) (sym none)
@@ -137,35 +158,49 @@ module _ (p : GtsParts) (sys : s.System ℕ) (dropped : List ℕ) where
 
   module _ (sound : IsSound p) (views : Views p sys) (way : WayId) (inside : way.n < length p.ways.items) where
     -- one way more
-    pub fired_more : (old new : List WayId) (before after : Standing) → before.system ≡ p → new ≡ old ++ way ∷ [] → after.below ≡ before.values ∷ before.below
-        → ((w : s.Way ℕ) → IsWayAt before.system way.n w → Step (net_of before.system) before.values w (Next after.values))
-        → (v : s.Way ℕ) → IsOpen sys dropped (label_of p way.n) v → HasFired p sys dropped old before → HasFired p sys dropped new after
+    pub fired_more : (old new : List WayId) (before after : Standing) → before.system ≡ p → new ≡ old ++ way ∷ []
+        → after.below ≡ before.values ∷ before.below
+        → ((w : s.Way ℕ) → IsWayAt before.system way.n w
+        → Step (net_of before.system) before.values w (Next after.values))
+        → (v : s.Way ℕ) → IsOpen sys dropped (label_of p way.n) v → HasFired p sys dropped old before
+        → HasFired p sys dropped new after
     fired_more old new before after same e below step v open_way h = record {
       stands =
           let named = way_named p sys views sound way.n inside in
-          let own = subst (λ (q : GtsParts). (w : s.Way ℕ) → IsWayAt q way.n w → Step (net_of q) before.values w (Next after.values)) same step in
-          let done = subst (λ (net : s.Net ℕ). Step net before.values named.way (Next after.values)) (sym views.net) (own named.way named.is_at) in
+          let own = subst (λ (q : GtsParts). (w : s.Way ℕ) → IsWayAt q way.n w
+          → Step (net_of q) before.values w (Next after.values)) same step in
+          let done = subst (λ (net : s.Net ℕ). Step net before.values named.way (Next after.values)) (sym views.net)
+          (own named.way named.is_at) in
           let i : v ≡ named.way = way_same sys open_way.is_kept.is_way named.is_way in
           let its = subst (λ (z : s.Way ℕ). IsOpen sys dropped (label_of p way.n) z) i open_way in
           subst (λ (z : List (List Value)). StandsAt sys dropped (reverse (labels_of p new)) after.values z) (sym below)
-          (subst (λ (z : List Label). StandsAt sys dropped z after.values (before.values ∷ before.below)) (sym (ap (λ z. reverse (labels_of p z)) e ∙ rev_more p old way))
+          (subst (λ (z : List Label). StandsAt sys dropped z after.values (before.values ∷ before.below))
+          (sym (ap (λ z. reverse (labels_of p z)) e ∙ rev_more p old way))
           (at.fire named.way h.stands its done));
     }
 
-    refused_as : (old : List WayId) (before : Standing) (f : steps.StepFault) → ((w : s.Way ℕ) → IsWayAt p way.n w → Step (net_of p) before.values w (Refused f))
-        → HasFired p sys dropped old before → (t : List Value) → Reaches sys dropped (label_of p way.n ∷ reverse (labels_of p old)) t → ⊥
+    refused_as : (old : List WayId) (before : Standing) (f : steps.StepFault)
+        → ((w : s.Way ℕ) → IsWayAt p way.n w → Step (net_of p) before.values w (Refused f))
+        → HasFired p sys dropped old before → (t : List Value)
+        → Reaches sys dropped (label_of p way.n ∷ reverse (labels_of p old)) t → ⊥
     refused_as old before f step h t r =
         let named = way_named p sys views sound way.n inside in
-        let done = subst (λ (net : s.Net ℕ). Step net before.values named.way (Refused f)) (sym views.net) (step named.way named.is_at) in
-        refused_not sys dropped (label_of p way.n) (reverse (labels_of p old)) before.values t named.way f (stands_reaches sys dropped h.stands) named.is_way done r
+        let done = subst (λ (net : s.Net ℕ). Step net before.values named.way (Refused f)) (sym views.net)
+        (step named.way named.is_at) in
+        refused_not sys dropped (label_of p way.n) (reverse (labels_of p old)) before.values t named.way f
+        (stands_reaches sys dropped h.stands) named.is_way done r
 
     -- a way that meets a fault
     pub fire_stops : (old : List WayId) (before : Standing) (f : StepFault) → before.system ≡ p → (f ≡ fault.Memory → ⊥)
         → ((w : s.Way ℕ) → IsWayAt before.system way.n w → IsStepFault (net_of before.system) before.values w f)
-        → HasFired p sys dropped old before → (t : List Value) → Reaches sys dropped (label_of p way.n ∷ reverse (labels_of p old)) t → ⊥
-    fire_stops old before f same some is h = go f some (subst (λ (q : GtsParts). (w : s.Way ℕ) → IsWayAt q way.n w → IsStepFault (net_of q) before.values w f) same is)
+        → HasFired p sys dropped old before → (t : List Value)
+        → Reaches sys dropped (label_of p way.n ∷ reverse (labels_of p old)) t → ⊥
+    fire_stops old before f same some is h =
+        go f some (subst (λ (q : GtsParts). (w : s.Way ℕ) → IsWayAt q way.n w
+        → IsStepFault (net_of q) before.values w f) same is)
       where
-        go : (f : StepFault) → (f ≡ fault.Memory → ⊥) → ((w : s.Way ℕ) → IsWayAt p way.n w → IsStepFault (net_of p) before.values w f)
+        go : (f : StepFault) → (f ≡ fault.Memory → ⊥)
+            → ((w : s.Way ℕ) → IsWayAt p way.n w → IsStepFault (net_of p) before.values w f)
             → (t : List Value) → Reaches sys dropped (label_of p way.n ∷ reverse (labels_of p old)) t → ⊥
         go fault.NotEnabled some is = refused_as old before steps.NotEnabled is h
         go (fault.Clash x) some is = refused_as old before (steps.Clash x.n) is h
@@ -175,17 +210,21 @@ module _ (p : GtsParts) (sys : s.System ℕ) (dropped : List ℕ) where
 
   -- the labels behind the fired ways are not reached where the next one meets a fault
   pub stops_all : (ways : List WayId) (n : ℕ) (d : WayId) → n < length ways
-      → ((t : List Value) → Reaches sys dropped (label_of p (get_or ways n d).n ∷ reverse (labels_of p (take n ways))) t → ⊥)
+      → ((t : List Value) → Reaches sys dropped (label_of p (get_or ways n d).n ∷ reverse (labels_of p (take n ways))) t
+      → ⊥)
       → (t : List Value) → Reaches sys dropped (reverse (labels_of p ways)) t → ⊥
   stops_all ways n d lt stop t r =
       let parts : ways ≡ take (n + 1) ways ++ drop (n + 1) ways = sym (parts_of (n + 1) ways) in
-      let e : reverse (labels_of p ways) ≡ reverse (labels_of p (drop (n + 1) ways)) ++ reverse (labels_of p (take (n + 1) ways)) =
+      let e : reverse (labels_of p ways)
+      ≡ reverse (labels_of p (drop (n + 1) ways)) ++ reverse (labels_of p (take (n + 1) ways)) =
       ap (λ z. reverse (labels_of p z)) parts
       ∙ ap reverse (map-append (λ (v : WayId). label_of p v.n) (take (n + 1) ways) (drop (n + 1) ways))
       ∙ reverse-append (labels_of p (take (n + 1) ways)) (labels_of p (drop (n + 1) ways)) in
-      let f : reverse (labels_of p (take (n + 1) ways)) ≡ label_of p (get_or ways n d).n ∷ reverse (labels_of p (take n ways)) =
+      let f : reverse (labels_of p (take (n + 1) ways))
+      ≡ label_of p (get_or ways n d).n ∷ reverse (labels_of p (take n ways)) =
       ap (λ z. reverse (labels_of p z)) (take_more ways n d lt) ∙ rev_more p (take n ways) (get_or ways n d) in
-      let own = reaches_front sys dropped (reverse (labels_of p (drop (n + 1) ways))) (reverse (labels_of p (take (n + 1) ways))) t
+      let own = reaches_front sys dropped (reverse (labels_of p (drop (n + 1) ways)))
+      (reverse (labels_of p (take (n + 1) ways))) t
       (subst (λ (z : List Label). Reaches sys dropped z t) e r) in
       stop own.0 (subst (λ (z : List Label). Reaches sys dropped z own.0) f own.1)
 
@@ -193,7 +232,8 @@ module _ (p : GtsParts) (sys : s.System ℕ) (dropped : List ℕ) where
 
 module _ (p : GtsParts) (sound : IsSound p) (sys : s.System ℕ) (views : Views p sys) (dropped : List ℕ) where
   -- an open event, and a label of it
-  open_way : (way : WayId) → way.n < length p.ways.items → IsOpenEvent p dropped (label_of p way.n).event → (w : s.Way ℕ) × IsOpen sys dropped (label_of p way.n) w
+  open_way : (way : WayId) → way.n < length p.ways.items → IsOpenEvent p dropped (label_of p way.n).event
+      → (w : s.Way ℕ) × IsOpen sys dropped (label_of p way.n) w
   open_way way inside o =
       let named = way_named p sys views sound way.n inside in
       let mid = along_on p.events.items sys.events views.events (label_of p way.n).event o.event o.stands in
@@ -205,22 +245,26 @@ module _ (p : GtsParts) (sound : IsSound p) (sys : s.System ℕ) (views : Views 
         },
       )
 
-  pub are_open : (ways : List WayId) → AreKnownWays p ways → IsFit p dropped (labels_of p ways) → AreOpen sys dropped (labels_of p ways)
+  pub are_open : (ways : List WayId) → AreKnownWays p ways → IsFit p dropped (labels_of p ways)
+      → AreOpen sys dropped (labels_of p ways)
   are_open ways known f = record {
     each = λ k l at_k.
         let w = stands_map_back (λ (v : WayId). label_of p v.n) ways k l at_k in
         let o = f.are_open k l at_k in
         subst (λ (z : Label). (v : s.Way ℕ) × IsOpen sys dropped z v) w.2
-        (open_way w.0 (known.each w.0 (one_here ways k w.0 w.1)) (subst (λ (z : Label). IsOpenEvent p dropped z.event) (sym w.2) o));
+        (open_way w.0 (known.each w.0 (one_here ways k w.0 w.1))
+        (subst (λ (z : Label). IsOpenEvent p dropped z.event) (sym w.2) o));
   }
 
   event_open : (l : Label) (w : s.Way ℕ) → IsOpen sys dropped l w → IsOpenEvent p dropped l.event
   event_open l w o =
-      let e = along_back p.events.items sys.events views.events l.event o.is_kept.is_way.event o.is_kept.is_way.is_event in
+      let e = along_back p.events.items sys.events views.events l.event o.is_kept.is_way.event
+      o.is_kept.is_way.is_event in
       record { event = e.0; stands = e.1; visible = sym e.2.hidden ∙ o.visible; stays = o.is_kept.stays }
 
   -- a true line is fit
-  pub true_fit : (observer : Expr ℕ) (wanted : Value) (ls : List Label) → IsTrueLine sys dropped observer wanted ls → IsFit p dropped ls
+  pub true_fit : (observer : Expr ℕ) (wanted : Value) (ls : List Label) → IsTrueLine sys dropped observer wanted ls
+      → IsFit p dropped ls
   true_fit observer wanted ls h = record {
     once = record {
       one = λ m n a s t.
@@ -243,30 +287,38 @@ module _ (p : GtsParts) (sound : IsSound p) (sys : s.System ℕ) (views : Views 
   }
 
   -- whether a fired line is true
-  pub fired_answer : (o : Observer) → IsOneOf p.observers.items o → (wanted : Value) (ways fired : List WayId) (end : Standing) → IsTotal p end.values → fired ≡ ways
+  pub fired_answer : (o : Observer) → IsOneOf p.observers.items o
+      → (wanted : Value) (ways fired : List WayId) (end : Standing) → IsTotal p end.values → fired ≡ ways
       → IsFit p dropped (labels_of p ways) → HasFired p sys dropped fired end
-      → IsAnswer (is_same (value_in end.values o.value) wanted) (IsTrueLine sys dropped (numbered o.value) wanted (labels_of p ways))
+      → IsAnswer (is_same (value_in end.values o.value) wanted)
+      (IsTrueLine sys dropped (numbered o.value) wanted (labels_of p ways))
   fired_answer o one wanted ways fired end total e f h = go (is_same (value_in end.values o.value) wanted) refl
     where
       reached : Reaches sys dropped (reverse (labels_of p ways)) end.values
-      reached = subst (λ (z : List WayId). Reaches sys dropped (reverse (labels_of p z)) end.values) e (stands_reaches sys dropped h.stands)
+      reached = subst (λ (z : List WayId). Reaches sys dropped (reverse (labels_of p z)) end.values) e
+          (stands_reaches sys dropped h.stands)
 
       yields : Yields (HasValue sys.net end.values) (out-Expr ℕ (numbered o.value)) (value_in end.values o.value)
-      yields = subst (λ (net : s.Net ℕ). Yields (HasValue net end.values) (out-Expr ℕ (numbered o.value)) (value_in end.values o.value)) (sym views.net)
+      yields = subst (λ (net : s.Net ℕ). Yields (HasValue net end.values) (out-Expr ℕ (numbered o.value))
+          (value_in end.values o.value)) (sym views.net)
           (value_yielded p end.values total o.value o.kind (sound.observers o one))
 
-      go : (b : Bool) → is_same (value_in end.values o.value) wanted ≡ b → IsAnswer b (IsTrueLine sys dropped (numbered o.value) wanted (labels_of p ways))
+      go : (b : Bool) → is_same (value_in end.values o.value) wanted ≡ b
+          → IsAnswer b (IsTrueLine sys dropped (numbered o.value) wanted (labels_of p ways))
       go true same = record {
         once = events_once (labels_of p ways) f;
         values = end.values;
         reaches = reached;
-        shows = subst (λ (z : Value). Yields (HasValue sys.net end.values) (out-Expr ℕ (numbered o.value)) z) (same_is _ _ same) yields;
+        shows = subst (λ (z : Value). Yields (HasValue sys.net end.values) (out-Expr ℕ (numbered o.value)) z)
+            (same_is _ _ same) yields;
       }
       go false differs = λ k.
           let i : k.values ≡ end.values = reaches_same sys dropped k.reaches reached in
-          let own = subst (λ (net : s.Net ℕ). Yields (HasValue net end.values) (out-Expr ℕ (numbered o.value)) wanted) views.net
+          let own = subst (λ (net : s.Net ℕ). Yields (HasValue net end.values) (out-Expr ℕ (numbered o.value)) wanted)
+          views.net
           (subst (λ (t : List Value). Yields (HasValue sys.net t) (out-Expr ℕ (numbered o.value)) wanted) i k.shows) in
-          let j : wanted ≡ value_in end.values o.value = yielded_value p end.values total o.value o.kind (sound.observers o one) wanted own in
+          let j : wanted ≡ value_in end.values o.value =
+          yielded_value p end.values total o.value o.kind (sound.observers o one) wanted own in
           let z = same_self (value_in end.values o.value) in
           let w = subst (λ (v : Value). is_same (value_in end.values o.value) v ≡ true) (sym j) z in cc
 
@@ -274,9 +326,13 @@ module _ (p : GtsParts) (sound : IsSound p) (sys : s.System ℕ) (views : Views 
 
 module _ (sys : s.System ℕ) (dropped : List ℕ) (observer : Expr ℕ) (wanted : Value) (lines : List (List Label)) where
   pub truths_none : (truths : List Bool) → truths ≡ [] → AreTruths sys dropped observer wanted lines truths
-  truths_none truths e = record { each = λ n ls b s t. absurd (stands_none n b (subst (λ (z : List Bool). Stands z n b) e t)) }
+  truths_none truths e = record {
+    each = λ n ls b s t. absurd
+        (stands_none n b (subst (λ (z : List Bool). Stands z n b) e t));
+  }
 
-  pub truths_more : (old new : List Bool) (b : Bool) (ls : List Label) → new ≡ old ++ b ∷ [] → Stands lines (length old) ls → IsAnswer b (IsTrueLine sys dropped observer wanted ls)
+  pub truths_more : (old new : List Bool) (b : Bool) (ls : List Label) → new ≡ old ++ b ∷ []
+      → Stands lines (length old) ls → IsAnswer b (IsTrueLine sys dropped observer wanted ls)
       → AreTruths sys dropped observer wanted lines old → AreTruths sys dropped observer wanted lines new
   truths_more old new b ls e at_end is h = record {
     each = λ n ks c s t. elim (stands_split old (b ∷ []) n c (subst (λ (z : List Bool). Stands z n c) e t)) [
@@ -285,26 +341,32 @@ module _ (sys : s.System ℕ) (dropped : List ℕ) (observer : Expr ℕ) (wanted
     ];
   }
     where
-      last : (j n : ℕ) (ks : List Label) (c : Bool) → n ≡ length old + j → Stands lines n ks → Stands (b ∷ []) j c → IsAnswer c (IsTrueLine sys dropped observer wanted ks)
+      last : (j n : ℕ) (ks : List Label) (c : Bool) → n ≡ length old + j → Stands lines n ks → Stands (b ∷ []) j c
+          → IsAnswer c (IsTrueLine sys dropped observer wanted ks)
       last zero n ks c i s t =
           let same : b ≡ c = cc in
           let k : n ≡ length old = omega (arith, i) in
           let l : ls ≡ ks = stands_one lines (length old) ls ks at_end (subst (λ (z : ℕ). Stands lines z ks) k s) in
-          subst (λ (z : Bool). IsAnswer z (IsTrueLine sys dropped observer wanted ks)) same (subst (λ (z : List Label). IsAnswer b (IsTrueLine sys dropped observer wanted z)) l is)
+          subst (λ (z : Bool). IsAnswer z (IsTrueLine sys dropped observer wanted ks)) same
+          (subst (λ (z : List Label). IsAnswer b (IsTrueLine sys dropped observer wanted z)) l is)
       last (suc j) n ks c i s t = absurd (stands_none j c t)
 
   -- none is true where the start fails
-  pub truths_fail : (f : FlowFault) → StartFails sys.net f → (truths : List Bool) → ((n : ℕ) (b : Bool) → Stands truths n b → b ≡ false) → AreTruths sys dropped observer wanted lines truths
+  pub truths_fail : (f : FlowFault) → StartFails sys.net f → (truths : List Bool)
+      → ((n : ℕ) (b : Bool) → Stands truths n b → b ≡ false) → AreTruths sys dropped observer wanted lines truths
   truths_fail f fails truths none = record {
-    each = λ n ls b s t. subst (λ (z : Bool). IsAnswer z (IsTrueLine sys dropped observer wanted ls)) (sym (none n b t)) (λ h. start_not sys dropped f (reverse ls) h.values fails h.reaches);
+    each = λ n ls b s t. subst (λ (z : Bool). IsAnswer z (IsTrueLine sys dropped observer wanted ls)) (sym (none n b t))
+        (λ h. start_not sys dropped f (reverse ls) h.values fails h.reaches);
   }
 
 -- a fault that is no want of memory
-pub never_done : (P : Type 0) (r : Result Bool Memory) → IfOk r (λ done. done ≡ false) → IfOk r (λ done. done ≡ true → P)
+pub never_done : (P : Type 0) (r : Result Bool Memory) → IfOk r (λ done. done ≡ false)
+    → IfOk r (λ done. done ≡ true → P)
 never_done P (Ok b) h = λ e. let z : false ≡ true = sym h ∙ e in absurd (cc z)
 never_done P (Err f) h = tt
 
-pub where_some : (P Q : Type 0) (r : Result Bool Memory) → IfOk r (λ done. P) → (P → Q) → IfOk r (λ done. done ≡ false → Q)
+pub where_some : (P Q : Type 0) (r : Result Bool Memory) → IfOk r (λ done. P) → (P → Q)
+    → IfOk r (λ done. done ≡ false → Q)
 where_some P Q (Ok b) h on = λ e. on h
 where_some P Q (Err f) h on = tt
 
@@ -313,21 +375,28 @@ on_ok P (Ok b) h = h
 on_ok P (Err f) h = tt
 
 -- a line, and the row of it
-pub line_stands : (p : GtsParts) (chains : List Chain) (n k : ℕ) (c : Chain) (ways : List WayId) → Stands chains n c → ways ≡ c.ways.items → k ≡ n → Stands (chain_lines p chains) k (labels_of p ways)
+pub line_stands : (p : GtsParts) (chains : List Chain) (n k : ℕ) (c : Chain) (ways : List WayId) → Stands chains n c
+    → ways ≡ c.ways.items → k ≡ n → Stands (chain_lines p chains) k (labels_of p ways)
 line_stands p chains n k c ways s e i =
     subst (λ (z : ℕ). Stands (chain_lines p chains) z (labels_of p ways)) (sym i)
-    (subst (λ (z : List WayId). Stands (chain_lines p chains) n (labels_of p z)) (sym e) (stands_map (λ (d : Chain). labels_of p d.ways.items) chains n c s))
+    (subst (λ (z : List WayId). Stands (chain_lines p chains) n (labels_of p z)) (sym e)
+    (stands_map (λ (d : Chain). labels_of p d.ways.items) chains n c s))
 
-pub row_fit : (p : GtsParts) (dropped : List ℕ) (chains : List Chain) (rows : List Row) (n : ℕ) (c : Chain) (r : Row) (ways : List WayId) → AreRows p dropped chains rows → Stands chains n c → Stands rows n r → ways ≡ c.ways.items
+pub row_fit : (p : GtsParts) (dropped : List ℕ) (chains : List Chain) (rows : List Row) (n : ℕ) (c : Chain) (r : Row)
+    (ways : List WayId) → AreRows p dropped chains rows → Stands chains n c → Stands rows n r → ways ≡ c.ways.items
     → IsAnswer r.fit (IsFit p dropped (labels_of p ways))
 row_fit p dropped chains rows n c r ways h s t e =
     subst (λ (z : List WayId). IsAnswer r.fit (IsFit p dropped (labels_of p z))) (sym e) (h.each n c r s t).fit
 
 -- none is true where the start meets a fault
-pub starts_fail : (p : GtsParts) (sys : s.System ℕ) → Views p sys → (dropped : List ℕ) (observer : Expr ℕ) (wanted : Value) (lines : List (List Label)) (r : Result (Vec Bool Global) Memory) (f : PropagateFault)
-    → IsStartFault (net_of p) f → IfOk r (λ truths. (n : ℕ) (b : Bool) → Stands truths.items n b → b ≡ false) → IfOk r (λ truths. f ≡ propagates.Memory → ⊥)
+pub starts_fail : (p : GtsParts) (sys : s.System ℕ) → Views p sys
+    → (dropped : List ℕ) (observer : Expr ℕ) (wanted : Value) (lines : List (List Label))
+    (r : Result (Vec Bool Global) Memory) (f : PropagateFault)
+    → IsStartFault (net_of p) f → IfOk r (λ truths. (n : ℕ) (b : Bool) → Stands truths.items n b → b ≡ false)
+    → IfOk r (λ truths. f ≡ propagates.Memory → ⊥)
     → IfOk r (λ truths. AreTruths sys dropped observer wanted lines truths.items)
 starts_fail p sys views dropped observer wanted lines (Err e) f is none some = tt
 starts_fail p sys views dropped observer wanted lines (Ok truths) (propagates.Flow f) is none some =
-    truths_fail sys dropped observer wanted lines (fault_of f) (subst (λ (n : s.Net ℕ). StartFails n (fault_of f)) (sym views.net) is) truths.items none
+    truths_fail sys dropped observer wanted lines (fault_of f)
+    (subst (λ (n : s.Net ℕ). StartFails n (fault_of f)) (sym views.net) is) truths.items none
 starts_fail p sys views dropped observer wanted lines (Ok truths) propagates.Memory is none some = absurd (some refl)

@@ -33,6 +33,8 @@ IsVerdict sys dropped observer wanted lines chains n v =
     (said : Said) × Tells chains v said × IsSaid sys dropped observer wanted lines n said
 
 -- a verdict for each chain, in order
-pub record AreVerdicts (p : GtsParts) (sys : System ℕ) (dropped : List ℕ) (observer : Expr ℕ) (wanted : Value) (chains : List Chain) (all : List Verdict) : Type 0 where
+pub record AreVerdicts (p : GtsParts) (sys : System ℕ) (dropped : List ℕ) (observer : Expr ℕ) (wanted : Value)
+    (chains : List Chain) (all : List Verdict) : Type 0 where
   pub long : length all ≡ length chains
-  pub each : (n : ℕ) (v : Verdict) → Stands all n v → IsVerdict sys dropped observer wanted (chain_lines p chains) chains n v
+  pub each : (n : ℕ) (v : Verdict) → Stands all n v
+      → IsVerdict sys dropped observer wanted (chain_lines p chains) chains n v

@@ -26,7 +26,8 @@ pub record AreOpenEvents (p : GtsParts) (dropped : List ℕ) (open_events : List
 -- for each event whether it is visible
 pub record AreVisible (p : GtsParts) (visible : List Bool) : Type 0 where
   pub long : length visible ≡ length p.events.items
-  pub each : (n : ℕ) (b : Bool) (e : Event) → Stands visible n b → Stands p.events.items n e → IsAnswer b (e.hidden ≡ false)
+  pub each : (n : ℕ) (b : Bool) (e : Event) → Stands visible n b → Stands p.events.items n e
+      → IsAnswer b (e.hidden ≡ false)
 
 -- each label's event is open, and stands once
 pub record IsFit (p : GtsParts) (dropped : List ℕ) (ls : List Label) : Type 0 where
@@ -47,7 +48,8 @@ pub record IsRow (p : GtsParts) (dropped : List ℕ) (ls : List Label) (row : Ro
 -- the rows of these lines, in order
 pub record AreRows (p : GtsParts) (dropped : List ℕ) (chains : List Chain) (rows : List Row) : Type 0 where
   pub long : length rows ≡ length chains
-  pub each : (k : ℕ) (c : Chain) (r : Row) → Stands chains k c → Stands rows k r → IsRow p dropped (labels_of p c.ways.items) r
+  pub each : (k : ℕ) (c : Chain) (r : Row) → Stands chains k c → Stands rows k r
+      → IsRow p dropped (labels_of p c.ways.items) r
 
 -- the rows have the events of these lines as bits
 pub record HaveBits (lines : List (List Label)) (rows : List Row) : Type 0 where

@@ -18,14 +18,17 @@ use Rattle.cut_check.specs.Verdicts.{IsTrueLine}
 -- valuation, and these stand below it
 pub data StandsAt (sys : System ℕ) (dropped : List ℕ) : List Label → List Value → List (List Value) → Type 0 where
   start : {t : List Value} → Start sys.net t → StandsAt sys dropped [] t []
-  fire : {ls : List Label} {t u : List Value} {below : List (List Value)} {l : Label} (w : Way ℕ) → StandsAt sys dropped ls t below
+  fire : {ls : List Label} {t u : List Value} {below : List (List Value)} {l : Label} (w : Way ℕ)
+      → StandsAt sys dropped ls t below
       → IsOpen sys dropped l w → Step sys.net t w (Next u) → StandsAt sys dropped (l ∷ ls) u (t ∷ below)
 
 -- these ways are fired and stand
-pub record HasFired (p : GtsParts) (sys : System ℕ) (dropped : List ℕ) (ways : List WayId) (at : Standing) : Type 0 where
+pub record HasFired (p : GtsParts) (sys : System ℕ) (dropped : List ℕ) (ways : List WayId) (at : Standing) : Type
+    0 where
   pub stands : StandsAt sys dropped (reverse (labels_of p ways)) at.values at.below
 
 -- for each of these lines whether it is true
-pub record AreTruths (sys : System ℕ) (dropped : List ℕ) (observer : Expr ℕ) (wanted : Value) (lines : List (List Label)) (truths : List Bool) : Type 0 where
+pub record AreTruths (sys : System ℕ) (dropped : List ℕ) (observer : Expr ℕ) (wanted : Value)
+    (lines : List (List Label)) (truths : List Bool) : Type 0 where
   pub each : (n : ℕ) (ls : List Label) (b : Bool) → Stands lines n ls → Stands truths n b
       → IsAnswer b (IsTrueLine sys dropped observer wanted ls)

@@ -14,9 +14,11 @@ use Rattle.ar_firing.specs.Cuts.{Reaches, AreEvents, Cut}
 abbrev pub events_of : List Label → List ℕ
 events_of ls = map (λ (l : Label). l.event) ls
 
--- the labels are an order of their events, each once: the run that fires them in this order, all of visible events that are
+-- the labels are an order of their events, each once: the run that fires them in this order, all of visible events that
+-- are
 -- not dropped, has no fault, and ends with the wanted value of the observer
-pub record IsTrueLine {V : Type 0} (sys : System V) (dropped : List ℕ) (observer : Expr V) (wanted : Value) (ls : List Label) : Type 0 where
+pub record IsTrueLine {V : Type 0} (sys : System V) (dropped : List ℕ) (observer : Expr V) (wanted : Value)
+    (ls : List Label) : Type 0 where
   pub once : AreEvents ls (events_of ls)
   pub values : List Value
   pub reaches : Reaches sys dropped (reverse ls) values
@@ -43,12 +45,15 @@ pub data Said : Type 0 where
   Holds : (line : ℕ) → Said
 
 -- what is said of line n
-pub data IsSaid {V : Type 0} (sys : System V) (dropped : List ℕ) (observer : Expr V) (wanted : Value) (lines : List (List Label)) (n : ℕ) : Said → Type 0 where
+pub data IsSaid {V : Type 0} (sys : System V) (dropped : List ℕ) (observer : Expr V) (wanted : Value)
+    (lines : List (List Label)) (n : ℕ) : Said → Type 0 where
   fails : {ls : List Label} → Stands lines n ls → (IsTrueLine sys dropped observer wanted ls → ⊥)
       → IsSaid sys dropped observer wanted lines n Fails
-  holds : {ls : List Label} {k : ℕ} → Stands lines n ls → IsTrueLine sys dropped observer wanted ls → HoldsLine lines n k
+  holds : {ls : List Label} {k : ℕ} → Stands lines n ls → IsTrueLine sys dropped observer wanted ls
+      → HoldsLine lines n k
       → IsSaid sys dropped observer wanted lines n (Holds k)
-  good : {ls : List Label} → Stands lines n ls → IsTrueLine sys dropped observer wanted ls → ((k : ℕ) → MayHold lines n k → ⊥)
+  good : {ls : List Label} → Stands lines n ls → IsTrueLine sys dropped observer wanted ls
+      → ((k : ℕ) → MayHold lines n k → ⊥)
       → IsSaid sys dropped observer wanted lines n IsGood
 
 -- the set has the events of one of the lines, and no others
@@ -59,19 +64,24 @@ pub record IsListed (lines : List (List Label)) (set : List ℕ) : Type 0 where
   pub whole : Within set (events_of line)
 
 -- a cut that is missing: the events of no line
-pub record IsMissing {V : Type 0} (sys : System V) (dropped : List ℕ) (observer : Expr V) (wanted : Value) (lines : List (List Label)) (set : List ℕ) : Type 0 where
+pub record IsMissing {V : Type 0} (sys : System V) (dropped : List ℕ) (observer : Expr V) (wanted : Value)
+    (lines : List (List Label)) (set : List ℕ) : Type 0 where
   pub is_cut : Cut sys dropped observer wanted set
   pub unlisted : IsListed lines set → ⊥
 
 -- each line is good, and no cut is missing
-pub record IsRight {V : Type 0} (sys : System V) (dropped : List ℕ) (observer : Expr V) (wanted : Value) (lines : List (List Label)) : Type 0 where
+pub record IsRight {V : Type 0} (sys : System V) (dropped : List ℕ) (observer : Expr V) (wanted : Value)
+    (lines : List (List Label)) : Type 0 where
   pub good : (n : ℕ) (ls : List Label) → Stands lines n ls → IsSaid sys dropped observer wanted lines n IsGood
   pub whole : (set : List ℕ) → IsMissing sys dropped observer wanted lines set → ⊥
 
--- the sets of the lines are the cuts, each once, and each line is an order of its events that ends with the wanted value
-pub record AreTheCuts {V : Type 0} (sys : System V) (dropped : List ℕ) (observer : Expr V) (wanted : Value) (lines : List (List Label)) : Type 0 where
+-- the sets of the lines are the cuts, each once, and each line is an order of its events that ends with the wanted
+-- value
+pub record AreTheCuts {V : Type 0} (sys : System V) (dropped : List ℕ) (observer : Expr V) (wanted : Value)
+    (lines : List (List Label)) : Type 0 where
   pub true_lines : (n : ℕ) (ls : List Label) → Stands lines n ls → IsTrueLine sys dropped observer wanted ls
   pub sound : (n : ℕ) (ls : List Label) → Stands lines n ls → Cut sys dropped observer wanted (events_of ls)
   pub whole : (set : List ℕ) → Cut sys dropped observer wanted set → IsListed lines set
-  pub once : (j k : ℕ) (ls ms : List Label) → Stands lines j ls → Stands lines k ms → Within (events_of ls) (events_of ms)
+  pub once : (j k : ℕ) (ls ms : List Label) → Stands lines j ls → Stands lines k ms
+      → Within (events_of ls) (events_of ms)
       → Within (events_of ms) (events_of ls) → j ≡ k

@@ -27,7 +27,8 @@ module _ (p : GtsParts) (rows : Rows) (a : AreDomains p (length p.variables.item
             variable = variable_of n x.0;
             stands = variable_there p n x.0 x.1;
             is_key = refl;
-            has = subst (λ (z : List Value). Contains z v) (a.row n x.0 r (stands_within p.variables.items n x.0 x.1) x.1 e) c;
+            has = subst (λ (z : List Value). Contains z v)
+                (a.row n x.0 r (stands_within p.variables.items n x.0 x.1) x.1 e) c;
           }
 
   pub back : (n : ℕ) (v : Value) → Allows (net_of p) n v → Contains (row_at rows n) v
@@ -36,7 +37,8 @@ module _ (p : GtsParts) (rows : Rows) (a : AreDomains p (length p.variables.item
       let at : h.place ≡ n = ap (λ (z : s.Variable ℕ). z.key) k.2 ∙ h.is_key in
       by k.0 at k.1 (subst (λ (z : s.Variable ℕ). Contains z.domain v) (sym k.2) h.has)
     where
-      by : (x : Variable) → h.place ≡ n → Stands p.variables.items h.place x → Contains (values_of x.domain) v → Contains (row_at rows n) v
+      by : (x : Variable) → h.place ≡ n → Stands p.variables.items h.place x → Contains (values_of x.domain) v
+          → Contains (row_at rows n) v
       by x e st c =
           let here = subst (λ (z : ℕ). Stands p.variables.items z x) e st in
           let within = stands_within p.variables.items n x here in

@@ -14,7 +14,8 @@ use Rattle.gts_core.specs.declared.system.GtsParts.{GtsParts}
 -- the values of the domains of the first so many variables
 pub record AreDomains (p : GtsParts) (count : ℕ) (rows : Rows) : Type 0 where
   pub long : length rows ≡ count
-  pub row : (n : ℕ) (x : Variable) (r : Vec Value Global) → n < count → Stands p.variables.items n x → Stands rows n r → r.items ≡ values_of x.domain
+  pub row : (n : ℕ) (x : Variable) (r : Vec Value Global) → n < count → Stands p.variables.items n x → Stands rows n r
+      → r.items ≡ values_of x.domain
 
 -- what a test says of each system of whose variables these are the domains
 abbrev pub Says : Rows → (GtsParts → Type 0) → Bool → Type 0

@@ -99,7 +99,8 @@ range_held low high n h l =
     let P : ℤ → Type 0 =
     λ z. Contains (map (λ k. Whole (low +ℤ pos k)) (range_with_len 0 (nat_abs (high -ℤ low) + 1))) (Whole z) in
     subst P e
-    (contains-map (λ k. Whole (low +ℤ pos k)) k (range_with_len 0 (nat_abs (high -ℤ low) + 1)) (in_range 0 (nat_abs (high -ℤ low) + 1) k (omega arith) (grind (arith, ints))))
+    (contains-map (λ k. Whole (low +ℤ pos k)) k (range_with_len 0 (nat_abs (high -ℤ low) + 1))
+    (in_range 0 (nat_abs (high -ℤ low) + 1) k (omega arith) (grind (arith, ints))))
 
 -- what the domain holds is one of its values
 pub listed : (d : Domain) (v : Value) → Holds d v → Contains (values_of d) v

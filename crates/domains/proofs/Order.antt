@@ -120,6 +120,8 @@ ascends-same (x ∷ xs) (y ∷ ys) a b f g =
       ]
     ] in
     let rest = ascends-same xs ys a.1 b.1
-    (λ d m. elim (contains-cases y d ys (f d (contains-cons x d xs m))) [ inl i ↦ absurd (not_before x d (a.0 d m) (e ∙ i)) | inr n ↦ n ])
-    (λ d m. elim (contains-cases x d xs (g d (contains-cons y d ys m))) [ inl i ↦ absurd (not_before y d (b.0 d m) (sym e ∙ i)) | inr n ↦ n ]) in
+    (λ d m. elim (contains-cases y d ys (f d (contains-cons x d xs m)))
+    [ inl i ↦ absurd (not_before x d (a.0 d m) (e ∙ i)) | inr n ↦ n ])
+    (λ d m. elim (contains-cases x d xs (g d (contains-cons y d ys m)))
+    [ inl i ↦ absurd (not_before y d (b.0 d m) (sym e ∙ i)) | inr n ↦ n ]) in
     cc

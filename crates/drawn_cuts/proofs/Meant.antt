@@ -56,7 +56,8 @@ nodes_seen number other forest table limit n = record {
   all = n.all;
   is_all = listed_as (λ s. firable_seen number other forest s) (λ s. firable_seen other number forest s) n.is_all;
   where_some = λ s c. n.where_some s (true_seen other number forest (value_at table.gates table.conflict) s c);
-  where_none = λ none. n.where_none (λ s c. none s (true_seen number other forest (value_at table.gates table.conflict) s c));
+  where_none = λ none. n.where_none (λ s c. none s
+      (true_seen number other forest (value_at table.gates table.conflict) s c));
 }
 
 module _ (sys : System ℕ) (dropped : List ℕ) (static : IsKeyedStatic sys dropped) (number : ℕ → ℕ) (forest : Forest)
@@ -92,7 +93,8 @@ module _ (sys : System ℕ) (dropped : List ℕ) (static : IsKeyedStatic sys dro
       one_none o.0 o.1 in
       let seen = firable_seen (λ n. n) number forest set t.is_firable in
       let f = firable_in_system sys dropped static.keyed static.static (trees_of number forest) is_forest set seen in
-      let no = no_conflict sys dropped static.keyed static.static observer wanted conflict top agrees free set f.0 f.1 in
+      let no = no_conflict sys dropped static.keyed static.static observer wanted conflict top agrees free set f.0
+      f.1 in
       let yes : conflict set ≡ true = t.holds in
       cc
 
@@ -105,7 +107,8 @@ module _ (sys : System ℕ) (dropped : List ℕ) (static : IsKeyedStatic sys dro
       )
   meant (Cuts f) a =
       let free : IsConflictFree sys dropped = λ s m.
-      let met = met_is_conflicting sys dropped static.keyed static.static observer wanted conflict top agrees {set = s} m in
+      let met = met_is_conflicting sys dropped static.keyed static.static observer wanted conflict top agrees {set = s}
+      m in
       let seen = firable_in_trees sys dropped static.keyed static.static (trees_of number forest) is_forest s
       met.values met.is_firable in
       a.0 s (record { is_firable = firable_seen number (λ n. n) forest s seen; holds = met.holds }) in (

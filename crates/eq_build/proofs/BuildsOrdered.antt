@@ -90,7 +90,8 @@ groups_ordered g (p ∷ ps) a l = with_rest (λ h w c. groups_ordered h ps c (be
 pub record TermsBelow (g : List Gate) (ts : List Term) : Type 0 where
   pub each : (t : Term) → IsOneOf ts t → AreBelow (length g) t.operands
 
-pub terms_ordered : (g : List Gate) (ts : List Term) → AreOrdered g → TermsBelow g ts → IsOrderedBuilt (entries_for g ts)
+pub terms_ordered : (g : List Gate) (ts : List Term) → AreOrdered g → TermsBelow g ts
+    → IsOrderedBuilt (entries_for g ts)
 terms_ordered g ts a l = groups_ordered g (with_terms ts []) a (record {
   each = λ p m. record {
     each = λ os n.
@@ -105,7 +106,8 @@ terms_ordered g ts a l = groups_ordered g (with_terms ts []) a (record {
     were d os i = terms_were ts [] d os i
 
 -- the operand that is read for a value names no later gate
-pub read_below : {g : List Gate} (es : List Entry) (d : Value) → EntriesBelow g es → IsBelow (length g) (operand_for es d)
+pub read_below : {g : List Gate} (es : List Entry) (d : Value) → EntriesBelow g es
+    → IsBelow (length g) (operand_for es d)
 read_below [] d a = tt
 read_below {g = g} (e ∷ es) d a =
     go (is_same e.value d) (read_below es d (record { each = λ x m. a.each x (one_rest e es x m) }))

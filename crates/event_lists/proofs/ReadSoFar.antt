@@ -46,7 +46,8 @@ module _ (x : Elaborated) where
     done = r.done ++ part ∷ [];
     split = r.split ∙ ap (λ z. r.done ++ z) e ∙ sym (append_assoc r.done (part ∷ []) rest);
     names = subst (λ (es : List ℕ). Along (NamesEvent x) (r.done ++ part ∷ []) es)
-        (sym (ap (λ (z : List EventId). map (λ (n : EventId). n.n) z) i ∙ map-append (λ (n : EventId). n.n) old (event ∷ [])))
+        (sym (ap (λ (z : List EventId). map (λ (n : EventId). n.n) z) i
+        ∙ map-append (λ (n : EventId). n.n) old (event ∷ [])))
         (along_more part event.n r.names s);
   }
 
@@ -78,7 +79,8 @@ inside_none p events e = record { each = λ n o. absurd (one_none n (subst (λ (
 
 -- what is left behind the first part
 pub left_part : (rest o : Option (Bor (List ℕ))) (bytes : Bor (List ℕ)) (part : List ℕ) → rest ≡ Some bytes
-    → MatchOption o (pieces is_comma bytes.now ≡ part ∷ []) (λ more. (pieces is_comma bytes.now ≡ part ∷ pieces is_comma more.now) × (length more.now < length bytes.now))
+    → MatchOption o (pieces is_comma bytes.now ≡ part ∷ [])
+    (λ more. (pieces is_comma bytes.now ≡ part ∷ pieces is_comma more.now) × (length more.now < length bytes.now))
     → parts_left rest ≡ part ∷ parts_left o
 left_part rest None bytes part e h = ap parts_left e ∙ h
 left_part rest (Some more) bytes part e h = ap parts_left e ∙ h.0

@@ -27,6 +27,7 @@ pub record AreEventsOf (p : GtsParts) (events : List EventId) : Type 0 where
 
 -- what the reading of such a list answers: the events, which are the system's, or that a part names none
 abbrev pub AnswersEvents : Elaborated → GtsParts → List ℕ → Result (Vec EventId Global) ListFault → Type 0
-AnswersEvents x p text (Ok events) = NamesEvents x text (map (λ (e : EventId). e.n) events.items) × AreEventsOf p events.items
+AnswersEvents x p text (Ok events) =
+    NamesEvents x text (map (λ (e : EventId). e.n) events.items) × AreEventsOf p events.items
 AnswersEvents x p text (Err NoEvent) = HasUnknown x text
 AnswersEvents x p text (Err Memory) = Unit {0}

@@ -35,13 +35,15 @@ leads_alike s t h (edge {l = l} {m = m} {to = to} p o) =
     let w = leads_alike s t h p in
     let r = along_on s.edges t.edges h.edges o.place (record { from = m; label = l; to = to }) o.stands in (
       r.0.label ∷ w.0,
-      subst (LeadsTo t (r.0.label ∷ w.0)) (sym r.2.to) (edge (subst (LeadsTo t w.0) r.2.from w.1) (one_here t.edges o.place r.0 r.1)),
+      subst (LeadsTo t (r.0.label ∷ w.0)) (sym r.2.to)
+          (edge (subst (LeadsTo t w.0) r.2.from w.1) (one_here t.edges o.place r.0 r.1)),
       one_and r.2.event w.2,
     )
 
 paths_alike : {ss ts : List ModeTree} → Along AreAlike ss ts → (path : ℕ → List Label)
     → ((k : ℕ) (s : ModeTree) → Stands ss k s → (m : Value) × LeadsTo s (path k) m)
-    → (other : ℕ → List Label) × ((k : ℕ) (t : ModeTree) → Stands ts k t → ((m : Value) × LeadsTo t (other k) m) × Along HaveOneEvent (path k) (other k))
+    → (other : ℕ → List Label) × ((k : ℕ) (t : ModeTree) → Stands ts k t
+    → ((m : Value) × LeadsTo t (other k) m) × Along HaveOneEvent (path k) (other k))
 paths_alike none path leads = (λ k. [], λ k t i. cc)
 paths_alike (one_and {a = s} {b = t} {ys = ts} r rest) path leads =
     let l = leads zero s refl in
@@ -49,13 +51,17 @@ paths_alike (one_and {a = s} {b = t} {ys = ts} r rest) path leads =
     let ih = paths_alike rest (λ k. path (suc k)) (λ k u i. leads (suc k) u i) in
     (fore w.0 ih.0, at ts ih.0 w.0 l.0 w.1 w.2 ih.1)
   where
-    at : (us : List ModeTree) (other : ℕ → List Label) (ks : List Label) (m : Value) → LeadsTo t ks m → Along HaveOneEvent (path zero) ks
-        → ((k : ℕ) (u : ModeTree) → Stands us k u → ((m : Value) × LeadsTo u (other k) m) × Along HaveOneEvent (path (suc k)) (other k))
-        → (k : ℕ) (u : ModeTree) → Stands (t ∷ us) k u → ((m : Value) × LeadsTo u (fore ks other k) m) × Along HaveOneEvent (path k) (fore ks other k)
+    at : (us : List ModeTree) (other : ℕ → List Label) (ks : List Label) (m : Value) → LeadsTo t ks m
+        → Along HaveOneEvent (path zero) ks
+        → ((k : ℕ) (u : ModeTree) → Stands us k u
+        → ((m : Value) × LeadsTo u (other k) m) × Along HaveOneEvent (path (suc k)) (other k))
+        → (k : ℕ) (u : ModeTree) → Stands (t ∷ us) k u
+        → ((m : Value) × LeadsTo u (fore ks other k) m) × Along HaveOneEvent (path k) (fore ks other k)
     at us other ks m p a ih zero u i = let e : t ≡ u = cc in ((m, subst (λ z. LeadsTo z ks m) e p), a)
     at us other ks m p a ih (suc k) u i = ih k u i
 
-pub firable_alike : (ss ts : List ModeTree) → Along AreAlike ss ts → (set : List ℕ) → IsFirableOf ss set → IsFirableOf ts set
+pub firable_alike : (ss ts : List ModeTree) → Along AreAlike ss ts → (set : List ℕ) → IsFirableOf ss set
+    → IsFirableOf ts set
 firable_alike ss ts h set p =
     let c = paths_alike h p.path p.walks in
     record {
@@ -121,8 +127,11 @@ module _ (number other : ℕ → ℕ) where
   trees_seen [] = none
   trees_seen (t ∷ ts) = one_and (record { first = refl; edges = rows_seen t.edges.items }) (trees_seen ts)
 
-  pub firable_seen : (forest : Forest) (set : List ℕ) → IsFirableOf (trees_of number forest) set → IsFirableOf (trees_of other forest) set
-  firable_seen forest set p = firable_alike (trees_of number forest) (trees_of other forest) (trees_seen forest.trees.items) set p
+  pub firable_seen : (forest : Forest) (set : List ℕ) → IsFirableOf (trees_of number forest) set
+      → IsFirableOf (trees_of other forest) set
+  firable_seen forest set p = firable_alike (trees_of number forest) (trees_of other forest)
+      (trees_seen forest.trees.items) set p
 
   pub are_trees_seen : (forest : Forest) → AreTrees (trees_of number forest) → AreTrees (trees_of other forest)
-  are_trees_seen forest i = trees_alike (trees_of number forest) (trees_of other forest) (trees_seen forest.trees.items) i
+  are_trees_seen forest i = trees_alike (trees_of number forest) (trees_of other forest) (trees_seen forest.trees.items)
+      i

@@ -20,7 +20,8 @@ none_above v (s ∷ f) a = ap₂ (λ b c. b || c) (holds-above v s a.0) (none_ab
 
 -- a family above the event stays as it is
 pub lower_above : (v : ℕ) (f : Family) → IsAbove v f → lower v f ≡ f
-lower_above v f a = filter-all (λ s. not (holds v s)) f (each_of (IsAbove_set v) (λ s. not (holds v s) ≡ true) (λ s k. ap not (holds-above v s k)) f a)
+lower_above v f a = filter-all (λ s. not (holds v s)) f
+    (each_of (IsAbove_set v) (λ s. not (holds v s) ≡ true) (λ s k. ap not (holds-above v s k)) f a)
 
 pub taken_above : (v : ℕ) (f : Family) → IsAbove v f → taken v f ≡ f
 taken_above v f a = ap (λ b. cond b (upper v f) f) (none_above v f a)
@@ -29,8 +30,10 @@ taken_above v f a = ap (λ b. cond b (upper v f) f) (none_above v f a)
 module _ (v : ℕ) (lo hi : Family) (a : IsAbove v lo) (b : IsAbove v hi) where
   pub lower_node : lower v (node v lo hi) ≡ lo
   lower_node = filter-node v (λ s. not (holds v s)) lo hi ∙ ap₂ (node v)
-      (filter-all (λ s. not (holds v s)) lo (each_of (IsAbove_set v) (λ s. not (holds v s) ≡ true) (λ s k. ap not (holds-above v s k)) lo a))
-      (filter-none (λ s. not (holds v (v ∷ s))) hi (every (λ s. not (holds v (v ∷ s)) ≡ false) (λ s. ap not (holds_here v s)) hi))
+      (filter-all (λ s. not (holds v s)) lo
+      (each_of (IsAbove_set v) (λ s. not (holds v s) ≡ true) (λ s k. ap not (holds-above v s k)) lo a))
+      (filter-none (λ s. not (holds v (v ∷ s))) hi
+      (every (λ s. not (holds v (v ∷ s)) ≡ false) (λ s. ap not (holds_here v s)) hi))
 
   upper_node : upper v (node v lo hi) ≡ hi
   upper_node = ap (map (filter (λ x. not (eqb v x)))) (filter-node v (holds v) lo hi ∙ ap₂ (node v)
@@ -49,11 +52,14 @@ module _ (v : ℕ) (lo hi : Family) (a : IsAbove v lo) (b : IsAbove v hi) where
   taken_node n = ap (λ b. cond b (upper v (node v lo hi)) (node v lo hi)) (occurs_node n) ∙ upper_node
 
 -- ---- above the least event
-passed : (v : ℕ) (c n k e : ℕ) (fs : List Family) → n ≡ c + k → e ≡ c + 0 → v < e → ((x : ℕ) → x < e → Lacks x fs) → IsAbove v (left n 0 fs)
-passed v c n k e fs m q l h = subst (IsAbove v) (sym (left_skip c n k 0 e fs m q (λ x y u. h x u))) (left_above v k e fs l)
+passed : (v : ℕ) (c n k e : ℕ) (fs : List Family) → n ≡ c + k → e ≡ c + 0 → v < e → ((x : ℕ) → x < e → Lacks x fs)
+    → IsAbove v (left n 0 fs)
+passed v c n k e fs m q l h = subst (IsAbove v) (sym (left_skip c n k 0 e fs m q (λ x y u. h x u)))
+    (left_above v k e fs l)
 
 -- a state of the walk at its least event
-module _ (m n v : ℕ) (fs : List Family) (q : n ≡ v + suc m) (h : (x : ℕ) → x < v → Lacks x fs) (o : some_occurs v fs ≡ true) where
+module _ (m n v : ℕ) (fs : List Family) (q : n ≡ v + suc m) (h : (x : ℕ) → x < v → Lacks x fs)
+    (o : some_occurs v fs ≡ true) where
   abbrev Made : Family
   Made = left n 0 fs
 
@@ -67,16 +73,27 @@ module _ (m n v : ℕ) (fs : List Family) (q : n ≡ v + suc m) (h : (x : ℕ) �
   made_is = left_halves m n v fs q h o
 
   without_above : IsAbove v Without
-  without_above = passed v (suc v) n m (suc v) (all_lower v fs) (omega (arith, q)) (omega arith) (omega arith) (λ x u. lower_lacks v x fs (h x) u)
+  without_above = passed v (suc v) n m (suc v) (all_lower v fs) (omega (arith, q)) (omega arith) (omega arith)
+      (λ x u. lower_lacks v x fs (h x) u)
 
   with_above : IsAbove v With
-  with_above = passed v (suc v) n m (suc v) (all_taken v fs) (omega (arith, q)) (omega arith) (omega arith) (λ x u. taken_lacks v x fs (h x) u)
+  with_above = passed v (suc v) n m (suc v) (all_taken v fs) (omega (arith, q)) (omega arith) (omega arith)
+      (λ x u. taken_lacks v x fs (h x) u)
 
   pub walk_halved : Halved (IsCounted Made) Made v Without With
-  walk_halved = record { is = made_is; lower_above = without_above; upper_above = with_above; whole = counted_made Made }
+  walk_halved = record {
+    is = made_is;
+    lower_above = without_above;
+    upper_above = with_above;
+    whole = counted_made Made;
+  }
 
-  pub walk_lower : (s t : Stored) (r : Result NodeId NodeFault) → Draws (IsCounted Without) Without s t r → Draws (IsCounted Made) Without s t r
-  walk_lower s t r d = Draws-weaker (IsCounted Without) (IsCounted Made) Without s t r (λ g x. subst (λ z. IsCounted z g) (sym made_is) (IsCounted-lower v Without With g without_above x)) d
+  pub walk_lower : (s t : Stored) (r : Result NodeId NodeFault) → Draws (IsCounted Without) Without s t r
+      → Draws (IsCounted Made) Without s t r
+  walk_lower s t r d = Draws-weaker (IsCounted Without) (IsCounted Made) Without s t r
+      (λ g x. subst (λ z. IsCounted z g) (sym made_is) (IsCounted-lower v Without With g without_above x)) d
 
-  pub walk_upper : (s t : Stored) (r : Result NodeId NodeFault) → Draws (IsCounted With) With s t r → Draws (IsCounted Made) With s t r
-  walk_upper s t r d = Draws-weaker (IsCounted With) (IsCounted Made) With s t r (λ g x. subst (λ z. IsCounted z g) (sym made_is) (IsCounted-upper v Without With g without_above with_above x)) d
+  pub walk_upper : (s t : Stored) (r : Result NodeId NodeFault) → Draws (IsCounted With) With s t r
+      → Draws (IsCounted Made) With s t r
+  walk_upper s t r d = Draws-weaker (IsCounted With) (IsCounted Made) With s t r
+      (λ g x. subst (λ z. IsCounted z g) (sym made_is) (IsCounted-upper v Without With g without_above with_above x)) d

@@ -38,7 +38,8 @@ has_stands (t ∷ f) s h = step (has_stands f s) (same s t) refl
     step ih false e = let i = ih (ap (λ b. b || has f s) (sym e) ∙ h) in record { place = suc i.place; stands = i.stands }
 
 -- ---- in order
-before_at : (f : Family) → AllByRecursion Ascends f → IsInOrder f → (j k : ℕ) (s t : List ℕ) → j < k → Stands f j s → Stands f k t → IsBefore s t
+before_at : (f : Family) → AllByRecursion Ascends f → IsInOrder f → (j k : ℕ) (s t : List ℕ) → j < k → Stands f j s
+    → Stands f k t → IsBefore s t
 before_at [] a o j k s t l i m = cc
 before_at (u ∷ f) a o zero zero s t l i m = absurd (omega (arith, l))
 before_at (u ∷ f) a o (suc j) zero s t l i m = absurd (omega (arith, l))
@@ -49,11 +50,17 @@ before_at (u ∷ f) a o zero (suc k) s t l i m =
     let p = (order_law u t a.0 (member_of Ascends f t a.1 h)).0 (member_of (λ z. order u z ≡ Less) f t o.0 h) in
     subst (λ w. IsBefore w t) e p
 
-in_order_at : (f : Family) → AllByRecursion Ascends f → ((j k : ℕ) (s t : List ℕ) → j < k → Stands f j s → Stands f k t → IsBefore s t) → IsInOrder f
+in_order_at : (f : Family) → AllByRecursion Ascends f
+    → ((j k : ℕ) (s t : List ℕ) → j < k → Stands f j s → Stands f k t → IsBefore s t) → IsInOrder f
 in_order_at [] a h = tt
-in_order_at (s ∷ f) a h = (later f a.1 (λ k t i. h zero (suc k) s t (omega arith) refl i), in_order_at f a.1 (λ j k t u l i m. h (suc j) (suc k) t u (omega (arith, l)) i m))
+in_order_at (s ∷ f) a h = (
+  later f a.1 (λ k t i. h zero (suc k) s t (omega arith) refl i),
+  in_order_at f a.1
+      (λ j k t u l i m. h (suc j) (suc k) t u (omega (arith, l)) i m),
+)
   where
-    later : (g : Family) → AllByRecursion Ascends g → ((k : ℕ) (t : List ℕ) → Stands g k t → IsBefore s t) → AllByRecursion (λ t. order s t ≡ Less) g
+    later : (g : Family) → AllByRecursion Ascends g → ((k : ℕ) (t : List ℕ) → Stands g k t → IsBefore s t)
+        → AllByRecursion (λ t. order s t ≡ Less) g
     later [] b c = tt
     later (t ∷ g) b c =
         let p = c zero t refl in (
@@ -82,11 +89,13 @@ listed_lists {f = f} l =
       whole = λ s p. let w = l.whole s p in (w.0, stands_has f w.1.place w.0 w.1.stands, w.2, w.3);
     }
 
-pub lists_as : {P Q : List ℕ → Type 0} {f : Family} → ((s : List ℕ) → P s → Q s) → ((s : List ℕ) → Q s → P s) → Lists P f → Lists Q f
+pub lists_as : {P Q : List ℕ → Type 0} {f : Family} → ((s : List ℕ) → P s → Q s) → ((s : List ℕ) → Q s → P s)
+    → Lists P f → Lists Q f
 lists_as a b l = record { is_family = l.is_family; sound = λ s h. a s (l.sound s h); whole = λ s q. l.whole s (b s q) }
 
 -- ---- filters
-pub filter_part : (p : List ℕ → Bool) (f : Family) (s : List ℕ) → has (filter p f) s ≡ true → (has f s ≡ true) × (p s ≡ true)
+pub filter_part : (p : List ℕ → Bool) (f : Family) (s : List ℕ) → has (filter p f) s ≡ true
+    → (has f s ≡ true) × (p s ≡ true)
 filter_part p f s h = and_parts (has f s) (p s) (sym (has-filter p s f) ∙ h)
 
 pub filter_lists : {P : List ℕ → Type 0} {f : Family} (p : List ℕ → Bool) → IsOfMembers p → Lists P f
@@ -125,14 +134,23 @@ minimal_lists {P = P} {f = f} l = record {
               at r.1 x.0 x.1 (within_then x.3 w) part x.3 (same x.0 s) refl;
         }
       where
-        at : not (list_any (proper s) f) ≡ true → (t : List ℕ) → has f t ≡ true → Within t s → (part : List ℕ) → Within t part → (b : Bool) → same t s ≡ b → Within s part
+        at : not (list_any (proper s) f) ≡ true → (t : List ℕ) → has f t ≡ true → Within t s → (part : List ℕ)
+            → Within t part → (b : Bool) → same t s ≡ b → Within s part
         at n t h w part v true e = subst (λ z. Within z part) (same-true t s e) v
-        at n t h w part v false e = absurd (not_true (list_any (proper s) f) n (any_from (proper s) f t h (ap₂ (λ a b. a && not b) (is_within t s w) e)))
+        at n t h w part v false e = absurd
+            (not_true (list_any (proper s) f) n
+            (any_from (proper s) f t h (ap₂ (λ a b. a && not b) (is_within t s w) e)))
 
-    listed_so : (s : List ℕ) → IsLeast P s → (t : List ℕ) × (has (filter (λ s. not (list_any (proper s) f)) f) t ≡ true) × Within s t × Within t s
+    listed_so : (s : List ℕ) → IsLeast P s
+        → (t : List ℕ) × (has (filter (λ s. not (list_any (proper s) f)) f) t ≡ true) × Within s t × Within t s
     listed_so s k =
-        let x = l.whole s k.has in
-        (x.0, has-filter-yes (λ s. not (list_any (proper s) f)) x.0 f (true_not (list_any (proper x.0) f) (none x.0 x.1 x.2 x.3)) x.1, x.2, x.3)
+        let x = l.whole s k.has in (
+          x.0,
+          has-filter-yes (λ s. not (list_any (proper s) f)) x.0 f
+              (true_not (list_any (proper x.0) f) (none x.0 x.1 x.2 x.3)) x.1,
+          x.2,
+          x.3,
+        )
       where
         none : (t : List ℕ) → has f t ≡ true → Within s t → Within t s → list_any (proper t) f ≡ true → ⊥
         none t h v w y =
@@ -140,14 +158,16 @@ minimal_lists {P = P} {f = f} l = record {
             let p = and_parts (within u.set t) (not (same u.set t)) u.passes in
             let ut = within_is u.set t p.0 in
             let su = k.least u.set (within_then ut w) (l.sound u.set u.in_family) in
-            let e = ascending_same u.set t (member_of Ascends f u.set l.is_family.ascending u.in_family) (member_of Ascends f t l.is_family.ascending h) ut (within_then w su) in
+            let e = ascending_same u.set t (member_of Ascends f u.set l.is_family.ascending u.in_family)
+            (member_of Ascends f t l.is_family.ascending h) ut (within_then w su) in
             not_true (same u.set t) p.1 ((same_law u.set t).1 e)
 
 -- ---- the answer
 pub true_lists : (trees : List ModeTree) (test : List ℕ → Bool) → IsOfMembers test → (all : Family)
     → AreListed (IsFirableOf trees) all → Lists (IsTrueAt trees test) (filter test all)
 true_lists trees test members all l =
-    lists_as (λ s p. record { is_firable = p.0; holds = p.1 }) (λ s q. (q.is_firable, q.holds)) (filter_lists test members (listed_lists l))
+    lists_as (λ s p. record { is_firable = p.0; holds = p.1 }) (λ s q. (q.is_firable, q.holds))
+    (filter_lists test members (listed_lists l))
 
 -- the minimal sets of the family of a test are listed as the least firable sets at which it is true
 pub least_listed : (trees : List ModeTree) (test : List ℕ → Bool) → IsOfMembers test → (all : Family)

@@ -28,7 +28,8 @@ all_lower_none e [] h = refl
 all_lower_none e (f ∷ fs) h = let p = or_parts (occurs e f) (some_occurs e fs) h in ap₂ (λ (x : Family) (xs : List Family). x ∷ xs) (lower_none e f p.0) (all_lower_none e fs p.1)
 
 -- events that none has are passed over
-pub left_skip : (c n k i e : ℕ) (fs : List Family) → n ≡ c + k → e ≡ c + i → ((x : ℕ) → i ≤ x → x < e → Lacks x fs) → left n i fs ≡ left k e fs
+pub left_skip : (c n k i e : ℕ) (fs : List Family) → n ≡ c + k → e ≡ c + i → ((x : ℕ) → i ≤ x → x < e → Lacks x fs)
+    → left n i fs ≡ left k e fs
 left_skip zero n k i e fs m q h = let a : n ≡ k = omega (arith, m) in let b : i ≡ e = omega (arith, q) in ap₂ (λ x y. left x y fs) a b
 left_skip (suc c) zero k i e fs m q h = absurd (omega (arith, m))
 left_skip (suc c) (suc n) k i e fs m q h =
@@ -44,7 +45,8 @@ remove_gone e (x ∷ s) = step (remove_gone e s) (eqb e x) refl
   where
     step : holds e (remove e s) ≡ false → (b : Bool) → eqb e x ≡ b → holds e (remove e (x ∷ s)) ≡ false
     step ih true q = ap (λ b. holds e (cond (not b) (x ∷ remove e s) (remove e s))) q ∙ ih
-    step ih false q = ap (λ b. holds e (cond (not b) (x ∷ remove e s) (remove e s))) q ∙ ap (λ b. b || holds e (remove e s)) q ∙ ih
+    step ih false q = ap (λ b. holds e (cond (not b) (x ∷ remove e s) (remove e s))) q
+        ∙ ap (λ b. b || holds e (remove e s)) q ∙ ih
 
 none_lower : (e : ℕ) (f : Family) → occurs e (lower e f) ≡ false
 none_lower e [] = refl
@@ -52,7 +54,8 @@ none_lower e (s ∷ f) = step (none_lower e f) (holds e s) refl
   where
     step : occurs e (lower e f) ≡ false → (b : Bool) → holds e s ≡ b → occurs e (lower e (s ∷ f)) ≡ false
     step ih true q = ap (λ b. occurs e (cond (not b) (s ∷ lower e f) (lower e f))) q ∙ ih
-    step ih false q = ap (λ b. occurs e (cond (not b) (s ∷ lower e f) (lower e f))) q ∙ ap (λ b. b || occurs e (lower e f)) q ∙ ih
+    step ih false q = ap (λ b. occurs e (cond (not b) (s ∷ lower e f) (lower e f))) q
+        ∙ ap (λ b. b || occurs e (lower e f)) q ∙ ih
 
 none_map : (e : ℕ) (f : Family) → occurs e (map (remove e) f) ≡ false
 none_map e [] = refl
@@ -65,17 +68,20 @@ none_taken e f = step (occurs e f) refl
     step true q = ap (λ b. occurs e (cond b (upper e f) f)) q ∙ none_map e (filter (holds e) f)
     step false q = ap (λ b. occurs e (cond b (upper e f) f)) q ∙ q
 
-lacks_map : (g : Family → Family) (x : ℕ) (fs : List Family) → ((f : Family) → occurs x f ≡ false → occurs x (g f) ≡ false) → Lacks x fs → Lacks x (map g fs)
+lacks_map : (g : Family → Family) (x : ℕ) (fs : List Family)
+    → ((f : Family) → occurs x f ≡ false → occurs x (g f) ≡ false) → Lacks x fs → Lacks x (map g fs)
 lacks_map g x [] h l = refl
 lacks_map g x (f ∷ fs) h l = let p = or_parts (occurs x f) (some_occurs x fs) l in ap₂ (λ a b. a || b) (h f p.0) (lacks_map g x fs h p.1)
 
-lacks_each : (g : Family → Family) (x : ℕ) (fs : List Family) → ((f : Family) → occurs x (g f) ≡ false) → Lacks x (map g fs)
+lacks_each : (g : Family → Family) (x : ℕ) (fs : List Family) → ((f : Family) → occurs x (g f) ≡ false)
+    → Lacks x (map g fs)
 lacks_each g x [] h = refl
 lacks_each g x (f ∷ fs) h = ap₂ (λ a b. a || b) (h f) (lacks_each g x fs h)
 
 pub lower_lacks : (v x : ℕ) (fs : List Family) → (x < v → Lacks x fs) → x < suc v → Lacks x (all_lower v fs)
 lower_lacks v x fs h l = ⊎_elim
-    (λ a. lacks_map (lower v) x fs (λ f k. false_from_ne_true (occurs x (lower v f)) (λ y. true≢false (sym (lower_occurs v x f y) ∙ k))) (h a))
+    (λ a. lacks_map (lower v) x fs (λ f k. false_from_ne_true (occurs x (lower v f))
+    (λ y. true≢false (sym (lower_occurs v x f y) ∙ k))) (h a))
     (λ e. subst (λ z. Lacks z (all_lower v fs)) (sym e) (lacks_each (lower v) v fs (none_lower v))) split
   where
     split : (x < v) ⊎ (x ≡ v)
@@ -83,22 +89,27 @@ lower_lacks v x fs h l = ⊎_elim
 
 pub taken_lacks : (v x : ℕ) (fs : List Family) → (x < v → Lacks x fs) → x < suc v → Lacks x (all_taken v fs)
 taken_lacks v x fs h l = ⊎_elim
-    (λ a. lacks_map (taken v) x fs (λ f k. false_from_ne_true (occurs x (taken v f)) (λ y. true≢false (sym (taken_occurs v x f y) ∙ k))) (h a))
+    (λ a. lacks_map (taken v) x fs (λ f k. false_from_ne_true (occurs x (taken v f))
+    (λ y. true≢false (sym (taken_occurs v x f y) ∙ k))) (h a))
     (λ e. subst (λ z. Lacks z (all_taken v fs)) (sym e) (lacks_each (taken v) v fs (none_taken v))) split
   where
     split : (x < v) ⊎ (x ≡ v)
     split = grind arith
 
 -- at the least event that is possible: the family without it, and with it
-pub left_halves : (m n v : ℕ) (fs : List Family) → n ≡ v + suc m → ((x : ℕ) → x < v → Lacks x fs) → some_occurs v fs ≡ true
+pub left_halves : (m n v : ℕ) (fs : List Family) → n ≡ v + suc m → ((x : ℕ) → x < v → Lacks x fs)
+    → some_occurs v fs ≡ true
     → left n 0 fs ≡ node v (left n 0 (all_lower v fs)) (left n 0 (all_taken v fs))
 left_halves m n v fs q h o =
     left_skip v n (suc m) 0 v fs q (omega arith) (λ x l u. h x u)
     ∙ ap (λ b. node v (left m (suc v) (all_lower v fs)) (cond b (left m (suc v) (all_taken v fs)) [])) o
     ∙ ap₂ (node v)
-    (sym (left_skip (suc v) n m 0 (suc v) (all_lower v fs) (omega (arith, q)) (omega arith) (λ x l u. lower_lacks v x fs (h x) u)))
-    (sym (left_skip (suc v) n m 0 (suc v) (all_taken v fs) (omega (arith, q)) (omega arith) (λ x l u. taken_lacks v x fs (h x) u)))
+    (sym (left_skip (suc v) n m 0 (suc v) (all_lower v fs) (omega (arith, q)) (omega arith)
+    (λ x l u. lower_lacks v x fs (h x) u)))
+    (sym (left_skip (suc v) n m 0 (suc v) (all_taken v fs) (omega (arith, q)) (omega arith)
+    (λ x l u. taken_lacks v x fs (h x) u)))
 
 -- where no event is possible any more
-pub left_end : (n : ℕ) (fs : List Family) → ((x : ℕ) → x < n → Lacks x fs) → left n 0 fs ≡ cond (list_all (λ f. has f []) fs) ([] ∷ []) []
+pub left_end : (n : ℕ) (fs : List Family) → ((x : ℕ) → x < n → Lacks x fs)
+    → left n 0 fs ≡ cond (list_all (λ f. has f []) fs) ([] ∷ []) []
 left_end n fs h = left_skip n n 0 0 n fs (omega arith) (omega arith) (λ x l u. h x u)

@@ -37,23 +37,29 @@ above_then x y (z ∷ s) l a = (lt_trans l a.0, above_then x y s l a.1)
 
 insert_above : (w x : ℕ) (s : List ℕ) → w < x → AllByRecursion (λ z. w < z) s → AllByRecursion (λ z. w < z) (insert x s)
 insert_above w x [] l a = (l, tt)
-insert_above w x (y ∷ s) l a = elim (eqb x y) as (λ b. AllByRecursion (λ z. w < z) (cond b (y ∷ s) (cond (nat_lt x y) (x ∷ y ∷ s) (y ∷ insert x s)))) [
-  | true ↦ a
-  | false ↦ elim (nat_lt x y) as (λ b. AllByRecursion (λ z. w < z) (cond b (x ∷ y ∷ s) (y ∷ insert x s))) [ true ↦ (l, a) | false ↦ (a.0, insert_above w x s l a.1) ]
-]
+insert_above w x (y ∷ s) l a = elim (eqb x y) as
+    (λ b. AllByRecursion (λ z. w < z) (cond b (y ∷ s) (cond (nat_lt x y) (x ∷ y ∷ s) (y ∷ insert x s)))) [
+      | true ↦ a
+      | false ↦ elim (nat_lt x y) as (λ b. AllByRecursion (λ z. w < z) (cond b (x ∷ y ∷ s) (y ∷ insert x s)))
+          [ true ↦ (l, a) | false ↦ (a.0, insert_above w x s l a.1) ]
+    ]
 
 insert_ascends : (x : ℕ) (s : List ℕ) → IsAscending s → IsAscending (insert x s)
 insert_ascends x [] a = (tt, tt)
 insert_ascends x (y ∷ s) a = step (insert_ascends x s a.1) (eqb x y) refl (nat_lt x y) refl
   where
-    step : IsAscending (insert x s) → (b : Bool) → eqb x y ≡ b → (c : Bool) → nat_lt x y ≡ c → IsAscending (cond (eqb x y) (y ∷ s) (cond (nat_lt x y) (x ∷ y ∷ s) (y ∷ insert x s)))
-    step ih true e c f = subst (λ b. IsAscending (cond b (y ∷ s) (cond (nat_lt x y) (x ∷ y ∷ s) (y ∷ insert x s)))) (sym e) a
+    step : IsAscending (insert x s) → (b : Bool) → eqb x y ≡ b → (c : Bool) → nat_lt x y ≡ c
+        → IsAscending (cond (eqb x y) (y ∷ s) (cond (nat_lt x y) (x ∷ y ∷ s) (y ∷ insert x s)))
+    step ih true e c f = subst (λ b. IsAscending (cond b (y ∷ s) (cond (nat_lt x y) (x ∷ y ∷ s) (y ∷ insert x s))))
+        (sym e) a
     step ih false e true f =
         let l : x < y = grind (arith, nat_tests, f) in
-        subst (λ b. IsAscending (cond b (y ∷ s) (cond (nat_lt x y) (x ∷ y ∷ s) (y ∷ insert x s)))) (sym e) (subst (λ c. IsAscending (cond c (x ∷ y ∷ s) (y ∷ insert x s))) (sym f) ((l, above_then x y s l a.0), a))
+        subst (λ b. IsAscending (cond b (y ∷ s) (cond (nat_lt x y) (x ∷ y ∷ s) (y ∷ insert x s)))) (sym e)
+        (subst (λ c. IsAscending (cond c (x ∷ y ∷ s) (y ∷ insert x s))) (sym f) ((l, above_then x y s l a.0), a))
     step ih false e false f =
         let l : y < x = grind (arith, nat_tests, e, f) in
-        subst (λ b. IsAscending (cond b (y ∷ s) (cond (nat_lt x y) (x ∷ y ∷ s) (y ∷ insert x s)))) (sym e) (subst (λ c. IsAscending (cond c (x ∷ y ∷ s) (y ∷ insert x s))) (sym f) (insert_above y x s l a.0, ih))
+        subst (λ b. IsAscending (cond b (y ∷ s) (cond (nat_lt x y) (x ∷ y ∷ s) (y ∷ insert x s)))) (sym e)
+        (subst (λ c. IsAscending (cond c (x ∷ y ∷ s) (y ∷ insert x s))) (sym f) (insert_above y x s l a.0, ih))
 
 sorted_ascends : (s : List ℕ) → IsAscending (sorted s)
 sorted_ascends [] = tt
@@ -66,14 +72,17 @@ insert_one : (x e : ℕ) (s : List ℕ) → IsOneOf (x ∷ s) e → IsOneOf (ins
 insert_one x e [] i = i
 insert_one x e (y ∷ s) i = step (λ j. insert_one x e s j) (eqb x y) refl
   where
-    step : (IsOneOf (x ∷ s) e → IsOneOf (insert x s) e) → (b : Bool) → eqb x y ≡ b → IsOneOf (cond (eqb x y) (y ∷ s) (cond (nat_lt x y) (x ∷ y ∷ s) (y ∷ insert x s))) e
+    step : (IsOneOf (x ∷ s) e → IsOneOf (insert x s) e) → (b : Bool) → eqb x y ≡ b
+        → IsOneOf (cond (eqb x y) (y ∷ s) (cond (nat_lt x y) (x ∷ y ∷ s) (y ∷ insert x s))) e
     step ih true q = subst (λ b. IsOneOf (cond b (y ∷ s) (cond (nat_lt x y) (x ∷ y ∷ s) (y ∷ insert x s))) e) (sym q)
-        (⊎_elim (λ r. subst (IsOneOf (y ∷ s)) (sym (r ∙ eqb-true x y q)) (one_first y s)) (λ j. j) (one_either x e (y ∷ s) i))
+        (⊎_elim (λ r. subst (IsOneOf (y ∷ s)) (sym (r ∙ eqb-true x y q)) (one_first y s)) (λ j. j)
+        (one_either x e (y ∷ s) i))
     step ih false q = subst (λ b. IsOneOf (cond b (y ∷ s) (cond (nat_lt x y) (x ∷ y ∷ s) (y ∷ insert x s))) e) (sym q)
         (elim (nat_lt x y) as (λ c. IsOneOf (cond c (x ∷ y ∷ s) (y ∷ insert x s)) e) [
           | true ↦ i
           | false ↦ ⊎_elim (λ r. one_rest y (insert x s) e (ih (subst (IsOneOf (x ∷ s)) (sym r) (one_first x s))))
-              (λ j. ⊎_elim (λ r. subst (IsOneOf (y ∷ insert x s)) (sym r) (one_first y (insert x s))) (λ k. one_rest y (insert x s) e (ih (one_rest x s e k))) (one_either y e s j))
+              (λ j. ⊎_elim (λ r. subst (IsOneOf (y ∷ insert x s)) (sym r) (one_first y (insert x s)))
+              (λ k. one_rest y (insert x s) e (ih (one_rest x s e k))) (one_either y e s j))
               (one_either x e (y ∷ s) i)
         ])
 
@@ -81,21 +90,29 @@ one_insert : (x e : ℕ) (s : List ℕ) → IsOneOf (insert x s) e → IsOneOf (
 one_insert x e [] i = i
 one_insert x e (y ∷ s) i = step (λ j. one_insert x e s j) (eqb x y) refl (nat_lt x y) refl
   where
-    step : (IsOneOf (insert x s) e → IsOneOf (x ∷ s) e) → (b : Bool) → eqb x y ≡ b → (c : Bool) → nat_lt x y ≡ c → IsOneOf (x ∷ y ∷ s) e
-    step ih true q c r = one_rest x (y ∷ s) e (subst (λ b. IsOneOf (cond b (y ∷ s) (cond (nat_lt x y) (x ∷ y ∷ s) (y ∷ insert x s))) e) q i)
-    step ih false q true r = subst (λ c. IsOneOf (cond c (x ∷ y ∷ s) (y ∷ insert x s)) e) r (subst (λ b. IsOneOf (cond b (y ∷ s) (cond (nat_lt x y) (x ∷ y ∷ s) (y ∷ insert x s))) e) q i)
+    step : (IsOneOf (insert x s) e → IsOneOf (x ∷ s) e) → (b : Bool) → eqb x y ≡ b → (c : Bool) → nat_lt x y ≡ c
+        → IsOneOf (x ∷ y ∷ s) e
+    step ih true q c r = one_rest x (y ∷ s) e
+        (subst (λ b. IsOneOf (cond b (y ∷ s) (cond (nat_lt x y) (x ∷ y ∷ s) (y ∷ insert x s))) e) q i)
+    step ih false q true r = subst (λ c. IsOneOf (cond c (x ∷ y ∷ s) (y ∷ insert x s)) e) r
+        (subst (λ b. IsOneOf (cond b (y ∷ s) (cond (nat_lt x y) (x ∷ y ∷ s) (y ∷ insert x s))) e) q i)
     step ih false q false r =
         ⊎_elim (λ t. one_rest x (y ∷ s) e (subst (IsOneOf (y ∷ s)) (sym t) (one_first y s)))
-        (λ j. ⊎_elim (λ t. subst (IsOneOf (x ∷ y ∷ s)) (sym t) (one_first x (y ∷ s))) (λ k. one_rest x (y ∷ s) e (one_rest y s e k)) (one_either x e s (ih j)))
-        (one_either y e (insert x s) (subst (λ c. IsOneOf (cond c (x ∷ y ∷ s) (y ∷ insert x s)) e) r (subst (λ b. IsOneOf (cond b (y ∷ s) (cond (nat_lt x y) (x ∷ y ∷ s) (y ∷ insert x s))) e) q i)))
+        (λ j. ⊎_elim (λ t. subst (IsOneOf (x ∷ y ∷ s)) (sym t) (one_first x (y ∷ s)))
+        (λ k. one_rest x (y ∷ s) e (one_rest y s e k)) (one_either x e s (ih j)))
+        (one_either y e (insert x s) (subst (λ c. IsOneOf (cond c (x ∷ y ∷ s) (y ∷ insert x s)) e) r
+        (subst (λ b. IsOneOf (cond b (y ∷ s) (cond (nat_lt x y) (x ∷ y ∷ s) (y ∷ insert x s))) e) q i)))
 
 in_sorted : (s : List ℕ) (e : ℕ) → IsOneOf s e → IsOneOf (sorted s) e
 in_sorted [] e i = i
-in_sorted (x ∷ s) e i = insert_one x e (sorted s) (⊎_elim (λ r. subst (IsOneOf (x ∷ sorted s)) (sym r) (one_first x (sorted s))) (λ j. one_rest x (sorted s) e (in_sorted s e j)) (one_either x e s i))
+in_sorted (x ∷ s) e i = insert_one x e (sorted s)
+    (⊎_elim (λ r. subst (IsOneOf (x ∷ sorted s)) (sym r) (one_first x (sorted s)))
+    (λ j. one_rest x (sorted s) e (in_sorted s e j)) (one_either x e s i))
 
 sorted_in : (s : List ℕ) (e : ℕ) → IsOneOf (sorted s) e → IsOneOf s e
 sorted_in [] e i = i
-sorted_in (x ∷ s) e i = ⊎_elim (λ r. subst (IsOneOf (x ∷ s)) (sym r) (one_first x s)) (λ j. one_rest x s e (sorted_in s e j)) (one_either x e (sorted s) (one_insert x e (sorted s) i))
+sorted_in (x ∷ s) e i = ⊎_elim (λ r. subst (IsOneOf (x ∷ s)) (sym r) (one_first x s))
+    (λ j. one_rest x s e (sorted_in s e j)) (one_either x e (sorted s) (one_insert x e (sorted s) i))
 
 -- ---- trees and their families
 -- one in front
@@ -104,8 +121,10 @@ fore a f zero = a
 fore a f (suc k) = f k
 
 -- from a set of each tree's family a path of each tree, and back
-from_choice : {trees : List ModeTree} {fs : List Family} → AreTreeFamilies trees fs → (choice : ℕ → List ℕ) → ((n : ℕ) (f : Family) → Stands fs n f → has f (choice n) ≡ true)
-    → (path : ℕ → List Label) × ((k : ℕ) (tree : ModeTree) → Stands trees k tree → ((m : Value) × LeadsTo tree (path k) m) × HaveEvents (path k) (choice k))
+from_choice : {trees : List ModeTree} {fs : List Family} → AreTreeFamilies trees fs → (choice : ℕ → List ℕ)
+    → ((n : ℕ) (f : Family) → Stands fs n f → has f (choice n) ≡ true)
+    → (path : ℕ → List Label) × ((k : ℕ) (tree : ModeTree) → Stands trees k tree
+    → ((m : Value) × LeadsTo tree (path k) m) × HaveEvents (path k) (choice k))
 from_choice none choice each = (λ k. [], λ k tree i. cc)
 from_choice (one_and {a = tree} {b = f} {xs = xs} r rest) choice each =
     let i = has_stands f (choice zero) (each zero f refl) in
@@ -114,8 +133,10 @@ from_choice (one_and {a = tree} {b = f} {xs = xs} r rest) choice each =
     (fore s.labels ih.0, at xs ih.0 s ih.1)
   where
     at : (ts : List ModeTree) (path : ℕ → List Label) → (s : IsPathSet tree (choice zero))
-        → ((k : ℕ) (t : ModeTree) → Stands ts k t → ((m : Value) × LeadsTo t (path k) m) × HaveEvents (path k) (choice (suc k)))
-        → (k : ℕ) (t : ModeTree) → Stands (tree ∷ ts) k t → ((m : Value) × LeadsTo t (fore s.labels path k) m) × HaveEvents (fore s.labels path k) (choice k)
+        → ((k : ℕ) (t : ModeTree) → Stands ts k t
+        → ((m : Value) × LeadsTo t (path k) m) × HaveEvents (path k) (choice (suc k)))
+        → (k : ℕ) (t : ModeTree) → Stands (tree ∷ ts) k t
+        → ((m : Value) × LeadsTo t (fore s.labels path k) m) × HaveEvents (fore s.labels path k) (choice k)
     at ts path s ih zero t i = let e : tree ≡ t = cc in ((s.end, subst (λ z. LeadsTo z s.labels s.end) e s.leads), s.events)
     at ts path s ih (suc k) t i = ih k t i
 
@@ -126,25 +147,36 @@ have_map ls = record {
 }
 
 have_within : (ls : List Label) (s t : List ℕ) → Within s t → Within t s → HaveEvents ls s → HaveEvents ls t
-have_within ls s t v w h = record { sound = λ k l i. v.each l.event (h.sound k l i); whole = λ e i. h.whole e (w.each e i) }
+have_within ls s t v w h = record {
+  sound = λ k l i. v.each l.event (h.sound k l i);
+  whole = λ e i. h.whole e (w.each e i);
+}
 
-from_path : {trees : List ModeTree} {fs : List Family} → AreTreeFamilies trees fs → (path : ℕ → List Label) → ((k : ℕ) (tree : ModeTree) → Stands trees k tree → (m : Value) × LeadsTo tree (path k) m)
-    → (choice : ℕ → List ℕ) × ((k : ℕ) (f : Family) → Stands fs k f → (has f (choice k) ≡ true) × HaveEvents (path k) (choice k))
+from_path : {trees : List ModeTree} {fs : List Family} → AreTreeFamilies trees fs → (path : ℕ → List Label)
+    → ((k : ℕ) (tree : ModeTree) → Stands trees k tree → (m : Value) × LeadsTo tree (path k) m)
+    → (choice : ℕ → List ℕ) × ((k : ℕ) (f : Family) → Stands fs k f
+    → (has f (choice k) ≡ true) × HaveEvents (path k) (choice k))
 from_path none path leads = (λ k. [], λ k f i. cc)
 from_path (one_and {a = tree} {b = f} {ys = ys} r rest) path leads =
     let l = leads zero tree refl in
-    let w = r.whole (map (λ l. l.event) (path zero)) (record { labels = path zero; end = l.0; leads = l.1; events = have_map (path zero) }) in
-    let ih = from_path rest (λ k. path (suc k)) (λ k t i. leads (suc k) t i) in
-    (fore w.0 ih.0, at ys ih.0 w.0 (stands_has f w.1.place w.0 w.1.stands) (have_within (path zero) (map (λ l. l.event) (path zero)) w.0 w.2 w.3 (have_map (path zero))) ih.1)
+    let w = r.whole (map (λ l. l.event) (path zero))
+    (record { labels = path zero; end = l.0; leads = l.1; events = have_map (path zero) }) in
+    let ih = from_path rest (λ k. path (suc k)) (λ k t i. leads (suc k) t i) in (
+      fore w.0 ih.0,
+      at ys ih.0 w.0 (stands_has f w.1.place w.0 w.1.stands)
+          (have_within (path zero) (map (λ l. l.event) (path zero)) w.0 w.2 w.3 (have_map (path zero))) ih.1,
+    )
   where
     at : (gs : List Family) (choice : ℕ → List ℕ) (t : List ℕ) → has f t ≡ true → HaveEvents (path zero) t
         → ((k : ℕ) (g : Family) → Stands gs k g → (has g (choice k) ≡ true) × HaveEvents (path (suc k)) (choice k))
-        → (k : ℕ) (g : Family) → Stands (f ∷ gs) k g → (has g (fore t choice k) ≡ true) × HaveEvents (path k) (fore t choice k)
+        → (k : ℕ) (g : Family) → Stands (f ∷ gs) k g
+        → (has g (fore t choice k) ≡ true) × HaveEvents (path k) (fore t choice k)
     at gs choice t h v ih zero g i = let e : f ≡ g = cc in (ap (λ z. has z t) (sym e) ∙ h, v)
     at gs choice t h v ih (suc k) g i = ih k g i
 
 -- a label on a path is an edge of the tree
-on_path : {tree : ModeTree} {ls : List Label} {m : Value} → LeadsTo tree ls m → (k : ℕ) (l : Label) → Stands ls k l → (a : Value) × (b : Value) × IsOneOf tree.edges (record { from = a; label = l; to = b })
+on_path : {tree : ModeTree} {ls : List Label} {m : Value} → LeadsTo tree ls m → (k : ℕ) (l : Label) → Stands ls k l
+    → (a : Value) × (b : Value) × IsOneOf tree.edges (record { from = a; label = l; to = b })
 on_path (root e) k l i = cc
 on_path {tree = tree} (edge {l = h} {m = m} {to = to} p r) zero l i = let e : h ≡ l = cc in (m, to, subst (λ z. IsOneOf tree.edges (record { from = m; label = z; to = to })) e r)
 on_path (edge p r) (suc k) l i = on_path p k l i
@@ -158,7 +190,8 @@ module _ (trees : List ModeTree) (fs : List Family) (families : AreTreeFamilies 
         walks = λ k tree i. (c.1 k tree i).0;
         sound = λ k tree i j l h.
             let r = along_on trees fs families k tree i in
-            (holds_law l.event s).0 (m.sound k r.0 l.event r.1 ((holds_law l.event (m.choice k)).1 ((c.1 k tree i).1.sound j l h)));
+            (holds_law l.event s).0 (m.sound k r.0 l.event r.1
+            ((holds_law l.event (m.choice k)).1 ((c.1 k tree i).1.sound j l h)));
         whole = λ e i.
             let w = m.whole e ((holds_law e s).1 i) in
             let r = along_back trees fs families w.0 w.1 w.2 in
@@ -178,8 +211,13 @@ module _ (trees : List ModeTree) (fs : List Family) (families : AreTreeFamilies 
             (holds_law e t).1 (v.each e (subst (IsOneOf s) x.2 (p.sound n r.0 r.1 x.1.place x.0 x.1.stands)));
         whole = λ e h.
             let x = p.whole e (w.each e ((holds_law e t).0 h)) in
-            let r = along_on trees fs families x.0 x.1 x.3 in
-            (x.0, r.0, r.1, (holds_law e (c.0 x.0)).1 (subst (IsOneOf (c.0 x.0)) x.5 ((c.1 x.0 r.0 r.1).1.sound x.4.place x.2 x.4.stands)));
+            let r = along_on trees fs families x.0 x.1 x.3 in (
+              x.0,
+              r.0,
+              r.1,
+              (holds_law e (c.0 x.0)).1
+                  (subst (IsOneOf (c.0 x.0)) x.5 ((c.1 x.0 r.0 r.1).1.sound x.4.place x.2 x.4.stands)),
+            );
       }
 
   pub apart_parted : AreApart trees → AreParted fs
@@ -191,7 +229,8 @@ module _ (trees : List ModeTree) (fs : List Family) (families : AreTreeFamilies 
   }
     where
       at : (e n : ℕ) (f : Family) → Stands fs n f → occurs e f ≡ true
-          → (tree : ModeTree) × Stands trees n tree × (l : Label) × (a : Value) × (b : Value) × IsOneOf tree.edges (record { from = a; label = l; to = b }) × (l.event ≡ e)
+          → (tree : ModeTree) × Stands trees n tree × (l : Label) × (a : Value) × (b : Value)
+          × IsOneOf tree.edges (record { from = a; label = l; to = b }) × (l.event ≡ e)
       at e n f i x =
           let r = along_back trees fs families n f i in
           let w = witness (holds e) f x in
@@ -216,7 +255,8 @@ module _ (trees : List ModeTree) (fs : List Family) (families : AreTreeFamilies 
         let w : Within t s = record { each = sorted_in s } in
         let m = firable_merged s t v w p in (
           t,
-          left_whole n 0 n fs t (omega arith) (apart_parted a) (sorted_ascends s) (all_members (λ x. 0 ≤ x) t (λ e h. omega arith))
+          left_whole n 0 n fs t (omega arith) (apart_parted a) (sorted_ascends s)
+              (all_members (λ x. 0 ≤ x) t (λ e h. omega arith))
               (all_members (λ x. x < n) t (λ e h. let x = m.whole e h in b.each x.0 e x.1 x.2 (occurs_from e x.1 (m.choice x.0) (m.each x.0 x.1 x.2) x.3))) m,
           v,
           w,

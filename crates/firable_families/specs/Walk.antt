@@ -33,7 +33,8 @@ some_occurs e fs = list_any (occurs e) fs
 -- possible in each tree
 abbrev pub left : ℕ → ℕ → List Family → Family
 left zero i fs = cond (list_all (λ f. has f []) fs) ([] ∷ []) []
-left (suc k) i fs = node i (left k (suc i) (all_lower i fs)) (cond (some_occurs i fs) (left k (suc i) (all_taken i fs)) [])
+left (suc k) i fs = node i (left k (suc i) (all_lower i fs))
+    (cond (some_occurs i fs) (left k (suc i) (all_taken i fs)) [])
 
 -- the sets still possible in each tree after so many events from number i on, of which exactly those of the set were
 -- taken

@@ -32,7 +32,8 @@ only_one a n one = by one.place one.stands
     by zero p = cc
     by (suc k) p = absurd (stands_none k n p)
 
-module _ (count : ℕ) (uses : List (ℕ × ℕ)) (rows : List (Vec ℕ Global)) (least : ℕ) (all : AreAllDependences count uses rows) (below : least < count)
+module _ (count : ℕ) (uses : List (ℕ × ℕ)) (rows : List (Vec ℕ Global)) (least : ℕ)
+    (all : AreAllDependences count uses rows) (below : least < count)
     (lone : (n : ℕ) → n < least → Together uses least n → ⊥) where
   -- a number that does not depend on itself is a class of its own
   pub class_alone : (HasBit rows least least → ⊥) → IsClass count uses (least ∷ [])
@@ -54,7 +55,8 @@ module _ (count : ℕ) (uses : List (ℕ × ℕ)) (rows : List (Vec ℕ Global))
       no_later j (suc k) n lt q = absurd (stands_none k n q)
 
 -- one candidate more is looked at
-module _ (rows : List (Vec ℕ Global)) (least : ℕ) (candidates : List ℕ) (k : ℕ) (lt : k < length candidates) (up : Ascends candidates) (members new : List ℕ)
+module _ (rows : List (Vec ℕ Global)) (least : ℕ) (candidates : List ℕ) (k : ℕ) (lt : k < length candidates)
+    (up : Ascends candidates) (members new : List ℕ)
     (s : IsSelection rows least (take k candidates) members) where
   abbrev number : ℕ
   number = get_or candidates k 0
@@ -63,33 +65,43 @@ module _ (rows : List (Vec ℕ Global)) (least : ℕ) (candidates : List ℕ) (k
   under : least < number → (n : ℕ) → IsOneOf members n → n < number
   under low n one = elim (s.only n one) [
     | inl e ↦ omega (arith, e, low)
-    | inr more ↦ up.ascends more.0.place k n number (below_take candidates k more.0.place n more.0.stands) (stands_take candidates k more.0.place n more.0.stands) (slice_get-get_or candidates k 0 lt)
+    | inr more ↦ up.ascends more.0.place k n number (below_take candidates k more.0.place n more.0.stands)
+        (stands_take candidates k more.0.place n more.0.stands) (slice_get-get_or candidates k 0 lt)
   ]
 
-  pub selection_on : (is_member : Bool) → (IsTrue is_member ↔ ((least < number) × HasBit rows least number × HasBit rows number least))
-      → new ≡ (if is_member then members ++ number ∷ [] else members) → IsSelection rows least (take (k + 1) candidates) new
+  pub selection_on : (is_member : Bool)
+      → (IsTrue is_member ↔ ((least < number) × HasBit rows least number × HasBit rows number least))
+      → new ≡ (if is_member then members ++ number ∷ [] else members)
+      → IsSelection rows least (take (k + 1) candidates) new
   selection_on true says is =
       let both = says.0 refl in
       subst (λ (l : List ℕ). IsSelection rows least (take (k + 1) candidates) l) (sym is) (record {
         first = stands_left members (number ∷ []) 0 least s.first;
         only = λ n one. elim (one_split members (number ∷ []) n one) [
-          | inl old ↦ elim (s.only n old) [ inl e ↦ inl e | inr more ↦ inr (one_of_more candidates k n more.0, more.1, more.2, more.3) ]
+          | inl old ↦ elim (s.only n old) [
+            | inl e ↦ inl e
+            | inr more ↦ inr (one_of_more candidates k n more.0, more.1, more.2, more.3)
+          ]
           | inr last ↦ let e : n ≡ number = only_one number n last in
-              inr (subst (λ (m : ℕ). IsOneOf (take (k + 1) candidates) m × (least < m) × HasBit rows least m × HasBit rows m least) (sym e) (next_one candidates k 0 lt, both.0, both.1, both.2))
+              inr (subst (λ (m : ℕ). IsOneOf (take (k + 1) candidates) m × (least < m) × HasBit rows least m
+              × HasBit rows m least) (sym e) (next_one candidates k 0 lt, both.0, both.1, both.2))
         ];
         all = λ n one low f g. elim (one_of_next candidates k 0 n lt one) [
           | inl old ↦ one_left members (number ∷ []) n (s.all n old low f g)
-          | inr e ↦ subst (λ (m : ℕ). IsOneOf (members ++ number ∷ []) m) (sym e) (one_right members (number ∷ []) number (one_first number []))
+          | inr e ↦ subst (λ (m : ℕ). IsOneOf (members ++ number ∷ []) m) (sym e)
+              (one_right members (number ∷ []) number (one_first number []))
         ];
         ascending = ascends_push members number s.ascending (under both.0);
       })
   selection_on false says is =
       subst (λ (l : List ℕ). IsSelection rows least (take (k + 1) candidates) l) (sym is) (record {
         first = s.first;
-        only = λ n one. elim (s.only n one) [ inl e ↦ inl e | inr more ↦ inr (one_of_more candidates k n more.0, more.1, more.2, more.3) ];
+        only = λ n one. elim (s.only n one)
+            [ inl e ↦ inl e | inr more ↦ inr (one_of_more candidates k n more.0, more.1, more.2, more.3) ];
         all = λ n one low f g. elim (one_of_next candidates k 0 n lt one) [
           | inl old ↦ s.all n old low f g
-          | inr e ↦ absurd (true≢false (sym (says.1 (subst (λ (m : ℕ). (least < m) × HasBit rows least m × HasBit rows m least) e (low, f, g)))))
+          | inr e ↦ absurd (true≢false (sym
+              (says.1 (subst (λ (m : ℕ). (least < m) × HasBit rows least m × HasBit rows m least) e (low, f, g)))))
         ];
         ascending = s.ascending;
       })

@@ -17,20 +17,23 @@ pub count_upto : (ℕ → Bool) → ℕ → ℕ
 count_upto test zero = 0
 count_upto test (suc n) = (if test n then 1 else 0) + count_upto test n
 
-no_more : (f g : ℕ → Bool) (end : ℕ) → ((n : ℕ) → n < end → f n ≡ true → g n ≡ true) → count_upto f end ≤ count_upto g end
+no_more : (f g : ℕ → Bool) (end : ℕ) → ((n : ℕ) → n < end → f n ≡ true → g n ≡ true)
+    → count_upto f end ≤ count_upto g end
 unfolding count_upto
 no_more f g zero more = omega arith
 no_more f g (suc end) more =
     let rest = no_more f g end (λ n lt. more n (omega arith)) in
     by (f end) (g end) refl refl rest
   where
-    by : (a b : Bool) → f end ≡ a → g end ≡ b → count_upto f end ≤ count_upto g end → count_upto f (suc end) ≤ count_upto g (suc end)
+    by : (a b : Bool) → f end ≡ a → g end ≡ b → count_upto f end ≤ count_upto g end
+        → count_upto f (suc end) ≤ count_upto g (suc end)
     by true true e h rest = rw (e, h) (omega arith)
     by true false e h rest = absurd (true≢false (sym (more end (omega arith) e) ∙ h))
     by false true e h rest = rw (e, h) (omega arith)
     by false false e h rest = rw (e, h) (omega arith)
 
-pub less : (f g : ℕ → Bool) (end k : ℕ) → ((n : ℕ) → n < end → f n ≡ true → g n ≡ true) → k < end → f k ≡ false → g k ≡ true → count_upto f end < count_upto g end
+pub less : (f g : ℕ → Bool) (end k : ℕ) → ((n : ℕ) → n < end → f n ≡ true → g n ≡ true) → k < end → f k ≡ false
+    → g k ≡ true → count_upto f end < count_upto g end
 unfolding count_upto
 less f g zero k more lt no_k yes_k = absurd (omega arith)
 less f g (suc end) k more lt no_k yes_k = elim (cases_eq k end) [
@@ -42,7 +45,8 @@ less f g (suc end) k more lt no_k yes_k = elim (cases_eq k end) [
   | inr other ↦ by (f end) (g end) refl refl (less f g end k (λ n lt. more n (omega arith)) (omega arith) no_k yes_k)
 ]
   where
-    by : (a b : Bool) → f end ≡ a → g end ≡ b → count_upto f end < count_upto g end → count_upto f (suc end) < count_upto g (suc end)
+    by : (a b : Bool) → f end ≡ a → g end ≡ b → count_upto f end < count_upto g end
+        → count_upto f (suc end) < count_upto g (suc end)
     by true true e h rest = rw (e, h) (omega arith)
     by true false e h rest = absurd (true≢false (sym (more end (omega arith) e) ∙ h))
     by false true e h rest = rw (e, h) (omega arith)
@@ -54,7 +58,8 @@ reaches rows x n = nat_eq (bit_at (slice_index (row_of rows x) (n / 64)) (n % 64
 
 reached : (rows : List (Vec ℕ Global)) (x n : ℕ) → HasBit rows x n ⊎ (n ≡ x) → reaches rows x n ≡ true
 reached rows x n (inl bit) = rw (eq-eqb (bit_at (slice_index (row_of rows x) (n / 64)) (n % 64)) 1 bit) refl
-reached rows x n (inr is) = by (nat_eq (bit_at (slice_index (row_of rows x) (n / 64)) (n % 64)) 1) (nat_eq n x) (eq-eqb n x is)
+reached rows x n (inr is) = by (nat_eq (bit_at (slice_index (row_of rows x) (n / 64)) (n % 64)) 1) (nat_eq n x)
+    (eq-eqb n x is)
   where
     by : (a b : Bool) → b ≡ true → (a || b) ≡ true
     by true b e = refl
@@ -63,17 +68,22 @@ reached rows x n (inr is) = by (nat_eq (bit_at (slice_index (row_of rows x) (n /
 does_reach : (rows : List (Vec ℕ Global)) (x n : ℕ) → reaches rows x n ≡ true → HasBit rows x n ⊎ (n ≡ x)
 does_reach rows x n e = by (nat_eq (bit_at (slice_index (row_of rows x) (n / 64)) (n % 64)) 1) refl e
   where
-    by : (a : Bool) → nat_eq (bit_at (slice_index (row_of rows x) (n / 64)) (n % 64)) 1 ≡ a → (a || nat_eq n x) ≡ true → HasBit rows x n ⊎ (n ≡ x)
+    by : (a : Bool) → nat_eq (bit_at (slice_index (row_of rows x) (n / 64)) (n % 64)) 1 ≡ a → (a || nat_eq n x) ≡ true
+        → HasBit rows x n ⊎ (n ≡ x)
     by true is h = inl (eqb-true (bit_at (slice_index (row_of rows x) (n / 64)) (n % 64)) 1 is)
     by false is h = inr (eqb-true n x h)
 
-module _ (count : ℕ) (uses : List (ℕ × ℕ)) (classes : List (List ℕ)) (class_of : List ℕ) (table : IsClassTable count uses classes class_of) (low : AreBelow count uses)
-    (rows : List (Vec ℕ Global)) (all : AreAllDependences count uses rows) (w : Waiting) (waits : IsWaiting (length classes) uses class_of w []) (none : (e : ℕ) → IsReady w.ready e → ⊥) where
+module _ (count : ℕ) (uses : List (ℕ × ℕ)) (classes : List (List ℕ)) (class_of : List ℕ)
+    (table : IsClassTable count uses classes class_of) (low : AreBelow count uses)
+    (rows : List (Vec ℕ Global)) (all : AreAllDependences count uses rows) (w : Waiting)
+    (waits : IsWaiting (length classes) uses class_of w []) (none : (e : ℕ) → IsReady w.ready e → ⊥) where
   -- what a number of a class waits for reaches fewer numbers
-  fewer : (x c d : ℕ) → Stands class_of x c → (y : Crosses uses class_of c d) → (d ≡ c → ⊥) → count_upto (reaches rows y.to) count < count_upto (reaches rows x) count
+  fewer : (x c d : ℕ) → Stands class_of x c → (y : Crosses uses class_of c d) → (d ≡ c → ⊥)
+      → count_upto (reaches rows y.to) count < count_upto (reaches rows x) count
   fewer x c d p y other =
       let lt = below_count count uses classes class_of table low x c p in
-      let x_to_y : Depends uses x y.to = on (same_class count uses classes class_of table low x y.from c p y.class_from) y.is_use in
+      let x_to_y : Depends uses x y.to =
+      on (same_class count uses classes class_of table low x y.from c p y.class_from) y.is_use in
       less (reaches rows y.to) (reaches rows x) count x
       (λ n below e. reached rows x n (elim (does_reach rows y.to n e) [
         | inl bit ↦ inl (all.complete x n lt (depends_on x_to_y (all.sound y.to n bit)))
@@ -87,13 +97,15 @@ module _ (count : ℕ) (uses : List (ℕ × ℕ)) (classes : List (List ℕ)) (c
 
       not_back : (b : Bool) → reaches rows y.to x ≡ b → Depends uses x y.to → b ≡ false
       not_back false e d_xy = refl
-      not_back true e d_xy = absurd (other (one_class count uses classes class_of table low x y.to c d (elim (does_reach rows y.to x e) [
-        | inl bit ↦ each_other d_xy (all.sound y.to x bit)
-        | inr is ↦ subst (λ (k : ℕ). Together uses x k) is same
-      ]) p y.class_to))
+      not_back true e d_xy = absurd (other
+          (one_class count uses classes class_of table low x y.to c d (elim (does_reach rows y.to x e) [
+            | inl bit ↦ each_other d_xy (all.sound y.to x bit)
+            | inr is ↦ subst (λ (k : ℕ). Together uses x k) is same
+          ]) p y.class_to))
 
   -- a class waits for one that was not given and that uses less
-  waits_for : (x c : ℕ) → Stands class_of x c → (WasGiven w.given.items c → ⊥) → (d : ℕ) × (y : Crosses uses class_of c d) × (d ≡ c → ⊥) × (WasGiven w.given.items d → ⊥)
+  waits_for : (x c : ℕ) → Stands class_of x c → (WasGiven w.given.items c → ⊥)
+      → (d : ℕ) × (y : Crosses uses class_of c d) × (d ≡ c → ⊥) × (WasGiven w.given.items d → ⊥)
   waits_for x c p free =
       let found = table.member_of_class x c p in
       elim (waits.each c (stands_within classes c found.0 found.1) free) [
@@ -104,7 +116,8 @@ module _ (count : ℕ) (uses : List (ℕ × ℕ)) (classes : List (List ℕ)) (c
         ]
       ]
 
-  none_left : (fuel x c : ℕ) → count_upto (reaches rows x) count ≤ fuel → Stands class_of x c → (WasGiven w.given.items c → ⊥) → ⊥
+  none_left : (fuel x c : ℕ) → count_upto (reaches rows x) count ≤ fuel → Stands class_of x c
+      → (WasGiven w.given.items c → ⊥) → ⊥
   none_left zero x c le p free =
       let next = waits_for x c p free in
       let lt = fewer x c next.0 p next.1 next.2 in
@@ -115,7 +128,8 @@ module _ (count : ℕ) (uses : List (ℕ × ℕ)) (classes : List (List ℕ)) (c
       none_left fuel next.1.to next.0 (omega (arith, lt, le)) next.1.class_to next.3
 
   -- each number was given
-  pub all_given_now : (lists : List (List ℕ)) → AreGivenTogether class_of w.given.items lists → (n : ℕ) → n < count → IsGiven lists n
+  pub all_given_now : (lists : List (List ℕ)) → AreGivenTogether class_of w.given.items lists → (n : ℕ) → n < count
+      → IsGiven lists n
   all_given_now lists rel n lt =
       let c = some_class count uses classes class_of table low n lt in
       let found = table.member_of_class n c.0 c.1 in
@@ -127,7 +141,8 @@ module _ (count : ℕ) (uses : List (ℕ × ℕ)) (classes : List (List ℕ)) (c
       by c p false g = absurd (none_left (count_upto (reaches rows n) count) n c (let le : count_upto (reaches rows n) count ≤ count_upto (reaches rows n) count = omega arith in le) p (λ t. true≢false (stands_one w.given.items c true false t g)))
 
 -- a class that is given leaves one less to give
-pub gives_less : (given : List Bool) (c : ℕ) → c < length given → (Stands given c true → ⊥) → left_to_give (set given c true) < left_to_give given
+pub gives_less : (given : List Bool) (c : ℕ) → c < length given → (Stands given c true → ⊥)
+    → left_to_give (set given c true) < left_to_give given
 gives_less [] c lt free = absurd (omega arith)
 gives_less (true ∷ given) zero lt free = absurd (free refl)
 gives_less (false ∷ given) zero lt free = omega arith

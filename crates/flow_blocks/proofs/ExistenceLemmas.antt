@@ -37,9 +37,12 @@ decide_no (inr fails) = inl fails
 how_many : (P : ℕ → Type 0) → ((n : ℕ) → IsDecided (P n)) → ℕ → ℕ
 how_many P decide end = count_upto (λ n. says (decide n)) end
 
-fewer_have : (P Q : ℕ → Type 0) (p : (n : ℕ) → IsDecided (P n)) (q : (n : ℕ) → IsDecided (Q n)) (end k : ℕ) → ((n : ℕ) → P n → Q n) → k < end → (P k → ⊥) → Q k → how_many P p end < how_many Q q end
+fewer_have : (P Q : ℕ → Type 0) (p : (n : ℕ) → IsDecided (P n)) (q : (n : ℕ) → IsDecided (Q n)) (end k : ℕ)
+    → ((n : ℕ) → P n → Q n) → k < end → (P k → ⊥) → Q k → how_many P p end < how_many Q q end
 unfolding how_many
-fewer_have P Q p q end k more lt fails holds = less (λ n. says (p n)) (λ n. says (q n)) end k (λ n below e. says_yes (q n) (more n (said (p n) e))) lt (says_no (p k) fails) (says_yes (q k) holds)
+fewer_have P Q p q end k more lt fails holds =
+    less (λ n. says (p n)) (λ n. says (q n)) end k (λ n below e. says_yes (q n) (more n (said (p n) e))) lt
+    (says_no (p k) fails) (says_yes (q k) holds)
 
 -- the first of an ascending list is the least
 first_least : (P : ℕ → Type 0) (end m n : ℕ) (xs : List ℕ) → IsListOf P end xs → Stands xs 0 m → IsOneOf xs n → m ≤ n
@@ -67,9 +70,14 @@ module _ (count : ℕ) (uses : List (ℕ × ℕ)) (low : AreBelow count uses) wh
   -- a number that does not depend back reaches less
   reaches_less : (a n : ℕ) → a < count → Depends uses a n → (Together uses a n → ⊥) → reach n < reach a
   unfolding reach
-  reaches_less a n lt d apart = fewer_have (λ k. Reaches uses n k) (λ k. Reaches uses a k) (decide_reaches n) (decide_reaches a) count a
-      (λ k r. elim r [ inl is ↦ inr (subst (λ (m : ℕ). Depends uses a m) is d) | inr rest ↦ inr (depends_on d rest) ]) lt
-      (λ r. elim r [ inl is ↦ apart (subst (λ (k : ℕ). Together uses a k) (sym is) same) | inr back ↦ apart (each_other d back) ]) (inl refl)
+  reaches_less a n lt d apart = fewer_have (λ k. Reaches uses n k) (λ k. Reaches uses a k) (decide_reaches n)
+      (decide_reaches a) count a
+      (λ k r. elim r [ inl is ↦ inr (subst (λ (m : ℕ). Depends uses a m) is d) | inr rest ↦ inr (depends_on d rest) ])
+      lt
+      (λ r. elim r [
+        | inl is ↦ apart (subst (λ (k : ℕ). Together uses a k) (sym is) same)
+        | inr back ↦ apart (each_other d back)
+      ]) (inl refl)
 
   module _ (given : List (List ℕ)) where
     -- a number outside its class that a number depends on and that was not given
@@ -84,10 +92,11 @@ module _ (count : ℕ) (uses : List (ℕ × ℕ)) (low : AreBelow count uses) wh
       may : MayBeGiven uses given n
 
     decide_awaited : (a n : ℕ) → IsDecided (IsAwaited a n)
-    decide_awaited a n = elim (decide_both (decide_depends uses a n) (decide_both (decide_no (decide_together uses a n)) (decide_no (decide_given given n)))) [
-      | inl holds ↦ inl (record { depends = holds.0; apart = holds.1.0; free = holds.1.1 })
-      | inr fails ↦ inr (λ w. fails (w.depends, (w.apart, w.free)))
-    ]
+    decide_awaited a n = elim (decide_both (decide_depends uses a n)
+        (decide_both (decide_no (decide_together uses a n)) (decide_no (decide_given given n)))) [
+          | inl holds ↦ inl (record { depends = holds.0; apart = holds.1.0; free = holds.1.1 })
+          | inr fails ↦ inr (λ w. fails (w.depends, (w.apart, w.free)))
+        ]
 
     awaits_or_may : (a : ℕ) → ((n : ℕ) × IsAwaited a n) ⊎ MayBeGiven uses given a
     awaits_or_may a = elim (least_below (λ n. IsAwaited a n) (decide_awaited a) count) [
@@ -105,13 +114,15 @@ module _ (count : ℕ) (uses : List (ℕ × ℕ)) (low : AreBelow count uses) wh
     decide_can_come n = elim (decide_given given n) [
       | inl g ↦ inr (λ c. c.free g)
       | inr free ↦ elim (awaits_or_may n) [
-        | inl waits ↦ inr (λ c. elim (c.may n waits.0 same waits.1.depends) [ inl t ↦ waits.1.apart t | inr g ↦ waits.1.free g ])
+        | inl waits ↦ inr (λ c. elim (c.may n waits.0 same waits.1.depends)
+            [ inl t ↦ waits.1.apart t | inr g ↦ waits.1.free g ])
         | inr may ↦ inl (record { free = free; may = may })
       ]
     ]
 
     -- where a number was not given, some number's class may come
-    some_can_come : (fuel a : ℕ) → reach a ≤ fuel → a < count → (IsGiven given a → ⊥) → (n : ℕ) × (n < count) × CanCome n
+    some_can_come : (fuel a : ℕ) → reach a ≤ fuel → a < count → (IsGiven given a → ⊥)
+        → (n : ℕ) × (n < count) × CanCome n
     some_can_come zero a le lt free = elim (awaits_or_may a) [
       | inl waits ↦ absurd (let down = reaches_less a waits.0 lt waits.1.depends waits.1.apart in omega (arith, down, le))
       | inr may ↦ (a, lt, record { free = free; may = may })
@@ -122,14 +133,29 @@ module _ (count : ℕ) (uses : List (ℕ × ℕ)) (low : AreBelow count uses) wh
     ]
 
     given_before : (xs : List ℕ) (n : ℕ) → IsGiven given n → IsGiven (given ++ xs ∷ []) n
-    given_before xs n g = record { members = g.members; is_one = record { place = g.is_one.place; stands = stands_left given (xs ∷ []) g.is_one.place g.members g.is_one.stands }; is_member = g.is_member }
+    given_before xs n g = record {
+      members = g.members;
+      is_one = record {
+        place = g.is_one.place;
+        stands = stands_left given (xs ∷ []) g.is_one.place g.members g.is_one.stands;
+      };
+      is_member = g.is_member;
+    }
 
     given_now : (xs : List ℕ) (n : ℕ) → IsOneOf xs n → IsGiven (given ++ xs ∷ []) n
-    given_now xs n one = record { members = xs; is_one = record { place = length given; stands = stands_next given xs [] }; is_member = one }
+    given_now xs n one = record {
+      members = xs;
+      is_one = record { place = length given; stands = stands_next given xs [] };
+      is_member = one;
+    }
 
     given_split : (xs : List ℕ) (n : ℕ) → IsGiven (given ++ xs ∷ []) n → IsGiven given n ⊎ IsOneOf xs n
     given_split xs n g = elim (stands_split given (xs ∷ []) g.is_one.place g.members g.is_one.stands) [
-      | inl old ↦ inl (record { members = g.members; is_one = record { place = g.is_one.place; stands = old }; is_member = g.is_member })
+      | inl old ↦ inl (record {
+        members = g.members;
+        is_one = record { place = g.is_one.place; stands = old };
+        is_member = g.is_member;
+      })
       | inr last ↦ inr (subst (λ (l : List ℕ). IsOneOf l n) (the_one xs g.members last.0 last.2).1 g.is_member)
     ]
 
@@ -138,17 +164,30 @@ module _ (count : ℕ) (uses : List (ℕ × ℕ)) (low : AreBelow count uses) wh
       whole : (n k : ℕ) → IsGiven given n → Together uses n k → k < count → IsGiven given k
 
     -- the class of the least number that can come is next
-    next_class : (r : ℕ) (xs : List ℕ) → AreWhole → r < count → CanCome r → ((k : ℕ) → k < r → CanCome k → ⊥) → IsListOf (λ n. Together uses r n) count xs → IsNext count uses given xs
+    next_class : (r : ℕ) (xs : List ℕ) → AreWhole → r < count → CanCome r → ((k : ℕ) → k < r → CanCome k → ⊥)
+        → IsListOf (λ n. Together uses r n) count xs → IsNext count uses given xs
     next_class r xs whole lt can lowest of = record {
-      is_class = record { one = r; is_member = of.all r lt same; below = of.below; only = of.only; all = of.all; ascending = of.ascending };
+      is_class = record {
+        one = r;
+        is_member = of.all r lt same;
+        below = of.below;
+        only = of.only;
+        all = of.all;
+        ascending = of.ascending;
+      };
       is_new = λ n one g. can.free (whole.whole n r g (together_back (of.only n one)) lt);
-      may = λ n one b k t d. elim (can.may b k (together_on (of.only n one) t) d) [ inl there ↦ inl (together_on (together_back (of.only n one)) there) | inr g ↦ inr g ];
+      may = λ n one b k t d. elim (can.may b k (together_on (of.only n one) t) d)
+          [ inl there ↦ inl (together_on (together_back (of.only n one)) there) | inr g ↦ inr g ];
       least = λ m n first below free may.
           let le = first_least (λ k. Together uses r k) count m r xs of first (of.all r lt same) in
-          elim (cases_lt n r) [ inl before ↦ absurd (lowest n before (record { free = free; may = may })) | inr not_before ↦ omega (arith, le, not_before) ];
+          elim (cases_lt n r) [
+            | inl before ↦ absurd (lowest n before (record { free = free; may = may }))
+            | inr not_before ↦ omega (arith, le, not_before)
+          ];
     }
 
-  whole_on : (given : List (List ℕ)) (r : ℕ) (xs : List ℕ) → AreWhole given → IsListOf (λ n. Together uses r n) count xs → AreWhole (given ++ xs ∷ [])
+  whole_on : (given : List (List ℕ)) (r : ℕ) (xs : List ℕ) → AreWhole given → IsListOf (λ n. Together uses r n) count xs
+      → AreWhole (given ++ xs ∷ [])
   whole_on given r xs old of = record {
     whole = λ n k g t lt. elim (given_split given xs n g) [
       | inl before ↦ given_before given xs k (old.whole n k before t lt)
@@ -159,7 +198,8 @@ module _ (count : ℕ) (uses : List (ℕ × ℕ)) (low : AreBelow count uses) wh
   left : List (List ℕ) → ℕ
   left given = how_many (λ n. IsGiven given n → ⊥) (λ n. decide_no (decide_given given n)) count
 
-  fewer_left : (given : List (List ℕ)) (r : ℕ) (xs : List ℕ) → r < count → (IsGiven given r → ⊥) → IsOneOf xs r → left (given ++ xs ∷ []) < left given
+  fewer_left : (given : List (List ℕ)) (r : ℕ) (xs : List ℕ) → r < count → (IsGiven given r → ⊥) → IsOneOf xs r
+      → left (given ++ xs ∷ []) < left given
   unfolding left
   fewer_left given r xs lt free one = fewer_have (λ n. IsGiven (given ++ xs ∷ []) n → ⊥) (λ n. IsGiven given n → ⊥)
       (λ n. decide_no (decide_given (given ++ xs ∷ []) n)) (λ n. decide_no (decide_given given n)) count r
@@ -174,7 +214,8 @@ module _ (count : ℕ) (uses : List (ℕ × ℕ)) (low : AreBelow count uses) wh
 
   -- the next class, where one can come
   step : (given : List (List ℕ)) → AreWhole given → ((n : ℕ) → n < count → CanCome given n → ⊥)
-      ⊎ ((xs : List ℕ) × IsNext count uses given xs × AreWhole (given ++ xs ∷ []) × (left (given ++ xs ∷ []) < left given))
+      ⊎ ((xs : List ℕ) × IsNext count uses given xs × AreWhole (given ++ xs ∷ [])
+      × (left (given ++ xs ∷ []) < left given))
   step given whole = elim (least_below (λ n. CanCome given n) (decide_can_come given) count) [
     | inr none ↦ inl none
     | inl found ↦
@@ -188,7 +229,8 @@ module _ (count : ℕ) (uses : List (ℕ × ℕ)) (low : AreBelow count uses) wh
   ]
 
   -- the classes that follow, where at most so many numbers are left
-  rest_of : (fuel : ℕ) (given : List (List ℕ)) → AreWhole given → left given ≤ fuel → (blocks : List (List ℕ)) × Follow count uses given blocks
+  rest_of : (fuel : ℕ) (given : List (List ℕ)) → AreWhole given → left given ≤ fuel
+      → (blocks : List (List ℕ)) × Follow count uses given blocks
   rest_of zero given whole le = elim (step given whole) [
     | inl none ↦ ([], all_given (done given none))
     | inr more ↦ absurd (let down = more.3 in omega (arith, down, le))
@@ -202,4 +244,5 @@ module _ (count : ℕ) (uses : List (ℕ × ℕ)) (low : AreBelow count uses) wh
   ]
 
   pub some_list : (blocks : List (List ℕ)) × Follow count uses [] blocks
-  some_list = rest_of (left []) [] (record { whole = λ n k g t lt. absurd (stands_none g.is_one.place g.members g.is_one.stands) }) (omega arith)
+  some_list = rest_of (left []) [] (record
+      { whole = λ n k g t lt. absurd (stands_none g.is_one.place g.members g.is_one.stands) }) (omega arith)

@@ -12,7 +12,8 @@ use Rattle.flow_blocks.proofs.ClassLemmas.{together_on, together_back}
 use Rattle.flow_blocks.proofs.TableLemmas.{the_one}
 use Rattle.flow_blocks.proofs.UseLemmas.{set_stands, set_keeps}
 
-module _ (count : ℕ) (uses : List (ℕ × ℕ)) (classes : List (List ℕ)) (class_of : List ℕ) (table : IsClassTable count uses classes class_of) (low : AreBelow count uses) where
+module _ (count : ℕ) (uses : List (ℕ × ℕ)) (classes : List (List ℕ)) (class_of : List ℕ)
+    (table : IsClassTable count uses classes class_of) (low : AreBelow count uses) where
   -- each number below count has a class
   pub some_class : (n : ℕ) → n < count → (c : ℕ) × Stands class_of n c
   some_class n lt = stands_some class_of n (omega (arith, lt, table.long))
@@ -40,7 +41,8 @@ module _ (count : ℕ) (uses : List (ℕ × ℕ)) (classes : List (List ℕ)) (c
   crossing : (a b c d : ℕ) → IsOneOf uses (a, b) → Stands class_of a c → Stands class_of b d → Crosses uses class_of c d
   crossing a b c d one p q = record { from = a; to = b; is_use = one; class_from = p; class_to = q }
 
-  module _ (w : Waiting) (lists : List (List ℕ)) (waits : IsWaiting (length classes) uses class_of w []) (rel : AreGivenTogether class_of w.given.items lists) where
+  module _ (w : Waiting) (lists : List (List ℕ)) (waits : IsWaiting (length classes) uses class_of w [])
+      (rel : AreGivenTogether class_of w.given.items lists) where
     -- what a given number depends on was given
     given_on : {a b : ℕ} → (c : ℕ) → Stands class_of a c → WasGiven w.given.items c → Depends uses a b → IsGiven lists b
     given_on {a} {b} c p g (directly one) =
@@ -57,7 +59,8 @@ module _ (count : ℕ) (uses : List (ℕ × ℕ)) (classes : List (List ℕ)) (c
         ]
 
     -- what a number of a ready class depends on is of the class or was given
-    ready_on : {a b : ℕ} → (c : ℕ) → IsReady w.ready c → Stands class_of a c → Depends uses a b → Stands class_of b c ⊎ IsGiven lists b
+    ready_on : {a b : ℕ} → (c : ℕ) → IsReady w.ready c → Stands class_of a c → Depends uses a b
+        → Stands class_of b c ⊎ IsGiven lists b
     ready_on {a} {b} c ready p (directly one) =
         let d = some_class b (low a b one).1 in
         elim ((waits.ready c ready).2 d.0 (crossing a b c d.0 one p d.1)) [
@@ -72,7 +75,8 @@ module _ (count : ℕ) (uses : List (ℕ × ℕ)) (classes : List (List ℕ)) (c
         ]
 
     -- a class that may be given is ready
-    is_ready : (n c : ℕ) → Stands class_of n c → (WasGiven w.given.items c → ⊥) → MayBeGiven uses lists n → IsReady w.ready c
+    is_ready : (n c : ℕ) → Stands class_of n c → (WasGiven w.given.items c → ⊥) → MayBeGiven uses lists n
+        → IsReady w.ready c
     is_ready n c p free may =
         let found = table.member_of_class n c p in
         elim (waits.each c (stands_within classes c found.0 found.1) free) [
@@ -91,14 +95,16 @@ module _ (count : ℕ) (uses : List (ℕ × ℕ)) (classes : List (List ℕ)) (c
         ]
 
     -- the first of a class is its least
-    first_least : (c m n : ℕ) (members : List ℕ) → Stands classes c members → Stands members 0 m → IsOneOf members n → m ≤ n
+    first_least : (c m n : ℕ) (members : List ℕ) → Stands classes c members → Stands members 0 m → IsOneOf members n
+        → m ≤ n
     first_least c m n members st first one = by one.place one.stands
       where
         by : (k : ℕ) → Stands members k n → m ≤ n
         by zero p = let e : m ≡ n = stands_one members 0 m n first p in omega arith
         by (suc k) p = let lt = (table.are_classes c members st).ascending.ascends 0 (suc k) m n (omega arith) first p in omega arith
 
-    pub next_class : (c : ℕ) (members : List ℕ) → Stands classes c members → IsReady w.ready c → ((e : ℕ) → IsReady w.ready e → c ≤ e) → IsNext count uses lists members
+    pub next_class : (c : ℕ) (members : List ℕ) → Stands classes c members → IsReady w.ready c
+        → ((e : ℕ) → IsReady w.ready e → c ≤ e) → IsNext count uses lists members
     next_class c members st ready least = record {
       is_class = table.are_classes c members st;
       is_new = λ n one given. (waits.ready c ready).1 (rel.class n c (table.class_of_member c n members st one) given);
@@ -114,7 +120,9 @@ module _ (count : ℕ) (uses : List (ℕ × ℕ)) (classes : List (List ℕ)) (c
           let le = least e.0 ready_e in
           elim (cases_eq c e.0) [
             | inl is ↦
-                let same_list : found.0 ≡ members = stands_one classes c found.0 members (subst (λ (j : ℕ). Stands classes j found.0) (sym is) found.1) st in
+                let same_list : found.0 ≡ members =
+                stands_one classes c found.0 members
+                (subst (λ (j : ℕ). Stands classes j found.0) (sym is) found.1) st in
                 first_least c m n members st first (subst (λ (l : List ℕ). IsOneOf l n) same_list found.2)
             | inr other ↦
                 let head = head_of found.0 n found.2 in
@@ -137,8 +145,10 @@ module _ (count : ℕ) (uses : List (ℕ × ℕ)) (classes : List (List ℕ)) (c
         by_together n b c p (each_other f g) = source_below g
 
     -- the least class is taken out of those that may be given
-    pub taken_state : (c : ℕ) (rest : BTreeSet ℕ) → IsReady w.ready c → ((e : ℕ) → IsReady rest e ↔ (IsReady w.ready e × (e ≢ c)))
-        → IsWaiting (length classes) uses class_of (record { targets = w.targets; watchers = w.watchers; given = w.given; ready = rest }) (c ∷ [])
+    pub taken_state : (c : ℕ) (rest : BTreeSet ℕ) → IsReady w.ready c
+        → ((e : ℕ) → IsReady rest e ↔ (IsReady w.ready e × (e ≢ c)))
+        → IsWaiting (length classes) uses class_of
+        (record { targets = w.targets; watchers = w.watchers; given = w.given; ready = rest }) (c ∷ [])
         × IsTaken uses class_of (record { targets = w.targets; watchers = w.watchers; given = w.given; ready = rest }) c
     taken_state c rest ready left = (
       record {
@@ -147,42 +157,78 @@ module _ (count : ℕ) (uses : List (ℕ × ℕ)) (classes : List (List ℕ)) (c
         long_given = waits.long_given;
         crossed = waits.crossed;
         each = λ e lt free. elim (waits.each e lt free) [
-          | inl r ↦ elim (cases_eq e c) [ inl is ↦ inr (inr (subst (λ (k : ℕ). IsOneOf (c ∷ []) k) (sym is) (one_first c []))) | inr other ↦ inl ((left e).1 (r, other)) ]
-          | inr more ↦ elim more [ inl waiting ↦ inr (inl waiting) | inr none ↦ absurd (stands_none none.place e none.stands) ]
+          | inl r ↦ elim (cases_eq e c) [
+            | inl is ↦ inr
+                (inr (subst (λ (k : ℕ). IsOneOf (c ∷ []) k) (sym is) (one_first c [])))
+            | inr other ↦ inl ((left e).1 (r, other))
+          ]
+          | inr more ↦ elim more [
+            | inl waiting ↦ inr (inl waiting)
+            | inr none ↦ absurd (stands_none none.place e none.stands)
+          ]
         ];
         ready = λ e r. waits.ready e ((left e).0 r).0;
         watching = waits.watching;
         targets = waits.targets;
         left = waits.left;
         closed = waits.closed;
-        to_look_at = λ e one. let is = (the_one c e one.place one.stands).1 in let h = waits.ready c ready in
-            (subst (λ (k : ℕ). k < length classes) (sym is) h.0, λ g. h.1 (subst (λ (k : ℕ). WasGiven w.given.items k) is g));
+        to_look_at = λ e one. let is = (the_one c e one.place one.stands).1 in let h = waits.ready c ready in (
+          subst (λ (k : ℕ). k < length classes) (sym is) h.0,
+          λ g. h.1
+              (subst (λ (k : ℕ). WasGiven w.given.items k) is g),
+        );
       },
       record { all_given = (waits.ready c ready).2; not_ready = λ r. ((left c).0 r).1 refl },
     )
 
     -- the numbers given after one class more
-    pub given_more : (c : ℕ) (members : List ℕ) (given : List Bool) → Stands classes c members → c < length w.given.items → given ≡ set w.given.items c true → AreGivenTogether class_of given (lists ++ members ∷ [])
+    pub given_more : (c : ℕ) (members : List ℕ) (given : List Bool) → Stands classes c members
+        → c < length w.given.items → given ≡ set w.given.items c true
+        → AreGivenTogether class_of given (lists ++ members ∷ [])
     given_more c members given st lt is = record {
       number = λ n e p g. elim (cases_eq e c) [
         | inl same_c ↦
             let found = table.member_of_class n e p in
-            let l : found.0 ≡ members = stands_one classes c found.0 members (subst (λ (k : ℕ). Stands classes k found.0) same_c found.1) st in
-            record { members = members; is_one = record { place = length lists; stands = stands_next lists members [] }; is_member = subst (λ (l : List ℕ). IsOneOf l n) l found.2 }
+            let l : found.0 ≡ members = stands_one classes c found.0 members
+            (subst (λ (k : ℕ). Stands classes k found.0) same_c found.1) st in
+            record {
+              members = members;
+              is_one = record { place = length lists; stands = stands_next lists members [] };
+              is_member = subst (λ (l : List ℕ). IsOneOf l n) l found.2;
+            }
         | inr other ↦
-            let before = rel.number n e p (sym (set_keeps w.given.items c e true other) ∙ subst (λ (l : List Bool). WasGiven l e) is g) in
-            record { members = before.members; is_one = record { place = before.is_one.place; stands = stands_left lists (members ∷ []) before.is_one.place before.members before.is_one.stands }; is_member = before.is_member }
+            let before = rel.number n e p (sym (set_keeps w.given.items c e true other)
+            ∙ subst (λ (l : List Bool). WasGiven l e) is g) in
+            record {
+              members = before.members;
+              is_one = record {
+                place = before.is_one.place;
+                stands = stands_left lists (members ∷ []) before.is_one.place before.members before.is_one.stands;
+              };
+              is_member = before.is_member;
+            }
       ];
-      class = λ n e p given_n. elim (stands_split lists (members ∷ []) given_n.is_one.place given_n.members given_n.is_one.stands) [
-        | inl old ↦
-            let before = rel.class n e p (record { members = given_n.members; is_one = record { place = given_n.is_one.place; stands = old }; is_member = given_n.is_member }) in
-            elim (cases_eq e c) [
-              | inl same_c ↦ subst (λ (l : List Bool). WasGiven l e) (sym is) (subst (λ (k : ℕ). WasGiven (set w.given.items c true) k) (sym same_c) (set_stands w.given.items c true lt))
-              | inr other ↦ subst (λ (l : List Bool). WasGiven l e) (sym is) (set_keeps w.given.items c e true other ∙ before)
-            ]
-        | inr last ↦
-            let l = (the_one members given_n.members last.0 last.2).1 in
-            let e_is : e ≡ c = stands_one class_of n e c p (table.class_of_member c n members st (subst (λ (l : List ℕ). IsOneOf l n) l given_n.is_member)) in
-            subst (λ (l : List Bool). WasGiven l e) (sym is) (subst (λ (k : ℕ). WasGiven (set w.given.items c true) k) (sym e_is) (set_stands w.given.items c true lt))
-      ];
+      class = λ n e p given_n. elim (stands_split lists (members ∷ []) given_n.is_one.place given_n.members
+          given_n.is_one.stands) [
+            | inl old ↦
+                let before = rel.class n e p (record {
+                  members = given_n.members;
+                  is_one = record { place = given_n.is_one.place; stands = old };
+                  is_member = given_n.is_member;
+                }) in
+                elim (cases_eq e c) [
+                  | inl same_c ↦ subst (λ (l : List Bool). WasGiven l e) (sym is)
+                      (subst (λ (k : ℕ). WasGiven (set w.given.items c true) k) (sym same_c)
+                      (set_stands w.given.items c true lt))
+                  | inr other ↦ subst (λ (l : List Bool). WasGiven l e) (sym is)
+                      (set_keeps w.given.items c e true other ∙ before)
+                ]
+            | inr last ↦
+                let l = (the_one members given_n.members last.0 last.2).1 in
+                let e_is : e ≡ c = stands_one class_of n e c p
+                (table.class_of_member c n members st (subst (λ (l : List ℕ). IsOneOf l n) l given_n.is_member)) in
+                subst (λ (l : List Bool). WasGiven l e) (sym is)
+                (subst (λ (k : ℕ). WasGiven (set w.given.items c true) k) (sym e_is)
+                (set_stands w.given.items c true lt))
+          ];
     }

@@ -33,9 +33,12 @@ module _ (u : ℕ × ℕ) (uses : List (ℕ × ℕ)) where
   more_uses {a} {b} (through {b = m} one rest) = through (one_rest u uses (a, m) one) (more_uses rest)
 
   by_use : {a b : ℕ} → Reaches uses a u.0 → Reaches uses u.1 b → Depends (u ∷ uses) a b
-  by_use {a} {b} (inl e) (inl f) = subst (λ (k : ℕ). Depends (u ∷ uses) k b) (sym e) (subst (λ (k : ℕ). Depends (u ∷ uses) u.0 k) f (directly (one_first u uses)))
-  by_use {a} {b} (inl e) (inr g) = subst (λ (k : ℕ). Depends (u ∷ uses) k b) (sym e) (through (one_first u uses) (more_uses g))
-  by_use {a} {b} (inr d) (inl f) = subst (λ (k : ℕ). Depends (u ∷ uses) a k) f (depends_on (more_uses d) (directly (one_first u uses)))
+  by_use {a} {b} (inl e) (inl f) = subst (λ (k : ℕ). Depends (u ∷ uses) k b) (sym e)
+      (subst (λ (k : ℕ). Depends (u ∷ uses) u.0 k) f (directly (one_first u uses)))
+  by_use {a} {b} (inl e) (inr g) = subst (λ (k : ℕ). Depends (u ∷ uses) k b) (sym e)
+      (through (one_first u uses) (more_uses g))
+  by_use {a} {b} (inr d) (inl f) = subst (λ (k : ℕ). Depends (u ∷ uses) a k) f
+      (depends_on (more_uses d) (directly (one_first u uses)))
   by_use {a} {b} (inr d) (inr g) = depends_on (more_uses d) (through (one_first u uses) (more_uses g))
 
   without_use : {a b : ℕ} → Depends (u ∷ uses) a b → Depends uses a b ⊎ (Reaches uses a u.0 × Reaches uses u.1 b)
@@ -45,12 +48,22 @@ module _ (u : ℕ × ℕ) (uses : List (ℕ × ℕ)) where
   ]
   without_use {a} {b} (through {b = m} one rest) = elim (one_cases u uses (a, m) one) [
     | inl is ↦ elim (without_use rest) [
-      | inl old ↦ inr (inl (ap (λ (p : ℕ × ℕ). p.0) (sym is)), inr (subst (λ (k : ℕ). Depends uses k b) (ap (λ (p : ℕ × ℕ). p.1) (sym is)) old))
+      | inl old ↦ inr (
+        inl (ap (λ (p : ℕ × ℕ). p.0) (sym is)),
+        inr
+            (subst (λ (k : ℕ). Depends uses k b) (ap (λ (p : ℕ × ℕ). p.1) (sym is)) old),
+      )
       | inr both ↦ inr (inl (ap (λ (p : ℕ × ℕ). p.0) (sym is)), both.1)
     ]
     | inr first ↦ elim (without_use rest) [
       | inl old ↦ inl (through first old)
-      | inr both ↦ inr (elim both.0 [ inl e ↦ inr (subst (λ (k : ℕ). Depends uses a k) e (directly first)) | inr d ↦ inr (through first d) ], both.1)
+      | inr both ↦ inr (
+        elim both.0 [
+          | inl e ↦ inr (subst (λ (k : ℕ). Depends uses a k) e (directly first))
+          | inr d ↦ inr (through first d)
+        ],
+        both.1,
+      )
     ]
   ]
 
@@ -61,7 +74,9 @@ decide_depends [] a b = inr none
     none {a} {b} (directly one) = stands_none one.place (a, b) one.stands
     none {a} {b} (through {b = m} one rest) = stands_none one.place (a, m) one.stands
 decide_depends (u ∷ uses) a b =
-    elim (decide_either (decide_depends uses a b) (decide_both (decide_either (cases_eq a u.0) (decide_depends uses a u.0)) (decide_either (cases_eq u.1 b) (decide_depends uses u.1 b)))) [
+    elim (decide_either (decide_depends uses a b)
+    (decide_both (decide_either (cases_eq a u.0) (decide_depends uses a u.0))
+    (decide_either (cases_eq u.1 b) (decide_depends uses u.1 b)))) [
       | inl holds ↦ elim holds [ inl old ↦ inl (more_uses u uses old) | inr both ↦ inl (by_use u uses both.0 both.1) ]
       | inr fails ↦ inr (λ d. fails (without_use u uses d))
     ]
@@ -94,7 +109,11 @@ decide_given [] n = inr (λ g. stands_none g.is_one.place g.members g.is_one.sta
 decide_given (xs ∷ given) n = elim (decide_one_of xs n) [
   | inl one ↦ inl (record { members = xs; is_one = one_first xs given; is_member = one })
   | inr fails ↦ elim (decide_given given n) [
-    | inl g ↦ inl (record { members = g.members; is_one = one_rest xs given g.members g.is_one; is_member = g.is_member })
+    | inl g ↦ inl (record {
+      members = g.members;
+      is_one = one_rest xs given g.members g.is_one;
+      is_member = g.is_member;
+    })
     | inr none ↦ inr (λ g. elim (one_cases xs given g.members g.is_one) [
       | inl is ↦ fails (subst (λ (l : List ℕ). IsOneOf l n) (sym is) g.is_member)
       | inr rest ↦ none (record { members = g.members; is_one = rest; is_member = g.is_member })
@@ -110,7 +129,8 @@ least_below P decide (suc end) = elim (least_below P decide end) [
   | inl found ↦ inl (found.0, omega (arith, found.1), found.2, found.3)
   | inr none ↦ elim (decide end) [
     | inl holds ↦ inl (end, omega arith, holds, none)
-    | inr fails ↦ inr (λ n lt h. elim (cases_eq n end) [ inl is ↦ fails (subst P is h) | inr other ↦ none n (omega (arith, lt)) h ])
+    | inr fails ↦ inr (λ n lt h. elim (cases_eq n end)
+        [ inl is ↦ fails (subst P is h) | inr other ↦ none n (omega (arith, lt)) h ])
   ]
 ]
 
@@ -140,7 +160,11 @@ list_below P decide (suc end) =
           below = λ n one. elim (of_more rest.0 n one) [ inl old ↦ let lt = rest.1.below n old in omega (arith, lt) | inr is ↦ omega (arith, is) ];
           only = λ n one. elim (of_more rest.0 n one) [ inl old ↦ rest.1.only n old | inr is ↦ subst P (sym is) holds ];
           all = λ n lt h. elim (cases_eq n end) [
-            | inl is ↦ record { place = length rest.0; stands = subst (λ (k : ℕ). Stands (rest.0 ++ end ∷ []) (length rest.0) k) (sym is) (stands_next rest.0 end []) }
+            | inl is ↦ record {
+              place = length rest.0;
+              stands = subst (λ (k : ℕ). Stands (rest.0 ++ end ∷ []) (length rest.0) k) (sym is)
+                  (stands_next rest.0 end []);
+            }
             | inr other ↦ let old = rest.1.all n (omega (arith, lt)) h in record { place = old.place; stands = stands_left rest.0 (end ∷ []) old.place n old.stands }
           ];
           ascending = ascends_push rest.0 end rest.1.ascending rest.1.below;
@@ -151,7 +175,8 @@ list_below P decide (suc end) =
         record {
           below = λ n one. let lt = rest.1.below n one in omega (arith, lt);
           only = rest.1.only;
-          all = λ n lt h. elim (cases_eq n end) [ inl is ↦ absurd (fails (subst P is h)) | inr other ↦ rest.1.all n (omega (arith, lt)) h ];
+          all = λ n lt h. elim (cases_eq n end)
+              [ inl is ↦ absurd (fails (subst P is h)) | inr other ↦ rest.1.all n (omega (arith, lt)) h ];
           ascending = rest.1.ascending;
         },
       )

@@ -13,10 +13,12 @@ pub the_one : {A : Type 0} (a b : A) (k : ℕ) → Stands (a ∷ []) k b → (k 
 the_one a b zero p = (refl, cc)
 the_one a b (suc k) p = absurd (stands_none k b p)
 
-module _ (count none : ℕ) (uses : List (ℕ × ℕ)) (number : ℕ) (classes : List (List ℕ)) (class_of : List ℕ) (t : IsPartTable count none uses number classes class_of)
+module _ (count none : ℕ) (uses : List (ℕ × ℕ)) (number : ℕ) (classes : List (List ℕ)) (class_of : List ℕ)
+    (t : IsPartTable count none uses number classes class_of)
     (free : Stands class_of number none) (lt : number < count) (low : count ≤ none) where
   -- a number together with the free one has no class
-  pub no_class : (n c : ℕ) (members : List ℕ) → Together uses number n → Stands classes c members → IsOneOf members n → ⊥
+  pub no_class : (n c : ℕ) (members : List ℕ) → Together uses number n → Stands classes c members → IsOneOf members n
+      → ⊥
   no_class n c members t_n st one =
       let cl = t.are_classes c members st in
       let there = cl.all number lt (together_on (cl.only n one) (together_back t_n)) in
@@ -33,8 +35,10 @@ module _ (count none : ℕ) (uses : List (ℕ × ℕ)) (number : ℕ) (classes :
         | inr found ↦ no_class n some.0 found.0 t_n found.1 found.2
       ]
 
-  module _ (members new : List ℕ) (cl : IsClass count uses members) (first : Stands members 0 number) (long_new : length new ≡ count)
-      (noted : (n : ℕ) → IsOneOf members n → Stands new n (length classes)) (kept : (n : ℕ) → (IsOneOf members n → ⊥) → slice_get new n ≡ slice_get class_of n) where
+  module _ (members new : List ℕ) (cl : IsClass count uses members) (first : Stands members 0 number)
+      (long_new : length new ≡ count)
+      (noted : (n : ℕ) → IsOneOf members n → Stands new n (length classes))
+      (kept : (n : ℕ) → (IsOneOf members n → ⊥) → slice_get new n ≡ slice_get class_of n) where
     own : IsOneOf members number
     own = record { place = 0; stands = first }
 
@@ -62,7 +66,12 @@ module _ (count none : ℕ) (uses : List (ℕ × ℕ)) (number : ℕ) (classes :
       member_of_class = λ n c st. elim (member_told members n) [
         | inl mine ↦
             let at : length classes ≡ c = stands_one new n (length classes) c (noted n mine) st in
-            inr (members, subst (λ (k : ℕ). Stands (classes ++ members ∷ []) k members) at (stands_next classes members []), mine)
+            inr (
+              members,
+              subst (λ (k : ℕ). Stands (classes ++ members ∷ []) k members)
+                  at (stands_next classes members []),
+              mine,
+            )
         | inr other ↦ elim (t.member_of_class n c (sym (kept n other) ∙ st)) [
           | inl is ↦ inl is
           | inr found ↦ inr (found.0, stands_left classes (members ∷ []) c found.0 found.1, found.2)
@@ -100,7 +109,8 @@ module _ (count none : ℕ) (uses : List (ℕ × ℕ)) (number : ℕ) (classes :
     }
 
 -- where all numbers were looked at, the table is whole
-pub whole_table : (count none : ℕ) (uses : List (ℕ × ℕ)) (classes : List (List ℕ)) (class_of : List ℕ) → IsPartTable count none uses count classes class_of → IsClassTable count uses classes class_of
+pub whole_table : (count none : ℕ) (uses : List (ℕ × ℕ)) (classes : List (List ℕ)) (class_of : List ℕ)
+    → IsPartTable count none uses count classes class_of → IsClassTable count uses classes class_of
 whole_table count none uses classes class_of t = record {
   long = t.long;
   few = t.few;

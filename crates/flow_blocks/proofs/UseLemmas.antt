@@ -41,10 +41,14 @@ module _ {A : Type 0} where
   one_of_more xs k x one = record { place = one.place; stands = take_stands xs (k + 1) one.place x (let lt = below_take xs k one.place x one.stands in omega arith) (stands_take xs k one.place x one.stands) }
 
   pub next_one : (xs : List A) (k : ℕ) (d : A) → k < length xs → IsOneOf (take (k + 1) xs) (get_or xs k d)
-  next_one xs k d lt = record { place = k; stands = take_stands xs (k + 1) k (get_or xs k d) (omega arith) (slice_get-get_or xs k d lt) }
+  next_one xs k d lt = record {
+    place = k;
+    stands = take_stands xs (k + 1) k (get_or xs k d) (omega arith) (slice_get-get_or xs k d lt);
+  }
 
   -- one of one item more is the next one, or one of those before
-  pub one_of_next : (xs : List A) (k : ℕ) (d x : A) → k < length xs → IsOneOf (take (k + 1) xs) x → IsOneOf (take k xs) x ⊎ (x ≡ get_or xs k d)
+  pub one_of_next : (xs : List A) (k : ℕ) (d x : A) → k < length xs → IsOneOf (take (k + 1) xs) x
+      → IsOneOf (take k xs) x ⊎ (x ≡ get_or xs k d)
   one_of_next xs k d x lt one =
       let here = stands_take xs (k + 1) one.place x one.stands in
       let low = below_take xs (k + 1) one.place x one.stands in
@@ -87,13 +91,16 @@ module _ {A : Type 0} where
   set_keeps (y ∷ xs) (suc k) (suc n) x ne = set_keeps xs k n x (λ (e : n ≡ k). ne (omega arith))
 
 -- one of a list is its last item or one of those before
-pub last_or_before : {A : Type 0} (xs : List A) (last x : A) → Stands xs (length xs - 1) last → IsOneOf xs x → (x ≡ last) ⊎ IsOneOf (take (length xs - 1) xs) x
+pub last_or_before : {A : Type 0} (xs : List A) (last x : A) → Stands xs (length xs - 1) last → IsOneOf xs x
+    → (x ≡ last) ⊎ IsOneOf (take (length xs - 1) xs) x
 last_or_before xs last x at one =
     let within = stands_within xs one.place x one.stands in
     by within (cases_lt one.place (length xs - 1))
   where
-    by : one.place < length xs → ((one.place < length xs - 1) ⊎ (length xs - 1 ≤ one.place)) → (x ≡ last) ⊎ IsOneOf (take (length xs - 1) xs) x
-    by within (inl below) = inr (record { place = one.place; stands = take_stands xs (length xs - 1) one.place x below one.stands })
+    by : one.place < length xs → ((one.place < length xs - 1) ⊎ (length xs - 1 ≤ one.place))
+        → (x ≡ last) ⊎ IsOneOf (take (length xs - 1) xs) x
+    by within (inl below) = inr (record
+        { place = one.place; stands = take_stands xs (length xs - 1) one.place x below one.stands })
     by within (inr not_below) =
         let same : one.place ≡ length xs - 1 = omega arith in
         inl (stands_one xs (length xs - 1) x last (subst (λ (n : ℕ). Stands xs n x) same one.stands) at)

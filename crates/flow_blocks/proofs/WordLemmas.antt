@@ -22,18 +22,21 @@ pub bit_or_right : (a b i : ℕ) → bit_at b i ≡ 1 → bit_at (bit_or a b) i 
 bit_or_right a b i e = let both = bit_at_or a b i in let low = bit_at-lt a i in omega arith
 
 -- the bits of an or of rows
-module _ (old other new : List ℕ) (long : length old ≡ length other) (long_new : length new ≡ length old) (or : (k : ℕ) → k < length old → slice_index new k ≡ or_at old other k) where
+module _ (old other new : List ℕ) (long : length old ≡ length other) (long_new : length new ≡ length old)
+    (or : (k : ℕ) → k < length old → slice_index new k ≡ or_at old other k) where
   -- past the end too
   pub or_everywhere : (k : ℕ) → slice_index new k ≡ or_at old other k
   or_everywhere k = elim (cases_lt k (length old)) [
     | inl below ↦ or k below
-    | inr past ↦ get_or_past new k 0 (omega arith) ∙ sym ((λ j. bit_or (get_or_past old k 0 past j) (get_or_past other k 0 (omega arith) j)))
+    | inr past ↦ get_or_past new k 0 (omega arith)
+        ∙ sym ((λ j. bit_or (get_or_past old k 0 past j) (get_or_past other k 0 (omega arith) j)))
   ]
 
   pub or_sets : (n : ℕ) → IsSet new n ↔ (IsSet old n ⊎ IsSet other n)
   or_sets n =
       let word = or_everywhere (n / 64) in (
-        (λ set. bit_or_some (slice_index old (n / 64)) (slice_index other (n / 64)) (n % 64) (ap (λ (w : ℕ). bit_at w (n % 64)) (sym word) ∙ set)),
+        (λ set. bit_or_some (slice_index old (n / 64)) (slice_index other (n / 64)) (n % 64)
+            (ap (λ (w : ℕ). bit_at w (n % 64)) (sym word) ∙ set)),
         (λ side. ap (λ (w : ℕ). bit_at w (n % 64)) word ∙ elim side [
           | inl here ↦ bit_or_left (slice_index old (n / 64)) (slice_index other (n / 64)) (n % 64) here
           | inr there ↦ bit_or_right (slice_index old (n / 64)) (slice_index other (n / 64)) (n % 64) there
@@ -41,7 +44,8 @@ module _ (old other new : List ℕ) (long : length old ≡ length other) (long_n
       )
 
 -- no word gets less, so the room gets no more
-pub room_no_more : (old new : List ℕ) → length new ≡ length old → ((k : ℕ) → slice_index old k ≤ slice_index new k) → room_of new ≤ room_of old
+pub room_no_more : (old new : List ℕ) → length new ≡ length old → ((k : ℕ) → slice_index old k ≤ slice_index new k)
+    → room_of new ≤ room_of old
 room_no_more [] [] long more = omega arith
 room_no_more [] (y ∷ ys) long more = absurd (omega arith)
 room_no_more (x ∷ xs) [] long more = absurd (omega arith)
@@ -51,7 +55,8 @@ room_no_more (x ∷ xs) (y ∷ ys) long more =
     omega arith
 
 -- where a word gets more, the room gets less
-pub room_less : (old new : List ℕ) (k : ℕ) → length new ≡ length old → ((j : ℕ) → slice_index old j ≤ slice_index new j) → ((j : ℕ) → slice_index old j < 2 ^ 64)
+pub room_less : (old new : List ℕ) (k : ℕ) → length new ≡ length old → ((j : ℕ) → slice_index old j ≤ slice_index new j)
+    → ((j : ℕ) → slice_index old j < 2 ^ 64)
     → k < length old → slice_index new k ≢ slice_index old k → room_of new < room_of old
 room_less [] ys k long more fits lt differs = absurd (omega arith)
 room_less (x ∷ xs) [] k long more fits lt differs = absurd (omega arith)
@@ -70,21 +75,29 @@ module _ (row : List ℕ) (number : ℕ) (lt : number / 64 < length row) where
   abbrev pub with_bit : ℕ
   with_bit = bit_or (get_or row (number / 64) 0) (1 * 2 ^ (number % 64) % 18446744073709551616)
 
-  same_word : (n : ℕ) → n / 64 ≡ number / 64 → bit_at (slice_index (set row (number / 64) with_bit) (n / 64)) (n % 64) ≡ bit_at with_bit (n % 64)
-  same_word n same = ap (λ (k : ℕ). bit_at (slice_index (set row (number / 64) with_bit) k) (n % 64)) same ∙ ap (λ (w : ℕ). bit_at w (n % 64)) (get_or-set_same row (number / 64) with_bit 0 lt)
+  same_word : (n : ℕ) → n / 64 ≡ number / 64
+      → bit_at (slice_index (set row (number / 64) with_bit) (n / 64)) (n % 64) ≡ bit_at with_bit (n % 64)
+  same_word n same = ap (λ (k : ℕ). bit_at (slice_index (set row (number / 64) with_bit) k) (n % 64)) same
+      ∙ ap (λ (w : ℕ). bit_at w (n % 64)) (get_or-set_same row (number / 64) with_bit 0 lt)
 
   one_number : (n : ℕ) → n / 64 ≡ number / 64 → n % 64 ≡ number % 64 → n ≡ number
   one_number n d m = omega arith
 
-  in_word : (n : ℕ) → n / 64 ≡ number / 64 → ((n % 64 ≡ number % 64) ⊎ (n % 64 ≡ number % 64 → ⊥)) → IsSet (set row (number / 64) with_bit) n ↔ (IsSet row n ⊎ (n ≡ number))
+  in_word : (n : ℕ) → n / 64 ≡ number / 64 → ((n % 64 ≡ number % 64) ⊎ (n % 64 ≡ number % 64 → ⊥))
+      → IsSet (set row (number / 64) with_bit) n ↔ (IsSet row n ⊎ (n ≡ number))
   in_word n same (inl bit) =
-      let set_there : bit_at with_bit (number % 64) ≡ 1 = bit_at_set_same w64 (get_or row (number / 64) 0) (number % 64) (omega arith) in
+      let set_there : bit_at with_bit (number % 64) ≡ 1 =
+      bit_at_set_same w64 (get_or row (number / 64) 0) (number % 64) (omega arith) in
       ((λ _. inr (one_number n same bit)), (λ _. same_word n same ∙ ap (λ (i : ℕ). bit_at with_bit i) bit ∙ set_there))
   in_word n same (inr other) =
-      let kept : bit_at with_bit (n % 64) ≡ bit_at (get_or row (number / 64) 0) (n % 64) = bit_at_set_other w64 (get_or row (number / 64) 0) (number % 64) (omega arith) (n % 64) other in
+      let kept : bit_at with_bit (n % 64) ≡ bit_at (get_or row (number / 64) 0) (n % 64) =
+      bit_at_set_other w64 (get_or row (number / 64) 0) (number % 64) (omega arith) (n % 64) other in
       let old : bit_at (get_or row (number / 64) 0) (n % 64) ≡ bit_at (slice_index row (n / 64)) (n % 64) = ap (λ (k : ℕ). bit_at (slice_index row k) (n % 64)) (sym same) in (
         (λ is. inl (sym (same_word n same ∙ kept ∙ old) ∙ is)),
-        (λ side. elim side [ inl is ↦ same_word n same ∙ kept ∙ old ∙ is | inr is ↦ absurd (other (ap (λ (m : ℕ). m % 64) is)) ]),
+        (λ side. elim side [
+          | inl is ↦ same_word n same ∙ kept ∙ old ∙ is
+          | inr is ↦ absurd (other (ap (λ (m : ℕ). m % 64) is))
+        ]),
       )
 
   -- a bit that is set in a word of a row
@@ -92,6 +105,11 @@ module _ (row : List ℕ) (number : ℕ) (lt : number / 64 < length row) where
   set_sets n = elim (cases_eq (n / 64) (number / 64)) [
     | inl same ↦ in_word n same (cases_eq (n % 64) (number % 64))
     | inr other ↦
-        let kept : bit_at (slice_index (set row (number / 64) with_bit) (n / 64)) (n % 64) ≡ bit_at (slice_index row (n / 64)) (n % 64) = ap (λ (w : ℕ). bit_at w (n % 64)) (get_or-set_other row (number / 64) (n / 64) with_bit 0 other) in
-        ((λ is. inl (sym kept ∙ is)), (λ side. elim side [ inl is ↦ kept ∙ is | inr is ↦ absurd (other (ap (λ (m : ℕ). m / 64) is)) ]))
+        let kept : bit_at (slice_index (set row (number / 64) with_bit) (n / 64)) (n % 64)
+        ≡ bit_at (slice_index row (n / 64)) (n % 64) =
+        ap (λ (w : ℕ). bit_at w (n % 64)) (get_or-set_other row (number / 64) (n / 64) with_bit 0 other) in (
+          (λ is. inl (sym kept ∙ is)),
+          (λ side. elim side
+              [ inl is ↦ kept ∙ is | inr is ↦ absurd (other (ap (λ (m : ℕ). m / 64) is)) ]),
+        )
   ]

@@ -42,7 +42,8 @@ pub record IsNext (count : ℕ) (uses : List (ℕ × ℕ)) (given : List (List �
 -- the classes that come after those given so far, until each number below count was given
 pub data Follow (count : ℕ) (uses : List (ℕ × ℕ)) : List (List ℕ) → List (List ℕ) → Type 0 where
   all_given : {given : List (List ℕ)} → ((n : ℕ) → n < count → IsGiven given n) → Follow count uses given []
-  next : {given rest : List (List ℕ)} {members : List ℕ} → IsNext count uses given members → Follow count uses (given ++ members ∷ []) rest → Follow count uses given (members ∷ rest)
+  next : {given rest : List (List ℕ)} {members : List ℕ} → IsNext count uses given members
+      → Follow count uses (given ++ members ∷ []) rest → Follow count uses given (members ∷ rest)
 
 -- all numbers of the uses are below count
 abbrev pub AreBelow : ℕ → List (ℕ × ℕ) → Type 0

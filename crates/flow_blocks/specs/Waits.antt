@@ -30,16 +30,21 @@ pub record WaitsFor (watchers : List (Vec ℕ Global)) (given : List Bool) (e d 
   pub not_given : WasGiven given d → ⊥
 
 -- each class that was not given may be given, waits for one that was not given, or is still to be looked at
-pub record IsWaiting (count : ℕ) (uses : List (ℕ × ℕ)) (class_of : List ℕ) (w : Waiting) (pending : List ℕ) : Type 0 where
+pub record IsWaiting (count : ℕ) (uses : List (ℕ × ℕ)) (class_of : List ℕ) (w : Waiting) (pending : List ℕ) : Type
+    0 where
   pub long_targets : length w.targets.items ≡ count
   pub long_watchers : length w.watchers.items ≡ count
   pub long_given : length w.given.items ≡ count
   pub crossed : (e d : ℕ) → Crosses uses class_of e d → d < count
-  pub each : (e : ℕ) → e < count → (WasGiven w.given.items e → ⊥) → IsReady w.ready e ⊎ (((d : ℕ) × WaitsFor w.watchers.items w.given.items e d) ⊎ IsOneOf pending e)
-  pub ready : (e : ℕ) → IsReady w.ready e → (e < count) × (WasGiven w.given.items e → ⊥) × ((d : ℕ) → Crosses uses class_of e d → (d ≡ e) ⊎ WasGiven w.given.items d)
+  pub each : (e : ℕ) → e < count → (WasGiven w.given.items e → ⊥)
+      → IsReady w.ready e ⊎ (((d : ℕ) × WaitsFor w.watchers.items w.given.items e d) ⊎ IsOneOf pending e)
+  pub ready : (e : ℕ) → IsReady w.ready e
+      → (e < count) × (WasGiven w.given.items e → ⊥)
+      × ((d : ℕ) → Crosses uses class_of e d → (d ≡ e) ⊎ WasGiven w.given.items d)
   pub watching : (d e : ℕ) → IsOneOf (row_of w.watchers.items d) e → (e < count) × Crosses uses class_of e d × (d ≢ e)
   pub targets : (e d : ℕ) → IsOneOf (row_of w.targets.items e) d → Crosses uses class_of e d
-  pub left : (e d : ℕ) → (WasGiven w.given.items e → ⊥) → Crosses uses class_of e d → (d ≡ e) ⊎ (WasGiven w.given.items d ⊎ IsOneOf (row_of w.targets.items e) d)
+  pub left : (e d : ℕ) → (WasGiven w.given.items e → ⊥) → Crosses uses class_of e d
+      → (d ≡ e) ⊎ (WasGiven w.given.items d ⊎ IsOneOf (row_of w.targets.items e) d)
   pub closed : (e d : ℕ) → WasGiven w.given.items e → Crosses uses class_of e d → (d ≡ e) ⊎ WasGiven w.given.items d
   pub to_look_at : (e : ℕ) → IsOneOf pending e → (e < count) × (WasGiven w.given.items e → ⊥)
 

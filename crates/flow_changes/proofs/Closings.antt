@@ -24,7 +24,8 @@ use Rattle.flow_changes.proofs.Looks.{read_by, touches_total, looks_sound, taken
 use Rattle.flow_changes.proofs.Puts.{aims}
 
 -- what holds while the facts of the members are gathered
-pub record Closing (p : GtsParts) (plan : Plan) (members : List ℕ) (state : List Value) (first : List Bool) (values : List Value) (known : List Bool) (work : Queue) : Type 0 where
+pub record Closing (p : GtsParts) (plan : Plan) (members : List ℕ) (state : List Value) (first : List Bool)
+    (values : List Value) (known : List Bool) (work : Queue) : Type 0 where
   pub of_values : KeepsOthers members state values
   pub of_marks : KeepsOthers members first known
   pub total : IsTotal p values
@@ -32,11 +33,15 @@ pub record Closing (p : GtsParts) (plan : Plan) (members : List ℕ) (state : Li
   pub sound : (m : ℕ) (v : Value) → Knows values known m v → FactOf (net_of p) state m v
   pub queue : IsQueue work
   pub places : HasPlacesTo p plan members work.list.items
-  pub settled : (m : ℕ) (a : Assign) → Stands p.assigns.items m a → IsOneOf members a.target.n → Waits plan work m ⊎ HasAll (Knows values known) (assign_of a)
+  pub settled : (m : ℕ) (a : Assign) → Stands p.assigns.items m a → IsOneOf members a.target.n
+      → Waits plan work m ⊎ HasAll (Knows values known) (assign_of a)
 
 -- at the start all assignments to the members wait
-pub closing_start : (p : GtsParts) (plan : Plan) (members : List ℕ) (state : List Value) (first : List Bool) (work : Queue) → IsPlan p plan → IsTotal p state → ((m : ℕ) (v : Value) → Knows state first m v → FactOf (net_of p) state m v)
-    → IsQueue work → work.next ≡ 0 → HasPlacesTo p plan members work.list.items → Closing p plan members state first state first work
+pub closing_start : (p : GtsParts) (plan : Plan) (members : List ℕ) (state : List Value) (first : List Bool)
+    (work : Queue) → IsPlan p plan → IsTotal p state
+    → ((m : ℕ) (v : Value) → Knows state first m v → FactOf (net_of p) state m v)
+    → IsQueue work → work.next ≡ 0 → HasPlacesTo p plan members work.list.items
+    → Closing p plan members state first state first work
 closing_start p plan members state first work is total sound queue fresh places = record {
   of_values = keeps_same members state;
   of_marks = keeps_same members first;
@@ -48,38 +53,54 @@ closing_start p plan members state first work is total sound queue fresh places 
   settled = λ m a sa o.
       let q = stands_some plan.places.items m (let h = stands_within p.assigns.items m a sa in omega (arith, h, is.schedule.long)) in
       let l = places.all m q.0 a sa o q.1 in
-      inl (record { place = q.0; stands = q.1; waits = inl (record { at = l.place; later = omega (arith, fresh); stands = l.stands }) });
+      inl (record {
+        place = q.0;
+        stands = q.1;
+        waits = inl (record { at = l.place; later = omega (arith, fresh); stands = l.stands });
+      });
 }
 
-module _ (p : GtsParts) (sound : IsSound p) (plan : Plan) (is : IsPlan p plan) (members : List ℕ) (closed : (n m : ℕ) (a : Assign) → IsOneOf members n → Stands p.assigns.items m a → Names (assign_of a) n → IsOneOf members a.target.n)
-    (state : List Value) (first : List Bool) (values : List Value) (known : List Bool) (work : Queue) (c : Closing p plan members state first values known work) (mid : Queue) (place n : ℕ) (st : Stands plan.order.items place n) (t : TakesPlace place work mid) where
+module _ (p : GtsParts) (sound : IsSound p) (plan : Plan) (is : IsPlan p plan) (members : List ℕ)
+    (closed : (n m : ℕ) (a : Assign) → IsOneOf members n → Stands p.assigns.items m a → Names (assign_of a) n
+    → IsOneOf members a.target.n)
+    (state : List Value) (first : List Bool) (values : List Value) (known : List Bool) (work : Queue)
+    (c : Closing p plan members state first values known work) (mid : Queue) (place n : ℕ)
+    (st : Stands plan.order.items place n) (t : TakesPlace place work mid) where
   -- the target of the assignment that was taken is a member
   pub target_in : (a : Assign) → Stands p.assigns.items n a → IsOneOf members a.target.n
   target_in a sa = c.places.targets place n a t.one st sa
 
   -- the places of what names its target are of the list
-  pub listed : (a : Assign) (r : Reader) (q : ℕ) → Stands p.assigns.items n a → IsOneOf plan.readers.pairs.items r → r.0.n ≡ a.target.n → Stands plan.places.items r.1.n q → IsOneOf mid.list.items q
+  pub listed : (a : Assign) (r : Reader) (q : ℕ) → Stands p.assigns.items n a → IsOneOf plan.readers.pairs.items r
+      → r.0.n ≡ a.target.n → Stands plan.places.items r.1.n q → IsOneOf mid.list.items q
   listed a r q sa o e sq =
       let b = read_by p plan.readers.pairs.items is.readers r o in
       let inside : IsOneOf members r.0.n = subst (λ (z : ℕ). IsOneOf members z) (sym e) (target_in a sa) in
       let target : IsOneOf members b.assign.target.n = closed r.0.n r.1.n b.assign inside b.stands b.names in
       subst (λ (z : List ℕ). IsOneOf z q) (sym t.same) (c.places.all r.1.n q b.assign b.stands target sq)
 
-  module _ (values' : List Value) (known' : List Bool) (touches : (a : Assign) (x : Variable) → Stands p.assigns.items n a → Stands p.variables.items a.target.n x → Touches x.domain a.target.n values known values' known') (a : Assign) (sa : Stands p.assigns.items n a) where
-    touch : (x : Variable) → Stands p.variables.items a.target.n x → Touches x.domain a.target.n values known values' known'
+  module _ (values' : List Value) (known' : List Bool)
+      (touches : (a : Assign) (x : Variable) → Stands p.assigns.items n a → Stands p.variables.items a.target.n x
+      → Touches x.domain a.target.n values known values' known') (a : Assign) (sa : Stands p.assigns.items n a) where
+    touch : (x : Variable) → Stands p.variables.items a.target.n x
+        → Touches x.domain a.target.n values known values' known'
     touch x sx = touches a x sa sx
 
-    aim_touch : Touches (aims p a sound (record { place = n; stands = sa })).variable.domain a.target.n values known values' known'
+    aim_touch : Touches (aims p a sound (record { place = n; stands = sa })).variable.domain a.target.n values known
+        values' known'
     aim_touch = let x = aims p a sound (record { place = n; stands = sa }) in touch x.variable x.stands
 
     inside : (k : ℕ) → IsOneOf (a.target.n ∷ []) k → IsOneOf members k
-    inside k o = elim (one_cases a.target.n [] k o) [ inl e ↦ subst (λ (z : ℕ). IsOneOf members z) e (target_in a sa) | inr h ↦ absurd (one_none k h) ]
+    inside k o = elim (one_cases a.target.n [] k o)
+        [ inl e ↦ subst (λ (z : ℕ). IsOneOf members z) e (target_in a sa) | inr h ↦ absurd (one_none k h) ]
 
     pub kept_values : KeepsOthers members state values'
-    kept_values = keeps_then members state values values' c.of_values (keeps_more (a.target.n ∷ []) members values values' inside aim_touch.of_values)
+    kept_values = keeps_then members state values values' c.of_values
+        (keeps_more (a.target.n ∷ []) members values values' inside aim_touch.of_values)
 
     pub kept_marks : KeepsOthers members first known'
-    kept_marks = keeps_then members first known known' c.of_marks (keeps_more (a.target.n ∷ []) members known known' inside aim_touch.of_marks)
+    kept_marks = keeps_then members first known known' c.of_marks
+        (keeps_more (a.target.n ∷ []) members known known' inside aim_touch.of_marks)
 
     stays_total : IsTotal p values'
     stays_total = let x = aims p a sound (record { place = n; stands = sa }) in touches_total p a.target.n x.variable values known values' known' x.stands aim_touch c.total
@@ -94,14 +115,17 @@ module _ (p : GtsParts) (sound : IsSound p) (plan : Plan) (is : IsPlan p plan) (
         sound = looks_sound p state n values known values' known' stays_total c.sound l.only;
         queue = l.is;
         places = subst (λ (z : List ℕ). HasPlacesTo p plan members z) (sym (l.same ∙ t.same)) c.places;
-        settled = λ m b sb o. l.settled m b sb (taken p plan work mid place n is st t (Knows values known) m b (c.settled m b sb o));
+        settled = λ m b sb o. l.settled m b sb
+            (taken p plan work mid place n is st t (Knows values known) m b (c.settled m b sb o));
       }
 
       pub closing_less : work_left plan known' work' < work_left plan known work
       closing_less = let k = t.less in let h = l.less in omega (arith, k, h)
 
 -- where none waits the facts are gathered
-pub closing_done : (p : GtsParts) (plan : Plan) (members : List ℕ) (state : List Value) (first : List Bool) (values : List Value) (known : List Bool) (work : Queue) → Closing p plan members state first values known work → ((q : ℕ) → WaitsAt work q → ⊥) → ClosesUp p plan members state first values known work.list.items
+pub closing_done : (p : GtsParts) (plan : Plan) (members : List ℕ) (state : List Value) (first : List Bool)
+    (values : List Value) (known : List Bool) (work : Queue) → Closing p plan members state first values known work
+    → ((q : ℕ) → WaitsAt work q → ⊥) → ClosesUp p plan members state first values known work.list.items
 closing_done p plan members state first values known work c none = record {
   total = c.total;
   grows = c.grows;

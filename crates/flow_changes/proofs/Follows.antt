@@ -33,10 +33,15 @@ use Rattle.flow_changes.proofs.Knowing.{known_there, known_back}
 use Rattle.flow_changes.proofs.Settling.{AreKnown, IsSettledTo, facts_there, settled_known, settled_flows, own_flows, own_facts}
 
 -- what is known of a valuation that its state determines
-pub are_known : (p : GtsParts) (values : List Value) (known : List Bool) → IsDetermined p values known → AreKnown p values values known
-are_known p values known d = record { sound = λ n v k. d.facts.sound n v (known_there values known n v k); complete = λ n v f. known_back values known n v (d.facts.complete n v f) }
+pub are_known : (p : GtsParts) (values : List Value) (known : List Bool) → IsDetermined p values known
+    → AreKnown p values values known
+are_known p values known d = record {
+  sound = λ n v k. d.facts.sound n v (known_there values known n v k);
+  complete = λ n v f. known_back values known n v (d.facts.complete n v f);
+}
 
-module _ (p : GtsParts) (sound : IsSound p) (old : List Value) (known : List Bool) (was : IsDetermined p old known) (new : List (VarId × Value)) (good : AreNewValues p new) (members : List ℕ) (cone : IsCone p new members) where
+module _ (p : GtsParts) (sound : IsSound p) (old : List Value) (known : List Bool) (was : IsDetermined p old known)
+    (new : List (VarId × Value)) (good : AreNewValues p new) (members : List ℕ) (cone : IsCone p new members) where
   abbrev u : List Value
   u = written old new
 
@@ -64,14 +69,20 @@ module _ (p : GtsParts) (sound : IsSound p) (old : List Value) (known : List Boo
   flow_not n f o =
       let r = renewed_of n o in
       let is = good.each r.pair r.is_one in
-      let same : is.variable ≡ f.variable = stands_one p.variables.items n is.variable f.variable (subst (λ (z : ℕ). Stands p.variables.items z is.variable) r.is is.stands) f.stands in
+      let same : is.variable ≡ f.variable =
+      stands_one p.variables.items n is.variable f.variable
+      (subst (λ (z : ℕ). Stands p.variables.items z is.variable) r.is is.stands) f.stands in
       let e : is.variable.is_state ≡ f.variable.is_state = ap (λ (z : Variable). z.is_state) same in
       cc (sym is.is_state ∙ e ∙ f.is_flow)
 
-  module _ (cleared first : List Bool) (clears : AreSet false members known cleared) (marks : AreSet true (numbers_of new) cleared first) where
+  module _ (cleared first : List Bool) (clears : AreSet false members known cleared)
+      (marks : AreSet true (numbers_of new) cleared first) where
     renewed_first : (r : VarId × Value) → IsOneOf new r → Knows u first r.0.n r.1
     renewed_first r o = record {
-      marked = marks.each r.0.n (record { place = o.place; stands = stands_map (λ (z : VarId × Value). z.0.n) new o.place r o.stands });
+      marked = marks.each r.0.n (record {
+        place = o.place;
+        stands = stands_map (λ (z : VarId × Value). z.0.n) new o.place r o.stands;
+      });
       value = written_at old new r good.ascend o (let is = good.each r o in let w = stands_within p.variables.items r.0.n is.variable is.stands in let l = was.total.long in omega (arith, w, l));
     }
 
@@ -91,8 +102,10 @@ module _ (p : GtsParts) (sound : IsSound p) (old : List Value) (known : List Boo
         given_one : IsRenewed new n → FactOf (net_of p) u n v
         given_one r =
             let is = good.each r.pair r.is_one in
-            let st : Stands p.variables.items n is.variable = subst (λ (z : ℕ). Stands p.variables.items z is.variable) r.is is.stands in
-            given (number.given_from (net_of p) (are_numbered p) u n (variable_of n is.variable) v (variable_there p n is.variable st) is.is_state k.value)
+            let st : Stands p.variables.items n is.variable =
+            subst (λ (z : ℕ). Stands p.variables.items z is.variable) r.is is.stands in
+            given (number.given_from (net_of p) (are_numbered p) u n (variable_of n is.variable) v
+            (variable_there p n is.variable st) is.is_state k.value)
 
         unmarked : IsOneOf members n → IsFlowAt p n → FactOf (net_of p) u n v
         unmarked o f =
@@ -102,11 +115,15 @@ module _ (p : GtsParts) (sound : IsSound p) (old : List Value) (known : List Boo
 
         by : IsOneOf members n ⊎ (IsOneOf members n → ⊥) → FactOf (net_of p) u n v
         by (inl o) = elim (cone.only n o) [ inl r ↦ given_one r | inr f ↦ unmarked o f ]
-        by (inr o) = facts_there p sound old known was.total was.flows (are_known p old known was) new good members cone n v o
-            ((are_known p old known was).sound n v (record { marked = sym (outside_mark n o) ∙ k.marked; value = sym (outside_value n o) ∙ k.value }))
+        by (inr o) = facts_there p sound old known was.total was.flows (are_known p old known was) new good members cone
+            n v o
+            ((are_known p old known was).sound n v
+            (record { marked = sym (outside_mark n o) ∙ k.marked; value = sym (outside_value n o) ∙ k.value }))
 
-    module _ (plan : Plan) (is_plan : IsPlan p plan) (closed : List Value) (marked : List Bool) (list : List ℕ) (of_values : KeepsOthers members u closed) (of_marks : KeepsOthers members first marked)
-        (up : ClosesUp p plan members u first closed marked list) (values : List Value) (resets : Resets p members marked closed values) where
+    module _ (plan : Plan) (is_plan : IsPlan p plan) (closed : List Value) (marked : List Bool) (list : List ℕ)
+        (of_values : KeepsOthers members u closed) (of_marks : KeepsOthers members first marked)
+        (up : ClosesUp p plan members u first closed marked list) (values : List Value)
+        (resets : Resets p members marked closed values) where
       known_now : (n : ℕ) (v : Value) → Knows values marked n v → Knows closed marked n v
       known_now n v k = record { marked = k.marked; value = sym (resets.marked n k.marked) ∙ k.value }
 
@@ -114,7 +131,10 @@ module _ (p : GtsParts) (sound : IsSound p) (old : List Value) (known : List Boo
       known_then n v k = record { marked = k.marked; value = resets.marked n k.marked ∙ k.value }
 
       pub reset_total : IsTotal p values
-      reset_total = record { long = resets.keeps.long ∙ up.total.long; in_domain = λ n x v sx sv. at n x v sx sv (member_told members n) (marked_or_not marked n) }
+      reset_total = record {
+        long = resets.keeps.long ∙ up.total.long;
+        in_domain = λ n x v sx sv. at n x v sx sv (member_told members n) (marked_or_not marked n);
+      }
         where
           marked_or_not : (bs : List Bool) (k : ℕ) → (Stands bs k true) ⊎ (Stands bs k true → ⊥)
           marked_or_not [] k = inr (λ e. cc)
@@ -122,9 +142,13 @@ module _ (p : GtsParts) (sound : IsSound p) (old : List Value) (known : List Boo
           marked_or_not (false ∷ bs) zero = inr (λ e. cc)
           marked_or_not (b ∷ bs) (suc k) = marked_or_not bs k
 
-          at : (n : ℕ) (x : Variable) (v : Value) → Stands p.variables.items n x → Stands values n v → IsOneOf members n ⊎ (IsOneOf members n → ⊥) → (Stands marked n true) ⊎ (Stands marked n true → ⊥) → Holds x.domain v
+          at : (n : ℕ) (x : Variable) (v : Value) → Stands p.variables.items n x → Stands values n v
+              → IsOneOf members n ⊎ (IsOneOf members n → ⊥) → (Stands marked n true) ⊎ (Stands marked n true → ⊥)
+              → Holds x.domain v
           at n x v sx sv o (inl m) = up.total.in_domain n x v sx (sym (resets.marked n m) ∙ sv)
-          at n x v sx sv (inl o) (inr f) = subst (λ (z : Value). Holds x.domain z) (sym (resets.declared n x v o sx f sv)) (sound.variables n x sx).value
+          at n x v sx sv (inl o) (inr f) =
+              subst (λ (z : Value). Holds x.domain z) (sym (resets.declared n x v o sx f sv))
+              (sound.variables n x sx).value
           at n x v sx sv (inr o) (inr f) = up.total.in_domain n x v sx (sym (resets.keeps.others n o) ∙ sv)
 
       pub kept_values : KeepsOthers members old values
@@ -133,7 +157,8 @@ module _ (p : GtsParts) (sound : IsSound p) (old : List Value) (known : List Boo
         others = λ n o. resets.keeps.others n o ∙ of_values.others n o ∙ outside_value n o;
       }
 
-      module _ (holds : (q n : ℕ) (a : Assign) → IsOneOf list q → Stands plan.order.items q n → Stands p.assigns.items n a → IsBroken (net_of p) values (assign_of a) → ⊥) where
+      module _ (holds : (q n : ℕ) (a : Assign) → IsOneOf list q → Stands plan.order.items q n
+          → Stands p.assigns.items n a → IsBroken (net_of p) values (assign_of a) → ⊥) where
         settled : IsSettledTo p old known new members values marked
         settled = record {
           total = reset_total;
@@ -141,7 +166,9 @@ module _ (p : GtsParts) (sound : IsSound p) (old : List Value) (known : List Boo
           kept_marks = λ n o. of_marks.others n o ∙ outside_mark n o;
           renewed = λ r o. known_then r.0.n r.1 (up.grows r.0.n r.1 (renewed_first r o));
           sound = λ n v k. up.sound n v (known_now n v k);
-          has_all = λ m a sa o v pass y. known_then a.target.n v (up.has_all m a sa o v (passes_more ℕ (Knows values marked) (Knows closed marked) known_now pass) (yields_more ℕ (Knows values marked) (Knows closed marked) known_now y));
+          has_all = λ m a sa o v pass y. known_then a.target.n v
+              (up.has_all m a sa o v (passes_more ℕ (Knows values marked) (Knows closed marked) known_now pass)
+              (yields_more ℕ (Knows values marked) (Knows closed marked) known_now y));
           reset = λ n x w o sx not sw. resets.declared n x w o sx not sw;
           holds = λ m a sa o b.
               let q = stands_some plan.places.items m (let h = stands_within p.assigns.items m a sa in omega (arith, h, is_plan.schedule.long)) in
@@ -151,24 +178,38 @@ module _ (p : GtsParts) (sound : IsSound p) (old : List Value) (known : List Boo
         pub follows : IsDeterminedBy p u values marked
         follows =
             let facts = are_known p old known was in
-            let flows = settled_flows p sound old known was.total was.flows facts new good members cone values marked settled in
-            let all = settled_known p sound old known was.total was.flows facts new good members cone values marked settled in
+            let flows = settled_flows p sound old known was.total was.flows facts new good members cone values marked
+            settled in
+            let all = settled_known p sound old known was.total was.flows facts new good members cone values marked
+            settled in
             let own = own_facts p u values state_total.long reset_total.long flows values marked all in
             record {
               is = record {
                 total = reset_total;
                 flows = own_flows p u values state_total.long reset_total.long flows;
                 long = of_marks.long ∙ first_long;
-                facts = record { sound = λ n v t. own.sound n v (known_back values marked n v t); complete = λ n v f. known_there values marked n v (own.complete n v f) };
+                facts = record {
+                  sound = λ n v t. own.sound n v (known_back values marked n v t);
+                  complete = λ n v f. known_there values marked n v (own.complete n v f);
+                };
               };
               flows = flows;
             }
 
 -- where only members are written after the new values, all others keep what they had
-pub kept_through : (p : GtsParts) (old : List Value) (new : List (VarId × Value)) (members : List ℕ) → IsCone p new members → (values : List Value) → KeepsOthers members (written old new) values → KeepsOthers members old values
-kept_through p old new members cone values k = record { long = k.long ∙ written_long old new; others = λ n o. k.others n o ∙ written_not old new n (λ r. o (cone.starts n r)) }
+pub kept_through : (p : GtsParts) (old : List Value) (new : List (VarId × Value)) (members : List ℕ)
+    → IsCone p new members → (values : List Value) → KeepsOthers members (written old new) values
+    → KeepsOthers members old values
+kept_through p old new members cone values k =
+    record {
+      long = k.long ∙ written_long old new;
+      others = λ n o. k.others n o
+          ∙ written_not old new n (λ r. o (cone.starts n r));
+    }
 
-pub marks_through : (p : GtsParts) (new : List (VarId × Value)) (members : List ℕ) → IsCone p new members → (known cleared first marked : List Bool) → AreSet false members known cleared → AreSet true (numbers_of new) cleared first → KeepsOthers members first marked → KeepsOthers members known marked
+pub marks_through : (p : GtsParts) (new : List (VarId × Value)) (members : List ℕ) → IsCone p new members
+    → (known cleared first marked : List Bool) → AreSet false members known cleared
+    → AreSet true (numbers_of new) cleared first → KeepsOthers members first marked → KeepsOthers members known marked
 marks_through p new members cone known cleared first marked a b k = record {
   long = k.long ∙ b.keeps.long ∙ a.keeps.long;
   others = λ n o. k.others n o ∙ b.keeps.others n (λ h. o (cone.starts n (of_number n h))) ∙ a.keeps.others n o;

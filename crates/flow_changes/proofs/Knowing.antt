@@ -16,7 +16,8 @@ use Rattle.flow_propagate.specs.Determined.{known_at}
 
 module _ (values : List Value) (known : List Bool) where
   -- a known value is the one at the variable's place
-  by_mark : (n : ℕ) (v : Value) (m : Option Bool) (o : Option Value) → slice_get known n ≡ m → slice_get values n ≡ o → Contains (cond (unwrap_or m false) (one_or_none o) []) v → Knows values known n v
+  by_mark : (n : ℕ) (v : Value) (m : Option Bool) (o : Option Value) → slice_get known n ≡ m → slice_get values n ≡ o
+      → Contains (cond (unwrap_or m false) (one_or_none o) []) v → Knows values known n v
   by_mark n v (Some true) (Some w) e f (zero, h, i) = record { marked = e; value = f ∙ ap Some i }
   by_mark n v (Some true) (Some w) e f (suc k, h, i) = absurd (omega (arith, h))
   by_mark n v (Some true) None e f h = absurd (omega (arith, h.1))
@@ -28,14 +29,20 @@ module _ (values : List Value) (known : List Bool) where
 
   pub known_there : (n : ℕ) (v : Value) → Knows values known n v → Contains (known_at values known n) v
   known_there n v k =
-      let e : known_at values known n ≡ v ∷ [] = ap (λ (m : Option Bool). cond (unwrap_or m false) (values_at values n) []) k.marked ∙ ap one_or_none k.value in
+      let e : known_at values known n ≡ v ∷ [] =
+      ap (λ (m : Option Bool). cond (unwrap_or m false) (values_at values n) []) k.marked
+      ∙ ap one_or_none k.value in
       subst (λ (z : List Value). Contains z v) (sym e) (0, omega arith, refl)
 
   -- the set of what the expression yields is that of its form over plain numbers
-  pub tells : (e : Expr VarId) (set : List Value) → HasExactly set (Yields (facts_of (λ (x : VarId). known_at values known x.n)) (out-Expr VarId e)) → HasExactly set (Yields (Knows values known) (out-Expr ℕ (numbered e)))
+  pub tells : (e : Expr VarId) (set : List Value)
+      → HasExactly set (Yields (facts_of (λ (x : VarId). known_at values known x.n)) (out-Expr VarId e))
+      → HasExactly set (Yields (Knows values known) (out-Expr ℕ (numbered e)))
   tells e set h = record {
-    sound = λ v c. yields_numbered (facts_of (λ (x : VarId). known_at values known x.n)) (Knows values known) e v (λ x w f. known_back x.n w f) (h.sound v c);
-    complete = λ v y. h.complete v (yields_back (facts_of (λ (x : VarId). known_at values known x.n)) (Knows values known) e v (λ x w f. known_there x.n w f) y);
+    sound = λ v c. yields_numbered (facts_of (λ (x : VarId). known_at values known x.n)) (Knows values known) e v
+        (λ x w f. known_back x.n w f) (h.sound v c);
+    complete = λ v y. h.complete v (yields_back (facts_of (λ (x : VarId). known_at values known x.n))
+        (Knows values known) e v (λ x w f. known_there x.n w f) y);
   }
 
 -- the conditions from a place on decide
@@ -47,23 +54,29 @@ module _ (facts : ℕ → Value → Type 0) (cs : List (Expr VarId × Bool)) whe
   pub decides_start : Decides facts cs 0
   decides_start = record { on = λ h. h; off = λ h. h }
 
-  head : (d : Expr ℕ × Bool) (ds : List (Expr ℕ × Bool)) → Passes facts (d ∷ ds) → Yields facts (out-Expr ℕ d.0) (Truth d.1) × Passes facts ds
+  head : (d : Expr ℕ × Bool) (ds : List (Expr ℕ × Bool)) → Passes facts (d ∷ ds)
+      → Yields facts (out-Expr ℕ d.0) (Truth d.1) × Passes facts ds
   head d ds (one_and y p) = (y, p)
 
   module _ (i : ℕ) (c : Expr VarId × Bool) (h : i < length cs) (is : c ≡ get_or cs i c) where
     split : drop i cs ≡ c ∷ drop (i + 1) cs
-    split = at_drop_more (λ (xs : List (Expr VarId × Bool)). xs) cs i c h ∙ ap (λ (z : Expr VarId × Bool). z ∷ drop (i + 1) cs) (sym is)
+    split = at_drop_more (λ (xs : List (Expr VarId × Bool)). xs) cs i c h
+        ∙ ap (λ (z : Expr VarId × Bool). z ∷ drop (i + 1) cs) (sym is)
 
-    there : Passes facts (map condition_of (drop i cs)) → Yields facts (out-Expr ℕ (numbered c.0)) (Truth c.1) × Passes facts (map condition_of (drop (i + 1) cs))
+    there : Passes facts (map condition_of (drop i cs))
+        → Yields facts (out-Expr ℕ (numbered c.0)) (Truth c.1) × Passes facts (map condition_of (drop (i + 1) cs))
     there p = head _ _ (subst (λ (xs : List (Expr VarId × Bool)). Passes facts (map condition_of xs)) split p)
 
-    back : Yields facts (out-Expr ℕ (numbered c.0)) (Truth c.1) → Passes facts (map condition_of (drop (i + 1) cs)) → Passes facts (map condition_of (drop i cs))
+    back : Yields facts (out-Expr ℕ (numbered c.0)) (Truth c.1) → Passes facts (map condition_of (drop (i + 1) cs))
+        → Passes facts (map condition_of (drop i cs))
     back y p = subst (λ (xs : List (Expr VarId × Bool)). Passes facts (map condition_of xs)) (sym split) (one_and y p)
 
-    pub decides_on : Decides facts cs i → Yields facts (out-Expr ℕ (numbered c.0)) (Truth c.1) → Decides facts cs (i + 1)
+    pub decides_on : Decides facts cs i → Yields facts (out-Expr ℕ (numbered c.0)) (Truth c.1)
+        → Decides facts cs (i + 1)
     decides_on r y = record { on = λ p. r.on (back y p); off = λ p. (there (r.off p)).1 }
 
-    pub decides_not : Decides facts cs i → (Yields facts (out-Expr ℕ (numbered c.0)) (Truth c.1) → ⊥) → Passes facts (map condition_of cs) → ⊥
+    pub decides_not : Decides facts cs i → (Yields facts (out-Expr ℕ (numbered c.0)) (Truth c.1) → ⊥)
+        → Passes facts (map condition_of cs) → ⊥
     decides_not r n p = n (there (r.off p)).0
 
   pub decides_all : (i : ℕ) → length cs ≤ i → Decides facts cs i → Passes facts (map condition_of cs)

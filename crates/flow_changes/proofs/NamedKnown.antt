@@ -25,7 +25,8 @@ use Rattle.gts_core.proofs.Reading.{passes_answer, yielded_value, value_yielded}
 use Rattle.gts_core.proofs.Viewing.{variable_there, are_numbered}
 use Rattle.flow_changes.specs.Cone.{Knows}
 
-module _ (p : GtsParts) (sound : IsSound p) (a : Assign) (one : IsOneOf p.assigns.items a) (t : List Value) (total : IsTotal p t) (known : List Bool)
+module _ (p : GtsParts) (sound : IsSound p) (a : Assign) (one : IsOneOf p.assigns.items a) (t : List Value)
+    (total : IsTotal p t) (known : List Bool)
     (named : (n : ℕ) → Names (assign_of a) n → Stands known n true) where
   typed : IsAssignTo p false a
   typed = sound.assertions a one
@@ -39,16 +40,20 @@ module _ (p : GtsParts) (sound : IsSound p) (a : Assign) (one : IsOneOf p.assign
   back : (n : ℕ) (v : Value) → Names (assign_of a) n → HasValue (net_of p) t n v → Knows t known n v
   back n v d h = record { marked = named n d; value = number.value_at (net_of p) (are_numbered p) t n v h }
 
-  passes_there : Passes (Knows t known) (assign_of a).conditions → Passes (HasValue (net_of p) t) (assign_of a).conditions
+  passes_there : Passes (Knows t known) (assign_of a).conditions
+      → Passes (HasValue (net_of p) t) (assign_of a).conditions
   passes_there q = passes_more ℕ (Knows t known) (HasValue (net_of p) t) there q
 
-  passes_back : Passes (HasValue (net_of p) t) (assign_of a).conditions → Passes (Knows t known) (assign_of a).conditions
+  passes_back : Passes (HasValue (net_of p) t) (assign_of a).conditions
+      → Passes (Knows t known) (assign_of a).conditions
   passes_back q = passes_named (λ x w d h. back x w (inr d) h) q
 
-  yields_there : (v : Value) → Yields (Knows t known) (out-Expr ℕ (assign_of a).value) v → Yields (HasValue (net_of p) t) (out-Expr ℕ (assign_of a).value) v
+  yields_there : (v : Value) → Yields (Knows t known) (out-Expr ℕ (assign_of a).value) v
+      → Yields (HasValue (net_of p) t) (out-Expr ℕ (assign_of a).value) v
   yields_there v y = yields_more ℕ (Knows t known) (HasValue (net_of p) t) there y
 
-  yields_back : (v : Value) → Yields (HasValue (net_of p) t) (out-Expr ℕ (assign_of a).value) v → Yields (Knows t known) (out-Expr ℕ (assign_of a).value) v
+  yields_back : (v : Value) → Yields (HasValue (net_of p) t) (out-Expr ℕ (assign_of a).value) v
+      → Yields (Knows t known) (out-Expr ℕ (assign_of a).value) v
   yields_back v y = yields_named (λ x w d h. back x w (inl d) h) y
 
   met : IsAnswer (list_all (is_met t) a.when.items) (Passes (HasValue (net_of p) t) (assign_of a).conditions)
@@ -59,14 +64,18 @@ module _ (p : GtsParts) (sound : IsSound p) (a : Assign) (one : IsOneOf p.assign
   not_met e q = fails _ _ e met (passes_there q)
 
   -- it yields its value alone
-  pub yields_value : list_all (is_met t) a.when.items ≡ true → (v : Value) → v ≡ value_in t a.value → Reaches (Knows t known) (assign_of a) (Some (v ∷ []))
+  pub yields_value : list_all (is_met t) a.when.items ≡ true → (v : Value) → v ≡ value_in t a.value
+      → Reaches (Knows t known) (assign_of a) (Some (v ∷ []))
   yields_value e v is = (
     passes_back (holds _ _ e met),
     record {
-      sound = λ w c. subst (λ (z : Value). Yields (Knows t known) (out-Expr ℕ (assign_of a).value) z) (sym is ∙ contains-one v w c)
-          (yields_back (value_in t a.value) (value_yielded p t total a.value (kind_of_domain typed.variable.domain) typed.value));
+      sound = λ w c. subst (λ (z : Value). Yields (Knows t known) (out-Expr ℕ (assign_of a).value) z)
+          (sym is ∙ contains-one v w c)
+          (yields_back (value_in t a.value)
+          (value_yielded p t total a.value (kind_of_domain typed.variable.domain) typed.value));
       complete = λ w y.
-          let i : w ≡ v = yielded_value p t total a.value (kind_of_domain typed.variable.domain) typed.value w (yields_there w y) ∙ sym is in
+          let i : w ≡ v = yielded_value p t total a.value (kind_of_domain typed.variable.domain) typed.value w
+          (yields_there w y) ∙ sym is in
           (0, omega arith, sym i);
     },
   )

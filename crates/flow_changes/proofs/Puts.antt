@@ -25,20 +25,35 @@ unmarked_set (false ∷ marks) zero s = omega arith
 unmarked_set (b ∷ marks) (suc n) s = let r = unmarked_set marks n s in omega (arith, r)
 
 pub touches_not : (d : Domain) (t : ℕ) (values : List Value) (known : List Bool) → Touches d t values known values known
-touches_not d t values known = record { of_values = keeps_same (t ∷ []) values; of_marks = keeps_same (t ∷ []) known; held = λ v s. inl s }
+touches_not d t values known = record
+    { of_values = keeps_same (t ∷ []) values; of_marks = keeps_same (t ∷ []) known; held = λ v s. inl s }
 
-pub puts_nothing : (d : Domain) (t : ℕ) (set : List Value) (values : List Value) (known : List Bool) → ((v : Value) → Contains set v → Knows values known t v × Holds d v) → Puts d t set values known values known false
-puts_nothing d t set values known there = record { grows = λ n v k. k; only = λ n v k. inl k; still = λ e. (refl, refl); there = there; less = λ e. absurd (cc e) }
+pub puts_nothing : (d : Domain) (t : ℕ) (set : List Value) (values : List Value) (known : List Bool)
+    → ((v : Value) → Contains set v → Knows values known t v × Holds d v) → Puts d t set values known values known false
+puts_nothing d t set values known there =
+    record {
+      grows = λ n v k. k;
+      only = λ n v k. inl k;
+      still = λ e. (refl, refl);
+      there = there;
+      less = λ e. absurd (cc e);
+    }
 
-pub puts_same : (d : Domain) (t : ℕ) (v : Value) (values : List Value) (known : List Bool) → Stands known t true → Stands values t v → Holds d v → Puts d t (v ∷ []) values known values known false
+pub puts_same : (d : Domain) (t : ℕ) (v : Value) (values : List Value) (known : List Bool) → Stands known t true
+    → Stands values t v → Holds d v → Puts d t (v ∷ []) values known values known false
 puts_same d t v values known m s h = puts_nothing d t (v ∷ []) values known (λ w c. let e = contains-one v w c in (record { marked = m; value = subst (λ (z : Value). Stands values t z) e s }, subst (λ (z : Value). Holds d z) e h))
 
-module _ (d : Domain) (t : ℕ) (v : Value) (values : List Value) (known : List Bool) (m : Stands known t false) (within : t < length values) (h : Holds d v) where
+module _ (d : Domain) (t : ℕ) (v : Value) (values : List Value) (known : List Bool) (m : Stands known t false)
+    (within : t < length values) (h : Holds d v) where
   here : Knows (set values t v) (set known t true) t v
   here = record { marked = set_same known t true (stands_within known t false m); value = set_same values t v within }
 
   others : (n : ℕ) (w : Value) → (n ≡ t → ⊥) → Knows (set values t v) (set known t true) n w → Knows values known n w
-  others n w f k = record { marked = sym (set_other known t n true f) ∙ k.marked; value = sym (set_other values t n v f) ∙ k.value }
+  others n w f k = record {
+    marked = sym (set_other known t n true f) ∙ k.marked;
+    value = sym (set_other values t n v f)
+        ∙ k.value;
+  }
 
   back : (n : ℕ) (w : Value) → (n ≡ t → ⊥) → Knows values known n w → Knows (set values t v) (set known t true) n w
   back n w f k = record { marked = set_other known t n true f ∙ k.marked; value = set_other values t n v f ∙ k.value }
@@ -48,7 +63,8 @@ module _ (d : Domain) (t : ℕ) (v : Value) (values : List Value) (known : List 
       let a : Stands known t true = subst (λ (z : ℕ). Stands known z true) e k.marked in
       let b : true ≡ false = stands_one known t true false a m in cc
 
-  only : (n : ℕ) (w : Value) → Knows (set values t v) (set known t true) n w → (n ≡ t) ⊎ (n ≡ t → ⊥) → Knows values known n w ⊎ ((n ≡ t) × Contains (v ∷ []) w)
+  only : (n : ℕ) (w : Value) → Knows (set values t v) (set known t true) n w → (n ≡ t) ⊎ (n ≡ t → ⊥)
+      → Knows values known n w ⊎ ((n ≡ t) × Contains (v ∷ []) w)
   only n w k (inl e) =
       let a : Stands (set values t v) t w = subst (λ (z : ℕ). Stands (set values t v) z w) e k.value in
       let b : v ≡ w = stands_one (set values t v) t v w here.value a in
@@ -66,8 +82,15 @@ module _ (d : Domain) (t : ℕ) (v : Value) (values : List Value) (known : List 
 
   pub touches_new : Touches d t values known (set values t v) (set known t true)
   touches_new = record {
-    of_values = record { long = length-set values t v; others = λ n o. set_other values t n v (λ e. o (subst (λ (z : ℕ). IsOneOf (t ∷ []) z) (sym e) (one_first t []))) };
-    of_marks = record { long = length-set known t true; others = λ n o. set_other known t n true (λ e. o (subst (λ (z : ℕ). IsOneOf (t ∷ []) z) (sym e) (one_first t []))) };
+    of_values = record {
+      long = length-set values t v;
+      others = λ n o. set_other values t n v (λ e. o (subst (λ (z : ℕ). IsOneOf (t ∷ []) z) (sym e) (one_first t [])));
+    };
+    of_marks = record {
+      long = length-set known t true;
+      others = λ n o. set_other known t n true
+          (λ e. o (subst (λ (z : ℕ). IsOneOf (t ∷ []) z) (sym e) (one_first t [])));
+    };
     held = λ w s. inr (subst (λ (z : Value). Holds d z) (stands_one (set values t v) t v w here.value s) h);
   }
 
@@ -83,9 +106,17 @@ aims p a s i = let r = s.assertions a i in record { variable = r.variable; stand
 
 module _ (p : GtsParts) (a : Assign) (values : List Value) (known : List Bool) where
   pub applies_not : Reaches (Knows values known) (assign_of a) None → Applies p a values known values known false
-  applies_not g = record { grows = λ n v k. k; only = λ n v k. inl k; still = λ e. (refl, refl); done = λ v pass y. absurd (g pass); less = λ e. absurd (cc e) }
+  applies_not g = record {
+    grows = λ n v k. k;
+    only = λ n v k. inl k;
+    still = λ e. (refl, refl);
+    done = λ v pass y. absurd (g pass);
+    less = λ e. absurd (cc e);
+  }
 
-  pub applies_set : (d : Domain) (set : List Value) (values' : List Value) (known' : List Bool) (changed : Bool) → Reaches (Knows values known) (assign_of a) (Some set) → Puts d a.target.n set values known values' known' changed → Applies p a values known values' known' changed
+  pub applies_set : (d : Domain) (set : List Value) (values' : List Value) (known' : List Bool) (changed : Bool)
+      → Reaches (Knows values known) (assign_of a) (Some set)
+      → Puts d a.target.n set values known values' known' changed → Applies p a values known values' known' changed
   applies_set d set values' known' changed g puts = record {
     grows = puts.grows;
     only = λ n v k. elim (puts.only n v k) [ inl h ↦ inl h | inr h ↦ inr (h.0, g.0, g.1.sound v h.1) ];

@@ -26,24 +26,37 @@ pub one_moved : (xs ys : List ℕ) (n : ℕ) → IsPermutation xs ys → IsOneOf
 one_moved xs ys n perm o = one_contains ys n (Contains-permutation xs ys n perm (contains_one xs n o))
 
 pub one_back : (xs ys : List ℕ) (n : ℕ) → IsPermutation xs ys → IsOneOf ys n → IsOneOf xs n
-one_back xs ys n perm o = one_contains xs n (Contains-permutation ys xs n (IsPermutation-sym xs ys perm) (contains_one ys n o))
+one_back xs ys n perm o = one_contains xs n
+    (Contains-permutation ys xs n (IsPermutation-sym xs ys perm) (contains_one ys n o))
 
-strictly : (xs : List ℕ) (j k q r : ℕ) → IsStrictlySortedBy nat_cmp xs → j < k → Stands xs j q → Stands xs k r → nat_cmp q r ≡ Less
+strictly : (xs : List ℕ) (j k q r : ℕ) → IsStrictlySortedBy nat_cmp xs → j < k → Stands xs j q → Stands xs k r
+    → nat_cmp q r ≡ Less
 unfolding IsStrictlySortedBy
 strictly [] j k q r s h a b = absurd (stands_none j q a)
 strictly (x ∷ xs) j zero q r s h a b = absurd (omega arith)
 strictly (x ∷ xs) zero (suc k) q r s h a b = let e : x ≡ q = cc in subst (λ (z : ℕ). nat_cmp z r ≡ Less) e (all_stand (λ y. nat_cmp x y ≡ Less) xs k r s.0 b)
 strictly (x ∷ xs) (suc j) (suc k) q r s h a b = strictly xs j k q r s.1 (omega arith) a b
 
-module _ (found sorted kept : List ℕ) (perm : IsPermutation found sorted) (order : IsSorted nat_cmp sorted) (filtered : IsFiltered (DiffersFromLast nat_eq) [] sorted kept) where
+module _ (found sorted kept : List ℕ) (perm : IsPermutation found sorted) (order : IsSorted nat_cmp sorted)
+    (filtered : IsFiltered (DiffersFromLast nat_eq) [] sorted kept) where
   is : kept ≡ dedup nat_eq sorted
   is = dedup_is nat_eq sorted kept filtered
 
   pub kept_ascends : Ascends kept
-  kept_ascends = subst Ascends (sym is) (record { ascends = λ j k a b l s t. ranked a b Less (sym (strictly (dedup nat_eq sorted) j k a b (IsStrictlySortedBy-dedup nat_cmp_total unsigned_ties sorted order) l s t)) })
+  kept_ascends = subst Ascends (sym is)
+      (record {
+        ascends = λ j k a b l s t. ranked a b Less
+            (sym (strictly (dedup nat_eq sorted) j k a b (IsStrictlySortedBy-dedup nat_cmp_total unsigned_ties sorted order) l
+            s t));
+      })
 
   pub kept_there : (n : ℕ) → IsOneOf found n → IsOneOf kept n
-  kept_there n o = subst (λ (z : List ℕ). IsOneOf z n) (sym is) (one_contains (dedup nat_eq sorted) n (Contains-dedup nat_eq_equiv (λ x y e. (unsigned_Decides x y).0 e) sorted n (contains_one sorted n (one_moved found sorted n perm o))))
+  kept_there n o = subst (λ (z : List ℕ). IsOneOf z n) (sym is)
+      (one_contains (dedup nat_eq sorted) n
+      (Contains-dedup nat_eq_equiv (λ x y e. (unsigned_Decides x y).0 e) sorted n
+      (contains_one sorted n (one_moved found sorted n perm o))))
 
   pub kept_back : (n : ℕ) → IsOneOf kept n → IsOneOf found n
-  kept_back n o = one_back found sorted n perm (one_contains sorted n (Contains-from_dedup nat_eq sorted n (contains_one (dedup nat_eq sorted) n (subst (λ (z : List ℕ). IsOneOf z n) is o))))
+  kept_back n o = one_back found sorted n perm
+      (one_contains sorted n (Contains-from_dedup nat_eq sorted n
+      (contains_one (dedup nat_eq sorted) n (subst (λ (z : List ℕ). IsOneOf z n) is o))))

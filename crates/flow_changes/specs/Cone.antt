@@ -27,7 +27,8 @@ pub record IsCone (p : GtsParts) (new : List (VarId × Value)) (members : List �
   pub ascend : Ascends members
   pub starts : (n : ℕ) → IsRenewed new n → IsOneOf members n
   pub only : (n : ℕ) → IsOneOf members n → IsRenewed new n ⊎ IsFlowAt p n
-  pub closed : (n m : ℕ) (a : Assign) → IsOneOf members n → Stands p.assigns.items m a → Names (assign_of a) n → IsOneOf members a.target.n
+  pub closed : (n m : ℕ) (a : Assign) → IsOneOf members n → Stands p.assigns.items m a → Names (assign_of a) n
+      → IsOneOf members a.target.n
 
 -- the value of the variable of this number is known
 pub record Knows (values : List Value) (known : List Bool) (n : ℕ) (v : Value) : Type 0 where

@@ -35,24 +35,33 @@ abbrev pub work_left : Plan → List Bool → Queue → ℕ
 work_left plan known work = (length plan.readers.pairs.items + 1) * unmarked known + waiting work
 
 -- assignment n was looked at
-pub record Looks (p : GtsParts) (plan : Plan) (n : ℕ) (values : List Value) (known : List Bool) (work : Queue) (values_then : List Value) (known_then : List Bool) (work_then : Queue) : Type 0 where
+pub record Looks (p : GtsParts) (plan : Plan) (n : ℕ) (values : List Value) (known : List Bool) (work : Queue)
+    (values_then : List Value) (known_then : List Bool) (work_then : Queue) : Type 0 where
   pub grows : (m : ℕ) (v : Value) → Knows values known m v → Knows values_then known_then m v
-  pub only : (m : ℕ) (v : Value) → Knows values_then known_then m v → Knows values known m v ⊎ IsNew p n values known m v
+  pub only : (m : ℕ) (v : Value) → Knows values_then known_then m v
+      → Knows values known m v ⊎ IsNew p n values known m v
   pub is : IsQueue work_then
   pub same : work_then.list.items ≡ work.list.items
-  pub settled : (m : ℕ) (a : Assign) → Stands p.assigns.items m a → (m ≡ n) ⊎ (Waits plan work m ⊎ HasAll (Knows values known) (assign_of a)) → Waits plan work_then m ⊎ HasAll (Knows values_then known_then) (assign_of a)
+  pub settled : (m : ℕ) (a : Assign) → Stands p.assigns.items m a
+      → (m ≡ n) ⊎ (Waits plan work m ⊎ HasAll (Knows values known) (assign_of a))
+      → Waits plan work_then m ⊎ HasAll (Knows values_then known_then) (assign_of a)
   pub less : work_left plan known_then work_then ≤ work_left plan known work
 
 -- the list has the places of the assignments to the members, and no others
 pub record HasPlacesTo (p : GtsParts) (plan : Plan) (members list : List ℕ) : Type 0 where
   pub within : AreWithin list plan.order.items
-  pub targets : (q n : ℕ) (a : Assign) → IsOneOf list q → Stands plan.order.items q n → Stands p.assigns.items n a → IsOneOf members a.target.n
-  pub all : (m q : ℕ) (a : Assign) → Stands p.assigns.items m a → IsOneOf members a.target.n → Stands plan.places.items m q → IsOneOf list q
+  pub targets : (q n : ℕ) (a : Assign) → IsOneOf list q → Stands plan.order.items q n → Stands p.assigns.items n a
+      → IsOneOf members a.target.n
+  pub all : (m q : ℕ) (a : Assign) → Stands p.assigns.items m a → IsOneOf members a.target.n
+      → Stands plan.places.items m q → IsOneOf list q
 
--- what is known has what each assignment to a member yields, and no more than the facts of the state; the list has the places of these assignments
-pub record ClosesUp (p : GtsParts) (plan : Plan) (members : List ℕ) (state : List Value) (known : List Bool) (values : List Value) (known_then : List Bool) (list : List ℕ) : Type 0 where
+-- what is known has what each assignment to a member yields, and no more than the facts of the state; the list has the
+-- places of these assignments
+pub record ClosesUp (p : GtsParts) (plan : Plan) (members : List ℕ) (state : List Value) (known : List Bool)
+    (values : List Value) (known_then : List Bool) (list : List ℕ) : Type 0 where
   pub total : IsTotal p values
   pub grows : (m : ℕ) (v : Value) → Knows state known m v → Knows values known_then m v
   pub sound : (m : ℕ) (v : Value) → Knows values known_then m v → FactOf (net_of p) state m v
-  pub has_all : (m : ℕ) (a : Assign) → Stands p.assigns.items m a → IsOneOf members a.target.n → HasAll (Knows values known_then) (assign_of a)
+  pub has_all : (m : ℕ) (a : Assign) → Stands p.assigns.items m a → IsOneOf members a.target.n
+      → HasAll (Knows values known_then) (assign_of a)
   pub places : HasPlacesTo p plan members list

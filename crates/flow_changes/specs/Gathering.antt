@@ -32,7 +32,8 @@ pub record ArePlacesTo (givers : List Reader) (places members list : List ℕ) :
   pub all : (q : ℕ) → IsPlaceTo givers places members q → IsOneOf list q
 
 -- the numbers that have P were marked, too; those that were not marked before went last in the list
-pub record Sees (P : ℕ → Type 0) (marks : List Bool) (found : List ℕ) (marks_then : List Bool) (found_then : List ℕ) : Type 0 where
+pub record Sees (P : ℕ → Type 0) (marks : List Bool) (found : List ℕ) (marks_then : List Bool)
+    (found_then : List ℕ) : Type 0 where
   pub front : (j n : ℕ) → Stands found j n → Stands found_then j n
   pub longer : length found ≤ length found_then
   pub only : (n : ℕ) → IsOneOf found_then n → IsOneOf found n ⊎ P n
@@ -51,4 +52,5 @@ pub record IsTargetOf (p : GtsParts) (pairs : List Reader) (n : ℕ) : Type 0 wh
 pub record IsFollowed (p : GtsParts) (new : List (VarId × Value)) (found : List ℕ) (at : ℕ) : Type 0 where
   pub starts : (n : ℕ) → IsRenewed new n → IsOneOf found n
   pub only : (n : ℕ) → IsOneOf found n → IsRenewed new n ⊎ IsFlowAt p n
-  pub closed : (k n m : ℕ) (a : Assign) → k < at → Stands found k n → Stands p.assigns.items m a → Names (assign_of a) n → IsOneOf found a.target.n
+  pub closed : (k n m : ℕ) (a : Assign) → k < at → Stands found k n → Stands p.assigns.items m a → Names (assign_of a) n
+      → IsOneOf found a.target.n

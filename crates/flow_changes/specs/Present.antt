@@ -45,6 +45,7 @@ Presents p state (Ok it) = IsPresentBy p state it
 Presents p state (Err f) = IsFaultOf p state f
 
 -- what the new values determine, and what changed
-pub record Propagates (p : GtsParts) (old : List Value) (old_known : List Bool) (new : List (VarId × Value)) (values : List Value) (known : List Bool) (c : Changes) : Type 0 where
+pub record Propagates (p : GtsParts) (old : List Value) (old_known : List Bool) (new : List (VarId × Value))
+    (values : List Value) (known : List Bool) (c : Changes) : Type 0 where
   pub determined : IsDeterminedBy p (written old new) values known
   pub tells : TellsChanges p old old_known values known c

@@ -24,10 +24,13 @@ use Rattle.flow_propagate.proofs.ReaderPairs.{pair_eq, pair_same, pair_equiv}
 use Rattle.flow_propagate.proofs.Numbered.{read_there}
 
 -- an assignment that does not name the target keeps what it has
-stays : (p : GtsParts) (a b : Assign) (old new : Rows) (changed : Bool) → Applies p a old new changed → (Names (assign_of b) a.target.n → ⊥)
-    → ((v : Value) → Passes (Holds old) (assign_of b).conditions → Yields (Holds old) (out-Expr ℕ (assign_of b).value) v → Allows (net_of p) b.target.n v → Holds new b.target.n v) → IsClosed (net_of p) new (assign_of b)
+stays : (p : GtsParts) (a b : Assign) (old new : Rows) (changed : Bool) → Applies p a old new changed
+    → (Names (assign_of b) a.target.n → ⊥)
+    → ((v : Value) → Passes (Holds old) (assign_of b).conditions → Yields (Holds old) (out-Expr ℕ (assign_of b).value) v
+    → Allows (net_of p) b.target.n v → Holds new b.target.n v) → IsClosed (net_of p) new (assign_of b)
 stays p a b old new changed m lacks has v pass y al =
-    has v (passes_named (λ x w d h. m.others x w h (λ e. lacks (subst (λ (z : ℕ). Names (assign_of b) z) e (inr d)))) pass)
+    has v (passes_named (λ x w d h. m.others x w h (λ e. lacks (subst (λ (z : ℕ). Names (assign_of b) z) e (inr d))))
+    pass)
     (yields_named (λ x w d h. m.others x w h (λ e. lacks (subst (λ (z : ℕ). Names (assign_of b) z) e (inl d)))) y) al
 
 pub same_or_not : (q r : ℕ × ℕ) → (q ≡ r) ⊎ (q ≡ r → ⊥)
@@ -51,13 +54,19 @@ one_or_not (x ∷ xs) q = go (same_or_not x q) (one_or_not xs q)
     go (inr f) (inr g) = inr (λ o. at o.place f g o.stands)
 
 -- the assignment's target got nothing: it has what it adds
-pub looks_still : (p : GtsParts) (readers n : ℕ) (a : Assign) (old new : Rows) (work : Worklist) → IsWorklist (length p.assigns.items) work → Stands p.assigns.items n a → Applies p a old new false → LooksAt p readers n old work new work
+pub looks_still : (p : GtsParts) (readers n : ℕ) (a : Assign) (old new : Rows) (work : Worklist)
+    → IsWorklist (length p.assigns.items) work → Stands p.assigns.items n a → Applies p a old new false
+    → LooksAt p readers n old work new work
 looks_still p readers n a old new work w sa m = record {
   moves = m.moves;
   is = w;
   settled = λ h k b st. elim (h k b st) [
     | inl e ↦ inr (here k b e st)
-    | inr x ↦ (elim x [ inl y ↦ inl y | inr c ↦ inr (subst (λ (z : Rows). IsClosed (net_of p) z (assign_of b)) (sym same) c) ])
+    | inr x ↦ (elim x [
+      | inl y ↦ inl y
+      | inr c ↦ inr
+          (subst (λ (z : Rows). IsClosed (net_of p) z (assign_of b)) (sym same) c)
+    ])
   ];
   less = (let e : missing p new ≡ missing p old = ap (λ (z : Rows). missing p z) same in let f : (readers + 1) * missing p new ≡ (readers + 1) * missing p old = ap (λ (z : ℕ). (readers + 1) * z) e in omega (arith, f));
 }
@@ -71,17 +80,23 @@ looks_still p readers n a old new work w sa m = record {
     here : (k : ℕ) (b : Assign) → k ≡ n → Stands p.assigns.items k b → IsClosed (net_of p) new (assign_of b)
     here k b e st =
         let one : a ≡ b = stands_one p.assigns.items n a b sa (subst (λ (z : ℕ). Stands p.assigns.items z b) e st) in
-        subst (λ (z : Assign). IsClosed (net_of p) new (assign_of z)) one (subst (λ (z : Rows). IsClosed (net_of p) z (assign_of a)) (sym same) mine)
+        subst (λ (z : Assign). IsClosed (net_of p) new (assign_of z)) one
+        (subst (λ (z : Rows). IsClosed (net_of p) z (assign_of a)) (sym same) mine)
 
 -- the assignment's target got a value: the readers of the target wait
-pub looks_more : (p : GtsParts) (readers : List (ℕ × ℕ)) (most n : ℕ) (a : Assign) (old new : Rows) (before after : Worklist) → AreReaders p readers → Stands p.assigns.items n a → Applies p a old new true
-    → AddsWork (length p.assigns.items) most (λ m. IsOneOf readers (a.target.n, m)) before after → LooksAt p most n old before new after
+pub looks_more : (p : GtsParts) (readers : List (ℕ × ℕ)) (most n : ℕ) (a : Assign) (old new : Rows)
+    (before after : Worklist) → AreReaders p readers → Stands p.assigns.items n a → Applies p a old new true
+    → AddsWork (length p.assigns.items) most (λ m. IsOneOf readers (a.target.n, m)) before after
+    → LooksAt p most n old before new after
 looks_more p readers most n a old new before after r sa m w = record {
   moves = m.moves;
   is = w.is;
   settled = λ h k b st. elim (h k b st) [
     | inl e ↦ again k b st (mine k b e st)
-    | inr x ↦ (elim x [ inl y ↦ inl (w.keeps k y) | inr c ↦ again k b st (λ v pass y al. m.moves.grows b.target.n v (c v pass y al)) ])
+    | inr x ↦ (elim x [
+      | inl y ↦ inl (w.keeps k y)
+      | inr c ↦ again k b st (λ v pass y al. m.moves.grows b.target.n v (c v pass y al))
+    ])
   ];
   less = (
       let l : missing p new + 1 ≤ missing p old = (let k = m.less refl in omega (arith, k)) in
@@ -91,35 +106,48 @@ looks_more p readers most n a old new before after r sa m w = record {
 }
   where
     again : (k : ℕ) (b : Assign) → Stands p.assigns.items k b
-        → ((v : Value) → Passes (Holds old) (assign_of b).conditions → Yields (Holds old) (out-Expr ℕ (assign_of b).value) v → Allows (net_of p) b.target.n v → Holds new b.target.n v) → Waits after k ⊎ IsClosed (net_of p) new (assign_of b)
+        → ((v : Value) → Passes (Holds old) (assign_of b).conditions
+        → Yields (Holds old) (out-Expr ℕ (assign_of b).value) v → Allows (net_of p) b.target.n v
+        → Holds new b.target.n v) → Waits after k ⊎ IsClosed (net_of p) new (assign_of b)
     again k b st has = elim (one_or_not readers (a.target.n, k)) [
       | inl o ↦ inl (w.adds k o)
-      | inr f ↦ inr (stays p a b old new true m (λ d. f (r.all a.target.n k (read_there p a.target.n k (record { assign = b; stands = st; names = d })))) has)
+      | inr f ↦ inr (stays p a b old new true m
+          (λ d. f (r.all a.target.n k (read_there p a.target.n k (record { assign = b; stands = st; names = d })))) has)
     ]
 
-    mine : (k : ℕ) (b : Assign) → k ≡ n → Stands p.assigns.items k b → (v : Value) → Passes (Holds old) (assign_of b).conditions → Yields (Holds old) (out-Expr ℕ (assign_of b).value) v → Allows (net_of p) b.target.n v → Holds new b.target.n v
+    mine : (k : ℕ) (b : Assign) → k ≡ n → Stands p.assigns.items k b → (v : Value)
+        → Passes (Holds old) (assign_of b).conditions → Yields (Holds old) (out-Expr ℕ (assign_of b).value) v
+        → Allows (net_of p) b.target.n v → Holds new b.target.n v
     mine k b e st =
         let one : a ≡ b = stands_one p.assigns.items n a b sa (subst (λ (z : ℕ). Stands p.assigns.items z b) e st) in
-        let P : Assign → Type 0 = λ z. (v : Value) → Passes (Holds old) (assign_of z).conditions → Yields (Holds old) (out-Expr ℕ (assign_of z).value) v → Allows (net_of p) z.target.n v → Holds new z.target.n v in
+        let P : Assign → Type 0 = λ z. (v : Value) → Passes (Holds old) (assign_of z).conditions
+        → Yields (Holds old) (out-Expr ℕ (assign_of z).value) v → Allows (net_of p) z.target.n v
+        → Holds new z.target.n v in
         subst P one m.done
 
 -- what is settled once the next assignment was taken
-pub taken : (p : GtsParts) (count n : ℕ) (rows : Rows) (old new : Worklist) → IsSettled p rows old → Takes count n old new → (m : ℕ) (a : Assign) → Stands p.assigns.items m a → (m ≡ n) ⊎ (Waits new m ⊎ IsClosed (net_of p) rows (assign_of a))
+pub taken : (p : GtsParts) (count n : ℕ) (rows : Rows) (old new : Worklist) → IsSettled p rows old
+    → Takes count n old new → (m : ℕ) (a : Assign) → Stands p.assigns.items m a
+    → (m ≡ n) ⊎ (Waits new m ⊎ IsClosed (net_of p) rows (assign_of a))
 taken p count n rows old new h t m a st = elim (h m a st) [
   | inl w ↦ (elim (t.others m w) [ inl e ↦ inl e | inr k ↦ inr (inl k) ])
   | inr c ↦ inr (inr c)
 ]
 
 -- where none waits, each assignment has what it adds
-pub all_closed : (p : GtsParts) (rows : Rows) (work : Worklist) → IsSettled p rows work → ((n : ℕ) → Waits work n → ⊥) → (n : ℕ) (a : Assign) → Stands p.assigns.items n a → IsClosed (net_of p) rows (assign_of a)
+pub all_closed : (p : GtsParts) (rows : Rows) (work : Worklist) → IsSettled p rows work → ((n : ℕ) → Waits work n → ⊥)
+    → (n : ℕ) (a : Assign) → Stands p.assigns.items n a → IsClosed (net_of p) rows (assign_of a)
 all_closed p rows work h lacks n a st = elim (h n a st) [ inl w ↦ absurd (lacks n w) | inr c ↦ c ]
 
 -- a sound table that holds what is given and is closed has exactly the facts
-pub are_facts : (p : GtsParts) (t : List Value) (rows : Rows) → IsSoundTable (net_of p) t rows → ((n : ℕ) (v : Value) → IsGiven (net_of p) t n v → Holds rows n v)
-    → ((n : ℕ) (a : Assign) → Stands p.assigns.items n a → IsClosed (net_of p) rows (assign_of a)) → AreFacts (net_of p) t rows
+pub are_facts : (p : GtsParts) (t : List Value) (rows : Rows) → IsSoundTable (net_of p) t rows
+    → ((n : ℕ) (v : Value) → IsGiven (net_of p) t n v → Holds rows n v)
+    → ((n : ℕ) (a : Assign) → Stands p.assigns.items n a → IsClosed (net_of p) rows (assign_of a))
+    → AreFacts (net_of p) t rows
 are_facts p t rows sound given c = record {
   sound = sound;
-  complete = least (net_of p).assertions (Allows (net_of p)) (IsGiven (net_of p) t) (Holds rows) given (λ a v i q y al. closed a i v q y al);
+  complete = least (net_of p).assertions (Allows (net_of p)) (IsGiven (net_of p) t) (Holds rows) given
+      (λ a v i q y al. closed a i v q y al);
 }
   where
     closed : (a : s.Assign ℕ) → IsOneOf (net_of p).assertions a → IsClosed (net_of p) rows a
@@ -128,5 +156,7 @@ are_facts p t rows sound given c = record {
         subst (λ (z : s.Assign ℕ). IsClosed (net_of p) rows z) r.2 (c i.place r.0 r.1)
 
 -- a look after a taking leaves less to do
-pub left_less : (p : GtsParts) (readers count n : ℕ) (old new : Rows) (first mid after : Worklist) → Takes count n first mid → LooksAt p readers n old mid new after → work_left p readers new after < work_left p readers old first
+pub left_less : (p : GtsParts) (readers count n : ℕ) (old new : Rows) (first mid after : Worklist)
+    → Takes count n first mid → LooksAt p readers n old mid new after
+    → work_left p readers new after < work_left p readers old first
 left_less p readers count n old new first mid after t l = let a = t.less in let b = l.less in omega (arith, a, b)

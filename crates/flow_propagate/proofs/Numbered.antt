@@ -66,7 +66,11 @@ module _ (p : GtsParts) where
     pub names : Names (assign_of assign) x
 
   pub read_there : (x n : ℕ) → ReadHere x n → Reads (net_of p) x n
-  read_there x n r = record { assign = assign_of r.assign; stands = stands_map assign_of p.assigns.items n r.assign r.stands; names = r.names }
+  read_there x n r = record {
+    assign = assign_of r.assign;
+    stands = stands_map assign_of p.assigns.items n r.assign r.stands;
+    names = r.names;
+  }
 
   pub read_back : (x n : ℕ) → Reads (net_of p) x n → ReadHere x n
   read_back x n r =

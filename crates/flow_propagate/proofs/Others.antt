@@ -7,9 +7,12 @@ use Rattle.ar_base.specs.Lists.{HasOther}
 use Rattle.flow_propagate.specs.Searches.{IsTwo}
 use Rattle.flow_propagate.proofs.Searching.{two_of_other}
 
-pub two_answer : (is_state : Bool) (row : List Value) (v : Value) (b : Bool) → is_state ≡ false → Contains row v → IsAnswer b (HasOther row v) → IsAnswer b (IsTwo is_state row)
+pub two_answer : (is_state : Bool) (row : List Value) (v : Value) (b : Bool) → is_state ≡ false → Contains row v
+    → IsAnswer b (HasOther row v) → IsAnswer b (IsTwo is_state row)
 two_answer is_state row v true e c h = (e, two_of_other row v c h)
 two_answer is_state row v false e c n = λ two.
-    let a : two.1.first ≡ v = same_value two.1.first v (λ d. n (record { other = two.1.first; has = two.1.has_first; differs = d })) in
-    let b : two.1.second ≡ v = same_value two.1.second v (λ d. n (record { other = two.1.second; has = two.1.has_second; differs = d })) in
+    let a : two.1.first ≡ v = same_value two.1.first v
+    (λ d. n (record { other = two.1.first; has = two.1.has_first; differs = d })) in
+    let b : two.1.second ≡ v = same_value two.1.second v
+    (λ d. n (record { other = two.1.second; has = two.1.has_second; differs = d })) in
     two.1.differ (a ∙ sym b)

@@ -23,7 +23,8 @@ module _ (pairs : List Reader) (x from to : ℕ) (low : IsStart pairs x from) (h
   run_long : length (take (to - from) (drop from pairs)) ≡ to - from
   run_long = length-take-le (to - from) (drop from pairs) (let l = length-drop from pairs in let w = high.within in omega (arith, l, w))
 
-  run_item : (j : ℕ) (d : Reader) → j < to - from → get_or (take (to - from) (drop from pairs)) j d ≡ get_or pairs (from + j) d
+  run_item : (j : ℕ) (d : Reader) → j < to - from
+      → get_or (take (to - from) (drop from pairs)) j d ≡ get_or pairs (from + j) d
   run_item j d h = get_or-take (to - from) (drop from pairs) j d h ∙ get_or-drop from pairs j d
 
   pub run_short : length (take (to - from) (drop from pairs)) ≤ length pairs
@@ -46,7 +47,8 @@ module _ (pairs : List Reader) (x from to : ℕ) (low : IsStart pairs x from) (h
         at = from + c.0;
         above = omega arith;
         below = omega (arith, h);
-        stands = subst (λ (z : Reader). Stands pairs (from + c.0) z) e (stands_get pairs (from + c.0) r (omega (arith, h, w)));
+        stands = subst (λ (z : Reader). Stands pairs (from + c.0) z) e
+            (stands_get pairs (from + c.0) r (omega (arith, h, w)));
       }
 
   pub run_among : (r : Reader) → IsOneOf (take (to - from) (drop from pairs)) r → IsOneOf pairs r
@@ -62,7 +64,12 @@ module _ (pairs : List Reader) (x from to : ℕ) (low : IsStart pairs x from) (h
       ]
 
   pub run_all : (r : Reader) → IsOneOf pairs r → r.0.n ≡ x → IsOneOf (take (to - from) (drop from pairs)) r
-  run_all r o e = one_contains (take (to - from) (drop from pairs)) r (o.place - from, omega (arith, above, below, run_long), run_item (o.place - from) r (omega (arith, above, below)) ∙ ap (λ (z : ℕ). get_or pairs z r) back ∙ at)
+  run_all r o e = one_contains (take (to - from) (drop from pairs)) r (
+    o.place - from,
+    omega (arith, above, below, run_long),
+    run_item (o.place - from) r (omega (arith, above, below))
+        ∙ ap (λ (z : ℕ). get_or pairs z r) back ∙ at,
+  )
     where
       at : get_or pairs o.place r ≡ r
       at = get_or_from_slice_get pairs o.place r r o.stands
@@ -77,7 +84,9 @@ module _ (pairs : List Reader) (x from to : ℕ) (low : IsStart pairs x from) (h
       back = omega (arith, above)
 
 -- where the pairs of lesser variables end
-pub is_start : (pairs : List Reader) (x i : ℕ) → IsPartitionPoint (λ (r : Reader). ltb r.0.n x ≡ true) (λ (r : Reader). ltb r.0.n x ≡ false) pairs i → i ≤ length pairs → IsStart pairs x i
+pub is_start : (pairs : List Reader) (x i : ℕ)
+    → IsPartitionPoint (λ (r : Reader). ltb r.0.n x ≡ true) (λ (r : Reader). ltb r.0.n x ≡ false) pairs i
+    → i ≤ length pairs → IsStart pairs x i
 is_start pairs x i point bound = record { within = bound; before = λ k r s. (on k r s, back k r s) }
   where
     at : (k : ℕ) (r : Reader) → Stands pairs k r → get_or pairs k r ≡ r
@@ -104,11 +113,14 @@ pub record AreStarts (pairs : List Reader) (count : ℕ) (starts : List ℕ) : T
 pub starts_start : (pairs : List Reader) → AreStarts pairs 0 []
 starts_start pairs = record { long = refl; each = λ x start s. absurd (stands_none x start s) }
 
-pub starts_more : (pairs : List Reader) (count start : ℕ) (old new : List ℕ) → new ≡ old ++ start ∷ [] → IsStart pairs count start → AreStarts pairs count old → AreStarts pairs (count + 1) new
-starts_more pairs count start old new e is before = subst (λ (z : List ℕ). AreStarts pairs (count + 1) z) (sym e) (record {
-  long = (let l = length-append old (start ∷ []) in omega (arith, l, before.long));
-  each = λ x s st. elim (stands_split old (start ∷ []) x s st) [ inl h ↦ before.each x s h | inr h ↦ here x s h.0 h.1 h.2 ];
-})
+pub starts_more : (pairs : List Reader) (count start : ℕ) (old new : List ℕ) → new ≡ old ++ start ∷ []
+    → IsStart pairs count start → AreStarts pairs count old → AreStarts pairs (count + 1) new
+starts_more pairs count start old new e is before =
+    subst (λ (z : List ℕ). AreStarts pairs (count + 1) z) (sym e) (record {
+      long = (let l = length-append old (start ∷ []) in omega (arith, l, before.long));
+      each = λ x s st. elim (stands_split old (start ∷ []) x s st)
+          [ inl h ↦ before.each x s h | inr h ↦ here x s h.0 h.1 h.2 ];
+    })
   where
     here : (x s k : ℕ) → x ≡ length old + k → Stands (start ∷ []) k s → IsStart pairs x s
     here x s zero p q =

@@ -30,7 +30,8 @@ pub named_start : (p : GtsParts) → AreNamed p 0 []
 named_start p = record { only = λ q o. absurd (stands_none o.place q o.stands); all = λ x n h r. absurd (omega arith) }
 
 -- one assignment more
-pub named_more : (p : GtsParts) (i : ℕ) (a : Assign) (old new : List (ℕ × ℕ)) → i < length p.assigns.items → a ≡ get_or p.assigns.items i a → AreNamed p i old → AddsNamed i (ReadsVariable a) old new → AreNamed p (i + 1) new
+pub named_more : (p : GtsParts) (i : ℕ) (a : Assign) (old new : List (ℕ × ℕ)) → i < length p.assigns.items
+    → a ≡ get_or p.assigns.items i a → AreNamed p i old → AddsNamed i (ReadsVariable a) old new → AreNamed p (i + 1) new
 named_more p i a old new h is before adds = record {
   only = λ q o. elim (adds.only q o) [ inl k ↦ before.only q k | inr k ↦ here q k ];
   all = λ x n below r. at x n r (at_most n i below);
@@ -40,20 +41,25 @@ named_more p i a old new h is before adds = record {
     stands = stands_item p.assigns.items i a h is
 
     here : (q : ℕ × ℕ) → IsPairFor i (ReadsVariable a) q → Reads (net_of p) q.0 q.1
-    here q k = subst (λ (z : ℕ). Reads (net_of p) z q.1) (sym k.first) (subst (λ (z : ℕ). Reads (net_of p) k.variable.n z) (sym k.second) (read_there p k.variable.n i (record { assign = a; stands = stands; names = reads_there a k.variable k.has })))
+    here q k = subst (λ (z : ℕ). Reads (net_of p) z q.1) (sym k.first)
+        (subst (λ (z : ℕ). Reads (net_of p) k.variable.n z) (sym k.second)
+        (read_there p k.variable.n i (record { assign = a; stands = stands; names = reads_there a k.variable k.has })))
 
     same : (x n : ℕ) → n ≡ i → Reads (net_of p) x n → IsOneOf new (x, n)
     same x n e h =
         let r = read_back p x n h in
-        let one : r.assign ≡ a = stands_one p.assigns.items i r.assign a (subst (λ (z : ℕ). Stands p.assigns.items z r.assign) e r.stands) stands in
+        let one : r.assign ≡ a = stands_one p.assigns.items i r.assign a
+        (subst (λ (z : ℕ). Stands p.assigns.items z r.assign) e r.stands) stands in
         let t = reads_back a x (subst (λ (z : Assign). Names (assign_of z) x) one r.names) in
-        subst (λ (z : ℕ). IsOneOf new (z, n)) t.is (subst (λ (z : ℕ). IsOneOf new (t.variable.n, z)) (sym e) (adds.all t.variable t.has))
+        subst (λ (z : ℕ). IsOneOf new (z, n)) t.is
+        (subst (λ (z : ℕ). IsOneOf new (t.variable.n, z)) (sym e) (adds.all t.variable t.has))
 
     at : (x n : ℕ) → Reads (net_of p) x n → (n < i) ⊎ (n ≡ i) → IsOneOf new (x, n)
     at x n r (inl l) = adds.grows (x, n) (before.all x n l r)
     at x n r (inr e) = same x n e r
 
-pub named_all : (p : GtsParts) (i : ℕ) (pairs : List (ℕ × ℕ)) → length p.assigns.items ≤ i → AreNamed p i pairs → AreNamed p (length p.assigns.items) pairs
+pub named_all : (p : GtsParts) (i : ℕ) (pairs : List (ℕ × ℕ)) → length p.assigns.items ≤ i → AreNamed p i pairs
+    → AreNamed p (length p.assigns.items) pairs
 named_all p i pairs h a = record { only = a.only; all = λ x n below r. a.all x n (omega arith) r }
 
 -- the order of pairs, and their equality
@@ -88,14 +94,16 @@ less_is : (a b : ℕ) → nat_cmp a b ≡ Less → a < b
 less_is a b e = ranked a b Less (sym e)
 
 comes_before : (q r : ℕ × ℕ) → pair_cmp q r ≡ Less → ComesBefore q r
-comes_before q r e = elim (less_cases q.0 r.0 (nat_cmp q.0 r.0) (nat_cmp q.1 r.1) refl e) [ inl l ↦ inl l | inr k ↦ inr (k.0, less_is q.1 r.1 k.1) ]
+comes_before q r e = elim (less_cases q.0 r.0 (nat_cmp q.0 r.0) (nat_cmp q.1 r.1) refl e)
+    [ inl l ↦ inl l | inr k ↦ inr (k.0, less_is q.1 r.1 k.1) ]
 
 all_stand : (P : ℕ × ℕ → Type 0) (xs : List (ℕ × ℕ)) (k : ℕ) (r : ℕ × ℕ) → AllByRecursion P xs → Stands xs k r → P r
 all_stand P [] k r a s = absurd (stands_none k r s)
 all_stand P (x ∷ xs) zero r a s = let e : x ≡ r = cc in subst P e a.0
 all_stand P (x ∷ xs) (suc k) r a s = all_stand P xs k r a.1 s
 
-strictly : (xs : List (ℕ × ℕ)) (j k : ℕ) (q r : ℕ × ℕ) → IsStrictlySortedBy pair_cmp xs → j < k → Stands xs j q → Stands xs k r → pair_cmp q r ≡ Less
+strictly : (xs : List (ℕ × ℕ)) (j k : ℕ) (q r : ℕ × ℕ) → IsStrictlySortedBy pair_cmp xs → j < k → Stands xs j q
+    → Stands xs k r → pair_cmp q r ≡ Less
 unfolding IsStrictlySortedBy
 strictly [] j k q r s h a b = absurd (stands_none j q a)
 strictly (x ∷ xs) j zero q r s h a b = absurd (omega arith)
@@ -105,33 +113,40 @@ strictly (x ∷ xs) zero (suc k) q r s h a b =
 strictly (x ∷ xs) (suc j) (suc k) q r s h a b = strictly xs j k q r s.1 (omega arith) a b
 
 -- the pairs, sorted and each once
-pub ascend : (pairs sorted kept : List (ℕ × ℕ)) → IsPermutation pairs sorted → IsSorted pair_cmp sorted → IsFiltered (DiffersFromLast pair_eq) [] sorted kept → Ascend pairs kept
+pub ascend : (pairs sorted kept : List (ℕ × ℕ)) → IsPermutation pairs sorted → IsSorted pair_cmp sorted
+    → IsFiltered (DiffersFromLast pair_eq) [] sorted kept → Ascend pairs kept
 ascend pairs sorted kept perm order filtered =
     let is : kept ≡ dedup pair_eq sorted = dedup_is pair_eq sorted kept filtered in
     let P : List (ℕ × ℕ) → Type 0 = λ z. Ascend pairs z in
     subst P (sym is) (record {
       all = there;
       only = back;
-      ascending = λ j k q r h s t. comes_before q r (strictly (dedup pair_eq sorted) j k q r (IsStrictlySortedBy-dedup pair_total pair_ties sorted order) h s t);
+      ascending = λ j k q r h s t. comes_before q r
+          (strictly (dedup pair_eq sorted) j k q r (IsStrictlySortedBy-dedup pair_total pair_ties sorted order) h s t);
     })
   where
     there : (q : ℕ × ℕ) → IsOneOf pairs q → IsOneOf (dedup pair_eq sorted) q
-    there q o = one_contains (dedup pair_eq sorted) q (Contains-dedup pair_equiv pair_same sorted q (Contains-permutation pairs sorted q perm (contains_one pairs q o)))
+    there q o = one_contains (dedup pair_eq sorted) q
+        (Contains-dedup pair_equiv pair_same sorted q
+        (Contains-permutation pairs sorted q perm (contains_one pairs q o)))
 
     back : (q : ℕ × ℕ) → IsOneOf (dedup pair_eq sorted) q → IsOneOf pairs q
-    back q o = one_contains pairs q (unsort q (Contains-from_dedup pair_eq sorted q (contains_one (dedup pair_eq sorted) q o)))
+    back q o = one_contains pairs q (unsort q
+        (Contains-from_dedup pair_eq sorted q (contains_one (dedup pair_eq sorted) q o)))
       where
         unsort : (q : ℕ × ℕ) → Contains sorted q → Contains pairs q
         unsort q c = Contains-permutation sorted pairs q (IsPermutation-sym pairs sorted perm) c
 
-pub readers_sorted : (p : GtsParts) (pairs kept : List (ℕ × ℕ)) → AreNamed p (length p.assigns.items) pairs → Ascend pairs kept → AreReaders p kept
+pub readers_sorted : (p : GtsParts) (pairs kept : List (ℕ × ℕ)) → AreNamed p (length p.assigns.items) pairs
+    → Ascend pairs kept → AreReaders p kept
 readers_sorted p pairs kept a s = record {
   only = λ x n o. a.only (x, n) (s.only (x, n) o);
   all = λ x n r. s.all (x, n) (let h = read_back p x n r in a.all x n (stands_within p.assigns.items n h.assign h.stands) r);
   ascending = s.ascending;
 }
 
-pub givers_sorted : (p : GtsParts) (pairs kept : List (ℕ × ℕ)) → AreTargets p (length p.assigns.items) pairs → Ascend pairs kept → AreGivers p kept
+pub givers_sorted : (p : GtsParts) (pairs kept : List (ℕ × ℕ)) → AreTargets p (length p.assigns.items) pairs
+    → Ascend pairs kept → AreGivers p kept
 givers_sorted p pairs kept a s = record {
   only = λ x n o. a.only x n (s.only (x, n) o);
   all = λ n x st. s.all (x.target.n, n) (a.all n x (stands_within p.assigns.items n x st) st);
@@ -139,14 +154,23 @@ givers_sorted p pairs kept a s = record {
 }
 
 pub targets_start : (p : GtsParts) → AreTargets p 0 []
-targets_start p = record { only = λ x n o. absurd (stands_none o.place (x, n) o.stands); all = λ n a h s. absurd (omega arith) }
+targets_start p = record {
+  only = λ x n o. absurd (stands_none o.place (x, n) o.stands);
+  all = λ n a h s. absurd (omega arith);
+}
 
 -- one assignment more
-pub targets_more : (p : GtsParts) (i : ℕ) (a : Assign) (old new : List (ℕ × ℕ)) → i < length p.assigns.items → a ≡ get_or p.assigns.items i a → AreTargets p i old → new ≡ old ++ (a.target.n, i) ∷ [] → AreTargets p (i + 1) new
+pub targets_more : (p : GtsParts) (i : ℕ) (a : Assign) (old new : List (ℕ × ℕ)) → i < length p.assigns.items
+    → a ≡ get_or p.assigns.items i a → AreTargets p i old → new ≡ old ++ (a.target.n, i) ∷ [] → AreTargets p (i + 1) new
 targets_more p i a old new h is before e = record {
   only = λ x n o. elim (last_cases old (a.target.n, i) (x, n) (subst (λ (z : List (ℕ × ℕ)). IsOneOf z (x, n)) e o)) [
     | inl k ↦ before.only x n k
-    | inr j ↦ (a, subst (λ (z : ℕ). Stands p.assigns.items z a) (ap (λ (q : ℕ × ℕ). q.1) j) stands, ap (λ (q : ℕ × ℕ). q.0) j)
+    | inr j ↦ (
+      a,
+      subst (λ (z : ℕ). Stands p.assigns.items z a) (ap (λ (q : ℕ × ℕ). q.1) j) stands,
+      ap
+          (λ (q : ℕ × ℕ). q.0) j,
+    )
   ];
   all = λ n b below s. subst (λ (z : List (ℕ × ℕ)). IsOneOf z (b.target.n, n)) (sym e) (at n b s (at_most n i below));
 }
@@ -154,23 +178,30 @@ targets_more p i a old new h is before e = record {
     stands : Stands p.assigns.items i a
     stands = stands_item p.assigns.items i a h is
 
-    at : (n : ℕ) (b : Assign) → Stands p.assigns.items n b → (n < i) ⊎ (n ≡ i) → IsOneOf (old ++ (a.target.n, i) ∷ []) (b.target.n, n)
+    at : (n : ℕ) (b : Assign) → Stands p.assigns.items n b → (n < i) ⊎ (n ≡ i)
+        → IsOneOf (old ++ (a.target.n, i) ∷ []) (b.target.n, n)
     at n b s (inl l) = one_left old ((a.target.n, i) ∷ []) (b.target.n, n) (before.all n b l s)
     at n b s (inr j) =
         let one : a ≡ b = stands_one p.assigns.items i a b stands (subst (λ (z : ℕ). Stands p.assigns.items z b) j s) in
-        subst (λ (z : Assign). IsOneOf (old ++ (a.target.n, i) ∷ []) (z.target.n, n)) one (subst (λ (z : ℕ). IsOneOf (old ++ (a.target.n, i) ∷ []) (a.target.n, z)) (sym j) (one_last old (a.target.n, i)))
+        subst (λ (z : Assign). IsOneOf (old ++ (a.target.n, i) ∷ []) (z.target.n, n)) one
+        (subst (λ (z : ℕ). IsOneOf (old ++ (a.target.n, i) ∷ []) (a.target.n, z)) (sym j)
+        (one_last old (a.target.n, i)))
 
-pub targets_all : (p : GtsParts) (i : ℕ) (pairs : List (ℕ × ℕ)) → length p.assigns.items ≤ i → AreTargets p i pairs → AreTargets p (length p.assigns.items) pairs
+pub targets_all : (p : GtsParts) (i : ℕ) (pairs : List (ℕ × ℕ)) → length p.assigns.items ≤ i → AreTargets p i pairs
+    → AreTargets p (length p.assigns.items) pairs
 targets_all p i pairs h a = record { only = a.only; all = λ n x below s. a.all n x (omega arith) s }
 
 -- the variables of the pairs are the system's
-pub read_below : (p : GtsParts) → IsSound p → (pairs : List (ℕ × ℕ)) → AreReaders p pairs → (q : ℕ × ℕ) → IsOneOf pairs q → q.0 < length p.variables.items
+pub read_below : (p : GtsParts) → IsSound p → (pairs : List (ℕ × ℕ)) → AreReaders p pairs → (q : ℕ × ℕ)
+    → IsOneOf pairs q → q.0 < length p.variables.items
 read_below p sound pairs are q o =
     let r = are.only q.0 q.1 o in
-    let h = (system_lawful p sound).inside r.assign q.0 (one_here (net_of p).assertions q.1 r.assign r.stands) r.names in
+    let h = (system_lawful p sound).inside r.assign q.0 (one_here (net_of p).assertions q.1 r.assign r.stands)
+    r.names in
     let l = variables_long 0 p.variables.items in omega (arith, h, l)
 
-pub given_below : (p : GtsParts) → IsSound p → (pairs : List (ℕ × ℕ)) → AreGivers p pairs → (q : ℕ × ℕ) → IsOneOf pairs q → q.0 < length p.variables.items
+pub given_below : (p : GtsParts) → IsSound p → (pairs : List (ℕ × ℕ)) → AreGivers p pairs → (q : ℕ × ℕ)
+    → IsOneOf pairs q → q.0 < length p.variables.items
 given_below p sound pairs are q o =
     let g = are.only q.0 q.1 o in
     let a = sound.assertions g.0 (one_here p.assigns.items q.1 g.0 g.1) in

@@ -25,7 +25,13 @@ use Rattle.flow_propagate.specs.Searches.{AreTwo, IsTwo, Leaves, LeavesDomain, I
 
 -- a row with a value that is not its first
 pub two_of_other : (row : List Value) (v : Value) → Contains row v → HasOther row v → AreTwo row
-two_of_other row v c h = record { first = v; second = h.other; has_first = c; has_second = h.has; differ = λ e. h.differs (sym e) }
+two_of_other row v c h = record {
+  first = v;
+  second = h.other;
+  has_first = c;
+  has_second = h.has;
+  differ = λ e. h.differs (sym e);
+}
 
 module _ (p : GtsParts) (t : List Value) (rows : Rows) (facts : AreFacts (net_of p) t rows) where
   two_there : (n : ℕ) (x : Variable) → IsTwo x.is_state (row_at rows n) → HasTwo (net_of p) t (variable_of n x)
@@ -50,17 +56,25 @@ module _ (p : GtsParts) (t : List Value) (rows : Rows) (facts : AreFacts (net_of
     },
   )
 
-  two_before : (n : ℕ) → ((k : ℕ) (x : Variable) → k < n → Stands p.variables.items k x → IsTwo x.is_state (row_at rows k) → ⊥)
+  two_before : (n : ℕ) → ((k : ℕ) (x : Variable) → k < n → Stands p.variables.items k x
+      → IsTwo x.is_state (row_at rows k) → ⊥)
       → (k : ℕ) (y : s.Variable ℕ) → k < n → Stands (net_of p).variables k y → HasTwo (net_of p) t y → ⊥
   two_before n before k y l st h =
       let r = variable_back p k y st in
       before k r.0 l r.1 (two_back k r.0 (subst (λ (z : s.Variable ℕ). HasTwo (net_of p) t z) (sym r.2) h))
 
-  pub two_found : (n : ℕ) (x : Variable) → Stands p.variables.items n x → IsTwo x.is_state (row_at rows n) → ((k : ℕ) (x : Variable) → k < n → Stands p.variables.items k x → IsTwo x.is_state (row_at rows k) → ⊥)
+  pub two_found : (n : ℕ) (x : Variable) → Stands p.variables.items n x → IsTwo x.is_state (row_at rows n)
+      → ((k : ℕ) (x : Variable) → k < n → Stands p.variables.items k x → IsTwo x.is_state (row_at rows k) → ⊥)
       → IsFirst (net_of p).variables (HasTwo (net_of p) t) n
-  two_found n x st h before = record { item = variable_of n x; stands = variable_there p n x st; has = two_there n x h; before = two_before n before }
+  two_found n x st h before = record {
+    item = variable_of n x;
+    stands = variable_there p n x st;
+    has = two_there n x h;
+    before = two_before n before;
+  }
 
-  pub two_none : (n : ℕ) → length p.variables.items ≤ n → ((k : ℕ) (x : Variable) → k < n → Stands p.variables.items k x → IsTwo x.is_state (row_at rows k) → ⊥)
+  pub two_none : (n : ℕ) → length p.variables.items ≤ n
+      → ((k : ℕ) (x : Variable) → k < n → Stands p.variables.items k x → IsTwo x.is_state (row_at rows k) → ⊥)
       → HasNo (net_of p).variables (HasTwo (net_of p) t)
   two_none n h before = record {
     has_not = λ k y st two.
@@ -70,15 +84,19 @@ module _ (p : GtsParts) (t : List Value) (rows : Rows) (facts : AreFacts (net_of
   }
 
 -- an answer about the domain of the target
-pub leaves_as : (p : GtsParts) (rows : Rows) (a : Assign) (d : Domain) (b : Bool) (x : Variable) → Stands p.variables.items a.target.n x → d ≡ x.domain → IsAnswer b (Leaves rows d a) → IsAnswer b (LeavesDomain p rows a)
-leaves_as p rows a d true x st e h = record { variable = x; stands = st; leaves = subst (λ (z : Domain). Leaves rows z a) e h }
+pub leaves_as : (p : GtsParts) (rows : Rows) (a : Assign) (d : Domain) (b : Bool) (x : Variable)
+    → Stands p.variables.items a.target.n x → d ≡ x.domain → IsAnswer b (Leaves rows d a)
+    → IsAnswer b (LeavesDomain p rows a)
+leaves_as p rows a d true x st e h =
+    record { variable = x; stands = st; leaves = subst (λ (z : Domain). Leaves rows z a) e h }
 leaves_as p rows a d false x st e h = λ k.
     let same : k.variable ≡ x = stands_one p.variables.items a.target.n k.variable x k.stands st in
     h (subst (λ (z : Domain). Leaves rows z a) (ap (λ (z : Variable). z.domain) same ∙ sym e) k.leaves)
 
 module _ (p : GtsParts) (sound : IsSound p) (t : List Value) (rows : Rows) (facts : AreFacts (net_of p) t rows) where
   -- an outside flow of the system is the target of an assignment that leaves its domain
-  outside_back : (n : ℕ) (y : s.Variable ℕ) → Stands (net_of p).variables n y → IsOutside (net_of p) t y → (k : ℕ) × (a : Assign) × Stands p.assigns.items k a × LeavesDomain p rows a × (a.target.n ≡ n)
+  outside_back : (n : ℕ) (y : s.Variable ℕ) → Stands (net_of p).variables n y → IsOutside (net_of p) t y
+      → (k : ℕ) × (a : Assign) × Stands p.assigns.items k a × LeavesDomain p rows a × (a.target.n ≡ n)
   outside_back n y st h =
       let i = stands_map_back assign_of p.assigns.items h.is_one.place h.assign h.is_one.stands in
       let v = variable_back p n y st in
@@ -92,16 +110,20 @@ module _ (p : GtsParts) (sound : IsSound p) (t : List Value) (rows : Rows) (fact
           variable = v.0;
           stands = subst (λ (z : ℕ). Stands p.variables.items z v.0) (sym target) v.1;
           leaves = record {
-            passes = subst (λ (z : s.Assign ℕ). Passes (Holds rows) z.conditions) (sym i.2) (passes_more ℕ (FactOf (net_of p) t) (Holds rows) facts.complete h.passes);
+            passes = subst (λ (z : s.Assign ℕ). Passes (Holds rows) z.conditions) (sym i.2)
+                (passes_more ℕ (FactOf (net_of p) t) (Holds rows) facts.complete h.passes);
             value = h.value;
-            yields = subst (λ (z : s.Assign ℕ). Yields (Holds rows) (out-Expr ℕ z.value) h.value) (sym i.2) (yields_more ℕ (FactOf (net_of p) t) (Holds rows) facts.complete h.yields);
-            outside = λ c. h.outside (subst (λ (z : s.Variable ℕ). Contains z.domain h.value) v.2 (listed v.0.domain h.value c));
+            yields = subst (λ (z : s.Assign ℕ). Yields (Holds rows) (out-Expr ℕ z.value) h.value) (sym i.2)
+                (yields_more ℕ (FactOf (net_of p) t) (Holds rows) facts.complete h.yields);
+            outside = λ c. h.outside (subst (λ (z : s.Variable ℕ). Contains z.domain h.value) v.2
+                (listed v.0.domain h.value c));
           };
         },
         target,
       )
 
-  outside_there : (a : Assign) (n : ℕ) → IsOneOf p.assigns.items a → (l : LeavesDomain p rows a) → a.target.n ≡ n → IsOutside (net_of p) t (variable_of n l.variable)
+  outside_there : (a : Assign) (n : ℕ) → IsOneOf p.assigns.items a → (l : LeavesDomain p rows a) → a.target.n ≡ n
+      → IsOutside (net_of p) t (variable_of n l.variable)
   outside_there a n one l e =
       let r = sound.assertions a one in
       let same : r.variable ≡ l.variable = stands_one p.variables.items a.target.n r.variable l.variable r.stands l.stands in record {
@@ -112,22 +134,26 @@ module _ (p : GtsParts) (sound : IsSound p) (t : List Value) (rows : Rows) (fact
         is_target = e;
         passes = passes_more ℕ (Holds rows) (FactOf (net_of p) t) facts.sound l.leaves.passes;
         yields = yields_more ℕ (Holds rows) (FactOf (net_of p) t) facts.sound l.leaves.yields;
-        outside = λ c. l.leaves.outside (held l.variable.domain l.leaves.value (sound.variables a.target.n l.variable l.stands).domain c);
+        outside = λ c. l.leaves.outside (held l.variable.domain l.leaves.value
+            (sound.variables a.target.n l.variable l.stands).domain c);
       }
 
-  pub outside_found : (n : ℕ) → IsLeast p.assigns.items (length p.assigns.items) (LeavesDomain p rows) (Some n) → IsFirst (net_of p).variables (IsOutside (net_of p) t) n
+  pub outside_found : (n : ℕ) → IsLeast p.assigns.items (length p.assigns.items) (LeavesDomain p rows) (Some n)
+      → IsFirst (net_of p).variables (IsOutside (net_of p) t) n
   outside_found n l =
       let w = l.0 in
       let one : IsOneOf p.assigns.items w.1 = record { place = w.0; stands = w.2 } in record {
         item = variable_of n w.3.variable;
-        stands = variable_there p n w.3.variable (subst (λ (z : ℕ). Stands p.variables.items z w.3.variable) w.4 w.3.stands);
+        stands = variable_there p n w.3.variable
+            (subst (λ (z : ℕ). Stands p.variables.items z w.3.variable) w.4 w.3.stands);
         has = outside_there w.1 n one w.3 w.4;
         before = λ k y below st h.
             let b = outside_back k y st h in
             let low = l.1 b.0 b.1 (stands_within p.assigns.items b.0 b.1 b.2) b.2 b.3 in omega (arith, low, b.4);
       }
 
-  pub outside_none : IsLeast p.assigns.items (length p.assigns.items) (LeavesDomain p rows) None → HasNo (net_of p).variables (IsOutside (net_of p) t)
+  pub outside_none : IsLeast p.assigns.items (length p.assigns.items) (LeavesDomain p rows) None
+      → HasNo (net_of p).variables (IsOutside (net_of p) t)
   outside_none l = record {
     has_not = λ k y st h.
         let b = outside_back k y st h in l b.0 b.1 (stands_within p.assigns.items b.0 b.1 b.2) b.2 b.3;

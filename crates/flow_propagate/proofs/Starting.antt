@@ -23,11 +23,14 @@ holds_within [] (suc n) v h = absurd (nothing-in v h)
 holds_within (r ∷ rows) zero v h = omega arith
 holds_within (r ∷ rows) (suc n) v h = let k = holds_within rows n v h in omega arith
 
-module _ (p : GtsParts) (t : List Value) (rows : Rows) (long : length t ≡ length p.variables.items) (st : Starts p.variables.items t (length p.variables.items) rows) where
-  by_state : (n : ℕ) (x : Variable) (w v : Value) (b : Bool) → x.is_state ≡ b → Stands p.variables.items n x → Stands t n w → Contains (cond b (w ∷ []) []) v → FactOf (net_of p) t n v
+module _ (p : GtsParts) (t : List Value) (rows : Rows) (long : length t ≡ length p.variables.items)
+    (st : Starts p.variables.items t (length p.variables.items) rows) where
+  by_state : (n : ℕ) (x : Variable) (w v : Value) (b : Bool) → x.is_state ≡ b → Stands p.variables.items n x
+      → Stands t n w → Contains (cond b (w ∷ []) []) v → FactOf (net_of p) t n v
   by_state n x w v true is sx sw h =
       let i = contains-one w v h in
-      given (given_from (net_of p) (are_numbered p) t n (variable_of n x) v (variable_there p n x sx) is (subst (λ (z : Value). Stands t n z) i sw))
+      given (given_from (net_of p) (are_numbered p) t n (variable_of n x) v (variable_there p n x sx) is
+      (subst (λ (z : Value). Stands t n z) i sw))
   by_state n x w v false is sx sw h = absurd (nothing-in v h)
 
   pub starts_sound : IsSoundTable (net_of p) t rows
@@ -35,7 +38,8 @@ module _ (p : GtsParts) (t : List Value) (rows : Rows) (long : length t ≡ leng
       let below : n < length p.variables.items = let k = holds_within rows n v h in omega (arith, st.long) in
       let x = stands_some p.variables.items n below in
       let w = stands_some t n (omega (arith, long)) in
-      by_state n x.0 w.0 v x.0.is_state refl x.1 w.1 (subst (λ (z : List Value). Contains z v) (st.row n x.0 w.0 below x.1 w.1) h)
+      by_state n x.0 w.0 v x.0.is_state refl x.1 w.1
+      (subst (λ (z : List Value). Contains z v) (st.row n x.0 w.0 below x.1 w.1) h)
 
   pub starts_given : (n : ℕ) (v : Value) → IsGiven (net_of p) t n v → Holds rows n v
   starts_given n v g =

@@ -22,8 +22,11 @@ use Rattle.typed_expr.specs.Rows.{Rows, row_at}
 use Rattle.flow_propagate.specs.Table.{AreFacts}
 use Rattle.flow_propagate.specs.Totals.{Completed, completed_value, Breaks}
 
-pub completed_more : (vars : List Variable) (values : List Value) (rows : Rows) (i : ℕ) (x : Variable) (v : Value) (total new : List Value) (w : Value)
-    → Completed vars values rows i total → Stands vars i x → Stands values i v → w ≡ completed_value x.is_state v (row_at rows i) x.value → new ≡ total ++ w ∷ [] → Completed vars values rows (i + 1) new
+pub completed_more : (vars : List Variable) (values : List Value) (rows : Rows) (i : ℕ) (x : Variable) (v : Value)
+    (total new : List Value) (w : Value)
+    → Completed vars values rows i total → Stands vars i x → Stands values i v
+    → w ≡ completed_value x.is_state v (row_at rows i) x.value → new ≡ total ++ w ∷ []
+    → Completed vars values rows (i + 1) new
 completed_more vars values rows i x v total new w c sx sv is e =
     let P : List Value → Type 0 = λ z. Completed vars values rows (i + 1) z in
     subst P (sym e) (record {
@@ -31,41 +34,58 @@ completed_more vars values rows i x v total new w c sx sv is e =
       value = λ n y u below sy su. go n y u sy su (at_most n i below);
     })
   where
-    go : (n : ℕ) (y : Variable) (u : Value) → Stands vars n y → Stands values n u → (n < i) ⊎ (n ≡ i) → Stands (total ++ w ∷ []) n (completed_value y.is_state u (row_at rows n) y.value)
+    go : (n : ℕ) (y : Variable) (u : Value) → Stands vars n y → Stands values n u → (n < i) ⊎ (n ≡ i)
+        → Stands (total ++ w ∷ []) n (completed_value y.is_state u (row_at rows n) y.value)
     go n y u sy su (inl l) = stands_left total (w ∷ []) n _ (c.value n y u l sy su)
     go n y u sy su (inr j) =
         let same : y ≡ x = stands_one vars i y x (subst (λ (z : ℕ). Stands vars z y) j sy) sx in
         let one : u ≡ v = stands_one values i u v (subst (λ (z : ℕ). Stands values z u) j su) sv in
-        let at : Stands (total ++ w ∷ []) i w = subst (λ (z : ℕ). Stands (total ++ w ∷ []) z w) c.long (stands_next total w []) in
+        let at : Stands (total ++ w ∷ []) i w =
+        subst (λ (z : ℕ). Stands (total ++ w ∷ []) z w) c.long (stands_next total w []) in
         let val : w ≡ completed_value y.is_state u (row_at rows n) y.value =
-        is ∙ ap (λ (z : Variable). completed_value z.is_state v (row_at rows i) z.value) (sym same) ∙ ap (λ (z : Value). completed_value y.is_state z (row_at rows i) y.value) (sym one) ∙ ap (λ (z : ℕ). completed_value y.is_state u (row_at rows z) y.value) (sym j) in
-        subst (λ (z : Value). Stands (total ++ w ∷ []) n z) val (subst (λ (z : ℕ). Stands (total ++ w ∷ []) z w) (sym j) at)
+        is ∙ ap (λ (z : Variable). completed_value z.is_state v (row_at rows i) z.value) (sym same)
+        ∙ ap (λ (z : Value). completed_value y.is_state z (row_at rows i) y.value) (sym one)
+        ∙ ap (λ (z : ℕ). completed_value y.is_state u (row_at rows z) y.value) (sym j) in
+        subst (λ (z : Value). Stands (total ++ w ∷ []) n z) val
+        (subst (λ (z : ℕ). Stands (total ++ w ∷ []) z w) (sym j) at)
 
 module _ (p : GtsParts) (t : List Value) (rows : Rows) (facts : AreFacts (net_of p) t rows) where
-  one_variable : (k : ℕ) (x : Variable) (xs : List Variable) (v : Value) (vs ws : List Value) (b : Bool) → x.is_state ≡ b → (row : List Value) → row ≡ row_at rows k → (w : Value) → w ≡ completed_value b v row x.value
-      → Completes (FactOf (net_of p) t) (variables_from (k + 1) xs) vs ws → Completes (FactOf (net_of p) t) (variable_of k x ∷ variables_from (k + 1) xs) (v ∷ vs) (w ∷ ws)
-  one_variable k x xs v vs ws true is row at w e c = subst (λ (z : Value). Completes (FactOf (net_of p) t) (variable_of k x ∷ variables_from (k + 1) xs) (v ∷ vs) (z ∷ ws)) (sym e) (flows.state is c)
+  one_variable : (k : ℕ) (x : Variable) (xs : List Variable) (v : Value) (vs ws : List Value) (b : Bool)
+      → x.is_state ≡ b → (row : List Value) → row ≡ row_at rows k → (w : Value) → w ≡ completed_value b v row x.value
+      → Completes (FactOf (net_of p) t) (variables_from (k + 1) xs) vs ws
+      → Completes (FactOf (net_of p) t) (variable_of k x ∷ variables_from (k + 1) xs) (v ∷ vs) (w ∷ ws)
+  one_variable k x xs v vs ws true is row at w e c =
+      subst (λ (z : Value). Completes (FactOf (net_of p) t) (variable_of k x ∷ variables_from (k + 1) xs) (v ∷ vs)
+      (z ∷ ws)) (sym e) (flows.state is c)
   one_variable k x xs v vs ws false is [] at w e c =
-      subst (λ (z : Value). Completes (FactOf (net_of p) t) (variable_of k x ∷ variables_from (k + 1) xs) (v ∷ vs) (z ∷ ws)) (sym e)
+      subst (λ (z : Value). Completes (FactOf (net_of p) t) (variable_of k x ∷ variables_from (k + 1) xs) (v ∷ vs)
+      (z ∷ ws)) (sym e)
       (flows.unknown is (λ u f. let h : Contains [] u = subst (λ (z : List Value). Contains z u) (sym at) (facts.complete k u f) in omega (arith, h.1)) c)
   one_variable k x xs v vs ws false is (r ∷ row) at w e c =
-      subst (λ (z : Value). Completes (FactOf (net_of p) t) (variable_of k x ∷ variables_from (k + 1) xs) (v ∷ vs) (z ∷ ws)) (sym e)
+      subst (λ (z : Value). Completes (FactOf (net_of p) t) (variable_of k x ∷ variables_from (k + 1) xs) (v ∷ vs)
+      (z ∷ ws)) (sym e)
       (flows.known is (facts.sound k r (subst (λ (z : List Value). Contains z r) at (0, omega arith, refl))) c)
 
   completes_from : (k : ℕ) (xs : List Variable) (vs ws : List Value) → length vs ≡ length xs → length ws ≡ length xs
-      → ((n m : ℕ) (x : Variable) (v : Value) → m ≡ k + n → Stands xs n x → Stands vs n v → Stands ws n (completed_value x.is_state v (row_at rows m) x.value)) → Completes (FactOf (net_of p) t) (variables_from k xs) vs ws
+      → ((n m : ℕ) (x : Variable) (v : Value) → m ≡ k + n → Stands xs n x → Stands vs n v
+      → Stands ws n (completed_value x.is_state v (row_at rows m) x.value))
+      → Completes (FactOf (net_of p) t) (variables_from k xs) vs ws
   completes_from k [] [] [] l m h = flows.none
   completes_from k [] (v ∷ vs) ws l m h = absurd (omega (arith, l))
   completes_from k [] [] (w ∷ ws) l m h = absurd (omega (arith, m))
   completes_from k (x ∷ xs) [] ws l m h = absurd (omega (arith, l))
   completes_from k (x ∷ xs) (v ∷ vs) [] l m h = absurd (omega (arith, m))
   completes_from k (x ∷ xs) (v ∷ vs) (w ∷ ws) l m h =
-      let here : Stands (w ∷ ws) 0 (completed_value x.is_state v (row_at rows k) x.value) = h 0 k x v (omega arith) refl refl in
+      let here : Stands (w ∷ ws) 0 (completed_value x.is_state v (row_at rows k) x.value) =
+      h 0 k x v (omega arith) refl refl in
       let is : w ≡ completed_value x.is_state v (row_at rows k) x.value = cc in
       one_variable k x xs v vs ws x.is_state refl (row_at rows k) refl w is
-      (completes_from (k + 1) xs vs ws (omega (arith, l)) (omega (arith, m)) (λ n j y u e sy su. h (suc n) j y u (omega (arith, e)) sy su))
+      (completes_from (k + 1) xs vs ws (omega (arith, l)) (omega (arith, m))
+      (λ n j y u e sy su. h (suc n) j y u (omega (arith, e)) sy su))
 
-  pub completes : (total : List Value) → length t ≡ length p.variables.items → Completed p.variables.items t rows (length p.variables.items) total → Completes (FactOf (net_of p) t) (net_of p).variables t total
+  pub completes : (total : List Value) → length t ≡ length p.variables.items
+      → Completed p.variables.items t rows (length p.variables.items) total
+      → Completes (FactOf (net_of p) t) (net_of p).variables t total
   completes total long c = completes_from 0 p.variables.items t total long c.long
       (λ n m x v e sx sv. subst (λ (z : ℕ). Stands total n (completed_value x.is_state v (row_at rows z) x.value)) (let i : n ≡ m = omega (arith, e) in i) (c.value n x v (stands_within p.variables.items n x sx) sx sv))
 
@@ -81,7 +101,8 @@ module _ (p : GtsParts) (sound : IsSound p) (total : List Value) (is : IsTotal p
     differs = λ c. h.differs (value_at (net_of p) (are_numbered p) total a.target.n _ c);
   }
 
-  met : (a : Assign) → IsOneOf p.assigns.items a → Passes (HasValue (net_of p) total) (assign_of a).conditions → (b : Bool) → list_all (is_met total) a.when.items ≡ b → b ≡ true
+  met : (a : Assign) → IsOneOf p.assigns.items a → Passes (HasValue (net_of p) total) (assign_of a).conditions
+      → (b : Bool) → list_all (is_met total) a.when.items ≡ b → b ≡ true
   met a one h true e = refl
   met a one h false e = absurd (fails _ _ e (passes_answer p total is a.when.items (typed a one).conditions) h)
 
@@ -91,25 +112,31 @@ module _ (p : GtsParts) (sound : IsSound p) (total : List Value) (is : IsTotal p
     differs = λ st.
         let x = typed a one in
         let same : h.value ≡ value_in total a.value = yielded_value p total is a.value _ x.value h.value h.yields in
-        h.differs (value_from (net_of p) (are_numbered p) total a.target.n (variable_of a.target.n x.variable) h.value (variable_there p a.target.n x.variable x.stands) (subst (λ (z : Value). Stands total a.target.n z) (sym same) st));
+        h.differs (value_from (net_of p) (are_numbered p) total a.target.n (variable_of a.target.n x.variable) h.value
+        (variable_there p a.target.n x.variable x.stands)
+        (subst (λ (z : Value). Stands total a.target.n z) (sym same) st));
   }
 
-  pub broken_found : (n : ℕ) → IsFirst p.assigns.items (Breaks total) n → IsFirst (net_of p).assertions (IsBroken (net_of p) total) n
+  pub broken_found : (n : ℕ) → IsFirst p.assigns.items (Breaks total) n
+      → IsFirst (net_of p).assertions (IsBroken (net_of p) total) n
   broken_found n f = record {
     item = assign_of f.item;
     stands = stands_map assign_of p.assigns.items n f.item f.stands;
     has = broken_there f.item (record { place = n; stands = f.stands }) f.has;
     before = λ k a below st h.
         let r = stands_map_back assign_of p.assigns.items k a st in
-        f.before k r.0 below r.1 (broken_back r.0 (record { place = k; stands = r.1 }) (subst (λ (z : s.Assign ℕ). IsBroken (net_of p) total z) (sym r.2) h));
+        f.before k r.0 below r.1 (broken_back r.0 (record { place = k; stands = r.1 })
+        (subst (λ (z : s.Assign ℕ). IsBroken (net_of p) total z) (sym r.2) h));
   }
 
   pub broken_none : HasNo p.assigns.items (Breaks total) → HasNo (net_of p).assertions (IsBroken (net_of p) total)
   broken_none f = record {
     has_not = λ k a st h.
         let r = stands_map_back assign_of p.assigns.items k a st in
-        f.has_not k r.0 r.1 (broken_back r.0 (record { place = k; stands = r.1 }) (subst (λ (z : s.Assign ℕ). IsBroken (net_of p) total z) (sym r.2) h));
+        f.has_not k r.0 r.1 (broken_back r.0 (record { place = k; stands = r.1 })
+        (subst (λ (z : s.Assign ℕ). IsBroken (net_of p) total z) (sym r.2) h));
   }
 
-pub no_items : {A : Type 0} (xs : List A) (n : ℕ) (P : A → Type 0) → length xs ≤ n → ((k : ℕ) (x : A) → k < n → Stands xs k x → P x → ⊥) → HasNo xs P
+pub no_items : {A : Type 0} (xs : List A) (n : ℕ) (P : A → Type 0) → length xs ≤ n
+    → ((k : ℕ) (x : A) → k < n → Stands xs k x → P x → ⊥) → HasNo xs P
 no_items xs n P h before = record { has_not = λ k x st q. let below = stands_within xs k x st in before k x (omega (arith, below)) st q }

@@ -24,18 +24,21 @@ module _ {A : Type 0} where
   set_back (z ∷ xs) zero zero x y s = inl (refl, cc)
   set_back (z ∷ xs) zero (suc n) x y s = inr s
   set_back (z ∷ xs) (suc k) zero x y s = inr s
-  set_back (z ∷ xs) (suc k) (suc n) x y s = elim (set_back xs k n x y s) [ inl e ↦ inl (ap suc e.0, e.1) | inr h ↦ inr h ]
+  set_back (z ∷ xs) (suc k) (suc n) x y s =
+      elim (set_back xs k n x y s) [ inl e ↦ inl (ap suc e.0, e.1) | inr h ↦ inr h ]
 
 -- the count of a worklist is the number of its places
 pub by_length : (count : ℕ) (w : Worklist) → IsWorklist count w → IsWorklist (length w.places.now) w
 by_length count w h = subst (λ (z : ℕ). IsWorklist z w) (sym h.long) h
 
 -- the worklist without the place that was taken
-pub takes_one : (count n place : ℕ) (old new : Worklist) → IsWorklist count old → TakesPlace place old new → Stands new.order.now place n → Takes count n old new
+pub takes_one : (count n place : ℕ) (old new : Worklist) → IsWorklist count old → TakesPlace place old new
+    → Stands new.order.now place n → Takes count n old new
 takes_one count n place old new w t stands = record {
   is = record {
     long = ap (λ (z : List ℕ). length z) t.places ∙ w.long;
-    placed = λ m p s. subst (λ (z : List ℕ). Stands z p m) (sym t.order) (w.placed m p (subst (λ (z : List ℕ). Stands z m p) t.places s));
+    placed = λ m p s. subst (λ (z : List ℕ). Stands z p m) (sym t.order)
+        (w.placed m p (subst (λ (z : List ℕ). Stands z m p) t.places s));
     below = λ m p s. w.below m p (subst (λ (z : List ℕ). Stands z p m) t.order s);
     reached = subst (λ (z : List ℕ). new.fresh ≤ length z) (sym t.order) t.reached;
     within = λ p h. subst (λ (z : List ℕ). p < length z) (sym t.order) (w.within p (t.only p h));
@@ -43,8 +46,13 @@ takes_one count n place old new w t stands = record {
   below = w.below n place st;
   less = t.less;
   others = λ m h. elim (t.others h.place h.waits) [
-    | inl e ↦ inl (stands_one old.order.now place m n (subst (λ (z : ℕ). Stands old.order.now z m) e (w.placed m h.place h.stands)) st)
-    | inr k ↦ inr (record { place = h.place; stands = subst (λ (z : List ℕ). Stands z m h.place) (sym t.places) h.stands; waits = k })
+    | inl e ↦ inl (stands_one old.order.now place m n
+        (subst (λ (z : ℕ). Stands old.order.now z m) e (w.placed m h.place h.stands)) st)
+    | inr k ↦ inr (record {
+      place = h.place;
+      stands = subst (λ (z : List ℕ). Stands z m h.place) (sym t.places) h.stands;
+      waits = k;
+    })
   ];
 }
   where
@@ -52,17 +60,22 @@ takes_one count n place old new w t stands = record {
     st = subst (λ (z : List ℕ). Stands z place n) t.order stands
 
 -- where no place waits no assignment does
-pub none_waits : (count : ℕ) (w : Worklist) → IsWorklist count w → ((p : ℕ) → p < length w.order.now → WaitsAt w p → ⊥) → (n : ℕ) → Waits w n → ⊥
-none_waits count w h lacks n k = lacks k.place (stands_within w.order.now k.place n (h.placed n k.place k.stands)) k.waits
+pub none_waits : (count : ℕ) (w : Worklist) → IsWorklist count w → ((p : ℕ) → p < length w.order.now → WaitsAt w p → ⊥)
+    → (n : ℕ) → Waits w n → ⊥
+none_waits count w h lacks n k = lacks k.place (stands_within w.order.now k.place n (h.placed n k.place k.stands))
+    k.waits
 
 -- the assignments of the first so many pairs
 abbrev pub IsAmong : List Reader → ℕ → ℕ → Type 0
 IsAmong readers i m = (k : ℕ) × (r : Reader) × (k < i) × Stands readers k r × (r.1.n ≡ m)
 
-pub adds_start : (count : ℕ) (readers : List Reader) (w : Worklist) → IsWorklist count w → AddsWork count 0 (IsAmong readers 0) w w
+pub adds_start : (count : ℕ) (readers : List Reader) (w : Worklist) → IsWorklist count w
+    → AddsWork count 0 (IsAmong readers 0) w w
 adds_start count readers w h = record { is = h; few = omega arith; keeps = λ m k. k; adds = λ m f. absurd (let k = f.2 in omega (arith, k)) }
 
-pub adds_more : (count i : ℕ) (readers : List Reader) (r : Reader) (old mid new : Worklist) → Stands readers i r → AddsWork count i (IsAmong readers i) old mid → AddsWork count 1 (λ m. m ≡ r.1.n) mid new → AddsWork count (i + 1) (IsAmong readers (i + 1)) old new
+pub adds_more : (count i : ℕ) (readers : List Reader) (r : Reader) (old mid new : Worklist) → Stands readers i r
+    → AddsWork count i (IsAmong readers i) old mid → AddsWork count 1 (λ m. m ≡ r.1.n) mid new
+    → AddsWork count (i + 1) (IsAmong readers (i + 1)) old new
 adds_more count i readers r old mid new st a b = record {
   is = b.is;
   few = (let f = a.few in let g = b.few in omega (arith, f, g));
@@ -76,7 +89,9 @@ adds_more count i readers r old mid new st a b = record {
         let one : f.1 ≡ r = stands_one readers i f.1 r (subst (λ (z : ℕ). Stands readers z f.1) e f.3) st in
         b.adds m (sym f.4 ∙ ap (λ (z : Reader). z.1.n) one)
 
-pub adds_all : (count i : ℕ) (readers : List Reader) (old new : Worklist) → length readers ≤ i → i ≤ length readers → AddsWork count i (IsAmong readers i) old new → AddsWork count (length readers) (λ m. (r : Reader) × IsOneOf readers r × (r.1.n ≡ m)) old new
+pub adds_all : (count i : ℕ) (readers : List Reader) (old new : Worklist) → length readers ≤ i → i ≤ length readers
+    → AddsWork count i (IsAmong readers i) old new
+    → AddsWork count (length readers) (λ m. (r : Reader) × IsOneOf readers r × (r.1.n ≡ m)) old new
 adds_all count i readers old new h k a = record {
   is = a.is;
   few = (let f = a.few in omega (arith, f));
@@ -84,8 +99,11 @@ adds_all count i readers old new h k a = record {
   adds = λ m f. a.adds m (f.1.place, f.0, (let w = stands_within readers f.1.place f.0 f.1.stands in omega (arith, w)), f.1.stands, f.2);
 }
 
-pub adds_run : (count : ℕ) (readers run : List Reader) (variable : ℕ) (old new : Worklist) → ((r : Reader) → IsOneOf readers r → r.0.n ≡ variable → IsOneOf run r) → length run ≤ length readers
-    → AddsWork count (length run) (λ m. (r : Reader) × IsOneOf run r × (r.1.n ≡ m)) old new → AddsWork count (length readers) (λ m. (r : Reader) × IsOneOf readers r × (r.0.n ≡ variable) × (r.1.n ≡ m)) old new
+pub adds_run : (count : ℕ) (readers run : List Reader) (variable : ℕ) (old new : Worklist)
+    → ((r : Reader) → IsOneOf readers r → r.0.n ≡ variable → IsOneOf run r) → length run ≤ length readers
+    → AddsWork count (length run) (λ m. (r : Reader) × IsOneOf run r × (r.1.n ≡ m)) old new
+    → AddsWork count (length readers) (λ m. (r : Reader) × IsOneOf readers r × (r.0.n ≡ variable) × (r.1.n ≡ m)) old
+    new
 adds_run count readers run variable old new all short a = record {
   is = a.is;
   few = (let f = a.few in omega (arith, f));
@@ -94,36 +112,48 @@ adds_run count readers run variable old new all short a = record {
 }
 
 pub adds_pairs : (count most : ℕ) (readers : List Reader) (variable : ℕ) (old new : Worklist)
-    → AddsWork count most (λ m. (r : Reader) × IsOneOf readers r × (r.0.n ≡ variable) × (r.1.n ≡ m)) old new → AddsWork count most (λ m. IsOneOf (map plain_pair readers) (variable, m)) old new
+    → AddsWork count most (λ m. (r : Reader) × IsOneOf readers r × (r.0.n ≡ variable) × (r.1.n ≡ m)) old new
+    → AddsWork count most (λ m. IsOneOf (map plain_pair readers) (variable, m)) old new
 adds_pairs count most readers variable old new a = record {
   is = a.is;
   few = a.few;
   keeps = a.keeps;
   adds = λ m o.
       let r = stands_map_back plain_pair readers o.place (variable, m) o.stands in
-      a.adds m (r.0, record { place = o.place; stands = r.1 }, ap (λ (q : ℕ × ℕ). q.0) r.2, ap (λ (q : ℕ × ℕ). q.1) r.2);
+      a.adds m (
+        r.0,
+        record { place = o.place; stands = r.1 },
+        ap (λ (q : ℕ × ℕ). q.0) r.2,
+        ap (λ (q : ℕ × ℕ). q.1)
+            r.2,
+      );
 }
 
 -- ascending pairs have ascending variables
-pub rising : (pairs : List Reader) → ((j k : ℕ) (q r : ℕ × ℕ) → j < k → Stands (map plain_pair pairs) j q → Stands (map plain_pair pairs) k r → ComesBefore q r)
+pub rising : (pairs : List Reader) → ((j k : ℕ) (q r : ℕ × ℕ) → j < k → Stands (map plain_pair pairs) j q
+    → Stands (map plain_pair pairs) k r → ComesBefore q r)
     → IsNonDecreasingBy (λ (r : Reader). r.0.n) pairs
 rising pairs ascending = λ i j d h k. at i j d h k (cases_eq i j)
   where
     item : (i : ℕ) (d : Reader) → i < length pairs → Stands (map plain_pair pairs) i (plain_pair (get_or pairs i d))
     item i d h = stands_map plain_pair pairs i (get_or pairs i d) (slice_get-get_or pairs i d h)
 
-    at : (i j : ℕ) (d : Reader) → i ≤ j → j < length pairs → (i ≡ j) ⊎ (i ≡ j → ⊥) → (get_or pairs i d).0.n ≤ (get_or pairs j d).0.n
+    at : (i j : ℕ) (d : Reader) → i ≤ j → j < length pairs → (i ≡ j) ⊎ (i ≡ j → ⊥)
+        → (get_or pairs i d).0.n ≤ (get_or pairs j d).0.n
     at i j d h k (inl e) = let s : (get_or pairs i d).0.n ≡ (get_or pairs j d).0.n = ap (λ (z : ℕ). (get_or pairs z d).0.n) e in omega (arith, s)
     at i j d h k (inr f) =
         let l : i < j = omega (arith, f) in
-        elim (ascending i j (plain_pair (get_or pairs i d)) (plain_pair (get_or pairs j d)) l (item i d (omega arith)) (item j d k)) [
+        elim (ascending i j (plain_pair (get_or pairs i d)) (plain_pair (get_or pairs j d)) l (item i d (omega arith))
+        (item j d k)) [
           | inl x ↦ omega (arith, x)
           | inr x ↦ (let y = x.0 in omega (arith, y))
         ]
 
-pub readers_below : (p : GtsParts) (readers : List Reader) → AreReaders p (map plain_pair readers) → (r : Reader) → IsOneOf readers r → r.1.n < length p.assigns.items
+pub readers_below : (p : GtsParts) (readers : List Reader) → AreReaders p (map plain_pair readers) → (r : Reader)
+    → IsOneOf readers r → r.1.n < length p.assigns.items
 readers_below p readers a r o =
-    let q = read_back p r.0.n r.1.n (a.only r.0.n r.1.n (record { place = o.place; stands = stands_map plain_pair readers o.place r o.stands })) in
+    let q = read_back p r.0.n r.1.n (a.only r.0.n r.1.n
+    (record { place = o.place; stands = stands_map plain_pair readers o.place r o.stands })) in
     stands_within p.assigns.items r.1.n q.assign q.stands
 
 -- what stands for no pair where a list of pairs is read
@@ -134,9 +164,15 @@ pub reader_at : (readers : List Reader) (i : ℕ) → i < length readers → Sta
 reader_at readers i h = slice_get-get_or readers i no_reader h
 
 -- the numbers so far, and one more
-pub numbers_more : (i : ℕ) (old new : List ℕ) → new ≡ old ++ i ∷ [] → ((n : ℕ) → n < i → IsOneOf old n) × ((n : ℕ) → IsOneOf old n → n < i) → ((n : ℕ) → n < i + 1 → IsOneOf new n) × ((n : ℕ) → IsOneOf new n → n < i + 1)
+pub numbers_more : (i : ℕ) (old new : List ℕ) → new ≡ old ++ i ∷ []
+    → ((n : ℕ) → n < i → IsOneOf old n) × ((n : ℕ) → IsOneOf old n → n < i)
+    → ((n : ℕ) → n < i + 1 → IsOneOf new n) × ((n : ℕ) → IsOneOf new n → n < i + 1)
 numbers_more i old new e a = (
-  λ n h. subst (λ (z : List ℕ). IsOneOf z n) (sym e) (elim (at_most n i h) [ inl l ↦ one_left old (i ∷ []) n (a.0 n l) | inr j ↦ subst (λ (z : ℕ). IsOneOf (old ++ i ∷ []) z) (sym j) (one_last old i) ]),
+  λ n h. subst (λ (z : List ℕ). IsOneOf z n) (sym e)
+      (elim (at_most n i h) [
+        | inl l ↦ one_left old (i ∷ []) n (a.0 n l)
+        | inr j ↦ subst (λ (z : ℕ). IsOneOf (old ++ i ∷ []) z) (sym j) (one_last old i)
+      ]),
   λ n o. elim (last_cases old i n (subst (λ (z : List ℕ). IsOneOf z n) e o)) [ inl k ↦ (let l = a.1 n k in omega (arith, l)) | inr j ↦ omega (arith, j) ],
 )
 
@@ -144,19 +180,22 @@ numbers_more i old new e a = (
 pub order_moved : (count : ℕ) (xs ys : List ℕ) → IsPermutation xs ys → IsOrder count xs → IsOrder count ys
 order_moved count xs ys perm o = record {
   all = λ n h. one_contains ys n (Contains-permutation xs ys n perm (contains_one xs n (o.all n h)));
-  below = λ n h. o.below n (one_contains xs n (Contains-permutation ys xs n (IsPermutation-sym xs ys perm) (contains_one ys n h)));
+  below = λ n h. o.below n (one_contains xs n
+      (Contains-permutation ys xs n (IsPermutation-sym xs ys perm) (contains_one ys n h)));
 }
 
 -- the places of the first so many numbers are right
 abbrev pub ArePlaced : List ℕ → ℕ → List ℕ → Type 0
 ArePlaced order i places = (j n p : ℕ) → j < i → Stands order j n → Stands places n p → Stands order p n
 
-pub placed_more : (order places : List ℕ) (i m : ℕ) → Stands order i m → m < length places → ArePlaced order i places → ArePlaced order (i + 1) (set places m i)
+pub placed_more : (order places : List ℕ) (i m : ℕ) → Stands order i m → m < length places → ArePlaced order i places
+    → ArePlaced order (i + 1) (set places m i)
 placed_more order places i m st h a j n p l s q = go (cases_eq n m)
   where
     go : (n ≡ m) ⊎ (n ≡ m → ⊥) → Stands order p n
     go (inl e) =
-        let here : Stands (set places m i) n i = subst (λ (z : ℕ). Stands (set places m i) z i) (sym e) (set_here places m i h) in
+        let here : Stands (set places m i) n i =
+        subst (λ (z : ℕ). Stands (set places m i) z i) (sym e) (set_here places m i h) in
         let same : i ≡ p = stands_one (set places m i) n i p here q in
         subst (λ (z : ℕ). Stands order z n) same (subst (λ (z : ℕ). Stands order i z) (sym e) st)
     go (inr f) = elim (set_back places m n i p q) [
@@ -167,17 +206,21 @@ placed_more order places i m st h a j n p l s q = go (cases_eq n m)
       ])
     ]
 
-pub placed_all : (count i : ℕ) (order places : List ℕ) → IsOrder count order → length places ≡ count → length order ≤ i → ArePlaced order i places → (n p : ℕ) → Stands places n p → Stands order p n
+pub placed_all : (count i : ℕ) (order places : List ℕ) → IsOrder count order → length places ≡ count → length order ≤ i
+    → ArePlaced order i places → (n p : ℕ) → Stands places n p → Stands order p n
 placed_all count i order places o long end a n p s =
     let one = o.all n (let k = stands_within places n p s in omega (arith, k, long)) in
     a one.place n p (let k = stands_within order one.place n one.stands in omega (arith, k, end)) one.stands s
 
 -- an item of an order is below its count
-pub order_below : (count : ℕ) (order : List ℕ) (i : ℕ) → IsOrder count order → i < length order → get_or order i 0 < count
+pub order_below : (count : ℕ) (order : List ℕ) (i : ℕ) → IsOrder count order → i < length order
+    → get_or order i 0 < count
 order_below count order i o h = o.below (get_or order i 0) (record { place = i; stands = slice_get-get_or order i 0 h })
 
 -- all wait
-pub all_work : (count : ℕ) (w : Worklist) → IsOrder count w.order.now → length w.places.now ≡ count → ((n p : ℕ) → Stands w.places.now n p → Stands w.order.now p n) → w.fresh ≡ 0 → ((p : ℕ) → IsAgain w.again p → ⊥) → IsWorklist count w
+pub all_work : (count : ℕ) (w : Worklist) → IsOrder count w.order.now → length w.places.now ≡ count
+    → ((n p : ℕ) → Stands w.places.now n p → Stands w.order.now p n) → w.fresh ≡ 0 → ((p : ℕ) → IsAgain w.again p → ⊥)
+    → IsWorklist count w
 all_work count w o long placed fresh none = record {
   long = long;
   placed = placed;

@@ -28,4 +28,5 @@ IsFlowAnswer net t (Err propagates.Memory) = ⊤
 -- a valuation with a value for each variable, those of state variables in their domains
 pub record IsState (p : GtsParts) (values : List Value) : Type 0 where
   pub long : length values ≡ length p.variables.items
-  pub in_domain : (n : ℕ) (x : Variable) (v : Value) → Stands p.variables.items n x → x.is_state ≡ true → Stands values n v → Holds x.domain v
+  pub in_domain : (n : ℕ) (x : Variable) (v : Value) → Stands p.variables.items n x → x.is_state ≡ true
+      → Stands values n v → Holds x.domain v

@@ -36,7 +36,8 @@ pub record Applies (p : GtsParts) (a : Assign) (old new : Rows) (changed : Bool)
   pub moves : Moves (net_of p) old new
   pub others : (n : ℕ) (v : Value) → Holds new n v → (n ≡ a.target.n → ⊥) → Holds old n v
   pub still : changed ≡ false → new ≡ old
-  pub done : (v : Value) → Passes (Holds old) (assign_of a).conditions → Yields (Holds old) (out-Expr ℕ (assign_of a).value) v → Allows (net_of p) a.target.n v → Holds new a.target.n v
+  pub done : (v : Value) → Passes (Holds old) (assign_of a).conditions
+      → Yields (Holds old) (out-Expr ℕ (assign_of a).value) v → Allows (net_of p) a.target.n v → Holds new a.target.n v
   pub less : changed ≡ true → missing p new < missing p old
 
 -- the place is among those of the assignments that were added again
@@ -91,17 +92,20 @@ pub record AddsWork (count most : ℕ) (P : ℕ → Type 0) (old new : Worklist)
 
 -- each assignment waits, or the table has what it adds
 abbrev pub IsSettled : GtsParts → Rows → Worklist → Type 0
-IsSettled p rows work = (m : ℕ) (a : Assign) → Stands p.assigns.items m a → Waits work m ⊎ IsClosed (net_of p) rows (assign_of a)
+IsSettled p rows work = (m : ℕ) (a : Assign) → Stands p.assigns.items m a
+    → Waits work m ⊎ IsClosed (net_of p) rows (assign_of a)
 
 -- what is left to do: for each fact that may still come one look at each reader, and the looks that wait
 abbrev pub work_left : GtsParts → ℕ → Rows → Worklist → ℕ
 work_left p readers rows work = (readers + 1) * missing p rows + waiting work
 
 -- one assignment was looked at
-pub record LooksAt (p : GtsParts) (readers n : ℕ) (old : Rows) (before : Worklist) (new : Rows) (after : Worklist) : Type 0 where
+pub record LooksAt (p : GtsParts) (readers n : ℕ) (old : Rows) (before : Worklist) (new : Rows)
+    (after : Worklist) : Type 0 where
   pub moves : Moves (net_of p) old new
   pub is : IsWorklist (length p.assigns.items) after
-  pub settled : ((m : ℕ) (a : Assign) → Stands p.assigns.items m a → (m ≡ n) ⊎ (Waits before m ⊎ IsClosed (net_of p) old (assign_of a))) → IsSettled p new after
+  pub settled : ((m : ℕ) (a : Assign) → Stands p.assigns.items m a
+      → (m ≡ n) ⊎ (Waits before m ⊎ IsClosed (net_of p) old (assign_of a))) → IsSettled p new after
   pub less : work_left p readers new after ≤ work_left p readers old before
 
 -- a number was noted, and it is at most this one
@@ -116,13 +120,16 @@ Notes p rows noted a = LeavesDomain p rows a → IsUpTo a.target.n noted
 
 -- what was noted is the target of an assignment that leaves its domain
 abbrev pub IsFounded : GtsParts → Rows → Option ℕ → Type 0
-IsFounded p rows noted = (n : ℕ) → noted ≡ Some n → (k : ℕ) × (a : Assign) × Stands p.assigns.items k a × LeavesDomain p rows a × (a.target.n ≡ n)
+IsFounded p rows noted = (n : ℕ) → noted ≡ Some n
+    → (k : ℕ) × (a : Assign) × Stands p.assigns.items k a × LeavesDomain p rows a × (a.target.n ≡ n)
 
 -- each assignment waits, or its leaving is noted
 abbrev pub IsHeard : GtsParts → Rows → Option ℕ → Worklist → Type 0
 IsHeard p rows noted work = (m : ℕ) (a : Assign) → Stands p.assigns.items m a → Waits work m ⊎ Notes p rows noted a
 
 -- one assignment was looked at, and its leaving was noted
-pub record Hears (p : GtsParts) (n : ℕ) (old : Rows) (first : Option ℕ) (before : Worklist) (new : Rows) (last : Option ℕ) (after : Worklist) : Type 0 where
+pub record Hears (p : GtsParts) (n : ℕ) (old : Rows) (first : Option ℕ) (before : Worklist) (new : Rows)
+    (last : Option ℕ) (after : Worklist) : Type 0 where
   pub founded : IsFounded p old first → IsFounded p new last
-  pub heard : ((m : ℕ) (a : Assign) → Stands p.assigns.items m a → (m ≡ n) ⊎ (Waits before m ⊎ Notes p old first a)) → IsHeard p new last after
+  pub heard : ((m : ℕ) (a : Assign) → Stands p.assigns.items m a → (m ≡ n) ⊎ (Waits before m ⊎ Notes p old first a))
+      → IsHeard p new last after

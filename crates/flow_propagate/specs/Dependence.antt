@@ -20,9 +20,11 @@ pub record ArePlaces (variables : List Variable) (count : ℕ) (before : List �
 pub record AddsUse (p : GtsParts) (x n : ℕ) (old new : List (ℕ × ℕ)) : Type 0 where
   pub grows : (q : ℕ × ℕ) → IsOneOf old q → IsOneOf new q
   pub only : (a b : ℕ) → IsOneOf new (a, b) → IsOneOf old (a, b) ⊎ DependsOn (net_of p) a b
-  pub all : (a b : ℕ) (assign : Assign) → Stands p.assigns.items n assign → IsFlow (net_of p) a assign.target.n → IsFlow (net_of p) b x → IsOneOf new (a, b)
+  pub all : (a b : ℕ) (assign : Assign) → Stands p.assigns.items n assign → IsFlow (net_of p) a assign.target.n
+      → IsFlow (net_of p) b x → IsOneOf new (a, b)
 
 -- the same for the first so many of the pairs of a variable and an assignment that names it
 pub record AreUsesSoFar (p : GtsParts) (readers : List (ℕ × ℕ)) (count : ℕ) (uses : List (ℕ × ℕ)) : Type 0 where
   pub only : (a b : ℕ) → IsOneOf uses (a, b) → DependsOn (net_of p) a b
-  pub all : (k x n a b : ℕ) (assign : Assign) → k < count → Stands readers k (x, n) → Stands p.assigns.items n assign → IsFlow (net_of p) a assign.target.n → IsFlow (net_of p) b x → IsOneOf uses (a, b)
+  pub all : (k x n a b : ℕ) (assign : Assign) → k < count → Stands readers k (x, n) → Stands p.assigns.items n assign
+      → IsFlow (net_of p) a assign.target.n → IsFlow (net_of p) b x → IsOneOf uses (a, b)

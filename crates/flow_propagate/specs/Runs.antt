@@ -14,7 +14,8 @@ pub record IsStart (pairs : List Reader) (x start : ℕ) : Type 0 where
   pub within : start ≤ length pairs
   pub before : (k : ℕ) (r : Reader) → Stands pairs k r → (k < start ↔ r.0.n < x)
 
--- the starts of all variables that stand in pairs, by number, and of the number after: the pairs of variable x stand from
+-- the starts of all variables that stand in pairs, by number, and of the number after: the pairs of variable x stand
+-- from
 -- starts x up to starts (x + 1), and no others stand there
 pub record AreRuns (pairs : List Reader) (starts : List ℕ) : Type 0 where
   pub each : (x start : ℕ) → Stands starts x start → IsStart pairs x start

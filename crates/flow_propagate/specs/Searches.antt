@@ -43,4 +43,5 @@ pub record LeavesDomain (p : GtsParts) (rows : Rows) (a : Assign) : Type 0 where
 abbrev pub IsLeast : List Assign → ℕ → (Assign → Type 0) → Option ℕ → Type 0
 IsLeast all count P None = (k : ℕ) (a : Assign) → k < count → Stands all k a → P a → ⊥
 IsLeast all count P (Some n) =
-    ((k : ℕ) × (a : Assign) × Stands all k a × P a × (a.target.n ≡ n)) × ((k : ℕ) (a : Assign) → k < count → Stands all k a → P a → n ≤ a.target.n)
+    ((k : ℕ) × (a : Assign) × Stands all k a × P a × (a.target.n ≡ n))
+    × ((k : ℕ) (a : Assign) → k < count → Stands all k a → P a → n ≤ a.target.n)

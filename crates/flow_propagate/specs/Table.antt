@@ -23,7 +23,8 @@ IsSoundTable net t rows = (n : ℕ) (v : Value) → Holds rows n v → FactOf ne
 
 -- the table has what the assignment adds to it
 abbrev pub IsClosed : Net ℕ → Rows → Assign ℕ → Type 0
-IsClosed net rows a = (v : Value) → Passes (Holds rows) a.conditions → Yields (Holds rows) (out-Expr ℕ a.value) v → Allows net a.target v → Holds rows a.target v
+IsClosed net rows a = (v : Value) → Passes (Holds rows) a.conditions → Yields (Holds rows) (out-Expr ℕ a.value) v
+    → Allows net a.target v → Holds rows a.target v
 
 -- the table keeps its facts, and may have got more of them
 pub record Moves (net : Net ℕ) (old new : Rows) : Type 0 where
@@ -60,7 +61,8 @@ pub record Puts (domain : Domain) (target : ℕ) (v : Value) (old new : Rows) (c
 pub record PutsAll (domain : Domain) (target : ℕ) (values : List Value) (old new : Rows) (changed : Bool) : Type 0 where
   pub long : length new ≡ length old
   pub grows : (n : ℕ) (w : Value) → Holds old n w → Holds new n w
-  pub only : (n : ℕ) (w : Value) → Holds new n w → Holds old n w ⊎ ((n ≡ target) × Contains values w × domains.Holds domain w)
+  pub only : (n : ℕ) (w : Value) → Holds new n w
+      → Holds old n w ⊎ ((n ≡ target) × Contains values w × domains.Holds domain w)
   pub still : changed ≡ false → new ≡ old
   pub there : (w : Value) → Contains values w → domains.Holds domain w → Holds new target w
   pub gains : changed ≡ true → Gains domain target old new
@@ -68,4 +70,5 @@ pub record PutsAll (domain : Domain) (target : ℕ) (values : List Value) (old n
 -- the first rows of a table: the value of each state variable, and nothing for a flow
 pub record Starts (variables : List Variable) (values : List Value) (count : ℕ) (rows : Rows) : Type 0 where
   pub long : length rows ≡ count
-  pub row : (n : ℕ) (x : Variable) (v : Value) → n < count → Stands variables n x → Stands values n v → row_at rows n ≡ (if x.is_state then v ∷ [] else [])
+  pub row : (n : ℕ) (x : Variable) (v : Value) → n < count → Stands variables n x → Stands values n v
+      → row_at rows n ≡ (if x.is_state then v ∷ [] else [])

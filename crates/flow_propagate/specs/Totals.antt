@@ -15,9 +15,11 @@ completed_value false own [] reset = reset
 completed_value false own (v ∷ vs) reset = v
 
 -- the first so many values of a total valuation
-pub record Completed (variables : List Variable) (values : List Value) (rows : Rows) (count : ℕ) (total : List Value) : Type 0 where
+pub record Completed (variables : List Variable) (values : List Value) (rows : Rows) (count : ℕ)
+    (total : List Value) : Type 0 where
   pub long : length total ≡ count
-  pub value : (n : ℕ) (x : Variable) (v : Value) → n < count → Stands variables n x → Stands values n v → Stands total n (completed_value x.is_state v (row_at rows n) x.value)
+  pub value : (n : ℕ) (x : Variable) (v : Value) → n < count → Stands variables n x → Stands values n v
+      → Stands total n (completed_value x.is_state v (row_at rows n) x.value)
 
 -- whether a row has a value
 abbrev pub has_some : List Value → Bool

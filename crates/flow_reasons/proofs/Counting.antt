@@ -51,7 +51,8 @@ no_more (x ∷ old) (y ∷ new) e k =
     let i = one_less x y (λ i. (let s = k 0 x refl i in cc (s))) in omega (arith, h, i)
 
 -- one that was open and is not any more
-pub fewer : (old new : List Mark) → length new ≡ length old → Keeps old new → (n : ℕ) → IsOpen old n → (IsOpen new n → ⊥)
+pub fewer : (old new : List Mark) → length new ≡ length old → Keeps old new → (n : ℕ) → IsOpen old n
+    → (IsOpen new n → ⊥)
     → unknown_count new < unknown_count old
 fewer [] new e k n o c = absurd (stands_none n o.mark o.stands)
 fewer (x ∷ old) [] e k n o c = absurd (omega (arith, e))
@@ -65,6 +66,7 @@ fewer (x ∷ old) (y ∷ new) e k zero o c =
     go true e = one_at y true e
     go false e = absurd (c (record { mark = y; stands = refl; is = e }))
 fewer (x ∷ old) (y ∷ new) e k (suc n) o c =
-    let h = fewer old new (omega (arith, e)) (λ n m s i. k (suc n) m s i) n (record { mark = o.mark; stands = o.stands; is = o.is })
+    let h = fewer old new (omega (arith, e)) (λ n m s i. k (suc n) m s i) n
+    (record { mark = o.mark; stands = o.stands; is = o.is })
     (λ q. c (record { mark = q.mark; stands = q.stands; is = q.is })) in
     let i = one_less x y (λ i. (let s = k 0 x refl i in cc (s))) in omega (arith, h, i)

@@ -28,7 +28,8 @@ module _ (p : GtsParts) (round : ℕ) (old : List Mark) where
     all = λ k n o. absurd (one_none k o);
   }
 
-  module _ (xs : List ℕ) (i : ℕ) (h : Ascends xs) (l : i < length xs) (a : Assign) (st : Stands p.assigns.items (get_or xs i 0) a)
+  module _ (xs : List ℕ) (i : ℕ) (h : Ascends xs) (l : i < length xs) (a : Assign)
+      (st : Stands p.assigns.items (get_or xs i 0) a)
       (marks : List Mark) (fresh : List ℕ) (d : MarksAll p (take i xs) round old marks fresh) where
     abbrev more : take (i + 1) xs ≡ take i xs ++ get_or xs i 0 ∷ []
     more = take_more xs i 0 l
@@ -38,7 +39,8 @@ module _ (p : GtsParts) (round : ℕ) (old : List Mark) where
         let e = stands_one p.assigns.items (get_or xs i 0) t.assign a t.stands st in
         sym t.is ∙ ap (λ (z : Assign). z.target.n) e
 
-    marked_more : (n : ℕ) (m : Mark) → IsMarkedBy p (take i xs) round n m → IsMarkedBy p (take i xs ++ get_or xs i 0 ∷ []) round n m
+    marked_more : (n : ℕ) (m : Mark) → IsMarkedBy p (take i xs) round n m
+        → IsMarkedBy p (take i xs ++ get_or xs i 0 ∷ []) round n m
     marked_more n m k = record {
       by = k.by;
       is = k.is;
@@ -63,7 +65,8 @@ module _ (p : GtsParts) (round : ℕ) (old : List Mark) where
     })
 
     -- the target is marked
-    module _ (by : AssignId) (is_by : by.n ≡ get_or xs i 0) (o : IsOpen marks a.target.n) (inside : a.target.n < length marks) where
+    module _ (by : AssignId) (is_by : by.n ≡ get_or xs i 0) (o : IsOpen marks a.target.n)
+        (inside : a.target.n < length marks) where
       t : ℕ
       t = a.target.n
 
@@ -86,7 +89,8 @@ module _ (p : GtsParts) (round : ℕ) (old : List Mark) where
       marked_now = record {
         by = by;
         is = refl;
-        is_one = subst (λ z. IsOneOf (take i xs ++ get_or xs i 0 ∷ []) z) (sym is_by) (pushed_last (take i xs) (get_or xs i 0));
+        is_one = subst (λ z. IsOneOf (take i xs ++ get_or xs i 0 ∷ []) z) (sym is_by)
+            (pushed_last (take i xs) (get_or xs i 0));
         is_to = to_target by.n is_by;
         least = λ k q u. elim (pushed_cases (take i xs) (get_or xs i 0) k q) [
           | inl r ↦ absurd (d.all k a.target.n r u o)
@@ -95,10 +99,12 @@ module _ (p : GtsParts) (round : ℕ) (old : List Mark) where
       }
 
       new_only : (n : ℕ) (x : Mark) → Stands new n x
-          → Stands old n x ⊎ (IsOpen old n × (IsOneOf (fresh ++ a.target.n ∷ []) n × IsMarkedBy p (take i xs ++ get_or xs i 0 ∷ []) round n x))
+          → Stands old n x ⊎ (IsOpen old n
+          × (IsOneOf (fresh ++ a.target.n ∷ []) n × IsMarkedBy p (take i xs ++ get_or xs i 0 ∷ []) round n x))
       new_only n x s = elim (set_back marks a.target.n n m x s) [
         | inl e ↦ (let P : ℕ → Mark → Type 0 =
-            λ k z. Stands old k z ⊎ (IsOpen old k × (IsOneOf (fresh ++ a.target.n ∷ []) k × IsMarkedBy p (take i xs ++ get_or xs i 0 ∷ []) round k z)) in
+            λ k z. Stands old k z ⊎ (IsOpen old k
+            × (IsOneOf (fresh ++ a.target.n ∷ []) k × IsMarkedBy p (take i xs ++ get_or xs i 0 ∷ []) round k z)) in
             let here : P a.target.n m = inr (was_open, (pushed_last fresh a.target.n, marked_now)) in
             subst (λ k. P k x) (sym e.0) (subst (λ (z : Mark). P a.target.n z) e.1 here))
         | inr q ↦ (elim (d.only n x q.1) [
@@ -125,6 +131,7 @@ module _ (p : GtsParts) (round : ℕ) (old : List Mark) where
         ];
       })
 
-  pub marks_done : (xs : List ℕ) (i : ℕ) (marks : List Mark) (fresh : List ℕ) → length xs ≤ i → MarksAll p (take i xs) round old marks fresh
+  pub marks_done : (xs : List ℕ) (i : ℕ) (marks : List Mark) (fresh : List ℕ) → length xs ≤ i
+      → MarksAll p (take i xs) round old marks fresh
       → MarksAll p xs round old marks fresh
   marks_done xs i marks fresh l h = subst (λ (z : List ℕ). MarksAll p z round old marks fresh) (take_all i xs l) h

@@ -20,7 +20,8 @@ module _ {A : Type 0} where
   set_other (z ∷ xs) (suc k) zero x y d s = s
   set_other (z ∷ xs) (suc k) (suc n) x y d s = set_other xs k n x y (λ e. d (ap suc e)) s
 
-  pub set_back : (xs : List A) (k n : ℕ) (x y : A) → Stands (set xs k x) n y → ((n ≡ k) × (x ≡ y)) ⊎ ((n ≡ k → ⊥) × Stands xs n y)
+  pub set_back : (xs : List A) (k n : ℕ) (x y : A) → Stands (set xs k x) n y
+      → ((n ≡ k) × (x ≡ y)) ⊎ ((n ≡ k → ⊥) × Stands xs n y)
   set_back [] k n x y s = absurd (stands_none n y s)
   set_back (z ∷ xs) zero zero x y s = inl (refl, cc)
   set_back (z ∷ xs) zero (suc n) x y s = inr (λ e. omega (arith, e), s)
@@ -57,7 +58,8 @@ front_of [] [] = refl
 front_of [] (z ∷ zs) = refl
 front_of (x ∷ xs) zs = ap (λ ys. x ∷ ys) (front_of xs zs)
 
-pub written : {A : Type 0} (xs ys : List A) (n : ℕ) → length xs ≡ length ys → n ≡ length ys → take n (xs ++ drop (length xs) ys) ≡ xs
+pub written : {A : Type 0} (xs ys : List A) (n : ℕ) → length xs ≡ length ys → n ≡ length ys
+    → take n (xs ++ drop (length xs) ys) ≡ xs
 written xs ys n e f =
     let i : n ≡ length xs = omega (arith, e, f) in
     ap (λ z. take z (xs ++ drop (length xs) ys)) i ∙ front_of xs (drop (length xs) ys)

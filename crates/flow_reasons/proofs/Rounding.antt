@@ -91,7 +91,8 @@ module _ (p : GtsParts) (sound : IsSound p) (values : List Value) (standing : Is
     known_round x w h = are.sound x w h
 
     -- an assignment that brings something adds it
-    pub brings_adds : (a : Assign) → (b : Brings values old a) → Adds net (Round net values k) a.target.n b.value (assign_of a)
+    pub brings_adds : (a : Assign) → (b : Brings values old a)
+        → Adds net (Round net values k) a.target.n b.value (assign_of a)
     brings_adds a b = record {
       is_target = refl;
       passes = passes_more ℕ (Known values old) (Round net values k) known_round b.passes;
@@ -100,12 +101,18 @@ module _ (p : GtsParts) (sound : IsSound p) (values : List Value) (standing : Is
     }
 
     -- an assignment that adds to an open variable brings something
-    pub adds_brings : (j : ℕ) (a : Assign) → Stands p.assigns.items j a → (n : ℕ) (v : Value) → Adds net (Round net values k) n v (assign_of a)
+    pub adds_brings : (j : ℕ) (a : Assign) → Stands p.assigns.items j a → (n : ℕ) (v : Value)
+        → Adds net (Round net values k) n v (assign_of a)
         → IsOpen old n → BringsAt p values old j
     adds_brings j a st n v h o =
         let e : a.target.n ≡ n = h.is_target in
         let fact = added_fact net values (Round net values k) (round_fact net values k) n v
-        (record { assign = assign_of a; is_one = one_here net.assertions j (assign_of a) (stands_map assign_of p.assigns.items j a st); adds = h }) in
+        (record {
+          assign = assign_of a;
+          is_one = one_here net.assertions j (assign_of a)
+              (stands_map assign_of p.assigns.items j a st);
+          adds = h;
+        }) in
         record {
           assign = a;
           stands = st;
@@ -119,7 +126,8 @@ module _ (p : GtsParts) (sound : IsSound p) (values : List Value) (standing : Is
         }
 
     -- an open variable is a flow
-    open_flow : (n : ℕ) (x : Variable) (v : Value) → Stands p.variables.items n x → Stands values n v → IsOpen old n → x.is_state ≡ false
+    open_flow : (n : ℕ) (x : Variable) (v : Value) → Stands p.variables.items n x → Stands values n v → IsOpen old n
+        → x.is_state ≡ false
     open_flow n x v sx sv o = go o.mark o.is (are.says n x v o.mark sx sv o.stands)
       where
         go : (m : Mark) → is_fact m ≡ false → Says p values n x v m → x.is_state ≡ false
@@ -128,7 +136,8 @@ module _ (p : GtsParts) (sound : IsSound p) (values : List Value) (standing : Is
         go (Added r a) i says = absurd (cc i)
 
     -- the next round
-    module _ (found : List ℕ) (all : BringAll p values old found) (round : ℕ) (is_round : round ≡ suc k) (new : List Mark) (fresh : List ℕ)
+    module _ (found : List ℕ) (all : BringAll p values old found) (round : ℕ) (is_round : round ≡ suc k)
+        (new : List Mark) (fresh : List ℕ)
         (d : MarksAll p found round old new fresh) where
       known_more : (n : ℕ) (v : Value) → Known values old n v → Known values new n v
       known_more n v h = record { mark = h.mark; stands = d.kept n h.mark h.stands h.is; is = h.is; value = h.value }
@@ -149,7 +158,8 @@ module _ (p : GtsParts) (sound : IsSound p) (values : List Value) (standing : Is
           let b = (all.each q.by.n).0 q.is_one in
           let e = stands_one p.assigns.items q.by.n b.assign q.is_to.assign b.stands q.is_to.stands in
           let t : b.assign.target.n ≡ n = ap (λ (z : Assign). z.target.n) e ∙ q.is_to.is in
-          let i : b.brings.value ≡ v = stands_one values n b.brings.value v (subst (λ z. Stands values z b.brings.value) t b.brings.is_value) sv in
+          let i : b.brings.value ≡ v = stands_one values n b.brings.value v
+          (subst (λ z. Stands values z b.brings.value) t b.brings.is_value) sv in
           let h = brings_adds b.assign b.brings in (
             b.assign,
             b.stands,
@@ -161,27 +171,37 @@ module _ (p : GtsParts) (sound : IsSound p) (values : List Value) (standing : Is
       sound_next n v h = elim (d.only n h.mark h.stands) [
         | inl q ↦ inl (are.sound n v (record { mark = h.mark; stands = q; is = h.is; value = h.value }))
         | inr q ↦ (let r = marked_adds n h.mark v q.1.1 h.value in
-            inr (record { assign = assign_of r.0; is_one = one_here net.assertions q.1.1.by.n (assign_of r.0) (stands_map assign_of p.assigns.items q.1.1.by.n r.0 r.1); adds = r.2 }))
+            inr (record {
+              assign = assign_of r.0;
+              is_one = one_here net.assertions q.1.1.by.n (assign_of r.0)
+                  (stands_map assign_of p.assigns.items q.1.1.by.n r.0 r.1);
+              adds = r.2;
+            }))
       ]
 
       whole_next : (n : ℕ) (v : Value) → Round net values (suc k) n v → Known values new n v
       whole_next n v (inl h) = known_more n v (are.whole n v h)
       whole_next n v (inr h) =
           let b = stands_map_back assign_of p.assigns.items h.is_one.place h.assign h.is_one.stands in
-          let adds : Adds net (Round net values k) n v (assign_of b.0) = subst (λ (z : s.Assign ℕ). Adds net (Round net values k) n v z) (sym b.2) h.adds in
-          let sv = fact_stands p sound values standing n v (added_fact net values (Round net values k) (round_fact net values k) n v h) in
+          let adds : Adds net (Round net values k) n v (assign_of b.0) =
+          subst (λ (z : s.Assign ℕ). Adds net (Round net values k) n v z) (sym b.2) h.adds in
+          let sv = fact_stands p sound values standing n v
+          (added_fact net values (Round net values k) (round_fact net values k) n v h) in
           let l = stands_within values n v sv in
           let m = stands_some new n (omega (arith, l, d.long, are.long, standing.total.long)) in
           elim (fact_or_open new n m.0 m.1) [
             | inl i ↦ record { mark = m.0; stands = m.1; is = i; value = sv }
             | inr o ↦ (let at = adds_brings h.is_one.place b.0 b.1 n v adds (open_before n o) in
-                absurd (d.all h.is_one.place n ((all.each h.is_one.place).1 at) (record { assign = b.0; stands = b.1; is = adds.is_target }) o))
+                absurd (d.all h.is_one.place n ((all.each h.is_one.place).1 at)
+                (record { assign = b.0; stands = b.1; is = adds.is_target }) o))
           ]
 
-      says_next : (n : ℕ) (x : Variable) (v : Value) (m : Mark) → Stands p.variables.items n x → Stands values n v → Stands new n m → Says p values n x v m
+      says_next : (n : ℕ) (x : Variable) (v : Value) (m : Mark) → Stands p.variables.items n x → Stands values n v
+          → Stands new n m → Says p values n x v m
       says_next n x v m sx sv sm = elim (d.only n m sm) [
         | inl q ↦ are.says n x v m sx sv q
-        | inr q ↦ subst (λ (z : Mark). Says p values n x v z) (sym q.1.1.is) (open_flow n x v sx sv q.0, added q.0 q.1.1)
+        | inr q ↦ subst (λ (z : Mark). Says p values n x v z) (sym q.1.1.is)
+            (open_flow n x v sx sv q.0, added q.0 q.1.1)
       ]
         where
           added : IsOpen old n → (q : IsMarkedBy p found round n m) → IsAddedIn p values n v round q.by.n
@@ -197,7 +217,8 @@ module _ (p : GtsParts) (sound : IsSound p) (values : List Value) (standing : Is
                   has = r.2;
                   before = λ j b l sb h.
                       let c = stands_map_back assign_of p.assigns.items j b sb in
-                      let g : Adds net (Round net values k) n v (assign_of c.0) = subst (λ (z : s.Assign ℕ). Adds net (Round net values k) n v z) (sym c.2) h in
+                      let g : Adds net (Round net values k) n v (assign_of c.0) =
+                      subst (λ (z : s.Assign ℕ). Adds net (Round net values k) n v z) (sym c.2) h in
                       let at = adds_brings j c.0 c.1 n v g o in
                       let f = q.least j ((all.each j).1 at) (record { assign = c.0; stands = c.1; is = g.is_target }) in
                       omega (arith, l, f);
@@ -213,7 +234,16 @@ module _ (p : GtsParts) (sound : IsSound p) (values : List Value) (standing : Is
         as_before : (x : ℕ) (w : Value) → Names (assign_of b.assign) x → Known values new x w → Known values old x w
         as_before x w names h = elim (d.only x h.mark h.stands) [
           | inl q ↦ record { mark = h.mark; stands = q; is = h.is; value = h.value }
-          | inr q ↦ absurd (none (x, q.1.0, readers.all x n (record { assign = assign_of b.assign; stands = stands_map assign_of p.assigns.items n b.assign b.stands; names = names })))
+          | inr q ↦ absurd (none (
+            x,
+            q.1.0,
+            readers.all x n
+                (record {
+                  assign = assign_of b.assign;
+                  stands = stands_map assign_of p.assigns.items n b.assign b.stands;
+                  names = names;
+                }),
+          ))
         ]
 
         at_before : BringsAt p values old n
@@ -230,17 +260,20 @@ module _ (p : GtsParts) (sound : IsSound p) (values : List Value) (standing : Is
         }
 
         never : ⊥
-        never = d.all n b.assign.target.n ((all.each n).1 at_before) (record { assign = b.assign; stands = b.stands; is = refl }) b.brings.is_open
+        never = d.all n b.assign.target.n ((all.each n).1 at_before)
+            (record { assign = b.assign; stands = b.stands; is = refl }) b.brings.is_open
 
       -- what the next round brings comes by assignments that name a fresh variable
-      pub names_fresh : (pairs : List (ℕ × ℕ)) → AreReaders p pairs → (n : ℕ) → BringsAt p values new n → NameOne p fresh n
+      pub names_fresh : (pairs : List (ℕ × ℕ)) → AreReaders p pairs → (n : ℕ) → BringsAt p values new n
+          → NameOne p fresh n
       names_fresh pairs readers n b = elim (one_told (λ x. IsOneOf pairs (x, n)) fresh (λ x o. one_or_not pairs (x, n))) [
         | inl r ↦ record { variable = r.0; is_one = r.1; reads = readers.only r.0 n r.2 }
         | inr none ↦ absurd (never pairs readers n b none)
       ]
 
     -- where nothing is brought any more each fact is known
-    pub marks_last : (found : List ℕ) → BringAll p values old found → ((n : ℕ) → IsOneOf found n → ⊥) → AreLastMarks p values old
+    pub marks_last : (found : List ℕ) → BringAll p values old found → ((n : ℕ) → IsOneOf found n → ⊥)
+        → AreLastMarks p values old
     marks_last found all none = record {
       rounds = k;
       are = are;
@@ -259,24 +292,29 @@ module _ (p : GtsParts) (sound : IsSound p) (values : List Value) (standing : Is
               allowed = l;
             } in
             let sv = fact_stands p sound values standing a.target v
-            (added_fact net values (Round net values k) (round_fact net values k) a.target v (record { assign = a; is_one = o; adds = adds })) in
+            (added_fact net values (Round net values k) (round_fact net values k) a.target v
+            (record { assign = a; is_one = o; adds = adds })) in
             let w = stands_within values a.target v sv in
             let m = stands_some old a.target (omega (arith, w, are.long, standing.total.long)) in
             elim (fact_or_open old a.target m.0 m.1) [
               | inl i ↦ record { mark = m.0; stands = m.1; is = i; value = sv }
               | inr u ↦ absurd (none o.place ((all.each o.place).1
-                  (adds_brings o.place b.0 b.1 a.target v (subst (λ (z : s.Assign ℕ). Adds net (Round net values k) a.target v z) (sym b.2) adds) u)))
+                  (adds_brings o.place b.0 b.1 a.target v
+                  (subst (λ (z : s.Assign ℕ). Adds net (Round net values k) a.target v z) (sym b.2) adds) u)))
             ]
 
 -- what is brought comes to an open variable, which then has its fact
-pub round_fewer : (p : GtsParts) (values : List Value) (old new : List Mark) (found fresh : List ℕ) (round n : ℕ) → BringAll p values old found
+pub round_fewer : (p : GtsParts) (values : List Value) (old new : List Mark) (found fresh : List ℕ) (round n : ℕ)
+    → BringAll p values old found
     → MarksAll p found round old new fresh → IsOneOf found n → unknown_count new < unknown_count old
 round_fewer p values old new found fresh round n all d o =
     let b = (all.each n).0 o in
     fewer old new d.long d.kept b.assign.target.n b.brings.is_open
     (λ u. d.all n b.assign.target.n o (record { assign = b.assign; stands = b.stands; is = refl }) u)
 
-pub marked_as : (p : GtsParts) (xs found : List ℕ) (round : ℕ) (old marks new : List Mark) (fresh : List ℕ) → xs ≡ found → old ≡ marks
+pub marked_as : (p : GtsParts) (xs found : List ℕ) (round : ℕ) (old marks new : List Mark) (fresh : List ℕ) → xs ≡ found
+    → old ≡ marks
     → MarksAll p xs round old new fresh → MarksAll p found round marks new fresh
 marked_as p xs found round old marks new fresh e f d =
-    subst (λ (z : List Mark). MarksAll p found round z new fresh) f (subst (λ (z : List ℕ). MarksAll p z round old new fresh) e d)
+    subst (λ (z : List Mark). MarksAll p found round z new fresh) f
+    (subst (λ (z : List ℕ). MarksAll p z round old new fresh) e d)

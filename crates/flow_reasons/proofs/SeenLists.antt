@@ -22,7 +22,8 @@ sees_none seen found are = record {
 }
 
 -- a variable that was seen before
-pub sees_again : (n : ℕ) (seen : List Bool) (found : List ℕ) → AreMarked seen found → Stands seen n true → Sees n seen seen found found
+pub sees_again : (n : ℕ) (seen : List Bool) (found : List ℕ) → AreMarked seen found → Stands seen n true
+    → Sees n seen seen found found
 sees_again n seen found are s = record {
   long = refl;
   are = are;
@@ -41,7 +42,8 @@ unseen_set (b ∷ seen) zero s = let e : b ≡ false = cc in subst (λ z. (if z 
 unseen_set (b ∷ seen) (suc n) s = let h = unseen_set seen n s in omega (arith, h)
 
 -- a variable that was not seen before
-pub sees_new : (n : ℕ) (seen : List Bool) (found new : List ℕ) → AreMarked seen found → n < length seen → Stands seen n false → new ≡ found ++ n ∷ []
+pub sees_new : (n : ℕ) (seen : List Bool) (found new : List ℕ) → AreMarked seen found → n < length seen
+    → Stands seen n false → new ≡ found ++ n ∷ []
     → Sees n seen (set seen n true) found new
 sees_new n seen found new are l s e = subst (λ (z : List ℕ). Sees n seen (set seen n true) found z) (sym e) (record {
   long = length-set seen n true;
@@ -60,8 +62,12 @@ sees_new n seen found new are l s e = subst (λ (z : List ℕ). Sees n seen (set
   front = λ j m t. stands_left found (n ∷ []) j m t;
   longer = (let k = length-append found (n ∷ []) in omega (arith, k));
   each = λ m. (
-    λ o. elim (pushed_cases found n m o) [ inl k ↦ inl k | inr i ↦ inr (subst (λ z. IsOneOf (n ∷ []) z) i (one_first n [])) ],
-    λ h. elim h [ inl k ↦ pushed_old found n m k | inr k ↦ subst (λ z. IsOneOf (found ++ n ∷ []) z) (only_item n m k) (pushed_last found n) ],
+    λ o. elim (pushed_cases found n m o)
+        [ inl k ↦ inl k | inr i ↦ inr (subst (λ z. IsOneOf (n ∷ []) z) i (one_first n [])) ],
+    λ h. elim h [
+      | inl k ↦ pushed_old found n m k
+      | inr k ↦ subst (λ z. IsOneOf (found ++ n ∷ []) z) (only_item n m k) (pushed_last found n)
+    ],
   );
   left = (let k = length-append found (n ∷ []) in let u = unseen_set seen n s in omega (arith, k, u));
 })
@@ -71,38 +77,43 @@ sees_new n seen found new are l s e = subst (λ (z : List ℕ). Sees n seen (set
         (λ i. let k = stands_one seen m true false t (subst (λ z. Stands seen z false) (sym i) s) in cc (k)) t
 
 -- one variable more
-pub sees_next : (xs ys : List ℕ) (x : ℕ) (seen next last : List Bool) (found more all : List ℕ) → ys ≡ xs ++ x ∷ [] → SeesAll xs seen next found more
+pub sees_next : (xs ys : List ℕ) (x : ℕ) (seen next last : List Bool) (found more all : List ℕ) → ys ≡ xs ++ x ∷ []
+    → SeesAll xs seen next found more
     → Sees x next last more all → SeesAll ys seen last found all
-sees_next xs ys x seen next last found more all e a b = subst (λ (z : List ℕ). SeesAll z seen last found all) (sym e) (record {
-  long = b.long ∙ a.long;
-  are = b.are;
-  front = λ j n s. b.front j n (a.front j n s);
-  longer = (let k = a.longer in let l = b.longer in omega (arith, k, l));
-  each = λ n. (
-    λ o. elim ((b.each n).0 o) [
-      | inl k ↦ (elim ((a.each n).0 k) [ inl m ↦ inl m | inr m ↦ inr (pushed_old xs x n m) ])
-      | inr k ↦ inr (subst (λ z. IsOneOf (xs ++ x ∷ []) z) (only_item x n k) (pushed_last xs x))
-    ],
-    λ h. elim h [
-      | inl k ↦ (b.each n).1 (inl ((a.each n).1 (inl k)))
-      | inr k ↦ (elim (pushed_cases xs x n k) [
-        | inl m ↦ (b.each n).1 (inl ((a.each n).1 (inr m)))
-        | inr i ↦ (b.each n).1 (inr (subst (λ z. IsOneOf (x ∷ []) z) i (one_first x [])))
-      ])
-    ],
-  );
-  left = b.left ∙ a.left;
-})
+sees_next xs ys x seen next last found more all e a b =
+    subst (λ (z : List ℕ). SeesAll z seen last found all) (sym e) (record {
+      long = b.long ∙ a.long;
+      are = b.are;
+      front = λ j n s. b.front j n (a.front j n s);
+      longer = (let k = a.longer in let l = b.longer in omega (arith, k, l));
+      each = λ n. (
+        λ o. elim ((b.each n).0 o) [
+          | inl k ↦ (elim ((a.each n).0 k) [ inl m ↦ inl m | inr m ↦ inr (pushed_old xs x n m) ])
+          | inr k ↦ inr (subst (λ z. IsOneOf (xs ++ x ∷ []) z) (only_item x n k) (pushed_last xs x))
+        ],
+        λ h. elim h [
+          | inl k ↦ (b.each n).1 (inl ((a.each n).1 (inl k)))
+          | inr k ↦ (elim (pushed_cases xs x n k) [
+            | inl m ↦ (b.each n).1 (inl ((a.each n).1 (inr m)))
+            | inr i ↦ (b.each n).1 (inr (subst (λ z. IsOneOf (x ∷ []) z) i (one_first x [])))
+          ])
+        ],
+      );
+      left = b.left ∙ a.left;
+    })
 
-pub numbers_next : (xs : List VarId) (i : ℕ) (d : VarId) → i < length xs → numbers_of (take (i + 1) xs) ≡ numbers_of (take i xs) ++ (get_or xs i d).n ∷ []
-numbers_next xs i d h = ap numbers_of (take_more xs i d h) ∙ map-append (λ (x : VarId). x.n) (take i xs) (get_or xs i d ∷ [])
+pub numbers_next : (xs : List VarId) (i : ℕ) (d : VarId) → i < length xs
+    → numbers_of (take (i + 1) xs) ≡ numbers_of (take i xs) ++ (get_or xs i d).n ∷ []
+numbers_next xs i d h = ap numbers_of (take_more xs i d h)
+    ∙ map-append (λ (x : VarId). x.n) (take i xs) (get_or xs i d ∷ [])
 
 -- the variables that were seen, by number
 pub members_none : (seen : List Bool) (found : List ℕ) → found ≡ [] → AreMembers seen 0 found
 members_none seen found e = subst (λ (z : List ℕ). AreMembers seen 0 z) (sym e)
     (record { ascends = ascends_none; each = λ n. (λ o. absurd (one_none n o), λ h. absurd (omega (arith, h.0))) })
 
-pub members_taken : (seen : List Bool) (i : ℕ) (old new : List ℕ) → AreMembers seen i old → Stands seen i true → new ≡ old ++ i ∷ [] → AreMembers seen (i + 1) new
+pub members_taken : (seen : List Bool) (i : ℕ) (old new : List ℕ) → AreMembers seen i old → Stands seen i true
+    → new ≡ old ++ i ∷ [] → AreMembers seen (i + 1) new
 members_taken seen i old new h s e = subst (λ (z : List ℕ). AreMembers seen (i + 1) z) (sym e) (record {
   ascends = ascends_push old i h.ascends (λ n o. ((h.each n).0 o).0);
   each = λ n. (
@@ -117,7 +128,8 @@ members_taken seen i old new h s e = subst (λ (z : List ℕ). AreMembers seen (
   );
 })
 
-pub members_left : (seen : List Bool) (i : ℕ) (old : List ℕ) → AreMembers seen i old → Stands seen i false → AreMembers seen (i + 1) old
+pub members_left : (seen : List Bool) (i : ℕ) (old : List ℕ) → AreMembers seen i old → Stands seen i false
+    → AreMembers seen (i + 1) old
 members_left seen i old h s = record {
   ascends = h.ascends;
   each = λ n. (

@@ -20,12 +20,14 @@ use Rattle.gts_core.proofs.Lawfulness.{system_lawful}
 use Rattle.flow_reasons.specs.Marks.{IsStanding}
 
 -- the target of an assertion is a variable of the system
-pub target_below : (p : GtsParts) → IsSound p → (n : ℕ) (a : Assign) → Stands p.assigns.items n a → a.target.n < length p.variables.items
+pub target_below : (p : GtsParts) → IsSound p → (n : ℕ) (a : Assign) → Stands p.assigns.items n a
+    → a.target.n < length p.variables.items
 target_below p sound n a st =
     let t = sound.assertions a (one_here p.assigns.items n a st) in
     stands_within p.variables.items a.target.n t.variable t.stands
 
-pub completes_itself : {V : Type 0} {net : s.Net V} {t u : List Value} → Flows net t (Total u) → Completes (FactOf net t) net.variables t u
+pub completes_itself : {V : Type 0} {net : s.Net V} {t u : List Value} → Flows net t (Total u)
+    → Completes (FactOf net t) net.variables t u
 completes_itself (all_hold n m c b) = c
 
 module _ (p : GtsParts) (sound : IsSound p) (values : List Value) (standing : IsStanding p values) where
@@ -39,18 +41,22 @@ module _ (p : GtsParts) (sound : IsSound p) (values : List Value) (standing : Is
   flow_stands : (n : ℕ) (v : Value) → (k : ℕ) × IsFlow (net_of p) k n → FactOf (net_of p) values n v → Stands values n v
   flow_stands n v (k, f) h =
       let e : f.place ≡ n = at_number f.place n f.variable f.stands f.is_key in
-      let own : FactOf (net_of p) values f.variable.key v = subst (λ z. FactOf (net_of p) values z v) (sym f.is_key) h in
-      subst (λ z. Stands values z v) e (elim (stays_at (completes_itself standing.flows) f.place f.variable f.stands) as (λ _. Stands values f.place v) [
+      let own : FactOf (net_of p) values f.variable.key v =
+      subst (λ z. FactOf (net_of p) values z v) (sym f.is_key) h in
+      subst (λ z. Stands values z v) e (elim (stays_at (completes_itself standing.flows) f.place f.variable f.stands) as
+      (λ _. Stands values f.place v) [
         | as_state i w a b ↦ absurd (cc (i, f.is_flow))
         | as_known i w g b ↦ subst (λ z. Stands values f.place z)
-            (one_fact (net_of p) values f.variable (λ t. two_none.has_not f.place f.variable f.stands t) f.is_flow w v g own) b
+            (one_fact (net_of p) values f.variable (λ t. two_none.has_not f.place f.variable f.stands t) f.is_flow w v g
+            own) b
         | as_reset i g b ↦ absurd (g v own)
       ])
 
   -- a fact is the value of its variable
   pub fact_stands : (n : ℕ) (v : Value) → FactOf (net_of p) values n v → Stands values n v
   fact_stands n v (given h) = subst (λ z. Stands values z v) (at_number h.place n h.variable h.stands h.is_key) h.value
-  fact_stands n v (assigned a K o h q y l) = flow_stands a.target v ((system_lawful p sound).targets a o) (assigned a K o h q y l)
+  fact_stands n v (assigned a K o h q y l) =
+      flow_stands a.target v ((system_lawful p sound).targets a o) (assigned a K o h q y l)
 
   -- a value is one that its variable may have
   pub value_allowed : (n : ℕ) (v : Value) → Stands values n v → Allows (net_of p) n v
@@ -66,10 +72,12 @@ module _ (p : GtsParts) (sound : IsSound p) (values : List Value) (standing : Is
       }
 
   -- a flow without a fact has its reset
-  pub reset_value : (n : ℕ) (x : Variable) (v : Value) → Stands p.variables.items n x → x.is_state ≡ false → Stands values n v
+  pub reset_value : (n : ℕ) (x : Variable) (v : Value) → Stands p.variables.items n x → x.is_state ≡ false
+      → Stands values n v
       → ((w : Value) → FactOf (net_of p) values n w → ⊥) → v ≡ x.value
   reset_value n x v st f h none =
-      elim (stays_at (completes_itself standing.flows) n (variable_of n x) (variable_there p n x st)) as (λ _. v ≡ x.value) [
+      elim (stays_at (completes_itself standing.flows) n (variable_of n x) (variable_there p n x st)) as
+      (λ _. v ≡ x.value) [
         | as_state i w a b ↦ absurd (cc (i, f))
         | as_known i w g b ↦ absurd (none w g)
         | as_reset i g b ↦ stands_one values n v x.value h b

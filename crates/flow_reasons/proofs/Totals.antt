@@ -20,7 +20,8 @@ module _ (p : GtsParts) (sound : IsSound p) (t : List Value) where
   stands total is f = record { total = flows_total p sound t total is f; flows = same_flows (net_of p) (states_of f) f }
 
   -- its reasons are those of the state
-  pub reasons_back : (total : List Value) (found : List Reason) → Flows (net_of p) t (Total total) → AreReasons (net_of p) total (reasons_of found)
+  pub reasons_back : (total : List Value) (found : List Reason) → Flows (net_of p) t (Total total)
+      → AreReasons (net_of p) total (reasons_of found)
       → AreReasonsOf (net_of p) t found
   reasons_back total found f are = record {
     flows = record { values = total; flows = f };

@@ -63,7 +63,8 @@ pub record IsMarkedBy (p : GtsParts) (bringing : List ℕ) (round n : ℕ) (m : 
 pub record MarksAll (p : GtsParts) (bringing : List ℕ) (round : ℕ) (old new : List Mark) (fresh : List ℕ) : Type 0 where
   pub long : length new ≡ length old
   pub kept : (n : ℕ) (m : Mark) → Stands old n m → is_fact m ≡ true → Stands new n m
-  pub only : (n : ℕ) (m : Mark) → Stands new n m → Stands old n m ⊎ (IsOpen old n × (IsOneOf fresh n × IsMarkedBy p bringing round n m))
+  pub only : (n : ℕ) (m : Mark) → Stands new n m
+      → Stands old n m ⊎ (IsOpen old n × (IsOneOf fresh n × IsMarkedBy p bringing round n m))
   pub all : (k n : ℕ) → IsOneOf bringing k → IsTo p k n → IsOpen new n → ⊥
 
 -- the assignments that bring something name one of these variables

@@ -62,7 +62,8 @@ pub record AreMarks (p : GtsParts) (values : List Value) (rounds : ℕ) (marks :
   pub long : length marks ≡ length p.variables.items
   pub sound : (n : ℕ) (v : Value) → Known values marks n v → Round (net_of p) values rounds n v
   pub whole : (n : ℕ) (v : Value) → Round (net_of p) values rounds n v → Known values marks n v
-  pub says : (n : ℕ) (x : Variable) (v : Value) (m : Mark) → Stands p.variables.items n x → Stands values n v → Stands marks n m → Says p values n x v m
+  pub says : (n : ℕ) (x : Variable) (v : Value) (m : Mark) → Stands p.variables.items n x → Stands values n v
+      → Stands marks n m → Says p values n x v m
 
 -- the marks after all rounds: each fact is known
 pub record AreLastMarks (p : GtsParts) (values : List Value) (marks : List Mark) : Type 0 where

@@ -17,8 +17,10 @@ use Rattle.flow_rounds.specs.Reasons.{Reason, IsNamedFact, IsDerived, IsReason, 
 
 -- what holds here holds there
 module _ {V W : Type 0} (same : V → W → Type 0) (A : Net V) (B : Net W) (image : IsNetImage same A B) where
-  adds_there : (P : V → Value → Type 0) (Q : W → Value → Type 0) → ((x : V) (y : W) (v : Value) → same x y → P x v → Q y v)
-      → (x : V) (y : W) (v : Value) → same x y → (a : Assign V) (b : Assign W) → Assign_renames same a b → Adds A P x v a
+  adds_there : (P : V → Value → Type 0) (Q : W → Value → Type 0)
+      → ((x : V) (y : W) (v : Value) → same x y → P x v → Q y v)
+      → (x : V) (y : W) (v : Value) → same x y → (a : Assign V) (b : Assign W) → Assign_renames same a b
+      → Adds A P x v a
       → Adds B Q y v b
   adds_there P Q kept x y v s a b r h = record {
     is_target = image.one x b.target y (subst (λ z. same z b.target) h.is_target r.target) s;
@@ -35,13 +37,15 @@ module _ {V W : Type 0} (same : V → W → Type 0) (A : Net V) (B : Net W) (ima
       inr (record {
         assign = b.item;
         is_one = record { place = h.is_one.place; stands = b.stands };
-        adds = adds_there (Round A t k) (Round B t k) (λ x y v s h. round_there t k x y v s h) x y v s h.assign b.item b.related h.adds;
+        adds = adds_there (Round A t k) (Round B t k) (λ x y v s h. round_there t k x y v s h) x y v s h.assign b.item
+            b.related h.adds;
       })
 
   related_is : {x : V} {R : W → Type 0} → Mentioned same x R → (y : W) → same x y → R y
   related_is {x = x} {R = R} m y s = subst R (image.one x m.other y m.related s) m.stands
 
-  names_there : (x : V) (y : W) → same x y → (a : Assign V) (b : Assign W) → Assign_renames same a b → Names a x → Names b y
+  names_there : (x : V) (y : W) → same x y → (a : Assign V) (b : Assign W) → Assign_renames same a b → Names a x
+      → Names b y
   names_there x y s a b r (inl m) = inl (related_is (mentions_carry same x m r.value) y s)
   names_there x y s a b r (inr m) = inr (related_is (tests_there r.conditions m) y s)
 
@@ -75,18 +79,21 @@ module _ {V W : Type 0} (same : V → W → Type 0) (A : Net V) (B : Net W) (ima
           item = p.item;
           stands = p.stands;
           has = adds_there same A B image (Round A t d.before) (Round B t d.before)
-              (λ x y v s h. round_there same A B image t d.before x y v s h) x.key y.key r.value q.key d.first.item p.item p.related d.first.has;
+              (λ x y v s h. round_there same A B image t d.before x y v s h) x.key y.key r.value q.key d.first.item
+              p.item p.related d.first.has;
           before = λ k b l s h.
               let o = partner behind.assertions k b s in
               d.first.before k o.item l o.stands
               (adds_there (turned same) B A behind (Round B t d.before) (Round A t d.before)
-              (λ y x v s h. round_there (turned same) B A behind t d.before y x v s h) y.key x.key r.value q.key b o.item o.related h);
+              (λ y x v s h. round_there (turned same) B A behind t d.before y x v s h) y.key x.key r.value q.key b
+              o.item o.related h);
         };
         rests_on = record {
           ascends = d.rests_on.ascends;
           sound = λ n o. named_there same A B image t d.before d.first.item p.item p.related n (d.rests_on.sound n o);
           whole = λ n h. d.rests_on.whole n
-              (named_there (turned same) B A behind t d.before p.item d.first.item (assign_turned same d.first.item p.item p.related) n h);
+              (named_there (turned same) B A behind t d.before p.item d.first.item
+              (assign_turned same d.first.item p.item p.related) n h);
         };
       }
 
@@ -101,7 +108,8 @@ module _ {V W : Type 0} (same : V → W → Type 0) (A : Net V) (B : Net W) (ima
     rests_on = d.rests_on;
   })
 
-  pub reasons_there : (t : List Value) {xs : List (Variable V)} {ys : List (Variable W)} → Along (Variable_renames same) xs ys
+  pub reasons_there : (t : List Value) {xs : List (Variable V)} {ys : List (Variable W)}
+      → Along (Variable_renames same) xs ys
       → {n : ℕ} {rs : List Reason} → AreReasonsFrom A t n xs rs → AreReasonsFrom B t n ys rs
   reasons_there t l.none none = none
   reasons_there t (l.one_and q qs) (state s d) = state (sym q.is_state ∙ s) (reasons_there t qs d)

@@ -13,12 +13,15 @@ use Rattle.flow_rounds.specs.Reasons.{Reason, IsNamedFact, RestsOn, IsDerived, I
 use Rattle.flow_rounds.proofs.Rounding.{round_grows, round_fact}
 
 -- no flow of a state with flows has two facts
-pub no_two : {V : Type 0} {net : Net V} {t total : List Value} → Flows net t (Total total) → HasNo net.variables (HasTwo net t)
+pub no_two : {V : Type 0} {net : Net V} {t total : List Value} → Flows net t (Total total)
+    → HasNo net.variables (HasTwo net t)
 no_two (all_hold n m c b) = n
 
-fields_one : (r q : Reason) → r.flow ≡ q.flow → r.value ≡ q.value → r.round ≡ q.round → r.by ≡ q.by → r.rests_on ≡ q.rests_on → r ≡ q
+fields_one : (r q : Reason) → r.flow ≡ q.flow → r.value ≡ q.value → r.round ≡ q.round → r.by ≡ q.by
+    → r.rests_on ≡ q.rests_on → r ≡ q
 fields_one r q a b c d e =
-    let make : ℕ → Value → ℕ → Option ℕ → List ℕ → Reason = λ f v n o l. record { flow = f; value = v; round = n; by = o; rests_on = l } in
+    let make : ℕ → Value → ℕ → Option ℕ → List ℕ
+    → Reason = λ f v n o l. record { flow = f; value = v; round = n; by = o; rests_on = l } in
     ap (λ z. make z r.value r.round r.by r.rests_on) a
     ∙ (ap (λ z. make q.flow z r.round r.by r.rests_on) b
     ∙ (ap (λ z. make q.flow q.value z r.by r.rests_on) c
@@ -28,7 +31,11 @@ module _ {V : Type 0} (net : Net V) (t : List Value) where
   -- a derived value stands after its round
   pub stands_then : (x : Variable V) (r : Reason) → (d : IsDerived net t x r) → Round net t (suc d.before) x.key r.value
   stands_then x r d =
-      inr (record { assign = d.first.item; is_one = record { place = d.assertion; stands = d.first.stands }; adds = d.first.has })
+      inr (record {
+        assign = d.first.item;
+        is_one = record { place = d.assertion; stands = d.first.stands };
+        adds = d.first.has;
+      })
 
   pub derived_fact : (x : Variable V) (r : Reason) → IsDerived net t x r → FactOf net t x.key r.value
   derived_fact x r d = round_fact net t (suc d.before) x.key r.value (stands_then x r d)
@@ -47,13 +54,34 @@ module _ {V : Type 0} (net : Net V) (t : List Value) where
   reason_at none r o = absurd (one_none r o)
   reason_at {n = n} (state s d) r o =
       let h = reason_at d r o in
-      record { place = suc h.place; variable = h.variable; stands = h.stands; number = omega (arith, h.number); is_flow = h.is_flow; is = h.is }
+      record {
+        place = suc h.place;
+        variable = h.variable;
+        stands = h.stands;
+        number = omega (arith, h.number);
+        is_flow = h.is_flow;
+        is = h.is;
+      }
   reason_at {n = n} (flow {x = x} {xs = xs} {r = q} {rs = qs} s i w d) r o =
       elim (one_cases q qs r o) [
         | inl e ↦ (let P : Reason → Type 0 = λ z. ReasonAt n (x ∷ xs) z in
-            subst P e (record { place = 0; variable = x; stands = refl; number = omega (arith, i); is_flow = s; is = w }))
+            subst P e (record {
+              place = 0;
+              variable = x;
+              stands = refl;
+              number = omega (arith, i);
+              is_flow = s;
+              is = w;
+            }))
         | inr p ↦ (let h = reason_at d r p in
-            record { place = suc h.place; variable = h.variable; stands = h.stands; number = omega (arith, h.number); is_flow = h.is_flow; is = h.is })
+            record {
+              place = suc h.place;
+              variable = h.variable;
+              stands = h.stands;
+              number = omega (arith, h.number);
+              is_flow = h.is_flow;
+              is = h.is;
+            })
       ]
 
   -- where a flow has at most one fact
@@ -67,7 +95,8 @@ module _ {V : Type 0} (net : Net V) (t : List Value) where
     pub comes_by : (r : Reason) → IsDerived net t x r → (k : ℕ) (v : Value) → Round net t k x.key v → r.round ≤ k
     comes_by r d k v h =
         let e = one_fact v r.value (round_fact net t k x.key v h) (derived_fact x r d) in
-        let late : k ≤ d.before → ⊥ = λ l. d.not_yet (round_grows net t k d.before l x.key r.value (subst (λ w. Round net t k x.key w) e h)) in
+        let late : k ≤ d.before → ⊥ = λ l. d.not_yet
+        (round_grows net t k d.before l x.key r.value (subst (λ w. Round net t k x.key w) e h)) in
         omega (arith, d.round)
 
     rounds_one : (r q : Reason) → (d : IsDerived net t x r) → (f : IsDerived net t x q) → d.before ≡ f.before
@@ -76,12 +105,14 @@ module _ {V : Type 0} (net : Net V) (t : List Value) where
         let b = comes_by q f (suc d.before) r.value (stands_then x r d) in
         omega (arith, a, b, d.round, f.round)
 
-    rests_one : (k : ℕ) (v : Value) (m m' : ℕ) (ns ns' : List ℕ) → (a : IsFirst net.assertions (Adds net (Round net t k) x.key v) m)
+    rests_one : (k : ℕ) (v : Value) (m m' : ℕ) (ns ns' : List ℕ)
+        → (a : IsFirst net.assertions (Adds net (Round net t k) x.key v) m)
         → (b : IsFirst net.assertions (Adds net (Round net t k) x.key v) m')
         → RestsOn net (Round net t k) a.item ns → RestsOn net (Round net t k) b.item ns' → ns ≡ ns'
     rests_one k v m m' ns ns' a b g h =
         let e = first_same a b in
-        let i = stands_one net.assertions m' a.item b.item (subst (λ z. Stands net.assertions z a.item) e a.stands) b.stands in
+        let i = stands_one net.assertions m' a.item b.item (subst (λ z. Stands net.assertions z a.item) e a.stands)
+        b.stands in
         let f : RestsOn net (Round net t k) b.item ns = subst (λ z. RestsOn net (Round net t k) z ns) i g in
         same_ascending ns ns' f.ascends h.ascends (λ z o. h.whole z (f.sound z o)) (λ z o. f.whole z (h.sound z o))
 
@@ -115,7 +146,8 @@ module _ {V : Type 0} (net : Net V) (t : List Value) where
       let f = reasons_one (rest_has_no h) d d' in cc
 
   -- a flow that a reason rests on came in a round before
-  pub descends : HasNo net.variables (HasTwo net t) → (reasons : List Reason) → AreReasons net t reasons → (r s : Reason)
+  pub descends : HasNo net.variables (HasTwo net t) → (reasons : List Reason) → AreReasons net t reasons
+      → (r s : Reason)
       → IsOneOf reasons r → IsOneOf reasons s → IsOneOf r.rests_on s.flow → s.round < r.round
   descends two reasons are r s o p rests = by (reason_at are r o).is
     where
@@ -134,7 +166,8 @@ module _ {V : Type 0} (net : Net V) (t : List Value) where
           same : it.variable ≡ found.variable
           same =
               let e : s.flow ≡ found.place = omega (arith, found.number) in
-              stands_one net.variables found.place it.variable found.variable (subst (λ z. Stands net.variables z it.variable) e it.stands) found.stands
+              stands_one net.variables found.place it.variable found.variable
+              (subst (λ z. Stands net.variables z it.variable) e it.stands) found.stands
 
           there : Round net t d.before found.variable.key it.value
           there = subst (λ (z : Variable V). Round net t d.before z.key it.value) same it.has

@@ -16,7 +16,8 @@ use Rattle.flow_rounds.proofs.Rounding.{round_fact, placed}
 
 module _ {V : Type 0} (net : Net V) (t : List Value) (x : Variable V) (r : Reason) (d : IsDerived net t x r) where
   -- a fact that the assignment names is one of the reason's variables
-  named : (y : V) (v : Value) → Names d.first.item y → Round net t d.before y v → OfThese net r.rests_on (FactOf net t) y v
+  named : (y : V) (v : Value) → Names d.first.item y → Round net t d.before y v
+      → OfThese net r.rests_on (FactOf net t) y v
   named y v n h =
       let p = placed net t d.before y v h in
       record {
@@ -35,12 +36,15 @@ module _ {V : Type 0} (net : Net V) (t : List Value) (x : Variable V) (r : Reaso
       }
 
   pub suffices : (n : ℕ) (a : Assign V) → r.by ≡ Some n → Stands net.assertions n a
-      → Passes (OfThese net r.rests_on (FactOf net t)) a.conditions × Yields (OfThese net r.rests_on (FactOf net t)) (out-Expr V a.value) r.value
+      → Passes (OfThese net r.rests_on (FactOf net t)) a.conditions
+      × Yields (OfThese net r.rests_on (FactOf net t)) (out-Expr V a.value) r.value
   suffices n a by s =
       let e : d.assertion ≡ n = cc (d.by, by) in
-      let i = stands_one net.assertions n d.first.item a (subst (λ m. Stands net.assertions m d.first.item) e d.first.stands) s in
+      let i = stands_one net.assertions n d.first.item a
+      (subst (λ m. Stands net.assertions m d.first.item) e d.first.stands) s in
       let P : Assign V → Type 0 = λ b.
-      Passes (OfThese net r.rests_on (FactOf net t)) b.conditions × Yields (OfThese net r.rests_on (FactOf net t)) (out-Expr V b.value) r.value in
+      Passes (OfThese net r.rests_on (FactOf net t)) b.conditions
+      × Yields (OfThese net r.rests_on (FactOf net t)) (out-Expr V b.value) r.value in
       subst P i (
         passes_named (λ y v m h. named y v (inr m) h) d.first.has.passes,
         yields_named (λ y v m h. named y v (inl m) h) d.first.has.yields,

@@ -20,7 +20,8 @@ completed_states (flows.state s c) = states.both (completed_states c)
 completed_states (flows.known s f c) = states.flow s (completed_states c)
 completed_states (flows.unknown s f c) = states.flow s (completed_states c)
 
-pub states_of : {V : Type 0} {net : Net V} {t total : List Value} → Flows net t (Total total) → Same_states net.variables t total
+pub states_of : {V : Type 0} {net : Net V} {t total : List Value} → Flows net t (Total total)
+    → Same_states net.variables t total
 states_of (all_hold n m c b) = completed_states c
 
 module _ {V : Type 0} (net : Net V) (t u : List Value) (same : Same_states net.variables t u) where
@@ -60,7 +61,8 @@ module _ {V : Type 0} (net : Net V) (t u : List Value) (same : Same_states net.v
   back : Same_states net.variables u t
   back = turned same
 
-  named_same : (k : ℕ) (a : Assign V) (n : ℕ) → IsNamedFact net (Round net t k) a n → IsNamedFact net (Round net u k) a n
+  named_same : (k : ℕ) (a : Assign V) (n : ℕ) → IsNamedFact net (Round net t k) a n
+      → IsNamedFact net (Round net u k) a n
   named_same k a n h = record {
     variable = h.variable;
     stands = h.stands;
@@ -82,9 +84,11 @@ module _ {V : Type 0} (net : Net V) (t u : List Value) (same : Same_states net.v
         first = record {
           item = d.first.item;
           stands = d.first.stands;
-          has = adds_same net t u same (Round net t d.before) (Round net u d.before) (round_same net t u same d.before) x.key r.value d.first.item d.first.has;
+          has = adds_same net t u same (Round net t d.before) (Round net u d.before) (round_same net t u same d.before)
+              x.key r.value d.first.item d.first.has;
           before = λ k a l s h. d.first.before k a l s
-              (adds_same net u t off (Round net u d.before) (Round net t d.before) (round_same net u t off d.before) x.key r.value a h);
+              (adds_same net u t off (Round net u d.before) (Round net t d.before) (round_same net u t off d.before)
+              x.key r.value a h);
         };
         rests_on = record {
           ascends = d.rests_on.ascends;
@@ -103,7 +107,8 @@ module _ {V : Type 0} (net : Net V) (t u : List Value) (same : Same_states net.v
     rests_on = d.rests_on;
   })
 
-  pub reasons_same : {n : ℕ} {xs : List (Variable V)} {rs : List Reason} → AreReasonsFrom net t n xs rs → AreReasonsFrom net u n xs rs
+  pub reasons_same : {n : ℕ} {xs : List (Variable V)} {rs : List Reason} → AreReasonsFrom net t n xs rs
+      → AreReasonsFrom net u n xs rs
   reasons_same none = none
   reasons_same (state s d) = state s (reasons_same d)
   reasons_same (flow {x = x} {r = r} s i w d) = flow s i (reason_same x r w) (reasons_same d)

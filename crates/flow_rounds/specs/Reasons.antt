@@ -10,7 +10,8 @@ use Rattle.ar_meaning.specs.Facts.{FactOf}
 use Rattle.ar_meaning.specs.Dependence.{Names}
 use Rattle.flow_rounds.specs.Rounds.{Round, Adds}
 
--- a reason by numbers: the flow, its value, the round, the assignment that adds the value if one does, and the variables that it rests on
+-- a reason by numbers: the flow, its value, the round, the assignment that adds the value if one does, and the
+-- variables that it rests on
 pub record Reason : Type 0 where
   pub flow : ℕ
   pub value : Value
@@ -18,7 +19,8 @@ pub record Reason : Type 0 where
   pub by : Option ℕ
   pub rests_on : List ℕ
 
--- the assignment names the variable of this number in its value or in a condition, and the variable has one of the facts
+-- the assignment names the variable of this number in its value or in a condition, and the variable has one of the
+-- facts
 pub record IsNamedFact {V : Type 0} (net : Net V) (facts : V → Value → Type 0) (a : Assign V) (n : ℕ) : Type 0 where
   pub variable : Variable V
   pub stands : Stands net.variables n variable
@@ -27,12 +29,14 @@ pub record IsNamedFact {V : Type 0} (net : Net V) (facts : V → Value → Type 
   pub has : facts variable.key value
 
 -- the variables that the assignment names and that have a fact, by number, each once
-pub record RestsOn {V : Type 0} (net : Net V) (facts : V → Value → Type 0) (a : Assign V) (numbers : List ℕ) : Type 0 where
+pub record RestsOn {V : Type 0} (net : Net V) (facts : V → Value → Type 0) (a : Assign V) (numbers : List ℕ) : Type
+    0 where
   pub ascends : Ascends numbers
   pub sound : (n : ℕ) → IsOneOf numbers n → IsNamedFact net facts a n
   pub whole : (n : ℕ) → IsNamedFact net facts a n → IsOneOf numbers n
 
--- the value comes in a round: it does not stand after the rounds before, of the assertions that add it then the reason has the first, and
+-- the value comes in a round: it does not stand after the rounds before, of the assertions that add it then the reason
+-- has the first, and
 -- it rests on the variables that this one names and that had a fact before
 pub record IsDerived {V : Type 0} (net : Net V) (t : List Value) (x : Variable V) (r : Reason) : Type 0 where
   pub before : ℕ
@@ -69,10 +73,12 @@ pub data AreReasonsFrom {V : Type 0} (net : Net V) (t : List Value) : ℕ → Li
 abbrev pub AreReasons : {V : Type 0} → Net V → List Value → List Reason → Type 0
 AreReasons net t rs = AreReasonsFrom net t 0 net.variables rs
 
--- the cone of an expression, the least set: the variables that it names, and with each flow the variables that its reason rests on
+-- the cone of an expression, the least set: the variables that it names, and with each flow the variables that its
+-- reason rests on
 pub data InCone {V : Type 0} (net : Net V) (reasons : List Reason) (e : Expr V) : ℕ → Type 0 where
   named : {n : ℕ} (x : Variable V) → Stands net.variables n x → Mentions x.key (out-Expr V e) → InCone net reasons e n
-  rested_on : {n : ℕ} (r : Reason) → IsOneOf reasons r → InCone net reasons e r.flow → IsOneOf r.rests_on n → InCone net reasons e n
+  rested_on : {n : ℕ} (r : Reason) → IsOneOf reasons r → InCone net reasons e r.flow → IsOneOf r.rests_on n
+      → InCone net reasons e n
 
 -- the variables of the cone, by number, each once
 pub record IsCone {V : Type 0} (net : Net V) (reasons : List Reason) (e : Expr V) (numbers : List ℕ) : Type 0 where

@@ -37,7 +37,8 @@ placed : (ts : List ModeTree) (k : ℕ) (t : ModeTree) (e : ℕ) → Stands ts k
 placed [] k t e s o = absurd (stands_none k t s)
 placed (u ∷ ts) zero t e s o =
     let i : u ≡ t = cc in
-    one_left (map event_of u.edges) (events_of ts) e (subst (λ (z : ModeTree). IsOneOf (map event_of z.edges) e) (sym i) o)
+    one_left (map event_of u.edges) (events_of ts) e
+    (subst (λ (z : ModeTree). IsOneOf (map event_of z.edges) e) (sym i) o)
 placed (u ∷ ts) (suc k) t e s o = one_right (map event_of u.edges) (events_of ts) e (placed ts k t e s o)
 
 all_different : (ts : List ModeTree) → ((k : ℕ) (t : ModeTree) → Stands ts k t → AreDifferent (map event_of t.edges))
@@ -59,7 +60,8 @@ row_of_event rows e o =
 -- an edge is of a mode variable
 module _ {V : Type 0} {sys : System V} {dropped : List ℕ} {l : Label} {n : ℕ} {from to : Value}
     (e : Edge sys dropped l n from to) where
-  mode_of : (unit : ℕ) → e.is_open.is_kept.is_way.event.unit ≡ unit → IsModeOf sys unit e.way n → IsModeVariable sys dropped n
+  mode_of : (unit : ℕ) → e.is_open.is_kept.is_way.event.unit ≡ unit → IsModeOf sys unit e.way n
+      → IsModeVariable sys dropped n
   mode_of unit i (named f) = record {
     variable = f.item;
     stands = f.stands;
@@ -89,7 +91,8 @@ module _ {V : Type 0} (sys : System V) (dropped : List ℕ) (keyed : AreKeyed sy
         (shapes.each k t s).event m n b.0 c.0 b.1 c.1 (b.2 ∙ sym c.2);
   }
 
-  trees_apart : (j k : ℕ) (s t : ModeTree) (e : ℕ) → Stands trees j s → Stands trees k t → IsOneOf (map event_of s.edges) e
+  trees_apart : (j k : ℕ) (s t : ModeTree) (e : ℕ) → Stands trees j s → Stands trees k t
+      → IsOneOf (map event_of s.edges) e
       → IsOneOf (map event_of t.edges) e → j ≡ k
   trees_apart j k s t e x y p q =
       let b = row_of_event s.edges e p in
@@ -124,7 +127,8 @@ module _ {V : Type 0} (sys : System V) (dropped : List ℕ) (keyed : AreKeyed sy
       let o = live_is_row sys dropped keyed static t (forest.sound w.1.place t w.1.stands) r
       (subst (λ (z : ℕ). IsLive sys dropped l.label z l.from l.to) (sym w.2) l.is_live) in
       placed trees w.1.place t e w.1.stands
-      (subst (λ z. IsOneOf (map event_of t.edges) z) l.is_event (one_here (map event_of t.edges) o.place (event_of r) (stands_map event_of t.edges o.place r o.stands)))
+      (subst (λ z. IsOneOf (map event_of t.edges) z) l.is_event
+      (one_here (map event_of t.edges) o.place (event_of r) (stands_map event_of t.edges o.place r o.stands)))
 
   -- the events of the edges are the live events
   pub are_live : AreLiveEvents sys dropped (events_of trees)

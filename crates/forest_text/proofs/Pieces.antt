@@ -29,12 +29,17 @@ root_pieces path first =
 
 -- the same with the parts that were read
 pub edge_written : (p q : GtsParts) (e : Edge) → q ≡ p
-    → codes "  " ++ (value_text q.symbols.items e.from ++ (codes " " ++ (way_label p e.way.n ++ (codes " " ++ (value_text q.symbols.items e.to ++ 10 ∷ []))))) ≡ edge_line p e
+    → codes "  " ++ (value_text q.symbols.items
+    e.from ++ (codes " " ++ (way_label p e.way.n ++ (codes " " ++ (value_text q.symbols.items e.to ++ 10 ∷ [])))))
+    ≡ edge_line p e
 edge_written p q e i =
-    ap (λ (z : GtsParts). codes "  " ++ (value_text z.symbols.items e.from ++ (codes " " ++ (way_label p e.way.n ++ (codes " " ++ (value_text z.symbols.items e.to ++ 10 ∷ [])))))) i
+    ap (λ (z : GtsParts). codes "  " ++ (value_text z.symbols.items
+    e.from ++ (codes " " ++ (way_label p e.way.n ++ (codes " " ++ (value_text z.symbols.items e.to ++ 10 ∷ []))))))
+    i
     ∙ edge_pieces (value_text p.symbols.items e.from) (way_label p e.way.n) (value_text p.symbols.items e.to)
 
-pub root_written : (p : GtsParts) (t : ModeTree) (path : List ℕ) → path ≡ text_at (naming_of_parts p).variables t.variable.n
+pub root_written : (p : GtsParts) (t : ModeTree) (path : List ℕ)
+    → path ≡ text_at (naming_of_parts p).variables t.variable.n
     → codes "tree " ++ (path ++ (codes " at " ++ (value_text p.symbols.items t.first ++ 10 ∷ []))) ≡ tree_line p t
 root_written p t path e =
     root_pieces path (value_text p.symbols.items t.first)

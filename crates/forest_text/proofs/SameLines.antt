@@ -48,13 +48,15 @@ module _ (p : GtsParts) (sys : System ℕ) (views : Views p sys) where
       ∙ ap (λ (k : Label). label_text (naming_of_parts p) sys k) (sym (same_label e (own.each e (one_first e es)))) in
       let j = edge_texts es (record { each = λ f o. own.each f (one_rest e es f o) }) in
       ap (λ z. edge_text (value_text p.symbols.items e.from) z (value_text p.symbols.items e.to) ++ edge_lines p es) i
-      ∙ ap (λ z. edge_text (value_text p.symbols.items e.from) (label_text (naming_of_parts p) sys (row_of (number_in p) e).label) (value_text p.symbols.items e.to) ++ z) j
+      ∙ ap (λ z. edge_text (value_text p.symbols.items e.from)
+      (label_text (naming_of_parts p) sys (row_of (number_in p) e).label) (value_text p.symbols.items e.to) ++ z) j
 
   pub tree_texts : (ts : List ModeTree) → OwnTheirWays p ts
       → trees_text p ts ≡ tree_lines (naming_of_parts p) sys (map (tree_of (number_in p)) ts)
   tree_texts [] own = refl
   tree_texts (t ∷ ts) own =
-      let root : List ℕ = root_text (text_at (naming_of_parts p).variables t.variable.n) (value_text p.symbols.items t.first) in
+      let root : List ℕ = root_text (text_at (naming_of_parts p).variables t.variable.n)
+      (value_text p.symbols.items t.first) in
       let i = edge_texts t.edges.items (own.each t (one_first t ts)) in
       let j = tree_texts ts (record { each = λ u o. own.each u (one_rest t ts u o) }) in
       ap (λ z. (root ++ z) ++ trees_text p ts) i
@@ -65,13 +67,16 @@ module _ {V : Type 0} (things : List V) (sys : System V) (flat : System ℕ) (is
     (names : Naming) where
   label_same : (k : Label) → label_text names flat k ≡ label_text names sys k
   label_same k =
-      ap (λ z. way_text (text_at names.events k.event) z k.way) (sym (ways_count (IsNumber things) is_flat.events k.event))
+      ap (λ z. way_text (text_at names.events k.event) z k.way)
+      (sym (ways_count (IsNumber things) is_flat.events k.event))
 
   rows_same : (rs : List Row) → row_lines names flat rs ≡ row_lines names sys rs
   rows_same [] = refl
   rows_same (r ∷ rs) =
-      ap (λ z. edge_text (value_text names.symbols r.from) z (value_text names.symbols r.to) ++ row_lines names flat rs) (label_same r.label)
-      ∙ ap (λ z. edge_text (value_text names.symbols r.from) (label_text names sys r.label) (value_text names.symbols r.to) ++ z) (rows_same rs)
+      ap (λ z. edge_text (value_text names.symbols r.from) z (value_text names.symbols r.to) ++ row_lines names flat rs)
+      (label_same r.label)
+      ∙ ap (λ z. edge_text (value_text names.symbols r.from) (label_text names sys r.label)
+      (value_text names.symbols r.to) ++ z) (rows_same rs)
 
   pub trees_same : (ts : List firing.ModeTree) → tree_lines names flat ts ≡ tree_lines names sys ts
   trees_same [] = refl
@@ -81,7 +86,8 @@ module _ {V : Type 0} (things : List V) (sys : System V) (flat : System ℕ) (is
       ∙ ap (λ z. (root ++ row_lines names sys t.edges) ++ z) (trees_same ts)
 
 -- as many events as edges
-pub events_counted : (number : ℕ → ℕ) (ts : List ModeTree) → length (events_of (map (tree_of number) ts)) ≡ edge_count ts
+pub events_counted : (number : ℕ → ℕ) (ts : List ModeTree)
+    → length (events_of (map (tree_of number) ts)) ≡ edge_count ts
 events_counted number [] = refl
 events_counted number (t ∷ ts) =
     length-append (map event_of (map (row_of number) t.edges.items)) (events_of (map (tree_of number) ts))

@@ -24,13 +24,15 @@ events_line n = line (codes "events " ++ decimal n)
 abbrev pub row_lines : {V : Type 0} → Naming → System V → List Row → List ℕ
 row_lines names sys [] = []
 row_lines names sys (r ∷ rs) =
-    edge_text (value_text names.symbols r.from) (label_text names sys r.label) (value_text names.symbols r.to) ++ row_lines names sys rs
+    edge_text (value_text names.symbols r.from) (label_text names sys r.label)
+    (value_text names.symbols r.to) ++ row_lines names sys rs
 
 -- the lines of these trees: of each its variable with the init value, and then its edges
 abbrev pub tree_lines : {V : Type 0} → Naming → System V → List ModeTree → List ℕ
 tree_lines names sys [] = []
 tree_lines names sys (t ∷ ts) =
-    (root_text (text_at names.variables t.variable) (value_text names.symbols t.first) ++ row_lines names sys t.edges) ++ tree_lines names sys ts
+    (root_text (text_at names.variables t.variable) (value_text names.symbols t.first) ++ row_lines names sys t.edges)
+    ++ tree_lines names sys ts
 
 -- these are the events that have a live edge, each once
 pub record AreLiveEvents {V : Type 0} (sys : System V) (dropped : List ℕ) (events : List ℕ) : Type 0 where

@@ -30,8 +30,10 @@ pub all_stored : (P : Family → Type 0) (s t : Stored) → All P s.families →
 all_stored P s t a g = subst (All P) (sym g.families) (All-append P s.families g.added a g.all)
 
 -- the minimal sets, once the operand's family is drawn
-pub least_drawn : (all : Family) (gates : List Gate) (o : Operand) (s t u : Stored) (n : NodeId) (r : Result NodeId NodeFault)
-    → Draws (IsNeeded all gates o) (family_at all gates o) s t (Ok n) → Draws (IsHalf (family t n.n)) (minimal (family t n.n)) t u r
+pub least_drawn : (all : Family) (gates : List Gate) (o : Operand) (s t u : Stored) (n : NodeId)
+    (r : Result NodeId NodeFault)
+    → Draws (IsNeeded all gates o) (family_at all gates o) s t (Ok n)
+    → Draws (IsHalf (family t n.n)) (minimal (family t n.n)) t u r
     → Draws (IsNeeded all gates o) (minimal (family_at all gates o)) s u r
 least_drawn all gates o s t u n r a d =
     Draws-after (IsNeeded all gates o) (minimal (family_at all gates o)) s t u r a.grows
@@ -40,7 +42,8 @@ least_drawn all gates o s t u n r a d =
 minimal_none : (f : Family) → IsFamily f → minimal f ≡ [] → f ≡ []
 minimal_none [] k e = refl
 minimal_none (s ∷ f) k e = absurd (true≢false
-    (sym (ap (λ b. b || list_any (λ t. within t s) f) (within-refl s)) ∙ any_within-minimal (s ∷ f) k.ascending s ∙ ap (list_any (λ t. within t s)) e))
+    (sym (ap (λ b. b || list_any (λ t. within t s) f) (within-refl s)) ∙ any_within-minimal (s ∷ f) k.ascending s
+    ∙ ap (list_any (λ t. within t s)) e))
 
 minimal_of_none : minimal [] ≡ []
 unfolding minimal
@@ -58,22 +61,26 @@ module _ (trees : List ModeTree) (table : Table) (all : Family) (is_all : AreLis
   none_so : family_at all table.gates table.conflict ≡ [] → (set : List ℕ) → IsConflictAt trees table set → ⊥
   unfolding family_at
   none_so e set t =
-      let w = (true_lists trees (value_at table.gates table.conflict) (of_members table.gates table.conflict) all is_all).whole set t in
+      let w = (true_lists trees (value_at table.gates table.conflict) (of_members table.gates table.conflict) all
+      is_all).whole set t in
       true≢false (sym w.1 ∙ ap (λ z. has z w.0) e)
 
   some_so : family_at all table.gates table.conflict ≢ [] → (set : List ℕ) × IsConflictAt trees table set
   unfolding family_at
   some_so n = at (filter (value_at table.gates table.conflict) all) refl
     where
-      at : (f : Family) → filter (value_at table.gates table.conflict) all ≡ f → (set : List ℕ) × IsConflictAt trees table set
+      at : (f : Family) → filter (value_at table.gates table.conflict) all ≡ f
+          → (set : List ℕ) × IsConflictAt trees table set
       at [] e = absurd (n e)
       at (s ∷ f) e = (
         s,
-        (true_lists trees (value_at table.gates table.conflict) (of_members table.gates table.conflict) all is_all).sound s
+        (true_lists trees (value_at table.gates table.conflict) (of_members table.gates table.conflict) all
+            is_all).sound s
             (ap (λ z. has z s) e ∙ ap (λ b. b || has f s) (same-refl s)),
       )
 
-module _ (table : Table) (f : ℕ) (s0 s1 : Stored) (sound : IsSoundStore s0) (f_in : IsNumber s0 f) (stored : All (IsCounted (family s0 f)) s0.families) where
+module _ (table : Table) (f : ℕ) (s0 s1 : Stored) (sound : IsSoundStore s0) (f_in : IsNumber s0 f)
+    (stored : All (IsCounted (family s0 f)) s0.families) where
   abbrev all : Family
   all = family s0 f
 
@@ -83,13 +90,17 @@ module _ (table : Table) (f : ℕ) (s0 s1 : Stored) (sound : IsSoundStore s0) (f
   abbrev Both : Family → Type 0
   Both = IsNeededByBoth all table
 
-  module _ (r : Result NodeId NodeFault) (d : Draws Conflict (minimal (family_at all table.gates table.conflict)) s0 s1 r) where
+  module _ (r : Result NodeId NodeFault)
+      (d : Draws Conflict (minimal (family_at all table.gates table.conflict)) s0 s1 r) where
     pub conflict_needed : All Conflict s1.families
-    conflict_needed = all_stored Conflict s0 s1 (All-weaker (IsCounted all) Conflict (λ h c. of_firable c) s0.families stored) d.grows
+    conflict_needed = all_stored Conflict s0 s1
+        (All-weaker (IsCounted all) Conflict (λ h c. of_firable c) s0.families stored) d.grows
 
-    pub conflict_full : (trees : List ModeTree) → AreListed (IsFirableOf trees) all → r ≡ Err Full → NodesMay trees table s0.limit
+    pub conflict_full : (trees : List ModeTree) → AreListed (IsFirableOf trees) all → r ≡ Err Full
+        → NodesMay trees table s0.limit
     conflict_full trees is_all e =
-        let m = subst (λ z. IsMoreThan z Conflict) d.grows.limit (full_is_more Conflict s1 conflict_needed (d.full e)) in
+        let m = subst (λ z. IsMoreThan z Conflict) d.grows.limit
+        (full_is_more Conflict s1 conflict_needed (d.full e)) in
         record {
           all = all;
           is_all = is_all;
@@ -99,41 +110,64 @@ module _ (table : Table) (f : ℕ) (s0 s1 : Stored) (sound : IsSoundStore s0) (f
 
   module _ (n : NodeId) (d : Draws Conflict (minimal (family_at all table.gates table.conflict)) s0 s1 (Ok n)) where
     pub conflict_sets : IsSoundStore s1 → (n.n ≡ 0 → ⊥) → (trees : List ModeTree) → AreListed (IsFirableOf trees) all
-        → ((set : List ℕ) × IsConflictAt trees table set) × (IsNumber s1 n.n × ListsLeast trees (value_at table.gates table.conflict) (family s1 n.n))
+        → ((set : List ℕ) × IsConflictAt trees table set)
+        × (IsNumber s1 n.n × ListsLeast trees (value_at table.gates table.conflict) (family s1 n.n))
     conflict_sets k some trees is_all =
         let positive : 0 < n.n = grind (arith, some) in
         let there : family s1 n.n ≢ [] = some_sets s1.families k.different n.n positive d.ok.0 in (
           some_so trees table all is_all (λ e. there (d.ok.1 ∙ ap minimal e ∙ minimal_of_none)),
-          (d.ok.0, subst (ListsLeast trees (value_at table.gates table.conflict)) (sym d.ok.1) (lists_least trees table all is_all table.conflict)),
+          (
+            d.ok.0,
+            subst (ListsLeast trees (value_at table.gates table.conflict)) (sym d.ok.1)
+                (lists_least trees table all is_all table.conflict),
+          ),
         )
 
     none_at : n.n ≡ 0 → family_at all table.gates table.conflict ≡ []
-    none_at e = minimal_none (family_at all table.gates table.conflict) (at_family all table.gates table.conflict (sound.families f f_in)) (sym d.ok.1 ∙ ap (family s1) e)
+    none_at e = minimal_none (family_at all table.gates table.conflict)
+        (at_family all table.gates table.conflict (sound.families f f_in)) (sym d.ok.1 ∙ ap (family s1) e)
 
     module _ (s2 : Stored) (q : Result NodeId NodeFault) (none : n.n ≡ 0)
-        (t : Draws (IsNeeded (family s1 f) table.gates table.top) (minimal (family_at (family s1 f) table.gates table.top)) s1 s2 q) where
+        (t : Draws (IsNeeded (family s1 f) table.gates table.top)
+        (minimal (family_at (family s1 f) table.gates table.top)) s1 s2 q) where
       top_drawn : Draws (IsNeeded all table.gates table.top) (minimal (family_at all table.gates table.top)) s1 s2 q
-      top_drawn = subst (λ z. Draws (IsNeeded z table.gates table.top) (minimal (family_at z table.gates table.top)) s1 s2 q) (kept Conflict s0 s1 f d.grows f_in) t
+      top_drawn = subst (λ z. Draws (IsNeeded z table.gates table.top) (minimal (family_at z table.gates table.top)) s1
+          s2 q) (kept Conflict s0 s1 f d.grows f_in) t
 
       pub both_needed : All Both s2.families
-      both_needed = all_stored Both s1 s2 (All-weaker Conflict Both (λ h x. inl x) s1.families (conflict_needed (Ok n) d))
-          (record { limit = top_drawn.grows.limit; added = top_drawn.grows.added; families = top_drawn.grows.families; all = All-weaker (IsNeeded all table.gates table.top) Both (λ h x. inr x) top_drawn.grows.added top_drawn.grows.all })
+      both_needed = all_stored Both s1 s2
+          (All-weaker Conflict Both (λ h x. inl x) s1.families (conflict_needed (Ok n) d))
+          (record {
+            limit = top_drawn.grows.limit;
+            added = top_drawn.grows.added;
+            families = top_drawn.grows.families;
+            all = All-weaker (IsNeeded all table.gates table.top) Both (λ h x. inr x) top_drawn.grows.added
+                top_drawn.grows.all;
+          })
 
-      pub both_full : (trees : List ModeTree) → AreListed (IsFirableOf trees) all → q ≡ Err Full → NodesMay trees table s0.limit
+      pub both_full : (trees : List ModeTree) → AreListed (IsFirableOf trees) all → q ≡ Err Full
+          → NodesMay trees table s0.limit
       both_full trees is_all e = record {
         all = all;
         is_all = is_all;
         where_some = λ set x. absurd (none_so trees table all is_all (none_at none) set x);
         where_none = λ x. subst (λ z. IsMoreThan z Both) (top_drawn.grows.limit ∙ d.grows.limit)
-            (full_is_more Both s2 both_needed (full_weaker (IsNeeded all table.gates table.top) Both s2 (λ h y. inr y) (top_drawn.full e)));
+            (full_is_more Both s2 both_needed
+            (full_weaker (IsNeeded all table.gates table.top) Both s2 (λ h y. inr y) (top_drawn.full e)));
       }
 
     pub top_sets : (s2 : Stored) (m : NodeId) → n.n ≡ 0
-        → Draws (IsNeeded (family s1 f) table.gates table.top) (minimal (family_at (family s1 f) table.gates table.top)) s1 s2 (Ok m)
+        → Draws (IsNeeded (family s1 f) table.gates table.top) (minimal (family_at (family s1 f) table.gates table.top))
+        s1 s2 (Ok m)
         → (trees : List ModeTree) → AreListed (IsFirableOf trees) all
-        → ((set : List ℕ) → IsConflictAt trees table set → ⊥) × (IsNumber s2 m.n × ListsLeast trees (value_at table.gates table.top) (family s2 m.n))
+        → ((set : List ℕ) → IsConflictAt trees table set → ⊥)
+        × (IsNumber s2 m.n × ListsLeast trees (value_at table.gates table.top) (family s2 m.n))
     top_sets s2 m none t trees is_all =
         let d2 = top_drawn s2 (Ok m) none t in (
           none_so trees table all is_all (none_at none),
-          (d2.ok.0, subst (ListsLeast trees (value_at table.gates table.top)) (sym d2.ok.1) (lists_least trees table all is_all table.top)),
+          (
+            d2.ok.0,
+            subst (ListsLeast trees (value_at table.gates table.top)) (sym d2.ok.1)
+                (lists_least trees table all is_all table.top),
+          ),
         )

@@ -31,21 +31,27 @@ has_event_holds (x ∷ set) e = ap₂ (λ a b. a || b) (eqb_turned x e) (has_eve
 
 pub family_of_event : (all : Family) (gates : List Gate) (e : ℕ) → family_at all gates (EventIs e true) ≡ having all e
 unfolding family_at having
-family_of_event all gates e = filter_alike (value_at gates (EventIs e true)) (holds e) all (every (λ s. value_at gates (EventIs e true) s ≡ holds e s) (λ s. has_event_holds s e) all)
+family_of_event all gates e = filter_alike (value_at gates (EventIs e true)) (holds e) all
+    (every (λ s. value_at gates (EventIs e true) s ≡ holds e s) (λ s. has_event_holds s e) all)
 
 pub family_of_always : (all : Family) (gates : List Gate) → family_at all gates Always ≡ all
 unfolding family_at
-family_of_always all gates = filter-all (value_at gates Always) all (every (λ s. value_at gates Always s ≡ true) (λ s. refl) all)
+family_of_always all gates = filter-all (value_at gates Always) all
+    (every (λ s. value_at gates Always s ≡ true) (λ s. refl) all)
 
 pub family_of_never : (all : Family) (gates : List Gate) → family_at all gates Never ≡ []
 unfolding family_at
-family_of_never all gates = filter-none (value_at gates Never) all (every (λ s. value_at gates Never s ≡ false) (λ s. refl) all)
+family_of_never all gates = filter-none (value_at gates Never) all
+    (every (λ s. value_at gates Never s ≡ false) (λ s. refl) all)
 
 -- the other sign
-pub family_of_opposite : (all : Family) (gates : List Gate) (o : Operand) → family_at all gates (opposite o) ≡ minus all (family_at all gates o)
+pub family_of_opposite : (all : Family) (gates : List Gate) (o : Operand)
+    → family_at all gates (opposite o) ≡ minus all (family_at all gates o)
 unfolding family_at
 family_of_opposite all gates o =
-    filter_alike (value_at gates (opposite o)) (λ s. not (value_at gates o s)) all (every (λ s. value_at gates (opposite o) s ≡ not (value_at gates o s)) (λ s. turned s (values_at s gates) o) all)
+    filter_alike (value_at gates (opposite o)) (λ s. not (value_at gates o s)) all
+    (every (λ s. value_at gates (opposite o) s ≡ not (value_at gates o s)) (λ s. turned s (values_at s gates) o)
+    all)
     ∙ sym (minus-filter (value_at gates o) all)
 
 -- ---- first so many operands
@@ -53,49 +59,66 @@ joint_one : (both : Bool) (s : List ℕ) (v : List Bool) (o : Operand) → joint
 joint_one true s v o = elim (operand_at s v o) as (λ b. (b && true) ≡ b) [ true ↦ refl | false ↦ refl ]
 joint_one false s v o = elim (operand_at s v o) as (λ b. (b || false) ≡ b) [ true ↦ refl | false ↦ refl ]
 
-all_last : (s : List ℕ) (v : List Bool) (os : List Operand) (o : Operand) → joint_at true s v (os ++ o ∷ []) ≡ (joint_at true s v os && operand_at s v o)
+all_last : (s : List ℕ) (v : List Bool) (os : List Operand) (o : Operand)
+    → joint_at true s v (os ++ o ∷ []) ≡ (joint_at true s v os && operand_at s v o)
 all_last s v [] o = joint_one true s v o
-all_last s v (p ∷ os) o = elim (operand_at s v p) as (λ b. (b && joint_at true s v (os ++ o ∷ [])) ≡ ((b && joint_at true s v os) && operand_at s v o)) [ true ↦ all_last s v os o | false ↦ refl ]
+all_last s v (p ∷ os) o = elim (operand_at s v p) as
+    (λ b. (b && joint_at true s v (os ++ o ∷ [])) ≡ ((b && joint_at true s v os) && operand_at s v o))
+    [ true ↦ all_last s v os o | false ↦ refl ]
 
-any_last : (s : List ℕ) (v : List Bool) (os : List Operand) (o : Operand) → joint_at false s v (os ++ o ∷ []) ≡ (joint_at false s v os || operand_at s v o)
+any_last : (s : List ℕ) (v : List Bool) (os : List Operand) (o : Operand)
+    → joint_at false s v (os ++ o ∷ []) ≡ (joint_at false s v os || operand_at s v o)
 any_last s v [] o = joint_one false s v o
-any_last s v (p ∷ os) o = elim (operand_at s v p) as (λ b. (b || joint_at false s v (os ++ o ∷ [])) ≡ ((b || joint_at false s v os) || operand_at s v o)) [ true ↦ refl | false ↦ any_last s v os o ]
+any_last s v (p ∷ os) o = elim (operand_at s v p) as
+    (λ b. (b || joint_at false s v (os ++ o ∷ [])) ≡ ((b || joint_at false s v os) || operand_at s v o))
+    [ true ↦ refl | false ↦ any_last s v os o ]
 
 -- one operand alone
-pub joint_first : (all : Family) (gates : List Gate) (both : Bool) (o : Operand) → joint_family all gates both (o ∷ []) ≡ family_at all gates o
+pub joint_first : (all : Family) (gates : List Gate) (both : Bool) (o : Operand)
+    → joint_family all gates both (o ∷ []) ≡ family_at all gates o
 unfolding joint_family family_at
-joint_first all gates both o = filter_alike (λ s. joint_at both s (values_at s gates) (o ∷ [])) (value_at gates o) all (every (λ s. joint_at both s (values_at s gates) (o ∷ []) ≡ value_at gates o s) (λ s. joint_one both s (values_at s gates) o) all)
+joint_first all gates both o = filter_alike (λ s. joint_at both s (values_at s gates) (o ∷ [])) (value_at gates o) all
+    (every (λ s. joint_at both s (values_at s gates) (o ∷ []) ≡ value_at gates o s)
+    (λ s. joint_one both s (values_at s gates) o) all)
 
 -- one operand more is met
-pub joint_meet : (all : Family) (gates : List Gate) (os : List Operand) (o : Operand) → joint_family all gates true (os ++ o ∷ []) ≡ meet (joint_family all gates true os) (family_at all gates o)
+pub joint_meet : (all : Family) (gates : List Gate) (os : List Operand) (o : Operand)
+    → joint_family all gates true (os ++ o ∷ []) ≡ meet (joint_family all gates true os) (family_at all gates o)
 unfolding joint_family family_at
 joint_meet all gates os o =
     let j = λ (s : List ℕ). joint_at true s (values_at s gates) os in
     filter_alike (λ s. joint_at true s (values_at s gates) (os ++ o ∷ [])) (λ s. j s && value_at gates o s) all
-    (every (λ s. joint_at true s (values_at s gates) (os ++ o ∷ []) ≡ (j s && value_at gates o s)) (λ s. all_last s (values_at s gates) os o) all)
+    (every (λ s. joint_at true s (values_at s gates) (os ++ o ∷ []) ≡ (j s && value_at gates o s))
+    (λ s. all_last s (values_at s gates) os o) all)
     ∙ sym (meet-filters j (value_at gates o) all)
 
 -- one operand more is joined
-pub joint_union : (all : Family) (gates : List Gate) (os : List Operand) (o : Operand) → IsInOrder all → joint_family all gates false (os ++ o ∷ []) ≡ union (joint_family all gates false os) (family_at all gates o)
+pub joint_union : (all : Family) (gates : List Gate) (os : List Operand) (o : Operand) → IsInOrder all
+    → joint_family all gates false (os ++ o ∷ []) ≡ union (joint_family all gates false os) (family_at all gates o)
 unfolding joint_family family_at
 joint_union all gates os o a =
     let j = λ (s : List ℕ). joint_at false s (values_at s gates) os in
     filter_alike (λ s. joint_at false s (values_at s gates) (os ++ o ∷ [])) (λ s. j s || value_at gates o s) all
-    (every (λ s. joint_at false s (values_at s gates) (os ++ o ∷ []) ≡ (j s || value_at gates o s)) (λ s. any_last s (values_at s gates) os o) all)
+    (every (λ s. joint_at false s (values_at s gates) (os ++ o ∷ []) ≡ (j s || value_at gates o s))
+    (λ s. any_last s (values_at s gates) os o) all)
     ∙ sym (union-filters j (value_at gates o) all a)
 
 -- ---- gates
-pub family_of_gate : (all : Family) (gates : List Gate) (g : ℕ) (gate : Gate) → Stands gates g gate → AreBelow g gate.operands
+pub family_of_gate : (all : Family) (gates : List Gate) (g : ℕ) (gate : Gate) → Stands gates g gate
+    → AreBelow g gate.operands
     → family_at all gates (GateIs g true) ≡ joint_family all gates gate.both gate.operands
 unfolding family_at joint_family
-family_of_gate all gates g gate i b = filter_alike (value_at gates (GateIs g true)) (λ s. joint_at gate.both s (values_at s gates) gate.operands) all
-    (every (λ s. value_at gates (GateIs g true) s ≡ joint_at gate.both s (values_at s gates) gate.operands) (λ s. gate_value s gates g gate i b) all)
+family_of_gate all gates g gate i b =
+    filter_alike (value_at gates (GateIs g true)) (λ s. joint_at gate.both s (values_at s gates) gate.operands) all
+    (every (λ s. value_at gates (GateIs g true) s ≡ joint_at gate.both s (values_at s gates) gate.operands)
+    (λ s. gate_value s gates g gate i b) all)
 
 module _ (s t : List ℕ) (v : Within s t) (w : Within t s) where
   event_same : (e : ℕ) → has_event s e ≡ has_event t e
   event_same e =
       has_event_holds s e
-      ∙ alike (holds e s) (holds e t) (λ h. (holds_law e t).1 (v.each e ((holds_law e s).0 h))) (λ h. (holds_law e s).1 (w.each e ((holds_law e t).0 h)))
+      ∙ alike (holds e s) (holds e t) (λ h. (holds_law e t).1 (v.each e ((holds_law e s).0 h)))
+      (λ h. (holds_law e s).1 (w.each e ((holds_law e t).0 h)))
       ∙ sym (has_event_holds t e)
 
   operand_same : (values : List Bool) (o : Operand) → operand_at s values o ≡ operand_at t values o
@@ -104,7 +127,8 @@ module _ (s t : List ℕ) (v : Within s t) (w : Within t s) where
   operand_same values (EventIs e sign) = ap (signed sign) (event_same e)
   operand_same values (GateIs g sign) = refl
 
-  joint_same : (both : Bool) (values : List Bool) (os : List Operand) → joint_at both s values os ≡ joint_at both t values os
+  joint_same : (both : Bool) (values : List Bool) (os : List Operand)
+      → joint_at both s values os ≡ joint_at both t values os
   joint_same both values [] = refl
   joint_same true values (o ∷ os) = ap₂ (λ a b. a && b) (operand_same values o) (joint_same true values os)
   joint_same false values (o ∷ os) = ap₂ (λ a b. a || b) (operand_same values o) (joint_same false values os)
@@ -112,7 +136,8 @@ module _ (s t : List ℕ) (v : Within s t) (w : Within t s) where
   values_same : (before : List Bool) (gates : List Gate) → values_from s before gates ≡ values_from t before gates
   values_same before [] = refl
   values_same before (g ∷ gs) =
-      ap (λ b. values_from s (before ++ b ∷ []) gs) (joint_same g.both before g.operands) ∙ values_same (before ++ joint_at g.both t before g.operands ∷ []) gs
+      ap (λ b. values_from s (before ++ b ∷ []) gs) (joint_same g.both before g.operands)
+      ∙ values_same (before ++ joint_at g.both t before g.operands ∷ []) gs
 
   value_same : (gates : List Gate) (o : Operand) → value_at gates o s ≡ value_at gates o t
   value_same gates o = operand_same (values_at s gates) o ∙ ap (λ z. operand_at t z o) (values_same [] gates)

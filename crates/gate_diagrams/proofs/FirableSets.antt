@@ -22,20 +22,25 @@ use Rattle.gate_diagrams.proofs.Going.{bound, DrawsLeft}
 of_other : {P : List ℕ → Type 0} (f g : Family) → Lists P f → Lists P g → (s : List ℕ) → has f s ≡ true → has g s ≡ true
 of_other f g a b s h =
     let w = b.whole s (a.sound s h) in
-    subst (λ z. has g z ≡ true) (sym (ascending_same s w.0 (member_of Ascends f s a.is_family.ascending h) (member_of Ascends g w.0 b.is_family.ascending w.1) w.2 w.3)) w.1
+    subst (λ z. has g z ≡ true) (sym (ascending_same s w.0 (member_of Ascends f s a.is_family.ascending h)
+    (member_of Ascends g w.0 b.is_family.ascending w.1) w.2 w.3)) w.1
 
 pub listed_one : {P : List ℕ → Type 0} (f g : Family) → AreListed P f → AreListed P g → f ≡ g
 listed_one f g a b =
     let x = listed_lists a in
     let y = listed_lists b in
-    same_sets f g x.is_family.in_order y.is_family.in_order (λ s. alike (has f s) (has g s) (of_other f g x y s) (of_other g f y x s))
+    same_sets f g x.is_family.in_order y.is_family.in_order
+    (λ s. alike (has f s) (has g s) (of_other f g x y s) (of_other g f y x s))
 
-pub firable_drawn : (trees : Stored) (paths : List NodeId) (s t : Stored) (r : Result NodeId NodeFault) → DrawsLeft trees paths s t r → (forest : List ModeTree)
-    → AreTreeFamilies forest (families_left trees paths) → AreApart forest → (all : Family) → AreListed (IsFirableOf forest) all → Draws (IsCounted all) all s t r
+pub firable_drawn : (trees : Stored) (paths : List NodeId) (s t : Stored) (r : Result NodeId NodeFault)
+    → DrawsLeft trees paths s t r → (forest : List ModeTree)
+    → AreTreeFamilies forest (families_left trees paths) → AreApart forest → (all : Family)
+    → AreListed (IsFirableOf forest) all → Draws (IsCounted all) all s t r
 firable_drawn trees paths s t r d forest families apart all listed =
     let fs = families_left trees paths in
     let n = bound fs in
-    subst (λ z. Draws (IsCounted z) z s t r) (listed_one (left n.0 0 fs) all (walk_lists forest fs families n.0 apart n.1) listed) (d n.0 n.1)
+    subst (λ z. Draws (IsCounted z) z s t r)
+    (listed_one (left n.0 0 fs) all (walk_lists forest fs families n.0 apart n.1) listed) (d n.0 n.1)
 
 -- no state is held in an empty list
 pub none_walked : (trees made : Stored) → AreWalked trees made []

@@ -11,18 +11,21 @@ use Rattle.gate_diagrams.specs.Drawing.{IsReady, IsTable}
 use Rattle.gate_diagrams.proofs.Needing.{first_is, all_are}
 
 -- so many of the gate's first operands are drawn: n is the number of their family
-pub record IsSoFar (P : Family → Type 0) (all : Family) (gates : List Gate) (gate : Gate) (k : ℕ) (old new : Stored) (n : ℕ) : Type 0 where
+pub record IsSoFar (P : Family → Type 0) (all : Family) (gates : List Gate) (gate : Gate) (k : ℕ) (old new : Stored)
+    (n : ℕ) : Type 0 where
   pub grows : Grows P old new
   pub in_store : IsNumber new n
   pub is : family new n ≡ joint_family all gates gate.both (take k gate.operands)
 
-table_kept : (P : Family → Type 0) (all : Family) (gates : List Gate) (table : List NodeId) (s t : Stored) (p : Operand) → Grows P s t → IsTable all gates table s p → IsTable all gates table t p
+table_kept : (P : Family → Type 0) (all : Family) (gates : List Gate) (table : List NodeId) (s t : Stored) (p : Operand)
+    → Grows P s t → IsTable all gates table s p → IsTable all gates table t p
 table_kept P all gates table s t p g i = record {
   in_table = i.in_table;
   drawn = λ k sign n e h. let x = i.drawn k sign n e h in record { in_store = still P s t n.n g x.in_store; is = kept P s t n.n g x.in_store ∙ x.is };
 }
 
-module _ (gates : List Gate) (o : Operand) (g : ℕ) (gate : Gate) (table : List NodeId) (s : Stored) (f : ℕ) (f_in : IsNumber s f) (ready : IsReady (family s f) gates o g gate table s) where
+module _ (gates : List Gate) (o : Operand) (g : ℕ) (gate : Gate) (table : List NodeId) (s : Stored) (f : ℕ)
+    (f_in : IsNumber s f) (ready : IsReady (family s f) gates o g gate table s) where
   abbrev all : Family
   all = family s f
 
@@ -38,10 +41,17 @@ module _ (gates : List Gate) (o : Operand) (g : ℕ) (gate : Gate) (table : List
   pub some : 0 < length gate.operands
   some = omega (arith, (ready.ordered.each g gate ready.stands).two)
 
-  pub begun : (p : Operand) → Stands gate.operands 0 p → (t : Stored) (n : NodeId) → Draws N (family_at all gates p) s t (Ok n) → IsSoFar N all gates gate 1 s t n.n
-  begun p next t n d = record { grows = d.grows; in_store = d.ok.0; is = d.ok.1 ∙ sym (first_is all gates o g gate p next) }
+  pub begun : (p : Operand) → Stands gate.operands 0 p → (t : Stored) (n : NodeId)
+      → Draws N (family_at all gates p) s t (Ok n) → IsSoFar N all gates gate 1 s t n.n
+  begun p next t n d = record {
+    grows = d.grows;
+    in_store = d.ok.0;
+    is = d.ok.1
+        ∙ sym (first_is all gates o g gate p next);
+  }
 
-  pub begun_refused : (p : Operand) (t : Stored) (x : NodeFault) → Draws N (family_at all gates p) s t (Err x) → Draws N Whole s t (Err x)
+  pub begun_refused : (p : Operand) (t : Stored) (x : NodeFault) → Draws N (family_at all gates p) s t (Err x)
+      → Draws N Whole s t (Err x)
   begun_refused p t x d = Draws-refused N (family_at all gates p) Whole s t x d
 
   -- after so many operands
@@ -64,14 +74,27 @@ module _ (gates : List Gate) (o : Operand) (g : ℕ) (gate : Gate) (table : List
     pub so_far_is : family t n ≡ joint_family (family t f) gates gate.both (take k gate.operands)
     so_far_is = i.is ∙ ap (λ z. joint_family z gates gate.both (take k gate.operands)) (sym all_same)
 
-    moved : (u : Stored) (r : Result NodeId NodeFault) → Draws (IsNeeded (family t f) gates o) (joint_family (family t f) gates gate.both (take (k + 1) gate.operands)) t u r → Draws N (First (k + 1)) s u r
-    moved u r d = Draws-after N (First (k + 1)) s t u r i.grows (subst (λ z. Draws (IsNeeded z gates o) (joint_family z gates gate.both (take (k + 1) gate.operands)) t u r) all_same d)
+    moved : (u : Stored) (r : Result NodeId NodeFault)
+        → Draws (IsNeeded (family t f) gates o) (joint_family (family t f) gates gate.both (take (k + 1) gate.operands))
+        t u r → Draws N (First (k + 1)) s u r
+    moved u r d = Draws-after N (First (k + 1)) s t u r i.grows
+        (subst (λ z. Draws (IsNeeded z gates o) (joint_family z gates gate.both (take (k + 1) gate.operands)) t u r)
+        all_same d)
 
-    pub one_more : (u : Stored) (m : NodeId) → Draws (IsNeeded (family t f) gates o) (joint_family (family t f) gates gate.both (take (k + 1) gate.operands)) t u (Ok m) → IsSoFar N all gates gate (k + 1) s u m.n
+    pub one_more : (u : Stored) (m : NodeId)
+        → Draws (IsNeeded (family t f) gates o) (joint_family (family t f) gates gate.both (take (k + 1) gate.operands))
+        t u (Ok m) → IsSoFar N all gates gate (k + 1) s u m.n
     one_more u m d = let x = moved u (Ok m) d in record { grows = x.grows; in_store = x.ok.0; is = x.ok.1 }
 
-    pub more_refused : (u : Stored) (x : NodeFault) → Draws (IsNeeded (family t f) gates o) (joint_family (family t f) gates gate.both (take (k + 1) gate.operands)) t u (Err x) → Draws N Whole s u (Err x)
+    pub more_refused : (u : Stored) (x : NodeFault)
+        → Draws (IsNeeded (family t f) gates o) (joint_family (family t f) gates gate.both (take (k + 1) gate.operands))
+        t u (Err x) → Draws N Whole s u (Err x)
     more_refused u x d = Draws-refused N (First (k + 1)) Whole s u x (moved u (Err x) d)
 
-  pub ended : (k : ℕ) (t : Stored) (n : NodeId) → IsSoFar N all gates gate k s t n.n → k ≡ length gate.operands → Draws N Whole s t (Ok n)
-  ended k t n i e = record { grows = i.grows; ok = (i.in_store, i.is ∙ ap First e ∙ all_are all gates o g gate ready.ordered ready.stands); full = λ x. cc }
+  pub ended : (k : ℕ) (t : Stored) (n : NodeId) → IsSoFar N all gates gate k s t n.n → k ≡ length gate.operands
+      → Draws N Whole s t (Ok n)
+  ended k t n i e = record {
+    grows = i.grows;
+    ok = (i.in_store, i.is ∙ ap First e ∙ all_are all gates o g gate ready.ordered ready.stands);
+    full = λ x. cc;
+  }

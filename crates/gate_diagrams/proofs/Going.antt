@@ -32,20 +32,25 @@ left_dead zero i fs k s = step (list_all (λ (f : Family). has f []) fs) refl
     step true e = absurd (true≢false (sym (all_place (λ f. has f []) fs e k [] s)))
     step false e = ap ended e
 left_dead (suc n) i fs k s =
-    ap₂ (λ (lo hi : Family). node i lo (cond (some_occurs i fs) hi [])) (left_dead n (suc i) (all_lower i fs) k (stands_map _ fs k [] s)) (left_dead n (suc i) (all_taken i fs) k (stands_map _ fs k [] s))
+    ap₂ (λ (lo hi : Family). node i lo (cond (some_occurs i fs) hi []))
+    (left_dead n (suc i) (all_lower i fs) k (stands_map _ fs k [] s))
+    (left_dead n (suc i) (all_taken i fs) k (stands_map _ fs k [] s))
     ∙ elim (some_occurs i fs) as (λ b. node i [] (cond b [] []) ≡ []) [ true ↦ refl | false ↦ refl ]
 
-pub dead_at : (trees : Stored) (state : List NodeId) → list_any (λ (n : NodeId). nat_eq n.n 0) state ≡ true → (k : ℕ) × Stands (families_left trees state) k []
+pub dead_at : (trees : Stored) (state : List NodeId) → list_any (λ (n : NodeId). nat_eq n.n 0) state ≡ true
+    → (k : ℕ) × Stands (families_left trees state) k []
 dead_at trees [] e = absurd (true≢false (sym e))
 dead_at trees (n ∷ state) e = step (dead_at trees state) (nat_eq n.n 0) refl
   where
-    step : (list_any (λ (n : NodeId). nat_eq n.n 0) state ≡ true → (k : ℕ) × Stands (families_left trees state) k []) → (b : Bool) → nat_eq n.n 0 ≡ b
+    step : (list_any (λ (n : NodeId). nat_eq n.n 0) state ≡ true → (k : ℕ) × Stands (families_left trees state) k [])
+        → (b : Bool) → nat_eq n.n 0 ≡ b
         → (k : ℕ) × Stands (families_left trees (n ∷ state)) k []
     step ih true q = let z : n.n ≡ 0 = eqb-true n.n 0 q in (zero, subst (λ m. Stands (family trees m ∷ families_left trees state) 0 []) (sym z) refl)
     step ih false q = let r = ih (ap (λ b. b || list_any (λ (n : NodeId). nat_eq n.n 0) state) (sym q) ∙ e) in (suc r.0, r.1)
 
 -- ---- where no event is possible
-alive_at : (state : List NodeId) → list_any (λ (n : NodeId). nat_eq n.n 0) state ≡ false → (k : ℕ) (n : NodeId) → Stands state k n → 0 < n.n
+alive_at : (state : List NodeId) → list_any (λ (n : NodeId). nat_eq n.n 0) state ≡ false → (k : ℕ) (n : NodeId)
+    → Stands state k n → 0 < n.n
 alive_at [] e k n s = cc
 alive_at (m ∷ state) e k n s = step (λ h j i. alive_at state h j n i) (nat_eq m.n 0) refl k s
   where
@@ -53,7 +58,8 @@ alive_at (m ∷ state) e k n s = step (λ h j i. alive_at state h j n i) (nat_eq
     positive zero q = absurd (true≢false q)
     positive (suc a) q = omega arith
 
-    step : (list_any (λ (n : NodeId). nat_eq n.n 0) state ≡ false → (k : ℕ) → Stands state k n → 0 < n.n) → (b : Bool) → nat_eq m.n 0 ≡ b
+    step : (list_any (λ (n : NodeId). nat_eq n.n 0) state ≡ false → (k : ℕ) → Stands state k n → 0 < n.n) → (b : Bool)
+        → nat_eq m.n 0 ≡ b
         → (k : ℕ) → Stands (m ∷ state) k n → 0 < n.n
     step ih true q k s = absurd (true≢false (ap (λ b. b || list_any (λ (n : NodeId). nat_eq n.n 0) state) (sym q) ∙ e))
     step ih false q zero s = let is : m ≡ n = cc in subst (λ (z : NodeId). 0 < z.n) is (positive m.n q)
@@ -64,14 +70,17 @@ has_none [] n h = absurd (n refl)
 has_none ([] ∷ f) n h = refl
 has_none ((x ∷ s) ∷ f) n h = absurd (true≢false (sym (ap (λ b. b || occurs x f) (holds_here x s)) ∙ h x))
 
-pub left_done : (trees : Stored) → IsSoundStore trees → (state : List NodeId) → AreNumbers trees state → list_any (λ (n : NodeId). nat_eq n.n 0) state ≡ false
-    → ((x : ℕ) → some_occurs x (families_left trees state) ≡ false) → (n : ℕ) → left n 0 (families_left trees state) ≡ [] ∷ []
+pub left_done : (trees : Stored) → IsSoundStore trees → (state : List NodeId) → AreNumbers trees state
+    → list_any (λ (n : NodeId). nat_eq n.n 0) state ≡ false
+    → ((x : ℕ) → some_occurs x (families_left trees state) ≡ false) → (n : ℕ)
+    → left n 0 (families_left trees state) ≡ [] ∷ []
 left_done trees sound state numbers alive none n =
     let fs = families_left trees state in
     left_end n fs (λ x l. none x)
     ∙ ap ended (place_all (λ f. has f []) fs (λ k f s.
     let r = stands_map_back (λ (m : NodeId). family trees m.n) state k f s in
-    subst (λ z. has z [] ≡ true) r.2 (has_none (family trees r.0.n) (some_sets trees.families sound.different r.0.n (alive_at state alive k r.0 r.1) (numbers.each k r.0 r.1))
+    subst (λ z. has z [] ≡ true) r.2 (has_none (family trees r.0.n)
+    (some_sets trees.families sound.different r.0.n (alive_at state alive k r.0 r.1) (numbers.each k r.0 r.1))
     (λ x. lacks_at x fs k (family trees r.0.n) (subst (Stands fs k) (sym r.2) s) (none x)))))
 
 -- ---- a number above all events
@@ -79,7 +88,8 @@ set_bound : (s : List ℕ) → (n : ℕ) × ((x : ℕ) → holds x s ≡ true �
 set_bound [] = (0, λ x h. absurd (true≢false (sym h)))
 set_bound (y ∷ s) = let r = set_bound s in (suc y + r.0, λ x h. step r.0 (r.1 x) (eqb x y) refl h)
   where
-    step : (m : ℕ) {x : ℕ} → (holds x s ≡ true → x < m) → (b : Bool) → eqb x y ≡ b → (eqb x y || holds x s) ≡ true → x < suc y + m
+    step : (m : ℕ) {x : ℕ} → (holds x s ≡ true → x < m) → (b : Bool) → eqb x y ≡ b → (eqb x y || holds x s) ≡ true
+        → x < suc y + m
     step m {x} ih true q h = omega (arith, eqb-true x y q)
     step m {x} ih false q h = let l = ih (ap (λ b. b || holds x s) (sym q) ∙ h) in omega (arith, l)
 
@@ -87,7 +97,8 @@ family_bound : (f : Family) → (n : ℕ) × ((x : ℕ) → occurs x f ≡ true 
 family_bound [] = (0, λ x h. absurd (true≢false (sym h)))
 family_bound (s ∷ f) = let a = set_bound s in let r = family_bound f in (a.0 + r.0, λ x h. step a.0 r.0 (a.1 x) (r.1 x) (holds x s) refl h)
   where
-    step : (a m : ℕ) {x : ℕ} → (holds x s ≡ true → x < a) → (occurs x f ≡ true → x < m) → (b : Bool) → holds x s ≡ b → (holds x s || occurs x f) ≡ true → x < a + m
+    step : (a m : ℕ) {x : ℕ} → (holds x s ≡ true → x < a) → (occurs x f ≡ true → x < m) → (b : Bool) → holds x s ≡ b
+        → (holds x s || occurs x f) ≡ true → x < a + m
     step a m {x} one ih true q h = let l = one q in omega (arith, l)
     step a m {x} one ih false q h = let l = ih (ap (λ b. b || occurs x f) (sym q) ∙ h) in omega (arith, l)
 
@@ -95,7 +106,8 @@ pub bound : (fs : List Family) → (n : ℕ) × AreEventsBelow n fs
 bound [] = (0, record { each = λ m e f s h. cc })
 bound (f ∷ fs) = let a = family_bound f in let r = bound fs in (a.0 + r.0, record { each = λ m e g s h. by a.0 r.0 a.1 r.1 m e g s h })
   where
-    by : (a n : ℕ) → ((x : ℕ) → occurs x f ≡ true → x < a) → AreEventsBelow n fs → (m e : ℕ) (g : Family) → Stands (f ∷ fs) m g → occurs e g ≡ true → e < a + n
+    by : (a n : ℕ) → ((x : ℕ) → occurs x f ≡ true → x < a) → AreEventsBelow n fs → (m e : ℕ) (g : Family)
+        → Stands (f ∷ fs) m g → occurs e g ≡ true → e < a + n
     by a n one b zero e g s h = let is : f ≡ g = cc in let l = one e (ap (occurs e) is ∙ h) in omega (arith, l)
     by a n one b (suc m) e g s h = let l = b.each m e g s h in omega (arith, l)
 
@@ -110,8 +122,10 @@ abbrev pub DrawsLeft : Stored → List NodeId → Stored → Stored → Result N
 DrawsLeft trees state s t r = (n : ℕ) → AreEventsBelow n (families_left trees state)
     → let made = left n 0 (families_left trees state) in Draws (IsCounted made) made s t r
 
-pub walked_grows : (P : Family → Type 0) (trees s t : Stored) (state : List NodeId) (n : ℕ) → Grows P s t → IsWalked trees s state n → IsWalked trees t state n
-walked_grows P trees s t state n g w = record { in_store = still P s t n g w.in_store; is = λ below b. kept P s t n g w.in_store ∙ w.is below b }
+pub walked_grows : (P : Family → Type 0) (trees s t : Stored) (state : List NodeId) (n : ℕ) → Grows P s t
+    → IsWalked trees s state n → IsWalked trees t state n
+walked_grows P trees s t state n g w =
+    record { in_store = still P s t n g w.in_store; is = λ below b. kept P s t n g w.in_store ∙ w.is below b }
 
 -- ---- a state at its least event
 module _ (trees : Stored) (state : List NodeId) (e : ℕ) (o : some_occurs e (families_left trees state) ≡ true)
@@ -126,25 +140,33 @@ module _ (trees : Stored) (state : List NodeId) (e : ℕ) (o : some_occurs e (fa
   rest : (n : ℕ) → AreEventsBelow n fs → n ≡ e + suc (n - suc e)
   rest n b = let p = some_place (occurs e) fs o in let l = b.each p.0 e p.1 p.2 p.3 in omega (arith, l)
 
-  lower_drawn : (n : ℕ) → AreEventsBelow n fs → (r : Result NodeId NodeFault) → DrawsLeft trees without s0 s1 r → Draws (IsCounted (Made n)) (left n 0 (all_lower e fs)) s0 s1 r
+  lower_drawn : (n : ℕ) → AreEventsBelow n fs → (r : Result NodeId NodeFault) → DrawsLeft trees without s0 s1 r
+      → Draws (IsCounted (Made n)) (left n 0 (all_lower e fs)) s0 s1 r
   lower_drawn n b r d =
       walk_lower (n - suc e) n e fs (rest n b) least o s0 s1 r
-      (subst (λ z. Draws (IsCounted (left n 0 z)) (left n 0 z) s0 s1 r) w.are (d n (subst (AreEventsBelow n) (sym w.are) (below_lower n e fs b))))
+      (subst (λ z. Draws (IsCounted (left n 0 z)) (left n 0 z) s0 s1 r) w.are
+      (d n (subst (AreEventsBelow n) (sym w.are) (below_lower n e fs b))))
 
   pub lower_refused : (x : NodeFault) → DrawsLeft trees without s0 s1 (Err x) → DrawsLeft trees state s0 s1 (Err x)
-  lower_refused x d n b = Draws-refused (IsCounted (Made n)) (left n 0 (all_lower e fs)) (Made n) s0 s1 x (lower_drawn n b (Err x) d)
+  lower_refused x d n b = Draws-refused (IsCounted (Made n)) (left n 0 (all_lower e fs)) (Made n) s0 s1 x
+      (lower_drawn n b (Err x) d)
 
-  pub lower_memory : (r : Result NodeId NodeFault) → DrawsLeft trees without s0 s1 r → DrawsLeft trees state s0 s1 (Err Memory)
+  pub lower_memory : (r : Result NodeId NodeFault) → DrawsLeft trees without s0 s1 r
+      → DrawsLeft trees state s0 s1 (Err Memory)
   lower_memory r d n b = memory_drawn (IsCounted (Made n)) (Made n) s0 s1 (lower_drawn n b r d).grows
 
-  module _ (with_it : List NodeId) (t : AreHalves trees e true state with_it) (lo : NodeId) (dl : DrawsLeft trees without s0 s1 (Ok lo)) (s2 : Stored) where
-    upper_drawn : (n : ℕ) → AreEventsBelow n fs → (r : Result NodeId NodeFault) → DrawsLeft trees with_it s1 s2 r → Draws (IsCounted (Made n)) (left n 0 (all_taken e fs)) s1 s2 r
+  module _ (with_it : List NodeId) (t : AreHalves trees e true state with_it) (lo : NodeId)
+      (dl : DrawsLeft trees without s0 s1 (Ok lo)) (s2 : Stored) where
+    upper_drawn : (n : ℕ) → AreEventsBelow n fs → (r : Result NodeId NodeFault) → DrawsLeft trees with_it s1 s2 r
+        → Draws (IsCounted (Made n)) (left n 0 (all_taken e fs)) s1 s2 r
     upper_drawn n b r d =
         walk_upper (n - suc e) n e fs (rest n b) least o s1 s2 r
-        (subst (λ z. Draws (IsCounted (left n 0 z)) (left n 0 z) s1 s2 r) t.are (d n (subst (AreEventsBelow n) (sym t.are) (below_taken n e fs b))))
+        (subst (λ z. Draws (IsCounted (left n 0 z)) (left n 0 z) s1 s2 r) t.are
+        (d n (subst (AreEventsBelow n) (sym t.are) (below_taken n e fs b))))
 
     pub upper_refused : (x : NodeFault) → DrawsLeft trees with_it s1 s2 (Err x) → DrawsLeft trees state s0 s2 (Err x)
-    upper_refused x d n b = Draws-after (IsCounted (Made n)) (Made n) s0 s1 s2 (Err x) (lower_drawn n b (Ok lo) dl).grows
+    upper_refused x d n b = Draws-after (IsCounted (Made n)) (Made n) s0 s1 s2 (Err x)
+        (lower_drawn n b (Ok lo) dl).grows
         (Draws-refused (IsCounted (Made n)) (left n 0 (all_taken e fs)) (Made n) s1 s2 x (upper_drawn n b (Err x) d))
 
     module _ (hi : NodeId) (dh : DrawsLeft trees with_it s1 s2 (Ok hi)) where
@@ -155,34 +177,44 @@ module _ (trees : Stored) (state : List NodeId) (e : ℕ) (o : some_occurs e (fa
       b0 = (bound fs).1
 
       pub lo_in : IsNumber s2 lo.n
-      lo_in = h.lo_in (IsCounted (Made n0)) (Made n0) e (left n0 0 (all_lower e fs)) (left n0 0 (all_taken e fs)) (walk_halved (n0 - suc e) n0 e fs (rest n0 b0) least o)
+      lo_in = h.lo_in (IsCounted (Made n0)) (Made n0) e (left n0 0 (all_lower e fs)) (left n0 0 (all_taken e fs))
+          (walk_halved (n0 - suc e) n0 e fs (rest n0 b0) least o)
           s0 s1 s2 lo hi (lower_drawn n0 b0 (Ok lo) dl) (upper_drawn n0 b0 (Ok hi) dh)
 
       pub hi_in : IsNumber s2 hi.n
       hi_in = (upper_drawn n0 b0 (Ok hi) dh).ok.0
 
       pub lo_above : IsAbove e (family s2 lo.n)
-      lo_above = h.lo_above (IsCounted (Made n0)) (Made n0) e (left n0 0 (all_lower e fs)) (left n0 0 (all_taken e fs)) (walk_halved (n0 - suc e) n0 e fs (rest n0 b0) least o)
+      lo_above = h.lo_above (IsCounted (Made n0)) (Made n0) e (left n0 0 (all_lower e fs)) (left n0 0 (all_taken e fs))
+          (walk_halved (n0 - suc e) n0 e fs (rest n0 b0) least o)
           s0 s1 s2 lo hi (lower_drawn n0 b0 (Ok lo) dl) (upper_drawn n0 b0 (Ok hi) dh)
 
       pub hi_above : IsAbove e (family s2 hi.n)
-      hi_above = h.hi_above (IsCounted (Made n0)) (Made n0) e (left n0 0 (all_lower e fs)) (left n0 0 (all_taken e fs)) (walk_halved (n0 - suc e) n0 e fs (rest n0 b0) least o)
+      hi_above = h.hi_above (IsCounted (Made n0)) (Made n0) e (left n0 0 (all_lower e fs)) (left n0 0 (all_taken e fs))
+          (walk_halved (n0 - suc e) n0 e fs (rest n0 b0) least o)
           s0 s1 s2 lo hi (lower_drawn n0 b0 (Ok lo) dl) (upper_drawn n0 b0 (Ok hi) dh)
 
       pub whole_drawn : (s3 : Stored) (r : Result NodeId NodeFault)
           → (let m = node e (family s2 lo.n) (family s2 hi.n) in Draws (IsMade m) m s2 s3 r) → DrawsLeft trees state s0 s3 r
-      whole_drawn s3 r d n b = h.done (IsCounted (Made n)) (Made n) e (left n 0 (all_lower e fs)) (left n 0 (all_taken e fs)) (walk_halved (n - suc e) n e fs (rest n b) least o)
+      whole_drawn s3 r d n b = h.done (IsCounted (Made n)) (Made n) e (left n 0 (all_lower e fs))
+          (left n 0 (all_taken e fs)) (walk_halved (n - suc e) n e fs (rest n b) least o)
           s0 s1 s2 lo hi (lower_drawn n b (Ok lo) dl) (upper_drawn n b (Ok hi) dh) s3 r d
 
       -- what is held is right also with the new state
       pub whole_walked : (s3 : Stored) (made : NodeId) (key : Vec NodeId Global) → key.items ≡ state
           → (let m = node e (family s2 lo.n) (family s2 hi.n) in Draws (IsMade m) m s2 s3 (Ok made))
           → (old new : List (Vec NodeId Global × NodeId)) → AreWalked trees s2 old
-          → ((q : Vec NodeId Global) (m : NodeId) → IsHeld new q m → IsHeld old q m ⊎ ((q.items ≡ key.items) × (m ≡ made))) → AreWalked trees s3 new
+          → ((q : Vec NodeId Global) (m : NodeId) → IsHeld new q m
+          → IsHeld old q m ⊎ ((q.items ≡ key.items) × (m ≡ made))) → AreWalked trees s3 new
       whole_walked s3 made key same d old new a r q m x = ⊎_elim
-          (λ y. walked_grows (IsMade (node e (family s2 lo.n) (family s2 hi.n))) trees s2 s3 q.items m.n d.grows (a q m y))
-          (λ y. subst (λ z. IsWalked trees s3 z m.n) (sym (y.0 ∙ same)) (subst (λ (z : NodeId). IsWalked trees s3 state z.n) (sym y.1) here))
+          (λ y. walked_grows (IsMade (node e (family s2 lo.n) (family s2 hi.n))) trees s2 s3 q.items m.n d.grows
+          (a q m y))
+          (λ y. subst (λ z. IsWalked trees s3 z m.n) (sym (y.0 ∙ same))
+          (subst (λ (z : NodeId). IsWalked trees s3 state z.n) (sym y.1) here))
           (r q m x)
         where
           here : IsWalked trees s3 state made.n
-          here = record { in_store = (whole_drawn s3 (Ok made) d n0 b0).ok.0; is = λ n b. (whole_drawn s3 (Ok made) d n b).ok.1 }
+          here = record {
+            in_store = (whole_drawn s3 (Ok made) d n0 b0).ok.0;
+            is = λ n b. (whole_drawn s3 (Ok made) d n b).ok.1;
+          }

@@ -22,11 +22,14 @@ one_state (x ∷ xs) (y ∷ ys) h =
     ap₂ (λ (z : NodeId) (zs : List NodeId). z ∷ zs) (one_number x y p.0) (one_state xs ys p.1)
 
 -- each state that is held was held before, or is the new one
-abbrev pub Remembers : Vec NodeId Global → NodeId → List (Vec NodeId Global × NodeId) → List (Vec NodeId Global × NodeId) → Type 0
-Remembers k n old new = (q : Vec NodeId Global) (m : NodeId) → IsHeld new q m → IsHeld old q m ⊎ ((q.items ≡ k.items) × (m ≡ n))
+abbrev pub Remembers : Vec NodeId Global → NodeId → List (Vec NodeId Global × NodeId)
+    → List (Vec NodeId Global × NodeId) → Type 0
+Remembers k n old new = (q : Vec NodeId Global) (m : NodeId) → IsHeld new q m
+    → IsHeld old q m ⊎ ((q.items ≡ k.items) × (m ≡ n))
 
 remembered : (k : Vec NodeId Global) (n : NodeId) (old new : List (Vec NodeId Global × NodeId))
-    → ((q : Vec NodeId Global) → lookup (same_numbers q) new ≡ cond (same_numbers k q) (Some n) (lookup (same_numbers q) old)) → Remembers k n old new
+    → ((q : Vec NodeId Global) → lookup (same_numbers q) new
+    ≡ cond (same_numbers k q) (Some n) (lookup (same_numbers q) old)) → Remembers k n old new
 remembered k n old new u q m h = step (same_numbers k q) refl
   where
     step : (b : Bool) → same_numbers k q ≡ b → IsHeld old q m ⊎ ((q.items ≡ k.items) × (m ≡ n))
@@ -35,7 +38,9 @@ remembered k n old new u q m h = step (same_numbers k q) refl
         inr (sym (one_state k.items q.items e), cc)
     step false e = inl (ap (λ b. cond b (Some n) (lookup (same_numbers q) old)) (sym e) ∙ sym (u q) ∙ h)
 
-pub remembers : {T E : Type 0} (U : Type 0) (r : Result T E) (k : Vec NodeId Global) (n : NodeId) (old new : List (Vec NodeId Global × NodeId)) → OnOk r U → OnErr r (new ≡ old)
-    → (U → (q : Vec NodeId Global) → lookup (same_numbers q) new ≡ cond (same_numbers k q) (Some n) (lookup (same_numbers q) old)) → Remembers k n old new
+pub remembers : {T E : Type 0} (U : Type 0) (r : Result T E) (k : Vec NodeId Global) (n : NodeId)
+    (old new : List (Vec NodeId Global × NodeId)) → OnOk r U → OnErr r (new ≡ old)
+    → (U → (q : Vec NodeId Global) → lookup (same_numbers q) new
+    ≡ cond (same_numbers k q) (Some n) (lookup (same_numbers q) old)) → Remembers k n old new
 remembers U (Ok x) k n old new u e f = λ q m h. remembered k n old new (f u) q m h
 remembers U (Err x) k n old new u e f = λ q m h. inl (ap (lookup (same_numbers q)) (sym e) ∙ h)

@@ -11,7 +11,9 @@ use Rattle.gate_diagrams.specs.Needed.{family_at, joint_family, IsNamed, of_gate
 use Rattle.gate_diagrams.specs.Drawing.{IsReady, IsTable}
 use Rattle.gate_diagrams.proofs.Needing.{met_drawn, joined_drawn}
 
-module _ (gates : List Gate) (o : Operand) (g : ℕ) (gate : Gate) (table : List NodeId) (s : Stored) (f : ℕ) (f_in : IsNumber s f) (ready : IsReady (family s f) gates o g gate table s) (k : ℕ) (p : Operand) (next : Stands gate.operands k p) where
+module _ (gates : List Gate) (o : Operand) (g : ℕ) (gate : Gate) (table : List NodeId) (s : Stored) (f : ℕ)
+    (f_in : IsNumber s f) (ready : IsReady (family s f) gates o g gate table s) (k : ℕ) (p : Operand)
+    (next : Stands gate.operands k p) where
   abbrev all : Family
   all = family s f
 
@@ -30,7 +32,8 @@ module _ (gates : List Gate) (o : Operand) (g : ℕ) (gate : Gate) (table : List
   pub is_in_table : IsTable all gates table s p
   is_in_table = ready.operands p (record { place = k; stands = next })
 
-  pub more_refused : (t : Stored) (x : NodeFault) → Draws N (family_at all gates p) s t (Err x) → Draws N Then s t (Err x)
+  pub more_refused : (t : Stored) (x : NodeFault) → Draws N (family_at all gates p) s t (Err x)
+      → Draws N Then s t (Err x)
   more_refused t x d = Draws-refused N (family_at all gates p) Then s t x d
 
   joined_as : (b : Bool) → gate.both ≡ b → (t u : Stored) (r : Result NodeId NodeFault)
@@ -38,7 +41,8 @@ module _ (gates : List Gate) (o : Operand) (g : ℕ) (gate : Gate) (table : List
   joined_as true e t u r d = met_drawn all gates o g gate ready.cone ready.stands k p next e t u r d
   joined_as false e t u r d = joined_drawn all gates o g gate ready.cone ready.stands k p next e ready.in_order t u r d
 
-  pub more_drawn : (n m : NodeId) → IsNumber s n.n → family s n.n ≡ So_far → (t u : Stored) (r : Result NodeId NodeFault) → Draws N (family_at all gates p) s t (Ok m)
+  pub more_drawn : (n m : NodeId) → IsNumber s n.n → family s n.n ≡ So_far
+      → (t u : Stored) (r : Result NodeId NodeFault) → Draws N (family_at all gates p) s t (Ok m)
       → (let made = cond gate.both (meet (family t n.n) (family t m.n)) (union (family t n.n) (family t m.n)) in Draws (IsCounted made) made t u r) → Draws N Then s u r
   more_drawn n m i e t u r d k2 =
       let a : family t n.n ≡ So_far = kept N s t n.n d.grows i ∙ e in

@@ -25,7 +25,8 @@ module _ (s : Stored) (f v lo hi : ℕ) (i : IsNode s.families f v lo hi) (f_in 
   node_lacks x l = none_above x (family s f) (above x l)
 
   -- a later event is not the tree's turn
-  pub half_stays : (e : ℕ) (b : Bool) → ((x : ℕ) → x < e → occurs x (family s f) ≡ false) → (v ≡ e → ⊥) → IsHalf s e b f f
+  pub half_stays : (e : ℕ) (b : Bool) → ((x : ℕ) → x < e → occurs x (family s f) ≡ false) → (v ≡ e → ⊥)
+      → IsHalf s e b f f
   half_stays e b least other = record {
     in_store = f_in;
     is = by b;
@@ -37,7 +38,8 @@ module _ (s : Stored) (f v lo hi : ℕ) (i : IsNode s.families f v lo hi) (f_in 
       order = grind arith
 
       late : e < v
-      late = ⊎_elim (λ l. absurd (true≢false (sym node_has ∙ least v l))) (λ r. ⊎_elim (λ q. absurd (other q)) (λ l. l) r) order
+      late = ⊎_elim (λ l. absurd (true≢false (sym node_has ∙ least v l)))
+          (λ r. ⊎_elim (λ q. absurd (other q)) (λ l. l) r) order
 
       by : (b : Bool) → family s f ≡ half_of b e (family s f)
       by true = sym (taken_above e (family s f) (above e late))
@@ -61,14 +63,16 @@ module _ (s : Stored) (f v lo hi : ℕ) (i : IsNode s.families f v lo hi) (f_in 
 
 -- ---- a whole state
 -- none of the families has what the whole state lacks
-pub lacks_at : (x : ℕ) (fs : List Family) (k : ℕ) (f : Family) → Stands fs k f → some_occurs x fs ≡ false → occurs x f ≡ false
+pub lacks_at : (x : ℕ) (fs : List Family) (k : ℕ) (f : Family) → Stands fs k f → some_occurs x fs ≡ false
+    → occurs x f ≡ false
 lacks_at x fs k f s h = step (occurs x f) refl
   where
     step : (b : Bool) → occurs x f ≡ b → occurs x f ≡ false
     step true e = absurd (true≢false (sym (place_some (occurs x) fs k f s e) ∙ h))
     step false e = e
 
-pub families_more : (s : Stored) (os ps : List NodeId) → families_left s (os ++ ps) ≡ families_left s os ++ families_left s ps
+pub families_more : (s : Stored) (os ps : List NodeId)
+    → families_left s (os ++ ps) ≡ families_left s os ++ families_left s ps
 families_more s os ps = map-append (λ (n : NodeId). family s n.n) os ps
 
 total_more : (os : List NodeId) (o : NodeId) → total (os ++ o ∷ []) ≡ total os + o.n
@@ -83,16 +87,22 @@ halves_none s e b = record {
   smaller = λ h. absurd (true≢false (sym h));
 }
 
-pub halves_more : (s : Stored) (e : ℕ) (b : Bool) (os ns : List NodeId) (o n : NodeId) → AreHalves s e b os ns → IsHalf s e b o.n n.n
+pub halves_more : (s : Stored) (e : ℕ) (b : Bool) (os ns : List NodeId) (o n : NodeId) → AreHalves s e b os ns
+    → IsHalf s e b o.n n.n
     → AreHalves s e b (os ++ o ∷ []) (ns ++ n ∷ [])
 halves_more s e b os ns o n a h = record {
-  in_store = record { each = λ k m i. ⊎_elim (λ j. a.in_store.each k m j) (λ j. last j.0 m j.2) (stands_split ns (n ∷ []) k m i) };
+  in_store = record {
+    each = λ k m i. ⊎_elim (λ j. a.in_store.each k m j) (λ j. last j.0 m j.2)
+        (stands_split ns (n ∷ []) k m i);
+  };
   are = families_more s ns (n ∷ [])
       ∙ ap₂ (λ (xs : List Family) (x : Family). xs ++ x ∷ []) a.are h.is
-      ∙ sym (ap (map (half_of b e)) (families_more s os (o ∷ [])) ∙ map-append (half_of b e) (families_left s os) (families_left s (o ∷ [])));
+      ∙ sym (ap (map (half_of b e)) (families_more s os (o ∷ []))
+      ∙ map-append (half_of b e) (families_left s os) (families_left s (o ∷ [])));
   no_greater = omega (arith, total_more os o, total_more ns n, a.no_greater, h.no_greater);
   smaller = λ x. either (some_occurs e (families_left s os)) refl
-      (sym (ap (some_occurs e) (families_more s os (o ∷ [])) ∙ list_any-append (occurs e) (families_left s os) (families_left s (o ∷ []))) ∙ x);
+      (sym (ap (some_occurs e) (families_more s os (o ∷ []))
+      ∙ list_any-append (occurs e) (families_left s os) (families_left s (o ∷ []))) ∙ x);
 }
   where
     last : (j : ℕ) (m : NodeId) → Stands (n ∷ []) j m → IsNumber s m.n
@@ -103,9 +113,11 @@ halves_more s e b os ns o n a h = record {
     alone true x = x
     alone false x = x
 
-    either : (c : Bool) → some_occurs e (families_left s os) ≡ c → (some_occurs e (families_left s os) || (occurs e (family s o.n) || false)) ≡ true
+    either : (c : Bool) → some_occurs e (families_left s os) ≡ c
+        → (some_occurs e (families_left s os) || (occurs e (family s o.n) || false)) ≡ true
         → total (ns ++ n ∷ []) < total (os ++ o ∷ [])
     either true q x = omega (arith, total_more os o, total_more ns n, a.smaller q, h.no_greater)
     either false q x =
-        let y : occurs e (family s o.n) ≡ true = alone (occurs e (family s o.n)) (ap (λ c. c || (occurs e (family s o.n) || false)) (sym q) ∙ x) in
+        let y : occurs e (family s o.n) ≡ true =
+        alone (occurs e (family s o.n)) (ap (λ c. c || (occurs e (family s o.n) || false)) (sym q) ∙ x) in
         omega (arith, total_more os o, total_more ns n, a.no_greater, h.smaller y)

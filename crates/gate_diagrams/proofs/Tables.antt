@@ -20,15 +20,18 @@ pub memory_drawn : (P : Family → Type 0) (made : Family) (s t : Stored) → Gr
 memory_drawn P made s t g = record { grows = g; ok = tt; full = λ e. cc }
 
 -- the first k gates have been passed: the table has a number for each, and for one of the cone it is that of its family
-pub record IsDrawing (all : Family) (gates : List Gate) (o : Operand) (k : ℕ) (table : List NodeId) (old s : Stored) : Type 0 where
+pub record IsDrawing (all : Family) (gates : List Gate) (o : Operand) (k : ℕ) (table : List NodeId)
+    (old s : Stored) : Type 0 where
   pub grows : Grows (IsNeeded all gates o) old s
   pub long : length table ≡ k
   pub drawn : (g : ℕ) (n : NodeId) → InCone gates o g → Stands table g n → IsDrawn all gates (GateIs g true) s n.n
 
 pub drawing_begins : (all : Family) (gates : List Gate) (o : Operand) (s : Stored) → IsDrawing all gates o 0 [] s s
-drawing_begins all gates o s = record { grows = Grows-none (IsNeeded all gates o) s; long = refl; drawn = λ g n c i. absurd (stands_none g n i) }
+drawing_begins all gates o s = record
+    { grows = Grows-none (IsNeeded all gates o) s; long = refl; drawn = λ g n c i. absurd (stands_none g n i) }
 
-module _ (gates : List Gate) (o : Operand) (f : ℕ) (old : Stored) (f_in : IsNumber old f) (k : ℕ) (table : List NodeId) (s : Stored)
+module _ (gates : List Gate) (o : Operand) (f : ℕ) (old : Stored) (f_in : IsNumber old f) (k : ℕ) (table : List NodeId)
+    (s : Stored)
     (d : IsDrawing (family old f) gates o k table old s) where
   abbrev all : Family
   all = family old f
@@ -43,7 +46,8 @@ module _ (gates : List Gate) (o : Operand) (f : ℕ) (old : Stored) (f_in : IsNu
   firable_in = still N old s f d.grows f_in
 
   -- the next gate, where it is in the cone, can be drawn
-  pub ready_next : AreOrdered gates → IsInOrder all → (gate : Gate) → InCone gates o (length table) → Stands gates (length table) gate
+  pub ready_next : AreOrdered gates → IsInOrder all → (gate : Gate) → InCone gates o (length table)
+      → Stands gates (length table) gate
       → IsReady (family s f) gates o (length table) gate table s
   ready_next a i gate c h = subst (λ z. IsReady z gates o (length table) gate table s) (sym all_same) (record {
     ordered = a;
@@ -57,24 +61,29 @@ module _ (gates : List Gate) (o : Operand) (f : ℕ) (old : Stored) (f_in : IsNu
   })
 
   next_as : (b : Bool) (t : Stored) (r : Result NodeId NodeFault)
-      → Draws (IsNeeded (family s f) gates o) (cond b (family_at (family s f) gates (GateIs (length table) true)) []) s t r
+      → Draws (IsNeeded (family s f) gates o) (cond b (family_at (family s f) gates (GateIs (length table) true)) []) s
+      t r
       → Draws N (cond b (family_at all gates (GateIs (length table) true)) []) s t r
-  next_as b t r x = subst (λ z. Draws (IsNeeded z gates o) (cond b (family_at z gates (GateIs (length table) true)) []) s t r) all_same x
+  next_as b t r x = subst (λ z. Draws (IsNeeded z gates o) (cond b (family_at z gates (GateIs (length table) true)) [])
+      s t r) all_same x
 
   pub next_refused : (b : Bool) (t : Stored) (e : NodeFault) (made : Family)
-      → Draws (IsNeeded (family s f) gates o) (cond b (family_at (family s f) gates (GateIs (length table) true)) []) s t (Err e) → Draws N made old t (Err e)
+      → Draws (IsNeeded (family s f) gates o) (cond b (family_at (family s f) gates (GateIs (length table) true)) []) s
+      t (Err e) → Draws N made old t (Err e)
   next_refused b t e made x =
       let m = cond b (family_at all gates (GateIs (length table) true)) [] in
       Draws-after N made old s t (Err e) d.grows (Draws-refused N m made s t e (next_as b t (Err e) x))
 
   -- memory was refused after it was drawn
   pub next_memory : (b : Bool) (t : Stored) (r : Result NodeId NodeFault) (made : Family)
-      → Draws (IsNeeded (family s f) gates o) (cond b (family_at (family s f) gates (GateIs (length table) true)) []) s t r → Draws N made old t (Err Memory)
+      → Draws (IsNeeded (family s f) gates o) (cond b (family_at (family s f) gates (GateIs (length table) true)) []) s
+      t r → Draws N made old t (Err Memory)
   next_memory b t r made x = memory_drawn N made old t (Grows-then N old s t d.grows (next_as b t r x).grows)
 
   -- its number goes last into the table
   pub drawing_next : (b : Bool) (t : Stored) (n : NodeId) → (InCone gates o (length table) → b ≡ true)
-      → Draws (IsNeeded (family s f) gates o) (cond b (family_at (family s f) gates (GateIs (length table) true)) []) s t (Ok n)
+      → Draws (IsNeeded (family s f) gates o) (cond b (family_at (family s f) gates (GateIs (length table) true)) []) s
+      t (Ok n)
       → IsDrawing all gates o (k + 1) (table ++ n ∷ []) old t
   drawing_next b t n marked x =
       let y = next_as b t (Ok n) x in
@@ -87,11 +96,17 @@ module _ (gates : List Gate) (o : Operand) (f : ℕ) (old : Stored) (f_in : IsNu
       }
     where
       at : (g : ℕ) (m : NodeId) → g ≡ length table → m ≡ n → InCone gates o g
-          → IsNumber t n.n × (family t n.n ≡ cond b (family_at all gates (GateIs (length table) true)) []) → IsDrawn all gates (GateIs g true) t m.n
+          → IsNumber t n.n × (family t n.n ≡ cond b (family_at all gates (GateIs (length table) true)) [])
+          → IsDrawn all gates (GateIs g true) t m.n
       at g m e q c y =
           let z : b ≡ true = marked (subst (InCone gates o) e c) in
-          subst (λ z. IsDrawn all gates (GateIs z true) t m.n) (sym e) (subst (λ z. IsDrawn all gates (GateIs (length table) true) t z.n) (sym q)
-          (record { in_store = y.0; is = y.1 ∙ ap (λ c. cond c (family_at all gates (GateIs (length table) true)) []) z }))
+          subst (λ z. IsDrawn all gates (GateIs z true) t m.n) (sym e)
+          (subst (λ z. IsDrawn all gates (GateIs (length table) true) t z.n) (sym q)
+          (record {
+            in_store = y.0;
+            is = y.1
+                ∙ ap (λ c. cond c (family_at all gates (GateIs (length table) true)) []) z;
+          }))
 
   -- the operand itself can then be drawn
   pub root_table : length table ≡ length gates → IsBelow (length gates) o → IsTable (family s f) gates table s o
@@ -100,6 +115,8 @@ module _ (gates : List Gate) (o : Operand) (f : ℕ) (old : Stored) (f_in : IsNu
     drawn = λ g sign n e j. d.drawn g n (own {sign = sign} e) j;
   })
 
-  pub root_drawn : (t : Stored) (r : Result NodeId NodeFault) → Draws (IsNeeded (family s f) gates o) (family_at (family s f) gates o) s t r
+  pub root_drawn : (t : Stored) (r : Result NodeId NodeFault)
+      → Draws (IsNeeded (family s f) gates o) (family_at (family s f) gates o) s t r
       → Draws N (family_at all gates o) old t r
-  root_drawn t r x = Draws-after N (family_at all gates o) old s t r d.grows (subst (λ z. Draws (IsNeeded z gates o) (family_at z gates o) s t r) all_same x)
+  root_drawn t r x = Draws-after N (family_at all gates o) old s t r d.grows
+      (subst (λ z. Draws (IsNeeded z gates o) (family_at z gates o) s t r) all_same x)

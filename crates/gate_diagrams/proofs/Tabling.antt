@@ -44,7 +44,8 @@ key_one (Symbol s) (Truth b) e = cc
 key_one (Symbol s) (Whole n) e = cc
 key_one (Symbol s) (Symbol t) e = ap Symbol (grind (arith, nat_tests, e))
 
-module _ {S : Type 0} (old new : HashMap (ℕ × ℤ) NodeId S) (m : Value) (n : NodeId) (u : Updates same_key old new (key_of m) (Some n)) where
+module _ {S : Type 0} (old new : HashMap (ℕ × ℤ) NodeId S) (m : Value) (n : NodeId)
+    (u : Updates same_key old new (key_of m) (Some n)) where
   pub found_here : number_at new m ≡ Some n
   found_here = u.1
 

@@ -11,7 +11,8 @@ use Rattle.gate_diagrams.specs.Needed.{IsNeeded, IsNeededByBoth, IsConflictAt}
 use Rattle.gate_diagrams.specs.declared.answer.Drawn.{Drawn}
 use Rattle.gate_diagrams.specs.declared.answer.Drawn.TheVariants.{Conflicts, Cuts}
 
--- the least firable sets at which the conflict operand is true, and there are some; else those at which the top operand is
+-- the least firable sets at which the conflict operand is true, and there are some; else those at which the top operand
+-- is
 abbrev pub IsAnswer : List ModeTree → Table → Drawn → Type 0
 IsAnswer trees table (Conflicts f) = ((set : List ℕ) × IsConflictAt trees table set) × IsNumber f.store f.root.n
     × ListsLeast trees (value_at table.gates table.conflict) (family f.store f.root.n)
@@ -23,7 +24,8 @@ abbrev pub store_of : Drawn → Stored
 store_of (Conflicts f) = f.store
 store_of (Cuts f) = f.store
 
--- every stored family is needed, where `all` are the firable sets: for the conflict operand, or, where that is true at no
+-- every stored family is needed, where `all` are the firable sets: for the conflict operand, or, where that is true at
+-- no
 -- firable set, for it or the top operand
 abbrev pub AreNeeded : Family → Table → Drawn → Type 0
 AreNeeded all table (Conflicts f) = All (IsNeeded all table.gates table.conflict) f.store.families

@@ -1,4 +1,5 @@
--- Families of operands over the firable sets, the cone of an operand, and the families that drawing an operand may store.
+-- Families of operands over the firable sets, the cone of an operand, and the families that drawing an operand may
+-- store.
 use Rattle.std.specs.Prelude.{◌≡◌, ◌<◌, ◌≤◌, ◌⊎◌, ℕ, Bool, true, List, length, take}
 use Rattle.std.specs.List.{filter}
 use Rattle.ar_base.specs.Lists.{Stands, IsOneOf}
@@ -38,7 +39,8 @@ pub data IsNamed (gates : List Gate) (o : Operand) : Operand → Type 0 where
       → IsNamed gates o p
 
 -- where `all` are the firable sets, h is a counted section of: them; the family of a named operand with or without its
--- sign; that of a gate of the cone; that of the first so many of its operands, met or joined as the gate says; or it is a
+-- sign; that of a gate of the cone; that of the first so many of its operands, met or joined as the gate says; or it is
+-- a
 -- half of the operand's own family
 pub data IsNeeded (all : Family) (gates : List Gate) (o : Operand) (h : Family) : Type 0 where
   of_firable : IsCounted all h → IsNeeded all gates o h
@@ -57,7 +59,8 @@ IsNeededByBoth all table h = IsNeeded all table.gates table.conflict h ⊎ IsNee
 abbrev pub IsConflictAt : List ModeTree → Table → List ℕ → Type 0
 IsConflictAt trees table set = IsTrueAt trees (value_at table.gates table.conflict) set
 
--- a limit of nodes may be reached: where the conflict operand is true at a firable set, more families than the limit are
+-- a limit of nodes may be reached: where the conflict operand is true at a firable set, more families than the limit
+-- are
 -- needed for it; where it is true at none, more are needed for it and the top operand together
 pub record NodesMay (trees : List ModeTree) (table : Table) (limit : ℕ) : Type 0 where
   pub all : Family

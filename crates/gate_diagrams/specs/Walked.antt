@@ -63,4 +63,5 @@ pub record IsWalked (trees made : Stored) (state : List NodeId) (n : ℕ) : Type
 
 -- each state that is held has the number of its family
 abbrev pub AreWalked : Stored → Stored → List (Vec NodeId Global × NodeId) → Type 0
-AreWalked trees made entries = (k : Vec NodeId Global) (n : NodeId) → IsHeld entries k n → IsWalked trees made k.items n.n
+AreWalked trees made entries = (k : Vec NodeId Global) (n : NodeId) → IsHeld entries k n
+    → IsWalked trees made k.items n.n

@@ -93,15 +93,18 @@ kept_one : (q : Form → Bool) (xs : List Form) (a : Form) → IsOneOf (filter q
 kept_one q [] a i = i
 kept_one q (x ∷ xs) a i = step (kept_one q xs a) (q x) i
   where
-    step : (IsOneOf (filter q xs) a → IsOneOf xs a) → (b : Bool) → IsOneOf (cond b (x ∷ filter q xs) (filter q xs)) a → IsOneOf (x ∷ xs) a
-    step ih true i = elim (one_cases x (filter q xs) a i) [ inl e ↦ subst (IsOneOf (x ∷ xs)) e (one_first x xs) | inr j ↦ one_rest x xs a (ih j) ]
+    step : (IsOneOf (filter q xs) a → IsOneOf xs a) → (b : Bool) → IsOneOf (cond b (x ∷ filter q xs) (filter q xs)) a
+        → IsOneOf (x ∷ xs) a
+    step ih true i = elim (one_cases x (filter q xs) a i)
+        [ inl e ↦ subst (IsOneOf (x ∷ xs)) e (one_first x xs) | inr j ↦ one_rest x xs a (ih j) ]
     step ih false i = one_rest x xs a (ih i)
 
 one_kept : (q : Form → Bool) (xs : List Form) (a : Form) → IsOneOf xs a → q a ≡ true → IsOneOf (filter q xs) a
 one_kept q [] a i h = i
 one_kept q (x ∷ xs) a i h = step (λ j. one_kept q xs a j h) (q x) refl (one_cases x xs a i)
   where
-    step : (IsOneOf xs a → IsOneOf (filter q xs) a) → (b : Bool) → q x ≡ b → (x ≡ a) ⊎ IsOneOf xs a → IsOneOf (cond b (x ∷ filter q xs) (filter q xs)) a
+    step : (IsOneOf xs a → IsOneOf (filter q xs) a) → (b : Bool) → q x ≡ b → (x ≡ a) ⊎ IsOneOf xs a
+        → IsOneOf (cond b (x ∷ filter q xs) (filter q xs)) a
     step ih true e (inl is) = subst (IsOneOf (x ∷ filter q xs)) is (one_first x (filter q xs))
     step ih true e (inr j) = one_rest x (filter q xs) a (ih j)
     step ih false e (inl is) = absurd (true≢false (sym h ∙ sym (ap q is) ∙ e))
@@ -122,26 +125,32 @@ once_whole (x ∷ xs) a i = step (once_whole xs a) (same_form x a) refl (one_cas
     q b = not (same_form x b)
 
     first : x ≡ a → IsOneOf (x ∷ filter (λ b. not (same_form x b)) (once xs)) a
-    first e = subst (IsOneOf (x ∷ filter (λ b. not (same_form x b)) (once xs))) e (one_first x (filter (λ b. not (same_form x b)) (once xs)))
+    first e = subst (IsOneOf (x ∷ filter (λ b. not (same_form x b)) (once xs))) e
+        (one_first x (filter (λ b. not (same_form x b)) (once xs)))
 
-    step : (IsOneOf xs a → IsOneOf (once xs) a) → (b : Bool) → same_form x a ≡ b → (x ≡ a) ⊎ IsOneOf xs a → IsOneOf (x ∷ filter (λ b. not (same_form x b)) (once xs)) a
+    step : (IsOneOf xs a → IsOneOf (once xs) a) → (b : Bool) → same_form x a ≡ b → (x ≡ a) ⊎ IsOneOf xs a
+        → IsOneOf (x ∷ filter (λ b. not (same_form x b)) (once xs)) a
     step ih b e (inl is) = first is
     step ih true e (inr j) = first (one_form x a e)
-    step ih false e (inr j) = one_rest x (filter (λ b. not (same_form x b)) (once xs)) a (one_kept (λ b. not (same_form x b)) (once xs) a (ih j) (ap not e))
+    step ih false e (inr j) = one_rest x (filter (λ b. not (same_form x b)) (once xs)) a
+        (one_kept (λ b. not (same_form x b)) (once xs) a (ih j) (ap not e))
 
 -- ---- ranges of which no event is of two
 abbrev pub Apart : List Range → Type 0
 Apart [] = Unit {0}
 Apart (r ∷ rs) = ((c : Range) → IsOneOf rs c → AreApart r c) × Apart rs
 
-pub apart : (xs : List Range) → ((a b : Range) → IsOneOf xs a → IsOneOf xs b → (e : ℕ) → lies a e ≡ true → lies b e ≡ true → a ≡ b)
+pub apart : (xs : List Range) → ((a b : Range) → IsOneOf xs a → IsOneOf xs b → (e : ℕ) → lies a e ≡ true
+    → lies b e ≡ true → a ≡ b)
     → ((j k : ℕ) (a b : Range) → j < k → Stands xs j a → Stands xs k b → a.unit.n < b.unit.n) → Apart xs
 apart [] one ascend = tt
 apart (r ∷ rs) one ascend = (
   λ c i e x y.
       let is : r ≡ c = one r c (one_first r rs) (one_rest r rs c i) e x y in
-      lt_irrefl r.unit.n (subst (λ (z : Range). r.unit.n < z.unit.n) (sym is) (ascend 0 (suc i.place) r c (omega arith) refl i.stands)),
-  apart rs (λ a b i j. one a b (one_rest r rs a i) (one_rest r rs b j)) (λ j k a b l s t. ascend (suc j) (suc k) a b (omega (arith, l)) s t),
+      lt_irrefl r.unit.n (subst (λ (z : Range). r.unit.n < z.unit.n) (sym is)
+      (ascend 0 (suc i.place) r c (omega arith) refl i.stands)),
+  apart rs (λ a b i j. one a b (one_rest r rs a i) (one_rest r rs b j))
+      (λ j k a b l s t. ascend (suc j) (suc k) a b (omega (arith, l)) s t),
 )
 
 pub apart_filter : (q : Range → Bool) (xs : List Range) → Apart xs → Apart (filter q xs)
@@ -152,28 +161,37 @@ apart_filter q (r ∷ xs) a = elim (q r) as (λ b. Apart (cond b (r ∷ filter q
 ]
 
 -- an event of a range apart from these is of none of them
-pub uncovered : (r : Range) (xs : List Range) → ((c : Range) → IsOneOf xs c → AreApart r c) → (e : ℕ) → lies r e ≡ true → is_covered xs e ≡ false
+pub uncovered : (r : Range) (xs : List Range) → ((c : Range) → IsOneOf xs c → AreApart r c) → (e : ℕ) → lies r e ≡ true
+    → is_covered xs e ≡ false
 uncovered r [] h e l = refl
-uncovered r (c ∷ xs) h e l = ap₂ (λ a b. a || b) (false_from_ne_true (lies c e) (h c (one_first c xs) e l)) (uncovered r xs (λ d i. h d (one_rest c xs d i)) e l)
+uncovered r (c ∷ xs) h e l = ap₂ (λ a b. a || b) (false_from_ne_true (lies c e) (h c (one_first c xs) e l))
+    (uncovered r xs (λ d i. h d (one_rest c xs d i)) e l)
 
 -- the ranges that have an event of the set cover its events as all do
-pub covered_touched : (s : List ℕ) (e : ℕ) → holds e s ≡ true → (xs : List Range) → is_covered (filter (touches s) xs) e ≡ is_covered xs e
+pub covered_touched : (s : List ℕ) (e : ℕ) → holds e s ≡ true → (xs : List Range)
+    → is_covered (filter (touches s) xs) e ≡ is_covered xs e
 covered_touched s e h [] = refl
 covered_touched s e h (c ∷ xs) = step (covered_touched s e h xs) (touches s c) refl
   where
-    step : is_covered (filter (touches s) xs) e ≡ is_covered xs e → (b : Bool) → touches s c ≡ b → is_covered (cond (touches s c) (c ∷ filter (touches s) xs) (filter (touches s) xs)) e ≡ is_covered (c ∷ xs) e
-    step ih true k = ap (λ b. is_covered (cond b (c ∷ filter (touches s) xs) (filter (touches s) xs)) e) k ∙ ap (λ z. lies c e || z) ih
+    step : is_covered (filter (touches s) xs) e ≡ is_covered xs e → (b : Bool) → touches s c ≡ b
+        → is_covered (cond (touches s c) (c ∷ filter (touches s) xs) (filter (touches s) xs)) e ≡ is_covered (c ∷ xs) e
+    step ih true k = ap (λ b. is_covered (cond b (c ∷ filter (touches s) xs) (filter (touches s) xs)) e) k
+        ∙ ap (λ z. lies c e || z) ih
     step ih false k =
         ap (λ b. is_covered (cond b (c ∷ filter (touches s) xs) (filter (touches s) xs)) e) k ∙ ih
-        ∙ ap (λ z. z || is_covered xs e) (sym (false_from_ne_true (lies c e) (λ l. not_both (touches s c) (event_any (lies c) s e h l) k)))
+        ∙ ap (λ z. z || is_covered xs e) (sym
+        (false_from_ne_true (lies c e) (λ l. not_both (touches s c) (event_any (lies c) s e h l) k)))
 
 -- what some of the ranges cover all of them cover
-pub covered_in_some : (q : Range → Bool) (xs : List Range) (e : ℕ) → is_covered (filter q xs) e ≡ true → is_covered xs e ≡ true
+pub covered_in_some : (q : Range → Bool) (xs : List Range) (e : ℕ) → is_covered (filter q xs) e ≡ true
+    → is_covered xs e ≡ true
 covered_in_some q [] e h = h
 covered_in_some q (c ∷ xs) e h = step (covered_in_some q xs e) (q c) h
   where
-    step : (is_covered (filter q xs) e ≡ true → is_covered xs e ≡ true) → (b : Bool) → is_covered (cond b (c ∷ filter q xs) (filter q xs)) e ≡ true → is_covered (c ∷ xs) e ≡ true
-    step ih true h = elim (or_cases (lies c e) (is_covered (filter q xs) e) h) [ inl l ↦ or_left (lies c e) (is_covered xs e) l | inr k ↦ or_right (lies c e) (is_covered xs e) (ih k) ]
+    step : (is_covered (filter q xs) e ≡ true → is_covered xs e ≡ true) → (b : Bool)
+        → is_covered (cond b (c ∷ filter q xs) (filter q xs)) e ≡ true → is_covered (c ∷ xs) e ≡ true
+    step ih true h = elim (or_cases (lies c e) (is_covered (filter q xs) e) h)
+        [ inl l ↦ or_left (lies c e) (is_covered xs e) l | inr k ↦ or_right (lies c e) (is_covered xs e) (ih k) ]
     step ih false h = or_right (lies c e) (is_covered xs e) (ih h)
 
 -- the events of a set that are of none of these
@@ -183,9 +201,11 @@ free chosen s = filter (λ e. not (is_covered chosen e)) s
 module _ (f : Family) where
   -- an event of a part is of its range
   part_lies : (r : Range) (a : List ℕ) → IsPart f r a → (e : ℕ) → holds e a ≡ true → lies r e ≡ true
-  part_lies r a p e h = (and_parts (lies r e) (holds e p.set) (sym (holds_filter e (lies r) p.set) ∙ ap (holds e) p.is ∙ h)).0
+  part_lies r a p e h = (and_parts (lies r e) (holds e p.set)
+      (sym (holds_filter e (lies r) p.set) ∙ ap (holds e) p.is ∙ h)).0
 
-  pub parts_covered : (rs : List Range) (parts : List (List ℕ)) → Along (IsPart f) rs parts → (e : ℕ) → list_any (holds e) parts ≡ true → is_covered rs e ≡ true
+  pub parts_covered : (rs : List Range) (parts : List (List ℕ)) → Along (IsPart f) rs parts → (e : ℕ)
+      → list_any (holds e) parts ≡ true → is_covered rs e ≡ true
   parts_covered [] [] none e h = absurd (true≢false (sym h))
   parts_covered [] (y ∷ ys) k e h = elim k [ ]
   parts_covered (x ∷ xs) [] k e h = elim k [ ]
@@ -204,7 +224,8 @@ module _ (f : Family) where
   exchanged_events true false false false = refl
   exchanged_events false l p h = refl
 
-  joined_events : (r : Range) (a s : List ℕ) (e : ℕ) → holds e (joined r a (outside r s)) ≡ (holds e a || (not (lies r e) && holds e s))
+  joined_events : (r : Range) (a s : List ℕ) (e : ℕ)
+      → holds e (joined r a (outside r s)) ≡ (holds e a || (not (lies r e) && holds e s))
   joined_events r a s e =
       let low = λ (x : ℕ). nat_lt x r.from in
       let high = λ (x : ℕ). not (nat_lt x r.from) in
@@ -212,20 +233,27 @@ module _ (f : Family) where
       let in_rest = holds_filter e (λ x. not (lies r x)) s in
       list_any-append (eqb e) (filter low rest) (a ++ filter high rest)
       ∙ ap₂ (λ x y. x || y) (holds_filter e low rest ∙ ap (λ z. nat_lt e r.from && z) in_rest)
-      (list_any-append (eqb e) a (filter high rest) ∙ ap (λ z. holds e a || z) (holds_filter e high rest ∙ ap (λ z. not (nat_lt e r.from) && z) in_rest))
+      (list_any-append (eqb e) a (filter high rest)
+      ∙ ap (λ z. holds e a || z) (holds_filter e high rest ∙ ap (λ z. not (nat_lt e r.from) && z) in_rest))
       ∙ exchanged_events (nat_lt e r.from) (lies r e) (holds e a) (holds e s)
 
-  exchange : (r : Range) → IsModule f r → (a : List ℕ) → IsPart f r a → (s : List ℕ) → has f s ≡ true → touches s r ≡ true → has f (joined r a (outside r s)) ≡ true
-  exchange r m a p s h t = m.exchanged a (outside r s) p (record { set = s; among = h; touched = filter_some (lies r) s t; is = refl })
+  exchange : (r : Range) → IsModule f r → (a : List ℕ) → IsPart f r a → (s : List ℕ) → has f s ≡ true
+      → touches s r ≡ true → has f (joined r a (outside r s)) ≡ true
+  exchange r m a p s h t = m.exchanged a (outside r s) p
+      (record { set = s; among = h; touched = filter_some (lies r) s t; is = refl })
 
-  still_touches : (r c : Range) → AreApart r c → (a s : List ℕ) → touches s c ≡ true → touches (joined r a (outside r s)) c ≡ true
+  still_touches : (r c : Range) → AreApart r c → (a s : List ℕ) → touches s c ≡ true
+      → touches (joined r a (outside r s)) c ≡ true
   still_touches r c apart a s t =
       let w = any_event (lies c) s t in
       event_any (lies c) (joined r a (outside r s)) w.0
-      (joined_events r a s w.0 ∙ or_right (holds w.0 a) (not (lies r w.0) && holds w.0 s) (and_from (not (lies r w.0)) (holds w.0 s) (ap not (false_from_ne_true (lies r w.0) (λ l. apart w.0 l w.2))) w.1)) w.2
+      (joined_events r a s w.0 ∙ or_right (holds w.0 a) (not (lies r w.0) && holds w.0 s)
+      (and_from (not (lies r w.0)) (holds w.0 s) (ap not (false_from_ne_true (lies r w.0) (λ l. apart w.0 l w.2)))
+      w.1)) w.2
 
   -- ---- all parts of a choice are exchanged
-  all_events : (x a l h c : Bool) → (a ≡ true → c ≡ false) → (x || ((a || (not l && h)) && not c)) ≡ ((a || x) || (h && not (l || c)))
+  all_events : (x a l h c : Bool) → (a ≡ true → c ≡ false)
+      → (x || ((a || (not l && h)) && not c)) ≡ ((a || x) || (h && not (l || c)))
   all_events true true l h c k = refl
   all_events true false l h c k = refl
   all_events false true l h c k = ap (λ z. not z) (k refl)
@@ -239,7 +267,8 @@ module _ (f : Family) where
     pub among : has f set ≡ true
     pub each : (e : ℕ) → holds e set ≡ (list_any (holds e) parts || (holds e s && not (is_covered rs e)))
 
-  pub exchange_all : (rs : List Range) (parts : List (List ℕ)) → Along (IsPart f) rs parts → Apart rs → ((c : Range) → IsOneOf rs c → IsModule f c)
+  pub exchange_all : (rs : List Range) (parts : List (List ℕ)) → Along (IsPart f) rs parts → Apart rs
+      → ((c : Range) → IsOneOf rs c → IsModule f c)
       → (s : List ℕ) → has f s ≡ true → ((c : Range) → IsOneOf rs c → touches s c ≡ true) → Exchanged rs parts s
   exchange_all [] [] none a m s h t = record { set = s; among = h; each = λ e. stays (holds e s) }
     where
@@ -250,29 +279,38 @@ module _ (f : Family) where
   exchange_all (x ∷ xs) [] k a m s h t = elim k [ ]
   exchange_all (r ∷ rs) (a ∷ parts) (one_and p ps) ap m s h t =
       let one = joined r a (outside r s) in
-      let all = exchange_all rs parts ps ap.1 (λ c i. m c (one_rest r rs c i)) one (exchange r (m r (one_first r rs)) a p s h (t r (one_first r rs)))
+      let all = exchange_all rs parts ps ap.1 (λ c i. m c (one_rest r rs c i)) one
+      (exchange r (m r (one_first r rs)) a p s h (t r (one_first r rs)))
       (λ c i. still_touches r c (ap.0 c i) a s (t c (one_rest r rs c i))) in
       record { set = all.set; among = all.among; each = λ e. all.each e ∙ opened e }
     where
-      opened : (e : ℕ) → (list_any (holds e) parts || (holds e (joined r a (outside r s)) && not (is_covered rs e))) ≡ (list_any (holds e) (a ∷ parts) || (holds e s && not (is_covered (r ∷ rs) e)))
+      opened : (e : ℕ) → (list_any (holds e) parts || (holds e (joined r a (outside r s)) && not (is_covered rs e)))
+          ≡ (list_any (holds e) (a ∷ parts) || (holds e s && not (is_covered (r ∷ rs) e)))
       opened e =
-          subst (λ z. (list_any (holds e) parts || (z && not (is_covered rs e))) ≡ (list_any (holds e) (a ∷ parts) || (holds e s && not (is_covered (r ∷ rs) e)))) (sym (joined_events r a s e))
-          (all_events (list_any (holds e) parts) (holds e a) (lies r e) (holds e s) (is_covered rs e) (λ i. uncovered r rs ap.0 e (part_lies r a p e i)))
+          subst (λ z. (list_any (holds e) parts || (z && not (is_covered rs e)))
+          ≡ (list_any (holds e) (a ∷ parts) || (holds e s && not (is_covered (r ∷ rs) e))))
+          (sym (joined_events r a s e))
+          (all_events (list_any (holds e) parts) (holds e a) (lies r e) (holds e s) (is_covered rs e)
+          (λ i. uncovered r rs ap.0 e (part_lies r a p e i)))
 
   -- ---- the parts are told by the events
-  pub recover : (rs : List Range) (parts : List (List ℕ)) → Along (IsPart f) rs parts → AllByRecursion Ascends f → Apart rs → (s : List ℕ) → Ascends s
+  pub recover : (rs : List Range) (parts : List (List ℕ)) → Along (IsPart f) rs parts → AllByRecursion Ascends f
+      → Apart rs → (s : List ℕ) → Ascends s
       → ((e : ℕ) → is_covered rs e ≡ true → holds e s ≡ list_any (holds e) parts) → parts ≡ map (λ r. inside r s) rs
   recover [] [] none up a s s_up h = refl
   recover [] (y ∷ ys) k up a s s_up h = elim k [ ]
   recover (x ∷ xs) [] k up a s s_up h = elim k [ ]
-  recover (r ∷ rs) (a ∷ parts) (one_and p ps) up apart s s_up h = ap₂ (λ x y. x ∷ y) first (recover rs parts ps up apart.1 s s_up later)
+  recover (r ∷ rs) (a ∷ parts) (one_and p ps) up apart s s_up h =
+      ap₂ (λ x y. x ∷ y) first (recover rs parts ps up apart.1 s s_up later)
     where
       a_up : Ascends a
       a_up = subst Ascends p.is (filtered (lies r) p.set (member_of Ascends f p.set up p.among))
 
       here : (e : ℕ) → lies r e ≡ true → holds e a ≡ holds e s
       here e l =
-          let no : list_any (holds e) parts ≡ false = false_from_ne_true (list_any (holds e) parts) (λ k. not_both (is_covered rs e) (parts_covered rs parts ps e k) (uncovered r rs apart.0 e l)) in
+          let no : list_any (holds e) parts ≡ false =
+          false_from_ne_true (list_any (holds e) parts)
+          (λ k. not_both (is_covered rs e) (parts_covered rs parts ps e k) (uncovered r rs apart.0 e l)) in
           sym (h e (or_left (lies r e) (is_covered rs e) l) ∙ ap (λ z. holds e a || z) no ∙ or_false (holds e a))
         where
           or_false : (b : Bool) → (b || false) ≡ b
@@ -284,15 +322,19 @@ module _ (f : Family) where
         where
           by : (e : ℕ) (b : Bool) → lies r e ≡ b → holds e a ≡ holds e (inside r s)
           by e true l = here e l ∙ sym (holds_filter e (lies r) s ∙ ap (λ z. z && holds e s) l)
-          by e false l = false_from_ne_true (holds e a) (λ k. not_both (lies r e) (part_lies r a p e k) l) ∙ sym (holds_filter e (lies r) s ∙ ap (λ z. z && holds e s) l)
+          by e false l = false_from_ne_true (holds e a) (λ k. not_both (lies r e) (part_lies r a p e k) l)
+              ∙ sym (holds_filter e (lies r) s ∙ ap (λ z. z && holds e s) l)
 
       later : (e : ℕ) → is_covered rs e ≡ true → holds e s ≡ list_any (holds e) parts
       later e c =
           h e (or_right (lies r e) (is_covered rs e) c)
-          ∙ ap (λ z. z || list_any (holds e) parts) (false_from_ne_true (holds e a) (λ k. not_both (is_covered rs e) c (uncovered r rs apart.0 e (part_lies r a p e k))))
+          ∙ ap (λ z. z || list_any (holds e) parts)
+          (false_from_ne_true (holds e a)
+          (λ k. not_both (is_covered rs e) c (uncovered r rs apart.0 e (part_lies r a p e k))))
 
   -- a range with a part has an event of what is made of the parts
-  pub part_touches : (rs : List Range) (parts : List (List ℕ)) → Along (IsPart f) rs parts → (c : Range) → IsOneOf rs c → (e : ℕ) × (list_any (holds e) parts ≡ true) × (lies c e ≡ true)
+  pub part_touches : (rs : List Range) (parts : List (List ℕ)) → Along (IsPart f) rs parts → (c : Range) → IsOneOf rs c
+      → (e : ℕ) × (list_any (holds e) parts ≡ true) × (lies c e ≡ true)
   part_touches [] [] none c i = absurd (one_none c i)
   part_touches [] (y ∷ ys) k c i = elim k [ ]
   part_touches (x ∷ xs) [] k c i = elim k [ ]
@@ -302,9 +344,11 @@ module _ (f : Family) where
   ]
 
   -- the events of a set by its parts
-  pub inside_events : (rs : List Range) (s : List ℕ) (e : ℕ) → list_any (holds e) (map (λ r. inside r s) rs) ≡ (is_covered rs e && holds e s)
+  pub inside_events : (rs : List Range) (s : List ℕ) (e : ℕ)
+      → list_any (holds e) (map (λ r. inside r s) rs) ≡ (is_covered rs e && holds e s)
   inside_events [] s e = refl
-  inside_events (r ∷ rs) s e = ap₂ (λ x y. x || y) (holds_filter e (lies r) s) (inside_events rs s e) ∙ both (lies r e) (is_covered rs e) (holds e s)
+  inside_events (r ∷ rs) s e = ap₂ (λ x y. x || y) (holds_filter e (lies r) s) (inside_events rs s e)
+      ∙ both (lies r e) (is_covered rs e) (holds e s)
     where
       both : (a b h : Bool) → ((a && h) || (b && h)) ≡ ((a || b) && h)
       both true true true = refl

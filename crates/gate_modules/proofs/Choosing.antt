@@ -24,7 +24,8 @@ covers_through a b c x y = (omega (arith, x.0, y.0), omega (arith, x.1, y.1))
 covers_self : (a : Range) → Covers a a
 covers_self a = (omega arith, omega arith)
 
-along_push : {A B : Type 0} (R : A → B → Type 0) (xs : List A) (ys : List B) (x : A) (y : B) → Along R xs ys → R x y → Along R (xs ++ x ∷ []) (ys ++ y ∷ [])
+along_push : {A B : Type 0} (R : A → B → Type 0) (xs : List A) (ys : List B) (x : A) (y : B) → Along R xs ys → R x y
+    → Along R (xs ++ x ∷ []) (ys ++ y ∷ [])
 along_push R _ _ x y none r = one_and r none
 along_push R _ _ x y (one_and {xs = xs} {ys = ys} q a) r = one_and q (along_push R xs ys x y a r)
 
@@ -51,7 +52,8 @@ module _ (f : Family) (ranges : List Range) (are : AreRanges ranges) where
   ]
 
   module _ (n : ℕ) (r : Range) (r_at : Stands ranges n r) (done chosen : List Range) (modules : List UnitSets)
-      (done_before : (o : Range) → IsOneOf done o → o.unit.n < r.unit.n) (done_all : (k : ℕ) (o : Range) → k < n → Stands ranges k o → IsOneOf done o)
+      (done_before : (o : Range) → IsOneOf done o → o.unit.n < r.unit.n)
+      (done_all : (k : ℕ) (o : Range) → k < n → Stands ranges k o → IsOneOf done o)
       (so : AreChosenSoFar f ranges done chosen modules) where
     last : IsOneOf (done ++ r ∷ []) r
     last = one_right done (r ∷ []) r (record { place = zero; stands = refl })
@@ -59,13 +61,15 @@ module _ (f : Family) (ranges : List Range) (are : AreRanges ranges) where
     in_done : (o : Range) → IsOneOf (done ++ r ∷ []) o → IsOneOf done o ⊎ (r ≡ o)
     in_done o i = elim (one_split done (r ∷ []) o i) [ inl j ↦ inl j | inr j ↦ inr (only_item r o j) ]
 
-    skipped : (IsModule f r → (c : Range) × IsOneOf chosen c × ((c ≡ r) ⊎ IsRound c r)) → AreChosenSoFar f ranges (done ++ r ∷ []) chosen modules
+    skipped : (IsModule f r → (c : Range) × IsOneOf chosen c × ((c ≡ r) ⊎ IsRound c r))
+        → AreChosenSoFar f ranges (done ++ r ∷ []) chosen modules
     skipped h = record {
       from_done = λ c i. one_left done (r ∷ []) c (so.from_done c i);
       sound = so.sound;
       covering = λ o i m. elim (in_done o i) [
         | inl j ↦ so.covering o j m
-        | inr e ↦ subst (λ z. (c : Range) × IsOneOf chosen c × ((c ≡ z) ⊎ IsRound c z)) e (h (subst (IsModule f) (sym e) m))
+        | inr e ↦ subst (λ z. (c : Range) × IsOneOf chosen c × ((c ≡ z) ⊎ IsRound c z)) e
+            (h (subst (IsModule f) (sym e) m))
       ];
       ascend = so.ascend;
       modules_are = so.modules_are;
@@ -76,24 +80,32 @@ module _ (f : Family) (ranges : List Range) (are : AreRanges ranges) where
     outermost free o i h m =
         let j = done_all i.place o (unit_places i.place n o r i.stands r_at h.first) i.stands in
         let t = so.covering o j m in
-        free.none t.0 t.1 (elim t.2 [ inl e ↦ subst (λ z. Covers z r) (sym e) h.covers | inr k ↦ covers_through t.0 o r k.covers h.covers ])
+        free.none t.0 t.1 (elim t.2 [
+          | inl e ↦ subst (λ z. Covers z r) (sym e) h.covers
+          | inr k ↦ covers_through t.0 o r k.covers h.covers
+        ])
 
-    pushed : (m : UnitSets) → IsWithinNone chosen r → IsModule f r → IsModuleOf f r m → AreChosenSoFar f ranges (done ++ r ∷ []) (chosen ++ r ∷ []) (modules ++ m ∷ [])
+    pushed : (m : UnitSets) → IsWithinNone chosen r → IsModule f r → IsModuleOf f r m
+        → AreChosenSoFar f ranges (done ++ r ∷ []) (chosen ++ r ∷ []) (modules ++ m ∷ [])
     pushed m free is_module parts = record {
-      from_done = λ c i. elim (one_split chosen (r ∷ []) c i) [ inl j ↦ one_left done (r ∷ []) c (so.from_done c j) | inr j ↦ one_right done (r ∷ []) c j ];
+      from_done = λ c i. elim (one_split chosen (r ∷ []) c i)
+          [ inl j ↦ one_left done (r ∷ []) c (so.from_done c j) | inr j ↦ one_right done (r ∷ []) c j ];
       sound = λ c i. elim (one_split chosen (r ∷ []) c i) [
         | inl j ↦ so.sound c j
-        | inr j ↦ subst (IsChosen f ranges) (only_item r c j) (record { listed = record { place = n; stands = r_at }; is_module = is_module; outermost = outermost free })
+        | inr j ↦ subst (IsChosen f ranges) (only_item r c j)
+            (record { listed = record { place = n; stands = r_at }; is_module = is_module; outermost = outermost free })
       ];
       covering = λ o i k. elim (in_done o i) [
         | inl j ↦ (let t = so.covering o j k in (t.0, one_left chosen (r ∷ []) t.0 t.1, t.2))
         | inr e ↦ (r, one_right chosen (r ∷ []) r (record { place = zero; stands = refl }), inl e)
       ];
-      ascend = λ j k a b l i h. ascending j k a b l (stands_split chosen (r ∷ []) j a i) (stands_split chosen (r ∷ []) k b h);
+      ascend = λ j k a b l i h. ascending j k a b l (stands_split chosen (r ∷ []) j a i)
+          (stands_split chosen (r ∷ []) k b h);
       modules_are = along_push (IsModuleOf f) chosen modules r m so.modules_are parts;
     }
       where
-        ascending : (j k : ℕ) (a b : Range) → j < k → Stands chosen j a ⊎ ((i : ℕ) × (j ≡ length chosen + i) × Stands (r ∷ []) i a)
+        ascending : (j k : ℕ) (a b : Range) → j < k
+            → Stands chosen j a ⊎ ((i : ℕ) × (j ≡ length chosen + i) × Stands (r ∷ []) i a)
             → Stands chosen k b ⊎ ((i : ℕ) × (k ≡ length chosen + i) × Stands (r ∷ []) i b) → a.unit.n < b.unit.n
         ascending j k a b l (inl x) (inl y) = so.ascend j k a b l x y
         ascending j k a b l (inl x) (inr y) =
@@ -105,8 +117,15 @@ module _ (f : Family) (ranges : List Range) (are : AreRanges ranges) where
             let w = stands_within (r ∷ []) y.0 b y.2 in
             absurd (omega (arith, l, x.1, y.1, u, w))
 
-    pub considered : (new : List Range) (new_modules : List UnitSets) → Considers f r chosen modules new new_modules → AreChosenSoFar f ranges (done ++ r ∷ []) new new_modules
-    considered _ _ (within w) = skipped (λ m. (w.outer, w.is_chosen, inr (record { first = done_before w.outer (so.from_done w.outer w.is_chosen); covers = w.covers })))
+    pub considered : (new : List Range) (new_modules : List UnitSets) → Considers f r chosen modules new new_modules
+        → AreChosenSoFar f ranges (done ++ r ∷ []) new new_modules
+    considered _ _ (within w) = skipped
+        (λ m. (
+          w.outer,
+          w.is_chosen,
+          inr (record
+              { first = done_before w.outer (so.from_done w.outer w.is_chosen); covers = w.covers }),
+        ))
     considered _ _ (no_module h) = skipped (λ m. absurd (h m))
     considered _ _ (is_new {new = new} {modules = after} m free parts unit e k) =
         subst (λ z. AreChosenSoFar f ranges (done ++ r ∷ []) z after) (sym e)
@@ -115,13 +134,15 @@ module _ (f : Family) (ranges : List Range) (are : AreRanges ranges) where
 
   -- no event is of two of the chosen units
   module _ (chosen : List Range) (sound : (c : Range) → IsOneOf chosen c → IsChosen f ranges c) where
-    apart_at : (a b : Range) → IsOneOf chosen a → IsOneOf chosen b → (e : ℕ) → lies a e ≡ true → lies b e ≡ true → (j k : ℕ) → j < k → Stands ranges j a → Stands ranges k b → ⊥
+    apart_at : (a b : Range) → IsOneOf chosen a → IsOneOf chosen b → (e : ℕ) → lies a e ≡ true → lies b e ≡ true
+        → (j k : ℕ) → j < k → Stands ranges j a → Stands ranges k b → ⊥
     apart_at a b ia ib e ea eb j k l sa sb =
         let x = in_lies a e ea in
         let y = in_lies b e eb in
         elim (are.nested j k a b l sa sb (omega (arith, x.0, x.1)) (omega (arith, y.0, y.1))) [
           | inl apart ↦ apart e ea eb
-          | inr covers ↦ (sound b ib).outermost a (sound a ia).listed (record { first = are.ascend j k a b l sa sb; covers = covers }) (sound a ia).is_module
+          | inr covers ↦ (sound b ib).outermost a (sound a ia).listed
+              (record { first = are.ascend j k a b l sa sb; covers = covers }) (sound a ia).is_module
         ]
 
     pub different_units : AreOfDifferentUnits chosen
@@ -168,18 +189,21 @@ module _ (f : Family) (ranges : List Range) (are : AreRanges ranges) where
     }
 
 -- in a module the parts go on alike
-pub fit_root : (s : Stored) → IsSoundStore s → (root : ℕ) → IsNumber s root → (ranges chosen : List Range) → ((c : Range) → IsOneOf chosen c → IsChosen (family s root) ranges c) → IsFit chosen [] (family s root)
+pub fit_root : (s : Stored) → IsSoundStore s → (root : ℕ) → IsNumber s root → (ranges chosen : List Range)
+    → ((c : Range) → IsOneOf chosen c → IsChosen (family s root) ranges c) → IsFit chosen [] (family s root)
 fit_root s sound root inside ranges chosen h = record {
   alike = λ r i. record {
     alike = λ p a b na nb sa sb.
         let q = has_some (section r.to a (section r.from p (family s root))) sa in
-        exits_alike s sound root inside r (h r i).is_module p b a nb sb (together_part s sound root inside r p a q.0 na (exit_has s sound root inside r p a q.0 na q.1));
+        exits_alike s sound root inside r (h r i).is_module p b a nb sb
+        (together_part s sound root inside r p a q.0 na (exit_has s sound root inside r p a q.0 na q.1));
   };
   passed = λ r i t. absurd (true≢false (sym t));
 }
 
 -- ranges one by one
-pub done_more : (xs : List Range) (k : ℕ) (d : Range) → k < length xs → take (k + 1) xs ≡ take k xs ++ get_or xs k d ∷ []
+pub done_more : (xs : List Range) (k : ℕ) (d : Range) → k < length xs
+    → take (k + 1) xs ≡ take k xs ++ get_or xs k d ∷ []
 done_more xs k d l = take_more xs k d l
 
 pub stands_taken : (xs : List Range) (n k : ℕ) (o : Range) → k < n → Stands xs k o → IsOneOf (take n xs) o
@@ -198,8 +222,10 @@ taken_stands xs n o i = at xs n i.place i.stands
     at (x ∷ xs) (suc n) (suc k) i = let t = at xs n k i in (suc t.0, omega (arith, t.1), t.2)
 
 -- one more range is considered
-pub one_more : (f : Family) (ranges : List Range) (are : AreRanges ranges) (n : ℕ) (d : Range) → n < length ranges → (chosen : List Range) (modules : List UnitSets) → AreChosenSoFar f ranges (take n ranges) chosen modules
-    → (new : List Range) (new_modules : List UnitSets) → Considers f (get_or ranges n d) chosen modules new new_modules → AreChosenSoFar f ranges (take (n + 1) ranges) new new_modules
+pub one_more : (f : Family) (ranges : List Range) (are : AreRanges ranges) (n : ℕ) (d : Range) → n < length ranges
+    → (chosen : List Range) (modules : List UnitSets) → AreChosenSoFar f ranges (take n ranges) chosen modules
+    → (new : List Range) (new_modules : List UnitSets) → Considers f (get_or ranges n d) chosen modules new new_modules
+    → AreChosenSoFar f ranges (take (n + 1) ranges) new new_modules
 one_more f ranges are n d l chosen modules so new new_modules c =
     let r = get_or ranges n d in
     let r_at = stands_get ranges n d l in
@@ -209,7 +235,8 @@ one_more f ranges are n d l chosen modules so new new_modules c =
     (λ k o h i. stands_taken ranges n k o h i) so new new_modules c)
 
 -- none of these covers the range, and neither does one more
-pub none_more : (xs : List Range) (k : ℕ) (d : Range) → k < length xs → (r : Range) → IsWithinNone (take k xs) r → (Covers (get_or xs k d) r → ⊥) → IsWithinNone (take (k + 1) xs) r
+pub none_more : (xs : List Range) (k : ℕ) (d : Range) → k < length xs → (r : Range) → IsWithinNone (take k xs) r
+    → (Covers (get_or xs k d) r → ⊥) → IsWithinNone (take (k + 1) xs) r
 none_more xs k d l r before free = record {
   none = λ x i h. elim (one_split (take k xs) (get_or xs k d ∷ []) x (subst (λ z. IsOneOf z x) (done_more xs k d l) i)) [
     | inl j ↦ before.none x j h

@@ -32,7 +32,8 @@ first_at_least to v lo (t ∷ hi) n a = a.0.0
 -- a number with an event below the bound does not end there
 pub event_not_end : (s : Stored) (to n v lo hi : ℕ) → HasBelow s to n v lo hi → EndsBelow s to n → ⊥
 event_not_end s to n v lo hi h e =
-    let l = first_at_least to v (family s lo) (family s hi) h.node.hi_some (subst (AllByRecursion (AtLeast to)) h.node.is e.at_least) in
+    let l = first_at_least to v (family s lo) (family s hi) h.node.hi_some
+    (subst (AllByRecursion (AtLeast to)) h.node.is e.at_least) in
     let k = h.below in
     omega (arith, l, k)
 
@@ -63,10 +64,14 @@ two_sets (x ∷ y ∷ hs) f l = record {
     apart : Equal ≡ Less → ⊥
     apart e = absurd (cc)
 
-module _ (s : Stored) (sound : IsSoundStore s) (root : ℕ) (root_in : IsNumber s root) (r : Range) (es : List ℕ) (entries : AreEntries s r.from root es) where
+module _ (s : Stored) (sound : IsSoundStore s) (root : ℕ) (root_in : IsNumber s root) (r : Range) (es : List ℕ)
+    (entries : AreEntries s r.from root es) where
   -- without an event there is no part
   pub none_is_module : AllEnd s r.to es → IsModule (family s root) r → ⊥
-  none_is_module ends m = elim (entries.covered f.p) [ inl none ↦ there (ap (section r.to m.one) none ∙ section-nil r.to m.one) | inr some ↦ by some.0 some.2 (ends.each some.0 some.1) ]
+  none_is_module ends m = elim (entries.covered f.p) [
+    | inl none ↦ there (ap (section r.to m.one) none ∙ section-nil r.to m.one)
+    | inr some ↦ by some.0 some.2 (ends.each some.0 some.1)
+  ]
     where
       f : Found s sound root root_in r m.one
       f = part_found s sound root root_in r m.one m.one_is
@@ -75,7 +80,8 @@ module _ (s : Stored) (sound : IsSoundStore s) (root : ℕ) (root_in : IsNumber 
       there = some_has (exit (family s root) r f.p m.one) f.q (has_exit s sound root root_in r f.p m.one f.q f.together)
 
       by : (e : ℕ) → section r.from f.p (family s root) ≡ family s e → EndsBelow s r.to e → ⊥
-      by e is h = elim (section_end r.to m.one (family s e) h.at_least) [ inl t ↦ m.one_is.some t.0 | inr t ↦ there (ap (section r.to m.one) is ∙ t.1) ]
+      by e is h = elim (section_end r.to m.one (family s e) h.at_least)
+          [ inl t ↦ m.one_is.some t.0 | inr t ↦ there (ap (section r.to m.one) is ∙ t.1) ]
 
   -- an entry with an exit is a section
   record Section (e : ℕ) : Type 0 where
@@ -86,7 +92,8 @@ module _ (s : Stored) (sound : IsSoundStore s) (root : ℕ) (root_in : IsNumber 
   section_of e x i h = by (entries.sections e i)
     where
       by : IsSectionAt r.from (family s root) (family s e) → Section e
-      by (empty z) = absurd (not_empty s sound x h.exit.some h.exit.inside (sym h.exit.is ∙ ap (section r.to h.exit.taken) z ∙ section-nil r.to h.exit.taken))
+      by (empty z) = absurd (not_empty s sound x h.exit.some h.exit.inside
+          (sym h.exit.is ∙ ap (section r.to h.exit.taken) z ∙ section-nil r.to h.exit.taken))
       by (taken p is) = record { p = p; is = is }
 
   module _ (e0 y : ℕ) (e0_in : IsOneOf es e0) (h0 : IsEntryExit s r.to e0 y) where
@@ -96,28 +103,42 @@ module _ (s : Stored) (sound : IsSoundStore s) (root : ℕ) (root_in : IsNumber 
         let h = k.exit in
         let a = section_of d.0 k.asked.end.n d.1 h in
         let a0 = section_of e0 y e0_in h0 in
-        k.differs (module_agrees s sound root root_in r m d.0 e0 k.asked a.p a0.p h.exit.taken h0.exit.taken k.to_is k.ends a.is h.taken_some h.exit.is a0.is h0.taken_some
+        k.differs (module_agrees s sound root root_in r m d.0 e0 k.asked a.p a0.p h.exit.taken h0.exit.taken k.to_is
+        k.ends a.is h.taken_some h.exit.is a0.is h0.taken_some
         (h0.exit.is ∙ ap (family s) (sym k.y_is)))
 
     -- in a module each part is one of e0
-    part_in_heads : (hs : Family) → AreSomeHeads r.to (family s e0) hs → IsModule (family s root) r → (a : List ℕ) → IsPart (family s root) r a → has hs a ≡ true
+    part_in_heads : (hs : Family) → AreSomeHeads r.to (family s e0) hs → IsModule (family s root) r → (a : List ℕ)
+        → IsPart (family s root) r a → has hs a ≡ true
     part_in_heads hs h m a i =
         let a0 = section_of e0 y e0_in h0 in
         let some = not_empty s sound y h0.exit.some h0.exit.inside in
-        h.whole a i.some (λ z. some (sym (follows s sound root root_in r m e0 y a0.p h0.exit.taken a0.is h0.taken_some h0.exit.is some a i) ∙ z))
+        h.whole a i.some (λ z. some (sym (follows s sound root root_in r m e0 y a0.p h0.exit.taken a0.is h0.taken_some
+        h0.exit.is some a i) ∙ z))
 
-    pub few_no_module : (hs : Family) → AreSomeHeads r.to (family s e0) hs → length hs < 2 → IsModule (family s root) r → ⊥
+    pub few_no_module : (hs : Family) → AreSomeHeads r.to (family s e0) hs → length hs < 2 → IsModule (family s root) r
+        → ⊥
     few_no_module hs h l m =
-        let k = long_from hs m.one m.other (has_stands hs m.one (part_in_heads hs h m m.one m.one_is)) (has_stands hs m.other (part_in_heads hs h m m.other m.other_is)) m.differ in
+        let k = long_from hs m.one m.other (has_stands hs m.one (part_in_heads hs h m m.one m.one_is))
+        (has_stands hs m.other (part_in_heads hs h m m.other m.other_is)) m.differ in
         omega (arith, l, k)
 
-    pub is_module : (hs : Family) → AreSomeHeads r.to (family s e0) hs → 2 ≤ length hs → ((e : ℕ) → IsOneOf es e → EntryAgrees s r.to e0 y e) → IsModuleWith (family s root) r hs
+    pub is_module : (hs : Family) → AreSomeHeads r.to (family s e0) hs → 2 ≤ length hs
+        → ((e : ℕ) → IsOneOf es e → EntryAgrees s r.to e0 y e) → IsModuleWith (family s root) r hs
     is_module hs h l each = record {
-      is_module = module_from s sound root root_in r es e0 y y_some entries.covered each a0.p t.one t.other a0.is (h.sound t.one t.one_in).0 (h.sound t.other t.other_in).0 (h.sound t.one t.one_in).1 (h.sound t.other t.other_in).1 t.differ;
+      is_module = module_from s sound root root_in r es e0 y y_some entries.covered each a0.p t.one t.other a0.is
+          (h.sound t.one t.one_in).0 (h.sound t.other t.other_in).0 (h.sound t.one t.one_in).1
+          (h.sound t.other t.other_in).1 t.differ;
       are_parts = lists_listed (record {
         is_family = h.is_family;
         sound = λ a k. part_of_entry s sound root root_in r e0 a0.p a a0.is (h.sound a k).0 (h.sound a k).1;
-        whole = λ a i. (a, h.whole a i.some (λ z. y_some (sym (part_of_reference s sound root root_in r es e0 y y_some entries.covered each a i) ∙ z)), within a, within a);
+        whole = λ a i. (
+          a,
+          h.whole a i.some
+              (λ z. y_some (sym (part_of_reference s sound root root_in r es e0 y y_some entries.covered each a i) ∙ z)),
+          within a,
+          within a,
+        );
       });
     }
       where

@@ -17,51 +17,75 @@ use Rattle.gate_modules.specs.Entries.IsReached.{here, up}
 use Rattle.gate_modules.proofs.Tables.{stands_set}
 
 module _ (s : Stored) (from : ℕ) where
-  pub covered_more : (n : ℕ) (f : Family) (old new : List ℕ) → IsCovered s from old f → Adds s from n old new → IsCovered s from new f
-  covered_more n f old new c a p = elim (c p) [ inl none ↦ inl none | inr some ↦ inr (some.0, subst (λ z. IsOneOf z some.0) (sym a.is) (one_left old a.added some.0 some.1), some.2) ]
+  pub covered_more : (n : ℕ) (f : Family) (old new : List ℕ) → IsCovered s from old f → Adds s from n old new
+      → IsCovered s from new f
+  covered_more n f old new c a p = elim (c p) [
+    | inl none ↦ inl none
+    | inr some ↦ inr
+        (some.0, subst (λ z. IsOneOf z some.0) (sym a.is) (one_left old a.added some.0 some.1), some.2)
+  ]
 
-  pub covered_node : (n v lo hi : ℕ) (es : List ℕ) → HasBelow s from n v lo hi → IsCovered s from es (family s hi) → IsCovered s from es (family s lo) → IsCovered s from es (family s n)
+  pub covered_node : (n v lo hi : ℕ) (es : List ℕ) → HasBelow s from n v lo hi → IsCovered s from es (family s hi)
+      → IsCovered s from es (family s lo) → IsCovered s from es (family s n)
   covered_node n v lo hi es h upper lower p = at p (by_start v p)
     where
-      at : (p : List ℕ) → ByStart v p → (section from p (family s n) ≡ []) ⊎ ((e : ℕ) × IsOneOf es e × (section from p (family s n) ≡ family s e))
+      at : (p : List ℕ) → ByStart v p → (section from p (family s n) ≡ [])
+          ⊎ ((e : ℕ) × IsOneOf es e × (section from p (family s n) ≡ family s e))
       at _ (with_it p) =
-          let is = ap (section from (v ∷ p)) h.node.is ∙ section-with v from p (family s lo) (family s hi) h.below h.node.lo_above in
+          let is = ap (section from (v ∷ p)) h.node.is
+          ∙ section-with v from p (family s lo) (family s hi) h.below h.node.lo_above in
           elim (upper p) [ inl none ↦ inl (is ∙ none) | inr some ↦ inr (some.0, some.1, is ∙ some.2) ]
       at _ (without_it p e) =
           let is = ap (section from p) h.node.is ∙ section_lower v from p (family s lo) (family s hi) h.below e in
           elim (lower p) [ inl none ↦ inl (is ∙ none) | inr some ↦ inr (some.0, some.1, is ∙ some.2) ]
 
-  pub seen_set : (n : ℕ) (seen : List Bool) (es : List ℕ) → AreSeen s from seen es → IsCovered s from es (family s n) → AreSeen s from (slice_set seen n true) es
+  pub seen_set : (n : ℕ) (seen : List Bool) (es : List ℕ) → AreSeen s from seen es → IsCovered s from es (family s n)
+      → AreSeen s from (slice_set seen n true) es
   seen_set n seen es a c = record { each = λ k i. at k (stands_set seen n k true true i) }
     where
       at : (k : ℕ) → ((k ≡ n) × (true ≡ true)) ⊎ Stands seen k true → IsCovered s from es (family s k)
       at k (inl e) = subst (λ z. IsCovered s from es (family s z)) (sym e.0) c
       at k (inr i) = a.each k i
 
-  pub seen_more : (n : ℕ) (seen : List Bool) (old new : List ℕ) → AreSeen s from seen old → Adds s from n old new → AreSeen s from seen new
+  pub seen_more : (n : ℕ) (seen : List Bool) (old new : List ℕ) → AreSeen s from seen old → Adds s from n old new
+      → AreSeen s from seen new
   seen_more n seen old new a d = record { each = λ k i. covered_more n (family s k) old new (a.each k i) d }
 
-  section_down : (n v lo hi : ℕ) (h : Family) → HasBelow s from n v lo hi → IsSectionAt from (family s lo) h → IsSectionAt from (family s n) h
+  section_down : (n v lo hi : ℕ) (h : Family) → HasBelow s from n v lo hi → IsSectionAt from (family s lo) h
+      → IsSectionAt from (family s n) h
   section_down n v lo hi h b (empty e) = empty e
   section_down n v lo hi h b (taken p e) = elim (section-above v from p (family s lo) b.node.lo_above) [
     | inl none ↦ empty (e ∙ none)
-    | inr above ↦ taken p (e ∙ sym (ap (section from p) b.node.is ∙ section_lower v from p (family s lo) (family s hi) b.below (starts_above v p above)))
+    | inr above ↦ taken p (e ∙ sym (ap (section from p) b.node.is
+        ∙ section_lower v from p (family s lo) (family s hi) b.below (starts_above v p above)))
   ]
 
-  section_up : (n v lo hi : ℕ) (h : Family) → HasBelow s from n v lo hi → IsSectionAt from (family s hi) h → IsSectionAt from (family s n) h
+  section_up : (n v lo hi : ℕ) (h : Family) → HasBelow s from n v lo hi → IsSectionAt from (family s hi) h
+      → IsSectionAt from (family s n) h
   section_up n v lo hi h b (empty e) = empty e
-  section_up n v lo hi h b (taken p e) = taken (v ∷ p) (e ∙ sym (ap (section from (v ∷ p)) b.node.is ∙ section-with v from p (family s lo) (family s hi) b.below b.node.lo_above))
+  section_up n v lo hi h b (taken p e) =
+      taken (v ∷ p) (e ∙ sym (ap (section from (v ∷ p)) b.node.is
+      ∙ section-with v from p (family s lo) (family s hi) b.below b.node.lo_above))
 
-  pub adds_node : (n v lo hi : ℕ) (old mid new : List ℕ) → HasBelow s from n v lo hi → Adds s from hi old mid → Adds s from lo mid new → Adds s from n old new
+  pub adds_node : (n v lo hi : ℕ) (old mid new : List ℕ) → HasBelow s from n v lo hi → Adds s from hi old mid
+      → Adds s from lo mid new → Adds s from n old new
   adds_node n v lo hi old mid new b x y = record {
     added = x.added ++ y.added;
     is = y.is ∙ ap (λ z. z ++ y.added) x.is ∙ append_assoc old x.added y.added;
     inside = λ e i. elim (one_split x.added y.added e i) [ inl l ↦ x.inside e l | inr l ↦ y.inside e l ];
-    sections = λ e i. elim (one_split x.added y.added e i) [ inl l ↦ section_up n v lo hi (family s e) b (x.sections e l) | inr l ↦ section_down n v lo hi (family s e) b (y.sections e l) ];
+    sections = λ e i. elim (one_split x.added y.added e i) [
+      | inl l ↦ section_up n v lo hi (family s e) b (x.sections e l)
+      | inr l ↦ section_down n v lo hi (family s e) b (y.sections e l)
+    ];
   }
 
   pub adds_none : (n : ℕ) (old : List ℕ) → Adds s from n old old
-  adds_none n old = record { added = []; is = sym (append_nil old); inside = λ e i. absurd (one_none e i); sections = λ e i. absurd (one_none e i) }
+  adds_none n old = record {
+    added = [];
+    is = sym (append_nil old);
+    inside = λ e i. absurd (one_none e i);
+    sections = λ e i. absurd (one_none e i);
+  }
     where
       append_nil : (xs : List ℕ) → xs ++ [] ≡ xs
       append_nil [] = refl
@@ -78,38 +102,61 @@ module _ (s : Stored) (from : ℕ) where
     added = n ∷ [];
     is = refl;
     inside = λ e i. subst (IsNumber s) (only_item n e i) in_store;
-    sections = λ e i. subst (λ z. IsSectionAt from (family s n) (family s z)) (only_item n e i) (taken [] (sym (section-low from (family s n) h.at_least)));
+    sections = λ e i. subst (λ z. IsSectionAt from (family s n) (family s z)) (only_item n e i)
+        (taken [] (sym (section-low from (family s n) h.at_least)));
   }
 
-  pub entries_from : (n : ℕ) (es : List ℕ) → IsCovered s from es (family s n) → Adds s from n [] es → AreEntries s from n es
-  entries_from n es c a = record { covered = c; inside = λ e i. a.inside e (subst (λ z. IsOneOf z e) a.is i); sections = λ e i. a.sections e (subst (λ z. IsOneOf z e) a.is i) }
+  pub entries_from : (n : ℕ) (es : List ℕ) → IsCovered s from es (family s n) → Adds s from n [] es
+      → AreEntries s from n es
+  entries_from n es c a = record {
+    covered = c;
+    inside = λ e i. a.inside e (subst (λ z. IsOneOf z e) a.is i);
+    sections = λ e i. a.sections e (subst (λ z. IsOneOf z e) a.is i);
+  }
 
 -- the numbers of the entries with one more
 pub numbers_push : (xs : List NodeId) (x : NodeId) → node_numbers (xs ++ x ∷ []) ≡ node_numbers xs ++ x.n ∷ []
 numbers_push xs x = map-append (λ (n : NodeId). n.n) xs (x ∷ [])
 
-pub numbers_more : (xs : List NodeId) (k : ℕ) (d : NodeId) → k < length xs → node_numbers (take (k + 1) xs) ≡ node_numbers (take k xs) ++ (get_or xs k d).n ∷ []
+pub numbers_more : (xs : List NodeId) (k : ℕ) (d : NodeId) → k < length xs
+    → node_numbers (take (k + 1) xs) ≡ node_numbers (take k xs) ++ (get_or xs k d).n ∷ []
 numbers_more xs k d l = ap node_numbers (take_more xs k d l) ∙ numbers_push (take k xs) (get_or xs k d)
 
-pub number_stands : (xs : List NodeId) (k : ℕ) (d : NodeId) → k < length xs → IsOneOf (node_numbers xs) (get_or xs k d).n
-number_stands xs k d l = record { place = k; stands = stands_map (λ (n : NodeId). n.n) xs k (get_or xs k d) (stands_get xs k d l) }
+pub number_stands : (xs : List NodeId) (k : ℕ) (d : NodeId) → k < length xs
+    → IsOneOf (node_numbers xs) (get_or xs k d).n
+number_stands xs k d l = record {
+  place = k;
+  stands = stands_map (λ (n : NodeId). n.n) xs k (get_or xs k d) (stands_get xs k d l);
+}
 
 -- a fact of all entries, one more
-pub all_more : (P : ℕ → Type 0) (xs : List NodeId) (k : ℕ) (d : NodeId) → k < length xs → ((e : ℕ) → IsOneOf (node_numbers (take k xs)) e → P e) → P (get_or xs k d).n
+pub all_more : (P : ℕ → Type 0) (xs : List NodeId) (k : ℕ) (d : NodeId) → k < length xs
+    → ((e : ℕ) → IsOneOf (node_numbers (take k xs)) e → P e) → P (get_or xs k d).n
     → (e : ℕ) → IsOneOf (node_numbers (take (k + 1) xs)) e → P e
-all_more P xs k d l before this e i = elim (one_split (node_numbers (take k xs)) ((get_or xs k d).n ∷ []) e (subst (λ z. IsOneOf z e) (numbers_more xs k d l) i)) [
-  | inl b ↦ before e b
-  | inr h ↦ subst P (only_item (get_or xs k d).n e h) this
-]
+all_more P xs k d l before this e i =
+    elim (one_split (node_numbers (take k xs)) ((get_or xs k d).n ∷ []) e
+    (subst (λ z. IsOneOf z e) (numbers_more xs k d l) i)) [
+      | inl b ↦ before e b
+      | inr h ↦ subst P (only_item (get_or xs k d).n e h) this
+    ]
 
 -- exits
 pub exit_up : (s : Stored) (to n v lo hi x : ℕ) → HasBelow s to n v lo hi → IsExit s to hi x → IsExit s to n x
 exit_up s to n v lo hi x h e = record { at_most = (let l = h.node.hi_before in omega (arith, l, e.at_most)); inside = e.inside; some = e.some; taken = v ∷ e.taken; is = ap (section to (v ∷ e.taken)) h.node.is ∙ section-with v to e.taken (family s lo) (family s hi) h.below h.node.lo_above ∙ e.is; reached = up h e.reached; ends = e.ends }
 
 pub exit_end : (s : Stored) (to n : ℕ) → IsNumber s n → 0 < n → EndsBelow s to n → IsExit s to n n
-exit_end s to n inside some h = record { at_most = omega arith; inside = inside; some = some; taken = []; is = section-low to (family s n) h.at_least; reached = here n; ends = h }
+exit_end s to n inside some h = record {
+  at_most = omega arith;
+  inside = inside;
+  some = some;
+  taken = [];
+  is = section-low to (family s n) h.at_least;
+  reached = here n;
+  ends = h;
+}
 
-pub entry_exit_up : (s : Stored) (to n v lo hi x : ℕ) → HasBelow s to n v lo hi → IsExit s to hi x → IsEntryExit s to n x
+pub entry_exit_up : (s : Stored) (to n v lo hi x : ℕ) → HasBelow s to n v lo hi → IsExit s to hi x
+    → IsEntryExit s to n x
 unfolding exit_up
 entry_exit_up s to n v lo hi x h e = record { exit = exit_up s to n v lo hi x h e; taken_some = some v e.taken }
   where

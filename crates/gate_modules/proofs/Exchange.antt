@@ -59,7 +59,8 @@ module _ (r : Range) (p part q : List ℕ) (t : Three r p part q) where
 
   pub inside_three : inside r (p ++ (part ++ q)) ≡ part
   inside_three = filter_both (lies r) p (part ++ q) ∙ ap₂ (λ a b. a ++ b) (filter_none (lies r) p low_no)
-      (filter_both (lies r) part q ∙ ap₂ (λ a b. a ++ b) (filter_all (lies r) part t.is_in) (filter_none (lies r) q high_no)) ∙ append_nil part
+      (filter_both (lies r) part q ∙ ap₂ (λ a b. a ++ b) (filter_all (lies r) part t.is_in)
+      (filter_none (lies r) q high_no)) ∙ append_nil part
     where
       append_nil : (s : List ℕ) → s ++ [] ≡ s
       append_nil [] = refl
@@ -68,7 +69,8 @@ module _ (r : Range) (p part q : List ℕ) (t : Three r p part q) where
   pub outside_three : outside r (p ++ (part ++ q)) ≡ p ++ q
   outside_three =
       let o = λ (x : ℕ). not (lies r x) in
-      filter_both o p (part ++ q) ∙ ap₂ (λ a b. a ++ b) (filter_all o p (all_weaker (λ x. lies r x ≡ false) (λ x. o x ≡ true) (λ x e. ap not e) p low_no))
+      filter_both o p (part ++ q) ∙ ap₂ (λ a b. a ++ b)
+      (filter_all o p (all_weaker (λ x. lies r x ≡ false) (λ x. o x ≡ true) (λ x e. ap not e) p low_no))
       (filter_both o part q ∙ ap₂ (λ a b. a ++ b)
       (filter_none o part (all_weaker (λ x. lies r x ≡ true) (λ x. o x ≡ false) (λ x e. ap not e) part t.is_in))
       (filter_all o q (all_weaker (λ x. lies r x ≡ false) (λ x. o x ≡ true) (λ x e. ap not e) q high_no)))
@@ -77,11 +79,14 @@ module _ (r : Range) (p part q : List ℕ) (t : Three r p part q) where
   joined_three other =
       let l = λ (x : ℕ). nat_lt x r.from in
       let h = λ (x : ℕ). not (nat_lt x r.from) in
-      let q_high = all_weaker (λ x. r.to ≤ x) (λ x. nat_lt x r.from ≡ false) (λ x k. le-ltb x r.from (omega (arith, k, t.not_empty))) q t.high in
+      let q_high = all_weaker (λ x. r.to ≤ x) (λ x. nat_lt x r.from ≡ false)
+      (λ x k. le-ltb x r.from (omega (arith, k, t.not_empty))) q t.high in
       let p_low = all_weaker (λ x. x < r.from) (λ x. nat_lt x r.from ≡ true) (λ x k. lt-ltb x r.from k) p t.low in
       ap₂ (λ a b. a ++ (other ++ b))
       (filter_both l p q ∙ ap₂ (λ a b. a ++ b) (filter_all l p p_low) (filter_none l q q_high) ∙ append_nil p)
-      (filter_both h p q ∙ ap₂ (λ a b. a ++ b) (filter_none h p (all_weaker (λ x. nat_lt x r.from ≡ true) (λ x. h x ≡ false) (λ x e. ap not e) p p_low)) (filter_all h q (all_weaker (λ x. nat_lt x r.from ≡ false) (λ x. h x ≡ true) (λ x e. ap not e) q q_high)))
+      (filter_both h p q ∙ ap₂ (λ a b. a ++ b)
+      (filter_none h p (all_weaker (λ x. nat_lt x r.from ≡ true) (λ x. h x ≡ false) (λ x e. ap not e) p p_low))
+      (filter_all h q (all_weaker (λ x. nat_lt x r.from ≡ false) (λ x. h x ≡ true) (λ x e. ap not e) q q_high)))
     where
       append_nil : (s : List ℕ) → s ++ [] ≡ s
       append_nil [] = refl
@@ -118,8 +123,10 @@ cuts r set a n =
       is = c.is ∙ ap (λ z. below r.from set ++ z) d.is;
       three = record {
         low = below_all r.from set;
-        is_in = all_weaker (λ x. (r.from ≤ x) × (x < r.to)) (λ x. lies r x ≡ true) (λ x k. lies_in r x k.0 k.1) (below r.to high)
-            (all_both (λ x. r.from ≤ x) (λ x. x < r.to) (below r.to high) (all_filter (λ x. r.from ≤ x) (λ x. nat_lt x r.to) high c.at_least) (below_all r.to high));
+        is_in = all_weaker (λ x. (r.from ≤ x) × (x < r.to)) (λ x. lies r x ≡ true) (λ x k. lies_in r x k.0 k.1)
+            (below r.to high)
+            (all_both (λ x. r.from ≤ x) (λ x. x < r.to) (below r.to high)
+            (all_filter (λ x. r.from ≤ x) (λ x. nat_lt x r.to) high c.at_least) (below_all r.to high));
         high = d.at_least;
         not_empty = (let l = from_or_none r set n in omega (arith, l));
       };
@@ -131,15 +138,19 @@ unit_section i x p = refl
 
 module _ (s : Stored) (sound : IsSoundStore s) where
   -- each section of a stored family is stored
-  section_below : (bound i : ℕ) (p : List ℕ) (n : ℕ) → n < bound → IsNumber s n → (k : ℕ) × IsNumber s k × (section i p (family s n) ≡ family s k)
+  section_below : (bound i : ℕ) (p : List ℕ) (n : ℕ) → n < bound → IsNumber s n
+      → (k : ℕ) × IsNumber s k × (section i p (family s n) ≡ family s k)
   section_below zero i p n l inside = absurd (omega (arith, l))
   section_below (suc bound) i p zero l inside = (0, inside, section-nil i p)
   section_below (suc bound) i [] (suc zero) l inside = (1, inside, section-low i ([] ∷ []) (tt, tt))
   section_below (suc bound) i (x ∷ p) (suc zero) l inside = (0, omega (arith, inside), unit_section i x p)
   section_below (suc bound) i p (suc (suc n)) l inside =
       let t = sound.nodes (suc (suc n)) (omega arith) inside in
-      at_node t.event t.lo t.hi t.halves (λ q. section_below bound i q t.lo (omega (arith, l, t.halves.lo_before)) (omega (arith, inside, t.halves.lo_before)))
-      (λ q. section_below bound i q t.hi (omega (arith, l, t.halves.hi_before)) (omega (arith, inside, t.halves.hi_before))) p (cases_lt t.event i) (by_start t.event p)
+      at_node t.event t.lo t.hi t.halves
+      (λ q. section_below bound i q t.lo (omega (arith, l, t.halves.lo_before))
+      (omega (arith, inside, t.halves.lo_before)))
+      (λ q. section_below bound i q t.hi (omega (arith, l, t.halves.hi_before))
+      (omega (arith, inside, t.halves.hi_before))) p (cases_lt t.event i) (by_start t.event p)
     where
       Found : List ℕ → Type 0
       Found q = (k : ℕ) × IsNumber s k × (section i q (family s (suc (suc n))) ≡ family s k)
@@ -147,23 +158,27 @@ module _ (s : Stored) (sound : IsSoundStore s) where
       at_node : (v lo hi : ℕ) → IsNode s.families (suc (suc n)) v lo hi
           → ((q : List ℕ) → (k : ℕ) × IsNumber s k × (section i q (family s lo) ≡ family s k))
           → ((q : List ℕ) → (k : ℕ) × IsNumber s k × (section i q (family s hi) ≡ family s k))
-          → (q : List ℕ) → (v < i) ⊎ (i ≤ v) → ByStart v q → (k : ℕ) × IsNumber s k × (section i q (family s (suc (suc n))) ≡ family s k)
+          → (q : List ℕ) → (v < i) ⊎ (i ≤ v) → ByStart v q
+          → (k : ℕ) × IsNumber s k × (section i q (family s (suc (suc n))) ≡ family s k)
       at_node v lo hi h below_lo below_hi _ (inl l) (with_it q) =
           let r = below_hi q in (r.0, r.1, ap (section i (v ∷ q)) h.is ∙ section-with v i q (family s lo) (family s hi) l h.lo_above ∙ r.2)
       at_node v lo hi h below_lo below_hi _ (inl l) (without_it q e) =
           let r = below_lo q in (r.0, r.1, ap (section i q) h.is ∙ section_lower v i q (family s lo) (family s hi) l e ∙ r.2)
-      at_node v lo hi h below_lo below_hi q (inr l) b = elim (section_end i q (family s (suc (suc n))) (ends_at_node s i (suc (suc n)) v lo hi h l).at_least) [
-        | inl e ↦ (suc (suc n), inside, e.1)
-        | inr e ↦ (0, omega (arith, inside), e.1)
-      ]
+      at_node v lo hi h below_lo below_hi q (inr l) b =
+          elim (section_end i q (family s (suc (suc n))) (ends_at_node s i (suc (suc n)) v lo hi h l).at_least) [
+            | inl e ↦ (suc (suc n), inside, e.1)
+            | inr e ↦ (0, omega (arith, inside), e.1)
+          ]
 
-  pub section_number : (i : ℕ) (p : List ℕ) (n : ℕ) → IsNumber s n → (k : ℕ) × IsNumber s k × (section i p (family s n) ≡ family s k)
+  pub section_number : (i : ℕ) (p : List ℕ) (n : ℕ) → IsNumber s n
+      → (k : ℕ) × IsNumber s k × (section i p (family s n) ≡ family s k)
   section_number i p n inside = section_below (suc n) i p n (omega arith) inside
 
   pub ascending : (n : ℕ) → IsNumber s n → AllByRecursion IsAscending (family s n)
   ascending n inside = each_of _ IsAscending is_ascending (family s n) (sound.families n inside).ascending
 
-  pub section_ascending : (i : ℕ) (p : List ℕ) (n : ℕ) → IsNumber s n → AllByRecursion IsAscending (section i p (family s n))
+  pub section_ascending : (i : ℕ) (p : List ℕ) (n : ℕ) → IsNumber s n
+      → AllByRecursion IsAscending (section i p (family s n))
   section_ascending i p n inside = let k = section_number i p n inside in subst (AllByRecursion IsAscending) (sym k.2) (ascending k.0 k.1)
 
 -- what follows a part behind p
@@ -177,39 +192,56 @@ pub record Together (f : Family) (r : Range) (p part q : List ℕ) : Type 0 wher
 
 module _ (s : Stored) (sound : IsSoundStore s) (root : ℕ) (root_in : IsNumber s root) (r : Range) where
   -- what an exit has
-  pub exit_has : (p part q : List ℕ) → part ≢ [] → has (exit (family s root) r p part) q ≡ true → Together (family s root) r p part q
+  pub exit_has : (p part q : List ℕ) → part ≢ [] → has (exit (family s root) r p part) q ≡ true
+      → Together (family s root) r p part q
   exit_has p part q n h =
-      let outer = in_section r.to part q (section r.from p (family s root)) (section_ascending s sound r.from p root root_in) h in
+      let outer = in_section r.to part q (section r.from p (family s root))
+      (section_ascending s sound r.from p root root_in) h in
       let inner = in_section r.from p (part ++ q) (family s root) (ascending s sound root root_in) outer.whole in
       let is_in = all_weaker (λ x. (r.from ≤ x) × (x < r.to)) (λ x. lies r x ≡ true) (λ x k. lies_in r x k.0 k.1) part
-      (all_both (λ x. r.from ≤ x) (λ x. x < r.to) part (all_left (λ x. r.from ≤ x) part q inner.at_least) outer.taken_below) in
+      (all_both (λ x. r.from ≤ x) (λ x. x < r.to) part (all_left (λ x. r.from ≤ x) part q inner.at_least)
+      outer.taken_below) in
       record {
         three = record { low = inner.taken_below; is_in = is_in; high = outer.at_least; not_empty = (let l = first_of_some r part n is_in in omega (arith, l)) };
         whole = inner.whole;
       }
 
-  pub has_exit : (p part q : List ℕ) → Together (family s root) r p part q → has (exit (family s root) r p part) q ≡ true
+  pub has_exit : (p part q : List ℕ) → Together (family s root) r p part q
+      → has (exit (family s root) r p part) q ≡ true
   has_exit p part q t =
-      let part_from = all_weaker (λ x. lies r x ≡ true) (λ x. r.from ≤ x) (λ x e. (in_lies r x e).0) part t.three.is_in in
+      let part_from = all_weaker (λ x. lies r x ≡ true) (λ x. r.from ≤ x) (λ x e. (in_lies r x e).0) part
+      t.three.is_in in
       let part_to = all_weaker (λ x. lies r x ≡ true) (λ x. x < r.to) (λ x e. (in_lies r x e).1) part t.three.is_in in
-      let q_from = all_weaker (λ x. r.to ≤ x) (λ x. r.from ≤ x) (λ x k. omega (arith, k, t.three.not_empty)) q t.three.high in
-      has_section r.to part q (section r.from p (family s root)) part_to t.three.high (section_ascending s sound r.from p root root_in)
-      ∙ has_section r.from p (part ++ q) (family s root) t.three.low (all_append (λ x. r.from ≤ x) part q part_from q_from) (ascending s sound root root_in)
+      let q_from = all_weaker (λ x. r.to ≤ x) (λ x. r.from ≤ x) (λ x k. omega (arith, k, t.three.not_empty)) q
+      t.three.high in
+      has_section r.to part q (section r.from p (family s root)) part_to t.three.high
+      (section_ascending s sound r.from p root root_in)
+      ∙ has_section r.from p (part ++ q) (family s root) t.three.low
+      (all_append (λ x. r.from ≤ x) part q part_from q_from) (ascending s sound root root_in)
       ∙ t.whole
 
   -- a part of the unit is a part of some set
-  pub together_part : (p part q : List ℕ) → part ≢ [] → Together (family s root) r p part q → IsPart (family s root) r part
-  together_part p part q n t = record { set = p ++ (part ++ q); among = t.whole; is = inside_three r p part q t.three; some = n }
+  pub together_part : (p part q : List ℕ) → part ≢ [] → Together (family s root) r p part q
+      → IsPart (family s root) r part
+  together_part p part q n t = record
+      { set = p ++ (part ++ q); among = t.whole; is = inside_three r p part q t.three; some = n }
 
-  pub together_rest : (p part q : List ℕ) → part ≢ [] → Together (family s root) r p part q → IsRest (family s root) r (p ++ q)
-  together_rest p part q n t = record { set = p ++ (part ++ q); among = t.whole; touched = λ e. n (sym (inside_three r p part q t.three) ∙ e); is = outside_three r p part q t.three }
+  pub together_rest : (p part q : List ℕ) → part ≢ [] → Together (family s root) r p part q
+      → IsRest (family s root) r (p ++ q)
+  together_rest p part q n t = record {
+    set = p ++ (part ++ q);
+    among = t.whole;
+    touched = λ e. n (sym (inside_three r p part q t.three) ∙ e);
+    is = outside_three r p part q t.three;
+  }
 
   pub record Found (part : List ℕ) : Type 0 where
     pub p : List ℕ
     pub q : List ℕ
     pub together : Together (family s root) r p part q
 
-  set_found : (set : List ℕ) → has (family s root) set ≡ true → inside r set ≢ [] → (c : Cuts r set) × Together (family s root) r c.p c.part c.q
+  set_found : (set : List ℕ) → has (family s root) set ≡ true → inside r set ≢ []
+      → (c : Cuts r set) × Together (family s root) r c.p c.part c.q
   set_found set h n =
       let c = cuts r set (member_of IsAscending (family s root) set (ascending s sound root root_in) h) n in
       (c, record { three = c.three; whole = sym (ap (has (family s root)) c.is) ∙ h })
@@ -217,7 +249,8 @@ module _ (s : Stored) (sound : IsSoundStore s) (root : ℕ) (root_in : IsNumber 
   pub part_found : (part : List ℕ) → IsPart (family s root) r part → Found part
   part_found part i =
       let t = set_found i.set i.among (λ e. i.some (sym i.is ∙ e)) in
-      let e : t.0.part ≡ part = sym (inside_three r t.0.p t.0.part t.0.q t.0.three) ∙ sym (ap (inside r) t.0.is) ∙ i.is in
+      let e : t.0.part ≡ part = sym (inside_three r t.0.p t.0.part t.0.q t.0.three) ∙ sym (ap (inside r) t.0.is)
+      ∙ i.is in
       record { p = t.0.p; q = t.0.q; together = subst (λ z. Together (family s root) r t.0.p z t.0.q) e t.1 }
 
   pub record FoundRest (rest : List ℕ) : Type 0 where
@@ -249,12 +282,14 @@ module _ (s : Stored) (sound : IsSoundStore s) (root : ℕ) (root_in : IsNumber 
   part_in part i = subst (AllIn r) i.is (all_passed (lies r) i.set)
 
   -- in a module each part goes on as another
-  pub exits_alike : IsModule (family s root) r → (p part other : List ℕ) → part ≢ [] → exit (family s root) r p part ≢ [] → IsPart (family s root) r other
+  pub exits_alike : IsModule (family s root) r → (p part other : List ℕ) → part ≢ []
+      → exit (family s root) r p part ≢ [] → IsPart (family s root) r other
       → exit (family s root) r p other ≡ exit (family s root) r p part
   exits_alike m p part other n some i =
       let is_part : IsPart (family s root) r part = let q = has_some (exit (family s root) r p part) some in together_part p part q.0 n (exit_has p part q.0 n q.1) in
       same_sets (exit (family s root) r p other) (exit (family s root) r p part) (in_order other) (in_order part)
-      (λ q. both (has (exit (family s root) r p other) q) (has (exit (family s root) r p part) q) (moved other part i.some is_part q) (moved part other n i q))
+      (λ q. both (has (exit (family s root) r p other) q) (has (exit (family s root) r p part) q)
+      (moved other part i.some is_part q) (moved part other n i q))
     where
       both : (a b : Bool) → (a ≡ true → b ≡ true) → (b ≡ true → a ≡ true) → a ≡ b
       both true b f g = sym (f refl)
@@ -267,10 +302,12 @@ module _ (s : Stored) (sound : IsSoundStore s) (root : ℕ) (root_in : IsNumber 
           let j = section_number s sound r.to t k.0 k.1 in
           subst IsInOrder (sym (ap (section r.to t) k.2 ∙ j.2)) (sound.families j.0 j.1).in_order
 
-      moved : (a b : List ℕ) → a ≢ [] → IsPart (family s root) r b → (q : List ℕ) → has (exit (family s root) r p a) q ≡ true → has (exit (family s root) r p b) q ≡ true
+      moved : (a b : List ℕ) → a ≢ [] → IsPart (family s root) r b → (q : List ℕ)
+          → has (exit (family s root) r p a) q ≡ true → has (exit (family s root) r p b) q ≡ true
       moved a b na ib q h =
           let t = exit_has p a q na h in
           has_exit p b q (record {
             three = exchanged_part a b (part_in b ib) p q t.three;
-            whole = sym (ap (has (family s root)) (joined_three r p a q t.three b)) ∙ m.exchanged b (p ++ q) ib (together_rest p a q na t);
+            whole = sym (ap (has (family s root)) (joined_three r p a q t.three b))
+                ∙ m.exchanged b (p ++ q) ib (together_rest p a q na t);
           })

@@ -24,7 +24,8 @@ use Rattle.gate_modules.proofs.Splitting.{filter_both, filter_none, all_weaker, 
 pub touches_both : (s t : List ℕ) (c : Range) → touches (s ++ t) c ≡ (touches s c || touches t c)
 touches_both s t c = list_any-append (lies c) s t
 
-pub covered_in : (chosen : List Range) (r : Range) (x : ℕ) → IsOneOf chosen r → lies r x ≡ true → is_covered chosen x ≡ true
+pub covered_in : (chosen : List Range) (r : Range) (x : ℕ) → IsOneOf chosen r → lies r x ≡ true
+    → is_covered chosen x ≡ true
 covered_in [] r x i h = absurd (one_none r i)
 covered_in (c ∷ chosen) r x i h = elim (one_cases c chosen r i) [
   | inl e ↦ ap (λ b. b || is_covered chosen x) (ap (λ z. lies z x) e ∙ h)
@@ -36,7 +37,8 @@ covered_in (c ∷ chosen) r x i h = elim (one_cases c chosen r i) [
     or_true false = refl
 
 -- an uncovered event is of no range
-pub uncovered_in : (chosen : List Range) (r : Range) (x : ℕ) → IsOneOf chosen r → is_covered chosen x ≡ false → lies r x ≡ false
+pub uncovered_in : (chosen : List Range) (r : Range) (x : ℕ) → IsOneOf chosen r → is_covered chosen x ≡ false
+    → lies r x ≡ false
 uncovered_in chosen r x i h = step (lies r x) refl
   where
     step : (b : Bool) → lies r x ≡ b → lies r x ≡ false
@@ -59,7 +61,8 @@ pub all_members : (P : Range → Type 0) (xs : List Range) → ((c : Range) → 
 all_members P [] h = tt
 all_members P (c ∷ xs) h = (h c (one_first c xs), all_members P xs (λ d i. h d (one_rest c xs d i)))
 
-pub filter_same : (p q : Range → Bool) (xs : List Range) → AllByRecursion (λ c. p c ≡ q c) xs → filter p xs ≡ filter q xs
+pub filter_same : (p q : Range → Bool) (xs : List Range) → AllByRecursion (λ c. p c ≡ q c) xs
+    → filter p xs ≡ filter q xs
 filter_same p q [] h = refl
 filter_same p q (c ∷ xs) h = ap₂ (λ b z. cond b (c ∷ z) z) h.0 (filter_same p q xs h.1)
 
@@ -68,27 +71,35 @@ pub one_passes : (q : Range → Bool) (xs : List Range) (r : Range) → IsOneOf 
 one_passes q [] r i h = absurd (one_none r i)
 one_passes q (c ∷ xs) r i h = step (one_passes q xs r) (q c) refl (one_cases c xs r i)
   where
-    step : (IsOneOf xs r → q r ≡ true → IsOneOf (filter q xs) r) → (b : Bool) → q c ≡ b → (c ≡ r) ⊎ IsOneOf xs r → IsOneOf (filter q (c ∷ xs)) r
-    step ih true e (inl is) = subst (λ b. IsOneOf (cond b (c ∷ filter q xs) (filter q xs)) r) (sym e) (subst (λ z. IsOneOf (z ∷ filter q xs) r) (sym is) (one_first r (filter q xs)))
-    step ih true e (inr j) = subst (λ b. IsOneOf (cond b (c ∷ filter q xs) (filter q xs)) r) (sym e) (one_rest c (filter q xs) r (ih j h))
+    step : (IsOneOf xs r → q r ≡ true → IsOneOf (filter q xs) r) → (b : Bool) → q c ≡ b → (c ≡ r) ⊎ IsOneOf xs r
+        → IsOneOf (filter q (c ∷ xs)) r
+    step ih true e (inl is) = subst (λ b. IsOneOf (cond b (c ∷ filter q xs) (filter q xs)) r) (sym e)
+        (subst (λ z. IsOneOf (z ∷ filter q xs) r) (sym is) (one_first r (filter q xs)))
+    step ih true e (inr j) = subst (λ b. IsOneOf (cond b (c ∷ filter q xs) (filter q xs)) r) (sym e)
+        (one_rest c (filter q xs) r (ih j h))
     step ih false e (inl is) = absurd (true≢false (sym h ∙ sym (ap q is) ∙ e))
     step ih false e (inr j) = subst (λ b. IsOneOf (cond b (c ∷ filter q xs) (filter q xs)) r) (sym e) (ih j h)
 
-pub passed_one : (q : Range → Bool) (xs : List Range) (r : Range) → IsOneOf (filter q xs) r → IsOneOf xs r × (q r ≡ true)
+pub passed_one : (q : Range → Bool) (xs : List Range) (r : Range) → IsOneOf (filter q xs) r
+    → IsOneOf xs r × (q r ≡ true)
 passed_one q [] r i = absurd (one_none r i)
 passed_one q (c ∷ xs) r i = step (passed_one q xs r) (q c) refl
   where
-    step : (IsOneOf (filter q xs) r → IsOneOf xs r × (q r ≡ true)) → (b : Bool) → q c ≡ b → IsOneOf (c ∷ xs) r × (q r ≡ true)
-    step ih true e = elim (one_cases c (filter q xs) r (subst (λ b. IsOneOf (cond b (c ∷ filter q xs) (filter q xs)) r) e i)) [
-      | inl is ↦ (subst (λ z. IsOneOf (c ∷ xs) z) is (one_first c xs), sym (ap q is) ∙ e)
-      | inr j ↦ let t = ih j in (one_rest c xs r t.0, t.1)
-    ]
+    step : (IsOneOf (filter q xs) r → IsOneOf xs r × (q r ≡ true)) → (b : Bool) → q c ≡ b
+        → IsOneOf (c ∷ xs) r × (q r ≡ true)
+    step ih true e = elim (one_cases c (filter q xs) r
+        (subst (λ b. IsOneOf (cond b (c ∷ filter q xs) (filter q xs)) r) e i)) [
+          | inl is ↦ (subst (λ z. IsOneOf (c ∷ xs) z) is (one_first c xs), sym (ap q is) ∙ e)
+          | inr j ↦ let t = ih j in (one_rest c xs r t.0, t.1)
+        ]
     step ih false e = let t = ih (subst (λ b. IsOneOf (cond b (c ∷ filter q xs) (filter q xs)) r) e i) in (one_rest c xs r t.0, t.1)
 
-pub unit_there : (q : Range → Bool) (chosen : List Range) (r : Range) → IsOneOf chosen r → q r ≡ true → IsOneOf (units_where q chosen) r.unit.n
+pub unit_there : (q : Range → Bool) (chosen : List Range) (r : Range) → IsOneOf chosen r → q r ≡ true
+    → IsOneOf (units_where q chosen) r.unit.n
 unit_there q chosen r i h = let j = one_passes q chosen r i h in record { place = j.place; stands = stands_map (λ (c : Range). c.unit.n) (filter q chosen) j.place r j.stands }
 
-pub there_passes : (q : Range → Bool) (chosen : List Range) → AreOfDifferentUnits chosen → (r : Range) → IsOneOf chosen r → IsOneOf (units_where q chosen) r.unit.n → q r ≡ true
+pub there_passes : (q : Range → Bool) (chosen : List Range) → AreOfDifferentUnits chosen → (r : Range)
+    → IsOneOf chosen r → IsOneOf (units_where q chosen) r.unit.n → q r ≡ true
 there_passes q chosen d r i j =
     let b = stands_map_back (λ (c : Range). c.unit.n) (filter q chosen) j.place r.unit.n j.stands in
     let t = passed_one q chosen b.0 (one_here (filter q chosen) j.place b.0 b.1) in
@@ -110,11 +121,13 @@ same_front : (p s t : List ℕ) → same (p ++ s) (p ++ t) ≡ same s t
 same_front [] s t = refl
 same_front (x ∷ p) s t = ap (λ b. b && same (p ++ s) (p ++ t)) (eqb-refl x) ∙ same_front p s t
 
-all_mapped : (P : Form → Type 0) (g : List ℕ → Form) (f : Family) → AllByRecursion (λ s. P (g s)) f → AllByRecursion P (map g f)
+all_mapped : (P : Form → Type 0) (g : List ℕ → Form) (f : Family) → AllByRecursion (λ s. P (g s)) f
+    → AllByRecursion P (map g f)
 all_mapped P g [] h = tt
 all_mapped P g (s ∷ f) h = (h.0, all_mapped P g f h.1)
 
-all_behind : (P : List ℕ → Type 0) (p : List ℕ) (f : Family) → AllByRecursion (λ s. P (p ++ s)) f → AllByRecursion P (behind p f)
+all_behind : (P : List ℕ → Type 0) (p : List ℕ) (f : Family) → AllByRecursion (λ s. P (p ++ s)) f
+    → AllByRecursion P (behind p f)
 all_behind P p [] h = tt
 all_behind P p (s ∷ f) h = (h.0, all_behind P p f h.1)
 
@@ -131,35 +144,48 @@ module _ (chosen : List Range) (d : AreOfDifferentUnits chosen) (taken : List �
   without_v R = map (short_form chosen) (behind taken R)
 
   all_differ : (X R : Family) (A B : List ℕ → Type 0) → AllByRecursion A X → AllByRecursion B R
-      → ((s t : List ℕ) → A s → B t → same_form (short_form chosen ((taken ++ v ∷ []) ++ s)) (short_form chosen (taken ++ t)) ≡ false)
+      → ((s t : List ℕ) → A s → B t → same_form (short_form chosen ((taken ++ v ∷ []) ++ s))
+      (short_form chosen (taken ++ t)) ≡ false)
       → AllByRecursion (λ b. is_new (with_v X) b ≡ true) (without_v R)
   all_differ X R A B ax br h =
       all_mapped (λ b. is_new (with_v X) b ≡ true) (short_form chosen) (behind taken R)
       (all_behind (λ s. is_new (with_v X) (short_form chosen s) ≡ true) taken R
-      (each_of B (λ t. is_new (with_v X) (short_form chosen (taken ++ t)) ≡ true) (λ t bt. new_from (with_v X) (short_form chosen (taken ++ t))
-      (all_mapped (λ a. same_form a (short_form chosen (taken ++ t)) ≡ false) (short_form chosen) (behind (taken ++ v ∷ []) X)
+      (each_of B (λ t. is_new (with_v X) (short_form chosen (taken ++ t)) ≡ true)
+      (λ t bt. new_from (with_v X) (short_form chosen (taken ++ t))
+      (all_mapped (λ a. same_form a (short_form chosen (taken ++ t)) ≡ false) (short_form chosen)
+      (behind (taken ++ v ∷ []) X)
       (all_behind (λ s. same_form (short_form chosen s) (short_form chosen (taken ++ t)) ≡ false) (taken ++ v ∷ []) X
-      (each_of A (λ s. same_form (short_form chosen ((taken ++ v ∷ []) ++ s)) (short_form chosen (taken ++ t)) ≡ false) (λ s a. h s t a bt) X ax)))) R br))
+      (each_of A (λ s. same_form (short_form chosen ((taken ++ v ∷ []) ++ s)) (short_form chosen (taken ++ t)) ≡ false)
+      (λ s a. h s t a bt) X ax)))) R br))
 
   -- where v is of no unit, the events tell the forms apart
-  events_with : is_covered chosen v ≡ false → (s : List ℕ) → filter (λ e. not (is_covered chosen e)) ((taken ++ v ∷ []) ++ s) ≡ filter (λ e. not (is_covered chosen e)) taken ++ (v ∷ filter (λ e. not (is_covered chosen e)) s)
+  events_with : is_covered chosen v ≡ false → (s : List ℕ)
+      → filter (λ e. not (is_covered chosen e)) ((taken ++ v ∷ []) ++ s)
+      ≡ filter (λ e. not (is_covered chosen e)) taken ++ (v ∷ filter (λ e. not (is_covered chosen e)) s)
   events_with u s =
       let q = λ (e : ℕ). not (is_covered chosen e) in
       ap (filter q) (append_assoc taken (v ∷ []) s) ∙ filter_both q taken (v ∷ s)
       ∙ ap (λ z. filter q taken ++ z) (ap (λ b. cond (not b) (v ∷ filter q s) (filter q s)) u)
 
-  pub apart_by_event : is_covered chosen v ≡ false → (X R : Family) → IsAbove v R → AllByRecursion (λ b. is_new (with_v X) b ≡ true) (without_v R)
+  pub apart_by_event : is_covered chosen v ≡ false → (X R : Family) → IsAbove v R
+      → AllByRecursion (λ b. is_new (with_v X) b ≡ true) (without_v R)
   apart_by_event u X R up = all_differ X R (λ s. Unit {0}) (IsAbove_set v) (every (λ s. Unit {0}) X (λ s. tt)) up differ
     where
-      differ : (s t : List ℕ) → Unit {0} → IsAbove_set v t → same_form (short_form chosen ((taken ++ v ∷ []) ++ s)) (short_form chosen (taken ++ t)) ≡ false
+      differ : (s t : List ℕ) → Unit {0} → IsAbove_set v t
+          → same_form (short_form chosen ((taken ++ v ∷ []) ++ s)) (short_form chosen (taken ++ t)) ≡ false
       differ s t k above =
           let q = λ (e : ℕ). not (is_covered chosen e) in
-          and_right (same (short_form chosen ((taken ++ v ∷ []) ++ s)).units (short_form chosen (taken ++ t)).units) (same (filter q ((taken ++ v ∷ []) ++ s)) (filter q (taken ++ t)))
-          (ap₂ same (events_with u s) (filter_both q taken t) ∙ same_front (filter q taken) (v ∷ filter q s) (filter q t) ∙ same-above v (filter q s) (filter q t) (all_filter (λ x. v < x) q t above))
+          and_right (same (short_form chosen ((taken ++ v ∷ []) ++ s)).units (short_form chosen (taken ++ t)).units)
+          (same (filter q ((taken ++ v ∷ []) ++ s)) (filter q (taken ++ t)))
+          (ap₂ same (events_with u s) (filter_both q taken t)
+          ∙ same_front (filter q taken) (v ∷ filter q s) (filter q t)
+          ∙ same-above v (filter q s) (filter q t) (all_filter (λ x. v < x) q t above))
 
-  pub once_uncovered : is_covered chosen v ≡ false → (lo hi : Family) → IsAbove v lo → once (map (short_form chosen) (behind taken (node v lo hi))) ≡ once (with_v hi) ++ once (without_v lo)
+  pub once_uncovered : is_covered chosen v ≡ false → (lo hi : Family) → IsAbove v lo
+      → once (map (short_form chosen) (behind taken (node v lo hi))) ≡ once (with_v hi) ++ once (without_v lo)
   once_uncovered u lo hi up =
-      ap once (ap (map (short_form chosen)) (behind_node taken v lo hi) ∙ map-append (short_form chosen) (behind (taken ++ v ∷ []) hi) (behind taken lo))
+      ap once (ap (map (short_form chosen)) (behind_node taken v lo hi)
+      ∙ map-append (short_form chosen) (behind (taken ++ v ∷ []) hi) (behind taken lo))
       ∙ once_apart (with_v hi) (without_v lo) (apart_by_event u hi lo up)
 
   -- where v is of a unit, the units tell the forms apart
@@ -169,24 +195,34 @@ module _ (chosen : List Range) (d : AreOfDifferentUnits chosen) (taken : List �
     or_true false = refl
 
     with_touches : (s : List ℕ) → touches ((taken ++ v ∷ []) ++ s) r ≡ true
-    with_touches s = ap (λ z. touches z r) (append_assoc taken (v ∷ []) s) ∙ touches_both taken (v ∷ s) r ∙ ap (λ b. touches taken r || (b || touches s r)) v_in ∙ or_true (touches taken r)
+    with_touches s = ap (λ z. touches z r) (append_assoc taken (v ∷ []) s) ∙ touches_both taken (v ∷ s) r
+        ∙ ap (λ b. touches taken r || (b || touches s r)) v_in ∙ or_true (touches taken r)
 
-    pub apart_by_unit : touches taken r ≡ false → (X R : Family) → AllByRecursion (AtLeast r.to) R → AllByRecursion (λ b. is_new (with_v X) b ≡ true) (without_v R)
-    apart_by_unit none X R high = all_differ X R (λ s. Unit {0}) (AtLeast r.to) (every (λ s. Unit {0}) X (λ s. tt)) high differ
+    pub apart_by_unit : touches taken r ≡ false → (X R : Family) → AllByRecursion (AtLeast r.to) R
+        → AllByRecursion (λ b. is_new (with_v X) b ≡ true) (without_v R)
+    apart_by_unit none X R high = all_differ X R (λ s. Unit {0}) (AtLeast r.to) (every (λ s. Unit {0}) X (λ s. tt)) high
+        differ
       where
         untouched : (t : List ℕ) → AtLeast r.to t → touches (taken ++ t) r ≡ false
         untouched t h = touches_both taken t r ∙ ap₂ (λ a b. a || b) none (touches_high t r h)
 
-        differ : (s t : List ℕ) → Unit {0} → AtLeast r.to t → same_form (short_form chosen ((taken ++ v ∷ []) ++ s)) (short_form chosen (taken ++ t)) ≡ false
-        differ s t k h = and_left (same (short_form chosen ((taken ++ v ∷ []) ++ s)).units (short_form chosen (taken ++ t)).units) (same (short_form chosen ((taken ++ v ∷ []) ++ s)).events (short_form chosen (taken ++ t)).events)
+        differ : (s t : List ℕ) → Unit {0} → AtLeast r.to t
+            → same_form (short_form chosen ((taken ++ v ∷ []) ++ s)) (short_form chosen (taken ++ t)) ≡ false
+        differ s t k h = and_left (same (short_form chosen ((taken ++ v ∷ []) ++ s)).units
+            (short_form chosen (taken ++ t)).units)
+            (same (short_form chosen ((taken ++ v ∷ []) ++ s)).events (short_form chosen (taken ++ t)).events)
             (step (same (short_form chosen ((taken ++ v ∷ []) ++ s)).units (short_form chosen (taken ++ t)).units) refl)
           where
-            step : (b : Bool) → same (short_form chosen ((taken ++ v ∷ []) ++ s)).units (short_form chosen (taken ++ t)).units ≡ b → same (short_form chosen ((taken ++ v ∷ []) ++ s)).units (short_form chosen (taken ++ t)).units ≡ false
+            step : (b : Bool) → same (short_form chosen ((taken ++ v ∷ []) ++ s)).units
+                (short_form chosen (taken ++ t)).units ≡ b
+                → same (short_form chosen ((taken ++ v ∷ []) ++ s)).units (short_form chosen (taken ++ t)).units ≡ false
             step false e = e
             step true e =
-                let is = same-true (short_form chosen ((taken ++ v ∷ []) ++ s)).units (short_form chosen (taken ++ t)).units e in
+                let is = same-true (short_form chosen ((taken ++ v ∷ []) ++ s)).units
+                (short_form chosen (taken ++ t)).units e in
                 let there = unit_there (touches ((taken ++ v ∷ []) ++ s)) chosen r i (with_touches s) in
-                absurd (true≢false (sym (there_passes (touches (taken ++ t)) chosen d r i (subst (λ z. IsOneOf z r.unit.n) is there)) ∙ untouched t h))
+                absurd (true≢false (sym (there_passes (touches (taken ++ t)) chosen d r i
+                (subst (λ z. IsOneOf z r.unit.n) is there)) ∙ untouched t h))
 
     -- a nonempty set of the unit's events gives the form that v gives
     touched_alike : (a : List ℕ) → a ≢ [] → AllIn r a → (c : Range) → IsOneOf chosen c → touches a c ≡ lies c v
@@ -208,65 +244,90 @@ module _ (chosen : List Range) (d : AreOfDifferentUnits chosen) (taken : List �
     or_more false true c = refl
     or_more false false c = refl
 
-    units_alike : (a q : List ℕ) → a ≢ [] → AllIn r a → units_where (touches (taken ++ (a ++ q))) chosen ≡ units_where (touches ((taken ++ v ∷ []) ++ q)) chosen
-    units_alike a q n h = ap (map (λ (c : Range). c.unit.n)) (filter_same (touches (taken ++ (a ++ q))) (touches ((taken ++ v ∷ []) ++ q)) chosen (all_members (λ c. touches (taken ++ (a ++ q)) c ≡ touches ((taken ++ v ∷ []) ++ q) c) chosen each))
+    units_alike : (a q : List ℕ) → a ≢ [] → AllIn r a
+        → units_where (touches (taken ++ (a ++ q))) chosen ≡ units_where (touches ((taken ++ v ∷ []) ++ q)) chosen
+    units_alike a q n h = ap (map (λ (c : Range). c.unit.n))
+        (filter_same (touches (taken ++ (a ++ q))) (touches ((taken ++ v ∷ []) ++ q)) chosen
+        (all_members (λ c. touches (taken ++ (a ++ q)) c ≡ touches ((taken ++ v ∷ []) ++ q) c) chosen each))
       where
         each : (c : Range) → IsOneOf chosen c → touches (taken ++ (a ++ q)) c ≡ touches ((taken ++ v ∷ []) ++ q) c
         each c j =
-            touches_both taken (a ++ q) c ∙ ap (λ z. touches taken c || z) (touches_both a q c ∙ ap (λ z. z || touches q c) (touched_alike a n h c j))
+            touches_both taken (a ++ q) c ∙ ap (λ z. touches taken c || z)
+            (touches_both a q c ∙ ap (λ z. z || touches q c) (touched_alike a n h c j))
             ∙ or_more (touches taken c) (lies c v) (touches q c)
             ∙ sym (touches_both (taken ++ v ∷ []) q c ∙ ap (λ z. z || touches q c) (touches_both taken (v ∷ []) c))
 
-    events_alike : (a q : List ℕ) → AllIn r a → filter (λ e. not (is_covered chosen e)) (taken ++ (a ++ q)) ≡ filter (λ e. not (is_covered chosen e)) ((taken ++ v ∷ []) ++ q)
+    events_alike : (a q : List ℕ) → AllIn r a
+        → filter (λ e. not (is_covered chosen e)) (taken ++ (a ++ q))
+        ≡ filter (λ e. not (is_covered chosen e)) ((taken ++ v ∷ []) ++ q)
     events_alike a q h =
         let g = λ (e : ℕ). not (is_covered chosen e) in
-        let gone = λ (s : List ℕ) (k : AllIn r s). filter_none g s (all_weaker (λ x. lies r x ≡ true) (λ x. g x ≡ false) (λ x e. ap not (covered_in chosen r x i e)) s k) in
-        filter_both g taken (a ++ q) ∙ ap (λ z. filter g taken ++ z) (filter_both g a q ∙ ap (λ z. z ++ filter g q) (gone a h))
-        ∙ sym (ap (filter g) (append_assoc taken (v ∷ []) q) ∙ filter_both g taken (v ∷ q) ∙ ap (λ z. filter g taken ++ z) (filter_both g (v ∷ []) q ∙ ap (λ z. z ++ filter g q) (gone (v ∷ []) (v_in, tt))))
+        let gone = λ (s : List ℕ) (k : AllIn r s). filter_none g s
+        (all_weaker (λ x. lies r x ≡ true) (λ x. g x ≡ false) (λ x e. ap not (covered_in chosen r x i e)) s
+        k) in
+        filter_both g taken (a ++ q) ∙ ap (λ z. filter g taken ++ z)
+        (filter_both g a q ∙ ap (λ z. z ++ filter g q) (gone a h))
+        ∙ sym (ap (filter g) (append_assoc taken (v ∷ []) q) ∙ filter_both g taken (v ∷ q)
+        ∙ ap (λ z. filter g taken ++ z) (filter_both g (v ∷ []) q
+        ∙ ap (λ z. z ++ filter g q) (gone (v ∷ []) (v_in, tt))))
 
-    form_alike : (a q : List ℕ) → a ≢ [] → AllIn r a → short_form chosen (taken ++ (a ++ q)) ≡ short_form chosen ((taken ++ v ∷ []) ++ q)
+    form_alike : (a q : List ℕ) → a ≢ [] → AllIn r a
+        → short_form chosen (taken ++ (a ++ q)) ≡ short_form chosen ((taken ++ v ∷ []) ++ q)
     form_alike a q n h = ap₂ (λ u e. form u e) (units_alike a q n h) (events_alike a q h)
       where
         form : List ℕ → List ℕ → Form
         form u e = record { units = u; events = e }
 
-    part_forms : (a : List ℕ) (X : Family) → a ≢ [] → AllIn r a → map (short_form chosen) (behind taken (behind a X)) ≡ with_v X
+    part_forms : (a : List ℕ) (X : Family) → a ≢ [] → AllIn r a
+        → map (short_form chosen) (behind taken (behind a X)) ≡ with_v X
     part_forms a [] n h = refl
     part_forms a (q ∷ X) n h = ap₂ (λ x y. x ∷ y) (form_alike a q n h) (part_forms a X n h)
 
     pub forms_repeated : (X R heads : Family) → AllByRecursion (λ a. AllIn r a × (a ≢ [])) heads
-        → map (short_form chosen) (behind taken (flat_map (λ a. behind a X) heads ++ R)) ≡ repeated (length heads) (with_v X) (without_v R)
+        → map (short_form chosen) (behind taken (flat_map (λ a. behind a X) heads ++ R))
+        ≡ repeated (length heads) (with_v X) (without_v R)
     forms_repeated X R [] h = refl
     forms_repeated X R (a ∷ heads) h =
-        ap (λ z. map (short_form chosen) (behind taken z)) (append_assoc (behind a X) (flat_map (λ a. behind a X) heads) R)
-        ∙ ap (map (short_form chosen)) (map-append (λ t. taken ++ t) (behind a X) (flat_map (λ a. behind a X) heads ++ R))
-        ∙ map-append (short_form chosen) (behind taken (behind a X)) (behind taken (flat_map (λ a. behind a X) heads ++ R))
+        ap (λ z. map (short_form chosen) (behind taken z))
+        (append_assoc (behind a X) (flat_map (λ a. behind a X) heads) R)
+        ∙ ap (map (short_form chosen)) (map-append (λ t. taken ++ t) (behind a X)
+        (flat_map (λ a. behind a X) heads ++ R))
+        ∙ map-append (short_form chosen) (behind taken (behind a X))
+        (behind taken (flat_map (λ a. behind a X) heads ++ R))
         ∙ ap₂ (λ x y. x ++ y) (part_forms a X h.0.1 h.0.0) (forms_repeated X R heads h.1)
 
-    pub once_covered : touches taken r ≡ false → (X R heads : Family) → heads ≢ [] → AllByRecursion (λ a. AllIn r a × (a ≢ [])) heads → AllByRecursion (AtLeast r.to) R
-        → once (map (short_form chosen) (behind taken (flat_map (λ a. behind a X) heads ++ R))) ≡ once (with_v X) ++ once (without_v R)
+    pub once_covered : touches taken r ≡ false → (X R heads : Family) → heads ≢ []
+        → AllByRecursion (λ a. AllIn r a × (a ≢ [])) heads → AllByRecursion (AtLeast r.to) R
+        → once (map (short_form chosen) (behind taken (flat_map (λ a. behind a X) heads ++ R)))
+        ≡ once (with_v X) ++ once (without_v R)
     once_covered none X R [] some h high = absurd (some refl)
-    once_covered none X R (a ∷ heads) some h high = ap once (forms_repeated X R (a ∷ heads) h) ∙ once_repeated (length heads) (with_v X) (without_v R) (apart_by_unit none X R high)
+    once_covered none X R (a ∷ heads) some h high =
+        ap once (forms_repeated X R (a ∷ heads) h)
+        ∙ once_repeated (length heads) (with_v X) (without_v R) (apart_by_unit none X R high)
 
 -- an event of the range stands among these
-pub touched_at : (r : Range) (xs : List EventId) (k : ℕ) (d : EventId) → k < length xs → lies r (get_or xs k d).n ≡ true → touches (numbers xs) r ≡ true
+pub touched_at : (r : Range) (xs : List EventId) (k : ℕ) (d : EventId) → k < length xs → lies r (get_or xs k d).n ≡ true
+    → touches (numbers xs) r ≡ true
 touched_at r [] k d l h = absurd (omega (arith, l))
 touched_at r (x ∷ xs) zero d l h = ap (λ b. b || touches (numbers xs) r) h
-touched_at r (x ∷ xs) (suc k) d l h = ap (λ b. lies r x.n || b) (touched_at r xs k d (omega (arith, l)) h) ∙ or_true (lies r x.n)
+touched_at r (x ∷ xs) (suc k) d l h =
+    ap (λ b. lies r x.n || b) (touched_at r xs k d (omega (arith, l)) h) ∙ or_true (lies r x.n)
   where
     or_true : (b : Bool) → (b || true) ≡ true
     or_true true = refl
     or_true false = refl
 
 -- the forms of a leaf
-pub leaf_forms : (chosen : List Range) (taken : List ℕ) (s : Stored) (n : ℕ) (old new : List Form) → n < 2 → (n ≡ 0 → new ≡ old) → (n ≡ 1 → new ≡ old ++ short_form chosen taken ∷ [])
+pub leaf_forms : (chosen : List Range) (taken : List ℕ) (s : Stored) (n : ℕ) (old new : List Form) → n < 2
+    → (n ≡ 0 → new ≡ old) → (n ≡ 1 → new ≡ old ++ short_form chosen taken ∷ [])
     → new ≡ old ++ once (map (short_form chosen) (behind taken (family s n)))
 leaf_forms chosen taken s zero old new l none one = none refl ∙ sym (append_nil old)
   where
     append_nil : (xs : List Form) → xs ++ [] ≡ xs
     append_nil [] = refl
     append_nil (x ∷ xs) = ap (λ z. x ∷ z) (append_nil xs)
-leaf_forms chosen taken s (suc zero) old new l none one = one refl ∙ ap (λ z. old ++ short_form chosen z ∷ []) (sym (append_nil taken))
+leaf_forms chosen taken s (suc zero) old new l none one =
+    one refl ∙ ap (λ z. old ++ short_form chosen z ∷ []) (sym (append_nil taken))
   where
     append_nil : (xs : List ℕ) → xs ++ [] ≡ xs
     append_nil [] = refl

@@ -13,16 +13,20 @@ is_new xs b = not (list_any (λ a. same_form a b) xs)
 form_refl : (a : Form) → same_form a a ≡ true
 form_refl a = ap₂ (λ p q. p && q) (same-refl a.units) (same-refl a.events)
 
-filter_twice : (p q r : Form → Bool) → ((a : Form) → r a ≡ (q a && p a)) → (xs : List Form) → filter p (filter q xs) ≡ filter r xs
+filter_twice : (p q r : Form → Bool) → ((a : Form) → r a ≡ (q a && p a)) → (xs : List Form)
+    → filter p (filter q xs) ≡ filter r xs
 filter_twice p q r h [] = refl
 filter_twice p q r h (a ∷ xs) = step (filter_twice p q r h xs) (q a) refl (p a) refl
   where
-    step : filter p (filter q xs) ≡ filter r xs → (b : Bool) → q a ≡ b → (d : Bool) → p a ≡ d → filter p (filter q (a ∷ xs)) ≡ filter r (a ∷ xs)
+    step : filter p (filter q xs) ≡ filter r xs → (b : Bool) → q a ≡ b → (d : Bool) → p a ≡ d
+        → filter p (filter q (a ∷ xs)) ≡ filter r (a ∷ xs)
     step ih true e true k =
-        ap (λ b. filter p (cond b (a ∷ filter q xs) (filter q xs))) e ∙ ap (λ b. cond b (a ∷ filter p (filter q xs)) (filter p (filter q xs))) k ∙ ap (λ z. a ∷ z) ih
+        ap (λ b. filter p (cond b (a ∷ filter q xs) (filter q xs))) e
+        ∙ ap (λ b. cond b (a ∷ filter p (filter q xs)) (filter p (filter q xs))) k ∙ ap (λ z. a ∷ z) ih
         ∙ sym (ap (λ b. cond b (a ∷ filter r xs) (filter r xs)) (h a ∙ ap₂ (λ x y. x && y) e k))
     step ih true e false k =
-        ap (λ b. filter p (cond b (a ∷ filter q xs) (filter q xs))) e ∙ ap (λ b. cond b (a ∷ filter p (filter q xs)) (filter p (filter q xs))) k ∙ ih
+        ap (λ b. filter p (cond b (a ∷ filter q xs) (filter q xs))) e
+        ∙ ap (λ b. cond b (a ∷ filter p (filter q xs)) (filter p (filter q xs))) k ∙ ih
         ∙ sym (ap (λ b. cond b (a ∷ filter r xs) (filter r xs)) (h a ∙ ap₂ (λ x y. x && y) e k))
     step ih false e d k =
         ap (λ b. filter p (cond b (a ∷ filter q xs) (filter q xs))) e ∙ ih
@@ -30,15 +34,18 @@ filter_twice p q r h (a ∷ xs) = step (filter_twice p q r h xs) (q a) refl (p a
 
 pub filter_all_forms : (p : Form → Bool) (xs : List Form) → AllByRecursion (λ a. p a ≡ true) xs → filter p xs ≡ xs
 filter_all_forms p [] h = refl
-filter_all_forms p (a ∷ xs) h = ap (λ b. cond b (a ∷ filter p xs) (filter p xs)) h.0 ∙ ap (λ z. a ∷ z) (filter_all_forms p xs h.1)
+filter_all_forms p (a ∷ xs) h = ap (λ b. cond b (a ∷ filter p xs) (filter p xs)) h.0
+    ∙ ap (λ z. a ∷ z) (filter_all_forms p xs h.1)
 
 pub filter_no_forms : (p : Form → Bool) (xs : List Form) → AllByRecursion (λ a. p a ≡ false) xs → filter p xs ≡ []
 filter_no_forms p [] h = refl
 filter_no_forms p (a ∷ xs) h = ap (λ b. cond b (a ∷ filter p xs) (filter p xs)) h.0 ∙ filter_no_forms p xs h.1
 
-forms_kept : (P : Form → Type 0) (q : Form → Bool) (xs : List Form) → AllByRecursion P xs → AllByRecursion P (filter q xs)
+forms_kept : (P : Form → Type 0) (q : Form → Bool) (xs : List Form) → AllByRecursion P xs
+    → AllByRecursion P (filter q xs)
 forms_kept P q [] h = tt
-forms_kept P q (a ∷ xs) h = elim (q a) as (λ b. AllByRecursion P (cond b (a ∷ filter q xs) (filter q xs))) [ true ↦ (h.0, forms_kept P q xs h.1) | false ↦ forms_kept P q xs h.1 ]
+forms_kept P q (a ∷ xs) h = elim (q a) as (λ b. AllByRecursion P (cond b (a ∷ filter q xs) (filter q xs)))
+    [ true ↦ (h.0, forms_kept P q xs h.1) | false ↦ forms_kept P q xs h.1 ]
 
 pub all_once : (P : Form → Type 0) (xs : List Form) → AllByRecursion P xs → AllByRecursion P (once xs)
 all_once P [] h = tt
@@ -54,11 +61,15 @@ once_append [] ys = sym (filter_all_forms (is_new []) (once ys) (every (once ys)
 once_append (a ∷ xs) ys =
     ap (λ z. a ∷ filter (λ b. not (same_form a b)) z) (once_append xs ys)
     ∙ ap (λ z. a ∷ z) (filter-append (λ b. not (same_form a b)) (once xs) (filter (is_new xs) (once ys))
-    ∙ ap (λ z. filter (λ b. not (same_form a b)) (once xs) ++ z) (filter_twice (λ b. not (same_form a b)) (is_new xs) (is_new (a ∷ xs)) (λ b. not-or (same_form a b) (list_any (λ c. same_form c b) xs)) (once ys)))
+    ∙ ap (λ z. filter (λ b. not (same_form a b)) (once xs) ++ z)
+    (filter_twice (λ b. not (same_form a b)) (is_new xs) (is_new (a ∷ xs))
+    (λ b. not-or (same_form a b) (list_any (λ c. same_form c b) xs)) (once ys)))
 
 -- forms that differ
-pub once_apart : (xs ys : List Form) → AllByRecursion (λ b. is_new xs b ≡ true) ys → once (xs ++ ys) ≡ once xs ++ once ys
-once_apart xs ys h = once_append xs ys ∙ ap (λ z. once xs ++ z) (filter_all_forms (is_new xs) (once ys) (all_once (λ b. is_new xs b ≡ true) ys h))
+pub once_apart : (xs ys : List Form) → AllByRecursion (λ b. is_new xs b ≡ true) ys
+    → once (xs ++ ys) ≡ once xs ++ once ys
+once_apart xs ys h = once_append xs ys
+    ∙ ap (λ z. once xs ++ z) (filter_all_forms (is_new xs) (once ys) (all_once (λ b. is_new xs b ≡ true) ys h))
 
 each_known : (xs : List Form) → AllByRecursion (λ b. is_new xs b ≡ false) xs
 each_known xs = known xs xs (λ b h. h)
@@ -66,26 +77,35 @@ each_known xs = known xs xs (λ b h. h)
     any_here : (a : Form) (ys : List Form) → list_any (λ c. same_form c a) (a ∷ ys) ≡ true
     any_here a ys = ap (λ z. z || list_any (λ c. same_form c a) ys) (form_refl a)
 
-    known : (xs ys : List Form) → ((b : Form) → list_any (λ c. same_form c b) ys ≡ true → list_any (λ c. same_form c b) xs ≡ true) → AllByRecursion (λ b. is_new xs b ≡ false) ys
+    known : (xs ys : List Form) → ((b : Form) → list_any (λ c. same_form c b) ys ≡ true
+        → list_any (λ c. same_form c b) xs ≡ true) → AllByRecursion (λ b. is_new xs b ≡ false) ys
     known xs [] h = tt
-    known xs (a ∷ ys) h = (ap not (h a (any_here a ys)), known xs ys (λ b k. h b (ap (λ z. same_form a b || z) k ∙ or-true (same_form a b))))
+    known xs (a ∷ ys) h = (
+      ap not (h a (any_here a ys)),
+      known xs ys
+          (λ b k. h b (ap (λ z. same_form a b || z) k ∙ or-true (same_form a b))),
+    )
 
 -- the list k times and then some more
 abbrev pub repeated : ℕ → List Form → List Form → List Form
 repeated zero xs ys = ys
 repeated (suc k) xs ys = xs ++ repeated k xs ys
 
-new_of_repeated : (k : ℕ) (xs ys : List Form) → AllByRecursion (λ b. is_new xs b ≡ true) ys → filter (is_new xs) (once (repeated k xs ys)) ≡ once ys
+new_of_repeated : (k : ℕ) (xs ys : List Form) → AllByRecursion (λ b. is_new xs b ≡ true) ys
+    → filter (is_new xs) (once (repeated k xs ys)) ≡ once ys
 new_of_repeated zero xs ys h = filter_all_forms (is_new xs) (once ys) (all_once (λ b. is_new xs b ≡ true) ys h)
 new_of_repeated (suc k) xs ys h =
     ap (filter (is_new xs)) (once_append xs (repeated k xs ys))
     ∙ filter-append (is_new xs) (once xs) (filter (is_new xs) (once (repeated k xs ys)))
-    ∙ ap₂ (λ a b. a ++ b) (filter_no_forms (is_new xs) (once xs) (all_once (λ b. is_new xs b ≡ false) xs (each_known xs)))
-    (filter_twice (is_new xs) (is_new xs) (is_new xs) (λ b. idem (is_new xs b)) (once (repeated k xs ys)) ∙ new_of_repeated k xs ys h)
+    ∙ ap₂ (λ a b. a ++ b) (filter_no_forms (is_new xs) (once xs)
+    (all_once (λ b. is_new xs b ≡ false) xs (each_known xs)))
+    (filter_twice (is_new xs) (is_new xs) (is_new xs) (λ b. idem (is_new xs b)) (once (repeated k xs ys))
+    ∙ new_of_repeated k xs ys h)
   where
     idem : (a : Bool) → a ≡ (a && a)
     idem true = refl
     idem false = refl
 
-pub once_repeated : (k : ℕ) (xs ys : List Form) → AllByRecursion (λ b. is_new xs b ≡ true) ys → once (repeated (suc k) xs ys) ≡ once xs ++ once ys
+pub once_repeated : (k : ℕ) (xs ys : List Form) → AllByRecursion (λ b. is_new xs b ≡ true) ys
+    → once (repeated (suc k) xs ys) ≡ once xs ++ once ys
 once_repeated k xs ys h = once_append xs (repeated k xs ys) ∙ ap (λ z. once xs ++ z) (new_of_repeated k xs ys h)

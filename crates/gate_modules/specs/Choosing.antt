@@ -17,14 +17,18 @@ pub record IsWithin (chosen : List Range) (r : Range) : Type 0 where
 pub record IsWithinNone (chosen : List Range) (r : Range) : Type 0 where
   pub none : (c : Range) → IsOneOf chosen c → Covers c r → ⊥
 
--- a range is considered behind those that are chosen: it lies within one of them, or it is no module, or it comes last with its parts
-pub data Considers (f : Family) (r : Range) (old : List Range) (old_modules : List UnitSets) : List Range → List UnitSets → Type 0 where
+-- a range is considered behind those that are chosen: it lies within one of them, or it is no module, or it comes last
+-- with its parts
+pub data Considers (f : Family) (r : Range) (old : List Range) (old_modules : List UnitSets) : List Range
+    → List UnitSets → Type 0 where
   within : IsWithin old r → Considers f r old old_modules old old_modules
   no_module : (IsModule f r → ⊥) → Considers f r old old_modules old old_modules
-  is_new : {new : List Range} {modules : List UnitSets} (m : UnitSets) → IsWithinNone old r → IsModuleWith f r m.sets → m.unit ≡ r.unit.n → new ≡ old ++ r ∷ [] → modules ≡ old_modules ++ m ∷ []
+  is_new : {new : List Range} {modules : List UnitSets} (m : UnitSets) → IsWithinNone old r → IsModuleWith f r m.sets
+      → m.unit ≡ r.unit.n → new ≡ old ++ r ∷ [] → modules ≡ old_modules ++ m ∷ []
       → Considers f r old old_modules new modules
 
--- of the ranges that were considered these are chosen, with these parts, and each other module among them lies within a chosen one
+-- of the ranges that were considered these are chosen, with these parts, and each other module among them lies within a
+-- chosen one
 pub record AreChosenSoFar (f : Family) (ranges done chosen : List Range) (modules : List UnitSets) : Type 0 where
   pub from_done : (c : Range) → IsOneOf chosen c → IsOneOf done c
   pub sound : (c : Range) → IsOneOf chosen c → IsChosen f ranges c

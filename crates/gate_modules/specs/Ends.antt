@@ -5,9 +5,11 @@ use Rattle.zdd_families.specs.Sections.{section}
 
 -- below the bound both families have these events: the first goes on as X, and the second as Y; or both lack them
 abbrev pub Alike : ℕ → Family → Family → Family → Family → List ℕ → Type 0
-Alike b f g X Y taken = ((section b taken f ≡ []) × (section b taken g ≡ [])) ⊎ ((section b taken f ≡ X) × (section b taken g ≡ Y))
+Alike b f g X Y taken = ((section b taken f ≡ []) × (section b taken g ≡ []))
+    ⊎ ((section b taken f ≡ X) × (section b taken g ≡ Y))
 
--- both families have the same sets of events below the bound, and after each of them the first goes on as X and the second as Y
+-- both families have the same sets of events below the bound, and after each of them the first goes on as X and the
+-- second as Y
 pub record Agree (b : ℕ) (f g X Y : Family) : Type 0 where
   pub each : (taken : List ℕ) → Alike b f g X Y taken
 

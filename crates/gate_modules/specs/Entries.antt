@@ -14,7 +14,8 @@ node_numbers nodes = map (λ (n : NodeId). n.n) nodes
 
 -- each section of the family at the number is empty or one of the entries
 abbrev pub IsCovered : Stored → ℕ → List ℕ → Family → Type 0
-IsCovered s from entries f = (p : List ℕ) → (section from p f ≡ []) ⊎ ((e : ℕ) × IsOneOf entries e × (section from p f ≡ family s e))
+IsCovered s from entries f = (p : List ℕ)
+    → (section from p f ≡ []) ⊎ ((e : ℕ) × IsOneOf entries e × (section from p f ≡ family s e))
 
 -- the sections of what was seen are covered
 pub record AreSeen (s : Stored) (from : ℕ) (seen : List Bool) (entries : List ℕ) : Type 0 where

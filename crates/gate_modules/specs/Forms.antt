@@ -19,7 +19,8 @@ pub record AreOfDifferentUnits (chosen : List Range) : Type 0 where
 
 -- whatever the sets of the family have below the range, they go on alike after each nonempty set of its events
 pub record GoesOnAlike (r : Range) (f : Family) : Type 0 where
-  pub alike : (p a b : List ℕ) → a ≢ [] → b ≢ [] → section r.to a (section r.from p f) ≢ [] → section r.to b (section r.from p f) ≢ []
+  pub alike : (p a b : List ℕ) → a ≢ [] → b ≢ [] → section r.to a (section r.from p f) ≢ []
+      → section r.to b (section r.from p f) ≢ []
       → section r.to a (section r.from p f) ≡ section r.to b (section r.from p f)
 
 -- the family goes on alike for each unit, and it has passed those of which events were taken

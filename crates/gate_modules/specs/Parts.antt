@@ -17,7 +17,8 @@ pub record AreSomeHeads (b : ℕ) (f heads : Family) : Type 0 where
   pub sound : (a : List ℕ) → has heads a ≡ true → (a ≢ []) × (section b a f ≢ [])
   pub whole : (a : List ℕ) → a ≢ [] → section b a f ≢ [] → has heads a ≡ true
 
--- the sets of events below the bound that sets of number n begin with were added, behind the events that were taken before
+-- the sets of events below the bound that sets of number n begin with were added, behind the events that were taken
+-- before
 pub record AddsHeads (s : Stored) (b n : ℕ) (taken : List ℕ) (old new : Family) : Type 0 where
   pub heads : Family
   pub are_heads : AreHeads b (family s n) heads

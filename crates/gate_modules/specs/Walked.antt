@@ -22,7 +22,8 @@ pub record HasBelow (s : Stored) (to n event lo hi : ℕ) : Type 0 where
 
 -- each of the table's entries tells of two families that agree; its number 0 stands for no entry
 pub record AreTwins (s : Stored) (twins : List Twin) : Type 0 where
-  pub each : (k : ℕ) (t : Twin) → Stands twins k t → 0 < t.node.n → Agree t.to (family s k) (family s t.node.n) (family s t.end.n) (family s t.node_end.n)
+  pub each : (k : ℕ) (t : Twin) → Stands twins k t → 0 < t.node.n
+      → Agree t.to (family s k) (family s t.node.n) (family s t.end.n) (family s t.node_end.n)
 
 -- the families of these numbers agree as asked
 abbrev pub Agrees : Stored → Question → ℕ → ℕ → Type 0

@@ -30,30 +30,39 @@ use Rattle.gts_core.proofs.KindsRenamed.{kind_renamed}
 
 module _ (p : GtsParts) where
   -- a typed expression over plain numbers has its kind
-  pub typed_kind : (e : Expr VarId) (k : ValueKind) → IsTyped p e k → HasKind (kind_by_number p) (out-Expr ℕ (numbered e)) k
-  typed_kind e k t = kind_renamed VarId ℕ (kind_at p) (kind_by_number p) IsNumber (λ x n i. ap (kind_by_number p) i) t.typed (renames_numbered e)
+  pub typed_kind : (e : Expr VarId) (k : ValueKind) → IsTyped p e k
+      → HasKind (kind_by_number p) (out-Expr ℕ (numbered e)) k
+  typed_kind e k t = kind_renamed VarId ℕ (kind_at p) (kind_by_number p) IsNumber (λ x n i. ap (kind_by_number p) i)
+      t.typed (renames_numbered e)
 
   -- and names variables of the system
-  typed_inside : (e : Expr VarId) (k : ValueKind) → IsTyped p e k → (n : ℕ) → Mentions n (out-Expr ℕ (numbered e)) → n < length p.variables.items
+  typed_inside : (e : Expr VarId) (k : ValueKind) → IsTyped p e k → (n : ℕ) → Mentions n (out-Expr ℕ (numbered e))
+      → n < length p.variables.items
   typed_inside e k t n m =
       let r = mentions_carry (turned IsNumber) n m (renames_turned IsNumber (renames_numbered e)) in
       subst (λ (z : ℕ). z < length p.variables.items) r.related (t.variables r.other r.stands)
 
-  conditions_typed : (when : List (Expr VarId × Bool)) → ((c : Expr VarId × Bool) → IsOneOf when c → IsTyped p c.0 kind.Truth)
+  conditions_typed : (when : List (Expr VarId × Bool))
+      → ((c : Expr VarId × Bool) → IsOneOf when c → IsTyped p c.0 kind.Truth)
       → (d : Expr ℕ × Bool) → IsOneOf (map condition_of when) d → HasKind (kind_by_number p) (out-Expr ℕ d.0) kind.Truth
   conditions_typed when each d h =
       let r = stands_map_back condition_of when h.place d h.stands in
-      subst (λ (z : Expr ℕ × Bool). HasKind (kind_by_number p) (out-Expr ℕ z.0) kind.Truth) r.2 (typed_kind r.0.0 kind.Truth (each r.0 (one_here when h.place r.0 r.1)))
+      subst (λ (z : Expr ℕ × Bool). HasKind (kind_by_number p) (out-Expr ℕ z.0) kind.Truth) r.2
+      (typed_kind r.0.0 kind.Truth (each r.0 (one_here when h.place r.0 r.1)))
 
-  conditions_inside : (when : List (Expr VarId × Bool)) → ((c : Expr VarId × Bool) → IsOneOf when c → IsTyped p c.0 kind.Truth)
-      → (n : ℕ) (d : Expr ℕ × Bool) → IsOneOf (map condition_of when) d → Mentions n (out-Expr ℕ d.0) → n < length p.variables.items
+  conditions_inside : (when : List (Expr VarId × Bool))
+      → ((c : Expr VarId × Bool) → IsOneOf when c → IsTyped p c.0 kind.Truth)
+      → (n : ℕ) (d : Expr ℕ × Bool) → IsOneOf (map condition_of when) d → Mentions n (out-Expr ℕ d.0)
+      → n < length p.variables.items
   conditions_inside when each n d h m =
       let r = stands_map_back condition_of when h.place d h.stands in
-      typed_inside r.0.0 kind.Truth (each r.0 (one_here when h.place r.0 r.1)) n (subst (λ (z : Expr ℕ × Bool). Mentions n (out-Expr ℕ z.0)) (sym r.2) m)
+      typed_inside r.0.0 kind.Truth (each r.0 (one_here when h.place r.0 r.1)) n
+      (subst (λ (z : Expr ℕ × Bool). Mentions n (out-Expr ℕ z.0)) (sym r.2) m)
 
   assign_typed : (a : Assign) → IsAssignTo p false a → IsTypedAssign (kind_by_number p) (assign_of a)
   assign_typed a t = record {
-    value = subst (λ (k : ValueKind). HasKind (kind_by_number p) (out-Expr ℕ (numbered a.value)) k) (sym (ap kind_of_found t.stands)) (typed_kind a.value (kind_of_domain t.variable.domain) t.value);
+    value = subst (λ (k : ValueKind). HasKind (kind_by_number p) (out-Expr ℕ (numbered a.value)) k)
+        (sym (ap kind_of_found t.stands)) (typed_kind a.value (kind_of_domain t.variable.domain) t.value);
     conditions = conditions_typed a.when.items t.conditions;
   }
 
@@ -75,7 +84,8 @@ module _ (p : GtsParts) where
   assign_inside a t n (inr m) = let r = tests_one n (map condition_of a.when.items) m in conditions_inside a.when.items t.conditions n r.0 r.1 r.2
 
   module _ (sound : IsSound p) where
-    assign_back : (a : s.Assign ℕ) → IsOneOf (net_of p).assertions a → (b : Assign) × IsAssignTo p false b × (assign_of b ≡ a)
+    assign_back : (a : s.Assign ℕ) → IsOneOf (net_of p).assertions a
+        → (b : Assign) × IsAssignTo p false b × (assign_of b ≡ a)
     assign_back a h =
         let r = stands_map_back assign_of p.assigns.items h.place a h.stands in
         (r.0, sound.assertions r.0 (one_here p.assigns.items h.place r.0 r.1), r.2)
@@ -83,14 +93,17 @@ module _ (p : GtsParts) where
     begins : (x : s.Variable ℕ) → IsOneOf (net_of p).variables x → Contains x.domain x.value
     begins x h =
         let r = variable_back p h.place x h.stands in
-        subst (λ (z : s.Variable ℕ). Contains z.domain z.value) r.2 (listed r.0.domain r.0.value (sound.variables h.place r.0 r.1).value)
+        subst (λ (z : s.Variable ℕ). Contains z.domain z.value) r.2
+        (listed r.0.domain r.0.value (sound.variables h.place r.0 r.1).value)
 
     of_kind : (n : ℕ) (v : Value) → Allows (net_of p) n v → kind_of v ≡ kind_by_number p n
     of_kind n v h =
         let r = variable_back p h.place h.variable h.stands in
         let same : h.place ≡ n = ap (λ (z : s.Variable ℕ). z.key) r.2 ∙ h.is_key in
-        let has : Contains (values_of r.0.domain) v = subst (λ (z : s.Variable ℕ). Contains z.domain v) (sym r.2) h.has in
-        kind_of_held r.0.domain v (held r.0.domain v (sound.variables h.place r.0 r.1).domain has) ∙ sym (ap kind_of_found r.1) ∙ ap (kind_by_number p) same
+        let has : Contains (values_of r.0.domain) v =
+        subst (λ (z : s.Variable ℕ). Contains z.domain v) (sym r.2) h.has in
+        kind_of_held r.0.domain v (held r.0.domain v (sound.variables h.place r.0 r.1).domain has)
+        ∙ sym (ap kind_of_found r.1) ∙ ap (kind_by_number p) same
 
     pub system_lawful : IsLawful (net_of p) (kind_by_number p)
     system_lawful = record {
@@ -100,8 +113,10 @@ module _ (p : GtsParts) where
       typed = λ a h. let r = assign_back a h in subst (IsTypedAssign (kind_by_number p)) r.2 (assign_typed r.0 r.1);
       targets = λ a h. let r = assign_back a h in subst (λ (z : s.Assign ℕ). (k : ℕ) × IsFlow (net_of p) k z.target) r.2 (target_flow r.0 r.1);
       inside = λ a n h m. let r = assign_back a h in
-          subst (λ (k : ℕ). n < k) (sym (variables_long 0 p.variables.items)) (assign_inside r.0 r.1 n (subst (λ (z : s.Assign ℕ). Names z n) (sym r.2) m));
+          subst (λ (k : ℕ). n < k) (sym (variables_long 0 p.variables.items))
+          (assign_inside r.0 r.1 n (subst (λ (z : s.Assign ℕ). Names z n) (sym r.2) m));
     }
 
-    pub observer_kind : (o : Observer) → IsOneOf p.observers.items o → HasKind (kind_by_number p) (out-Expr ℕ (numbered o.value)) o.kind
+    pub observer_kind : (o : Observer) → IsOneOf p.observers.items o
+        → HasKind (kind_by_number p) (out-Expr ℕ (numbered o.value)) o.kind
     observer_kind o h = typed_kind o.value o.kind (sound.observers o h)

@@ -17,10 +17,12 @@ pub record ByNumber (P : VarId → Type 0) (x : ℕ) : Type 0 where
   pub is : variable.n ≡ x
   pub has : P variable
 
-pub mentions_there : (v : VarId) (e : Expr VarId) → Mentions v (out-Expr VarId e) → Mentions v.n (out-Expr ℕ (numbered e))
+pub mentions_there : (v : VarId) (e : Expr VarId) → Mentions v (out-Expr VarId e)
+    → Mentions v.n (out-Expr ℕ (numbered e))
 mentions_there v e d = let r = mentions_carry IsNumber v d (renames_numbered e) in subst (λ (z : ℕ). Mentions z (out-Expr ℕ (numbered e))) (sym r.related) r.stands
 
-pub mentions_back : (x : ℕ) (e : Expr VarId) → Mentions x (out-Expr ℕ (numbered e)) → ByNumber (λ v. Mentions v (out-Expr VarId e)) x
+pub mentions_back : (x : ℕ) (e : Expr VarId) → Mentions x (out-Expr ℕ (numbered e))
+    → ByNumber (λ v. Mentions v (out-Expr VarId e)) x
 mentions_back x e d = let r = mentions_carry (turned IsNumber) x d (renames_turned IsNumber (renames_numbered e)) in record { variable = r.other; is = r.related; has = r.stands }
 
 pub tests_there : (v : VarId) (cs : List (Expr VarId × Bool)) → Tests v cs → Tests v.n (map condition_of cs)
@@ -28,7 +30,8 @@ tests_there v [] d = elim d [ ]
 tests_there v (c ∷ cs) (in_this d) = in_this (mentions_there v c.0 d)
 tests_there v (c ∷ cs) (in_later d) = in_later (tests_there v cs d)
 
-tests_head : (x : ℕ) (c : Expr ℕ × Bool) (cs : List (Expr ℕ × Bool)) → Tests x (c ∷ cs) → Mentions x (out-Expr ℕ c.0) ⊎ Tests x cs
+tests_head : (x : ℕ) (c : Expr ℕ × Bool) (cs : List (Expr ℕ × Bool)) → Tests x (c ∷ cs)
+    → Mentions x (out-Expr ℕ c.0) ⊎ Tests x cs
 tests_head x c cs (in_this d) = inl d
 tests_head x c cs (in_later d) = inr d
 

@@ -41,7 +41,8 @@ kind_of_held (Range low high) (Truth b) h = absurd h
 kind_of_held (Range low high) (Whole n) h = refl
 kind_of_held (Range low high) (Symbol s) h = absurd h
 
-kinds_agree : (xs : List Variable) (t : List Value) → length t ≡ length xs → ((n : ℕ) (x : Variable) (v : Value) → Stands xs n x → Stands t n v → Holds x.domain v)
+kinds_agree : (xs : List Variable) (t : List Value) → length t ≡ length xs
+    → ((n : ℕ) (x : Variable) (v : Value) → Stands xs n x → Stands t n v → Holds x.domain v)
     → (n : ℕ) → kind_of (unwrap_or (slice_get t n) (Truth false)) ≡ kind_of_found (slice_get xs n)
 kinds_agree [] [] e h n = refl
 kinds_agree [] (v ∷ t) e h n = absurd (omega (arith, e))
@@ -65,7 +66,8 @@ pub read_value : (t : List Value) (n : ℕ) (v : Value) → Stands t n v → val
 read_value t n v h = ap (λ (o : Option Value). unwrap_or o (Truth false)) h
 
 -- the answer of a test, where v is the one value with P
-truth_answer : (P : Value → Type 0) (v : Value) (b : Bool) → ((w : Value) → P w → w ≡ v) → P v → IsAnswer (is_truth v b) (P (Truth b))
+truth_answer : (P : Value → Type 0) (v : Value) (b : Bool) → ((w : Value) → P w → w ≡ v) → P v
+    → IsAnswer (is_truth v b) (P (Truth b))
 truth_answer P (Truth true) true only h = h
 truth_answer P (Truth true) false only h = λ k. let e = only (Truth false) k in cc
 truth_answer P (Truth false) true only h = λ k. let e = only (Truth true) k in cc
@@ -78,41 +80,63 @@ module _ (p : GtsParts) (t : List Value) (total : IsTotal p t) where
   known x w = HasValue (net_of p) t x.n w
 
   -- what is yielded is the value
-  pub yielded_value : (e : Expr VarId) (k : ValueKind) → IsTyped p e k → (v : Value) → Yields (HasValue (net_of p) t) (out-Expr ℕ (numbered e)) v → v ≡ value_in t e
+  pub yielded_value : (e : Expr VarId) (k : ValueKind) → IsTyped p e k → (v : Value)
+      → Yields (HasValue (net_of p) t) (out-Expr ℕ (numbered e)) v → v ≡ value_in t e
   yielded_value e k typed v h =
-      let back : Yields (λ (x : VarId) (w : Value). HasValue (net_of p) t x.n w) (out-Expr VarId e) v = yields_back (λ (x : VarId) (w : Value). HasValue (net_of p) t x.n w) (HasValue (net_of p) t) e v (λ x w f. f) h in
+      let back : Yields (λ (x : VarId) (w : Value). HasValue (net_of p) t x.n w) (out-Expr VarId e) v =
+      yields_back (λ (x : VarId) (w : Value). HasValue (net_of p) t x.n w) (HasValue (net_of p) t) e v
+      (λ x w f. f) h in
       let one : Yields (facts_of (λ (x : VarId). value_at t x.n ∷ [])) (out-Expr VarId e) v =
-      yields_more VarId (λ (x : VarId) (w : Value). HasValue (net_of p) t x.n w) (facts_of (λ (x : VarId). value_at t x.n ∷ []))
-      (λ x w f. subst (λ (z : Value). Contains (value_at t x.n ∷ []) z) (read_value t x.n w (number.value_at (net_of p) (are_numbered p) t x.n w f)) (contains-head (value_at t x.n) [])) back in
-      (one-fact (λ (x : VarId). value_at t x.n) (kind_at p) (λ x. kinds_agree p.variables.items t total.long total.in_domain x.n) e k typed.typed v).0 one
+      yields_more VarId (λ (x : VarId) (w : Value). HasValue (net_of p) t x.n w)
+      (facts_of (λ (x : VarId). value_at t x.n ∷ []))
+      (λ x w f. subst (λ (z : Value). Contains (value_at t x.n ∷ []) z)
+      (read_value t x.n w (number.value_at (net_of p) (are_numbered p) t x.n w f))
+      (contains-head (value_at t x.n) [])) back in
+      (one-fact (λ (x : VarId). value_at t x.n) (kind_at p)
+      (λ x. kinds_agree p.variables.items t total.long total.in_domain x.n) e k typed.typed v).0 one
 
   -- the value is yielded
-  pub value_yielded : (e : Expr VarId) (k : ValueKind) → IsTyped p e k → Yields (HasValue (net_of p) t) (out-Expr ℕ (numbered e)) (value_in t e)
+  pub value_yielded : (e : Expr VarId) (k : ValueKind) → IsTyped p e k
+      → Yields (HasValue (net_of p) t) (out-Expr ℕ (numbered e)) (value_in t e)
   value_yielded e k typed =
       let one : Yields (facts_of (λ (x : VarId). value_at t x.n ∷ [])) (out-Expr VarId e) (value_in t e) =
-      (one-fact (λ (x : VarId). value_at t x.n) (kind_at p) (λ x. kinds_agree p.variables.items t total.long total.in_domain x.n) e k typed.typed (value_in t e)).1 refl in
-      yields_numbered (λ (x : VarId) (w : Value). HasValue (net_of p) t x.n w) (HasValue (net_of p) t) e (value_in t e) (λ x w f. f)
+      (one-fact (λ (x : VarId). value_at t x.n) (kind_at p)
+      (λ x. kinds_agree p.variables.items t total.long total.in_domain x.n) e k typed.typed (value_in t e)).1
+      refl in
+      yields_numbered (λ (x : VarId) (w : Value). HasValue (net_of p) t x.n w) (HasValue (net_of p) t) e (value_in t e)
+      (λ x w f. f)
       (yields_named (λ x w m c. known_value x w (typed.variables x m) c) one)
     where
-      known_value : (x : VarId) (w : Value) → x.n < length p.variables.items → Contains (value_at t x.n ∷ []) w → HasValue (net_of p) t x.n w
+      known_value : (x : VarId) (w : Value) → x.n < length p.variables.items → Contains (value_at t x.n ∷ []) w
+          → HasValue (net_of p) t x.n w
       known_value x w below c =
           let y = stands_some p.variables.items x.n below in
           let v = stands_some t x.n (omega (arith, total.long)) in
-          let same : value_at t x.n ≡ w = elim (contains-cases (value_at t x.n) w [] c) [ inl i ↦ i | inr c ↦ absurd (nothing-in w c) ] in
-          number.value_from (net_of p) (are_numbered p) t x.n (variable_of x.n y.0) w (variable_there p x.n y.0 y.1) (subst (λ (z : Value). Stands t x.n z) (sym (read_value t x.n v.0 v.1) ∙ same) v.1)
+          let same : value_at t x.n ≡ w = elim (contains-cases (value_at t x.n) w [] c)
+          [ inl i ↦ i | inr c ↦ absurd (nothing-in w c) ] in
+          number.value_from (net_of p) (are_numbered p) t x.n (variable_of x.n y.0) w (variable_there p x.n y.0 y.1)
+          (subst (λ (z : Value). Stands t x.n z) (sym (read_value t x.n v.0 v.1) ∙ same) v.1)
 
-  pub met_answer : (e : Expr VarId) → IsTyped p e kind.Truth → (b : Bool) → IsAnswer (is_met t (e, b)) (Yields (HasValue (net_of p) t) (out-Expr ℕ (numbered e)) (Truth b))
-  met_answer e typed b = truth_answer (Yields (HasValue (net_of p) t) (out-Expr ℕ (numbered e))) (value_in t e) b (yielded_value e kind.Truth typed) (value_yielded e kind.Truth typed)
+  pub met_answer : (e : Expr VarId) → IsTyped p e kind.Truth → (b : Bool)
+      → IsAnswer (is_met t (e, b)) (Yields (HasValue (net_of p) t) (out-Expr ℕ (numbered e)) (Truth b))
+  met_answer e typed b = truth_answer (Yields (HasValue (net_of p) t) (out-Expr ℕ (numbered e))) (value_in t e) b
+      (yielded_value e kind.Truth typed) (value_yielded e kind.Truth typed)
 
-  pub passes_answer : (cs : List (Expr VarId × Bool)) → ((c : Expr VarId × Bool) → IsOneOf cs c → IsTyped p c.0 kind.Truth)
+  pub passes_answer : (cs : List (Expr VarId × Bool))
+      → ((c : Expr VarId × Bool) → IsOneOf cs c → IsTyped p c.0 kind.Truth)
       → IsAnswer (list_all (is_met t) cs) (Passes (HasValue (net_of p) t) (map condition_of cs))
   passes_answer [] typed = none
   passes_answer (c ∷ cs) typed =
-      and_answer (is_met t c) (list_all (is_met t) cs) (Yields (HasValue (net_of p) t) (out-Expr ℕ (numbered c.0)) (Truth c.1)) (Passes (HasValue (net_of p) t) (map condition_of cs))
-      (Passes (HasValue (net_of p) t) (map condition_of (c ∷ cs))) (λ y q. one_and y q) first rest (met_answer c.0 (typed c (one_first c cs)) c.1) (passes_answer cs (λ d h. typed d (one_rest c cs d h)))
+      and_answer (is_met t c) (list_all (is_met t) cs)
+      (Yields (HasValue (net_of p) t) (out-Expr ℕ (numbered c.0)) (Truth c.1))
+      (Passes (HasValue (net_of p) t) (map condition_of cs))
+      (Passes (HasValue (net_of p) t) (map condition_of (c ∷ cs))) (λ y q. one_and y q) first rest
+      (met_answer c.0 (typed c (one_first c cs)) c.1) (passes_answer cs (λ d h. typed d (one_rest c cs d h)))
     where
-      first : Passes (HasValue (net_of p) t) (map condition_of (c ∷ cs)) → Yields (HasValue (net_of p) t) (out-Expr ℕ (numbered c.0)) (Truth c.1)
+      first : Passes (HasValue (net_of p) t) (map condition_of (c ∷ cs))
+          → Yields (HasValue (net_of p) t) (out-Expr ℕ (numbered c.0)) (Truth c.1)
       first (one_and y q) = y
 
-      rest : Passes (HasValue (net_of p) t) (map condition_of (c ∷ cs)) → Passes (HasValue (net_of p) t) (map condition_of cs)
+      rest : Passes (HasValue (net_of p) t) (map condition_of (c ∷ cs))
+          → Passes (HasValue (net_of p) t) (map condition_of cs)
       rest (one_and y q) = q

@@ -8,7 +8,8 @@ use Rattle.domains.specs.declared.Value.TheVariants as value
 use Rattle.gts_core.specs.Copies.{IsSameDomain, boolean, symbols, range}
 use Rattle.gts_core.specs.Sound.{kind_of_domain}
 
-pub ranges : (d : Domain) (low high least most : ℤ) → d ≡ Range low high → least ≡ low → most ≡ high → IsSameDomain d (Range least most)
+pub ranges : (d : Domain) (low high least most : ℤ) → d ≡ Range low high → least ≡ low → most ≡ high
+    → IsSameDomain d (Range least most)
 ranges d low high least most e i j = subst (λ (x : Domain). IsSameDomain x (Range least most)) (sym e) (range i j)
 
 pub domain_there : {c d : Domain} → IsSameDomain c d → IsDomain c → IsDomain d

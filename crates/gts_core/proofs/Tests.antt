@@ -2,12 +2,14 @@
 use Rattle.std.proofs.Common.{◌≡◌, Bool, true, false, ◌&&◌, ◌||◌, refl}
 use Rattle.ar_meaning.specs.Found.{IsAnswer}
 
-pub and_answer : (a b : Bool) (P Q R : Type 0) → (P → Q → R) → (R → P) → (R → Q) → IsAnswer a P → IsAnswer b Q → IsAnswer (a && b) R
+pub and_answer : (a b : Bool) (P Q R : Type 0) → (P → Q → R) → (R → P) → (R → Q) → IsAnswer a P → IsAnswer b Q
+    → IsAnswer (a && b) R
 and_answer true true P Q R both one two h k = both h k
 and_answer true false P Q R both one two h k = λ r. k (two r)
 and_answer false b P Q R both one two h k = λ r. h (one r)
 
-pub or_answer : (a b : Bool) (P Q R : Type 0) → (P → R) → (Q → R) → ((P → ⊥) → (Q → ⊥) → R → ⊥) → IsAnswer a P → IsAnswer b Q → IsAnswer (a || b) R
+pub or_answer : (a b : Bool) (P Q R : Type 0) → (P → R) → (Q → R) → ((P → ⊥) → (Q → ⊥) → R → ⊥) → IsAnswer a P
+    → IsAnswer b Q → IsAnswer (a || b) R
 or_answer true b P Q R one two none h k = one h
 or_answer false true P Q R one two none h k = two k
 or_answer false false P Q R one two none h k = none h k

@@ -14,21 +14,25 @@ pub variables_long : (k : ℕ) (xs : List Variable) → length (variables_from k
 variables_long k [] = refl
 variables_long k (x ∷ xs) = ap suc (variables_long (k + 1) xs)
 
-stands_from : (k : ℕ) (xs : List Variable) (n m : ℕ) (x : Variable) → m ≡ k + n → Stands xs n x → Stands (variables_from k xs) n (variable_of m x)
+stands_from : (k : ℕ) (xs : List Variable) (n m : ℕ) (x : Variable) → m ≡ k + n → Stands xs n x
+    → Stands (variables_from k xs) n (variable_of m x)
 stands_from k [] n m x e p = absurd (stands_none n x p)
 stands_from k (y ∷ xs) zero m x e p = let i : m ≡ k = omega arith in let j : y ≡ x = cc in cc (ap (λ z. variable_of z x) i, ap (λ z. variable_of k z) j)
 stands_from k (y ∷ xs) (suc n) m x e p = stands_from (k + 1) xs n m x (omega arith) p
 
-stands_back : (k : ℕ) (xs : List Variable) (n m : ℕ) (y : s.Variable ℕ) → m ≡ k + n → Stands (variables_from k xs) n y → (x : Variable) × Stands xs n x × (variable_of m x ≡ y)
+stands_back : (k : ℕ) (xs : List Variable) (n m : ℕ) (y : s.Variable ℕ) → m ≡ k + n → Stands (variables_from k xs) n y
+    → (x : Variable) × Stands xs n x × (variable_of m x ≡ y)
 stands_back k [] n m y e p = absurd (stands_none n y p)
 stands_back k (x ∷ xs) zero m y e p = let i : m ≡ k = omega arith in (x, refl, (let j : variable_of k x ≡ y = cc in ap (λ z. variable_of z x) i ∙ j))
 stands_back k (x ∷ xs) (suc n) m y e p = stands_back (k + 1) xs n m y (omega arith) p
 
 -- the variable at a place, as the system has it
-pub variable_there : (p : GtsParts) (n : ℕ) (x : Variable) → Stands p.variables.items n x → Stands (net_of p).variables n (variable_of n x)
+pub variable_there : (p : GtsParts) (n : ℕ) (x : Variable) → Stands p.variables.items n x
+    → Stands (net_of p).variables n (variable_of n x)
 variable_there p n x h = stands_from 0 p.variables.items n n x (omega arith) h
 
-pub variable_back : (p : GtsParts) (n : ℕ) (y : s.Variable ℕ) → Stands (net_of p).variables n y → (x : Variable) × Stands p.variables.items n x × (variable_of n x ≡ y)
+pub variable_back : (p : GtsParts) (n : ℕ) (y : s.Variable ℕ) → Stands (net_of p).variables n y
+    → (x : Variable) × Stands p.variables.items n x × (variable_of n x ≡ y)
 variable_back p n y h = stands_back 0 p.variables.items n n y (omega arith) h
 
 -- what stands for a variable is its number

@@ -28,7 +28,8 @@ Conditions = List (Expr ℕ × Bool)
 abbrev pub act_step : Act-F (Conditions → List (s.Assign ℕ)) → Conditions → List (s.Assign ℕ)
 act_step Skip when = []
 act_step (Set x e p) when = record { target = x.n; conditions = when; value = numbered e } ∷ []
-act_step (If test first second) when = first.value (when ++ (numbered test, true) ∷ []) ++ second.value (when ++ (numbered test, false) ∷ [])
+act_step (If test first second) when =
+    first.value (when ++ (numbered test, true) ∷ []) ++ second.value (when ++ (numbered test, false) ∷ [])
 act_step (All acts) when = flat_map (λ (f : Conditions → List (s.Assign ℕ)). f when) acts.items
 
 -- the assignments of an instruction that stands under these conditions

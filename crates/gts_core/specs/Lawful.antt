@@ -21,7 +21,8 @@ pub record IsTypedAssign (kinds : ℕ → ValueKind) (a : Assign ℕ) : Type 0 w
   pub value : HasKind kinds (out-Expr ℕ a.value) (kinds a.target)
   pub conditions : (c : Expr ℕ × Bool) → IsOneOf a.conditions c → HasKind kinds (out-Expr ℕ c.0) kind.Truth
 
--- variables stand for their numbers, and expressions name numbers that stand for one; init and reset values are in their
+-- variables stand for their numbers, and expressions name numbers that stand for one; init and reset values are in
+-- their
 -- domains, whose values have the variable's kind; assertions are typed, and their targets are flows
 pub record IsLawful (net : Net ℕ) (kinds : ℕ → ValueKind) : Type 0 where
   pub numbered : AreNumbered net

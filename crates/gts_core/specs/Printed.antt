@@ -49,7 +49,8 @@ case_form false c = codes "case " ++ c.0 ++ codes ": " ++ c.1 ++ codes " "
 
 -- the cases of a choice and what stands round them: of the only one, or of another number of them
 abbrev pub cases_form : Bool → List (List ℕ × List ℕ) → List ℕ
-cases_form one cs = (if one then [] else codes "switch {") ++ concat (map (case_form one) cs) ++ (if one then [] else codes "default: ")
+cases_form one cs = (if one then [] else codes "switch {") ++ concat
+    (map (case_form one) cs) ++ (if one then [] else codes "default: ")
 
 -- a choice, as one with one case or as one with another number of them
 abbrev pub choice_form : Bool → List (List ℕ × List ℕ) → List ℕ → List ℕ
@@ -90,13 +91,16 @@ expr_text p = fold-Expr VarId (List ℕ) (text_step p)
 -- a domain
 abbrev pub domain_text : GtsParts → Domain → List ℕ
 domain_text p domain.Boolean = codes "Boolean"
-domain_text p (domain.Symbols symbols) = codes "{" ++ separated true (codes ", ") (map (text_at p.symbols.items) symbols.items) ++ codes "}"
-domain_text p (domain.Range low high) = codes "[" ++ signed_decimal low ++ codes ", " ++ signed_decimal high ++ codes "]"
+domain_text p (domain.Symbols symbols) =
+    codes "{" ++ separated true (codes ", ") (map (text_at p.symbols.items) symbols.items) ++ codes "}"
+domain_text p (domain.Range low high) =
+    codes "[" ++ signed_decimal low ++ codes ", " ++ signed_decimal high ++ codes "]"
 
 -- a line for a variable
 abbrev pub variable_line : GtsParts → FlatVariable → List ℕ
 variable_line p x =
-    (if x.is_state then codes "state " else codes "flow ") ++ x.path ++ codes " " ++ domain_text p x.domain ++ codes " = " ++ value_text p.symbols.items x.value ++ codes "\n"
+    (if x.is_state then codes "state " else codes "flow ") ++ x.path ++ codes " " ++ domain_text p x.domain ++ codes
+    " = " ++ value_text p.symbols.items x.value ++ codes "\n"
 
 -- a condition of an assignment
 abbrev pub condition_text : GtsParts → Expr VarId × Bool → List ℕ
@@ -104,7 +108,8 @@ condition_text p c = (if c.1 then codes " when " else codes " unless ") ++ expr_
 
 -- an assignment with its conditions
 abbrev pub set_text : GtsParts → Assign → List ℕ
-set_text p a = path_at p a.target.n ++ codes " := " ++ expr_text p a.value ++ concat (map (condition_text p) a.when.items)
+set_text p a = path_at p a.target.n ++ codes " := " ++ expr_text p a.value ++ concat
+    (map (condition_text p) a.when.items)
 
 -- the assignments of an action
 abbrev pub action_text : GtsParts → List Assign → List ℕ
@@ -136,7 +141,8 @@ body_text p (Sync parts) = separated true (codes " & ") (map (part_text p) parts
 
 -- a line for a way
 abbrev pub way_line : GtsParts → Bool → Way → List ℕ
-way_line p hidden w = (if hidden then codes "hidden " else []) ++ codes "way " ++ label_of p w ++ codes ": " ++ body_text p w.body ++ codes "\n"
+way_line p hidden w = (if hidden then codes "hidden " else []) ++ codes "way " ++ label_of p w ++ codes
+    ": " ++ body_text p w.body ++ codes "\n"
 
 -- the same for a way that was looked up
 abbrev pub line_found : GtsParts → Bool → Option Way → List ℕ
@@ -149,7 +155,8 @@ event_lines p e = concat (map (λ (w : WayId). line_found p e.hidden (slice_get 
 
 -- a line for an assignment of an assertion, which are numbered from 1
 abbrev pub assert_line : GtsParts → ℕ → Assign → List ℕ
-assert_line p n a = codes "assert " ++ decimal n ++ codes " at " ++ decimal a.at.line ++ codes ":" ++ decimal a.at.column ++ codes " " ++ set_text p a ++ codes "\n"
+assert_line p n a = codes "assert " ++ decimal n ++ codes " at " ++ decimal a.at.line ++ codes ":" ++ decimal
+    a.at.column ++ codes " " ++ set_text p a ++ codes "\n"
 
 -- the lines for the assignments that come after so many others
 abbrev pub assert_lines : GtsParts → ℕ → List Assign → List ℕ
@@ -162,4 +169,6 @@ observer_line p o = codes "observer " ++ o.path ++ codes " = " ++ expr_text p o.
 
 -- variables come first, then ways by event and number, then assignments, then observers
 abbrev pub flat_text : GtsParts → List ℕ
-flat_text p = concat (map (variable_line p) p.variables.items) ++ concat (map (event_lines p) p.events.items) ++ assert_lines p 0 p.assigns.items ++ concat (map (observer_line p) p.observers.items)
+flat_text p = concat (map (variable_line p) p.variables.items) ++ concat
+    (map (event_lines p) p.events.items) ++ assert_lines p 0 p.assigns.items ++ concat
+    (map (observer_line p) p.observers.items)

@@ -53,7 +53,8 @@ pub record IsTyped (p : GtsParts) (e : Expr VarId) (k : ValueKind) : Type 0 wher
   pub variables : (x : VarId) → Mentions x (out-Expr VarId e) → x.n < length p.variables.items
   pub symbols : (v : Value) → IsPart (Constant v) (out-Expr VarId e) → IsNamed p v
 
--- an assignment to a variable that is a state variable, or is a flow, of a value of the variable's kind under typed conditions
+-- an assignment to a variable that is a state variable, or is a flow, of a value of the variable's kind under typed
+-- conditions
 pub record IsAssignTo (p : GtsParts) (to_state : Bool) (a : Assign) : Type 0 where
   pub variable : Variable
   pub stands : Stands p.variables.items a.target.n variable
@@ -100,11 +101,16 @@ pub record IsSound (p : GtsParts) : Type 0 where
   pub short : AreShort p
   pub variables : (n : ℕ) (x : Variable) → Stands p.variables.items n x → IsVariable p x
   pub event_units : (n : ℕ) (e : Event) → Stands p.events.items n e → e.unit.n < length p.units.items
-  pub event_ways : (n k : ℕ) (e : Event) (id : WayId) → Stands p.events.items n e → Stands e.ways.items k id → IsListed p n k id
+  pub event_ways : (n k : ℕ) (e : Event) (id : WayId) → Stands p.events.items n e → Stands e.ways.items k id
+      → IsListed p n k id
   pub own_ways : (n : ℕ) (w : Way) → Stands p.ways.items n w → IsOwn p n w
-  pub guards : (n : ℕ) (w : Way) (guard : Expr VarId) (action : Vec Assign Global) → Stands p.ways.items n w → w.body ≡ Local guard action → IsTyped p guard kind.Truth
-  pub actions : (n : ℕ) (w : Way) (guard : Expr VarId) (action : Vec Assign Global) → Stands p.ways.items n w → w.body ≡ Local guard action → (a : Assign) → IsOneOf action.items a → IsAssignTo p true a
-  pub parts : (n : ℕ) (w : Way) (parts : Vec (Bool × WayId) Global) → Stands p.ways.items n w → w.body ≡ Sync parts → (part : Bool × WayId) → IsOneOf parts.items part → part.1.n < length p.ways.items
-  pub trees : (n : ℕ) → n < length p.ways.items → (w : s.Way ℕ) × Means_way (bodies_of p) n w × (height w ≤ length p.ways.items)
+  pub guards : (n : ℕ) (w : Way) (guard : Expr VarId) (action : Vec Assign Global) → Stands p.ways.items n w
+      → w.body ≡ Local guard action → IsTyped p guard kind.Truth
+  pub actions : (n : ℕ) (w : Way) (guard : Expr VarId) (action : Vec Assign Global) → Stands p.ways.items n w
+      → w.body ≡ Local guard action → (a : Assign) → IsOneOf action.items a → IsAssignTo p true a
+  pub parts : (n : ℕ) (w : Way) (parts : Vec (Bool × WayId) Global) → Stands p.ways.items n w → w.body ≡ Sync parts
+      → (part : Bool × WayId) → IsOneOf parts.items part → part.1.n < length p.ways.items
+  pub trees : (n : ℕ) → n < length p.ways.items
+      → (w : s.Way ℕ) × Means_way (bodies_of p) n w × (height w ≤ length p.ways.items)
   pub assertions : (a : Assign) → IsOneOf p.assigns.items a → IsAssignTo p false a
   pub observers : (o : Observer) → IsOneOf p.observers.items o → IsTyped p o.value o.kind

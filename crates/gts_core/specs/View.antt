@@ -38,7 +38,13 @@ numbered = fold-Expr VarId (Expr ℕ) (λ x. roll-Expr ℕ (number_step x))
 
 -- a variable, with its number as what stands for it
 abbrev pub variable_of : ℕ → FlatVariable → s.Variable ℕ
-variable_of n x = record { key = n; unit = x.unit.n; domain = values_of x.domain; is_state = x.is_state; value = x.value }
+variable_of n x = record {
+  key = n;
+  unit = x.unit.n;
+  domain = values_of x.domain;
+  is_state = x.is_state;
+  value = x.value;
+}
 
 -- the variables from number n on
 abbrev pub variables_from : ℕ → List FlatVariable → List (s.Variable ℕ)

@@ -15,7 +15,8 @@ plus a b c d i j = cc
 
 module _ {V W : Type 0} {same : V → W → Type 0} where
   -- ways
-  branches_counted : {bs : Branches (Transition V)} {cs : Branches (Transition W)} → Branches_along (Transition_renames same) bs cs → branch_count bs ≡ branch_count cs
+  branches_counted : {bs : Branches (Transition V)} {cs : Branches (Transition W)}
+      → Branches_along (Transition_renames same) bs cs → branch_count bs ≡ branch_count cs
   branches_counted no_branch = refl
   branches_counted (branch t k) = ap (λ (n : ℕ). 1 + n) (branches_counted k)
 
@@ -49,13 +50,17 @@ module _ {V W : Type 0} {same : V → W → Type 0} where
       cc
 
   -- nodes
-  conditions_alike : {cs : List (Expr V × Bool)} {ds : List (Expr W × Bool)} → Conditions_rename same cs ds → condition_nodes cs ≡ condition_nodes ds
+  conditions_alike : {cs : List (Expr V × Bool)} {ds : List (Expr W × Bool)} → Conditions_rename same cs ds
+      → condition_nodes cs ≡ condition_nodes ds
   conditions_alike i.none = refl
   conditions_alike (i.one_and {e = e} {f = f} k ks) = plus _ _ _ _ (renamed_nodes e f k) (conditions_alike ks)
 
-  assigns_alike : {xs : List (Assign V)} {ys : List (Assign W)} → Along (Assign_renames same) xs ys → assigns_nodes xs ≡ assigns_nodes ys
+  assigns_alike : {xs : List (Assign V)} {ys : List (Assign W)} → Along (Assign_renames same) xs ys
+      → assigns_nodes xs ≡ assigns_nodes ys
   assigns_alike none = refl
-  assigns_alike (one_and {a = a} {b = b} k ks) = plus _ _ _ _ (plus _ _ _ _ (conditions_alike k.conditions) (renamed_nodes a.value b.value k.value)) (assigns_alike ks)
+  assigns_alike (one_and {a = a} {b = b} k ks) =
+      plus _ _ _ _ (plus _ _ _ _ (conditions_alike k.conditions) (renamed_nodes a.value b.value k.value))
+      (assigns_alike ks)
 
   way_alike : {v : Way V} {w : Way W} → Way_renames same v w → way_nodes v ≡ way_nodes w
   way_alike (leaves {d = d} {e = e} k) = plus _ _ _ _ (renamed_nodes d.guard e.guard k.guard) (assigns_alike k.action)
@@ -65,14 +70,17 @@ module _ {V W : Type 0} {same : V → W → Type 0} where
   ways_alike none = refl
   ways_alike (one_and k ks) = plus _ _ _ _ (way_alike k) (ways_alike ks)
 
-  events_alike : {es : List (Event V)} {fs : List (Event W)} → Along (Event_renames same) es fs → events_nodes es ≡ events_nodes fs
+  events_alike : {es : List (Event V)} {fs : List (Event W)} → Along (Event_renames same) es fs
+      → events_nodes es ≡ events_nodes fs
   events_alike none = refl
   events_alike (one_and k ks) = plus _ _ _ _ (ways_alike k.ways) (events_alike ks)
 
-  observers_alike : {xs : List (Expr V)} {ys : List (Expr W)} → Along (Expr_renames same) xs ys → nodes_in xs ≡ nodes_in ys
+  observers_alike : {xs : List (Expr V)} {ys : List (Expr W)} → Along (Expr_renames same) xs ys
+      → nodes_in xs ≡ nodes_in ys
   observers_alike none = refl
   observers_alike (one_and {a = a} {b = b} k ks) = plus _ _ _ _ (renamed_nodes a b k.renames) (observers_alike ks)
 
-  pub nodes_alike : (x : System V) (y : System W) → Along (Event_renames same) x.events y.events → Along (Assign_renames same) x.net.assertions y.net.assertions
+  pub nodes_alike : (x : System V) (y : System W) → Along (Event_renames same) x.events y.events
+      → Along (Assign_renames same) x.net.assertions y.net.assertions
       → Along (Expr_renames same) x.observers y.observers → system_nodes x ≡ system_nodes y
   nodes_alike x y e a o = plus _ _ _ _ (events_alike e) (plus _ _ _ _ (assigns_alike a) (observers_alike o))

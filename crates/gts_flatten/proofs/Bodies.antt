@@ -17,18 +17,29 @@ use Rattle.gts_flatten.specs.Making.{IsTransitionOf, transition, IsTransitionAt,
 use Rattle.gts_flatten.specs.Placing.{IsWayAt, there}
 
 -- the transition that was found, copied
-pub transition_at : (events : List DeclaredEvent) (event place : ℕ) (w : DeclaredWay) (guard copy : Expr VarId) (action : Act) (assigns : Vec Assign Global)
-    → IsWayAt events event place (Some w) → w ≡ declared.Local guard action → IsCopy guard copy → AreAssigns (assigns_of_act action) assigns.items
+pub transition_at : (events : List DeclaredEvent) (event place : ℕ) (w : DeclaredWay) (guard copy : Expr VarId)
+    (action : Act) (assigns : Vec Assign Global)
+    → IsWayAt events event place (Some w) → w ≡ declared.Local guard action → IsCopy guard copy
+    → AreAssigns (assigns_of_act action) assigns.items
     → IsTransitionAt events event place (Local copy assigns)
 transition_at events event place w guard copy action assigns (there d s t) f c a =
-    record { declared = d; stands = s; way = w; there = t; is_transition = subst (λ (z : DeclaredWay). IsTransitionOf z (Local copy assigns)) (sym f) (transition c a) }
+    record {
+      declared = d;
+      stands = s;
+      way = w;
+      there = t;
+      is_transition = subst (λ (z : DeclaredWay). IsTransitionOf z (Local copy assigns)) (sym f) (transition c a);
+    }
 
 -- the body of a planned transition
-pub made_transition : (events : List DeclaredEvent) (event place : ℕ) (p : PlanBody) {E : Type 0} (r : Result WayBody E) → p ≡ planned.Local place → IfOk r (IsTransitionAt events event place)
+pub made_transition : (events : List DeclaredEvent) (event place : ℕ) (p : PlanBody) {E : Type 0} (r : Result WayBody E)
+    → p ≡ planned.Local place → IfOk r (IsTransitionAt events event place)
     → IfOk r (IsMadeOf events event p)
 made_transition events event place p (Ok b) e h = subst (λ (q : PlanBody). IsMadeOf events event q b) (sym e) (acts h)
 made_transition events event place p (Err x) e h = tt
 
 -- the body of a planned synchronisation
-pub made_joint : (events : List DeclaredEvent) (event : ℕ) (p : PlanBody) (parts copies : Vec (Bool × WayId) Global) → p ≡ planned.Sync parts → copies.items ≡ parts.items → IsMadeOf events event p (Sync copies)
-made_joint events event p parts copies e f = subst (λ (q : PlanBody). IsMadeOf events event q (Sync copies)) (sym e) (joins f)
+pub made_joint : (events : List DeclaredEvent) (event : ℕ) (p : PlanBody) (parts copies : Vec (Bool × WayId) Global)
+    → p ≡ planned.Sync parts → copies.items ≡ parts.items → IsMadeOf events event p (Sync copies)
+made_joint events event p parts copies e f =
+    subst (λ (q : PlanBody). IsMadeOf events event q (Sync copies)) (sym e) (joins f)

@@ -31,16 +31,21 @@ way_one : {f : MemberForm} {x y : NameId} {p q : Place} → IsWayOf f x p → Is
 way_one rule.local rule.local = refl
 way_one rule.sync rule.sync = refl
 
-module _ (d : Declarations) (b : Bound) (from : IsBoundFrom d b) (different : AreDifferent (events d.model d.units)) where
+module _ (d : Declarations) (b : Bound) (from : IsBoundFrom d b)
+    (different : AreDifferent (events d.model d.units)) where
   -- the bound events are the flat form of the declared ones
-  pub declared_flat : AreFlatOf (variables d.model d.units) (events d.model d.units) d.events (declared_from 0 b.events.items)
+  pub declared_flat : AreFlatOf (variables d.model d.units) (events d.model d.units) d.events
+      (declared_from 0 b.events.items)
   declared_flat = record { different = different; events = from.events_are }
 
-  back : (t : Thing) (n k : ℕ) → Stands (events d.model d.units) n t → (LeadsBack d.events t k ↔ LeadsBack (declared_from 0 b.events.items) n k)
+  back : (t : Thing) (n k : ℕ) → Stands (events d.model d.units) n t
+      → (LeadsBack d.events t k ↔ LeadsBack (declared_from 0 b.events.items) n k)
   back t n k s = (
-    λ h. leads_there (Transition_renames (IsNumber (variables d.model d.units))) (IsNumber (events d.model d.units)) d.events (declared_from 0 b.events.items) from.events_are
+    λ h. leads_there (Transition_renames (IsNumber (variables d.model d.units))) (IsNumber (events d.model d.units))
+        d.events (declared_from 0 b.events.items) from.events_are
         (λ x m n r s. different.one m n x r s) s h,
-    λ h. leads_back (Transition_renames (IsNumber (variables d.model d.units))) (IsNumber (events d.model d.units)) d.events (declared_from 0 b.events.items) from.events_are
+    λ h. leads_back (Transition_renames (IsNumber (variables d.model d.units))) (IsNumber (events d.model d.units))
+        d.events (declared_from 0 b.events.items) from.events_are
         (λ x y n r s. stands_one (events d.model d.units) n x y r s) s h,
   )
 
@@ -51,7 +56,8 @@ module _ (d : Declarations) (b : Bound) (from : IsBoundFrom d b) (different : Ar
       let f = along_back (ways_declared d.model t.0) h.declared.ways.items t.2 h.number (Sync h.parts p) h.is_way in
       go t.0 t.1 f.0 f.1 f.2
     where
-      go : (t : Thing) → Stands (events d.model d.units) h.event t → (f : MemberForm) → Stands (ways_declared d.model t) h.number f → HasPlace f (Sync h.parts p)
+      go : (t : Thing) → Stands (events d.model d.units) h.event t → (f : MemberForm)
+          → Stands (ways_declared d.model t) h.number f → HasPlace f (Sync h.parts p)
           → source.BreaksSynchronisation d p
       go t s f w (sync x is) = record {
         event = t;
@@ -73,13 +79,17 @@ module _ (d : Declarations) (b : Bound) (from : IsBoundFrom d b) (different : Ar
       let l = (back h.event n h.place h.is_event.stands).0 h.back in
       let o = declared_back 0 b.events.items l.place l.declared l.stands in
       let here : l.place ≡ n = sym (declared_key b.events.items l.place l.declared l.stands) ∙ l.is_key in
-      let one : o.0 ≡ e.0 = stands_one b.events.items n o.0 e.0 (subst (λ (k : ℕ). Stands b.events.items k o.0) here o.1) e.1 in
-      let y = synchronised o.0.ways.items h.place l.parts (subst (λ x. Stands x h.place (Synchronises l.parts)) (ap (λ x. x.members) o.2) l.is_member) in
+      let one : o.0 ≡ e.0 = stands_one b.events.items n o.0 e.0
+      (subst (λ (k : ℕ). Stands b.events.items k o.0) here o.1) e.1 in
+      let y = synchronised o.0.ways.items h.place l.parts
+      (subst (λ x. Stands x h.place (Synchronises l.parts)) (ap (λ x. x.members) o.2) l.is_member) in
       let m = subst (λ (x : DeclaredEvent). Stands x.ways.items h.place (Sync y.0 y.1)) one y.2 in
       go n e.0 e.1 w.0 w.1 w.2 l (stands_one e.0.ways.items h.place w.0 (Sync y.0 y.1) w.1 m)
     where
-      go : (n : ℕ) (e : DeclaredEvent) → Stands b.events.items n e → (w : DeclaredWay) → Stands e.ways.items h.place w → HasPlace h.form w → LeadsBack (declared_from 0 b.events.items) n h.place
-          → {parts : Vec (Bool × EventId) Global} {at : Place} → w ≡ Sync parts at → bound.BreaksSynchronisation b.events.items p
+      go : (n : ℕ) (e : DeclaredEvent) → Stands b.events.items n e → (w : DeclaredWay) → Stands e.ways.items h.place w
+          → HasPlace h.form w → LeadsBack (declared_from 0 b.events.items) n h.place
+          → {parts : Vec (Bool × EventId) Global} {at : Place}
+          → w ≡ Sync parts at → bound.BreaksSynchronisation b.events.items p
       go n e s w t (local {guard = g} {a = a}) l i = absurd cc
       go n e s w t (sync {parts = parts} {at = at} x is) l i = record {
         event = n;
@@ -100,7 +110,8 @@ module _ (d : Declarations) (b : Bound) (from : IsBoundFrom d b) (different : Ar
   pub kept_source : AreKept bound.way_rules (bound.Breaks b.events.items) → AreKept bound.way_rules (source.Breaks d)
   kept_source k = record { kept = λ r p o h. k.kept r p o (breaks_bound r p h) }
 
-  pub broken_in_source : (r : ℕ) (p : Place) → IsBroken bound.way_rules (bound.Breaks b.events.items) r p → IsBroken bound.way_rules (source.Breaks d) r p
+  pub broken_in_source : (r : ℕ) (p : Place) → IsBroken bound.way_rules (bound.Breaks b.events.items) r p
+      → IsBroken bound.way_rules (source.Breaks d) r p
   broken_in_source r p k = record {
     is_one = k.is_one;
     breaks_there = breaks_source r p k.breaks_there;

@@ -54,35 +54,51 @@ use Rattle.gts_flatten.proofs.WaysMade.{same}
 
 -- Variables and observers
 
-variables_copied : {xs ys : List Variable} (n : ℕ) → Along IsSameVariable xs ys → Along (Variable_renames same) (variables_from n xs) (variables_from n ys)
+variables_copied : {xs ys : List Variable} (n : ℕ) → Along IsSameVariable xs ys
+    → Along (Variable_renames same) (variables_from n xs) (variables_from n ys)
 variables_copied n none = none
 variables_copied n (one_and h hs) =
-    one_and (record { key = refl; unit = sym (ap (λ z. z.n) h.unit); domain = same_values h.domain; is_state = sym h.is_state; value = sym h.value }) (variables_copied (n + 1) hs)
+    one_and (record {
+      key = refl;
+      unit = sym (ap (λ z. z.n) h.unit);
+      domain = same_values h.domain;
+      is_state = sym h.is_state;
+      value = sym h.value;
+    }) (variables_copied (n + 1) hs)
 
-variable_paths : {xs ys : List Variable} → Along IsSameVariable xs ys → map (λ (x : Variable). x.path) ys ≡ map (λ (x : Variable). x.path) xs
+variable_paths : {xs ys : List Variable} → Along IsSameVariable xs ys
+    → map (λ (x : Variable). x.path) ys ≡ map (λ (x : Variable). x.path) xs
 variable_paths none = refl
 variable_paths (one_and h hs) = let p = h.path in let r = variable_paths hs in cc
 
-observers_copied : {xs ys : List Observer} → Along IsSameObserver xs ys → Along (Expr_renames same) (map (λ (o : Observer). numbered o.value) xs) (map (λ (o : Observer). numbered o.value) ys)
+observers_copied : {xs ys : List Observer} → Along IsSameObserver xs ys
+    → Along (Expr_renames same) (map (λ (o : Observer). numbered o.value) xs)
+    (map (λ (o : Observer). numbered o.value) ys)
 observers_copied none = none
-observers_copied (one_and {a = a} {b = b} h hs) = one_and (record { renames = copy_numbered a.value b.value h.value }) (observers_copied hs)
+observers_copied (one_and {a = a} {b = b} h hs) =
+    one_and (record { renames = copy_numbered a.value b.value h.value }) (observers_copied hs)
 
-observer_paths : {xs ys : List Observer} → Along IsSameObserver xs ys → map (λ (o : Observer). o.path) ys ≡ map (λ (o : Observer). o.path) xs
+observer_paths : {xs ys : List Observer} → Along IsSameObserver xs ys
+    → map (λ (o : Observer). o.path) ys ≡ map (λ (o : Observer). o.path) xs
 observer_paths none = refl
 observer_paths (one_and h hs) = let p = h.path in let r = observer_paths hs in cc
 
-kinds_copied : {m : RootedModel} {ts : List Thing} {xs ys : List Observer} → Along (HasKind m) ts xs → Along IsSameObserver xs ys → Along (HasKind m) ts ys
+kinds_copied : {m : RootedModel} {ts : List Thing} {xs ys : List Observer} → Along (HasKind m) ts xs
+    → Along IsSameObserver xs ys → Along (HasKind m) ts ys
 kinds_copied none none = none
-kinds_copied (one_and (kind type e is of) ks) (one_and h hs) = one_and (kind type e is (of ∙ ap Some (sym h.kind))) (kinds_copied ks hs)
+kinds_copied (one_and (kind type e is of) ks) (one_and h hs) =
+    one_and (kind type e is (of ∙ ap Some (sym h.kind))) (kinds_copied ks hs)
 
-event_paths : (ds : List DeclaredEvent) (es : List Event) → length es ≡ length ds → ((n : ℕ) (d : DeclaredEvent) (e : Event) → Stands ds n d → Stands es n e → e.path ≡ d.path)
+event_paths : (ds : List DeclaredEvent) (es : List Event) → length es ≡ length ds
+    → ((n : ℕ) (d : DeclaredEvent) (e : Event) → Stands ds n d → Stands es n e → e.path ≡ d.path)
     → map (λ (e : Event). e.path) es ≡ map (λ (d : DeclaredEvent). d.path) ds
 event_paths [] [] l f = refl
 event_paths [] (e ∷ es) l f = absurd (omega (arith, l))
 event_paths (d ∷ ds) [] l f = absurd (omega (arith, l))
 event_paths (d ∷ ds) (e ∷ es) l f = let p = f 0 d e refl refl in let r = event_paths ds es (omega (arith, l)) (λ n x y i j. f (suc n) x y i j) in cc
 
-lengths_of : (es : List (SystemEvent ℕ)) → map (λ (e : SystemEvent ℕ). length e.ways) es ≡ map length (map (λ (e : SystemEvent ℕ). e.ways) es)
+lengths_of : (es : List (SystemEvent ℕ))
+    → map (λ (e : SystemEvent ℕ). length e.ways) es ≡ map length (map (λ (e : SystemEvent ℕ). e.ways) es)
 lengths_of [] = refl
 lengths_of (e ∷ es) = ap (λ (z : List ℕ). length e.ways ∷ z) (lengths_of es)
 
@@ -91,29 +107,38 @@ lengths_of (e ∷ es) = ap (λ (z : List ℕ). length e.ways ∷ z) (lengths_of 
 transition_body : (k : ℕ) {way : DeclaredWay} {wb : WayBody} → IsTransitionOf way wb → HasBody (Acts k) wb
 transition_body k (transition c i) = flat.acts
 
-body_planned : {declared : List DeclaredEvent} {e : ℕ} {pb : PlanBody} {wb : WayBody} → IsMadeOf declared e pb wb → HasBody (planned_body pb) wb
+body_planned : {declared : List DeclaredEvent} {e : ℕ} {pb : PlanBody} {wb : WayBody} → IsMadeOf declared e pb wb
+    → HasBody (planned_body pb) wb
 body_planned (acts {place = k} t) = transition_body k t.is_transition
-body_planned (joins {parts = ps} {copies = cs} e) = subst (λ (z : List (Bool × WayId)). HasBody (Joins (map part_of z)) (Sync cs)) e flat.joins
+body_planned (joins {parts = ps} {copies = cs} e) =
+    subst (λ (z : List (Bool × WayId)). HasBody (Joins (map part_of z)) (Sync cs)) e flat.joins
 
-ways_planned : {declared : List DeclaredEvent} {ps : List WayPlan} {ws : List Way} → Along (IsMadeWay declared) ps ws → Along IsPlannedWay (map planned_of ps) ws
+ways_planned : {declared : List DeclaredEvent} {ps : List WayPlan} {ws : List Way} → Along (IsMadeWay declared) ps ws
+    → Along IsPlannedWay (map planned_of ps) ws
 ways_planned none = none
-ways_planned (one_and h hs) = one_and (record { event = ap (λ z. z.n) h.event; number = h.number; body = body_planned h.body }) (ways_planned hs)
+ways_planned (one_and h hs) = one_and
+    (record { event = ap (λ z. z.n) h.event; number = h.number; body = body_planned h.body }) (ways_planned hs)
 
 naming_same : (v w e f o q s t : List (List ℕ)) (p r : List Place) → v ≡ w → e ≡ f → o ≡ q → s ≡ t → p ≡ r
-    → ◌≡◌ {A = Naming} (record { variables = v; events = e; observers = o; symbols = s; places = p }) (record { variables = w; events = f; observers = q; symbols = t; places = r })
+    → ◌≡◌ {A = Naming} (record { variables = v; events = e; observers = o; symbols = s; places = p })
+    (record { variables = w; events = f; observers = q; symbols = t; places = r })
 naming_same v w e f o q s t p r i j k l n = cc
 
-module _ (d : Declarations) (b : Bound) (from : IsBoundFrom d b) (different : AreDifferent (events d.model d.units)) {ways : List (List (SystemWay ℕ))}
+module _ (d : Declarations) (b : Bound) (from : IsBoundFrom d b) (different : AreDifferent (events d.model d.units))
+    {ways : List (List (SystemWay ℕ))}
     (m : Meant d b from different ways) (are : AreWays (declared_from 0 b.events.items) ways) (plan : List WayPlan)
-    (is : map planned_of plan ≡ planned_ways (map length ways) (declared_from 0 b.events.items)) (bound_sound : IsSoundBound b) (p : GtsParts)
+    (is : map planned_of plan ≡ planned_ways (map length ways) (declared_from 0 b.events.items))
+    (bound_sound : IsSoundBound b) (p : GtsParts)
     (made : AreMadeOf b (map length ways) plan p) (sound : IsSound p) where
   -- Events
 
   -- the ways of the declared event at this place
   own_at : (n : ℕ) (g : SystemEvent ℕ) → Stands m.flat.events n g → Stands ways n g.ways
-  own_at n g h = subst (λ (z : List (List (SystemWay ℕ))). Stands z n g.ways) m.have_ways (stands_map (λ (e : SystemEvent ℕ). e.ways) m.flat.events n g h)
+  own_at n g h = subst (λ (z : List (List (SystemWay ℕ))). Stands z n g.ways) m.have_ways
+      (stands_map (λ (e : SystemEvent ℕ). e.ways) m.flat.events n g h)
 
-  ways_copied : (n : ℕ) (e : Event) (g f : SystemEvent ℕ) → Stands p.events.items n e → Stands m.flat.events n g → IsEvent p e f → Along (Way_renames same) g.ways f.ways
+  ways_copied : (n : ℕ) (e : Event) (g f : SystemEvent ℕ) → Stands p.events.items n e → Stands m.flat.events n g
+      → IsEvent p e f → Along (Way_renames same) g.ways f.ways
   ways_copied n e g f he hg i = along_by (Way_renames same) g.ways f.ways long each
     where
       own : Stands ways n g.ways
@@ -123,7 +148,8 @@ module _ (d : Declarations) (b : Bound) (from : IsBoundFrom d b) (different : Ar
       long =
           let a = along_length e.ways.items f.ways i.ways in
           let c = ids_long b ways are plan is bound_sound p made n e he in
-          let r : slice_index (map length ways) n ≡ length g.ways = read_number (map length ways) n (length g.ways) (stands_map length ways n g.ways own) in
+          let r : slice_index (map length ways) n ≡ length g.ways =
+          read_number (map length ways) n (length g.ways) (stands_map length ways n g.ways own) in
           omega (arith, a, c, r)
 
       each : (k : ℕ) (t u : SystemWay ℕ) → Stands g.ways k t → Stands f.ways k u → Way_renames same t u
@@ -131,22 +157,27 @@ module _ (d : Declarations) (b : Bound) (from : IsBoundFrom d b) (different : Ar
           let w = along_back e.ways.items f.ways i.ways k u hu in
           let q = id_at b ways are plan is bound_sound p made n k e w.0 he w.1 in
           let c = copied_at b ways are plan is bound_sound p made n k g.ways t own ht in
-          let one : c.tree ≡ u = means_same (bodies_of p) c.means (subst (λ (z : ℕ). Means_way (bodies_of p) z u) q.0 w.2) in
+          let one : c.tree ≡ u = means_same (bodies_of p) c.means
+          (subst (λ (z : ℕ). Means_way (bodies_of p) z u) q.0 w.2) in
           subst (λ (z : SystemWay ℕ). Way_renames same t z) one c.along
 
-  event_copied : (n : ℕ) (e : Event) (g f : SystemEvent ℕ) → Stands p.events.items n e → Stands m.flat.events n g → IsEvent p e f → Event_renames same g f
+  event_copied : (n : ℕ) (e : Event) (g f : SystemEvent ℕ) → Stands p.events.items n e → Stands m.flat.events n g
+      → IsEvent p e f → Event_renames same g f
   event_copied n e g f he hg i =
       let es = declared_from 0 b.events.items in
       let x = along_back es m.flat.events m.expanded n g hg in
       let y = declared_back 0 b.events.items n x.0 x.1 in
       let c = made.events.each n y.0 e y.1 he in
       record {
-        unit = sym x.2.unit ∙ (ap (λ (z : Declared (Transition ℕ) ℕ). z.unit) y.2 ∙ (sym (ap (λ z. z.n) c.unit) ∙ sym i.unit));
-        hidden = sym x.2.hidden ∙ (ap (λ (z : Declared (Transition ℕ) ℕ). z.hidden) y.2 ∙ (sym c.hidden ∙ sym i.hidden));
+        unit = sym x.2.unit ∙ (ap (λ (z : Declared (Transition ℕ) ℕ). z.unit) y.2
+            ∙ (sym (ap (λ z. z.n) c.unit) ∙ sym i.unit));
+        hidden = sym x.2.hidden ∙ (ap (λ (z : Declared (Transition ℕ) ℕ). z.hidden) y.2
+            ∙ (sym c.hidden ∙ sym i.hidden));
         ways = ways_copied n e g f he hg i;
       }
 
-  events_copied : (fs : List (SystemEvent ℕ)) → Along (IsEvent p) p.events.items fs → Along (Event_renames same) m.flat.events fs
+  events_copied : (fs : List (SystemEvent ℕ)) → Along (IsEvent p) p.events.items fs
+      → Along (Event_renames same) m.flat.events fs
   events_copied fs v =
       let es = declared_from 0 b.events.items in
       let l = along_length es m.flat.events m.expanded in
@@ -165,16 +196,21 @@ module _ (d : Declarations) (b : Bound) (from : IsBoundFrom d b) (different : Ar
       let net = m.net in
       record {
         net = record {
-          variables = subst (λ (z : s.Net ℕ). Along (Variable_renames same) m.flat.net.variables z.variables) (sym views.1.net)
-              (subst (λ (z : s.Net ℕ). Along (Variable_renames same) z.variables (net_of p).variables) (sym net) (variables_copied 0 made.variables));
-          assertions = subst (λ (z : s.Net ℕ). Along (Assign_renames same) m.flat.net.assertions z.assertions) (sym views.1.net)
-              (subst (λ (z : s.Net ℕ). Along (Assign_renames same) z.assertions (net_of p).assertions) (sym net) made.assigns);
+          variables = subst (λ (z : s.Net ℕ). Along (Variable_renames same) m.flat.net.variables z.variables)
+              (sym views.1.net)
+              (subst (λ (z : s.Net ℕ). Along (Variable_renames same) z.variables (net_of p).variables) (sym net)
+              (variables_copied 0 made.variables));
+          assertions = subst (λ (z : s.Net ℕ). Along (Assign_renames same) m.flat.net.assertions z.assertions)
+              (sym views.1.net)
+              (subst (λ (z : s.Net ℕ). Along (Assign_renames same) z.assertions (net_of p).assertions) (sym net)
+              made.assigns);
           one = λ x y z i j. sym i ∙ j;
           one_back = λ x y z i j. i ∙ sym j;
         };
         events = events_copied views.0.events views.1.events;
         observers = subst (λ (z : List (Expr ℕ)). Along (Expr_renames same) m.flat.observers z) (sym views.1.observers)
-            (subst (λ (z : List (Expr ℕ)). Along (Expr_renames same) z (observers_of p)) (sym m.observers) (observers_copied made.observers));
+            (subst (λ (z : List (Expr ℕ)). Along (Expr_renames same) z (observers_of p)) (sym m.observers)
+            (observers_copied made.observers));
       }
 
   -- Names
@@ -182,7 +218,8 @@ module _ (d : Declarations) (b : Bound) (from : IsBoundFrom d b) (different : Ar
   names : naming_of_parts p ≡ naming_of d
   names = naming_same _ _ _ _ _ _ _ _ _ _
       (variable_paths made.variables ∙ from.texts.variables_are)
-      (event_paths b.events.items p.events.items made.events.long (λ n x y i j. (made.events.each n x y i j).path) ∙ from.texts.events_are)
+      (event_paths b.events.items p.events.items made.events.long (λ n x y i j. (made.events.each n x y i j).path)
+      ∙ from.texts.events_are)
       (observer_paths made.observers ∙ from.texts.observers_are)
       (made.symbols ∙ from.texts.symbols)
       (made.places ∙ from.places)
@@ -197,7 +234,8 @@ module _ (d : Declarations) (b : Bound) (from : IsBoundFrom d b) (different : Ar
       numbered = declared_from 0 b.events.items;
       are_numbered = from.events_are;
       planned = subst (λ (z : List PlannedWay). Along IsPlannedWay z p.ways.items)
-          (is ∙ ap (λ (z : List ℕ). planned_ways z (declared_from 0 b.events.items)) (sym lengths)) (ways_planned made.ways);
+          (is ∙ ap (λ (z : List ℕ). planned_ways z (declared_from 0 b.events.items)) (sym lengths))
+          (ways_planned made.ways);
     };
     names = names;
     units_are = made.units ∙ from.texts.units_are;

@@ -50,7 +50,8 @@ module _ {L : Type 0} (bodies : List (Body L)) where
     each = λ n i. let x = a.each n i in record { way = x.way; means = x.means; higher = (let y = x.higher in omega (arith, y, l)) };
   }
 
-  one_more : (h n : ℕ) (above : List ℕ) (t : Tree L) → Means_way bodies n t → height t ≡ suc h → AreHigher (suc h) above → AreHigher h (n ∷ above)
+  one_more : (h n : ℕ) (above : List ℕ) (t : Tree L) → Means_way bodies n t → height t ≡ suc h → AreHigher (suc h) above
+      → AreHigher h (n ∷ above)
   one_more h n above t m e a = record {
     different = different_first n above (λ i.
         let x = a.each n i in let s : height x.way ≡ height t = ap height (means_same bodies x.means m) in let y = x.higher in omega (arith, e, s, y)) a.different;
@@ -61,13 +62,16 @@ module _ {L : Type 0} (bodies : List (Body L)) where
   }
 
   mutual
-    low : {n : ℕ} {t : Tree L} → Means_way bodies n t → (above : List ℕ) → AreHigher (height t) above → height t + length above ≤ length bodies
+    low : {n : ℕ} {t : Tree L} → Means_way bodies n t → (above : List ℕ) → AreHigher (height t) above
+        → height t + length above ≤ length bodies
     low (leaf s) above a = let l = few_higher 0 above a in omega (arith, l)
     low {n = n} (joint {parts = parts} {bs = bs} s m) above a =
-        let l = parts_low m (n ∷ above) (branches_height bs) (omega arith) (one_more (branches_height bs) n above (Joint bs) (joint s m) refl a) in
+        let l = parts_low m (n ∷ above) (branches_height bs) (omega arith)
+        (one_more (branches_height bs) n above (Joint bs) (joint s m) refl a) in
         omega (arith, l)
 
-    parts_low : {ps : List (Bool × ℕ)} {bs : Branches L} → Mean_parts bodies ps bs → (above : List ℕ) (h : ℕ) → branches_height bs ≤ h → AreHigher h above
+    parts_low : {ps : List (Bool × ℕ)} {bs : Branches L} → Mean_parts bodies ps bs → (above : List ℕ) (h : ℕ)
+        → branches_height bs ≤ h → AreHigher h above
         → branches_height bs + length above ≤ length bodies
     parts_low no_part above h l a = let k = few_higher h above a in omega (arith, k)
     parts_low (part {t = t} {bs = bs} w m) above h l a =
@@ -78,7 +82,10 @@ module _ {L : Type 0} (bodies : List (Body L)) where
   -- a way is no higher than there are ways
   pub height_within : (n : ℕ) (t : Tree L) → Means_way bodies n t → height t ≤ length bodies
   height_within n t m =
-      let l = low m [] (record { different = record { one = λ i j w p q. absurd (stands_none i w p) }; each = λ k i. absurd (one_none k i) }) in
+      let l = low m [] (record {
+        different = record { one = λ i j w p q. absurd (stands_none i w p) };
+        each = λ k i. absurd (one_none k i);
+      }) in
       omega (arith, l)
 
 -- Ways whose leaves are related
@@ -94,18 +101,27 @@ pub record HasTree {L M : Type 0} (same : L → M → Type 0) (others : List (Bo
   pub means : Means_way others n tree
   pub along : Trees_along same t tree
 
-record HasBranches {L M : Type 0} (same : L → M → Type 0) (others : List (Body M)) (ps : List (Bool × ℕ)) (bs : Branches L) : Type 0 where
+record HasBranches {L M : Type 0} (same : L → M → Type 0) (others : List (Body M)) (ps : List (Bool × ℕ))
+    (bs : Branches L) : Type 0 where
   branches : Branches M
   mean : Mean_parts others ps branches
   along : Branches_along same bs branches
 
-module _ {L M : Type 0} (same : L → M → Type 0) (bodies : List (Body L)) (others : List (Body M)) (are : Along (Body_along same) bodies others) where
-  acts_there : (n : ℕ) (l : L) (b : Body M) → Stands others n b → Body_along same (Acts l) b → HasTree same others n (Leaf l)
+module _ {L M : Type 0} (same : L → M → Type 0) (bodies : List (Body L)) (others : List (Body M))
+    (are : Along (Body_along same) bodies others) where
+  acts_there : (n : ℕ) (l : L) (b : Body M) → Stands others n b → Body_along same (Acts l) b
+      → HasTree same others n (Leaf l)
   acts_there n l b s (acts {m = m} k) = record { tree = Leaf m; means = leaf s; along = leaves k }
 
-  joins_there : (n : ℕ) (ps : List (Bool × ℕ)) (bs : Branches L) (b : Body M) → Stands others n b → HasBranches same others ps bs → Body_along same (Joins ps) b → HasTree same others n (Joint bs)
+  joins_there : (n : ℕ) (ps : List (Bool × ℕ)) (bs : Branches L) (b : Body M) → Stands others n b
+      → HasBranches same others ps bs → Body_along same (Joins ps) b → HasTree same others n (Joint bs)
   joins_there n ps bs b s h (joins {others = qs} e) =
-      record { tree = Joint h.branches; means = joint s (subst (λ (z : List (Bool × ℕ)). Mean_parts others z h.branches) e h.mean); along = joints h.along }
+      record {
+        tree = Joint h.branches;
+        means = joint s
+            (subst (λ (z : List (Bool × ℕ)). Mean_parts others z h.branches) e h.mean);
+        along = joints h.along;
+      }
 
   mutual
     pub tree_there : {n : ℕ} {t : Tree L} → Means_way bodies n t → HasTree same others n t

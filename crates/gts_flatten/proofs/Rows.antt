@@ -14,11 +14,13 @@ module _ {A B : Type 0} {R : A → B → Type 0} where
   rows_start ys e = subst (λ z. Along R [] z) (sym e) none
 
   -- one item more
-  pub rows_next : (xs : List A) (n : ℕ) (x : A) (y : B) (ys zs : List B) → n < length xs → x ≡ get_or xs n x → Along R (take n xs) ys → R x y
+  pub rows_next : (xs : List A) (n : ℕ) (x : A) (y : B) (ys zs : List B) → n < length xs → x ≡ get_or xs n x
+      → Along R (take n xs) ys → R x y
       → zs ≡ ys ++ y ∷ [] → Along R (take (n + 1) xs) zs
   rows_next xs n x y ys zs h e k r j =
       subst (λ z. Along R (take (n + 1) xs) z) (sym j)
-      (subst (λ z. Along R z (ys ++ y ∷ [])) (sym (take_more xs n x h ∙ ap (λ z. take n xs ++ z ∷ []) (sym e))) (along_append k (one_and r none)))
+      (subst (λ z. Along R z (ys ++ y ∷ [])) (sym (take_more xs n x h ∙ ap (λ z. take n xs ++ z ∷ []) (sym e)))
+      (along_append k (one_and r none)))
 
   -- all items
   pub rows_end : (xs : List A) (n : ℕ) (ys : List B) → length xs ≤ n → Along R (take n xs) ys → Along R xs ys
@@ -26,7 +28,8 @@ module _ {A B : Type 0} {R : A → B → Type 0} where
 
 module _ {A : Type 0} where
   -- the same items: one more
-  pub same_next : (xs : List A) (n : ℕ) (x y : A) (ys zs : List A) → n < length xs → x ≡ get_or xs n x → ys ≡ take n xs → y ≡ x → zs ≡ ys ++ y ∷ [] → zs ≡ take (n + 1) xs
+  pub same_next : (xs : List A) (n : ℕ) (x y : A) (ys zs : List A) → n < length xs → x ≡ get_or xs n x → ys ≡ take n xs
+      → y ≡ x → zs ≡ ys ++ y ∷ [] → zs ≡ take (n + 1) xs
   same_next xs n x y ys zs h e k r j =
       j ∙ (ap (λ z. z ++ y ∷ []) k ∙ (ap (λ z. take n xs ++ z ∷ []) (r ∙ e) ∙ sym (take_more xs n x h)))
 
@@ -35,8 +38,10 @@ module _ {A : Type 0} where
   same_end xs n ys h k = k ∙ take_all n xs h
 
 -- what was looked up among the ways of an event that stands there
-pub found_way : (events : List DeclaredEvent) (event place : ℕ) (d : DeclaredEvent) (ways : List DeclaredWay) (r : Option (Bor DeclaredWay)) → Stands events event d → ways ≡ d.ways.items
-    → is_some r ≡ ltb place (length ways) → IfSome r (λ x. x.now ≡ get_or ways place x.now) → IsWayAt events event place (option_copied r)
+pub found_way : (events : List DeclaredEvent) (event place : ℕ) (d : DeclaredEvent) (ways : List DeclaredWay)
+    (r : Option (Bor DeclaredWay)) → Stands events event d → ways ≡ d.ways.items
+    → is_some r ≡ ltb place (length ways) → IfSome r (λ x. x.now ≡ get_or ways place x.now)
+    → IsWayAt events event place (option_copied r)
 found_way events event place d ways r s e h i = go (option_copied r) (copied_get ways place r h i)
   where
     go : (o : Option DeclaredWay) → o ≡ slice_get ways place → IsWayAt events event place o

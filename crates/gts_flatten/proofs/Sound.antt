@@ -63,10 +63,12 @@ range_stands a zero k x s = absurd (stands_none k x s)
 range_stands a (suc c) zero x s = (let h : a ≡ x = cc in omega (arith, h), omega arith)
 range_stands a (suc c) (suc k) x s = let r = range_stands (a + 1) c k x s in (let e = r.0 in omega (arith, e), let l = r.1 in omega (arith, l))
 
-module _ (b : Bound) (ways : List (List (SystemWay ℕ))) (are : AreWays (declared_from 0 b.events.items) ways) (plan : List WayPlan)
+module _ (b : Bound) (ways : List (List (SystemWay ℕ))) (are : AreWays (declared_from 0 b.events.items) ways)
+    (plan : List WayPlan)
     (is : map planned_of plan ≡ planned_ways (map length ways) (declared_from 0 b.events.items)) where
   counted : AreCounts (declared_from 0 b.events.items) (map length ways)
-  counted = are_counts (declared_from 0 b.events.items) (declared_keyed b.events.items) (declared_key b.events.items) ways are
+  counted = are_counts (declared_from 0 b.events.items) (declared_keyed b.events.items) (declared_key b.events.items)
+      ways are
 
   counts_long : length (map length ways) ≡ length b.events.items
   counts_long = counted.long ∙ declared_length 0 b.events.items
@@ -81,7 +83,15 @@ module _ (b : Bound) (ways : List (List (SystemWay ℕ))) (are : AreWays (declar
   module _ (s : IsSoundBound b) (p : GtsParts) (made : AreMadeOf b (map length ways) plan p) where
     -- the same over the bound symbols, units and variables
     abbrev over : GtsParts
-    over = record { symbols = b.symbols; units = b.units; variables = b.variables; events = p.events; ways = p.ways; assigns = p.assigns; observers = p.observers }
+    over = record {
+      symbols = b.symbols;
+      units = b.units;
+      variables = b.variables;
+      events = p.events;
+      ways = p.ways;
+      assigns = p.assigns;
+      observers = p.observers;
+    }
 
     is_over : IsOver b over
     is_over = record { symbols = refl; units = refl; variables = refl }
@@ -119,24 +129,30 @@ module _ (b : Bound) (ways : List (List (SystemWay ℕ))) (are : AreWays (declar
         omega (arith, u, i, l)
 
     -- the numbers of an event's ways
-    numbered_ways : (n : ℕ) (e : Event) → Stands p.events.items n e → map (λ (w : WayId). w.n) e.ways.items ≡ ways_at (map length ways) n
+    numbered_ways : (n : ℕ) (e : Event) → Stands p.events.items n e
+        → map (λ (w : WayId). w.n) e.ways.items ≡ ways_at (map length ways) n
     numbered_ways n e h =
         let d = stands_some b.events.items n (let l = stands_within p.events.items n e h in let m = made.events.long in omega (arith, l, m)) in
         (made.events.each n d.0 e d.1 h).ways
 
-    pub id_at : (n k : ℕ) (e : Event) (id : WayId) → Stands p.events.items n e → Stands e.ways.items k id → (id.n ≡ first_of (map length ways) n + k) × (k < slice_index (map length ways) n)
+    pub id_at : (n k : ℕ) (e : Event) (id : WayId) → Stands p.events.items n e → Stands e.ways.items k id
+        → (id.n ≡ first_of (map length ways) n + k) × (k < slice_index (map length ways) n)
     id_at n k e id h i =
         range_stands (first_of (map length ways) n) (slice_index (map length ways) n) k id.n
         (subst (λ z. Stands z k id.n) (numbered_ways n e h) (stands_map (λ (w : WayId). w.n) e.ways.items k id i))
 
-    pub ids_long : (n : ℕ) (e : Event) → Stands p.events.items n e → length e.ways.items ≡ slice_index (map length ways) n
+    pub ids_long : (n : ℕ) (e : Event) → Stands p.events.items n e
+        → length e.ways.items ≡ slice_index (map length ways) n
     ids_long n e h =
-        sym (length-map e.ways.items (λ (z : WayId). z.n)) ∙ (ap length (numbered_ways n e h) ∙ length_range (first_of (map length ways) n) (slice_index (map length ways) n))
+        sym (length-map e.ways.items (λ (z : WayId). z.n))
+        ∙ (ap length (numbered_ways n e h)
+        ∙ length_range (first_of (map length ways) n) (slice_index (map length ways) n))
 
     events_long : length p.events.items ≡ length (map length ways)
     events_long = let m = made.events.long in let l = counts_long in omega (arith, m, l)
 
-    event_ways : (n k : ℕ) (e : Event) (id : WayId) → Stands p.events.items n e → Stands e.ways.items k id → IsListed p n k id
+    event_ways : (n k : ℕ) (e : Event) (id : WayId) → Stands p.events.items n e → Stands e.ways.items k id
+        → IsListed p n k id
     event_ways n k e id h i =
         let a = id_at n k e id h i in
         let in_events = stands_within p.events.items n e h in
@@ -183,13 +199,19 @@ module _ (b : Bound) (ways : List (List (SystemWay ℕ))) (are : AreWays (declar
       pub number : n ≡ first_of (map length ways) event + place
       pub copy : HasTree (Transition_renames same) (bodies_of p) n way
 
-    pub copied_at : (event place : ℕ) (own : List (SystemWay ℕ)) (way : SystemWay ℕ) → Stands ways event own → Stands own place way
+    pub copied_at : (event place : ℕ) (own : List (SystemWay ℕ)) (way : SystemWay ℕ) → Stands ways event own
+        → Stands own place way
         → HasTree (Transition_renames same) (bodies_of p) (first_of (map length ways) event + place) way
     copied_at event place own way i j =
         let es = declared_from 0 b.events.items in
-        let resolved = plan_resolved es (map length ways) es (stands_by es (record { numbered = declared_key b.events.items })) in
-        let rows = bodies_along b.events.items made.ways (subst (λ (z : List PlannedWay). Along (IsResolved es) z (all_bodies (map length ways) es)) (sym is) resolved) in
-        tree_there (Transition_renames same) (all_bodies (map length ways) es) (bodies_of p) rows (way_means es (declared_keyed b.events.items) (declared_key b.events.items) ways are way event place own i j)
+        let resolved = plan_resolved es (map length ways) es
+        (stands_by es (record { numbered = declared_key b.events.items })) in
+        let rows = bodies_along b.events.items made.ways
+        (subst (λ (z : List PlannedWay). Along (IsResolved es) z (all_bodies (map length ways) es)) (sym is)
+        resolved) in
+        tree_there (Transition_renames same) (all_bodies (map length ways) es) (bodies_of p) rows
+        (way_means es (declared_keyed b.events.items) (declared_key b.events.items) ways are way event place own i
+        j)
 
     copied_way : (n : ℕ) → n < length p.ways.items → IsCopiedWay n
     copied_way n l =
@@ -197,7 +219,8 @@ module _ (b : Bound) (ways : List (List (SystemWay ℕ))) (are : AreWays (declar
         let row = along_back plan p.ways.items made.ways n w.0 w.1 in
         let q = planned_place (map length ways) b.events.items plan counted is n row.0 row.1 in
         let own = stands_some ways q.0 (let x = q.2 in let m = counts_long in let y = length-map ways length in omega (arith, x, m, y)) in
-        let long : slice_index (map length ways) q.0 ≡ length own.0 = read_number (map length ways) q.0 (length own.0) (stands_map length ways q.0 own.0 own.1) in
+        let long : slice_index (map length ways) q.0 ≡ length own.0 =
+        read_number (map length ways) q.0 (length own.0) (stands_map length ways q.0 own.0 own.1) in
         let t = stands_some own.0 q.1 (let x = q.4 in omega (arith, x, long)) in
         record {
           event = q.0;
@@ -207,17 +230,20 @@ module _ (b : Bound) (ways : List (List (SystemWay ℕ))) (are : AreWays (declar
           stands = own.1;
           there = t.1;
           number = q.3;
-          copy = subst (λ (z : ℕ). HasTree (Transition_renames same) (bodies_of p) z t.0) (sym q.3) (copied_at q.0 q.1 own.0 t.0 own.1 t.1);
+          copy = subst (λ (z : ℕ). HasTree (Transition_renames same) (bodies_of p) z t.0) (sym q.3)
+              (copied_at q.0 q.1 own.0 t.0 own.1 t.1);
         }
 
-    trees : (n : ℕ) → n < length p.ways.items → (w : SystemWay ℕ) × Means_way (bodies_of p) n w × (height w ≤ length p.ways.items)
+    trees : (n : ℕ) → n < length p.ways.items
+        → (w : SystemWay ℕ) × Means_way (bodies_of p) n w × (height w ≤ length p.ways.items)
     trees n l =
         let c = copied_way n l in
         let h = height_within (bodies_of p) n c.copy.tree c.copy.means in
         let m = length-map p.ways.items body_of in
         (c.copy.tree, c.copy.means, omega (arith, h, m))
 
-    part_within : {ps : List (Bool × ℕ)} {bs : _} → Mean_parts (bodies_of p) ps bs → (k : ℕ) (x : Bool × ℕ) → Stands ps k x → x.1 < length p.ways.items
+    part_within : {ps : List (Bool × ℕ)} {bs : _} → Mean_parts (bodies_of p) ps bs → (k : ℕ) (x : Bool × ℕ)
+        → Stands ps k x → x.1 < length p.ways.items
     part_within no_part k x h = absurd (stands_none k x h)
     part_within (part {must = must} {n = n} w m) zero x h = let e : (must, n) ≡ x = cc in subst (λ (z : Bool × ℕ). z.1 < length p.ways.items) e (means_within w)
       where
@@ -228,62 +254,80 @@ module _ (b : Bound) (ways : List (List (SystemWay ℕ))) (are : AreWays (declar
 
     -- Bodies
 
-    made_body : (e : ℕ) {pb : PlanBody} {wb : WayBody} (guard : Expr VarId) (action : Vec Assign Global) → IsMadeOf b.events.items e pb wb → wb ≡ Local guard action
+    made_body : (e : ℕ) {pb : PlanBody} {wb : WayBody} (guard : Expr VarId) (action : Vec Assign Global)
+        → IsMadeOf b.events.items e pb wb → wb ≡ Local guard action
         → IsTransitionAt b.events.items e (place_of pb) (Local guard action)
     made_body e guard action (acts {place = k} t) i = subst (λ (z : WayBody). IsTransitionAt b.events.items e k z) i t
     made_body e guard action (joins k) i = absurd cc
 
-    typed_guard : (e k : ℕ) (guard : Expr VarId) (action : Vec Assign Global) → IsTransitionAt b.events.items e k (Local guard action) → IsTyped p guard kind.Truth
+    typed_guard : (e k : ℕ) (guard : Expr VarId) (action : Vec Assign Global)
+        → IsTransitionAt b.events.items e k (Local guard action) → IsTyped p guard kind.Truth
     typed_guard e k guard action t = go t.way t.there t.is_transition
       where
-        go : (way : DeclaredWay) → Stands t.declared.ways.items k way → IsTransitionOf way (Local guard action) → IsTyped p guard kind.Truth
+        go : (way : DeclaredWay) → Stands t.declared.ways.items k way → IsTransitionOf way (Local guard action)
+            → IsTyped p guard kind.Truth
         go way there (transition {guard = g} {action = a} c i) =
             typed_there g guard kind.Truth
-            (s.guards over is_over t.declared g a (one_here b.events.items e t.declared t.stands) (one_here t.declared.ways.items k (declared.Local g a) there)) c
+            (s.guards over is_over t.declared g a (one_here b.events.items e t.declared t.stands)
+            (one_here t.declared.ways.items k (declared.Local g a) there)) c
 
-    typed_action : (e k : ℕ) (guard : Expr VarId) (action : Vec Assign Global) → IsTransitionAt b.events.items e k (Local guard action) → (a : Assign) → IsOneOf action.items a → IsAssignTo p true a
+    typed_action : (e k : ℕ) (guard : Expr VarId) (action : Vec Assign Global)
+        → IsTransitionAt b.events.items e k (Local guard action) → (a : Assign) → IsOneOf action.items a
+        → IsAssignTo p true a
     typed_action e k guard action t a o = go t.way t.there t.is_transition
       where
-        go : (way : DeclaredWay) → Stands t.declared.ways.items k way → IsTransitionOf way (Local guard action) → IsAssignTo p true a
+        go : (way : DeclaredWay) → Stands t.declared.ways.items k way → IsTransitionOf way (Local guard action)
+            → IsAssignTo p true a
         go way there (transition {guard = g} {action = x} c i) =
-            let m = s.actions over is_over t.declared g x (one_here b.events.items e t.declared t.stands) (one_here t.declared.ways.items k (declared.Local g x) there) in
-            assigns_sound over p symbols_long made.variables true (assigns_of_act x) action.items (λ z h. sound_assigns over true x z m h) i a o
+            let m = s.actions over is_over t.declared g x (one_here b.events.items e t.declared t.stands)
+            (one_here t.declared.ways.items k (declared.Local g x) there) in
+            assigns_sound over p symbols_long made.variables true (assigns_of_act x) action.items
+            (λ z h. sound_assigns over true x z m h) i a o
 
-    guards : (n : ℕ) (w : Way) (guard : Expr VarId) (action : Vec Assign Global) → Stands p.ways.items n w → w.body ≡ Local guard action → IsTyped p guard kind.Truth
+    guards : (n : ℕ) (w : Way) (guard : Expr VarId) (action : Vec Assign Global) → Stands p.ways.items n w
+        → w.body ≡ Local guard action → IsTyped p guard kind.Truth
     guards n w guard action h i =
         let row = along_back plan p.ways.items made.ways n w h in
         typed_guard row.0.event.n (place_of row.0.body) guard action (made_body row.0.event.n guard action row.2.body i)
 
-    actions : (n : ℕ) (w : Way) (guard : Expr VarId) (action : Vec Assign Global) → Stands p.ways.items n w → w.body ≡ Local guard action → (a : Assign) → IsOneOf action.items a → IsAssignTo p true a
+    actions : (n : ℕ) (w : Way) (guard : Expr VarId) (action : Vec Assign Global) → Stands p.ways.items n w
+        → w.body ≡ Local guard action → (a : Assign) → IsOneOf action.items a → IsAssignTo p true a
     actions n w guard action h i a o =
         let row = along_back plan p.ways.items made.ways n w h in
-        typed_action row.0.event.n (place_of row.0.body) guard action (made_body row.0.event.n guard action row.2.body i) a o
+        typed_action row.0.event.n (place_of row.0.body) guard action
+        (made_body row.0.event.n guard action row.2.body i) a o
 
-    parts_of_tree : (n : ℕ) (t : SystemWay ℕ) (ps : List (Bool × ℕ)) → Means_way (bodies_of p) n t → Stands (bodies_of p) n (Joins ps) → (k : ℕ) (x : Bool × ℕ) → Stands ps k x → x.1 < length p.ways.items
+    parts_of_tree : (n : ℕ) (t : SystemWay ℕ) (ps : List (Bool × ℕ)) → Means_way (bodies_of p) n t
+        → Stands (bodies_of p) n (Joins ps) → (k : ℕ) (x : Bool × ℕ) → Stands ps k x → x.1 < length p.ways.items
     parts_of_tree n t ps (leaf i) j k x h = absurd (let e = stands_one (bodies_of p) n _ _ i j in cc)
     parts_of_tree n t ps (joint {parts = qs} i m) j k x h =
         let e : Joins qs ≡ Joins ps = stands_one (bodies_of p) n _ _ i j in
         let f : qs ≡ ps = cc in
         part_within m k x (subst (λ (z : List (Bool × ℕ)). Stands z k x) (sym f) h)
 
-    parts : (n : ℕ) (w : Way) (ps : Vec (Bool × WayId) Global) → Stands p.ways.items n w → w.body ≡ Sync ps → (x : Bool × WayId) → IsOneOf ps.items x → x.1.n < length p.ways.items
+    parts : (n : ℕ) (w : Way) (ps : Vec (Bool × WayId) Global) → Stands p.ways.items n w → w.body ≡ Sync ps
+        → (x : Bool × WayId) → IsOneOf ps.items x → x.1.n < length p.ways.items
     parts n w ps h i x o =
         let c = copied_way n (stands_within p.ways.items n w h) in
-        let here = subst (λ (z : WayBody). Stands (bodies_of p) n (of_body z)) i (stands_map body_of p.ways.items n w h) in
-        parts_of_tree n c.copy.tree (map part_of ps.items) c.copy.means here o.place (part_of x) (stands_map part_of ps.items o.place x o.stands)
+        let here = subst (λ (z : WayBody). Stands (bodies_of p) n (of_body z)) i
+        (stands_map body_of p.ways.items n w h) in
+        parts_of_tree n c.copy.tree (map part_of ps.items) c.copy.means here o.place (part_of x)
+        (stands_map part_of ps.items o.place x o.stands)
 
     -- Assertions and observers
 
     assertions : (a : Assign) → IsOneOf p.assigns.items a → IsAssignTo p false a
     assertions a o =
-        assigns_sound over p symbols_long made.variables false (flat_map assigns_of_act b.assertions.items) p.assigns.items
+        assigns_sound over p symbols_long made.variables false (flat_map assigns_of_act b.assertions.items)
+        p.assigns.items
         (λ z h. sound_all over false b.assertions.items z (λ x k. s.assertions over is_over x k) h) made.assigns a o
 
     observers : (o : Observer) → IsOneOf p.observers.items o → IsTyped p o.value o.kind
     observers o i =
         let x = along_back b.observers.items p.observers.items made.observers i.place o i.stands in
         subst (λ (z : ValueKind). IsTyped p o.value z) (sym x.2.kind)
-        (typed_there x.0.value o.value x.0.kind (s.observers over is_over x.0 (one_here b.observers.items i.place x.0 x.1)) x.2.value)
+        (typed_there x.0.value o.value x.0.kind
+        (s.observers over is_over x.0 (one_here b.observers.items i.place x.0 x.1)) x.2.value)
 
     short : most_ways ways ≤ 256 → length (flat_map assigns_of_act b.assertions.items) < 2 ^ 32 → AreShort p
     short few l = record {

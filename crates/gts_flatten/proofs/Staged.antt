@@ -46,7 +46,8 @@ record WithWays (es ds : List (Declared (Transition ℕ) ℕ)) (ways : List (Lis
   are : Along (IsExpanded es) ds events
   have_ways : map (λ (e : Event ℕ). e.ways) events ≡ ways
 
-with_ways : (es : List (Declared (Transition ℕ) ℕ)) {ds : List (Declared (Transition ℕ) ℕ)} {ways : List (List (Way ℕ))} → Along (λ d ts. Ways es d.key ts) ds ways
+with_ways : (es : List (Declared (Transition ℕ) ℕ)) {ds : List (Declared (Transition ℕ) ℕ)} {ways : List (List (Way ℕ))}
+    → Along (λ d ts. Ways es d.key ts) ds ways
     → WithWays es ds ways
 with_ways es none = record { events = []; are = none; have_ways = refl }
 with_ways es (one_and {a = d} {b = ts} w ws) =
@@ -57,11 +58,13 @@ with_ways es (one_and {a = d} {b = ts} w ws) =
       have_ways = ap (λ (z : List (List (Way ℕ))). ts ∷ z) r.have_ways;
     }
 
-along_mapped : {A B C : Type 0} (R : A → C → Type 0) (f : B → C) {xs : List A} {ys : List B} → Along (λ a b. R a (f b)) xs ys → Along R xs (map f ys)
+along_mapped : {A B C : Type 0} (R : A → C → Type 0) (f : B → C) {xs : List A} {ys : List B}
+    → Along (λ a b. R a (f b)) xs ys → Along R xs (map f ys)
 along_mapped R f none = none
 along_mapped R f (one_and h hs) = one_and h (along_mapped R f hs)
 
-module _ (d : Declarations) (b : Bound) (from : IsBoundFrom d b) (different : AreDifferent (events d.model d.units)) where
+module _ (d : Declarations) (b : Bound) (from : IsBoundFrom d b)
+    (different : AreDifferent (events d.model d.units)) where
   things : List Thing
   things = variables d.model d.units
 
@@ -80,11 +83,16 @@ module _ (d : Declarations) (b : Bound) (from : IsBoundFrom d b) (different : Ar
   meant ways are =
       let es = declared_from 0 b.events.items in
       let w = with_ways es are in
-      let v = events_back (IsNumber (variables d.model d.units)) (IsNumber (events d.model d.units)) d.events es from.events_are
+      let v = events_back (IsNumber (variables d.model d.units)) (IsNumber (events d.model d.units)) d.events es
+      from.events_are
       (λ x y n r s. stands_one (events d.model d.units) n x y r s) w.are in
       record {
         system = record { net = d.net; events = v.0; observers = d.observers };
-        flat = record { net = net_of_bound b; events = w.events; observers = map (λ (o : Observer). numbered o.value) b.observers.items };
+        flat = record {
+          net = net_of_bound b;
+          events = w.events;
+          observers = map (λ (o : Observer). numbered o.value) b.observers.items;
+        };
         declared = record { net = refl; events = v.1; observers = refl };
         net = refl;
         expanded = w.are;
@@ -95,7 +103,8 @@ module _ (d : Declarations) (b : Bound) (from : IsBoundFrom d b) (different : Ar
           variables = from.net.variables;
           assertions = from.net.assertions;
           events = v.2;
-          observers = along_mapped (Expr_renames (IsNumber (variables d.model d.units))) (λ (o : Observer). numbered o.value) from.observers_are;
+          observers = along_mapped (Expr_renames (IsNumber (variables d.model d.units)))
+              (λ (o : Observer). numbered o.value) from.observers_are;
         };
       }
 
@@ -117,7 +126,11 @@ module _ (d : Declarations) (b : Bound) (from : IsBoundFrom d b) (different : Ar
     nodes = nodes_alike m.system m.flat m.is_flat.events m.is_flat.assertions m.is_flat.observers
 
     pub is_system : IsSystemOf b.events.items b.assertions.items b.observers.items m.flat
-    is_system = record { events_are = m.expanded; assertions_are = ap (λ x. x.assertions) m.net; observers_are = m.observers }
+    is_system = record {
+      events_are = m.expanded;
+      assertions_are = ap (λ x. x.assertions) m.net;
+      observers_are = m.observers;
+    }
 
   -- a refusal of the expansion
   pub refused : (r : RuleFault) → Expands b.events.items (Err r) → Flattens d (Err r)
@@ -125,11 +138,13 @@ module _ (d : Declarations) (b : Bound) (from : IsBoundFrom d b) (different : Ar
   refused r (passes e (kept k) (refuses h)) = elim h [ ]
   refused r (passes e (kept k) (passes ways (have are) (refuses (passes_it l)))) =
       let m = meant ways are in let i = most m in
-      passes d (kept (kept_source d b from different k)) (passes (elaborated m) (has_system m) (refuses (passes_it (omega (arith, l, i)))))
+      passes d (kept (kept_source d b from different k))
+      (passes (elaborated m) (has_system m) (refuses (passes_it (omega (arith, l, i)))))
   refused r (passes e (kept k) (passes ways (have are) (passes w (fits l) (passes_it n)))) =
       let m = meant ways are in let i = most m in let j = parts m in
       passes d (kept (kept_source d b from different k))
-      (passes (elaborated m) (has_system m) (passes (elaborated m) (fits (omega (arith, l, i))) (refuses (passes_it (omega (arith, n, j))))))
+      (passes (elaborated m) (has_system m)
+      (passes (elaborated m) (fits (omega (arith, l, i))) (refuses (passes_it (omega (arith, n, j))))))
 
   pub refused_told : (t : Option RuleFault) → IsRefusal (Expands b.events.items) t → IsRefusal (Flattens d) t
   refused_told (Some r) h = refused r h
@@ -140,7 +155,8 @@ module _ (d : Declarations) (b : Bound) (from : IsBoundFrom d b) (different : Ar
     pub meant : Meant ways
     pub are : AreWays (declared_from 0 b.events.items) ways
     pub few : most_ways ways ≤ limit_of TheWays
-    pub stage : (answer : Result Elaborated RuleFault) → Fits ExpressionNodes nodes_counted (elaborated meant) answer → Flattens d answer
+    pub stage : (answer : Result Elaborated RuleFault) → Fits ExpressionNodes nodes_counted (elaborated meant) answer
+        → Flattens d answer
 
   pub passed : (ways : List (List (Way ℕ))) → Expands b.events.items (Ok ways) → Passed ways
   passed ways (passes e (kept k) (passes w (have are) (passes v (fits l) (fits n)))) =
@@ -150,11 +166,14 @@ module _ (d : Declarations) (b : Bound) (from : IsBoundFrom d b) (different : Ar
         are = are;
         few = l;
         stage = λ answer h. passes d (kept (kept_source d b from different k))
-            (passes (elaborated m) (has_system m) (passes (elaborated m) (fits (omega (arith, l, i))) (passes (elaborated m) (fits (omega (arith, n, j))) h)));
+            (passes (elaborated m) (has_system m)
+            (passes (elaborated m) (fits (omega (arith, l, i)))
+            (passes (elaborated m) (fits (omega (arith, n, j))) h)));
       }
 
   -- a refusal for the nodes
-  pub nodes_refused : (ways : List (List (Way ℕ))) (p : Passed ways) (t : Option RuleFault) → IsRefusal (Fits ExpressionNodes system_nodes p.meant.flat) t → IsRefusal (Flattens d) t
+  pub nodes_refused : (ways : List (List (Way ℕ))) (p : Passed ways) (t : Option RuleFault)
+      → IsRefusal (Fits ExpressionNodes system_nodes p.meant.flat) t → IsRefusal (Flattens d) t
   nodes_refused ways p (Some r) h = go r h
     where
       go : (r : RuleFault) → Fits ExpressionNodes system_nodes p.meant.flat (Err r) → Flattens d (Err r)
@@ -162,24 +181,32 @@ module _ (d : Declarations) (b : Bound) (from : IsBoundFrom d b) (different : Ar
   nodes_refused ways p None h = tt
 
   -- all limits are kept
-  pub flattens : (ways : List (List (Way ℕ))) (p : Passed ways) (g : System ℕ) → Fits ExpressionNodes system_nodes p.meant.flat (Ok g) → Flattens d (Ok (elaborated p.meant))
+  pub flattens : (ways : List (List (Way ℕ))) (p : Passed ways) (g : System ℕ)
+      → Fits ExpressionNodes system_nodes p.meant.flat (Ok g) → Flattens d (Ok (elaborated p.meant))
   flattens ways p g (fits l) = let i = nodes p.meant in p.stage (Ok (elaborated p.meant)) (fits (omega (arith, l, i)))
 
   -- an error that tells a refusal
-  pub refused_so : (r : Result GtsParts RuleFault) (x e : RuleFault) → r ≡ Err x → x ≡ e → IsRefusal (Flattens d) (rule_told e) → Meets Flattens IsFlat d r
+  pub refused_so : (r : Result GtsParts RuleFault) (x e : RuleFault) → r ≡ Err x → x ≡ e
+      → IsRefusal (Flattens d) (rule_told e) → Meets Flattens IsFlat d r
   refused_so r x e i j h = subst (λ (z : Result GtsParts RuleFault). Meets Flattens IsFlat d z) (sym (i ∙ ap Err j)) h
 
 -- Without declarations
 
 -- the ways that an expansion within the limits gives
-pub ways_of : (events : List DeclaredEvent) (ways : List (List (Way ℕ))) → Expands events (Ok ways) → AreWays (declared_from 0 events) ways × (most_ways ways ≤ 256)
+pub ways_of : (events : List DeclaredEvent) (ways : List (List (Way ℕ))) → Expands events (Ok ways)
+    → AreWays (declared_from 0 events) ways × (most_ways ways ≤ 256)
 ways_of events ways (passes e (kept k) (passes w (have are) (passes v (fits l) (fits n)))) = (are, l)
 
 -- the flat system of bound forms
-pub flat_of : (b : Bound) (ways : List (List (Way ℕ))) → AreWays (declared_from 0 b.events.items) ways → (flat : System ℕ) × IsSystemOf b.events.items b.assertions.items b.observers.items flat
+pub flat_of : (b : Bound) (ways : List (List (Way ℕ))) → AreWays (declared_from 0 b.events.items) ways
+    → (flat : System ℕ) × IsSystemOf b.events.items b.assertions.items b.observers.items flat
 flat_of b ways are =
     let w = with_ways (declared_from 0 b.events.items) are in (
-      record { net = net_of_bound b; events = w.events; observers = map (λ (o : Observer). numbered o.value) b.observers.items },
+      record {
+        net = net_of_bound b;
+        events = w.events;
+        observers = map (λ (o : Observer). numbered o.value) b.observers.items;
+      },
       record { events_are = w.are; assertions_are = refl; observers_are = refl },
     )
 
@@ -206,11 +233,13 @@ assigns_counted [] = omega arith
 assigns_counted (a ∷ xs) = let n = nodes_one a.value in let i = assigns_counted xs in omega (arith, n, i)
 
 -- there are no more assignments than nodes
-pub few_assigns : (b : Bound) (f g : System ℕ) → IsSystemOf b.events.items b.assertions.items b.observers.items f → Fits ExpressionNodes system_nodes f (Ok g)
+pub few_assigns : (b : Bound) (f g : System ℕ) → IsSystemOf b.events.items b.assertions.items b.observers.items f
+    → Fits ExpressionNodes system_nodes f (Ok g)
     → length (flat_map assigns_of_act b.assertions.items) < 2 ^ 32
 few_assigns b f g is (fits l) =
     let n = assigns_counted f.net.assertions in
-    let e : length f.net.assertions ≡ length (flat_map assigns_of_act b.assertions.items) = ap length is.assertions_are in
+    let e : length f.net.assertions ≡ length (flat_map assigns_of_act b.assertions.items) =
+    ap length is.assertions_are in
     omega (arith, l, n, e)
 
 -- bound forms whose synchronisations can be expanded
@@ -218,10 +247,14 @@ pub expandable : (b : Bound) → IsSoundBound b → AreExpandable b.events.items
 expandable b s = record {
   few = s.few.events;
   short = λ n e h. s.few.ways e (one_here b.events.items n e h);
-  parts = λ n k e parts at h o part i. s.parts e parts at part (one_here b.events.items n e h) (one_here e.ways.items k (Sync parts at) o) i;
+  parts = λ n k e parts at h o part i. s.parts e parts at part (one_here b.events.items n e h)
+      (one_here e.ways.items k (Sync parts at) o) i;
 }
 
 -- no event stands twice
-pub events_different : (m : RootedModel) (units : List UnitPath) (d : Declarations) → IsKept m → AreUnits m units → AreOf m units d → AreDifferent (events d.model d.units)
+pub events_different : (m : RootedModel) (units : List UnitPath) (d : Declarations) → IsKept m → AreUnits m units
+    → AreOf m units d → AreDifferent (events d.model d.units)
 events_different m units d k are of =
-    subst (λ (z : RootedModel). AreDifferent (events z d.units)) (sym of.model) (subst (λ (z : List UnitPath). AreDifferent (events m z)) (sym of.units_are) (things_different m is_event units k are))
+    subst (λ (z : RootedModel). AreDifferent (events z d.units)) (sym of.model)
+    (subst (λ (z : List UnitPath). AreDifferent (events m z)) (sym of.units_are)
+    (things_different m is_event units k are))

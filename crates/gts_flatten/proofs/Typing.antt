@@ -55,7 +55,8 @@ pub record IsTypedBy (p : GtsParts) (e : Expr ℕ) (k : ValueKind) : Type 0 wher
   pub names : (v : Value) → IsPart (Constant v) (out-Expr ℕ e) → IsNamed p v
 
 -- a constant stands where a related one does
-constant_there : {V W : Type 0} (R : V → W → Type 0) {e : Level V} {f : Level W} (v : Value) → IsPart (Constant v) e → Renames R e f → IsPart (Constant v) f
+constant_there : {V W : Type 0} (R : V → W → Type 0) {e : Level V} {f : Level W} (v : Value) → IsPart (Constant v) e
+    → Renames R e f → IsPart (Constant v) f
 constant_there {V = V} {W = W} R {e = e} {f = f} v p q = let o = part_there R p q in go o.is_part o.renames
   where
     go : {g : Level W} → IsPart g f → Renames R (Constant v) g → IsPart (Constant v) f
@@ -73,18 +74,21 @@ module _ (p : GtsParts) where
 
   pub by_variable : (e : Expr VarId) (k : ValueKind) → IsTypedBy p (numbered e) k → IsTyped p e k
   by_variable e k t = record {
-    typed = kind_renamed ℕ VarId (kind_by_number p) (kind_at p) (turned IsNumber) (λ n x j. sym (ap (kind_by_number p) j)) t.typed (renames_turned IsNumber (renames_numbered e));
+    typed = kind_renamed ℕ VarId (kind_by_number p) (kind_at p) (turned IsNumber)
+        (λ n x j. sym (ap (kind_by_number p) j)) t.typed (renames_turned IsNumber (renames_numbered e));
     variables = λ x m. let o = mentions_carry IsNumber x m (renames_numbered e) in subst (λ (z : ℕ). z < length p.variables.items) (sym o.related) (t.variables o.other o.stands);
     symbols = λ v h. t.names v (constant_there IsNumber v h (renames_numbered e));
   }
 
 -- domains
-found_kind : {xs ys : List Variable} → Along IsSameVariable xs ys → (n : ℕ) → kind_of_found (slice_get xs n) ≡ kind_of_found (slice_get ys n)
+found_kind : {xs ys : List Variable} → Along IsSameVariable xs ys → (n : ℕ)
+    → kind_of_found (slice_get xs n) ≡ kind_of_found (slice_get ys n)
 found_kind none n = refl
 found_kind (one_and h hs) zero = domain_kind h.domain
 found_kind (one_and h hs) (suc n) = found_kind hs n
 
--- an assignment over plain numbers to a state variable, or a flow, of a value of its kind under conditions that are truth values
+-- an assignment over plain numbers to a state variable, or a flow, of a value of its kind under conditions that are
+-- truth values
 pub record IsSoundAssign (q : GtsParts) (to_state : Bool) (a : s.Assign ℕ) : Type 0 where
   pub variable : Variable
   pub stands : Stands q.variables.items a.target variable
@@ -93,63 +97,84 @@ pub record IsSoundAssign (q : GtsParts) (to_state : Bool) (a : s.Assign ℕ) : T
   pub conditions : (c : Expr ℕ × Bool) → IsOneOf a.conditions c → IsTypedBy q c.0 kind.Truth
 
 module _ (q : GtsParts) (to_state : Bool) where
-  more : (cs : Conditions) (e : Expr ℕ) (b : Bool) → ((c : Expr ℕ × Bool) → IsOneOf cs c → IsTypedBy q c.0 kind.Truth) → IsTypedBy q e kind.Truth
+  more : (cs : Conditions) (e : Expr ℕ) (b : Bool) → ((c : Expr ℕ × Bool) → IsOneOf cs c → IsTypedBy q c.0 kind.Truth)
+      → IsTypedBy q e kind.Truth
       → (c : Expr ℕ × Bool) → IsOneOf (cs ++ (e, b) ∷ []) c → IsTypedBy q c.0 kind.Truth
   more cs e b each t c h =
       let last : List (Expr ℕ × Bool) = [] in
       elim (one_split cs ((e, b) ∷ last) c h) [
         | inl j ↦ each c j
-        | inr j ↦ elim (one_cases (e, b) last c j) [ inl k ↦ subst (λ (z : Expr ℕ × Bool). IsTypedBy q z.0 kind.Truth) k t | inr k ↦ absurd (one_none c k) ]
+        | inr j ↦ elim (one_cases (e, b) last c j)
+            [ inl k ↦ subst (λ (z : Expr ℕ × Bool). IsTypedBy q z.0 kind.Truth) k t | inr k ↦ absurd (one_none c k) ]
       ]
 
-  sound_under : {x : Act-F Act} → IsSoundAct q to_state x → (b : Act) → out-Act b ≡ x → (cs : Conditions) → ((c : Expr ℕ × Bool) → IsOneOf cs c → IsTypedBy q c.0 kind.Truth) → (a : s.Assign ℕ)
+  sound_under : {x : Act-F Act} → IsSoundAct q to_state x → (b : Act) → out-Act b ≡ x → (cs : Conditions)
+      → ((c : Expr ℕ × Bool) → IsOneOf cs c → IsTypedBy q c.0 kind.Truth) → (a : s.Assign ℕ)
       → IsOneOf (assigns_under b cs) a → IsSoundAssign q to_state a
   sound_under sound.skip b e cs each a h = absurd (one_none a (subst (λ z. IsOneOf z a) (under b act.Skip e cs) h))
   sound_under (sound.set {x = x} {e = f} {at = at} v k is_sort t) b e cs each a h =
       let made : s.Assign ℕ = record { target = x.n; conditions = cs; value = numbered f } in
       let only : List (s.Assign ℕ) = [] in
       elim (one_cases made only a (subst (λ z. IsOneOf z a) (under b (act.Set x f at) e cs) h)) [
-        | inl j ↦ subst (λ (z : s.Assign ℕ). IsSoundAssign q to_state z) j (record { variable = v; stands = k; sort = is_sort; value = by_number q f (kind_of_domain v.domain) t; conditions = each })
+        | inl j ↦ subst (λ (z : s.Assign ℕ). IsSoundAssign q to_state z) j
+            (record {
+              variable = v;
+              stands = k;
+              sort = is_sort;
+              value = by_number q f (kind_of_domain v.domain) t;
+              conditions = each;
+            })
         | inr j ↦ absurd (one_none a j)
       ]
   sound_under (sound.conditional {test = t} {first = c} {second = d} k m n) b e cs each a h =
       let typed = by_number q t kind.Truth k in
-      elim (one_split (assigns_under c.value (cs ++ (numbered t, true) ∷ [])) (assigns_under d.value (cs ++ (numbered t, false) ∷ [])) a (subst (λ z. IsOneOf z a) (under b (act.If t c d) e cs) h)) [
+      elim (one_split (assigns_under c.value (cs ++ (numbered t, true) ∷ []))
+      (assigns_under d.value (cs ++ (numbered t, false) ∷ [])) a
+      (subst (λ z. IsOneOf z a) (under b (act.If t c d) e cs) h)) [
         | inl o ↦ sound_under m c.value refl (cs ++ (numbered t, true) ∷ []) (more cs (numbered t) true each typed) a o
-        | inr o ↦ sound_under n d.value refl (cs ++ (numbered t, false) ∷ []) (more cs (numbered t) false each typed) a o
+        | inr o ↦ sound_under n d.value refl (cs ++ (numbered t, false) ∷ []) (more cs (numbered t) false each typed) a
+            o
       ]
   sound_under (sound.all {acts = acts} m) b e cs each a h =
-      let one = joined_one (λ (c : Act). assigns_under c cs) acts.items a (subst (λ z. IsOneOf z a) (under b (act.All acts) e cs ∙ each_under acts.items cs) h) in
+      let one = joined_one (λ (c : Act). assigns_under c cs) acts.items a
+      (subst (λ z. IsOneOf z a) (under b (act.All acts) e cs ∙ each_under acts.items cs) h) in
       sound_under (m one.0 one.1) one.0 refl cs each a one.2
 
   -- each assignment of a sound instruction
-  pub sound_assigns : (b : Act) (a : s.Assign ℕ) → IsSoundAct q to_state (out-Act b) → IsOneOf (assigns_under b []) a → IsSoundAssign q to_state a
+  pub sound_assigns : (b : Act) (a : s.Assign ℕ) → IsSoundAct q to_state (out-Act b) → IsOneOf (assigns_under b []) a
+      → IsSoundAssign q to_state a
   sound_assigns b a m h = sound_under m b refl [] (λ c j. absurd (one_none c j)) a h
 
   -- each assignment of sound instructions
-  pub sound_all : (bs : List Act) (a : s.Assign ℕ) → ((b : Act) → IsOneOf bs b → IsSoundAct q to_state (out-Act b)) → IsOneOf (flat_map (λ (b : Act). assigns_under b []) bs) a → IsSoundAssign q to_state a
+  pub sound_all : (bs : List Act) (a : s.Assign ℕ) → ((b : Act) → IsOneOf bs b → IsSoundAct q to_state (out-Act b))
+      → IsOneOf (flat_map (λ (b : Act). assigns_under b []) bs) a → IsSoundAssign q to_state a
   sound_all bs a each h = let one = joined_one (λ (b : Act). assigns_under b []) bs a h in sound_assigns one.0 a (each one.0 one.1) one.2
 
 -- a condition stands where its copy does
-condition_back : (cs : Conditions) (ds : List (Expr VarId × Bool)) → Conditions_rename same cs (map condition_of ds) → (d : Expr VarId × Bool) → IsOneOf ds d
+condition_back : (cs : Conditions) (ds : List (Expr VarId × Bool)) → Conditions_rename same cs (map condition_of ds)
+    → (d : Expr VarId × Bool) → IsOneOf ds d
     → (e : Expr ℕ) × IsOneOf cs (e, d.1) × Renames same (out-Expr ℕ e) (out-Expr ℕ (numbered d.0))
 condition_back [] [] i.none d h = absurd (one_none d h)
 condition_back [] (x ∷ ds) k d h = elim k [ ]
 condition_back (c ∷ cs) [] k d h = elim k [ ]
 condition_back ((e, b) ∷ cs) ((f, g) ∷ ds) (i.one_and k ks) d h = elim (one_cases (f, g) ds d h) [
-  | inl j ↦ subst (λ (z : Expr VarId × Bool). (w : Expr ℕ) × IsOneOf ((e, g) ∷ cs) (w, z.1) × Renames same (out-Expr ℕ w) (out-Expr ℕ (numbered z.0))) j (e, one_first (e, g) cs, k)
+  | inl j ↦ subst (λ (z : Expr VarId × Bool). (w : Expr ℕ) × IsOneOf ((e, g) ∷ cs) (w, z.1)
+      × Renames same (out-Expr ℕ w) (out-Expr ℕ (numbered z.0))) j (e, one_first (e, g) cs, k)
   | inr j ↦ let o = condition_back cs ds ks d j in (o.0, one_rest (e, g) cs (o.0, d.1) o.1, o.2)
 ]
 
-module _ (q p : GtsParts) (names_long : length p.symbols.items ≡ length q.symbols.items) (copied : Along IsSameVariable q.variables.items p.variables.items) where
+module _ (q p : GtsParts) (names_long : length p.symbols.items ≡ length q.symbols.items)
+    (copied : Along IsSameVariable q.variables.items p.variables.items) where
   named : (v : Value) → IsNamed q v → IsNamed p v
   named (value.Truth b) h = tt
   named (value.Whole n) h = tt
   named (value.Symbol k) h = omega (arith, h, names_long)
 
-  moved : (e f : Expr ℕ) (k : ValueKind) → IsTypedBy q e k → Renames same (out-Expr ℕ e) (out-Expr ℕ f) → IsTypedBy p f k
+  moved : (e f : Expr ℕ) (k : ValueKind) → IsTypedBy q e k → Renames same (out-Expr ℕ e) (out-Expr ℕ f)
+      → IsTypedBy p f k
   moved e f k t h = record {
-    typed = kind_renamed ℕ ℕ (kind_by_number q) (kind_by_number p) same (λ m n j. found_kind copied m ∙ ap (kind_by_number p) j) t.typed h;
+    typed = kind_renamed ℕ ℕ (kind_by_number q) (kind_by_number p) same
+        (λ m n j. found_kind copied m ∙ ap (kind_by_number p) j) t.typed h;
     variables = λ n m. let o = mentions_carry (turned same) n m (renames_turned same h) in
         let b = t.variables o.other o.stands in let l = along_length q.variables.items p.variables.items copied in let j : o.other ≡ n = o.related in omega (arith, b, l, j);
     names = λ v m. named v (t.names v (constant_there (turned same) v m (renames_turned same h)));
@@ -160,7 +185,8 @@ module _ (q p : GtsParts) (names_long : length p.symbols.items ≡ length q.symb
   copy_typed e f k t c = by_variable p f k (moved (numbered e) (numbered f) k (by_number q e k t) (copy_numbered e f c))
 
   -- an assignment in code of a sound one
-  assign_sound : (to_state : Bool) (a : s.Assign ℕ) (c : Assign) → IsSoundAssign q to_state a → Assign_renames same a (assign_of c) → IsAssignTo p to_state c
+  assign_sound : (to_state : Bool) (a : s.Assign ℕ) (c : Assign) → IsSoundAssign q to_state a
+      → Assign_renames same a (assign_of c) → IsAssignTo p to_state c
   assign_sound to_state a c h k =
       let there = along_on q.variables.items p.variables.items copied a.target h.variable h.stands in
       record {
@@ -168,12 +194,14 @@ module _ (q p : GtsParts) (names_long : length p.symbols.items ≡ length q.symb
         stands = subst (λ (n : ℕ). Stands p.variables.items n there.0) k.target there.1;
         is = there.2.is_state ∙ h.sort;
         value = by_variable p c.value (kind_of_domain there.0.domain)
-            (moved a.value (numbered c.value) (kind_of_domain there.0.domain) (subst (λ (z : ValueKind). IsTypedBy q a.value z) (domain_kind there.2.domain) h.value) k.value);
+            (moved a.value (numbered c.value) (kind_of_domain there.0.domain)
+            (subst (λ (z : ValueKind). IsTypedBy q a.value z) (domain_kind there.2.domain) h.value) k.value);
         conditions = λ d o. let e = condition_back a.conditions c.when.items k.conditions d o in
             by_variable p d.0 kind.Truth (moved e.0 (numbered d.0) kind.Truth (h.conditions (e.0, d.1) e.1) e.2);
       }
 
-  pub assigns_sound : (to_state : Bool) (xs : List (s.Assign ℕ)) (ys : List Assign) → ((a : s.Assign ℕ) → IsOneOf xs a → IsSoundAssign q to_state a) → AreAssigns xs ys → (c : Assign) → IsOneOf ys c
+  pub assigns_sound : (to_state : Bool) (xs : List (s.Assign ℕ)) (ys : List Assign)
+      → ((a : s.Assign ℕ) → IsOneOf xs a → IsSoundAssign q to_state a) → AreAssigns xs ys → (c : Assign) → IsOneOf ys c
       → IsAssignTo p to_state c
   assigns_sound to_state xs ys each h c o =
       let b = along_back xs (map assign_of ys) h o.place (assign_of c) (stands_map assign_of ys o.place c o.stands) in

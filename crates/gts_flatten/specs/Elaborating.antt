@@ -1,4 +1,5 @@
--- The system that declarations mean, with rule L14 and the limits of ways, of their parts and of the nodes of expressions.
+-- The system that declarations mean, with rule L14 and the limits of ways, of their parts and of the nodes of
+-- expressions.
 use Rattle.std.specs.Prelude.{◌≡◌, ℕ, map, Result, Ok}
 use Rattle.ar_base.specs.Lists.{Stands, IsOneOf}
 use Rattle.ar_base.specs.Numbers.{NameId}
@@ -58,7 +59,9 @@ nodes_counted x = system_nodes x.system
 pub data HasSystem (d : Declarations) : Result Elaborated RuleFault → Type 0 where
   has : {x : Elaborated} → x.declarations ≡ d → HasDeclarations d x.system → HasSystem d (Ok x)
 
--- rule L14, the system with the ways of its events, then the limits of an event's ways, of the parts of all ways and of the nodes
+-- rule L14, the system with the ways of its events, then the limits of an event's ways, of the parts of all ways and of
+-- the nodes
 abbrev pub Flattens : Declarations → Result Elaborated RuleFault → Type 0
 Flattens = Then (Keeps way_rules Breaks)
-    (Then HasSystem (Then (Fits TheWays most_ways_counted) (Then (Fits WayParts way_parts_counted) (Fits ExpressionNodes nodes_counted))))
+    (Then HasSystem (Then (Fits TheWays most_ways_counted)
+    (Then (Fits WayParts way_parts_counted) (Fits ExpressionNodes nodes_counted))))

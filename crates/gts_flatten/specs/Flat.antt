@@ -1,4 +1,5 @@
--- What it is that a flat system is that of declarations: number n of a kind stands for the thing at place n of the list of its kind.
+-- What it is that a flat system is that of declarations: number n of a kind stands for the thing at place n of the list
+-- of its kind.
 use Rattle.std.specs.Prelude.{◌≡◌, ℕ, Bool, List, map, length, Vec}
 use Rattle.std.specs.Global.{Global}
 use Rattle.ar_base.specs.Lists.{Along}
@@ -29,7 +30,8 @@ use Rattle.gts_flatten.specs.Elaborating.{Elaborated}
 
 -- Names
 
--- what the things of declarations are called: canonical paths, the names of symbols, and where the targets of assertions stand
+-- what the things of declarations are called: canonical paths, the names of symbols, and where the targets of
+-- assertions stand
 abbrev pub naming_of : Declarations → Naming
 naming_of d = record {
   variables = map (thing_path d.model) (variables d.model d.units);
@@ -62,16 +64,20 @@ pub record IsPlannedWay (planned : PlannedWay) (w : Way) : Type 0 where
   pub number : w.number ≡ planned.number
   pub body : HasBody planned.body w.body
 
--- the ways stand event by event, those of an event in order, and each part of a synchronised way is the number of its way among all of
+-- the ways stand event by event, those of an event in order, and each part of a synchronised way is the number of its
+-- way among all of
 -- these: the number of its event's first way and its place among the event's ways
 pub record AreWaysOf (x : Elaborated) (ways : List Way) : Type 0 where
   pub numbered : List (Declared (Transition ℕ) ℕ)
-  pub are_numbered : Along (Declared_renames (IsVariableNumber x.declarations) (IsEventNumber x.declarations)) x.declarations.events numbered
-  pub planned : Along IsPlannedWay (planned_ways (map (λ (e : SystemEvent Thing). length e.ways) x.system.events) numbered) ways
+  pub are_numbered : Along (Declared_renames (IsVariableNumber x.declarations) (IsEventNumber x.declarations))
+      x.declarations.events numbered
+  pub planned : Along IsPlannedWay (planned_ways (map (λ (e : SystemEvent Thing). length e.ways) x.system.events)
+      numbered) ways
 
 -- The flat system
 
--- the parts are those of the flat system: as a system they are that of the declarations with numbers for variables, and they have its
+-- the parts are those of the flat system: as a system they are that of the declarations with numbers for variables, and
+-- they have its
 -- names and places
 pub record IsFlat (x : Elaborated) (p : GtsParts) : Type 0 where
   pub flat : System ℕ
@@ -80,4 +86,5 @@ pub record IsFlat (x : Elaborated) (p : GtsParts) : Type 0 where
   pub ways : AreWaysOf x p.ways.items
   pub names : naming_of_parts p ≡ naming_of x.declarations
   pub units_are : p.units.items ≡ map (unit_path x.declarations.model) x.declarations.units
-  pub kinds : Along (HasKind x.declarations.model) (observers x.declarations.model x.declarations.units) p.observers.items
+  pub kinds : Along (HasKind x.declarations.model) (observers x.declarations.model x.declarations.units)
+      p.observers.items

@@ -42,7 +42,8 @@ pub record IsSameObserver (x y : Observer) : Type 0 where
 -- the body is that of a declared transition
 pub data IsTransitionOf : DeclaredWay → WayBody → Type 0 where
   transition : {guard : Expr VarId} {action : Act} {copy : Expr VarId} {assigns : Vec Assign Global} → IsCopy guard copy
-      → AreAssigns (assigns_of_act action) assigns.items → IsTransitionOf (declared.Local guard action) (Local copy assigns)
+      → AreAssigns (assigns_of_act action) assigns.items
+      → IsTransitionOf (declared.Local guard action) (Local copy assigns)
 
 -- the body is that of the transition at this place of an event
 pub record IsTransitionAt (events : List DeclaredEvent) (event place : ℕ) (body : WayBody) : Type 0 where
@@ -54,8 +55,10 @@ pub record IsTransitionAt (events : List DeclaredEvent) (event place : ℕ) (bod
 
 -- what a planned way of the event is made of
 pub data IsMadeOf (events : List DeclaredEvent) (event : ℕ) : PlanBody → WayBody → Type 0 where
-  acts : {place : ℕ} {body : WayBody} → IsTransitionAt events event place body → IsMadeOf events event (planned.Local place) body
-  joins : {parts copies : Vec (Bool × WayId) Global} → copies.items ≡ parts.items → IsMadeOf events event (planned.Sync parts) (Sync copies)
+  acts : {place : ℕ} {body : WayBody} → IsTransitionAt events event place body
+      → IsMadeOf events event (planned.Local place) body
+  joins : {parts copies : Vec (Bool × WayId) Global} → copies.items ≡ parts.items
+      → IsMadeOf events event (planned.Sync parts) (Sync copies)
 
 -- the way is the planned one
 pub record IsMadeWay (events : List DeclaredEvent) (p : WayPlan) (w : Way) : Type 0 where

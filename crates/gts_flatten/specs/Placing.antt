@@ -10,7 +10,8 @@ use Rattle.sync_expand.specs.declared.plans.WayPlan.{WayPlan}
 -- what stands at this place of the event that stands there, where it was found
 pub data IsWayAt (events : List DeclaredEvent) (event place : ℕ) : Option DeclaredWay → Type 0 where
   nothing : IsWayAt events event place None
-  there : {w : DeclaredWay} (d : DeclaredEvent) → Stands events event d → Stands d.ways.items place w → IsWayAt events event place (Some w)
+  there : {w : DeclaredWay} (d : DeclaredEvent) → Stands events event d → Stands d.ways.items place w
+      → IsWayAt events event place (Some w)
 
 -- these are the numbers from the first on of ways of the event, and the next way is none of it
 pub record IsRun (plan : List WayPlan) (event first : ℕ) (numbers : List WayId) : Type 0 where

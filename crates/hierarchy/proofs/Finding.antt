@@ -50,7 +50,8 @@ same_or_not a b = go (a == b) refl
     go false q = inr (q, λ e. grind (arith, nat_tests))
 
 -- an entry of the name is what is found, where no earlier one has it
-pub entry_at : (entries : List (NameId × UnitId)) (x k : ℕ) (e : NameId × UnitId) → Stands entries k e → e.0.n ≡ x → ((j : ℕ) (d : NameId × UnitId) → Stands entries j d → j < k → d.0.n ≡ x → ⊥) → entry_in entries x ≡ Some e.1.n
+pub entry_at : (entries : List (NameId × UnitId)) (x k : ℕ) (e : NameId × UnitId) → Stands entries k e → e.0.n ≡ x
+    → ((j : ℕ) (d : NameId × UnitId) → Stands entries j d → j < k → d.0.n ≡ x → ⊥) → entry_in entries x ≡ Some e.1.n
 entry_at [] x zero e p q n = cc
 entry_at [] x (suc k) e p q n = cc
 entry_at (d ∷ ds) x zero e p q n =
@@ -63,7 +64,8 @@ entry_at (d ∷ ds) x (suc k) e p q n = elim (same_or_not d.0.n x) [
 ]
 
 -- where no entry has the name, none is found
-pub entry_none : (entries : List (NameId × UnitId)) (x : ℕ) → ((j : ℕ) (d : NameId × UnitId) → Stands entries j d → d.0.n ≡ x → ⊥) → entry_in entries x ≡ None
+pub entry_none : (entries : List (NameId × UnitId)) (x : ℕ)
+    → ((j : ℕ) (d : NameId × UnitId) → Stands entries j d → d.0.n ≡ x → ⊥) → entry_in entries x ≡ None
 entry_none [] x n = refl
 entry_none (d ∷ ds) x n = elim (same_or_not d.0.n x) [
   | inl h ↦ absurd (n 0 d refl h.1)
@@ -72,13 +74,15 @@ entry_none (d ∷ ds) x n = elim (same_or_not d.0.n x) [
 
 -- The point before which the names are below x, in entries that ascend
 
-module _ (entries : List (NameId × UnitId)) (x at : ℕ) (low : IsPartitionPoint (λ y. ltb (entry_name y) x ≡ true) (λ y. ltb (entry_name y) x ≡ false) entries at) where
+module _ (entries : List (NameId × UnitId)) (x at : ℕ)
+    (low : IsPartitionPoint (λ y. ltb (entry_name y) x ≡ true) (λ y. ltb (entry_name y) x ≡ false) entries at) where
   -- an entry of the name that stands there is what is found
   pub found_there : (e : NameId × UnitId) → Stands entries at e → e.0.n ≡ x → entry_in entries x ≡ Some e.1.n
   found_there e p q = entry_at entries x at e p q (λ j d s l h. let k = before_low entry_name entries x at low j d s l in omega (arith, k, h))
 
   -- where an entry of another name stands there, none is found
-  pub absent_there : IsNonDecreasingBy entry_name entries → (e : NameId × UnitId) → Stands entries at e → (e.0.n ≡ x → ⊥) → entry_in entries x ≡ None
+  pub absent_there : IsNonDecreasingBy entry_name entries → (e : NameId × UnitId) → Stands entries at e
+      → (e.0.n ≡ x → ⊥) → entry_in entries x ≡ None
   absent_there a e p q = entry_none entries x (λ j d s h. go j d s h (side at j))
     where
       above : x < e.0.n
@@ -88,7 +92,8 @@ module _ (entries : List (NameId × UnitId)) (x at : ℕ) (low : IsPartitionPoin
       go j d s h (inr l) = let k = before_low entry_name entries x at low j d s l in omega (arith, k, h)
       go j d s h (inl l) =
           let k = a at j d l (stands_within entries j d s) in
-          let r = subst (λ (y : NameId × UnitId). entry_name y ≤ entry_name (slice_index_or entries j d)) (get_or_from_slice_get entries at e d p) k in
+          let r = subst (λ (y : NameId × UnitId). entry_name y ≤ entry_name (slice_index_or entries j d))
+          (get_or_from_slice_get entries at e d p) k in
           let t = subst (λ (y : NameId × UnitId). e.0.n ≤ entry_name y) (get_or_from_slice_get entries j d d s) r in
           let b = above in omega (arith, t, h, b)
 
@@ -98,7 +103,9 @@ module _ (entries : List (NameId × UnitId)) (x at : ℕ) (low : IsPartitionPoin
 
 -- The run of nodes of one unit
 
-module _ {A : Type 0} (n : A → ℕ) (xs : List A) (u from to : ℕ) (low : IsPartitionPoint (λ y. ltb (n y) u ≡ true) (λ y. ltb (n y) u ≡ false) xs from) (high : IsPartitionPoint (λ y. leb (n y) u ≡ true) (λ y. leb (n y) u ≡ false) xs to) where
+module _ {A : Type 0} (n : A → ℕ) (xs : List A) (u from to : ℕ)
+    (low : IsPartitionPoint (λ y. ltb (n y) u ≡ true) (λ y. ltb (n y) u ≡ false) xs from)
+    (high : IsPartitionPoint (λ y. leb (n y) u ≡ true) (λ y. leb (n y) u ≡ false) xs to) where
   -- what stands in the run is of the unit
   pub run_unit : (k : ℕ) (d : A) → Stands xs k d → from ≤ k → k < to → n d ≡ u
   run_unit k d p f t = let a = from_low n xs u from low k d p f in let b = before_high n xs u to high k d p t in omega (arith, a, b)
@@ -111,22 +118,32 @@ module _ {A : Type 0} (n : A → ℕ) (xs : List A) (u from to : ℕ) (low : IsP
   run_to k d p e = elim (side to k) [ inl h ↦ absurd (let a = from_high n xs u to high k d p h in omega (arith, a, e)) | inr h ↦ h ]
 
 -- one more node of the run has another name
-pub none_more : {A : Type 0} (x : A → ℕ) (xs : List A) (wanted from place : ℕ) (e : A) → place < length xs → (x (slice_index_or xs place e) ≡ wanted → ⊥)
-    → ((k : ℕ) (d : A) → from ≤ k → k < place → Stands xs k d → x d ≡ wanted → ⊥) → (k : ℕ) (d : A) → from ≤ k → k < place + 1 → Stands xs k d → x d ≡ wanted → ⊥
+pub none_more : {A : Type 0} (x : A → ℕ) (xs : List A) (wanted from place : ℕ) (e : A) → place < length xs
+    → (x (slice_index_or xs place e) ≡ wanted → ⊥)
+    → ((k : ℕ) (d : A) → from ≤ k → k < place → Stands xs k d → x d ≡ wanted → ⊥) → (k : ℕ) (d : A) → from ≤ k
+    → k < place + 1 → Stands xs k d → x d ≡ wanted → ⊥
 none_more x xs wanted from place e l n before k d f m q h = elim (side place k) [
   | inl g ↦ (let r : k ≡ place = omega (arith, g, m) in n (ap x (stands_one xs place (slice_index_or xs place e) d (stands_get xs place e l) (subst (λ (i : ℕ). Stands xs i d) r q)) ∙ h))
   | inr g ↦ before k d f g q h
 ]
 
 -- a node of the run that has the name is found
-pub node_found : {A : Type 0} (node : A → MemNode) (xs : List A) (u x from to : ℕ) → IsPartitionPoint (λ y. ltb (node y).unit.n u ≡ true) (λ y. ltb (node y).unit.n u ≡ false) xs from
-    → IsPartitionPoint (λ y. leb (node y).unit.n u ≡ true) (λ y. leb (node y).unit.n u ≡ false) xs to → (place : ℕ) (e : A) → from ≤ place → place < to → to ≤ length xs
+pub node_found : {A : Type 0} (node : A → MemNode) (xs : List A) (u x from to : ℕ)
+    → IsPartitionPoint (λ y. ltb (node y).unit.n u ≡ true) (λ y. ltb (node y).unit.n u ≡ false) xs from
+    → IsPartitionPoint (λ y. leb (node y).unit.n u ≡ true) (λ y. leb (node y).unit.n u ≡ false) xs to
+    → (place : ℕ) (e : A) → from ≤ place → place < to → to ≤ length xs
     → (node (slice_index_or xs place e)).name.n ≡ x → FindsNode node xs u x (Some place)
 node_found node xs u x from to low high place e f t b h =
     let l : place < length xs = omega (arith, t, b) in
-    let p = stands_get xs place e l in
-    (slice_index_or xs place e, p, run_unit (λ d. (node d).unit.n) xs u from to low high place (slice_index_or xs place e) p f t, h)
+    let p = stands_get xs place e l in (
+      slice_index_or xs place e,
+      p,
+      run_unit (λ d. (node d).unit.n) xs u from to low high place
+          (slice_index_or xs place e) p f t,
+      h,
+    )
 
 -- what is read at a place below the length stands there
-pub item_stands : {A : Type 0} (xs : List A) (k : ℕ) (a : A) → true ≡ nat_lt k (length xs) → a ≡ slice_index_or xs k a → Stands xs k a
+pub item_stands : {A : Type 0} (xs : List A) (k : ℕ) (a : A) → true ≡ nat_lt k (length xs) → a ≡ slice_index_or xs k a
+    → Stands xs k a
 item_stands {A = A} xs k a h e = subst (λ (z : A). Stands xs k z) (sym e) (stands_get xs k a (grind (arith, nat_tests)))

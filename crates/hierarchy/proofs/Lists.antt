@@ -19,10 +19,12 @@ joined : {us vs ws xs : List UnitPath} → us ≡ vs → ws ≡ xs → us ++ ws 
 joined p q = cc
 
 mutual
-  pub lists_same : {m : RootedModel} {u : UnitPath} {us vs : List UnitPath} → Lists m true u us → Lists m true u vs → us ≡ vs
+  pub lists_same : {m : RootedModel} {u : UnitPath} {us vs : List UnitPath} → Lists m true u us → Lists m true u vs
+      → us ≡ vs
   lists_same {u = u} (unit d) (unit e) = ap (λ us. u ∷ us) (insides_same d e)
 
-  pub insides_same : {m : RootedModel} {u : UnitPath} {gs : List NamedMember} {us vs : List UnitPath} → Insides m true u gs us → Insides m true u gs vs → us ≡ vs
+  pub insides_same : {m : RootedModel} {u : UnitPath} {gs : List NamedMember} {us vs : List UnitPath}
+      → Insides m true u gs us → Insides m true u gs vs → us ≡ vs
   insides_same none none = refl
   insides_same {m = m} {gs = g ∷ gs} (makes {v = v} k d ds) (makes {us = us'} k' d' ds') =
       let h = subst (λ w. Lists m true w us') (sym (makes_one g k k')) d' in

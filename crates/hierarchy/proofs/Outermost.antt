@@ -5,7 +5,8 @@ use Rattle.hierarchy.specs.Models.{RootedModel}
 use Rattle.hierarchy.specs.Units.{Level}
 use Rattle.hierarchy.specs.Settings.{Named, Init, Attribute, outermost, set_by}
 
-pub override : (m : RootedModel) (d i : Level) (s : ℕ) (z : Attribute) → set_by m [] d.set_at (Named i.name ∷ Named s ∷ Init ∷ []) ≡ Some z
+pub override : (m : RootedModel) (d i : Level) (s : ℕ) (z : Attribute)
+    → set_by m [] d.set_at (Named i.name ∷ Named s ∷ Init ∷ []) ≡ Some z
     → outermost m (i ∷ d ∷ []) (Named s ∷ Init ∷ []) ≡ Some z
 override m d i s z e = ap (λ o. option_or o (set_by m (d ∷ []) i.set_at (Named s ∷ Init ∷ []))) e
 

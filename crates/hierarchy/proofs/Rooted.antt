@@ -18,12 +18,14 @@ use Rattle.hierarchy.specs.Models.{RootedModel, IsRootedIn, IsTableFor, IsKeptTa
 model_of : Declared → Classes → RootedModel
 model_of d c = record { declared = d; members = map sites_kept c.bodies.items; main = c.main.n; names = c.names }
 
-members_kept : {model : Model} {main : Option (List ℕ)} {d : Declared} {c : Classes} → IsTableOf model main d c → (b : ℕ) (sites : List Site) → Stands (map sites_kept c.bodies.items) b sites → Members d b sites
+members_kept : {model : Model} {main : Option (List ℕ)} {d : Declared} {c : Classes} → IsTableOf model main d c
+    → (b : ℕ) (sites : List Site) → Stands (map sites_kept c.bodies.items) b sites → Members d b sites
 members_kept {d = d} {c = c} t b sites s =
     let r = stands_map_back sites_kept c.bodies.items b sites s in
     subst (λ (xs : List Site). Members d b xs) r.2 (t.members b r.0 r.1)
 
-rooted_in : {model : Model} {main : Option (List ℕ)} {d : Declared} {c : Classes} → IsTableOf model main d c → IsRootedIn model main (model_of d c)
+rooted_in : {model : Model} {main : Option (List ℕ)} {d : Declared} {c : Classes} → IsTableOf model main d c
+    → IsRootedIn model main (model_of d c)
 unfolding model_of
 rooted_in {main = main} {d = d} {c = c} t = record {
   declared = t.declared;
@@ -33,12 +35,14 @@ rooted_in {main = main} {d = d} {c = c} t = record {
   members = members_kept t;
 }
 
-kept_table : {model : Model} {main : Option (List ℕ)} {d : Declared} {c : Classes} → IsTableOf model main d c → AreKept text_rules (Breaks model main d) → IsKeptTable (model_of d c) c
+kept_table : {model : Model} {main : Option (List ℕ)} {d : Declared} {c : Classes} → IsTableOf model main d c
+    → AreKept text_rules (Breaks model main d) → IsKeptTable (model_of d c) c
 unfolding model_of
 kept_table {model = model} {main = main} t k = record {
   table = record { holds = t.holds; names = refl; main = refl; members = refl };
   kept = record { model = model; main = main; rooted = rooted_in t; kept = k };
 }
 
-pub rooted : {model : Model} {main : Option (List ℕ)} {c : Classes} → Tabulates main model (Ok c) → (m : RootedModel) × IsRootedIn model main m × IsKeptTable m c
+pub rooted : {model : Model} {main : Option (List ℕ)} {c : Classes} → Tabulates main model (Ok c)
+    → (m : RootedModel) × IsRootedIn model main m × IsKeptTable m c
 rooted {c = c} (table d t k) = (model_of d c, rooted_in t, kept_table t k)

@@ -32,11 +32,17 @@ module _ {A B : Type 0} (f : A → List B) where
     pub second : ComesFrom us c
     pub order : first.from ≤ second.from
 
-  pub flat_rises : (us : List A) (i j : ℕ) (b c : B) → i ≤ j → Stands (flat_map f us) i b → Stands (flat_map f us) j c → ComeInOrder us b c
+  pub flat_rises : (us : List A) (i j : ℕ) (b c : B) → i ≤ j → Stands (flat_map f us) i b → Stands (flat_map f us) j c
+      → ComeInOrder us b c
   flat_rises [] i j b c l p q = absurd (stands_none i b p)
-  flat_rises (u ∷ us) i j b c l p q = go (λ x y h s t. flat_rises us x y b c h s t) (stands_split (f u) (flat_map f us) i b p) (stands_split (f u) (flat_map f us) j c q)
+  flat_rises (u ∷ us) i j b c l p q =
+      go (λ x y h s t. flat_rises us x y b c h s t) (stands_split (f u) (flat_map f us) i b p)
+      (stands_split (f u) (flat_map f us) j c q)
     where
-      go : ((x y : ℕ) → x ≤ y → Stands (flat_map f us) x b → Stands (flat_map f us) y c → ComeInOrder us b c) → Stands (f u) i b ⊎ ((k : ℕ) × (i ≡ length (f u) + k) × Stands (flat_map f us) k b) → Stands (f u) j c ⊎ ((k : ℕ) × (j ≡ length (f u) + k) × Stands (flat_map f us) k c) → ComeInOrder (u ∷ us) b c
+      go : ((x y : ℕ) → x ≤ y → Stands (flat_map f us) x b → Stands (flat_map f us) y c → ComeInOrder us b c)
+          → Stands (f u) i b ⊎ ((k : ℕ) × (i ≡ length (f u) + k) × Stands (flat_map f us) k b)
+          → Stands (f u) j c ⊎ ((k : ℕ) × (j ≡ length (f u) + k) × Stands (flat_map f us) k c)
+          → ComeInOrder (u ∷ us) b c
       go more (inl s) (inl t) = record {
         first = record { from = 0; item = u; stands = refl; is_one = one_here (f u) i b s };
         second = record { from = 0; item = u; stands = refl; is_one = one_here (f u) j c t };
@@ -50,8 +56,18 @@ module _ {A B : Type 0} (f : A → List B) where
       go more (inr s) (inl t) = absurd (let w = stands_within (f u) j c t in let e = s.1 in omega (arith, w, e, l))
       go more (inr s) (inr t) =
           let o = more s.0 t.0 (let d = s.1 in let e = t.1 in omega (arith, d, e, l)) s.2 t.2 in record {
-            first = record { from = suc o.first.from; item = o.first.item; stands = o.first.stands; is_one = o.first.is_one };
-            second = record { from = suc o.second.from; item = o.second.item; stands = o.second.stands; is_one = o.second.is_one };
+            first = record {
+              from = suc o.first.from;
+              item = o.first.item;
+              stands = o.first.stands;
+              is_one = o.first.is_one;
+            };
+            second = record {
+              from = suc o.second.from;
+              item = o.second.item;
+              stands = o.second.stands;
+              is_one = o.second.is_one;
+            };
             order = (let w = o.order in omega (arith, w));
           }
 
@@ -81,7 +97,8 @@ module _ {A : Type 0} (p : A → Bool) where
   filter_back [] a o = absurd (one_none a o)
   filter_back (x ∷ xs) a o = go (λ r. filter_back xs a r) (p x) refl o
     where
-      go : (IsOneOf (filter p xs) a → IsOneOf xs a × (p a ≡ true)) → (b : Bool) → p x ≡ b → IsOneOf (if b then x ∷ filter p xs else filter p xs) a → IsOneOf (x ∷ xs) a × (p a ≡ true)
+      go : (IsOneOf (filter p xs) a → IsOneOf xs a × (p a ≡ true)) → (b : Bool) → p x ≡ b
+          → IsOneOf (if b then x ∷ filter p xs else filter p xs) a → IsOneOf (x ∷ xs) a × (p a ≡ true)
       go back true e o = elim (one_cases x (filter p xs) a o) [
         | inl q ↦ (subst (λ (z : A). IsOneOf (x ∷ xs) z) q (one_first x xs), ap p (sym q) ∙ e)
         | inr r ↦ (let s = back r in (one_rest x xs a s.0, s.1))
@@ -92,27 +109,34 @@ module _ (m : RootedModel) (test : MemberKind → Bool) where
   -- a thing that is listed in a unit stands in it
   pub thing_unit : (u : UnitPath) (t : Thing) → IsOneOf (things_in test m u) t → t.unit ≡ u
   thing_unit u t o =
-      let s = stands_map_back (λ (g : NamedMember). thing u g.name) (filter (λ (g : NamedMember). test g.kind) (names_at m u)) o.place t o.stands in
+      let s = stands_map_back (λ (g : NamedMember). thing u g.name)
+      (filter (λ (g : NamedMember). test g.kind) (names_at m u)) o.place t o.stands in
       ap (λ (z : Thing). z.unit) (sym s.2)
 
   -- a thing that is listed in a unit is one for which the test is true
   pub listed_has : IsKept m → (u : UnitPath) (t : Thing) → IsOneOf (things_in test m u) t → Has m test t
   listed_has k u t o =
-      let s = stands_map_back (λ (g : NamedMember). thing u g.name) (filter (λ (g : NamedMember). test g.kind) (names_at m u)) o.place t o.stands in
+      let s = stands_map_back (λ (g : NamedMember). thing u g.name)
+      (filter (λ (g : NamedMember). test g.kind) (names_at m u)) o.place t o.stands in
       let g = s.0 in
-      let b = filter_back (λ (g : NamedMember). test g.kind) (names_at m u) g (record { place = o.place; stands = s.1 }) in
+      let b = filter_back (λ (g : NamedMember). test g.kind) (names_at m u) g
+      (record { place = o.place; stands = s.1 }) in
       let n : name_at m u g.name ≡ Some g = named_here (names_at m u) b.0.place g (members_apart k u) b.0.stands in
-      subst (λ (z : Thing). Has m test z) s.2 (record { kind = g.kind; is = ap (option_map (λ (h : NamedMember). h.kind)) n; passes = b.1 })
+      subst (λ (z : Thing). Has m test z) s.2
+      (record { kind = g.kind; is = ap (option_map (λ (h : NamedMember). h.kind)) n; passes = b.1 })
 
   -- a thing for which the test is true is listed in its unit
   pub has_listed : (t : Thing) → Has m test t → IsOneOf (things_in test m t.unit) t
   has_listed t h = go (name_at m t.unit t.name) refl h.is
     where
-      go : (o : Option NamedMember) → name_at m t.unit t.name ≡ o → option_map (λ (g : NamedMember). g.kind) o ≡ Some h.kind → IsOneOf (things_in test m t.unit) t
+      go : (o : Option NamedMember) → name_at m t.unit t.name ≡ o
+          → option_map (λ (g : NamedMember). g.kind) o ≡ Some h.kind → IsOneOf (things_in test m t.unit) t
       go None e q = cc
       go (Some g) e q =
           let b = named_back (names_at m t.unit) t.name g e in
           let k : g.kind ≡ h.kind = cc in
           let f = filter_one (λ (g : NamedMember). test g.kind) (names_at m t.unit) g b.0 (ap test k ∙ h.passes) in
-          let s = stands_map (λ (g : NamedMember). thing t.unit g.name) (filter (λ (g : NamedMember). test g.kind) (names_at m t.unit)) f.place g f.stands in
-          subst (λ (x : ℕ). IsOneOf (things_in test m t.unit) (thing t.unit x)) b.1 (record { place = f.place; stands = s })
+          let s = stands_map (λ (g : NamedMember). thing t.unit g.name)
+          (filter (λ (g : NamedMember). test g.kind) (names_at m t.unit)) f.place g f.stands in
+          subst (λ (x : ℕ). IsOneOf (things_in test m t.unit) (thing t.unit x)) b.1
+          (record { place = f.place; stands = s })

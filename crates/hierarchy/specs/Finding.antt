@@ -38,11 +38,13 @@ IsStep d x answer = IsNonDecreasingBy entry_name d.inner.items → IsNonDecreasi
 
 -- the place of a node of the unit u with the name x, or none where there is no such node
 abbrev pub FindsNode : {A : Type 0} → (A → MemNode) → List A → ℕ → ℕ → Option ℕ → Type 0
-FindsNode {A = A} node nodes u x None = (n : ℕ) (d : A) → Stands nodes n d → (node d).unit.n ≡ u → (node d).name.n ≡ x → ⊥
+FindsNode {A = A} node nodes u x None = (n : ℕ) (d : A) → Stands nodes n d → (node d).unit.n ≡ u → (node d).name.n ≡ x
+    → ⊥
 FindsNode {A = A} node nodes u x (Some n) = (d : A) × Stands nodes n d × ((node d).unit.n ≡ u) × ((node d).name.n ≡ x)
 
 -- the names lead to a unit, of this number, and then to this name
-pub record HasOwner (m : RootedModel) (units : List UnitPath) (u : UnitPath) (start : PathStart) (names : List ℕ) (owner name : ℕ) : Type 0 where
+pub record HasOwner (m : RootedModel) (units : List UnitPath) (u : UnitPath) (start : PathStart) (names : List ℕ)
+    (owner name : ℕ) : Type 0 where
   pub front : List ℕ
   pub split : names ≡ front ++ name ∷ []
   pub unit : UnitPath

@@ -35,16 +35,20 @@ pub data MakesNone (m : RootedModel) (u : UnitPath) (g : NamedMember) : Type 0 w
 mutual
   -- a unit and those below it, depth first: all of them, or, at false, the first of them
   pub data Lists (m : RootedModel) : Bool → UnitPath → List UnitPath → Type 0 where
-    unit : {whole : Bool} {u : UnitPath} {us : List UnitPath} → Insides m whole u (names_at m u) us → Lists m whole u (u ∷ us)
+    unit : {whole : Bool} {u : UnitPath} {us : List UnitPath} → Insides m whole u (names_at m u) us
+        → Lists m whole u (u ∷ us)
 
   -- what these members make in the unit u, each unit with those below it
   pub data Insides (m : RootedModel) : Bool → UnitPath → List NamedMember → List UnitPath → Type 0 where
     none : {u : UnitPath} → Insides m true u [] []
     cut : {u : UnitPath} {gs : List NamedMember} → Insides m false u gs []
-    makes : {whole : Bool} {u v : UnitPath} {g : NamedMember} {gs : List NamedMember} {us vs : List UnitPath} → Makes m u g v → Lists m true v us → Insides m whole u gs vs
+    makes : {whole : Bool} {u v : UnitPath} {g : NamedMember} {gs : List NamedMember} {us vs : List UnitPath}
+        → Makes m u g v → Lists m true v us → Insides m whole u gs vs
         → Insides m whole u (g ∷ gs) (us ++ vs)
-    makes_cut : {u v : UnitPath} {g : NamedMember} {gs : List NamedMember} {us : List UnitPath} → Makes m u g v → Lists m false v us → Insides m false u (g ∷ gs) us
-    passes : {whole : Bool} {u : UnitPath} {g : NamedMember} {gs : List NamedMember} {us : List UnitPath} → MakesNone m u g → Insides m whole u gs us
+    makes_cut : {u v : UnitPath} {g : NamedMember} {gs : List NamedMember} {us : List UnitPath} → Makes m u g v
+        → Lists m false v us → Insides m false u (g ∷ gs) us
+    passes : {whole : Bool} {u : UnitPath} {g : NamedMember} {gs : List NamedMember} {us : List UnitPath}
+        → MakesNone m u g → Insides m whole u gs us
         → Insides m whole u (g ∷ gs) us
 
 -- all units of the main block
@@ -64,7 +68,8 @@ pub record Unfolded : Type 0 where
 
 -- what in a unit passes the test
 abbrev pub things_in : (MemberKind → Bool) → RootedModel → UnitPath → List Thing
-things_in test m u = map (λ (g : NamedMember). thing u g.name) (filter (λ (g : NamedMember). test g.kind) (names_at m u))
+things_in test m u = map (λ (g : NamedMember). thing u g.name)
+    (filter (λ (g : NamedMember). test g.kind) (names_at m u))
 
 -- state variables and flows together
 abbrev pub variables : RootedModel → List UnitPath → List Thing

@@ -62,25 +62,29 @@ settings_of (Some (Nested x at b)) = []
 abbrev pub settings_at : RootedModel → Site → List Setting
 settings_at m s = settings_of (owned_at m.declared s)
 
--- a value: the unit in which its expression is read, the member at which it stands, the place of its setting there, if it is in one, and the expression
+-- a value: the unit in which its expression is read, the member at which it stands, the place of its setting there, if
+-- it is in one, and the expression
 pub record Attribute : Type 0 where
   pub unit : UnitPath
   pub site : Site
   pub setting : Option ℕ
   pub value : RawExpr
 
--- the first of these settings that sets the target; they are those of the declaration at this site, from the place k on, and are read in the unit u
+-- the first of these settings that sets the target; they are those of the declaration at this site, from the place k
+-- on, and are read in the unit u
 abbrev pub setting_for : UnitPath → Site → ℕ → List Setting → List TargetWord → Option Attribute
 setting_for u s k [] target = None
 setting_for u s k (x ∷ xs) target =
-    if same_target (target_of x) target then Some (record { unit = u; site = s; setting = Some k; value = x.value }) else setting_for u s (k + 1) xs target
+    if same_target (target_of x) target then Some (record { unit = u; site = s; setting = Some k; value = x.value })
+    else setting_for u s (k + 1) xs target
 
 -- what the declaration of a unit in the unit u sets for the target, which is named from inside the first
 abbrev pub set_by : RootedModel → UnitPath → Option Site → List TargetWord → Option Attribute
 set_by m u None target = None
 set_by m u (Some s) target = setting_for u s 0 (settings_at m s) target
 
--- what the outermost unit above sets for the target, which is named from inside the unit; a setting is read in the unit that holds the declaration
+-- what the outermost unit above sets for the target, which is named from inside the unit; a setting is read in the unit
+-- that holds the declaration
 abbrev pub outermost : RootedModel → UnitPath → List TargetWord → Option Attribute
 outermost m [] target = None
 outermost m (l ∷ above) target = option_or (outermost m above (Named l.name ∷ target)) (set_by m above l.set_at target)

@@ -62,9 +62,11 @@ pub record IsUnitIn (m : RootedModel) (test : MemberKind → Bool) (u : UnitPath
   pub passes : test given.kind ≡ true
   pub leads : LeadsFrom m u x (Reaches v)
 
--- the entries are the names of u that are units by what passes the test, each with the number of its unit, in the order of
+-- the entries are the names of u that are units by what passes the test, each with the number of its unit, in the order
+-- of
 -- the names' numbers
-pub record AreNames (m : RootedModel) (units : List UnitPath) (test : MemberKind → Bool) (u : UnitPath) (entries : List (NameId × UnitId)) : Type 0 where
+pub record AreNames (m : RootedModel) (units : List UnitPath) (test : MemberKind → Bool) (u : UnitPath)
+    (entries : List (NameId × UnitId)) : Type 0 where
   pub found : (x n : ℕ) → entry_in entries x ≡ Some n → (v : UnitPath) × Stands units n v × IsUnitIn m test u x v
   pub absent : (x : ℕ) (v : UnitPath) → entry_in entries x ≡ None → IsUnitIn m test u x v → ⊥
   pub ordered : IsNonDecreasingBy (λ (e : NameId × UnitId). e.0.n) entries
@@ -82,7 +84,8 @@ pub record IsOutline (m : RootedModel) (units : List UnitPath) (u : UnitPath) (d
   pub set_at : IsSetAt (set_at_of u) d.set_at
 
 -- the table keeps the model, which keeps the rules over the whole text, and the outlines are those of its units
-pub record AreOutlines (m : RootedModel) (units : List UnitPath) (classes : Classes) (outlines : List Outline) : Type 0 where
+pub record AreOutlines (m : RootedModel) (units : List UnitPath) (classes : Classes) (outlines : List Outline) : Type
+    0 where
   pub table : IsKeptTable m classes
   pub are_units : AreUnits m units
   pub along : Along (IsOutline m units) units outlines
@@ -129,7 +132,8 @@ pub record IsPlainNode (m : RootedModel) (units : List UnitPath) (t : Thing) (d 
 -- the values of a type: of Boolean, or of the domain of this name
 pub data HasDomain (d : Declared) : TypeForm → Domain → Type 0 where
   boolean : HasDomain d form.Boolean values.Boolean
-  named : {x : NameId} {declared : DomainBody} {v : Domain} → domain_named d x.n ≡ Some declared → IsDomainOf d.symbols declared v
+  named : {x : NameId} {declared : DomainBody} {v : Domain} → domain_named d x.n ≡ Some declared
+      → IsDomainOf d.symbols declared v
       → HasDomain d (form.Named x) v
 
 -- the node is that of the variable
@@ -145,7 +149,8 @@ pub record IsVariable (m : RootedModel) (units : List UnitPath) (t : Thing) (d :
 
 -- the domain of a parameter, which it has none of where it takes every whole number or is a parameter Real
 pub data HasParameterDomain (d : Declared) : MemberKind → Option Domain → Type 0 where
-  domain : {type : TypeForm} {e : RawExpr} {v : Domain} → HasDomain d type v → HasParameterDomain d (Parameter type e) (Some v)
+  domain : {type : TypeForm} {e : RawExpr} {v : Domain} → HasDomain d type v
+      → HasParameterDomain d (Parameter type e) (Some v)
   integer : {e : RawExpr} → HasParameterDomain d (Parameter form.Integer e) None
   kept : HasParameterDomain d Kept None
 
@@ -185,7 +190,9 @@ abbrev pub AnswersUnit : RootedModel → List UnitPath → UnitPath → PathStar
 AnswersUnit m units u start names None = (v : UnitPath) → IsUnitAt m u start names v → ⊥
 AnswersUnit m units u start names (Some n) = (v : UnitPath) × Stands units n v × IsUnitAt m u start names v
 
--- the number, among these things, of the one that the names name and that passes the test, or none where they name no such thing
-abbrev pub AnswersThing : RootedModel → List Thing → (MemberKind → Bool) → UnitPath → PathStart → List ℕ → Option ℕ → Type 0
+-- the number, among these things, of the one that the names name and that passes the test, or none where they name no
+-- such thing
+abbrev pub AnswersThing : RootedModel → List Thing → (MemberKind → Bool) → UnitPath → PathStart → List ℕ → Option ℕ
+    → Type 0
 AnswersThing m things test u start names None = (t : Thing) → IsThingAt m test u start names t → ⊥
 AnswersThing m things test u start names (Some n) = (t : Thing) × Stands things n t × IsThingAt m test u start names t

@@ -6,7 +6,8 @@ use Rattle.ar_syntax.specs.declared.paths.PathStart.TheVariants.{Here, Owner, Ma
 use Rattle.class_table.specs.Members.{Site, NamedMember, MemberKind, named_at, member_named}
 use Rattle.hierarchy.specs.Models.{RootedModel}
 
--- a level of the tree: the unit's name in the unit above it, its body, and the declaration whose settings hold in it, which a
+-- a level of the tree: the unit's name in the unit above it, its body, and the declaration whose settings hold in it,
+-- which a
 -- block has none of
 pub record Level : Type 0 where
   pub name : ℕ

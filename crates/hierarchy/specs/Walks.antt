@@ -16,9 +16,11 @@ pub data Outcome : Type 0 where
 abbrev pub thing : UnitPath → ℕ → Thing
 thing u x = record { unit = u; name = x }
 
--- what a clone as x in u is, where the walk along its path comes to this: a unit of the same body and settings, unless a unit above has that body
+-- what a clone as x in u is, where the walk along its path comes to this: a unit of the same body and settings, unless
+-- a unit above has that body
 abbrev pub cloned : RootedModel → UnitPath → ℕ → Outcome → Outcome
-cloned m u x (Reaches t) = if has (bodies_of m u) (body_of m t) then Loops else Reaches (record { name = x; body = body_of m t; set_at = set_at_of t } ∷ u)
+cloned m u x (Reaches t) = if has (bodies_of m u) (body_of m t) then Loops
+    else Reaches (record { name = x; body = body_of m t; set_at = set_at_of t } ∷ u)
 cloned m u x Nothing = Nothing
 cloned m u x Loops = Loops
 
@@ -36,24 +38,33 @@ is_unitless (Observer t e) = true
 mutual
   -- what unit the name x is in the unit u, where it is this there, and while the statements f are being followed
   pub data NameLeads (m : RootedModel) : List Thing → UnitPath → ℕ → Option MemberKind → Outcome → Type 0 where
-    inner : {f : List Thing} {u : UnitPath} {x b : ℕ} {from : Option Site} → NameLeads m f u x (Some (Inner b from)) (Reaches (record { name = x; body = b; set_at = from } ∷ u))
+    inner : {f : List Thing} {u : UnitPath} {x b : ℕ} {from : Option Site}
+        → NameLeads m f u x (Some (Inner b from)) (Reaches (record { name = x; body = b; set_at = from } ∷ u))
     clones : {f : List Thing} {u : UnitPath} {x : ℕ} {p : Path} {o r : Outcome} → is_among f (thing u x) ≡ false
-        → NamesLead m (thing u x ∷ f) (start_of p.start u) (numbers p.names.items) o → r ≡ cloned m u x o → NameLeads m f u x (Some (Clone p)) r
+        → NamesLead m (thing u x ∷ f) (start_of p.start u) (numbers p.names.items) o → r ≡ cloned m u x o
+        → NameLeads m f u x (Some (Clone p)) r
     embeds : {f : List Thing} {u : UnitPath} {x : ℕ} {p : Path} {o : Outcome} → is_among f (thing u x) ≡ false
-        → NamesLead m (thing u x ∷ f) (start_of p.start u) (numbers p.names.items) o → NameLeads m f u x (Some (Alias p)) o
-    clones_again : {f : List Thing} {u : UnitPath} {x : ℕ} {p : Path} → is_among f (thing u x) ≡ true → NameLeads m f u x (Some (Clone p)) Loops
-    embeds_again : {f : List Thing} {u : UnitPath} {x : ℕ} {p : Path} → is_among f (thing u x) ≡ true → NameLeads m f u x (Some (Alias p)) Loops
-    no_unit : {f : List Thing} {u : UnitPath} {x : ℕ} {w : MemberKind} → is_unitless w ≡ true → NameLeads m f u x (Some w) Nothing
+        → NamesLead m (thing u x ∷ f) (start_of p.start u) (numbers p.names.items) o
+        → NameLeads m f u x (Some (Alias p)) o
+    clones_again : {f : List Thing} {u : UnitPath} {x : ℕ} {p : Path} → is_among f (thing u x) ≡ true
+        → NameLeads m f u x (Some (Clone p)) Loops
+    embeds_again : {f : List Thing} {u : UnitPath} {x : ℕ} {p : Path} → is_among f (thing u x) ≡ true
+        → NameLeads m f u x (Some (Alias p)) Loops
+    no_unit : {f : List Thing} {u : UnitPath} {x : ℕ} {w : MemberKind} → is_unitless w ≡ true
+        → NameLeads m f u x (Some w) Nothing
     absent : {f : List Thing} {u : UnitPath} {x : ℕ} → NameLeads m f u x None Nothing
 
   -- where names lead, one after the other
   pub data NamesLead (m : RootedModel) : List Thing → Option UnitPath → List ℕ → Outcome → Type 0 where
     nowhere : {f : List Thing} {xs : List ℕ} → NamesLead m f None xs Nothing
     arrives : {f : List Thing} {u : UnitPath} → NamesLead m f (Some u) [] (Reaches u)
-    on : {f : List Thing} {u : UnitPath} {x : ℕ} {xs : List ℕ} {o : Outcome} (v : UnitPath) → NameLeads m f u x (kind_at m u x) (Reaches v) → NamesLead m f (Some v) xs o
+    on : {f : List Thing} {u : UnitPath} {x : ℕ} {xs : List ℕ} {o : Outcome} (v : UnitPath)
+        → NameLeads m f u x (kind_at m u x) (Reaches v) → NamesLead m f (Some v) xs o
         → NamesLead m f (Some u) (x ∷ xs) o
-    stops : {f : List Thing} {u : UnitPath} {x : ℕ} {xs : List ℕ} → NameLeads m f u x (kind_at m u x) Nothing → NamesLead m f (Some u) (x ∷ xs) Nothing
-    loops : {f : List Thing} {u : UnitPath} {x : ℕ} {xs : List ℕ} → NameLeads m f u x (kind_at m u x) Loops → NamesLead m f (Some u) (x ∷ xs) Loops
+    stops : {f : List Thing} {u : UnitPath} {x : ℕ} {xs : List ℕ} → NameLeads m f u x (kind_at m u x) Nothing
+        → NamesLead m f (Some u) (x ∷ xs) Nothing
+    loops : {f : List Thing} {u : UnitPath} {x : ℕ} {xs : List ℕ} → NameLeads m f u x (kind_at m u x) Loops
+        → NamesLead m f (Some u) (x ∷ xs) Loops
 
 -- the name x in the unit u leads to this
 abbrev pub LeadsFrom : RootedModel → UnitPath → ℕ → Outcome → Type 0
@@ -99,7 +110,8 @@ is_observer (Observer t e) = true
 is_observer _ = false
 
 -- the names, read in the unit u from this start, name the thing, which passes the test
-pub record IsThingAt (m : RootedModel) (test : MemberKind → Bool) (u : UnitPath) (start : PathStart) (names : List ℕ) (t : Thing) : Type 0 where
+pub record IsThingAt (m : RootedModel) (test : MemberKind → Bool) (u : UnitPath) (start : PathStart) (names : List ℕ)
+    (t : Thing) : Type 0 where
   pub leads : LeadsTo m u start names t
   pub has : Has m test t
 

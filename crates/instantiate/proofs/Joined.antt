@@ -44,24 +44,31 @@ module _ (m : RootedModel) {X : Type 0} (see : Unfolded → X → Type 0) where
   module _ (classes : Classes) (found : Found) (units : List UnitPath) (u : IsUnfolded m units found) where
     -- they pass
     pub units_pass : (r : Result X RuleFault) → Meets Behind see (tree m units) r → Meets Instantiates see m r
-    units_pass r h = stage_passes {X = X} rule_told Unfolds Behind m see see (tree m units) r (whole u.are_units u.shallow u.few) h
+    units_pass r h = stage_passes {X = X} rule_told Unfolds Behind m see see (tree m units) r
+        (whole u.are_units u.shallow u.few) h
 
     -- the limits refuse
     pub limits_stop : (r : Result X RuleFault) (d e : RuleFault) → r ≡ Err d → d ≡ e
         → AnswersLimits {X = Unit {0}} m units (Err e) → Meets Instantiates see m r
-    limits_stop r d e i j h = units_pass r (stage_stops {X = Unit {0}} rule_told FitsLimits (Keeps unit_rules unit_breaks) (tree m units) (λ u x. u ≡ tree m units) see r d e i j h)
+    limits_stop r d e i j h = units_pass r
+        (stage_stops {X = Unit {0}} rule_told FitsLimits (Keeps unit_rules unit_breaks) (tree m units)
+        (λ u x. u ≡ tree m units) see r d e i j h)
 
     -- they pass
     pub limits_pass : (r : Result X RuleFault) (x : Unit {0}) → AnswersLimits {X = Unit {0}} m units (Ok x)
         → Meets (Keeps unit_rules unit_breaks) see (tree m units) r → Meets Instantiates see m r
-    limits_pass r x h k = units_pass r (stage_passes {X = X} rule_told FitsLimits (Keeps unit_rules unit_breaks) (tree m units) see see (tree m units) r
+    limits_pass r x h k = units_pass r
+        (stage_passes {X = X} rule_told FitsLimits (Keeps unit_rules unit_breaks) (tree m units) see see (tree m units)
+        r
         (subst (λ (t : Unfolded). FitsLimits (tree m units) (Ok t)) h.2 h.1) k)
 
     -- the rules refuse
     pub rules_stop : (r : Result X RuleFault) (d e : RuleFault) (x : Unit {0}) → r ≡ Err d → d ≡ e
         → AnswersLimits {X = Unit {0}} m units (Ok x) → AnswersRules {X = Unit {0}} m units (Err e)
         → Meets Instantiates see m r
-    rules_stop r d e x i j h k = limits_pass r x h (subst (λ (z : Result X RuleFault). Meets (Keeps unit_rules unit_breaks) see (tree m units) z) (sym (i ∙ ap Err j)) k)
+    rules_stop r d e x i j h k = limits_pass r x h
+        (subst (λ (z : Result X RuleFault). Meets (Keeps unit_rules unit_breaks) see (tree m units) z)
+        (sym (i ∙ ap Err j)) k)
 
 -- the counts that are within their limits
 within : (t u : Unfolded) → FitsLimits t (Ok u)
@@ -80,7 +87,8 @@ module _ (m : RootedModel) (classes : Classes) (table : IsKeptTable m classes) (
   -- all stages pass
   pub settled : (found : Found) (s : Settled) (x y : Unit {0}) → IsUnfolded m units found → s.outlines ≡ found.outlines
       → AreOutcomes m units s.walks
-      → AnswersLimits {X = Unit {0}} m units (Ok x) → AnswersRules {X = Unit {0}} m units (Ok y) → Meets Instantiates (IsSettled classes) m (Ok s)
+      → AnswersLimits {X = Unit {0}} m units (Ok x) → AnswersRules {X = Unit {0}} m units (Ok y)
+      → Meets Instantiates (IsSettled classes) m (Ok s)
   settled found s x y u o w h k =
       let few = within (tree m units) h.0 h.1 in
       limits_pass m (IsSettled classes) classes found units u (Ok s) x h (
@@ -99,7 +107,8 @@ module _ (m : RootedModel) (classes : Classes) (table : IsKeptTable m classes) (
 -- what is refused before the tree is made is refused
 pub refused_so : (m : RootedModel) (classes : Classes) (r : Result Tree RuleFault) (d e : RuleFault) → r ≡ Err d → d ≡ e
     → Meets Instantiates (IsSettled classes) m (Err e) → Meets Instantiates IsTreeFor m r
-refused_so m classes r d e i j h = subst (λ (z : Result Tree RuleFault). Meets Instantiates IsTreeFor m z) (sym (i ∙ ap Err j)) h
+refused_so m classes r d e i j h = subst (λ (z : Result Tree RuleFault). Meets Instantiates IsTreeFor m z)
+    (sym (i ∙ ap Err j)) h
 
 -- units that keep the rules have no declaration of variables that is wrong
 pub declarations_kept : (t : Unfolded) → AreKept unit_rules (unit_breaks t) → KeepsDeclarations t.model t.units

@@ -79,7 +79,8 @@ module _ (m : RootedModel) (units : List UnitPath) where
       none_here (nowhere w) p b = w p b
 
       go : (r : ℕ) (p : Place) → r < n + 1 → Breaks m units r p → (r ≡ n) ⊎ (r ≡ n → ⊥) → ⊥
-      go r p l b (inl q) = none_here (subst (IsEarliest (Breaks m units n)) (kept_ok n f x e) h) p (subst (λ (s : ℕ). Breaks m units s p) q b)
+      go r p l b (inl q) = none_here (subst (IsEarliest (Breaks m units n)) (kept_ok n f x e) h) p
+          (subst (λ (s : ℕ). Breaks m units s p) q b)
       go r p l b (inr q) = k.kept r p (omega (arith, l, q)) b
 
   -- a test that refuses
@@ -88,10 +89,12 @@ module _ (m : RootedModel) (units : List UnitPath) where
       → AnswersRules m units r
   refuses_test {X = X} n f x r o k h e i =
       let w = kept_err n f x e in
-      subst (λ (z : Result X RuleFault). AnswersRules m units z) (sym (i ∙ ap Err w.2)) (broken (there_broken w.0 (subst (IsEarliest (Breaks m units n)) w.1 h)))
+      subst (λ (z : Result X RuleFault). AnswersRules m units z) (sym (i ∙ ap Err w.2))
+      (broken (there_broken w.0 (subst (IsEarliest (Breaks m units n)) w.1 h)))
     where
       there_broken : (p : Place) → IsEarliest (Breaks m units n) (Some p) → IsBroken unit_rules (Breaks m units) n p
-      there_broken p (there b none) = record { is_one = o; breaks_there = b; no_lesser = λ s q i l c. k.kept s q l c; no_earlier = none }
+      there_broken p (there b none) = record
+          { is_one = o; breaks_there = b; no_lesser = λ s q i l c. k.kept s q l c; no_earlier = none }
 
   -- all of them pass
   pub all_pass : KeptBelow 10 → AreKept unit_rules (Breaks m units)

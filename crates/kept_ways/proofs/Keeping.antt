@@ -23,7 +23,8 @@ label_is l e w i j = go l.event l.way e w i j
     go : (a b c d : ℕ) → a ≡ c → b ≡ d → at_label a b ≡ at_label c d
     go a b c d i j = cc
 
-before_cases : (l : Label) (e w : ℕ) → ComesBefore l (at_label e (w + 1)) → ComesBefore l (at_label e w) ⊎ ((l.event ≡ e) × (l.way ≡ w))
+before_cases : (l : Label) (e w : ℕ) → ComesBefore l (at_label e (w + 1))
+    → ComesBefore l (at_label e w) ⊎ ((l.event ≡ e) × (l.way ≡ w))
 before_cases l e w (inl h) = inl (inl h)
 before_cases l e w (inr h) = elim (at_most l.way w h.1) [ inl k ↦ inl (inr (h.0, k)) | inr k ↦ inr (h.0, k) ]
 
@@ -46,7 +47,8 @@ module _ (p : GtsParts) (marks : List Bool) where
   }
 
   -- no way more
-  kept_skip : (e w : ℕ) (kept : List KeptWay) → AreKept p marks e w kept → ((l : Label) → l.event ≡ e → l.way ≡ w → IsToKeep p marks l → ⊥) → AreKept p marks e (w + 1) kept
+  kept_skip : (e w : ℕ) (kept : List KeptWay) → AreKept p marks e w kept
+      → ((l : Label) → l.event ≡ e → l.way ≡ w → IsToKeep p marks l → ⊥) → AreKept p marks e (w + 1) kept
   kept_skip e w kept a lacks = record {
     labels = a.labels;
     are = a.are;
@@ -56,15 +58,19 @@ module _ (p : GtsParts) (marks : List Bool) where
   }
 
   -- one way more
-  kept_push : (e w : ℕ) (kept : List KeptWay) (more : KeptWay) → AreKept p marks e w kept → IsKeptAt p marks (at_label e w) more → AreKept p marks e (w + 1) (kept ++ more ∷ [])
+  kept_push : (e w : ℕ) (kept : List KeptWay) (more : KeptWay) → AreKept p marks e w kept
+      → IsKeptAt p marks (at_label e w) more → AreKept p marks e (w + 1) (kept ++ more ∷ [])
   kept_push e w kept more a is = record {
     labels = a.labels ++ at_label e w ∷ [];
     are = along_push a.labels kept (at_label e w) more a.are is;
     below = λ j l s. by_place j l (stands_split a.labels (at_label e w ∷ []) j l s);
-    ascend = λ j k l m h s t. in_order j k l m h (stands_split a.labels (at_label e w ∷ []) j l s) (stands_split a.labels (at_label e w ∷ []) k m t);
+    ascend = λ j k l m h s t. in_order j k l m h (stands_split a.labels (at_label e w ∷ []) j l s)
+        (stands_split a.labels (at_label e w ∷ []) k m t);
     whole = λ l k b. elim (before_cases l e w b) [
       | inl h ↦ one_left a.labels (at_label e w ∷ []) l (a.whole l k h)
-      | inr h ↦ one_right a.labels (at_label e w ∷ []) l (subst (λ (z : Label). IsOneOf (at_label e w ∷ []) z) (sym (label_is l e w h.0 h.1)) (one_first (at_label e w) []))
+      | inr h ↦ one_right a.labels (at_label e w ∷ []) l
+          (subst (λ (z : Label). IsOneOf (at_label e w ∷ []) z) (sym (label_is l e w h.0 h.1))
+          (one_first (at_label e w) []))
     ];
   }
     where
@@ -74,19 +80,23 @@ module _ (p : GtsParts) (marks : List Bool) where
       at_last : (l : Label) → at_label e w ≡ l → ComesBefore l (at_label e (w + 1))
       at_last l i = subst (λ (z : Label). ComesBefore z (at_label e (w + 1))) i (inr (refl, omega arith))
 
-      by_place : (j : ℕ) (l : Label) → Stands a.labels j l ⊎ ((k : ℕ) × (j ≡ length a.labels + k) × Stands (at_label e w ∷ []) k l) → ComesBefore l (at_label e (w + 1))
+      by_place : (j : ℕ) (l : Label) → Stands a.labels j l
+          ⊎ ((k : ℕ) × (j ≡ length a.labels + k) × Stands (at_label e w ∷ []) k l) → ComesBefore l (at_label e (w + 1))
       by_place j l (inl s) = before_more l e w (a.below j l s)
       by_place j l (inr s) = at_last l (last s.0 l s.2).1
 
-      in_order : (j k : ℕ) (l m : Label) → j < k → Stands a.labels j l ⊎ ((i : ℕ) × (j ≡ length a.labels + i) × Stands (at_label e w ∷ []) i l)
-          → Stands a.labels k m ⊎ ((i : ℕ) × (k ≡ length a.labels + i) × Stands (at_label e w ∷ []) i m) → ComesBefore l m
+      in_order : (j k : ℕ) (l m : Label) → j < k
+          → Stands a.labels j l ⊎ ((i : ℕ) × (j ≡ length a.labels + i) × Stands (at_label e w ∷ []) i l)
+          → Stands a.labels k m ⊎ ((i : ℕ) × (k ≡ length a.labels + i) × Stands (at_label e w ∷ []) i m)
+          → ComesBefore l m
       in_order j k l m h (inl s) (inl t) = a.ascend j k l m h s t
       in_order j k l m h (inl s) (inr t) = subst (λ (z : Label). ComesBefore l z) (last t.0 m t.2).1 (a.below j l s)
       in_order j k l m h (inr s) (inl t) = let u = stands_within a.labels k m t in absurd (omega (arith, s.1))
       in_order j k l m h (inr s) (inr t) = let u = (last s.0 l s.2).0 in let v = (last t.0 m t.2).0 in absurd (omega (arith, s.1, t.1))
 
   -- no way more of the event
-  kept_next : (e w : ℕ) (kept : List KeptWay) → AreKept p marks e w kept → ((l : Label) → l.event ≡ e → w ≤ l.way → IsToKeep p marks l → ⊥) → AreKept p marks (e + 1) 0 kept
+  kept_next : (e w : ℕ) (kept : List KeptWay) → AreKept p marks e w kept
+      → ((l : Label) → l.event ≡ e → w ≤ l.way → IsToKeep p marks l → ⊥) → AreKept p marks (e + 1) 0 kept
   kept_next e w kept a lacks = record {
     labels = a.labels;
     are = a.are;
@@ -97,7 +107,8 @@ module _ (p : GtsParts) (marks : List Bool) where
     where
       by_event : (l : Label) → IsToKeep p marks l → (l.event < e) ⊎ (l.event ≡ e) → IsOneOf a.labels l
       by_event l k (inl h) = a.whole l k (inl h)
-      by_event l k (inr h) = elim (cases_lt l.way w) [ inl u ↦ a.whole l k (inr (h, u)) | inr u ↦ absurd (lacks l h u k) ]
+      by_event l k (inr h) = elim (cases_lt l.way w)
+          [ inl u ↦ a.whole l k (inr (h, u)) | inr u ↦ absurd (lacks l h u k) ]
 
       by : (l : Label) → IsToKeep p marks l → ComesBefore l (at_label (e + 1) 0) → IsOneOf a.labels l
       by l k (inl h) = by_event l k (at_most l.event e h)
@@ -108,11 +119,14 @@ module _ (p : GtsParts) (marks : List Bool) where
   continues_marked e kept m = record { on = λ a. kept_next e 0 kept a (λ l i u k. let s = subst (λ (z : ℕ). Stands marks z false) i k.mark in let t = stands_one marks e true false m s in cc) }
 
   -- the ways of an event that is not marked
-  pub continues_event : (id : EventId) (event : Event) (old new : List KeptWay) → Stands p.events.items id.n event → Stands marks id.n false → Extends p id event (length event.ways.items) old new → Continues p marks id.n old new
+  pub continues_event : (id : EventId) (event : Event) (old new : List KeptWay) → Stands p.events.items id.n event
+      → Stands marks id.n false → Extends p id event (length event.ways.items) old new → Continues p marks id.n old new
   continues_event id event old new st m h = record {
     on = λ a. kept_next id.n (length event.ways.items) new (h.on marks m a) (λ l i u k.
-        let same : k.event ≡ event = stands_one p.events.items id.n k.event event (subst (λ (z : ℕ). Stands p.events.items z k.event) i k.is_event) st in
-        let within = stands_within event.ways.items l.way k.way (subst (λ (z : Event). Stands z.ways.items l.way k.way) same k.has) in
+        let same : k.event ≡ event = stands_one p.events.items id.n k.event event
+        (subst (λ (z : ℕ). Stands p.events.items z k.event) i k.is_event) st in
+        let within = stands_within event.ways.items l.way k.way
+        (subst (λ (z : Event). Stands z.ways.items l.way k.way) same k.has) in
         omega arith);
   }
 
@@ -120,18 +134,27 @@ module _ (p : GtsParts) (id : EventId) (event : Event) (st : Stands p.events.ite
   pub extends_start : (kept : List KeptWay) → Extends p id event 0 kept kept
   extends_start kept = record { on = λ marks m a. a }
 
-  pub extends_more : (i : ℕ) (old now new : List KeptWay) (way : WayId) (found : Option KeptWay) → Stands event.ways.items i way → Extends p id event i old now
-      → MatchOption found (IsNoKept p event way.n) (IsKeptOf p id event way) → new ≡ now ++ items_of found → Extends p id event (i + 1) old new
+  pub extends_more : (i : ℕ) (old now new : List KeptWay) (way : WayId) (found : Option KeptWay)
+      → Stands event.ways.items i way → Extends p id event i old now
+      → MatchOption found (IsNoKept p event way.n) (IsKeptOf p id event way) → new ≡ now ++ items_of found
+      → Extends p id event (i + 1) old new
   extends_more i old now new way None has h lacks e = record {
-    on = λ marks m a. subst (λ (z : List KeptWay). AreKept p marks id.n (i + 1) z) (sym (e ∙ append-nil now)) (kept_skip p marks id.n i now (h.on marks m a) (λ l u v k.
-        let same : k.event ≡ event = stands_one p.events.items id.n k.event event (subst (λ (z : ℕ). Stands p.events.items z k.event) u k.is_event) st in
-        let there : k.way ≡ way = stands_one event.ways.items i k.way way (subst (λ (z : ℕ). Stands event.ways.items z k.way) v (subst (λ (z : Event). Stands z.ways.items l.way k.way) same k.has)) has in
-        k.state (subst (λ (z : Event). HasNo (net_of p).variables (IsStateOf z.unit.n)) (sym same) (lacks k.guard k.action (subst (λ (z : WayId). IsLocal p z.n k.guard k.action) there k.local)))));
+    on = λ marks m a. subst (λ (z : List KeptWay). AreKept p marks id.n (i + 1) z) (sym (e ∙ append-nil now))
+        (kept_skip p marks id.n i now (h.on marks m a) (λ l u v k.
+        let same : k.event ≡ event = stands_one p.events.items id.n k.event event
+        (subst (λ (z : ℕ). Stands p.events.items z k.event) u k.is_event) st in
+        let there : k.way ≡ way = stands_one event.ways.items i k.way way
+        (subst (λ (z : ℕ). Stands event.ways.items z k.way) v
+        (subst (λ (z : Event). Stands z.ways.items l.way k.way) same k.has)) has in
+        k.state (subst (λ (z : Event). HasNo (net_of p).variables (IsStateOf z.unit.n)) (sym same)
+        (lacks k.guard k.action (subst (λ (z : WayId). IsLocal p z.n k.guard k.action) there k.local)))));
   }
   extends_more i old now new way (Some more) has h is e = record {
     on = λ marks m a. subst (λ (z : List KeptWay). AreKept p marks id.n (i + 1) z) (sym e)
-        (kept_push p marks id.n i now more (h.on marks m a) (record { event = event; is_event = st; mark = m; id = id; number = refl; way = way; has = has; is = is }));
+        (kept_push p marks id.n i now more (h.on marks m a)
+        (record { event = event; is_event = st; mark = m; id = id; number = refl; way = way; has = has; is = is }));
   }
 
-  pub extends_all : (i n : ℕ) (old now : List KeptWay) → i ≡ n → Extends p id event i old now → Extends p id event n old now
+  pub extends_all : (i n : ℕ) (old now : List KeptWay) → i ≡ n → Extends p id event i old now
+      → Extends p id event n old now
   extends_all i n old now e h = subst (λ (z : ℕ). Extends p id event z old now) e h

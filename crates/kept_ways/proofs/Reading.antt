@@ -6,7 +6,8 @@ use Rattle.ar_base.specs.Lists.{Stands}
 use Rattle.ar_base.proofs.Standing.{stands_one, stands_none, at_most}
 use Rattle.ar_meaning.specs.Found.{IsAnswer}
 
-pub stands_set_other : {A : Type 0} (xs : List A) (i n : ℕ) (a b : A) → (n ≡ i → ⊥) → Stands (set xs i a) n b → Stands xs n b
+pub stands_set_other : {A : Type 0} (xs : List A) (i n : ℕ) (a b : A) → (n ≡ i → ⊥) → Stands (set xs i a) n b
+    → Stands xs n b
 stands_set_other [] i n a b d s = absurd (stands_none n b s)
 stands_set_other (x ∷ xs) zero zero a b d s = absurd (d refl)
 stands_set_other (x ∷ xs) zero (suc n) a b d s = s
@@ -36,7 +37,9 @@ answer_as P Q true f g h = f h
 answer_as P Q false f g h = λ q. h (g q)
 
 -- one flag is written anew, and P changes at its number alone
-pub flags_put : (P Q : ℕ → Type 0) (flags : List Bool) (i : ℕ) (c : Bool) → AreFlags P flags → ((n : ℕ) → (n ≡ i → ⊥) → P n → Q n) → ((n : ℕ) → (n ≡ i → ⊥) → Q n → P n) → IsAnswer c (Q i) → AreFlags Q (set flags i c)
+pub flags_put : (P Q : ℕ → Type 0) (flags : List Bool) (i : ℕ) (c : Bool) → AreFlags P flags
+    → ((n : ℕ) → (n ≡ i → ⊥) → P n → Q n) → ((n : ℕ) → (n ≡ i → ⊥) → Q n → P n) → IsAnswer c (Q i)
+    → AreFlags Q (set flags i c)
 flags_put P Q flags i c are on off answer n b s = elim (cases_eq n i) [
   | inl e ↦ (let same : b ≡ c = stands_set_same flags i c b (subst (λ (z : ℕ). Stands (set flags i c) z b) e s) in
       subst (λ (z : ℕ). IsAnswer b (Q z)) (sym e) (subst (λ (z : Bool). IsAnswer z (Q i)) (sym same) answer))
@@ -44,4 +47,5 @@ flags_put P Q flags i c are on off answer n b s = elim (cases_eq n i) [
 ]
 
 pub flags_none : (P : ℕ → Type 0) (count : ℕ) → ((n : ℕ) → P n → ⊥) → AreFlags P (replicate count false)
-flags_none P count lacks n b s = subst (λ (z : Bool). IsAnswer z (P n)) (sym (stands_repeat count n false b s)) (lacks n)
+flags_none P count lacks n b s = subst (λ (z : Bool). IsAnswer z (P n)) (sym (stands_repeat count n false b s))
+    (lacks n)

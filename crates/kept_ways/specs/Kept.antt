@@ -34,7 +34,8 @@ pub record IsKeptOf (p : GtsParts) (id : EventId) (event : Event) (way : WayId) 
 -- the way is no transition, or its unit has no state variable
 abbrev pub IsNoKept : GtsParts → Event → ℕ → Type 0
 IsNoKept p event n =
-    (guard : Expr VarId) (action : Vec Assign Global) → IsLocal p n guard action → HasNo (net_of p).variables (IsStateOf event.unit.n)
+    (guard : Expr VarId) (action : Vec Assign Global) → IsLocal p n guard action
+    → HasNo (net_of p).variables (IsStateOf event.unit.n)
 
 -- the item that there is, or none
 abbrev pub items_of : Option KeptWay → List KeptWay

@@ -12,7 +12,8 @@ module _ (big small : List ℕ) (same_length : length big ≡ length small) wher
   covers_all covered k i set = elim (cases_lt k (length big)) [
     | inl below ↦
         let whole : or_at big small k ≡ slice_index big k = covered.all refl k (omega arith) below in
-        let both : bit_at (or_at big small k) i ≡ max (bit_at (slice_index big k) i) (bit_at (slice_index small k) i) = bit_at_or (slice_index big k) (slice_index small k) i in
+        let both : bit_at (or_at big small k) i ≡ max (bit_at (slice_index big k) i) (bit_at (slice_index small k) i) =
+        bit_at_or (slice_index big k) (slice_index small k) i in
         let here : bit_at (or_at big small k) i ≡ bit_at (slice_index big k) i = ap (λ (n : ℕ). bit_at n i) whole in
         let low : bit_at (slice_index big k) i < 2 = bit_at-lt (slice_index big k) i in
         omega (arith, set, both, here, low)
@@ -25,7 +26,8 @@ module _ (big small : List ℕ) (same_length : length big ≡ length small) wher
   -- where each bit is there, the or changes no word
   pub covers_none : Covers big small → (k : ℕ) → or_at big small k ≡ slice_index big k
   covers_none covers k = same_from_bits (or_at big small k) (slice_index big k) (λ i.
-      let both : bit_at (or_at big small k) i ≡ max (bit_at (slice_index big k) i) (bit_at (slice_index small k) i) = bit_at_or (slice_index big k) (slice_index small k) i in
+      let both : bit_at (or_at big small k) i ≡ max (bit_at (slice_index big k) i) (bit_at (slice_index small k) i) =
+      bit_at_or (slice_index big k) (slice_index small k) i in
       let low : bit_at (slice_index small k) i < 2 = bit_at-lt (slice_index small k) i in
       elim (cases_lt (bit_at (slice_index small k) i) 1) [
         | inl below ↦ omega (arith, both)
@@ -37,10 +39,13 @@ module _ (big small : List ℕ) (same_length : length big ≡ length small) wher
   not_covered k differs covers = differs (covers_none covers k)
 
   -- what the words up to a place and those behind it say together
-  pub covers_whole : (at : ℕ) (rest : Bool) → CoversBetween big small 0 at true → CoversBetween big small at (length big) rest → (IsTrue rest → Covers big small) × (Covers big small → IsTrue rest)
+  pub covers_whole : (at : ℕ) (rest : Bool) → CoversBetween big small 0 at true
+      → CoversBetween big small at (length big) rest
+      → (IsTrue rest → Covers big small) × (Covers big small → IsTrue rest)
   covers_whole at true first rest = (
     (λ _. covers_all (record {
-      all = λ _ k low high. elim (cases_lt k at) [ inl below ↦ first.all refl k low below | inr above ↦ rest.all refl k above high ];
+      all = λ _ k low high. elim (cases_lt k at)
+          [ inl below ↦ first.all refl k low below | inr above ↦ rest.all refl k above high ];
       missing = λ e. absurd (true≢false e);
     })),
     λ _. refl,

@@ -15,7 +15,8 @@ module _ (xs ys : List ℕ) (at : ℕ) (in_xs : at + 4 ≤ length xs) (in_ys : a
   group = zip2 bit_or (chunk at 4 xs) (chunk at 4 ys)
 
   group_long : length group ≡ 4
-  group_long = length-zip2 bit_or (chunk at 4 xs) (chunk at 4 ys) (length-chunk at 4 xs in_xs ∙ sym (length-chunk at 4 ys in_ys)) ∙ length-chunk at 4 xs in_xs
+  group_long = length-zip2 bit_or (chunk at 4 xs) (chunk at 4 ys)
+      (length-chunk at 4 xs in_xs ∙ sym (length-chunk at 4 ys in_ys)) ∙ length-chunk at 4 xs in_xs
 
   group_at : (k : ℕ) → k < 4 → get_or group k 0 ≡ or_at xs ys (at + k)
   group_at k lt =
@@ -29,8 +30,10 @@ module _ (xs ys : List ℕ) (at : ℕ) (in_xs : at + 4 ≤ length xs) (in_ys : a
   or_of_group = record {
     inside = λ k low high.
         let same : k ≡ at + (k - at) = omega arith in
-        let here : get_or (put_chunk at xs group) (at + (k - at)) 0 ≡ get_or group (k - at) 0 = get_or-put_chunk_at at xs group (k - at) 0 (omega (arith, group_long)) (omega (arith, group_long)) in
-        ap (λ (n : ℕ). get_or (put_chunk at xs group) n 0) same ∙ here ∙ group_at (k - at) (omega arith) ∙ ap (or_at xs ys) (sym same);
+        let here : get_or (put_chunk at xs group) (at + (k - at)) 0 ≡ get_or group (k - at) 0 =
+        get_or-put_chunk_at at xs group (k - at) 0 (omega (arith, group_long)) (omega (arith, group_long)) in
+        ap (λ (n : ℕ). get_or (put_chunk at xs group) n 0) same ∙ here ∙ group_at (k - at) (omega arith)
+        ∙ ap (or_at xs ys) (sym same);
     outside = λ k side. elim side [
       | inl below ↦ get_or-put_chunk_below at xs group k 0 below
       | inr above ↦ get_or-put_chunk_above at xs group k 0 (omega (arith, group_long))
@@ -60,7 +63,8 @@ module _ (xs ys : List ℕ) (at : ℕ) (in_xs : at + 4 ≤ length xs) (in_ys : a
   changes = zip2 differ (group xs ys at in_xs in_ys) (chunk at 4 xs)
 
   changes_long : length changes ≡ 4
-  changes_long = length-zip2 differ (group xs ys at in_xs in_ys) (chunk at 4 xs) (group_long xs ys at in_xs in_ys ∙ sym (length-chunk at 4 xs in_xs)) ∙ group_long xs ys at in_xs in_ys
+  changes_long = length-zip2 differ (group xs ys at in_xs in_ys) (chunk at 4 xs)
+      (group_long xs ys at in_xs in_ys ∙ sym (length-chunk at 4 xs in_xs)) ∙ group_long xs ys at in_xs in_ys
 
   changes_at : (k : ℕ) → k < 4 → get_or changes k false ≡ differ (or_at xs ys (at + k)) (slice_index xs (at + k))
   changes_at k lt =
@@ -82,20 +86,28 @@ module _ (xs ys : List ℕ) (at : ℕ) (in_xs : at + 4 ≤ length xs) (in_ys : a
   other_numbers a b e = λ same. true≢false (sym e ∙ ap not (eq-eqb a b same))
 
   -- what the mask of the changed words says
-  pub mask_tells : (ms : List Bool) → ms ≡ changes → (b : Bool) → nat_eq (mask_l ms % 2 ^ 64) 0 ≡ b → MatchesMask xs ys at b
+  pub mask_tells : (ms : List Bool) → ms ≡ changes → (b : Bool) → nat_eq (mask_l ms % 2 ^ 64) 0 ≡ b
+      → MatchesMask xs ys at b
   mask_tells ms is b e =
       let small : mask_l ms % 2 ^ 64 ≡ mask_l ms = mask_l-mod ms 64 (omega (arith, ap length is, changes_long)) in
       record {
         none = λ t k lt.
             let zero_mask : mask_l ms ≡ 0 = sym small ∙ eqb-true (mask_l ms % 2 ^ 64) 0 (e ∙ t) in
-            let no_change : get_or changes k false ≡ false = subst (λ (l : List Bool). get_or l k false ≡ false) is (none_true ms zero_mask k) in
+            let no_change : get_or changes k false ≡ false =
+            subst (λ (l : List Bool). get_or l k false ≡ false) is (none_true ms zero_mask k) in
             same_numbers (or_at xs ys (at + k)) (slice_index xs (at + k)) (sym (changes_at k lt) ∙ no_change);
         some = λ f.
-            let not_zero : mask_l ms ≢ 0 = λ z. true≢false (sym (eq-eqb (mask_l ms % 2 ^ 64) 0 (small ∙ z)) ∙ (e ∙ f)) in
+            let not_zero : mask_l ms ≢ 0 = λ z. true≢false
+            (sym (eq-eqb (mask_l ms % 2 ^ 64) 0 (small ∙ z)) ∙ (e ∙ f)) in
             let one = some_true ms not_zero in
             let lt : one.0 < 4 = omega (arith, one.1, ap length is, changes_long) in
-            let change : get_or changes one.0 false ≡ true = subst (λ (l : List Bool). get_or l one.0 false ≡ true) is one.2 in
-            (one.0, lt, other_numbers (or_at xs ys (at + one.0)) (slice_index xs (at + one.0)) (sym (changes_at one.0 lt) ∙ change));
+            let change : get_or changes one.0 false ≡ true =
+            subst (λ (l : List Bool). get_or l one.0 false ≡ true) is one.2 in (
+              one.0,
+              lt,
+              other_numbers (or_at xs ys (at + one.0)) (slice_index xs (at + one.0))
+                  (sym (changes_at one.0 lt) ∙ change),
+            );
       }
 
 -- a mask as the truths of a group
@@ -111,7 +123,8 @@ tells_of xs ys at false m = record {
   none = λ e. absurd (true≢false e);
 }
 
-pub covers_of : (xs ys : List ℕ) (at : ℕ) (same : Bool) → MatchesMask xs ys at same → CoversBetween xs ys at (at + 4) same
+pub covers_of : (xs ys : List ℕ) (at : ℕ) (same : Bool) → MatchesMask xs ys at same
+    → CoversBetween xs ys at (at + 4) same
 covers_of xs ys at same m = record {
   all = λ e k low high.
       let is : at + (k - at) ≡ k = omega arith in

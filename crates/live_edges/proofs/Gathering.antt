@@ -16,7 +16,8 @@ live_start reaches live e = subst (λ (z : List Live). AreLive reaches 0 z) (sym
   once = λ x y l m s t. absurd (stands_none x l s);
 })
 
-module _ (reaches : List Reach) (apart : AreEdgesApart reaches) (n : ℕ) (r : Reach) (st : Stands reaches n r) (v : VarId) (is : v.n ≡ n) (live : List Live) (a : AreLive reaches n live) where
+module _ (reaches : List Reach) (apart : AreEdgesApart reaches) (n : ℕ) (r : Reach) (st : Stands reaches n r)
+    (v : VarId) (is : v.n ≡ n) (live : List Live) (a : AreLive reaches n live) where
   abbrev more : List Live
   more = map (live_at v) r.edges.items
 
@@ -43,23 +44,35 @@ module _ (reaches : List Reach) (apart : AreEdgesApart reaches) (n : ℕ) (r : R
     below = omega (arith, number x l k);
     reach = r;
     stands = subst (λ (z : ℕ). Stands reaches z r) (sym (number x l k)) st;
-    is_one = record { place = k.place; stands = subst (λ (z : Edge). Stands r.edges.items k.place z) (ap (λ (z : Live). z.edge) k.live_edge) k.stands };
+    is_one = record {
+      place = k.place;
+      stands = subst (λ (z : Edge). Stands r.edges.items k.place z) (ap (λ (z : Live). z.edge) k.live_edge) k.stands;
+    };
   }
 
-  whole : (m : ℕ) (q : Reach) (e : Edge) → (m < n) ⊎ (m ≡ n) → Stands reaches m q → IsOneOf q.edges.items e → (x : ℕ) × (l : Live) × Stands (live ++ more) x l × (l.variable.n ≡ m) × (l.edge ≡ e)
+  whole : (m : ℕ) (q : Reach) (e : Edge) → (m < n) ⊎ (m ≡ n) → Stands reaches m q → IsOneOf q.edges.items e
+      → (x : ℕ) × (l : Live) × Stands (live ++ more) x l × (l.variable.n ≡ m) × (l.edge ≡ e)
   whole m q e (inl h) s o = let w = a.whole m q e h s o in (w.0, w.1, stands_left live more w.0 w.1 w.2, w.3, w.4)
   whole m q e (inr h) s o =
       let same : q ≡ r = stands_one reaches n q r (subst (λ (z : ℕ). Stands reaches z q) h s) st in
-      let there = subst (λ (z : Reach). Stands z.edges.items o.place e) same o.stands in
-      (length live + o.place, live_at v e, stands_right live more o.place (length live + o.place) (live_at v e) refl (stands_map (live_at v) r.edges.items o.place e there), is ∙ sym h, refl)
+      let there = subst (λ (z : Reach). Stands z.edges.items o.place e) same o.stands in (
+        length live + o.place,
+        live_at v e,
+        stands_right live more o.place (length live + o.place) (live_at v e) refl
+            (stands_map (live_at v) r.edges.items o.place e there),
+        is ∙ sym h,
+        refl,
+      )
 
-  ascend : (x y : ℕ) (l m : Live) → x < y → Stands live x l ⊎ IsNew x l → Stands live y m ⊎ IsNew y m → l.variable.n ≤ m.variable.n
+  ascend : (x y : ℕ) (l m : Live) → x < y → Stands live x l ⊎ IsNew x l → Stands live y m ⊎ IsNew y m
+      → l.variable.n ≤ m.variable.n
   ascend x y l m h (inl s) (inl t) = a.ascend x y l m h s t
   ascend x y l m h (inl s) (inr k) = let b = (a.sound x l s).below in omega (arith, b, number y m k)
   ascend x y l m h (inr j) (inl t) = let w = stands_within live y m t in absurd (omega (arith, j.at))
   ascend x y l m h (inr j) (inr k) = omega (arith, number x l j, number y m k)
 
-  once : (x y : ℕ) (l m : Live) → Stands live x l ⊎ IsNew x l → Stands live y m ⊎ IsNew y m → l.variable.n ≡ m.variable.n → l.edge.from ≡ m.edge.from → l.edge.way ≡ m.edge.way → x ≡ y
+  once : (x y : ℕ) (l m : Live) → Stands live x l ⊎ IsNew x l → Stands live y m ⊎ IsNew y m
+      → l.variable.n ≡ m.variable.n → l.edge.from ≡ m.edge.from → l.edge.way ≡ m.edge.way → x ≡ y
   once x y l m (inl s) (inl t) e f w = a.once x y l m s t e f w
   once x y l m (inl s) (inr k) e f w = let b = (a.sound x l s).below in absurd (omega (arith, b, number y m k))
   once x y l m (inr j) (inl t) e f w = let b = (a.sound y m t).below in absurd (omega (arith, b, number x l j))

@@ -12,7 +12,8 @@ live_at x e = record { variable = x; edge = e }
 
 -- no variable has two edges by one way from one mode
 pub record AreEdgesApart (reaches : List Reach) : Type 0 where
-  pub one : (n : ℕ) (r : Reach) → Stands reaches n r → (j k : ℕ) (e f : Edge) → Stands r.edges.items j e → Stands r.edges.items k f → e.from ≡ f.from → e.way ≡ f.way → j ≡ k
+  pub one : (n : ℕ) (r : Reach) → Stands reaches n r → (j k : ℕ) (e f : Edge) → Stands r.edges.items j e
+      → Stands r.edges.items k f → e.from ≡ f.from → e.way ≡ f.way → j ≡ k
 
 -- an edge of what its variable reaches, one of the first so many
 pub record IsLiveOf (reaches : List Reach) (count : ℕ) (l : Live) : Type 0 where
@@ -24,6 +25,8 @@ pub record IsLiveOf (reaches : List Reach) (count : ℕ) (l : Live) : Type 0 whe
 -- the edges of what the first so many variables reach, by variable, each once
 pub record AreLive (reaches : List Reach) (count : ℕ) (live : List Live) : Type 0 where
   pub sound : (x : ℕ) (l : Live) → Stands live x l → IsLiveOf reaches count l
-  pub whole : (n : ℕ) (r : Reach) (e : Edge) → n < count → Stands reaches n r → IsOneOf r.edges.items e → (x : ℕ) × (l : Live) × Stands live x l × (l.variable.n ≡ n) × (l.edge ≡ e)
+  pub whole : (n : ℕ) (r : Reach) (e : Edge) → n < count → Stands reaches n r → IsOneOf r.edges.items e
+      → (x : ℕ) × (l : Live) × Stands live x l × (l.variable.n ≡ n) × (l.edge ≡ e)
   pub ascend : (x y : ℕ) (l m : Live) → x < y → Stands live x l → Stands live y m → l.variable.n ≤ m.variable.n
-  pub once : (x y : ℕ) (l m : Live) → Stands live x l → Stands live y m → l.variable.n ≡ m.variable.n → l.edge.from ≡ m.edge.from → l.edge.way ≡ m.edge.way → x ≡ y
+  pub once : (x y : ℕ) (l m : Live) → Stands live x l → Stands live y m → l.variable.n ≡ m.variable.n
+      → l.edge.from ≡ m.edge.from → l.edge.way ≡ m.edge.way → x ≡ y

@@ -58,7 +58,8 @@ pub record IsSharing (events : ℕ) (live : List Live) (count : ℕ) (s : Sharin
   pub long : length s.firsts.items ≡ events
   pub firsts : (e : ℕ) (o : Option ℕ) → Stands s.firsts.items e o → IsKnown live count e o
   pub sound : (k : ℕ) (e : EventId) → Stands s.events.items k e → IsLiveIn live count e
-  pub whole : (k : ℕ) (l : Live) → k < count → Stands live k l → (j : ℕ) × (e : EventId) × Stands s.events.items j e × (e.n ≡ l.edge.event.n)
+  pub whole : (k : ℕ) (l : Live) → k < count → Stands live k l
+      → (j : ℕ) × (e : EventId) × Stands s.events.items j e × (e.n ≡ l.edge.event.n)
   pub different : (j k : ℕ) (d e : EventId) → Stands s.events.items j d → Stands s.events.items k e → d.n ≡ e.n → j ≡ k
   pub least : IsLeast (IsShared live count) s.least
 
@@ -70,7 +71,9 @@ pub record IsEmptySharing (count : ℕ) (s : Sharing) : Type 0 where
 
 -- one live edge more, of this event and variable
 pub data Notes (event : EventId) (variable : ℕ) (old new : Sharing) : Type 0 where
-  again : {v : ℕ} → Stands old.firsts.items event.n (Some v) → new.firsts.items ≡ old.firsts.items → new.events.items ≡ old.events.items → new.least ≡ Some (lesser_of old.least v)
+  again : {v : ℕ} → Stands old.firsts.items event.n (Some v) → new.firsts.items ≡ old.firsts.items
+      → new.events.items ≡ old.events.items → new.least ≡ Some (lesser_of old.least v)
       → Notes event variable old new
-  fresh : Stands old.firsts.items event.n None → new.firsts.items ≡ slice_set old.firsts.items event.n (Some variable) → new.events.items ≡ old.events.items ++ event ∷ [] → new.least ≡ old.least
+  fresh : Stands old.firsts.items event.n None → new.firsts.items ≡ slice_set old.firsts.items event.n (Some variable)
+      → new.events.items ≡ old.events.items ++ event ∷ [] → new.least ≡ old.least
       → Notes event variable old new

@@ -71,7 +71,8 @@ module _ (tree : ModeTree) (t : IsTree tree) where
           omega (arith, before, g)
       at ih (suc i) a = let g = ih i a in omega (arith, before, g)
 
-  -- the edges with a path's events, in their order, are the path from its root downward; `front` is the first edges, as many as have those of the path
+  -- the edges with a path's events, in their order, are the path from its root downward; `front` is the first edges, as
+  -- many as have those of the path
   pub in_front : {ls : List Label} {m : Value} → LeadsTo tree ls m → (front back : List Row)
       → tree.edges ≡ front ++ back
       → ((i : ℕ) (l : Label) → Stands ls i l → (j : ℕ) (q : Row) → Stands tree.edges j q → q.label.event ≡ l.event
@@ -107,10 +108,12 @@ module _ (tree : ModeTree) (t : IsTree tree) where
           let in_f2 = λ (j : ℕ) (q : Row) (i : Stands f2 j q). subst (λ z. Stands z (length f1 + suc j) q) (sym whole)
           (stands_right f1 (r ∷ f2 ++ back) (suc j) (length f1 + suc j) q refl (stands_left f2 back j q i)) in
           let first : filter (on (x ∷ xs)) f1 ≡ filter (on xs) f1 =
-          same_tests (on (x ∷ xs)) (on xs) f1 (λ j q i. ap (λ b. b || on xs q) (false_from_ne_true (eqb x.event q.label.event)
+          same_tests (on (x ∷ xs)) (on xs) f1
+          (λ j q i. ap (λ b. b || on xs q) (false_from_ne_true (eqb x.event q.label.event)
           (λ y. let g : j ≡ k = t.event j k q r (in_f1 j q i) s.stands (sym (eqb-true x.event q.label.event y)) in
           omega (arith, g, c.3, within f1 j q i)))) in
-          let last : filter (on (x ∷ xs)) f2 ≡ [] = none_pass (on (x ∷ xs)) f2 (λ j q i. false_from_ne_true (on (x ∷ xs) q) (λ y.
+          let last : filter (on (x ∷ xs)) f2 ≡ [] =
+          none_pass (on (x ∷ xs)) f2 (λ j q i. false_from_ne_true (on (x ∷ xs) q) (λ y.
           let o = on_some (x ∷ xs) q y in
           late (length f1 + suc j) q (in_f2 j q i) (omega (arith, c.3)) o.0 o.1 o.2 o.3)) in
           let here : on (x ∷ xs) r ≡ true = ap (λ b. b || on xs r) (eq-eqb x.event x.event refl) in

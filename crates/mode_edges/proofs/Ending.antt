@@ -27,11 +27,14 @@ use Rattle.mode_edges.specs.Reached.{Leads, IsMoveOf, Setting, IsEdgeOf, IsReach
 use Rattle.mode_forests.proofs.Fewer.{no_more}
 
 -- fewer modes are reached than the domain has values
-pub modes_few : (s : Setting) (first : Value) (next i : ℕ) (r : Reach) → IsReaching s first next i r → length r.modes.items ≤ length s.domain
-modes_few s first next i r h = no_more r.modes.items s.domain h.different (λ k e p. one_contains s.domain e (h.inside e (one_here r.modes.items k e p)))
+pub modes_few : (s : Setting) (first : Value) (next i : ℕ) (r : Reach) → IsReaching s first next i r
+    → length r.modes.items ≤ length s.domain
+modes_few s first next i r h = no_more r.modes.items s.domain h.different
+    (λ k e p. one_contains s.domain e (h.inside e (one_here r.modes.items k e p)))
 
 -- a way is one transition
-same_transition : (p : GtsParts) (way : ℕ) (g h : Expr VarId) (u v : Vec Assign Global) → IsLocal p way g u → IsLocal p way h v → transition_of g u.items ≡ transition_of h v.items
+same_transition : (p : GtsParts) (way : ℕ) (g h : Expr VarId) (u v : Vec Assign Global) → IsLocal p way g u
+    → IsLocal p way h v → transition_of g u.items ≡ transition_of h v.items
 same_transition p way g h u v x y = go bodies
   where
     same_way : x.way ≡ y.way
@@ -42,11 +45,14 @@ same_transition p way g h u v x y = go bodies
 
     go : Local g u ≡ Local h v → transition_of g u.items ≡ transition_of h v.items
     go e = let i : g ≡ h = cc in let j : u ≡ v = cc in
-        subst (λ (z : Expr VarId). transition_of g u.items ≡ transition_of z v.items) i (subst (λ (z : Vec Assign Global). transition_of g u.items ≡ transition_of g z.items) j refl)
+        subst (λ (z : Expr VarId). transition_of g u.items ≡ transition_of z v.items) i
+        (subst (λ (z : Vec Assign Global). transition_of g u.items ≡ transition_of g z.items) j refl)
 
 module _ (p : GtsParts) (n : ℕ) (domain : List Value) (way : ℕ) (from : Value) where
-  pub led_is : (g : Expr VarId) (u : Vec Assign Global) → IsLocal p way g u → (move : Move) → IsMove (At n from) (transition_of g u.items) n domain move → IsMoveOf p n domain way from move
-  led_is g u x Still h = λ k v y can. h (subst (λ (z : Transition ℕ). Can (At n from) (Leaf z)) (same_transition p way k g v u y x) can)
+  pub led_is : (g : Expr VarId) (u : Vec Assign Global) → IsLocal p way g u → (move : Move)
+      → IsMove (At n from) (transition_of g u.items) n domain move → IsMoveOf p n domain way from move
+  led_is g u x Still h = λ k v y can. h
+      (subst (λ (z : Transition ℕ). Can (At n from) (Leaf z)) (same_transition p way k g v u y x) can)
   led_is g u x Wrong h = record { guard = g; action = u; local = x; is = h }
   led_is g u x (To v) h = record { guard = g; action = u; local = x; is = h }
 
@@ -62,7 +68,8 @@ module _ (p : GtsParts) (n : ℕ) (domain : List Value) (way : ℕ) (from : Valu
       let k = subst (λ (z : Transition ℕ). IsStep (At n from) z n domain w) e y.is in
       x.is.one w k.gives
 
-  not_other : {effects : Value → Type 0} (v : Value) → effects v → ((w : Value) → effects w → w ≡ v) → Contains domain v → GivesOther effects domain → ⊥
+  not_other : {effects : Value → Type 0} (v : Value) → effects v → ((w : Value) → effects w → w ≡ v) → Contains domain v
+      → GivesOther effects domain → ⊥
   not_other v g one inside (nothing h) = h v g
   not_other v g one inside (two a b i j d) = d (one a i ∙ sym (one b j))
   not_other v g one inside (outside a i d) = d (subst (λ z. Contains domain z) (sym (one a i)) inside)
@@ -73,25 +80,34 @@ module _ (p : GtsParts) (n : ℕ) (domain : List Value) (way : ℕ) (from : Valu
       let k = subst (λ (z : Transition ℕ). IsStep (At n from) z n domain v) e x.is in
       not_other v k.gives k.one k.in_domain y.is.gives
 
-edge_is : (e : Edge) (event : EventId) (way : WayId) (to : Value) → e.event ≡ event → e.way ≡ way → to ≡ e.to → ◌≡◌ {A = Edge} (record { from = e.from; event = event; way = way; to = to }) e
+edge_is : (e : Edge) (event : EventId) (way : WayId) (to : Value) → e.event ≡ event → e.way ≡ way → to ≡ e.to
+    → ◌≡◌ {A = Edge} (record { from = e.from; event = event; way = way; to = to }) e
 edge_is e event way to i j k = go e.event event e.way way e.to to i j k
   where
-    go : (a b : EventId) (c d : WayId) (u v : Value) → a ≡ b → c ≡ d → v ≡ u → ◌≡◌ {A = Edge} (record { from = e.from; event = b; way = d; to = v }) (record { from = e.from; event = a; way = c; to = u })
+    go : (a b : EventId) (c d : WayId) (u v : Value) → a ≡ b → c ≡ d → v ≡ u
+        → ◌≡◌ {A = Edge} (record { from = e.from; event = b; way = d; to = v })
+        (record { from = e.from; event = a; way = c; to = u })
     go a b c d u v i j k = cc
 
-module _ (s : Setting) (first : Value) (next : ℕ) (r : Reach) (past : length r.modes.items ≤ next) (h : IsReaching s first next 0 r) where
+module _ (s : Setting) (first : Value) (next : ℕ) (r : Reach) (past : length r.modes.items ≤ next)
+    (h : IsReaching s first next 0 r) where
   records_at : (m : Value) → IsOneOf r.modes.items m → (q : ℕ) (way : KeptWay) → Stands s.ways q way → Records s way m r
   records_at m o q way sw = let w = stands_within r.modes.items o.place m o.stands in h.records o.place q m way (inl (omega arith)) o.stands sw
 
-  edge_there : (e : Edge) (g : IsEdgeOf s e) → Records s g.way e.from r → IsOneOf r.modes.items e.to × IsOneOf r.edges.items e
+  edge_there : (e : Edge) (g : IsEdgeOf s e) → Records s g.way e.from r
+      → IsOneOf r.modes.items e.to × IsOneOf r.edges.items e
   edge_there e g k = by k.move k.is k.recorded
     where
-      by : (move : Move) → IsMoveOf s.parts s.number s.domain g.way.way.n e.from move → IsRecorded g.way e.from move r → IsOneOf r.modes.items e.to × IsOneOf r.edges.items e
+      by : (move : Move) → IsMoveOf s.parts s.number s.domain g.way.way.n e.from move → IsRecorded g.way e.from move r
+          → IsOneOf r.modes.items e.to × IsOneOf r.edges.items e
       by Still is rec = absurd (still_not s.parts s.number s.domain g.way.way.n e.from e.to is g.leads)
       by Wrong is rec = absurd (to_not_wrong s.parts s.number s.domain g.way.way.n e.from e.to g.leads is)
       by (To v) is rec =
-          let i : v ≡ e.to = one_to s.parts s.number s.domain g.way.way.n e.from e.to v g.leads is in
-          (subst (λ (z : Value). IsOneOf r.modes.items z) i rec.0, subst (λ (z : Edge). IsOneOf r.edges.items z) (edge_is e g.way.event g.way.way v g.is_event g.is_way i) rec.1)
+          let i : v ≡ e.to = one_to s.parts s.number s.domain g.way.way.n e.from e.to v g.leads is in (
+            subst (λ (z : Value). IsOneOf r.modes.items z) i rec.0,
+            subst (λ (z : Edge). IsOneOf r.edges.items z)
+                (edge_is e g.way.event g.way.way v g.is_event g.is_way i) rec.1,
+          )
 
   modes_whole : {m : Value} → IsReachable s first m → IsOneOf r.modes.items m
   modes_whole here = one_here r.modes.items 0 first h.begins
@@ -100,7 +116,8 @@ module _ (s : Setting) (first : Value) (next : ℕ) (r : Reach) (past : length r
   wrong_there : HasWrong s first → r.wrong ≡ true
   wrong_there w = let k = records_at w.mode (modes_whole w.reachable) w.place w.way w.stands in by k.move k.is k.recorded
     where
-      by : (move : Move) → IsMoveOf s.parts s.number s.domain w.way.way.n w.mode move → IsRecorded w.way w.mode move r → r.wrong ≡ true
+      by : (move : Move) → IsMoveOf s.parts s.number s.domain w.way.way.n w.mode move → IsRecorded w.way w.mode move r
+          → r.wrong ≡ true
       by Still is rec = absurd (still_not_wrong s.parts s.number s.domain w.way.way.n w.mode is w.leads)
       by Wrong is rec = rec
       by (To v) is rec = absurd (to_not_wrong s.parts s.number s.domain w.way.way.n w.mode v is w.leads)

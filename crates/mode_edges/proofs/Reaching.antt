@@ -30,12 +30,15 @@ record Grows (old new : Reach) : Type 0 where
   edges : (e : Edge) → IsOneOf old.edges.items e → IsOneOf new.edges.items e
   wrong : old.wrong ≡ true → new.wrong ≡ true
 
-recorded_grows : (way : KeptWay) (mode : Value) (move : Move) (old new : Reach) → Grows old new → IsRecorded way mode move old → IsRecorded way mode move new
+recorded_grows : (way : KeptWay) (mode : Value) (move : Move) (old new : Reach) → Grows old new
+    → IsRecorded way mode move old → IsRecorded way mode move new
 recorded_grows way mode Still old new g h = h
 recorded_grows way mode Wrong old new g h = g.wrong h
-recorded_grows way mode (To v) old new g h = (g.modes v h.0, g.edges (record { from = mode; event = way.event; way = way.way; to = v }) h.1)
+recorded_grows way mode (To v) old new g h =
+    (g.modes v h.0, g.edges (record { from = mode; event = way.event; way = way.way; to = v }) h.1)
 
-again_more : (first : Value) (edges : List Edge) (e : Edge) → EntersAgain first edges → EntersAgain first (edges ++ e ∷ [])
+again_more : (first : Value) (edges : List Edge) (e : Edge) → EntersAgain first edges
+    → EntersAgain first (edges ++ e ∷ [])
 again_more first edges e h = record {
   place = h.place;
   edge = h.edge;
@@ -44,7 +47,8 @@ again_more first edges e h = record {
 }
 
 -- the edge enters a mode that is there
-again_known : (first : Value) (modes : List Value) (edges : List Edge) (e : Edge) (b : Bool) → IsAgain first modes edges b → IsOneOf modes e.to → EntersAgain first (edges ++ e ∷ [])
+again_known : (first : Value) (modes : List Value) (edges : List Edge) (e : Edge) (b : Bool)
+    → IsAgain first modes edges b → IsOneOf modes e.to → EntersAgain first (edges ++ e ∷ [])
 again_known first modes edges e true h o = again_more first edges e h
 again_known first modes edges e false h o = record {
   place = length edges;
@@ -56,9 +60,12 @@ again_known first modes edges e false h o = record {
   ];
 }
 
-again_fresh : (first : Value) (modes : List Value) (edges : List Edge) (e : Edge) (b : Bool) → IsAgain first modes edges b → IsAgain first (modes ++ e.to ∷ []) (edges ++ e ∷ []) b
+again_fresh : (first : Value) (modes : List Value) (edges : List Edge) (e : Edge) (b : Bool)
+    → IsAgain first modes edges b → IsAgain first (modes ++ e.to ∷ []) (edges ++ e ∷ []) b
 again_fresh first modes edges e true h = again_more first edges e h
-again_fresh first modes edges e false h = ap (λ (z : List Value). z ++ e.to ∷ []) h ∙ ap (λ (z : List Value). first ∷ z) (sym (map-append to_of edges (e ∷ [])))
+again_fresh first modes edges e false h =
+    ap (λ (z : List Value). z ++ e.to ∷ []) h
+    ∙ ap (λ (z : List Value). first ∷ z) (sym (map-append to_of edges (e ∷ [])))
 
 module _ (s : Setting) (first : Value) where
   pub start_reaching : (r : Reach) → Contains s.domain first → IsStart first r → IsReaching s first 0 0 r
@@ -68,7 +75,8 @@ module _ (s : Setting) (first : Value) where
     inside = λ m o. subst (λ (z : Value). Contains s.domain z) (single m o) c;
     modes = λ m o. subst (λ (z : Value). IsReachable s first z) (single m o) here;
     edges = λ e o. absurd (one_none e (subst (λ (z : List Edge). IsOneOf z e) h.edges o));
-    records = λ j q mode way d st sw. elim d [ inl k ↦ absurd (omega (arith, k)) | inr k ↦ absurd (omega (arith, k.1)) ];
+    records = λ j q mode way d st sw. elim d
+        [ inl k ↦ absurd (omega (arith, k)) | inr k ↦ absurd (omega (arith, k.1)) ];
     apart = λ j k e f p q i l. absurd (stands_none j e (subst (λ (z : List Edge). Stands z j e) h.edges p));
     wrong = λ e. let f = h.wrong in cc;
     again = by r.again h.again;
@@ -82,18 +90,24 @@ module _ (s : Setting) (first : Value) where
       by false e = h.modes ∙ ap (λ (z : List Edge). first ∷ map to_of z) (sym h.edges)
 
   -- one way more at a mode
-  module _ (next i : ℕ) (old : Reach) (mode : Value) (way : KeptWay) (ways_apart : AreApart s.ways) (at_mode : Stands old.modes.items next mode) (at_way : Stands s.ways i way) (r : IsReaching s first next i old) where
+  module _ (next i : ℕ) (old : Reach) (mode : Value) (way : KeptWay) (ways_apart : AreApart s.ways)
+      (at_mode : Stands old.modes.items next mode) (at_way : Stands s.ways i way)
+      (r : IsReaching s first next i old) where
     abbrev edge_of : Value → Edge
     edge_of to = record { from = mode; event = way.event; way = way.way; to = to }
 
-    records_more : (new : Reach) (move : Move) → Grows old new → ((j : ℕ) (m : Value) → j ≤ next → Stands new.modes.items j m → Stands old.modes.items j m)
+    records_more : (new : Reach) (move : Move) → Grows old new
+        → ((j : ℕ) (m : Value) → j ≤ next → Stands new.modes.items j m → Stands old.modes.items j m)
         → IsMoveOf s.parts s.number s.domain way.way.n mode move → IsRecorded way mode move new
-        → (j q : ℕ) (m : Value) (k : KeptWay) → IsDone next (i + 1) j q → Stands new.modes.items j m → Stands s.ways q k → Records s k m new
+        → (j q : ℕ) (m : Value) (k : KeptWay) → IsDone next (i + 1) j q → Stands new.modes.items j m → Stands s.ways q k
+        → Records s k m new
     records_more new move g back is recorded j q m k d st sw = elim (done_cases next i j q d) [
       | inl h ↦ (let o = r.records j q m k h (back j m (low j q h) st) sw in record { move = o.move; is = o.is; recorded = recorded_grows k m o.move old new g o.recorded })
       | inr h ↦ (let same_mode : m ≡ mode = stands_one old.modes.items next m mode (subst (λ (z : ℕ). Stands old.modes.items z m) h.0 (back j m (omega (arith, h.0)) st)) at_mode in
           let same_way : k ≡ way = stands_one s.ways i k way (subst (λ (z : ℕ). Stands s.ways z k) h.1 sw) at_way in
-          subst (λ (z : Value). Records s k z new) (sym same_mode) (subst (λ (z : KeptWay). Records s z mode new) (sym same_way) (record { move = move; is = is; recorded = recorded })))
+          subst (λ (z : Value). Records s k z new) (sym same_mode)
+          (subst (λ (z : KeptWay). Records s z mode new) (sym same_way)
+          (record { move = move; is = is; recorded = recorded })))
     ]
       where
         low : (j q : ℕ) → IsDone next i j q → j ≤ next
@@ -101,31 +115,47 @@ module _ (s : Setting) (first : Value) where
         low j q (inr h) = omega (arith, h.0)
 
     found_more : (e : Edge) → IsFound s next i old e → IsFound s next (i + 1) old e
-    found_more e f = record { is_edge = f.is_edge; place = f.place; from = f.from; done = done_more next i f.place f.is_edge.place f.done }
+    found_more e f = record {
+      is_edge = f.is_edge;
+      place = f.place;
+      from = f.from;
+      done = done_more next i f.place f.is_edge.place f.done;
+    }
 
-    step_still : (new : Reach) → new ≡ old → IsMoveOf s.parts s.number s.domain way.way.n mode Still → IsReaching s first next (i + 1) new
+    step_still : (new : Reach) → new ≡ old → IsMoveOf s.parts s.number s.domain way.way.n mode Still
+        → IsReaching s first next (i + 1) new
     step_still new e is = subst (λ (z : Reach). IsReaching s first next (i + 1) z) (sym e) (record {
       begins = r.begins;
       different = r.different;
       inside = r.inside;
       modes = r.modes;
       edges = λ f o. found_more f (r.edges f o);
-      records = records_more old Still (record { modes = λ m o. o; edges = λ f o. o; wrong = λ w. w }) (λ j m d st. st) is tt;
+      records = records_more old Still (record { modes = λ m o. o; edges = λ f o. o; wrong = λ w. w }) (λ j m d st. st)
+          is tt;
       apart = r.apart;
       wrong = r.wrong;
       again = r.again;
     })
 
-    step_wrong : (new : Reach) → new ≡ record old { wrong = true } → Leads s.parts s.number s.domain way.way.n mode Wrong → IsReaching s first next (i + 1) new
+    step_wrong : (new : Reach) → new ≡ record old { wrong = true }
+        → Leads s.parts s.number s.domain way.way.n mode Wrong → IsReaching s first next (i + 1) new
     step_wrong new e is = subst (λ (z : Reach). IsReaching s first next (i + 1) z) (sym e) (record {
       begins = r.begins;
       different = r.different;
       inside = r.inside;
       modes = r.modes;
       edges = λ f o. let g = r.edges f o in record { is_edge = g.is_edge; place = g.place; from = g.from; done = done_more next i g.place g.is_edge.place g.done };
-      records = records_more (record old { wrong = true }) Wrong (record { modes = λ m o. o; edges = λ f o. o; wrong = λ w. refl }) (λ j m d st. st) is refl;
+      records = records_more (record old { wrong = true }) Wrong
+          (record { modes = λ m o. o; edges = λ f o. o; wrong = λ w. refl }) (λ j m d st. st) is refl;
       apart = r.apart;
-      wrong = λ w. record { mode = mode; reachable = r.modes mode (one_here old.modes.items next mode at_mode); place = i; way = way; stands = at_way; leads = is };
+      wrong = λ w. record {
+        mode = mode;
+        reachable = r.modes mode (one_here old.modes.items next mode at_mode);
+        place = i;
+        way = way;
+        stands = at_way;
+        leads = is;
+      };
       again = r.again;
     })
 
@@ -134,54 +164,73 @@ module _ (s : Setting) (first : Value) where
       is_edge = record { place = i; way = way; stands = at_way; is_event = refl; is_way = refl; leads = leads }
 
       -- the new edge is found at the mode
-      found_new : (new : Reach) (rest : List Value) → new.modes.items ≡ old.modes.items ++ rest → new.edges.items ≡ old.edges.items ++ edge_of to ∷ [] → (e : Edge) → IsOneOf new.edges.items e → IsFound s next (i + 1) new e
-      found_new new rest em ee e o = elim (one_split old.edges.items (edge_of to ∷ []) e (subst (λ (z : List Edge). IsOneOf z e) ee o)) [
-        | inl k ↦ (let g = r.edges e k in record {
-          is_edge = g.is_edge;
-          place = g.place;
-          from = subst (λ (z : List Value). Stands z g.place e.from) (sym em) (stands_left old.modes.items rest g.place e.from g.from);
-          done = done_more next i g.place g.is_edge.place g.done;
-        })
-        | inr k ↦ subst (λ (z : Edge). IsFound s next (i + 1) new z) (only_item (edge_of to) e k) (record {
-          is_edge = is_edge;
-          place = next;
-          from = subst (λ (z : List Value). Stands z next mode) (sym em) (stands_left old.modes.items rest next mode at_mode);
-          done = inr (refl, omega arith);
-        })
-      ]
+      found_new : (new : Reach) (rest : List Value) → new.modes.items ≡ old.modes.items ++ rest
+          → new.edges.items ≡ old.edges.items ++ edge_of to ∷ [] → (e : Edge) → IsOneOf new.edges.items e
+          → IsFound s next (i + 1) new e
+      found_new new rest em ee e o = elim
+          (one_split old.edges.items (edge_of to ∷ []) e (subst (λ (z : List Edge). IsOneOf z e) ee o)) [
+            | inl k ↦ (let g = r.edges e k in record {
+              is_edge = g.is_edge;
+              place = g.place;
+              from = subst (λ (z : List Value). Stands z g.place e.from) (sym em)
+                  (stands_left old.modes.items rest g.place e.from g.from);
+              done = done_more next i g.place g.is_edge.place g.done;
+            })
+            | inr k ↦ subst (λ (z : Edge). IsFound s next (i + 1) new z) (only_item (edge_of to) e k) (record {
+              is_edge = is_edge;
+              place = next;
+              from = subst (λ (z : List Value). Stands z next mode) (sym em)
+                  (stands_left old.modes.items rest next mode at_mode);
+              done = inr (refl, omega arith);
+            })
+          ]
 
       -- no earlier edge leaves the mode by the way
       new_apart : (j : ℕ) (e : Edge) → Stands old.edges.items j e → e.from ≡ mode → e.way ≡ way.way → ⊥
       new_apart j e st i_from i_way =
           let g = r.edges e (one_here old.edges.items j e st) in
-          let at : g.place ≡ next = r.different.one g.place next mode (subst (λ (z : Value). Stands old.modes.items g.place z) i_from g.from) at_mode in
-          let same : g.is_edge.place ≡ i = ways_apart.one g.is_edge.place i g.is_edge.way way g.is_edge.stands at_way (sym g.is_edge.is_way ∙ i_way) in
+          let at : g.place ≡ next = r.different.one g.place next mode
+          (subst (λ (z : Value). Stands old.modes.items g.place z) i_from g.from) at_mode in
+          let same : g.is_edge.place ≡ i =
+          ways_apart.one g.is_edge.place i g.is_edge.way way g.is_edge.stands at_way
+          (sym g.is_edge.is_way ∙ i_way) in
           elim g.done [ inl k ↦ omega arith | inr k ↦ omega (arith, k.1) ]
 
-      edges_apart : (j k : ℕ) (e f : Edge) → Stands (old.edges.items ++ edge_of to ∷ []) j e → Stands (old.edges.items ++ edge_of to ∷ []) k f → e.from ≡ f.from → e.way ≡ f.way → j ≡ k
-      edges_apart j k e f p q i_from i_way = by (stands_split old.edges.items (edge_of to ∷ []) j e p) (stands_split old.edges.items (edge_of to ∷ []) k f q)
+      edges_apart : (j k : ℕ) (e f : Edge) → Stands (old.edges.items ++ edge_of to ∷ []) j e
+          → Stands (old.edges.items ++ edge_of to ∷ []) k f → e.from ≡ f.from → e.way ≡ f.way → j ≡ k
+      edges_apart j k e f p q i_from i_way =
+          by (stands_split old.edges.items (edge_of to ∷ []) j e p)
+          (stands_split old.edges.items (edge_of to ∷ []) k f q)
         where
           by : Stands old.edges.items j e ⊎ ((n : ℕ) × (j ≡ length old.edges.items + n) × Stands (edge_of to ∷ []) n e)
-              → Stands old.edges.items k f ⊎ ((n : ℕ) × (k ≡ length old.edges.items + n) × Stands (edge_of to ∷ []) n f) → j ≡ k
+              → Stands old.edges.items k f ⊎ ((n : ℕ) × (k ≡ length old.edges.items + n) × Stands (edge_of to ∷ []) n f)
+              → j ≡ k
           by (inl a) (inl b) = r.apart j k e f a b i_from i_way
           by (inl a) (inr b) =
               let l = (last_place (edge_of to) f b.0 b.2).1 in
-              absurd (new_apart j e a (i_from ∙ ap (λ (z : Edge). z.from) (sym l)) (i_way ∙ ap (λ (z : Edge). z.way) (sym l)))
+              absurd (new_apart j e a (i_from ∙ ap (λ (z : Edge). z.from) (sym l))
+              (i_way ∙ ap (λ (z : Edge). z.way) (sym l)))
           by (inr a) (inl b) =
               let l = (last_place (edge_of to) e a.0 a.2).1 in
-              absurd (new_apart k f b (sym i_from ∙ ap (λ (z : Edge). z.from) (sym l)) (sym i_way ∙ ap (λ (z : Edge). z.way) (sym l)))
+              absurd (new_apart k f b (sym i_from ∙ ap (λ (z : Edge). z.from) (sym l))
+              (sym i_way ∙ ap (λ (z : Edge). z.way) (sym l)))
           by (inr a) (inr b) = let u = (last_place (edge_of to) e a.0 a.2).0 in let v = (last_place (edge_of to) f b.0 b.2).0 in omega (arith, a.1, b.1)
 
-      back_to : (new : Reach) (rest : List Value) → new.modes.items ≡ old.modes.items ++ rest → (j : ℕ) (m : Value) → j ≤ next → Stands new.modes.items j m → Stands old.modes.items j m
-      back_to new rest em j m l st = elim (stands_split old.modes.items rest j m (subst (λ (z : List Value). Stands z j m) em st)) [
-        | inl k ↦ k
-        | inr k ↦ (let w = stands_within old.modes.items next mode at_mode in absurd (omega (arith, k.1)))
-      ]
+      back_to : (new : Reach) (rest : List Value) → new.modes.items ≡ old.modes.items ++ rest → (j : ℕ) (m : Value)
+          → j ≤ next → Stands new.modes.items j m → Stands old.modes.items j m
+      back_to new rest em j m l st = elim
+          (stands_split old.modes.items rest j m (subst (λ (z : List Value). Stands z j m) em st)) [
+            | inl k ↦ k
+            | inr k ↦ (let w = stands_within old.modes.items next mode at_mode in absurd (omega (arith, k.1)))
+          ]
 
-      new_edge : (new : Reach) → new.edges.items ≡ old.edges.items ++ edge_of to ∷ [] → IsOneOf new.edges.items (edge_of to)
-      new_edge new ee = subst (λ (z : List Edge). IsOneOf z (edge_of to)) (sym ee) (one_right old.edges.items (edge_of to ∷ []) (edge_of to) (one_first (edge_of to) []))
+      new_edge : (new : Reach) → new.edges.items ≡ old.edges.items ++ edge_of to ∷ []
+          → IsOneOf new.edges.items (edge_of to)
+      new_edge new ee = subst (λ (z : List Edge). IsOneOf z (edge_of to)) (sym ee)
+          (one_right old.edges.items (edge_of to ∷ []) (edge_of to) (one_first (edge_of to) []))
 
-      grows_by : (new : Reach) (rest : List Value) → new.modes.items ≡ old.modes.items ++ rest → new.edges.items ≡ old.edges.items ++ edge_of to ∷ [] → new.wrong ≡ old.wrong → Grows old new
+      grows_by : (new : Reach) (rest : List Value) → new.modes.items ≡ old.modes.items ++ rest
+          → new.edges.items ≡ old.edges.items ++ edge_of to ∷ [] → new.wrong ≡ old.wrong → Grows old new
       grows_by new rest em ee ew = record {
         modes = λ m o. subst (λ (z : List Value). IsOneOf z m) (sym em) (one_left old.modes.items rest m o);
         edges = λ e o. subst (λ (z : List Edge). IsOneOf z e) (sym ee) (one_left old.edges.items (edge_of to ∷ []) e o);
@@ -191,7 +240,9 @@ module _ (s : Setting) (first : Value) where
       in_domain : Contains s.domain to
       in_domain = leads.is.in_domain
 
-      step_known : (new : Reach) → IsOneOf old.modes.items to → new.modes.items ≡ old.modes.items → new.edges.items ≡ old.edges.items ++ edge_of to ∷ [] → new.wrong ≡ old.wrong → new.again ≡ true → IsReaching s first next (i + 1) new
+      step_known : (new : Reach) → IsOneOf old.modes.items to → new.modes.items ≡ old.modes.items
+          → new.edges.items ≡ old.edges.items ++ edge_of to ∷ [] → new.wrong ≡ old.wrong → new.again ≡ true
+          → IsReaching s first next (i + 1) new
       step_known new o em ee ew ea =
           let em_nil : new.modes.items ≡ old.modes.items ++ [] = em ∙ sym (append-nil old.modes.items) in
           let g = grows_by new [] em_nil ee ew in record {
@@ -201,41 +252,57 @@ module _ (s : Setting) (first : Value) where
             modes = λ m p. r.modes m (subst (λ (z : List Value). IsOneOf z m) em p);
             edges = found_new new [] em_nil ee;
             records = records_more new (To to) g (back_to new [] em_nil) leads (g.modes to o, new_edge new ee);
-            apart = λ j k e f p q. edges_apart j k e f (subst (λ (z : List Edge). Stands z j e) ee p) (subst (λ (z : List Edge). Stands z k f) ee q);
+            apart = λ j k e f p q. edges_apart j k e f (subst (λ (z : List Edge). Stands z j e) ee p)
+                (subst (λ (z : List Edge). Stands z k f) ee q);
             wrong = λ w. r.wrong (sym ew ∙ w);
             again = subst (λ (z : Bool). IsAgain first new.modes.items new.edges.items z) (sym ea)
-                (subst (λ (z : List Edge). EntersAgain first z) (sym ee) (again_known first old.modes.items old.edges.items (edge_of to) old.again r.again o));
+                (subst (λ (z : List Edge). EntersAgain first z) (sym ee)
+                (again_known first old.modes.items old.edges.items (edge_of to) old.again r.again o));
           }
 
-      step_fresh : (new : Reach) → (IsOneOf old.modes.items to → ⊥) → new.modes.items ≡ old.modes.items ++ to ∷ [] → new.edges.items ≡ old.edges.items ++ edge_of to ∷ [] → new.wrong ≡ old.wrong → new.again ≡ old.again
+      step_fresh : (new : Reach) → (IsOneOf old.modes.items to → ⊥) → new.modes.items ≡ old.modes.items ++ to ∷ []
+          → new.edges.items ≡ old.edges.items ++ edge_of to ∷ [] → new.wrong ≡ old.wrong → new.again ≡ old.again
           → IsReaching s first next (i + 1) new
       step_fresh new n em ee ew ea =
           let g = grows_by new (to ∷ []) em ee ew in record {
-            begins = subst (λ (z : List Value). Stands z 0 first) (sym em) (stands_left old.modes.items (to ∷ []) 0 first r.begins);
-            different = subst (λ (z : List Value). AreDifferent z) (sym em) (different_more old.modes.items to r.different (record { has_not = λ k a p q. n (subst (λ (z : Value). IsOneOf old.modes.items z) q (one_here old.modes.items k a p)) }));
+            begins = subst (λ (z : List Value). Stands z 0 first) (sym em)
+                (stands_left old.modes.items (to ∷ []) 0 first r.begins);
+            different = subst (λ (z : List Value). AreDifferent z) (sym em)
+                (different_more old.modes.items to r.different
+                (record {
+                  has_not = λ k a p q. n
+                      (subst (λ (z : Value). IsOneOf old.modes.items z) q (one_here old.modes.items k a p));
+                }));
             inside = λ m p. elim (one_split old.modes.items (to ∷ []) m (subst (λ (z : List Value). IsOneOf z m) em p)) [
               | inl k ↦ r.inside m k
               | inr k ↦ subst (λ (z : Value). Contains s.domain z) (only_item to m k) in_domain
             ];
             modes = λ m p. elim (one_split old.modes.items (to ∷ []) m (subst (λ (z : List Value). IsOneOf z m) em p)) [
               | inl k ↦ r.modes m k
-              | inr k ↦ subst (λ (z : Value). IsReachable s first z) (only_item to m k) (along (edge_of to) (r.modes mode (one_here old.modes.items next mode at_mode)) is_edge)
+              | inr k ↦ subst (λ (z : Value). IsReachable s first z) (only_item to m k)
+                  (along (edge_of to) (r.modes mode (one_here old.modes.items next mode at_mode)) is_edge)
             ];
             edges = found_new new (to ∷ []) em ee;
-            records = records_more new (To to) g (back_to new (to ∷ []) em) leads
-                (subst (λ (z : List Value). IsOneOf z to) (sym em) (one_right old.modes.items (to ∷ []) to (one_first to [])), new_edge new ee);
-            apart = λ j k e f p q. edges_apart j k e f (subst (λ (z : List Edge). Stands z j e) ee p) (subst (λ (z : List Edge). Stands z k f) ee q);
+            records = records_more new (To to) g (back_to new (to ∷ []) em) leads (
+              subst (λ (z : List Value). IsOneOf z to) (sym em)
+                  (one_right old.modes.items (to ∷ []) to (one_first to [])),
+              new_edge new ee,
+            );
+            apart = λ j k e f p q. edges_apart j k e f (subst (λ (z : List Edge). Stands z j e) ee p)
+                (subst (λ (z : List Edge). Stands z k f) ee q);
             wrong = λ w. r.wrong (sym ew ∙ w);
             again = subst (λ (z : Bool). IsAgain first new.modes.items new.edges.items z) (sym ea)
                 (subst (λ (z : List Value). IsAgain first z new.edges.items old.again) (sym em)
-                (subst (λ (z : List Edge). IsAgain first (old.modes.items ++ to ∷ []) z old.again) (sym ee) (again_fresh first old.modes.items old.edges.items (edge_of to) old.again r.again)));
+                (subst (λ (z : List Edge). IsAgain first (old.modes.items ++ to ∷ []) z old.again) (sym ee)
+                (again_fresh first old.modes.items old.edges.items (edge_of to) old.again r.again)));
           }
 
       step_edge : (new : Reach) → AddsEdge (edge_of to) old new → IsReaching s first next (i + 1) new
       step_edge new (known o em ee ew ea) = step_known new o em ee ew ea
       step_edge new (fresh n em ee ew ea) = step_fresh new n em ee ew ea
 
-    pub step : (move : Move) (new : Reach) → IsMoveOf s.parts s.number s.domain way.way.n mode move → AddsMove way mode move old new → IsReaching s first next (i + 1) new
+    pub step : (move : Move) (new : Reach) → IsMoveOf s.parts s.number s.domain way.way.n mode move
+        → AddsMove way mode move old new → IsReaching s first next (i + 1) new
     step Still new is e = step_still new e is
     step Wrong new is e = step_wrong new e is
     step (To to) new is e = step_edge to is new e
@@ -248,10 +315,12 @@ module _ (s : Setting) (first : Value) where
       where
         by : AddsEdge (edge_of to) old new → Stands new.modes.items next mode
         by (known o em ee ew ea) = subst (λ (z : List Value). Stands z next mode) (sym em) at_mode
-        by (fresh n em ee ew ea) = subst (λ (z : List Value). Stands z next mode) (sym em) (stands_left old.modes.items (to ∷ []) next mode at_mode)
+        by (fresh n em ee ew ea) = subst (λ (z : List Value). Stands z next mode) (sym em)
+            (stands_left old.modes.items (to ∷ []) next mode at_mode)
 
   -- all ways were looked at, at the mode of a place
-  pub reaching_next : (next : ℕ) (r : Reach) → IsReaching s first next (length s.ways) r → IsReaching s first (next + 1) 0 r
+  pub reaching_next : (next : ℕ) (r : Reach) → IsReaching s first next (length s.ways) r
+      → IsReaching s first (next + 1) 0 r
   reaching_next next r h = record {
     begins = h.begins;
     different = h.different;
@@ -273,18 +342,25 @@ module _ (s : Setting) (first : Value) where
       by j q way (inr k) sw = absurd (omega (arith, k.1))
 
 -- one way more at the mode
-pub expands_start : (p : GtsParts) (n : ℕ) (domain : List Value) (ways : List KeptWay) (mode : Value) (found : Reach) → Expands p n domain ways mode 0 found found
+pub expands_start : (p : GtsParts) (n : ℕ) (domain : List Value) (ways : List KeptWay) (mode : Value) (found : Reach)
+    → Expands p n domain ways mode 0 found found
 expands_start p n domain ways mode found = record { on = λ first next apart st r. (st, r) }
 
-pub expands_more : (p : GtsParts) (n : ℕ) (domain : List Value) (ways : List KeptWay) (mode : Value) (i : ℕ) (d : KeptWay) (old now new : Reach) (led : Move) → i < length ways → Expands p n domain ways mode i old now
-    → IsMoveOf p n domain (get_or ways i d).way.n mode led → AddsMove (get_or ways i d) mode led now new → Expands p n domain ways mode (i + 1) old new
+pub expands_more : (p : GtsParts) (n : ℕ) (domain : List Value) (ways : List KeptWay) (mode : Value) (i : ℕ)
+    (d : KeptWay) (old now new : Reach) (led : Move) → i < length ways → Expands p n domain ways mode i old now
+    → IsMoveOf p n domain (get_or ways i d).way.n mode led → AddsMove (get_or ways i d) mode led now new
+    → Expands p n domain ways mode (i + 1) old new
 expands_more p n domain ways mode i d old now new led h e is adds = record {
   on = λ first next apart st r.
       let k = e.on first next apart st r in
       let way = stands_get ways i d h in
-      let s : Setting = record { parts = p; number = n; domain = domain; ways = ways } in
-      (stays s first next i now mode (get_or ways i d) apart k.0 way k.1 led new adds, step s first next i now mode (get_or ways i d) apart k.0 way k.1 led new is adds);
+      let s : Setting = record { parts = p; number = n; domain = domain; ways = ways } in (
+        stays s first next i now mode (get_or ways i d) apart k.0 way k.1 led new adds,
+        step s first next i now mode
+            (get_or ways i d) apart k.0 way k.1 led new is adds,
+      );
 }
 
-pub expands_all : (p : GtsParts) (n : ℕ) (domain : List Value) (ways : List KeptWay) (mode : Value) (i j : ℕ) (old now : Reach) → i ≡ j → Expands p n domain ways mode i old now → Expands p n domain ways mode j old now
+pub expands_all : (p : GtsParts) (n : ℕ) (domain : List Value) (ways : List KeptWay) (mode : Value) (i j : ℕ)
+    (old now : Reach) → i ≡ j → Expands p n domain ways mode i old now → Expands p n domain ways mode j old now
 expands_all p n domain ways mode i j old now e h = subst (λ (z : ℕ). Expands p n domain ways mode z old now) e h

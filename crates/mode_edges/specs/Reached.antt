@@ -93,7 +93,8 @@ pub record IsReachFrom (s : Setting) (first : Value) (r : Reach) : Type 0 where
   pub modes_whole : (m : Value) → IsReachable s first m → IsOneOf r.modes.items m
   pub edges_sound : (e : Edge) → IsOneOf r.edges.items e → IsReachable s first e.from × IsEdgeOf s e
   pub edges_whole : (e : Edge) → IsReachable s first e.from → IsEdgeOf s e → IsOneOf r.edges.items e
-  pub apart : (j k : ℕ) (e f : Edge) → Stands r.edges.items j e → Stands r.edges.items k f → e.from ≡ f.from → e.way ≡ f.way → j ≡ k
+  pub apart : (j k : ℕ) (e f : Edge) → Stands r.edges.items j e → Stands r.edges.items k f → e.from ≡ f.from
+      → e.way ≡ f.way → j ≡ k
   pub wrong : IsAnswer r.wrong (HasWrong s first)
   pub again : IsAgain first r.modes.items r.edges.items r.again
 
@@ -101,7 +102,8 @@ pub record IsReachFrom (s : Setting) (first : Value) (r : Reach) : Type 0 where
 pub record IsReach (p : GtsParts) (n : ℕ) (ways : List KeptWay) (r : Reach) : Type 0 where
   pub variable : Variable
   pub stands : Stands p.variables.items n variable
-  pub is : IsReachFrom (record { parts = p; number = n; domain = values_of variable.domain; ways = ways }) variable.value r
+  pub is : IsReachFrom (record { parts = p; number = n; domain = values_of variable.domain; ways = ways })
+      variable.value r
 
 -- the first mode alone
 pub record IsStart (first : Value) (r : Reach) : Type 0 where
@@ -112,8 +114,12 @@ pub record IsStart (first : Value) (r : Reach) : Type 0 where
 
 -- an edge more, and the mode that it enters where it was not there
 pub data AddsEdge (edge : Edge) (old new : Reach) : Type 0 where
-  known : IsOneOf old.modes.items edge.to → new.modes.items ≡ old.modes.items → new.edges.items ≡ old.edges.items ++ edge ∷ [] → new.wrong ≡ old.wrong → new.again ≡ true → AddsEdge edge old new
-  fresh : (IsOneOf old.modes.items edge.to → ⊥) → new.modes.items ≡ old.modes.items ++ edge.to ∷ [] → new.edges.items ≡ old.edges.items ++ edge ∷ [] → new.wrong ≡ old.wrong → new.again ≡ old.again → AddsEdge edge old new
+  known : IsOneOf old.modes.items edge.to → new.modes.items ≡ old.modes.items
+      → new.edges.items ≡ old.edges.items ++ edge ∷ [] → new.wrong ≡ old.wrong → new.again ≡ true
+      → AddsEdge edge old new
+  fresh : (IsOneOf old.modes.items edge.to → ⊥) → new.modes.items ≡ old.modes.items ++ edge.to ∷ []
+      → new.edges.items ≡ old.edges.items ++ edge ∷ [] → new.wrong ≡ old.wrong → new.again ≡ old.again
+      → AddsEdge edge old new
 
 -- the same for where a way leads from a mode
 abbrev pub AddsMove : KeptWay → Value → Move → Reach → Reach → Type 0
@@ -129,7 +135,8 @@ IsDone next i j q = (j < next) ⊎ ((j ≡ next) × (q < i))
 abbrev pub IsRecorded : KeptWay → Value → Move → Reach → Type 0
 IsRecorded way mode Still r = Unit {0}
 IsRecorded way mode Wrong r = r.wrong ≡ true
-IsRecorded way mode (To to) r = IsOneOf r.modes.items to × IsOneOf r.edges.items (record { from = mode; event = way.event; way = way.way; to = to })
+IsRecorded way mode (To to) r = IsOneOf r.modes.items to
+    × IsOneOf r.edges.items (record { from = mode; event = way.event; way = way.way; to = to })
 
 pub record Records (s : Setting) (way : KeptWay) (mode : Value) (r : Reach) : Type 0 where
   pub move : Move
@@ -143,19 +150,25 @@ pub record IsFound (s : Setting) (next i : ℕ) (r : Reach) (e : Edge) : Type 0 
   pub from : Stands r.modes.items place e.from
   pub done : IsDone next i place is_edge.place
 
--- what is reached so far, where the ways before place i were looked at, at the mode of place next, and all at those before
+-- what is reached so far, where the ways before place i were looked at, at the mode of place next, and all at those
+-- before
 pub record IsReaching (s : Setting) (first : Value) (next i : ℕ) (r : Reach) : Type 0 where
   pub begins : Stands r.modes.items 0 first
   pub different : AreDifferent r.modes.items
   pub inside : (m : Value) → IsOneOf r.modes.items m → Contains s.domain m
   pub modes : (m : Value) → IsOneOf r.modes.items m → IsReachable s first m
   pub edges : (e : Edge) → IsOneOf r.edges.items e → IsFound s next i r e
-  pub records : (j q : ℕ) (mode : Value) (way : KeptWay) → IsDone next i j q → Stands r.modes.items j mode → Stands s.ways q way → Records s way mode r
-  pub apart : (j k : ℕ) (e f : Edge) → Stands r.edges.items j e → Stands r.edges.items k f → e.from ≡ f.from → e.way ≡ f.way → j ≡ k
+  pub records : (j q : ℕ) (mode : Value) (way : KeptWay) → IsDone next i j q → Stands r.modes.items j mode
+      → Stands s.ways q way → Records s way mode r
+  pub apart : (j k : ℕ) (e f : Edge) → Stands r.edges.items j e → Stands r.edges.items k f → e.from ≡ f.from
+      → e.way ≡ f.way → j ≡ k
   pub wrong : r.wrong ≡ true → HasWrong s first
   pub again : IsAgain first r.modes.items r.edges.items r.again
 
 -- once the ways before place i were looked at, at the mode of place next
-pub record Expands (p : GtsParts) (n : ℕ) (domain : List Value) (ways : List KeptWay) (mode : Value) (i : ℕ) (old new : Reach) : Type 0 where
-  pub on : (first : Value) (next : ℕ) → AreApart ways → Stands old.modes.items next mode → IsReaching (record { parts = p; number = n; domain = domain; ways = ways }) first next 0 old
-      → Stands new.modes.items next mode × IsReaching (record { parts = p; number = n; domain = domain; ways = ways }) first next i new
+pub record Expands (p : GtsParts) (n : ℕ) (domain : List Value) (ways : List KeptWay) (mode : Value) (i : ℕ)
+    (old new : Reach) : Type 0 where
+  pub on : (first : Value) (next : ℕ) → AreApart ways → Stands old.modes.items next mode
+      → IsReaching (record { parts = p; number = n; domain = domain; ways = ways }) first next 0 old
+      → Stands new.modes.items next mode
+      × IsReaching (record { parts = p; number = n; domain = domain; ways = ways }) first next i new

@@ -22,7 +22,8 @@ module _ {A : Type 0} where
   removed_has (suc n) zero (x ∷ xs) e s d = record { place = zero; stands = s }
   removed_has (suc n) (suc m) (x ∷ xs) e s d = let o = removed_has n m xs e s (λ i. d (ap suc i)) in record { place = suc o.place; stands = o.stands }
 
-  pub no_more : (xs ys : List A) → AreDifferent xs → ((k : ℕ) (e : A) → Stands xs k e → IsOneOf ys e) → length xs ≤ length ys
+  pub no_more : (xs ys : List A) → AreDifferent xs → ((k : ℕ) (e : A) → Stands xs k e → IsOneOf ys e)
+      → length xs ≤ length ys
   no_more [] ys d h = omega arith
   no_more (x ∷ xs) ys d h =
       let o = h zero x refl in

@@ -8,7 +8,8 @@ use Rattle.mode_forests.specs.declared.forests.Edge.{Edge}
 use Rattle.mode_forests.specs.declared.forests.ModeTree.{ModeTree}
 use Rattle.mode_forests.specs.declared.forests.Forest.{Forest}
 
--- an edge with its label and its two modes, where `number` gives each way its number among the ways of its event, counted from 0
+-- an edge with its label and its two modes, where `number` gives each way its number among the ways of its event,
+-- counted from 0
 abbrev pub row_of : (ℕ → ℕ) → Edge → Row
 row_of number e = record { from = e.from; label = record { event = e.event.n; way = number e.way.n }; to = e.to }
 

@@ -18,19 +18,26 @@ module _ {A B : Type 0} (P : B → A → Type 0) where
   no_some bs x e (in_this h) = cc
   no_some bs x e (in_later h) = cc
 
-  pub some_start : (bs : List B) (now : List A) → now ≡ [] → Remains (λ x. SomeHas P (drop 0 bs) x) (λ x. SomeHas P bs x) [] now
-  some_start bs now e = subst (λ (z : List A). Remains (λ x. SomeHas P bs x) (λ x. SomeHas P bs x) [] z) (sym e) (remains_start (λ x. SomeHas P bs x) [])
+  pub some_start : (bs : List B) (now : List A) → now ≡ []
+      → Remains (λ x. SomeHas P (drop 0 bs) x) (λ x. SomeHas P bs x) [] now
+  some_start bs now e = subst (λ (z : List A). Remains (λ x. SomeHas P bs x) (λ x. SomeHas P bs x) [] z) (sym e)
+      (remains_start (λ x. SomeHas P bs x) [])
 
-  pub some_on : (old now new : List A) (bs : List B) (i : ℕ) (b : B) → i < length bs → b ≡ get_or bs i b → Remains (λ x. SomeHas P (drop i bs) x) (λ x. SomeHas P bs x) old now
+  pub some_on : (old now new : List A) (bs : List B) (i : ℕ) (b : B) → i < length bs → b ≡ get_or bs i b
+      → Remains (λ x. SomeHas P (drop i bs) x) (λ x. SomeHas P bs x) old now
       → Adds (P b) now new → Remains (λ x. SomeHas P (drop (i + 1) bs) x) (λ x. SomeHas P bs x) old new
   some_on old now new bs i b h is r p =
       let split = next_left bs i b h is in
-      remains_on (P b) (λ x. SomeHas P (drop i bs) x) (λ x. SomeHas P (drop (i + 1) bs) x) (λ x. SomeHas P bs x) old now new r p
+      remains_on (P b) (λ x. SomeHas P (drop i bs) x) (λ x. SomeHas P (drop (i + 1) bs) x) (λ x. SomeHas P bs x) old now
+      new r p
       (λ x d. some_cases b (drop (i + 1) bs) x (subst (λ (z : List B). SomeHas P z x) split d))
-      (λ x d. subst (λ (z : List B). SomeHas P z x) (sym split) (in_this d)) (λ x d. subst (λ (z : List B). SomeHas P z x) (sym split) (in_later d))
+      (λ x d. subst (λ (z : List B). SomeHas P z x) (sym split) (in_this d))
+      (λ x d. subst (λ (z : List B). SomeHas P z x) (sym split) (in_later d))
 
-  pub some_all : (old now : List A) (bs : List B) (i : ℕ) → length bs ≤ i → Remains (λ x. SomeHas P (drop i bs) x) (λ x. SomeHas P bs x) old now → Adds (λ x. SomeHas P bs x) old now
-  some_all old now bs i h r = remains_all (λ x. SomeHas P (drop i bs) x) (λ x. SomeHas P bs x) old now r (λ x d. no_some (drop i bs) x (none_left bs i h) d)
+  pub some_all : (old now : List A) (bs : List B) (i : ℕ) → length bs ≤ i
+      → Remains (λ x. SomeHas P (drop i bs) x) (λ x. SomeHas P bs x) old now → Adds (λ x. SomeHas P bs x) old now
+  some_all old now bs i h r = remains_all (λ x. SomeHas P (drop i bs) x) (λ x. SomeHas P bs x) old now r
+      (λ x d. no_some (drop i bs) x (none_left bs i h) d)
 
   -- the item that has it
   pub some_item : (bs : List B) (x : A) → SomeHas P bs x → (b : B) × IsOneOf bs b × P b x
@@ -47,20 +54,27 @@ module _ {A B : Type 0} (P : B → A → Type 0) where
 
 -- what holds of each item so far
 module _ {A : Type 0} (xs : List A) (i : ℕ) where
-  pub taken_cases : (a x : A) → i < length xs → a ≡ get_or xs i a → IsOneOf (take (i + 1) xs) x → IsOneOf (take i xs) x ⊎ (a ≡ x)
-  taken_cases a x h is o = elim (one_split (take i xs) (a ∷ []) x (subst (λ (z : List A). IsOneOf z x) (take_more xs i a h ∙ ap (λ (z : A). take i xs ++ z ∷ []) (sym is)) o)) [
-    | inl k ↦ inl k
-    | inr k ↦ inr (only_item a x k)
-  ]
+  pub taken_cases : (a x : A) → i < length xs → a ≡ get_or xs i a → IsOneOf (take (i + 1) xs) x
+      → IsOneOf (take i xs) x ⊎ (a ≡ x)
+  taken_cases a x h is o = elim (one_split (take i xs) (a ∷ []) x
+      (subst (λ (z : List A). IsOneOf z x) (take_more xs i a h ∙ ap (λ (z : A). take i xs ++ z ∷ []) (sym is)) o)) [
+        | inl k ↦ inl k
+        | inr k ↦ inr (only_item a x k)
+      ]
 
-  pub each_more : (P : A → Type 0) (a : A) → i < length xs → a ≡ get_or xs i a → ((x : A) → IsOneOf (take i xs) x → P x) → P a → (x : A) → IsOneOf (take (i + 1) xs) x → P x
+  pub each_more : (P : A → Type 0) (a : A) → i < length xs → a ≡ get_or xs i a → ((x : A) → IsOneOf (take i xs) x → P x)
+      → P a → (x : A) → IsOneOf (take (i + 1) xs) x → P x
   each_more P a h is before p x o = elim (taken_cases a x h is o) [ inl k ↦ before x k | inr e ↦ subst P e p ]
 
-  pub each_all : (P : A → Type 0) → length xs ≤ i → ((x : A) → IsOneOf (take i xs) x → P x) → (x : A) → IsOneOf xs x → P x
+  pub each_all : (P : A → Type 0) → length xs ≤ i → ((x : A) → IsOneOf (take i xs) x → P x) → (x : A) → IsOneOf xs x
+      → P x
   each_all P h before x o = before x (subst (λ (z : List A). IsOneOf z x) (sym (take_all i xs h)) o)
 
   pub taken_here : (a : A) → i < length xs → a ≡ get_or xs i a → IsOneOf (take (i + 1) xs) a
-  taken_here a h is = subst (λ (z : List A). IsOneOf z a) (sym (take_more xs i a h ∙ ap (λ (z : A). take i xs ++ z ∷ []) (sym is))) (one_right (take i xs) (a ∷ []) a (one_first a []))
+  taken_here a h is = subst (λ (z : List A). IsOneOf z a)
+      (sym (take_more xs i a h ∙ ap (λ (z : A). take i xs ++ z ∷ []) (sym is)))
+      (one_right (take i xs) (a ∷ []) a (one_first a []))
 
   pub taken_more : (a x : A) → i < length xs → a ≡ get_or xs i a → IsOneOf (take i xs) x → IsOneOf (take (i + 1) xs) x
-  taken_more a x h is o = subst (λ (z : List A). IsOneOf z x) (sym (take_more xs i a h ∙ ap (λ (z : A). take i xs ++ z ∷ []) (sym is))) (one_left (take i xs) (a ∷ []) x o)
+  taken_more a x h is o = subst (λ (z : List A). IsOneOf z x)
+      (sym (take_more xs i a h ∙ ap (λ (z : A). take i xs ++ z ∷ []) (sym is))) (one_left (take i xs) (a ∷ []) x o)

@@ -40,15 +40,18 @@ module _ (g : Expr VarId) (acts : List Assign) where
   guard_parts : (x : ℕ) (d : Transition ℕ) → GuardNames x (Leaf d) → Mentions x (out-Expr ℕ d.guard)
   guard_parts x d (guard m) = m
 
-  pub guard_back : (x : ℕ) → GuardNames x (Leaf (transition_of g acts)) → ByNumber (λ v. Mentions v (out-Expr VarId g)) x
+  pub guard_back : (x : ℕ) → GuardNames x (Leaf (transition_of g acts))
+      → ByNumber (λ v. Mentions v (out-Expr VarId g)) x
   guard_back x h = mentions_back x g (guard_parts x (transition_of g acts) h)
 
   pub action_there : (v : VarId) → OneNames acts v → ActionNames v.n (Leaf (transition_of g acts))
   action_there v h =
       let o = some_item NamesVariable acts v h in
-      action (assign_of o.0) (record { place = o.1.place; stands = stands_map assign_of acts o.1.place o.0 o.1.stands }) (involves_there o.0 v o.2)
+      action (assign_of o.0) (record { place = o.1.place; stands = stands_map assign_of acts o.1.place o.0 o.1.stands })
+      (involves_there o.0 v o.2)
 
-  action_parts : (x : ℕ) (d : Transition ℕ) → ActionNames x (Leaf d) → (b : s.Assign ℕ) × IsOneOf d.action b × Involves x b
+  action_parts : (x : ℕ) (d : Transition ℕ) → ActionNames x (Leaf d)
+      → (b : s.Assign ℕ) × IsOneOf d.action b × Involves x b
   action_parts x d (action b o i) = (b, o, i)
 
   pub action_back : (x : ℕ) → ActionNames x (Leaf (transition_of g acts)) → ByNumber (OneNames acts) x

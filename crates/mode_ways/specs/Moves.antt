@@ -31,7 +31,8 @@ pub record GivesValue (facts : ℕ → Value → Type 0) (x : ℕ) (a : Assign) 
   pub yields : Yields facts (out-Expr ℕ (assign_of a).value) v
 
 -- the transition can fire, and gives the variable exactly one value, in the domain
-pub record IsStep (facts : ℕ → Value → Type 0) (d : Transition ℕ) (x : ℕ) (domain : List Value) (to : Value) : Type 0 where
+pub record IsStep (facts : ℕ → Value → Type 0) (d : Transition ℕ) (x : ℕ) (domain : List Value) (to : Value) : Type
+    0 where
   pub can : Can facts (Leaf d)
   pub gives : Effects facts (Leaf d) x to
   pub one : (v : Value) → Effects facts (Leaf d) x v → v ≡ to

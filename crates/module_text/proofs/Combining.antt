@@ -30,14 +30,17 @@ all_places : (P : List ℕ → Type 0) (f : Family) → ((k : ℕ) (s : List ℕ
 all_places P [] h = tt
 all_places P (s ∷ f) h = (h 0 s refl, all_places P f (λ k t i. h (suc k) t i))
 
-pub listed_family : (f : Family) → ((k : ℕ) (s : List ℕ) → Stands f k s → Ascends s) → ((j k : ℕ) (s t : List ℕ) → j < k → Stands f j s → Stands f k t → IsBefore s t) → IsFamily f
+pub listed_family : (f : Family) → ((k : ℕ) (s : List ℕ) → Stands f k s → Ascends s)
+    → ((j k : ℕ) (s t : List ℕ) → j < k → Stands f j s → Stands f k t → IsBefore s t) → IsFamily f
 listed_family [] up before = record { ascending = tt; in_order = tt }
 listed_family (s ∷ f) up before =
-    let rest = listed_family f (λ k t i. up (suc k) t i) (λ j k t u l i h. before (suc j) (suc k) t u (omega (arith, l)) i h) in
+    let rest = listed_family f (λ k t i. up (suc k) t i)
+    (λ j k t u l i h. before (suc j) (suc k) t u (omega (arith, l)) i h) in
     record {
       ascending = (up 0 s refl, rest.ascending);
       in_order = (
-        all_places (λ t. order s t ≡ Less) f (λ k t i. (order_law s t (up 0 s refl) (up (suc k) t i)).1 (before 0 (suc k) s t (omega arith) refl i)),
+        all_places (λ t. order s t ≡ Less) f
+            (λ k t i. (order_law s t (up 0 s refl) (up (suc k) t i)).1 (before 0 (suc k) s t (omega arith) refl i)),
         rest.in_order,
       );
     }
@@ -45,7 +48,8 @@ listed_family (s ∷ f) up before =
 -- ---- the ranges of units are nested or apart
 module _ (m : RootedModel) (units : List UnitPath) (kept : IsKept m) (are : AreUnits m units) where
   -- a unit round one of the list stands no later
-  outer_stands : (levels : List Level) (v : UnitPath) (i : ℕ) → Stands units i (levels ++ v) → (j : ℕ) × (j ≤ i) × Stands units j v
+  outer_stands : (levels : List Level) (v : UnitPath) (i : ℕ) → Stands units i (levels ++ v)
+      → (j : ℕ) × (j ≤ i) × Stands units j v
   outer_stands [] v i s = (i, omega arith, s)
   outer_stands (l ∷ levels) v i s = elim (lists_before are i l (levels ++ v) s) [
     | inl e ↦ cc
@@ -72,27 +76,39 @@ module _ (m : RootedModel) (units : List UnitPath) (kept : IsKept m) (are : AreU
         | inr n ↦ round_both (under j x g) inner n
       ]
 
-  covers : (j k x : ℕ) (a b : Range) → j < k → IsRangeOf m units j a → IsRangeOf m units k b → HasEvents b → lies a x ≡ true → lies b x ≡ true → Covers a b
+  covers : (j k x : ℕ) (a b : Range) → j < k → IsRangeOf m units j a → IsRangeOf m units k b → HasEvents b
+      → lies a x ≡ true → lies b x ≡ true → Covers a b
   covers j k x a b l s t some p q =
       let g = (s.events x).0 p in
       let h = (t.events x).0 q in
       let r = round j k x l g h in
       covers_by a b (λ y n. (s.events y).1 (more g h r y ((t.events y).0 n))) some
     where
-      more : (g : HasEvent m units j x) (h : HasEvent m units k x) → IsUnder g.unit h.unit → (y : ℕ) → HasEvent m units k y → HasEvent m units j y
+      more : (g : HasEvent m units j x) (h : HasEvent m units k x) → IsUnder g.unit h.unit → (y : ℕ)
+          → HasEvent m units k y → HasEvent m units j y
       more g h r y e =
           let same : e.unit ≡ h.unit = stands_one units k e.unit h.unit e.is_unit h.is_unit in
           let w = under_through r (subst (λ (z : UnitPath). IsUnder z e.event.unit) same (under k y e)) in
-          record { unit = g.unit; is_unit = g.is_unit; event = e.event; is_event = e.is_event; within = w.levels; is_within = w.is }
+          record {
+            unit = g.unit;
+            is_unit = g.is_unit;
+            event = e.event;
+            is_event = e.is_event;
+            within = w.levels;
+            is_within = w.is;
+          }
 
   pub own_ranges : (ranges : List Range) → AreRangesOf m units ranges → AreRanges ranges
   own_ranges ranges is = record {
     ascend = λ j k a b l s t. let p = (is.each j a s).unit in let q = (is.each k b t).unit in omega (arith, l, p, q);
-    nested = λ j k a b l s t p q. nested_by a b (λ x g h. covers (suc j) (suc k) x a b (omega (arith, l)) (is.each j a s) (is.each k b t) q g h) p q;
+    nested = λ j k a b l s t p q. nested_by a b
+        (λ x g h. covers (suc j) (suc k) x a b (omega (arith, l)) (is.each j a s) (is.each k b t) q g h) p q;
   }
 
-pub combined : (x : Elaborated) (dropped : List ℕ) (observer : Expr Thing) (wanted : Value) (text : List ℕ) (t : IsModuleText x dropped observer wanted text)
-    → IsKept x.declarations.model → AreUnits x.declarations.model x.declarations.units → StandFor t.cuts t.modules t.forms
+pub combined : (x : Elaborated) (dropped : List ℕ) (observer : Expr Thing) (wanted : Value) (text : List ℕ)
+    (t : IsModuleText x dropped observer wanted text)
+    → IsKept x.declarations.model → AreUnits x.declarations.model x.declarations.units
+    → StandFor t.cuts t.modules t.forms
 combined x dropped observer wanted text t kept units =
     stand_for t.cuts (listed_family t.cuts t.are_listed.ascend t.are_listed.in_order) t.ranges
     (own_ranges x.declarations.model x.declarations.units kept units t.ranges t.are_ranges) t.modules t.forms t.is_short

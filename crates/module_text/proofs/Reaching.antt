@@ -21,13 +21,16 @@ reached_end event r h l = ⊎_elim
 
 -- the next event is gathered in ranges that reach up to it
 pub all_reach : (nodes : List UnitNode) (events : List MemNode) (n : ℕ) (d : MemNode) (start old : List Range)
-    → ((k x y z : ℕ) → x < y → y < z → IsOf nodes events (suc k) x → IsOf nodes events (suc k) z → IsOf nodes events (suc k) y)
-    → AreEmpty (length nodes) start → Stands events n d → AllGain (IsAtFirst nodes events n) start old → AllReach nodes d.unit.n n old
+    → ((k x y z : ℕ) → x < y → y < z → IsOf nodes events (suc k) x → IsOf nodes events (suc k) z
+    → IsOf nodes events (suc k) y)
+    → AreEmpty (length nodes) start → Stands events n d → AllGain (IsAtFirst nodes events n) start old
+    → AllReach nodes d.unit.n n old
 all_reach nodes events n d start old together empty s g = record {
   each = λ k r at over. let t = g.each k r at in reaches k r t.before (empty.each k t.before t.stood) t.gains over;
 }
   where
-    reaches : (k : ℕ) (r before : Range) → IsEmpty k before → Gains (IsAtFirst nodes events n k) before r → IsOver nodes (suc k) d.unit.n → ReachesTo n r
+    reaches : (k : ℕ) (r before : Range) → IsEmpty k before → Gains (IsAtFirst nodes events n k) before r
+        → IsOver nodes (suc k) d.unit.n → ReachesTo n r
     reaches k r before none gains over = record {
       next = λ x l. ⊎_elim
           (λ b. absurd (let i = in_lies before x b in let e = none.to in let h = i.1 in omega (arith, h, e)))
@@ -35,12 +38,15 @@ all_reach nodes events n d start old together empty s g = record {
           ((gains.events x).0 l);
     }
       where
-        next : (x : ℕ) → IsAtFirst nodes events n k x → (suc x < n) ⊎ (n ≤ suc x) → (suc x ≡ n) ⊎ (lies r (suc x) ≡ true)
-        next x w (inl l) = inr ((gains.events (suc x)).1 (inr (l, together k x (suc x) n (omega arith) l w.1 (record { event = d; is_event = s; over = over }))))
+        next : (x : ℕ) → IsAtFirst nodes events n k x → (suc x < n) ⊎ (n ≤ suc x)
+            → (suc x ≡ n) ⊎ (lies r (suc x) ≡ true)
+        next x w (inl l) = inr ((gains.events (suc x)).1
+            (inr (l, together k x (suc x) n (omega arith) l w.1 (record { event = d; is_event = s; over = over }))))
         next x w (inr l) = inl (let h = w.0 in omega (arith, l, h))
 
 -- the ranges above the unit reach up to the event as before
-pub above_reach : (nodes : List UnitNode) → AreBelow nodes → (u e p : ℕ) (d : UnitNode) (o : UnitId) (xs ys : List Range) → Stands nodes u d → d.owner ≡ Some o → p + 1 ≡ u
+pub above_reach : (nodes : List UnitNode) → AreBelow nodes
+    → (u e p : ℕ) (d : UnitNode) (o : UnitId) (xs ys : List Range) → Stands nodes u d → d.owner ≡ Some o → p + 1 ≡ u
     → AllReach nodes u e xs → AllGain (IsAt p e) xs ys → AllReach nodes o.n e ys
 above_reach nodes below u e p d o xs ys s f q h g = record {
   each = λ k r at over. let t = g.each k r at in
@@ -55,14 +61,16 @@ above_reach nodes below u e p d o xs ys s f q h g = record {
 }
 
 -- the unit's own range reaches up to the event
-pub own_reach : (nodes : List UnitNode) (u e p : ℕ) (d : UnitNode) (o : UnitId) (xs : List Range) → Stands nodes u d → d.owner ≡ Some o → p + 1 ≡ u
+pub own_reach : (nodes : List UnitNode) (u e p : ℕ) (d : UnitNode) (o : UnitId) (xs : List Range) → Stands nodes u d
+    → d.owner ≡ Some o → p + 1 ≡ u
     → AllReach nodes u e xs → (r : Range) → Stands xs p r → ReachesTo e r
 own_reach nodes u e p d o xs s f q h r at =
     let same : u ≡ suc p = omega (arith, q) in
     h.each p r at (subst (λ n. IsOver nodes (suc p) n) (sym same) (here (subst (λ n. Stands nodes n d) same s) f))
 
 -- a range that reaches up to the event, with the event besides
-pub longer : (event : ℕ) (r : Range) → ReachesTo event r → r.from < r.to → Gains (λ x. x ≡ event) r (record { unit = r.unit; from = r.from; to = event + 1 })
+pub longer : (event : ℕ) (r : Range) → ReachesTo event r → r.from < r.to
+    → Gains (λ x. x ≡ event) r (record { unit = r.unit; from = r.from; to = event + 1 })
 longer event r h l = record { unit = refl; events = λ x. (there x, back x) }
   where
     new : Range
@@ -87,5 +95,6 @@ pub record IsInner (nodes : List UnitNode) (u : ℕ) (o : UnitId) : Type 0 where
   pub stands : Stands nodes u node
   pub owner : node.owner ≡ Some o
 
-pub inner_node : (nodes : List UnitNode) (u : ℕ) (d : UnitNode) (o : UnitId) → u < length nodes → (get_or nodes u d).owner ≡ Some o → IsInner nodes u o
+pub inner_node : (nodes : List UnitNode) (u : ℕ) (d : UnitNode) (o : UnitId) → u < length nodes
+    → (get_or nodes u d).owner ≡ Some o → IsInner nodes u o
 inner_node nodes u d o l e = record { node = get_or nodes u d; stands = stands_get nodes u d l; owner = e }

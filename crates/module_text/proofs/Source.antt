@@ -64,7 +64,8 @@ module _ (x : Elaborated) (p : GtsParts) (flat : System ℕ) (dropped : List ℕ
   names = naming_of x.declarations
 
   is_flat_of : IsFlatOf things x.system flat
-  is_flat_of = subst (λ (z : System ℕ). IsFlatOf things x.system z) (one h.is_flat.flat flat h.is_flat.views h.views) h.is_flat.is_flat
+  is_flat_of = subst (λ (z : System ℕ). IsFlatOf things x.system z) (one h.is_flat.flat flat h.is_flat.views h.views)
+      h.is_flat.is_flat
 
   -- the label of an edge
   same_label : (e : Edge) → HasOwnWay p e → (row_of (number_in p) e).label ≡ label_of p e.way.n
@@ -80,7 +81,8 @@ module _ (x : Elaborated) (p : GtsParts) (flat : System ℕ) (dropped : List ℕ
       sym (label_alike p flat h.views e.way.n)
       ∙ ap (λ (k : Label). label_text (naming_of_parts p) flat k) (sym (same_label e own))
       ∙ ap (λ (z : Naming). label_text z flat (row_of (number_in p) e).label) h.is_flat.names
-      ∙ ap (λ (z : ℕ). way_text (text_at names.events (row_of (number_in p) e).label.event) z (row_of (number_in p) e).label.way)
+      ∙ ap (λ (z : ℕ). way_text (text_at names.events (row_of (number_in p) e).label.event) z
+      (row_of (number_in p) e).label.way)
       (sym (ways_count (IsNumber things) is_flat_of.events (row_of (number_in p) e).label.event))
 
   module _ (set : List ℕ) where
@@ -92,24 +94,33 @@ module _ (x : Elaborated) (p : GtsParts) (flat : System ℕ) (dropped : List ℕ
 
     edges_are : (es : List Edge) → HaveOwnWays p es → labels_in p es set ≡ kept (rows es)
     edges_are [] own = refl
-    edges_are (e ∷ es) own = step (holds e.event.n set) (edges_are es (record { each = λ g o. own.each g (one_rest e es g o) }))
+    edges_are (e ∷ es) own = step (holds e.event.n set)
+        (edges_are es (record { each = λ g o. own.each g (one_rest e es g o) }))
       where
         step : (b : Bool) → labels_in p es set ≡ kept (rows es)
-            → map (λ (e : Edge). way_label p e.way.n) (cond b (e ∷ filter (λ (e : Edge). holds e.event.n set) es) (filter (λ (e : Edge). holds e.event.n set) es))
-            ≡ map (label_text names x.system) (cond b ((row_of (number_in p) e).label ∷ filter (λ (k : Label). holds k.event set) (rows es)) (filter (λ (k : Label). holds k.event set) (rows es)))
+            → map (λ (e : Edge). way_label p e.way.n)
+            (cond b (e ∷ filter (λ (e : Edge). holds e.event.n set) es)
+            (filter (λ (e : Edge). holds e.event.n set) es))
+            ≡ map (label_text names x.system)
+            (cond b ((row_of (number_in p) e).label ∷ filter (λ (k : Label). holds k.event set) (rows es))
+            (filter (λ (k : Label). holds k.event set) (rows es)))
         step true ih = ap₂ (λ y z. y ∷ z) (label_is e (own.each e (one_first e es))) ih
         step false ih = ih
 
-    trees_are : (ts : List ModeTree) → OwnTheirWays p ts → labels_in p (edges_of ts) set ≡ kept (labels_of (map (tree_of (number_in p)) ts))
+    trees_are : (ts : List ModeTree) → OwnTheirWays p ts
+        → labels_in p (edges_of ts) set ≡ kept (labels_of (map (tree_of (number_in p)) ts))
     trees_are [] own = refl
     trees_are (t ∷ ts) own =
         let test = λ (e : Edge). holds e.event.n set in
         let test2 = λ (k : Label). holds k.event set in
         ap (map (λ (e : Edge). way_label p e.way.n)) (filter-append test t.edges.items (edges_of ts))
         ∙ map-append (λ (e : Edge). way_label p e.way.n) (filter test t.edges.items) (filter test (edges_of ts))
-        ∙ ap₂ (λ y z. y ++ z) (edges_are t.edges.items (own.each t (one_first t ts))) (trees_are ts (record { each = λ u o. own.each u (one_rest t ts u o) }))
-        ∙ sym (map-append (label_text names x.system) (filter test2 (rows t.edges.items)) (filter test2 (labels_of (map (tree_of (number_in p)) ts))))
-        ∙ ap (map (label_text names x.system)) (sym (filter-append test2 (rows t.edges.items) (labels_of (map (tree_of (number_in p)) ts))))
+        ∙ ap₂ (λ y z. y ++ z) (edges_are t.edges.items (own.each t (one_first t ts)))
+        (trees_are ts (record { each = λ u o. own.each u (one_rest t ts u o) }))
+        ∙ sym (map-append (label_text names x.system) (filter test2 (rows t.edges.items))
+        (filter test2 (labels_of (map (tree_of (number_in p)) ts))))
+        ∙ ap (map (label_text names x.system))
+        (sym (filter-append test2 (rows t.edges.items) (labels_of (map (tree_of (number_in p)) ts))))
 
   abbrev edges : List Edge
   edges = edges_of f.trees.items
@@ -125,23 +136,34 @@ module _ (x : Elaborated) (p : GtsParts) (flat : System ℕ) (dropped : List ℕ
 
   modules_are : (m : UnitSets) → module_lines p edges m ≡ module_text names units x.system trees m
   modules_are m = ap₂ (λ y z. y ++ z) (ap (λ z. module_line (text_at z m.unit)) h.is_flat.units_are)
-      (flat_same (λ set. part_line (braced (labels_in p edges set))) (λ set. part_line (labels_text names x.system (in_firing_order trees set))) (λ set. ap (λ z. part_line (braced z)) (labels_are set)) m.sets)
+      (flat_same (λ set. part_line (braced (labels_in p edges set)))
+      (λ set. part_line (labels_text names x.system (in_firing_order trees set)))
+      (λ set. ap (λ z. part_line (braced z)) (labels_are set)) m.sets)
 
   forms_are : (form : Form) → form_line p edges form ≡ form_text names units x.system trees form
-  forms_are form = ap₂ (λ y z. line (braced (y ++ z))) (ap (λ z. map (λ u. unit_mark (text_at z u)) form.units) h.is_flat.units_are) (labels_are form.events)
+  forms_are form = ap₂ (λ y z. line (braced (y ++ z)))
+      (ap (λ z. map (λ u. unit_mark (text_at z u)) form.units) h.is_flat.units_are) (labels_are form.events)
 
-  pub text_is : (short : Short) → short_lines p f short ≡ short_text names units x.system trees (map module_of short.modules.items) (map form_of short.sets.items)
-  text_is short = ap₂ (λ y z. y ++ z) (flat_same (module_lines p edges) (module_text names units x.system trees) modules_are (map module_of short.modules.items))
-      (ap₂ (λ y z. y ++ lines_line z) (flat_same (form_line p edges) (form_text names units x.system trees) forms_are (map form_of short.sets.items)) (sym (length-map short.sets.items form_of)))
+  pub text_is : (short : Short) → short_lines p f short
+      ≡ short_text names units x.system trees (map module_of short.modules.items) (map form_of short.sets.items)
+  text_is short = ap₂ (λ y z. y ++ z)
+      (flat_same (module_lines p edges) (module_text names units x.system trees) modules_are
+      (map module_of short.modules.items))
+      (ap₂ (λ y z. y ++ lines_line z) (flat_same (form_line p edges) (form_text names units x.system trees) forms_are
+      (map form_of short.sets.items)) (sym (length-map short.sets.items form_of)))
 
-  module _ (observer : Expr Thing) (other : Expr ℕ) (q : Expr_renames (IsNumber things) observer other) (wanted : Value) where
-    pub module_text_is : (sets : List (List ℕ)) → AreListed (Cut flat dropped other wanted) sets → (ranges : List Range) → AreRangesOf x.declarations.model x.declarations.units ranges
+  module _ (observer : Expr Thing) (other : Expr ℕ) (q : Expr_renames (IsNumber things) observer other)
+      (wanted : Value) where
+    pub module_text_is : (sets : List (List ℕ)) → AreListed (Cut flat dropped other wanted) sets → (ranges : List Range)
+        → AreRangesOf x.declarations.model x.declarations.units ranges
         → (short : Short) → Shortens sets ranges short → IsModuleText x dropped observer wanted (short_lines p f short)
     module_text_is sets listed ranges are short is = record {
       cuts = sets;
       are_listed = listed_as
-          (λ s c. cut_back (IsNumber things) x.system flat (flat_image things x.system flat is_flat_of) dropped observer other q wanted s c)
-          (λ s c. cut_there (IsNumber things) x.system flat (flat_image things x.system flat is_flat_of) dropped observer other q wanted s c)
+          (λ s c. cut_back (IsNumber things) x.system flat (flat_image things x.system flat is_flat_of) dropped observer
+          other q wanted s c)
+          (λ s c. cut_there (IsNumber things) x.system flat (flat_image things x.system flat is_flat_of) dropped
+          observer other q wanted s c)
           listed;
       ranges = ranges;
       are_ranges = are;
@@ -149,6 +171,7 @@ module _ (x : Elaborated) (p : GtsParts) (flat : System ℕ) (dropped : List ℕ
       forms = map form_of short.sets.items;
       is_short = is;
       trees = trees;
-      is_forest = forest_there (turned (IsNumber things)) flat x.system (flat_back things x.system flat is_flat_of) dropped h.is_forest;
+      is_forest = forest_there (turned (IsNumber things)) flat x.system (flat_back things x.system flat is_flat_of)
+          dropped h.is_forest;
       is_text = text_is short;
     }

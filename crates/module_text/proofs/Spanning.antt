@@ -20,14 +20,16 @@ covers_by a b more some =
     (first.0, (let m = last.1 in omega (arith, m, some)))
 
 -- ranges that are nested where they have a common event are nested or apart
-pub nested_by : (a b : Range) → ((x : ℕ) → lies a x ≡ true → lies b x ≡ true → Covers a b) → HasEvents a → HasEvents b → AreApart a b ⊎ Covers a b
+pub nested_by : (a b : Range) → ((x : ℕ) → lies a x ≡ true → lies b x ≡ true → Covers a b) → HasEvents a → HasEvents b
+    → AreApart a b ⊎ Covers a b
 nested_by a b covers p q = by (cases_lt a.from b.to) (cases_lt b.from a.to) (cases_lt a.from b.from)
   where
     by : (a.from < b.to) ⊎ (b.to ≤ a.from) → (b.from < a.to) ⊎ (a.to ≤ b.from)
         → (a.from < b.from) ⊎ (b.from ≤ a.from) → AreApart a b ⊎ Covers a b
     by (inr m) n o = inl (λ e g h. let x = in_lies a e g in let y = in_lies b e h in omega (arith, m, x.0, y.1))
     by (inl m) (inr n) o = inl (λ e g h. let x = in_lies a e g in let y = in_lies b e h in omega (arith, n, x.1, y.0))
-    by (inl m) (inl n) (inl o) = inr (covers b.from (lies_in a b.from (omega (arith, o)) n) (lies_in b b.from (omega arith) q))
+    by (inl m) (inl n) (inl o) = inr (covers b.from (lies_in a b.from (omega (arith, o)) n)
+        (lies_in b b.from (omega arith) q))
     by (inl m) (inl n) (inr o) = inr (covers a.from (lies_in a a.from (omega arith) p) (lies_in b a.from o m))
 
 pub gains_none : (P : ℕ → ℕ → Type 0) (xs : List Range) → ((k x : ℕ) → P k x → ⊥) → AllGain P xs xs

@@ -144,7 +144,14 @@ module _ (m : RootedModel) (units : List UnitPath) (tree : Tree) (is : IsTreeOf 
   has_event k e o =
       let b = along_back (events m units) tree.events.items is.events_are e o.event o.is_event in
       let w = over_within o.over b.0.unit b.2.node.unit in
-      record { unit = w.outer; is_unit = w.stands; event = b.0; is_event = b.1; within = w.levels; is_within = w.is_within }
+      record {
+        unit = w.outer;
+        is_unit = w.stands;
+        event = b.0;
+        is_event = b.1;
+        within = w.levels;
+        is_within = w.is_within;
+      }
 
   is_of : (k e : ℕ) → HasEvent m units (suc k) e → IsOf nodes tree.events.items (suc k) e
   is_of k e h =
@@ -170,16 +177,26 @@ module _ (m : RootedModel) (units : List UnitPath) (tree : Tree) (is : IsTreeOf 
   }
 
   -- the events of a unit and of those within it follow each other
-  pub of_between : (k x y z : ℕ) → x < y → y < z → IsOf nodes tree.events.items (suc k) x → IsOf nodes tree.events.items (suc k) z → IsOf nodes tree.events.items (suc k) y
+  pub of_between : (k x y z : ℕ) → x < y → y < z → IsOf nodes tree.events.items (suc k) x
+      → IsOf nodes tree.events.items (suc k) z → IsOf nodes tree.events.items (suc k) y
   of_between k x y z p q a c =
       let h = has_event (suc k) x a in
       let g = has_event (suc k) z c in
       let same : g.unit ≡ h.unit = stands_one units (suc k) g.unit h.unit g.is_unit h.is_unit in
       let last = stands_within (events m units) z g.event g.is_event in
       let t = stands_some (events m units) y (omega (arith, q, last)) in
-      let under = events_together is.table.kept is.are_units h.unit h.event t.0 g.event x y z p q h.is_event t.1 g.is_event
-      (record { levels = h.within; is = h.is_within }) (record { levels = g.within; is = g.is_within ∙ ap (λ w. g.within ++ w) same }) in
-      is_of k y (record { unit = h.unit; is_unit = h.is_unit; event = t.0; is_event = t.1; within = under.levels; is_within = under.is })
+      let under = events_together is.table.kept is.are_units h.unit h.event t.0 g.event x y z p q h.is_event t.1
+      g.is_event
+      (record { levels = h.within; is = h.is_within })
+      (record { levels = g.within; is = g.is_within ∙ ap (λ w. g.within ++ w) same }) in
+      is_of k y (record {
+        unit = h.unit;
+        is_unit = h.is_unit;
+        event = t.0;
+        is_event = t.1;
+        within = under.levels;
+        is_within = under.is;
+      })
 
   pub known_unit : (n : ℕ) (d : MemNode) → Stands tree.events.items n d → d.unit.n < length nodes
   known_unit n d s =

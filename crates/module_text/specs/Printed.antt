@@ -19,11 +19,13 @@ labels_in p edges set = map (λ (e : Edge). way_label p e.way.n) (filter (λ (e 
 
 -- the lines of a module
 abbrev pub module_lines : GtsParts → List Edge → UnitSets → List ℕ
-module_lines p edges m = module_line (text_at p.units.items m.unit) ++ flat_map (λ set. part_line (braced (labels_in p edges set))) m.sets
+module_lines p edges m = module_line (text_at p.units.items m.unit) ++ flat_map
+    (λ set. part_line (braced (labels_in p edges set))) m.sets
 
 -- the line of a short form
 abbrev pub form_line : GtsParts → List Edge → Form → List ℕ
-form_line p edges form = line (braced (map (λ u. unit_mark (text_at p.units.items u)) form.units ++ labels_in p edges form.events))
+form_line p edges form = line (braced
+    (map (λ u. unit_mark (text_at p.units.items u)) form.units ++ labels_in p edges form.events))
 
 -- the whole text
 abbrev pub short_lines : GtsParts → Forest → Short → List ℕ

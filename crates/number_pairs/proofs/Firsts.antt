@@ -17,9 +17,15 @@ use Rattle.ar_base.specs.Sets.{Ascends}
 use Rattle.number_pairs.specs.Pairing.{IsPaired, AddsRun}
 
 -- the pairs with a first give their numbers
-pub run_added : (pairs : List (ℕ × ℕ)) (first : ℕ) (run : List (ℕ × ℕ)) (old new : List ℕ) → new ≡ old ++ map (λ (q : ℕ × ℕ). q.1) run
-    → ((q : ℕ × ℕ) → IsOneOf run q → IsOneOf pairs q × (q.0 ≡ first)) → ((n : ℕ) → IsOneOf pairs (first, n) → IsOneOf run (first, n)) → AddsRun pairs first old new
-run_added pairs first run old new e among all = record { each = λ n. subst (λ (z : List ℕ). IsOneOf z n ↔ (IsOneOf old n ⊎ IsOneOf pairs (first, n))) (sym e) (on n, off n) }
+pub run_added : (pairs : List (ℕ × ℕ)) (first : ℕ) (run : List (ℕ × ℕ)) (old new : List ℕ)
+    → new ≡ old ++ map (λ (q : ℕ × ℕ). q.1) run
+    → ((q : ℕ × ℕ) → IsOneOf run q → IsOneOf pairs q × (q.0 ≡ first))
+    → ((n : ℕ) → IsOneOf pairs (first, n) → IsOneOf run (first, n)) → AddsRun pairs first old new
+run_added pairs first run old new e among all =
+    record {
+      each = λ n. subst (λ (z : List ℕ). IsOneOf z n ↔ (IsOneOf old n ⊎ IsOneOf pairs (first, n))) (sym e)
+          (on n, off n);
+    }
   where
     seconds : List ℕ
     seconds = map (λ (q : ℕ × ℕ). q.1) run
@@ -68,7 +74,11 @@ paired_more pairs xs i d old new h before adds n = (on, off)
     on : IsOneOf new n → IsPaired pairs (take (i + 1) xs) n
     on o = elim ((adds.each n).0 o) [
       | inl k ↦ let p = (before n).0 k in record { first = p.first; is_one = now p.first (one_left (take i xs) (x ∷ []) p.first p.is_one); pair = p.pair }
-      | inr k ↦ record { first = x; is_one = now x (one_right (take i xs) (x ∷ []) x (one_here (x ∷ []) 0 x refl)); pair = k }
+      | inr k ↦ record {
+        first = x;
+        is_one = now x (one_right (take i xs) (x ∷ []) x (one_here (x ∷ []) 0 x refl));
+        pair = k;
+      }
     ]
 
     off : IsPaired pairs (take (i + 1) xs) n → IsOneOf new n
@@ -91,15 +101,22 @@ pub sorted_ascends : (all sorted kept : List ℕ) → IsPermutation all sorted �
     → IsFiltered (DiffersFromLast nat_eq) [] sorted kept → Ascends kept
 sorted_ascends all sorted kept perm order filtered =
     subst Ascends (sym (dedup_is nat_eq sorted kept filtered))
-    (record { ascends = λ j k a b l s t. strictly (dedup nat_eq sorted) j k a b (IsStrictlySortedBy-dedup nat_cmp_total unsigned_ties sorted order) l s t })
+    (record {
+      ascends = λ j k a b l s t. strictly (dedup nat_eq sorted) j k a b
+          (IsStrictlySortedBy-dedup nat_cmp_total unsigned_ties sorted order) l s t;
+    })
 
-pub sorted_same : (all sorted kept : List ℕ) → IsPermutation all sorted → IsFiltered (DiffersFromLast nat_eq) [] sorted kept → (n : ℕ)
+pub sorted_same : (all sorted kept : List ℕ) → IsPermutation all sorted
+    → IsFiltered (DiffersFromLast nat_eq) [] sorted kept → (n : ℕ)
     → IsOneOf kept n ↔ IsOneOf all n
 sorted_same all sorted kept perm filtered n =
     subst (λ (z : List ℕ). IsOneOf z n ↔ IsOneOf all n) (sym (dedup_is nat_eq sorted kept filtered)) (back, there)
   where
     there : IsOneOf all n → IsOneOf (dedup nat_eq sorted) n
-    there o = one_contains (dedup nat_eq sorted) n (Contains-dedup nat_eq_equiv (λ x y. (unsigned_Decides x y).0) sorted n (Contains-permutation all sorted n perm (contains_one all n o)))
+    there o = one_contains (dedup nat_eq sorted) n
+        (Contains-dedup nat_eq_equiv (λ x y. (unsigned_Decides x y).0) sorted n
+        (Contains-permutation all sorted n perm (contains_one all n o)))
 
     back : IsOneOf (dedup nat_eq sorted) n → IsOneOf all n
-    back o = one_contains all n (Contains-permutation sorted all n (IsPermutation-sym all sorted perm) (Contains-from_dedup nat_eq sorted n (contains_one (dedup nat_eq sorted) n o)))
+    back o = one_contains all n (Contains-permutation sorted all n (IsPermutation-sym all sorted perm)
+        (Contains-from_dedup nat_eq sorted n (contains_one (dedup nat_eq sorted) n o)))

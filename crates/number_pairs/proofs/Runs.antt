@@ -12,8 +12,10 @@ abbrev Pair : Type 0
 Pair = ℕ × ℕ
 
 -- what lies between the pairs of lesser and of greater firsts
-module _ (pairs : List Pair) (t from to : ℕ) (low : IsPartitionPoint (λ (r : Pair). ltb r.0 t ≡ true) (λ (r : Pair). ltb r.0 t ≡ false) pairs from)
-    (high : IsPartitionPoint (λ (r : Pair). leb r.0 t ≡ true) (λ (r : Pair). leb r.0 t ≡ false) pairs to) (bound : to ≤ length pairs) (bound' : from ≤ length pairs) where
+module _ (pairs : List Pair) (t from to : ℕ)
+    (low : IsPartitionPoint (λ (r : Pair). ltb r.0 t ≡ true) (λ (r : Pair). ltb r.0 t ≡ false) pairs from)
+    (high : IsPartitionPoint (λ (r : Pair). leb r.0 t ≡ true) (λ (r : Pair). leb r.0 t ≡ false) pairs to)
+    (bound : to ≤ length pairs) (bound' : from ≤ length pairs) where
   pub in_order : from ≤ to
   in_order = go (side from to)
     where
@@ -30,7 +32,8 @@ module _ (pairs : List Pair) (t from to : ℕ) (low : IsPartitionPoint (λ (r : 
   run_long : length (take (to - from) (drop from pairs)) ≡ to - from
   run_long = length-take-le (to - from) (drop from pairs) (let l = length-drop from pairs in omega (arith, l, bound))
 
-  run_item : (j : ℕ) (d : Pair) → j < to - from → get_or (take (to - from) (drop from pairs)) j d ≡ get_or pairs (from + j) d
+  run_item : (j : ℕ) (d : Pair) → j < to - from
+      → get_or (take (to - from) (drop from pairs)) j d ≡ get_or pairs (from + j) d
   run_item j d h = get_or-take (to - from) (drop from pairs) j d h ∙ get_or-drop from pairs j d
 
   pub run_among : (r : Pair) → IsOneOf (take (to - from) (drop from pairs)) r → IsOneOf pairs r × (r.0 ≡ t)
@@ -44,7 +47,12 @@ module _ (pairs : List Pair) (t from to : ℕ) (low : IsPartitionPoint (λ (r : 
       (one_contains pairs r (from + c.0, omega (arith, h, bound), at), omega (arith, below, above, e))
 
   pub run_all : (r : Pair) → IsOneOf pairs r → r.0 ≡ t → IsOneOf (take (to - from) (drop from pairs)) r
-  run_all r o e = one_contains (take (to - from) (drop from pairs)) r (o.place - from, omega (arith, above, below, run_long), run_item (o.place - from) r (omega (arith, above, below)) ∙ ap (λ (z : ℕ). get_or pairs z r) back ∙ at)
+  run_all r o e = one_contains (take (to - from) (drop from pairs)) r (
+    o.place - from,
+    omega (arith, above, below, run_long),
+    run_item (o.place - from) r (omega (arith, above, below))
+        ∙ ap (λ (z : ℕ). get_or pairs z r) back ∙ at,
+  )
     where
       within : o.place < length pairs
       within = stands_within pairs o.place r o.stands

@@ -7,7 +7,8 @@ pub record IsStart (pairs : List (ℕ × ℕ)) (first start : ℕ) : Type 0 wher
   pub within : start ≤ length pairs
   pub before : (k : ℕ) (q : ℕ × ℕ) → Stands pairs k q → (k < start ↔ q.0 < first)
 
--- the starts of all numbers up to the greatest first, and of the number after: the pairs with first x stand from starts x up
+-- the starts of all numbers up to the greatest first, and of the number after: the pairs with first x stand from starts
+-- x up
 -- to starts (x + 1), and no others stand there
 pub record AreRuns (pairs : List (ℕ × ℕ)) (starts : List ℕ) : Type 0 where
   pub each : (first start : ℕ) → Stands starts first start → IsStart pairs first start

@@ -34,54 +34,72 @@ pub record AreSoFar (count : ℕ) (xs : List VarId) (marks : List Bool) : Type 0
   pub long : length marks ≡ count
   pub are : AreMarked count (numbers_of xs) marks
 
-pub none_so_far : (count : ℕ) (marks : List Bool) → length marks ≡ count → ((n : ℕ) → n < count → told_at marks n ≡ false) → AreSoFar count [] marks
+pub none_so_far : (count : ℕ) (marks : List Bool) → length marks ≡ count
+    → ((n : ℕ) → n < count → told_at marks n ≡ false) → AreSoFar count [] marks
 none_so_far count marks l f = record {
   long = l;
   are = record { each = λ n i. subst (λ (b : Bool). IsAnswer b (IsOneOf [] n)) (sym (f n i)) (λ o. one_none n o) };
 }
 
-pub one_more : (count : ℕ) (xs : List VarId) (i : ℕ) (d : VarId) (old new : List Bool) → i < length xs → AreSoFar count (take i xs) old
+pub one_more : (count : ℕ) (xs : List VarId) (i : ℕ) (d : VarId) (old new : List Bool) → i < length xs
+    → AreSoFar count (take i xs) old
     → new ≡ set old (get_or xs i d).n true → AreSoFar count (take (i + 1) xs) new
 one_more count xs i d old new l h e = subst (λ (z : List Bool). AreSoFar count (take (i + 1) xs) z) (sym e) (record {
   long = length-set old (get_or xs i d).n true ∙ h.long;
-  are = record { each = λ n below. subst (λ (z : List ℕ). IsAnswer (told_at (set old (get_or xs i d).n true) n) (IsOneOf z n)) (sym split) (at n below) };
+  are = record {
+    each = λ n below. subst
+        (λ (z : List ℕ). IsAnswer (told_at (set old (get_or xs i d).n true) n) (IsOneOf z n)) (sym split) (at n below);
+  };
 })
   where
     split : numbers_of (take (i + 1) xs) ≡ numbers_of (take i xs) ++ (get_or xs i d).n ∷ []
     split = ap numbers_of (take_more xs i d l) ∙ map-append (λ (z : VarId). z.n) (take i xs) (get_or xs i d ∷ [])
 
-    at : (n : ℕ) → n < count → IsAnswer (told_at (set old (get_or xs i d).n true) n) (IsOneOf (numbers_of (take i xs) ++ (get_or xs i d).n ∷ []) n)
+    at : (n : ℕ) → n < count → IsAnswer (told_at (set old (get_or xs i d).n true) n)
+        (IsOneOf (numbers_of (take i xs) ++ (get_or xs i d).n ∷ []) n)
     at n below = elim (cases_eq n (get_or xs i d).n) [
       | inl i' ↦ subst (λ (b : Bool). IsAnswer b (IsOneOf (numbers_of (take i xs) ++ (get_or xs i d).n ∷ []) n))
           (sym (ap (told_at (set old (get_or xs i d).n true)) i' ∙ at_here old (get_or xs i d).n (let k = h.long in omega (arith, k, below, i'))))
-          (subst (λ z. IsOneOf (numbers_of (take i xs) ++ (get_or xs i d).n ∷ []) z) (sym i') (one_right (numbers_of (take i xs)) ((get_or xs i d).n ∷ []) (get_or xs i d).n (one_first (get_or xs i d).n [])))
-      | inr k ↦ subst (λ (b : Bool). IsAnswer b (IsOneOf (numbers_of (take i xs) ++ (get_or xs i d).n ∷ []) n)) (sym (at_other old (get_or xs i d).n n k))
-          (turned_answer (told_at old n) (IsOneOf (numbers_of (take i xs)) n) (IsOneOf (numbers_of (take i xs) ++ (get_or xs i d).n ∷ []) n)
+          (subst (λ z. IsOneOf (numbers_of (take i xs) ++ (get_or xs i d).n ∷ []) z) (sym i')
+          (one_right (numbers_of (take i xs)) ((get_or xs i d).n ∷ []) (get_or xs i d).n
+          (one_first (get_or xs i d).n [])))
+      | inr k ↦ subst (λ (b : Bool). IsAnswer b (IsOneOf (numbers_of (take i xs) ++ (get_or xs i d).n ∷ []) n))
+          (sym (at_other old (get_or xs i d).n n k))
+          (turned_answer (told_at old n) (IsOneOf (numbers_of (take i xs)) n)
+          (IsOneOf (numbers_of (take i xs) ++ (get_or xs i d).n ∷ []) n)
           (λ o. one_left (numbers_of (take i xs)) ((get_or xs i d).n ∷ []) n o)
-          (λ o. elim (one_split (numbers_of (take i xs)) ((get_or xs i d).n ∷ []) n o) [ inl q ↦ q | inr q ↦ absurd (k (sym (only_item (get_or xs i d).n n q))) ])
+          (λ o. elim (one_split (numbers_of (take i xs)) ((get_or xs i d).n ∷ []) n o)
+          [ inl q ↦ q | inr q ↦ absurd (k (sym (only_item (get_or xs i d).n n q))) ])
           (h.are.each n below))
     ]
 
-pub all_so_far : (count : ℕ) (xs : List VarId) (i : ℕ) (marks : List Bool) → length xs ≤ i → AreSoFar count (take i xs) marks → AreMarked count (numbers_of xs) marks
-all_so_far count xs i marks l h = subst (λ (z : List VarId). AreMarked count (numbers_of z) marks) (take_all i xs l) h.are
+pub all_so_far : (count : ℕ) (xs : List VarId) (i : ℕ) (marks : List Bool) → length xs ≤ i
+    → AreSoFar count (take i xs) marks → AreMarked count (numbers_of xs) marks
+all_so_far count xs i marks l h = subst (λ (z : List VarId). AreMarked count (numbers_of z) marks) (take_all i xs l)
+    h.are
 
 -- without an observer all are told
-pub told_all : (p : GtsParts) (reasons : List rounds.Reason) (count : ℕ) (marks : List Bool) → count ≡ length p.variables.items → AreAll count marks
+pub told_all : (p : GtsParts) (reasons : List rounds.Reason) (count : ℕ) (marks : List Bool)
+    → count ≡ length p.variables.items → AreAll count marks
     → AreTold p reasons None marks
 told_all p reasons count marks e h = record {
   each = λ n l. subst (λ (b : Bool). IsAnswer b (Unit {0})) (sym (h.each n (omega (arith, l, e)))) tt;
 }
 
 -- with one those of its cone
-pub told_cone : (p : GtsParts) (reasons : List rounds.Reason) (n : ℕ) (o : Observer) (numbers : List ℕ) (count : ℕ) (marks : List Bool) → Stands p.observers.items n o
-    → IsCone (net_of p) reasons (numbered o.value) numbers → count ≡ length p.variables.items → AreMarked count numbers marks
+pub told_cone : (p : GtsParts) (reasons : List rounds.Reason) (n : ℕ) (o : Observer) (numbers : List ℕ) (count : ℕ)
+    (marks : List Bool) → Stands p.observers.items n o
+    → IsCone (net_of p) reasons (numbered o.value) numbers → count ≡ length p.variables.items
+    → AreMarked count numbers marks
     → AreTold p reasons (observed p (Some n)) marks
 told_cone p reasons n o numbers count marks s c e h =
     subst (λ (z : Option (Expr ℕ)). AreTold p reasons z marks) (sym (ap value_found s)) (record {
-      each = λ k l. turned_answer (told_at marks k) (IsOneOf numbers k) (InCone (net_of p) reasons (numbered o.value) k) (λ i. c.sound k i) (λ i. c.whole k i)
+      each = λ k l. turned_answer (told_at marks k) (IsOneOf numbers k) (InCone (net_of p) reasons (numbered o.value) k)
+          (λ i. c.sound k i) (λ i. c.whole k i)
           (h.each k (omega (arith, l, e)));
     })
 
-pub marks_as : (P Q : Vec Bool Global → Type 0) (r : Result (Vec Bool Global) Memory) → ((v : Vec Bool Global) → P v → Q v) → IfOk r P → IfOk r Q
+pub marks_as : (P Q : Vec Bool Global → Type 0) (r : Result (Vec Bool Global) Memory)
+    → ((v : Vec Bool Global) → P v → Q v) → IfOk r P → IfOk r Q
 marks_as P Q (Ok v) f h = f v h
 marks_as P Q (Err e) f h = tt

@@ -24,22 +24,28 @@ use Rattle.reason_text.specs.Answers.{Explains, told_at, told_line, told_lines, 
 use Rattle.reason_text.specs.Texts.{reason_line, ReasonLines, none, tells, leaves, IsTold}
 
 -- a test that decides the flow
-lines_told : (names : Naming) (told : List Bool) (P : ℕ → Type 0) (rs : List rounds.Reason) → ((r : rounds.Reason) → IsOneOf rs r → IsAnswer (told_at told r.flow) (P r.flow))
+lines_told : (names : Naming) (told : List Bool) (P : ℕ → Type 0) (rs : List rounds.Reason)
+    → ((r : rounds.Reason) → IsOneOf rs r → IsAnswer (told_at told r.flow) (P r.flow))
     → ReasonLines names P rs (told_lines names told rs)
 lines_told names told P [] each = none
 lines_told names told P (r ∷ rs) each =
-    go (told_at told r.flow) refl (each r (one_first r rs)) (lines_told names told P rs (λ q o. each q (one_rest r rs q o)))
+    go (told_at told r.flow) refl (each r (one_first r rs))
+    (lines_told names told P rs (λ q o. each q (one_rest r rs q o)))
   where
-    go : (b : Bool) → told_at told r.flow ≡ b → IsAnswer (told_at told r.flow) (P r.flow) → ReasonLines names P rs (told_lines names told rs)
+    go : (b : Bool) → told_at told r.flow ≡ b → IsAnswer (told_at told r.flow) (P r.flow)
+        → ReasonLines names P rs (told_lines names told rs)
         → ReasonLines names P (r ∷ rs) (told_line names told r ++ told_lines names told rs)
     go true e h more =
-        subst (λ (z : Bool). ReasonLines names P (r ∷ rs) ((if z then reason_line names r else []) ++ told_lines names told rs)) (sym e)
+        subst (λ (z : Bool). ReasonLines names P (r ∷ rs)
+        ((if z then reason_line names r else []) ++ told_lines names told rs)) (sym e)
         (tells (subst (λ (z : Bool). IsAnswer z (P r.flow)) e h) more)
     go false e h more =
-        subst (λ (z : Bool). ReasonLines names P (r ∷ rs) ((if z then reason_line names r else []) ++ told_lines names told rs)) (sym e)
+        subst (λ (z : Bool). ReasonLines names P (r ∷ rs)
+        ((if z then reason_line names r else []) ++ told_lines names told rs)) (sym e)
         (leaves (subst (λ (z : Bool). IsAnswer z (P r.flow)) e h) more)
 
-module _ (p : GtsParts) (values : List Value) (found : List Reason) (are : AreReasons (net_of p) values (reasons_of found)) where
+module _ (p : GtsParts) (values : List Value) (found : List Reason)
+    (are : AreReasons (net_of p) values (reasons_of found)) where
   flow_below : (r : rounds.Reason) → IsOneOf (reasons_of found) r → r.flow < length p.variables.items
   flow_below r o =
       let h = reason_at (net_of p) values are r o in
@@ -49,11 +55,14 @@ module _ (p : GtsParts) (values : List Value) (found : List Reason) (are : AreRe
 
   -- the lines that are written are those of the flows that are told
   pub lines_are : (names : Naming) (observer : _) (told : List Bool) → AreTold p (reasons_of found) observer told
-      → ReasonLines names (IsTold (net_of p) (reasons_of found) observer) (reasons_of found) (told_lines names told (reasons_of found))
+      → ReasonLines names (IsTold (net_of p) (reasons_of found) observer) (reasons_of found)
+      (told_lines names told (reasons_of found))
   lines_are names observer told h =
-      lines_told names told (IsTold (net_of p) (reasons_of found) observer) (reasons_of found) (λ r o. h.each r.flow (flow_below r o))
+      lines_told names told (IsTold (net_of p) (reasons_of found) observer) (reasons_of found)
+      (λ r o. h.each r.flow (flow_below r o))
 
-  by_below : {x : s.Variable ℕ} (r : rounds.Reason) (n : ℕ) → IsReason (net_of p) values x r → r.by ≡ Some n → n < length p.assigns.items
+  by_below : {x : s.Variable ℕ} (r : rounds.Reason) (n : ℕ) → IsReason (net_of p) values x r → r.by ≡ Some n
+      → n < length p.assigns.items
   by_below r n (derived d) e =
       let i : d.assertion ≡ n = cc (d.by, e) in
       let b = stands_map_back assign_of p.assigns.items d.assertion d.first.item d.first.stands in
@@ -73,15 +82,19 @@ module _ (p : GtsParts) (values : List Value) (found : List Reason) (are : AreRe
       by_number (Some a) = Some a.n
 
 -- what is answered at an exit
-pub failed : {a b : SinkState} {text : List ℕ} {e : SinkFailed} (P : List ℕ → Type 0) (r : Result (Unit {0}) ReplayFault) → r ≡ Err Write → P text
+pub failed : {a b : SinkState} {text : List ℕ} {e : SinkFailed} (P : List ℕ → Type 0)
+    (r : Result (Unit {0}) ReplayFault) → r ≡ Err Write → P text
     → Writes a b text (Err e) → Explains a b P r
-failed {a = a} {b = b} {text = text} P r i t h = subst (λ (z : Result (Unit {0}) ReplayFault). Explains a b P z) (sym i) (text, t, h)
+failed {a = a} {b = b} {text = text} P r i t h =
+    subst (λ (z : Result (Unit {0}) ReplayFault). Explains a b P z) (sym i) (text, t, h)
 
-pub refused : (a : SinkState) (P : List ℕ → Type 0) (r : Result (Unit {0}) ReplayFault) → r ≡ Err Memory → Explains a a P r
+pub refused : (a : SinkState) (P : List ℕ → Type 0) (r : Result (Unit {0}) ReplayFault) → r ≡ Err Memory
+    → Explains a a P r
 refused a P r i = subst (λ (z : Result (Unit {0}) ReplayFault). Explains a a P z) (sym i) refl
 
 -- the lines over the lists that were passed
-pub line_as : (p q : GtsParts) (told passed : List Bool) (found given : List Reason) → q ≡ p → passed ≡ told → given ≡ found
+pub line_as : (p q : GtsParts) (told passed : List Bool) (found given : List Reason) → q ≡ p → passed ≡ told
+    → given ≡ found
     → told_lines (naming_of_parts q) passed (reasons_of given) ≡ told_lines (naming_of_parts p) told (reasons_of found)
 line_as p q told passed found given e f g =
     ap (λ (z : GtsParts). told_lines (naming_of_parts z) passed (reasons_of given)) e

@@ -17,7 +17,8 @@ use Rattle.replayer.specs.declared.replaying.ReplayFault.TheVariants.{Write, Mem
 use Rattle.flow_reasons.specs.declared.reason.Reason.{Reason}
 use Rattle.reason_text.specs.Texts.{reason_line, IsTold}
 
--- such a text is written; or the sink failed, and some first bytes of one are written; or memory was refused, and nothing is written
+-- such a text is written; or the sink failed, and some first bytes of one are written; or memory was refused, and
+-- nothing is written
 abbrev pub Explains : SinkState → SinkState → (List ℕ → Type 0) → Result (Unit {0}) ReplayFault → Type 0
 Explains old new IsText (Ok u) = (text : List ℕ) × IsText text × Writes old new text (Ok u)
 Explains old new IsText (Err Write) = (text : List ℕ) × IsText text × Writes old new text (Err (record {}))
@@ -59,7 +60,8 @@ told_lines names told [] = []
 told_lines names told (r ∷ rs) = told_line names told r ++ told_lines names told rs
 
 -- for each variable whether it is told
-pub record AreTold (p : GtsParts) (reasons : List rounds.Reason) (observer : Option (Expr ℕ)) (told : List Bool) : Type 0 where
+pub record AreTold (p : GtsParts) (reasons : List rounds.Reason) (observer : Option (Expr ℕ)) (told : List Bool) : Type
+    0 where
   pub each : (n : ℕ) → n < length p.variables.items → IsAnswer (told_at told n) (IsTold (net_of p) reasons observer n)
 
 -- so many marks, all of which are set

@@ -24,7 +24,9 @@ from_text names (n ∷ ns) = codes " from " ++ separated true (codes ", ") (path
 -- ` round R assignment K at L:C from a, b`, where assignments are counted from 1
 abbrev pub added_text : Naming → ℕ → ℕ → List ℕ → List ℕ
 added_text names a round ns =
-    codes " round " ++ (decimal round ++ (codes " assignment " ++ (decimal (a + 1) ++ (codes " at " ++ (place_text (slice_get names.places a) ++ from_text names ns)))))
+    codes " round " ++ (decimal round ++ (codes
+    " assignment " ++ (decimal (a + 1)
+    ++ (codes " at " ++ (place_text (slice_get names.places a) ++ from_text names ns)))))
 
 -- ` by reset`, or the round, the assignment and what the value rests on
 abbrev pub why_text : Naming → Option ℕ → ℕ → List ℕ → List ℕ
@@ -34,7 +36,8 @@ why_text names (Some a) round ns = added_text names a round ns
 -- `PATH = VALUE` and why
 abbrev pub reason_line : Naming → Reason → List ℕ
 reason_line names r =
-    line (text_at names.variables r.flow ++ (codes " = " ++ (value_text names.symbols r.value ++ why_text names r.by r.round r.rests_on)))
+    line (text_at names.variables r.flow
+    ++ (codes " = " ++ (value_text names.symbols r.value ++ why_text names r.by r.round r.rests_on)))
 
 -- the lines of those of these reasons whose flows are told
 pub data ReasonLines (names : Naming) (told : ℕ → Type 0) : List Reason → List ℕ → Type 0 where
@@ -49,9 +52,11 @@ abbrev pub IsTold : {V : Type 0} → Net V → List Reason → Option (Expr V) �
 IsTold net reasons None n = Unit {0}
 IsTold net reasons (Some e) n = InCone net reasons e n
 
--- the text of why flows have their values under a valuation: the lines of the reasons of its flows, by number, or, with an observer, of
+-- the text of why flows have their values under a valuation: the lines of the reasons of its flows, by number, or, with
+-- an observer, of
 -- the flows of its cone
-pub record IsReasonText {V : Type 0} (names : Naming) (net : Net V) (values : List Value) (observer : Option (Expr V)) (text : List ℕ) : Type 0 where
+pub record IsReasonText {V : Type 0} (names : Naming) (net : Net V) (values : List Value) (observer : Option (Expr V))
+    (text : List ℕ) : Type 0 where
   pub reasons : List Reason
   pub are_reasons : AreReasons net values reasons
   pub lines : ReasonLines names (IsTold net reasons observer) reasons text

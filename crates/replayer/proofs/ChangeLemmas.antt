@@ -27,16 +27,20 @@ span_texts : (text : ℕ → List ℕ) (k n : ℕ) (ns : List ℕ) → Ascends n
 span_texts text zero n [] up within empty = refl
 span_texts text zero n (m ∷ ns) up within empty = let h = within m (one_first m ns) in let a = h.0 in let b = h.1 in absurd (omega (arith, a, b))
 span_texts text (suc k) n [] up within empty =
-    ap (λ (z : List ℕ). z ++ span text (n + 1) k) (empty n (omega arith) (omega arith) (λ o. stands_none o.place n o.stands))
-    ∙ span_texts text k (n + 1) [] up (λ m o. absurd (stands_none o.place m o.stands)) (λ m a b o. empty m (omega (arith, a)) (omega (arith, b)) o)
+    ap (λ (z : List ℕ). z ++ span text (n + 1) k)
+    (empty n (omega arith) (omega arith) (λ o. stands_none o.place n o.stands))
+    ∙ span_texts text k (n + 1) [] up (λ m o. absurd (stands_none o.place m o.stands))
+    (λ m a b o. empty m (omega (arith, a)) (omega (arith, b)) o)
 span_texts text (suc k) n (m ∷ ns) up within empty = elim (three n m) [
   | inl h ↦ (
       ap (λ (z : List ℕ). z ++ span text (n + 1) k) (empty n (omega arith) (omega arith) (absent h))
-      ∙ span_texts text k (n + 1) (m ∷ ns) up (λ j o. later h j o) (λ j a b o. empty j (omega (arith, a)) (omega (arith, b)) o)
+      ∙ span_texts text k (n + 1) (m ∷ ns) up (λ j o. later h j o)
+      (λ j a b o. empty j (omega (arith, a)) (omega (arith, b)) o)
       )
   | inr g ↦ (elim g [
     | inl e ↦ (
-        ap (λ (z : List ℕ). text n ++ z) (span_texts text k (n + 1) ns (ascends_rest m ns up) (λ j o. rest e j o) (λ j a b o. empty j (omega (arith, a)) (omega (arith, b)) (other e j a o)))
+        ap (λ (z : List ℕ). text n ++ z) (span_texts text k (n + 1) ns (ascends_rest m ns up) (λ j o. rest e j o)
+        (λ j a b o. empty j (omega (arith, a)) (omega (arith, b)) (other e j a o)))
         ∙ ap (λ (z : ℕ). text z ++ texts_of text ns) e
         )
     | inr h ↦ (let a = (within m (one_first m ns)).0 in absurd (omega (arith, a, h)))
@@ -59,14 +63,17 @@ span_texts text (suc k) n (m ∷ ns) up within empty = elim (three n m) [
     other e j a lacks o = elim (one_cases m ns j o) [ inl i ↦ omega (arith, a, e, i) | inr r ↦ lacks r ]
 
 -- the texts of the same numbers
-pub texts_same : (some other : ℕ → List ℕ) (ns : List ℕ) → ((n : ℕ) → IsOneOf ns n → some n ≡ other n) → texts_of some ns ≡ texts_of other ns
+pub texts_same : (some other : ℕ → List ℕ) (ns : List ℕ) → ((n : ℕ) → IsOneOf ns n → some n ≡ other n)
+    → texts_of some ns ≡ texts_of other ns
 texts_same some other [] same = refl
 texts_same some other (n ∷ ns) same =
-    ap (λ (z : List ℕ). z ++ texts_of some ns) (same n (one_first n ns)) ∙ ap (λ (z : List ℕ). other n ++ z) (texts_same some other ns (λ m o. same m (one_rest n ns m o)))
+    ap (λ (z : List ℕ). z ++ texts_of some ns) (same n (one_first n ns))
+    ∙ ap (λ (z : List ℕ). other n ++ z) (texts_same some other ns (λ m o. same m (one_rest n ns m o)))
 
 module _ (one : ℕ → Value → List ℕ) where
   unchanged : (n : ℕ) (v w : Value) → v ≡ w → change_text one n v w ≡ []
-  unchanged n v w e = ap (λ (z : Value). change_text one n v z) (sym e) ∙ ap (λ (b : Bool). if b then [] else one n v) (same_self v)
+  unchanged n v w e = ap (λ (z : Value). change_text one n v z) (sym e)
+      ∙ ap (λ (b : Bool). if b then [] else one n v) (same_self v)
 
   changed : (n : ℕ) (v w : Value) → (v ≡ w → ⊥) → change_text one n v w ≡ one n w
   changed n v w differ = by (is_same v w) refl
@@ -76,15 +83,19 @@ module _ (one : ℕ → Value → List ℕ) where
       by false e = refl
 
   changes_span : (text : ℕ → List ℕ) (n : ℕ) (vs ws : List Value) → length vs ≡ length ws
-      → ((k m : ℕ) (v w : Value) → m ≡ n + k → Stands vs k v → Stands ws k w → text m ≡ change_text one m v w) → changes_from one n vs ws ≡ span text n (length vs)
+      → ((k m : ℕ) (v w : Value) → m ≡ n + k → Stands vs k v → Stands ws k w → text m ≡ change_text one m v w)
+      → changes_from one n vs ws ≡ span text n (length vs)
   changes_span text n [] ws e same = refl
   changes_span text n (v ∷ vs) [] e same = absurd (omega (arith, e))
   changes_span text n (v ∷ vs) (w ∷ ws) e same =
       ap (λ (z : List ℕ). z ++ changes_from one (n + 1) vs ws) (sym (same 0 n v w (omega arith) refl refl))
-      ∙ ap (λ (z : List ℕ). text n ++ z) (changes_span text (n + 1) vs ws (omega (arith, e)) (λ k m x y i s t. same (suc k) m x y (omega (arith, i)) s t))
+      ∙ ap (λ (z : List ℕ). text n ++ z)
+      (changes_span text (n + 1) vs ws (omega (arith, e))
+      (λ k m x y i s t. same (suc k) m x y (omega (arith, i)) s t))
 
   -- the lines of all changes, where these are numbers of values among which are all that changed
-  pub changes_texts : (vs ws : List Value) (ns : List ℕ) → length vs ≡ length ws → Ascends ns → ((m : ℕ) → IsOneOf ns m → m < length vs)
+  pub changes_texts : (vs ws : List Value) (ns : List ℕ) → length vs ≡ length ws → Ascends ns
+      → ((m : ℕ) → IsOneOf ns m → m < length vs)
       → ((m : ℕ) (v w : Value) → Stands vs m v → Stands ws m w → (v ≡ w → ⊥) → IsOneOf ns m)
       → changes_from one 0 vs ws ≡ texts_of (λ m. change_text one m (value_at vs m) (value_at ws m)) ns
   changes_texts vs ws ns long up within all =
@@ -96,7 +107,8 @@ module _ (one : ℕ → Value → List ℕ) where
       same : (k m : ℕ) (v w : Value) → m ≡ 0 + k → Stands vs k v → Stands ws k w → text m ≡ change_text one m v w
       same k m v w e s t =
           let i : m ≡ k = omega (arith, e) in
-          ap (λ z. change_text one m z (value_at ws m)) (ap (value_at vs) i ∙ read_value vs k v s) ∙ ap (λ z. change_text one m v z) (ap (value_at ws) i ∙ read_value ws k w t)
+          ap (λ z. change_text one m z (value_at ws m)) (ap (value_at vs) i ∙ read_value vs k v s)
+          ∙ ap (λ z. change_text one m v z) (ap (value_at ws) i ∙ read_value ws k w t)
 
       empty : (m : ℕ) → m < length vs → (IsOneOf ns m → ⊥) → text m ≡ []
       empty m l lacks =
@@ -109,7 +121,9 @@ module _ (one : ℕ → Value → List ℕ) where
   pub changes_named : (old new : List Value) (xs : List VarId) → length old ≡ length new → AreChanges old new xs
       → texts_of (λ m. one m (value_at new m)) (numbers xs) ≡ changes_from one 0 old new
   changes_named old new xs long are =
-      sym (changes_texts old new (numbers xs) long are.ascend within all ∙ texts_same (λ m. change_text one m (value_at old m) (value_at new m)) (λ m. one m (value_at new m)) (numbers xs) (λ m o. differs m ((are.each m).0 o)))
+      sym (changes_texts old new (numbers xs) long are.ascend within all
+      ∙ texts_same (λ m. change_text one m (value_at old m) (value_at new m)) (λ m. one m (value_at new m))
+      (numbers xs) (λ m o. differs m ((are.each m).0 o)))
     where
       within : (m : ℕ) → IsOneOf (numbers xs) m → m < length old
       within m o = let h = (are.each m).0 o in stands_within old m h.before h.had
@@ -117,23 +131,29 @@ module _ (one : ℕ → Value → List ℕ) where
       all : (m : ℕ) (v w : Value) → Stands old m v → Stands new m w → (v ≡ w → ⊥) → IsOneOf (numbers xs) m
       all m v w s t differ = (are.each m).1 (record { before = v; after = w; had = s; has = t; differ = differ })
 
-      differs : (m : ℕ) → HasChanged old new m → change_text one m (value_at old m) (value_at new m) ≡ one m (value_at new m)
-      differs m h = changed m (value_at old m) (value_at new m) (λ e. h.differ (sym (read_value old m h.before h.had) ∙ e ∙ read_value new m h.after h.has))
+      differs : (m : ℕ) → HasChanged old new m
+          → change_text one m (value_at old m) (value_at new m) ≡ one m (value_at new m)
+      differs m h = changed m (value_at old m) (value_at new m)
+          (λ e. h.differ (sym (read_value old m h.before h.had) ∙ e ∙ read_value new m h.after h.has))
 
 -- lists with the same values
 same_lists : (xs ys : List Value) → length xs ≡ length ys → ((n : ℕ) → value_at xs n ≡ value_at ys n) → xs ≡ ys
 same_lists [] [] e same = refl
 same_lists [] (y ∷ ys) e same = absurd (omega (arith, e))
 same_lists (x ∷ xs) [] e same = absurd (omega (arith, e))
-same_lists (x ∷ xs) (y ∷ ys) e same = ap (λ (z : Value). z ∷ xs) (same 0) ∙ ap (λ (z : List Value). y ∷ z) (same_lists xs ys (omega (arith, e)) (λ n. same (suc n)))
+same_lists (x ∷ xs) (y ∷ ys) e same =
+    ap (λ (z : Value). z ∷ xs) (same 0)
+    ∙ ap (λ (z : List Value). y ∷ z) (same_lists xs ys (omega (arith, e)) (λ n. same (suc n)))
 
 -- the values are those of the next valuation, but for these variables
 pub record AreBut (values next : List Value) (left : List VarId) : Type 0 where
   pub long : length values ≡ length next
   pub same : (n : ℕ) → (IsOneOf (numbers left) n → ⊥) → value_at values n ≡ value_at next n
 
-pub but_changed : (old new : List Value) (xs : List VarId) → length old ≡ length new → AreChanges old new xs → AreBut old new xs
-but_changed old new xs long are = record { long = long; same = λ n lacks. kept_value old new long n (λ h. lacks ((are.each n).1 h)) }
+pub but_changed : (old new : List Value) (xs : List VarId) → length old ≡ length new → AreChanges old new xs
+    → AreBut old new xs
+but_changed old new xs long are = record
+    { long = long; same = λ n lacks. kept_value old new long n (λ h. lacks ((are.each n).1 h)) }
 
 pub but_none : (values next : List Value) (left : List VarId) → left ≡ [] → AreBut values next left → values ≡ next
 but_none values next left e are = same_lists values next are.long (λ n. are.same n (λ o. nothing left e o))
@@ -159,23 +179,30 @@ set_other (x ∷ xs) (suc n) zero v h = refl
 set_other (x ∷ xs) (suc n) (suc m) v h = set_other xs n m v (λ e. h (ap suc e))
 
 -- one variable more got its value
-pub but_next : (values next : List Value) (x : VarId) (left : List VarId) (v : Value) → x.n < length values → Stands next x.n v → AreBut values next (x ∷ left) → AreBut (set values x.n v) next left
+pub but_next : (values next : List Value) (x : VarId) (left : List VarId) (v : Value) → x.n < length values
+    → Stands next x.n v → AreBut values next (x ∷ left) → AreBut (set values x.n v) next left
 but_next values next x left v h s are = record {
   long = set_long values x.n v ∙ are.long;
   same = λ n lacks. at n lacks (three n x.n);
 }
   where
     other : (n : ℕ) → (IsOneOf (numbers left) n → ⊥) → (n ≡ x.n → ⊥) → value_at (set values x.n v) n ≡ value_at next n
-    other n lacks f = set_other values x.n n v f ∙ are.same n (λ o. elim (one_cases x.n (numbers left) n o) [ inl e ↦ f (sym e) | inr r ↦ lacks r ])
+    other n lacks f = set_other values x.n n v f
+        ∙ are.same n (λ o. elim (one_cases x.n (numbers left) n o) [ inl e ↦ f (sym e) | inr r ↦ lacks r ])
 
-    at : (n : ℕ) → (IsOneOf (numbers left) n → ⊥) → (n < x.n) ⊎ ((n ≡ x.n) ⊎ (x.n < n)) → value_at (set values x.n v) n ≡ value_at next n
+    at : (n : ℕ) → (IsOneOf (numbers left) n → ⊥) → (n < x.n) ⊎ ((n ≡ x.n) ⊎ (x.n < n))
+        → value_at (set values x.n v) n ≡ value_at next n
     at n lacks (inl l) = other n lacks (λ e. omega (arith, l, e))
     at n lacks (inr (inr l)) = other n lacks (λ e. omega (arith, l, e))
-    at n lacks (inr (inl e)) = ap (λ m. value_at (set values x.n v) m) e ∙ set_here values x.n v h ∙ sym (read_value next x.n v s) ∙ ap (value_at next) (sym e)
+    at n lacks (inr (inl e)) = ap (λ m. value_at (set values x.n v) m) e ∙ set_here values x.n v h
+        ∙ sym (read_value next x.n v s) ∙ ap (value_at next) (sym e)
 
 -- a variable that changed has its number below
-pub changed_within : (old new : List Value) (xs : List VarId) (i : ℕ) (d : VarId) → AreChanges old new xs → i < length xs → (get_or xs i d).n < length new
+pub changed_within : (old new : List Value) (xs : List VarId) (i : ℕ) (d : VarId) → AreChanges old new xs
+    → i < length xs → (get_or xs i d).n < length new
 changed_within old new xs i d are h =
-    let o : IsOneOf (numbers xs) (get_or xs i d).n = one_here (numbers xs) i (get_or xs i d).n (stands_map (λ (x : VarId). x.n) xs i (get_or xs i d) (stands_get xs i d h)) in
+    let o : IsOneOf (numbers xs) (get_or xs i d).n =
+    one_here (numbers xs) i (get_or xs i d).n
+    (stands_map (λ (x : VarId). x.n) xs i (get_or xs i d) (stands_get xs i d h)) in
     let c = (are.each (get_or xs i d).n).0 o in
     stands_within new (get_or xs i d).n c.after c.has

@@ -20,12 +20,14 @@ not_skipped lines.ListsEnabled said h n e = let z = sym h ∙ e in cc
 not_skipped lines.NoCommand said h n e = let z = sym h ∙ e in cc
 
 -- a line that is not skipped by a script, and does not begin with `count`
-pub not_passed : (line text : List ℕ) → text ≡ trimmed_line line → (line_said line ≡ Skipped → ⊥) → starts_with nat_eq text (codes "count") ≡ false → IsPassed line → ⊥
+pub not_passed : (line text : List ℕ) → text ≡ trimmed_line line → (line_said line ≡ Skipped → ⊥)
+    → starts_with nat_eq text (codes "count") ≡ false → IsPassed line → ⊥
 not_passed line text e n f (skipped s) = n s
 not_passed line text e n f (counts s) = let z = sym f ∙ ap (λ t. starts_with nat_eq t (codes "count")) e ∙ s in cc
 
 -- the text without the blanks at both ends, as the code takes it
-pub trimmed_as : (text rest : List ℕ) (blanks len : ℕ) → blanks ≡ prefix_len is_space_or_tab text → rest ≡ drop blanks text
+pub trimmed_as : (text rest : List ℕ) (blanks len : ℕ) → blanks ≡ prefix_len is_space_or_tab text
+    → rest ≡ drop blanks text
     → len ≡ length rest - suffix_len is_space_or_tab rest → take len rest ≡ trimmed text
 trimmed_as text rest blanks len e f g =
     let i : rest ≡ drop (prefix_len is_space_or_tab text) text = f ∙ ap (λ n. drop n text) e in
@@ -46,19 +48,23 @@ brace_last (x ∷ xs) (y ∷ ys) a b e =
     (more.0, ap (λ z. z ∷ xs) i ∙ ap (λ zs. y ∷ zs) more.1)
 
 -- what stands between two braces is one
-pub one_between : (inner other : List ℕ) → codes "{" ++ (inner ++ codes "}") ≡ codes "{" ++ (other ++ codes "}") → inner ≡ other
+pub one_between : (inner other : List ℕ) → codes "{" ++ (inner ++ codes "}") ≡ codes "{" ++ (other ++ codes "}")
+    → inner ≡ other
 one_between inner other e =
     let j : inner ++ 125 ∷ [] ≡ other ++ 125 ∷ [] = cc in
     (brace_last inner other 125 125 j).1
 
-pub braces_there : (text rest inner : List ℕ) (a b : ℕ) → text ≡ a ∷ rest → rest ≡ inner ++ b ∷ [] → a ≡ 123 → b ≡ 125 → text ≡ codes "{" ++ (inner ++ codes "}")
+pub braces_there : (text rest inner : List ℕ) (a b : ℕ) → text ≡ a ∷ rest → rest ≡ inner ++ b ∷ [] → a ≡ 123 → b ≡ 125
+    → text ≡ codes "{" ++ (inner ++ codes "}")
 braces_there text rest inner a b e f i j =
     e ∙ ap (λ z. a ∷ z) f ∙ ap (λ z. z ∷ (inner ++ b ∷ [])) i ∙ ap (λ z. 123 ∷ (inner ++ z ∷ [])) j
 
-pub first_brace : (text rest inner : List ℕ) (a : ℕ) → text ≡ a ∷ rest → (a ≡ 123 → ⊥) → text ≡ codes "{" ++ (inner ++ codes "}") → ⊥
+pub first_brace : (text rest inner : List ℕ) (a : ℕ) → text ≡ a ∷ rest → (a ≡ 123 → ⊥)
+    → text ≡ codes "{" ++ (inner ++ codes "}") → ⊥
 first_brace text rest inner a e n f = let z : a ∷ rest ≡ 123 ∷ (inner ++ 125 ∷ []) = sym e ∙ f in n (cc z)
 
-pub last_brace : (text rest front inner : List ℕ) (a b : ℕ) → text ≡ a ∷ rest → rest ≡ front ++ b ∷ [] → (b ≡ 125 → ⊥) → text ≡ codes "{" ++ (inner ++ codes "}") → ⊥
+pub last_brace : (text rest front inner : List ℕ) (a b : ℕ) → text ≡ a ∷ rest → rest ≡ front ++ b ∷ [] → (b ≡ 125 → ⊥)
+    → text ≡ codes "{" ++ (inner ++ codes "}") → ⊥
 last_brace text rest front inner a b e g n f =
     let z : a ∷ rest ≡ 123 ∷ (inner ++ 125 ∷ []) = sym e ∙ f in
     let j : rest ≡ inner ++ 125 ∷ [] = cc in
@@ -67,7 +73,8 @@ last_brace text rest front inner a b e g n f =
 pub no_brace : (text inner : List ℕ) → text ≡ [] → text ≡ codes "{" ++ (inner ++ codes "}") → ⊥
 no_brace text inner e f = let z : ◌≡◌ {A = List ℕ} [] (123 ∷ (inner ++ 125 ∷ [])) = sym e ∙ f in cc
 
-pub one_brace : (text rest inner : List ℕ) (a : ℕ) → text ≡ a ∷ rest → rest ≡ [] → text ≡ codes "{" ++ (inner ++ codes "}") → ⊥
+pub one_brace : (text rest inner : List ℕ) (a : ℕ) → text ≡ a ∷ rest → rest ≡ []
+    → text ≡ codes "{" ++ (inner ++ codes "}") → ⊥
 one_brace text rest [] a e g f = let z : ◌≡◌ {A = List ℕ} (a ∷ []) (123 ∷ (125 ∷ [])) = ap (λ r. a ∷ r) (sym g) ∙ sym e ∙ f in let w : ◌≡◌ {A = List ℕ} [] (125 ∷ []) = cc in cc
 one_brace text rest (b ∷ inner) a e g f =
     let z : ◌≡◌ {A = List ℕ} (a ∷ []) (123 ∷ (b ∷ (inner ++ 125 ∷ []))) = ap (λ r. a ∷ r) (sym g) ∙ sym e ∙ f in
@@ -75,30 +82,35 @@ one_brace text rest (b ∷ inner) a e g f =
 
 -- whether the line has the form
 
-pub is_cut : (line text inner : List ℕ) → text ≡ trimmed_line line → text ≡ codes "{" ++ (inner ++ codes "}") → list_all is_label (texts_in inner) ≡ true
+pub is_cut : (line text inner : List ℕ) → text ≡ trimmed_line line → text ≡ codes "{" ++ (inner ++ codes "}")
+    → list_all is_label (texts_in inner) ≡ true
     → IsCutLine line (texts_in inner)
 is_cut line text inner e b h = record { inner = inner; braces = sym e ∙ b; texts = refl; are_labels = h }
 
-pub no_labels : (line text inner : List ℕ) → text ≡ trimmed_line line → text ≡ codes "{" ++ (inner ++ codes "}") → list_all is_label (texts_in inner) ≡ false
+pub no_labels : (line text inner : List ℕ) → text ≡ trimmed_line line → text ≡ codes "{" ++ (inner ++ codes "}")
+    → list_all is_label (texts_in inner) ≡ false
     → (texts : List (List ℕ)) → IsCutLine line texts → ⊥
 no_labels line text inner e b h texts c =
     let same : inner ≡ c.inner = one_between inner c.inner (sym b ∙ e ∙ c.braces) in
     let z : false ≡ true = sym h ∙ ap (λ i. list_all is_label (texts_in i)) same ∙ ap (list_all is_label) (sym c.texts) ∙ c.are_labels in cc
 
-pub no_braces : (line text : List ℕ) → text ≡ trimmed_line line → ((inner : List ℕ) → text ≡ codes "{" ++ (inner ++ codes "}") → ⊥)
+pub no_braces : (line text : List ℕ) → text ≡ trimmed_line line
+    → ((inner : List ℕ) → text ≡ codes "{" ++ (inner ++ codes "}") → ⊥)
     → (texts : List (List ℕ)) → IsCutLine line texts → ⊥
 no_braces line text e n texts c = n c.inner (e ∙ c.braces)
 
 -- pieces between commas
 
 pub comma_first : (rest o : Option (Bor (List ℕ))) (bytes : Bor (List ℕ)) (piece : List ℕ) → rest ≡ Some bytes
-    → MatchOption o (pieces is_comma bytes.now ≡ piece ∷ []) (λ more. (pieces is_comma bytes.now ≡ piece ∷ pieces is_comma more.now) × (length more.now < length bytes.now))
+    → MatchOption o (pieces is_comma bytes.now ≡ piece ∷ [])
+    (λ more. (pieces is_comma bytes.now ≡ piece ∷ pieces is_comma more.now) × (length more.now < length bytes.now))
     → commas_left rest ≡ piece ∷ commas_left o
 comma_first rest None bytes piece e h = ap commas_left e ∙ h
 comma_first rest (Some more) bytes piece e h = ap commas_left e ∙ h.0
 
 pub comma_less : (rest o : Option (Bor (List ℕ))) (bytes : Bor (List ℕ)) (piece : List ℕ) → rest ≡ Some bytes
-    → MatchOption o (pieces is_comma bytes.now ≡ piece ∷ []) (λ more. (pieces is_comma bytes.now ≡ piece ∷ pieces is_comma more.now) × (length more.now < length bytes.now))
+    → MatchOption o (pieces is_comma bytes.now ≡ piece ∷ [])
+    (λ more. (pieces is_comma bytes.now ≡ piece ∷ pieces is_comma more.now) × (length more.now < length bytes.now))
     → bytes_left o < bytes_left rest
 comma_less rest None bytes piece e h = omega (arith, ap bytes_left e)
 comma_less rest (Some more) bytes piece e h = omega (arith, ap bytes_left e, h.1)
@@ -108,16 +120,19 @@ pub labels_next : (all left rest : List (List ℕ)) (piece text : List ℕ) → 
     → list_all is_label (map trimmed all) ≡ list_all is_label (map trimmed left) → is_label text ≡ true
     → list_all is_label (map trimmed all) ≡ list_all is_label (map trimmed rest)
 labels_next all left rest piece text e f h k =
-    h ∙ ap (λ z. list_all is_label (map trimmed z)) e ∙ ap (λ b. b && list_all is_label (map trimmed rest)) (ap is_label (sym f) ∙ k)
+    h ∙ ap (λ z. list_all is_label (map trimmed z)) e
+    ∙ ap (λ b. b && list_all is_label (map trimmed rest)) (ap is_label (sym f) ∙ k)
 
 pub labels_stop : (all left rest : List (List ℕ)) (piece text : List ℕ) → left ≡ piece ∷ rest → text ≡ trimmed piece
     → list_all is_label (map trimmed all) ≡ list_all is_label (map trimmed left) → is_label text ≡ false
     → list_all is_label (map trimmed all) ≡ false
 labels_stop all left rest piece text e f h k =
-    h ∙ ap (λ z. list_all is_label (map trimmed z)) e ∙ ap (λ b. b && list_all is_label (map trimmed rest)) (ap is_label (sym f) ∙ k)
+    h ∙ ap (λ z. list_all is_label (map trimmed z)) e
+    ∙ ap (λ b. b && list_all is_label (map trimmed rest)) (ap is_label (sym f) ∙ k)
 
 -- a line is a cut in one way
-pub one_cut : (line : List ℕ) (texts others : List (List ℕ)) → IsCutLine line texts → IsCutLine line others → others ≡ texts
+pub one_cut : (line : List ℕ) (texts others : List (List ℕ)) → IsCutLine line texts → IsCutLine line others
+    → others ≡ texts
 one_cut line texts others c d =
     let same : d.inner ≡ c.inner = one_between d.inner c.inner (sym d.braces ∙ c.braces) in
     d.texts ∙ ap texts_in same ∙ sym c.texts

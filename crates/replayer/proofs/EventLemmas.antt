@@ -30,7 +30,8 @@ module _ {A B : Type 0} (f : A → List B) (each : (u : A) → AreDifferent (f u
   rest_different : (u : A) (us : List A) → AreDifferent (u ∷ us) → AreDifferent us
   rest_different u us d = record { one = λ m n a h k. let e = d.one (suc m) (suc n) a h k in omega (arith, e) }
 
-  not_first : (u : A) (us : List A) → AreDifferent (u ∷ us) → (b : B) → IsOneOf (f u) b → (j : ℕ) → Stands (flat_map f us) j b → ⊥
+  not_first : (u : A) (us : List A) → AreDifferent (u ∷ us) → (b : B) → IsOneOf (f u) b → (j : ℕ)
+      → Stands (flat_map f us) j b → ⊥
   not_first u us d b o j h =
       let r = from_later us j b h in
       let e : u ≡ r.0 = alike u r.0 b o r.2 in
@@ -39,7 +40,10 @@ module _ {A B : Type 0} (f : A → List B) (each : (u : A) → AreDifferent (f u
 
   pub flat_different : (us : List A) → AreDifferent us → AreDifferent (flat_map f us)
   flat_different [] d = record { one = λ m n b h k. absurd (stands_none m b h) }
-  flat_different (u ∷ us) d = record { one = λ m n b h k. go m n b (flat_different us (rest_different u us d)) (stands_split (f u) (flat_map f us) m b h) (stands_split (f u) (flat_map f us) n b k) }
+  flat_different (u ∷ us) d = record {
+    one = λ m n b h k. go m n b (flat_different us (rest_different u us d))
+        (stands_split (f u) (flat_map f us) m b h) (stands_split (f u) (flat_map f us) n b k);
+  }
     where
       go : (m n : ℕ) (b : B) → AreDifferent (flat_map f us)
           → Stands (f u) m b ⊎ ((k : ℕ) × (m ≡ length (f u) + k) × Stands (flat_map f us) k b)
@@ -64,7 +68,8 @@ module _ (test : NamedMember → Bool) where
           let z = a.apart 0 (suc o.0.place) x h refl o.0.stands e in
           absurd (omega (arith, z))
 
-      both : AreApart (filter test xs) → (i j : ℕ) (g h : NamedMember) → Stands (x ∷ filter test xs) i g → Stands (x ∷ filter test xs) j h → g.name ≡ h.name → i ≡ j
+      both : AreApart (filter test xs) → (i j : ℕ) (g h : NamedMember) → Stands (x ∷ filter test xs) i g
+          → Stands (x ∷ filter test xs) j h → g.name ≡ h.name → i ≡ j
       both r zero zero g h p q e = refl
       both r zero (suc j) g h p q e = let same : x ≡ g = cc in absurd (later h j q (ap (λ (z : NamedMember). z.name) same ∙ e))
       both r (suc i) zero g h p q e = let same : x ≡ h = cc in absurd (later g i p (ap (λ (z : NamedMember). z.name) same ∙ sym e))
@@ -81,7 +86,8 @@ module _ {m : RootedModel} (kept : IsKept m) where
         let names = filter (λ (g : NamedMember). test g.kind) (names_at m u) in
         let a = stands_map_back (λ (g : NamedMember). thing u g.name) names i t p in
         let b = stands_map_back (λ (g : NamedMember). thing u g.name) names j t q in
-        (filter_apart (λ (g : NamedMember). test g.kind) (names_at m u) (members_apart kept u)).apart i j a.0 b.0 a.1 b.1
+        (filter_apart (λ (g : NamedMember). test g.kind) (names_at m u) (members_apart kept u)).apart i j a.0 b.0 a.1
+        b.1
         (ap (λ (z : Thing). z.name) (a.2 ∙ sym b.2));
   }
 
@@ -94,13 +100,17 @@ module _ {m : RootedModel} (kept : IsKept m) where
 -- Names and what they name
 
 -- names name one thing
-pub one_thing : {m : RootedModel} (test : MemberKind → Bool) (names : List ℕ) (t u : Thing) → IsThingAt m test [] Here names t → IsThingAt m test [] Here names u → t ≡ u
+pub one_thing : {m : RootedModel} (test : MemberKind → Bool) (names : List ℕ) (t u : Thing)
+    → IsThingAt m test [] Here names t → IsThingAt m test [] Here names u → t ≡ u
 one_thing test names t u p q =
     let e = last_one p.leads.front q.leads.front t.name u.name (sym p.leads.split ∙ q.leads.split) in
-    let w = unit_of_reaches (walks_same (subst (λ (ns : List ℕ). NamesLead _ [] (Some []) ns (Reaches t.unit)) e.0 p.leads.reaches) q.leads.reaches) in
+    let w = unit_of_reaches (walks_same
+    (subst (λ (ns : List ℕ). NamesLead _ [] (Some []) ns (Reaches t.unit)) e.0 p.leads.reaches)
+    q.leads.reaches) in
     both t.unit u.unit t.name u.name w e.1
   where
-    both : (v w : UnitPath) (x y : ℕ) → v ≡ w → x ≡ y → ◌≡◌ {A = Thing} (record { unit = v; name = x }) (record { unit = w; name = y })
+    both : (v w : UnitPath) (x y : ℕ) → v ≡ w → x ≡ y
+        → ◌≡◌ {A = Thing} (record { unit = v; name = x }) (record { unit = w; name = y })
     both v w x y e i = cc
 
 -- a text spells one list of names

@@ -32,9 +32,11 @@ use Rattle.replayer.proofs.ValueLemmas.{observed, changed_lines}
 
 -- total valuations
 
-pub total_below : (p : GtsParts) (t : List Value) (below : List (List Value)) → IsTotal p t → AreTotal p below → AreTotal p (t ∷ below)
+pub total_below : (p : GtsParts) (t : List Value) (below : List (List Value)) → IsTotal p t → AreTotal p below
+    → AreTotal p (t ∷ below)
 total_below p t below h k = record {
-  each = λ u o. elim (one_cases t below u o) [ inl e ↦ subst (λ (z : List Value). IsTotal p z) e h | inr q ↦ k.each u q ];
+  each = λ u o. elim (one_cases t below u o)
+      [ inl e ↦ subst (λ (z : List Value). IsTotal p z) e h | inr q ↦ k.each u q ];
 }
 
 pub total_none : (p : GtsParts) → AreTotal p []
@@ -52,7 +54,8 @@ pub later : {sys : s.System ℕ} {c : Command} {cs : List Command} → FiresWays
 later {c = c} {cs = cs} h = record { each = λ l o. h.each l (one_rest c cs (Fire l) o) }
 
 -- the text of one moment that ends the run
-one_moment : (names : Naming) (sys : s.System ℕ) (m : Moment) (text : List ℕ) → MomentText names sys m text → TraceText names sys (m ∷ []) text
+one_moment : (names : Naming) (sys : s.System ℕ) (m : Moment) (text : List ℕ) → MomentText names sys m text
+    → TraceText names sys (m ∷ []) text
 one_moment names sys m text h =
     subst (λ (z : List ℕ). TraceText names sys (m ∷ []) z) (append-nil text) (tell.one_and h tell.none)
 
@@ -61,7 +64,8 @@ module _ (p : GtsParts) (sound : IsSound p) (sys : s.System ℕ) (views : Views 
   names = naming_of_parts p
 
   -- the end of the commands
-  pub ends_so : (below : List (List Value)) (t : List Value) → Follows names sys below t [] (line (codes "end " ++ decimal (length below))) Done
+  pub ends_so : (below : List (List Value)) (t : List Value)
+      → Follows names sys below t [] (line (codes "end " ++ decimal (length below))) Done
   ends_so below t = record {
     moments = Ends (length below) ∷ [];
     goes = r.ends;
@@ -70,9 +74,12 @@ module _ (p : GtsParts) (sound : IsSound p) (sys : s.System ℕ) (views : Views 
   }
 
   -- a way that is fired
-  pub fires_so : (below : List (List Value)) (t u : List Value) (k : Label) (w : s.Way ℕ) → IsWay sys k w → Step sys.net t w (Next u)
-      → IsTotal p t → IsTotal p u → (cs : List Command) (more : List ℕ) (end : End) → Follows names sys (t ∷ below) u cs more end
-      → Follows names sys below t (Fire k ∷ cs) ((line (codes "fire " ++ label_text names sys k) ++ changes_text p t u) ++ more) end
+  pub fires_so : (below : List (List Value)) (t u : List Value) (k : Label) (w : s.Way ℕ) → IsWay sys k w
+      → Step sys.net t w (Next u)
+      → IsTotal p t → IsTotal p u → (cs : List Command) (more : List ℕ) (end : End)
+      → Follows names sys (t ∷ below) u cs more end
+      → Follows names sys below t (Fire k ∷ cs)
+      ((line (codes "fire " ++ label_text names sys k) ++ changes_text p t u) ++ more) end
   fires_so below t u k w is step before after cs more end f = record {
     moments = Fires k t u ∷ f.moments;
     goes = r.fires w is step f.goes;
@@ -82,11 +89,13 @@ module _ (p : GtsParts) (sound : IsSound p) (sys : s.System ℕ) (views : Views 
 
   pub fails_so : (below : List (List Value)) (t : List Value) (k : Label) (w : s.Way ℕ) (f : StepFault) → IsWay sys k w
       → Step sys.net t w (Refused f) → (cs : List Command)
-      → Follows names sys below t (Fire k ∷ cs) (line (codes "fault: " ++ (label_text names sys k ++ (codes ": " ++ step_fault_text names f)))) Fault
+      → Follows names sys below t (Fire k ∷ cs)
+      (line (codes "fault: " ++ (label_text names sys k ++ (codes ": " ++ step_fault_text names f)))) Fault
   fails_so below t k w f is step cs = record {
     moments = Fire_fails k f ∷ [];
     goes = r.fails w is step;
-    trace = one_moment names sys (Fire_fails k f) (line (codes "fault: " ++ (label_text names sys k ++ (codes ": " ++ step_fault_text names f)))) tell.fire_fails;
+    trace = one_moment names sys (Fire_fails k f)
+        (line (codes "fault: " ++ (label_text names sys k ++ (codes ": " ++ step_fault_text names f)))) tell.fire_fails;
     ends = refl;
   }
 
@@ -101,7 +110,8 @@ module _ (p : GtsParts) (sound : IsSound p) (sys : s.System ℕ) (views : Views 
     ends = f.ends;
   }
 
-  pub no_step_so : (t : List Value) (cs : List Command) → Follows names sys [] t (Back ∷ cs) (line (codes "fault: back: no step")) Fault
+  pub no_step_so : (t : List Value) (cs : List Command)
+      → Follows names sys [] t (Back ∷ cs) (line (codes "fault: back: no step")) Fault
   no_step_so t cs = record {
     moments = No_step ∷ [];
     goes = r.no_step;
@@ -126,7 +136,8 @@ module _ (p : GtsParts) (sound : IsSound p) (sys : s.System ℕ) (views : Views 
   lists_so below t text list cs more end f = record {
     moments = Lists list.labels ∷ f.moments;
     goes = r.lists list.listed f.goes;
-    trace = tell.one_and (subst (λ (z : List ℕ). MomentText names sys (Lists list.labels) (line (codes "enabled") ++ z)) (sym list.lines) tell.lists) f.trace;
+    trace = tell.one_and (subst (λ (z : List ℕ). MomentText names sys (Lists list.labels) (line (codes "enabled") ++ z))
+        (sym list.lines) tell.lists) f.trace;
     ends = f.ends;
   }
 
@@ -139,39 +150,59 @@ module _ (p : GtsParts) (sound : IsSound p) (sys : s.System ℕ) (views : Views 
   net_step : (t : List Value) (w : s.Way ℕ) (a : Answer) → Step sys.net t w a → Step (net_of p) t w a
   net_step t w a h = subst (λ (n : s.Net ℕ). Step n t w a) views.net h
 
-  pub going : (below : List (List Value)) (t : List Value) (cs : List Command) → AreTotal p below → IsTotal p t → FiresWays sys cs → Goes_on below t cs
+  pub going : (below : List (List Value)) (t : List Value) (cs : List Command) → AreTotal p below → IsTotal p t
+      → FiresWays sys cs → Goes_on below t cs
   going below t [] totals total h = record { text = _; end = Done; follows = ends_so below t }
   going below t (Fire k ∷ cs) totals total h =
-      go (has_answer cases_eq sys.net t way.0 long) (λ u v. going (t ∷ below) u cs (total_below p t below total totals) v (later h))
+      go (has_answer cases_eq sys.net t way.0 long)
+      (λ u v. going (t ∷ below) u cs (total_below p t below total totals) v (later h))
     where
       way : (w : s.Way ℕ) × IsWay sys k w
       way = h.each k (one_first (Fire k) cs)
 
       long : length t ≡ length sys.net.variables
-      long = total.long ∙ sym (variables_long 0 p.variables.items) ∙ ap (λ (n : s.Net ℕ). length n.variables) (sym views.net)
+      long = total.long ∙ sym (variables_long 0 p.variables.items)
+          ∙ ap (λ (n : s.Net ℕ). length n.variables) (sym views.net)
 
-      go : (a : Answer) × Step sys.net t way.0 a → ((u : List Value) → IsTotal p u → Goes_on (t ∷ below) u cs) → Goes_on below t (Fire k ∷ cs)
+      go : (a : Answer) × Step sys.net t way.0 a → ((u : List Value) → IsTotal p u → Goes_on (t ∷ below) u cs)
+          → Goes_on below t (Fire k ∷ cs)
       go (Refused f, step) on = record { text = _; end = Fault; follows = fails_so below t k way.0 f way.1 step cs }
       go (Next u, step) on =
           let after = step_total p sound t u way.0 total (net_step t way.0 (Next u) step) in
           let f = on u after in
-          record { text = _; end = f.end; follows = fires_so below t u k way.0 way.1 step total after cs f.text f.end f.follows }
+          record {
+            text = _;
+            end = f.end;
+            follows = fires_so below t u k way.0 way.1 step total after cs f.text f.end
+                f.follows;
+          }
   going [] t (Back ∷ cs) totals total h = record { text = _; end = Fault; follows = no_step_so t cs }
   going (u ∷ below) t (Back ∷ cs) totals total h =
       let f = going below u cs (total_rest p u below totals) (total_first p u below totals) (later h) in
-      record { text = _; end = f.end; follows = back_so below t u total (total_first p u below totals) cs f.text f.end f.follows }
+      record {
+        text = _;
+        end = f.end;
+        follows = back_so below t u total (total_first p u below totals) cs f.text f.end
+            f.follows;
+      }
   going below t (Show ∷ cs) totals total h =
       let f = going below t cs totals total (later h) in
       record { text = _; end = f.end; follows = shows_so below t total cs f.text f.end f.follows }
   going below t (Enabled ∷ cs) totals total h =
       let f = going below t cs totals total (later h) in
       let may = some_answers p sound t in
-      record { text = _; end = f.end; follows = lists_so below t (events_lines p may.0 p.events.items) (is_list p sys views t may.0 may.1 sound) cs f.text f.end f.follows }
+      record {
+        text = _;
+        end = f.end;
+        follows = lists_so below t (events_lines p may.0 p.events.items)
+            (is_list p sys views t may.0 may.1 sound) cs f.text f.end f.follows;
+      }
 
   -- Whole replays
 
   -- a start and what follows
-  pub starts_so : (t : List Value) → Start sys.net t → IsTotal p t → (cs : List Command) (more : List ℕ) (end : End) → Follows names sys [] t cs more end
+  pub starts_so : (t : List Value) → Start sys.net t → IsTotal p t → (cs : List Command) (more : List ℕ) (end : End)
+      → Follows names sys [] t cs more end
       → IsReplay names sys cs ((line (codes "start") ++ values_text p t) ++ more) end
   starts_so t start total cs more end f = record {
     moments = Starts t ∷ f.moments;
@@ -181,11 +212,13 @@ module _ (p : GtsParts) (sound : IsSound p) (sys : s.System ℕ) (views : Views 
   }
 
   -- a fault of the start
-  pub no_start_so : (f : FlowFault) → StartFails sys.net f → (cs : List Command) → IsReplay names sys cs (line (codes "fault: start: " ++ flow_fault_text names f)) Fault
+  pub no_start_so : (f : FlowFault) → StartFails sys.net f → (cs : List Command)
+      → IsReplay names sys cs (line (codes "fault: start: " ++ flow_fault_text names f)) Fault
   no_start_so f fails cs = record {
     moments = Start_fails f ∷ [];
     runs = r.start_fails fails;
-    trace = one_moment names sys (Start_fails f) (line (codes "fault: start: " ++ flow_fault_text names f)) tell.start_fails;
+    trace = one_moment names sys (Start_fails f) (line (codes "fault: start: " ++ flow_fault_text names f))
+        tell.start_fails;
     ends = refl;
   }
 

@@ -44,7 +44,8 @@ abbrev events_labels : (ℕ → Bool) → List Event → ℕ → List Label
 events_labels may [] e = []
 events_labels may (v ∷ vs) e = visible_labels may v e ++ events_labels may vs (e + 1)
 
-module _ (p : GtsParts) (sys : s.System ℕ) (views : Views p sys) (t : List Value) (may : ℕ → Bool) (answers : AreAnswers p t may) where
+module _ (p : GtsParts) (sys : s.System ℕ) (views : Views p sys) (t : List Value) (may : ℕ → Bool)
+    (answers : AreAnswers p t may) where
   abbrev facts : ℕ → Value → Type 0
   facts = HasValue (net_of p) t
 
@@ -54,7 +55,8 @@ module _ (p : GtsParts) (sys : s.System ℕ) (views : Views p sys) (t : List Val
   one_listed e k w ws ls true h d = can h d
   one_listed e k w ws ls false h d = cannot h d
 
-  ways_listed : (e k : ℕ) {ids : List WayId} {ws : List (s.Way ℕ)} → Along (λ (n : WayId) (w : s.Way ℕ). IsWayAt p n.n w) ids ws
+  ways_listed : (e k : ℕ) {ids : List WayId} {ws : List (s.Way ℕ)}
+      → Along (λ (n : WayId) (w : s.Way ℕ). IsWayAt p n.n w) ids ws
       → Ways_listed facts e k ws (labels_of may ids e k)
   ways_listed e k l.none = r.none
   ways_listed e k (l.one_and {a = n} {b = w} {xs = ids} {ys = ws} q qs) =
@@ -73,29 +75,37 @@ module _ (p : GtsParts) (sys : s.System ℕ) (views : Views p sys) (t : List Val
       event_listed e v u us (events_labels may vs (e + 1)) v.hidden refl q (listed_from (e + 1) qs)
 
   lines_joined : (ks ls : List Label)
-      → label_lines (naming_of_parts p) sys (ks ++ ls) ≡ label_lines (naming_of_parts p) sys ks ++ label_lines (naming_of_parts p) sys ls
+      → label_lines (naming_of_parts p) sys (ks ++ ls)
+      ≡ label_lines (naming_of_parts p) sys ks ++ label_lines (naming_of_parts p) sys ls
   lines_joined [] ls = refl
   lines_joined (k ∷ ks) ls =
       ap (λ z. line (codes "  " ++ label_text (naming_of_parts p) sys k) ++ z) (lines_joined ks ls)
-      ∙ sym (append_assoc (line (codes "  " ++ label_text (naming_of_parts p) sys k)) (label_lines (naming_of_parts p) sys ks) (label_lines (naming_of_parts p) sys ls))
+      ∙ sym (append_assoc (line (codes "  " ++ label_text (naming_of_parts p) sys k))
+      (label_lines (naming_of_parts p) sys ks) (label_lines (naming_of_parts p) sys ls))
 
   module _ (sound : IsSound p) where
     -- the label of the way at place k of event e
     listed_label : (e k : ℕ) (n : WayId) → IsListed p e k n → label_of p n.n ≡ record { event = e; way = k }
-    listed_label e k n is = ap label_found is.stands ∙ made is.way.event.n (is.way.number - 1) is.event (omega (arith, is.number))
+    listed_label e k n is = ap label_found is.stands
+        ∙ made is.way.event.n (is.way.number - 1) is.event (omega (arith, is.number))
       where
-        made : (a b : ℕ) → a ≡ e → b ≡ k → ◌≡◌ {A = Label} (record { event = a; way = b }) (record { event = e; way = k })
+        made : (a b : ℕ) → a ≡ e → b ≡ k → ◌≡◌ {A = Label} (record { event = a; way = b })
+            (record { event = e; way = k })
         made a b i j = cc
 
     way_text_is : (e k : ℕ) (n : WayId) → IsListed p e k n
-        → line (codes "  " ++ way_label p n.n) ≡ line (codes "  " ++ label_text (naming_of_parts p) sys (record { event = e; way = k }))
+        → line (codes "  " ++ way_label p n.n)
+        ≡ line (codes "  " ++ label_text (naming_of_parts p) sys (record { event = e; way = k }))
     way_text_is e k n is =
         ap (λ z. line (codes "  " ++ z))
-        (sym (label_alike p sys views n.n) ∙ ap (λ (z : Label). label_text (naming_of_parts p) sys z) (listed_label e k n is))
+        (sym (label_alike p sys views n.n)
+        ∙ ap (λ (z : Label). label_text (naming_of_parts p) sys z) (listed_label e k n is))
 
     one_text : (e k : ℕ) (n : WayId) (b : Bool) → IsListed p e k n
-        → (if b then line (codes "  " ++ way_label p n.n) else []) ≡ label_lines (naming_of_parts p) sys (if b then record { event = e; way = k } ∷ [] else [])
-    one_text e k n true is = way_text_is e k n is ∙ sym (nothing_behind (line (codes "  " ++ label_text (naming_of_parts p) sys (record { event = e; way = k }))))
+        → (if b then line (codes "  " ++ way_label p n.n) else [])
+        ≡ label_lines (naming_of_parts p) sys (if b then record { event = e; way = k } ∷ [] else [])
+    one_text e k n true is = way_text_is e k n is
+        ∙ sym (nothing_behind (line (codes "  " ++ label_text (naming_of_parts p) sys (record { event = e; way = k }))))
       where
         nothing_behind : (xs : List ℕ) → xs ++ [] ≡ xs
         nothing_behind [] = refl
@@ -108,20 +118,24 @@ module _ (p : GtsParts) (sys : s.System ℕ) (views : Views p sys) (t : List Val
     ways_text e (n ∷ ids) k own =
         let first : IsListed p e k n = subst (λ (z : ℕ). IsListed p e z n) (omega arith) (own 0 n refl) in
         ap (λ z. z ++ way_lines p may ids) (one_text e k n (may n.n) first)
-        ∙ ap (λ z. label_lines (naming_of_parts p) sys (if may n.n then record { event = e; way = k } ∷ [] else []) ++ z)
+        ∙ ap (λ z. label_lines (naming_of_parts p) sys
+        (if may n.n then record { event = e; way = k } ∷ [] else []) ++ z)
         (ways_text e ids (k + 1) (λ j m s. subst (λ (z : ℕ). IsListed p e z m) (omega arith) (own (suc j) m s)))
         ∙ sym (lines_joined (if may n.n then record { event = e; way = k } ∷ [] else []) (labels_of may ids e (k + 1)))
 
     event_text : (e : ℕ) (v : Event) (b : Bool) → Stands p.events.items e v
-        → (if b then [] else way_lines p may v.ways.items) ≡ label_lines (naming_of_parts p) sys (if b then [] else labels_of may v.ways.items e 0)
+        → (if b then [] else way_lines p may v.ways.items)
+        ≡ label_lines (naming_of_parts p) sys (if b then [] else labels_of may v.ways.items e 0)
     event_text e v true s = refl
-    event_text e v false s = ways_text e v.ways.items 0 (λ j n h. subst (λ (z : ℕ). IsListed p e z n) (omega arith) (sound.event_ways e j v n s h))
+    event_text e v false s = ways_text e v.ways.items 0
+        (λ j n h. subst (λ (z : ℕ). IsListed p e z n) (omega arith) (sound.event_ways e j v n s h))
 
     events_text : (vs : List Event) (e : ℕ) → ((j : ℕ) (v : Event) → Stands vs j v → Stands p.events.items (e + j) v)
         → events_lines p may vs ≡ label_lines (naming_of_parts p) sys (events_labels may vs e)
     events_text [] e own = refl
     events_text (v ∷ vs) e own =
-        let first : Stands p.events.items e v = subst (λ (z : ℕ). Stands p.events.items z v) (omega arith) (own 0 v refl) in
+        let first : Stands p.events.items e v =
+        subst (λ (z : ℕ). Stands p.events.items z v) (omega arith) (own 0 v refl) in
         ap (λ z. z ++ events_lines p may vs) (event_text e v v.hidden first)
         ∙ ap (λ z. label_lines (naming_of_parts p) sys (visible_labels may v e) ++ z)
         (events_text vs (e + 1) (λ j u h. subst (λ (z : ℕ). Stands p.events.items z u) (omega arith) (own (suc j) u h)))
@@ -136,7 +150,8 @@ module _ (p : GtsParts) (sys : s.System ℕ) (views : Views p sys) (t : List Val
     pub is_list : IsList (events_lines p may p.events.items)
     is_list = record {
       labels = events_labels may p.events.items 0;
-      listed = subst (λ (net : s.Net ℕ). Listed (HasValue net t) 0 sys.events (events_labels may p.events.items 0)) (sym views.net)
+      listed = subst (λ (net : s.Net ℕ). Listed (HasValue net t) 0 sys.events (events_labels may p.events.items 0))
+          (sym views.net)
           (listed_from 0 views.events);
       lines = events_text p.events.items 0 (λ j v h. subst (λ (z : ℕ). Stands p.events.items z v) (omega arith) h);
     }
@@ -168,7 +183,8 @@ module _ (p : GtsParts) (sound : IsSound p) (t : List Value) where
   answered n = elim (cases_lt n (length p.ways.items)) [
     | inl h ↦ (let tree = sound.trees n h in record {
       answer = answer_of (can_be_told tree.0);
-      is = λ w m. subst (λ (z : s.Way ℕ). IsAnswer (answer_of (can_be_told tree.0)) (Can (HasValue (net_of p) t) z)) (means_same (bodies_of p) tree.1 m) (is_answer (can_be_told tree.0));
+      is = λ w m. subst (λ (z : s.Way ℕ). IsAnswer (answer_of (can_be_told tree.0)) (Can (HasValue (net_of p) t) z))
+          (means_same (bodies_of p) tree.1 m) (is_answer (can_be_told tree.0));
     })
     | inr h ↦ record {
       answer = false;
@@ -181,15 +197,18 @@ module _ (p : GtsParts) (sound : IsSound p) (t : List Value) where
   some_answers = (λ n. (answered n).answer, record { each = λ n w m. (answered n).is w m })
 
 -- what is answered for a way is what the test says
-pub enabled_so : (p q : GtsParts) (t : List Value) (may : ℕ → Bool) (n : ℕ) (b : Bool) → q ≡ p → IsSound p → n < length p.ways.items → AreAnswers p t may
+pub enabled_so : (p q : GtsParts) (t : List Value) (may : ℕ → Bool) (n : ℕ) (b : Bool) → q ≡ p → IsSound p
+    → n < length p.ways.items → AreAnswers p t may
     → ((w : s.Way ℕ) → IsWayAt q n w → IsAnswer b (Can (HasValue (net_of q) t) w)) → may n ≡ b
 enabled_so p q t may n b e sound h answers is =
     let tree = sound.trees n h in
-    let own = subst (λ (z : GtsParts). (w : s.Way ℕ) → IsWayAt z n w → IsAnswer b (Can (HasValue (net_of z) t) w)) e is in
+    let own = subst (λ (z : GtsParts). (w : s.Way ℕ) → IsWayAt z n w → IsAnswer b (Can (HasValue (net_of z) t) w)) e
+    is in
     same_answer (Can (HasValue (net_of p) t) tree.0) (may n) b (answers.each n tree.0 tree.1) (own tree.0 tree.1)
 
 -- the ways of a list
-pub rest_inside : (p : GtsParts) (ways : List WayId) (i : ℕ) (w : WayId) → AreInside p ways → Stands ways i w → w.n < length p.ways.items
+pub rest_inside : (p : GtsParts) (ways : List WayId) (i : ℕ) (w : WayId) → AreInside p ways → Stands ways i w
+    → w.n < length p.ways.items
 rest_inside p ways i w h s = h.each i w s
 
 pub events_inside : (p : GtsParts) → IsSound p → HaveInside p p.events.items

@@ -8,7 +8,8 @@ mark_joined : (xs ys : List ℕ) → has_mark xs ≡ false → has_mark ys ≡ f
 mark_joined [] ys p q = q
 mark_joined (x ∷ xs) ys p q = go (x == 35) (λ h. mark_joined xs ys h q) p
   where
-    go : (b : Bool) → (has_mark xs ≡ false → has_mark (xs ++ ys) ≡ false) → (b || has_mark xs) ≡ false → (b || has_mark (xs ++ ys)) ≡ false
+    go : (b : Bool) → (has_mark xs ≡ false → has_mark (xs ++ ys) ≡ false) → (b || has_mark xs) ≡ false
+        → (b || has_mark (xs ++ ys)) ≡ false
     go true more h = cc
     go false more h = more h
 
@@ -31,7 +32,8 @@ not_mark n h = go (n == 35) refl
 -- digits have no mark
 onto_unmarked : (fuel n : ℕ) (acc : List ℕ) → has_mark acc ≡ false → has_mark (digits_onto fuel 10 false n acc) ≡ false
 onto_unmarked zero n acc h = h
-onto_unmarked (suc fuel) n acc h = go (n / 10 == 0) (onto_unmarked fuel (n / 10) (digit_glyph false (n % 10) ∷ acc) here)
+onto_unmarked (suc fuel) n acc h = go (n / 10 == 0)
+    (onto_unmarked fuel (n / 10) (digit_glyph false (n % 10) ∷ acc) here)
   where
     glyph : (b : Bool) → nat_lt (n % 10) 10 ≡ b → ((if b then 48 + n % 10 else 87 + n % 10) == 35) ≡ false
     glyph true e = not_mark (48 + n % 10) (omega arith)
@@ -41,7 +43,8 @@ onto_unmarked (suc fuel) n acc h = go (n / 10 == 0) (onto_unmarked fuel (n / 10)
     here = subst (λ (z : Bool). (z || has_mark acc) ≡ false) (sym (glyph (nat_lt (n % 10) 10) refl)) h
 
     go : (b : Bool) → has_mark (digits_onto fuel 10 false (n / 10) (digit_glyph false (n % 10) ∷ acc)) ≡ false
-        → has_mark (if b then digit_glyph false (n % 10) ∷ acc else digits_onto fuel 10 false (n / 10) (digit_glyph false (n % 10) ∷ acc)) ≡ false
+        → has_mark (if b then digit_glyph false (n % 10) ∷ acc
+        else digits_onto fuel 10 false (n / 10) (digit_glyph false (n % 10) ∷ acc)) ≡ false
     go true more = here
     go false more = more
 
@@ -51,7 +54,8 @@ unfolding digits
 decimal_unmarked k = onto_unmarked 64 k [] refl
 
 -- the text before the last mark, and the one behind it
-pub last_mark : (xs us ys vs : List ℕ) → xs ++ (35 ∷ ys) ≡ us ++ (35 ∷ vs) → has_mark ys ≡ false → has_mark vs ≡ false → (xs ≡ us) × (ys ≡ vs)
+pub last_mark : (xs us ys vs : List ℕ) → xs ++ (35 ∷ ys) ≡ us ++ (35 ∷ vs) → has_mark ys ≡ false → has_mark vs ≡ false
+    → (xs ≡ us) × (ys ≡ vs)
 last_mark [] [] ys vs e p q = (refl, cc)
 last_mark [] (u ∷ us) ys vs e p q =
     let i : ys ≡ us ++ (35 ∷ vs) = cc in

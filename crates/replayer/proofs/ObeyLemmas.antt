@@ -40,7 +40,8 @@ use Rattle.replayer.proofs.WayLemmas.{way_named, label_alike}
 -- Faults
 
 -- the number of a fault of the flows is in range
-pub flows_inside : (p : GtsParts) (t : List Value) (f : FlowFault) → flows.Flows (net_of p) t (flows.Fails (fault_of f)) → IsInRange p f
+pub flows_inside : (p : GtsParts) (t : List Value) (f : FlowFault) → flows.Flows (net_of p) t (flows.Fails (fault_of f))
+    → IsInRange p f
 flows_inside p t (found.Two x) (flows.two h) =
     let w = stands_within (net_of p).variables x.n h.item h.stands in
     omega (arith, w, variables_long 0 p.variables.items)
@@ -51,11 +52,13 @@ flows_inside p t (found.Broken a) (flows.broken total n m c h) =
     let w = stands_within (net_of p).assertions a.n h.item h.stands in
     omega (arith, w, length-map p.assigns.items assign_of)
 
-step_inside : (p : GtsParts) (t : List Value) (w : s.Way ℕ) (f : FlowFault) → Step (net_of p) t w (Refused (steps.Flow (fault_of f))) → IsInRange p f
+step_inside : (p : GtsParts) (t : List Value) (w : s.Way ℕ) (f : FlowFault)
+    → Step (net_of p) t w (Refused (steps.Flow (fault_of f))) → IsInRange p f
 step_inside p t w f (flow state c n m r h) = flows_inside p state f h
 
 -- so is that of a fault of a step
-pub fault_inside : (p : GtsParts) (t : List Value) (w : s.Way ℕ) (f : StepFault) → IsStepFault (net_of p) t w f → IsFaultInRange p f
+pub fault_inside : (p : GtsParts) (t : List Value) (w : s.Way ℕ) (f : StepFault) → IsStepFault (net_of p) t w f
+    → IsFaultInRange p f
 fault_inside p t w fault.NotEnabled h = tt
 fault_inside p t w (fault.Clash x) h = tt
 fault_inside p t w (fault.Range x) h = tt
@@ -63,24 +66,35 @@ fault_inside p t w (fault.Flow f) h = step_inside p t w f h
 fault_inside p t w fault.Memory h = tt
 
 -- so is that of the fault of a way that was fired
-pub fire_inside : (p : GtsParts) (sound : IsSound p) (n : ℕ) → n < length p.ways.items → (before : Standing) → before.system ≡ p → (f : StepFault)
-    → ((w : s.Way ℕ) → IsWayAt before.system n w → IsStepFault (net_of before.system) before.values w f) → IsFaultInRange p f
+pub fire_inside : (p : GtsParts) (sound : IsSound p) (n : ℕ) → n < length p.ways.items → (before : Standing)
+    → before.system ≡ p → (f : StepFault)
+    → ((w : s.Way ℕ) → IsWayAt before.system n w → IsStepFault (net_of before.system) before.values w f)
+    → IsFaultInRange p f
 fire_inside p sound n inside before same f is =
     let tree = sound.trees n inside in
-    let own = subst (λ (q : GtsParts). (w : s.Way ℕ) → IsWayAt q n w → IsStepFault (net_of q) before.values w f) same is in
+    let own = subst (λ (q : GtsParts). (w : s.Way ℕ) → IsWayAt q n w → IsStepFault (net_of q) before.values w f) same
+    is in
     fault_inside p before.values tree.0 f (own tree.0 tree.1)
 
 module _ (p : GtsParts) (sound : IsSound p) (sys : s.System ℕ) (views : Views p sys) where
   -- A text that is cut
 
   -- the run goes on behind the text
-  pub on_cut : {before any : Standing} {c : Command} {old new : SinkState} {e : SinkFailed} (below : List (List Value)) (t : List Value) (text : List ℕ)
-      → ((cs : List Command) (more : List ℕ) (end : End) → Follows (naming_of_parts p) sys below t cs more end → Follows (naming_of_parts p) sys before.below before.values (c ∷ cs) (text ++ more) end)
-      → AreTotal p below → IsTotal p t → Writes old new text (Err e) → Answers (naming_of_parts p) sys before any c old new (Err Write)
+  pub on_cut : {before any : Standing} {c : Command} {old new : SinkState} {e : SinkFailed} (below : List (List Value))
+      (t : List Value) (text : List ℕ)
+      → ((cs : List Command) (more : List ℕ) (end : End) → Follows (naming_of_parts p) sys below t cs more end
+      → Follows (naming_of_parts p) sys before.below before.values (c ∷ cs) (text ++ more) end)
+      → AreTotal p below → IsTotal p t → Writes old new text (Err e)
+      → Answers (naming_of_parts p) sys before any c old new (Err Write)
   on_cut below t text on totals total w =
       write (λ cs h.
       let f = going p sound sys views below t cs totals total (later h) in
-      record { text = text ++ f.text; end = f.end; follows = on cs f.text f.end f.follows; cut = cut_longer text f.text w.cut }) w.rose
+      record {
+        text = text ++ f.text;
+        end = f.end;
+        follows = on cs f.text f.end f.follows;
+        cut = cut_longer text f.text w.cut;
+      }) w.rose
 
   -- the run stops behind the text
   pub stop_cut : {before any : Standing} {c : Command} {old new : SinkState} {e : SinkFailed} (text : List ℕ)
@@ -89,12 +103,18 @@ module _ (p : GtsParts) (sound : IsSound p) (sys : s.System ℕ) (views : Views 
   stop_cut text stop w = write (λ cs h. record { text = text; end = Fault; follows = stop cs; cut = w.cut }) w.rose
 
   -- nothing is written
-  pub out_of_memory : {before any : Standing} {c : Command} {old : SinkState} → AreTotal p before.below → IsTotal p before.values
+  pub out_of_memory : {before any : Standing} {c : Command} {old : SinkState} → AreTotal p before.below
+      → IsTotal p before.values
       → Answers (naming_of_parts p) sys before any c old old (Err Memory)
   out_of_memory {before = before} {c = c} {old = old} totals total =
       memory (λ cs h.
       let f = going p sound sys views before.below before.values (c ∷ cs) totals total h in
-      record { text = f.text; end = f.end; follows = f.follows; cut = cut_longer [] f.text (cut_nothing old.bytes old.bytes refl) }) (omega arith)
+      record {
+        text = f.text;
+        end = f.end;
+        follows = f.follows;
+        cut = cut_longer [] f.text (cut_nothing old.bytes old.bytes refl);
+      }) (omega arith)
 
   -- Commands
 
@@ -106,39 +126,55 @@ module _ (p : GtsParts) (sound : IsSound p) (sys : s.System ℕ) (views : Views 
     pub fire_on : (before after : Standing) → before.system ≡ p → after.below ≡ before.values ∷ before.below
         → ((w : s.Way ℕ) → IsWayAt before.system n w → Step (net_of before.system) before.values w (Next after.values))
         → IsTotal p before.values → IsTotal p after.values
-        → (cs : List Command) (more : List ℕ) (end : End) → Follows (naming_of_parts p) sys after.below after.values cs more end
-        → Follows (naming_of_parts p) sys before.below before.values (Fire (label_of p n) ∷ cs) (fire_text before.values after.values ++ more) end
+        → (cs : List Command) (more : List ℕ) (end : End)
+        → Follows (naming_of_parts p) sys after.below after.values cs more end
+        → Follows (naming_of_parts p) sys before.below before.values (Fire (label_of p n) ∷ cs)
+        (fire_text before.values after.values ++ more) end
     fire_on before after same below step old new cs more end f =
         let named = way_named p sys views sound n inside in
-        let own = subst (λ (q : GtsParts). (w : s.Way ℕ) → IsWayAt q n w → Step (net_of q) before.values w (Next after.values)) same step in
-        let done = subst (λ (net : s.Net ℕ). Step net before.values named.way (Next after.values)) (sym views.net) (own named.way named.is_at) in
-        subst (λ (l : List ℕ). Follows (naming_of_parts p) sys before.below before.values (Fire (label_of p n) ∷ cs) ((line (codes "fire " ++ l) ++ changes_text p before.values after.values) ++ more) end)
+        let own = subst (λ (q : GtsParts). (w : s.Way ℕ) → IsWayAt q n w
+        → Step (net_of q) before.values w (Next after.values)) same step in
+        let done = subst (λ (net : s.Net ℕ). Step net before.values named.way (Next after.values)) (sym views.net)
+        (own named.way named.is_at) in
+        subst (λ (l : List ℕ). Follows (naming_of_parts p) sys before.below before.values (Fire (label_of p n) ∷ cs)
+        ((line (codes "fire " ++ l) ++ changes_text p before.values after.values) ++ more) end)
         (label_alike p sys views n)
-        (fires_so p sound sys views before.below before.values after.values (label_of p n) named.way named.is_way done old new cs more end
+        (fires_so p sound sys views before.below before.values after.values (label_of p n) named.way named.is_way done
+        old new cs more end
         (subst (λ (b : List (List Value)). Follows (naming_of_parts p) sys b after.values cs more end) below f))
 
     abbrev fault_text : StepFault → List ℕ
     fault_text f = line (codes "fault: " ++ (way_label p n ++ (codes ": " ++ step_text p f)))
 
     -- a way that meets a fault
-    pub fails_as : (before : Standing) → (f : StepFault) (g : steps.StepFault) → step_fault_text (naming_of_parts p) g ≡ step_text p f
+    pub fails_as : (before : Standing) → (f : StepFault) (g : steps.StepFault)
+        → step_fault_text (naming_of_parts p) g ≡ step_text p f
         → ((w : s.Way ℕ) → IsWayAt p n w → Step (net_of p) before.values w (Refused g))
-        → (cs : List Command) → Follows (naming_of_parts p) sys before.below before.values (Fire (label_of p n) ∷ cs) (fault_text f) Fault
+        → (cs : List Command) → Follows (naming_of_parts p) sys before.below before.values (Fire (label_of p n) ∷ cs)
+        (fault_text f) Fault
     fails_as before f g e step cs =
         let named = way_named p sys views sound n inside in
-        let done = subst (λ (net : s.Net ℕ). Step net before.values named.way (Refused g)) (sym views.net) (step named.way named.is_at) in
-        subst (λ (t : List ℕ). Follows (naming_of_parts p) sys before.below before.values (Fire (label_of p n) ∷ cs) (line (codes "fault: " ++ (way_label p n ++ (codes ": " ++ t)))) Fault) e
-        (subst (λ (l : List ℕ). Follows (naming_of_parts p) sys before.below before.values (Fire (label_of p n) ∷ cs) (line (codes "fault: " ++ (l ++ (codes ": " ++ step_fault_text (naming_of_parts p) g)))) Fault)
+        let done = subst (λ (net : s.Net ℕ). Step net before.values named.way (Refused g)) (sym views.net)
+        (step named.way named.is_at) in
+        subst (λ (t : List ℕ). Follows (naming_of_parts p) sys before.below before.values (Fire (label_of p n) ∷ cs)
+        (line (codes "fault: " ++ (way_label p n ++ (codes ": " ++ t)))) Fault) e
+        (subst (λ (l : List ℕ). Follows (naming_of_parts p) sys before.below before.values (Fire (label_of p n) ∷ cs)
+        (line (codes "fault: " ++ (l ++ (codes ": " ++ step_fault_text (naming_of_parts p) g)))) Fault)
         (label_alike p sys views n)
         (fails_so p sound sys views before.below before.values (label_of p n) named.way g named.is_way done cs))
 
     pub fire_fails : (before : Standing) → before.system ≡ p → (f : StepFault) → (f ≡ fault.Memory → ⊥)
         → ((w : s.Way ℕ) → IsWayAt before.system n w → IsStepFault (net_of before.system) before.values w f)
-        → (cs : List Command) → Follows (naming_of_parts p) sys before.below before.values (Fire (label_of p n) ∷ cs) (fault_text f) Fault
-    fire_fails before same f some is = go f some (subst (λ (q : GtsParts). (w : s.Way ℕ) → IsWayAt q n w → IsStepFault (net_of q) before.values w f) same is)
+        → (cs : List Command) → Follows (naming_of_parts p) sys before.below before.values (Fire (label_of p n) ∷ cs)
+        (fault_text f) Fault
+    fire_fails before same f some is =
+        go f some (subst (λ (q : GtsParts). (w : s.Way ℕ) → IsWayAt q n w → IsStepFault (net_of q) before.values w f)
+        same is)
       where
-        go : (f : StepFault) → (f ≡ fault.Memory → ⊥) → ((w : s.Way ℕ) → IsWayAt p n w → IsStepFault (net_of p) before.values w f)
-            → (cs : List Command) → Follows (naming_of_parts p) sys before.below before.values (Fire (label_of p n) ∷ cs) (fault_text f) Fault
+        go : (f : StepFault) → (f ≡ fault.Memory → ⊥)
+            → ((w : s.Way ℕ) → IsWayAt p n w → IsStepFault (net_of p) before.values w f)
+            → (cs : List Command) → Follows (naming_of_parts p) sys before.below before.values
+            (Fire (label_of p n) ∷ cs) (fault_text f) Fault
         go fault.NotEnabled some is cs = fails_as before fault.NotEnabled steps.NotEnabled refl is cs
         go (fault.Clash x) some is cs = fails_as before (fault.Clash x) (steps.Clash x.n) refl is cs
         go (fault.Range x) some is cs = fails_as before (fault.Range x) (steps.Range x.n) refl is cs
@@ -146,28 +182,39 @@ module _ (p : GtsParts) (sound : IsSound p) (sys : s.System ℕ) (views : Views 
         go fault.Memory some is cs = absurd (some refl)
 
   -- a step that is taken back
-  pub back_on : (before after : Standing) → before.below ≡ after.values ∷ after.below → IsTotal p before.values → IsTotal p after.values
-      → (cs : List Command) (more : List ℕ) (end : End) → Follows (naming_of_parts p) sys after.below after.values cs more end
-      → Follows (naming_of_parts p) sys before.below before.values (Back ∷ cs) ((line (codes "back") ++ changes_text p before.values after.values) ++ more) end
+  pub back_on : (before after : Standing) → before.below ≡ after.values ∷ after.below → IsTotal p before.values
+      → IsTotal p after.values
+      → (cs : List Command) (more : List ℕ) (end : End)
+      → Follows (naming_of_parts p) sys after.below after.values cs more end
+      → Follows (naming_of_parts p) sys before.below before.values (Back ∷ cs)
+      ((line (codes "back") ++ changes_text p before.values after.values) ++ more) end
   back_on before after below old new cs more end f =
-      subst (λ (b : List (List Value)). Follows (naming_of_parts p) sys b before.values (Back ∷ cs) ((line (codes "back") ++ changes_text p before.values after.values) ++ more) end) (sym below)
+      subst (λ (b : List (List Value)). Follows (naming_of_parts p) sys b before.values (Back ∷ cs)
+      ((line (codes "back") ++ changes_text p before.values after.values) ++ more) end) (sym below)
       (back_so p sound sys views after.below before.values after.values old new cs more end f)
 
   pub back_stops : (before : Standing) → before.below ≡ [] → (cs : List Command)
-      → Follows (naming_of_parts p) sys before.below before.values (Back ∷ cs) (line (codes "fault: back: no step")) Fault
+      → Follows (naming_of_parts p) sys before.below before.values (Back ∷ cs) (line (codes "fault: back: no step"))
+      Fault
   back_stops before below cs =
-      subst (λ (b : List (List Value)). Follows (naming_of_parts p) sys b before.values (Back ∷ cs) (line (codes "fault: back: no step")) Fault) (sym below)
+      subst (λ (b : List (List Value)). Follows (naming_of_parts p) sys b before.values (Back ∷ cs)
+      (line (codes "fault: back: no step")) Fault) (sym below)
       (no_step_so p sound sys views before.values cs)
 
   -- the ways that can fire
-  pub list_on : (at : Standing) → (cs : List Command) (more : List ℕ) (end : End) → Follows (naming_of_parts p) sys at.below at.values cs more end
-      → Follows (naming_of_parts p) sys at.below at.values (Enabled ∷ cs) ((line (codes "enabled") ++ events_lines p (some_answers p sound at.values).0 p.events.items) ++ more) end
+  pub list_on : (at : Standing) → (cs : List Command) (more : List ℕ) (end : End)
+      → Follows (naming_of_parts p) sys at.below at.values cs more end
+      → Follows (naming_of_parts p) sys at.below at.values (Enabled ∷ cs)
+      ((line (codes "enabled") ++ events_lines p (some_answers p sound at.values).0 p.events.items) ++ more) end
   list_on at cs more end f =
       let may = some_answers p sound at.values in
-      lists_so p sound sys views at.below at.values (events_lines p may.0 p.events.items) (is_list p sys views at.values may.0 may.1 sound) cs more end f
+      lists_so p sound sys views at.below at.values (events_lines p may.0 p.events.items)
+      (is_list p sys views at.values may.0 may.1 sound) cs more end f
 
-  pub show_on : (at : Standing) → IsTotal p at.values → (cs : List Command) (more : List ℕ) (end : End) → Follows (naming_of_parts p) sys at.below at.values cs more end
-      → Follows (naming_of_parts p) sys at.below at.values (Show ∷ cs) ((line (codes "show") ++ values_text p at.values) ++ more) end
+  pub show_on : (at : Standing) → IsTotal p at.values → (cs : List Command) (more : List ℕ) (end : End)
+      → Follows (naming_of_parts p) sys at.below at.values cs more end
+      → Follows (naming_of_parts p) sys at.below at.values (Show ∷ cs)
+      ((line (codes "show") ++ values_text p at.values) ++ more) end
   show_on at total cs more end f = shows_so p sound sys views at.below at.values total cs more end f
 
   -- a way that was not fired
@@ -177,15 +224,21 @@ module _ (p : GtsParts) (sound : IsSound p) (sys : s.System ℕ) (views : Views 
       → {old new : SinkState} {r : Result End ReplayFault} → IsRefusal p n f old new r
       → Answers (naming_of_parts p) sys before after (Fire (label_of p n)) old new r
   refused n inside before after f same is totals total {old = old} {new = new} (refusal.memory e i) =
-      subst (λ (z : SinkState). Answers (naming_of_parts p) sys before after (Fire (label_of p n)) old z (Err Memory)) i (out_of_memory totals total)
-  refused n inside before after f same is totals total (refusal.told some w) = stops w (fire_fails n inside before same f some is)
-  refused n inside before after f same is totals total (refusal.cut some w) = stop_cut _ (fire_fails n inside before same f some is) w
+      subst (λ (z : SinkState). Answers (naming_of_parts p) sys before after (Fire (label_of p n)) old z (Err Memory)) i
+      (out_of_memory totals total)
+  refused n inside before after f same is totals total (refusal.told some w) =
+      stops w (fire_fails n inside before same f some is)
+  refused n inside before after f same is totals total (refusal.cut some w) =
+      stop_cut _ (fire_fails n inside before same f some is) w
 
 -- the answer that was passed on
-pub answers_as : {names : Naming} {sys : s.System ℕ} {before after : Standing} {c : Command} {old new : SinkState} {r q : Result End ReplayFault}
+pub answers_as : {names : Naming} {sys : s.System ℕ} {before after : Standing} {c : Command} {old new : SinkState}
+    {r q : Result End ReplayFault}
     → r ≡ q → Answers names sys before after c old new q → Answers names sys before after c old new r
 answers_as {names = names} {sys = sys} {before = before} {after = after} {c = c} {old = old} {new = new} e h =
     subst (λ (z : Result End ReplayFault). Answers names sys before after c old new z) (sym e) h
 
-pub refusal_as : {p : GtsParts} {n : ℕ} {f : StepFault} {old new : SinkState} {r q : Result End ReplayFault} → r ≡ q → IsRefusal p n f old new q → IsRefusal p n f old new r
-refusal_as {p = p} {n = n} {f = f} {old = old} {new = new} e h = subst (λ (z : Result End ReplayFault). IsRefusal p n f old new z) (sym e) h
+pub refusal_as : {p : GtsParts} {n : ℕ} {f : StepFault} {old new : SinkState} {r q : Result End ReplayFault} → r ≡ q
+    → IsRefusal p n f old new q → IsRefusal p n f old new r
+refusal_as {p = p} {n = n} {f = f} {old = old} {new = new} e h =
+    subst (λ (z : Result End ReplayFault). IsRefusal p n f old new z) (sym e) h

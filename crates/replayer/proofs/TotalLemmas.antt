@@ -24,7 +24,8 @@ use Rattle.flow_propagate.proofs.Determining.{flows_total}
 use Rattle.stepper.proofs.Totals.{first_state}
 
 -- a variable's value after a step is received, or its own
-received_each : (E : ℕ → Value → Type 0) (k : ℕ) (xs : List Variable) (vs ws : List Value) → Receives E (variables_from k xs) vs ws
+received_each : (E : ℕ → Value → Type 0) (k : ℕ) (xs : List Variable) (vs ws : List Value)
+    → Receives E (variables_from k xs) vs ws
     → (n m : ℕ) (x : Variable) (w : Value) → m ≡ k + n → Stands xs n x → Stands ws n w → E m w ⊎ Stands vs n w
 received_each E k [] vs ws steps.none n m x w e s h = absurd (stands_none n x s)
 received_each E k (y ∷ xs) vs ws (changed {w = u} f d) zero m x w e s h =
@@ -46,19 +47,22 @@ module _ (p : GtsParts) (sound : IsSound p) where
       effects : ℕ → Value → Type 0
       effects = Effects (HasValue (net_of p) t) w
 
-      inside : (n : ℕ) (x : Variable) (v : Value) → Stands p.variables.items n x → Effects (HasValue (net_of p) t) w n v ⊎ Stands t n v
+      inside : (n : ℕ) (x : Variable) (v : Value) → Stands p.variables.items n x
+          → Effects (HasValue (net_of p) t) w n v ⊎ Stands t n v
           → Holds x.domain v
       inside n x v st (inr h) = total.in_domain n x v st h
       inside n x v st (inl f) = elim (contains_told (variable_of n x).domain v) [
         | inl c ↦ held x.domain v (sound.variables n x st).domain c
-        | inr not ↦ absurd (no_range.has_not n (variable_of n x) (variable_there p n x st) (record { value = v; received = f; outside = not }))
+        | inr not ↦ absurd (no_range.has_not n (variable_of n x) (variable_there p n x st)
+            (record { value = v; received = f; outside = not }))
       ]
 
       after : IsState p state
       after = record {
         long = received_long receives ∙ variables_long 0 p.variables.items;
         in_domain = λ n x v st i h. inside n x v st
-            (received_each (Effects (HasValue (net_of p) t) w) 0 p.variables.items t state receives n n x v (omega arith) st h);
+            (received_each (Effects (HasValue (net_of p) t) w) 0 p.variables.items t state receives n n x v
+            (omega arith) st h);
       }
 
   -- a run starts with a total valuation

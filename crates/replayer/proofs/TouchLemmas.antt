@@ -10,7 +10,8 @@ use Rattle.replayer.specs.Observing.{AreInOrder, NamesOne, AreTouched}
 
 -- the numbers that stand in pairs with the variables are those of the observers
 pub paired_touched : (pairs : List (ℕ × ℕ)) (xs : List VarId) (all : List ℕ) → Ascends all
-    → ((n : ℕ) → (IsOneOf all n ↔ IsPaired pairs (numbers xs) n)) → (p : GtsParts) → AreInOrder p pairs → AreTouched p xs all
+    → ((n : ℕ) → (IsOneOf all n ↔ IsPaired pairs (numbers xs) n)) → (p : GtsParts) → AreInOrder p pairs
+    → AreTouched p xs all
 paired_touched pairs xs all ascends each p known = record {
   ascend = ascends;
   each = λ n. (λ o. on n ((each n).0 o), λ q. (each n).1 (off n q));

@@ -34,7 +34,8 @@ module _ (one : ℕ → Value → List ℕ) where
       unlike i = let k = subst (λ (z : Value). is_same v z ≡ true) i (same_self v) in cc (sym e, k)
 
   -- the lines of what changed
-  pub changed_from : (n : ℕ) (vs ws : List Value) → length vs ≡ length ws → Changed one n vs ws (changes_from one n vs ws)
+  pub changed_from : (n : ℕ) (vs ws : List Value) → length vs ≡ length ws
+      → Changed one n vs ws (changes_from one n vs ws)
   changed_from n [] [] e = none
   changed_from n [] (w ∷ ws) e = absurd (omega (arith, e))
   changed_from n (v ∷ vs) [] e = absurd (omega (arith, e))
@@ -45,10 +46,12 @@ module _ (one : ℕ → Value → List ℕ) where
   -- what is left of the changes begins with the next one
   pub next_change : (vs ws : List Value) (i : ℕ) (d e : Value) → i < length vs → length vs ≡ length ws
       → changes_from one i (drop i vs) (drop i ws)
-      ≡ change_text one i (get_or vs i d) (get_or ws i e) ++ changes_from one (i + 1) (drop (i + 1) vs) (drop (i + 1) ws)
+      ≡ change_text one i (get_or vs i d) (get_or ws i e) ++ changes_from one (i + 1) (drop (i + 1) vs)
+      (drop (i + 1) ws)
   next_change vs ws i d e h long =
       at_drop_more (λ (xs : List Value). changes_from one i xs (drop i ws)) vs i d h
-      ∙ at_drop_more (λ (xs : List Value). changes_from one i (get_or vs i d ∷ drop (i + 1) vs) xs) ws i e (omega (arith, long, h))
+      ∙ at_drop_more (λ (xs : List Value). changes_from one i (get_or vs i d ∷ drop (i + 1) vs) xs) ws i e
+      (omega (arith, long, h))
 
   pub no_change : (vs ws : List Value) (i : ℕ) → length vs ≤ i → changes_from one i (drop i vs) (drop i ws) ≡ []
   no_change vs ws i h = at_drop_all (λ (xs : List Value). changes_from one i xs (drop i ws)) vs i h
@@ -89,10 +92,14 @@ module _ (p : GtsParts) where
       -- the observers' values
       pub observed : (t : List Value) → IsTotal p t → Observed sys t (seen_in p t)
       observed t total =
-          let own : Along (λ (e : Expr ℕ) (v : Value). Yields (HasValue (net_of p) t) (out-Expr ℕ e) v) (observers_of p) (seen_in p t) =
+          let own : Along (λ (e : Expr ℕ) (v : Value). Yields (HasValue (net_of p) t) (out-Expr ℕ e) v) (observers_of p)
+          (seen_in p t) =
           seen_from t total p.observers.items (λ o h. sound.observers o h) in
-          subst (λ (net : s.Net ℕ). Along (λ (e : Expr ℕ) (v : Value). Yields (HasValue net t) (out-Expr ℕ e) v) sys.observers (seen_in p t)) (sym views.net)
-          (subst (λ (es : List (Expr ℕ)). Along (λ (e : Expr ℕ) (v : Value). Yields (HasValue (net_of p) t) (out-Expr ℕ e) v) es (seen_in p t)) (sym views.observers) own)
+          subst (λ (net : s.Net ℕ). Along (λ (e : Expr ℕ) (v : Value). Yields (HasValue net t) (out-Expr ℕ e) v)
+          sys.observers (seen_in p t)) (sym views.net)
+          (subst (λ (es : List (Expr ℕ)). Along
+          (λ (e : Expr ℕ) (v : Value). Yields (HasValue (net_of p) t) (out-Expr ℕ e) v) es (seen_in p t))
+          (sym views.observers) own)
 
       -- the lines of what changed between two valuations
       pub changed_lines : (old new : List Value) → IsTotal p old → IsTotal p new
@@ -104,10 +111,12 @@ module _ (p : GtsParts) where
         is_seen_then = observed new after;
         variables = changes_from (variable_line (naming_of_parts p)) 0 old new;
         observers = observer_changes p old new 0 p.observers.items;
-        variables_changed = changed_from (variable_line (naming_of_parts p)) 0 old new (omega (arith, before.long, after.long));
+        variables_changed = changed_from (variable_line (naming_of_parts p)) 0 old new
+            (omega (arith, before.long, after.long));
         observers_changed =
             subst (λ z. Changed (observer_line (naming_of_parts p)) 0 (seen_in p old) (seen_in p new) z)
             (changes_alike old new 0 p.observers.items)
-            (changed_from (observer_line (naming_of_parts p)) 0 (seen_in p old) (seen_in p new) (seen_long old new p.observers.items));
+            (changed_from (observer_line (naming_of_parts p)) 0 (seen_in p old) (seen_in p new)
+            (seen_long old new p.observers.items));
         joined = refl;
       }

@@ -62,11 +62,13 @@ module _ {x : Elaborated} {p : GtsParts} (flat : IsFlat x p) where
         event = own.0;
         is_event = own.1;
         hidden = far.2.hidden ∙ ap (λ (z : s.Event ℕ). z.hidden) same ∙ mid.2.hidden;
-        count = along_length _ _ far.2.ways ∙ ap (λ (z : s.Event ℕ). length z.ways) same ∙ sym (along_length _ _ mid.2.ways);
+        count = along_length _ _ far.2.ways ∙ ap (λ (z : s.Event ℕ). length z.ways) same
+            ∙ sym (along_length _ _ mid.2.ways);
       }
 
   -- how many ways a visible event has
-  pub visible_count : {text : List ℕ} {e ways : ℕ} → NamesVisible x text e ways → ways ≡ ways_found (slice_get p.events.items e)
+  pub visible_count : {text : List ℕ} {e ways : ℕ} → NamesVisible x text e ways
+      → ways ≡ ways_found (slice_get p.events.items e)
   visible_count {e = e} v =
       let t = event_there e v.names.thing v.names.number in
       let same : v.event ≡ t.event = stands_one x.system.events e v.event t.event v.stands t.is_event in
@@ -74,41 +76,56 @@ module _ {x : Elaborated} {p : GtsParts} (flat : IsFlat x p) where
 
 module _ {x : Elaborated} {tree : Tree} {p : GtsParts} (of : IsOfTree x tree p) where
   -- a text names one event at most
-  pub one_event : AreDifferent x.declarations.model.names → (text : List ℕ) (e f : ℕ) → NamesEvent x text e → NamesEvent x text f → f ≡ e
+  pub one_event : AreDifferent x.declarations.model.names → (text : List ℕ) (e f : ℕ) → NamesEvent x text e
+      → NamesEvent x text f → f ≡ e
   one_event different text e f a b =
       let table = of.is_tree.table in
-      let spelled : b.is_thing.names ≡ a.is_thing.names = one_spelling x.declarations.model.names different b.is_thing.spells a.is_thing.spells in
+      let spelled : b.is_thing.names ≡ a.is_thing.names =
+      one_spelling x.declarations.model.names different b.is_thing.spells a.is_thing.spells in
       let same : b.thing ≡ a.thing = one_thing is_event a.is_thing.names b.thing a.thing
-      (subst (λ (ns : List ℕ). IsThingAt x.declarations.model is_event [] Here ns b.thing) spelled b.is_thing.is_thing) a.is_thing.is_thing in
-      (events_different table.kept of.is_tree.are_units).one f e a.thing (subst (λ (t : Thing). Stands (events x.declarations.model x.declarations.units) f t) same b.number) a.number
+      (subst (λ (ns : List ℕ). IsThingAt x.declarations.model is_event [] Here ns b.thing) spelled b.is_thing.is_thing)
+      a.is_thing.is_thing in
+      (events_different table.kept of.is_tree.are_units).one f e a.thing
+      (subst (λ (t : Thing). Stands (events x.declarations.model x.declarations.units) f t) same b.number) a.number
 
   names_alike : tree.classes.names ≡ x.declarations.model.names
   names_alike = of.is_tree.table.table.names
 
   -- the event of the names that a text spells
-  pub names_event : (text : List ℕ) (names : List NameId) (answer : Option EventId) → AreDifferent tree.classes.names → Spells tree.classes.names text (numbers names)
-      → AnswersThing x.declarations.model (events x.declarations.model x.declarations.units) is_event [] Here (numbers names) (option_map (λ (e : EventId). e.n) answer)
+  pub names_event : (text : List ℕ) (names : List NameId) (answer : Option EventId) → AreDifferent tree.classes.names
+      → Spells tree.classes.names text (numbers names)
+      → AnswersThing x.declarations.model (events x.declarations.model x.declarations.units) is_event [] Here
+      (numbers names) (option_map (λ (e : EventId). e.n) answer)
       → AnswersEvent x text answer
   names_event text names (Some e) different spelled a =
       let own : AreDifferent x.declarations.model.names = subst AreDifferent names_alike different in
       let named : NamesEvent x text e.n = record {
         thing = a.0;
-        is_thing = record { names = numbers names; spells = subst (λ (t : List (List ℕ)). Spells t text (numbers names)) names_alike spelled; is_thing = a.2 };
+        is_thing = record {
+          names = numbers names;
+          spells = subst (λ (t : List (List ℕ)). Spells t text (numbers names)) names_alike spelled;
+          is_thing = a.2;
+        };
         number = a.1;
       } in
       (named, λ f b. one_event own text e.n f named b)
   names_event text names None different spelled a = λ f b.
       let own : AreDifferent x.declarations.model.names = subst AreDifferent names_alike different in
       let same : b.is_thing.names ≡ numbers names =
-      one_spelling x.declarations.model.names own b.is_thing.spells (subst (λ (t : List (List ℕ)). Spells t text (numbers names)) names_alike spelled) in
-      a b.thing (subst (λ (ns : List ℕ). IsThingAt x.declarations.model is_event [] Here ns b.thing) same b.is_thing.is_thing)
+      one_spelling x.declarations.model.names own b.is_thing.spells
+      (subst (λ (t : List (List ℕ)). Spells t text (numbers names)) names_alike spelled) in
+      a b.thing (subst (λ (ns : List ℕ). IsThingAt x.declarations.model is_event [] Here ns b.thing) same
+      b.is_thing.is_thing)
 
   -- a text that spells no names
-  pub no_event_named : (text : List ℕ) → ((names : List ℕ) → Spells tree.classes.names text names → ⊥) → AnswersEvent x text None
-  no_event_named text h = λ f b. h b.is_thing.names (subst (λ (t : List (List ℕ)). Spells t text b.is_thing.names) (sym names_alike) b.is_thing.spells)
+  pub no_event_named : (text : List ℕ) → ((names : List ℕ) → Spells tree.classes.names text names → ⊥)
+      → AnswersEvent x text None
+  no_event_named text h = λ f b. h b.is_thing.names
+      (subst (λ (t : List (List ℕ)). Spells t text b.is_thing.names) (sym names_alike) b.is_thing.spells)
 
   -- the event, where it is visible
-  pub event_visible : (text : List ℕ) (e : EventId) (answer : Option EventId) → AnswersEvent x text (Some e) → IsUnlessHidden p e answer → AnswersVisible x p text answer
+  pub event_visible : (text : List ℕ) (e : EventId) (answer : Option EventId) → AnswersEvent x text (Some e)
+      → IsUnlessHidden p e answer → AnswersVisible x p text answer
   event_visible text e (Some f) a (same, (v, stands, shown)) =
       let there = event_there of.flat e.n a.0.thing a.0.number in
       let part : there.part ≡ v = stands_one p.events.items e.n there.part v there.stands stands in
@@ -128,8 +145,10 @@ module _ {x : Elaborated} {tree : Tree} {p : GtsParts} (of : IsOfTree x tree p) 
   event_visible text e None a hidden = λ g ways named.
       let i : g ≡ e.n = a.1 g named.names in
       let there = event_there of.flat g named.names.thing named.names.number in
-      let event : named.event ≡ there.event = stands_one x.system.events g named.event there.event named.stands there.is_event in
-      let h : there.part.hidden ≡ true = hidden there.part (subst (λ n. Stands p.events.items n there.part) i there.stands) in
+      let event : named.event ≡ there.event =
+      stands_one x.system.events g named.event there.event named.stands there.is_event in
+      let h : there.part.hidden ≡ true =
+      hidden there.part (subst (λ n. Stands p.events.items n there.part) i there.stands) in
       let k : false ≡ true = sym named.visible ∙ ap (λ (z : s.Event Thing). z.hidden) event ∙ there.hidden ∙ h in
       cc
 
@@ -140,7 +159,8 @@ module _ {x : Elaborated} {tree : Tree} {p : GtsParts} (of : IsOfTree x tree p) 
 
 -- the label of the way at place k of event e
 listed_label : (p : GtsParts) (e k : ℕ) (n : WayId) → IsListed p e k n → label_of p n.n ≡ record { event = e; way = k }
-listed_label p e k n is = ap label_found is.stands ∙ made is.way.event.n (is.way.number - 1) is.event (omega (arith, is.number))
+listed_label p e k n is = ap label_found is.stands
+    ∙ made is.way.event.n (is.way.number - 1) is.event (omega (arith, is.number))
   where
     made : (a b : ℕ) → a ≡ e → b ≡ k → ◌≡◌ {A = Label} (record { event = a; way = b }) (record { event = e; way = k })
     made a b i j = cc
@@ -156,7 +176,8 @@ module _ {x : Elaborated} where
 module _ {x : Elaborated} (p : GtsParts) where
   -- a label that names no way
   pub no_label : (text : List ℕ) (number : ℕ) → HasNoWays x text
-      → ((before : List ℕ) (e k ways : ℕ) → text ≡ before ++ (35 ∷ decimal (k + 1)) → NamesVisible x before e ways → k < ways → ⊥)
+      → ((before : List ℕ) (e k ways : ℕ) → text ≡ before ++ (35 ∷ decimal (k + 1)) → NamesVisible x before e ways
+      → k < ways → ⊥)
       → AnswersLabel x p text number (Err (fault.Unknown number))
   no_label text number h none = (refl, needs_none text h, λ k is. go k is)
     where
@@ -164,25 +185,31 @@ module _ {x : Elaborated} (p : GtsParts) where
       go k (path named) = let i = h _ 1 named in cc
       go k (numbered before ways split named inside) = none before _ _ ways split named inside
 
-  pub no_mark_label : (text : List ℕ) (number : ℕ) → HasNoWays x text → has_mark text ≡ false → AnswersLabel x p text number (Err (fault.Unknown number))
-  no_mark_label text number h e = no_label text number h (λ before f k ways split named inside. unmarked text before (decimal (k + 1)) e split)
+  pub no_mark_label : (text : List ℕ) (number : ℕ) → HasNoWays x text → has_mark text ≡ false
+      → AnswersLabel x p text number (Err (fault.Unknown number))
+  no_mark_label text number h e = no_label text number h
+      (λ before f k ways split named inside. unmarked text before (decimal (k + 1)) e split)
 
-  pub no_path_label : (text before digits : List ℕ) (number : ℕ) → text ≡ before ++ (35 ∷ digits) → has_mark digits ≡ false → HasNoWays x text
+  pub no_path_label : (text before digits : List ℕ) (number : ℕ) → text ≡ before ++ (35 ∷ digits)
+      → has_mark digits ≡ false → HasNoWays x text
       → ((f ways : ℕ) → NamesVisible x before f ways → ⊥) → AnswersLabel x p text number (Err (fault.Unknown number))
   no_path_label text before digits number split last h none = no_label text number h (λ other f k ways is named inside.
       let parts = last_mark before other digits (decimal (k + 1)) (sym split ∙ is) last (decimal_unmarked (k + 1)) in
       none f ways (subst (λ (z : List ℕ). NamesVisible x z f ways) (sym parts.0) named))
 
-  pub no_way_label : (text before digits : List ℕ) (e : EventId) (number : ℕ) → text ≡ before ++ (35 ∷ digits) → has_mark digits ≡ false → HasNoWays x text
+  pub no_way_label : (text before digits : List ℕ) (e : EventId) (number : ℕ) → text ≡ before ++ (35 ∷ digits)
+      → has_mark digits ≡ false → HasNoWays x text
       → IsVisible x p before e → IsNoWayOf p e digits → AnswersLabel x p text number (Err (fault.Unknown number))
-  no_way_label text before digits e number split last h is none = no_label text number h (λ other f k ways same named inside.
+  no_way_label text before digits e number split last h is none =
+      no_label text number h (λ other f k ways same named inside.
       let parts = last_mark before other digits (decimal (k + 1)) (sym split ∙ same) last (decimal_unmarked (k + 1)) in
       let one = is.one f ways (subst (λ (z : List ℕ). NamesVisible x z f ways) (sym parts.0) named) in
       none k parts.1 (let i = one.1 in omega (arith, i, inside)))
 
 module _ {x : Elaborated} {p : GtsParts} (sound : IsSound p) where
   -- the only way of an event
-  pub only_way : (text : List ℕ) (e : EventId) (w : WayId) (number : ℕ) → IsVisible x p text e → IsCounted p e (count.One w) → AnswersLabel x p text number (Ok w)
+  pub only_way : (text : List ℕ) (e : EventId) (w : WayId) (number : ℕ) → IsVisible x p text e
+      → IsCounted p e (count.One w) → AnswersLabel x p text number (Ok w)
   only_way text e w number is (v, stands, only) =
       let here : Stands v.ways.items 0 w = ap (λ (ws : List WayId). slice_get ws 0) only in
       let listed = sound.event_ways e.n 0 v w stands here in
@@ -194,14 +221,16 @@ module _ {x : Elaborated} {p : GtsParts} (sound : IsSound p) where
       )
 
   -- an event with more ways
-  pub many_ways : (text : List ℕ) (e : EventId) (number : ℕ) → IsVisible x p text e → IsCounted p e count.Many → AnswersLabel x p text number (Err (fault.Which number))
+  pub many_ways : (text : List ℕ) (e : EventId) (number : ℕ) → IsVisible x p text e → IsCounted p e count.Many
+      → AnswersLabel x p text number (Err (fault.Which number))
   many_ways text e number is many = (refl, record { event = e.n; ways = _; names = is.names; many = many })
 
   pub no_ways : (text : List ℕ) (e : EventId) → IsVisible x p text e → IsCounted p e count.None → HasNoWays x text
   no_ways text e is nothing f ways named = (is.one f ways named).1 ∙ nothing
 
   -- a way by its number
-  pub numbered_way : (text before digits : List ℕ) (e : EventId) (w : WayId) (number : ℕ) → text ≡ before ++ (35 ∷ digits) → HasNoWays x text
+  pub numbered_way : (text before digits : List ℕ) (e : EventId) (w : WayId) (number : ℕ)
+      → text ≡ before ++ (35 ∷ digits) → HasNoWays x text
       → IsVisible x p before e → IsWayOf p e digits w → AnswersLabel x p text number (Ok w)
   numbered_way text before digits e w number split h is (v, i, written, stands, here) =
       let listed = sound.event_ways e.n i v w stands here in
@@ -215,11 +244,13 @@ module _ {x : Elaborated} {p : GtsParts} (sound : IsSound p) where
 -- Look-ups
 
 module _ {A : Type 0} where
-  pub found_stands : (ys xs : List A) (n : ℕ) (a : A) → ys ≡ xs → true ≡ nat_lt n (length ys) → a ≡ slice_index_or ys n a → Stands xs n a
+  pub found_stands : (ys xs : List A) (n : ℕ) (a : A) → ys ≡ xs → true ≡ nat_lt n (length ys)
+      → a ≡ slice_index_or ys n a → Stands xs n a
   found_stands ys xs n a e h i = subst (λ (z : List A). Stands z n a) e (item_stands ys n a h i)
 
   pub found_none : (ys xs : List A) (n : ℕ) → ys ≡ xs → false ≡ nat_lt n (length ys) → slice_get xs n ≡ None
-  found_none ys xs n e h = subst (λ (z : List A). slice_get z n ≡ None) e (slice_get_past ys n (grind (arith, nat_tests)))
+  found_none ys xs n e h = subst (λ (z : List A). slice_get z n ≡ None) e
+      (slice_get_past ys n (grind (arith, nat_tests)))
 
   pub one_item : (xs : List A) (d : A) → length xs < 2 → 1 ≤ length xs → xs ≡ get_or xs 0 d ∷ []
   one_item [] d h l = absurd (omega (arith, l))
@@ -227,8 +258,10 @@ module _ {A : Type 0} where
   one_item (a ∷ b ∷ xs) d h l = absurd (omega (arith, h))
 
 -- the way of a number among those of an event
-pub way_answer : (p : GtsParts) (e : EventId) (digits : List ℕ) (v : Event) (ws : List WayId) (r : Option WayId) → Stands p.events.items e.n v → ws ≡ v.ways.items
-    → MatchOption r ((i : ℕ) → digits ≡ decimal (i + 1) → i < length ws → ⊥) (λ (w : WayId). (i : ℕ) × (digits ≡ decimal (i + 1)) × Stands ws i w)
+pub way_answer : (p : GtsParts) (e : EventId) (digits : List ℕ) (v : Event) (ws : List WayId) (r : Option WayId)
+    → Stands p.events.items e.n v → ws ≡ v.ways.items
+    → MatchOption r ((i : ℕ) → digits ≡ decimal (i + 1) → i < length ws → ⊥)
+    (λ (w : WayId). (i : ℕ) × (digits ≡ decimal (i + 1)) × Stands ws i w)
     → MatchOption r (IsNoWayOf p e digits) (λ (w : WayId). IsWayOf p e digits w)
 way_answer p e digits v ws None s i h = λ k same inside. h k same (let n = ap ways_found s in let m = ap length i in omega (arith, inside, n, m))
 way_answer p e digits v ws (Some w) s i h = (v, h.0, h.1, s, subst (λ (z : List WayId). Stands z h.0 w) i h.2)

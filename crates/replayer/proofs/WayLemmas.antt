@@ -39,9 +39,11 @@ read_stands xs n a h e = subst (λ z. Stands xs n z) (sym e) (stands_get xs n a 
 
 -- the label of a way that is read
 pub label_read : (p : GtsParts) (n : ℕ) (w : Way) → Stands p.ways.items n w
-    → way_text (text_at (naming_of_parts p).events w.event.n) (ways_found (slice_get p.events.items w.event.n)) (w.number - 1) ≡ way_label p n
+    → way_text (text_at (naming_of_parts p).events w.event.n) (ways_found (slice_get p.events.items w.event.n))
+    (w.number - 1) ≡ way_label p n
 label_read p n w h =
-    ap (λ (o : Option Way). way_text (text_at (naming_of_parts p).events (label_found o).event) (ways_found (slice_get p.events.items (label_found o).event)) (label_found o).way)
+    ap (λ (o : Option Way). way_text (text_at (naming_of_parts p).events (label_found o).event)
+    (ways_found (slice_get p.events.items (label_found o).event)) (label_found o).way)
     (sym h)
 
 -- a way that is read has a number from 1
@@ -101,7 +103,8 @@ module _ (p : GtsParts) (sys : s.System ℕ) (views : Views p sys) where
   }
 
 -- a command that stands among them
-pub firable_at : (p : GtsParts) (cs : List Command) (i : ℕ) (c : Command) → AreFirable p cs → Stands cs i c → IsFirable p c
+pub firable_at : (p : GtsParts) (cs : List Command) (i : ℕ) (c : Command) → AreFirable p cs → Stands cs i c
+    → IsFirable p c
 firable_at p cs i (code.Fire w) h s = h.each w (record { place = i; stands = s })
 firable_at p cs i code.Back h s = tt
 firable_at p cs i code.Show h s = tt

@@ -23,16 +23,19 @@ pub record CutLine : Type 0 where
 -- the cut lines that these lines give, the first of which has this number, where none of them is bad
 pub data Lists (x : Elaborated) : ℕ → List (List ℕ) → List CutLine → Type 0 where
   none : {n : ℕ} → Lists x n [] []
-  passes : {n : ℕ} {line : List ℕ} {lines : List (List ℕ)} {cuts : List CutLine} → IsPassed line → Lists x (n + 1) lines cuts
+  passes : {n : ℕ} {line : List ℕ} {lines : List (List ℕ)} {cuts : List CutLine} → IsPassed line
+      → Lists x (n + 1) lines cuts
       → Lists x n (line ∷ lines) cuts
-  cut : {n : ℕ} {line : List ℕ} {texts : List (List ℕ)} {labels : List Label} {lines : List (List ℕ)} {cuts : List CutLine}
+  cut : {n : ℕ} {line : List ℕ} {texts : List (List ℕ)} {labels : List Label} {lines : List (List ℕ)}
+      {cuts : List CutLine}
       → (IsPassed line → ⊥) → IsCutLine line texts → Along (IsLabel x) texts labels → Lists x (n + 1) lines cuts
       → Lists x n (line ∷ lines) (record { number = n; labels = labels } ∷ cuts)
 
 -- a label is bad: it needs the number of a way, or it does not and names none
 pub data IsBadLabel (x : Elaborated) : Why → List ℕ → Type 0 where
   needs_way : {text : List ℕ} → NeedsWay x text → IsBadLabel x LacksWay text
-  no_event : {text : List ℕ} → (NeedsWay x text → ⊥) → ((l : Label) → IsLabel x text l → ⊥) → IsBadLabel x NamesNoEvent text
+  no_event : {text : List ℕ} → (NeedsWay x text → ⊥) → ((l : Label) → IsLabel x text l → ⊥)
+      → IsBadLabel x NamesNoEvent text
 
 -- this label is bad, and none before it is
 pub record IsFirstBadLabel (x : Elaborated) (texts : List (List ℕ)) (why : Why) : Type 0 where
@@ -44,8 +47,10 @@ pub record IsFirstBadLabel (x : Elaborated) (texts : List (List ℕ)) (why : Why
 
 -- the line is bad: it is not skipped, and it is no cut, or one whose first bad label is bad for this reason
 pub data IsBadCut (x : Elaborated) : Why → List ℕ → Type 0 where
-  no_cut : {line : List ℕ} → (IsPassed line → ⊥) → ((texts : List (List ℕ)) → IsCutLine line texts → ⊥) → IsBadCut x IsNoCommand line
-  bad_label : {line : List ℕ} {texts : List (List ℕ)} {why : Why} → (IsPassed line → ⊥) → IsCutLine line texts → IsFirstBadLabel x texts why
+  no_cut : {line : List ℕ} → (IsPassed line → ⊥) → ((texts : List (List ℕ)) → IsCutLine line texts → ⊥)
+      → IsBadCut x IsNoCommand line
+  bad_label : {line : List ℕ} {texts : List (List ℕ)} {why : Why} → (IsPassed line → ⊥) → IsCutLine line texts
+      → IsFirstBadLabel x texts why
       → IsBadCut x why line
 
 -- the line at place n is bad, and none before it is
@@ -58,7 +63,8 @@ pub record IsFirstBadCut (x : Elaborated) (lines : List (List ℕ)) (n : ℕ) (w
 -- the cut lines that a list gives, or its first bad line
 pub data CutList (text : List ℕ) (x : Elaborated) : Result (List CutLine) BadLine → Type 0 where
   gives : {cuts : List CutLine} → Lists x 1 (lines_of text) cuts → CutList text x (Ok cuts)
-  bad : {n : ℕ} {why : Why} → IsFirstBadCut x (lines_of text) n why → CutList text x (Err (record { number = n + 1; why = why }))
+  bad : {n : ℕ} {why : Why} → IsFirstBadCut x (lines_of text) n why
+      → CutList text x (Err (record { number = n + 1; why = why }))
 
 -- a label is that of one way, and not the path of an event with other ways
 pub record HaveOneMeaning (x : Elaborated) : Type 0 where
@@ -86,7 +92,8 @@ IsBadList x text (fault.Which n) = CutList text x (Err (record { number = n; why
 IsBadList x text (fault.Unknown n) = CutList text x (Err (record { number = n; why = NamesNoEvent }))
 IsBadList x text fault.Memory = Unit {0}
 
--- what the reading of a list answers: its cut lines by the ways of their labels, which are those of the system, or its first bad line
+-- what the reading of a list answers: its cut lines by the ways of their labels, which are those of the system, or its
+-- first bad line
 abbrev pub AnswersCuts : Elaborated → GtsParts → List ℕ → Result (Vec Chain Global) ScriptFault → Type 0
 AnswersCuts x p text (Ok chains) = CutList text x (Ok (map (cut_of p) chains.items)) × HaveKnownWays p chains.items
 AnswersCuts x p text (Err fault) = IsBadList x text fault

@@ -78,5 +78,6 @@ IsBadScript x script Memory = Unit {0}
 
 -- what the reading of a script answers: its commands, whose ways are those of the system, or its first bad line
 abbrev pub AnswersScript : Elaborated → GtsParts → List ℕ → Result (Vec Command Global) ScriptFault → Type 0
-AnswersScript x p script (Ok commands) = Commands script x (Ok (map (command_of p) commands.items)) × AreFirable p commands.items
+AnswersScript x p script (Ok commands) =
+    Commands script x (Ok (map (command_of p) commands.items)) × AreFirable p commands.items
 AnswersScript x p script (Err fault) = IsBadScript x script fault

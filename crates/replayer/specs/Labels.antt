@@ -27,7 +27,8 @@ pub record TextNames (m : RootedModel) (test : MemberKind → Bool) (text : List
   pub is_thing : IsThingAt m test [] Here names t
 
 -- the text names a thing that passes the test, the one of this number in this listing of the units' things
-pub record NamesOne (x : Elaborated) (test : MemberKind → Bool) (listing : RootedModel → List UnitPath → List Thing) (text : List ℕ) (n : ℕ) : Type 0 where
+pub record NamesOne (x : Elaborated) (test : MemberKind → Bool) (listing : RootedModel → List UnitPath → List Thing)
+    (text : List ℕ) (n : ℕ) : Type 0 where
   pub thing : Thing
   pub is_thing : TextNames x.declarations.model test text thing
   pub number : Stands (listing x.declarations.model x.declarations.units) n thing
@@ -47,7 +48,8 @@ pub record NamesVisible (x : Elaborated) (text : List ℕ) (e ways : ℕ) : Type
 -- a path names the only way of its event; a path with `#k` names way k, counted from 1
 pub data IsLabel (x : Elaborated) (text : List ℕ) : Label → Type 0 where
   path : {e : ℕ} → NamesVisible x text e 1 → IsLabel x text (record { event = e; way = 0 })
-  numbered : {e k : ℕ} (path : List ℕ) (ways : ℕ) → text ≡ path ++ (codes "#" ++ decimal (k + 1)) → NamesVisible x path e ways → k < ways
+  numbered : {e k : ℕ} (path : List ℕ) (ways : ℕ) → text ≡ path ++ (codes "#" ++ decimal (k + 1))
+      → NamesVisible x path e ways → k < ways
       → IsLabel x text (record { event = e; way = k })
 
 -- a path of an event with two ways or more

@@ -61,7 +61,8 @@ pub data Line : Type 0 where
 abbrev pub word_said : List ℕ → Line
 word_said word =
     if bytes_eq word (codes "back") then GoesBack
-    else (if bytes_eq word (codes "show") then Shows else (if bytes_eq word (codes "enabled") then ListsEnabled else NoCommand))
+    else (if bytes_eq word (codes "show") then Shows
+    else (if bytes_eq word (codes "enabled") then ListsEnabled else NoCommand))
 
 -- one of these alone, or `fire` with one label
 abbrev pub command_said : List ℕ → List (List ℕ) → Line

@@ -27,22 +27,26 @@ pub record AreTotal (p : GtsParts) (below : List (List Value)) : Type 0 where
   pub each : (t : List Value) → IsOneOf below t → IsTotal p t
 
 -- the text of what follows where t is the last standing valuation and these stand below it, and how it ends
-pub record Follows (names : Naming) (sys : System ℕ) (below : List (List Value)) (t : List Value) (cs : List Command) (text : List ℕ) (end : End) : Type 0 where
+pub record Follows (names : Naming) (sys : System ℕ) (below : List (List Value)) (t : List Value) (cs : List Command)
+    (text : List ℕ) (end : End) : Type 0 where
   pub moments : List Moment
   pub goes : Goes sys below t cs moments
   pub trace : TraceText names sys moments text
   pub ends : end ≡ end_of moments
 
 -- a command writes the first bytes of what follows, whatever comes behind it
-pub record IsBroken (names : Naming) (sys : System ℕ) (below : List (List Value)) (t : List Value) (c : Command) (old new : SinkState) (cs : List Command) : Type 0 where
+pub record IsBroken (names : Naming) (sys : System ℕ) (below : List (List Value)) (t : List Value) (c : Command)
+    (old new : SinkState) (cs : List Command) : Type 0 where
   pub text : List ℕ
   pub end : End
   pub follows : Follows names sys below t (c ∷ cs) text end
   pub cut : Cut old.bytes new.bytes text
 
--- what one command answers: its text was written and the run goes on from the new standing, or ends in a fault; or the first
+-- what one command answers: its text was written and the run goes on from the new standing, or ends in a fault; or the
+-- first
 -- bytes of what follows were written, where the sink's count of faults rose or memory was refused
-pub data Answers (names : Naming) (sys : System ℕ) (before after : Standing) (c : Command) (old new : SinkState) : Result End ReplayFault → Type 0 where
+pub data Answers (names : Naming) (sys : System ℕ) (before after : Standing) (c : Command)
+    (old new : SinkState) : Result End ReplayFault → Type 0 where
   goes_on : {text : List ℕ} → Writes old new text (Ok tt)
       → ((cs : List Command) (more : List ℕ) (end : End) → Follows names sys after.below after.values cs more end
       → Follows names sys before.below before.values (c ∷ cs) (text ++ more) end)
@@ -56,11 +60,13 @@ pub data Answers (names : Naming) (sys : System ℕ) (before after : Standing) (
       → old.faults ≤ new.faults → Answers names sys before after c old new (Err Memory)
 
 -- so much of the replay of all commands is written, and what follows for those that are left is its rest
-pub record IsPlayed (names : Naming) (sys : System ℕ) (all : List Command) (at : Standing) (left : List Command) (old new : SinkState) : Type 0 where
+pub record IsPlayed (names : Naming) (sys : System ℕ) (all : List Command) (at : Standing) (left : List Command)
+    (old new : SinkState) : Type 0 where
   pub text : List ℕ
   pub writes : Writes old new text (Ok tt)
   pub fires : FiresWays sys left
-  pub rest : (more : List ℕ) (end : End) → Follows names sys at.below at.values left more end → IsReplay names sys all (text ++ more) end
+  pub rest : (more : List ℕ) (end : End) → Follows names sys at.below at.values left more end
+      → IsReplay names sys all (text ++ more) end
 
 -- the line of a way that meets this fault
 abbrev pub refusal_text : GtsParts → ℕ → StepFault → List ℕ
@@ -70,4 +76,5 @@ refusal_text p n f = line (codes "fault: " ++ (way_label p n ++ (codes ": " ++ s
 pub data IsRefusal (p : GtsParts) (n : ℕ) (f : StepFault) (old new : SinkState) : Result End ReplayFault → Type 0 where
   memory : f ≡ fault.Memory → old ≡ new → IsRefusal p n f old new (Err Memory)
   told : (f ≡ fault.Memory → ⊥) → Writes old new (refusal_text p n f) (Ok tt) → IsRefusal p n f old new (Ok Fault)
-  cut : {e : SinkFailed} → (f ≡ fault.Memory → ⊥) → Writes old new (refusal_text p n f) (Err e) → IsRefusal p n f old new (Err Write)
+  cut : {e : SinkFailed} → (f ≡ fault.Memory → ⊥) → Writes old new (refusal_text p n f) (Err e)
+      → IsRefusal p n f old new (Err Write)

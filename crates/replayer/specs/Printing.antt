@@ -1,4 +1,5 @@
--- The texts of a replay as they are written: the lines of values, of changes and of what can fire, by the parts of a flat
+-- The texts of a replay as they are written: the lines of values, of changes and of what can fire, by the parts of a
+-- flat
 -- system.
 use Rattle.std.specs.Prelude.{ℕ, ◌+◌, Bool, if◌then◌else◌, List, [], ◌∷◌, ◌++◌, map, codes, slice_get, Option, Some, None, false}
 use Rattle.ar_base.specs.Numbers.{WayId}
@@ -64,7 +65,8 @@ observer_changes p old new n (o ∷ os) =
 -- the lines of these observers, numbered from n on
 abbrev pub observer_lines : GtsParts → List Value → ℕ → List Observer → List ℕ
 observer_lines p t n [] = []
-observer_lines p t n (o ∷ os) = observer_line (naming_of_parts p) n (value_in t o.value) ++ observer_lines p t (n + 1) os
+observer_lines p t n (o ∷ os) = observer_line (naming_of_parts p) n (value_in t o.value) ++ observer_lines p t (n + 1)
+    os
 
 -- the lines of the variables and observers that changed
 abbrev pub changes_text : GtsParts → List Value → List Value → List ℕ

@@ -88,7 +88,8 @@ IsCounted p e count.Many = 2 ≤ ways_found (slice_get p.events.items e.n)
 
 -- the way has the number, from 1, that the digits write, among those of the event
 abbrev pub IsWayOf : GtsParts → EventId → List ℕ → WayId → Type 0
-IsWayOf p e digits w = (v : Event) × (i : ℕ) × (digits ≡ decimal (i + 1)) × Stands p.events.items e.n v × Stands v.ways.items i w
+IsWayOf p e digits w = (v : Event) × (i : ℕ) × (digits ≡ decimal (i + 1)) × Stands p.events.items e.n v
+    × Stands v.ways.items i w
 
 -- no way has the number that the digits write
 abbrev pub IsNoWayOf : GtsParts → EventId → List ℕ → Type 0
@@ -98,9 +99,11 @@ IsNoWayOf p e digits = (i : ℕ) → digits ≡ decimal (i + 1) → i < ways_fou
 
 -- the way that a label names, or the fault of its line
 abbrev pub AnswersLabel : Elaborated → GtsParts → List ℕ → ℕ → Result WayId ScriptFault → Type 0
-AnswersLabel x p label number (Ok w) = IsLabel x label (label_of p w.n) × (w.n < length p.ways.items) × (NeedsWay x label → ⊥)
+AnswersLabel x p label number (Ok w) =
+    IsLabel x label (label_of p w.n) × (w.n < length p.ways.items) × (NeedsWay x label → ⊥)
 AnswersLabel x p label number (Err (fault.Which n)) = (n ≡ number) × NeedsWay x label
-AnswersLabel x p label number (Err (fault.Unknown n)) = (n ≡ number) × (NeedsWay x label → ⊥) × ((l : Label) → IsLabel x label l → ⊥)
+AnswersLabel x p label number (Err (fault.Unknown n)) =
+    (n ≡ number) × (NeedsWay x label → ⊥) × ((l : Label) → IsLabel x label l → ⊥)
 AnswersLabel x p label number (Err (fault.Line n)) = ⊥
 AnswersLabel x p label number (Err fault.Memory) = Unit {0}
 
@@ -110,7 +113,8 @@ AnswersLabel x p label number (Err fault.Memory) = Unit {0}
 pub record Adds (x : Elaborated) (line : List ℕ) (old new : List Command) : Type 0 where
   pub added : List Command
   pub is : new ≡ old ++ added
-  pub gives : (lines : List (List ℕ)) (more : List Command) → Gives x lines more → Gives x (line ∷ lines) (added ++ more)
+  pub gives : (lines : List (List ℕ)) (more : List Command) → Gives x lines more
+      → Gives x (line ∷ lines) (added ++ more)
   pub good : (why : Why) → IsBad x why line → ⊥
 
 -- the line of this number is bad, as the fault says

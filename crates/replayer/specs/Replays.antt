@@ -24,17 +24,23 @@ end_of (Lists ls ∷ ms) = end_of ms
 end_of (Ends n ∷ ms) = end_of ms
 
 -- the text of the whole run of the commands, and how it ends
-pub record IsReplay {V : Type 0} (names : Naming) (sys : System V) (cs : List Command) (text : List ℕ) (end : End) : Type 0 where
+pub record IsReplay {V : Type 0} (names : Naming) (sys : System V) (cs : List Command) (text : List ℕ)
+    (end : End) : Type 0 where
   pub moments : List Moment
   pub runs : Runs sys cs moments
   pub trace : TraceText names sys moments text
   pub ends : end ≡ end_of moments
 
--- what a replay answers: the whole text was written, or its first bytes, where the sink's count of faults rose or memory was refused
-pub data AnswersReplay {V : Type 0} (names : Naming) (sys : System V) (cs : List Command) (old new : SinkState) : Result End ReplayFault → Type 0 where
-  whole : {text : List ℕ} {end : End} → IsReplay names sys cs text end → Appended old.bytes new.bytes text → old.faults ≤ new.faults
+-- what a replay answers: the whole text was written, or its first bytes, where the sink's count of faults rose or
+-- memory was refused
+pub data AnswersReplay {V : Type 0} (names : Naming) (sys : System V) (cs : List Command) (old new : SinkState) : Result
+    End ReplayFault → Type 0 where
+  whole : {text : List ℕ} {end : End} → IsReplay names sys cs text end → Appended old.bytes new.bytes text
+      → old.faults ≤ new.faults
       → AnswersReplay names sys cs old new (Ok end)
-  write : {text : List ℕ} {end : End} → IsReplay names sys cs text end → Cut old.bytes new.bytes text → Rose old.faults new.faults
+  write : {text : List ℕ} {end : End} → IsReplay names sys cs text end → Cut old.bytes new.bytes text
+      → Rose old.faults new.faults
       → AnswersReplay names sys cs old new (Err Write)
-  memory : {text : List ℕ} {end : End} → IsReplay names sys cs text end → Cut old.bytes new.bytes text → old.faults ≤ new.faults
+  memory : {text : List ℕ} {end : End} → IsReplay names sys cs text end → Cut old.bytes new.bytes text
+      → old.faults ≤ new.faults
       → AnswersReplay names sys cs old new (Err Memory)

@@ -28,12 +28,16 @@ pub record Stops (names : Naming) (sys : System ℕ) (before : Standing) (c : Co
   pub is_fault : end_of (fault ∷ []) ≡ Fault
   pub told : MomentText names sys fault text
 
--- what one command answers: the run goes on, and nothing was written; or it meets a fault, whose text was written, or its
+-- what one command answers: the run goes on, and nothing was written; or it meets a fault, whose text was written, or
+-- its
 -- first bytes where the sink failed; or memory was refused, and nothing was written
-abbrev pub AnswersCommand : Naming → System ℕ → Standing → Standing → Command → SinkState → SinkState → Result End ReplayFault → Type 0
+abbrev pub AnswersCommand : Naming → System ℕ → Standing → Standing → Command → SinkState → SinkState
+    → Result End ReplayFault → Type 0
 AnswersCommand names sys before after c old new (Ok Done) = GoesOn sys before after c × (new ≡ old)
-AnswersCommand names sys before after c old new (Ok Fault) = (text : List ℕ) × Stops names sys before c text × Writes old new text (Ok tt)
-AnswersCommand names sys before after c old new (Err Write) = (text : List ℕ) × Stops names sys before c text × Writes old new text (Err (record {}))
+AnswersCommand names sys before after c old new (Ok Fault) =
+    (text : List ℕ) × Stops names sys before c text × Writes old new text (Ok tt)
+AnswersCommand names sys before after c old new (Err Write) =
+    (text : List ℕ) × Stops names sys before c text × Writes old new text (Err (record {}))
 AnswersCommand names sys before after c old new (Err Memory) = new ≡ old
 
 -- the run of all these commands has come to this standing, without a fault, and these are left

@@ -34,22 +34,26 @@ one_byte = let e : length (codes ";") ≡ 1 = refl in omega (arith, e)
 component_short : (i : ℕ) → i ≤ 200 → length (component i) ≤ 100
 component_short i h =
     let number = joined (decimal i) (codes ";") 4 1 (digits i (omega (arith, h))) one_byte in
-    let text = joined (if i % 2 == 1 then codes "  Short c" else codes "  Long c") (decimal i ++ codes ";") 9 (4 + 1) (class_short (i % 2 == 1)) number in
+    let text = joined (if i % 2 == 1 then codes "  Short c" else codes "  Long c") (decimal i ++ codes ";") 9 (4 + 1)
+    (class_short (i % 2 == 1)) number in
     let all : length (component i) ≤ 15 = lined ((if i % 2 == 1 then codes "  Short c" else codes "  Long c") ++ (decimal i ++ codes ";")) 14 text in omega (arith, all)
 
 flow_short : (j : ℕ) → j ≤ 200 → length (flow j) ≤ 100
 flow_short j h =
     let rest : length (codes " (reset = false);") ≡ 17 = refl in
     let head : length (codes "  Boolean f") ≡ 11 = refl in
-    let number = joined (decimal j) (codes " (reset = false);") 4 17 (digits j (omega (arith, h))) (omega (arith, rest)) in
-    let text = joined (codes "  Boolean f") (decimal j ++ codes " (reset = false);") 11 (4 + 17) (omega (arith, head)) number in
+    let number = joined (decimal j) (codes " (reset = false);") 4 17 (digits j (omega (arith, h)))
+    (omega (arith, rest)) in
+    let text = joined (codes "  Boolean f") (decimal j ++ codes " (reset = false);") 11 (4 + 17) (omega (arith, head))
+    number in
     let all : length (flow j) ≤ 33 = lined (codes "  Boolean f" ++ (decimal j ++ codes " (reset = false);")) 32 text in omega (arith, all)
 
 observer_short : (last : ℕ) → last ≤ 200 → length (observer last) ≤ 100
 observer_short last h =
     let head : length (codes "  observer Boolean lost = not f") ≡ 31 = refl in
     let number = joined (decimal last) (codes ";") 4 1 (digits last (omega (arith, h))) one_byte in
-    let text = joined (codes "  observer Boolean lost = not f") (decimal last ++ codes ";") 31 (4 + 1) (omega (arith, head)) number in
+    let text = joined (codes "  observer Boolean lost = not f") (decimal last ++ codes ";") 31 (4 + 1)
+    (omega (arith, head)) number in
     let all : length (observer last) ≤ 37 = lined (codes "  observer Boolean lost = not f" ++ (decimal last ++ codes ";")) 36 text in omega (arith, all)
 
 works_short : (i : ℕ) → i ≤ 1000 → length (works i) ≤ 8
@@ -84,12 +88,15 @@ link_short n j h =
     let and : length (codes " and (") ≡ 6 = refl in
     let closed : length (codes ");") ≡ 2 = refl in
     let pair = pair_works n (j + 1) ++ codes ");" in
-    let a = joined (pair_works n (j + 1)) (codes ");") 20 2 (pair_short n (j + 1) (omega (arith, h))) (omega (arith, closed)) in
+    let a = joined (pair_works n (j + 1)) (codes ");") 20 2 (pair_short n (j + 1) (omega (arith, h)))
+    (omega (arith, closed)) in
     let b = joined (codes " and (") pair 6 22 (omega (arith, and)) a in
     let d = joined (decimal j) (codes " and (" ++ pair) 4 28 (digits j (omega (arith, h))) b in
     let e = joined (codes " := f") (decimal j ++ (codes " and (" ++ pair)) 5 32 (omega (arith, is)) d in
-    let f = joined (decimal (j + 1)) (codes " := f" ++ (decimal j ++ (codes " and (" ++ pair))) 4 37 (digits (j + 1) (omega (arith, h))) e in
-    let g = joined (codes "    f") (decimal (j + 1) ++ (codes " := f" ++ (decimal j ++ (codes " and (" ++ pair)))) 5 41 (omega (arith, flow)) f in
+    let f = joined (decimal (j + 1)) (codes " := f" ++ (decimal j ++ (codes " and (" ++ pair))) 4 37
+    (digits (j + 1) (omega (arith, h))) e in
+    let g = joined (codes "    f") (decimal (j + 1) ++ (codes " := f" ++ (decimal j ++ (codes " and (" ++ pair)))) 5 41
+    (omega (arith, flow)) f in
     let all : length (link n j) ≤ 47 = lined (codes "    f" ++ (decimal (j + 1) ++ (codes " := f" ++ (decimal j ++ (codes " and (" ++ pair))))) 46 g in omega (arith, all)
 
 pub generated_short : (n : ℕ) → n ≤ 200 → length (generated n) ≤ 65536
@@ -101,11 +108,14 @@ generated_short n h =
     let links = up_to_short (link n) (pairs n - 1) (λ j k. link_short n j (omega (arith, k, few))) in
     let flows = up_to_short flow (pairs n) (λ j k. flow_short j (omega (arith, k, few))) in
     let components = up_to_short component n (λ i k. component_short i (omega (arith, k, h))) in
-    let a = joined (up_to (link n) (pairs n - 1)) (line (codes "end")) (100 * (pairs n - 1)) 4 links (omega (arith, closed)) in
+    let a = joined (up_to (link n) (pairs n - 1)) (line (codes "end")) (100 * (pairs n - 1)) 4 links
+    (omega (arith, closed)) in
     let b = joined (first_link n) _ 100 _ (first_short n) a in
-    let d = joined (line (codes "  assertion")) (first_link n ++ (up_to (link n) (pairs n - 1) ++ line (codes "end"))) 12 _ (omega (arith, assertion)) b in
+    let d = joined (line (codes "  assertion")) (first_link n ++ (up_to (link n) (pairs n - 1) ++ line (codes "end")))
+    12 _ (omega (arith, assertion)) b in
     let e = joined (observer (pairs n)) _ 100 _ (observer_short (pairs n) few) d in
     let f = joined (up_to flow (pairs n)) _ (100 * pairs n) _ flows e in
     let g = joined (up_to component n) _ (100 * n) _ components f in
-    let all : length (generated n) ≤ 390 + (100 * n + (100 * pairs n + (100 + (12 + (100 + (100 * (pairs n - 1) + 4)))))) =
+    let all : length (generated n) ≤ 390
+    + (100 * n + (100 * pairs n + (100 + (12 + (100 + (100 * (pairs n - 1) + 4)))))) =
     joined (lines classes) _ 390 _ (omega (arith, head)) g in omega (arith, all, h, few)

@@ -14,9 +14,12 @@ use Rattle.run_words.specs.declared.verbs.Verb.TheVariants.{Check, Flat, Replay,
 
 -- the command that a word names, the last one for any other word
 command_named : List ℕ → Verb
-command_named w = if bytes_eq w (codes "check") then Check else if bytes_eq w (codes "flat") then Flat else if bytes_eq w (codes "replay") then Replay
-    else if bytes_eq w (codes "fragment") then Fragment else if bytes_eq w (codes "equations") then Equations else if bytes_eq w (codes "cuts") then Cuts
-    else if bytes_eq w (codes "make") then Make else if bytes_eq w (codes "explain") then Explain else if bytes_eq w (codes "checkcuts") then CheckCuts else Modules
+command_named w = if bytes_eq w (codes "check") then Check else if bytes_eq w (codes "flat") then Flat
+    else if bytes_eq w (codes "replay") then Replay
+    else if bytes_eq w (codes "fragment") then Fragment else if bytes_eq w (codes "equations") then Equations
+    else if bytes_eq w (codes "cuts") then Cuts
+    else if bytes_eq w (codes "make") then Make else if bytes_eq w (codes "explain") then Explain
+    else if bytes_eq w (codes "checkcuts") then CheckCuts else Modules
 
 named_back : (v : Verb) → command_named (word_of v) ≡ v
 unfolding command_named
@@ -40,36 +43,70 @@ two_same e = (cc, cc)
 same_command : (u v : Verb) → word_of u ≡ word_of v → u ≡ v
 same_command u v e = sym (named_back u) ∙ ap command_named e ∙ named_back v
 
-same_number : (least most : ℕ) (word : List ℕ) (m n : ℕ) → most < 2 ^ 64 → IsNumber least most word m → IsNumber least most word n → m ≡ n
-same_number least most word m n small a b = decimal_injective m n (omega (arith, a.at_most, small)) (omega (arith, b.at_most, small)) (sym a.digits ∙ b.digits)
+same_number : (least most : ℕ) (word : List ℕ) (m n : ℕ) → most < 2 ^ 64 → IsNumber least most word m
+    → IsNumber least most word n → m ≡ n
+same_number least most word m n small a b =
+    decimal_injective m n (omega (arith, a.at_most, small)) (omega (arith, b.at_most, small)) (sym a.digits ∙ b.digits)
 
 record SameFiles (ma mb : List ℕ) (sa sb : Option (List ℕ)) (na nb : ℕ) : Type 0 where
   model : ma ≡ mb
   script : sa ≡ sb
   number : na ≡ nb
 
-same_files : (f : Form) (files : List (List ℕ)) (ma mb : List ℕ) (sa sb : Option (List ℕ)) (na nb : ℕ) → NamesFiles f files ma sa na → NamesFiles f files mb sb nb
+same_files : (f : Form) (files : List (List ℕ)) (ma mb : List ℕ) (sa sb : Option (List ℕ)) (na nb : ℕ)
+    → NamesFiles f files ma sa na → NamesFiles f files mb sb nb
     → SameFiles ma mb sa sb na nb
-same_files form.Model files ma mb sa sb na nb a b = record { model = one_and_same (sym a.0 ∙ b.0); script = a.1 ∙ sym b.1; number = a.2 ∙ sym b.2 }
+same_files form.Model files ma mb sa sb na nb a b =
+    record { model = one_and_same (sym a.0 ∙ b.0); script = a.1 ∙ sym b.1; number = a.2 ∙ sym b.2 }
 same_files form.ModelAndScript files ma mb sa sb na nb a b =
     let both = two_same (sym a.0.1 ∙ b.0.1) in
     record { model = both.0; script = a.0.2 ∙ ap (λ t. Some t) both.1 ∙ sym b.0.2; number = a.1 ∙ sym b.1 }
 same_files form.Number files ma mb sa sb na nb a b =
     let word = one_and_same (sym a.0.1 ∙ b.0.1) in
-    record { model = a.1 ∙ sym b.1; script = a.2 ∙ sym b.2; number = same_number 1 200 b.0.0 na nb (omega arith) (subst (λ w. IsNumber 1 200 w na) word a.0.2) b.0.2 }
+    record {
+      model = a.1 ∙ sym b.1;
+      script = a.2 ∙ sym b.2;
+      number = same_number 1 200 b.0.0 na nb (omega arith) (subst (λ w. IsNumber 1 200 w na) word a.0.2) b.0.2;
+    }
 
 same_nodes : (v : Verb) (given : Option (List ℕ)) (m n : ℕ) → IsNodes v given m → IsNodes v given n → m ≡ n
 same_nodes v None m n a b = a ∙ sym b
 same_nodes v (Some text) m n a b = same_number 1 16777216 text m n (omega arith) a.1 b.1
 
-same_job : (a b : Job) → a.command ≡ b.command → SameFiles a.model b.model a.script b.script a.number b.number → a.nodes ≡ b.nodes
+same_job : (a b : Job) → a.command ≡ b.command → SameFiles a.model b.model a.script b.script a.number b.number
+    → a.nodes ≡ b.nodes
     → a.main ≡ b.main → a.observer ≡ b.observer → a.value ≡ b.value → a.dropped ≡ b.dropped → a ≡ b
 same_job a b command files nodes main observer value dropped =
     ap (λ v. record a { command = v }) command
-    ∙ ap (λ t. record b { model = t; script = a.script; main = a.main; observer = a.observer; value = a.value; dropped = a.dropped; nodes = a.nodes; number = a.number }) files.model
-    ∙ ap (λ t. record b { script = t; main = a.main; observer = a.observer; value = a.value; dropped = a.dropped; nodes = a.nodes; number = a.number }) files.script
-    ∙ ap (λ t. record b { main = t; observer = a.observer; value = a.value; dropped = a.dropped; nodes = a.nodes; number = a.number }) main
-    ∙ ap (λ t. record b { observer = t; value = a.value; dropped = a.dropped; nodes = a.nodes; number = a.number }) observer
+    ∙ ap (λ t. record b {
+      model = t;
+      script = a.script;
+      main = a.main;
+      observer = a.observer;
+      value = a.value;
+      dropped = a.dropped;
+      nodes = a.nodes;
+      number = a.number;
+    }) files.model
+    ∙ ap (λ t. record b {
+      script = t;
+      main = a.main;
+      observer = a.observer;
+      value = a.value;
+      dropped = a.dropped;
+      nodes = a.nodes;
+      number = a.number;
+    }) files.script
+    ∙ ap (λ t. record b {
+      main = t;
+      observer = a.observer;
+      value = a.value;
+      dropped = a.dropped;
+      nodes = a.nodes;
+      number = a.number;
+    }) main
+    ∙ ap (λ t. record b { observer = t; value = a.value; dropped = a.dropped; nodes = a.nodes; number = a.number })
+    observer
     ∙ ap (λ t. record b { value = t; dropped = a.dropped; nodes = a.nodes; number = a.number }) value
     ∙ ap (λ t. record b { dropped = t; nodes = a.nodes; number = a.number }) dropped
     ∙ ap (λ t. record b { nodes = t; number = a.number }) nodes
@@ -80,8 +117,10 @@ of_one_line l a b x y =
     let command = same_command a.command b.command (same_Some _ _ (sym x.command ∙ y.command)) in
     let files = same_files (form_of b.command) l.files a.model b.model a.script b.script a.number b.number
     (subst (λ v. NamesFiles (form_of v) l.files a.model a.script a.number) command x.files) y.files in
-    let nodes = same_nodes b.command l.nodes a.nodes b.nodes (subst (λ v. IsNodes v l.nodes a.nodes) command x.nodes) y.nodes in
-    same_job a b command files nodes (x.main ∙ sym y.main) (x.observer ∙ sym y.observer) (x.value ∙ sym y.value) (x.dropped ∙ sym y.dropped)
+    let nodes = same_nodes b.command l.nodes a.nodes b.nodes (subst (λ v. IsNodes v l.nodes a.nodes) command x.nodes)
+    y.nodes in
+    same_job a b command files nodes (x.main ∙ sym y.main) (x.observer ∙ sym y.observer) (x.value ∙ sym y.value)
+    (x.dropped ∙ sym y.dropped)
 
 pub one_job_of : (words : List (List ℕ)) (a b : Job) → IsJob words a → IsJob words b → a ≡ b
 one_job_of words a b x y = of_one_line _ a b x.job_of y.job_of

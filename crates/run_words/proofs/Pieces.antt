@@ -8,7 +8,8 @@ line_of_three old a b d =
     ∙ ap (λ t. old ++ t) (ap (λ t. a ++ t) (sym (append_assoc b d (10 ∷ []))) ∙ sym (append_assoc a (b ++ d) (10 ∷ [])))
 
 -- eight pieces
-pub eight : (a b d e f g h i : List ℕ) → (((((((a ++ b) ++ d) ++ e) ++ f) ++ g) ++ h) ++ i) ≡ a ++ (b ++ (d ++ (e ++ (f ++ (g ++ (h ++ i))))))
+pub eight : (a b d e f g h i : List ℕ)
+    → (((((((a ++ b) ++ d) ++ e) ++ f) ++ g) ++ h) ++ i) ≡ a ++ (b ++ (d ++ (e ++ (f ++ (g ++ (h ++ i))))))
 eight a b d e f g h i =
     append_assoc (((((a ++ b) ++ d) ++ e) ++ f) ++ g) h i
     ∙ append_assoc ((((a ++ b) ++ d) ++ e) ++ f) g (h ++ i)

@@ -22,7 +22,8 @@ unfolding program clap_on_literals
 is_free_program = refl
 
 -- the two settings
-pub with_settings : (x y z : Command) → app_of x ≡ new_app (codes "altarica") → out-Command y ≡ record (out-Command x) { disable_help_flag = true }
+pub with_settings : (x y z : Command) → app_of x ≡ new_app (codes "altarica")
+    → out-Command y ≡ record (out-Command x) { disable_help_flag = true }
     → out-Command z ≡ record (out-Command y) { disable_version_flag = true } → app_of z ≡ bare
 with_settings x y z e1 e2 e3 =
     ap app_of_fields e3
@@ -30,23 +31,27 @@ with_settings x y z e1 e2 e3 =
     ∙ ap (λ (a : App). record a { top = record a.top { disable_help_flag = true; disable_version_flag = true } }) e1
 
 -- what `clap` finds
-pub rows_found : (a : App) (words : List Text) (m : ArgMatches) → a ≡ program → HasMatchesOf a words m → rows_of (found_of m) ≡ matches_of program words
+pub rows_found : (a : App) (words : List Text) (m : ArgMatches) → a ≡ program → HasMatchesOf a words m
+    → rows_of (found_of m) ≡ matches_of program words
 rows_found a words m e h = (h (ap is_simple e ∙ is_simple_program)).0 ∙ ap (λ b. matches_of b words) e
 
 -- where it finds no fault in the words it refuses them for want of memory alone
-pub refused : (a : App) (words : List Text) (e : Error) → a ≡ program → (is_simple_and_free a ≡ true → HasKind (fault_of a words) e)
+pub refused : (a : App) (words : List Text) (e : Error) → a ≡ program
+    → (is_simple_and_free a ≡ true → HasKind (fault_of a words) e)
     → fault_of program words ≡ [] → kind_of e ≡ kind.OutOfMemory
-refused a words e is h none = elim (subst (λ (ks : Kinds). HasKind ks e) (ap (λ b. fault_of b words) is ∙ none) (h (ap is_simple_and_free is ∙ is_free_program))) [
-  | inl memory ↦ memory
-  | inr among ↦ absurd among
-]
+refused a words e is h none = elim (subst (λ (ks : Kinds). HasKind ks e) (ap (λ b. fault_of b words) is ∙ none)
+    (h (ap is_simple_and_free is ∙ is_free_program))) [
+      | inl memory ↦ memory
+      | inr among ↦ absurd among
+    ]
 
 -- an argument that must be there
 pub required_rule : (x y : Arg) → y ≡ record x { required = true } → rule_of y ≡ record (rule_of x) { required = true }
 required_rule x y e = ap rule_of e
 
 -- an argument with so many values
-pub ranged_rule : (x y : Arg) (r : ValueRange) → y ≡ record x { num_vals = y.num_vals } → IsSomeAnd y.num_vals (λ s. s ≡ r) → rule_of y ≡ record (rule_of x) { range = Some r }
+pub ranged_rule : (x y : Arg) (r : ValueRange) → y ≡ record x { num_vals = y.num_vals }
+    → IsSomeAnd y.num_vals (λ s. s ≡ r) → rule_of y ≡ record (rule_of x) { range = Some r }
 ranged_rule x y r e some = ap rule_of e ∙ ap (λ o. record (rule_of x) { range = o }) (is_some_of y.num_vals r some)
   where
     is_some_of : (o : Option ValueRange) (r : ValueRange) → IsSomeAnd o (λ s. s ≡ r) → o ≡ Some r
@@ -54,5 +59,6 @@ ranged_rule x y r e some = ap rule_of e ∙ ap (λ o. record (rule_of x) { range
     is_some_of None r is = absurd is
 
 -- no fault was found where the parse succeeds
-pub no_fault : (a : App) (words : List Text) → a ≡ program → (is_simple_and_free a ≡ true → fault_of a words ≡ []) → fault_of program words ≡ []
+pub no_fault : (a : App) (words : List Text) → a ≡ program → (is_simple_and_free a ≡ true → fault_of a words ≡ [])
+    → fault_of program words ≡ []
 no_fault a words e h = sym (ap (λ b. fault_of b words) e) ∙ h (ap is_simple_and_free e ∙ is_free_program)

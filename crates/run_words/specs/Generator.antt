@@ -55,7 +55,8 @@ first_link n = line (codes "    f1 := " ++ (pair_works n 1 ++ codes ";"))
 
 -- the flow behind flow j is true where flow j is and its own pair works
 abbrev pub link : ℕ → ℕ → List ℕ
-link n j = line (codes "    f" ++ (decimal (j + 1) ++ (codes " := f" ++ (decimal j ++ (codes " and (" ++ (pair_works n (j + 1) ++ codes ");"))))))
+link n j = line (codes "    f" ++ (decimal
+    (j + 1) ++ (codes " := f" ++ (decimal j ++ (codes " and (" ++ (pair_works n (j + 1) ++ codes ");"))))))
 
 -- how many pairs n components make
 abbrev pub pairs : ℕ → ℕ
@@ -67,5 +68,6 @@ observer last = line (codes "  observer Boolean lost = not f" ++ (decimal last +
 
 -- the whole text for n components
 abbrev pub generated : ℕ → List ℕ
-generated n = lines classes ++ (up_to component n ++ (up_to flow (pairs n) ++ (observer (pairs n) ++ (line (codes "  assertion")
+generated n = lines classes ++ (up_to component
+    n ++ (up_to flow (pairs n) ++ (observer (pairs n) ++ (line (codes "  assertion")
     ++ (first_link n ++ (up_to (link n) (pairs n - 1) ++ line (codes "end")))))))

@@ -89,8 +89,10 @@ pub record IsNumber (least most : ℕ) (text : Text) (n : ℕ) : Type 0 where
 -- the words behind the command are these files, or the number
 abbrev pub NamesFiles : Form → List Text → Text → Option Text → ℕ → Type 0
 NamesFiles form.Model files model script number = (files ≡ model ∷ []) × (script ≡ None) × (number ≡ 0)
-NamesFiles form.ModelAndScript files model script number = ((name : Text) × (files ≡ model ∷ name ∷ []) × (script ≡ Some name)) × (number ≡ 0)
-NamesFiles form.Number files model script number = ((word : Text) × (files ≡ word ∷ []) × IsNumber 1 200 word number) × (model ≡ []) × (script ≡ None)
+NamesFiles form.ModelAndScript files model script number =
+    ((name : Text) × (files ≡ model ∷ name ∷ []) × (script ≡ Some name)) × (number ≡ 0)
+NamesFiles form.Number files model script number =
+    ((word : Text) × (files ≡ word ∷ []) × IsNumber 1 200 word number) × (model ≡ []) × (script ≡ None)
 
 -- an option is used only where the command takes it
 abbrev pub IsTaken : Bool → Option Text → Type 0

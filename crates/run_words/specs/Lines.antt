@@ -28,7 +28,8 @@ bare = on_top (λ s. record s { disable_help_flag = true; disable_version_flag =
 -- the program's command: the command's word, the files, and the five options
 unfoldable pub program : App
 program = with_rule (with_rule (with_rule (with_rule (with_rule (with_rule (with_rule bare command) files)
-    (option (codes "main"))) (option (codes "observer"))) (option (codes "value"))) (option (codes "nodes"))) (option (codes "drop"))
+    (option (codes "main"))) (option (codes "observer"))) (option (codes "value"))) (option (codes "nodes")))
+    (option (codes "drop"))
 
 -- the words of `file`, none where it was not used
 abbrev pub or_none : Option (List Text) → List Text

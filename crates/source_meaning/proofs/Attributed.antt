@@ -8,7 +8,8 @@ use Rattle.hierarchy.specs.declared.tree.Attribute as tree
 use Rattle.source_meaning.specs.Means.{is_valued}
 
 -- an attribute of a member of such a kind is one of its own
-pub valued_attribute : (m : RootedModel) (units : List UnitPath) (t : Thing) (k : MemberKind) (b : tree.Attribute) → is_valued k ≡ true → HasAttributeOf m units t k b → HasAttribute m units t b
+pub valued_attribute : (m : RootedModel) (units : List UnitPath) (t : Thing) (k : MemberKind) (b : tree.Attribute)
+    → is_valued k ≡ true → HasAttributeOf m units t k b → HasAttribute m units t b
 valued_attribute m units t (Parameter f e) b v h = h
 valued_attribute m units t Kept b v h = cc
 valued_attribute m units t (Variable f ss) b v h = h

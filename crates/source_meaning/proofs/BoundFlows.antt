@@ -7,5 +7,6 @@ use Rattle.source_meaning.specs.Binding.{IsVariableNumber, IsBoundFrom, net_of_b
 use Rattle.source_meaning.specs.Systems.{Declarations}
 use Rattle.source_meaning.specs.declared.bound.Bound.{Bound}
 
-pub flows_bound : (d : Declarations) (b : Bound) → IsBoundFrom d b → (t : List Value) (o : Outcome) → Flows d.net t o ↔ Flows (net_of_bound b) t o
+pub flows_bound : (d : Declarations) (b : Bound) → IsBoundFrom d b → (t : List Value) (o : Outcome) → Flows d.net t o
+    ↔ Flows (net_of_bound b) t o
 flows_bound d b h t o = same_flows (IsVariableNumber d) d.net (net_of_bound b) h.net t o

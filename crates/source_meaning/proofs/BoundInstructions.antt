@@ -51,12 +51,16 @@ use Rattle.source_meaning.proofs.BoundMeaning.{bound_meaning}
 
 -- The assignments and places of bound instructions, by their forms
 
-pub under : (b : Act) (x : Act-F Act) → out-Act b ≡ x → (ds : g.Conditions) → assigns_under b ds ≡ act_step (map-Act Act (g.Conditions → List (s.Assign ℕ)) assigns_under x) ds
+pub under : (b : Act) (x : Act-F Act) → out-Act b ≡ x → (ds : g.Conditions)
+    → assigns_under b ds ≡ act_step (map-Act Act (g.Conditions → List (s.Assign ℕ)) assigns_under x) ds
 under b x e ds =
     ap (λ (h : g.Conditions → List (s.Assign ℕ)). h ds)
-    (fold_out-Act (g.Conditions → List (s.Assign ℕ)) act_step b ∙ ap (λ (y : Act-F Act). act_step (map-Act Act (g.Conditions → List (s.Assign ℕ)) assigns_under y)) e)
+    (fold_out-Act (g.Conditions → List (s.Assign ℕ)) act_step b
+    ∙ ap (λ (y : Act-F Act). act_step (map-Act Act (g.Conditions → List (s.Assign ℕ)) assigns_under y)) e)
 
-pub each_under : (bs : List Act) (ds : g.Conditions) → flat_map (λ (f : g.Conditions → List (s.Assign ℕ)). f ds) (map assigns_under bs) ≡ flat_map (λ (b : Act). assigns_under b ds) bs
+pub each_under : (bs : List Act) (ds : g.Conditions)
+    → flat_map (λ (f : g.Conditions → List (s.Assign ℕ)). f ds) (map assigns_under bs)
+    ≡ flat_map (λ (b : Act). assigns_under b ds) bs
 each_under [] ds = refl
 each_under (b ∷ bs) ds = ap (λ z. assigns_under b ds ++ z) (each_under bs ds)
 
@@ -65,7 +69,8 @@ module _ (m : RootedModel) (units : List UnitPath) (u : UnitPath) (leaves : Path
   abbrev R : Thing → ℕ → Type 0
   R t n = Stands (variables m units) n t
 
-  more : {cs : Conditions} {ds : g.Conditions} (e : Expr Thing) (f : Expr ℕ) (b : Bool) → Conditions_rename R cs ds → Renames R (out-Expr Thing e) (out-Expr ℕ f)
+  more : {cs : Conditions} {ds : g.Conditions} (e : Expr Thing) (f : Expr ℕ) (b : Bool) → Conditions_rename R cs ds
+      → Renames R (out-Expr Thing e) (out-Expr ℕ f)
       → Conditions_rename R (cs ++ (e, b) ∷ []) (ds ++ (f, b) ∷ [])
   more e f b i.none q = i.one_and q i.none
   more e f b (i.one_and p cs) q = i.one_and p (more e f b cs q)
@@ -91,7 +96,8 @@ module _ (m : RootedModel) (units : List UnitPath) (u : UnitPath) (leaves : Path
 
   -- Parts
 
-  inner : {whole part_of : InstrForm} → ((j : InstrForm) → IsPartOf j part_of → IsPartOf j whole) → AreLeaves m units u leaves whole → AreLeaves m units u leaves part_of
+  inner : {whole part_of : InstrForm} → ((j : InstrForm) → IsPartOf j part_of → IsPartOf j whole)
+      → AreLeaves m units u leaves whole → AreLeaves m units u leaves part_of
   inner f l = record {
     targets = λ j p k t. l.targets j p (f j k) t;
     of_targets = λ j p k t. l.of_targets j p (f j k) t;
@@ -118,10 +124,13 @@ module _ (m : RootedModel) (units : List UnitPath) (u : UnitPath) (leaves : Path
   no_value p y v n (stands.symbol k h) e = no_symbol n.finds h
 
   -- an expression of the instruction
-  one : (whole : InstrForm) (e : RawExpr) (f : Expr VarId) → AreLeaves m units u leaves whole → IsExpressionOf e whole → BecomesBy leaves e f → IsBoundExpression m units u e f
-  one whole e f l k b = bound_meaning m units u leaves e f (λ p h. l.of_expressions whole e p part.itself k h) (λ at h. l.right whole e at part.itself k h) b
+  one : (whole : InstrForm) (e : RawExpr) (f : Expr VarId) → AreLeaves m units u leaves whole → IsExpressionOf e whole
+      → BecomesBy leaves e f → IsBoundExpression m units u e f
+  one whole e f l k b = bound_meaning m units u leaves e f (λ p h. l.of_expressions whole e p part.itself k h)
+      (λ at h. l.right whole e at part.itself k h) b
 
-  by_number : (e : RawExpr) (f : Expr VarId) (b : IsBoundExpression m units u e f) → Renames R (out-Expr Thing b.meaning) (out-Expr ℕ (numbered f))
+  by_number : (e : RawExpr) (f : Expr VarId) (b : IsBoundExpression m units u e f)
+      → Renames R (out-Expr Thing b.meaning) (out-Expr ℕ (numbered f))
   by_number e f b = source_numbered (variables m units) b.meaning f b.numbers
 
   -- the variable itself as a value
@@ -132,18 +141,23 @@ module _ (m : RootedModel) (units : List UnitPath) (u : UnitPath) (leaves : Path
   unfolding named
   named_is t = out-roll-Expr Thing (Variable t)
 
-  named_number : (t : Thing) (y : VarId) (f : Expr VarId) → R t y.n → out-Expr VarId f ≡ Variable y → Renames R (out-Expr Thing (named t)) (out-Expr ℕ (numbered f))
+  named_number : (t : Thing) (y : VarId) (f : Expr VarId) → R t y.n → out-Expr VarId f ≡ Variable y
+      → Renames R (out-Expr Thing (named t)) (out-Expr ℕ (numbered f))
   named_number t y f k e =
       source_numbered (variables m units) (named t) f
-      (subst (λ z. Renames (λ (v : Thing) (x : VarId). R v x.n) z (out-Expr VarId f)) (sym (named_is t)) (subst (λ z. Renames (λ (v : Thing) (x : VarId). R v x.n) (Variable t) z) (sym e) (r.variable k)))
+      (subst (λ z. Renames (λ (v : Thing) (x : VarId). R v x.n) z (out-Expr VarId f)) (sym (named_is t))
+      (subst (λ z. Renames (λ (v : Thing) (x : VarId). R v x.n) (Variable t) z) (sym e) (r.variable k)))
 
   -- one assignment
-  one_assign : (t : Thing) (cs : Conditions) (e : Expr Thing) (at : Place) (x : VarId) (ds : g.Conditions) (f : Expr VarId) → R t x.n → Conditions_rename R cs ds
-      → Renames R (out-Expr Thing e) (out-Expr ℕ (numbered f)) → Assign_renames R ((sets t cs e at).assign) (record { target = x.n; conditions = ds; value = numbered f })
+  one_assign : (t : Thing) (cs : Conditions) (e : Expr Thing) (at : Place) (x : VarId) (ds : g.Conditions)
+      (f : Expr VarId) → R t x.n → Conditions_rename R cs ds
+      → Renames R (out-Expr Thing e) (out-Expr ℕ (numbered f))
+      → Assign_renames R ((sets t cs e at).assign) (record { target = x.n; conditions = ds; value = numbered f })
   one_assign t cs e at x ds f k c v = record { target = k; conditions = c; value = v }
 
   -- nothing
-  nothing : (cs : Conditions) (ds : g.Conditions) (whole : InstrForm) (b : Act) → Sets m u cs whole [] → out-Act b ≡ act.Skip → Bound cs ds whole b
+  nothing : (cs : Conditions) (ds : g.Conditions) (whole : InstrForm) (b : Act) → Sets m u cs whole []
+      → out-Act b ≡ act.Skip → Bound cs ds whole b
   nothing cs ds whole b h e = record {
     placed = [];
     are_sets = h;
@@ -151,46 +165,65 @@ module _ (m : RootedModel) (units : List UnitPath) (u : UnitPath) (leaves : Path
     places = sym (placed b act.Skip e);
   }
 
-  both_numbers : (acts_of : List Act) (b c : Act) (ds : g.Conditions) (xs : List (s.Assign Thing)) → acts_of ≡ b ∷ c ∷ [] → Along (Assign_renames R) xs (assigns_under b ds ++ (assigns_under c ds ++ []))
+  both_numbers : (acts_of : List Act) (b c : Act) (ds : g.Conditions) (xs : List (s.Assign Thing))
+      → acts_of ≡ b ∷ c ∷ [] → Along (Assign_renames R) xs (assigns_under b ds ++ (assigns_under c ds ++ []))
       → Along (Assign_renames R) xs (flat_map (λ (d : Act). assigns_under d ds) acts_of)
-  both_numbers acts_of b c ds xs e h = subst (λ (z : List Act). Along (Assign_renames R) xs (flat_map (λ (d : Act). assigns_under d ds) z)) (sym e) h
+  both_numbers acts_of b c ds xs e h =
+      subst (λ (z : List Act). Along (Assign_renames R) xs (flat_map (λ (d : Act). assigns_under d ds) z)) (sym e) h
 
   -- a `:=:`
-  tied : (cs : Conditions) (ds : g.Conditions) (p q : Path) (b : Act) (x y : VarId) → Conditions_rename R cs ds → Numbered p x → Numbered q y → SetsBoth x p.at y q.at b → Bound cs ds (instr.Tie p q) b
+  tied : (cs : Conditions) (ds : g.Conditions) (p q : Path) (b : Act) (x y : VarId) → Conditions_rename R cs ds
+      → Numbered p x → Numbered q y → SetsBoth x p.at y q.at b → Bound cs ds (instr.Tie p q) b
   tied cs ds p q b x y w f h k =
       let first = k.sets_first in
       let second = k.sets_second in
       let e = named h.thing in
       let d = named f.thing in
-      let at_first : assigns_under k.first ds ≡ record { target = x.n; conditions = ds; value = numbered first.value } ∷ [] = under k.first (act.Set x first.value p.at) first.is ds in
-      let at_second : assigns_under k.second ds ≡ record { target = y.n; conditions = ds; value = numbered second.value } ∷ [] = under k.second (act.Set y second.value q.at) second.is ds in
-      let one_of = one_assign f.thing cs e p.at x ds first.value f.stands_for w (named_number h.thing y first.value h.stands_for first.names) in
-      let other_of = one_assign h.thing cs d q.at y ds second.value h.stands_for w (named_number f.thing x second.value f.stands_for second.names) in
+      let at_first : assigns_under k.first ds
+      ≡ record { target = x.n; conditions = ds; value = numbered first.value } ∷ [] =
+      under k.first (act.Set x first.value p.at) first.is ds in
+      let at_second : assigns_under k.second ds
+      ≡ record { target = y.n; conditions = ds; value = numbered second.value } ∷ [] =
+      under k.second (act.Set y second.value q.at) second.is ds in
+      let one_of = one_assign f.thing cs e p.at x ds first.value f.stands_for w
+      (named_number h.thing y first.value h.stands_for first.names) in
+      let other_of = one_assign h.thing cs d q.at y ds second.value h.stands_for w
+      (named_number f.thing x second.value f.stands_for second.names) in
       let xs = assigns_of (sets f.thing cs e p.at ∷ sets h.thing cs d q.at ∷ []) in
       let joined = subst (λ z. Along (Assign_renames R) xs (z ++ (assigns_under k.second ds ++ []))) (sym at_first)
-      (subst (λ z. Along (Assign_renames R) xs ((record { target = x.n; conditions = ds; value = numbered first.value } ∷ []) ++ (z ++ []))) (sym at_second) (along.one_and one_of (along.one_and other_of along.none))) in
+      (subst (λ z. Along (Assign_renames R) xs
+      ((record { target = x.n; conditions = ds; value = numbered first.value } ∷ []) ++ (z ++ []))) (sym at_second)
+      (along.one_and one_of (along.one_and other_of along.none))) in
       let whole = under b (act.All k.acts) k.is ds ∙ each_under k.acts.items ds in
       let place_first = placed k.first (act.Set x first.value p.at) first.is in
       let place_second = placed k.second (act.Set y second.value q.at) second.is in
-      let places_joined = ap (λ z. z ++ (places_of_act k.second ++ [])) place_first ∙ ap (λ z. (p.at ∷ []) ++ (z ++ [])) place_second in
-      let places_all = placed b (act.All k.acts) k.is ∙ (each_placed k.acts.items ∙ (ap (λ (z : List Act). flat_map places_of_act z) k.are ∙ places_joined)) in
+      let places_joined = ap (λ z. z ++ (places_of_act k.second ++ [])) place_first
+      ∙ ap (λ z. (p.at ∷ []) ++ (z ++ [])) place_second in
+      let places_all = placed b (act.All k.acts) k.is
+      ∙ (each_placed k.acts.items ∙ (ap (λ (z : List Act). flat_map places_of_act z) k.are ∙ places_joined)) in
       record {
         placed = sets f.thing cs e p.at ∷ sets h.thing cs d q.at ∷ [];
         are_sets = a.tie f.finds h.finds (named_is f.thing) (named_is h.thing);
-        numbers = subst (λ z. Along (Assign_renames R) xs z) (sym whole) (both_numbers k.acts.items k.first k.second ds xs k.are joined);
+        numbers = subst (λ z. Along (Assign_renames R) xs z) (sym whole)
+            (both_numbers k.acts.items k.first k.second ds xs k.are joined);
         places = sym places_all;
       }
 
   -- two lists of assignments, one after the other
-  joined_numbers : (xs ys : List Placed) (vs ws : List (s.Assign ℕ)) → Along (Assign_renames R) (assigns_of xs) vs → Along (Assign_renames R) (assigns_of ys) ws
+  joined_numbers : (xs ys : List Placed) (vs ws : List (s.Assign ℕ)) → Along (Assign_renames R) (assigns_of xs) vs
+      → Along (Assign_renames R) (assigns_of ys) ws
       → Along (Assign_renames R) (assigns_of (xs ++ ys)) (vs ++ ws)
-  joined_numbers xs ys vs ws h k = subst (λ z. Along (Assign_renames R) z (vs ++ ws)) (sym (map_join (λ (p : Placed). p.assign) xs ys)) (along_append h k)
+  joined_numbers xs ys vs ws h k = subst (λ z. Along (Assign_renames R) z (vs ++ ws))
+      (sym (map_join (λ (p : Placed). p.assign) xs ys)) (along_append h k)
 
-  joined_places : (xs ys : List Placed) (ps qs : List Place) → places_of xs ≡ ps → places_of ys ≡ qs → places_of (xs ++ ys) ≡ ps ++ qs
-  joined_places xs ys ps qs h k = map_join (λ (p : Placed). p.at) xs ys ∙ (ap (λ z. z ++ places_of ys) h ∙ ap (λ z. ps ++ z) k)
+  joined_places : (xs ys : List Placed) (ps qs : List Place) → places_of xs ≡ ps → places_of ys ≡ qs
+      → places_of (xs ++ ys) ≡ ps ++ qs
+  joined_places xs ys ps qs h k = map_join (λ (p : Placed). p.at) xs ys
+      ∙ (ap (λ z. z ++ places_of ys) h ∙ ap (λ z. ps ++ z) k)
 
   mutual
-    bound : {whole : InstrForm} {b : Act} → ActsAs leaves whole b → AreLeaves m units u leaves whole → (cs : Conditions) (ds : g.Conditions) → Conditions_rename R cs ds → Bound cs ds whole b
+    bound : {whole : InstrForm} {b : Act} → ActsAs leaves whole b → AreLeaves m units u leaves whole
+        → (cs : Conditions) (ds : g.Conditions) → Conditions_rename R cs ds → Bound cs ds whole b
     bound {b = b} (acts.skip e) l cs ds w = nothing cs ds instr.Skip b a.skip e
     bound {b = b} (acts.assign {p = p} {r = v} x f k h e) l cs ds w =
         let t = by_leaf p (leaves p) x (l.of_targets (instr.Assign p v) p part.itself assigned) k in
@@ -198,27 +231,35 @@ module _ (m : RootedModel) (units : List UnitPath) (u : UnitPath) (leaves : Path
         record {
           placed = sets t.thing cs n.meaning p.at ∷ [];
           are_sets = a.assign t.finds n.means;
-          numbers = subst (λ z. Along (Assign_renames R) (assigns_of (sets t.thing cs n.meaning p.at ∷ [])) z) (sym (under b (act.Set x f p.at) e ds))
+          numbers = subst (λ z. Along (Assign_renames R) (assigns_of (sets t.thing cs n.meaning p.at ∷ [])) z)
+              (sym (under b (act.Set x f p.at) e ds))
               (along.one_and (one_assign t.thing cs n.meaning p.at x ds f t.stands_for w (by_number v f n)) along.none);
           places = sym (placed b (act.Set x f p.at) e);
         }
     bound (acts.no_target {p = p} {r = v} c k e) l cs ds w =
-        absurd (no_value p (leaves p) c (l.targets (instr.Assign p v) p part.itself assigned) (l.of_targets (instr.Assign p v) p part.itself assigned) k)
+        absurd (no_value p (leaves p) c (l.targets (instr.Assign p v) p part.itself assigned)
+        (l.of_targets (instr.Assign p v) p part.itself assigned) k)
     bound {b = b} (acts.tie {p = p} {q = q} x y h k both) l cs ds w =
-        tied cs ds p q b x y w (by_leaf p (leaves p) x (l.of_targets (instr.Tie p q) p part.itself left) h) (by_leaf q (leaves q) y (l.of_targets (instr.Tie p q) q part.itself right) k) both
+        tied cs ds p q b x y w (by_leaf p (leaves p) x (l.of_targets (instr.Tie p q) p part.itself left) h)
+        (by_leaf q (leaves q) y (l.of_targets (instr.Tie p q) q part.itself right) k) both
     bound (acts.no_left {p = p} {q = q} c k e) l cs ds w =
-        absurd (no_value p (leaves p) c (l.targets (instr.Tie p q) p part.itself left) (l.of_targets (instr.Tie p q) p part.itself left) k)
+        absurd (no_value p (leaves p) c (l.targets (instr.Tie p q) p part.itself left)
+        (l.of_targets (instr.Tie p q) p part.itself left) k)
     bound (acts.no_right {p = p} {q = q} c k e) l cs ds w =
-        absurd (no_value q (leaves q) c (l.targets (instr.Tie p q) q part.itself right) (l.of_targets (instr.Tie p q) q part.itself right) k)
+        absurd (no_value q (leaves q) c (l.targets (instr.Tie p q) q part.itself right)
+        (l.of_targets (instr.Tie p q) q part.itself right) k)
     bound {b = b} (acts.conditional {r = v} {first = first} {second = second} f c d h e k o) l cs ds w =
         let n = one (instr.If v first second) v f l test h in
         let q = by_number v f n in
-        let x = bound k (inner (λ j p. part.first p) l) (cs ++ (n.meaning, true) ∷ []) (ds ++ (numbered f, true) ∷ []) (more n.meaning (numbered f) true w q) in
-        let y = bound_else v first o l (cs ++ (n.meaning, false) ∷ []) (ds ++ (numbered f, false) ∷ []) (more n.meaning (numbered f) false w q) in
+        let x = bound k (inner (λ j p. part.first p) l) (cs ++ (n.meaning, true) ∷ []) (ds ++ (numbered f, true) ∷ [])
+        (more n.meaning (numbered f) true w q) in
+        let y = bound_else v first o l (cs ++ (n.meaning, false) ∷ []) (ds ++ (numbered f, false) ∷ [])
+        (more n.meaning (numbered f) false w q) in
         record {
           placed = x.placed ++ y.placed;
           are_sets = a.conditional n.meaning n.means x.are_sets y.are_sets;
-          numbers = subst (λ z. Along (Assign_renames R) (assigns_of (x.placed ++ y.placed)) z) (sym (under b (act.If f c d) e ds))
+          numbers = subst (λ z. Along (Assign_renames R) (assigns_of (x.placed ++ y.placed)) z)
+              (sym (under b (act.If f c d) e ds))
               (joined_numbers x.placed y.placed _ _ x.numbers y.numbers);
           places = joined_places x.placed y.placed _ _ x.places y.places ∙ sym (placed b (act.If f c d) e);
         }
@@ -227,11 +268,13 @@ module _ (m : RootedModel) (units : List UnitPath) (u : UnitPath) (leaves : Path
         record {
           placed = x.placed;
           are_sets = a.all x.are_sets;
-          numbers = subst (λ z. Along (Assign_renames R) (assigns_of x.placed) z) (sym (under b (act.All bs) e ds ∙ each_under bs.items ds)) x.numbers;
+          numbers = subst (λ z. Along (Assign_renames R) (assigns_of x.placed) z)
+              (sym (under b (act.All bs) e ds ∙ each_under bs.items ds)) x.numbers;
           places = x.places ∙ sym (placed b (act.All bs) e ∙ each_placed bs.items);
         }
 
-    bound_else : (v : RawExpr) (first : Box Instr Global) {second : Option (Box Instr Global)} {b : Act} → ElseActs leaves second b → AreLeaves m units u leaves (instr.If v first second) → (cs : Conditions)
+    bound_else : (v : RawExpr) (first : Box Instr Global) {second : Option (Box Instr Global)} {b : Act}
+        → ElseActs leaves second b → AreLeaves m units u leaves (instr.If v first second) → (cs : Conditions)
         (ds : g.Conditions) → Conditions_rename R cs ds → BoundElse cs ds second b
     bound_else v first {b = b} (acts.no_branch e) l cs ds w = record {
       placed = [];
@@ -243,7 +286,9 @@ module _ (m : RootedModel) (units : List UnitPath) (u : UnitPath) (leaves : Path
         let x = bound h (inner (λ j p. part.second p) l) cs ds w in
         record { placed = x.placed; are_sets = a.branch x.are_sets; numbers = x.numbers; places = x.places }
 
-    bound_all : (is : List Instr) {bs : List Act} → All_act leaves is bs → ((j : Instr) → IsOneOf is j → AreLeaves m units u leaves (out-Instr j)) → (cs : Conditions) (ds : g.Conditions)
+    bound_all : (is : List Instr) {bs : List Act} → All_act leaves is bs
+        → ((j : Instr) → IsOneOf is j → AreLeaves m units u leaves (out-Instr j))
+        → (cs : Conditions) (ds : g.Conditions)
         → Conditions_rename R cs ds → BoundAll cs ds is bs
     bound_all [] acts.none l cs ds w = record { placed = []; are_sets = a.none; numbers = along.none; places = refl }
     bound_all (j ∷ js) (acts.one_and h hs) l cs ds w =
@@ -256,7 +301,8 @@ module _ (m : RootedModel) (units : List UnitPath) (u : UnitPath) (leaves : Path
           places = joined_places x.placed y.placed _ _ x.places y.places;
         }
 
-  pub bound_instruction : (whole : InstrForm) (b : Act) → AreLeaves m units u leaves whole → ActsAs leaves whole b → IsBoundInstruction m units u whole b
+  pub bound_instruction : (whole : InstrForm) (b : Act) → AreLeaves m units u leaves whole → ActsAs leaves whole b
+      → IsBoundInstruction m units u whole b
   bound_instruction whole b l h =
       let x = bound h l [] [] i.none in
       record { placed = x.placed; sets = x.are_sets; numbers = x.numbers; places = x.places }

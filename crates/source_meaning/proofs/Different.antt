@@ -31,8 +31,10 @@ module _ {A : Type 0} where
   not_again : (x : A) (xs : List A) → AreDifferent (x ∷ xs) → IsOneOf xs x → ⊥
   not_again x xs o k = let e = o.one 0 (suc k.place) x refl k.stands in omega (arith, e)
 
-  different_joined : (xs ys : List A) → AreDifferent xs → AreDifferent ys → ((w : A) → IsOneOf xs w → IsOneOf ys w → ⊥) → AreDifferent (xs ++ ys)
-  different_joined xs ys a b n = record { one = λ i j w p q. go i j w (stands_split xs ys i w p) (stands_split xs ys j w q) }
+  different_joined : (xs ys : List A) → AreDifferent xs → AreDifferent ys → ((w : A) → IsOneOf xs w → IsOneOf ys w → ⊥)
+      → AreDifferent (xs ++ ys)
+  different_joined xs ys a b n = record
+      { one = λ i j w p q. go i j w (stands_split xs ys i w p) (stands_split xs ys j w q) }
     where
       go : (i j : ℕ) (w : A) → Stands xs i w ⊎ ((k : ℕ) × (i ≡ length xs + k) × Stands ys k w)
           → Stands xs j w ⊎ ((k : ℕ) × (j ≡ length xs + k) × Stands ys k w) → i ≡ j
@@ -51,7 +53,8 @@ module _ (u : UnitPath) (test : MemberKind → Bool) where
   apart_rest : (g : NamedMember) (gs : List NamedMember) → AreApart (g ∷ gs) → AreApart gs
   apart_rest g gs a = record { apart = λ i j x y p q e. let s = a.apart (suc i) (suc j) x y p q e in omega (arith, s) }
 
-  not_named : (g : NamedMember) (gs : List NamedMember) → AreApart (g ∷ gs) → IsOneOf (map in_unit (filter passing gs)) (in_unit g) → ⊥
+  not_named : (g : NamedMember) (gs : List NamedMember) → AreApart (g ∷ gs)
+      → IsOneOf (map in_unit (filter passing gs)) (in_unit g) → ⊥
   not_named g gs a o =
       let h = stands_map_back in_unit (filter passing gs) o.place (in_unit g) o.stands in
       let s = (filter_back passing gs h.0 (one_here (filter passing gs) o.place h.0 h.1)).0 in
@@ -63,15 +66,18 @@ module _ (u : UnitPath) (test : MemberKind → Bool) where
   names_different [] a = different_none
   names_different (g ∷ gs) a = go (names_different gs (apart_rest g gs a)) (passing g) refl
     where
-      go : AreDifferent (map in_unit (filter passing gs)) → (b : Bool) → passing g ≡ b → AreDifferent (map in_unit (filter passing (g ∷ gs)))
+      go : AreDifferent (map in_unit (filter passing gs)) → (b : Bool) → passing g ≡ b
+          → AreDifferent (map in_unit (filter passing (g ∷ gs)))
       go rest true e = rw e (different_first (in_unit g) (map in_unit (filter passing gs)) (not_named g gs a) rest)
       go rest false e = rw e rest
 
 module _ (m : RootedModel) (test : MemberKind → Bool) where
-  listed : (units : List UnitPath) → ((u : UnitPath) → AreDifferent (things_in test m u)) → AreDifferent units → AreDifferent (flat_map (things_in test m) units)
+  listed : (units : List UnitPath) → ((u : UnitPath) → AreDifferent (things_in test m u)) → AreDifferent units
+      → AreDifferent (flat_map (things_in test m) units)
   listed [] each a = different_none
   listed (u ∷ us) each a =
-      different_joined (things_in test m u) (flat_map (things_in test m) us) (each u) (listed us each (different_rest u us a))
+      different_joined (things_in test m u) (flat_map (things_in test m) us) (each u)
+      (listed us each (different_rest u us a))
       (λ t p q.
       let o = flat_origin (things_in test m) us q.place t q.stands in
       let here : t.unit ≡ u = thing_unit m test u t p in
@@ -79,5 +85,7 @@ module _ (m : RootedModel) (test : MemberKind → Bool) where
       not_again u us a (subst (λ (z : UnitPath). IsOneOf us z) (sym there ∙ here) (one_here us o.from o.item o.stands)))
 
   -- nothing of a kind is listed twice
-  pub things_different : (units : List UnitPath) → IsKept m → AreUnits m units → AreDifferent (flat_map (things_in test m) units)
-  things_different units k are = listed units (λ u. names_different u test (names_at m u) (members_apart k u)) (units_different k are)
+  pub things_different : (units : List UnitPath) → IsKept m → AreUnits m units
+      → AreDifferent (flat_map (things_in test m) units)
+  things_different units k are = listed units (λ u. names_different u test (names_at m u) (members_apart k u))
+      (units_different k are)

@@ -38,19 +38,25 @@ module _ {W : Type 0} (h : VarId → W) where
   abbrev Proved : Type 0
   Proved = (e : Expr VarId) × Renamed e
 
-  each : (es : List Proved) → All_rename IsMoved (map (λ (e : Proved). e.0) es) (map moved (map (λ (e : Proved). e.0) es))
+  each : (es : List Proved) → All_rename IsMoved (map (λ (e : Proved). e.0) es)
+      (map moved (map (λ (e : Proved). e.0) es))
   each [] = r.none
   each (e ∷ es) = r.one_and e.1 (each es)
 
-  each_part : (ps : List (Bool × Proved)) → Parts_rename IsMoved (map (λ (p : Bool × Proved). (p.0, p.1.0)) ps) (map (λ (p : Bool × Expr VarId). (p.0, moved p.1)) (map (λ (p : Bool × Proved). (p.0, p.1.0)) ps))
+  each_part : (ps : List (Bool × Proved))
+      → Parts_rename IsMoved (map (λ (p : Bool × Proved). (p.0, p.1.0)) ps)
+      (map (λ (p : Bool × Expr VarId). (p.0, moved p.1)) (map (λ (p : Bool × Proved). (p.0, p.1.0)) ps))
   each_part [] = r.no_part
   each_part (p ∷ ps) = r.part p.1.1 (each_part ps)
 
-  each_case : (cs : List (Proved × Proved)) → Cases_rename IsMoved (map (λ (c : Proved × Proved). (c.0.0, c.1.0)) cs) (map (λ (c : Expr VarId × Expr VarId). (moved c.0, moved c.1)) (map (λ (c : Proved × Proved). (c.0.0, c.1.0)) cs))
+  each_case : (cs : List (Proved × Proved))
+      → Cases_rename IsMoved (map (λ (c : Proved × Proved). (c.0.0, c.1.0)) cs)
+      (map (λ (c : Expr VarId × Expr VarId). (moved c.0, moved c.1)) (map (λ (c : Proved × Proved). (c.0.0, c.1.0)) cs))
   each_case [] = r.no_case
   each_case (c ∷ cs) = r.case_and c.0.1 c.1.1 (each_case cs)
 
-  layer : (y : Expr-F VarId Proved) → Renames IsMoved (map-Expr VarId Proved (Expr VarId) (λ e. e.0) y) (move_step (map-Expr VarId (Expr VarId) (Expr W) moved (map-Expr VarId Proved (Expr VarId) (λ e. e.0) y)))
+  layer : (y : Expr-F VarId Proved) → Renames IsMoved (map-Expr VarId Proved (Expr VarId) (λ e. e.0) y)
+      (move_step (map-Expr VarId (Expr VarId) (Expr W) moved (map-Expr VarId Proved (Expr VarId) (λ e. e.0) y)))
   layer (Constant v) = r.constant
   layer (Variable x) = r.variable refl
   layer (Not a) = r.opposite a.value.1
@@ -67,9 +73,11 @@ module _ {W : Type 0} (h : VarId → W) where
   pub renames_moved : (e : Expr VarId) → Renames IsMoved (out-Expr VarId e) (out-Expr W (moved e))
   renames_moved = ind-Expr VarId Renamed (λ x y is.
       let at_x : Renames IsMoved x (move_step (map-Expr VarId (Expr VarId) (Expr W) moved x)) =
-      subst (λ (z : Level VarId). Renames IsMoved z (move_step (map-Expr VarId (Expr VarId) (Expr W) moved z))) is (layer y) in
+      subst (λ (z : Level VarId). Renames IsMoved z (move_step (map-Expr VarId (Expr VarId) (Expr W) moved z))) is
+      (layer y) in
       let left : out-Expr VarId (roll-Expr VarId x) ≡ x = out-roll-Expr VarId x in
       let right : out-Expr W (moved (roll-Expr VarId x)) ≡ move_step (map-Expr VarId (Expr VarId) (Expr W) moved x) =
-      ap (out-Expr W) (fold-roll-Expr VarId (Expr W) (λ (z : Expr-F VarId (Expr W)). roll-Expr W (move_step z)) x) ∙ out-roll-Expr W (move_step (map-Expr VarId (Expr VarId) (Expr W) moved x)) in
+      ap (out-Expr W) (fold-roll-Expr VarId (Expr W) (λ (z : Expr-F VarId (Expr W)). roll-Expr W (move_step z)) x)
+      ∙ out-roll-Expr W (move_step (map-Expr VarId (Expr VarId) (Expr W) moved x)) in
       subst (λ (z : Level VarId). Renames IsMoved z (out-Expr W (moved (roll-Expr VarId x)))) (sym left)
       (subst (λ (z : Level W). Renames IsMoved x z) (sym right) at_x))

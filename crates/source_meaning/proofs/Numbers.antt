@@ -11,7 +11,8 @@ use Rattle.hierarchy.specs.Settings.{Attribute, in_force}
 use Rattle.source_meaning.specs.Means.{Means, ValueOf, whole, value, no_facts}
 use Rattle.bind_expressions.specs.Operands.{level_of}
 
-pub number_value : (m : RootedModel) (t : Thing) (a : Attribute) (n : ℤ) → in_force m t ≡ Some a → level_of a.value ≡ raw.Whole n → ValueOf m t (v.Whole n)
+pub number_value : (m : RootedModel) (t : Thing) (a : Attribute) (n : ℤ) → in_force m t ≡ Some a
+    → level_of a.value ≡ raw.Whole n → ValueOf m t (v.Whole n)
 number_value m t a n e w =
     let rolled = sym (out-roll-Expr Thing (Constant (v.Whole n))) in
     value a (roll-Expr Thing (Constant (v.Whole n))) e

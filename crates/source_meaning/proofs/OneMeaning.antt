@@ -55,7 +55,8 @@ named u x = record { unit = u; name = x }
 thing_same : {t s : Thing} → t.unit ≡ s.unit → t.name ≡ s.name → t ≡ s
 thing_same {t = t} {s = s} p q = ap (λ u. named u t.name) p ∙ ap (named s.unit) q
 
-pub leads_same : {m : RootedModel} {u : UnitPath} {start : PathStart} {names : List ℕ} {t s : Thing} → LeadsTo m u start names t → LeadsTo m u start names s → t ≡ s
+pub leads_same : {m : RootedModel} {u : UnitPath} {start : PathStart} {names : List ℕ} {t s : Thing}
+    → LeadsTo m u start names t → LeadsTo m u start names s → t ≡ s
 leads_same {m = m} {u = u} {start = start} {t = t} {s = s} d e =
     let joined : d.front ++ t.name ∷ [] ≡ e.front ++ s.name ∷ [] = sym d.split ∙ e.split in
     let fronts = fronts_same d.front e.front t.name s.name joined in
@@ -95,17 +96,20 @@ goes_nowhere : {m : RootedModel} {u v : UnitPath} → NamesLead m [] (Some u) []
 goes_nowhere arrives = refl
 
 -- a path that is one name names what the unit gives that name
-pub single_found : {m : RootedModel} {u : UnitPath} (p : Path) {x : ℕ} {test : MemberKind → Bool} {t : Thing} → (f : Finds m test u p t) → p.start ≡ Here → numbers p.names.items ≡ x ∷ []
+pub single_found : {m : RootedModel} {u : UnitPath} (p : Path) {x : ℕ} {test : MemberKind → Bool} {t : Thing}
+    → (f : Finds m test u p t) → p.start ≡ Here → numbers p.names.items ≡ x ∷ []
     → kind_at m u x ≡ Some f.has.kind
 single_found {m = m} {u = u} p {x = x} {t = t} f here single =
     let names : x ∷ [] ≡ f.leads.front ++ t.name ∷ [] = sym single ∙ f.leads.split in
     let split = one_name f.leads.front names in
     let at_front = subst (λ xs. NamesLead m [] (start_of p.start u) xs (Reaches t.unit)) split.0 f.leads.reaches in
     let from_here = subst (λ b. NamesLead m [] (start_of b u) [] (Reaches t.unit)) here at_front in
-    let known = subst (λ (v : UnitPath). kind_at m v t.name ≡ Some f.has.kind) (sym (goes_nowhere from_here)) f.has.is in
+    let known = subst (λ (v : UnitPath). kind_at m v t.name ≡ Some f.has.kind) (sym (goes_nowhere from_here))
+    f.has.is in
     subst (λ z. kind_at m u z ≡ Some f.has.kind) (sym split.1) known
 
-pub no_symbol : {m : RootedModel} {u : UnitPath} {p : Path} {k : ℕ} {test : MemberKind → Bool} {t : Thing} → Finds m test u p t → IsSymbol m u p k → ⊥
+pub no_symbol : {m : RootedModel} {u : UnitPath} {p : Path} {k : ℕ} {test : MemberKind → Bool} {t : Thing}
+    → Finds m test u p t → IsSymbol m u p k → ⊥
 no_symbol {p = p} f s = given_nothing s.not_given (single_found p f s.here s.single)
 
 -- Symbols
@@ -113,7 +117,8 @@ no_symbol {p = p} f s = given_nothing s.not_given (single_found p f s.here s.sin
 first_same : {x y : ℕ} → x ∷ [] ≡ y ∷ [] → x ≡ y
 first_same e = cc
 
-symbol_same : {m : RootedModel} {u : UnitPath} {p : Path} {j k : ℕ} → AreDifferent m.declared.symbols → IsSymbol m u p j → IsSymbol m u p k → j ≡ k
+symbol_same : {m : RootedModel} {u : UnitPath} {p : Path} {j k : ℕ} → AreDifferent m.declared.symbols → IsSymbol m u p j
+    → IsSymbol m u p k → j ≡ k
 symbol_same {m = m} {j = j} {k = k} d s t =
     let name = first_same (sym t.single ∙ s.single) in
     d.one j k s.name s.stands (subst (λ x. Stands m.declared.symbols k x) name t.stands)
@@ -134,21 +139,25 @@ same_attribute p q = cc
 
 module _ (m : RootedModel) (different : AreDifferent m.declared.symbols) where
   mutual
-    pub means_same : {u : UnitPath} {e : RawLevel} {l k : Level Thing} → Means m u e l → Means m u e k → Renames (λ (x y : Thing). x ≡ y) l k
+    pub means_same : {u : UnitPath} {e : RawLevel} {l k : Level Thing} → Means m u e l → Means m u e k
+        → Renames (λ (x y : Thing). x ≡ y) l k
     means_same means.truth means.truth = r.constant
     means_same means.whole means.whole = r.constant
     means_same (means.variable f) (means.variable g) = r.variable (leads_same f.leads g.leads)
     means_same (means.variable f) (means.parameter t g v) = absurd (never_both (leads_same f.leads g.leads) f.has g.has)
     means_same (means.variable f) (means.symbol s) = absurd (no_symbol f s)
     means_same (means.parameter t g v) (means.variable f) = absurd (never_both (leads_same f.leads g.leads) f.has g.has)
-    means_same (means.parameter t g v) (means.parameter {v = w} t' g' v') = constant_same (value_same v (subst (λ s. ValueOf m s w) (sym (leads_same g.leads g'.leads)) v'))
+    means_same (means.parameter t g v) (means.parameter {v = w} t' g' v') =
+        constant_same (value_same v (subst (λ s. ValueOf m s w) (sym (leads_same g.leads g'.leads)) v'))
     means_same (means.parameter t g v) (means.symbol s) = absurd (no_symbol g s)
     means_same (means.symbol s) (means.variable f) = absurd (no_symbol f s)
     means_same (means.symbol s) (means.parameter t g v) = absurd (no_symbol g s)
     means_same (means.symbol s) (means.symbol t) = constant_same (ap Symbol (symbol_same different s t))
     means_same (means.opposite d) (means.opposite e) = r.opposite (means_same d e)
     means_same (means.negative {parts = ps} x d p) (means.negative {parts = qs} y e q) =
-        r.sum (subst (λ zs. Parts_rename (λ (x y : Thing). x ≡ y) zs qs.items) (sym p) (subst (λ zs. Parts_rename (λ (x y : Thing). x ≡ y) ((false, x) ∷ []) zs) (sym q) (r.part (means_same d e) r.no_part)))
+        r.sum (subst (λ zs. Parts_rename (λ (x y : Thing). x ≡ y) zs qs.items) (sym p)
+        (subst (λ zs. Parts_rename (λ (x y : Thing). x ≡ y) ((false, x) ∷ []) zs) (sym q)
+        (r.part (means_same d e) r.no_part)))
     means_same (means.all d) (means.all e) = r.all (all_same d e)
     means_same (means.any d) (means.any e) = r.any (all_same d e)
     means_same (means.compared d e) (means.compared d' e') = r.compared (means_same d d') (means_same e e')
@@ -159,20 +168,25 @@ module _ (m : RootedModel) (different : AreDifferent m.declared.symbols) where
     means_same (means.count d) (means.count e) = r.count (all_same d e)
     means_same (means.choice d e) (means.choice d' e') = r.choice (cases_same d d') (means_same e e')
 
-    all_same : {u : UnitPath} {es : List RawExpr} {ls ks : List (Expr Thing)} → All_mean m u es ls → All_mean m u es ks → All_rename (λ (x y : Thing). x ≡ y) ls ks
+    all_same : {u : UnitPath} {es : List RawExpr} {ls ks : List (Expr Thing)} → All_mean m u es ls → All_mean m u es ks
+        → All_rename (λ (x y : Thing). x ≡ y) ls ks
     all_same means.none means.none = r.none
     all_same (means.one_and d ds) (means.one_and e es) = r.one_and (means_same d e) (all_same ds es)
 
-    parts_same : {u : UnitPath} {es : List (Bool × RawExpr)} {ls ks : List (Bool × Expr Thing)} → Parts_mean m u es ls → Parts_mean m u es ks → Parts_rename (λ (x y : Thing). x ≡ y) ls ks
+    parts_same : {u : UnitPath} {es : List (Bool × RawExpr)} {ls ks : List (Bool × Expr Thing)} → Parts_mean m u es ls
+        → Parts_mean m u es ks → Parts_rename (λ (x y : Thing). x ≡ y) ls ks
     parts_same means.no_part means.no_part = r.no_part
     parts_same (means.part d ds) (means.part e es) = r.part (means_same d e) (parts_same ds es)
 
-    cases_same : {u : UnitPath} {es : List (RawExpr × RawExpr)} {ls ks : List (Expr Thing × Expr Thing)} → Cases_mean m u es ls → Cases_mean m u es ks → Cases_rename (λ (x y : Thing). x ≡ y) ls ks
+    cases_same : {u : UnitPath} {es : List (RawExpr × RawExpr)} {ls ks : List (Expr Thing × Expr Thing)}
+        → Cases_mean m u es ls → Cases_mean m u es ks → Cases_rename (λ (x y : Thing). x ≡ y) ls ks
     cases_same means.no_case means.no_case = r.no_case
-    cases_same (means.case_and d e ds) (means.case_and d' e' es) = r.case_and (means_same d d') (means_same e e') (cases_same ds es)
+    cases_same (means.case_and d e ds) (means.case_and d' e' es) =
+        r.case_and (means_same d d') (means_same e e') (cases_same ds es)
 
     pub value_same : {t : Thing} {v w : Value} → ValueOf m t v → ValueOf m t w → v ≡ w
     value_same {v = v} {w = w} (means.value a e i d y) (means.value b f j g z) =
-        let there = subst (λ (x : Attribute). Means m x.unit (level_of x.value) (out-Expr Thing f)) (sym (same_attribute i j)) g in
+        let there = subst (λ (x : Attribute). Means m x.unit (level_of x.value) (out-Expr Thing f))
+        (sym (same_attribute i j)) g in
         let carried = carries Thing Thing no_facts no_facts (λ x y. x ≡ y) kept y (means_same d there) in
         yields_one Thing no_facts no_fact carried z

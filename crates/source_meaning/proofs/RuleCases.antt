@@ -29,32 +29,54 @@ none_some : {o : Option MemberKind} {k : MemberKind} → o ≡ None → o ≡ So
 none_some p q = cc
 
 -- a target that the unit gives nothing
-pub unknown_target : (m : RootedModel) (units : List UnitPath) (u : UnitPath) (whole : Instr) (p : Path) (e : RawExpr) (x : ℕ) → IsOneOf units u → IsOneOf (forms_at m u) (member.Assert whole)
-    → out-Instr whole ≡ instr.Assign p e → p.start ≡ Here → numbers p.names.items ≡ x ∷ [] → kind_at m u x ≡ None → Breaks m units 10 p.at
+pub unknown_target : (m : RootedModel) (units : List UnitPath) (u : UnitPath) (whole : Instr) (p : Path) (e : RawExpr)
+    (x : ℕ) → IsOneOf units u → IsOneOf (forms_at m u) (member.Assert whole)
+    → out-Instr whole ≡ instr.Assign p e → p.start ≡ Here → numbers p.names.items ≡ x ∷ [] → kind_at m u x ≡ None
+    → Breaks m units 10 p.at
 unknown_target m units u whole p e x i j q here single none =
-    l10 (in_instruction (instr.Assign p e) i (inr (record { whole = whole; is_member = j; is_part = subst (λ (f : InstrForm). IsPartOf (instr.Assign p e) f) (sym q) itself }))
+    l10 (in_instruction (instr.Assign p e) i
+    (inr (record {
+      whole = whole;
+      is_member = j;
+      is_part = subst (λ (f : InstrForm). IsPartOf (instr.Assign p e) f) (sym q) itself;
+    }))
     (target (λ n. none_some none (single_found p n.finds here single))))
 
 -- a `:=:` in an action
-pub acted_tie : (m : RootedModel) (units : List UnitPath) (u : UnitPath) (p q : Path) → IsOneOf units u → InAction m u (instr.Tie p q) → Breaks m units 13 p.at
+pub acted_tie : (m : RootedModel) (units : List UnitPath) (u : UnitPath) (p q : Path) → IsOneOf units u
+    → InAction m u (instr.Tie p q) → Breaks m units 13 p.at
 acted_tie m units u p q i a = l13 (in_action (instr.Tie p q) i a ties)
 
 -- a name of a member and of a symbol
-pub hidden_symbol : (m : RootedModel) (u : UnitPath) (p : Path) (x k : ℕ) (kind : MemberKind) → numbers p.names.items ≡ x ∷ [] → kind_at m u x ≡ Some kind → IsSymbol m u p k → ⊥
+pub hidden_symbol : (m : RootedModel) (u : UnitPath) (p : Path) (x k : ℕ) (kind : MemberKind)
+    → numbers p.names.items ≡ x ∷ [] → kind_at m u x ≡ Some kind → IsSymbol m u p k → ⊥
 hidden_symbol m u p x k kind single given s =
     let names : s.name ∷ [] ≡ x ∷ [] = sym s.single ∙ single in
     let same : s.name ≡ x = cc names in
     none_some (subst (λ (z : ℕ). kind_at m u z ≡ None) same s.not_given) given
 
 -- a `:=:` is two assignments
-pub two_ways : (m : RootedModel) (u : UnitPath) (when : Conditions) (p q : Path) (ps : List Placed) → Sets m u when (instr.Tie p q) ps → AreTied m u when p q ps
-two_ways m u when p q ps (tie {s = s} {t = t} {d = d} {e = e} f g i j) = record { left = s; right = t; of_left = d; of_right = e; is_left = f; is_right = g; names_left = i; names_right = j; are = refl }
+pub two_ways : (m : RootedModel) (u : UnitPath) (when : Conditions) (p q : Path) (ps : List Placed)
+    → Sets m u when (instr.Tie p q) ps → AreTied m u when p q ps
+two_ways m u when p q ps (tie {s = s} {t = t} {d = d} {e = e} f g i j) =
+    record {
+      left = s;
+      right = t;
+      of_left = d;
+      of_right = e;
+      is_left = f;
+      is_right = g;
+      names_left = i;
+      names_right = j;
+      are = refl;
+    }
 
 -- one refusal
 declared_never : {t : Unfolded} {f : RuleFault} → Declares t (Err f) → ⊥
 declared_never h = elim h [ ]
 
-pub refusal_one : (t : Unfolded) (r s : ℕ) (p q : Place) → Binds t (Err (Rule r p)) → Binds t (Err (Rule s q)) → (r ≡ s) × (p ≡ q)
+pub refusal_one : (t : Unfolded) (r s : ℕ) (p q : Place) → Binds t (Err (Rule r p)) → Binds t (Err (Rule s q))
+    → (r ≡ s) × (p ≡ q)
 refusal_one t r s p q (refuses (broken b)) (refuses (broken c)) = breach_one name_rules (name_breaks t) r s p q b c
 refusal_one t r s p q (refuses h) (passes b k d) = absurd (declared_never d)
 refusal_one t r s p q (passes b k d) h = absurd (declared_never d)

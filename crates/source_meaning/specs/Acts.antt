@@ -38,30 +38,40 @@ abbrev pub places_of : List Placed → List Place
 places_of ps = map (λ (p : Placed). p.at) ps
 
 mutual
-  -- the instruction, read in the unit u under these conditions, has these assignments in the order of the text; `v :=: w` is `v := w` and then `w := v`
+  -- the instruction, read in the unit u under these conditions, has these assignments in the order of the text; `v :=:
+  -- w` is `v := w` and then `w := v`
   pub data Sets (m : RootedModel) (u : UnitPath) : Conditions → InstrForm → List Placed → Type 0 where
     skip : {when : Conditions} → Sets m u when instr.Skip []
-    assign : {when : Conditions} {p : Path} {r : RawExpr} {t : Thing} {e : Expr Thing} → Finds m is_variable u p t → Means m u (level_of r) (out-Expr Thing e)
+    assign : {when : Conditions} {p : Path} {r : RawExpr} {t : Thing} {e : Expr Thing} → Finds m is_variable u p t
+        → Means m u (level_of r) (out-Expr Thing e)
         → Sets m u when (instr.Assign p r) (sets t when e p.at ∷ [])
-    tie : {when : Conditions} {p q : Path} {s t : Thing} {d e : Expr Thing} → Finds m is_variable u p s → Finds m is_variable u q t → out-Expr Thing d ≡ Variable s
+    tie : {when : Conditions} {p q : Path} {s t : Thing} {d e : Expr Thing} → Finds m is_variable u p s
+        → Finds m is_variable u q t → out-Expr Thing d ≡ Variable s
         → out-Expr Thing e ≡ Variable t → Sets m u when (instr.Tie p q) (sets s when e p.at ∷ sets t when d q.at ∷ [])
-    conditional : {when : Conditions} {r : RawExpr} (e : Expr Thing) {first : Box Instr Global} {second : Option (Box Instr Global)} {xs ys : List Placed}
-        → Means m u (level_of r) (out-Expr Thing e) → Sets m u (when ++ (e, true) ∷ []) (out-Instr first.value) xs → Sets_else m u (when ++ (e, false) ∷ []) second ys
+    conditional : {when : Conditions} {r : RawExpr} (e : Expr Thing) {first : Box Instr Global}
+        {second : Option (Box Instr Global)} {xs ys : List Placed}
+        → Means m u (level_of r) (out-Expr Thing e) → Sets m u (when ++ (e, true) ∷ []) (out-Instr first.value) xs
+        → Sets_else m u (when ++ (e, false) ∷ []) second ys
         → Sets m u when (instr.If r first second) (xs ++ ys)
-    all : {when : Conditions} {is : Vec Instr Global} {xs : List Placed} → Sets_all m u when is.items xs → Sets m u when (instr.All is) xs
+    all : {when : Conditions} {is : Vec Instr Global} {xs : List Placed} → Sets_all m u when is.items xs
+        → Sets m u when (instr.All is) xs
 
   -- a second branch that is not there assigns nothing
-  pub data Sets_else (m : RootedModel) (u : UnitPath) : Conditions → Option (Box Instr Global) → List Placed → Type 0 where
+  pub data Sets_else (m : RootedModel) (u : UnitPath) : Conditions → Option (Box Instr Global) → List Placed
+      → Type 0 where
     no_branch : {when : Conditions} → Sets_else m u when None []
-    branch : {when : Conditions} {i : Box Instr Global} {xs : List Placed} → Sets m u when (out-Instr i.value) xs → Sets_else m u when (Some i) xs
+    branch : {when : Conditions} {i : Box Instr Global} {xs : List Placed} → Sets m u when (out-Instr i.value) xs
+        → Sets_else m u when (Some i) xs
 
   -- the assignments of several instructions, one after the other
   pub data Sets_all (m : RootedModel) (u : UnitPath) : Conditions → List Instr → List Placed → Type 0 where
     none : {when : Conditions} → Sets_all m u when [] []
-    one_and : {when : Conditions} {i : Instr} {is : List Instr} {xs ys : List Placed} → Sets m u when (out-Instr i) xs → Sets_all m u when is ys
+    one_and : {when : Conditions} {i : Instr} {is : List Instr} {xs ys : List Placed} → Sets m u when (out-Instr i) xs
+        → Sets_all m u when is ys
         → Sets_all m u when (i ∷ is) (xs ++ ys)
 
--- the assignments are the two of `p :=: q`: the left variable gets the value of the right one, and the right one that of the left
+-- the assignments are the two of `p :=: q`: the left variable gets the value of the right one, and the right one that
+-- of the left
 pub record AreTied (m : RootedModel) (u : UnitPath) (when : Conditions) (p q : Path) (ps : List Placed) : Type 0 where
   pub left : Thing
   pub right : Thing

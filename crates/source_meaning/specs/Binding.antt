@@ -1,4 +1,5 @@
--- What it is that bound forms are those of declarations: number n stands for the item at place n of the list of its kind.
+-- What it is that bound forms are those of declarations: number n stands for the item at place n of the list of its
+-- kind.
 use Rattle.std.specs.Prelude.{◌≡◌, ℕ, Bool, List, map, Some, Result, Ok, Err, Vec}
 use Rattle.std.specs.Global.{Global}
 use Rattle.std.specs.List.{flat_map}
@@ -49,7 +50,8 @@ IsEventNumber d t n = Stands (events d.model d.units) n t
 -- a bound synchronisation has the place of the event's name
 pub data HasPlace : MemberForm → DeclaredWay → Type 0 where
   local : {f : MemberForm} {guard : Expr VarId} {a : Act} → HasPlace f (Local guard a)
-  sync : {f : MemberForm} {parts : Vec (Bool × EventId) Global} {at : Place} (x : NameId) → IsWayOf f x at → HasPlace f (Sync parts at)
+  sync : {f : MemberForm} {parts : Vec (Bool × EventId) Global} {at : Place} (x : NameId)
+      → IsWayOf f x at → HasPlace f (Sync parts at)
 
 -- Texts and kinds
 
@@ -57,27 +59,37 @@ pub data HasPlace : MemberForm → DeclaredWay → Type 0 where
 pub record HasTexts (d : Declarations) (b : Bound) : Type 0 where
   pub symbols : b.symbols.items ≡ map (name_text d.model) d.model.declared.symbols
   pub units_are : b.units.items ≡ map (unit_path d.model) d.units
-  pub variables_are : map (λ (x : Variable). x.path) b.variables.items ≡ map (thing_path d.model) (variables d.model d.units)
-  pub events_are : map (λ (e : DeclaredEvent). e.path) b.events.items ≡ map (thing_path d.model) (events d.model d.units)
-  pub observers_are : map (λ (o : Observer). o.path) b.observers.items ≡ map (thing_path d.model) (observers d.model d.units)
+  pub variables_are : map (λ (x : Variable). x.path) b.variables.items
+      ≡ map (thing_path d.model) (variables d.model d.units)
+  pub events_are : map (λ (e : DeclaredEvent). e.path) b.events.items
+      ≡ map (thing_path d.model) (events d.model d.units)
+  pub observers_are : map (λ (o : Observer). o.path) b.observers.items
+      ≡ map (thing_path d.model) (observers d.model d.units)
 
 -- the kind of an observer is that of its type
 pub data HasKind (m : RootedModel) (t : Thing) (o : Observer) : Type 0 where
-  kind : (type : TypeForm) (e : RawExpr) → kind_at m t.unit t.name ≡ Some (given.Observer type e) → kind_of_type m type ≡ Some o.kind
+  kind : (type : TypeForm) (e : RawExpr) → kind_at m t.unit t.name ≡ Some (given.Observer type e)
+      → kind_of_type m type ≡ Some o.kind
       → HasKind m t o
 
 -- the variables and the assertions of bound forms, over numbers
 abbrev pub net_of_bound : Bound → Net ℕ
-net_of_bound b = record { variables = variables_from 0 b.variables.items; assertions = flat_map assigns_of_act b.assertions.items }
+net_of_bound b = record {
+  variables = variables_from 0 b.variables.items;
+  assertions = flat_map assigns_of_act b.assertions.items;
+}
 
 -- the bound forms are those of the declarations, with numbers in place of things
 pub record IsBoundFrom (d : Declarations) (b : Bound) : Type 0 where
   pub net : IsNetImage (IsVariableNumber d) d.net (net_of_bound b)
   pub places : flat_map places_of_act b.assertions.items ≡ d.places
-  pub events_are : Along (Declared_renames (IsVariableNumber d) (IsEventNumber d)) d.events (declared_from 0 b.events.items)
-  pub sync_places : Along (λ (t : Thing) (e : DeclaredEvent). Along HasPlace (ways_declared d.model t) e.ways.items) (events d.model d.units)
+  pub events_are : Along (Declared_renames (IsVariableNumber d) (IsEventNumber d)) d.events
+      (declared_from 0 b.events.items)
+  pub sync_places : Along (λ (t : Thing) (e : DeclaredEvent). Along HasPlace (ways_declared d.model t) e.ways.items)
+      (events d.model d.units)
       b.events.items
-  pub observers_are : Along (λ (e : Expr Thing) (o : Observer). Expr_renames (IsVariableNumber d) e (numbered o.value)) d.observers
+  pub observers_are : Along (λ (e : Expr Thing) (o : Observer). Expr_renames (IsVariableNumber d) e (numbered o.value))
+      d.observers
       b.observers.items
   pub kinds : Along (HasKind d.model) (observers d.model d.units) b.observers.items
   pub texts : HasTexts d b
@@ -89,7 +101,8 @@ pub record IsBound (m : RootedModel) (units : List UnitPath) (tree : Tree) (b : 
   pub are : AreOf m units declarations
   pub bound : IsBoundFrom declarations b
 
--- what the binding of a model with these units answers: the bound forms, or the least broken rule of L10 to L13 with its earliest place, or want of
+-- what the binding of a model with these units answers: the bound forms, or the least broken rule of L10 to L13 with
+-- its earliest place, or want of
 -- memory, which may be told of any tree; no limit is told
 pub record BindsTo (t : Unfolded) (answer : Result Bound RuleFault) : Type 0 where
   pub meets : Meets Binds IsBoundFrom t answer

@@ -34,17 +34,24 @@ pub data IsTargetOf (p : Path) : InstrForm → Type 0 where
   left : {q : Path} → IsTargetOf p (instr.Tie p q)
   right : {q : Path} → IsTargetOf p (instr.Tie q p)
 
--- of the instruction and of those in it: their targets are variables, what stands for their paths is what these name, and nothing in their
+-- of the instruction and of those in it: their targets are variables, what stands for their paths is what these name,
+-- and nothing in their
 -- expressions has a wrong kind
-pub record AreLeaves (m : RootedModel) (units : List UnitPath) (u : UnitPath) (leaves : Path → Leaf) (whole : InstrForm) : Type 0 where
+pub record AreLeaves (m : RootedModel) (units : List UnitPath) (u : UnitPath) (leaves : Path → Leaf)
+    (whole : InstrForm) : Type 0 where
   pub targets : (i : InstrForm) (p : Path) → IsPartOf i whole → IsTargetOf p i → NamesVariable m u p
   pub of_targets : (i : InstrForm) (p : Path) → IsPartOf i whole → IsTargetOf p i → IsLeafFor m units u p (leaves p)
-  pub of_expressions : (i : InstrForm) (e : RawExpr) (p : Path) → IsPartOf i whole → IsExpressionOf e i → PathIn p (level_of e) → IsLeafFor m units u p (leaves p)
-  pub right : (i : InstrForm) (e : RawExpr) (at : Place) → IsPartOf i whole → IsExpressionOf e i → IsMistyped (HasKindAt m u) AnyKind e at → ⊥
+  pub of_expressions : (i : InstrForm) (e : RawExpr) (p : Path) → IsPartOf i whole → IsExpressionOf e i
+      → PathIn p (level_of e) → IsLeafFor m units u p (leaves p)
+  pub right : (i : InstrForm) (e : RawExpr) (at : Place) → IsPartOf i whole → IsExpressionOf e i
+      → IsMistyped (HasKindAt m u) AnyKind e at → ⊥
 
--- the bound instruction has the assignments of the written one in the unit u, with numbers for variables, at the same places
-pub record IsBoundInstruction (m : RootedModel) (units : List UnitPath) (u : UnitPath) (i : InstrForm) (a : Act) : Type 0 where
+-- the bound instruction has the assignments of the written one in the unit u, with numbers for variables, at the same
+-- places
+pub record IsBoundInstruction (m : RootedModel) (units : List UnitPath) (u : UnitPath) (i : InstrForm) (a : Act) : Type
+    0 where
   pub placed : List Placed
   pub sets : Sets m u [] i placed
-  pub numbers : Along (Assign_renames (λ (t : Thing) (n : ℕ). Stands (variables m units) n t)) (assigns_of placed) (assigns_of_act a)
+  pub numbers : Along (Assign_renames (λ (t : Thing) (n : ℕ). Stands (variables m units) n t)) (assigns_of placed)
+      (assigns_of_act a)
   pub places : places_of placed ≡ places_of_act a

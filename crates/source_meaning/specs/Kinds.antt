@@ -38,5 +38,6 @@ pub record IsOfKind (m : RootedModel) (t : Thing) (k : ValueKind) : Type 0 where
 
 -- the path, read in the unit u, names a variable or a parameter of this kind, or a symbol
 pub data HasKindAt (m : RootedModel) (u : UnitPath) (p : Path) : ValueKind → Type 0 where
-  thing : {k : ValueKind} (t : Thing) → LeadsTo m u p.start (numbers p.names.items) t → IsOfKind m t k → HasKindAt m u p k
+  thing : {k : ValueKind} (t : Thing) → LeadsTo m u p.start (numbers p.names.items) t → IsOfKind m t k
+      → HasKindAt m u p k
   symbol : (n : ℕ) → IsSymbol m u p n → HasKindAt m u p Symbol

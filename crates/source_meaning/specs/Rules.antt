@@ -43,23 +43,30 @@ pub data IsWayOf : MemberForm → NameId → Place → Type 0 where
 
 -- a path that names nothing of the kind that is needed, or a transition's name that is no event of its unit
 pub data BreaksNaming (m : RootedModel) (units : List UnitPath) : Place → Type 0 where
-  in_expression : {u : UnitPath} {at : Place} (s : Scope) (k : ValueKind) (e : RawExpr) → Tested m units u s k e → IsMisnamed (MayName m u s) (level_of e) at
+  in_expression : {u : UnitPath} {at : Place} (s : Scope) (k : ValueKind) (e : RawExpr) → Tested m units u s k e
+      → IsMisnamed (MayName m u s) (level_of e) at
       → BreaksNaming m units at
-  in_instruction : {u : UnitPath} {at : Place} (i : InstrForm) → IsOneOf units u → InSome m u i → MisnamesItself (MayName m u Everything) (NamesVariable m u) i at
+  in_instruction : {u : UnitPath} {at : Place} (i : InstrForm) → IsOneOf units u → InSome m u i
+      → MisnamesItself (MayName m u Everything) (NamesVariable m u) i at
       → BreaksNaming m units at
-  hides : {u : UnitPath} {p : Path} → IsOneOf units u → IsOneOf (forms_at m u) (member.Hide p) → FindsNone m is_event u p → BreaksNaming m units p.at
-  part : {u : UnitPath} (x : NameId) (at : Place) (parts : Vec Part Global) (p : Part) → IsOneOf units u → IsOneOf (forms_at m u) (member.Sync x at parts) → IsOneOf parts.items p
+  hides : {u : UnitPath} {p : Path} → IsOneOf units u → IsOneOf (forms_at m u) (member.Hide p)
+      → FindsNone m is_event u p → BreaksNaming m units p.at
+  part : {u : UnitPath} (x : NameId) (at : Place) (parts : Vec Part Global) (p : Part) → IsOneOf units u
+      → IsOneOf (forms_at m u) (member.Sync x at parts) → IsOneOf parts.items p
       → FindsNone m is_event u p.event → BreaksNaming m units p.event.at
-  way : {u : UnitPath} {at : Place} (f : MemberForm) (x : NameId) → IsOneOf units u → IsOneOf (forms_at m u) f → IsWayOf f x at
+  way : {u : UnitPath} {at : Place} (f : MemberForm) (x : NameId) → IsOneOf units u → IsOneOf (forms_at m u) f
+      → IsWayOf f x at
       → (Has m is_event (thing u x.n) → ⊥) → BreaksNaming m units at
 
 -- L11
 
 -- an expression of the wrong kind, or a right path of a `:=:` whose kind is not that of the left one
 pub data BreaksKinds (m : RootedModel) (units : List UnitPath) : Place → Type 0 where
-  in_expression : {u : UnitPath} {at : Place} (s : Scope) (k : ValueKind) (e : RawExpr) → Tested m units u s k e → IsMistyped (HasKindAt m u) (OfKind k) e at
+  in_expression : {u : UnitPath} {at : Place} (s : Scope) (k : ValueKind) (e : RawExpr) → Tested m units u s k e
+      → IsMistyped (HasKindAt m u) (OfKind k) e at
       → BreaksKinds m units at
-  in_instruction : {u : UnitPath} {at : Place} (i : InstrForm) → IsOneOf units u → InSome m u i → MistypesItself (HasKindAt m u) i at → BreaksKinds m units at
+  in_instruction : {u : UnitPath} {at : Place} (i : InstrForm) → IsOneOf units u → InSome m u i
+      → MistypesItself (HasKindAt m u) i at → BreaksKinds m units at
 
 -- L12
 
@@ -103,7 +110,8 @@ pub record Is (m : RootedModel) (test : MemberKind → Bool) (u : UnitPath) (p :
 
 -- an action assigns what is no state variable or holds a `:=:`, or an assertion assigns or ties what is no flow
 pub data BreaksTargets (m : RootedModel) (units : List UnitPath) : Place → Type 0 where
-  in_action : {u : UnitPath} {at : Place} (i : InstrForm) → IsOneOf units u → InAction m u i → MisplacedInAction (IsNot m is_state_variable u) i at
+  in_action : {u : UnitPath} {at : Place} (i : InstrForm) → IsOneOf units u → InAction m u i
+      → MisplacedInAction (IsNot m is_state_variable u) i at
       → BreaksTargets m units at
   in_assertion : {u : UnitPath} {at : Place} (i : InstrForm) → IsOneOf units u → InAssertion m u i
       → MisplacedInAssertion (IsNot m is_flow_variable u) (Is m is_flow_variable u) i at → BreaksTargets m units at

@@ -29,11 +29,14 @@ pub record IsOver (b : Bound) (p : GtsParts) : Type 0 where
 -- the instruction assigns state variables, or flows, values of their kinds, under tests that are truth values
 pub data IsSoundAct (p : GtsParts) (to_state : Bool) : Act-F Act → Type 0 where
   skip : IsSoundAct p to_state act.Skip
-  set : {x : VarId} {e : Expr VarId} {at : Place} (v : Variable) → Stands p.variables.items x.n v → v.is_state ≡ to_state
+  set : {x : VarId} {e : Expr VarId} {at : Place} (v : Variable) → Stands p.variables.items x.n v
+      → v.is_state ≡ to_state
       → IsTyped p e (kind_of_domain v.domain) → IsSoundAct p to_state (act.Set x e at)
-  conditional : {test : Expr VarId} {first second : Box Act Global} → IsTyped p test kind.Truth → IsSoundAct p to_state (out-Act first.value)
+  conditional : {test : Expr VarId} {first second : Box Act Global} → IsTyped p test kind.Truth
+      → IsSoundAct p to_state (out-Act first.value)
       → IsSoundAct p to_state (out-Act second.value) → IsSoundAct p to_state (act.If test first second)
-  all : {acts : Vec Act Global} → ((a : Act) → IsOneOf acts.items a → IsSoundAct p to_state (out-Act a)) → IsSoundAct p to_state (act.All acts)
+  all : {acts : Vec Act Global} → ((a : Act) → IsOneOf acts.items a → IsSoundAct p to_state (out-Act a))
+      → IsSoundAct p to_state (act.All acts)
 
 -- the assignment gives a state variable, or a flow, a value
 pub record SetsSort (p : GtsParts) (to_state : Bool) (a : s.Assign ℕ) : Type 0 where
@@ -50,17 +53,22 @@ pub record AreFew (b : Bound) : Type 0 where
   pub ways : (e : DeclaredEvent) → IsOneOf b.events.items e → length e.ways.items < 2 ^ 32
   pub observers : length b.observers.items < 2 ^ 32
 
--- what bound forms keep: variables have units, and values of their domains; guards are truth values; actions assign state variables and
+-- what bound forms keep: variables have units, and values of their domains; guards are truth values; actions assign
+-- state variables and
 -- assertions flows; parts are events; observers have their kinds
 pub record IsSoundBound (b : Bound) : Type 0 where
   pub few : AreFew b
   pub variables : (p : GtsParts) → IsOver b p → (n : ℕ) (x : Variable) → Stands b.variables.items n x → IsVariable p x
   pub event_units : (e : DeclaredEvent) → IsOneOf b.events.items e → e.unit.n < length b.units.items
-  pub guards : (p : GtsParts) → IsOver b p → (e : DeclaredEvent) (guard : Expr VarId) (action : Act) → IsOneOf b.events.items e
+  pub guards : (p : GtsParts) → IsOver b p → (e : DeclaredEvent) (guard : Expr VarId) (action : Act)
+      → IsOneOf b.events.items e
       → IsOneOf e.ways.items (Local guard action) → IsTyped p guard kind.Truth
-  pub actions : (p : GtsParts) → IsOver b p → (e : DeclaredEvent) (guard : Expr VarId) (action : Act) → IsOneOf b.events.items e
+  pub actions : (p : GtsParts) → IsOver b p → (e : DeclaredEvent) (guard : Expr VarId) (action : Act)
+      → IsOneOf b.events.items e
       → IsOneOf e.ways.items (Local guard action) → IsSoundAct p true (out-Act action)
-  pub parts : (e : DeclaredEvent) (parts : Vec (Bool × EventId) Global) (at : Place) (part : Bool × EventId) → IsOneOf b.events.items e
+  pub parts : (e : DeclaredEvent) (parts : Vec (Bool × EventId) Global) (at : Place) (part : Bool × EventId)
+      → IsOneOf b.events.items e
       → IsOneOf e.ways.items (Sync parts at) → IsOneOf parts.items part → part.1.n < length b.events.items
-  pub assertions : (p : GtsParts) → IsOver b p → (a : Act) → IsOneOf b.assertions.items a → IsSoundAct p false (out-Act a)
+  pub assertions : (p : GtsParts) → IsOver b p → (a : Act) → IsOneOf b.assertions.items a
+      → IsSoundAct p false (out-Act a)
   pub observers : (p : GtsParts) → IsOver b p → (o : Observer) → IsOneOf b.observers.items o → IsTyped p o.value o.kind

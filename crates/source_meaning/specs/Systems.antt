@@ -35,7 +35,8 @@ use Rattle.source_meaning.specs.Rules.{Breaks, name_rules}
 
 -- Variables
 
--- what a variable is: it stands for itself, in the unit of this number, with its domain's values and the value of its init or reset
+-- what a variable is: it stands for itself, in the unit of this number, with its domain's values and the value of its
+-- init or reset
 pub record IsVariable (m : RootedModel) (units : List UnitPath) (t : Thing) (x : s.Variable Thing) : Type 0 where
   pub key : x.key ≡ t
   pub unit : Stands units x.unit t.unit
@@ -53,7 +54,8 @@ pub record IsVariable (m : RootedModel) (units : List UnitPath) (t : Thing) (x :
 -- the assignments of these instructions, one after the other
 pub data AreAsserted (m : RootedModel) : List (In Instr) → List Placed → Type 0 where
   none : AreAsserted m [] []
-  one_and : {i : In Instr} {is : List (In Instr)} {xs ys : List Placed} → Sets m i.unit [] (out-Instr i.item) xs → AreAsserted m is ys → AreAsserted m (i ∷ is) (xs ++ ys)
+  one_and : {i : In Instr} {is : List (In Instr)} {xs ys : List Placed} → Sets m i.unit [] (out-Instr i.item) xs
+      → AreAsserted m is ys → AreAsserted m (i ∷ is) (xs ++ ys)
 
 -- Events
 
@@ -70,12 +72,17 @@ pub record IsPart (m : RootedModel) (u : UnitPath) (part : Part) (p : Bool × Th
 
 -- what a transition or a synchronisation of the unit u is
 pub data IsMember (m : RootedModel) (u : UnitPath) : MemberForm → Member (Transition Thing) Thing → Type 0 where
-  local : {x : NameId} {at : Place} {guard : RawExpr} {action : Instr} {g : Expr Thing} {ps : List Placed} → Means m u (level_of guard) (out-Expr Thing g)
-      → Sets m u [] (out-Instr action) ps → IsMember m u (member.Local x at guard action) (One (record { guard = g; action = assigns_of ps }))
-  sync : {x : NameId} {at : Place} {parts : Vec Part Global} {ps : List (Bool × Thing)} → Along (IsPart m u) parts.items ps → IsMember m u (member.Sync x at parts) (Synchronises ps)
+  local : {x : NameId} {at : Place} {guard : RawExpr} {action : Instr} {g : Expr Thing} {ps : List Placed}
+      → Means m u (level_of guard) (out-Expr Thing g)
+      → Sets m u [] (out-Instr action) ps
+      → IsMember m u (member.Local x at guard action) (One (record { guard = g; action = assigns_of ps }))
+  sync : {x : NameId} {at : Place} {parts : Vec Part Global} {ps : List (Bool × Thing)}
+      → Along (IsPart m u) parts.items ps → IsMember m u (member.Sync x at parts) (Synchronises ps)
 
--- what an event is: it stands for itself, in the unit of this number, hidden where a hide clause names it, with its members in order
-pub record IsEvent (m : RootedModel) (units : List UnitPath) (t : Thing) (d : Declared (Transition Thing) Thing) : Type 0 where
+-- what an event is: it stands for itself, in the unit of this number, hidden where a hide clause names it, with its
+-- members in order
+pub record IsEvent (m : RootedModel) (units : List UnitPath) (t : Thing) (d : Declared (Transition Thing) Thing) : Type
+    0 where
   pub key : d.key ≡ t
   pub unit : Stands units d.unit t.unit
   pub hidden : IsAnswer d.hidden (IsHidden m units t)
@@ -92,7 +99,8 @@ pub record IsObserver (m : RootedModel) (t : Thing) (e : Expr Thing) : Type 0 wh
 
 -- The system
 
--- what the declarations of a tree say: its variables and assertions, its events as they are declared, its observers, and where the targets of
+-- what the declarations of a tree say: its variables and assertions, its events as they are declared, its observers,
+-- and where the targets of
 -- the assertions' assignments stand
 pub record Declarations : Type 0 where
   pub model : RootedModel

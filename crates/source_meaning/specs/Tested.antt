@@ -44,7 +44,8 @@ InSome m u i = InAction m u i ⊎ InAssertion m u i
 
 -- Expressions
 
--- what an expression may name: all variables and parameters; parameters of its unit alone; or of these those alone that come before a name in the unit
+-- what an expression may name: all variables and parameters; parameters of its unit alone; or of these those alone that
+-- come before a name in the unit
 pub data Scope : Type 0 where
   Everything : Scope
   Constants : Scope
@@ -60,14 +61,17 @@ pub data HasValue (m : RootedModel) (units : List UnitPath) (t : Thing) : Type 0
   of_variable : IsOneOf (variables m units) t → HasValue m units t
   of_parameter : IsOneOf (parameters m units) t → Has m is_valued t → HasValue m units t
 
--- the expression, of which this kind is wanted, is tested where it stands in the unit, apart from those in instructions: a value in force,
+-- the expression, of which this kind is wanted, is tested where it stands in the unit, apart from those in
+-- instructions: a value in force,
 -- an observer or a guard
 pub data Tested (m : RootedModel) (units : List UnitPath) : UnitPath → Scope → ValueKind → RawExpr → Type 0 where
   value : {k : ValueKind} (t : Thing) (a : Attribute) → HasValue m units t → in_force m t ≡ Some a → IsOfKind m t k
       → Tested m units a.unit (scope_of t.name a.setting) k a.value
-  observer : {e : RawExpr} {k : ValueKind} (t : Thing) (type : TypeForm) → IsOneOf (observers m units) t → kind_at m t.unit t.name ≡ Some (Observer type e)
+  observer : {e : RawExpr} {k : ValueKind} (t : Thing) (type : TypeForm) → IsOneOf (observers m units) t
+      → kind_at m t.unit t.name ≡ Some (Observer type e)
       → kind_of_type m type ≡ Some k → Tested m units t.unit Everything k e
-  guard : {u : UnitPath} {e : RawExpr} (x : NameId) (at : Place) (action : Instr) → IsOneOf units u → IsOneOf (forms_at m u) (member.Local x at e action)
+  guard : {u : UnitPath} {e : RawExpr} (x : NameId) (at : Place) (action : Instr) → IsOneOf units u
+      → IsOneOf (forms_at m u) (member.Local x at e action)
       → Tested m units u Everything Truth e
 
 -- Names
@@ -95,7 +99,8 @@ pub data MayName (m : RootedModel) (u : UnitPath) : Scope → Path → Type 0 wh
   variable : {p : Path} (t : Thing) → Finds m is_variable u p t → MayName m u Everything p
   parameter : {p : Path} (t : Thing) → Finds m is_valued u p t → MayName m u Everything p
   own : {p : Path} (x : ℕ) → IsName p x → Has m is_valued (thing u x) → MayName m u Constants p
-  earlier : {p : Path} {y : ℕ} (x : ℕ) → IsName p x → Has m is_valued (thing u x) → IsEarlier m u x y → MayName m u (Before y) p
+  earlier : {p : Path} {y : ℕ} (x : ℕ) → IsName p x → Has m is_valued (thing u x) → IsEarlier m u x y
+      → MayName m u (Before y) p
 
 -- the path, read in the unit u, names a variable
 pub record NamesVariable (m : RootedModel) (u : UnitPath) (p : Path) : Type 0 where

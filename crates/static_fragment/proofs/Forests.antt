@@ -79,7 +79,8 @@ module _ {p : GtsParts} {reaches : List Reach} (w : AreFromWays p reaches) where
       let same : e.event.n ≡ l.event = ap (λ z. z.n) g.is_event ∙ (ap (λ z. z.n) at.is.is_event ∙ at.number) in
       record {
         way = listed.way;
-        stands = subst (λ (z : WayId). Stands p.ways.items z.n listed.way) (sym (g.is_way ∙ at.is.is_way)) listed.stands;
+        stands = subst (λ (z : WayId). Stands p.ways.items z.n listed.way) (sym (g.is_way ∙ at.is.is_way))
+            listed.stands;
         is_event = listed.event ∙ sym same;
       }
 
@@ -88,7 +89,10 @@ module _ {p : GtsParts} {reaches : List Reach} (w : AreFromWays p reaches) where
   own_ways sound moving count trees t = record {
     each = λ tree o.
         let h = t.sound o.place tree o.stands in
-        record { each = λ e q. own_way sound tree.variable.n h.reach h.stands e (below_one h.reach.edges.items h.edges q) };
+        record {
+          each = λ e q. own_way sound tree.variable.n h.reach h.stands e
+              (below_one h.reach.edges.items h.edges q);
+        };
   }
 
   -- where no edge enters a mode again, the first mode and those that edges enter are different

@@ -258,7 +258,8 @@ module _ (system : System ℕ) (dropped : List ℕ) where
 
         pub counted : (r : Result (Unit {0}) FragmentFault) → IsCounted (length s.events.items) r
             → OnResult (λ u. KeepsBelow system dropped 9) (IsRefused system dropped) r
-        counted (Ok u) h = next_rule S8 below (few_keep d (below S1 (omega arith)) (below S2 (omega arith)) count s is h)
+        counted (Ok u) h = next_rule S8 below
+            (few_keep d (below S1 (omega arith)) (below S2 (omega arith)) count s is h)
         counted (Err e) h = outside S8 AtWhole below (record {
           breaks = s8 (many_break d count s is h.0);
           is_first =

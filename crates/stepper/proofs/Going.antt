@@ -21,7 +21,8 @@ same_point a b u k f = go a.values b.values a.known b.known a.can b.can u k f
 
 module _ (p : GtsParts) where
   -- the steps that stand before the last one, and what the last one says
-  pub told_back : (s : Point) (steps rest : List StepChanges) (c : StepChanges) → steps ≡ rest ++ c ∷ [] → AreTold p s (reverse steps) → Tells p s c × AreTold p (before p s c) (reverse rest)
+  pub told_back : (s : Point) (steps rest : List StepChanges) (c : StepChanges) → steps ≡ rest ++ c ∷ []
+      → AreTold p s (reverse steps) → Tells p s c × AreTold p (before p s c) (reverse rest)
   told_back s steps rest c e h = subst (AreTold p s) (ap reverse e ∙ reverse_last rest c) h
 
   -- as many as there are steps

@@ -15,12 +15,14 @@ past (v ∷ t) zero h = absurd (omega (arith, h))
 past (v ∷ t) (suc n) h = past t n (omega (arith, h))
 
 -- a value that did not change
-pub kept_value : (old new : List Value) → length old ≡ length new → (n : ℕ) → (HasChanged old new n → ⊥) → value_at old n ≡ value_at new n
+pub kept_value : (old new : List Value) → length old ≡ length new → (n : ℕ) → (HasChanged old new n → ⊥)
+    → value_at old n ≡ value_at new n
 kept_value old new long n kept = elim (cases_lt n (length old)) [
   | inl h ↦ (
       let v = stands_some old n h in
       let w = stands_some new n (omega (arith, h, long)) in
-      let i : v.0 ≡ w.0 = same_value v.0 w.0 (λ differ. kept (record { before = v.0; after = w.0; had = v.1; has = w.1; differ = differ })) in
+      let i : v.0 ≡ w.0 = same_value v.0 w.0
+      (λ differ. kept (record { before = v.0; after = w.0; had = v.1; has = w.1; differ = differ })) in
       read_value old n v.0 v.1 ∙ i ∙ sym (read_value new n w.0 w.1))
   | inr l ↦ past old n l ∙ sym (past new n (omega (arith, l, long)))
 ]

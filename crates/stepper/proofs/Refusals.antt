@@ -8,7 +8,8 @@ use Rattle.way_effects.specs.declared.faults.ReceiveFault.TheVariants as receive
 use Rattle.stepper.specs.Steps.{IsStepFault, step_fault_of}
 
 -- a fault of what is received is one of the step
-pub receive_fault : (net : Net ℕ) (t : List Value) (w : Way ℕ) (f : ReceiveFault) → IsReceiveFault net t w f → IsStepFault net t w (step_fault_of f)
+pub receive_fault : (net : Net ℕ) (t : List Value) (w : Way ℕ) (f : ReceiveFault) → IsReceiveFault net t w f
+    → IsStepFault net t w (step_fault_of f)
 receive_fault net t w (receives.Clash x) h = h
 receive_fault net t w (receives.Range x) h = h
 receive_fault net t w receives.Memory h = tt

@@ -14,7 +14,8 @@ first_long : (k : ℕ) (xs : List Variable) → length (first_values (variables_
 first_long k [] = refl
 first_long k (x ∷ xs) = ap suc (first_long (k + 1) xs)
 
-first_each : (k : ℕ) (xs : List Variable) (n : ℕ) (x : Variable) (v : Value) → Stands xs n x → Stands (first_values (variables_from k xs)) n v → x.value ≡ v
+first_each : (k : ℕ) (xs : List Variable) (n : ℕ) (x : Variable) (v : Value) → Stands xs n x
+    → Stands (first_values (variables_from k xs)) n v → x.value ≡ v
 first_each k [] n x v s t = absurd (nothing n s)
   where
     nothing : (n : ℕ) → Stands [] n x → ⊥
@@ -26,5 +27,6 @@ first_each k (y ∷ xs) (suc n) x v s t = first_each (k + 1) xs n x v s t
 pub first_state : (p : GtsParts) → IsSound p → IsState p (first_values (net_of p).variables)
 first_state p sound = record {
   long = first_long 0 p.variables.items;
-  in_domain = λ n x v s i h. subst (λ (z : Value). Holds x.domain z) (first_each 0 p.variables.items n x v s h) (sound.variables n x s).value;
+  in_domain = λ n x v s i h. subst (λ (z : Value). Holds x.domain z) (first_each 0 p.variables.items n x v s h)
+      (sound.variables n x s).value;
 }

@@ -20,7 +20,11 @@ pub record Point : Type 0 where
 
 -- where a run stands by what it keeps
 abbrev pub point_at : Present → List Bool → Point
-point_at present can = record { values = present.determined.values.values.items; known = present.determined.known.items; can = can }
+point_at present can = record {
+  values = present.determined.values.values.items;
+  known = present.determined.known.items;
+  can = can;
+}
 
 -- the values are determined by their own state, and the flags are those of the values
 pub record IsPoint (p : GtsParts) (s : Point) : Type 0 where
@@ -29,7 +33,11 @@ pub record IsPoint (p : GtsParts) (s : Point) : Type 0 where
 
 -- where the run stood before the step, by what the step changed
 abbrev pub before : GtsParts → Point → StepChanges → Point
-before p s step = record { values = restored p s.values step.flows.variables.items step.flows.old.items; known = marks.turned s.known step.flows.turned.items; can = turned s.can step.ways.items }
+before p s step = record {
+  values = restored p s.values step.flows.variables.items step.flows.old.items;
+  known = marks.turned s.known step.flows.turned.items;
+  can = turned s.can step.ways.items;
+}
 
 -- the step led here from a point that it gives back, and says which variables it changed
 pub record Tells (p : GtsParts) (s : Point) (step : StepChanges) : Type 0 where

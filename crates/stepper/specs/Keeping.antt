@@ -18,9 +18,15 @@ abbrev pub below_of : Inside → List (List Value)
 below_of s = below_by s.gts.now (point_of s) (reverse s.steps.items)
 
 abbrev pub standing_of : Inside → Standing
-standing_of s = record { system = s.gts.now; values = s.present.determined.values.values.items; below = below_of s; changed = last_changed s.undone (reverse s.steps.items) }
+standing_of s = record {
+  system = s.gts.now;
+  values = s.present.determined.values.values.items;
+  below = below_of s;
+  changed = last_changed s.undone (reverse s.steps.items);
+}
 
--- each standing valuation is determined by its own state with right marks and flags, each step says what it changed, and the plan and the index are the system's
+-- each standing valuation is determined by its own state with right marks and flags, each step says what it changed,
+-- and the plan and the index are the system's
 pub record IsKept (s : Inside) : Type 0 where
   pub present : IsPresent s.gts.now s.present
   pub flags : AreFlags s.gts.now s.present.determined.values.values.items s.can.items

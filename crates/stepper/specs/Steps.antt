@@ -15,7 +15,8 @@ use Rattle.way_effects.specs.declared.faults.ReceiveFault.TheVariants as receive
 use Rattle.stepper.specs.declared.faults.StepFault.{StepFault}
 use Rattle.stepper.specs.declared.faults.StepFault.TheVariants as fault
 
--- the system, the present valuation, the standing valuations below it, the nearest first, and the variables that the last step or the last way back changed
+-- the system, the present valuation, the standing valuations below it, the nearest first, and the variables that the
+-- last step or the last way back changed
 pub record Standing : Type 0 where
   pub system : GtsParts
   pub values : List Value

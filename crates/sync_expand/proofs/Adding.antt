@@ -19,11 +19,14 @@ use Rattle.sync_expand.proofs.DeclaredLemmas.{declared_stands}
 use Rattle.sync_expand.proofs.Placed.{take_next}
 use Rattle.sync_expand.proofs.WaysLemmas.{map_join}
 
-pub flat_map_join : {A B : Type 0} (f : A → List B) (xs ys : List A) → flat_map f (xs ++ ys) ≡ flat_map f xs ++ flat_map f ys
+pub flat_map_join : {A B : Type 0} (f : A → List B) (xs ys : List A)
+    → flat_map f (xs ++ ys) ≡ flat_map f xs ++ flat_map f ys
 flat_map_join f [] ys = refl
-flat_map_join {B = B} f (x ∷ xs) ys = ap (λ (zs : List B). f x ++ zs) (flat_map_join f xs ys) ∙ sym (append_assoc (f x) (flat_map f xs) (flat_map f ys))
+flat_map_join {B = B} f (x ∷ xs) ys =
+    ap (λ (zs : List B). f x ++ zs) (flat_map_join f xs ys) ∙ sym (append_assoc (f x) (flat_map f xs) (flat_map f ys))
 
-pub numbered_append : (e k : ℕ) (bs cs : List (Body ℕ)) → numbered_from e k (bs ++ cs) ≡ numbered_from e k bs ++ numbered_from e (k + length bs) cs
+pub numbered_append : (e k : ℕ) (bs cs : List (Body ℕ))
+    → numbered_from e k (bs ++ cs) ≡ numbered_from e k bs ++ numbered_from e (k + length bs) cs
 numbered_append e k [] cs = ap (λ (n : ℕ). numbered_from e n cs) (let h : k ≡ k + 0 = omega arith in h)
 numbered_append e k (b ∷ bs) cs =
     ap (λ (ws : List PlannedWay). record { event = e; number = k; body = b } ∷ ws)
@@ -34,7 +37,8 @@ numbered_length e k [] = refl
 numbered_length e k (b ∷ bs) = ap suc (numbered_length e (k + 1) bs)
 
 -- the plan is that much longer
-pub adds_length : (e first : ℕ) (bs : List (Body ℕ)) (old new : List WayPlan) → Adds e first bs old new → length new ≡ length old + length bs
+pub adds_length : (e first : ℕ) (bs : List (Body ℕ)) (old new : List WayPlan) → Adds e first bs old new
+    → length new ≡ length old + length bs
 adds_length e first bs old new a =
     let i = ap length a.is in
     let m = length-map new planned_of in
@@ -46,32 +50,39 @@ adds_length e first bs old new a =
 pub adds_none : (e first : ℕ) (old : List WayPlan) → Adds e first [] old old
 adds_none e first old = record { is = sym (append-nil (map planned_of old)) }
 
-pub adds_join : (e first : ℕ) (bs cs : List (Body ℕ)) (old mid new : List WayPlan) → first ≤ length old → Adds e first bs old mid → Adds e first cs mid new → Adds e first (bs ++ cs) old new
+pub adds_join : (e first : ℕ) (bs cs : List (Body ℕ)) (old mid new : List WayPlan) → first ≤ length old
+    → Adds e first bs old mid → Adds e first cs mid new → Adds e first (bs ++ cs) old new
 adds_join e first bs cs old mid new l a b = record {
   is =
       let n = adds_length e first bs old mid a in
       let k : length mid - first + 1 ≡ (length old - first + 1) + length bs = omega (arith, n, l) in
       b.is ∙ (ap (λ (xs : List PlannedWay). xs ++ numbered_from e (length mid - first + 1) cs) a.is
       ∙ (ap (λ (m : ℕ). (map planned_of old ++ numbered_from e (length old - first + 1) bs) ++ numbered_from e m cs) k
-      ∙ (append_assoc (map planned_of old) (numbered_from e (length old - first + 1) bs) (numbered_from e ((length old - first + 1) + length bs) cs)
-      ∙ ap (λ (xs : List PlannedWay). map planned_of old ++ xs) (sym (numbered_append e (length old - first + 1) bs cs)))));
+      ∙ (append_assoc (map planned_of old) (numbered_from e (length old - first + 1) bs)
+      (numbered_from e ((length old - first + 1) + length bs) cs)
+      ∙ ap (λ (xs : List PlannedWay). map planned_of old ++ xs)
+      (sym (numbered_append e (length old - first + 1) bs cs)))));
 }
 
 -- one choice more
-pub adds_choice : (e first i : ℕ) (cs : List (List (Bool × ℕ))) (c : List (Bool × ℕ)) (old mid new : List WayPlan) → first ≤ length old → Stands cs i c → Adds e first (map Joins (take i cs)) old mid
+pub adds_choice : (e first i : ℕ) (cs : List (List (Bool × ℕ))) (c : List (Bool × ℕ)) (old mid new : List WayPlan)
+    → first ≤ length old → Stands cs i c → Adds e first (map Joins (take i cs)) old mid
     → Adds e first (Joins c ∷ []) mid new → Adds e first (map Joins (take (i + 1) cs)) old new
 adds_choice e first i cs c old mid new l s a b =
-    subst (λ (bs : List (Body ℕ)). Adds e first bs old new) (sym (ap (map Joins) (take_next cs i c s) ∙ map_join Joins (take i cs) (c ∷ [])))
+    subst (λ (bs : List (Body ℕ)). Adds e first bs old new)
+    (sym (ap (map Joins) (take_next cs i c s) ∙ map_join Joins (take i cs) (c ∷ [])))
     (adds_join e first (map Joins (take i cs)) (Joins c ∷ []) old mid new l a b)
 
 -- the bodies of the first member, and then of the others
 pub bodies_cons : {L M : Type 0} (act : ℕ → L → M) (counts : List ℕ) (k : ℕ) (m : Member L ℕ) (ms : List (Member L ℕ))
     → bodies_by act counts k (m ∷ ms) ≡ bodies_by act counts k (m ∷ []) ++ bodies_by act counts (k + 1) ms
 bodies_cons act counts k (One l) ms = refl
-bodies_cons act counts k (Synchronises parts) ms = ap (λ bs. bs ++ bodies_by act counts (k + 1) ms) (sym (append-nil (map Joins (choices_by counts parts))))
+bodies_cons act counts k (Synchronises parts) ms =
+    ap (λ bs. bs ++ bodies_by act counts (k + 1) ms) (sym (append-nil (map Joins (choices_by counts parts))))
 
 -- a member gives no more ways than all
-pub member_within : (counts : List ℕ) (ways : List DeclaredWay) (i : ℕ) (w : DeclaredWay) → Stands ways i w → member_count counts (member_of w) ≤ way_count counts (map member_of ways)
+pub member_within : (counts : List ℕ) (ways : List DeclaredWay) (i : ℕ) (w : DeclaredWay) → Stands ways i w
+    → member_count counts (member_of w) ≤ way_count counts (map member_of ways)
 member_within counts [] i w s = absurd (stands_none i w s)
 member_within counts (v ∷ ways) zero w s =
     let e : v ≡ w = cc in
@@ -80,13 +91,15 @@ member_within counts (v ∷ ways) zero w s =
 member_within counts (v ∷ ways) (suc i) w s = let h = member_within counts ways i w s in omega (arith, h)
 
 -- the ways of one event more
-pub planned_next : {L : Type 0} (counts : List ℕ) (ds : List (Declared L ℕ)) (i : ℕ) (d : Declared L ℕ) → Stands ds i d → planned_ways counts (take (i + 1) ds) ≡ planned_ways counts (take i ds) ++ ways_of_event counts d
+pub planned_next : {L : Type 0} (counts : List ℕ) (ds : List (Declared L ℕ)) (i : ℕ) (d : Declared L ℕ) → Stands ds i d
+    → planned_ways counts (take (i + 1) ds) ≡ planned_ways counts (take i ds) ++ ways_of_event counts d
 planned_next counts ds i d s =
     ap (planned_ways counts) (take_next ds i d s)
     ∙ (flat_map_join (ways_of_event counts) (take i ds) (d ∷ [])
     ∙ ap (λ (ws : List PlannedWay). planned_ways counts (take i ds) ++ ws) (append-nil (ways_of_event counts d)))
 
-pub plan_next : (counts : List ℕ) (events : List DeclaredEvent) (i : ℕ) (d : DeclaredEvent) (e : ℕ) (old new : List WayPlan) → Stands events i d → e ≡ i
+pub plan_next : (counts : List ℕ) (events : List DeclaredEvent) (i : ℕ) (d : DeclaredEvent) (e : ℕ)
+    (old new : List WayPlan) → Stands events i d → e ≡ i
     → map planned_of old ≡ planned_ways counts (take i (declared_from 0 events))
     → Adds e (length old) (bodies_by (λ (k : ℕ) (l : Transition ℕ). k) counts 0 (map member_of d.ways.items)) old new
     → map planned_of new ≡ planned_ways counts (take (i + 1) (declared_from 0 events))
@@ -94,37 +107,53 @@ plan_next counts events i d e old new s f h a =
     let one : length old - length old + 1 ≡ 1 = omega arith in
     let key : e ≡ 0 + i = omega (arith, f) in
     a.is
-    ∙ (ap (λ (n : ℕ). map planned_of old ++ numbered_from e n (bodies_by (λ (k : ℕ) (l : Transition ℕ). k) counts 0 (map member_of d.ways.items))) one
-    ∙ (ap (λ (n : ℕ). map planned_of old ++ numbered_from n 1 (bodies_by (λ (k : ℕ) (l : Transition ℕ). k) counts 0 (map member_of d.ways.items))) key
+    ∙ (ap (λ (n : ℕ). map planned_of old ++ numbered_from e n
+    (bodies_by (λ (k : ℕ) (l : Transition ℕ). k) counts 0 (map member_of d.ways.items))) one
+    ∙ (ap (λ (n : ℕ). map planned_of old ++ numbered_from n 1
+    (bodies_by (λ (k : ℕ) (l : Transition ℕ). k) counts 0 (map member_of d.ways.items))) key
     ∙ (ap (λ (ws : List PlannedWay). ws ++ ways_of_event counts (declared_of (0 + i) d)) h
     ∙ sym (planned_next counts (declared_from 0 events) i (declared_of (0 + i) d) (declared_stands 0 events i d s)))))
 
 -- what is planned of an event's first ways, and of the others
-pub record EventSoFar (counts : List ℕ) (ways : List DeclaredWay) (e first i : ℕ) (old new : List WayPlan) : Type 0 where
+pub record EventSoFar (counts : List ℕ) (ways : List DeclaredWay) (e first i : ℕ) (old new : List WayPlan) : Type
+    0 where
   pub bodies : List (Body ℕ)
   pub adds : Adds e first bodies old new
-  pub all : bodies ++ bodies_by (λ (k : ℕ) (l : Transition ℕ). k) counts i (map member_of (drop i ways)) ≡ bodies_by (λ (k : ℕ) (l : Transition ℕ). k) counts 0 (map member_of ways)
+  pub all : bodies ++ bodies_by (λ (k : ℕ) (l : Transition ℕ). k) counts i (map member_of (drop i ways))
+      ≡ bodies_by (λ (k : ℕ) (l : Transition ℕ). k) counts 0 (map member_of ways)
 
-pub event_start : (counts : List ℕ) (ways : List DeclaredWay) (e first : ℕ) (old : List WayPlan) → EventSoFar counts ways e first 0 old old
+pub event_start : (counts : List ℕ) (ways : List DeclaredWay) (e first : ℕ) (old : List WayPlan)
+    → EventSoFar counts ways e first 0 old old
 event_start counts ways e first old = record { bodies = []; adds = adds_none e first old; all = refl }
 
-pub event_next : (counts : List ℕ) (ways : List DeclaredWay) (e first i : ℕ) (w : DeclaredWay) (old mid new : List WayPlan) → Stands ways i w → first ≤ length old → EventSoFar counts ways e first i old mid
-    → Adds e first (bodies_by (λ (k : ℕ) (l : Transition ℕ). k) counts i (member_of w ∷ [])) mid new → EventSoFar counts ways e first (i + 1) old new
+pub event_next : (counts : List ℕ) (ways : List DeclaredWay) (e first i : ℕ) (w : DeclaredWay)
+    (old mid new : List WayPlan) → Stands ways i w → first ≤ length old → EventSoFar counts ways e first i old mid
+    → Adds e first (bodies_by (λ (k : ℕ) (l : Transition ℕ). k) counts i (member_of w ∷ [])) mid new
+    → EventSoFar counts ways e first (i + 1) old new
 event_next counts ways e first i w old mid new s low so a = record {
   bodies = so.bodies ++ bodies_by (λ (k : ℕ) (l : Transition ℕ). k) counts i (member_of w ∷ []);
-  adds = adds_join e first so.bodies (bodies_by (λ (k : ℕ) (l : Transition ℕ). k) counts i (member_of w ∷ [])) old mid new low so.adds a;
-  all = append_assoc so.bodies (bodies_by (λ (k : ℕ) (l : Transition ℕ). k) counts i (member_of w ∷ [])) (bodies_by (λ (k : ℕ) (l : Transition ℕ). k) counts (i + 1) (map member_of (drop (i + 1) ways)))
-      ∙ (ap (λ (bs : List (Body ℕ)). so.bodies ++ bs) (sym (bodies_cons (λ (k : ℕ) (l : Transition ℕ). k) counts i (member_of w) (map member_of (drop (i + 1) ways))))
-      ∙ (ap (λ (ws : List DeclaredWay). so.bodies ++ bodies_by (λ (k : ℕ) (l : Transition ℕ). k) counts i (map member_of ws)) (sym (drop_next ways i w s)) ∙ so.all));
+  adds = adds_join e first so.bodies (bodies_by (λ (k : ℕ) (l : Transition ℕ). k) counts i (member_of w ∷ [])) old mid
+      new low so.adds a;
+  all = append_assoc so.bodies (bodies_by (λ (k : ℕ) (l : Transition ℕ). k) counts i (member_of w ∷ []))
+      (bodies_by (λ (k : ℕ) (l : Transition ℕ). k) counts (i + 1) (map member_of (drop (i + 1) ways)))
+      ∙ (ap (λ (bs : List (Body ℕ)). so.bodies ++ bs)
+      (sym (bodies_cons (λ (k : ℕ) (l : Transition ℕ). k) counts i (member_of w)
+      (map member_of (drop (i + 1) ways))))
+      ∙ (ap (λ (ws : List DeclaredWay). so.bodies ++ bodies_by (λ (k : ℕ) (l : Transition ℕ). k) counts i
+      (map member_of ws)) (sym (drop_next ways i w s)) ∙ so.all));
 }
 
-pub event_end : (counts : List ℕ) (ways : List DeclaredWay) (e first i : ℕ) (old new : List WayPlan) → length ways ≤ i → EventSoFar counts ways e first i old new
+pub event_end : (counts : List ℕ) (ways : List DeclaredWay) (e first i : ℕ) (old new : List WayPlan) → length ways ≤ i
+    → EventSoFar counts ways e first i old new
     → Adds e first (bodies_by (λ (k : ℕ) (l : Transition ℕ). k) counts 0 (map member_of ways)) old new
 event_end counts ways e first i old new l so =
-    let d = ap (λ (ws : List DeclaredWay). so.bodies ++ bodies_by (λ (k : ℕ) (l : Transition ℕ). k) counts i (map member_of ws)) (drop_end ways i l) in
-    let a : so.bodies ≡ bodies_by (λ (k : ℕ) (l : Transition ℕ). k) counts 0 (map member_of ways) = sym (append-nil so.bodies) ∙ (sym d ∙ so.all) in
+    let d = ap (λ (ws : List DeclaredWay). so.bodies ++ bodies_by (λ (k : ℕ) (l : Transition ℕ). k) counts i
+    (map member_of ws)) (drop_end ways i l) in
+    let a : so.bodies ≡ bodies_by (λ (k : ℕ) (l : Transition ℕ). k) counts 0 (map member_of ways) =
+    sym (append-nil so.bodies) ∙ (sym d ∙ so.all) in
     subst (λ (bs : List (Body ℕ)). Adds e first bs old new) a so.adds
 
 -- the plan is as long as before or longer
-pub event_longer : (counts : List ℕ) (ways : List DeclaredWay) (e first i : ℕ) (old new : List WayPlan) → EventSoFar counts ways e first i old new → length old ≤ length new
+pub event_longer : (counts : List ℕ) (ways : List DeclaredWay) (e first i : ℕ) (old new : List WayPlan)
+    → EventSoFar counts ways e first i old new → length old ≤ length new
 event_longer counts ways e first i old new so = let h = adds_length e first so.bodies old new so.adds in omega (arith, h)

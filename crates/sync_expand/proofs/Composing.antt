@@ -24,15 +24,18 @@ one_error : (answer : Result (List ℕ) RuleFault) (x y : RuleFault) → answer 
 one_error answer x y e f = cc
 
 -- what passes a limit is within it
-fits_ok : {A : Type 0} (count : Count) (counted : A → ℕ) (a b : A) (answer : Result A RuleFault) → answer ≡ Ok b → Fits count counted a answer → counted a ≤ limit_of count
+fits_ok : {A : Type 0} (count : Count) (counted : A → ℕ) (a b : A) (answer : Result A RuleFault) → answer ≡ Ok b
+    → Fits count counted a answer → counted a ≤ limit_of count
 fits_ok count counted a b answer e (fits l) = l
 fits_ok count counted a b answer e (passes_it l) = absurd (cc)
 
-fits_same : {A : Type 0} (count : Count) (counted : A → ℕ) (a b : A) (answer : Result A RuleFault) → answer ≡ Ok b → Fits count counted a answer → b ≡ a
+fits_same : {A : Type 0} (count : Count) (counted : A → ℕ) (a b : A) (answer : Result A RuleFault) → answer ≡ Ok b
+    → Fits count counted a answer → b ≡ a
 fits_same count counted a b answer e (fits l) = cc
 fits_same count counted a b answer e (passes_it l) = absurd (cc)
 
-pub fits_within : {A : Type 0} (count : Count) (counted : A → ℕ) (a b : A) → Fits count counted a (Ok b) → counted a ≤ limit_of count
+pub fits_within : {A : Type 0} (count : Count) (counted : A → ℕ) (a b : A) → Fits count counted a (Ok b)
+    → counted a ≤ limit_of count
 fits_within count counted a b h = fits_ok count counted a b (Ok b) refl h
 
 pub fits_one : {A : Type 0} (count : Count) (counted : A → ℕ) (a b : A) → Fits count counted a (Ok b) → b ≡ a
@@ -46,7 +49,8 @@ pub record HaveAll (events : List DeclaredEvent) : Type 0 where
   pub counts : AreCounts (declared_from 0 events) (map length ways)
   pub parts : way_parts ways ≡ all_parts (map length ways) (declared_from 0 events)
 
-pub have_all : (events : List DeclaredEvent) (ranks : List ℕ) → Falls events ranks → AreExpandable events → HaveAll events
+pub have_all : (events : List DeclaredEvent) (ranks : List ℕ) → Falls events ranks → AreExpandable events
+    → HaveAll events
 have_all events ranks falls sound =
     let w = all_ways events ranks falls sound in
     record {
@@ -58,7 +62,8 @@ have_all events ranks falls sound =
     }
 
 -- all ways have numbers
-pub sum_small : (events : List DeclaredEvent) (h : HaveAll events) → AreExpandable events → greatest (map length h.ways) ≤ 256 → sum (map length h.ways) < 2 ^ 32
+pub sum_small : (events : List DeclaredEvent) (h : HaveAll events) → AreExpandable events
+    → greatest (map length h.ways) ≤ 256 → sum (map length h.ways) < 2 ^ 32
 sum_small events h sound l =
     let s = sum_within (map length h.ways) l in
     let n = h.counts.long in
@@ -71,24 +76,34 @@ module _ (events : List DeclaredEvent) where
   rule_refuses (Some r) h = refuses h
   rule_refuses None h = tt
 
-  module _ (keeps : AreKept way_rules (Breaks events)) (ways : List (List (Way ℕ))) (are : AreWays (declared_from 0 events) ways) where
+  module _ (keeps : AreKept way_rules (Breaks events)) (ways : List (List (Way ℕ)))
+      (are : AreWays (declared_from 0 events) ways) where
     -- an event has too many ways
-    pub ways_refuse : (t : Option RuleFault) → IsRefusal (Fits TheWays greatest (map length ways)) t → IsRefusal (Expands events) t
+    pub ways_refuse : (t : Option RuleFault) → IsRefusal (Fits TheWays greatest (map length ways)) t
+        → IsRefusal (Expands events) t
     ways_refuse (Some r) h = passes events (kept keeps) (passes ways (have are) (refuses (same (Err r) refl h)))
       where
-        same : (answer : Result (List ℕ) RuleFault) → answer ≡ Err r → Fits TheWays greatest (map length ways) answer → Fits TheWays most_ways ways (Err r)
+        same : (answer : Result (List ℕ) RuleFault) → answer ≡ Err r → Fits TheWays greatest (map length ways) answer
+            → Fits TheWays most_ways ways (Err r)
         same answer e (fits l) = absurd (cc)
-        same answer e (passes_it l) = subst (λ (z : RuleFault). Fits TheWays most_ways ways (Err z)) (one_error _ _ _ refl e) (passes_it l)
+        same answer e (passes_it l) = subst (λ (z : RuleFault). Fits TheWays most_ways ways (Err z))
+            (one_error _ _ _ refl e) (passes_it l)
     ways_refuse None h = tt
 
     -- the synchronised ways have too many parts
-    pub parts_refuse : most_ways ways ≤ 256 → way_parts ways ≡ all_parts (map length ways) (declared_from 0 events) → (t : Option RuleFault)
-        → IsRefusal (Fits WayParts (λ c. all_parts c (declared_from 0 events)) (map length ways)) t → IsRefusal (Expands events) t
-    parts_refuse m e (Some r) h = passes events (kept keeps) (passes ways (have are) (passes ways (fits m) (same (Err r) refl h)))
+    pub parts_refuse : most_ways ways ≤ 256 → way_parts ways ≡ all_parts (map length ways) (declared_from 0 events)
+        → (t : Option RuleFault)
+        → IsRefusal (Fits WayParts (λ c. all_parts c (declared_from 0 events)) (map length ways)) t
+        → IsRefusal (Expands events) t
+    parts_refuse m e (Some r) h = passes events (kept keeps)
+        (passes ways (have are) (passes ways (fits m) (same (Err r) refl h)))
       where
-        same : (answer : Result (List ℕ) RuleFault) → answer ≡ Err r → Fits WayParts (λ c. all_parts c (declared_from 0 events)) (map length ways) answer → Fits WayParts way_parts ways (Err r)
+        same : (answer : Result (List ℕ) RuleFault) → answer ≡ Err r
+            → Fits WayParts (λ c. all_parts c (declared_from 0 events)) (map length ways) answer
+            → Fits WayParts way_parts ways (Err r)
         same answer i (fits l) = absurd (cc)
-        same answer i (passes_it l) = subst (λ (z : RuleFault). Fits WayParts way_parts ways (Err z)) (one_error _ _ _ refl i) (passes_it (omega (arith, l, e)))
+        same answer i (passes_it l) = subst (λ (z : RuleFault). Fits WayParts way_parts ways (Err z))
+            (one_error _ _ _ refl i) (passes_it (omega (arith, l, e)))
     parts_refuse m e None h = tt
 
     -- all is within the limits
@@ -96,5 +111,7 @@ module _ (events : List DeclaredEvent) where
     expands m p = passes events (kept keeps) (passes ways (have are) (passes ways (fits m) (fits p)))
 
   -- an error that tells a refusal of the stage
-  pub meets_err : (r : Result (Vec WayPlan Global) RuleFault) (d e : RuleFault) → r ≡ Err d → d ≡ e → IsRefusal (Expands events) (rule_told e) → Meets Expands (λ ways plan. IsPlan events ways plan.items) events r
-  meets_err r d e i j h = subst (λ (z : Result (Vec WayPlan Global) RuleFault). Meets Expands (λ ways plan. IsPlan events ways plan.items) events z) (sym (i ∙ ap Err j)) h
+  pub meets_err : (r : Result (Vec WayPlan Global) RuleFault) (d e : RuleFault) → r ≡ Err d → d ≡ e
+      → IsRefusal (Expands events) (rule_told e) → Meets Expands (λ ways plan. IsPlan events ways plan.items) events r
+  meets_err r d e i j h = subst (λ (z : Result (Vec WayPlan Global) RuleFault). Meets Expands
+      (λ ways plan. IsPlan events ways plan.items) events z) (sym (i ∙ ap Err j)) h

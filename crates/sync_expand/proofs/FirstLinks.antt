@@ -16,25 +16,32 @@ of_first f g e = subst (λ (z : Option Link). IsEarlierOf z g g) (sym e) no_firs
 
 pub of_second : (f g : Option Link) (p : Link) → f ≡ Some p → g ≡ None → IsEarlierOf f g (Some p)
 of_second f g p e i =
-    subst (λ (z : Option Link). IsEarlierOf z g (Some p)) (sym e) (subst (λ (z : Option Link). IsEarlierOf (Some p) z (Some p)) (sym i) no_second)
+    subst (λ (z : Option Link). IsEarlierOf z g (Some p)) (sym e)
+    (subst (λ (z : Option Link). IsEarlierOf (Some p) z (Some p)) (sym i) no_second)
 
-pub of_both : (f g r : Option Link) (p q : Link) → f ≡ Some p → g ≡ Some q → IsEarlierOf (Some p) (Some q) r → IsEarlierOf f g r
+pub of_both : (f g r : Option Link) (p q : Link) → f ≡ Some p → g ≡ Some q → IsEarlierOf (Some p) (Some q) r
+    → IsEarlierOf f g r
 of_both f g r p q e i h =
-    subst (λ (z : Option Link). IsEarlierOf z g r) (sym e) (subst (λ (z : Option Link). IsEarlierOf (Some p) z r) (sym i) h)
+    subst (λ (z : Option Link). IsEarlierOf z g r) (sym e)
+    (subst (λ (z : Option Link). IsEarlierOf (Some p) z r) (sym i) h)
 
 module _ {P Q : Link → Type 0} where
   -- the first link of either of two properties
-  pub first_both : (f g r : Option Link) → IsFirstLink P f → IsFirstLink Q g → IsEarlierOf f g r → IsFirstLink (λ p. P p ⊎ Q p) r
+  pub first_both : (f g r : Option Link) → IsFirstLink P f → IsFirstLink Q g → IsEarlierOf f g r
+      → IsFirstLink (λ p. P p ⊎ Q p) r
   first_both f g r (nowhere h) (nowhere k) no_first = nowhere (λ p b. elim b [ inl a ↦ h p a | inr a ↦ k p a ])
-  first_both f g r (nowhere h) (there a k) no_first = there (inr a) (λ q e b. elim b [ inl c ↦ h q c | inr c ↦ k q e c ])
-  first_both f g r (there a h) (nowhere k) no_second = there (inl a) (λ q e b. elim b [ inl c ↦ h q e c | inr c ↦ k q c ])
+  first_both f g r (nowhere h) (there a k) no_first =
+      there (inr a) (λ q e b. elim b [ inl c ↦ h q c | inr c ↦ k q e c ])
+  first_both f g r (there a h) (nowhere k) no_second =
+      there (inl a) (λ q e b. elim b [ inl c ↦ h q e c | inr c ↦ k q c ])
   first_both f g r (there {l = p} a h) (there {l = s} b k) (first n) =
       there (inl a) (λ q e d. elim d [ inl c ↦ h q e c | inr c ↦ k q (earlier_not q.at p.at s.at e n) c ])
   first_both f g r (there {l = p} a h) (there {l = s} b k) (second n) =
       there (inr b) (λ q e d. elim d [ inl c ↦ h q (earlier_then q.at s.at p.at e n) c | inr c ↦ k q e c ])
 
   -- the first link of a property that the same links have
-  pub first_same : (f : Option Link) → ((p : Link) → P p → Q p) → ((p : Link) → Q p → P p) → IsFirstLink P f → IsFirstLink Q f
+  pub first_same : (f : Option Link) → ((p : Link) → P p → Q p) → ((p : Link) → Q p → P p) → IsFirstLink P f
+      → IsFirstLink Q f
   first_same f to from (nowhere h) = nowhere (λ p q. h p (from p q))
   first_same f to from (there {l = p} a h) = there (to p a) (λ q e b. h q e (from q b))
 
@@ -43,7 +50,8 @@ module _ {P : ℕ → Link → Type 0} where
   pub first_start : IsFirstLink (Until P 0) None
   first_start = nowhere (λ p u. omega (arith, u.below))
 
-  pub first_next : (n : ℕ) (f g r : Option Link) → IsFirstLink (Until P n) f → IsFirstLink (P n) g → IsEarlierOf f g r → IsFirstLink (Until P (n + 1)) r
+  pub first_next : (n : ℕ) (f g r : Option Link) → IsFirstLink (Until P n) f → IsFirstLink (P n) g → IsEarlierOf f g r
+      → IsFirstLink (Until P (n + 1)) r
   first_next n f g r h k e = first_same r to from (first_both f g r h k e)
     where
       to : (p : Link) → Until P n p ⊎ P n p → Until P (n + 1) p
@@ -54,7 +62,10 @@ module _ {P : ℕ → Link → Type 0} where
       last k l = lt_or_same k n (omega (arith, l))
 
       from : (p : Link) → Until P (n + 1) p → Until P n p ⊎ P n p
-      from p u = elim (last u.k u.below) [ inl l ↦ inl (record { k = u.k; below = l; holds = u.holds }) | inr e ↦ inr (subst (λ (m : ℕ). P m p) e u.holds) ]
+      from p u = elim (last u.k u.below) [
+        | inl l ↦ inl (record { k = u.k; below = l; holds = u.holds })
+        | inr e ↦ inr (subst (λ (m : ℕ). P m p) e u.holds)
+      ]
 
 -- the item at a number has P at the link
 pub record AtItem {A : Type 0} (xs : List A) (P : ℕ → A → Link → Type 0) (k : ℕ) (p : Link) : Type 0 where
@@ -66,7 +77,8 @@ module _ {A : Type 0} (xs : List A) (P : ℕ → A → Link → Type 0) where
   pub loop_start : IsFirstLink (Until (AtItem xs P) 0) None
   loop_start = first_start
 
-  pub loop_next : (i : ℕ) (a : A) (f g r : Option Link) → Stands xs i a → IsFirstLink (Until (AtItem xs P) i) f → IsFirstLink (P i a) g → IsEarlierOf f g r
+  pub loop_next : (i : ℕ) (a : A) (f g r : Option Link) → Stands xs i a → IsFirstLink (Until (AtItem xs P) i) f
+      → IsFirstLink (P i a) g → IsEarlierOf f g r
       → IsFirstLink (Until (AtItem xs P) (i + 1)) r
   loop_next i a f g r s h k e = first_next i f g r h (first_same g to from k) e
     where
@@ -76,7 +88,8 @@ module _ {A : Type 0} (xs : List A) (P : ℕ → A → Link → Type 0) where
       from : (p : Link) → AtItem xs P i p → P i a p
       from p h = subst (λ (b : A). P i b p) (stands_one xs i h.item a h.stands s) h.has
 
-  pub loop_end : (Q : Link → Type 0) (i : ℕ) (f : Option Link) → length xs ≤ i → ((k : ℕ) (a : A) (p : Link) → Stands xs k a → P k a p → Q p)
+  pub loop_end : (Q : Link → Type 0) (i : ℕ) (f : Option Link) → length xs ≤ i
+      → ((k : ℕ) (a : A) (p : Link) → Stands xs k a → P k a p → Q p)
       → ((p : Link) → Q p → (k : ℕ) × AtItem xs P k p) → IsFirstLink (Until (AtItem xs P) i) f → IsFirstLink Q f
   loop_end Q i f l to from h = first_same f (λ p u. to u.k u.holds.item p u.holds.stands u.holds.has) back h
     where

@@ -16,7 +16,8 @@ module _ {A : Type 0} where
   pub take_next : (xs : List A) (i : ℕ) (a : A) → Stands xs i a → take (i + 1) xs ≡ take i xs ++ a ∷ []
   take_next xs i a p =
       let h = stands_within xs i a p in
-      take_more xs i a h ∙ ap (λ (b : A). take i xs ++ b ∷ []) (stands_one xs i (get_or xs i a) a (stands_get xs i a h) p)
+      take_more xs i a h ∙ ap (λ (b : A). take i xs ++ b ∷ [])
+      (stands_one xs i (get_or xs i a) a (stands_get xs i a h) p)
 
   pub none_of : (o : Option A) → ((a : A) → o ≡ Some a → ⊥) → o ≡ None
   none_of None n = refl
@@ -32,7 +33,8 @@ module _ {A : Type 0} where
       only (suc (suc k)) s = cc
 
   -- an item that was looked up stands there
-  pub copied_get : (xs : List A) (k : ℕ) (r : Option (Bor A)) → is_some r ≡ ltb k (length xs) → IfSome r (λ x. x.now ≡ get_or xs k x.now) → option_copied r ≡ slice_get xs k
+  pub copied_get : (xs : List A) (k : ℕ) (r : Option (Bor A)) → is_some r ≡ ltb k (length xs)
+      → IfSome r (λ x. x.now ≡ get_or xs k x.now) → option_copied r ≡ slice_get xs k
   copied_get xs k (Some x) e i = sym (item_stands xs k x.now (ltb-true _ _ (sym e)) i)
   copied_get xs k None e i = sym (slice_get_past xs k (ltb-false _ _ (sym e)))
 

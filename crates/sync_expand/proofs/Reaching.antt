@@ -9,7 +9,8 @@ use Rattle.sync_expand.specs.Links.{IsReached, AreReached, IsPartOf, OpensWays, 
 use Rattle.sync_expand.proofs.DeclaredLemmas.{NamesPart, part_named}
 
 -- one step further
-pub reaches_on : {L E : Type 0} {ds : List (Declared L E)} {a b c : E} → ReachesPart ds a b → HasPart ds b c → ReachesPart ds a c
+pub reaches_on : {L E : Type 0} {ds : List (Declared L E)} {a b c : E} → ReachesPart ds a b → HasPart ds b c
+    → ReachesPart ds a c
 reaches_on (part_of h) k = further h (part_of k)
 reaches_on (further h r) k = further h (reaches_on r k)
 
@@ -19,9 +20,14 @@ module _ (events : List DeclaredEvent) (from : ℕ) where
   reached_on b c (inr r) k = inr (reaches_on r k)
 
   -- an event's parts are reached where it is
-  pub opened_reached : (event : EventId) (d : DeclaredEvent) (old new : List EventId) → Stands events event.n d → IsReached events from event.n
+  pub opened_reached : (event : EventId) (d : DeclaredEvent) (old new : List EventId) → Stands events event.n d
+      → IsReached events from event.n
       → AreReached events from old → OpensWays d.ways.items old new → AreReached events from new
-  opened_reached event d old new s r are opens = record { each = λ x i. elim (opens.only x i) [ inl o ↦ are.each x o | inr p ↦ reached_on event.n x.n r (part_named events event.n x.n (named p)) ] }
+  opened_reached event d old new s r are opens =
+      record {
+        each = λ x i. elim (opens.only x i)
+            [ inl o ↦ are.each x o | inr p ↦ reached_on event.n x.n r (part_named events event.n x.n (named p)) ];
+      }
     where
       named : {x : EventId} → IsPartOf d.ways.items x → NamesPart events event.n x.n
       named {x = x} p = record {
@@ -42,6 +48,7 @@ module _ (events : List DeclaredEvent) (ranks : List ℕ) where
   never_rises h a b (part_of k) = h a b k
   never_rises h a b (further {e = e} k r) = let i = never_rises h e b r in let j = h a e k in omega arith
 
-  pub always_falls : Falls events ranks → (a b : ℕ) → ReachesPart (declared_from 0 events) a b → slice_index ranks b < slice_index ranks a
+  pub always_falls : Falls events ranks → (a b : ℕ) → ReachesPart (declared_from 0 events) a b
+      → slice_index ranks b < slice_index ranks a
   always_falls h a b (part_of k) = h.falls a b k
   always_falls h a b (further {e = e} k r) = let i = always_falls h e b r in let j = h.falls a e k in omega arith

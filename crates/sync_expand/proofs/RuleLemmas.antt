@@ -19,7 +19,8 @@ use Rattle.sync_expand.proofs.Reaching.{never_rises, always_falls}
 
 module _ (events : List DeclaredEvent) (ranks : List ℕ) where
   -- the link of a part of a declared event's synchronisation
-  pub link_of : (e p gap : ℕ) (h : NamesPart events e p) → Climbs ranks gap e p → (l : Link) × IsClimb events ranks gap l × (l.at ≡ h.at) × (l.event.n ≡ e) × (l.part.n ≡ p)
+  pub link_of : (e p gap : ℕ) (h : NamesPart events e p) → Climbs ranks gap e p
+      → (l : Link) × IsClimb events ranks gap l × (l.at ≡ h.at) × (l.event.n ≡ e) × (l.part.n ≡ p)
   link_of e p gap h climbs = (
     record { event = record { n = e; of = record {} }; part = h.part.1; at = h.at },
     record {
@@ -32,7 +33,11 @@ module _ (events : List DeclaredEvent) (ranks : List ℕ) where
           parts = h.parts;
           is = refl;
           event_is = refl;
-          climb = record { must = h.part.0; is_part = h.is_part; climbs = subst (λ (n : ℕ). Climbs ranks gap e n) (sym h.number) climbs };
+          climb = record {
+            must = h.part.0;
+            is_part = h.is_part;
+            climbs = subst (λ (n : ℕ). Climbs ranks gap e n) (sym h.number) climbs;
+          };
         };
       };
     },
@@ -57,14 +62,16 @@ module _ (events : List DeclaredEvent) (ranks : List ℕ) where
       first = subst (λ (z : Option Link). IsFirstLink (IsClimb events ranks 0) z) e h
 
   -- where no link rises, ranks never rise
-  pub level_of : (f : Option Link) → f ≡ None → IsFirstLink (IsClimb events ranks 1) f → (e p : ℕ) → HasPart (declared_from 0 events) e p → slice_index ranks p ≤ slice_index ranks e
+  pub level_of : (f : Option Link) → f ≡ None → IsFirstLink (IsClimb events ranks 1) f → (e p : ℕ)
+      → HasPart (declared_from 0 events) e p → slice_index ranks p ≤ slice_index ranks e
   level_of f i h e p k = elim (cases_lt (slice_index ranks e) (slice_index ranks p)) [
     | inl a ↦ (let l = link_of e p 1 (named_part events e p k) (omega (arith, a)) in absurd (no_links (subst (λ (z : Option Link). IsFirstLink (IsClimb events ranks 1) z) i h) l.0 l.1))
     | inr a ↦ a
   ]
 
   -- a link by whose part the event is reached breaks the rule
-  pub breach_of : (l : Link) → IsClimb events ranks 0 l → IsReached events l.part.n l.event.n → BreaksSynchronisation events l.at
+  pub breach_of : (l : Link) → IsClimb events ranks 0 l → IsReached events l.part.n l.event.n
+      → BreaksSynchronisation events l.at
   breach_of l h r = record {
     event = l.event.n;
     declared = h.declared;
@@ -81,25 +88,38 @@ module _ (events : List DeclaredEvent) (ranks : List ℕ) where
       is_member = stands_map member_of h.declared.ways.items h.climb.is_way.place (Sync h.climb.climb.parts l.at) way;
       must = h.climb.climb.climb.must;
       part = l.part.n;
-      is_part = one_here _ h.climb.climb.climb.is_part.place _ (stands_map event_part_of h.climb.climb.parts.items h.climb.climb.climb.is_part.place (h.climb.climb.climb.must, l.part) h.climb.climb.climb.is_part.stands);
+      is_part = one_here _ h.climb.climb.climb.is_part.place _
+          (stands_map event_part_of h.climb.climb.parts.items h.climb.climb.climb.is_part.place
+          (h.climb.climb.climb.must, l.part) h.climb.climb.climb.is_part.stands);
       back = r;
     };
   }
     where
       way : Stands h.declared.ways.items h.climb.is_way.place (Sync h.climb.climb.parts l.at)
-      way = subst (λ (w : DeclaredWay). Stands h.declared.ways.items h.climb.is_way.place w) h.climb.climb.is h.climb.is_way.stands
+      way = subst (λ (w : DeclaredWay). Stands h.declared.ways.items h.climb.is_way.place w) h.climb.climb.is
+          h.climb.is_way.stands
 
   -- a breach is a synchronisation with a part from which the event is reached
-  pub named_breach : (q : Place) (b : BreaksSynchronisation events q) → (p : ℕ) × (h : NamesPart events b.event p) × (h.at ≡ q) × IsReached events p b.event
+  pub named_breach : (q : Place) (b : BreaksSynchronisation events q)
+      → (p : ℕ) × (h : NamesPart events b.event p) × (h.at ≡ q) × IsReached events p b.event
   named_breach q b =
       let k = b.back in
       let d = declared_back 0 events k.place k.declared k.stands in
       let here : k.place ≡ b.event = sym (declared_key events k.place k.declared k.stands) ∙ k.is_key in
-      let same : d.0 ≡ b.declared = stands_one events b.event d.0 b.declared (subst (λ (n : ℕ). Stands events n d.0) here d.1) b.stands in
-      let members : k.declared.members ≡ map member_of b.declared.ways.items = ap (λ (x : Declared (Transition ℕ) ℕ). x.members) d.2 ∙ ap (λ (x : DeclaredEvent). map member_of x.ways.items) same in
-      let at : Stands (map member_of b.declared.ways.items) b.number (Synchronises k.parts) = subst (λ (ms : List (Member (Transition ℕ) ℕ)). Stands ms b.number (Synchronises k.parts)) members k.is_member in
-      let there : Stands (map member_of b.declared.ways.items) b.number (Synchronises (map event_part_of b.parts.items)) = stands_map member_of b.declared.ways.items b.number (Sync b.parts q) b.is_way in
-      let forms : Synchronises (map event_part_of b.parts.items) ≡ Synchronises k.parts = stands_one (map member_of b.declared.ways.items) b.number (Synchronises (map event_part_of b.parts.items)) (Synchronises k.parts) there at in
+      let same : d.0 ≡ b.declared = stands_one events b.event d.0 b.declared
+      (subst (λ (n : ℕ). Stands events n d.0) here d.1) b.stands in
+      let members : k.declared.members ≡ map member_of b.declared.ways.items =
+      ap (λ (x : Declared (Transition ℕ) ℕ). x.members) d.2
+      ∙ ap (λ (x : DeclaredEvent). map member_of x.ways.items) same in
+      let at : Stands (map member_of b.declared.ways.items) b.number (Synchronises k.parts) =
+      subst (λ (ms : List (Member (Transition ℕ) ℕ)). Stands ms b.number (Synchronises k.parts)) members
+      k.is_member in
+      let there : Stands (map member_of b.declared.ways.items) b.number
+      (Synchronises (map event_part_of b.parts.items)) =
+      stands_map member_of b.declared.ways.items b.number (Sync b.parts q) b.is_way in
+      let forms : Synchronises (map event_part_of b.parts.items) ≡ Synchronises k.parts =
+      stands_one (map member_of b.declared.ways.items) b.number (Synchronises (map event_part_of b.parts.items))
+      (Synchronises k.parts) there at in
       let parts : map event_part_of b.parts.items ≡ k.parts = cc in
       let r = stands_map_back event_part_of b.parts.items k.is_part.place (k.must, k.part) (subst (λ (ps : List (Bool × ℕ)). Stands ps k.is_part.place (k.must, k.part)) (sym parts) k.is_part.stands) in (
         k.part,
@@ -165,12 +185,16 @@ module _ (events : List DeclaredEvent) (ranks : List ℕ) where
           ]
 
 -- where the rule is kept, no event is reached from itself
-pub never_back : (events : List DeclaredEvent) → AreKept way_rules (Breaks events) → (e p : ℕ) → HasPart (declared_from 0 events) e p → IsReached events p e → ⊥
+pub never_back : (events : List DeclaredEvent) → AreKept way_rules (Breaks events) → (e p : ℕ)
+    → HasPart (declared_from 0 events) e p → IsReached events p e → ⊥
 never_back events keeps e p h r =
     let k = link_of events [] e p 0 (named_part events e p h) (let l : 0 ≤ 0 = omega arith in l) in
-    let back : IsReached events k.0.part.n k.0.event.n = subst (λ (n : ℕ). IsReached events k.0.part.n n) (sym k.3) (subst (λ (n : ℕ). IsReached events n e) (sym k.4) r) in
+    let back : IsReached events k.0.part.n k.0.event.n =
+    subst (λ (n : ℕ). IsReached events k.0.part.n n) (sym k.3)
+    (subst (λ (n : ℕ). IsReached events n e) (sym k.4) r) in
     keeps.kept 14 k.0.at (record { place = 0; stands = refl }) (l14 (breach_of events [] k.0 k.1 back))
 
-pub never_itself : (events : List DeclaredEvent) → AreKept way_rules (Breaks events) → (e : ℕ) → ReachesPart (declared_from 0 events) e e → ⊥
+pub never_itself : (events : List DeclaredEvent) → AreKept way_rules (Breaks events) → (e : ℕ)
+    → ReachesPart (declared_from 0 events) e e → ⊥
 never_itself events keeps e (part_of h) = never_back events keeps e e h (inl refl)
 never_itself events keeps e (further {e = f} h r) = never_back events keeps e f h (inr r)

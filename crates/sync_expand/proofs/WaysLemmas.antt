@@ -21,7 +21,8 @@ use Rattle.sync_expand.proofs.Capping.{read_number}
 use Rattle.sync_expand.proofs.DeclaredLemmas.{declared_stands, declared_back, declared_key, part_named}
 
 -- each choice has one of the first ways
-pub choices_length : {L : Type 0} (must : Bool) (ts : List (Tree L)) (bss : List (Branches L)) → length (choices must ts bss) ≡ length ts * length bss
+pub choices_length : {L : Type 0} (must : Bool) (ts : List (Tree L)) (bss : List (Branches L))
+    → length (choices must ts bss) ≡ length ts * length bss
 choices_length must [] bss = omega arith
 choices_length must (t ∷ ts) bss =
     let i = choices_length must ts bss in
@@ -35,7 +36,8 @@ parts_append [] us = omega arith
 parts_append (t ∷ ts) us = let i = parts_append ts us in omega (arith, i)
 
 -- the parts of choices with one part more
-pub parts_branch : {L : Type 0} (must : Bool) (t : Tree L) (bss : List (Branches L)) → parts_in (map Joint (map (λ bs. Branch must t bs) bss)) ≡ length bss + parts_in (map Joint bss)
+pub parts_branch : {L : Type 0} (must : Bool) (t : Tree L) (bss : List (Branches L))
+    → parts_in (map Joint (map (λ bs. Branch must t bs) bss)) ≡ length bss + parts_in (map Joint bss)
 parts_branch must t [] = refl
 parts_branch must t (bs ∷ bss) = let i = parts_branch must t bss in omega (arith, i)
 
@@ -43,7 +45,8 @@ pub map_join : {A B : Type 0} (f : A → B) (xs ys : List A) → map f (xs ++ ys
 map_join f [] ys = refl
 map_join {B = B} f (x ∷ xs) ys = ap (λ (zs : List B). f x ∷ zs) (map_join f xs ys)
 
-pub parts_choices : {L : Type 0} (must : Bool) (ts : List (Tree L)) (bss : List (Branches L)) → parts_in (map Joint (choices must ts bss)) ≡ length ts * (length bss + parts_in (map Joint bss))
+pub parts_choices : {L : Type 0} (must : Bool) (ts : List (Tree L)) (bss : List (Branches L))
+    → parts_in (map Joint (choices must ts bss)) ≡ length ts * (length bss + parts_in (map Joint bss))
 parts_choices must [] bss = omega arith
 parts_choices must (t ∷ ts) bss =
     let i = parts_choices must ts bss in
@@ -53,7 +56,9 @@ parts_choices must (t ∷ ts) bss =
     let b = parts_branch must t bss in
     omega (arith, i, k, a, b)
 
-module _ {L : Type 0} (ds : List (Declared L ℕ)) (keyed : AreKeyed ds) (numbered : (n : ℕ) (d : Declared L ℕ) → Stands ds n d → d.key ≡ n) (wss : List (List (Tree L))) (are : AreWays ds wss) where
+module _ {L : Type 0} (ds : List (Declared L ℕ)) (keyed : AreKeyed ds)
+    (numbered : (n : ℕ) (d : Declared L ℕ) → Stands ds n d → d.key ≡ n) (wss : List (List (Tree L)))
+    (are : AreWays ds wss) where
   -- the ways of an event stand at its number
   pub ways_at : (e : ℕ) (ts : List (Tree L)) → Ways ds e ts → Stands wss e ts
   ways_at e ts w = by w
@@ -70,7 +75,8 @@ module _ {L : Type 0} (ds : List (Declared L ℕ)) (keyed : AreKeyed ds) (number
 
   -- the ways that members and parts give are as many as sums and products say
   mutual
-    pub members_count : {ms : List (Member L ℕ)} {ts : List (Tree L)} → Members_give ds ms ts → length ts ≡ way_count (map length wss) ms
+    pub members_count : {ms : List (Member L ℕ)} {ts : List (Tree L)} → Members_give ds ms ts
+        → length ts ≡ way_count (map length wss) ms
     members_count no_member = refl
     members_count (one d) = let i = members_count d in omega (arith, i)
     members_count (synchronises {bss = bss} {ts = ts} p d) =
@@ -80,24 +86,30 @@ module _ {L : Type 0} (ds : List (Declared L ℕ)) (keyed : AreKeyed ds) (number
         let m = length-map bss Joint in
         omega (arith, i, j, a, m)
 
-    pub parts_count : {ps : List (Bool × ℕ)} {bss : List (Branches L)} → Parts_give ds ps bss → length bss ≡ choice_count (map length wss) ps
+    pub parts_count : {ps : List (Bool × ℕ)} {bss : List (Branches L)} → Parts_give ds ps bss
+        → length bss ≡ choice_count (map length wss) ps
     parts_count no_part = refl
     parts_count (choice {must = must} {e = e} {ts = ts} {bss = bss} w p) =
         let i = parts_count p in
         let c = count_read e ts w in
-        choices_length must ts bss ∙ (ap (λ (n : ℕ). n * length bss) (sym c) ∙ ap (λ (n : ℕ). slice_index (map length wss) e * n) i)
+        choices_length must ts bss ∙ (ap (λ (n : ℕ). n * length bss) (sym c)
+        ∙ ap (λ (n : ℕ). slice_index (map length wss) e * n) i)
 
   -- so are their parts
-  pub branches_parts : {ps : List (Bool × ℕ)} {bss : List (Branches L)} → Parts_give ds ps bss → parts_in (map Joint bss) ≡ length bss * length ps
+  pub branches_parts : {ps : List (Bool × ℕ)} {bss : List (Branches L)} → Parts_give ds ps bss
+      → parts_in (map Joint bss) ≡ length bss * length ps
   branches_parts no_part = refl
   branches_parts (choice {must = must} {ps = ps} {ts = ts} {bss = bss} w p) =
       let i = branches_parts p in
-      parts_choices must ts bss ∙ (ap (λ (n : ℕ). length ts * (length bss + n)) i ∙ (shape (length ts) (length bss) (length ps) ∙ ap (λ (n : ℕ). n * suc (length ps)) (sym (choices_length must ts bss))))
+      parts_choices must ts bss ∙ (ap (λ (n : ℕ). length ts * (length bss + n)) i
+      ∙ (shape (length ts) (length bss) (length ps)
+      ∙ ap (λ (n : ℕ). n * suc (length ps)) (sym (choices_length must ts bss))))
     where
       shape : (a b c : ℕ) → a * (b + b * c) ≡ (a * b) * suc c
       shape a b c = grind arith
 
-  pub members_parts : {ms : List (Member L ℕ)} {ts : List (Tree L)} → Members_give ds ms ts → parts_in ts ≡ parts_given (map length wss) ms
+  pub members_parts : {ms : List (Member L ℕ)} {ts : List (Tree L)} → Members_give ds ms ts
+      → parts_in ts ≡ parts_given (map length wss) ms
   members_parts no_member = refl
   members_parts (one d) = let i = members_parts d in omega (arith, i)
   members_parts (synchronises {ps = ps} {bss = bss} {ts = ts} p d) =
@@ -108,7 +120,8 @@ module _ {L : Type 0} (ds : List (Declared L ℕ)) (keyed : AreKeyed ds) (number
       omega (arith, i, b, c, a)
 
   -- an event's ways are those that its members give
-  pub own_members : (n : ℕ) (d : Declared L ℕ) (ts : List (Tree L)) → Stands ds n d → Ways ds d.key ts → Members_give ds d.members ts
+  pub own_members : (n : ℕ) (d : Declared L ℕ) (ts : List (Tree L)) → Stands ds n d → Ways ds d.key ts
+      → Members_give ds d.members ts
   own_members n d ts s w = by w
     where
       by : Ways ds d.key ts → Members_give ds d.members ts
@@ -123,10 +136,12 @@ module _ {L : Type 0} (ds : List (Declared L ℕ)) (keyed : AreKeyed ds) (number
     long = length-map wss length ∙ sym (along_length ds wss are);
     each = λ n d s.
         let a = along_on ds wss are n d s in
-        subst (λ (k : ℕ). Stands (map length wss) n k) (members_count (own_members n d a.0 s a.2)) (stands_map length wss n a.0 a.1);
+        subst (λ (k : ℕ). Stands (map length wss) n k) (members_count (own_members n d a.0 s a.2))
+        (stands_map length wss n a.0 a.1);
   }
 
-  pub all_parts_of : {xs : List (Declared L ℕ)} {uss : List (List (Tree L))} → ((d : Declared L ℕ) → IsOneOf xs d → IsOneOf ds d) → Along (λ d ts. Ways ds d.key ts) xs uss
+  pub all_parts_of : {xs : List (Declared L ℕ)} {uss : List (List (Tree L))}
+      → ((d : Declared L ℕ) → IsOneOf xs d → IsOneOf ds d) → Along (λ d ts. Ways ds d.key ts) xs uss
       → way_parts uss ≡ all_parts (map length wss) xs
   all_parts_of of l.none = refl
   all_parts_of of (l.one_and {a = d} {b = ts} {xs = xs} {ys = uss} w ws) =
@@ -143,7 +158,8 @@ abbrev pub HasWays : List DeclaredEvent → ℕ → Type 0
 HasWays events e = (ts : List (Tree (Transition ℕ))) × Ways (declared_from 0 events) e ts
 
 -- parts whose events have ways give choices
-pub parts_give : (events : List DeclaredEvent) (ps : List (Bool × EventId)) → ((p : Bool × EventId) → IsOneOf ps p → HasWays events p.1.n)
+pub parts_give : (events : List DeclaredEvent) (ps : List (Bool × EventId))
+    → ((p : Bool × EventId) → IsOneOf ps p → HasWays events p.1.n)
     → (bss : List (Branches (Transition ℕ))) × Parts_give (declared_from 0 events) (map event_part_of ps) bss
 parts_give events [] h = (Empty ∷ [], no_part)
 parts_give events (p ∷ ps) h =
@@ -153,7 +169,8 @@ parts_give events (p ∷ ps) h =
 
 -- members whose parts' events have ways give ways
 pub members_give : (events : List DeclaredEvent) (ws : List DeclaredWay)
-    → ((parts : Vec (Bool × EventId) Global) (at : Place) → IsOneOf ws (Sync parts at) → (p : Bool × EventId) → IsOneOf parts.items p → HasWays events p.1.n)
+    → ((parts : Vec (Bool × EventId) Global) (at : Place) → IsOneOf ws (Sync parts at) → (p : Bool × EventId)
+    → IsOneOf parts.items p → HasWays events p.1.n)
     → (ts : List (Tree (Transition ℕ))) × Members_give (declared_from 0 events) (map member_of ws) ts
 members_give events [] h = ([], no_member)
 members_give events (Local guard action ∷ ws) h =
@@ -169,28 +186,43 @@ members_give events (Sync parts at ∷ ws) h =
     (map Joint b.0 ++ r.0, synchronises b.1 r.1)
 
 -- where ranks fall, each event has ways
-pub event_ways : (events : List DeclaredEvent) (ranks : List ℕ) → Falls events ranks → AreExpandable events → (fuel e : ℕ) → slice_index ranks e < fuel → e < length events → HasWays events e
+pub event_ways : (events : List DeclaredEvent) (ranks : List ℕ) → Falls events ranks → AreExpandable events
+    → (fuel e : ℕ) → slice_index ranks e < fuel → e < length events → HasWays events e
 event_ways events ranks falls sound zero e l b = absurd (omega (arith, l))
 event_ways events ranks falls sound (suc fuel) e l b =
     let d = stands_some events e b in
     let m = members_give events d.0.ways.items (λ parts at i p j.
-    let part = part_named events e p.1.n (record { declared = d.0; stands = d.1; parts = parts; at = at; is_way = i; part = p; is_part = j; number = refl }) in
+    let part = part_named events e p.1.n
+    (record {
+      declared = d.0;
+      stands = d.1;
+      parts = parts;
+      at = at;
+      is_way = i;
+      part = p;
+      is_part = j;
+      number = refl;
+    }) in
     let low = falls.falls e p.1.n part in
-    event_ways events ranks falls sound fuel p.1.n (omega (arith, low, l)) (sound.parts e i.place d.0 parts at d.1 i.stands p j)) in
+    event_ways events ranks falls sound fuel p.1.n (omega (arith, low, l))
+    (sound.parts e i.place d.0 parts at d.1 i.stands p j)) in
     (m.0, event e (declared_stands 0 events e d.0 d.1) (let same : 0 + e ≡ e = omega arith in same) m.1)
 
 -- the ways of all events
-pub along_all : {A B : Type 0} (R : A → B → Type 0) (xs : List A) → ((a : A) → IsOneOf xs a → (b : B) × R a b) → (ys : List B) × Along R xs ys
+pub along_all : {A B : Type 0} (R : A → B → Type 0) (xs : List A) → ((a : A) → IsOneOf xs a → (b : B) × R a b)
+    → (ys : List B) × Along R xs ys
 along_all R [] h = ([], l.none)
 along_all R (x ∷ xs) h =
     let b = h x (one_first x xs) in
     let r = along_all R xs (λ a i. h a (one_rest x xs a i)) in
     (b.0 ∷ r.0, l.one_and b.1 r.1)
 
-pub all_ways : (events : List DeclaredEvent) (ranks : List ℕ) → Falls events ranks → AreExpandable events → (wss : List (List (Tree (Transition ℕ)))) × AreWays (declared_from 0 events) wss
+pub all_ways : (events : List DeclaredEvent) (ranks : List ℕ) → Falls events ranks → AreExpandable events
+    → (wss : List (List (Tree (Transition ℕ)))) × AreWays (declared_from 0 events) wss
 all_ways events ranks falls sound =
     along_all (λ d ts. Ways (declared_from 0 events) d.key ts) (declared_from 0 events) (λ d i.
     let b = declared_back 0 events i.place d i.stands in
     let k = declared_key events i.place d i.stands in
-    let w = event_ways events ranks falls sound (suc (slice_index ranks i.place)) i.place (omega arith) (stands_within events i.place b.0 b.1) in
+    let w = event_ways events ranks falls sound (suc (slice_index ranks i.place)) i.place (omega arith)
+    (stands_within events i.place b.0 b.1) in
     (w.0, subst (λ (n : ℕ). Ways (declared_from 0 events) n w.0) (sym k) w.1))

@@ -173,9 +173,13 @@ no_terms g = record { each = λ t m. absurd (one_none t m) }
 
 -- operands behind others
 behind_below : (n : ℕ) (cs os : List Operand) → AreBelow n cs → AreBelow n os → AreBelow n (cs ++ os)
-behind_below n cs os k l = record { each = λ o m. elim (one_split cs os o m) [ inl i ↦ k.each o i | inr i ↦ l.each o i ] }
+behind_below n cs os k l = record {
+  each = λ o m. elim (one_split cs os o m)
+      [ inl i ↦ k.each o i | inr i ↦ l.each o i ];
+}
 
-one_more_list : (g : List Gate) (os : List Operand) (oss : List (List Operand)) → AreBelow (length g) os → AllBelow g oss
+one_more_list : (g : List Gate) (os : List Operand) (oss : List (List Operand)) → AreBelow (length g) os
+    → AllBelow g oss
     → AllBelow g (os ∷ oss)
 one_more_list g os oss k l = record {
   each = λ ps m. elim (one_cases os oss ps m) [ inl e ↦ subst (λ z. AreBelow (length g) z) e k | inr n ↦ l.each ps n ];
@@ -185,7 +189,10 @@ no_lists : (g : List Gate) → AllBelow g []
 no_lists g = record { each = λ os m. absurd (one_none os m) }
 
 both_lists : (g : List Gate) (oss pss : List (List Operand)) → AllBelow g oss → AllBelow g pss → AllBelow g (oss ++ pss)
-both_lists g oss pss k l = record { each = λ os m. elim (one_split oss pss os m) [ inl i ↦ k.each os i | inr i ↦ l.each os i ] }
+both_lists g oss pss k l = record {
+  each = λ os m. elim (one_split oss pss os m)
+      [ inl i ↦ k.each os i | inr i ↦ l.each os i ];
+}
 
 rest_below : {g : List Gate} {e : Entry} {es : List Entry} → EntriesBelow g (e ∷ es) → EntriesBelow g es
 rest_below {e = e} {es = es} l = record { each = λ f m. l.each f (one_rest e es f m) }
@@ -248,7 +255,8 @@ broken_below g cs (e ∷ es) fs c l k = both_lists g (others_with cs e fs) (brok
 together_below : (g : List Gate) (ess : List (List Entry)) → ((es : List Entry) → IsOneOf ess es → EntriesBelow g es)
     → TermsBelow g (together ess)
 together_below g [] l = no_terms g
-together_below g (es ∷ ess) l = both_below g (as_terms es) (together ess) (as_terms_below g es (l es (one_first es ess)))
+together_below g (es ∷ ess) l = both_below g (as_terms es) (together ess)
+    (as_terms_below g es (l es (one_first es ess)))
     (together_below g ess (λ fs m. l fs (one_rest es ess fs m)))
 
 module _ (read : Reading) where
@@ -303,7 +311,8 @@ module _ (read : Reading) where
         };
       }
 
-  pub gives_kept : (ds : List Value) (g : List Gate) (a : Assign ℕ) (es : List Entry) (h : List Gate) → IsRead g → AreOrdered g
+  pub gives_kept : (ds : List Value) (g : List Gate) (a : Assign ℕ) (es : List Entry) (h : List Gate) → IsRead g
+      → AreOrdered g
       → Gives_target read ds g a es h → Kept g h (EntriesBelow h es)
   gives_kept ds g a es h k o (s.gives {r = r} d) =
       let n = assign_kept k o d in

@@ -70,7 +70,8 @@ updated_below g read (n ∷ ns) [] k l x = k.each x
 updated_below g read (n ∷ ns) (row ∷ rows) k l x =
     go (nat_eq n x) (updated_below g read ns rows k (λ es m. l es (one_rest row rows es m)) x)
   where
-    go : (b : Bool) → EntriesBelow g (updated read ns rows x) → EntriesBelow g (if b then row else updated read ns rows x)
+    go : (b : Bool) → EntriesBelow g (updated read ns rows x)
+        → EntriesBelow g (if b then row else updated read ns rows x)
     go true r = l row (one_first row rows)
     go false r = r
 
@@ -178,7 +179,8 @@ module _ (net : Net ℕ) where
           ];
         } in
         let c = joined_ordered false t.after_broken [] all b.ordered (none_earlier (length t.after_broken)) below in
-        let made : any_of t.after_broken all ≡ record { operand = table.conflict; gates = t.after_conflict } = t.conflict in
+        let made : any_of t.after_broken all ≡ record { operand = table.conflict; gates = t.after_conflict } =
+        t.conflict in
         let gates : AreOrdered t.after_conflict = subst (λ (z : Made). AreOrdered z.gates) made c.gates in
         let conflict : IsBelow (length t.after_conflict) table.conflict
         = subst (λ (z : Made). IsBelow (length z.gates) z.operand) made c.below in

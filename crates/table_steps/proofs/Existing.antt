@@ -52,11 +52,13 @@ to_one x [] a m = absurd (one_none a m)
 to_one x (b ∷ bs) a m = go (λ n. to_one x bs a n) (nat_eq b.target x) refl
   where
     go : (IsOneOf (assigns_to x bs) a → IsOneOf bs a) → (c : Bool) → nat_eq b.target x ≡ c → IsOneOf (b ∷ bs) a
-    go rest true e = elim (one_cases b (assigns_to x bs) a (subst (λ c. IsOneOf (if c then b ∷ assigns_to x bs else assigns_to x bs) a) e m)) [
-      | inl i ↦ subst (λ z. IsOneOf (b ∷ bs) z) i (one_first b bs)
-      | inr k ↦ one_rest b bs a (rest k)
-    ]
-    go rest false e = one_rest b bs a (rest (subst (λ c. IsOneOf (if c then b ∷ assigns_to x bs else assigns_to x bs) a) e m))
+    go rest true e = elim (one_cases b (assigns_to x bs) a
+        (subst (λ c. IsOneOf (if c then b ∷ assigns_to x bs else assigns_to x bs) a) e m)) [
+          | inl i ↦ subst (λ z. IsOneOf (b ∷ bs) z) i (one_first b bs)
+          | inr k ↦ one_rest b bs a (rest k)
+        ]
+    go rest false e = one_rest b bs a (rest
+        (subst (λ c. IsOneOf (if c then b ∷ assigns_to x bs else assigns_to x bs) a) e m))
 
 module _ (kinds : ℕ → ValueKind) (read : Reading) where
   record SomeConditions (g : List Gate) (cs : List (Expr ℕ × Bool)) : Type 0 where

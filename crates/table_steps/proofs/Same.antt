@@ -40,7 +40,8 @@ module _ {A B : Type 0} {R : List Gate → A → B → List Gate → Type 0}
       ap (λ (z : With B). record { items = x ∷ z.items; gates = z.gates }) k
       ∙ ap (λ (z : Step B). record { items = z.item ∷ zs; gates = l }) j
 
-modes_same : {g h : List Gate} {t : ModeTree} {x y : List Entry} {k l : List Gate} → g ≡ h → Has_modes g t x k → Has_modes h t y l
+modes_same : {g h : List Gate} {t : ModeTree} {x y : List Entry} {k l : List Gate} → g ≡ h → Has_modes g t x k
+    → Has_modes h t y l
     → ◌≡◌ {A = Step (List Entry)} (record { item = x; gates = k }) (record { item = y; gates = l })
 modes_same i (s.modes {t = t}) s.modes =
     ap (λ (z : List Gate). record { item = (modes_of t z).entries; gates = (modes_of t z).gates }) i
@@ -76,7 +77,8 @@ module _ (read : Reading) where
   round_same : (net : Net ℕ) {g h : List Gate} {n : ℕ} {x y : List Entry} {k l : List Gate} → g ≡ h
       → RoundOf net read g n x k → RoundOf net read h n y l
       → ◌≡◌ {A = Step (List Entry)} (record { item = x; gates = k }) (record { item = y; gates = l })
-  round_same net {h = h} {n = n} i (s.round_of {x = x} {ess = ess} p d) (s.round_of {h = m} {x = y} {ess = others} q e) =
+  round_same net {h = h} {n = n} i (s.round_of {x = x} {ess = ess} p d)
+      (s.round_of {h = m} {x = y} {ess = others} q e) =
       let same_item : x ≡ y = stands_one net.variables n x y p q in
       let f : Threads (Gives_target read x.domain) h (assigns_to n net.assertions) others m
       = subst (λ (z : Variable ℕ). Threads (Gives_target read z.domain) h (assigns_to n net.assertions) others m)
@@ -86,7 +88,8 @@ module _ (read : Reading) where
         gates = (entries_for z.gates (together z.items)).gates;
       }) (threads_same (λ _ _ _ _ _ _ _ i d e. gives_same x.domain i d e) i d f)
 
-  two_same : {g h : List Gate} {n : ℕ} {x y : Operand} {k l : List Gate} → g ≡ h → Sees_two read g n x k → Sees_two read h n y l
+  two_same : {g h : List Gate} {n : ℕ} {x y : Operand} {k l : List Gate} → g ≡ h → Sees_two read g n x k
+      → Sees_two read h n y l
       → ◌≡◌ {A = Step Operand} (record { item = x; gates = k }) (record { item = y; gates = l })
   two_same i (s.sees_two {n = n}) s.sees_two =
       ap (λ (z : List Gate). record {
@@ -94,7 +97,8 @@ module _ (read : Reading) where
         gates = (one_of_alls z (pairs_in (read n))).gates;
       }) i
 
-  outside_same : {g h : List Gate} {a : Variable ℕ × Assign ℕ} {x y : Operand} {k l : List Gate} → g ≡ h → Sees_outside read g a x k
+  outside_same : {g h : List Gate} {a : Variable ℕ × Assign ℕ} {x y : Operand} {k l : List Gate} → g ≡ h
+      → Sees_outside read g a x k
       → Sees_outside read h a y l
       → ◌≡◌ {A = Step Operand} (record { item = x; gates = k }) (record { item = y; gates = l })
   outside_same i (s.sees_outside {x = x} d) (s.sees_outside e) =
@@ -103,7 +107,8 @@ module _ (read : Reading) where
         gates = (one_of_alls z.gates (outside_terms x.domain z.conditions z.entries)).gates;
       }) (assign_same i d e)
 
-  total_same : {g h : List Gate} {a : ℕ × Variable ℕ} {x y : List Entry} {k l : List Gate} → g ≡ h → Totals_of read g a x k
+  total_same : {g h : List Gate} {a : ℕ × Variable ℕ} {x y : List Entry} {k l : List Gate} → g ≡ h
+      → Totals_of read g a x k
       → Totals_of read h a y l
       → ◌≡◌ {A = Step (List Entry)} (record { item = x; gates = k }) (record { item = y; gates = l })
   total_same i (s.total {n = n} {x = x}) s.total =
@@ -126,7 +131,8 @@ module _ (net : Net ℕ) where
       → Rounds net block k g read last m → Rounds net block k h other end n
       → ◌≡◌ {A = Read} (record { read = last; gates = m }) (record { read = end; gates = n })
   rounds_same {h = h} {read = read} i e s.no_round s.no_round =
-      ap (λ (z : List Gate). record { read = read; gates = z }) i ∙ ap (λ (z : Reading). record { read = z; gates = h }) e
+      ap (λ (z : List Gate). record { read = read; gates = z }) i
+      ∙ ap (λ (z : Reading). record { read = z; gates = h }) e
   rounds_same {block = block} {h = h} {read = read} {other = other} i e (s.round_and {rows = rows} d ds)
       (s.round_and {h = m} {rows = others} f fs) =
       let at : Threads (RoundOf net read) h block others m
@@ -140,7 +146,8 @@ module _ (net : Net ℕ) where
       → read ≡ other → All_rounds net blocks g read last m → All_rounds net blocks h other end n
       → ◌≡◌ {A = Read} (record { read = last; gates = m }) (record { read = end; gates = n })
   all_rounds_same {h = h} {read = read} i e s.no_block s.no_block =
-      ap (λ (z : List Gate). record { read = read; gates = z }) i ∙ ap (λ (z : Reading). record { read = z; gates = h }) e
+      ap (λ (z : List Gate). record { read = read; gates = z }) i
+      ∙ ap (λ (z : Reading). record { read = z; gates = h }) e
   all_rounds_same i e (s.block_and d ds) (s.block_and f fs) =
       let j = rounds_same i e d f in
       all_rounds_same (ap (λ (z : Read). z.gates) j) (ap (λ (z : Read). z.read) j) ds fs
@@ -174,7 +181,8 @@ module _ (net : Net ℕ) where
     same_known =
         let start : first_reading trees t.modes 0 net.variables ≡ first_reading trees u.modes 0 net.variables
         = ap (λ (z : With (List Entry)). first_reading trees z.items 0 net.variables) same_modes in
-        let all : All_rounds net t.blocks u.after_modes (first_reading trees u.modes 0 net.variables) u.known u.after_rounds
+        let all : All_rounds net t.blocks u.after_modes (first_reading trees u.modes 0 net.variables) u.known
+        u.after_rounds
         = subst (λ (z : List (List ℕ)). All_rounds net z u.after_modes
         (first_reading trees u.modes 0 net.variables) u.known u.after_rounds)
         (sym (blocks_same net t.blocks u.blocks t.are_blocks u.are_blocks)) u.has_rounds in
@@ -185,7 +193,8 @@ module _ (net : Net ℕ) where
 
     same_twos : ◌≡◌ {A = With Operand} (record { items = t.twos; gates = t.after_twos })
         (record { items = u.twos; gates = u.after_twos })
-    same_twos = threads_same (λ _ _ _ _ _ _ _ i d e. two_same t.known i d e) (ap (λ (z : Read). z.gates) same_known) t.sees_twos
+    same_twos = threads_same (λ _ _ _ _ _ _ _ i d e. two_same t.known i d e) (ap (λ (z : Read). z.gates) same_known)
+        t.sees_twos
         (subst (λ (z : Reading). Threads (Sees_two z) u.after_rounds (flow_numbers net) u.twos u.after_twos)
         (sym reads) u.sees_twos)
 
@@ -196,14 +205,18 @@ module _ (net : Net ℕ) where
         = subst (λ (z : Reading). Threads (Sees_outside z) u.after_twos u.leaving u.outs u.after_outs)
         (sym reads) u.sees_outs in
         let there : Threads (Sees_outside t.known) u.after_twos t.leaving u.outs u.after_outs
-        = subst (λ (z : List (Variable ℕ × Assign ℕ)). Threads (Sees_outside t.known) u.after_twos z u.outs u.after_outs)
+        = subst (λ (z : List (Variable ℕ × Assign ℕ)). Threads (Sees_outside t.known) u.after_twos z u.outs
+        u.after_outs)
         (sym (all_leave_same t.all_leave u.all_leave)) at in
-        threads_same (λ _ _ _ _ _ _ _ i d e. outside_same t.known i d e) (ap (λ (z : With Operand). z.gates) same_twos) t.sees_outs there
+        threads_same (λ _ _ _ _ _ _ _ i d e. outside_same t.known i d e) (ap (λ (z : With Operand). z.gates) same_twos)
+        t.sees_outs there
 
     same_totals : ◌≡◌ {A = With (List Entry)} (record { items = t.totals; gates = t.after_totals })
         (record { items = u.totals; gates = u.after_totals })
-    same_totals = threads_same (λ _ _ _ _ _ _ _ i d e. total_same t.known i d e) (ap (λ (z : With Operand). z.gates) same_outs) t.has_totals
-        (subst (λ (z : Reading). Threads (Totals_of z) u.after_outs (flows_from 0 net.variables) u.totals u.after_totals)
+    same_totals = threads_same (λ _ _ _ _ _ _ _ i d e. total_same t.known i d e)
+        (ap (λ (z : With Operand). z.gates) same_outs) t.has_totals
+        (subst (λ (z : Reading). Threads (Totals_of z) u.after_outs (flows_from 0 net.variables) u.totals
+        u.after_totals)
         (sym reads) u.has_totals)
 
     total_reads : t.total ≡ u.total
@@ -214,7 +227,8 @@ module _ (net : Net ℕ) where
 
     same_broken : ◌≡◌ {A = With Operand} (record { items = t.broken; gates = t.after_broken })
         (record { items = u.broken; gates = u.after_broken })
-    same_broken = threads_same (λ _ _ _ _ _ _ _ i d e. broken_same t.total i d e) (ap (λ (z : With (List Entry)). z.gates) same_totals) t.sees_broken
+    same_broken = threads_same (λ _ _ _ _ _ _ _ i d e. broken_same t.total i d e)
+        (ap (λ (z : With (List Entry)). z.gates) same_totals) t.sees_broken
         (subst (λ (z : Reading). Threads (Sees_broken z) u.after_totals net.assertions u.broken u.after_broken)
         (sym total_reads) u.sees_broken)
 

@@ -189,7 +189,8 @@ module _ (net : Net ℕ) where
   uses_listed =
       let flows = flows_listed (flow_count net.variables) (omega arith) in
       listed_as
-      (listed_by flows (λ f. listed_by flows (λ g. listed_where (leads_told net.assertions f.1 g.1) (listed_one (f.0, g.0)))))
+      (listed_by flows (λ f. listed_by flows
+      (λ g. listed_where (leads_told net.assertions f.1 g.1) (listed_one (f.0, g.0)))))
       (λ q h. on h.0 h.2.0 q h.1.0 h.2.1.0 h.2.2.0 h.2.2.1)
       (λ q d. let k = d.to in let l = d.other in (
         (q.0, d.assign.target),

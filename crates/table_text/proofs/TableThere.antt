@@ -82,7 +82,8 @@ module _ (read : Reading) where
   conditions_there (i.one_and p ps) (s.condition_and d ds) =
       s.condition_and (builds_renamed Same read read agree p d) (conditions_there ps ds)
 
-  assign_there : (a b : Assign ℕ) → Assign_renames Same a b → {g : List Gate} {r : BuiltAssign} → Builds_assign read g a r
+  assign_there : (a b : Assign ℕ) → Assign_renames Same a b → {g : List Gate} {r : BuiltAssign}
+      → Builds_assign read g a r
       → Builds_assign read g b r
   assign_there a b p (s.builds d e) =
       s.builds (conditions_there p.conditions d) (builds_renamed Same read read agree p.value e)
@@ -103,7 +104,8 @@ module _ (read : Reading) where
       (one_of_alls r.gates (broken_terms r.conditions r.entries (read z))).gates)
       (sym p.target) (s.sees_broken (assign_there a b p d))
 
-pick : (c : Bool) {a b : Assign ℕ} {xs ys : List (Assign ℕ)} → Assign_renames Same a b → Along (Assign_renames Same) xs ys
+pick : (c : Bool) {a b : Assign ℕ} {xs ys : List (Assign ℕ)} → Assign_renames Same a b
+    → Along (Assign_renames Same) xs ys
     → Along (Assign_renames Same) (if c then a ∷ xs else xs) (if c then b ∷ ys else ys)
 pick true p ps = l.one_and p ps
 pick false p ps = ps
@@ -209,7 +211,8 @@ module _ (a b : Net ℕ) (vars : a.variables ≡ b.variables)
   rounds_there (s.round_and {read = read} d ds) =
       s.round_and (threads_on (λ n g h row d. round_there read n d) d) (rounds_there ds)
 
-  all_rounds_there : {blocks : List (List ℕ)} {g h : List Gate} {read last : Reading} → All_rounds a blocks g read last h
+  all_rounds_there : {blocks : List (List ℕ)} {g h : List Gate} {read last : Reading}
+      → All_rounds a blocks g read last h
       → All_rounds b blocks g read last h
   all_rounds_there s.no_block = s.no_block
   all_rounds_there (s.block_and d ds) = s.block_and (rounds_there d) (all_rounds_there ds)
@@ -223,7 +226,8 @@ module _ (a b : Net ℕ) (vars : a.variables ≡ b.variables)
       ((x, v) ∷ r.0, s.may (leave_there a b vars Same (λ x y e. e) along u v p x m) r.1, l.one_and (refl, p) r.2)
   leaves_there x (l.one_and {a = u} {b = v} p ps) (s.may_not m d) =
       let r = leaves_there x ps d in
-      let never : MayLeave b v x → ⊥ = λ k. m (leave_there b a (sym vars) (turned Same) (λ x y e. sym e) back v u (assign_turned Same u v p) x k) in
+      let never : MayLeave b v x → ⊥ = λ k. m
+      (leave_there b a (sym vars) (turned Same) (λ x y e. sym e) back v u (assign_turned Same u v p) x k) in
       (r.0, s.may_not never r.1, r.2)
 
   all_leave_there : {n : ℕ} {xs : List (Variable ℕ)} {ys : List (Variable ℕ × Assign ℕ)} → AllMayLeave a n xs ys
@@ -235,7 +239,8 @@ module _ (a b : Net ℕ) (vars : a.variables ≡ b.variables)
       let q = all_leave_there ds in
       (r.0 ++ q.0, s.flow_and e r.1 q.1, along_append r.2 q.2)
 
-  pub table_there : (trees : List ModeTree) (o p : Expr ℕ) → Renames Same (out-Expr ℕ o) (out-Expr ℕ p) → (wanted : Value)
+  pub table_there : (trees : List ModeTree) (o p : Expr ℕ) → Renames Same (out-Expr ℕ o) (out-Expr ℕ p)
+      → (wanted : Value)
       (t : Table) → IsTable a trees o wanted t → IsTable b trees p wanted t
   table_there trees o p same wanted t h =
       let leaving = all_leave_there h.all_leave in

@@ -53,8 +53,10 @@ module _ (f k : ℕ → ℕ) where
   has_any : (g : List Gate) (tree : ModeTree) (y : List Entry) (h : List Gate) → Has_modes g (tree_of f tree) y h
       → Has_modes g (tree_of k tree) y h
   has_any g tree y h d =
-      let made : Has_modes g (tree_of f tree) (modes_of (tree_of f tree) g).entries (modes_of (tree_of f tree) g).gates = t.modes in
-      let other : Has_modes g (tree_of k tree) (modes_of (tree_of k tree) g).entries (modes_of (tree_of k tree) g).gates = t.modes in
+      let made : Has_modes g (tree_of f tree) (modes_of (tree_of f tree) g).entries
+      (modes_of (tree_of f tree) g).gates = t.modes in
+      let other : Has_modes g (tree_of k tree) (modes_of (tree_of k tree) g).entries
+      (modes_of (tree_of k tree) g).gates = t.modes in
       let same = modes_one g h _ (tree_of f tree) y _ d made in
       subst (λ (z : List Entry). Has_modes g (tree_of k tree) z h) (sym same.0)
       (subst (λ (z : List Gate). Has_modes g (tree_of k tree) (modes_of (tree_of f tree) g).entries z) (sym same.1)
@@ -77,7 +79,8 @@ module _ (f k : ℕ → ℕ) where
       → first_reading (map (tree_of f) trees) rows n ys x ≡ first_reading (map (tree_of k) trees) rows n ys x
   first_any trees rows n [] x = refl
   first_any trees rows n (y ∷ ys) x =
-      ap (λ z. if nat_eq n x then (if y.is_state then z else []) else first_reading (map (tree_of f) trees) rows (n + 1) ys x)
+      ap (λ z. if nat_eq n x then (if y.is_state then z else [])
+      else first_reading (map (tree_of f) trees) rows (n + 1) ys x)
       (modes_at_any n trees rows y.value)
       ∙ ap (λ z. if nat_eq n x then (if y.is_state then modes_at n (map (tree_of k) trees) rows y.value else []) else z)
       (first_any trees rows (n + 1) ys x)

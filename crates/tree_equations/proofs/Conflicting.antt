@@ -171,7 +171,8 @@ module _ (net : s.Net ℕ) (trees : List firing.ModeTree) (observer : Expr ℕ) 
     after_conflict = builds_more w.observed
 
     after_rounds : Grows w.after_rounds w.seen.gates
-    after_rounds = grows_on (conflict_grows net w.known w.after_rounds w.total table.conflict w.after_conflict conflicts_of)
+    after_rounds = grows_on (conflict_grows net w.known w.after_rounds w.total table.conflict w.after_conflict
+        conflicts_of)
         after_conflict
 
     after_modes : Grows w.after_modes w.seen.gates
@@ -208,7 +209,8 @@ module _ (net : s.Net ℕ) (trees : List firing.ModeTree) (observer : Expr ℕ) 
 
       pub table_third : TooMany (Conflicting net known g2) → Needs
       table_third n table w =
-          to_end table w (after_conflict table w) (n (w.total, table.conflict) w.after_conflict (conflicts_there table w))
+          to_end table w (after_conflict table w)
+          (n (w.total, table.conflict) w.after_conflict (conflicts_there table w))
 
       module _ (r : Reading × Operand) (g3 : List Gate) (d3 : Conflicting net known g2 r g3) where
         pub table_fourth : TooMany (λ es h. Builds r.0 g3 (out-Expr ℕ observer) (record { entries = es; gates = h }))

@@ -103,7 +103,8 @@ reading_last ts ess t es read next n [] x l h k = sym (k (λ w. none w))
     none w = absurd (cc (w.3))
 reading_last ts ess t es read next n (y ∷ ys) x l h k =
     branch (nat_eq n x) _ _ _ _ (λ at. state at y.is_state refl)
-    (λ not. reading_last ts ess t es read next (n + 1) ys x l (λ w. h (later w)) (λ never. k (λ w. never (earlier not w))))
+    (λ not. reading_last ts ess t es read next (n + 1) ys x l (λ w. h (later w))
+    (λ never. k (λ w. never (earlier not w))))
   where
     later : IsStateAt (n + 1) ys x → IsStateAt n (y ∷ ys) x
     later w = (w.0, suc w.1, omega (arith, w.2), w.3, w.4)
@@ -185,8 +186,10 @@ init_more rows new variables i x row l at is e h =
     ∙ ap (map init_of) (sym (take_more variables i x l))
 
 -- the rows are put as they are to be for one tree
-pub record IsPlaced (variables : List Variable) (number : ℕ) (es : List e.Entry) (rows new : List Entries) : Type 0 where
-  pub state : (x : ℕ) → IsStateAt 0 variables x → row_at new x ≡ (if nat_eq number x then in_order es else row_at rows x)
+pub record IsPlaced (variables : List Variable) (number : ℕ) (es : List e.Entry) (rows new : List Entries) : Type
+    0 where
+  pub state : (x : ℕ) → IsStateAt 0 variables x
+      → row_at new x ≡ (if nat_eq number x then in_order es else row_at rows x)
   pub other : (x : ℕ) → (IsStateAt 0 variables x → ⊥) → row_at new x ≡ row_at rows x
 
 pub placed_put : (variables : List Variable) (v : Variable) (number : ℕ) (es : List e.Entry) (rows new : List Entries)
@@ -228,7 +231,8 @@ pub first_step : (variables : List Variable) (trees : List ModeTree) (all left :
     → reading_or (trees_in (take (length all) trees)) (lists_in all) (row_at rows) 0 variables x
     ≡ reading_or (trees_in (take (length left) trees)) (lists_in left) (row_at new) 0 variables x
 first_step variables trees all left es tree rows new split l at p x =
-    ap (λ (z : List Entries). reading_or (trees_in (take (length z) trees)) (lists_in z) (row_at rows) 0 variables x) split
+    ap (λ (z : List Entries). reading_or (trees_in (take (length z) trees)) (lists_in z) (row_at rows) 0 variables x)
+    split
     ∙ ap (λ (z : List ModeTree). reading_or (trees_in z) (lists_in (left ++ es ∷ [])) (row_at rows) 0 variables x) front
     ∙ ap (λ (z : List firing.ModeTree). reading_or z (lists_in (left ++ es ∷ [])) (row_at rows) 0 variables x)
     (map-append tree_in (take (length left) trees) (tree ∷ []))

@@ -64,7 +64,8 @@ targets_seen n (a ∷ xs) = by (nat_eq a.target.n n) _ _ (targets_seen n xs)
     by true v w h = ap (λ z. assign_of a ∷ z) h
     by false v w h = h
 
-module _ (p : GtsParts) (read : Reading) (g : List Gate) (n : ℕ) (x : Variable) (st : Stands p.variables.items n x) where
+module _ (p : GtsParts) (read : Reading) (g : List Gate) (n : ℕ) (x : Variable)
+    (st : Stands p.variables.items n x) where
   abbrev Given : List Gate → s.Assign ℕ → List Entry → List Gate → Type 0
   Given = Gives_target read (values_of x.domain)
 
@@ -82,7 +83,8 @@ module _ (p : GtsParts) (read : Reading) (g : List Gate) (n : ℕ) (x : Variable
       let seen = subst (λ (v : s.Variable ℕ). Threads (Gives_target read v.domain) g
       (assigns_to n (net_of p).assertions) ess i) same e in
       longer_on (terms_more i (together ess))
-      (many ess i (subst (λ (z : List (s.Assign ℕ)). Threads Given g z ess i) (sym (targets_seen n p.assigns.items)) seen))
+      (many ess i (subst (λ (z : List (s.Assign ℕ)). Threads Given g z ess i) (sym (targets_seen n p.assigns.items))
+      seen))
 
 -- the first round, and the rest
 record RoundsParts (net : Net ℕ) (block : List ℕ) (k : ℕ) (g : List Gate) (read last : Reading) (i : List Gate)
@@ -160,7 +162,8 @@ same_gates h k w l =
     w.is ∙ ap (λ z. h ++ z) (nil_from_length w.more none) ∙ append-nil h
 
 -- a round that makes no gate and changes no row is followed by others like it
-module _ (net : Net ℕ) (block : List ℕ) (n : ℕ) (g : List Gate) (first : Reading) (i : ℕ) (h k : List Gate) (read : Reading)
+module _ (net : Net ℕ) (block : List ℕ) (n : ℕ) (g : List Gate) (first : Reading) (i : ℕ) (h k : List Gate)
+    (read : Reading)
     (rows : List (List Entry)) where
   pub rounds_still : Threads (RoundOf net read) h block rows k → length k ≡ length h → read ≡ updated read block rows
       → i < n → RoundsSoFar net block n g first i h read → Rounds net block n g first read k

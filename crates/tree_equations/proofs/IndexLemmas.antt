@@ -53,7 +53,8 @@ module _ (variables : List Variable) where
     where
       step : (ns : List ℕ) → Rest (i + 1) ns (drop (i + 1) variables)
           → AreFlows variables ns (flows_from (i + 1) (variables_from (i + 1) (drop (suc i) variables)))
-      step ns a = subst (λ (k : ℕ). AreFlows variables ns (flows_from (i + 1) (variables_from (i + 1) (drop k variables))))
+      step ns a = subst (λ (k : ℕ). AreFlows variables ns
+          (flows_from (i + 1) (variables_from (i + 1) (drop k variables))))
           (add-one i) a
 
       by : {ns : List ℕ} (b : Bool) → b ≡ true
@@ -75,7 +76,8 @@ module _ (variables : List Variable) where
     where
       step : (ns : List ℕ) → Rest (i + 1) ns (drop (i + 1) variables)
           → AreFlows variables ns (flows_from (i + 1) (variables_from (i + 1) (drop (suc i) variables)))
-      step ns a = subst (λ (k : ℕ). AreFlows variables ns (flows_from (i + 1) (variables_from (i + 1) (drop k variables))))
+      step ns a = subst (λ (k : ℕ). AreFlows variables ns
+          (flows_from (i + 1) (variables_from (i + 1) (drop k variables))))
           (add-one i) a
 
       by : {ns : List ℕ} (b : Bool) → b ≡ false
@@ -220,10 +222,11 @@ module _ (count : ℕ) (uses others : List (ℕ × ℕ)) (on : (a b : ℕ) → I
 module _ (count : ℕ) (uses others : List (ℕ × ℕ)) (on : (a b : ℕ) → IsOneOf uses (a, b) → IsOneOf others (a, b))
     (back : (a b : ℕ) → IsOneOf others (a, b) → IsOneOf uses (a, b)) where
   may_on : (given : List (List ℕ)) (n : ℕ) → MayBeGiven uses given n → MayBeGiven others given n
-  may_on given n m = λ b k t d. elim (m b k (together_on count others uses back t) (depends_on count others uses back d)) [
-    | inl h ↦ inl (together_on count uses others on h)
-    | inr h ↦ inr h
-  ]
+  may_on given n m = λ b k t d. elim (m b k (together_on count others uses back t)
+      (depends_on count others uses back d)) [
+        | inl h ↦ inl (together_on count uses others on h)
+        | inr h ↦ inr h
+      ]
 
   class_on : (members : List ℕ) → IsClass count uses members → IsClass count others members
   class_on members c = record {
@@ -254,11 +257,13 @@ flow_place [] i j x y st su f g e = absurd (cc st)
 flow_place (z ∷ ys) zero zero x y st su f g e = refl
 flow_place (z ∷ ys) zero (suc j) x y st su f g e =
     let c = sum_by-cons (λ (x : s.Variable ℕ). cond (not x.is_state) 1 0) z (take j ys) in
-    let d = ap (λ (b : Bool). cond (not b) 1 0 + flow_count (take j ys)) (ap (λ (v : s.Variable ℕ). v.is_state) (same_Some _ _ st) ∙ f) in
+    let d = ap (λ (b : Bool). cond (not b) 1 0 + flow_count (take j ys))
+    (ap (λ (v : s.Variable ℕ). v.is_state) (same_Some _ _ st) ∙ f) in
     let h : 0 ≡ flow_count (z ∷ take j ys) = e in absurd (omega (arith, c, d, h))
 flow_place (z ∷ ys) (suc i) zero x y st su f g e =
     let c = sum_by-cons (λ (x : s.Variable ℕ). cond (not x.is_state) 1 0) z (take i ys) in
-    let d = ap (λ (b : Bool). cond (not b) 1 0 + flow_count (take i ys)) (ap (λ (v : s.Variable ℕ). v.is_state) (same_Some _ _ su) ∙ g) in
+    let d = ap (λ (b : Bool). cond (not b) 1 0 + flow_count (take i ys))
+    (ap (λ (v : s.Variable ℕ). v.is_state) (same_Some _ _ su) ∙ g) in
     let h : flow_count (z ∷ take i ys) ≡ 0 = e in absurd (omega (arith, c, d, h))
 flow_place (z ∷ ys) (suc i) (suc j) x y st su f g e =
     let c = sum_by-cons (λ (x : s.Variable ℕ). cond (not x.is_state) 1 0) z (take i ys) in

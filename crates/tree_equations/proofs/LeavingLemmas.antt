@@ -85,11 +85,13 @@ module _ (p : GtsParts) (flow : ℕ) (x : Variable) (at : Stands p.variables.ite
       on = λ ys ns d g. subst (λ (z : List ℕ). AddsLeaving p here (map assign_of all) old z)
           (sym (append_assoc leaving (k ∷ []) ns) ∙ ap (λ z. z ++ ns) (sym e))
           (f.on ((here, assign_of a) ∷ ys) (k ∷ ns)
-          (subst (λ (z : List Assign). MayLeaveOf (net_of p) here (map assign_of z) ((here, assign_of a) ∷ ys)) (sym left)
+          (subst (λ (z : List Assign). MayLeaveOf (net_of p) here (map assign_of z) ((here, assign_of a) ∷ ys))
+          (sym left)
           (t.may (leaves_here m) (rest ys d))) (l.one_and is_leaving g));
     }
       where
-        rest : (ys : List (s.Variable ℕ × s.Assign ℕ)) → MayLeaveOf (net_of p) here (map assign_of (drop (i + 1) all)) ys
+        rest : (ys : List (s.Variable ℕ × s.Assign ℕ))
+            → MayLeaveOf (net_of p) here (map assign_of (drop (i + 1) all)) ys
             → MayLeaveOf (net_of p) here (map assign_of (drop (suc i) all)) ys
         rest ys d = subst (λ (z : ℕ). MayLeaveOf (net_of p) here (map assign_of (drop z all)) ys) (add-one i) d
 
@@ -100,7 +102,8 @@ module _ (p : GtsParts) (flow : ℕ) (x : Variable) (at : Stands p.variables.ite
           (t.may_not (stays_here never) (rest ys d))) g;
     }
       where
-        rest : (ys : List (s.Variable ℕ × s.Assign ℕ)) → MayLeaveOf (net_of p) here (map assign_of (drop (i + 1) all)) ys
+        rest : (ys : List (s.Variable ℕ × s.Assign ℕ))
+            → MayLeaveOf (net_of p) here (map assign_of (drop (i + 1) all)) ys
             → MayLeaveOf (net_of p) here (map assign_of (drop (suc i) all)) ys
         rest ys d = subst (λ (z : ℕ). MayLeaveOf (net_of p) here (map assign_of (drop z all)) ys) (add-one i) d
 
@@ -108,7 +111,8 @@ module _ (p : GtsParts) (flow : ℕ) (x : Variable) (at : Stands p.variables.ite
       → AddsLeaving p here (map assign_of all) old leaving
   one_end i leaving e f =
       subst (λ (z : List ℕ). AddsLeaving p here (map assign_of all) old z) (append-nil leaving)
-      (f.on [] [] (subst (λ (z : List Assign). MayLeaveOf (net_of p) here (map assign_of z) []) (sym e) t.no_assign) l.none)
+      (f.on [] [] (subst (λ (z : List Assign). MayLeaveOf (net_of p) here (map assign_of z) []) (sym e) t.no_assign)
+      l.none)
 
 module _ (p : GtsParts) where
   abbrev rest_of : ℕ → List (s.Variable ℕ)
@@ -121,15 +125,18 @@ module _ (p : GtsParts) where
 
   pub all_start : (leaving : List ℕ) → leaving ≡ [] → AllSoFar 0 leaving
   all_start leaving e = record {
-    on = λ ys ns d a. subst (λ (z : List ℕ). AreLeaving p (z ++ ns)) (sym e) (record { leaving = ys; all = d; are = a });
+    on = λ ys ns d a. subst (λ (z : List ℕ). AreLeaving p (z ++ ns)) (sym e)
+        (record { leaving = ys; all = d; are = a });
   }
 
-  module _ (n : ℕ) (leaving : List ℕ) (x : Variable) (left : drop n p.variables.items ≡ x ∷ drop (suc n) p.variables.items)
+  module _ (n : ℕ) (leaving : List ℕ) (x : Variable)
+      (left : drop n p.variables.items ≡ x ∷ drop (suc n) p.variables.items)
       (f : AllSoFar n leaving) where
     later : (ys : List (s.Variable ℕ × s.Assign ℕ)) → AllMayLeave (net_of p) (n + 1) (rest_of (n + 1)) ys
         → AllMayLeave (net_of p) (n + 1) (variables_from (n + 1) (drop (suc n) p.variables.items)) ys
     later ys d =
-        subst (λ (z : ℕ). AllMayLeave (net_of p) (n + 1) (variables_from (n + 1) (drop z p.variables.items)) ys) (add-one n) d
+        subst (λ (z : ℕ). AllMayLeave (net_of p) (n + 1) (variables_from (n + 1) (drop z p.variables.items)) ys)
+        (add-one n) d
 
     pub all_state : x.is_state ≡ true → AllSoFar (n + 1) leaving
     all_state is = record {
@@ -154,5 +161,6 @@ module _ (p : GtsParts) where
   pub all_end : (n : ℕ) (leaving : List ℕ) → drop n p.variables.items ≡ [] → AllSoFar n leaving → AreLeaving p leaving
   all_end n leaving e f =
       subst (λ (z : List ℕ). AreLeaving p z) (append-nil leaving)
-      (f.on [] [] (subst (λ (z : List Variable). AllMayLeave (net_of p) n (variables_from n z) []) (sym e) t.no_variable)
+      (f.on [] [] (subst (λ (z : List Variable). AllMayLeave (net_of p) n (variables_from n z) []) (sym e)
+      t.no_variable)
       l.none)

@@ -75,7 +75,8 @@ put_step rows new numbers left all row n x split l at under is =
     long = length_push left row
 
     front : take (length (left ++ row ∷ [])) numbers ≡ take (length left) numbers ++ n ∷ []
-    front = ap (λ (k : ℕ). take k numbers) long ∙ take_more numbers (length left) n (omega (arith, ap length split, long, l))
+    front = ap (λ (k : ℕ). take k numbers) long
+        ∙ take_more numbers (length left) n (omega (arith, ap length split, long, l))
         ∙ ap (λ (z : ℕ). take (length left) numbers ++ z ∷ []) (sym at)
 
     even : length (take (length left) numbers) ≡ length (lists_in left)

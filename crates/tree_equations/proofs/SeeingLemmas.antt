@@ -120,7 +120,8 @@ module _ (d : Domain) (cs : List Operand) where
       let t : List Operand → e.Term = λ z. record { value = y.value; operands = z } in
       let rest = Given (drop (i + 1) es) in
       let step = ap Given (next_left es i y l at)
-      ∙ ap (λ (b : Bool). if b then t (cs ++ operand_of y.operand ∷ []) ∷ rest else rest) (has_no d y.value dom never) in
+      ∙ ap (λ (b : Bool). if b then t (cs ++ operand_of y.operand ∷ []) ∷ rest else rest)
+      (has_no d y.value dom never) in
       ap (λ z. with_terms z old) (sym step) ∙ h
 
 pub never_true : false ≡ true → ⊥

@@ -16,7 +16,8 @@ module _ (read : Reading) where
   pub outside_stops : (g : List Gate) (a : s.Assign ℕ) (x : s.Variable ℕ) → TooMany (Assigned read g a)
       → TooMany (λ o h. Sees_outside read g (x, a) o h)
   outside_stops g a x n y k (t.sees_outside {r = r} d) =
-      longer_on (one_more r.gates (outside_terms x.domain r.conditions r.entries)) (n (r.conditions, r.entries) r.gates d)
+      longer_on (one_more r.gates (outside_terms x.domain r.conditions r.entries))
+      (n (r.conditions, r.entries) r.gates d)
 
   broken_on : {g : List Gate} {a : s.Assign ℕ} {y : Operand} {k : List Gate} → TooMany (Assigned read g a)
       → Sees_broken read g a y k → MoreGates k

@@ -40,7 +40,8 @@ module _ (p q : GtsParts) (same : p ≡ q) (forest : Forest) (wanted : Value) (n
     one_needs f =
         subst (λ (z : GtsParts). AtObserver (slice_get z.observers.items n) (NeedsTooMany z forest wanted)) same
         (subst (λ (z : Option Observer). AtObserver z (NeedsTooMany p forest wanted)) (sym st)
-        (λ table w. f table (table_any (number_in p) plain (net_of p) forest.trees.items (numbered o.value) wanted table w)))
+        (λ table w. f table (table_any (number_in p) plain (net_of p) forest.trees.items (numbered o.value) wanted table
+        w)))
 
     -- the table of the observer's expression
     pub one_table : (table : Table) → IsTable (net_of p) (trees_in forest.trees.items) (numbered o.value) wanted table

@@ -21,6 +21,7 @@ module _ (p : GtsParts) (flows : List ℕ)
       → ◌≡◌ {A = List Operand → List Gate → Type 0} (λ os h. Threads (Sees_two (row_at read)) g (map itself ns) os h)
       (λ os h. Threads (Sees_two (row_at rows)) g (flow_numbers (net_of p)) os h)
   twos_seen rows read ns g e f =
-      ap (λ (z : List Entries). λ (os : List Operand) (h : List Gate). Threads (Sees_two (row_at z)) g (map itself ns) os h) e
+      ap (λ (z : List Entries). λ (os : List Operand) (h : List Gate). Threads (Sees_two (row_at z)) g (map itself ns)
+      os h) e
       ∙ ap (λ (z : List ℕ). λ (os : List Operand) (h : List Gate). Threads (Sees_two (row_at rows)) g z os h)
       (ap (map itself) f ∙ itself_all flows ∙ sym numbers_are)

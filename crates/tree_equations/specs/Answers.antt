@@ -76,7 +76,8 @@ abbrev pub GivesOperand : (Operand → List Gate → Type 0) → Result sign.Ope
 GivesOperand done = Gives operand_of done
 
 -- so many rounds of a block lead to these rows
-abbrev pub LeadsTo : (Reading → List Gate → Type 0) → Result (Unit {0}) BuildFault → List Entries → List flat.Gate → Type 0
+abbrev pub LeadsTo : (Reading → List Gate → Type 0) → Result (Unit {0}) BuildFault → List Entries → List flat.Gate
+    → Type 0
 LeadsTo done result rows = Gives (λ _. row_at rows) done result
 
 -- a number stands for itself

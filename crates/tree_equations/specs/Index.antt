@@ -21,7 +21,8 @@ abbrev pub AreNumbersOf : List Assign → List ℕ → List Assign → Type 0
 AreNumbersOf all ks picked = Along (λ k a. Stands all k a) ks picked
 
 -- the numbers of the assignments to each variable, of the first so many
-pub record AreByTarget (count : ℕ) (assigns : List Assign) (old : List Assign) (rows : List (Vec ℕ Global)) : Type 0 where
+pub record AreByTarget (count : ℕ) (assigns : List Assign) (old : List Assign) (rows : List (Vec ℕ Global)) : Type
+    0 where
   pub long : length rows ≡ count
   pub row : (n : ℕ) → n < count → AreNumbersOf assigns (row_of rows n) (to_target n old)
 

@@ -14,7 +14,8 @@ use Rattle.table_steps.specs.Steps.{Reading, Threads, Sees_two, AllMayLeave, See
 use Rattle.table_steps.specs.Table.{flow_numbers}
 
 -- from known values to total ones, and the operand of conflicts
-pub record Conflicts (net : Net ℕ) (known : Reading) (g : List Gate) (total : Reading) (conflict : Operand) (h : List Gate)
+pub record Conflicts (net : Net ℕ) (known : Reading) (g : List Gate) (total : Reading) (conflict : Operand)
+    (h : List Gate)
     : Type 0 where
   pub twos : List Operand
   pub after_twos : List Gate

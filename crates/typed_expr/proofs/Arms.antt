@@ -84,7 +84,8 @@ module _ {V : Type 0} (facts : V → Value → Type 0) (most : Option ℕ) where
       stopped_at stop e (Any es) (SomeWide facts es.items) (opened-any e es i) (form.up-any facts es)
       (tallied_in false (Err stop) xs es j h)
 
-  pub compare-arm : (r : Result (List Value) Stop) (e c d : Expr V) (q : Relation) (a b : Box (Expr V) Global) (xs ys : List Value) (f t : Bool)
+  pub compare-arm : (r : Result (List Value) Stop) (e c d : Expr V) (q : Relation) (a b : Box (Expr V) Global)
+      (xs ys : List Value) (f t : Bool)
       → e ≡ view.Compare q a b → c ≡ a.value → d ≡ b.value
       → Evaluates facts most (Ok xs) (out-Expr V c) → Evaluates facts most (Ok ys) (out-Expr V d)
       → IsTrue f ↔ SomeRelated q xs ys false → IsTrue t ↔ SomeRelated q xs ys true
@@ -107,7 +108,8 @@ module _ {V : Type 0} (facts : V → Value → Type 0) (most : Option ℕ) where
       stopped_at stop e (Compare q a b) (λ n. IsWide facts n (out-Expr V b.value)) (opened-compare e q a b i)
       (form.up-right facts q a b) (in_box (Err stop) d b j h)
 
-  pub sum-arm : (r : Result (List Value) Stop) (e : Expr V) (xs : List (Bool × Expr V)) (ps : Vec (Bool × Expr V) Global)
+  pub sum-arm : (r : Result (List Value) Stop) (e : Expr V) (xs : List (Bool × Expr V))
+      (ps : Vec (Bool × Expr V) Global)
       → e ≡ view.Sum ps → xs ≡ ps.items → Sums facts most r xs → Evaluates facts most r (out-Expr V e)
   sum-arm r e xs ps i j h =
       at r e (Sum ps) (opened-sum e ps i)
@@ -141,7 +143,8 @@ module _ {V : Type 0} (facts : V → Value → Type 0) (most : Option ℕ) where
       → xs ≡ cs.items → Chooses facts most r xs → Chooses facts most r cs.items
   chosen_in r xs cs i h = let P : List (Expr V × Expr V) → Type 0 = λ z. Chooses facts most r z in subst P i h
 
-  pub choice-arm : (r : Result (List Value) Stop) (e d : Expr V) (us : List (Expr V × Expr V)) (cs : Vec (Expr V × Expr V) Global) (other : Box (Expr V) Global) (set : List Value) (passes : Bool)
+  pub choice-arm : (r : Result (List Value) Stop) (e d : Expr V) (us : List (Expr V × Expr V))
+      (cs : Vec (Expr V × Expr V) Global) (other : Box (Expr V) Global) (set : List Value) (passes : Bool)
       → e ≡ view.Choose cs other → us ≡ cs.items → d ≡ other.value → Chooses facts most (Ok (set, passes)) us
       → Joins facts most r passes set (out-Expr V d) → Evaluates facts most r (out-Expr V e)
   choice-arm r e d us cs other set passes i j k h l =
@@ -149,7 +152,8 @@ module _ {V : Type 0} (facts : V → Value → Type 0) (most : Option ℕ) where
       at r e (Choose cs other) (opened-choice e cs other i)
       (form.choice-done facts most cs other set passes r (chosen_in (Ok (set, passes)) us cs j h) (subst P k l))
 
-  pub cases-stop : (stop : Stop) (e : Expr V) (us : List (Expr V × Expr V)) (cs : Vec (Expr V × Expr V) Global) (other : Box (Expr V) Global)
+  pub cases-stop : (stop : Stop) (e : Expr V) (us : List (Expr V × Expr V)) (cs : Vec (Expr V × Expr V) Global)
+      (other : Box (Expr V) Global)
       → e ≡ view.Choose cs other → us ≡ cs.items
       → Chooses facts most (Err stop) us → Evaluates facts most (Err stop) (out-Expr V e)
   cases-stop stop e us cs other i j h =

@@ -111,8 +111,10 @@ needs_both V P R S T more_r more_s both n k = record {
   hold = either_holds P n.pairs k.pairs n.hold k.hold;
   suffice =
       both (Has (n.pairs ++ k.pairs))
-      (more_r (Has n.pairs) (Has (n.pairs ++ k.pairs)) (λ x v h. Contains-append_left n.pairs k.pairs (x, v) h) n.suffice)
-      (more_s (Has k.pairs) (Has (n.pairs ++ k.pairs)) (λ x v h. Contains-append_right n.pairs k.pairs (x, v) h) k.suffice);
+      (more_r (Has n.pairs) (Has (n.pairs ++ k.pairs)) (λ x v h. Contains-append_left n.pairs k.pairs (x, v) h)
+      n.suffice)
+      (more_s (Has k.pairs) (Has (n.pairs ++ k.pairs)) (λ x v h. Contains-append_right n.pairs k.pairs (x, v) h)
+      k.suffice);
 }
 
 -- finitely many of the facts suffice

@@ -42,7 +42,8 @@ pub fold_of-more : {X : Type 0} (s : Step) (f : X → Value) (xs : List X) (i : 
     → fold_of s (map f (take (i + 1) xs)) ≡ next_of s (is_nil (map f (take i xs))) (fold_of s (map f (take i xs))) (f x)
 fold_of-more s f xs i x h is = ap (fold_of s) (map-more f xs i x h is) ∙ fold_of-push s (map f (take i xs)) (f x)
 
-pub fold_of-step : {X : Type 0} (s : Step) (f : X → Value) (xs : List X) (i : ℕ) (x : X) (first : Bool) (n : ℤ) (v : Value) (r : ℤ)
+pub fold_of-step : {X : Type 0} (s : Step) (f : X → Value) (xs : List X) (i : ℕ) (x : X) (first : Bool) (n : ℤ)
+    (v : Value) (r : ℤ)
     → i < length xs → x ≡ get_or xs i x
     → r ≡ next_of s first n v → n ≡ fold_of s (map f (take i xs)) → first ≡ is_nil (map f (take i xs)) → v ≡ f x
     → r ≡ fold_of s (map f (take (i + 1) xs))
@@ -61,7 +62,8 @@ is_nil-more f xs i x h is = sym (ap is_nil (map-more f xs i x h is) ∙ is_nil-p
 -- the first case of those that are left
 pub first_true-drop : {X : Type 0} (f : X → Value) (cs : List (X × X)) (i : ℕ) (c : X × X) (other : Value)
     → i < length cs → c ≡ get_or cs i c
-    → first_true (map (λ c. (f c.0, f c.1)) (drop i cs)) other ≡ cond (truth_of (f c.0)) (f c.1) (first_true (map (λ c. (f c.0, f c.1)) (drop (i + 1) cs)) other)
+    → first_true (map (λ c. (f c.0, f c.1)) (drop i cs)) other
+    ≡ cond (truth_of (f c.0)) (f c.1) (first_true (map (λ c. (f c.0, f c.1)) (drop (i + 1) cs)) other)
 first_true-drop {X} f cs i c other h is =
     at_drop_more (λ (xs : List (X × X)). first_true (map (λ c. (f c.0, f c.1)) xs) other) cs i c h
     ∙ ap
@@ -71,7 +73,8 @@ first_true-drop {X} f cs i c other h is =
 -- a case whose test is true decides, and one whose test is false does not
 pub chosen-true : {X : Type 0} (f : X → Value) (cs : List (X × X)) (i : ℕ) (c : X × X) → i < length cs
     → c ≡ get_or cs i c
-    → ((other : Value) → first_true (map (λ c. (f c.0, f c.1)) (drop i cs)) other ≡ first_true (map (λ c. (f c.0, f c.1)) cs) other)
+    → ((other : Value) → first_true (map (λ c. (f c.0, f c.1)) (drop i cs)) other
+    ≡ first_true (map (λ c. (f c.0, f c.1)) cs) other)
     → truth_of (f c.0) ≡ true
     → (other : Value) → first_true (map (λ c. (f c.0, f c.1)) cs) other ≡ f c.1
 chosen-true f cs i c h is inv t other =
@@ -80,35 +83,41 @@ chosen-true f cs i c h is inv t other =
 
 pub chosen-false : {X : Type 0} (f : X → Value) (cs : List (X × X)) (i : ℕ) (c : X × X) → i < length cs
     → c ≡ get_or cs i c
-    → ((other : Value) → first_true (map (λ c. (f c.0, f c.1)) (drop i cs)) other ≡ first_true (map (λ c. (f c.0, f c.1)) cs) other)
+    → ((other : Value) → first_true (map (λ c. (f c.0, f c.1)) (drop i cs)) other
+    ≡ first_true (map (λ c. (f c.0, f c.1)) cs) other)
     → truth_of (f c.0) ≡ false
     → (other : Value)
     → first_true (map (λ c. (f c.0, f c.1)) (drop (i + 1) cs)) other ≡ first_true (map (λ c. (f c.0, f c.1)) cs) other
 chosen-false f cs i c h is inv t other =
     sym
-    (first_true-drop f cs i c other h is ∙ ap (λ b. cond b (f c.1) (first_true (map (λ c. (f c.0, f c.1)) (drop (i + 1) cs)) other)) t)
+    (first_true-drop f cs i c other h is
+    ∙ ap (λ b. cond b (f c.1) (first_true (map (λ c. (f c.0, f c.1)) (drop (i + 1) cs)) other)) t)
     ∙ inv other
 
 pub chosen-over : {X : Type 0} (f : X → Value) (cs : List (X × X)) (i : ℕ) → length cs ≤ i
-    → ((other : Value) → first_true (map (λ c. (f c.0, f c.1)) (drop i cs)) other ≡ first_true (map (λ c. (f c.0, f c.1)) cs) other)
+    → ((other : Value) → first_true (map (λ c. (f c.0, f c.1)) (drop i cs)) other
+    ≡ first_true (map (λ c. (f c.0, f c.1)) cs) other)
     → (other : Value) → first_true (map (λ c. (f c.0, f c.1)) cs) other ≡ other
 chosen-over {X} f cs i h inv other =
     sym (inv other) ∙ at_drop_all (λ (xs : List (X × X)). first_true (map (λ c. (f c.0, f c.1)) xs) other) cs i h
 
 -- the equation of a choice
 pub value_of-Choose : {V : Type 0} (t : V → Value) (cases : Vec (Expr V × Expr V) Global) (other : Box (Expr V) Global)
-    → value_of t (Choose cases other) ≡ first_true (map (λ c. (value_of t c.0, value_of t c.1)) cases.items) (value_of t other.value)
+    → value_of t (Choose cases other) ≡ first_true (map (λ c. (value_of t c.0, value_of t c.1)) cases.items)
+    (value_of t other.value)
 value_of-Choose {V} t cases other =
     fold_out-Expr V Value (value_step t) (Choose cases other)
     ∙ ap (λ (x : Expr-F V (Expr V)). value_step t (map-Expr V (Expr V) Value (value_of t) x)) (outs-Choose cases other)
 
-pub value_of-chosen : {V : Type 0} (t : V → Value) (cases : Vec (Expr V × Expr V) Global) (other : Box (Expr V) Global) (e : Expr V) (xs : List (Expr V × Expr V)) (r : Option Value)
+pub value_of-chosen : {V : Type 0} (t : V → Value) (cases : Vec (Expr V × Expr V) Global) (other : Box (Expr V) Global)
+    (e : Expr V) (xs : List (Expr V × Expr V)) (r : Option Value)
     → e ≡ Choose cases other → xs ≡ cases.items
     → ((w : Value) → first_true (map (λ c. (value_of t c.0, value_of t c.1)) xs) w ≡ unwrap_or r w)
     → unwrap_or r (value_of t other.value) ≡ value_of t e
 value_of-chosen {V} t cases other e xs r is same h =
     sym (h (value_of t other.value))
     ∙ ap
-    (λ (ys : List (Expr V × Expr V)). first_true (map (λ c. (value_of t c.0, value_of t c.1)) ys) (value_of t other.value)) same
+    (λ (ys : List (Expr V × Expr V)). first_true (map (λ c. (value_of t c.0, value_of t c.1)) ys)
+    (value_of t other.value)) same
     ∙ sym (value_of-Choose t cases other)
     ∙ ap (value_of t) (sym is)

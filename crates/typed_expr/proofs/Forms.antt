@@ -44,7 +44,8 @@ no-longer (x ∷ xs) ys a f =
     let (zs, l, g) = without ys x (f x (contains-head x xs)) in
     let k =
     no-longer xs zs a.1
-    (λ d m. elim (g d (f d (contains-cons x d xs m))) [ inl e ↦ absurd (not_before x d (a.0 d m) (sym e)) | inr n ↦ n ]) in
+    (λ d m. elim (g d (f d (contains-cons x d xs m)))
+    [ inl e ↦ absurd (not_before x d (a.0 d m) (sym e)) | inr n ↦ n ]) in
     omega arith
 
 -- the values of a set within the limit are not too many
@@ -120,7 +121,8 @@ module _ {V : Type 0} (facts : V → Value → Type 0) where
   wide-any es n (step k (in_any {e = e} m q) h) = inr (record { expr = e; in_list = m; wide = step k q h })
 
   pub wide-compare : (r : Relation) (a b : Box (Expr V) Global) (n : ℕ) → IsWide facts n (Compare r a b)
-      → HasMoreThan n (Yields facts (Compare r a b)) ⊎ (IsWide facts n (out-Expr V a.value) ⊎ IsWide facts n (out-Expr V b.value))
+      → HasMoreThan n (Yields facts (Compare r a b))
+      ⊎ (IsWide facts n (out-Expr V a.value) ⊎ IsWide facts n (out-Expr V b.value))
   wide-compare r a b n (subexpression itself h) = inl h
   wide-compare r a b n (subexpression (in_left q) h) = inr (inl (subexpression q h))
   wide-compare r a b n (subexpression (in_right q) h) = inr (inr (subexpression q h))
@@ -138,7 +140,8 @@ module _ {V : Type 0} (facts : V → Value → Type 0) where
       inr (inl (record { part = (plus, e); in_list = m; wide = step k q h }))
 
   pub wide-product : (es : Vec (Expr V) Global) (n : ℕ) → IsWide facts n (Product es)
-      → HasMoreThan n (Yields facts (Product es)) ⊎ (SomeWide facts es.items n ⊎ SomeStep (FoldYields facts Times es.items) n)
+      → HasMoreThan n (Yields facts (Product es))
+      ⊎ (SomeWide facts es.items n ⊎ SomeStep (FoldYields facts Times es.items) n)
   wide-product es n (subexpression itself h) = inl h
   wide-product es n (subexpression (in_product {e = e} m q) h) =
       inr (inl (record { expr = e; in_list = m; wide = subexpression q h }))
@@ -147,7 +150,8 @@ module _ {V : Type 0} (facts : V → Value → Type 0) where
       inr (inl (record { expr = e; in_list = m; wide = step k q h }))
 
   pub wide-least : (es : Vec (Expr V) Global) (n : ℕ) → IsWide facts n (Least es)
-      → HasMoreThan n (Yields facts (Least es)) ⊎ (SomeWide facts es.items n ⊎ SomeStep (FoldYields facts Lesser es.items) n)
+      → HasMoreThan n (Yields facts (Least es))
+      ⊎ (SomeWide facts es.items n ⊎ SomeStep (FoldYields facts Lesser es.items) n)
   wide-least es n (subexpression itself h) = inl h
   wide-least es n (subexpression (in_least {e = e} m q) h) =
       inr (inl (record { expr = e; in_list = m; wide = subexpression q h }))
@@ -155,7 +159,8 @@ module _ {V : Type 0} (facts : V → Value → Type 0) where
   wide-least es n (step k (in_least {e = e} m q) h) = inr (inl (record { expr = e; in_list = m; wide = step k q h }))
 
   pub wide-greatest : (es : Vec (Expr V) Global) (n : ℕ) → IsWide facts n (Greatest es)
-      → HasMoreThan n (Yields facts (Greatest es)) ⊎ (SomeWide facts es.items n ⊎ SomeStep (FoldYields facts Greater es.items) n)
+      → HasMoreThan n (Yields facts (Greatest es))
+      ⊎ (SomeWide facts es.items n ⊎ SomeStep (FoldYields facts Greater es.items) n)
   wide-greatest es n (subexpression itself h) = inl h
   wide-greatest es n (subexpression (in_greatest {e = e} m q) h) =
       inr (inl (record { expr = e; in_list = m; wide = subexpression q h }))
@@ -164,7 +169,8 @@ module _ {V : Type 0} (facts : V → Value → Type 0) where
       inr (inl (record { expr = e; in_list = m; wide = step k q h }))
 
   pub wide-count : (es : Vec (Expr V) Global) (n : ℕ) → IsWide facts n (Count es)
-      → HasMoreThan n (Yields facts (Count es)) ⊎ (SomeWide facts es.items n ⊎ SomeStep (FoldYields facts Counted es.items) n)
+      → HasMoreThan n (Yields facts (Count es))
+      ⊎ (SomeWide facts es.items n ⊎ SomeStep (FoldYields facts Counted es.items) n)
   wide-count es n (subexpression itself h) = inl h
   wide-count es n (subexpression (in_count {e = e} m q) h) =
       inr (inl (record { expr = e; in_list = m; wide = subexpression q h }))
@@ -173,7 +179,8 @@ module _ {V : Type 0} (facts : V → Value → Type 0) where
 
   pub wide-choice : (cs : Vec (Expr V × Expr V) Global) (other : Box (Expr V) Global) (n : ℕ)
       → IsWide facts n (Choose cs other)
-      → HasMoreThan n (Yields facts (Choose cs other)) ⊎ (CaseWide facts cs.items n ⊎ IsWide facts n (out-Expr V other.value))
+      → HasMoreThan n (Yields facts (Choose cs other))
+      ⊎ (CaseWide facts cs.items n ⊎ IsWide facts n (out-Expr V other.value))
   wide-choice cs other n (subexpression itself h) = inl h
   wide-choice cs other n (subexpression (in_test {test = t} {value = v} m q) h) =
       inr (inl (record { case = (t, v); in_list = m; wide = inl (subexpression q h) }))
@@ -248,7 +255,8 @@ module _ {V : Type 0} (facts : V → Value → Type 0) where
   pub constant-done : (most : Option ℕ) (v : Value) (r : Result (List Value) Stop) → Gathers most r (Contains (v ∷ []))
       → Evaluates facts most r (Constant v)
   constant-done most v r g = finish most (Constant v) r (Contains (v ∷ [])) (λ n. ⊥) g
-      (λ w m. elim (contains-cases v w [] m) [ inl e ↦ subst (Yields facts (Constant v)) e y.constant | inr k ↦ absurd (nothing-in w k) ])
+      (λ w m. elim (contains-cases v w [] m)
+      [ inl e ↦ subst (Yields facts (Constant v)) e y.constant | inr k ↦ absurd (nothing-in w k) ])
       (yielded_constant v) (wide-constant v) (nothing most)
 
   yielded_variable : (x : V) (w : Value) → Yields facts (Variable x) w → facts x w
@@ -274,7 +282,8 @@ module _ {V : Type 0} (facts : V → Value → Type 0) where
   from_not a set f t h p q v (y.opposite {b = true} d) = inl (p (h.complete (Truth true) d), refl)
   from_not a set f t h p q v (y.opposite {b = false} d) = inr (q (h.complete (Truth false) d), refl)
 
-  pub not-done : (most : Option ℕ) (a : Box (Expr V) Global) (set : List Value) (can_be_false can_be_true : Bool) (r : Result (List Value) Stop)
+  pub not-done : (most : Option ℕ) (a : Box (Expr V) Global) (set : List Value) (can_be_false can_be_true : Bool)
+      (r : Result (List Value) Stop)
       → Evaluates facts most (Ok set) (out-Expr V a.value) → IsTrue can_be_false ↔ Contains set (Truth true)
       → IsTrue can_be_true ↔ Contains set (Truth false)
       → Gathers most r (IsTruth can_be_false can_be_true) → Evaluates facts most r (Not a)
@@ -342,7 +351,8 @@ module _ {V : Type 0} (facts : V → Value → Type 0) where
       (λ e. p (record { left = x; right = z; in_left = h.complete x c; in_right = k.complete z d; related = e }))
       (λ e. o (record { left = x; right = z; in_left = h.complete x c; in_right = k.complete z d; related = e }))
 
-  pub compare-done : (most : Option ℕ) (q : Relation) (a b : Box (Expr V) Global) (xs ys : List Value) (f t : Bool) (r : Result (List Value) Stop)
+  pub compare-done : (most : Option ℕ) (q : Relation) (a b : Box (Expr V) Global) (xs ys : List Value) (f t : Bool)
+      (r : Result (List Value) Stop)
       → Evaluates facts most (Ok xs) (out-Expr V a.value) → Evaluates facts most (Ok ys) (out-Expr V b.value)
       → IsTrue f ↔ SomeRelated q xs ys false → IsTrue t ↔ SomeRelated q xs ys true → Gathers most r (IsTruth f t)
       → Evaluates facts most r (Compare q a b)
@@ -470,7 +480,8 @@ module _ {V : Type 0} (facts : V → Value → Type 0) where
       ]
 
   -- the cases with the last branch
-  pub choice-done : (most : Option ℕ) (cs : Vec (Expr V × Expr V) Global) (other : Box (Expr V) Global) (set : List Value) (passes : Bool) (r : Result (List Value) Stop)
+  pub choice-done : (most : Option ℕ) (cs : Vec (Expr V × Expr V) Global) (other : Box (Expr V) Global)
+      (set : List Value) (passes : Bool) (r : Result (List Value) Stop)
       → Chooses facts most (Ok (set, passes)) cs.items → Joins facts most r passes set (out-Expr V other.value)
       → Evaluates facts most r (Choose cs other)
   choice-done most cs other set passes (Ok new) h g =
@@ -480,9 +491,13 @@ module _ {V : Type 0} (facts : V → Value → Type 0) where
       (neither most _ _ h.2 g.2)
   choice-done most cs other set passes (Err stop) h g =
       stopped-up most
-      (λ n. IsWide facts n (out-Expr V other.value) ⊎ HasMoreThan n (BranchYields facts passes set (out-Expr V other.value)))
+      (λ n. IsWide facts n (out-Expr V other.value)
+      ⊎ HasMoreThan n (BranchYields facts passes set (out-Expr V other.value)))
       (λ n. IsWide facts n (Choose cs other))
-      (λ n w. elim w [ inl a ↦ up-other cs other n a | inr m ↦ subexpression itself (more-than (to_choice cs other set passes h.0) m) ]) stop g
+      (λ n w. elim w [
+        | inl a ↦ up-other cs other n a
+        | inr m ↦ subexpression itself (more-than (to_choice cs other set passes h.0) m)
+      ]) stop g
 
   pub up-cases : (cs : Vec (Expr V × Expr V) Global) (other : Box (Expr V) Global) (n : ℕ)
       → CaseWide facts cs.items n ⊎ HasMoreThan n (Took facts cs.items) → IsWide facts n (Choose cs other)
@@ -501,11 +516,18 @@ module _ {V : Type 0} (facts : V → Value → Type 0) where
   branch_down e set values takes h v (inl m) = inl m
   branch_down e set values takes h v (inr m) = inr (m.0, h.complete v m.1)
 
-  pub branch-done : (most : Option ℕ) (e : Level V) (set values : List Value) (takes : Bool) (r : Result (List Value) Stop)
+  pub branch-done : (most : Option ℕ) (e : Level V) (set values : List Value) (takes : Bool)
+      (r : Result (List Value) Stop)
       → Evaluates facts most (Ok values) e
       → Gathers most r (λ v. Contains set v ⊎ (IsTrue takes × Contains values v)) → Joins facts most r takes set e
-  branch-done most e set values takes (Ok new) h g =
-      (record { sound = λ v m. branch_up e set values takes h.0 v (g.0.sound v m); complete = λ v m. g.0.complete v (branch_down e set values takes h.0 v m) }, g.1, h.2)
+  branch-done most e set values takes (Ok new) h g = (
+    record {
+      sound = λ v m. branch_up e set values takes h.0 v (g.0.sound v m);
+      complete = λ v m. g.0.complete v (branch_down e set values takes h.0 v m);
+    },
+    g.1,
+    h.2,
+  )
   branch-done most e set values takes (Err stop) h g =
       stopped-up most (λ n. HasMoreThan n (λ v. Contains set v ⊎ (IsTrue takes × Contains values v)))
       (λ n. IsWide facts n e ⊎ HasMoreThan n (BranchYields facts takes set e))
@@ -518,7 +540,8 @@ module _ {V : Type 0} (facts : V → Value → Type 0) where
       (λ n w. inl w) stop h
 
 -- without a limit, a branch that is not taken is passed over
-pub branch-skips : {V : Type 0} (facts : V → Value → Type 0) (most : Option ℕ) (e : Level V) (set : List Value) (takes : Bool)
+pub branch-skips : {V : Type 0} (facts : V → Value → Type 0) (most : Option ℕ) (e : Level V) (set : List Value)
+    (takes : Bool)
     → takes ≡ false → is_some most ≡ false → Joins facts most (Ok set) takes set e
 branch-skips facts None e set takes p q =
     (record { sound = λ v m. inl m; complete = λ v m. elim m [ inl a ↦ a | inr a ↦ absurd (let k = a.0 in cc) ] }, tt, λ w. w)

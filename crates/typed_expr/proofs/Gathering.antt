@@ -86,7 +86,8 @@ pub take-cases : {X : Type 0} (xs : List X) (i : ℕ) (d x : X) → i < length x
     → Contains (take i xs) x ⊎ (x ≡ get_or xs i d)
 take-cases {X} xs i d x h m =
     elim
-    (Contains-push_cases (take i xs) (get_or xs i d) x (subst (λ (l : List X). Contains l x) (take_more xs i d h) m)) [ inl k ↦ inl k | inr e ↦ inr (sym e) ]
+    (Contains-push_cases (take i xs) (get_or xs i d) x (subst (λ (l : List X). Contains l x) (take_more xs i d h) m))
+    [ inl k ↦ inl k | inr e ↦ inr (sym e) ]
 
 pub take-keeps : {X : Type 0} (xs : List X) (i : ℕ) (d x : X) → i < length xs → Contains (take i xs) x
     → Contains (take (i + 1) xs) x
@@ -123,7 +124,10 @@ joined-more most old set new values i d h s a = (
   exactly-put set new (get_or values i d) (JoinedTo old values i) (JoinedTo old values (i + 1)) s.0 a.0
       (λ v m. elim m [ inl k ↦ inl k | inr k ↦ inr (take-keeps values i d v h k) ])
       (inr (take-has values i d h))
-      (λ v m. elim m [ inl k ↦ inl (inl k) | inr k ↦ elim (take-cases values i d v h k) [ inl l ↦ inl (inr l) | inr e ↦ inr e ] ]),
+      (λ v m. elim m [
+        | inl k ↦ inl (inl k)
+        | inr k ↦ elim (take-cases values i d v h k) [ inl l ↦ inl (inr l) | inr e ↦ inr e ]
+      ]),
   a.1 s.1,
 )
 
@@ -185,15 +189,23 @@ next-cases s first n values i d v h m =
       | inl k ↦ inl (record { number = m.number; value = m.value; in_numbers = m.in_numbers; in_values = k; is = m.is })
       | inr e ↦
           inr
-          (m.is ∙ ap (λ z. Whole (next_of s first (whole_of z) m.value)) (sym (contains-one n m.number m.in_numbers)) ∙ ap (λ z. Whole (next_of s first (whole_of n) z)) e)
+          (m.is ∙ ap (λ z. Whole (next_of s first (whole_of z) m.value)) (sym (contains-one n m.number m.in_numbers))
+          ∙ ap (λ z. Whole (next_of s first (whole_of n) z)) e)
     ]
 
 pub stepped-start : (most : Option ℕ) (s : Step) (first : Bool) (n : Value) (set values : List Value)
     → KeepsLimit most set → SoFar most set (SteppedTo s first n set values 0)
-stepped-start most s first n set values k =
-    (record { sound = λ v m. inl m; complete = λ v m. elim m [ inl h ↦ h | inr h ↦ absurd (nothing-in h.value h.in_values) ] }, k)
+stepped-start most s first n set values k = (
+  record {
+    sound = λ v m. inl m;
+    complete = λ v m. elim m
+        [ inl h ↦ h | inr h ↦ absurd (nothing-in h.value h.in_values) ];
+  },
+  k,
+)
 
-pub stepped-more : (most : Option ℕ) (s : Step) (first : Bool) (n x : Value) (old set new values : List Value) (i : ℕ) (d : Value)
+pub stepped-more : (most : Option ℕ) (s : Step) (first : Bool) (n x : Value) (old set new values : List Value) (i : ℕ)
+    (d : Value)
     → i < length values
     → SoFar most set (SteppedTo s first n old values i) → x ≡ Whole (next_of s first (whole_of n) (get_or values i d))
     → Inserts most set x new
@@ -202,11 +214,15 @@ stepped-more most s first n x old set new values i d h t e a = (
   exactly-put set new x (SteppedTo s first n old values i) (SteppedTo s first n old values (i + 1)) t.0 a.0
       (λ v m. elim m [ inl k ↦ inl k | inr k ↦ inr (next-more s first (n ∷ []) values i d v h k) ])
       (inr (subst (IsNext s first (n ∷ []) (take (i + 1) values)) (sym e) (next-here s first n values i d h)))
-      (λ v m. elim m [ inl k ↦ inl (inl k) | inr k ↦ elim (next-cases s first n values i d v h k) [ inl l ↦ inl (inr l) | inr q ↦ inr (q ∙ sym e) ] ]),
+      (λ v m. elim m [
+        | inl k ↦ inl (inl k)
+        | inr k ↦ elim (next-cases s first n values i d v h k) [ inl l ↦ inl (inr l) | inr q ↦ inr (q ∙ sym e) ]
+      ]),
   a.1 t.1,
 )
 
-pub stepped-refused : (most : Option ℕ) (s : Step) (first : Bool) (n x : Value) (old set values : List Value) (i : ℕ) (d : Value) (stop : Stop)
+pub stepped-refused : (most : Option ℕ) (s : Step) (first : Bool) (n x : Value) (old set values : List Value) (i : ℕ)
+    (d : Value) (stop : Stop)
     → i < length values
     → SoFar most set (SteppedTo s first n old values i) → x ≡ Whole (next_of s first (whole_of n) (get_or values i d))
     → Refuses most set x stop
@@ -215,7 +231,8 @@ stepped-refused most s first n x old set values i d stop h t e r =
     refused-put most set x stop (SteppedTo s first n old values i)
     (λ v. Contains old v ⊎ IsNext s first (n ∷ []) values v) t.0 r
     (λ v m. elim m [ inl k ↦ inl k | inr k ↦ inr (next-within s first (n ∷ []) values i v k) ])
-    (inr (subst (IsNext s first (n ∷ []) values) (sym e) (next-within s first (n ∷ []) values (i + 1) _ (next-here s first n values i d h))))
+    (inr (subst (IsNext s first (n ∷ []) values) (sym e)
+    (next-within s first (n ∷ []) values (i + 1) _ (next-here s first n values i d h))))
 
 pub stepped-end : (most : Option ℕ) (s : Step) (first : Bool) (n : Value) (old set values : List Value) (i : ℕ)
     → length values ≤ i → SoFar most set (SteppedTo s first n old values i)
@@ -259,7 +276,13 @@ numbers_down s first ns values set i d n h e t v m =
           inl (t v (record { number = m.number; value = m.value; in_numbers = k; in_values = m.in_values; is = m.is }))
       | inr q ↦
           inr
-          (record { number = m.number; value = m.value; in_values = m.in_values; is = m.is; in_numbers = subst (λ (z : Value). Contains (n ∷ []) z) (e ∙ sym q) (contains-head n []) })
+          (record {
+            number = m.number;
+            value = m.value;
+            in_values = m.in_values;
+            is = m.is;
+            in_numbers = subst (λ (z : Value). Contains (n ∷ []) z) (e ∙ sym q) (contains-head n []);
+          })
     ]
 
 -- one more number
@@ -272,7 +295,8 @@ numbers-more most s first ns values set new i d n h e t g =
     gathers-as most (Ok new) {P = λ v. Contains set v ⊎ IsNext s first (n ∷ []) values v}
     (numbers_up s first ns values set i d n h e t.sound) (numbers_down s first ns values set i d n h e t.complete) g
 
-pub numbers-refused : (most : Option ℕ) (s : Step) (first : Bool) (ns values set : List Value) (i : ℕ) (d n : Value) (stop : Stop)
+pub numbers-refused : (most : Option ℕ) (s : Step) (first : Bool) (ns values set : List Value) (i : ℕ) (d n : Value)
+    (stop : Stop)
     → i < length ns → n ≡ get_or ns i d
     → HasExactly set (IsNext s first (take i ns) values)
     → Gathers most (Err stop) (λ v. Contains set v ⊎ IsNext s first (n ∷ []) values v)
@@ -280,16 +304,31 @@ pub numbers-refused : (most : Option ℕ) (s : Step) (first : Bool) (ns values s
 numbers-refused None s first ns values set i d n TooMany h e t g = g
 numbers-refused (Some k) s first ns values set i d n TooMany h e t g =
     more-than (λ v m. let u = numbers_up s first ns values set i d n h e t.sound v m in
-    record
-    { number = u.number; value = u.value; in_numbers = take-within ns (i + 1) u.number u.in_numbers; in_values = u.in_values; is = u.is }) g
+    record {
+      number = u.number;
+      value = u.value;
+      in_numbers = take-within ns (i + 1) u.number u.in_numbers;
+      in_values = u.in_values;
+      is = u.is;
+    }) g
 numbers-refused most s first ns values set i d n NoMemory h e t g = tt
 
 pub numbers-start : (most : Option ℕ) (s : Step) (first : Bool) (ns values set : List Value) → set ≡ []
     → SoFar most set (IsNext s first (take 0 ns) values)
-numbers-start None s first ns values set e =
-    (record { sound = λ v m. absurd (nothing-in v (subst (λ (l : List Value). Contains l v) e m)); complete = λ v m. absurd (nothing-in m.number m.in_numbers) }, tt)
-numbers-start (Some k) s first ns values set e =
-    (record { sound = λ v m. absurd (nothing-in v (subst (λ (l : List Value). Contains l v) e m)); complete = λ v m. absurd (nothing-in m.number m.in_numbers) }, rw e (omega arith))
+numbers-start None s first ns values set e = (
+  record {
+    sound = λ v m. absurd (nothing-in v (subst (λ (l : List Value). Contains l v) e m));
+    complete = λ v m. absurd (nothing-in m.number m.in_numbers);
+  },
+  tt,
+)
+numbers-start (Some k) s first ns values set e = (
+  record {
+    sound = λ v m. absurd (nothing-in v (subst (λ (l : List Value). Contains l v) e m));
+    complete = λ v m. absurd (nothing-in m.number m.in_numbers);
+  },
+  rw e (omega arith),
+)
 
 pub numbers-end : (most : Option ℕ) (s : Step) (first : Bool) (ns values set : List Value) (i : ℕ) → length ns ≤ i
     → SoFar most set (IsNext s first (take i ns) values)
@@ -318,18 +357,27 @@ pub truths-false : (most : Option ℕ) (r : Result (List Value) Stop) → Gather
     → Gathers most r (IsTruth true false)
 truths-false most r g = gathers-as most r {P = Contains (Truth false ∷ [])}
     (λ v m. inl (refl, sym (contains-one (Truth false) v m)))
-    (λ v m. elim m [ inl h ↦ subst (λ (z : Value). Contains (Truth false ∷ []) z) (sym h.1) (contains-head (Truth false) []) | inr h ↦ cc ]) g
+    (λ v m. elim m [
+      | inl h ↦ subst (λ (z : Value). Contains (Truth false ∷ []) z) (sym h.1)
+          (contains-head (Truth false) [])
+      | inr h ↦ cc
+    ]) g
 
 pub truths-true : (most : Option ℕ) (r : Result (List Value) Stop) → Gathers most r (Contains (Truth true ∷ []))
     → Gathers most r (IsTruth false true)
 truths-true most r g = gathers-as most r {P = Contains (Truth true ∷ [])}
     (λ v m. inr (refl, sym (contains-one (Truth true) v m)))
-    (λ v m. elim m [ inl h ↦ cc | inr h ↦ subst (λ (z : Value). Contains (Truth true ∷ []) z) (sym h.1) (contains-head (Truth true) []) ]) g
+    (λ v m. elim m [
+      | inl h ↦ cc
+      | inr h ↦ subst (λ (z : Value). Contains (Truth true ∷ []) z) (sym h.1)
+          (contains-head (Truth true) [])
+    ]) g
 
 pub truths-both : (most : Option ℕ) (r : Result (List Value) Stop)
     → Gathers most r (Contains (Truth false ∷ Truth true ∷ [])) → Gathers most r (IsTruth true true)
 truths-both most r g = gathers-as most r {P = Contains (Truth false ∷ Truth true ∷ [])}
-    (λ v m. elim (contains-cases (Truth false) v (Truth true ∷ []) m) [ inl e ↦ inl (refl, sym e) | inr k ↦ inr (refl, sym (contains-one (Truth true) v k)) ])
+    (λ v m. elim (contains-cases (Truth false) v (Truth true ∷ []) m)
+    [ inl e ↦ inl (refl, sym e) | inr k ↦ inr (refl, sym (contains-one (Truth true) v k)) ])
     (λ v m. elim m [
       | inl h ↦
           subst (λ (z : Value). Contains (Truth false ∷ Truth true ∷ []) z) (sym h.1)
@@ -348,7 +396,8 @@ right-more r a bs wanted b i d h f e n s =
       | inl k ↦ f (record { left = s.left; right = s.right; in_left = s.in_left; in_right = k; related = s.related })
       | inr q ↦
           n
-          (e ∙ ap (λ z. is_related r z (get_or bs i d)) (contains-one a s.left s.in_left) ∙ ap (λ z. is_related r s.left z) (sym q) ∙ s.related)
+          (e ∙ ap (λ z. is_related r z (get_or bs i d)) (contains-one a s.left s.in_left)
+          ∙ ap (λ z. is_related r s.left z) (sym q) ∙ s.related)
     ]
 
 pub left-more : (r : Relation) (us bs : List Value) (wanted : Bool) (i : ℕ) (d : Value) → i < length us

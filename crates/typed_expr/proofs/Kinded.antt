@@ -110,7 +110,8 @@ module _ {V : Type 0} (kinds : V → ValueKind) where
       → IsTrue b ↔ (found ≡ Some Truth) → r ≡ cond b (Some Truth) None → IsKindOf kinds (out-Expr V e) r
   not-arm e d a found r b i j h f g =
       at r e (Not a) (opened.opened-not e a i)
-      (kind-where (Not a) (HasKind kinds (out-Expr V a.value) Truth) Truth b r g (is-kind (out-Expr V a.value) found b Truth (in_box found d a j h) f) (λ c. k.opposite c) (in_not a))
+      (kind-where (Not a) (HasKind kinds (out-Expr V a.value) Truth) Truth b r g
+      (is-kind (out-Expr V a.value) found b Truth (in_box found d a j h) f) (λ c. k.opposite c) (in_not a))
 
   listed : (xs ys : List (Expr V)) (b : Bool) (kind : ValueKind) → xs ≡ ys
       → IsTrue b ↔ ((0 < length xs) × Each kinds xs kind) → IsTrue b ↔ ((0 < length ys) × Each kinds ys kind)
@@ -124,7 +125,8 @@ module _ {V : Type 0} (kinds : V → ValueKind) where
       → IsKindOf kinds (out-Expr V e) r
   all-arm e xs es r b i j f g =
       at r e (All es) (opened.opened-all e es i)
-      (kind-where (All es) ((0 < length es.items) × Each kinds es.items Truth) Truth b r g (listed xs es.items b Truth j f) (λ c. k.all c.0 c.1) (in_all es))
+      (kind-where (All es) ((0 < length es.items) × Each kinds es.items Truth) Truth b r g
+      (listed xs es.items b Truth j f) (λ c. k.all c.0 c.1) (in_all es))
 
   pub any-arm : (e : Expr V) (xs : List (Expr V)) (es : Vec (Expr V) Global) (r : Option ValueKind) (b : Bool)
       → e ≡ view.Any es → xs ≡ es.items
@@ -132,7 +134,8 @@ module _ {V : Type 0} (kinds : V → ValueKind) where
       → IsKindOf kinds (out-Expr V e) r
   any-arm e xs es r b i j f g =
       at r e (Any es) (opened.opened-any e es i)
-      (kind-where (Any es) ((0 < length es.items) × Each kinds es.items Truth) Truth b r g (listed xs es.items b Truth j f) (λ c. k.any c.0 c.1) (in_any es))
+      (kind-where (Any es) ((0 < length es.items) × Each kinds es.items Truth) Truth b r g
+      (listed xs es.items b Truth j f) (λ c. k.any c.0 c.1) (in_any es))
 
   pub product-arm : (e : Expr V) (xs : List (Expr V)) (es : Vec (Expr V) Global) (r : Option ValueKind) (b : Bool)
       → e ≡ view.Product es → xs ≡ es.items
@@ -140,7 +143,8 @@ module _ {V : Type 0} (kinds : V → ValueKind) where
       → IsKindOf kinds (out-Expr V e) r
   product-arm e xs es r b i j f g =
       at r e (Product es) (opened.opened-product e es i)
-      (kind-where (Product es) ((0 < length es.items) × Each kinds es.items Whole) Whole b r g (listed xs es.items b Whole j f) (λ c. k.product c.0 c.1) (in_product es))
+      (kind-where (Product es) ((0 < length es.items) × Each kinds es.items Whole) Whole b r g
+      (listed xs es.items b Whole j f) (λ c. k.product c.0 c.1) (in_product es))
 
   pub least-arm : (e : Expr V) (xs : List (Expr V)) (es : Vec (Expr V) Global) (r : Option ValueKind) (b : Bool)
       → e ≡ view.Least es → xs ≡ es.items
@@ -148,7 +152,8 @@ module _ {V : Type 0} (kinds : V → ValueKind) where
       → IsKindOf kinds (out-Expr V e) r
   least-arm e xs es r b i j f g =
       at r e (Least es) (opened.opened-least e es i)
-      (kind-where (Least es) ((0 < length es.items) × Each kinds es.items Whole) Whole b r g (listed xs es.items b Whole j f) (λ c. k.least c.0 c.1) (in_least es))
+      (kind-where (Least es) ((0 < length es.items) × Each kinds es.items Whole) Whole b r g
+      (listed xs es.items b Whole j f) (λ c. k.least c.0 c.1) (in_least es))
 
   pub greatest-arm : (e : Expr V) (xs : List (Expr V)) (es : Vec (Expr V) Global) (r : Option ValueKind) (b : Bool)
       → e ≡ view.Greatest es → xs ≡ es.items
@@ -156,7 +161,8 @@ module _ {V : Type 0} (kinds : V → ValueKind) where
       → IsKindOf kinds (out-Expr V e) r
   greatest-arm e xs es r b i j f g =
       at r e (Greatest es) (opened.opened-greatest e es i)
-      (kind-where (Greatest es) ((0 < length es.items) × Each kinds es.items Whole) Whole b r g (listed xs es.items b Whole j f) (λ c. k.greatest c.0 c.1) (in_greatest es))
+      (kind-where (Greatest es) ((0 < length es.items) × Each kinds es.items Whole) Whole b r g
+      (listed xs es.items b Whole j f) (λ c. k.greatest c.0 c.1) (in_greatest es))
 
   pub count-arm : (e : Expr V) (xs : List (Expr V)) (es : Vec (Expr V) Global) (r : Option ValueKind) (b : Bool)
       → e ≡ view.Count es → xs ≡ es.items
@@ -164,16 +170,19 @@ module _ {V : Type 0} (kinds : V → ValueKind) where
       → IsKindOf kinds (out-Expr V e) r
   count-arm e xs es r b i j f g =
       at r e (Count es) (opened.opened-count e es i)
-      (kind-where (Count es) ((0 < length es.items) × Each kinds es.items Truth) Whole b r g (listed xs es.items b Truth j f) (λ c. k.count c.0 c.1) (in_count es))
+      (kind-where (Count es) ((0 < length es.items) × Each kinds es.items Truth) Whole b r g
+      (listed xs es.items b Truth j f) (λ c. k.count c.0 c.1) (in_count es))
 
-  pub sum-arm : (e : Expr V) (xs : List (Bool × Expr V)) (ps : Vec (Bool × Expr V) Global) (r : Option ValueKind) (b : Bool)
+  pub sum-arm : (e : Expr V) (xs : List (Bool × Expr V)) (ps : Vec (Bool × Expr V) Global) (r : Option ValueKind)
+      (b : Bool)
       → e ≡ view.Sum ps → xs ≡ ps.items
       → IsTrue b ↔ ((0 < length xs) × Each_part kinds xs) → r ≡ cond b (Some Whole) None
       → IsKindOf kinds (out-Expr V e) r
   sum-arm e xs ps r b i j f g =
       let P : List (Bool × Expr V) → Type 0 = λ z. IsTrue b ↔ ((0 < length z) × Each_part kinds z) in
       at r e (Sum ps) (opened.opened-sum e ps i)
-      (kind-where (Sum ps) ((0 < length ps.items) × Each_part kinds ps.items) Whole b r g (subst P j f) (λ c. k.sum c.0 c.1) (in_sum ps))
+      (kind-where (Sum ps) ((0 < length ps.items) × Each_part kinds ps.items) Whole b r g (subst P j f)
+      (λ c. k.sum c.0 c.1) (in_sum ps))
 
   in_compare : (q : Relation) (a b : Box (Expr V) Global) (kind l : ValueKind) → HasKind kinds (out-Expr V a.value) kind
       → HasKind kinds (Compare q a b) l → Compares q kind × HasKind kinds (out-Expr V b.value) kind
@@ -181,7 +190,8 @@ module _ {V : Type 0} (kinds : V → ValueKind) where
       let i : m ≡ kind = one_kind d h in
       let P : ValueKind → Type 0 = λ z. Compares q z × HasKind kinds (out-Expr V b.value) z in subst P i (c, f)
 
-  pub compare-arm : (e c d : Expr V) (q : Relation) (a b : Box (Expr V) Global) (kind : ValueKind) (found r : Option ValueKind) (can is both : Bool)
+  pub compare-arm : (e c d : Expr V) (q : Relation) (a b : Box (Expr V) Global) (kind : ValueKind)
+      (found r : Option ValueKind) (can is both : Bool)
       → e ≡ view.Compare q a b → c ≡ a.value → d ≡ b.value
       → HasKind kinds (out-Expr V c) kind → IsKindOf kinds (out-Expr V d) found → IsTrue can ↔ Compares q kind
       → IsTrue is ↔ (found ≡ Some kind) → IsTrue both ↔ (IsTrue can × IsTrue is)
@@ -210,7 +220,8 @@ module _ {V : Type 0} (kinds : V → ValueKind) where
       let i : m ≡ kind = one_kind d h in
       let P : ValueKind → Type 0 = λ z. Each_case kinds cs.items z in (n, subst P i c)
 
-  pub choice-arm : (e d : Expr V) (xs : List (Expr V × Expr V)) (cs : Vec (Expr V × Expr V) Global) (other : Box (Expr V) Global) (kind : ValueKind) (r : Option ValueKind) (b : Bool)
+  pub choice-arm : (e d : Expr V) (xs : List (Expr V × Expr V)) (cs : Vec (Expr V × Expr V) Global)
+      (other : Box (Expr V) Global) (kind : ValueKind) (r : Option ValueKind) (b : Bool)
       → e ≡ view.Choose cs other → xs ≡ cs.items
       → d ≡ other.value → HasKind kinds (out-Expr V d) kind → IsTrue b ↔ ((0 < length xs) × Each_case kinds xs kind)
       → r ≡ cond b (Some kind) None → IsKindOf kinds (out-Expr V e) r
@@ -218,7 +229,8 @@ module _ {V : Type 0} (kinds : V → ValueKind) where
       let last : HasKind kinds (out-Expr V other.value) kind = in_box (Some kind) d other l h in
       let P : List (Expr V × Expr V) → Type 0 = λ z. IsTrue b ↔ ((0 < length z) × Each_case kinds z kind) in
       at r e (Choose cs other) (opened.opened-choice e cs other i)
-      (kind-where (Choose cs other) ((0 < length cs.items) × Each_case kinds cs.items kind) kind b r g (subst P j f) (λ c. k.choice c.0 c.1 last) (λ n z. in_choice cs other kind n last z))
+      (kind-where (Choose cs other) ((0 < length cs.items) × Each_case kinds cs.items kind) kind b r g (subst P j f)
+      (λ c. k.choice c.0 c.1 last) (λ n z. in_choice cs other kind n last z))
 
   no_other : (cs : Vec (Expr V × Expr V) Global) (other : Box (Expr V) Global) (l : ValueKind)
       → ((m : ValueKind) → HasKind kinds (out-Expr V other.value) m → ⊥) → HasKind kinds (Choose cs other) l → ⊥
@@ -355,23 +367,28 @@ module _ {V : Type 0} (kinds : V → ValueKind) where
   pub cases-begin : (cs : List (Expr V × Expr V)) (kind : ValueKind) → CasesSoFar kinds cs 0 kind
   cases-begin cs kind = record { each = k.no_case }
 
-  pub cases-go-on : (cs : List (Expr V × Expr V)) (i : ℕ) (c : Expr V × Expr V) (kind : ValueKind) (found given : Option ValueKind) (a b : Bool)
+  pub cases-go-on : (cs : List (Expr V × Expr V)) (i : ℕ) (c : Expr V × Expr V) (kind : ValueKind)
+      (found given : Option ValueKind) (a b : Bool)
       → i < length cs → c ≡ get_or cs i c
       → IsKindOf kinds (out-Expr V c.0) found → IsTrue a ↔ (found ≡ Some Truth) → a ≡ true
       → IsKindOf kinds (out-Expr V c.1) given → IsTrue b ↔ (given ≡ Some kind) → b ≡ true
       → CasesSoFar kinds cs i kind → CasesSoFar kinds cs (i + 1) kind
   cases-go-on cs i c kind found given a b h is f g t m n u r =
-      record
-      { each = case-more kinds cs i c kind h is ((is-kind kinds (out-Expr V c.0) found a Truth f g).0 t) ((is-kind kinds (out-Expr V c.1) given b kind m n).0 u) r.each }
+      record {
+        each = case-more kinds cs i c kind h is ((is-kind kinds (out-Expr V c.0) found a Truth f g).0 t)
+            ((is-kind kinds (out-Expr V c.1) given b kind m n).0 u) r.each;
+      }
 
-  pub test-fails : (cs : List (Expr V × Expr V)) (i : ℕ) (c : Expr V × Expr V) (kind : ValueKind) (found : Option ValueKind) (a : Bool)
+  pub test-fails : (cs : List (Expr V × Expr V)) (i : ℕ) (c : Expr V × Expr V) (kind : ValueKind)
+      (found : Option ValueKind) (a : Bool)
       → i < length cs → c ≡ get_or cs i c
       → IsKindOf kinds (out-Expr V c.0) found → IsTrue a ↔ (found ≡ Some Truth) → a ≡ false
       → IsTrue false ↔ ((0 < length cs) × Each_case kinds cs kind)
   test-fails cs i c kind found a h is f g t =
       ((λ z. cc), (λ z. let q = (is-kind kinds (out-Expr V c.0) found a Truth f g).1 (case-at kinds cs kind c z.1 (item-is-in cs i c h is)).0 in cc))
 
-  pub value-fails : (cs : List (Expr V × Expr V)) (i : ℕ) (c : Expr V × Expr V) (kind : ValueKind) (given : Option ValueKind) (b : Bool)
+  pub value-fails : (cs : List (Expr V × Expr V)) (i : ℕ) (c : Expr V × Expr V) (kind : ValueKind)
+      (given : Option ValueKind) (b : Bool)
       → i < length cs → c ≡ get_or cs i c
       → IsKindOf kinds (out-Expr V c.1) given → IsTrue b ↔ (given ≡ Some kind) → b ≡ false
       → IsTrue false ↔ ((0 < length cs) × Each_case kinds cs kind)

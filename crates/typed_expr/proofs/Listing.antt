@@ -62,7 +62,10 @@ module _ {A : Type 0} where
     sound = λ a m.
         elim (Contains-append_cases p.items q.items a m) [ inl k ↦ inl (p.sound a k) | inr k ↦ inr (q.sound a k) ];
     whole = λ a h.
-        elim h [ inl k ↦ Contains-append_left p.items q.items a (p.whole a k) | inr k ↦ Contains-append_right p.items q.items a (q.whole a k) ];
+        elim h [
+          | inl k ↦ Contains-append_left p.items q.items a (p.whole a k)
+          | inr k ↦ Contains-append_right p.items q.items a (q.whole a k)
+        ];
   }
 
   pub listed_where : {R : Type 0} {P : A → Type 0} → Told R → Listed P → Listed (λ a. R × P a)
@@ -140,7 +143,8 @@ module _ {V : Type 0} (facts : V → Value → Type 0) (known : (x : V) → List
   picks_listed (d ∷ ds) = listed_as (listed_by d.1 (λ v. listed_image (λ vs. v ∷ vs) (picks_listed ds))) on back
     where
       on : (ws : List Value) →
-          ((v : Value) × Yields facts (out-Expr V d.0) v × ((vs : List Value) × Picks facts (exprs ds) vs × (v ∷ vs ≡ ws)))
+          ((v : Value) × Yields facts (out-Expr V d.0) v
+          × ((vs : List Value) × Picks facts (exprs ds) vs × (v ∷ vs ≡ ws)))
           → Picks facts (exprs (d ∷ ds)) ws
       on ws (v, h, (vs, p, e)) = subst (λ z. Picks facts (exprs (d ∷ ds)) z) e (y.operand h p)
 
@@ -161,7 +165,8 @@ module _ {V : Type 0} (facts : V → Value → Type 0) (known : (x : V) → List
       listed_as (listed_by d.1 (λ v. listed_image (λ vs. (plus, v) ∷ vs) (parts_listed ds))) on back
     where
       on : (ws : List (Bool × Value)) →
-          ((v : Value) × Yields facts (out-Expr V d.0) v × ((vs : List (Bool × Value)) × Picks_parts facts (terms ds) vs × ((plus, v) ∷ vs ≡ ws)))
+          ((v : Value) × Yields facts (out-Expr V d.0) v
+          × ((vs : List (Bool × Value)) × Picks_parts facts (terms ds) vs × ((plus, v) ∷ vs ≡ ws)))
           → Picks_parts facts (terms ((plus, d) ∷ ds)) ws
       on ws (v, h, (vs, p, e)) = subst (λ z. Picks_parts facts (terms ((plus, d) ∷ ds)) z) e (y.part h p)
 
@@ -181,7 +186,8 @@ module _ {V : Type 0} (facts : V → Value → Type 0) (known : (x : V) → List
       back (y.otherwise h) = h
   takes_listed ((test, value) ∷ cs) other l =
       listed_as
-      (listed_or (listed_where (listed_told test.1 (Truth true)) value.1) (listed_where (listed_told test.1 (Truth false)) (takes_listed cs other l))) on
+      (listed_or (listed_where (listed_told test.1 (Truth true)) value.1)
+      (listed_where (listed_told test.1 (Truth false)) (takes_listed cs other l))) on
       (λ v h. back h)
     where
       on : (v : Value) → (Yields facts (out-Expr V test.0) (Truth true) × Yields facts (out-Expr V value.0) v) ⊎
@@ -191,7 +197,8 @@ module _ {V : Type 0} (facts : V → Value → Type 0) (known : (x : V) → List
       on v (inr h) = y.passed h.0 h.1
 
       back : {v : Value} → Takes facts (cases ((test, value) ∷ cs)) other v
-          → (Yields facts (out-Expr V test.0) (Truth true) × Yields facts (out-Expr V value.0) v) ⊎ (Yields facts (out-Expr V test.0) (Truth false) × Takes facts (cases cs) other v)
+          → (Yields facts (out-Expr V test.0) (Truth true) × Yields facts (out-Expr V value.0) v)
+          ⊎ (Yields facts (out-Expr V test.0) (Truth false) × Takes facts (cases cs) other v)
       back (y.taken t h) = inl (t, h)
       back (y.passed t h) = inr (t, h)
 
@@ -211,7 +218,8 @@ module _ {V : Type 0} (facts : V → Value → Type 0) (known : (x : V) → List
       back (y.variable h) = h
   form_listed (Not a) =
       listed_as
-      (listed_or (listed_where (listed_told a.value.1 (Truth true)) (listed_one (Truth false))) (listed_where (listed_told a.value.1 (Truth false)) (listed_one (Truth true)))) on
+      (listed_or (listed_where (listed_told a.value.1 (Truth true)) (listed_one (Truth false)))
+      (listed_where (listed_told a.value.1 (Truth false)) (listed_one (Truth true)))) on
       (λ v h. back h)
     where
       on : (v : Value) → (Yields facts (out-Expr V a.value.0) (Truth true) × (Truth false ≡ v)) ⊎
@@ -226,7 +234,8 @@ module _ {V : Type 0} (facts : V → Value → Type 0) (known : (x : V) → List
       back (y.opposite {b = false} h) = inr (h, refl)
   form_listed (All es) =
       listed_as
-      (listed_or (listed_where (some_told es.items (Truth false)) (listed_one (Truth false))) (listed_where (all_told es.items (Truth true)) (listed_one (Truth true)))) on
+      (listed_or (listed_where (some_told es.items (Truth false)) (listed_one (Truth false)))
+      (listed_where (all_told es.items (Truth true)) (listed_one (Truth true)))) on
       (λ v h. back h)
     where
       on : (v : Value) → (Some_yields facts (exprs es.items) (Truth false) × (Truth false ≡ v)) ⊎
@@ -241,7 +250,8 @@ module _ {V : Type 0} (facts : V → Value → Type 0) (known : (x : V) → List
       back (y.all_true h) = inr (h, refl)
   form_listed (Any es) =
       listed_as
-      (listed_or (listed_where (some_told es.items (Truth true)) (listed_one (Truth true))) (listed_where (all_told es.items (Truth false)) (listed_one (Truth false)))) on
+      (listed_or (listed_where (some_told es.items (Truth true)) (listed_one (Truth true)))
+      (listed_where (all_told es.items (Truth false)) (listed_one (Truth false)))) on
       (λ v h. back h)
     where
       on : (v : Value) → (Some_yields facts (exprs es.items) (Truth true) × (Truth true ≡ v)) ⊎
@@ -258,7 +268,8 @@ module _ {V : Type 0} (facts : V → Value → Type 0) (known : (x : V) → List
       listed_as (listed_by a.value.1 (λ v. listed_image (λ w. Truth (is_related r v w)) b.value.1)) on (λ u h. back h)
     where
       on : (u : Value) →
-          ((v : Value) × Yields facts (out-Expr V a.value.0) v × ((w : Value) × Yields facts (out-Expr V b.value.0) w × (Truth (is_related r v w) ≡ u)))
+          ((v : Value) × Yields facts (out-Expr V a.value.0) v
+          × ((w : Value) × Yields facts (out-Expr V b.value.0) w × (Truth (is_related r v w) ≡ u)))
           → Yields facts (opened (Compare r a b)) u
       on u (v, h, (w, k, e)) = subst (λ z. Yields facts (opened (Compare r a b)) z) e (y.compared h k)
 
@@ -325,7 +336,8 @@ module _ {V : Type 0} (facts : V → Value → Type 0) (known : (x : V) → List
   -- the values that the expression yields
   pub yields_listed : (e : Expr V) → Listed (Yields facts (out-Expr V e))
   yields_listed = ind-Expr V (λ e. Listed (Yields facts (out-Expr V e)))
-      (λ x d is. subst (λ z. Listed (Yields facts z)) (sym (out-roll-Expr V x)) (subst (λ z. Listed (Yields facts z)) is (form_listed d)))
+      (λ x d is. subst (λ z. Listed (Yields facts z)) (sym (out-roll-Expr V x))
+      (subst (λ z. Listed (Yields facts z)) is (form_listed d)))
 
   pub yields_told : (e : Expr V) (v : Value) → Told (Yields facts (out-Expr V e) v)
   yields_told e v = listed_told (yields_listed e) v

@@ -46,7 +46,8 @@ module _ {V : Type 0} (key_told : (x y : V) → Told (x ≡ y)) (x : V) where
   cases_told [] = inr (λ h. elim h [ ])
   cases_told ((test, value) ∷ cs) =
       told_or
-      (told_or {C = Mentions x (out-Expr V test.0) ⊎ Mentions x (out-Expr V value.0)} test.1 value.1 (λ h. inl h) (λ h. inr h) (λ h. h))
+      (told_or {C = Mentions x (out-Expr V test.0) ⊎ Mentions x (out-Expr V value.0)} test.1 value.1 (λ h. inl h)
+      (λ h. inr h) (λ h. h))
       (cases_told cs)
       (λ h. elim h [ inl k ↦ m.in_test k | inr k ↦ m.in_value k ]) (λ h. m.later_case h)
       (λ h. elim h [ m.in_test k ↦ inl (inl k) | m.in_value k ↦ inl (inr k) | m.later_case k ↦ inr k ])
@@ -80,4 +81,5 @@ module _ {V : Type 0} (key_told : (x y : V) → Told (x ≡ y)) (x : V) where
   -- whether the variable stands in the expression
   pub mentions_told : (e : Expr V) → Told (Mentions x (out-Expr V e))
   mentions_told = ind-Expr V (λ e. Told (Mentions x (out-Expr V e)))
-      (λ y d is. subst (λ z. Told (Mentions x z)) (sym (out-roll-Expr V y)) (subst (λ z. Told (Mentions x z)) is (form_told d)))
+      (λ y d is. subst (λ z. Told (Mentions x z)) (sym (out-roll-Expr V y))
+      (subst (λ z. Told (Mentions x z)) is (form_told d)))

@@ -68,7 +68,8 @@ pub ascending-insert : (xs : List Value) (n : ℕ) (v : Value) → GoesAt xs v n
     → IsAscending (insert xs n v)
 ascending-insert xs n v g a =
     ascending-from (insert xs n v)
-    (ascends-insert xs n v g.within (λ k d l. g.lower k d (omega arith) l) (λ k d l i. g.upper k d l i) (ascends-from xs a))
+    (ascends-insert xs n v g.within (λ k d l. g.lower k d (omega arith) l) (λ k d l i. g.upper k d l i)
+    (ascends-from xs a))
 
 -- the values before a value stand before the others
 pub partitioned : (xs : List Value) (v : Value) → IsAscending xs → (i j : ℕ) (d : Value) → i ≤ j → j < length xs

@@ -50,7 +50,8 @@ module _ (V W : Type 0) (facts : V → Value → Type 0) (facts' : W → Value �
     parts_carry y.no_part r.no_part = y.no_part
     parts_carry (y.part d ds) (r.part q qs) = y.part (carries d q) (parts_carry ds qs)
 
-    pub takes_carry : {cs : List (Expr V × Expr V)} {ds : List (Expr W × Expr W)} {e : Level V} {f : Level W} {v : Value}
+    pub takes_carry : {cs : List (Expr V × Expr V)} {ds : List (Expr W × Expr W)} {e : Level V} {f : Level W}
+        {v : Value}
         → Takes facts cs e v → Cases_rename same cs ds → Renames same e f → Takes facts' ds f v
     takes_carry (y.otherwise d) r.no_case q = y.otherwise (carries d q)
     takes_carry (y.taken t d) (r.case_and p q qs) o = y.taken (carries t p) (carries d q)

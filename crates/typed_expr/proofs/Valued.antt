@@ -135,7 +135,8 @@ module _ {V : Type 0} (facts : V → Value → Type 0) (t : V → Value) (kinds 
   truth_yields e h =
       let P : Value → Type 0 = λ z. Yields facts (out-Expr V e) z in
       subst P
-      (truth-form (level_value t (out-Expr V e)) h.is_kind ∙ ap (λ z. val.Truth (truth_of z)) (sym (value_of-level t e))) h.yields
+      (truth-form (level_value t (out-Expr V e)) h.is_kind
+      ∙ ap (λ z. val.Truth (truth_of z)) (sym (value_of-level t e))) h.yields
 
   value_yields : (e : Expr V) (kind : ValueKind) → Valued facts t (out-Expr V e) kind
       → Yields facts (out-Expr V e) (value_of t e)
@@ -188,8 +189,11 @@ module _ {V : Type 0} (facts : V → Value → Type 0) (t : V → Value) (kinds 
       cond-true (truth_of (value_of t e)) (value_of t f)
       (first_true (map (λ c. (value_of t c.0, value_of t c.1)) cs) (level_value t other)) i in
       let P : Value → Type 0 = λ z. Takes facts ((e, f) ∷ cs) other z in
-      record
-      { takes = subst P (sym w) (y.taken d (value_yields f kind h)); is_kind = ap kind_of w ∙ ap kind_of (value_of-level t f) ∙ h.is_kind }
+      record {
+        takes = subst P (sym w) (y.taken d (value_yields f kind h));
+        is_kind = ap kind_of w
+            ∙ ap kind_of (value_of-level t f) ∙ h.is_kind;
+      }
   choose e f cs other kind false i d h c =
       let w =
       cond-false (truth_of (value_of t e)) (value_of t f)

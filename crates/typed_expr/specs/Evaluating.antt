@@ -67,8 +67,10 @@ pub record SomeStep (yields : ℕ → Value → Type 0) (most : ℕ) : Type 0 wh
 -- the set of what the fold of the operands comes to, with nothing too wide in them, at no step too
 abbrev pub Folds : {V : Type 0} → (V → Value → Type 0) → Option ℕ → Step → Result (List Value) Stop → List (Expr V)
     → Type 0
-Folds facts most s (Ok set) es = HasExactly set (λ v. (vs : List Value) × Picks facts es vs × (v ≡ Whole (fold_of s vs)))
-    × KeepsLimit most set × (AtLimit most (SomeWide facts es) → ⊥) × (AtLimit most (SomeStep (FoldYields facts s es)) → ⊥)
+Folds facts most s (Ok set) es = HasExactly set
+    (λ v. (vs : List Value) × Picks facts es vs × (v ≡ Whole (fold_of s vs)))
+    × KeepsLimit most set × (AtLimit most (SomeWide facts es) → ⊥)
+    × (AtLimit most (SomeStep (FoldYields facts s es)) → ⊥)
 Folds facts most s (Err stop) es = Stopped most (λ n. SomeWide facts es n ⊎ SomeStep (FoldYields facts s es) n) stop
 
 -- v is what the sum may have come to after the first k parts
@@ -83,7 +85,8 @@ pub record PartWide {V : Type 0} (facts : V → Value → Type 0) (ps : List (Bo
 
 abbrev pub Sums : {V : Type 0} → (V → Value → Type 0) → Option ℕ → Result (List Value) Stop → List (Bool × Expr V)
     → Type 0
-Sums facts most (Ok set) ps = HasExactly set (λ v. (vs : List (Bool × Value)) × Picks_parts facts ps vs × (v ≡ Whole (sum_of vs)))
+Sums facts most (Ok set) ps = HasExactly set
+    (λ v. (vs : List (Bool × Value)) × Picks_parts facts ps vs × (v ≡ Whole (sum_of vs)))
     × KeepsLimit most set × (AtLimit most (PartWide facts ps) → ⊥) × (AtLimit most (SomeStep (SumYields facts ps)) → ⊥)
 Sums facts most (Err stop) ps = Stopped most (λ n. PartWide facts ps n ⊎ SomeStep (SumYields facts ps) n) stop
 
@@ -96,7 +99,8 @@ pub record CaseWide {V : Type 0} (facts : V → Value → Type 0) (cs : List (Ex
 -- a case yields the value, where its test yields true and those before it yield false
 abbrev pub Took : {V : Type 0} → (V → Value → Type 0) → List (Expr V × Expr V) → Value → Type 0
 Took facts [] v = ⊥
-Took {V} facts (c ∷ cs) v = (Yields facts (out-Expr V c.0) (Truth true) × Yields facts (out-Expr V c.1) v) ⊎ (Yields facts (out-Expr V c.0) (Truth false) × Took facts cs v)
+Took {V} facts (c ∷ cs) v = (Yields facts (out-Expr V c.0) (Truth true) × Yields facts (out-Expr V c.1) v)
+    ⊎ (Yields facts (out-Expr V c.0) (Truth false) × Took facts cs v)
 
 -- each test yields false
 abbrev pub PassesAll : {V : Type 0} → (V → Value → Type 0) → List (Expr V × Expr V) → Type 0

@@ -81,5 +81,6 @@ AreOfKinds {V} facts kinds = (x : V) (v : Value) → Contains (facts x) v → ki
 
 -- what an expression of a kind yields from such facts is of the kind
 abbrev pub YieldsItsKind : Type 0 → Type 0
-YieldsItsKind V = (facts : V → List Value) (kinds : V → ValueKind) → AreOfKinds facts kinds → (e : Level V) (kind : ValueKind) → HasKind kinds e kind
+YieldsItsKind V = (facts : V → List Value) (kinds : V → ValueKind) → AreOfKinds facts kinds
+    → (e : Level V) (kind : ValueKind) → HasKind kinds e kind
     → (v : Value) → Yields (facts_of facts) e v → kind_of v ≡ kind

@@ -31,7 +31,8 @@ mutual
         → Renames same (Greatest es) (Greatest fs)
     count : {es : Vec (Expr V) Global} {fs : Vec (Expr W) Global} → All_rename same es.items fs.items
         → Renames same (Count es) (Count fs)
-    choice : {cs : Vec (Expr V × Expr V) Global} {ds : Vec (Expr W × Expr W) Global} {a : Box (Expr V) Global} {b : Box (Expr W) Global}
+    choice : {cs : Vec (Expr V × Expr V) Global} {ds : Vec (Expr W × Expr W) Global} {a : Box (Expr V) Global}
+        {b : Box (Expr W) Global}
         → Cases_rename same cs.items ds.items → Renames same (out-Expr V a.value) (out-Expr W b.value)
         → Renames same (Choose cs a) (Choose ds b)
 

@@ -10,7 +10,8 @@ use Rattle.unit_index.specs.Indexed.{same_pair, TellsNodes}
 use Rattle.unit_index.proofs.Pairs.{pair_same, pair_one}
 
 module _ {A S : Type 0} (node : A → MemNode) where
-  pub tells_none : (nodes : List A) (places : HashMap (ℕ × ℕ) ℕ S) → places.entries ≡ [] → TellsNodes node (take 0 nodes) places
+  pub tells_none : (nodes : List A) (places : HashMap (ℕ × ℕ) ℕ S) → places.entries ≡ []
+      → TellsNodes node (take 0 nodes) places
   tells_none nodes places e u x = rw e (λ n d s. absurd (stands_none n d s))
 
   -- one node more
@@ -21,14 +22,18 @@ module _ {A S : Type 0} (node : A → MemNode) where
     far : n ≡ length before + 0
     far = let w = stands_within nodes n d at in let l = length-take n nodes in omega (arith, w, l)
 
-    pub tells_more : ((q : ℕ × ℕ) → get same_pair new q ≡ cond (same_pair ((node d).unit.n, (node d).name.n) q) (Some n) (get same_pair old q)) → TellsNodes node before old
+    pub tells_more : ((q : ℕ × ℕ) → get same_pair new q
+        ≡ cond (same_pair ((node d).unit.n, (node d).name.n) q) (Some n) (get same_pair old q))
+        → TellsNodes node before old
         → TellsNodes node (take (n + 1) nodes) new
     tells_more up h u x =
         let key : ℕ × ℕ = ((node d).unit.n, (node d).name.n) in
         subst (λ (xs : List A). FindsNode node xs u x (get same_pair new (u, x))) (sym (take_next nodes n d at))
-        (subst (λ (r : Option ℕ). FindsNode node (before ++ d ∷ []) u x r) (sym (up (u, x))) (by (same_pair key (u, x)) refl))
+        (subst (λ (r : Option ℕ). FindsNode node (before ++ d ∷ []) u x r) (sym (up (u, x)))
+        (by (same_pair key (u, x)) refl))
       where
-        kept : ((node d).unit.n ≡ u → (node d).name.n ≡ x → ⊥) → (r : Option ℕ) → FindsNode node before u x r → FindsNode node (before ++ d ∷ []) u x r
+        kept : ((node d).unit.n ≡ u → (node d).name.n ≡ x → ⊥) → (r : Option ℕ) → FindsNode node before u x r
+            → FindsNode node (before ++ d ∷ []) u x r
         kept other None f = λ k e s un nn. elim (stands_split before (d ∷ []) k e s) [
           | inl t ↦ f k e t un nn
           | inr t ↦ here t.0 e t.2 un nn
@@ -39,7 +44,8 @@ module _ {A S : Type 0} (node : A → MemNode) where
             here (suc k) e s un nn = stands_none k e s
         kept other (Some k) f = (f.0, stands_left before (d ∷ []) k f.0 f.1, f.2, f.3)
 
-        by : (b : Bool) → same_pair ((node d).unit.n, (node d).name.n) (u, x) ≡ b → FindsNode node (before ++ d ∷ []) u x (cond b (Some n) (get same_pair old (u, x)))
+        by : (b : Bool) → same_pair ((node d).unit.n, (node d).name.n) (u, x) ≡ b
+            → FindsNode node (before ++ d ∷ []) u x (cond b (Some n) (get same_pair old (u, x)))
         by true e = let w = pair_one (node d).unit.n (node d).name.n u x e in (d, stands_right before (d ∷ []) 0 n d far refl, w.0, w.1)
         by false e = kept (λ p q. apart p q) (get same_pair old (u, x)) (h u x)
           where
@@ -48,5 +54,6 @@ module _ {A S : Type 0} (node : A → MemNode) where
                 let t = subst (λ (z : ℕ). same_pair ((node d).unit.n, (node d).name.n) (z, x) ≡ true) p r in cc
 
   -- all nodes
-  pub tells_all : (nodes : List A) (n : ℕ) (places : HashMap (ℕ × ℕ) ℕ S) → length nodes ≤ n → TellsNodes node (take n nodes) places → TellsNodes node nodes places
+  pub tells_all : (nodes : List A) (n : ℕ) (places : HashMap (ℕ × ℕ) ℕ S) → length nodes ≤ n
+      → TellsNodes node (take n nodes) places → TellsNodes node nodes places
   tells_all nodes n places l h = subst (λ (xs : List A). TellsNodes node xs places) (take_all n nodes l) h

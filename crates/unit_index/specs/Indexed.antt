@@ -12,7 +12,8 @@ use Rattle.unit_index.specs.declared.index.Index.{Index}
 abbrev pub same_pair : ℕ × ℕ → ℕ × ℕ → Bool
 same_pair a b = (a.0 == b.0) && (a.1 == b.1)
 
--- the table has, for each unit and name, the place of a node of these with that unit and name, and nothing where there is none
+-- the table has, for each unit and name, the place of a node of these with that unit and name, and nothing where there
+-- is none
 abbrev pub TellsNodes : {A S : Type 0} → (A → MemNode) → List A → HashMap (ℕ × ℕ) ℕ S → Type 0
 TellsNodes {A = A} {S = S} node nodes places = (u x : ℕ) → FindsNode node nodes u x (get same_pair places (u, x))
 

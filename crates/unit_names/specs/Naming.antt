@@ -23,14 +23,18 @@ abbrev pub Entry : Type 0
 Entry = NameId × UnitId
 
 -- the name was looked up: the entry that it leads to was added, or it leads to no unit and nothing was
-pub data AddsName (m : RootedModel) (units : List UnitPath) (u : UnitPath) (x : ℕ) (old : List Entry) : List Entry → Type 0 where
-  added : (e : Entry) (v : UnitPath) → e.0.n ≡ x → Stands units e.1.n v → LeadsFrom m u x (Reaches v) → AddsName m units u x old (old ++ e ∷ [])
+pub data AddsName (m : RootedModel) (units : List UnitPath) (u : UnitPath) (x : ℕ) (old : List Entry) : List Entry
+    → Type 0 where
+  added : (e : Entry) (v : UnitPath) → e.0.n ≡ x → Stands units e.1.n v → LeadsFrom m u x (Reaches v)
+      → AddsName m units u x old (old ++ e ∷ [])
   nothing : ((v : UnitPath) → LeadsFrom m u x (Reaches v) → ⊥) → AddsName m units u x old old
 
 -- the same of several names, one after the other
-pub data AddsNames (m : RootedModel) (units : List UnitPath) (u : UnitPath) (old : List Entry) : List ℕ → List Entry → Type 0 where
+pub data AddsNames (m : RootedModel) (units : List UnitPath) (u : UnitPath) (old : List Entry) : List ℕ → List Entry
+    → Type 0 where
   none : AddsNames m units u old [] old
-  one_more : {xs : List ℕ} {x : ℕ} {between new : List Entry} → AddsNames m units u old xs between → AddsName m units u x between new
+  one_more : {xs : List ℕ} {x : ℕ} {between new : List Entry} → AddsNames m units u old xs between
+      → AddsName m units u x between new
       → AddsNames m units u old (xs ++ x ∷ []) new
 
 -- the names of a declaration that may be instances: those of a type that has a name

@@ -29,10 +29,20 @@ module _ {m : RootedModel} (k : IsKept m) where
 
   between : {a b : ℕ} → IsWithin m.declared a b → (a ≤ b) ⊎ IsBetween m.declared a b
   between itself = inl (omega arith)
-  between {a = a} (further c (class {p = p} x s n) w) = inr (record { body = a; member = x; stands = s; class = c; at = p; names = n; before = itself; after = w })
+  between {a = a} (further c (class {p = p} x s n) w) =
+      inr (record { body = a; member = x; stands = s; class = c; at = p; names = n; before = itself; after = w })
   between (further c (block x at id s) w) = elim (between w) [
     | inl l ↦ (let g = block_later k.rooted.declared _ x at id s in inl (omega (arith, l, g)))
-    | inr b ↦ inr (record { body = b.body; member = b.member; stands = b.stands; class = b.class; at = b.at; names = b.names; before = further c (block x at id s) b.before; after = b.after })
+    | inr b ↦ inr (record {
+      body = b.body;
+      member = b.member;
+      stands = b.stands;
+      class = b.class;
+      at = b.at;
+      names = b.names;
+      before = further c (block x at id s) b.before;
+      after = b.after;
+    })
   ]
 
   broken : (p : Place) → BreaksContainment m.declared p → ⊥
@@ -40,8 +50,16 @@ module _ {m : RootedModel} (k : IsKept m) where
 
   -- no body is inside one that is inside it
   pub not_again : {a b : ℕ} → HasInside m.declared a b → IsWithin m.declared b a → ⊥
-  not_again {a = a} {b = b} (class x s n) w = broken _ (record { body = a; member = x; stands = s; class = b; names = n; again = w })
+  not_again {a = a} {b = b} (class x s n) w =
+      broken _ (record { body = a; member = x; stands = s; class = b; names = n; again = w })
   not_again {a = a} (block x at id s) w = elim (between w) [
     | inl l ↦ (let g = block_later k.rooted.declared a x at id s in absurd (omega (arith, l, g)))
-    | inr i ↦ broken i.at (record { body = i.body; member = i.member; stands = i.stands; class = i.class; names = i.names; again = within_all i.after (further id.n (block x at id s) i.before) })
+    | inr i ↦ broken i.at (record {
+      body = i.body;
+      member = i.member;
+      stands = i.stands;
+      class = i.class;
+      names = i.names;
+      again = within_all i.after (further id.n (block x at id s) i.before);
+    })
   ]

@@ -63,9 +63,15 @@ module _ (m : RootedModel) (base : UnitPath) where
   abbrev things : ℕ → List Thing
   things n = flat_map (λ (u : UnitPath). map (λ (x : ℕ). thing u x) (all_names m base)) (units n)
 
-  level_in : (l : Level) → IsOneOf (all_names m base) l.name → IsOneOf (all_bodies m base) l.body → IsOneOf levels (level l.name l.body)
-  level_in l x b = flat_one (λ (y : ℕ). map (λ (c : ℕ). level y c) (all_bodies m base)) (all_names m base) l.name (level l.name l.body) x
-      (record { place = b.place; stands = stands_map (λ (c : ℕ). level l.name c) (all_bodies m base) b.place l.body b.stands })
+  level_in : (l : Level) → IsOneOf (all_names m base) l.name → IsOneOf (all_bodies m base) l.body
+      → IsOneOf levels (level l.name l.body)
+  level_in l x b = flat_one (λ (y : ℕ). map (λ (c : ℕ). level y c) (all_bodies m base)) (all_names m base) l.name
+      (level l.name l.body) x
+      (record {
+        place = b.place;
+        stands = stands_map (λ (c : ℕ). level l.name c) (all_bodies m base) b.place l.body
+            b.stands;
+      })
 
   unit_in : (n : ℕ) (u : UnitPath) → length u ≤ n → HasKeys m base u → IsOneOf (units n) (plain u)
   unit_in zero [] h k = one_first [] []
@@ -75,19 +81,31 @@ module _ (m : RootedModel) (base : UnitPath) where
       let here = k.each l (one_first l u) in
       let o = level_in l here.0 here.1 in
       let r = unit_in n u (omega (arith, h)) (record { each = λ j i. k.each j (one_rest l u j i) }) in
-      one_rest [] _ (plain (l ∷ u)) (flat_one (λ (v : UnitPath). map (λ (j : Level). j ∷ v) levels) (units n) (plain u) (plain (l ∷ u)) r
-      (record { place = o.place; stands = stands_map (λ (j : Level). j ∷ plain u) levels o.place (level l.name l.body) o.stands }))
+      one_rest [] _ (plain (l ∷ u)) (flat_one (λ (v : UnitPath). map (λ (j : Level). j ∷ v) levels) (units n) (plain u)
+      (plain (l ∷ u)) r
+      (record {
+        place = o.place;
+        stands = stands_map (λ (j : Level). j ∷ plain u) levels o.place (level l.name l.body)
+            o.stands;
+      }))
 
-  thing_in : (n : ℕ) (u : UnitPath) (x : ℕ) → length u ≤ n → HasKeys m base u → IsOneOf (all_names m base) x → IsOneOf (things n) (thing (plain u) x)
-  thing_in n u x h k o = flat_one (λ (v : UnitPath). map (λ (y : ℕ). thing v y) (all_names m base)) (units n) (plain u) (thing (plain u) x) (unit_in n u h k)
-      (record { place = o.place; stands = stands_map (λ (y : ℕ). thing (plain u) y) (all_names m base) o.place x o.stands })
+  thing_in : (n : ℕ) (u : UnitPath) (x : ℕ) → length u ≤ n → HasKeys m base u → IsOneOf (all_names m base) x
+      → IsOneOf (things n) (thing (plain u) x)
+  thing_in n u x h k o = flat_one (λ (v : UnitPath). map (λ (y : ℕ). thing v y) (all_names m base)) (units n) (plain u)
+      (thing (plain u) x) (unit_in n u h k)
+      (record {
+        place = o.place;
+        stands = stands_map (λ (y : ℕ). thing (plain u) y) (all_names m base) o.place x
+            o.stands;
+      })
 
   -- how many names in units of this depth at most are not being followed
   abbrev pub left : ℕ → List Thing → ℕ
   left n f = passing (is_new f) (things n)
 
   -- following one more leaves fewer
-  pub left_fewer : (n : ℕ) (f : List Thing) (u : UnitPath) (x : ℕ) → length u ≤ n → HasKeys m base u → IsOneOf (all_names m base) x → is_among f (thing u x) ≡ false → left n (thing u x ∷ f) < left n f
+  pub left_fewer : (n : ℕ) (f : List Thing) (u : UnitPath) (x : ℕ) → length u ≤ n → HasKeys m base u
+      → IsOneOf (all_names m base) x → is_among f (thing u x) ≡ false → left n (thing u x ∷ f) < left n f
   left_fewer n f u x h k o e =
       let i = thing_in n u x h k o in
       fewer (is_new (thing u x ∷ f)) (is_new f) (new_less (thing u x) f) (things n) i.place (thing (plain u) x) i.stands

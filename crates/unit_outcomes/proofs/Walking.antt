@@ -35,13 +35,15 @@ pub data IsFine (m : RootedModel) (base : UnitPath) : Outcome → Type 0 where
   looping : IsFine m base Loops
 
 -- a name leads somewhere
-pub record Leads (m : RootedModel) (base : UnitPath) (f : List Thing) (u : UnitPath) (x : ℕ) (w : Option MemberKind) : Type 0 where
+pub record Leads (m : RootedModel) (base : UnitPath) (f : List Thing) (u : UnitPath) (x : ℕ)
+    (w : Option MemberKind) : Type 0 where
   pub outcome : Outcome
   pub leads : NameLeads m f u x w outcome
   pub fine : IsFine m base outcome
 
 -- names lead somewhere
-pub record LeadOn (m : RootedModel) (base : UnitPath) (f : List Thing) (start : Option UnitPath) (xs : List ℕ) : Type 0 where
+pub record LeadOn (m : RootedModel) (base : UnitPath) (f : List Thing) (start : Option UnitPath) (xs : List ℕ) : Type
+    0 where
   pub outcome : Outcome
   pub lead : NamesLead m f start xs outcome
   pub fine : IsFine m base outcome
@@ -49,15 +51,18 @@ pub record LeadOn (m : RootedModel) (base : UnitPath) (f : List Thing) (start : 
 module _ (m : RootedModel) (base : UnitPath) where
   -- each name of each unit that is made leads somewhere
   pub record AllLead (f : List Thing) : Type 0 where
-    pub each : (u : UnitPath) → Made m base u → (x : ℕ) (w : Option MemberKind) → IsNameOf m u x w → Leads m base f u x w
+    pub each : (u : UnitPath) → Made m base u → (x : ℕ) (w : Option MemberKind) → IsNameOf m u x w
+        → Leads m base f u x w
 
-  pub names_from : (f : List Thing) → AllLead f → (u : UnitPath) → Made m base u → (xs : List ℕ) → LeadOn m base f (Some u) xs
+  pub names_from : (f : List Thing) → AllLead f → (u : UnitPath) → Made m base u → (xs : List ℕ)
+      → LeadOn m base f (Some u) xs
   names_from f step u d [] = record { outcome = Reaches u; lead = arrives; fine = reached d }
   names_from f step u d (x ∷ xs) =
       let l = step.each u d x (kind_at m u x) (kind_named m u x) in
       go (λ v e. names_from f step v e xs) l.outcome l.leads l.fine
     where
-      go : ((v : UnitPath) → Made m base v → LeadOn m base f (Some v) xs) → (o : Outcome) → NameLeads m f u x (kind_at m u x) o → IsFine m base o
+      go : ((v : UnitPath) → Made m base v → LeadOn m base f (Some v) xs) → (o : Outcome)
+          → NameLeads m f u x (kind_at m u x) o → IsFine m base o
           → LeadOn m base f (Some u) (x ∷ xs)
       go next (Reaches v) l (reached e) = let r = next v e in record { outcome = r.outcome; lead = on v l r.lead; fine = r.fine }
       go next Nothing l i = record { outcome = Nothing; lead = stops l; fine = nothing }
@@ -82,25 +87,33 @@ module _ (m : RootedModel) (base : UnitPath) where
       go (made_inner {run = run} g i o e) = record { run = run; is_made = i }
       go (copied {run = run} i x b n) = record { run = run; is_made = i }
 
-  start_from : (f : List Thing) → AllLead f → (u : UnitPath) → Made m base u → (start : PathStart) (xs : List ℕ) → LeadOn m base f (start_of start u) xs
+  start_from : (f : List Thing) → AllLead f → (u : UnitPath) → Made m base u → (start : PathStart) (xs : List ℕ)
+      → LeadOn m base f (start_of start u) xs
   start_from f step u d Here xs = names_from f step u d xs
   start_from f step [] d Owner xs = record { outcome = Nothing; lead = nowhere; fine = nothing }
   start_from f step (l ∷ u) d Owner xs = names_from f step u (made_owner d) xs
   start_from f step u d Main xs = names_from f step [] made_main xs
 
   -- what a clone is made as
-  cloned_fine : (u : UnitPath) → Made m base u → (x : ℕ) → IsOneOf (all_names m base) x → (o : Outcome) → IsFine m base o → IsFine m base (cloned m u x o)
+  cloned_fine : (u : UnitPath) → Made m base u → (x : ℕ) → IsOneOf (all_names m base) x → (o : Outcome)
+      → IsFine m base o → IsFine m base (cloned m u x o)
   cloned_fine u d x i Nothing h = nothing
   cloned_fine u d x i Loops h = looping
   cloned_fine u d x i (Reaches t) (reached h) = go (has (bodies_of m u) (body_of m t)) refl
     where
       go : (b : Bool) → has (bodies_of m u) (body_of m t) ≡ b → IsFine m base (cloned m u x (Reaches t))
       go true e = rw e looping
-      go false e = rw e (reached (record { run = body_of m t ∷ []; is_made = copied {l = record { name = x; body = body_of m t; set_at = set_at_of t }} d.is_made i (made_body m base h.is_made) e }))
+      go false e = rw e (reached (record {
+        run = body_of m t ∷ [];
+        is_made = copied {l = record { name = x; body = body_of m t; set_at = set_at_of t }}
+            d.is_made i (made_body m base h.is_made) e;
+      }))
 
   -- what a name of a unit leads to, where the names of one more followed statement lead somewhere
-  module _ (f : List Thing) (more : (u : UnitPath) → Made m base u → (x : ℕ) → IsOneOf (all_names m base) x → is_among f (thing u x) ≡ false → AllLead (thing u x ∷ f)) where
-    kinds : (u : UnitPath) → Made m base u → (g : NamedMember) → IsOneOf (names_at m u) g → (kind : MemberKind) → g.kind ≡ kind → (t : Bool) → is_among f (thing u g.name) ≡ t → Leads m base f u g.name (Some kind)
+  module _ (f : List Thing) (more : (u : UnitPath) → Made m base u → (x : ℕ) → IsOneOf (all_names m base) x
+      → is_among f (thing u x) ≡ false → AllLead (thing u x ∷ f)) where
+    kinds : (u : UnitPath) → Made m base u → (g : NamedMember) → IsOneOf (names_at m u) g → (kind : MemberKind)
+        → g.kind ≡ kind → (t : Bool) → is_among f (thing u g.name) ≡ t → Leads m base f u g.name (Some kind)
     kinds u d g o (Inner b from) e t a = record {
       outcome = Reaches (record { name = g.name; body = b; set_at = from } ∷ u);
       leads = inner;
@@ -110,7 +123,11 @@ module _ (m : RootedModel) (base : UnitPath) where
     kinds u d g o (Clone p) e false a =
         let i = name_among m base u g o in
         let r = start_from (thing u g.name ∷ f) (more u d g.name i a) u d p.start (numbers p.names.items) in
-        record { outcome = cloned m u g.name r.outcome; leads = clones a r.lead refl; fine = cloned_fine u d g.name i r.outcome r.fine }
+        record {
+          outcome = cloned m u g.name r.outcome;
+          leads = clones a r.lead refl;
+          fine = cloned_fine u d g.name i r.outcome r.fine;
+        }
     kinds u d g o (Alias p) e true a = record { outcome = Loops; leads = embeds_again a; fine = looping }
     kinds u d g o (Alias p) e false a =
         let i = name_among m base u g o in
@@ -122,28 +139,36 @@ module _ (m : RootedModel) (base : UnitPath) where
     kinds u d g o Event e t a = record { outcome = Nothing; leads = no_unit refl; fine = nothing }
     kinds u d g o (Observer v x) e t a = record { outcome = Nothing; leads = no_unit refl; fine = nothing }
 
-    name_leads : (u : UnitPath) → Made m base u → (x : ℕ) (w : Option MemberKind) → IsNameOf m u x w → Leads m base f u x w
+    name_leads : (u : UnitPath) → Made m base u → (x : ℕ) (w : Option MemberKind) → IsNameOf m u x w
+        → Leads m base f u x w
     name_leads u d x w no_name = record { outcome = Nothing; leads = absent; fine = nothing }
-    name_leads u d x w (one_name g o e) = subst (λ (y : ℕ). Leads m base f u y (Some g.kind)) e (kinds u d g o g.kind refl (is_among f (thing u g.name)) refl)
+    name_leads u d x w (one_name g o e) =
+        subst (λ (y : ℕ). Leads m base f u y (Some g.kind)) e
+        (kinds u d g o g.kind refl (is_among f (thing u g.name)) refl)
 
   module _ (k : IsKept m) where
     pub all_lead : (n : ℕ) (f : List Thing) → left m base (most m base) f < n → AllLead f
     all_lead zero f h = absurd (omega (arith, h))
     all_lead (suc n) f h = record {
       each = name_leads f (λ u d x i e.
-          let l = left_fewer m base (most m base) f u x (made_deep m base k d.is_made) (made_keys m base d.is_made) i e in
+          let l = left_fewer m base (most m base) f u x (made_deep m base k d.is_made) (made_keys m base d.is_made) i
+          e in
           all_lead n (thing u x ∷ f) (omega (arith, h, l)));
     }
 
 -- each name of each unit comes to an outcome
-pub name_outcome : (m : RootedModel) → IsKept m → (f : List Thing) (u : UnitPath) (x : ℕ) → (o : Outcome) × NameLeads m f u x (kind_at m u x) o
+pub name_outcome : (m : RootedModel) → IsKept m → (f : List Thing) (u : UnitPath) (x : ℕ)
+    → (o : Outcome) × NameLeads m f u x (kind_at m u x) o
 name_outcome m k f u x =
-    let l = (all_lead m u k (suc (left m u (most m u) f)) f (omega arith)).each u (record { run = body_of m u ∷ []; is_made = given itself }) x (kind_at m u x) (kind_named m u x) in
+    let l = (all_lead m u k (suc (left m u (most m u) f)) f (omega arith)).each u
+    (record { run = body_of m u ∷ []; is_made = given itself }) x (kind_at m u x) (kind_named m u x) in
     (l.outcome, l.leads)
 
 -- and so does each path
-pub names_outcome : (m : RootedModel) → IsKept m → (f : List Thing) (u : Option UnitPath) (xs : List ℕ) → (o : Outcome) × NamesLead m f u xs o
+pub names_outcome : (m : RootedModel) → IsKept m → (f : List Thing) (u : Option UnitPath) (xs : List ℕ)
+    → (o : Outcome) × NamesLead m f u xs o
 names_outcome m k f None xs = (Nothing, nowhere)
 names_outcome m k f (Some u) xs =
-    let l = names_from m u f (all_lead m u k (suc (left m u (most m u) f)) f (omega arith)) u (record { run = body_of m u ∷ []; is_made = given itself }) xs in
+    let l = names_from m u f (all_lead m u k (suc (left m u (most m u) f)) f (omega arith)) u
+    (record { run = body_of m u ∷ []; is_made = given itself }) xs in
     (l.outcome, l.lead)

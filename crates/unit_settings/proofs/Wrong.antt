@@ -25,15 +25,21 @@ module _ (d : Declared) where
 
   -- a form is wrong nowhere, or at this place alone
   pub form_right : (f : MemberForm) → ((p : Place) → BreaksForm d f p → ⊥) → IsEarliest (BreaksOne d (f ∷ [])) None
-  form_right f n = nowhere (λ p b. elim (one_cases f [] b.form b.is_one) [ inl e ↦ n p (subst (λ (g : MemberForm). BreaksForm d g p) (sym e) b.breaks) | inr h ↦ one_none b.form h ])
+  form_right f n = nowhere (λ p b. elim (one_cases f [] b.form b.is_one)
+      [ inl e ↦ n p (subst (λ (g : MemberForm). BreaksForm d g p) (sym e) b.breaks) | inr h ↦ one_none b.form h ])
 
-  pub form_wrong : (f : MemberForm) (p : Place) → BreaksForm d f p → ((q : Place) → BreaksForm d f q → q ≡ p) → IsEarliest (BreaksOne d (f ∷ [])) (Some p)
+  pub form_wrong : (f : MemberForm) (p : Place) → BreaksForm d f p → ((q : Place) → BreaksForm d f q → q ≡ p)
+      → IsEarliest (BreaksOne d (f ∷ [])) (Some p)
   form_wrong f p h one = there (record { form = f; is_one = one_first f []; breaks = h })
-      (λ q e b. elim (one_cases f [] b.form b.is_one) [ inl i ↦ not_before q p e (one q (subst (λ (g : MemberForm). BreaksForm d g q) (sym i) b.breaks)) | inr j ↦ one_none b.form j ])
+      (λ q e b. elim (one_cases f [] b.form b.is_one) [
+        | inl i ↦ not_before q p e (one q (subst (λ (g : MemberForm). BreaksForm d g q) (sym i) b.breaks))
+        | inr j ↦ one_none b.form j
+      ])
 
   module _ (t : TypeName) (names : Vec (NameId × Place) Global) (settings : Vec Setting Global) where
     -- a declaration that is right, by each of its parts
-    pub no_domain : bounds_variables d t.form ≡ false → (p : Place) → BreaksForm d (member.Declare t names settings) p → ⊥
+    pub no_domain : bounds_variables d t.form ≡ false → (p : Place) → BreaksForm d (member.Declare t names settings) p
+        → ⊥
     no_domain e p (declares x more b s f n) = cc
 
     pub a_state : is_state settings.items ≡ true → (p : Place) → BreaksForm d (member.Declare t names settings) p → ⊥
@@ -46,11 +52,13 @@ module _ (d : Declared) where
     no_names e p (declares x more b s f n) = cc
 
     -- it is wrong at one place
-    pub one_place : (z : NameId × Place) (rest : List (NameId × Place)) → names.items ≡ z ∷ rest → (q : Place) → BreaksForm d (member.Declare t names settings) q → q ≡ z.1
+    pub one_place : (z : NameId × Place) (rest : List (NameId × Place)) → names.items ≡ z ∷ rest → (q : Place)
+        → BreaksForm d (member.Declare t names settings) q → q ≡ z.1
     one_place z rest e q (declares x more b s f n) = let i : (x, q) ∷ more ≡ z ∷ rest = sym n ∙ e in let j : (x, q) ≡ z = cc in ap (λ (w : NameId × Place). w.1) j
 
   -- no other form is wrong
-  pub other_right : (f : MemberForm) → ((t : TypeName) (names : Vec (NameId × Place) Global) (settings : Vec Setting Global) → f ≡ member.Declare t names settings → ⊥)
+  pub other_right : (f : MemberForm) → ((t : TypeName) (names : Vec (NameId × Place) Global)
+      (settings : Vec Setting Global) → f ≡ member.Declare t names settings → ⊥)
       → (p : Place) → BreaksForm d f p → ⊥
   other_right f n p (declares {type = t} {names = names} {settings = settings} x more b s g e) = n t names settings refl
 
@@ -64,7 +72,9 @@ none_first [] l = refl
 none_first (x ∷ xs) l = absurd (omega arith)
 
 -- a member that is no declaration
-pub default_right : (d : Declared) (m : Member) → ((t : TypeName) (names : Vec (NameId × Place) Global) (settings : Vec Setting Global) → m ≡ Declare t names settings → ⊥)
+pub default_right : (d : Declared) (m : Member)
+    → ((t : TypeName) (names : Vec (NameId × Place) Global) (settings : Vec Setting Global)
+    → m ≡ Declare t names settings → ⊥)
     → IsEarliest (BreaksOne d (form_of (Some (Plain m)))) None
 unfolding out-Member denote.Hole.Carrier.out
 default_right d (Declare t names settings) n = absurd (n t names settings refl)

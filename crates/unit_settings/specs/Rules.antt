@@ -20,8 +20,10 @@ use Rattle.unit_sizes.specs.Typing.{bounds_variables}
 
 -- the settings of a declaration of variables are not exactly one, called init or reset; its first name stands here
 pub data BreaksForm (d : Declared) : MemberForm → Place → Type 0 where
-  declares : {type : TypeName} {names : Vec (NameId × Place) Global} {settings : Vec Setting Global} {p : Place} (x : NameId) (more : List (NameId × Place))
-      → bounds_variables d type.form ≡ true → is_state settings.items ≡ false → is_flow settings.items ≡ false → names.items ≡ (x, p) ∷ more
+  declares : {type : TypeName} {names : Vec (NameId × Place) Global} {settings : Vec Setting Global} {p : Place}
+      (x : NameId) (more : List (NameId × Place))
+      → bounds_variables d type.form ≡ true → is_state settings.items ≡ false → is_flow settings.items ≡ false
+      → names.items ≡ (x, p) ∷ more
       → BreaksForm d (member.Declare type names settings) p
 
 -- a declaration of some unit is so
@@ -39,7 +41,8 @@ pub data IsTarget (m : RootedModel) : UnitPath → List TargetWord → Type 0 wh
   parameter : {u : UnitPath} {x : ℕ} → Has m is_parameter (thing u x) → IsTarget m u (Named x ∷ [])
   init : {u : UnitPath} {x : ℕ} → Has m is_state_variable (thing u x) → IsTarget m u (Named x ∷ Init ∷ [])
   reset : {u : UnitPath} {x : ℕ} → Has m is_flow_variable (thing u x) → IsTarget m u (Named x ∷ Reset ∷ [])
-  inside : {u v : UnitPath} {x : ℕ} {words : List TargetWord} (g : NamedMember) → name_at m u x ≡ Some g → Makes m u g v → IsTarget m v words
+  inside : {u v : UnitPath} {x : ℕ} {words : List TargetWord} (g : NamedMember) → name_at m u x ≡ Some g → Makes m u g v
+      → IsTarget m v words
       → IsTarget m u (Named x ∷ words)
 
 -- setting k of the declaration whose settings hold in some unit
@@ -54,5 +57,7 @@ pub record HasSetting (m : RootedModel) (units : List UnitPath) (u : UnitPath) (
 
 -- a setting has no target, or it is the later of two that set one target
 pub data BreaksSetting (m : RootedModel) (units : List UnitPath) : Place → Type 0 where
-  no_target : {u : UnitPath} {k : ℕ} {s : Setting} → HasSetting m units u k s → (IsTarget m u (target_of s) → ⊥) → BreaksSetting m units s.at
-  twice : {u : UnitPath} {j k : ℕ} {s t : Setting} → HasSetting m units u j s → HasSetting m units u k t → j < k → target_of s ≡ target_of t → BreaksSetting m units t.at
+  no_target : {u : UnitPath} {k : ℕ} {s : Setting} → HasSetting m units u k s → (IsTarget m u (target_of s) → ⊥)
+      → BreaksSetting m units s.at
+  twice : {u : UnitPath} {j k : ℕ} {s t : Setting} → HasSetting m units u j s → HasSetting m units u k t → j < k
+      → target_of s ≡ target_of t → BreaksSetting m units t.at

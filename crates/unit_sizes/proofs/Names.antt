@@ -13,34 +13,40 @@ use Rattle.unit_sizes.specs.Typing.{bounds_variables}
 
 module _ (test : MemberKind → Bool) (s : Site) where
   -- names that all pass, and names of which none does
-  all_so : (kind : MemberKind) (names : List (NameId × Place)) → test kind ≡ true → named_so test (all_named s (Some kind) names) ≡ length names
+  all_so : (kind : MemberKind) (names : List (NameId × Place)) → test kind ≡ true
+      → named_so test (all_named s (Some kind) names) ≡ length names
   all_so kind [] e = refl
   all_so kind (n ∷ ns) e = rw e (ap suc (all_so kind ns e))
 
-  none_so : (kind : MemberKind) (names : List (NameId × Place)) → test kind ≡ false → named_so test (all_named s (Some kind) names) ≡ 0
+  none_so : (kind : MemberKind) (names : List (NameId × Place)) → test kind ≡ false
+      → named_so test (all_named s (Some kind) names) ≡ 0
   none_so kind [] e = refl
   none_so kind (n ∷ ns) e = rw e (none_so kind ns e)
 
 module _ (d : Declared) (s : Site) (settings : List Setting) (names : List (NameId × Place)) where
   -- the variables of a declaration by a domain, and by any other type
-  pub variables_all : (f : TypeForm) → bounds_variables d f ≡ true → named_so is_variable (all_named s (declared_kind d s f settings) names) ≡ length names
+  pub variables_all : (f : TypeForm) → bounds_variables d f ≡ true
+      → named_so is_variable (all_named s (declared_kind d s f settings) names) ≡ length names
   variables_all form.Boolean e = all_so is_variable s (Variable form.Boolean settings) names refl
   variables_all form.Integer e = cc
   variables_all (form.Named x) e = by (type_named d x.n) e
     where
       by : (t : Option NamedType) → is_some (option_and_then domain_body t) ≡ true
-          → named_so is_variable (all_named s (option_map (λ (u : NamedType). kind_of s (form.Named x) u settings) t) names) ≡ length names
+          → named_so is_variable (all_named s (option_map (λ (u : NamedType). kind_of s (form.Named x) u settings) t)
+          names) ≡ length names
       by None e = cc
       by (Some (DomainType b)) e = all_so is_variable s (Variable (form.Named x) settings) names refl
       by (Some (ClassType b)) e = cc
 
-  pub variables_none : (f : TypeForm) → bounds_variables d f ≡ false → named_so is_variable (all_named s (declared_kind d s f settings) names) ≡ 0
+  pub variables_none : (f : TypeForm) → bounds_variables d f ≡ false
+      → named_so is_variable (all_named s (declared_kind d s f settings) names) ≡ 0
   variables_none form.Boolean e = cc
   variables_none form.Integer e = refl
   variables_none (form.Named x) e = by (type_named d x.n) e
     where
       by : (t : Option NamedType) → is_some (option_and_then domain_body t) ≡ false
-          → named_so is_variable (all_named s (option_map (λ (u : NamedType). kind_of s (form.Named x) u settings) t) names) ≡ 0
+          → named_so is_variable (all_named s (option_map (λ (u : NamedType). kind_of s (form.Named x) u settings) t)
+          names) ≡ 0
       by None e = refl
       by (Some (DomainType b)) e = cc
       by (Some (ClassType b)) e = none_so is_variable s (Inner b (Some s)) names refl
@@ -51,7 +57,8 @@ module _ (d : Declared) (s : Site) (settings : List Setting) (names : List (Name
   events_none form.Integer = refl
   events_none (form.Named x) = by (type_named d x.n)
     where
-      by : (t : Option NamedType) → named_so is_event (all_named s (option_map (λ (u : NamedType). kind_of s (form.Named x) u settings) t) names) ≡ 0
+      by : (t : Option NamedType) → named_so is_event
+          (all_named s (option_map (λ (u : NamedType). kind_of s (form.Named x) u settings) t) names) ≡ 0
       by None = refl
       by (Some (DomainType b)) = none_so is_event s (Variable (form.Named x) settings) names refl
       by (Some (ClassType b)) = none_so is_event s (Inner b (Some s)) names refl

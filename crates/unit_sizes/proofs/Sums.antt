@@ -10,5 +10,6 @@ module _ {A : Type 0} (f : A → ℕ) where
   sum_join xs ys = ap sum (map_join f xs ys) ∙ sum_by-append (λ (n : ℕ). n) (map f xs) (map f ys)
 
   -- the sum with one item more
-  pub sum_next : (xs : List A) (i : ℕ) (a : A) → Stands xs i a → sum (map f (take (i + 1) xs)) ≡ sum (map f (take i xs)) + sum (map f (a ∷ []))
+  pub sum_next : (xs : List A) (i : ℕ) (a : A) → Stands xs i a
+      → sum (map f (take (i + 1) xs)) ≡ sum (map f (take i xs)) + sum (map f (a ∷ []))
   sum_next xs i a s = ap (λ (ys : List A). sum (map f ys)) (take_next xs i a s) ∙ sum_join (take i xs) (a ∷ [])

@@ -37,7 +37,8 @@ pub declared_entries : (s : Site) (kind : Option MemberKind) (names : List (Name
     → entries_of (all_named s kind names) ≡ same_entries (option_and_then settable_of kind) names
 declared_entries s None names = sym (no_entries names)
 declared_entries s (Some k) [] = refl
-declared_entries s (Some k) (n ∷ ns) = ap (λ (es : List (ℕ × Settable)). one_entry n.0.n (settable_of k) ++ es) (declared_entries s (Some k) ns)
+declared_entries s (Some k) (n ∷ ns) =
+    ap (λ (es : List (ℕ × Settable)). one_entry n.0.n (settable_of k) ++ es) (declared_entries s (Some k) ns)
 
 pub entries_join : (xs ys : List NamedMember) → entries_of (xs ++ ys) ≡ entries_of xs ++ entries_of ys
 entries_join xs ys = flat_map-append (λ (g : NamedMember). one_entry g.name (settable_of g.kind)) xs ys
@@ -46,20 +47,23 @@ entries_join xs ys = flat_map-append (λ (g : NamedMember). one_entry g.name (se
 pub sites_next : (d : Declared) (xs : List Site) (x : Site)
     → entries_of (named_at d (xs ++ x ∷ [])) ≡ entries_of (named_at d xs) ++ entries_of (names_of d x (owned_at d x))
 sites_next d xs x =
-    ap entries_of (flat_map-append (λ (s : Site). names_of d s (owned_at d s)) xs (x ∷ []) ∙ ap (λ (gs : List NamedMember). named_at d xs ++ gs) (append-nil (names_of d x (owned_at d x))))
+    ap entries_of (flat_map-append (λ (s : Site). names_of d s (owned_at d s)) xs (x ∷ [])
+    ∙ ap (λ (gs : List NamedMember). named_at d xs ++ gs) (append-nil (names_of d x (owned_at d x))))
     ∙ entries_join (named_at d xs) (names_of d x (owned_at d x))
 
 -- those of one name more of a declaration
 pub same_next : (s : Settable) (names : List (NameId × Place)) (i : ℕ) (n : NameId × Place) → Stands names i n
     → same_entries (Some s) (take (i + 1) names) ≡ same_entries (Some s) (take i names) ++ (n.0.n, s) ∷ []
-same_next s names i n t = ap (same_entries (Some s)) (take_next names i n t) ∙ flat_map-append (λ (m : NameId × Place). one_entry m.0.n (Some s)) (take i names) (n ∷ [])
+same_next s names i n t = ap (same_entries (Some s)) (take_next names i n t)
+    ∙ flat_map-append (λ (m : NameId × Place). one_entry m.0.n (Some s)) (take i names) (n ∷ [])
 
 module _ (m : RootedModel) (classes : Classes) (table : IsTableFor m classes) where
   -- the members of a body that is there, and of none
   pub members_there : (b : ℕ) (body : Body) → Stands classes.bodies.items b body
       → sites_kept body ≡ unwrap_or (slice_get m.members b) []
   members_there b body s =
-      let t = subst (λ (ms : List (List Site)). Stands ms b (sites_kept body)) table.members (stands_map sites_kept classes.bodies.items b body s) in
+      let t = subst (λ (ms : List (List Site)). Stands ms b (sites_kept body)) table.members
+      (stands_map sites_kept classes.bodies.items b body s) in
       ap (λ (o : Option (List Site)). unwrap_or o []) (sym t)
 
   pub members_past : (b : ℕ) → length classes.bodies.items ≤ b → unwrap_or (slice_get m.members b) [] ≡ []

@@ -33,12 +33,14 @@ module _ (b : ℕ) where
   }
 
   -- one entry was
-  module _ (x : ℕ) (s : Settable) (old new : Settables) (here : kept_at new b x ≡ Some s) (other : (q : ℕ × ℕ) → same_pair (b, x) q ≡ false → get same_pair new.kept q ≡ get same_pair old.kept q) where
+  module _ (x : ℕ) (s : Settable) (old new : Settables) (here : kept_at new b x ≡ Some s)
+      (other : (q : ℕ × ℕ) → same_pair (b, x) q ≡ false → get same_pair new.kept q ≡ get same_pair old.kept q) where
     apart : (c y : ℕ) → ((c ≡ b) × (y ≡ x) → ⊥) → kept_at new c y ≡ kept_at old c y
     apart c y n = other (c, y) (pair_apart b x c y n)
 
     at_entry : (c y : ℕ) → c ≡ b → y ≡ x → kept_at new c y ≡ Some s
-    at_entry c y e f = subst (λ (z : ℕ). kept_at new z y ≡ Some s) (sym e) (subst (λ (z : ℕ). kept_at new b z ≡ Some s) (sym f) here)
+    at_entry c y e f = subst (λ (z : ℕ). kept_at new z y ≡ Some s) (sym e)
+        (subst (λ (z : ℕ). kept_at new b z ≡ Some s) (sym f) here)
 
     is_it : (y : ℕ) (r : Settable) → y ≡ x → s ≡ r → IsOneOf {A = ℕ × Settable} ((x, s) ∷ []) (y, r)
     is_it y r f g = subst (λ (e : ℕ × Settable). IsOneOf ((x, s) ∷ []) e) (let h : (x, s) ≡ (y, r) = cc in h) (one_first (x, s) [])
@@ -86,7 +88,8 @@ module _ (m : RootedModel) (units : List UnitPath) where
       go k v x r l t o (inl q) =
           let same : v ≡ u = stands_one units i v u (subst (λ (z : ℕ). Stands units z v) q t) s in
           let body : b ≡ body_of m v = e ∙ ap (body_of m) (sym same) in
-          subst (λ (z : ℕ). (t : Settable) × (kept_at new z x ≡ Some t)) body (a.all x r (subst (λ (z : ℕ). IsOneOf (entries_of (names_in m z)) (x, r)) (sym body) o))
+          subst (λ (z : ℕ). (t : Settable) × (kept_at new z x ≡ Some t)) body
+          (a.all x r (subst (λ (z : ℕ). IsOneOf (entries_of (names_in m z)) (x, r)) (sym body) o))
 
   entry_given : (gs : List NamedMember) (x : ℕ) (s : Settable) → IsOneOf (entries_of gs) (x, s)
       → (k : ℕ) × (g : NamedMember) × Stands gs k g × (g.name ≡ x) × (settable_of g.kind ≡ Some s)
@@ -103,21 +106,26 @@ module _ (m : RootedModel) (units : List UnitPath) where
 
   given_entry : (gs : List NamedMember) (g : NamedMember) (s : Settable) → IsOneOf gs g → settable_of g.kind ≡ Some s
       → IsOneOf (entries_of gs) (g.name, s)
-  given_entry gs g s o e = one_flat (λ (h : NamedMember). one_entry h.name (settable_of h.kind)) gs o.place g (g.name, s) o.stands
+  given_entry gs g s o e = one_flat (λ (h : NamedMember). one_entry h.name (settable_of h.kind)) gs o.place g
+      (g.name, s) o.stands
       (subst (λ (r : Option Settable). IsOneOf (one_entry g.name r) (g.name, s)) (sym e) (one_first (g.name, s) []))
 
   -- all of them are found so
   pub settables_all : IsKept m → (i : ℕ) (t : Settables) → ((k : ℕ) (u : UnitPath) → Stands units k u → k < i)
       → AreSettablesTo m units i t → AreSettables m units t
-  settables_all kept i t within h = record { each = λ u x o. by u x o (kept_at t (body_of m u) x) refl (name_at m u x) refl }
+  settables_all kept i t within h = record
+      { each = λ u x o. by u x o (kept_at t (body_of m u) x) refl (name_at m u x) refl }
     where
       by : (u : UnitPath) (x : ℕ) → IsOneOf units u → (o : Option Settable) → kept_at t (body_of m u) x ≡ o
           → (n : Option NamedMember) → name_at m u x ≡ n
           → o ≡ option_and_then settable_of (option_map (λ (g : NamedMember). g.kind) n)
       by u x a (Some s) e n f =
           let w = entry_given (names_at m u) x s (h.right (body_of m u) x s e) in
-          let named : name_at m u x ≡ Some w.1 = subst (λ (y : ℕ). name_at m u y ≡ Some w.1) w.3 (named_here (names_at m u) w.0 w.1 (members_apart kept u) w.2) in
-          sym (ap (λ (z : Option NamedMember). option_and_then settable_of (option_map (λ (g : NamedMember). g.kind) z)) (sym f ∙ named) ∙ w.4)
+          let named : name_at m u x ≡ Some w.1 =
+          subst (λ (y : ℕ). name_at m u y ≡ Some w.1) w.3
+          (named_here (names_at m u) w.0 w.1 (members_apart kept u) w.2) in
+          sym (ap (λ (z : Option NamedMember). option_and_then settable_of (option_map (λ (g : NamedMember). g.kind) z))
+          (sym f ∙ named) ∙ w.4)
       by u x a None e None f = refl
       by u x a None e (Some g) f = look (settable_of g.kind) refl
         where
@@ -125,6 +133,8 @@ module _ (m : RootedModel) (units : List UnitPath) where
           look None q = refl
           look (Some s) q =
               let b = named_back (names_at m u) x g f in
-              let w = h.all a.place u g.name s (within a.place u a.stands) a.stands (given_entry (names_at m u) g s b.0 q) in
-              let z : kept_at t (body_of m u) x ≡ Some w.0 = subst (λ (y : ℕ). kept_at t (body_of m u) y ≡ Some w.0) b.1 w.1 in
+              let w = h.all a.place u g.name s (within a.place u a.stands) a.stands
+              (given_entry (names_at m u) g s b.0 q) in
+              let z : kept_at t (body_of m u) x ≡ Some w.0 =
+              subst (λ (y : ℕ). kept_at t (body_of m u) y ≡ Some w.0) b.1 w.1 in
               let v : None ≡ Some w.0 = sym e ∙ z in absurd cc

@@ -27,7 +27,8 @@ use Rattle.unit_targets.specs.Settables.{state_or_flow, variable_of, settable_of
 -- Kinds
 
 of_flow : (settings : List Setting) → is_flow settings ≡ true → variable_of settings ≡ Some settable.Flow
-of_flow settings e = ap (λ (b : Bool). state_or_flow b (is_flow settings)) (no_state settings e) ∙ ap (state_or_flow false) e
+of_flow settings e = ap (λ (b : Bool). state_or_flow b (is_flow settings)) (no_state settings e)
+    ∙ ap (state_or_flow false) e
 
 kind_parameter : (k : MemberKind) → is_parameter k ≡ true → settable_of k ≡ Some settable.Parameter
 kind_parameter (Parameter t e) h = refl
@@ -120,14 +121,19 @@ module _ (m : RootedModel) (u : UnitPath) where
   no_reset ws t = elim t [ ]
 
   begins : {x : ℕ} {ws : List TargetWord} → IsTarget m u (Named x ∷ ws) → Begins m u x (found_at m u x) ws
-  begins {x = x} (parameter h) = subst (λ (o : Option Settable). Begins m u x o []) (sym (ap (option_and_then settable_of) h.is ∙ kind_parameter h.kind h.passes)) at_parameter
-  begins {x = x} (init h) = subst (λ (o : Option Settable). Begins m u x o (Init ∷ [])) (sym (ap (option_and_then settable_of) h.is ∙ kind_state h.kind h.passes)) at_state
-  begins {x = x} (reset h) = subst (λ (o : Option Settable). Begins m u x o (Reset ∷ [])) (sym (ap (option_and_then settable_of) h.is ∙ kind_flow h.kind h.passes)) at_flow
+  begins {x = x} (parameter h) = subst (λ (o : Option Settable). Begins m u x o [])
+      (sym (ap (option_and_then settable_of) h.is ∙ kind_parameter h.kind h.passes)) at_parameter
+  begins {x = x} (init h) = subst (λ (o : Option Settable). Begins m u x o (Init ∷ []))
+      (sym (ap (option_and_then settable_of) h.is ∙ kind_state h.kind h.passes)) at_state
+  begins {x = x} (reset h) = subst (λ (o : Option Settable). Begins m u x o (Reset ∷ []))
+      (sym (ap (option_and_then settable_of) h.is ∙ kind_flow h.kind h.passes)) at_flow
   begins {x = x} {ws = ws} (inside {v = v} g e k t) =
       let named = named_back (names_at m u) x g e in
       let kind : kind_at m u x ≡ Some g.kind = ap (option_map (λ (h : NamedMember). h.kind)) e in
-      subst (λ (o : Option Settable). Begins m u x o ws) (sym (ap (option_and_then settable_of) kind ∙ kind_inner g.kind k.inner))
-      (into_unit (subst (λ (w : Option MemberKind). NameLeads m [] u x w (Reaches v)) (sym kind) (subst (λ (y : ℕ). NameLeads m [] u y (Some g.kind) (Reaches v)) named.1 k.leads)) t)
+      subst (λ (o : Option Settable). Begins m u x o ws)
+      (sym (ap (option_and_then settable_of) kind ∙ kind_inner g.kind k.inner))
+      (into_unit (subst (λ (w : Option MemberKind). NameLeads m [] u x w (Reaches v)) (sym kind)
+      (subst (λ (y : ℕ). NameLeads m [] u y (Some g.kind) (Reaches v)) named.1 k.leads)) t)
 
   only_parameter : {x : ℕ} {ws : List TargetWord} → Begins m u x (Some settable.Parameter) ws → ws ≡ []
   only_parameter at_parameter = refl
@@ -165,19 +171,22 @@ module _ (m : RootedModel) (u : UnitPath) where
       -- a parameter is set by its name alone
       pub parameter_named : found_at m u x ≡ Some settable.Parameter → (ws ≡ []) ↔ IsTarget m u (Named x ∷ ws)
       parameter_named e = (
-        (λ q. subst (λ (vs : List TargetWord). IsTarget m u (Named x ∷ vs)) (sym q) (parameter (has settable.Parameter e is_parameter (λ k h. h)))),
+        (λ q. subst (λ (vs : List TargetWord). IsTarget m u (Named x ∷ vs)) (sym q)
+            (parameter (has settable.Parameter e is_parameter (λ k h. h)))),
         λ t. only_parameter (as_found _ e t),
       )
 
       pub state_named : found_at m u x ≡ Some settable.State → (is_init ws ≡ true) ↔ IsTarget m u (Named x ∷ ws)
       state_named e = (
-        (λ q. subst (λ (vs : List TargetWord). IsTarget m u (Named x ∷ vs)) (sym (one_init ws q)) (init (has settable.State e is_state_variable (λ k h. h)))),
+        (λ q. subst (λ (vs : List TargetWord). IsTarget m u (Named x ∷ vs)) (sym (one_init ws q))
+            (init (has settable.State e is_state_variable (λ k h. h)))),
         λ t. only_state (as_found _ e t),
       )
 
       pub flow_named : found_at m u x ≡ Some settable.Flow → (is_reset ws ≡ true) ↔ IsTarget m u (Named x ∷ ws)
       flow_named e = (
-        (λ q. subst (λ (vs : List TargetWord). IsTarget m u (Named x ∷ vs)) (sym (one_reset ws q)) (reset (has settable.Flow e is_flow_variable (λ k h. h)))),
+        (λ q. subst (λ (vs : List TargetWord). IsTarget m u (Named x ∷ vs)) (sym (one_reset ws q))
+            (reset (has settable.Flow e is_flow_variable (λ k h. h)))),
         λ t. only_flow (as_found _ e t),
       )
 
@@ -191,7 +200,11 @@ module _ (m : RootedModel) (u : UnitPath) where
               let w = given settable.Inner e in
               let named = named_back (names_at m u) x w.0 w.1 in
               let kind : kind_at m u x ≡ Some w.0.kind = ap (option_map (λ (h : NamedMember). h.kind)) w.1 in
-              inside w.0 w.1 (record { inner = kind_back w.0.kind settable.Inner w.2; leads = subst (λ (y : ℕ). NameLeads m [] u y (Some w.0.kind) (Reaches v)) (sym named.1) (subst (λ (k : Option MemberKind). NameLeads m [] u x k (Reaches v)) kind l) }) t
+              inside w.0 w.1 (record {
+                inner = kind_back w.0.kind settable.Inner w.2;
+                leads = subst (λ (y : ℕ). NameLeads m [] u y (Some w.0.kind) (Reaches v)) (sym named.1)
+                    (subst (λ (k : Option MemberKind). NameLeads m [] u x k (Reaches v)) kind l);
+              }) t
 
           come_out : Begins m u x (Some settable.Inner) ws → IsTarget m v ws
           come_out (into_unit {v = y} k t) = subst (λ (z : UnitPath). IsTarget m z ws) (let q : Reaches y ≡ Reaches v = leads_same k l in let f : y ≡ v = cc in f) t
@@ -218,7 +231,8 @@ other_word m u (word.Name x) ws n t = n x refl
 other_word m u word.Init ws n t = no_init m u ws t
 other_word m u word.Reset ws n t = no_reset m u ws t
 
-module _ (m : RootedModel) (units : List UnitPath) (classes : Classes) (outlines : List Outline) (h : AreOutlines m units classes outlines) (n : ℕ) (u : UnitPath) (there : Stands units n u) where
+module _ (m : RootedModel) (units : List UnitPath) (classes : Classes) (outlines : List Outline)
+    (h : AreOutlines m units classes outlines) (n : ℕ) (u : UnitPath) (there : Stands units n u) where
   -- the outline is that of the unit
   pub body_here : (o : Outline) → Stands outlines n o → o.body.n ≡ body_of m u
   body_here o s =
@@ -227,7 +241,8 @@ module _ (m : RootedModel) (units : List UnitPath) (classes : Classes) (outlines
 
   pub found_here : (t : Settables) → AreSettables m units t → (o : Outline) → Stands outlines n o
       → (x : ℕ) (r : Option Settable) → r ≡ kept_at t o.body.n x → found_at m u x ≡ r
-  found_here t k o s x r e = sym (e ∙ (ap (λ (b : ℕ). kept_at t b x) (body_here o s) ∙ k.each u x (one_here units n u there)))
+  found_here t k o s x r e = sym (e ∙ (ap (λ (b : ℕ). kept_at t b x) (body_here o s)
+      ∙ k.each u x (one_here units n u there)))
 
   -- there is an outline
   pub outline_there : length outlines ≤ n → ⊥
@@ -241,18 +256,21 @@ never m u ws vs e n = (λ f. absurd cc, λ t. absurd (n (subst (IsTarget m u) e 
 
 pub told_by : (m : RootedModel) (u v : UnitPath) (r : Bool) (ws vs xs : List TargetWord) → ws ≡ vs
     → IsTarget m v xs ↔ IsTarget m u vs → IsTrue r ↔ IsTarget m v xs → IsTrue r ↔ IsTarget m u ws
-told_by m u v r ws vs xs e f g = subst (λ (zs : List TargetWord). IsTrue r ↔ IsTarget m u zs) (sym e) (λ h. f.0 (g.0 h), λ t. g.1 (f.1 t))
+told_by m u v r ws vs xs e f g = subst (λ (zs : List TargetWord). IsTrue r ↔ IsTarget m u zs) (sym e)
+    (λ h. f.0 (g.0 h), λ t. g.1 (f.1 t))
 
 pub told_so : (m : RootedModel) (u : UnitPath) (r b : Bool) (ws vs : List TargetWord) → ws ≡ vs
     → (b ≡ true) ↔ IsTarget m u vs → r ≡ b → IsTrue r ↔ IsTarget m u ws
-told_so m u r b ws vs e f g = subst (λ (zs : List TargetWord). IsTrue r ↔ IsTarget m u zs) (sym e) (λ h. f.0 (sym g ∙ h), λ t. g ∙ f.1 t)
+told_so m u r b ws vs e f g = subst (λ (zs : List TargetWord). IsTrue r ↔ IsTarget m u zs) (sym e)
+    (λ h. f.0 (sym g ∙ h), λ t. g ∙ f.1 t)
 
 -- no words, by their number
 pub no_length : (m : RootedModel) (u : UnitPath) (ws : List Word) → length ws ≡ 0 → IsTarget m u (map word_of ws) → ⊥
 no_length m u [] e t = no_words m u t
 no_length m u (w ∷ ws) e t = omega (arith, e)
 
-pub told_empty : (m : RootedModel) (u : UnitPath) (r : Bool) (ws : List TargetWord) (vs : List TargetWord) (rest : List Word) → ws ≡ vs → (map word_of rest ≡ []) ↔ IsTarget m u vs → r ≡ (length rest == 0)
+pub told_empty : (m : RootedModel) (u : UnitPath) (r : Bool) (ws : List TargetWord) (vs : List TargetWord)
+    (rest : List Word) → ws ≡ vs → (map word_of rest ≡ []) ↔ IsTarget m u vs → r ≡ (length rest == 0)
     → IsTrue r ↔ IsTarget m u ws
 told_empty m u r ws vs [] e f g = told_so m u r true ws vs e (λ _. f.0 refl, λ _. refl) g
 told_empty m u r ws vs (w ∷ rest) e f g = told_so m u r false ws vs e (λ h. absurd cc, λ t. absurd (let h = f.1 t in cc)) (g ∙ ne_eqb (length (w ∷ rest)) 0 (λ q. omega (arith, q)))

@@ -51,7 +51,8 @@ module _ (m : RootedModel) (u : UnitPath) where
       let f : Some site ≡ Some b.site = sym e ∙ b.set_at in
       let g : site ≡ b.site = cc in
       let h : settings_at m b.site ≡ [] = ap (settings_at m) (sym g) ∙ ap settings_of n in
-      absurd (stands_none b.breaks.k b.breaks.setting (subst (λ (xs : List Setting). Stands xs b.breaks.k b.breaks.setting) h b.breaks.stands))))
+      absurd (stands_none b.breaks.k b.breaks.setting
+      (subst (λ (xs : List Setting). Stands xs b.breaks.k b.breaks.setting) h b.breaks.stands))))
 
   pub of_settings : (site : Site) (settings : List Setting) (r : Option Place) → set_at_of u ≡ Some site
       → settings ≡ settings_at m site → IsEarliest (BreaksIn m u settings) r → IsEarliest (BreaksUnit m u) r
@@ -91,11 +92,13 @@ pub record BreaksNumber (m : RootedModel) (units : List UnitPath) (k : ℕ) (o :
   pub stands : Stands units k unit
   pub breaks : BreaksUnit m unit p
 
-module _ (m : RootedModel) (units : List UnitPath) (outlines : List Outline) (along : Along (IsOutline m units) units outlines) where
+module _ (m : RootedModel) (units : List UnitPath) (outlines : List Outline)
+    (along : Along (IsOutline m units) units outlines) where
   setting_of : (u : UnitPath) → IsOneOf units u → (site : Site) → set_at_of u ≡ Some site → (k : ℕ) (s : Setting)
       → Stands (settings_at m site) k s → HasSetting m units u k s
   setting_of [] o site e k s t = cc
-  setting_of (l ∷ above) o site e k s t = record { level = l; above = above; split = refl; is_unit = o; site = site; set_at = e; stands = t }
+  setting_of (l ∷ above) o site e k s t =
+      record { level = l; above = above; split = refl; is_unit = o; site = site; set_at = e; stands = t }
 
   pub number_to : (k : ℕ) (o : Outline) (p : Place) → Stands outlines k o → BreaksNumber m units k o p
       → BreaksSetting m units p
@@ -107,11 +110,17 @@ module _ (m : RootedModel) (units : List UnitPath) (outlines : List Outline) (al
       setting : Setting
       setting = b.breaks.breaks.setting
 
-      go : (IsTarget m b.unit (target_of b.breaks.breaks.setting) → ⊥) ⊎ IsSetBefore (settings_at m b.breaks.site) b.breaks.breaks.k → BreaksSetting m units p
+      go : (IsTarget m b.unit (target_of b.breaks.breaks.setting) → ⊥)
+          ⊎ IsSetBefore (settings_at m b.breaks.site) b.breaks.breaks.k → BreaksSetting m units p
       go (inl n) = subst (BreaksSetting m units) (sym b.breaks.breaks.breaks.place)
-          (no_target (setting_of b.unit one b.breaks.site b.breaks.set_at b.breaks.breaks.k b.breaks.breaks.setting b.breaks.breaks.stands) n)
-      go (inr w) = subst (BreaksSetting m units) (ap (λ (s : Setting). s.at) (stands_one (settings_at m b.breaks.site) b.breaks.breaks.k w.later b.breaks.breaks.setting w.has_later b.breaks.breaks.stands) ∙ sym b.breaks.breaks.breaks.place)
-          (twice (setting_of b.unit one b.breaks.site b.breaks.set_at w.j w.first w.has_first) (setting_of b.unit one b.breaks.site b.breaks.set_at b.breaks.breaks.k w.later w.has_later) w.before w.same)
+          (no_target (setting_of b.unit one b.breaks.site b.breaks.set_at b.breaks.breaks.k b.breaks.breaks.setting
+          b.breaks.breaks.stands) n)
+      go (inr w) = subst (BreaksSetting m units)
+          (ap (λ (s : Setting). s.at) (stands_one (settings_at m b.breaks.site) b.breaks.breaks.k w.later
+          b.breaks.breaks.setting w.has_later b.breaks.breaks.stands) ∙ sym b.breaks.breaks.breaks.place)
+          (twice (setting_of b.unit one b.breaks.site b.breaks.set_at w.j w.first w.has_first)
+          (setting_of b.unit one b.breaks.site b.breaks.set_at b.breaks.breaks.k w.later w.has_later) w.before
+          w.same)
 
   has_site : {u : UnitPath} {k : ℕ} {s : Setting} → (h : HasSetting m units u k s) → set_at_of u ≡ Some h.site
   has_site h = ap set_at_of h.split ∙ h.set_at
@@ -124,7 +133,11 @@ module _ (m : RootedModel) (units : List UnitPath) (outlines : List Outline) (al
 
   pub number_back : (p : Place) → BreaksSetting m units p → (k : ℕ) × AtItem outlines (BreaksNumber m units) k p
   number_back p (no_target {u = u} {k = k} {s = s} h n) =
-      at_number u p h.is_unit (record { site = h.site; set_at = has_site h; breaks = record { k = k; setting = s; stands = h.stands; breaks = record { wrong = inl n; place = refl } } })
+      at_number u p h.is_unit (record {
+        site = h.site;
+        set_at = has_site h;
+        breaks = record { k = k; setting = s; stands = h.stands; breaks = record { wrong = inl n; place = refl } };
+      })
   number_back p (twice {u = u} {j = j} {k = k} {s = s} {t = t} h i l e) =
       let q : Some h.site ≡ Some i.site = sym (has_site h) ∙ has_site i in
       let r : h.site ≡ i.site = cc in
@@ -137,7 +150,15 @@ module _ (m : RootedModel) (units : List UnitPath) (outlines : List Outline) (al
           setting = t;
           stands = i.stands;
           breaks = record {
-            wrong = inr (record { j = j; before = l; first = s; has_first = first; later = t; has_later = i.stands; same = e });
+            wrong = inr (record {
+              j = j;
+              before = l;
+              first = s;
+              has_first = first;
+              later = t;
+              has_later = i.stands;
+              same = e;
+            });
             place = refl;
           };
         };

@@ -49,16 +49,19 @@ kept_at t b x = get same_pair t.kept (b, x)
 
 -- entries of a body were added: what is kept was kept before or is one of them, and for each of them something is kept
 pub record Adds (b : ℕ) (entries : List (ℕ × Settable)) (old new : Settables) : Type 0 where
-  pub found : (c x : ℕ) (s : Settable) → kept_at new c x ≡ Some s → (kept_at old c x ≡ Some s) ⊎ ((c ≡ b) × IsOneOf entries (x, s))
+  pub found : (c x : ℕ) (s : Settable) → kept_at new c x ≡ Some s
+      → (kept_at old c x ≡ Some s) ⊎ ((c ≡ b) × IsOneOf entries (x, s))
   pub kept : (c x : ℕ) (s : Settable) → kept_at old c x ≡ Some s → (t : Settable) × (kept_at new c x ≡ Some t)
   pub all : (x : ℕ) (s : Settable) → IsOneOf entries (x, s) → (t : Settable) × (kept_at new b x ≡ Some t)
 
 -- what is kept is right, and something is kept for each name of the first i of these units that may be set
 pub record AreSettablesTo (m : RootedModel) (units : List UnitPath) (i : ℕ) (t : Settables) : Type 0 where
   pub right : (c x : ℕ) (s : Settable) → kept_at t c x ≡ Some s → IsOneOf (entries_of (names_in m c)) (x, s)
-  pub all : (k : ℕ) (u : UnitPath) (x : ℕ) (s : Settable) → k < i → Stands units k u → IsOneOf (entries_of (names_at m u)) (x, s)
+  pub all : (k : ℕ) (u : UnitPath) (x : ℕ) (s : Settable) → k < i → Stands units k u
+      → IsOneOf (entries_of (names_at m u)) (x, s)
       → (r : Settable) × (kept_at t (body_of m u) x ≡ Some r)
 
 -- in each unit each name is found as what may be set by it, or gone into
 pub record AreSettables (m : RootedModel) (units : List UnitPath) (t : Settables) : Type 0 where
-  pub each : (u : UnitPath) (x : ℕ) → IsOneOf units u → kept_at t (body_of m u) x ≡ option_and_then settable_of (kind_at m u x)
+  pub each : (u : UnitPath) (x : ℕ) → IsOneOf units u
+      → kept_at t (body_of m u) x ≡ option_and_then settable_of (kind_at m u x)

@@ -20,7 +20,8 @@ pub record IsSetBefore (settings : List Setting) (k : ℕ) : Type 0 where
   pub same : target_of first ≡ target_of later
 
 -- setting k of these, which hold in the unit u, is wrong, and stands here
-pub record BreaksAt (m : RootedModel) (u : UnitPath) (settings : List Setting) (k : ℕ) (s : Setting) (p : Place) : Type 0 where
+pub record BreaksAt (m : RootedModel) (u : UnitPath) (settings : List Setting) (k : ℕ) (s : Setting) (p : Place) : Type
+    0 where
   pub wrong : (IsTarget m u (target_of s) → ⊥) ⊎ IsSetBefore settings k
   pub place : p ≡ s.at
 

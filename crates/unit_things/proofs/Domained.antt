@@ -15,14 +15,18 @@ use Rattle.domains.specs.declared.Domain.TheVariants as values
 use Rattle.unit_sizes.specs.Typing.{IsFound, some}
 
 -- a domain of symbols with the same symbols
-pub same_symbols : (symbols : List ℕ) (declared : DomainBody) (v : Domain) (ns ks : Vec ℕ Global) → v ≡ values.Symbols ns → ks.items ≡ ns.items → IsDomainOf symbols declared v → IsDomainOf symbols declared (values.Symbols ks)
+pub same_symbols : (symbols : List ℕ) (declared : DomainBody) (v : Domain) (ns ks : Vec ℕ Global)
+    → v ≡ values.Symbols ns → ks.items ≡ ns.items → IsDomainOf symbols declared v
+    → IsDomainOf symbols declared (values.Symbols ks)
 same_symbols symbols declared v ns ks e i (of_symbols {names = names} {numbers = numbers} a) =
     let same : numbers ≡ ns = cc in
-    of_symbols (subst (Along (λ (n : NameId × Place) (k : ℕ). Stands symbols k n.0.n) names.items) (ap (λ (w : Vec ℕ Global). w.items) same ∙ sym i) a)
+    of_symbols (subst (Along (λ (n : NameId × Place) (k : ℕ). Stands symbols k n.0.n) names.items)
+    (ap (λ (w : Vec ℕ Global). w.items) same ∙ sym i) a)
 same_symbols symbols declared v ns ks e i of_range = cc
 
 -- the domain that is found is declared
-pub found_declared : (symbols : List ℕ) (t : Option NamedType) (b : TypeBody) (v : Domain) → b ≡ types.Domain v → IsFound symbols t (Some b)
+pub found_declared : (symbols : List ℕ) (t : Option NamedType) (b : TypeBody) (v : Domain) → b ≡ types.Domain v
+    → IsFound symbols t (Some b)
     → (declared : DomainBody) × (option_and_then domain_body t ≡ Some declared) × IsDomainOf symbols declared v
 found_declared symbols t b v e (some (domain_type {declared = declared} {v = w} k)) = let same : w ≡ v = cc in (declared, refl, subst (IsDomainOf symbols declared) same k)
 found_declared symbols t b v e (some (class_type i)) = cc

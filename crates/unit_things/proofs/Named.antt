@@ -26,22 +26,26 @@ use Rattle.unit_settings.proofs.Sited.{flat_one}
 use Rattle.unit_things.specs.Values.{type_in, declared_type}
 
 -- one of the names of a declaration
-pub record IsAllNamed (s : Site) (kind : Option MemberKind) (names : List (NameId × Place)) (g : NamedMember) : Type 0 where
+pub record IsAllNamed (s : Site) (kind : Option MemberKind) (names : List (NameId × Place)) (g : NamedMember) : Type
+    0 where
   pub site : g.site ≡ s
   pub kind_is : kind ≡ Some g.kind
   pub first : NameId × Place
   pub more : List (NameId × Place)
   pub is_first : names ≡ first ∷ more
 
-pub all_one : (s : Site) (kind : Option MemberKind) (names : List (NameId × Place)) (g : NamedMember) → IsOneOf (all_named s kind names) g → IsAllNamed s kind names g
+pub all_one : (s : Site) (kind : Option MemberKind) (names : List (NameId × Place)) (g : NamedMember)
+    → IsOneOf (all_named s kind names) g → IsAllNamed s kind names g
 all_one s None names g h = absurd (one_none g h)
 all_one s (Some k) [] g h = absurd (one_none g h)
 all_one s (Some k) (n ∷ ns) g h = elim (one_cases _ _ g h) [
-  | inl e ↦ subst (IsAllNamed s (Some k) (n ∷ ns)) e (record { site = refl; kind_is = refl; first = n; more = ns; is_first = refl })
+  | inl e ↦ subst (IsAllNamed s (Some k) (n ∷ ns)) e
+      (record { site = refl; kind_is = refl; first = n; more = ns; is_first = refl })
   | inr j ↦ let w = all_one s (Some k) ns g j in record { site = w.site; kind_is = w.kind_is; first = n; more = ns; is_first = refl }
 ]
 
-pub single_one : (s : Site) (x : NameId) (at : Place) (k : MemberKind) (g : NamedMember) → IsOneOf (one_named s x at k) g → (g.site ≡ s) × (k ≡ g.kind)
+pub single_one : (s : Site) (x : NameId) (at : Place) (k : MemberKind) (g : NamedMember)
+    → IsOneOf (one_named s x at k) g → (g.site ≡ s) × (k ≡ g.kind)
 single_one s x at k g h = elim (one_cases _ _ g h) [
   | inl e ↦ (ap (λ (z : NamedMember). z.site) (sym e), ap (λ (z : NamedMember). z.kind) e)
   | inr j ↦ absurd (one_none g j)
@@ -50,7 +54,8 @@ single_one s x at k g h = elim (one_cases _ _ g h) [
 module _ (d : Declared) (s : Site) where
   -- each name of a member stands at the member's site
   site_form : (f : MemberForm) (g : NamedMember) → IsOneOf (names_of_form d s f) g → g.site ≡ s
-  site_form (member.Declare t names settings) g h = (all_one s (declared_kind d s t.form settings.items) names.items g h).site
+  site_form (member.Declare t names settings) g h =
+      (all_one s (declared_kind d s t.form settings.items) names.items g h).site
   site_form (member.Clones p x at) g h = (single_one s x at _ g h).0
   site_form (member.Embeds p x at) g h = (single_one s x at _ g h).0
   site_form (member.Parameter t x at e) g h = (single_one s x at _ g h).0
@@ -64,7 +69,8 @@ module _ (d : Declared) (s : Site) where
   names_site (Some (Plain m)) g h = site_form (out-Member m) g h
   names_site (Some (Nested x at b)) g h = (single_one s x at _ g h).0
 
--- a member of a unit by its name: it is one of those that the member at its site gives, and that site is one of the unit's
+-- a member of a unit by its name: it is one of those that the member at its site gives, and that site is one of the
+-- unit's
 pub record IsGivenAt (m : RootedModel) (u : UnitPath) (g : NamedMember) : Type 0 where
   pub place : ℕ
   pub stands : Stands (members_at m u) place g.site
@@ -101,7 +107,8 @@ pub record DeclaredBy (d : Declared) (o : Option Owned) (g : NamedMember) : Type
   pub type_is : declared_type o ≡ Some declares.type.form
   pub settings_are : settings_of o ≡ declares.settings.items
 
-kind_variable : (d : Declared) (s : Site) (f : TypeForm) (settings : List Setting) (k : MemberKind) → is_variable k ≡ true → declared_kind d s f settings ≡ Some k
+kind_variable : (d : Declared) (s : Site) (f : TypeForm) (settings : List Setting) (k : MemberKind)
+    → is_variable k ≡ true → declared_kind d s f settings ≡ Some k
     → (k ≡ Variable f settings) × (bounds_variables d f ≡ true)
 kind_variable d s form.Boolean settings k v e = (cc, refl)
 kind_variable d s form.Integer settings k v e = cc
@@ -110,7 +117,9 @@ kind_variable d s (form.Named x) settings k v e = by (type_named d x.n) refl e
     other : (b : ℕ) → is_variable k ≡ true → Inner b (Some s) ≡ k → ⊥
     other b v i = let z = ap is_variable i in cc
 
-    by : (t : Option NamedType) → type_named d x.n ≡ t → option_map (λ (u : NamedType). kind_of s (form.Named x) u settings) t ≡ Some k → (k ≡ Variable (form.Named x) settings) × (bounds_variables d (form.Named x) ≡ true)
+    by : (t : Option NamedType) → type_named d x.n ≡ t
+        → option_map (λ (u : NamedType). kind_of s (form.Named x) u settings) t ≡ Some k
+        → (k ≡ Variable (form.Named x) settings) × (bounds_variables d (form.Named x) ≡ true)
     by None i f = cc
     by (Some (DomainType b)) i f = (cc, ap (λ (t : Option NamedType). is_some (option_and_then domain_body t)) i)
     by (Some (ClassType b)) i f = absurd (other b v (cc))
@@ -123,7 +132,17 @@ module _ (d : Declared) (s : Site) (g : NamedMember) (v : is_variable g.kind ≡
   declares_form (member.Declare t names settings) h =
       let w = all_one s (declared_kind d s t.form settings.items) names.items g h in
       let k = kind_variable d s t.form settings.items g.kind v w.kind_is in
-      record { type = t; names = names; settings = settings; is = refl; kind = k.0; bounds = k.1; first = w.first; more = w.more; is_first = w.is_first }
+      record {
+        type = t;
+        names = names;
+        settings = settings;
+        is = refl;
+        kind = k.0;
+        bounds = k.1;
+        first = w.first;
+        more = w.more;
+        is_first = w.is_first;
+      }
   declares_form (member.Clones p x at) h = absurd (no_variable x at _ refl h)
   declares_form (member.Embeds p x at) h = absurd (no_variable x at _ refl h)
   declares_form (member.Parameter t x at e) h = absurd (no_variable x at _ refl h)
@@ -137,5 +156,11 @@ module _ (d : Declared) (s : Site) (g : NamedMember) (v : is_variable g.kind ≡
   declares_owned None h = absurd (one_none g h)
   declares_owned (Some (Plain m)) h =
       let w = declares_form (out-Member m) h in
-      record { form = out-Member m; is_form = one_first (out-Member m) []; declares = w; type_is = ap type_in w.is; settings_are = ap settings_in w.is }
+      record {
+        form = out-Member m;
+        is_form = one_first (out-Member m) [];
+        declares = w;
+        type_is = ap type_in w.is;
+        settings_are = ap settings_in w.is;
+      }
   declares_owned (Some (Nested x at b)) h = absurd (no_variable x at _ refl h)

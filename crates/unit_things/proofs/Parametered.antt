@@ -24,7 +24,8 @@ pub data IsParameterSo (g : NamedMember) : Option (Option TypeForm) → Type 0 w
   kept : g.kind ≡ Kept → IsParameterSo g (Some None)
 
 -- a declaration gives no parameter
-no_declared : (d : Declared) (s : Site) (f : TypeForm) (settings : List Setting) (k : MemberKind) → is_parameter k ≡ true → declared_kind d s f settings ≡ Some k → ⊥
+no_declared : (d : Declared) (s : Site) (f : TypeForm) (settings : List Setting) (k : MemberKind)
+    → is_parameter k ≡ true → declared_kind d s f settings ≡ Some k → ⊥
 no_declared d s form.Boolean settings k v e = let z = ap (λ (o : Option MemberKind). option_map is_parameter o) e in cc
 no_declared d s form.Integer settings k v e = cc
 no_declared d s (form.Named x) settings k v e = by (type_named d x.n) e
@@ -35,12 +36,14 @@ no_declared d s (form.Named x) settings k v e = by (type_named d x.n) e
     by (Some (ClassType b)) f = let z = ap (λ (o : Option MemberKind). option_map is_parameter o) f in cc
 
 module _ (d : Declared) (s : Site) (g : NamedMember) (v : is_parameter g.kind ≡ true) where
-  no_parameter : (x : NameId) (at : Place) (k : MemberKind) → is_parameter k ≡ false → IsOneOf (one_named s x at k) g → ⊥
+  no_parameter : (x : NameId) (at : Place) (k : MemberKind) → is_parameter k ≡ false → IsOneOf (one_named s x at k) g
+      → ⊥
   no_parameter x at k n h = let e = ap is_parameter (single_one s x at k g h).1 in cc
 
   parameter_form : (f : MemberForm) → IsOneOf (names_of_form d s f) g → IsParameterSo g (parameter_in f)
   parameter_form (member.Declare t names settings) h =
-      absurd (no_declared d s t.form settings.items g.kind v (all_one s (declared_kind d s t.form settings.items) names.items g h).kind_is)
+      absurd (no_declared d s t.form settings.items g.kind v
+      (all_one s (declared_kind d s t.form settings.items) names.items g h).kind_is)
   parameter_form (member.Clones p x at) h = absurd (no_parameter x at _ refl h)
   parameter_form (member.Embeds p x at) h = absurd (no_parameter x at _ refl h)
   parameter_form (member.Parameter t x at e) h = typed e (sym (single_one s x at _ g h).1)
@@ -56,7 +59,8 @@ module _ (d : Declared) (s : Site) (g : NamedMember) (v : is_parameter g.kind �
   parameter_owned (Some (Nested x at b)) h = absurd (no_parameter x at _ refl h)
 
 -- which of the two it is
-pub typed_kind : (g : NamedMember) (o : Option (Option TypeForm)) (f : TypeForm) → IsParameterSo g o → o ≡ Some (Some f) → (value : RawExpr) × (g.kind ≡ Parameter f value)
+pub typed_kind : (g : NamedMember) (o : Option (Option TypeForm)) (f : TypeForm) → IsParameterSo g o → o ≡ Some (Some f)
+    → (value : RawExpr) × (g.kind ≡ Parameter f value)
 typed_kind g o f (typed {f = e} value k) i = let j : e ≡ f = cc in (value, k ∙ ap (λ (z : TypeForm). Parameter z value) j)
 typed_kind g o f (kept k) i = cc
 

@@ -20,20 +20,25 @@ and_false true c e = e
 and_false false c e = refl
 
 -- targets of two lengths differ
-pub other_length : (vs ws : List Word) → (length vs ≡ length ws → ⊥) → same_target (map word_of vs) (map word_of ws) ≡ false
+pub other_length : (vs ws : List Word) → (length vs ≡ length ws → ⊥)
+    → same_target (map word_of vs) (map word_of ws) ≡ false
 other_length [] [] n = absurd (n refl)
 other_length [] (w ∷ ws) n = refl
 other_length (v ∷ vs) [] n = refl
-other_length (v ∷ vs) (w ∷ ws) n = and_false (same_word (word_of v) (word_of w)) _ (other_length vs ws (λ e. n (ap suc e)))
+other_length (v ∷ vs) (w ∷ ws) n = and_false (same_word (word_of v) (word_of w)) _
+    (other_length vs ws (λ e. n (ap suc e)))
 
 -- targets from a word on
 pub from_word : (vs ws : List Word) (i : ℕ) (v w : Word) → Stands vs i v → Stands ws i w
-    → same_target (map word_of (drop i vs)) (map word_of (drop i ws)) ≡ (same_word (word_of v) (word_of w) && same_target (map word_of (drop (i + 1) vs)) (map word_of (drop (i + 1) ws)))
+    → same_target (map word_of (drop i vs)) (map word_of (drop i ws))
+    ≡ (same_word (word_of v) (word_of w) && same_target (map word_of (drop (i + 1) vs))
+    (map word_of (drop (i + 1) ws)))
 from_word vs ws i v w s t =
     ap (λ (us : List Word). same_target (map word_of us) (map word_of (drop i ws))) (drop_here vs i v s)
     ∙ ap (λ (us : List Word). same_target (map word_of (v ∷ drop (i + 1) vs)) (map word_of us)) (drop_here ws i w t)
 
-pub past_words : (vs ws : List Word) (i : ℕ) → length vs ≤ i → length ws ≤ i → same_target (map word_of (drop i vs)) (map word_of (drop i ws)) ≡ true
+pub past_words : (vs ws : List Word) (i : ℕ) → length vs ≤ i → length ws ≤ i
+    → same_target (map word_of (drop i vs)) (map word_of (drop i ws)) ≡ true
 past_words vs ws i l k =
     ap (λ (us : List Word). same_target (map word_of us) (map word_of (drop i ws))) (none_left vs i l)
     ∙ ap (λ (us : List Word). same_target [] (map word_of us)) (none_left ws i k)
@@ -41,7 +46,10 @@ past_words vs ws i l k =
 module _ (u : UnitPath) (s : Site) (target : List TargetWord) where
   -- settings from a place on
   pub from_setting : (xs : List Setting) (i : ℕ) (x : Setting) → Stands xs i x
-      → setting_for u s i (drop i xs) target ≡ cond (same_target (target_of x) target) (Some (record { unit = u; site = s; setting = Some i; value = x.value })) (setting_for u s (i + 1) (drop (i + 1) xs) target)
+      → setting_for u s i (drop i xs) target
+      ≡ cond (same_target (target_of x) target)
+      (Some (record { unit = u; site = s; setting = Some i; value = x.value }))
+      (setting_for u s (i + 1) (drop (i + 1) xs) target)
   from_setting xs i x t = ap (λ (ys : List Setting). setting_for u s i ys target) (drop_here xs i x t)
 
   pub past_settings : (xs : List Setting) (i : ℕ) → length xs ≤ i → setting_for u s i (drop i xs) target ≡ None

@@ -51,14 +51,19 @@ abbrev pub nodes_of : UnitId → (MemberKind → Bool) → List NamedMember → 
 nodes_of unit test gs = map (node_at unit) (filter (λ (g : NamedMember). test g.kind) gs)
 
 -- the node is that of the thing, which is given by what passes the test
-pub record IsNodeSo (m : RootedModel) (units : List UnitPath) (test : MemberKind → Bool) (t : Thing) (d : MemNode) : Type 0 where
+pub record IsNodeSo (m : RootedModel) (units : List UnitPath) (test : MemberKind → Bool) (t : Thing)
+    (d : MemNode) : Type 0 where
   pub given : NamedMember
   pub node : IsNode m units t given d
   pub passes : test given.kind ≡ true
 
 -- the node of the name that a member at this site gives
 abbrev pub node_named : UnitId → Site → NameId → MemNode
-node_named unit s x = record { unit = unit; name = x; source = record { body = record { n = s.body; of = record {} }; member = s.place; setting = None } }
+node_named unit s x = record {
+  unit = unit;
+  name = x;
+  source = record { body = record { n = s.body; of = record {} }; member = s.place; setting = None };
+}
 
 -- the same of a name with its place
 abbrev pub name_node : UnitId → Site → NameId × Place → MemNode

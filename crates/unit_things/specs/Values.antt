@@ -44,7 +44,9 @@ parameter_type (Some (Nested x at b)) = None
 -- the place of the first of these settings that sets the target, or none
 abbrev pub SetsAt : UnitPath → Site → List Setting → List TargetWord → Option ℕ → Type 0
 SetsAt u s settings target None = setting_for u s 0 settings target ≡ None
-SetsAt u s settings target (Some k) = (value : RawExpr) × (setting_for u s 0 settings target ≡ Some (record { unit = u; site = s; setting = Some k; value = value }))
+SetsAt u s settings target (Some k) =
+    (value : RawExpr) × (setting_for u s 0 settings target
+    ≡ Some (record { unit = u; site = s; setting = Some k; value = value }))
 
 -- the value in code is this one, as far as there is one
 pub data AreAttribute (units : List UnitPath) : Option s.Attribute → Option Attribute → Type 0 where

@@ -20,16 +20,19 @@ none_some : {A P : Type 0} {c : A} → None ≡ Some c → P
 none_some e = cc
 
 -- the first of a name, if there is one, has the name
-pub named_first : (gs : List NamedMember) (x : ℕ) (g : NamedMember) → member_named gs x ≡ Some g → (n : ℕ) × Stands gs n g × (g.name ≡ x)
+pub named_first : (gs : List NamedMember) (x : ℕ) (g : NamedMember) → member_named gs x ≡ Some g
+    → (n : ℕ) × Stands gs n g × (g.name ≡ x)
 named_first [] x g e = none_some e
 named_first (h ∷ gs) x g e = go (named_first gs x g) (h.name == x) refl
   where
-    go : (member_named gs x ≡ Some g → (n : ℕ) × Stands gs n g × (g.name ≡ x)) → (b : Bool) → (h.name == x) ≡ b → (n : ℕ) × Stands (h ∷ gs) n g × (g.name ≡ x)
+    go : (member_named gs x ≡ Some g → (n : ℕ) × Stands gs n g × (g.name ≡ x)) → (b : Bool) → (h.name == x) ≡ b
+        → (n : ℕ) × Stands (h ∷ gs) n g × (g.name ≡ x)
     go r true p = let k = rw p at e in let same : h ≡ g = same_Some _ _ k in (0, ap Some same, ap (λ (g : NamedMember). g.name) (sym same) ∙ is_equal h.name x p)
     go r false p = let k = rw p at e in let i = r k in (suc i.0, i.1, i.2)
 
 -- where one has the name, some first one has it
-first_named : (gs : List NamedMember) (n : ℕ) (g : NamedMember) → Stands gs n g → (h : NamedMember) × (member_named gs g.name ≡ Some h)
+first_named : (gs : List NamedMember) (n : ℕ) (g : NamedMember) → Stands gs n g
+    → (h : NamedMember) × (member_named gs g.name ≡ Some h)
 first_named [] n g p = absurd (stands_none n g p)
 first_named (h ∷ gs) zero g p =
     let same : h ≡ g = same_Some _ _ p in
@@ -37,28 +40,36 @@ first_named (h ∷ gs) zero g p =
     (h, rw e refl)
 first_named (h ∷ gs) (suc n) g p = go (first_named gs n g p) (h.name == g.name) refl
   where
-    go : (k : NamedMember) × (member_named gs g.name ≡ Some k) → (b : Bool) → (h.name == g.name) ≡ b → (k : NamedMember) × (member_named (h ∷ gs) g.name ≡ Some k)
+    go : (k : NamedMember) × (member_named gs g.name ≡ Some k) → (b : Bool) → (h.name == g.name) ≡ b
+        → (k : NamedMember) × (member_named (h ∷ gs) g.name ≡ Some k)
     go r true e = (h, rw e refl)
     go r false e = (r.0, rw e r.1)
 
 -- what stands among those that may be units stands among all
-pub units_back : (gs : List NamedMember) (n : ℕ) (g : NamedMember) → Stands (only_units gs) n g → ((k : ℕ) × Stands gs k g) × (may_be_unit g.kind ≡ true)
+pub units_back : (gs : List NamedMember) (n : ℕ) (g : NamedMember) → Stands (only_units gs) n g
+    → ((k : ℕ) × Stands gs k g) × (may_be_unit g.kind ≡ true)
 units_back [] n g p = absurd (stands_none n g p)
 units_back (h ∷ gs) n g p = go (λ k q. units_back gs k g q) n p (may_be_unit h.kind) refl
   where
-    next : ((k : ℕ) × Stands gs k g) × (may_be_unit g.kind ≡ true) → ((k : ℕ) × Stands (h ∷ gs) k g) × (may_be_unit g.kind ≡ true)
+    next : ((k : ℕ) × Stands gs k g) × (may_be_unit g.kind ≡ true)
+        → ((k : ℕ) × Stands (h ∷ gs) k g) × (may_be_unit g.kind ≡ true)
     next r = ((suc r.0.0, r.0.1), r.1)
 
-    at_head : ((k : ℕ) → Stands (only_units gs) k g → ((j : ℕ) × Stands gs j g) × (may_be_unit g.kind ≡ true)) → (n : ℕ) → may_be_unit h.kind ≡ true → Stands (h ∷ only_units gs) n g → ((k : ℕ) × Stands (h ∷ gs) k g) × (may_be_unit g.kind ≡ true)
+    at_head : ((k : ℕ) → Stands (only_units gs) k g → ((j : ℕ) × Stands gs j g) × (may_be_unit g.kind ≡ true)) → (n : ℕ)
+        → may_be_unit h.kind ≡ true → Stands (h ∷ only_units gs) n g
+        → ((k : ℕ) × Stands (h ∷ gs) k g) × (may_be_unit g.kind ≡ true)
     at_head r zero e q = let same : h ≡ g = same_Some _ _ q in ((0, q), subst (λ (g : NamedMember). may_be_unit g.kind ≡ true) same e)
     at_head r (suc n) e q = next (r n q)
 
-    go : ((k : ℕ) → Stands (only_units gs) k g → ((j : ℕ) × Stands gs j g) × (may_be_unit g.kind ≡ true)) → (n : ℕ) → Stands (only_units (h ∷ gs)) n g → (b : Bool) → may_be_unit h.kind ≡ b → ((k : ℕ) × Stands (h ∷ gs) k g) × (may_be_unit g.kind ≡ true)
+    go : ((k : ℕ) → Stands (only_units gs) k g → ((j : ℕ) × Stands gs j g) × (may_be_unit g.kind ≡ true)) → (n : ℕ)
+        → Stands (only_units (h ∷ gs)) n g → (b : Bool) → may_be_unit h.kind ≡ b
+        → ((k : ℕ) × Stands (h ∷ gs) k g) × (may_be_unit g.kind ≡ true)
     go r n p true e = let q = rw e at p in at_head r n e q
     go r n p false e = let q = rw e at p in next (r n q)
 
 -- and the other way round
-pub units_there : (gs : List NamedMember) (n : ℕ) (g : NamedMember) → Stands gs n g → may_be_unit g.kind ≡ true → (k : ℕ) × Stands (only_units gs) k g
+pub units_there : (gs : List NamedMember) (n : ℕ) (g : NamedMember) → Stands gs n g → may_be_unit g.kind ≡ true
+    → (k : ℕ) × Stands (only_units gs) k g
 units_there [] n g p u = absurd (stands_none n g p)
 units_there (h ∷ gs) zero g p u =
     let same : h ≡ g = same_Some _ _ p in
@@ -66,7 +77,8 @@ units_there (h ∷ gs) zero g p u =
     (0, rw e p)
 units_there (h ∷ gs) (suc n) g p u = go (units_there gs n g p u) (may_be_unit h.kind) refl
   where
-    go : (k : ℕ) × Stands (only_units gs) k g → (b : Bool) → may_be_unit h.kind ≡ b → (k : ℕ) × Stands (only_units (h ∷ gs)) k g
+    go : (k : ℕ) × Stands (only_units gs) k g → (b : Bool) → may_be_unit h.kind ≡ b
+        → (k : ℕ) × Stands (only_units (h ∷ gs)) k g
     go r true e = (suc r.0, rw e r.1)
     go r false e = (r.0, rw e r.1)
 
@@ -75,7 +87,8 @@ module _ (m : RootedModel) (f : Forms) (i : IsFormsFor m f) where
   pub list_along : (b : ℕ) → Along IsUnitName (list_at f b) (only_units (names_in m b))
   list_along b = go (slice_get f.lists.items b) refl (slice_get m.members b) refl
     where
-      go : (o : Option (Vec UnitName Global)) → slice_get f.lists.items b ≡ o → (p : Option (List Site)) → slice_get m.members b ≡ p
+      go : (o : Option (Vec UnitName Global)) → slice_get f.lists.items b ≡ o → (p : Option (List Site))
+          → slice_get m.members b ≡ p
           → Along IsUnitName (items_of o) (only_units (named_at m.declared (unwrap_or p [])))
       go None e None h = a.none
       go None e (Some sites) h = let q = along_back f.lists.items m.members i.lists b sites h in none_some (sym e ∙ q.1)
@@ -104,9 +117,12 @@ module _ (m : RootedModel) (f : Forms) (i : IsFormsFor m f) where
       let n = found_at b x k e in
       let g = along_on (list_at f b) (only_units (names_in m b)) (list_along b) k n.0 n.1 in
       let back = units_back (names_in m b) k g.0 g.1 in
-      let kind : kind_in m b x ≡ Some g.0.kind = ap (kind_in m b) (sym n.2 ∙ g.2.name) ∙ only_kind b back.0.0 g.0 back.0.1 in
-      let form : form_from (list_at f b) (Some k) ≡ Some n.0.form = ap (λ (o : Option UnitName). option_map (λ (n : UnitName). n.form) o) n.1 in
-      subst (λ o. IsLookedUp o (kind_in m b x)) (sym form) (subst (λ o. IsLookedUp (Some n.0.form) o) (sym kind) (is g.2.form))
+      let kind : kind_in m b x ≡ Some g.0.kind =
+      ap (kind_in m b) (sym n.2 ∙ g.2.name) ∙ only_kind b back.0.0 g.0 back.0.1 in
+      let form : form_from (list_at f b) (Some k) ≡ Some n.0.form =
+      ap (λ (o : Option UnitName). option_map (λ (n : UnitName). n.form) o) n.1 in
+      subst (λ o. IsLookedUp o (kind_in m b x)) (sym form)
+      (subst (λ o. IsLookedUp (Some n.0.form) o) (sym kind) (is g.2.form))
 
   looked_not : (b x : ℕ) → place_at f b x ≡ None → IsLookedUp None (kind_in m b x)
   looked_not b x e = go (member_named (names_in m b) x) refl
@@ -119,15 +135,18 @@ module _ (m : RootedModel) (f : Forms) (i : IsFormsFor m f) where
           let h = i.all b k.0 x (has (slice_get f.lists.items b) refl k.0 z.0 z.1 (z.2.name ∙ named)) in
           none_some (sym e ∙ h.1)
         where
-          has : (o : Option (Vec UnitName Global)) → slice_get f.lists.items b ≡ o → (k : ℕ) (z : UnitName) → Stands (items_of o) k z → z.name.n ≡ x → HasName f.lists.items b k x
+          has : (o : Option (Vec UnitName Global)) → slice_get f.lists.items b ≡ o → (k : ℕ) (z : UnitName)
+              → Stands (items_of o) k z → z.name.n ≡ x → HasName f.lists.items b k x
           has None e k z p q = absurd (stands_none k z p)
           has (Some list) e k z p q = record { list = list; named = z; has_list = e; has_name = p; name = q }
 
-      kinds : (g : NamedMember) (n : ℕ) → Stands (names_in m b) n g → g.name ≡ x → (c : Bool) → may_be_unit g.kind ≡ c → IsLookedUp None (Some g.kind)
+      kinds : (g : NamedMember) (n : ℕ) → Stands (names_in m b) n g → g.name ≡ x → (c : Bool) → may_be_unit g.kind ≡ c
+          → IsLookedUp None (Some g.kind)
       kinds g n p named true u = absurd (found g n p named u)
       kinds g n p named false u = no_unit u
 
-      go : (o : Option NamedMember) → member_named (names_in m b) x ≡ o → IsLookedUp None (option_map (λ (g : NamedMember). g.kind) o)
+      go : (o : Option NamedMember) → member_named (names_in m b) x ≡ o
+          → IsLookedUp None (option_map (λ (g : NamedMember). g.kind) o)
       go None h = absent
       go (Some g) h = let k = named_first (names_in m b) x g h in kinds g k.0 k.1 k.2 (may_be_unit g.kind) refl
 

@@ -44,38 +44,53 @@ load_push (g ∷ fs) f = let h = load_push fs f in omega arith
 cons_same : {A : Type 0} {a b : A} {xs ys : List A} → a ≡ b → xs ≡ ys → a ∷ xs ≡ b ∷ ys
 cons_same p q = cc
 
-chain_pop : {s : RootedModel} {paths : List UnitPath} {all below : List Frame} {f : Frame} {v : UnitPath} {y : ℕ} → Chain s paths all v y → all ≡ below ++ f ∷ []
+chain_pop : {s : RootedModel} {paths : List UnitPath} {all below : List Frame} {f : Frame} {v : UnitPath} {y : ℕ}
+    → Chain s paths all v y → all ≡ below ++ f ∷ []
     → (u : UnitPath) × (here : UnitPath) × IsFrame s paths f u here × Chain s paths below u f.name.n
 chain_pop {below = []} bottom e = cc
 chain_pop {below = g ∷ gs} bottom e = cc
 chain_pop {s = s} {paths = paths} {below = below} {f = f} (above {below = lower} {f = g} {u = u} {v = v} e i r c) e' =
-    let h = last_one lower below g f (sym e ∙ e') in
-    (u, v, subst (λ f. IsFrame s paths f u v) h.1 i, subst (λ f. Chain s paths below u f.name.n) h.1 (subst (λ fs. Chain s paths fs u g.name.n) h.0 c))
+    let h = last_one lower below g f (sym e ∙ e') in (
+      u,
+      v,
+      subst (λ f. IsFrame s paths f u v) h.1 i,
+      subst (λ f. Chain s paths below u f.name.n) h.1
+          (subst (λ fs. Chain s paths fs u g.name.n) h.0 c),
+    )
 
 -- the walk of the frame below goes on
-pub popped : (s : RootedModel) (all below : List Frame) (top next : Frame) (t : Table) → IsAnswered s all top t → all ≡ below ++ next ∷ [] → IsWalking s below next t
+pub popped : (s : RootedModel) (all below : List Frame) (top next : Frame) (t : Table) → IsAnswered s all top t
+    → all ≡ below ++ next ∷ [] → IsWalking s below next t
 popped s all below top next t a e = let p = chain_pop a.chain e in
     record { from = p.0; here = p.1; frame = p.2; chain = p.3; table = subst (λ fs. IsTable s fs t) e a.table }
 
 -- no frame is left
-pub finished : (s : RootedModel) (all : List Frame) (top : Frame) (first old t : Table) → IsAnswered s all top t → all ≡ [] → Extends first old → Extends old t → IsRun s first t
-finished s all top first old t a e x y = record { table = subst (λ fs. IsTable s fs t) e a.table; extends = extends_both x y }
+pub finished : (s : RootedModel) (all : List Frame) (top : Frame) (first old t : Table) → IsAnswered s all top t
+    → all ≡ [] → Extends first old → Extends old t → IsRun s first t
+finished s all top first old t a e x y =
+    record { table = subst (λ fs. IsTable s fs t) e a.table; extends = extends_both x y }
 
-pub went_on : (s : RootedModel) (below : List Frame) (top next : Frame) (old new : Table) (r : Step) → r ≡ On next → Steps s below top old new r → IsWalking s below next new
+pub went_on : (s : RootedModel) (below : List Frame) (top next : Frame) (old new : Table) (r : Step) → r ≡ On next
+    → Steps s below top old new r → IsWalking s below next new
 went_on s below top next old new r e t = subst (λ r. After s below top new r) e t.after
 
-pub went_into : (s : RootedModel) (below all : List Frame) (top next : Frame) (old new : Table) (r : Step) → r ≡ Into next → all ≡ below ++ top ∷ [] → Steps s below top old new r → IsWalking s all next new
-went_into s below all top next old new r e a t = subst (λ fs. IsWalking s fs next new) (sym a) (subst (λ r. After s below top new r) e t.after)
+pub went_into : (s : RootedModel) (below all : List Frame) (top next : Frame) (old new : Table) (r : Step)
+    → r ≡ Into next → all ≡ below ++ top ∷ [] → Steps s below top old new r → IsWalking s all next new
+went_into s below all top next old new r e a t =
+    subst (λ fs. IsWalking s fs next new) (sym a) (subst (λ r. After s below top new r) e t.after)
 
-pub went_done : (s : RootedModel) (below : List Frame) (top : Frame) (old new : Table) (r : Step) → r ≡ Done → Steps s below top old new r → IsAnswered s below top new
+pub went_done : (s : RootedModel) (below : List Frame) (top : Frame) (old new : Table) (r : Step) → r ≡ Done
+    → Steps s below top old new r → IsAnswered s below top new
 went_done s below top old new r e t = subst (λ r. After s below top new r) e t.after
 
-pub into_smaller : (below all : List Frame) (top next : Frame) (old new : Table) (r : Step) → r ≡ Into next → all ≡ below ++ top ∷ [] → Weighs top old new r
+pub into_smaller : (below all : List Frame) (top next : Frame) (old new : Table) (r : Step) → r ≡ Into next
+    → all ≡ below ++ top ∷ [] → Weighs top old new r
     → weight new + load all + length next.rest.now < weight old + load below + length top.rest.now
 into_smaller below all top next old new r e a w =
     let h = subst (λ r. Weighs top old new r) e w in let k = ap load a in let l = load_push below top in omega (arith, h, k, l)
 
-pub done_smaller : (below all : List Frame) (top next : Frame) (old new : Table) (r : Step) → r ≡ Done → below ≡ all ++ next ∷ [] → Weighs top old new r
+pub done_smaller : (below all : List Frame) (top next : Frame) (old new : Table) (r : Step) → r ≡ Done
+    → below ≡ all ++ next ∷ [] → Weighs top old new r
     → weight new + load all + length next.rest.now < weight old + load below + length top.rest.now
 done_smaller below all top next old new r e a w =
     let h = subst (λ r. Weighs top old new r) e w in let k = ap load a in let l = load_push all next in omega (arith, h, k, l)
@@ -85,7 +100,8 @@ none_left [] e = refl
 none_left (x ∷ xs) e = absurd (omega arith)
 
 -- the first statement is entered as being followed
-pub started : (s : RootedModel) (f : Frame) (old new : Table) → IsReady s f old → IsSet old new f.unit f.name.n Following 1 → IsWalking s [] f new
+pub started : (s : RootedModel) (f : Frame) (old new : Table) → IsReady s f old
+    → IsSet old new f.unit f.name.n Following 1 → IsWalking s [] f new
 started s f old new w i = let wide = set_wide i in record {
   from = w.from;
   here = w.here;
@@ -98,26 +114,32 @@ none_some : {A : Type 0} (x : A) → None ≡ Some x → ⊥
 none_some x e = cc
 
 -- the answer is in the table
-pub found : (s : RootedModel) (old new : Table) (a x : ℕ) (c : Known) → IsTable s [] new → Extends old new → Some c ≡ known_at new a x → IsKnown s old new a x c
+pub found : (s : RootedModel) (old new : Table) (a x : ℕ) (c : Known) → IsTable s [] new → Extends old new
+    → Some c ≡ known_at new a x → IsKnown s old new a x c
 found s old new a x c t e h = record { table = t; extends = e; known = λ u p. t.known a x c u p (sym h) }
 
-pub run_found : (s : RootedModel) (old mid new : Table) (a x : ℕ) (c d : Known) → IsSet old mid a x d 1 → IsRun s mid new → Some c ≡ known_at new a x → IsKnown s old new a x c
+pub run_found : (s : RootedModel) (old mid new : Table) (a x : ℕ) (c d : Known) → IsSet old mid a x d 1
+    → IsRun s mid new → Some c ≡ known_at new a x → IsKnown s old new a x c
 run_found s old mid new a x c d i r h = found s old new a x c r.table (extends_both (set_extends i) r.extends) h
 
-pub run_missing : (s : RootedModel) (old mid new : Table) (a x : ℕ) (d : Known) {P : Type 0} → IsSet old mid a x d 1 → IsRun s mid new → None ≡ known_at new a x → P
+pub run_missing : (s : RootedModel) (old mid new : Table) (a x : ℕ) (d : Known) {P : Type 0} → IsSet old mid a x d 1
+    → IsRun s mid new → None ≡ known_at new a x → P
 run_missing s old mid new a x d i r h = let k = r.extends.known a x d i.here in absurd (none_some k.0 (h ∙ k.1))
 
 -- the answer was in the table
-pub known_before : (s : RootedModel) (t : Table) (a x : ℕ) (c : Known) → IsTable s [] t → Some c ≡ known_at t a x → IsKnown s t t a x c
+pub known_before : (s : RootedModel) (t : Table) (a x : ℕ) (c : Known) → IsTable s [] t → Some c ≡ known_at t a x
+    → IsKnown s t t a x c
 known_before s t a x c k h = found s t t a x c k (extends_none t) h
 
 -- what the forms have of the name
-module _ (s : RootedModel) (forms : Forms) (t : Table) (a : ℕ) (u : UnitPath) (d : Met) (x : ℕ) (f : IsFormsFor s forms) (k : IsTable s [] t) (p : Stands (paths_of t) a u) (e : Some d ≡ slice_get t.units.items a) where
+module _ (s : RootedModel) (forms : Forms) (t : Table) (a : ℕ) (u : UnitPath) (d : Met) (x : ℕ) (f : IsFormsFor s forms)
+    (k : IsTable s [] t) (p : Stands (paths_of t) a u) (e : Some d ≡ slice_get t.units.items a) where
   here_looked : (o : Option UnitForm) → o ≡ form_at forms d.body.n x → IsLookedUp o (kind_at s u x)
   here_looked o g =
       let m = met_there s [] t k a u d p e in
       let h : IsLookedUp (form_at forms d.body.n x) (kind_in s d.body.n x) = looked_up s forms f d.body.n x in
-      subst (λ o. IsLookedUp o (kind_at s u x)) (sym g) (subst (λ b. IsLookedUp (form_at forms d.body.n x) (kind_in s b x)) (sym m.body) h)
+      subst (λ o. IsLookedUp o (kind_at s u x)) (sym g)
+      (subst (λ b. IsLookedUp (form_at forms d.body.n x) (kind_in s b x)) (sym m.body) h)
 
   same_unit : (v : UnitPath) → Stands (paths_of t) a v → u ≡ v
   same_unit v q = stands_one (paths_of t) a u v p q
@@ -130,42 +152,70 @@ module _ (s : RootedModel) (forms : Forms) (t : Table) (a : ℕ) (u : UnitPath) 
         (record { height = 0; ends = looked_none (kind_at s u x) (here_looked None g) });
   }
 
-  pub fresh_clone : (q : Bor Path) → Some (form.Clone q) ≡ form_at forms d.body.n x → IsStatement q.now true (kind_at s u x)
+  pub fresh_clone : (q : Bor Path) → Some (form.Clone q) ≡ form_at forms d.body.n x
+      → IsStatement q.now true (kind_at s u x)
   fresh_clone q g = looked_clone (here_looked (Some (form.Clone q)) g)
 
-  pub fresh_alias : (q : Bor Path) → Some (form.Alias q) ≡ form_at forms d.body.n x → IsStatement q.now false (kind_at s u x)
+  pub fresh_alias : (q : Bor Path) → Some (form.Alias q) ≡ form_at forms d.body.n x
+      → IsStatement q.now false (kind_at s u x)
   fresh_alias q g = looked_alias (here_looked (Some (form.Alias q)) g)
 
-  pub fresh_inner : (new : Table) (c : Met) (n : ℕ) (name : NameId) (id : BodyId) (at : Option (BodyId × ℕ)) → name.n ≡ x → Some (form.Inner id at) ≡ form_at forms d.body.n x
-      → c ≡ record { owner = Some a; name = name; body = id; set_at = at } → IsEntered t new a c n → IsKnown s t new a x (ToUnit n)
+  pub fresh_inner : (new : Table) (c : Met) (n : ℕ) (name : NameId) (id : BodyId) (at : Option (BodyId × ℕ))
+      → name.n ≡ x → Some (form.Inner id at) ≡ form_at forms d.body.n x
+      → c ≡ record { owner = Some a; name = name; body = id; set_at = at } → IsEntered t new a c n
+      → IsKnown s t new a x (ToUnit n)
   fresh_inner new c n name id at z g q i =
       let v = entered_level a name id at c q in
       let o = v.0 in
       let h = looked_inner {s = s} {u = u} {x = x} (here_looked (Some (form.Inner id at)) g) in
-      let lv : record { name = x; body = id.n; set_at = option_map site_of at } ≡ level_of c = ap (λ x. record { name = x; body = id.n; set_at = option_map site_of at }) (sym z) ∙ sym v.2 in
+      let lv : record { name = x; body = id.n; set_at = option_map site_of at } ≡ level_of c =
+      ap (λ x. record { name = x; body = id.n; set_at = option_map site_of at }) (sym z) ∙ sym v.2 in
       let ends = subst (λ l. NameEnds s 0 u x (kind_at s u x) (Some (l ∷ u))) lv h in
       let wide = grown_wide u i.grown o p in
-      let m : EndsAt s (paths_of i.mid) u x n = record { path = level_of c ∷ u; stands = grown_stands u i.grown o p; height = 0; ends = ends } in
+      let m : EndsAt s (paths_of i.mid) u x n =
+      record { path = level_of c ∷ u; stands = grown_stands u i.grown o p; height = 0; ends = ends } in
       let named : c.name.n ≡ x = v.1 ∙ z in
       let set = subst (λ y. IsSet i.mid new a y (ToUnit n) 1) named i.set in
       let r = table_set [] [] (table_grown [] u k i.grown o p) set (wide.keeps a u p) m (λ b y n h. h) in
       found s t new a x (ToUnit n) r (extends_both (grown_extends u i.grown o p) (set_extends set)) (sym set.here)
 
 -- the path of a statement starts nowhere
-pub starts_nowhere : (s : RootedModel) (old new : Table) (a x : ℕ) (u : UnitPath) (z : Bool) (p : Path) → IsTable s [] old → Stands (paths_of old) a u → IsSet old new a x Nothing 1
-    → IsStatement p z (kind_at s u x) → StandsIf (paths_of old) None (start_of p.start u) → IsKnown s old new a x Nothing
+pub starts_nowhere : (s : RootedModel) (old new : Table) (a x : ℕ) (u : UnitPath) (z : Bool) (p : Path)
+    → IsTable s [] old → Stands (paths_of old) a u → IsSet old new a x Nothing 1
+    → IsStatement p z (kind_at s u x) → StandsIf (paths_of old) None (start_of p.start u)
+    → IsKnown s old new a x Nothing
 starts_nowhere s old new a x u z p t h i j f =
     let e = starts_none (paths_of old) (start_of p.start u) f in
-    found s old new a x Nothing (table_set [] [] t i h (record { height = 1; ends = none_ends j (subst (λ o. NamesEnd s 0 o (numbers p.names.items) None) (sym e) nowhere) }) (λ b y n h. h))
+    found s old new a x Nothing (table_set [] [] t i h
+    (record {
+      height = 1;
+      ends = none_ends j
+          (subst (λ o. NamesEnd s 0 o (numbers p.names.items) None) (sym e) nowhere);
+    }) (λ b y n h. h))
     (set_extends i) (sym i.here)
 
-pub ready : (s : RootedModel) (t : Table) (f : Frame) (u : UnitPath) (p : Path) → IsTable s [] t → Stands (paths_of t) f.unit u → f.rest.now ≡ p.names.items
-    → IsStatement p f.is_clone (kind_at s u f.name.n) → StandsIf (paths_of t) (Some f.at) (start_of p.start u) → IsReady s f t
+pub ready : (s : RootedModel) (t : Table) (f : Frame) (u : UnitPath) (p : Path) → IsTable s [] t
+    → Stands (paths_of t) f.unit u → f.rest.now ≡ p.names.items
+    → IsStatement p f.is_clone (kind_at s u f.name.n) → StandsIf (paths_of t) (Some f.at) (start_of p.start u)
+    → IsReady s f t
 ready s t f u p k h d j g =
     let v = starts_some (paths_of t) f.at (start_of p.start u) g in
     let P : List ℕ → Type 0 = λ xs. Reached s u f.name.n f.is_clone v.0 xs in
-    let r : P (numbers p.names.items) = record { path = p; is = j; before = []; height = 0; names = refl; ran = subst (λ o. NamesEnd s 0 o [] (Some v.0)) (sym v.1) arrives } in
-    record { from = u; here = v.0; frame = record { unit = h; at = v.2; reached = subst P (sym (ap numbers d)) r }; table = k }
+    let r : P (numbers p.names.items) =
+    record {
+      path = p;
+      is = j;
+      before = [];
+      height = 0;
+      names = refl;
+      ran = subst (λ o. NamesEnd s 0 o [] (Some v.0)) (sym v.1) arrives;
+    } in
+    record {
+      from = u;
+      here = v.0;
+      frame = record { unit = h; at = v.2; reached = subst P (sym (ap numbers d)) r };
+      table = k;
+    }
 
 pub on_ok : {T E : Type 0} (r : Result T E) {P Q : Type 0} → (P → Q) → OnOk r P → OnOk r Q
 on_ok (Ok x) k h = k h

@@ -36,31 +36,41 @@ has_more [] top b y h = absurd h
 has_more (f ∷ fs) top b y (inl h) = inl h
 has_more (f ∷ fs) top b y (inr h) = inr (has_more fs top b y h)
 
-pub has_last : (below : List Frame) (top : Frame) (b y : ℕ) → top.unit ≡ b → top.name.n ≡ y → HasFrame (below ++ top ∷ []) b y
+pub has_last : (below : List Frame) (top : Frame) (b y : ℕ) → top.unit ≡ b → top.name.n ≡ y
+    → HasFrame (below ++ top ∷ []) b y
 has_last [] top b y p q = inl (p, q)
 has_last (f ∷ fs) top b y p q = inr (has_last fs top b y p q)
 
-pub has_split : (below : List Frame) (top : Frame) (b y : ℕ) → HasFrame (below ++ top ∷ []) b y → HasFrame below b y ⊎ ((top.unit ≡ b) × (top.name.n ≡ y))
+pub has_split : (below : List Frame) (top : Frame) (b y : ℕ) → HasFrame (below ++ top ∷ []) b y
+    → HasFrame below b y ⊎ ((top.unit ≡ b) × (top.name.n ≡ y))
 has_split [] top b y (inl h) = inr h
 has_split [] top b y (inr h) = absurd h
 has_split (f ∷ fs) top b y (inl h) = inl (inl h)
 has_split (f ∷ fs) top b y (inr h) = elim (has_split fs top b y h) [ inl k ↦ inl (inr k) | inr k ↦ inr k ]
 
-frame_off : (below : List Frame) (top : Frame) (b y : ℕ) → ((b ≡ top.unit) × (y ≡ top.name.n) → ⊥) → HasFrame (below ++ top ∷ []) b y → HasFrame below b y
+frame_off : (below : List Frame) (top : Frame) (b y : ℕ) → ((b ≡ top.unit) × (y ≡ top.name.n) → ⊥)
+    → HasFrame (below ++ top ∷ []) b y → HasFrame below b y
 frame_off below top b y n h = elim (has_split below top b y h) [ inl k ↦ k | inr k ↦ absurd (n (sym k.0, sym k.1)) ]
 
 -- the next frame has the same statement
-frame_kept : (below : List Frame) (top next : Frame) → next.unit ≡ top.unit → next.name.n ≡ top.name.n → (b y : ℕ) → HasFrame (below ++ top ∷ []) b y → HasFrame (below ++ next ∷ []) b y
-frame_kept below top next p q b y h = elim (has_split below top b y h) [ inl k ↦ has_more below next b y k | inr k ↦ has_last below next b y (p ∙ k.0) (q ∙ k.1) ]
+frame_kept : (below : List Frame) (top next : Frame) → next.unit ≡ top.unit → next.name.n ≡ top.name.n → (b y : ℕ)
+    → HasFrame (below ++ top ∷ []) b y → HasFrame (below ++ next ∷ []) b y
+frame_kept below top next p q b y h =
+    elim (has_split below top b y h) [
+      | inl k ↦ has_more below next b y k
+      | inr k ↦ has_last below next b y (p ∙ k.0) (q ∙ k.1)
+    ]
 
 set_weight : {old new : Table} {a x : ℕ} {c : Known} → IsSet old new a x c 0 → weight new ≡ weight old
 set_weight {old = old} {new = new} i = let e : new.count ≡ old.count = i.count ∙ (omega arith) in ap (λ n. (16777216 - n) * 2 ^ 65) e
 
-pub answered_weighs : (top : Frame) {old new : Table} {a x : ℕ} {c : Known} (r : Step) → r ≡ Done → IsSet old new a x c 0 → Weighs top old new r
+pub answered_weighs : (top : Frame) {old new : Table} {a x : ℕ} {c : Known} (r : Step) → r ≡ Done
+    → IsSet old new a x c 0 → Weighs top old new r
 answered_weighs top {old = old} {new = new} r e i = subst (λ r. Weighs top old new r) (sym e) (let h = set_weight i in omega (arith, h))
 
 -- the top frame's statement is answered by c
-pub answered : {s : RootedModel} {below : List Frame} {top : Frame} {old new : Table} (c : Known) (r : Step) → (w : IsWalking s below top old) → r ≡ Done → IsSet old new top.unit top.name.n c 0
+pub answered : {s : RootedModel} {below : List Frame} {top : Frame} {old new : Table} (c : Known) (r : Step)
+    → (w : IsWalking s below top old) → r ≡ Done → IsSet old new top.unit top.name.n c 0
     → Means s (paths_of old) below top.unit w.from top.name.n c → Steps s below top old new r
 answered {s = s} {below = below} {top = top} {old = old} {new = new} c r w e i m = record {
   after = subst (λ r. After s below top new r) (sym e) (record {
@@ -73,7 +83,8 @@ answered {s = s} {below = below} {top = top} {old = old} {new = new} c r w e i m
 }
 
 -- the walk is under way as before, with a unit more
-walking_grown : {s : RootedModel} {below : List Frame} {top : Frame} {old new : Table} {d : Met} {a n : ℕ} (u : UnitPath) → IsWalking s below top old → IsGrown old new d n → d.owner ≡ Some a → Stands (paths_of old) a u
+walking_grown : {s : RootedModel} {below : List Frame} {top : Frame} {old new : Table} {d : Met} {a n : ℕ}
+    (u : UnitPath) → IsWalking s below top old → IsGrown old new d n → d.owner ≡ Some a → Stands (paths_of old) a u
     → IsWalking s below top new
 walking_grown {below = below} {top = top} u w g o h = let wide = grown_wide u g o h in record {
   from = w.from;
@@ -84,7 +95,8 @@ walking_grown {below = below} {top = top} u w g o h = let wide = grown_wide u g 
 }
 
 -- or with an entry more
-walking_set : {s : RootedModel} {below : List Frame} {top : Frame} {old new : Table} {a x k : ℕ} {c : Known} (u : UnitPath) → IsWalking s below top old → IsSet old new a x c k → Stands (paths_of old) a u
+walking_set : {s : RootedModel} {below : List Frame} {top : Frame} {old new : Table} {a x k : ℕ} {c : Known}
+    (u : UnitPath) → IsWalking s below top old → IsSet old new a x c k → Stands (paths_of old) a u
     → Means s (paths_of old) (below ++ top ∷ []) a u x c → IsWalking s below top new
 walking_set {below = below} {top = top} u w i h m = let wide = set_wide i in record {
   from = w.from;
@@ -94,44 +106,57 @@ walking_set {below = below} {top = top} u w i h m = let wide = set_wide i in rec
   table = table_set (below ++ top ∷ []) (below ++ top ∷ []) w.table i h m (λ b y n k. k);
 }
 
-alias_ends : {s : RootedModel} {u : UnitPath} {x n : ℕ} {p : Path} {m : Option MemberKind} {o : Option UnitPath} → IsStatement p false m → NamesEnd s n (start_of p.start u) (numbers p.names.items) o → NameEnds s (suc n) u x m o
+alias_ends : {s : RootedModel} {u : UnitPath} {x n : ℕ} {p : Path} {m : Option MemberKind} {o : Option UnitPath}
+    → IsStatement p false m → NamesEnd s n (start_of p.start u) (numbers p.names.items) o → NameEnds s (suc n) u x m o
 alias_ends alias r = embeds r
 
-clone_ends : {s : RootedModel} {u t : UnitPath} {x n : ℕ} {p : Path} {m : Option MemberKind} → IsStatement p true m → NamesEnd s n (start_of p.start u) (numbers p.names.items) (Some t) → has (bodies_of s u) (body_of s t) ≡ false
+clone_ends : {s : RootedModel} {u t : UnitPath} {x n : ℕ} {p : Path} {m : Option MemberKind} → IsStatement p true m
+    → NamesEnd s n (start_of p.start u) (numbers p.names.items) (Some t) → has (bodies_of s u) (body_of s t) ≡ false
     → NameEnds s (suc n) u x m (Some (record { name = x; body = body_of s t; set_at = set_at_of t } ∷ u))
 clone_ends clone r h = clones r h
 
-pub none_ends : {s : RootedModel} {u : UnitPath} {x n : ℕ} {p : Path} {b : Bool} {m : Option MemberKind} → IsStatement p b m → NamesEnd s n (start_of p.start u) (numbers p.names.items) None → NameEnds s (suc n) u x m None
+pub none_ends : {s : RootedModel} {u : UnitPath} {x n : ℕ} {p : Path} {b : Bool} {m : Option MemberKind}
+    → IsStatement p b m → NamesEnd s n (start_of p.start u) (numbers p.names.items) None → NameEnds s (suc n) u x m None
 none_ends alias r = embeds r
 none_ends clone r = clones_none r
 
 -- the path of a statement has been walked to its end
-whole : {s : RootedModel} {u v : UnitPath} {x : ℕ} {b : Bool} (r : Reached s u x b v []) → NamesEnd s (r.height + 0) (start_of r.path.start u) (numbers r.path.names.items) (Some v)
-whole {s = s} {u = u} {v = v} r = subst (λ xs. NamesEnd s (r.height + 0) (start_of r.path.start u) xs (Some v)) (sym r.names) (runs_on r.ran arrives)
+whole : {s : RootedModel} {u v : UnitPath} {x : ℕ} {b : Bool} (r : Reached s u x b v [])
+    → NamesEnd s (r.height + 0) (start_of r.path.start u) (numbers r.path.names.items) (Some v)
+whole {s = s} {u = u} {v = v} r = subst (λ xs. NamesEnd s (r.height + 0) (start_of r.path.start u) xs (Some v))
+    (sym r.names) (runs_on r.ran arrives)
 
-reached_end : {s : RootedModel} {u v : UnitPath} {x : ℕ} {b c : Bool} {xs : List ℕ} → b ≡ c → xs ≡ [] → Reached s u x b v xs → Reached s u x c v []
+reached_end : {s : RootedModel} {u v : UnitPath} {x : ℕ} {b c : Bool} {xs : List ℕ} → b ≡ c → xs ≡ []
+    → Reached s u x b v xs → Reached s u x c v []
 reached_end {s = s} {u = u} {v = v} {x = x} {b = b} e f r = let P : Bool → List ℕ → Type 0 = λ b xs. Reached s u x b v xs in subst (λ b. P b []) e (subst (λ xs. P b xs) f r)
 
 none_to_go : (xs : List NameId) → xs ≡ [] → numbers xs ≡ []
 none_to_go xs e = ap numbers e
 
-pub arrived_alias : (top : Frame) (old new : Table) (r : Step) → top.is_clone ≡ false → top.rest.now ≡ [] → r ≡ Done → IsSet old new top.unit top.name.n (ToUnit top.at) 0 → IsStep top old new r
+pub arrived_alias : (top : Frame) (old new : Table) (r : Step) → top.is_clone ≡ false → top.rest.now ≡ [] → r ≡ Done
+    → IsSet old new top.unit top.name.n (ToUnit top.at) 0 → IsStep top old new r
 arrived_alias top old new r a over e i s below w =
     let q = reached_end a (none_to_go top.rest.now over) w.frame.reached in
-    answered (ToUnit top.at) r w e i (record { path = w.here; stands = w.frame.at; height = suc (q.height + 0); ends = alias_ends q.is (whole q) })
+    answered (ToUnit top.at) r w e i (record
+    { path = w.here; stands = w.frame.at; height = suc (q.height + 0); ends = alias_ends q.is (whole q) })
 
 -- the unit that the top frame's walk has come to
-pub walking_met : (top : Frame) (t : Table) (d : Met) → Some d ≡ slice_get t.units.items top.at → (s : RootedModel) (below : List Frame) (w : IsWalking s below top t) → IsMet s (paths_of t) w.here d
+pub walking_met : (top : Frame) (t : Table) (d : Met) → Some d ≡ slice_get t.units.items top.at
+    → (s : RootedModel) (below : List Frame) (w : IsWalking s below top t) → IsMet s (paths_of t) w.here d
 walking_met top t d e s below w = met_there s (below ++ top ∷ []) t w.table top.at w.here d w.frame.at e
 
-pub arrived_above : (top : Frame) (old new : Table) (r : Step) (d : Met) → top.is_clone ≡ true → top.rest.now ≡ [] → r ≡ Done → IsSet old new top.unit top.name.n Loops 0 → Some d ≡ slice_get old.units.items top.at
-    → ((s : RootedModel) (frames : List Frame) (u : UnitPath) → IsTable s frames old → Stands (paths_of old) top.unit u → true ≡ has (bodies_of s u) d.body.n) → IsStep top old new r
+pub arrived_above : (top : Frame) (old new : Table) (r : Step) (d : Met) → top.is_clone ≡ true → top.rest.now ≡ []
+    → r ≡ Done → IsSet old new top.unit top.name.n Loops 0 → Some d ≡ slice_get old.units.items top.at
+    → ((s : RootedModel) (frames : List Frame) (u : UnitPath) → IsTable s frames old → Stands (paths_of old) top.unit u
+    → true ≡ has (bodies_of s u) d.body.n) → IsStep top old new r
 arrived_above top old new r d a over e i f h s below w =
     let q = walking_met top old d f s below w in
     let z = h s (below ++ top ∷ []) w.from w.table w.frame.unit in
-    answered Loops r w e i (above_doomed (reached_end a (none_to_go top.rest.now over) w.frame.reached) (subst (λ b. has (bodies_of s w.from) b ≡ true) (sym q.body) (sym z)))
+    answered Loops r w e i (above_doomed (reached_end a (none_to_go top.rest.now over) w.frame.reached)
+    (subst (λ b. has (bodies_of s w.from) b ≡ true) (sym q.body) (sym z)))
 
-site_same : (a b c d : ℕ) → a ≡ b → c ≡ d → ◌≡◌ {A = Option Site} (Some (record { body = b; place = d })) (Some (record { body = a; place = c }))
+site_same : (a b c d : ℕ) → a ≡ b → c ≡ d
+    → ◌≡◌ {A = Option Site} (Some (record { body = b; place = d })) (Some (record { body = a; place = c }))
 site_same a b c d p q = cc
 
 set_at_same : (o : Option Site) (at : Option (BodyId × ℕ)) → IsSetAt o at → o ≡ option_map site_of at
@@ -140,12 +165,16 @@ set_at_same None (Some at) h = elim h [ ]
 set_at_same (Some site) None h = elim h [ ]
 set_at_same (Some site) (Some at) (some p q) = site_same at.0.n site.body at.1 site.place p q
 
-level_same : (x a b : ℕ) (o p : Option Site) → a ≡ b → o ≡ p → ◌≡◌ {A = Level} (record { name = x; body = a; set_at = o }) (record { name = x; body = b; set_at = p })
+level_same : (x a b : ℕ) (o p : Option Site) → a ≡ b → o ≡ p
+    → ◌≡◌ {A = Level} (record { name = x; body = a; set_at = o }) (record { name = x; body = b; set_at = p })
 level_same x a b o p e f = cc
 
-pub arrived_clone : (top : Frame) (old mid new : Table) (r : Step) (d c : Met) (n : ℕ) → top.is_clone ≡ true → top.rest.now ≡ [] → r ≡ Done
-    → c ≡ record { owner = Some top.unit; name = top.name; body = d.body; set_at = d.set_at } → IsGrown old mid c n → IsSet mid new top.unit top.name.n (ToUnit n) 0 → Some d ≡ slice_get old.units.items top.at
-    → ((s : RootedModel) (frames : List Frame) (u : UnitPath) → IsTable s frames old → Stands (paths_of old) top.unit u → false ≡ has (bodies_of s u) d.body.n) → IsStep top old new r
+pub arrived_clone : (top : Frame) (old mid new : Table) (r : Step) (d c : Met) (n : ℕ) → top.is_clone ≡ true
+    → top.rest.now ≡ [] → r ≡ Done
+    → c ≡ record { owner = Some top.unit; name = top.name; body = d.body; set_at = d.set_at } → IsGrown old mid c n
+    → IsSet mid new top.unit top.name.n (ToUnit n) 0 → Some d ≡ slice_get old.units.items top.at
+    → ((s : RootedModel) (frames : List Frame) (u : UnitPath) → IsTable s frames old → Stands (paths_of old) top.unit u
+    → false ≡ has (bodies_of s u) d.body.n) → IsStep top old new r
 unfolding walking_grown
 arrived_clone top old mid new r d c n a over e is g i f h s below w =
     let q = reached_end a (none_to_go top.rest.now over) w.frame.reached in
@@ -153,34 +182,57 @@ arrived_clone top old mid new r d c n a over e is g i f h s below w =
     let z = h s (below ++ top ∷ []) w.from w.table w.frame.unit in
     let o : c.owner ≡ Some top.unit = ap (λ c. c.owner) is in
     let named = clone_ends q.is (whole q) (subst (λ b. has (bodies_of s w.from) b ≡ false) (sym y.body) (sym z)) in
-    let lv = level_same top.name.n (body_of s w.here) d.body.n (set_at_of w.here) (option_map site_of d.set_at) y.body (set_at_same (set_at_of w.here) d.set_at y.set_at) ∙ ap level_of (sym is) in
-    let ends = subst (λ l. NameEnds s (suc (q.height + 0)) w.from top.name.n (kind_at s w.from top.name.n) (Some (l ∷ w.from))) lv named in
+    let lv = level_same top.name.n (body_of s w.here) d.body.n (set_at_of w.here) (option_map site_of d.set_at) y.body
+    (set_at_same (set_at_of w.here) d.set_at y.set_at) ∙ ap level_of (sym is) in
+    let ends = subst (λ l. NameEnds s (suc (q.height + 0)) w.from top.name.n (kind_at s w.from top.name.n)
+    (Some (l ∷ w.from))) lv named in
     let v = walking_grown w.from w g o w.frame.unit in
-    let k = answered (ToUnit n) r v e i (record { path = level_of c ∷ w.from; stands = grown_stands w.from g o w.frame.unit; height = suc (q.height + 0); ends = ends }) in
+    let k = answered (ToUnit n) r v e i
+    (record {
+      path = level_of c ∷ w.from;
+      stands = grown_stands w.from g o w.frame.unit;
+      height = suc (q.height + 0);
+      ends = ends;
+    }) in
     record { after = k.after; extends = extends_both (grown_extends w.from g o w.frame.unit) k.extends }
 
-pub clone_weighs : (top : Frame) {old mid new : Table} {d : Met} {n a x : ℕ} {c : Known} (r : Step) → r ≡ Done → IsGrown old mid d n → IsSet mid new a x c 0 → Weighs top old new r
+pub clone_weighs : (top : Frame) {old mid new : Table} {d : Met} {n a x : ℕ} {c : Known} (r : Step) → r ≡ Done
+    → IsGrown old mid d n → IsSet mid new a x c 0 → Weighs top old new r
 clone_weighs top {old = old} {mid = mid} {new = new} r e g i = subst (λ r. Weighs top old new r) (sym e) (let h = set_weight i in let k : weight mid ≡ weight old = ap (λ n. (16777216 - n) * 2 ^ 65) g.count in omega (arith, h, k))
 
 pub if_ok : {T E : Type 0} (r : Result T E) {P Q : T → Type 0} → ((x : T) → P x → Q x) → IfOk r P → IfOk r Q
 if_ok (Ok x) k h = k x h
 if_ok (Err e) k h = tt
 
-waits_of : {s : RootedModel} {paths : List UnitPath} {f : Frame} {u v : UnitPath} {y : ℕ} (more : List ℕ) → IsFrame s paths f u v → numbers f.rest.now ≡ y ∷ more → Waits s u f.name.n v y
-waits_of {s = s} {f = f} {u = u} {v = v} more i e = record { is_clone = f.is_clone; more = more; reached = subst (λ xs. Reached s u f.name.n f.is_clone v xs) e i.reached }
+waits_of : {s : RootedModel} {paths : List UnitPath} {f : Frame} {u v : UnitPath} {y : ℕ} (more : List ℕ)
+    → IsFrame s paths f u v → numbers f.rest.now ≡ y ∷ more → Waits s u f.name.n v y
+waits_of {s = s} {f = f} {u = u} {v = v} more i e =
+    record {
+      is_clone = f.is_clone;
+      more = more;
+      reached = subst (λ xs. Reached s u f.name.n f.is_clone v xs) e i.reached;
+    }
 
-nothing_waits : {s : RootedModel} {u v : UnitPath} {x y n : ℕ} → Waits s u x v y → NameEnds s n v y (kind_at s v y) None → EndsNowhere s u x
+nothing_waits : {s : RootedModel} {u v : UnitPath} {x y n : ℕ} → Waits s u x v y → NameEnds s n v y (kind_at s v y) None
+    → EndsNowhere s u x
 nothing_waits {s = s} {u = u} {n = n} w d =
     let r = w.reached in
-    record { height = suc (r.height + n); ends = none_ends r.is (subst (λ xs. NamesEnd s (r.height + n) (start_of r.path.start u) xs None) (sym r.names) (runs_on r.ran (stops d))) }
+    record {
+      height = suc (r.height + n);
+      ends = none_ends r.is (subst (λ xs. NamesEnd s (r.height + n) (start_of r.path.start u) xs None) (sym r.names)
+          (runs_on r.ran (stops d)));
+    }
 
 -- the next name is nothing
-pub next_nothing : (s : RootedModel) (below : List Frame) (top : Frame) (old new : Table) (y : ℕ) (more : List ℕ) (r : Step) → (w : IsWalking s below top old) → numbers top.rest.now ≡ y ∷ more → r ≡ Done
+pub next_nothing : (s : RootedModel) (below : List Frame) (top : Frame) (old new : Table) (y : ℕ) (more : List ℕ)
+    (r : Step) → (w : IsWalking s below top old) → numbers top.rest.now ≡ y ∷ more → r ≡ Done
     → IsSet old new top.unit top.name.n Nothing 0 → EndsNowhere s w.here y → Steps s below top old new r
-next_nothing s below top old new y more r w e d i n = answered Nothing r w d i (nothing_waits (waits_of more w.frame e) n.ends)
+next_nothing s below top old new y more r w e d i n =
+    answered Nothing r w d i (nothing_waits (waits_of more w.frame e) n.ends)
 
 -- the next name is a statement that loops
-pub next_loops : (s : RootedModel) (below : List Frame) (top : Frame) (old new : Table) (y : ℕ) (more : List ℕ) (r : Step) → (w : IsWalking s below top old) → numbers top.rest.now ≡ y ∷ more → r ≡ Done
+pub next_loops : (s : RootedModel) (below : List Frame) (top : Frame) (old new : Table) (y : ℕ) (more : List ℕ)
+    (r : Step) → (w : IsWalking s below top old) → numbers top.rest.now ≡ y ∷ more → r ≡ Done
     → IsSet old new top.unit top.name.n Loops 0 → NeverEnds s w.here y → Steps s below top old new r
 next_loops s below top old new y more r w e d i n = answered Loops r w d i (waits_doomed (waits_of more w.frame e) n)
 
@@ -191,37 +243,52 @@ record Led (s : RootedModel) (w : UnitPath) (z : ℕ) (v : UnitPath) (y : ℕ) :
   first : Waits s w z unit name
   rest : Leads s unit name v y
 
-chain_leads : {s : RootedModel} {paths : List UnitPath} {frames : List Frame} {v w : UnitPath} {y : ℕ} (a z : ℕ) → Chain s paths frames v y → HasFrame frames a z → Stands paths a w → Led s w z v y
+chain_leads : {s : RootedModel} {paths : List UnitPath} {frames : List Frame} {v w : UnitPath} {y : ℕ} (a z : ℕ)
+    → Chain s paths frames v y → HasFrame frames a z → Stands paths a w → Led s w z v y
 chain_leads a z bottom h k = absurd h
-chain_leads {s = s} {paths = paths} {v = v} {w = w} {y = y} a z (above {below = below} {f = f} {u = u} {more = more} e i r c) h k =
+chain_leads {s = s} {paths = paths} {v = v} {w = w} {y = y} a z
+    (above {below = below} {f = f} {u = u} {more = more} e i r c) h k =
     elim (has_split below f a z (subst (λ fs. HasFrame fs a z) e h)) [
       | inl j ↦ let l = chain_leads a z c j k in record { unit = l.unit; name = l.name; first = l.first; rest = leads_on l.rest (waits_of more i r) }
       | inr j ↦ let g : u ≡ w = stands_one paths a u w (subst (λ a. Stands paths a u) j.0 i.unit) k in
           let P : UnitPath → ℕ → Type 0 = λ u x. Waits s u x v y in
-          record { unit = v; name = y; first = subst (λ u. P u z) g (subst (λ x. P u x) j.1 (waits_of more i r)); rest = here }
+          record {
+            unit = v;
+            name = y;
+            first = subst (λ u. P u z) g (subst (λ x. P u x) j.1 (waits_of more i r));
+            rest = here;
+          }
     ]
 
 -- the next name is a statement that is being followed
-pub next_following : (s : RootedModel) (below : List Frame) (top : Frame) (old new : Table) (y : ℕ) (more : List ℕ) (r : Step) → (w : IsWalking s below top old) → numbers top.rest.now ≡ y ∷ more → r ≡ Done
+pub next_following : (s : RootedModel) (below : List Frame) (top : Frame) (old new : Table) (y : ℕ) (more : List ℕ)
+    (r : Step) → (w : IsWalking s below top old) → numbers top.rest.now ≡ y ∷ more → r ≡ Done
     → IsSet old new top.unit top.name.n Loops 0 → HasFrame (below ++ top ∷ []) top.at y → Steps s below top old new r
 next_following s below top old new y more r w e d i n =
     let l = chain_leads top.at y (above refl w.frame e w.chain) n w.frame.at in
     next_loops s below top old new y more r w e d i (cycle_doomed l.first l.rest)
 
 -- the next name is a unit
-pub next_unit : (s : RootedModel) (below : List Frame) (top next : Frame) (t : Table) (y : ℕ) (more : List ℕ) → (w : IsWalking s below top t) → numbers top.rest.now ≡ y ∷ more
-    → next.unit ≡ top.unit → next.name.n ≡ top.name.n → next.is_clone ≡ top.is_clone → numbers next.rest.now ≡ more → EndsAt s (paths_of t) w.here y next.at → Steps s below top t t (On next)
+pub next_unit : (s : RootedModel) (below : List Frame) (top next : Frame) (t : Table) (y : ℕ) (more : List ℕ)
+    → (w : IsWalking s below top t) → numbers top.rest.now ≡ y ∷ more
+    → next.unit ≡ top.unit → next.name.n ≡ top.name.n → next.is_clone ≡ top.is_clone → numbers next.rest.now ≡ more
+    → EndsAt s (paths_of t) w.here y next.at → Steps s below top t t (On next)
 next_unit s below top next t y more w e a b c d i = record {
   after = record {
     from = w.from;
     here = i.path;
-    frame = record { unit = subst (λ n. Stands (paths_of t) n w.from) (sym a) w.frame.unit; at = i.stands; reached = moved };
+    frame = record {
+      unit = subst (λ n. Stands (paths_of t) n w.from) (sym a) w.frame.unit;
+      at = i.stands;
+      reached = moved;
+    };
     chain = subst (λ x. Chain s (paths_of t) below w.from x) (sym b) w.chain;
     table = record {
       main = w.table.main;
       units = w.table.units;
       within = w.table.within;
-      known = λ n x c u p q. means_frames s (paths_of t) u n x (below ++ top ∷ []) (below ++ next ∷ []) c (frame_kept below top next a b n x) (w.table.known n x c u p q);
+      known = λ n x c u p q. means_frames s (paths_of t) u n x (below ++ top ∷ []) (below ++ next ∷ []) c
+          (frame_kept below top next a b n x) (w.table.known n x c u p q);
     };
   };
   extends = extends_none t;
@@ -243,7 +310,9 @@ next_unit s below top next t y more w e a b c d i = record {
     moved : Reached s w.from next.name.n next.is_clone i.path (numbers next.rest.now)
     moved =
         let P : ℕ → Bool → List ℕ → Type 0 = λ x b xs. Reached s w.from x b i.path xs in
-        subst (λ x. P x next.is_clone (numbers next.rest.now)) (sym b) (subst (λ z. P top.name.n z (numbers next.rest.now)) (sym c) (subst (λ xs. P top.name.n top.is_clone xs) (sym d) step_on))
+        subst (λ x. P x next.is_clone (numbers next.rest.now)) (sym b)
+        (subst (λ z. P top.name.n z (numbers next.rest.now)) (sym c)
+        (subst (λ xs. P top.name.n top.is_clone xs) (sym d) step_on))
 
 -- What is found for the next name
 
@@ -257,65 +326,94 @@ unitless Kept e = refl
 unitless Event e = refl
 unitless (Observer t v) e = refl
 
-pub looked_none : {s : RootedModel} {u : UnitPath} {x : ℕ} (k : Option MemberKind) → IsLookedUp None k → NameEnds s 0 u x k None
+pub looked_none : {s : RootedModel} {u : UnitPath} {x : ℕ} (k : Option MemberKind) → IsLookedUp None k
+    → NameEnds s 0 u x k None
 looked_none (Some k) (l.no_unit e) = no_unit (unitless k e)
 looked_none None l.absent = absent
 
-inner_same : {s : RootedModel} {u : UnitPath} {x b : ℕ} {z : Option Site} (c : ℕ) (y : Option Site) → c ≡ b → y ≡ z → NameEnds s 0 u x (Some (Inner b z)) (Some (record { name = x; body = c; set_at = y } ∷ u))
-inner_same {s = s} {u = u} {x = x} {b = b} {z = z} c y p q = subst (λ l. NameEnds s 0 u x (Some (Inner b z)) (Some (l ∷ u))) (level_same x b c z y (sym p) (sym q)) inner
+inner_same : {s : RootedModel} {u : UnitPath} {x b : ℕ} {z : Option Site} (c : ℕ) (y : Option Site) → c ≡ b → y ≡ z
+    → NameEnds s 0 u x (Some (Inner b z)) (Some (record { name = x; body = c; set_at = y } ∷ u))
+inner_same {s = s} {u = u} {x = x} {b = b} {z = z} c y p q =
+    subst (λ l. NameEnds s 0 u x (Some (Inner b z)) (Some (l ∷ u))) (level_same x b c z y (sym p) (sym q)) inner
 
-pub looked_inner : {s : RootedModel} {u : UnitPath} {x : ℕ} {id : BodyId} {at : Option (BodyId × ℕ)} {k : Option MemberKind} → IsLookedUp (Some (form.Inner id at)) k
+pub looked_inner : {s : RootedModel} {u : UnitPath} {x : ℕ} {id : BodyId} {at : Option (BodyId × ℕ)}
+    {k : Option MemberKind} → IsLookedUp (Some (form.Inner id at)) k
     → NameEnds s 0 u x k (Some (record { name = x; body = id.n; set_at = option_map site_of at } ∷ u))
 looked_inner {id = id} {at = at} (l.is (l.inner p q)) = inner_same id.n (option_map site_of at) p q
 
-pub looked_clone : {p : Bor Path} {k : Option MemberKind} → IsLookedUp (Some (form.Clone p)) k → IsStatement p.now true k
+pub looked_clone : {p : Bor Path} {k : Option MemberKind} → IsLookedUp (Some (form.Clone p)) k
+    → IsStatement p.now true k
 looked_clone (l.is (l.clone {p = q} e)) = subst (λ z. IsStatement z true (Some (Clone q))) (sym e) clone
 
-pub looked_alias : {p : Bor Path} {k : Option MemberKind} → IsLookedUp (Some (form.Alias p)) k → IsStatement p.now false k
+pub looked_alias : {p : Bor Path} {k : Option MemberKind} → IsLookedUp (Some (form.Alias p)) k
+    → IsStatement p.now false k
 looked_alias (l.is (l.alias {p = q} e)) = subst (λ z. IsStatement z false (Some (Alias q))) (sym e) alias
 
-pub entered_level : (a : ℕ) (name : NameId) (body : BodyId) (at : Option (BodyId × ℕ)) (d : Met) → d ≡ record { owner = Some a; name = name; body = body; set_at = at }
-    → (d.owner ≡ Some a) × (d.name.n ≡ name.n) × (◌≡◌ {A = Level} (level_of d) (record { name = name.n; body = body.n; set_at = option_map site_of at }))
+pub entered_level : (a : ℕ) (name : NameId) (body : BodyId) (at : Option (BodyId × ℕ)) (d : Met)
+    → d ≡ record { owner = Some a; name = name; body = body; set_at = at }
+    → (d.owner ≡ Some a) × (d.name.n ≡ name.n)
+    × (◌≡◌ {A = Level} (level_of d) (record { name = name.n; body = body.n; set_at = option_map site_of at }))
 entered_level a name body at d e = (ap (λ d. d.owner) e, ap (λ d. d.name.n) e, ap level_of e)
 
 -- the next name is a unit that was not met yet
-pub next_entered : (s : RootedModel) (below : List Frame) (top : Frame) (old new : Table) (d : Met) (n : ℕ) (more : List ℕ) → (w : IsWalking s below top old) → d.owner ≡ Some top.at → IsEntered old new top.at d n
-    → NameEnds s 0 w.here d.name.n (kind_at s w.here d.name.n) (Some (level_of d ∷ w.here)) → Steps s below top old new (On top)
+pub next_entered : (s : RootedModel) (below : List Frame) (top : Frame) (old new : Table) (d : Met) (n : ℕ)
+    (more : List ℕ) → (w : IsWalking s below top old) → d.owner ≡ Some top.at → IsEntered old new top.at d n
+    → NameEnds s 0 w.here d.name.n (kind_at s w.here d.name.n) (Some (level_of d ∷ w.here))
+    → Steps s below top old new (On top)
 unfolding walking_grown
 next_entered s below top old new d n more w o i e =
     let g = walking_grown w.here w i.grown o w.frame.at in
     let wide = grown_wide w.here i.grown o w.frame.at in
     record {
       after = walking_set w.here g i.set (wide.keeps top.at w.here w.frame.at)
-          (record { path = level_of d ∷ w.here; stands = grown_stands w.here i.grown o w.frame.at; height = 0; ends = e });
+          (record {
+            path = level_of d ∷ w.here;
+            stands = grown_stands w.here i.grown o w.frame.at;
+            height = 0;
+            ends = e;
+          });
       extends = extends_both (grown_extends w.here i.grown o w.frame.at) (set_extends i.set);
     }
 
 -- what the forms have of the next name
-module _ (forms : Forms) (top : Frame) (old : Table) (d : Met) (y : ℕ) (e : Some d ≡ slice_get old.units.items top.at) where
-  looked : (o : Option UnitForm) → o ≡ form_at forms d.body.n y → (s : RootedModel) (below : List Frame) → IsFormsFor s forms → (w : IsWalking s below top old) → IsLookedUp o (kind_at s w.here y)
+module _ (forms : Forms) (top : Frame) (old : Table) (d : Met) (y : ℕ)
+    (e : Some d ≡ slice_get old.units.items top.at) where
+  looked : (o : Option UnitForm) → o ≡ form_at forms d.body.n y → (s : RootedModel) (below : List Frame)
+      → IsFormsFor s forms → (w : IsWalking s below top old) → IsLookedUp o (kind_at s w.here y)
   looked o g s below f w =
       let m = walking_met top old d e s below w in
       let h : IsLookedUp (form_at forms d.body.n y) (kind_in s d.body.n y) = looked_up s forms f d.body.n y in
-      subst (λ o. IsLookedUp o (kind_at s w.here y)) (sym g) (subst (λ b. IsLookedUp (form_at forms d.body.n y) (kind_in s b y)) (sym m.body) h)
+      subst (λ o. IsLookedUp o (kind_at s w.here y)) (sym g)
+      (subst (λ b. IsLookedUp (form_at forms d.body.n y) (kind_in s b y)) (sym m.body) h)
 
-  pub look_absent : (new : Table) (r : Step) → None ≡ form_at forms d.body.n y → r ≡ Done → IsSet old new top.unit top.name.n Nothing 0 → IsNameStep forms top y old new r
-  look_absent new r g q i s below more f w k = next_nothing s below top old new y more r w k q i (record { height = 0; ends = looked_none (kind_at s w.here y) (looked None g s below f w) })
+  pub look_absent : (new : Table) (r : Step) → None ≡ form_at forms d.body.n y → r ≡ Done
+      → IsSet old new top.unit top.name.n Nothing 0 → IsNameStep forms top y old new r
+  look_absent new r g q i s below more f w k =
+      next_nothing s below top old new y more r w k q i
+      (record { height = 0; ends = looked_none (kind_at s w.here y) (looked None g s below f w) })
 
-  pub look_inner : (new : Table) (c : Met) (n : ℕ) (name : NameId) (id : BodyId) (at : Option (BodyId × ℕ)) → name.n ≡ y → Some (form.Inner id at) ≡ form_at forms d.body.n y
-      → c ≡ record { owner = Some top.at; name = name; body = id; set_at = at } → IsEntered old new top.at c n → IsNameStep forms top y old new (On top)
+  pub look_inner : (new : Table) (c : Met) (n : ℕ) (name : NameId) (id : BodyId) (at : Option (BodyId × ℕ)) → name.n ≡ y
+      → Some (form.Inner id at) ≡ form_at forms d.body.n y
+      → c ≡ record { owner = Some top.at; name = name; body = id; set_at = at } → IsEntered old new top.at c n
+      → IsNameStep forms top y old new (On top)
   look_inner new c n name id at z g q i s below more f w k =
       let v = entered_level top.at name id at c q in
       let h = looked_inner {s = s} {u = w.here} {x = y} (looked (Some (form.Inner id at)) g s below f w) in
-      let lv : record { name = y; body = id.n; set_at = option_map site_of at } ≡ level_of c = ap (λ x. record { name = x; body = id.n; set_at = option_map site_of at }) (sym z) ∙ sym v.2 in
+      let lv : record { name = y; body = id.n; set_at = option_map site_of at } ≡ level_of c =
+      ap (λ x. record { name = x; body = id.n; set_at = option_map site_of at }) (sym z) ∙ sym v.2 in
       let P : ℕ → Level → Type 0 = λ x l. NameEnds s 0 w.here x (kind_at s w.here x) (Some (l ∷ w.here)) in
-      next_entered s below top old new c n more w v.0 i (subst (λ x. P x (level_of c)) (sym z ∙ sym v.1) (subst (λ l. P y l) lv h))
+      next_entered s below top old new c n more w v.0 i
+      (subst (λ x. P x (level_of c)) (sym z ∙ sym v.1) (subst (λ l. P y l) lv h))
 
-  pub look_clone : (new : Table) (r : Step) (p : Bor Path) → Some (form.Clone p) ≡ form_at forms d.body.n y → IsStatementStep top y true p.now old new r → IsNameStep forms top y old new r
-  look_clone new r p g i s below more f w k = i s below more w k (looked_clone (looked (Some (form.Clone p)) g s below f w))
+  pub look_clone : (new : Table) (r : Step) (p : Bor Path) → Some (form.Clone p) ≡ form_at forms d.body.n y
+      → IsStatementStep top y true p.now old new r → IsNameStep forms top y old new r
+  look_clone new r p g i s below more f w k =
+      i s below more w k (looked_clone (looked (Some (form.Clone p)) g s below f w))
 
-  pub look_alias : (new : Table) (r : Step) (p : Bor Path) → Some (form.Alias p) ≡ form_at forms d.body.n y → IsStatementStep top y false p.now old new r → IsNameStep forms top y old new r
-  look_alias new r p g i s below more f w k = i s below more w k (looked_alias (looked (Some (form.Alias p)) g s below f w))
+  pub look_alias : (new : Table) (r : Step) (p : Bor Path) → Some (form.Alias p) ≡ form_at forms d.body.n y
+      → IsStatementStep top y false p.now old new r → IsNameStep forms top y old new r
+  look_alias new r p g i s below more f w k =
+      i s below more w k (looked_alias (looked (Some (form.Alias p)) g s below f w))
 
 pub starts_none : (paths : List UnitPath) (o : Option UnitPath) → StandsIf paths None o → o ≡ None
 starts_none paths None h = refl
@@ -323,26 +421,45 @@ starts_none paths (Some u) h = absurd h
 
 -- the statement's path starts nowhere
 pub follow_nowhere : (top : Frame) (old new : Table) (y : ℕ) (z : Bool) (p : Path) → IsSet old new top.at y Nothing 1
-    → ((s : RootedModel) (frames : List Frame) (u : UnitPath) → IsTable s frames old → Stands (paths_of old) top.at u → StandsIf (paths_of old) None (start_of p.start u)) → IsStatementStep top y z p old new (On top)
+    → ((s : RootedModel) (frames : List Frame) (u : UnitPath) → IsTable s frames old → Stands (paths_of old) top.at u
+    → StandsIf (paths_of old) None (start_of p.start u)) → IsStatementStep top y z p old new (On top)
 follow_nowhere top old new y z p i f s below more w k j =
     let e = starts_none (paths_of old) (start_of p.start w.here) (f s (below ++ top ∷ []) w.here w.table w.frame.at) in
     record {
-      after = walking_set w.here w i w.frame.at (record { height = 1; ends = none_ends j (subst (λ o. NamesEnd s 0 o (numbers p.names.items) None) (sym e) nowhere) });
+      after = walking_set w.here w i w.frame.at
+          (record {
+            height = 1;
+            ends = none_ends j
+                (subst (λ o. NamesEnd s 0 o (numbers p.names.items) None) (sym e) nowhere);
+          });
       extends = set_extends i;
     }
 
-pub starts_some : (paths : List UnitPath) (n : ℕ) (o : Option UnitPath) → StandsIf paths (Some n) o → (v : UnitPath) × (o ≡ Some v) × Stands paths n v
+pub starts_some : (paths : List UnitPath) (n : ℕ) (o : Option UnitPath) → StandsIf paths (Some n) o
+    → (v : UnitPath) × (o ≡ Some v) × Stands paths n v
 starts_some paths n None h = absurd h
 starts_some paths n (Some v) h = (v, refl, h)
 
-pub follow_into : (top next : Frame) (old new : Table) (y : ℕ) (z : Bool) (p : Path) → IsSet old new top.at y Following 1
-    → ((s : RootedModel) (frames : List Frame) (u : UnitPath) → IsTable s frames old → Stands (paths_of old) top.at u → StandsIf (paths_of old) (Some next.at) (start_of p.start u))
-    → next.unit ≡ top.at → next.name.n ≡ y → next.is_clone ≡ z → next.rest.now ≡ p.names.items → IsStatementStep top y z p old new (Into next)
+pub follow_into : (top next : Frame) (old new : Table) (y : ℕ) (z : Bool) (p : Path)
+    → IsSet old new top.at y Following 1
+    → ((s : RootedModel) (frames : List Frame) (u : UnitPath) → IsTable s frames old → Stands (paths_of old) top.at u
+    → StandsIf (paths_of old) (Some next.at) (start_of p.start u))
+    → next.unit ≡ top.at → next.name.n ≡ y → next.is_clone ≡ z → next.rest.now ≡ p.names.items
+    → IsStatementStep top y z p old new (Into next)
 follow_into top next old new y z p i f a b c d s below more w k j =
-    let v = starts_some (paths_of old) next.at (start_of p.start w.here) (f s (below ++ top ∷ []) w.here w.table w.frame.at) in
+    let v = starts_some (paths_of old) next.at (start_of p.start w.here)
+    (f s (below ++ top ∷ []) w.here w.table w.frame.at) in
     let wide = set_wide i in
     let P : ℕ → Bool → List ℕ → Type 0 = λ x b xs. Reached s w.here x b v.0 xs in
-    let r : P y z (numbers p.names.items) = record { path = p; is = j; before = []; height = 0; names = refl; ran = subst (λ o. NamesEnd s 0 o [] (Some v.0)) (sym v.1) arrives } in
+    let r : P y z (numbers p.names.items) =
+    record {
+      path = p;
+      is = j;
+      before = [];
+      height = 0;
+      names = refl;
+      ran = subst (λ o. NamesEnd s 0 o [] (Some v.0)) (sym v.1) arrives;
+    } in
     record {
       after = record {
         from = w.here;
@@ -350,27 +467,37 @@ follow_into top next old new y z p i f a b c d s below more w k j =
         frame = record {
           unit = subst (λ n. Stands (paths_of new) n w.here) (sym a) (wide.keeps top.at w.here w.frame.at);
           at = wide.keeps next.at v.0 v.2;
-          reached = subst (λ x. P x next.is_clone (numbers next.rest.now)) (sym b) (subst (λ q. P y q (numbers next.rest.now)) (sym c) (subst (λ xs. P y z xs) (sym (ap numbers d)) r));
+          reached = subst (λ x. P x next.is_clone (numbers next.rest.now)) (sym b)
+              (subst (λ q. P y q (numbers next.rest.now)) (sym c) (subst (λ xs. P y z xs) (sym (ap numbers d)) r));
         };
-        chain = subst (λ x. Chain s (paths_of new) (below ++ top ∷ []) w.here x) (sym b) (above refl (frame_wide wide w.frame) k (chain_wide wide w.chain));
-        table = table_set (below ++ top ∷ []) ((below ++ top ∷ []) ++ next ∷ []) w.table i w.frame.at (has_last (below ++ top ∷ []) next top.at y a b) (λ n x q h. has_more (below ++ top ∷ []) next n x h);
+        chain = subst (λ x. Chain s (paths_of new) (below ++ top ∷ []) w.here x) (sym b)
+            (above refl (frame_wide wide w.frame) k (chain_wide wide w.chain));
+        table = table_set (below ++ top ∷ []) ((below ++ top ∷ []) ++ next ∷ []) w.table i w.frame.at
+            (has_last (below ++ top ∷ []) next top.at y a b) (λ n x q h. has_more (below ++ top ∷ []) next n x h);
       };
       extends = set_extends i;
     }
 
 -- what the table has of the next name
-module _ (s : RootedModel) (below : List Frame) (top : Frame) (old : Table) (y : ℕ) (more : List ℕ) (w : IsWalking s below top old) (k : numbers top.rest.now ≡ y ∷ more) where
-  entry_means : (c : Known) → known_at old top.at y ≡ Some c → Means s (paths_of old) (below ++ top ∷ []) top.at w.here y c
+module _ (s : RootedModel) (below : List Frame) (top : Frame) (old : Table) (y : ℕ) (more : List ℕ)
+    (w : IsWalking s below top old) (k : numbers top.rest.now ≡ y ∷ more) where
+  entry_means : (c : Known) → known_at old top.at y ≡ Some c
+      → Means s (paths_of old) (below ++ top ∷ []) top.at w.here y c
   entry_means c e = w.table.known top.at y c w.here w.frame.at e
 
-  pub step_unit : (next : Frame) → known_at old top.at y ≡ Some (ToUnit next.at) → next.unit ≡ top.unit → next.name.n ≡ top.name.n → next.is_clone ≡ top.is_clone → numbers next.rest.now ≡ more → Steps s below top old old (On next)
+  pub step_unit : (next : Frame) → known_at old top.at y ≡ Some (ToUnit next.at) → next.unit ≡ top.unit
+      → next.name.n ≡ top.name.n → next.is_clone ≡ top.is_clone → numbers next.rest.now ≡ more
+      → Steps s below top old old (On next)
   step_unit next e a b c d = next_unit s below top next old y more w k a b c d (entry_means (ToUnit next.at) e)
 
-  pub step_nothing : (new : Table) (r : Step) → known_at old top.at y ≡ Some Nothing → r ≡ Done → IsSet old new top.unit top.name.n Nothing 0 → Steps s below top old new r
+  pub step_nothing : (new : Table) (r : Step) → known_at old top.at y ≡ Some Nothing → r ≡ Done
+      → IsSet old new top.unit top.name.n Nothing 0 → Steps s below top old new r
   step_nothing new r e d i = next_nothing s below top old new y more r w k d i (entry_means Nothing e)
 
-  pub step_loops : (new : Table) (r : Step) → known_at old top.at y ≡ Some Loops → r ≡ Done → IsSet old new top.unit top.name.n Loops 0 → Steps s below top old new r
+  pub step_loops : (new : Table) (r : Step) → known_at old top.at y ≡ Some Loops → r ≡ Done
+      → IsSet old new top.unit top.name.n Loops 0 → Steps s below top old new r
   step_loops new r e d i = next_loops s below top old new y more r w k d i (entry_means Loops e)
 
-  pub step_following : (new : Table) (r : Step) → known_at old top.at y ≡ Some Following → r ≡ Done → IsSet old new top.unit top.name.n Loops 0 → Steps s below top old new r
+  pub step_following : (new : Table) (r : Step) → known_at old top.at y ≡ Some Following → r ≡ Done
+      → IsSet old new top.unit top.name.n Loops 0 → Steps s below top old new r
   step_following new r e d i = next_following s below top old new y more r w k d i (entry_means Following e)

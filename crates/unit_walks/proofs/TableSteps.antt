@@ -24,13 +24,15 @@ pub stands_last : {A : Type 0} (xs : List A) (x : A) (n : ℕ) → n ≡ length 
 stands_last [] x n e = rw e refl
 stands_last (a ∷ xs) x n e = rw e (stands_last xs x (length xs) refl)
 
-pub stands_split : {A : Type 0} (xs : List A) (y : A) (n : ℕ) (a : A) → Stands (xs ++ y ∷ []) n a → Stands xs n a ⊎ ((n ≡ length xs) × (a ≡ y))
+pub stands_split : {A : Type 0} (xs : List A) (y : A) (n : ℕ) (a : A) → Stands (xs ++ y ∷ []) n a
+    → Stands xs n a ⊎ ((n ≡ length xs) × (a ≡ y))
 stands_split [] y zero a h = inr (refl, cc)
 stands_split [] y (suc n) a h = cc
 stands_split (x ∷ xs) y zero a h = inl h
 stands_split (x ∷ xs) y (suc n) a h = elim (stands_split xs y n a h) [ inl k ↦ inl k | inr k ↦ inr (ap suc k.0, k.1) ]
 
-pub paths_push : (paths : List UnitPath) (ds : List Met) (d : Met) → paths_from paths (ds ++ d ∷ []) ≡ paths_from paths ds ++ path_met (paths_from paths ds) d.owner (level_of d) ∷ []
+pub paths_push : (paths : List UnitPath) (ds : List Met) (d : Met)
+    → paths_from paths (ds ++ d ∷ []) ≡ paths_from paths ds ++ path_met (paths_from paths ds) d.owner (level_of d) ∷ []
 paths_push paths [] d = refl
 paths_push paths (e ∷ ds) d = paths_push (paths ++ path_met paths e.owner (level_of e) ∷ []) ds d
 
@@ -45,51 +47,64 @@ count_paths t = let h = paths_length [] t.units.items in omega arith
 pub record IsWider (paths more : List UnitPath) : Type 0 where
   pub keeps : (n : ℕ) (u : UnitPath) → Stands paths n u → Stands more n u
 
-pub unit_wide : {s : RootedModel} {paths more : List UnitPath} {u : UnitPath} {x k : ℕ} → IsWider paths more → EndsAt s paths u x k → EndsAt s more u x k
+pub unit_wide : {s : RootedModel} {paths more : List UnitPath} {u : UnitPath} {x k : ℕ} → IsWider paths more
+    → EndsAt s paths u x k → EndsAt s more u x k
 unit_wide {k = k} w i = record { path = i.path; stands = w.keeps k i.path i.stands; height = i.height; ends = i.ends }
 
-pub means_wide : (s : RootedModel) {paths more : List UnitPath} (u : UnitPath) (a x : ℕ) (frames : List Frame) (c : Known) → IsWider paths more → Means s paths frames a u x c → Means s more frames a u x c
+pub means_wide : (s : RootedModel) {paths more : List UnitPath} (u : UnitPath) (a x : ℕ) (frames : List Frame)
+    (c : Known) → IsWider paths more → Means s paths frames a u x c → Means s more frames a u x c
 means_wide s u a x frames (ToUnit k) w m = unit_wide w m
 means_wide s u a x frames Nothing w m = m
 means_wide s u a x frames Loops w m = m
 means_wide s u a x frames Following w m = m
 
-pub means_frames : (s : RootedModel) (paths : List UnitPath) (u : UnitPath) (a x : ℕ) (frames more : List Frame) (c : Known) → (HasFrame frames a x → HasFrame more a x) → Means s paths frames a u x c → Means s paths more a u x c
+pub means_frames : (s : RootedModel) (paths : List UnitPath) (u : UnitPath) (a x : ℕ) (frames more : List Frame)
+    (c : Known) → (HasFrame frames a x → HasFrame more a x) → Means s paths frames a u x c → Means s paths more a u x c
 means_frames s paths u a x frames more (ToUnit k) f m = m
 means_frames s paths u a x frames more Nothing f m = m
 means_frames s paths u a x frames more Loops f m = m
 means_frames s paths u a x frames more Following f m = f m
 
-pub frame_wide : {s : RootedModel} {paths more : List UnitPath} {f : Frame} {u v : UnitPath} → IsWider paths more → IsFrame s paths f u v → IsFrame s more f u v
-frame_wide {f = f} {u = u} {v = v} w i = record { unit = w.keeps f.unit u i.unit; at = w.keeps f.at v i.at; reached = i.reached }
+pub frame_wide : {s : RootedModel} {paths more : List UnitPath} {f : Frame} {u v : UnitPath} → IsWider paths more
+    → IsFrame s paths f u v → IsFrame s more f u v
+frame_wide {f = f} {u = u} {v = v} w i =
+    record { unit = w.keeps f.unit u i.unit; at = w.keeps f.at v i.at; reached = i.reached }
 
-pub chain_wide : {s : RootedModel} {paths more : List UnitPath} {frames : List Frame} {v : UnitPath} {y : ℕ} → IsWider paths more → Chain s paths frames v y → Chain s more frames v y
+pub chain_wide : {s : RootedModel} {paths more : List UnitPath} {frames : List Frame} {v : UnitPath} {y : ℕ}
+    → IsWider paths more → Chain s paths frames v y → Chain s more frames v y
 chain_wide w bottom = bottom
 chain_wide w (above e f r c) = above e (frame_wide w f) r (chain_wide w c)
 
-pub above_wide : {paths more : List UnitPath} (u : UnitPath) (o : Option ℕ) → IsWider paths more → Above paths u o → Above more u o
+pub above_wide : {paths more : List UnitPath} (u : UnitPath) (o : Option ℕ) → IsWider paths more → Above paths u o
+    → Above more u o
 above_wide [] o w h = h
 above_wide (l ∷ up) o w (n, e, h) = (n, e, w.keeps n up h)
 
 pub set_paths : {old new : Table} {a x k : ℕ} {c : Known} → IsSet old new a x c k → paths_of new ≡ paths_of old
 set_paths i = ap (paths_from []) i.units
 
-pub met_wide : {s : RootedModel} {paths more : List UnitPath} {u : UnitPath} {d : Met} → IsWider paths more → IsMet s paths u d → IsMet s more u d
-met_wide {u = u} {d = d} w i = record { name = i.name; body = i.body; set_at = i.set_at; owner = above_wide u d.owner w i.owner }
+pub met_wide : {s : RootedModel} {paths more : List UnitPath} {u : UnitPath} {d : Met} → IsWider paths more
+    → IsMet s paths u d → IsMet s more u d
+met_wide {u = u} {d = d} w i = record
+    { name = i.name; body = i.body; set_at = i.set_at; owner = above_wide u d.owner w i.owner }
 
 pub set_wide : {old new : Table} {a x k : ℕ} {c : Known} → IsSet old new a x c k → IsWider (paths_of old) (paths_of new)
 set_wide i = record { keeps = λ n w p. subst (λ paths. Stands paths n w) (sym (set_paths i)) p }
 
-pub table_set : {s : RootedModel} {old new : Table} {a x k : ℕ} {u : UnitPath} {c : Known} (frames more : List Frame) → IsTable s frames old → IsSet old new a x c k → Stands (paths_of old) a u
-    → Means s (paths_of old) more a u x c → ((b y : ℕ) → ((b ≡ a) × (y ≡ x) → ⊥) → HasFrame frames b y → HasFrame more b y) → IsTable s more new
+pub table_set : {s : RootedModel} {old new : Table} {a x k : ℕ} {u : UnitPath} {c : Known} (frames more : List Frame)
+    → IsTable s frames old → IsSet old new a x c k → Stands (paths_of old) a u
+    → Means s (paths_of old) more a u x c
+    → ((b y : ℕ) → ((b ≡ a) × (y ≡ x) → ⊥) → HasFrame frames b y → HasFrame more b y) → IsTable s more new
 table_set {s = s} {old = old} {new = new} {a = a} {x = x} {u = u} {c = c} frames more t i h m f = record {
   main = (set_wide i).keeps 0 [] t.main;
   units = λ n d w p q. met_wide (set_wide i) (t.units n d w (subst (λ ds. Stands ds n d) i.units p) (old_at n w q));
-  known = λ b y d w p q. subst (λ paths. Means s paths more b w y d) (sym e) (go b y d w (old_at b w p) q (cases_eq b a) (cases_eq y x));
+  known = λ b y d w p q. subst (λ paths. Means s paths more b w y d) (sym e)
+      (go b y d w (old_at b w p) q (cases_eq b a) (cases_eq y x));
   within = λ b y d q. subst (λ ds. b < length ds) (sym i.units) (in_range b y d q (cases_eq b a) (cases_eq y x));
 }
   where
-    in_range : (b y : ℕ) (d : Known) → known_at new b y ≡ Some d → (b ≡ a) ⊎ (b ≡ a → ⊥) → (y ≡ x) ⊎ (y ≡ x → ⊥) → b < length old.units.items
+    in_range : (b y : ℕ) (d : Known) → known_at new b y ≡ Some d → (b ≡ a) ⊎ (b ≡ a → ⊥) → (y ≡ x) ⊎ (y ≡ x → ⊥)
+        → b < length old.units.items
     in_range b y d q (inl g) (inl l) = let j = stands_within (paths_of old) a u h in let k = count_paths old in omega arith
     in_range b y d q (inl g) (inr l) = t.within b y d (sym (i.other b y (λ z. l z.1)) ∙ q)
     in_range b y d q (inr g) l = t.within b y d (sym (i.other b y (λ z. g z.0)) ∙ q)
@@ -100,27 +115,39 @@ table_set {s = s} {old = old} {new = new} {a = a} {x = x} {u = u} {c = c} frames
     old_at : (n : ℕ) (w : UnitPath) → Stands (paths_of new) n w → Stands (paths_of old) n w
     old_at n w p = subst (λ paths. Stands paths n w) e p
 
-    apart : (b y : ℕ) (d : Known) (w : UnitPath) → Stands (paths_of old) b w → known_at new b y ≡ Some d → ((b ≡ a) × (y ≡ x) → ⊥) → Means s (paths_of old) more b w y d
-    apart b y d w p q n = means_frames s (paths_of old) w b y frames more d (f b y n) (t.known b y d w p (sym (i.other b y n) ∙ q))
+    apart : (b y : ℕ) (d : Known) (w : UnitPath) → Stands (paths_of old) b w → known_at new b y ≡ Some d
+        → ((b ≡ a) × (y ≡ x) → ⊥) → Means s (paths_of old) more b w y d
+    apart b y d w p q n = means_frames s (paths_of old) w b y frames more d (f b y n)
+        (t.known b y d w p (sym (i.other b y n) ∙ q))
 
-    same : (b y : ℕ) (d : Known) (w : UnitPath) → Stands (paths_of old) b w → known_at new b y ≡ Some d → b ≡ a → y ≡ x → Means s (paths_of old) more b w y d
+    same : (b y : ℕ) (d : Known) (w : UnitPath) → Stands (paths_of old) b w → known_at new b y ≡ Some d → b ≡ a → y ≡ x
+        → Means s (paths_of old) more b w y d
     same b y d w p q g l =
         let k : w ≡ u = stands_one (paths_of old) a w u (subst (λ b. Stands (paths_of old) b w) g p) h in
-        let r : known_at new a x ≡ Some d = subst (λ y. known_at new a y ≡ Some d) l (subst (λ b. known_at new b y ≡ Some d) g q) in
+        let r : known_at new a x ≡ Some d =
+        subst (λ y. known_at new a y ≡ Some d) l (subst (λ b. known_at new b y ≡ Some d) g q) in
         let j : c ≡ d = same_Some _ _ (sym i.here ∙ r) in
         let P : ℕ → UnitPath → ℕ → Known → Type 0 = λ b w y d. Means s (paths_of old) more b w y d in
-        subst (λ b. P b w y d) (sym g) (subst (λ w. P a w y d) (sym k) (subst (λ y. P a u y d) (sym l) (subst (λ d. P a u x d) j m)))
+        subst (λ b. P b w y d) (sym g) (subst (λ w. P a w y d) (sym k)
+        (subst (λ y. P a u y d) (sym l) (subst (λ d. P a u x d) j m)))
 
-    go : (b y : ℕ) (d : Known) (w : UnitPath) → Stands (paths_of old) b w → known_at new b y ≡ Some d → (b ≡ a) ⊎ (b ≡ a → ⊥) → (y ≡ x) ⊎ (y ≡ x → ⊥) → Means s (paths_of old) more b w y d
+    go : (b y : ℕ) (d : Known) (w : UnitPath) → Stands (paths_of old) b w → known_at new b y ≡ Some d
+        → (b ≡ a) ⊎ (b ≡ a → ⊥) → (y ≡ x) ⊎ (y ≡ x → ⊥) → Means s (paths_of old) more b w y d
     go b y d w p q (inl g) (inl l) = same b y d w p q g l
     go b y d w p q (inl g) (inr l) = apart b y d w p q (λ z. l z.1)
     go b y d w p q (inr g) l = apart b y d w p q (λ z. g z.0)
 
 pub set_extends : {old new : Table} {a x k : ℕ} {c : Known} → IsSet old new a x c k → Extends old new
-set_extends {old = old} {new = new} {a = a} {x = x} {c = c} i = record { units = (set_wide i).keeps; known = λ b y d q. go b y d q (cases_eq b a) (cases_eq y x) }
+set_extends {old = old} {new = new} {a = a} {x = x} {c = c} i =
+    record { units = (set_wide i).keeps; known = λ b y d q. go b y d q (cases_eq b a) (cases_eq y x) }
   where
-    go : (b y : ℕ) (d : Known) → known_at old b y ≡ Some d → (b ≡ a) ⊎ (b ≡ a → ⊥) → (y ≡ x) ⊎ (y ≡ x → ⊥) → (e : Known) × (known_at new b y ≡ Some e)
-    go b y d q (inl g) (inl l) = (c, subst (λ b. known_at new b y ≡ Some c) (sym g) (subst (λ y. known_at new a y ≡ Some c) (sym l) i.here))
+    go : (b y : ℕ) (d : Known) → known_at old b y ≡ Some d → (b ≡ a) ⊎ (b ≡ a → ⊥) → (y ≡ x) ⊎ (y ≡ x → ⊥)
+        → (e : Known) × (known_at new b y ≡ Some e)
+    go b y d q (inl g) (inl l) = (
+      c,
+      subst (λ b. known_at new b y ≡ Some c) (sym g)
+          (subst (λ y. known_at new a y ≡ Some c) (sym l) i.here),
+    )
     go b y d q (inl g) (inr l) = (d, i.other b y (λ z. l z.1) ∙ q)
     go b y d q (inr g) l = (d, i.other b y (λ z. g z.0) ∙ q)
 
@@ -135,34 +162,48 @@ wider e = record { keeps = e.units }
 
 -- A unit is added
 
-grown_paths : {old new : Table} {d : Met} {n a : ℕ} (u : UnitPath) → IsGrown old new d n → d.owner ≡ Some a → Stands (paths_of old) a u → paths_of new ≡ paths_of old ++ (level_of d ∷ u) ∷ []
+grown_paths : {old new : Table} {d : Met} {n a : ℕ} (u : UnitPath) → IsGrown old new d n → d.owner ≡ Some a
+    → Stands (paths_of old) a u → paths_of new ≡ paths_of old ++ (level_of d ∷ u) ∷ []
 grown_paths {old = old} {d = d} u g o h =
-    ap (paths_from []) g.units ∙ paths_push [] old.units.items d ∙ ap (λ o. paths_of old ++ path_met (paths_of old) o (level_of d) ∷ []) o
+    ap (paths_from []) g.units ∙ paths_push [] old.units.items d
+    ∙ ap (λ o. paths_of old ++ path_met (paths_of old) o (level_of d) ∷ []) o
     ∙ ap (λ o. paths_of old ++ path_below o (level_of d) ∷ []) h
 
-pub grown_wide : {old new : Table} {d : Met} {n a : ℕ} (u : UnitPath) → IsGrown old new d n → d.owner ≡ Some a → Stands (paths_of old) a u → IsWider (paths_of old) (paths_of new)
-grown_wide {old = old} {d = d} u g o h = record { keeps = λ k w p. subst (λ paths. Stands paths k w) (sym (grown_paths u g o h)) (stands_left (paths_of old) ((level_of d ∷ u) ∷ []) k w p) }
+pub grown_wide : {old new : Table} {d : Met} {n a : ℕ} (u : UnitPath) → IsGrown old new d n → d.owner ≡ Some a
+    → Stands (paths_of old) a u → IsWider (paths_of old) (paths_of new)
+grown_wide {old = old} {d = d} u g o h =
+    record {
+      keeps = λ k w p. subst (λ paths. Stands paths k w) (sym (grown_paths u g o h))
+          (stands_left (paths_of old) ((level_of d ∷ u) ∷ []) k w p);
+    }
 
-pub grown_extends : {old new : Table} {d : Met} {n a : ℕ} (u : UnitPath) → IsGrown old new d n → d.owner ≡ Some a → Stands (paths_of old) a u → Extends old new
+pub grown_extends : {old new : Table} {d : Met} {n a : ℕ} (u : UnitPath) → IsGrown old new d n → d.owner ≡ Some a
+    → Stands (paths_of old) a u → Extends old new
 grown_extends u g o h = record { units = (grown_wide u g o h).keeps; known = λ a x c p. (c, g.known a x ∙ p) }
 
-pub grown_stands : {old new : Table} {d : Met} {n a : ℕ} (u : UnitPath) → IsGrown old new d n → d.owner ≡ Some a → Stands (paths_of old) a u → Stands (paths_of new) n (level_of d ∷ u)
+pub grown_stands : {old new : Table} {d : Met} {n a : ℕ} (u : UnitPath) → IsGrown old new d n → d.owner ≡ Some a
+    → Stands (paths_of old) a u → Stands (paths_of new) n (level_of d ∷ u)
 grown_stands {old = old} {d = d} {n = n} u g o h =
     let l : UnitPath = level_of d ∷ u in
-    subst (λ paths. Stands paths n l) (sym (grown_paths u g o h)) (stands_last (paths_of old) l n (g.at ∙ sym (count_paths old)))
+    subst (λ paths. Stands paths n l) (sym (grown_paths u g o h))
+    (stands_last (paths_of old) l n (g.at ∙ sym (count_paths old)))
 
 set_at_kept : (at : Option (BodyId × ℕ)) → IsSetAt (option_map site_of at) at
 set_at_kept None = none
 set_at_kept (Some at) = some refl refl
 
-level_met : (s : RootedModel) (paths : List UnitPath) (u : UnitPath) (d : Met) (a : ℕ) → d.owner ≡ Some a → Stands paths a u → IsMet s paths (level_of d ∷ u) d
+level_met : (s : RootedModel) (paths : List UnitPath) (u : UnitPath) (d : Met) (a : ℕ) → d.owner ≡ Some a
+    → Stands paths a u → IsMet s paths (level_of d ∷ u) d
 level_met s paths u d a o h = record { name = refl; body = refl; set_at = set_at_kept d.set_at; owner = (a, o, h) }
 
-pub table_grown : {s : RootedModel} {old new : Table} {d : Met} {n a : ℕ} (frames : List Frame) (u : UnitPath) → IsTable s frames old → IsGrown old new d n → d.owner ≡ Some a → Stands (paths_of old) a u → IsTable s frames new
+pub table_grown : {s : RootedModel} {old new : Table} {d : Met} {n a : ℕ} (frames : List Frame) (u : UnitPath)
+    → IsTable s frames old → IsGrown old new d n → d.owner ≡ Some a → Stands (paths_of old) a u → IsTable s frames new
 table_grown {s = s} {old = old} {new = new} {d = m} {a = owner} frames u t g o h = record {
   main = wide.keeps 0 [] t.main;
   units = λ k d w p q. both k d w (λ r j. met_wide wide (t.units k d w r j))
-      (λ r j. subst (λ w. IsMet s (paths_of new) w d) (sym j) (subst (λ d. IsMet s (paths_of new) l d) (sym r) (level_met s (paths_of new) u m owner o (wide.keeps owner u h)))) p q;
+      (λ r j. subst (λ w. IsMet s (paths_of new) w d) (sym j)
+      (subst (λ d. IsMet s (paths_of new) l d) (sym r)
+      (level_met s (paths_of new) u m owner o (wide.keeps owner u h)))) p q;
   known = known;
   within = λ a x c q. let i = t.within a x c (sym (g.known a x) ∙ q) in subst (λ ds. a < length ds) (sym g.units) (let k = length-append old.units.items (m ∷ []) in omega arith);
 }
@@ -173,7 +214,8 @@ table_grown {s = s} {old = old} {new = new} {d = m} {a = owner} frames u t g o h
     l : UnitPath
     l = level_of m ∷ u
 
-    both : (k : ℕ) (d : Met) (w : UnitPath) {P : Type 0} → (Stands old.units.items k d → Stands (paths_of old) k w → P) → (d ≡ m → w ≡ l → P) → Stands new.units.items k d → Stands (paths_of new) k w → P
+    both : (k : ℕ) (d : Met) (w : UnitPath) {P : Type 0} → (Stands old.units.items k d → Stands (paths_of old) k w → P)
+        → (d ≡ m → w ≡ l → P) → Stands new.units.items k d → Stands (paths_of new) k w → P
     both k d w f j p q =
         elim (stands_split old.units.items m k d (subst (λ ds. Stands ds k d) g.units p)) [
           | inl a ↦ elim (stands_split (paths_of old) l k w (subst (λ ws. Stands ws k w) (grown_paths u g o h) q)) [
@@ -186,7 +228,8 @@ table_grown {s = s} {old = old} {new = new} {d = m} {a = owner} frames u t g o h
           ]
         ]
 
-    known : (a x : ℕ) (c : Known) (w : UnitPath) → Stands (paths_of new) a w → known_at new a x ≡ Some c → Means s (paths_of new) frames a w x c
+    known : (a x : ℕ) (c : Known) (w : UnitPath) → Stands (paths_of new) a w → known_at new a x ≡ Some c
+        → Means s (paths_of new) frames a w x c
     known a x c w p q =
         elim (stands_split (paths_of old) l a w (subst (λ ws. Stands ws a w) (grown_paths u g o h) p)) [
           | inl b ↦ means_wide s w a x frames c wide (t.known a x c w b (sym (g.known a x) ∙ q))
@@ -202,10 +245,12 @@ module _ (s : RootedModel) (frames : List Frame) (t : Table) (k : IsTable s fram
   pub entry_there : (n : ℕ) (u : UnitPath) → Stands (paths_of t) n u → (d : Met) × Stands t.units.items n d
   entry_there n u h = stands_some t.units.items n (unit_within n u h)
 
-  pub met_there : (n : ℕ) (u : UnitPath) (d : Met) → Stands (paths_of t) n u → Some d ≡ slice_get t.units.items n → IsMet s (paths_of t) u d
+  pub met_there : (n : ℕ) (u : UnitPath) (d : Met) → Stands (paths_of t) n u → Some d ≡ slice_get t.units.items n
+      → IsMet s (paths_of t) u d
   met_there n u d h e = k.units n d u (sym e) h
 
-  pub owner_start : (n : ℕ) (u : UnitPath) (d : Met) → Stands (paths_of t) n u → Some d ≡ slice_get t.units.items n → StandsIf (paths_of t) d.owner (start_of Owner u)
+  pub owner_start : (n : ℕ) (u : UnitPath) (d : Met) → Stands (paths_of t) n u → Some d ≡ slice_get t.units.items n
+      → StandsIf (paths_of t) d.owner (start_of Owner u)
   owner_start n [] d h e = let i = met_there n [] d h e in subst (λ o. StandsIf (paths_of t) o None) (sym i.owner) tt
   owner_start n (l ∷ up) d h e = let i = met_there n (l ∷ up) d h e in subst (λ o. StandsIf (paths_of t) o (Some up)) (sym i.owner.1) i.owner.2
 
@@ -225,10 +270,12 @@ has_not : (s : RootedModel) (w : UnitPath) (b : ℕ) → w ≡ [] → (body_of s
 has_not s [] b i e = let q : (s.main == b) ≡ false = grind (arith, nat_tests) in rw q refl
 has_not s (l ∷ w) b i e = cc
 
-has_up : (s : RootedModel) (l : Level) (w : UnitPath) (b : ℕ) → (l.body ≡ b → ⊥) → has (bodies_of s (l ∷ w)) b ≡ has (bodies_of s w) b
+has_up : (s : RootedModel) (l : Level) (w : UnitPath) (b : ℕ) → (l.body ≡ b → ⊥)
+    → has (bodies_of s (l ∷ w)) b ≡ has (bodies_of s w) b
 has_up s l w b e = let q : (l.body == b) ≡ false = grind (arith, nat_tests) in rw q refl
 
-module _ (s : RootedModel) (frames : List Frame) (t : Table) (k : IsTable s frames t) (u : UnitPath) (at body : ℕ) (d : Met) (up : IsUp s (paths_of t) u at body)
+module _ (s : RootedModel) (frames : List Frame) (t : Table) (k : IsTable s frames t) (u : UnitPath) (at body : ℕ)
+    (d : Met) (up : IsUp s (paths_of t) u at body)
     (e : Some d ≡ slice_get t.units.items at) where
   here : IsMet s (paths_of t) up.path d
   here = met_there s frames t k at up.path d up.stands e
@@ -237,7 +284,8 @@ module _ (s : RootedModel) (frames : List Frame) (t : Table) (k : IsTable s fram
   up_found z = sym (up.same ∙ has_here s up.path body (here.body ∙ z))
 
   pub up_none : (d.body.n ≡ body → ⊥) → d.owner ≡ None → false ≡ has (bodies_of s u) body
-  up_none n o = sym (up.same ∙ has_not s up.path body (top up.path (subst (λ o. Above (paths_of t) up.path o) o here.owner)) (λ z. n (sym here.body ∙ z)))
+  up_none n o = sym (up.same ∙ has_not s up.path body
+      (top up.path (subst (λ o. Above (paths_of t) up.path o) o here.owner)) (λ z. n (sym here.body ∙ z)))
     where
       top : (w : UnitPath) → Above (paths_of t) w None → w ≡ []
       top [] h = refl
@@ -246,9 +294,15 @@ module _ (s : RootedModel) (frames : List Frame) (t : Table) (k : IsTable s fram
   pub up_on : (m : ℕ) → (d.body.n ≡ body → ⊥) → d.owner ≡ Some m → IsUp s (paths_of t) u m body
   up_on m n o = go up.path up.stands up.same here.body (subst (λ o. Above (paths_of t) up.path o) o here.owner)
     where
-      go : (w : UnitPath) → Stands (paths_of t) at w → has (bodies_of s u) body ≡ has (bodies_of s w) body → body_of s w ≡ d.body.n → Above (paths_of t) w (Some m) → IsUp s (paths_of t) u m body
+      go : (w : UnitPath) → Stands (paths_of t) at w → has (bodies_of s u) body ≡ has (bodies_of s w) body
+          → body_of s w ≡ d.body.n → Above (paths_of t) w (Some m) → IsUp s (paths_of t) u m body
       go [] p q r h = cc
-      go (l ∷ w) p q r (j, z, h) = record { path = w; stands = subst (λ j. Stands (paths_of t) j w) (sym (same_Some _ _ z)) h; same = q ∙ has_up s l w body (λ y. n (sym r ∙ y)) }
+      go (l ∷ w) p q r (j, z, h) = record {
+        path = w;
+        stands = subst (λ j. Stands (paths_of t) j w) (sym (same_Some _ _ z)) h;
+        same = q
+            ∙ has_up s l w body (λ y. n (sym r ∙ y));
+      }
 
 -- Entries
 
@@ -260,7 +314,8 @@ pair_apart a x b y n = go (cases_eq b a) (cases_eq y x)
     go (inl g) (inr l) = let q : nat_eq x y ≡ false = grind (arith, nat_tests) in and_right (nat_eq a b) (nat_eq x y) q
     go (inr g) l = let q : nat_eq a b ≡ false = grind (arith, nat_tests) in and_left (nat_eq a b) (nat_eq x y) q
 
-pub table_started : (s : RootedModel) (t : Table) (d : Met) → t.units.items ≡ d ∷ [] → d.owner ≡ None → d.body.n ≡ s.main → d.set_at ≡ None → ((a x : ℕ) → known_at t a x ≡ None) → IsTable s [] t
+pub table_started : (s : RootedModel) (t : Table) (d : Met) → t.units.items ≡ d ∷ [] → d.owner ≡ None
+    → d.body.n ≡ s.main → d.set_at ≡ None → ((a x : ℕ) → known_at t a x ≡ None) → IsTable s [] t
 table_started s t d e o b z f = record {
   main = subst (λ ds. Stands (paths_from [] ds) 0 []) (sym e) (main_only d o);
   units = λ n c u p q. let h = one n c u p q in subst (λ u. IsMet s (paths_of t) u c) (sym h.1) (subst (λ c. IsMet s (paths_of t) [] c) (sym h.0) main_met);
@@ -281,5 +336,9 @@ table_started s t d e o b z f = record {
     one n c u p q = both n (subst (λ ds. Stands ds n c) e p) (subst (λ ds. Stands (paths_from [] ds) n u) e q)
       where
         both : (n : ℕ) → Stands (d ∷ []) n c → Stands (paths_from [] (d ∷ [])) n u → (c ≡ d) × (u ≡ [])
-        both zero p q = (sym (same_Some _ _ p), sym (same_Some _ _ (sym (ap (λ o. Some (path_met [] o (level_of d))) o) ∙ q)))
+        both zero p q = (
+          sym (same_Some _ _ p),
+          sym
+              (same_Some _ _ (sym (ap (λ o. Some (path_met [] o (level_of d))) o) ∙ q)),
+        )
         both (suc n) p q = cc

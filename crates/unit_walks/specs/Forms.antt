@@ -38,7 +38,8 @@ instances s b names = all_named s (Some (Inner b (Some s))) names
 
 -- the code keeps this of what a name is
 pub data IsFormOf : UnitForm → MemberKind → Type 0 where
-  inner : {b : ℕ} {s : Option Site} {id : BodyId} {at : Option (BodyId × ℕ)} → id.n ≡ b → option_map site_of at ≡ s → IsFormOf (form.Inner id at) (Inner b s)
+  inner : {b : ℕ} {s : Option Site} {id : BodyId} {at : Option (BodyId × ℕ)} → id.n ≡ b → option_map site_of at ≡ s
+      → IsFormOf (form.Inner id at) (Inner b s)
   clone : {p : Path} {kept : Bor Path} → kept.now ≡ p → IsFormOf (form.Clone kept) (Clone p)
   alias : {p : Path} {kept : Bor Path} → kept.now ≡ p → IsFormOf (form.Alias kept) (Alias p)
 
@@ -97,13 +98,16 @@ pub record HasName (lists : List (Vec UnitName Global)) (c k x : ℕ) : Type 0 w
   pub name : named.name.n ≡ x
 
 -- the places are those of the names of the lists before list b, and of the first i of that list
-pub record AreIndexed {S : Type 0} (lists : List (Vec UnitName Global)) (b i : ℕ) (places : HashMap (ℕ × ℕ) ℕ S) : Type 0 where
+pub record AreIndexed {S : Type 0} (lists : List (Vec UnitName Global)) (b i : ℕ) (places : HashMap (ℕ × ℕ) ℕ S) : Type
+    0 where
   pub found : (c x k : ℕ) → get same_pair places (c, x) ≡ Some k → HasName lists c k x
-  pub all : (c k x : ℕ) → HasName lists c k x → (c < b) ⊎ ((c ≡ b) × (k < i)) → (j : ℕ) × (get same_pair places (c, x) ≡ Some j)
+  pub all : (c k x : ℕ) → HasName lists c k x → (c < b) ⊎ ((c ≡ b) × (k < i))
+      → (j : ℕ) × (get same_pair places (c, x) ≡ Some j)
 
 -- no name stands twice in a body
 pub record AreOnce (m : RootedModel) : Type 0 where
-  pub once : (b i j : ℕ) (g h : NamedMember) → Stands (names_in m b) i g → Stands (names_in m b) j h → g.name ≡ h.name → i ≡ j
+  pub once : (b i j : ℕ) (g h : NamedMember) → Stands (names_in m b) i g → Stands (names_in m b) j h → g.name ≡ h.name
+      → i ≡ j
 
 -- these are the forms of the names of a model that names nothing twice
 pub record IsFormsFor (m : RootedModel) (f : Forms) : Type 0 where

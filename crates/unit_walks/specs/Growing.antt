@@ -44,7 +44,8 @@ AllShallow [] = Prim.Unit {0}
 AllShallow (u ∷ us) = (length u < 64) × AllShallow us
 
 -- the nodes have grown by those of some more units, of which P holds
-pub record Grows (m : RootedModel) (before paths : List UnitPath) (P : List UnitPath → Type 0) (old new : List Node) : Type 0 where
+pub record Grows (m : RootedModel) (before paths : List UnitPath) (P : List UnitPath → Type 0)
+    (old new : List Node) : Type 0 where
   pub units : List UnitPath
   pub are : P units
   pub shallow : AllShallow units
@@ -70,23 +71,29 @@ OnLimit (Rule r p) P = ⊥
 OnLimit Memory P = Prim.Unit {0}
 
 -- the unit u and those below it were added
-pub record HasGrown (m : RootedModel) (u : UnitPath) (owner : Option UnitId) (old new : Table) (nodes more : List Node) : Type 0 where
+pub record HasGrown (m : RootedModel) (u : UnitPath) (owner : Option UnitId) (old new : Table)
+    (nodes more : List Node) : Type 0 where
   pub run : IsRun m old new
-  pub grows : (before : List UnitPath) → length before ≡ length nodes → IsOwner before u owner → Grows m before (paths_of new) (Lists m true u) nodes more
+  pub grows : (before : List UnitPath) → length before ≡ length nodes → IsOwner before u owner
+      → Grows m before (paths_of new) (Lists m true u) nodes more
 
 -- what is in the unit u, whose number is at, was added
-pub record HasGrownInside (m : RootedModel) (u : UnitPath) (at : ℕ) (old new : Table) (nodes more : List Node) : Type 0 where
+pub record HasGrownInside (m : RootedModel) (u : UnitPath) (at : ℕ) (old new : Table) (nodes more : List Node) : Type
+    0 where
   pub run : IsRun m old new
-  pub grows : (before : List UnitPath) → length before ≡ length nodes → Stands before at u → Grows m before (paths_of new) (Insides m true u (names_at m u)) nodes more
+  pub grows : (before : List UnitPath) → length before ≡ length nodes → Stands before at u
+      → Grows m before (paths_of new) (Insides m true u (names_at m u)) nodes more
 
 -- a limit is passed at the unit u or below it
 abbrev pub HasPassed : RootedModel → UnitPath → Option UnitId → List Node → RuleFault → Type 0
-HasPassed m u owner nodes e = OnLimit e ((before : List UnitPath) → length before ≡ length nodes → AllShallow before → IsOwner before u owner
+HasPassed m u owner nodes e = OnLimit e
+    ((before : List UnitPath) → length before ≡ length nodes → AllShallow before → IsOwner before u owner
     → IsOver e before (Lists m false u))
 
 -- a limit is passed inside the unit u, whose number is at
 abbrev pub HasPassedInside : RootedModel → UnitPath → ℕ → List Node → RuleFault → Type 0
-HasPassedInside m u at nodes e = OnLimit e ((before : List UnitPath) → length before ≡ length nodes → AllShallow before → Stands before at u
+HasPassedInside m u at nodes e = OnLimit e
+    ((before : List UnitPath) → length before ≡ length nodes → AllShallow before → Stands before at u
     → IsOver e before (Insides m false u (names_at m u)))
 
 -- these are the units of the model, with an outline of each, and with what was found on the way to them

@@ -22,7 +22,8 @@ IsLed m units u x led.Nothing = LeadsFrom m u x Nothing
 IsLed m units u x led.Loops = LeadsFrom m u x Loops
 
 -- the same, where what was known stays known
-pub record IsLedBy (m : RootedModel) (units : List UnitPath) (old new : Table) (u : UnitPath) (x : ℕ) (r : Led) : Type 0 where
+pub record IsLedBy (m : RootedModel) (units : List UnitPath) (old new : Table) (u : UnitPath) (x : ℕ) (r : Led) : Type
+    0 where
   pub run : IsRun m old new
   pub is_led : IsLed m units u x r
 
@@ -49,12 +50,15 @@ pub record AreIds {S : Type 0} (nodes : List Node) (ids : HashMap ℕ UnitId S) 
 
 -- a number in the table and the number that is found for it stand for one unit
 pub record AreNumbers {S : Type 0} (units paths : List UnitPath) (ids : HashMap ℕ UnitId S) : Type 0 where
-  pub each : (n : ℕ) (id : UnitId) → get nat_eq ids n ≡ Some id → (v : UnitPath) × Stands paths n v × Stands units id.n v
+  pub each : (n : ℕ) (id : UnitId) → get nat_eq ids n ≡ Some id
+      → (v : UnitPath) × Stands paths n v × Stands units id.n v
 
--- for the first i names of the unit of number n, and for each name of a unit before it, an answer is kept, and each that is kept is right
+-- for the first i names of the unit of number n, and for each name of a unit before it, an answer is kept, and each
+-- that is kept is right
 pub record IsSettledTo (m : RootedModel) (units : List UnitPath) (n i : ℕ) (w : Walks) : Type 0 where
   pub right : (k x : ℕ) (r : Led) (u : UnitPath) → kept_at w k x ≡ Some r → Stands units k u → IsLed m units u x r
-  pub all : (k j : ℕ) (u : UnitPath) (g : NamedMember) → Stands units k u → Stands (only_units (names_at m u)) j g → (k < n) ⊎ ((k ≡ n) × (j < i))
+  pub all : (k j : ℕ) (u : UnitPath) (g : NamedMember) → Stands units k u → Stands (only_units (names_at m u)) j g
+      → (k < n) ⊎ ((k ≡ n) × (j < i))
       → (r : Led) × (kept_at w k g.name ≡ Some r)
 
 -- the same, where what was known stays known

@@ -86,8 +86,10 @@ pub record IsMet (m : RootedModel) (paths : List UnitPath) (u : UnitPath) (d : M
 -- the table is right, while the statements of these frames are being followed
 pub record IsTable (m : RootedModel) (frames : List Frame) (t : Table) : Type 0 where
   pub main : Stands (paths_of t) 0 []
-  pub units : (n : ℕ) (d : Met) (u : UnitPath) → Stands t.units.items n d → Stands (paths_of t) n u → IsMet m (paths_of t) u d
-  pub known : (a x : ℕ) (c : Known) (u : UnitPath) → Stands (paths_of t) a u → known_at t a x ≡ Some c → Means m (paths_of t) frames a u x c
+  pub units : (n : ℕ) (d : Met) (u : UnitPath) → Stands t.units.items n d → Stands (paths_of t) n u
+      → IsMet m (paths_of t) u d
+  pub known : (a x : ℕ) (c : Known) (u : UnitPath) → Stands (paths_of t) a u → known_at t a x ≡ Some c
+      → Means m (paths_of t) frames a u x c
   pub within : (a x : ℕ) (c : Known) → known_at t a x ≡ Some c → a < length t.units.items
 
 -- one entry is set, and k are new

@@ -20,7 +20,8 @@ pub record AreShallow (units : List UnitPath) : Type 0 where
 
 -- the last of these units is the first that is too deep or one too many; where it is both, it is too deep
 pub data IsFirstOver : Count → List UnitPath → Type 0 where
-  deep : (front : List UnitPath) (u : UnitPath) → AreShallow front → length front ≤ limit_of Units → depth u ≡ limit_of Depth + 1
+  deep : (front : List UnitPath) (u : UnitPath) → AreShallow front → length front ≤ limit_of Units
+      → depth u ≡ limit_of Depth + 1
       → IsFirstOver Depth (front ++ u ∷ [])
   many : {units : List UnitPath} → AreShallow units → length units ≡ limit_of Units + 1 → IsFirstOver Units units
 
@@ -28,7 +29,8 @@ pub data IsFirstOver : Count → List UnitPath → Type 0 where
 pub data Unfolds (m : RootedModel) : Result Unfolded RuleFault → Type 0 where
   whole : {units : List UnitPath} → AreUnits m units → AreShallow units → length units ≤ limit_of Units
       → Unfolds m (Ok (record { model = m; units = units }))
-  over : {units : List UnitPath} {count : Count} → AreFirstUnits m units → IsFirstOver count units → Unfolds m (Err (Limit count))
+  over : {units : List UnitPath} {count : Count} → AreFirstUnits m units → IsFirstOver count units
+      → Unfolds m (Err (Limit count))
 
 -- the units pass this limit, or memory was refused
 pub data Refuses (m : RootedModel) : RuleFault → Type 0 where

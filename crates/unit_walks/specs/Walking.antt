@@ -23,7 +23,8 @@ pub record IsFrame (m : RootedModel) (paths : List UnitPath) (f : Frame) (u v : 
 -- these frames, the last on top, wait for one another, and the last for the name y in the unit v
 pub data Chain (m : RootedModel) (paths : List UnitPath) : List Frame → UnitPath → ℕ → Type 0 where
   bottom : {v : UnitPath} {y : ℕ} → Chain m paths [] v y
-  above : {below all : List Frame} {f : Frame} {u v : UnitPath} {y : ℕ} {more : List ℕ} → all ≡ below ++ f ∷ [] → IsFrame m paths f u v
+  above : {below all : List Frame} {f : Frame} {u v : UnitPath} {y : ℕ} {more : List ℕ} → all ≡ below ++ f ∷ []
+      → IsFrame m paths f u v
       → numbers f.rest.now ≡ y ∷ more → Chain m paths below u f.name.n → Chain m paths all v y
 
 -- the walk of the top frame is under way
@@ -46,7 +47,8 @@ After m below top t (On f) = IsWalking m below f t
 After m below top t (Into f) = IsWalking m (below ++ top ∷ []) f t
 After m below top t Done = IsAnswered m below top t
 
--- how much there is left to look at: a step to a new name pays for the names on its path, of which there are fewer than 2 ^ 65
+-- how much there is left to look at: a step to a new name pays for the names on its path, of which there are fewer than
+-- 2 ^ 65
 abbrev pub weight : Table → ℕ
 weight t = (16777216 - t.count) * 2 ^ 65
 
@@ -65,12 +67,14 @@ IsStep top old new r = (m : RootedModel) (below : List Frame) → IsWalking m be
 
 -- the step where the name y, which comes next, is a statement with this path
 abbrev pub IsStatementStep : Frame → ℕ → Bool → Path → Table → Table → Step → Type 0
-IsStatementStep top y is_clone p old new r = (m : RootedModel) (below : List Frame) (more : List ℕ) (w : IsWalking m below top old)
+IsStatementStep top y is_clone p old new r =
+    (m : RootedModel) (below : List Frame) (more : List ℕ) (w : IsWalking m below top old)
     → numbers top.rest.now ≡ y ∷ more → IsStatement p is_clone (kind_at m w.here y) → Steps m below top old new r
 
 -- the step where the name y comes next
 abbrev pub IsNameStep : Forms → Frame → ℕ → Table → Table → Step → Type 0
-IsNameStep forms top y old new r = (m : RootedModel) (below : List Frame) (more : List ℕ) → IsFormsFor m forms → IsWalking m below top old
+IsNameStep forms top y old new r = (m : RootedModel) (below : List Frame) (more : List ℕ) → IsFormsFor m forms
+    → IsWalking m below top old
     → numbers top.rest.now ≡ y ∷ more → Steps m below top old new r
 
 -- no walk is under way, and what was known stays known

@@ -17,7 +17,8 @@ nearer low high n h k = grind (arith, ints)
 tested : (low high n : ℤ) → low ≤ℤ n → n ≤ℤ high → (int_le low n && int_le n high) ≡ true
 tested low high n h k = grind (arith, ints)
 
-from_low : (low high n : ℤ) → low ≤ℤ n → n ≤ℤ high → low +ℤ pos (min (cond (int_le low n && int_le n high) (nat_abs (n -ℤ low)) 0) (nat_abs (high -ℤ low))) ≡ n
+from_low : (low high n : ℤ) → low ≤ℤ n → n ≤ℤ high
+    → low +ℤ pos (min (cond (int_le low n && int_le n high) (nat_abs (n -ℤ low)) 0) (nat_abs (high -ℤ low))) ≡ n
 from_low low high n h k =
     ap (λ b. low +ℤ pos (min (cond b (nat_abs (n -ℤ low)) 0) (nat_abs (high -ℤ low)))) (tested low high n h k)
     ∙ ap (λ m. low +ℤ pos m) (nearer low high n h k) ∙ whole_back low n h

@@ -17,8 +17,12 @@ module _ (p : GtsParts) where
   restored_more t (y ∷ xs) (d ∷ cs) x c e = restored_more (set t y.n (decoded_at p y.n d)) xs cs x c (omega (arith, e))
 
   -- the first values and the next one
-  pub restored_next : (t : List Value) (xs : List VarId) (cs : List ℕ) (i : ℕ) (x : VarId) (c : ℕ) → length xs ≡ length cs → i < length xs → Stands xs i x → Stands cs i c
-      → restored p t (take (i + 1) xs) (take (i + 1) cs) ≡ set (restored p t (take i xs) (take i cs)) x.n (decoded_at p x.n c)
+  pub restored_next : (t : List Value) (xs : List VarId) (cs : List ℕ) (i : ℕ) (x : VarId) (c : ℕ)
+      → length xs ≡ length cs → i < length xs → Stands xs i x → Stands cs i c
+      → restored p t (take (i + 1) xs) (take (i + 1) cs)
+      ≡ set (restored p t (take i xs) (take i cs)) x.n (decoded_at p x.n c)
   restored_next t xs cs i x c e h s w =
-      ap (λ (z : List VarId). restored p t z (take (i + 1) cs)) (take_next xs i x s) ∙ ap (λ (z : List ℕ). restored p t (take i xs ++ x ∷ []) z) (take_next cs i c w)
-      ∙ restored_more t (take i xs) (take i cs) x c (taken_long i xs (omega (arith, h)) ∙ sym (taken_long i cs (omega (arith, h, e))))
+      ap (λ (z : List VarId). restored p t z (take (i + 1) cs)) (take_next xs i x s)
+      ∙ ap (λ (z : List ℕ). restored p t (take i xs ++ x ∷ []) z) (take_next cs i c w)
+      ∙ restored_more t (take i xs) (take i cs) x c
+      (taken_long i xs (omega (arith, h)) ∙ sym (taken_long i cs (omega (arith, h, e))))

@@ -8,6 +8,7 @@ abbrev pub flip : List Bool → ℕ → List Bool
 flip marks n = set marks n (not (mark_at marks n))
 
 -- one mark more
-pub turned_last : (marks : List Bool) (xs : List VarId) (x : VarId) → turned marks (xs ++ x ∷ []) ≡ flip (turned marks xs) x.n
+pub turned_last : (marks : List Bool) (xs : List VarId) (x : VarId)
+    → turned marks (xs ++ x ∷ []) ≡ flip (turned marks xs) x.n
 turned_last marks [] x = refl
 turned_last marks (y ∷ xs) x = turned_last (flip marks y.n) xs x

@@ -5,7 +5,8 @@ use Rattle.domains.specs.declared.Value.TheVariants.{Truth, Whole, Symbol}
 use Rattle.domains.specs.declared.Domain.{Domain}
 use Rattle.domains.specs.declared.Domain.TheVariants.{Boolean, Symbols, Range}
 
--- the number that stands for a value of the domain: 0 or 1 for a truth value, a symbol's own, and a whole number's distance from the lower end; 0 for a value that the domain does not have by its kind or its ends
+-- the number that stands for a value of the domain: 0 or 1 for a truth value, a symbol's own, and a whole number's
+-- distance from the lower end; 0 for a value that the domain does not have by its kind or its ends
 abbrev pub coded : Domain → Value → ℕ
 coded Boolean (Truth b) = if b then 1 else 0
 coded Boolean (Whole n) = 0

@@ -45,7 +45,8 @@ pub record TurnsBack (old new : List Bool) (variables : List VarId) : Type 0 whe
   pub marks : turned new variables ≡ old
 
 -- these say what changed from one valuation with marks to another, and give the first back
-pub record TellsChanges (p : GtsParts) (old : List Value) (old_known : List Bool) (new : List Value) (known : List Bool) (c : Changes) : Type 0 where
+pub record TellsChanges (p : GtsParts) (old : List Value) (old_known : List Bool) (new : List Value) (known : List Bool)
+    (c : Changes) : Type 0 where
   pub long : length c.variables.items ≡ length c.old.items
   pub changes : AreChanges old new c.variables.items
   pub values : restored p new c.variables.items c.old.items ≡ old

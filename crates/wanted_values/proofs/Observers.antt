@@ -97,8 +97,10 @@ module _ {x : Elaborated} {p : GtsParts} (flat : IsFlat x p) where
       = ap (λ (t : Thing). kind_at m t.unit t.name) same ∙ b.is in
       types (sym a.is ∙ there) a.kind_is b.kind_is
     where
-      types : {j k : ValueKind} → ◌≡◌ {A = Option MemberKind} (Some (IsObserver a.type a.written)) (Some (IsObserver b.type b.written))
-          → kind_of_type x.declarations.model a.type ≡ Some j → kind_of_type x.declarations.model b.type ≡ Some k → j ≡ k
+      types : {j k : ValueKind} → ◌≡◌ {A = Option MemberKind} (Some (IsObserver a.type a.written))
+          (Some (IsObserver b.type b.written))
+          → kind_of_type x.declarations.model a.type ≡ Some j → kind_of_type x.declarations.model b.type ≡ Some k
+          → j ≡ k
       types e f g = cc
 
   symbols_alike : p.symbols.items ≡ (naming_of x.declarations).symbols

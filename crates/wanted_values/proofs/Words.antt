@@ -46,7 +46,8 @@ pub not_symbol : {symbols : List (List ℕ)} {word : List ℕ} → ((n : ℕ) �
 not_symbol n v (symbol {s = k} s) = n k s
 
 -- what is asked for by a word is what it writes
-wrote : {symbols : List (List ℕ)} {o : Option (List ℕ)} {k : ValueKind} {v : Value} → Wants symbols o k v → (text : List ℕ)
+wrote : {symbols : List (List ℕ)} {o : Option (List ℕ)} {k : ValueKind} {v : Value} → Wants symbols o k v
+    → (text : List ℕ)
     → o ≡ Some text → Writes symbols text k v
 wrote {symbols = symbols} {k = k} {v = v} (as_written {word = t} x) text i =
     let same : t ≡ text = cc in subst (λ (z : List ℕ). Writes symbols z k v) same x
@@ -69,7 +70,8 @@ unsaid symbols word k e f =
     (subst (λ (z : ValueKind). Wants symbols None z (value.Truth true)) (sym f) true_unsaid)
 
 -- the symbols up to here and this one
-pub none_more : (symbols : List (List ℕ)) (word : List ℕ) (place : ℕ) → ((n : ℕ) → n < place → Stands symbols n word → ⊥)
+pub none_more : (symbols : List (List ℕ)) (word : List ℕ) (place : ℕ)
+    → ((n : ℕ) → n < place → Stands symbols n word → ⊥)
     → (Stands symbols place word → ⊥) → (n : ℕ) → n < place + 1 → Stands symbols n word → ⊥
 none_more symbols word place before here n l s = elim (eq-or-lt_of_le (at_most l)) [
   | inl e ↦ here (subst (λ k. Stands symbols k word) e s)
@@ -80,7 +82,8 @@ none_more symbols word place before here n l s = elim (eq-or-lt_of_le (at_most l
     at_most h = omega (arith, h)
 
 -- the name that stands here
-pub is_here : (symbols : List (List ℕ)) (place : ℕ) (name : List ℕ) → place < length symbols → name ≡ get_or symbols place name
+pub is_here : (symbols : List (List ℕ)) (place : ℕ) (name : List ℕ) → place < length symbols
+    → name ≡ get_or symbols place name
     → Stands symbols place name
 is_here symbols place name l e = slice_get_read symbols (length symbols) place name refl l e
 

@@ -14,7 +14,8 @@ AnswersObserver x text None = NamesNone x text
 
 -- the observer, which is one of the flat system, with the value; or that none is named, or no value is asked for
 abbrev pub AnswersWanted : Elaborated → GtsParts → List ℕ → Option (List ℕ) → Result Wanted WantedFault → Type 0
-AnswersWanted x p observer word (Ok w) = IsWanted x observer word w.observer w.value × (w.observer < length p.observers.items)
+AnswersWanted x p observer word (Ok w) =
+    IsWanted x observer word w.observer w.value × (w.observer < length p.observers.items)
 AnswersWanted x p observer word (Err NoObserver) = NamesNone x observer
 AnswersWanted x p observer word (Err NoValue) = WantsNone x observer word
 AnswersWanted x p observer word (Err Memory) = Unit {0}

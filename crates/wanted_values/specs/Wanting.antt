@@ -32,8 +32,10 @@ pub record IsOfKind (x : Elaborated) (n : ℕ) (kind : ValueKind) : Type 0 where
   pub is : kind_at x.declarations.model thing.unit thing.name ≡ Some (Observer type written)
   pub kind_is : kind_of_type x.declarations.model type ≡ Some kind
 
--- the word writes this value among those of the kind, where these are the symbols' names by number: `true` or `false`; a
--- number of 64 bits in digits without leading zeros, behind a `-` where it is negative, or `-0`; or the name of a symbol
+-- the word writes this value among those of the kind, where these are the symbols' names by number: `true` or `false`;
+-- a
+-- number of 64 bits in digits without leading zeros, behind a `-` where it is negative, or `-0`; or the name of a
+-- symbol
 pub data Writes (symbols : List (List ℕ)) (word : List ℕ) : ValueKind → Value → Type 0 where
   truth : {b : Bool} → word ≡ truth_text b → Writes symbols word Truth (value.Truth b)
   whole : {n : ℤ} → FitsSigned w64 n → word ≡ signed_decimal n → Writes symbols word Whole (value.Whole n)

@@ -14,12 +14,16 @@ use Rattle.way_effects.specs.declared.effects.Effect.{Effect}
 abbrev pub one_effect : List Value → Assign → List Effect
 one_effect t a = cond (list_all (is_met t) a.when.items) (effect_of t a ∷ []) []
 
-pub action_more : (t : List Value) (more : List Assign) (a : Assign) → action_effects t (more ++ a ∷ []) ≡ action_effects t more ++ one_effect t a
+pub action_more : (t : List Value) (more : List Assign) (a : Assign)
+    → action_effects t (more ++ a ∷ []) ≡ action_effects t more ++ one_effect t a
 action_more t [] a = append-nil (one_effect t a)
-action_more t (b ∷ more) a = ap (λ (z : List Effect). one_effect t b ++ z) (action_more t more a) ∙ sym (append_assoc (one_effect t b) (action_effects t more) (one_effect t a))
+action_more t (b ∷ more) a = ap (λ (z : List Effect). one_effect t b ++ z) (action_more t more a)
+    ∙ sym (append_assoc (one_effect t b) (action_effects t more) (one_effect t a))
 
-pub taken_more : (t : List Value) (ways : List Way) (more : List WayId) (a : WayId) → taken_effects t ways (more ++ a ∷ []) ≡ taken_effects t ways more ++ found_effects t (slice_get ways a.n)
+pub taken_more : (t : List Value) (ways : List Way) (more : List WayId) (a : WayId)
+    → taken_effects t ways (more ++ a ∷ []) ≡ taken_effects t ways more ++ found_effects t (slice_get ways a.n)
 taken_more t ways [] a = append-nil (found_effects t (slice_get ways a.n))
 taken_more t ways (b ∷ more) a =
     ap (λ (z : List Effect). found_effects t (slice_get ways b.n) ++ z) (taken_more t ways more a)
-    ∙ sym (append_assoc (found_effects t (slice_get ways b.n)) (taken_effects t ways more) (found_effects t (slice_get ways a.n)))
+    ∙ sym (append_assoc (found_effects t (slice_get ways b.n)) (taken_effects t ways more)
+    (found_effects t (slice_get ways a.n)))

@@ -21,20 +21,36 @@ pub is_alone : (way : WayId) (old new : Met) → old.ways.items ≡ [] → Meets
 is_alone way old new e m = record {
   are = m.are;
   there = m.there way.n refl;
-  only = λ n h. elim (m.only n h) [ inl k ↦ absurd (stands_none k.place k.way (subst (λ (z : List WayId). Stands z k.place k.way) e k.stands)) | inr i ↦ i ];
+  only = λ n h. elim (m.only n h) [
+    | inl k ↦ absurd
+        (stands_none k.place k.way (subst (λ (z : List WayId). Stands z k.place k.way) e k.stands))
+    | inr i ↦ i
+  ];
 }
 
 -- The parts of one way
 
 module _ (flags : List Bool) where
   pub meets_none : (met : Met) → AreMet met → Meets (IsTaken [] flags) met met
-  meets_none met are = record { are = are; keeps = λ k id s. s; only = λ n h. inl h; there = λ n h. absurd (stands_none h.is_part.place h.part h.is_part.stands) }
+  meets_none met are = record {
+    are = are;
+    keeps = λ k id s. s;
+    only = λ n h. inl h;
+    there = λ n h. absurd (stands_none h.is_part.place h.part h.is_part.stands);
+  }
 
-  taken_kept : (ps : List (Bool × WayId)) (q : Bool × WayId) (n : ℕ) → IsTaken ps flags n → IsTaken (ps ++ q ∷ []) flags n
-  taken_kept ps q n h = record { part = h.part; is_part = one_kept ps q h.part h.is_part; takes = h.takes; number = h.number }
+  taken_kept : (ps : List (Bool × WayId)) (q : Bool × WayId) (n : ℕ) → IsTaken ps flags n
+      → IsTaken (ps ++ q ∷ []) flags n
+  taken_kept ps q n h = record {
+    part = h.part;
+    is_part = one_kept ps q h.part h.is_part;
+    takes = h.takes;
+    number = h.number;
+  }
 
   -- a part that takes part is met
-  pub meets_one : (ps : List (Bool × WayId)) (q : Bool × WayId) (old mid new : Met) → Meets (IsTaken ps flags) old mid → takes_part flags q ≡ true → Meets (λ n. n ≡ q.1.n) mid new → Meets (IsTaken (ps ++ q ∷ []) flags) old new
+  pub meets_one : (ps : List (Bool × WayId)) (q : Bool × WayId) (old mid new : Met) → Meets (IsTaken ps flags) old mid
+      → takes_part flags q ≡ true → Meets (λ n. n ≡ q.1.n) mid new → Meets (IsTaken (ps ++ q ∷ []) flags) old new
   meets_one ps q old mid new a h b = record {
     are = b.are;
     keeps = λ k id s. b.keeps k id (a.keeps k id s);
@@ -52,7 +68,8 @@ module _ (flags : List Bool) where
       kept n c = record { place = c.place; way = c.way; stands = b.keeps c.place c.way c.stands; number = c.number }
 
   -- another part is not
-  pub meets_past : (ps : List (Bool × WayId)) (q : Bool × WayId) (old mid : Met) → Meets (IsTaken ps flags) old mid → takes_part flags q ≡ false → Meets (IsTaken (ps ++ q ∷ []) flags) old mid
+  pub meets_past : (ps : List (Bool × WayId)) (q : Bool × WayId) (old mid : Met) → Meets (IsTaken ps flags) old mid
+      → takes_part flags q ≡ false → Meets (IsTaken (ps ++ q ∷ []) flags) old mid
   meets_past ps q old mid a h = record {
     are = a.are;
     keeps = a.keeps;
@@ -73,7 +90,8 @@ pub record IsTaking (p : GtsParts) (flags : List Bool) (top : ℕ) (done : ℕ) 
   pub are : AreMet met
   pub sound : (n : ℕ) → HasWay met.ways.items n → TakesPart p flags top n
   pub first : HasWay met.ways.items top
-  pub closed : (k : ℕ) (id : WayId) (part : Bool × WayId) → k < done → Stands met.ways.items k id → HasPart p id.n part → takes_part flags part ≡ true → HasWay met.ways.items part.1.n
+  pub closed : (k : ℕ) (id : WayId) (part : Bool × WayId) → k < done → Stands met.ways.items k id → HasPart p id.n part
+      → takes_part flags part ≡ true → HasWay met.ways.items part.1.n
   pub reached : done ≤ length met.ways.items
 
 module _ (p : GtsParts) (sound : IsSound p) (flags : List Bool) (top : ℕ) (inside : top < length p.ways.items) where
@@ -124,7 +142,9 @@ module _ (p : GtsParts) (sound : IsSound p) (flags : List Bool) (top : ℕ) (ins
           taker_within n (i.sound n (record { place = o.place; way = a.0; stands = a.1; number = a.2 }))
 
   -- the parts of the next way are met
-  pub taking_next : (done : ℕ) (old new : Met) (id : WayId) (way : Way) → Stands old.ways.items done id → Stands p.ways.items id.n way → MeetsParts flags way.body old new → IsTaking p flags top done old → IsTaking p flags top (done + 1) new
+  pub taking_next : (done : ℕ) (old new : Met) (id : WayId) (way : Way) → Stands old.ways.items done id
+      → Stands p.ways.items id.n way → MeetsParts flags way.body old new → IsTaking p flags top done old
+      → IsTaking p flags top (done + 1) new
   taking_next done old new id way at st m before = record {
     are = m.are;
     sound = λ n h. elim (m.only n h) [ inl a ↦ before.sound n a | inr b ↦ taken n b ];
@@ -137,23 +157,33 @@ module _ (p : GtsParts) (sound : IsSound p) (flags : List Bool) (top : ℕ) (ins
       kept n c = record { place = c.place; way = c.way; stands = m.keeps c.place c.way c.stands; number = c.number }
 
       taken : (n : ℕ) → IsTaken (parts_of way.body) flags n → TakesPart p flags top n
-      taken n b = takes.part b.part (before.sound id.n (record { place = done; way = id; stands = at; number = refl })) (record { way = way; stands = st; is_part = b.is_part }) b.takes b.number
+      taken n b = takes.part b.part (before.sound id.n (record { place = done; way = id; stands = at; number = refl }))
+          (record { way = way; stands = st; is_part = b.is_part }) b.takes b.number
 
       last_or_not : (k : ℕ) → k < done + 1 → (k < done) ⊎ (k ≡ done)
       last_or_not k l = at_most k done l
 
-      at_place : (k : ℕ) (a : WayId) (part : Bool × WayId) → Stands new.ways.items k a → HasPart p a.n part → takes_part flags part ≡ true → (k < done) ⊎ (k ≡ done) → HasWay new.ways.items part.1.n
+      at_place : (k : ℕ) (a : WayId) (part : Bool × WayId) → Stands new.ways.items k a → HasPart p a.n part
+          → takes_part flags part ≡ true → (k < done) ⊎ (k ≡ done) → HasWay new.ways.items part.1.n
       at_place k a part s has t (inl l) =
           let b = stands_some old.ways.items k (let h = before.reached in omega (arith, h, l)) in
           let same : b.0 ≡ a = stands_one new.ways.items k b.0 a (m.keeps k b.0 b.1) s in
           kept part.1.n (before.closed k a part l (subst (λ (z : WayId). Stands old.ways.items k z) same b.1) has t)
       at_place k a part s has t (inr e) =
-          let same : a ≡ id = stands_one new.ways.items done a id (subst (λ (z : ℕ). Stands new.ways.items z a) e s) (m.keeps done id at) in
+          let same : a ≡ id = stands_one new.ways.items done a id (subst (λ (z : ℕ). Stands new.ways.items z a) e s)
+          (m.keeps done id at) in
           let here : HasPart p id.n part = subst (λ (z : WayId). HasPart p z.n part) same has in
           let one_way : here.way ≡ way = stands_one p.ways.items id.n here.way way here.stands st in
-          m.there part.1.n (record { part = part; is_part = subst (λ (z : Way). IsOneOf (parts_of z.body) part) one_way here.is_part; takes = t; number = refl })
+          m.there part.1.n (record {
+            part = part;
+            is_part = subst (λ (z : Way). IsOneOf (parts_of z.body) part) one_way here.is_part;
+            takes = t;
+            number =
+                refl;
+          })
 
-  pub taking_all : (done : ℕ) (met : Met) → length met.ways.items ≤ done → IsTaking p flags top done met → AreTakers p flags top met.ways.items
+  pub taking_all : (done : ℕ) (met : Met) → length met.ways.items ≤ done → IsTaking p flags top done met
+      → AreTakers p flags top met.ways.items
   taking_all done met h m = record { sound = m.sound; complete = complete; once = m.are.once }
     where
       complete : (n : ℕ) → TakesPart p flags top n → HasWay met.ways.items n
@@ -164,5 +194,7 @@ module _ (p : GtsParts) (sound : IsSound p) (flags : List Bool) (top : ℕ) (ins
           (m.closed w.place w.way q (let b = stands_within met.ways.items w.place w.way w.stands in omega (arith, b, h)) w.stands (subst (λ (z : ℕ). HasPart p z q) (sym w.number) has) e)
 
   -- a way that is met is a way of the system
-  pub met_within : (done : ℕ) (met : Met) (k : ℕ) (id : WayId) → IsTaking p flags top done met → Stands met.ways.items k id → id.n < length p.ways.items
-  met_within done met k id m s = taker_within id.n (m.sound id.n (record { place = k; way = id; stands = s; number = refl }))
+  pub met_within : (done : ℕ) (met : Met) (k : ℕ) (id : WayId) → IsTaking p flags top done met
+      → Stands met.ways.items k id → id.n < length p.ways.items
+  met_within done met k id m s = taker_within id.n
+      (m.sound id.n (record { place = k; way = id; stands = s; number = refl }))

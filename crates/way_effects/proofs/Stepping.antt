@@ -31,14 +31,18 @@ use Rattle.way_effects.proofs.Neighbours.{gives_moved, gives_back}
 use Rattle.way_effects.proofs.Writing.{Writes, IsUnwritten, written_at, receives_each}
 
 -- the effects on state variables alone, in any order
-pub moved_to_state : (p : GtsParts) (sound : IsSound p) (t : List Value) (ids : List WayId) (all sorted : List Effect) → all ≡ taken_effects t p.ways.items ids → IsPermutation all sorted → AreToState p sorted
-moved_to_state p sound t ids all sorted is perm n v g = to_state p sound t ids n v (subst (λ (z : List Effect). Gives z n v) is (gives_back all sorted perm n v g))
+pub moved_to_state : (p : GtsParts) (sound : IsSound p) (t : List Value) (ids : List WayId) (all sorted : List Effect)
+    → all ≡ taken_effects t p.ways.items ids → IsPermutation all sorted → AreToState p sorted
+moved_to_state p sound t ids all sorted is perm n v g =
+    to_state p sound t ids n v (subst (λ (z : List Effect). Gives z n v) is (gives_back all sorted perm n v g))
 
 -- the pairs of effects that keep their domains
-pub new_values : (p : GtsParts) (effects : List Effect) (new : List (VarId × Value)) → AreToState p effects → ((n : ℕ) → Keeps p effects n) → AreOneEach effects new → AreNewValues p new
+pub new_values : (p : GtsParts) (effects : List Effect) (new : List (VarId × Value)) → AreToState p effects
+    → ((n : ℕ) → Keeps p effects n) → AreOneEach effects new → AreNewValues p new
 new_values p effects new states keeps each = record { ascend = record { ascends = rise }; each = one }
   where
-    rise : (j k a b : ℕ) → j < k → Stands (map (λ (r : VarId × Value). r.0.n) new) j a → Stands (map (λ (r : VarId × Value). r.0.n) new) k b → a < b
+    rise : (j k a b : ℕ) → j < k → Stands (map (λ (r : VarId × Value). r.0.n) new) j a
+        → Stands (map (λ (r : VarId × Value). r.0.n) new) k b → a < b
     rise j k a b l u v =
         let r = stands_map_back (λ (r : VarId × Value). r.0.n) new j a u in
         let q = stands_map_back (λ (r : VarId × Value). r.0.n) new k b v in
@@ -51,10 +55,18 @@ new_values p effects new states keeps each = record { ascend = record { ascends 
     one r o =
         let g = each.given r o in
         let x = states r.0.n r.1 g in
-        record { variable = x.variable; stands = x.stands; is_state = x.is_state; in_domain = keeps r.0.n x.variable r.1 x.stands g }
+        record {
+          variable = x.variable;
+          stands = x.stands;
+          is_state = x.is_state;
+          in_domain = keeps r.0.n x.variable r.1 x.stands g;
+        }
 
-module _ (p : GtsParts) (sound : IsSound p) (t : List Value) (total : IsTotal p t) (flags : List Bool) (right : AreFlags p t flags) (top : ℕ) (can : flag_at flags top ≡ true)
-    (ids : List WayId) (takers : AreTakers p flags top ids) (all sorted : List Effect) (is : all ≡ taken_effects t p.ways.items ids) (perm : IsPermutation all sorted) (w : s.Way ℕ) (m : Means_way (bodies_of p) top w) where
+module _ (p : GtsParts) (sound : IsSound p) (t : List Value) (total : IsTotal p t) (flags : List Bool)
+    (right : AreFlags p t flags) (top : ℕ) (can : flag_at flags top ≡ true)
+    (ids : List WayId) (takers : AreTakers p flags top ids) (all sorted : List Effect)
+    (is : all ≡ taken_effects t p.ways.items ids) (perm : IsPermutation all sorted) (w : s.Way ℕ)
+    (m : Means_way (bodies_of p) top w) where
   can_fire : Can (HasValue (net_of p) t) w
   can_fire = answer_true (flag_at flags top) (Can (HasValue (net_of p) t) w) can (right.flag top w m)
 
@@ -62,10 +74,13 @@ module _ (p : GtsParts) (sound : IsSound p) (t : List Value) (total : IsTotal p 
   E = Effects (HasValue (net_of p) t) w
 
   on : (n : ℕ) (v : Value) → Gives sorted n v → E n v
-  on n v g = given_effect p sound t total flags right top w m ids takers n v (subst (λ (z : List Effect). Gives z n v) is (gives_back all sorted perm n v g))
+  on n v g = given_effect p sound t total flags right top w m ids takers n v
+      (subst (λ (z : List Effect). Gives z n v) is (gives_back all sorted perm n v g))
 
   off : (n : ℕ) (v : Value) → E n v → Gives sorted n v
-  off n v e = gives_moved all sorted perm n v (subst (λ (z : List Effect). Gives z n v) (sym is) (effect_given p sound t total flags right top w m ids takers n v e))
+  off n v e = gives_moved all sorted perm n v
+      (subst (λ (z : List Effect). Gives z n v) (sym is)
+      (effect_given p sound t total flags right top w m ids takers n v e))
 
   -- a variable all of whose values are the same does not clash
   no_clash_at : (n : ℕ) (y : s.Variable ℕ) → Stands (net_of p).variables n y → ReceivesOne sorted n → Clashes E y → ⊥
@@ -77,14 +92,21 @@ module _ (p : GtsParts) (sound : IsSound p) (t : List Value) (total : IsTotal p 
   none_clash : IsLeastClash sorted None → HasNo (net_of p).variables (Clashes E)
   none_clash one = record { has_not = λ k y st c. no_clash_at k y st (one k) c }
 
-  pub clash_step : AreToState p sorted → (x : VarId) → IsLeastClash sorted (Some x) → steps.Step (net_of p) t w (steps.Refused (steps.Clash x.n))
+  pub clash_step : AreToState p sorted → (x : VarId) → IsLeastClash sorted (Some x)
+      → steps.Step (net_of p) t w (steps.Refused (steps.Clash x.n))
   clash_step states x f =
       let two = f.0 in
       let y = states x.n two.first two.is_first in
       steps.clash can_fire (record {
         item = variable_of x.n y.variable;
         stands = variable_there p x.n y.variable y.stands;
-        has = record { first = two.first; second = two.second; is_first = on x.n two.first two.is_first; is_second = on x.n two.second two.is_second; differ = two.differ };
+        has = record {
+          first = two.first;
+          second = two.second;
+          is_first = on x.n two.first two.is_first;
+          is_second = on x.n two.second two.is_second;
+          differ = two.differ;
+        };
         before = λ k a below st c. no_clash_at k a st (f.1 k below) c;
       })
 
@@ -95,39 +117,50 @@ module _ (p : GtsParts) (sound : IsSound p) (t : List Value) (total : IsTotal p 
       let d = subst (λ (z : s.Variable ℕ). LeavesDomain E z) (sym x.2) l in
       d.outside (listed x.0.domain d.value (keeps x.0 d.value x.1 (off n d.value d.received)))
 
-  pub range_step : (x : VarId) → IsLeastClash sorted None → IsLeastLeaving p sorted (Some x) → steps.Step (net_of p) t w (steps.Refused (steps.Range x.n))
+  pub range_step : (x : VarId) → IsLeastClash sorted None → IsLeastLeaving p sorted (Some x)
+      → steps.Step (net_of p) t w (steps.Refused (steps.Range x.n))
   range_step x one f =
       let l = f.0 in
       steps.range can_fire (none_clash one) (record {
         item = variable_of x.n l.variable;
         stands = variable_there p x.n l.variable l.stands;
-        has = record { value = l.value; received = on x.n l.value l.gives; outside = λ c. l.outside (held l.variable.domain l.value (sound.variables x.n l.variable l.stands).domain c) };
+        has = record {
+          value = l.value;
+          received = on x.n l.value l.gives;
+          outside = λ c. l.outside (held l.variable.domain l.value (sound.variables x.n l.variable l.stands).domain c);
+        };
         before = λ k a below st h. no_leave_at k a st (f.1 k below) h;
       })
 
   -- the pairs are what is received
-  pub exactly : IsLeastClash sorted None → (new : List (VarId × Value)) → AreOneEach sorted new → AreReceived (net_of p) t w new
+  pub exactly : IsLeastClash sorted None → (new : List (VarId × Value)) → AreOneEach sorted new
+      → AreReceived (net_of p) t w new
   exactly one new each = record {
     only = λ q o. on q.0.n q.1 (each.given q o);
     all = λ n v e.
         let g = off n v e in
         let r = each.all n v g in
-        let h : Gives sorted n r.pair.1 = subst (λ (z : ℕ). Gives sorted z r.pair.1) r.is (each.given r.pair r.is_one) in
+        let h : Gives sorted n r.pair.1 =
+        subst (λ (z : ℕ). Gives sorted z r.pair.1) r.is (each.given r.pair r.is_one) in
         (r.pair, r.is_one, r.is, one n r.pair.1 v h g);
   }
 
-  pub ready : IsLeastClash sorted None → IsLeastLeaving p sorted None → (new : List (VarId × Value)) → AreOneEach sorted new → IsReady (net_of p) t w (written t new)
+  pub ready : IsLeastClash sorted None → IsLeastLeaving p sorted None → (new : List (VarId × Value))
+      → AreOneEach sorted new → IsReady (net_of p) t w (written t new)
   ready one keeps new each = record {
     can = can_fire;
     no_clash = none_clash one;
     no_range = record { has_not = λ k y st l. no_leave_at k y st (keeps k) l };
-    receives = receives_each E 0 p.variables.items t (written t new) total.long (written_long t new ∙ total.long) received_at;
+    receives = receives_each E 0 p.variables.items t (written t new) total.long (written_long t new ∙ total.long)
+        received_at;
   }
     where
-      received_at : (n k : ℕ) (v : Value) → k ≡ 0 + n → Stands (written t new) n v → E k v ⊎ (Stands t n v × ((u : Value) → E k u → ⊥))
+      received_at : (n k : ℕ) (v : Value) → k ≡ 0 + n → Stands (written t new) n v
+          → E k v ⊎ (Stands t n v × ((u : Value) → E k u → ⊥))
       received_at n k v e st = go (let h : n ≡ k = omega (arith, e) in h) (written_at t new n v st)
         where
-          go : n ≡ k → Writes new n v ⊎ (Stands t n v × IsUnwritten new n) → E k v ⊎ (Stands t n v × ((u : Value) → E k u → ⊥))
+          go : n ≡ k → Writes new n v ⊎ (Stands t n v × IsUnwritten new n)
+              → E k v ⊎ (Stands t n v × ((u : Value) → E k u → ⊥))
           go h (inl a) =
               let g = on a.pair.0.n a.pair.1 (each.given a.pair a.is_one) in
               inl (subst (λ (z : ℕ). E z v) (a.number ∙ h) (subst (λ (z : Value). E a.pair.0.n z) a.value g))

@@ -18,7 +18,8 @@ effect_of t a = record { target = a.target; value = value_in t a.value }
 -- the effects of the assignments that are reached, in order
 abbrev pub action_effects : List Value → List Assign → List Effect
 action_effects t [] = []
-action_effects t (a ∷ more) = (if list_all (is_met t) a.when.items then effect_of t a ∷ [] else []) ++ action_effects t more
+action_effects t (a ∷ more) = (if list_all (is_met t) a.when.items then effect_of t a ∷ [] else []) ++ action_effects t
+    more
 
 -- the effects of a way's own action
 abbrev pub body_effects : List Value → WayBody → List Effect

@@ -20,7 +20,8 @@ pub record IsReady (net : s.Net ℕ) (t : List Value) (w : s.Way ℕ) (state : L
 -- the pairs are the variables that receive a value where the way is fired from t, each with that value
 pub record AreReceived (net : s.Net ℕ) (t : List Value) (w : s.Way ℕ) (new : List (VarId × Value)) : Type 0 where
   pub only : (q : VarId × Value) → IsOneOf new q → Effects (HasValue net t) w q.0.n q.1
-  pub all : (n : ℕ) (v : Value) → Effects (HasValue net t) w n v → (q : VarId × Value) × IsOneOf new q × (q.0.n ≡ n) × (q.1 ≡ v)
+  pub all : (n : ℕ) (v : Value) → Effects (HasValue net t) w n v
+      → (q : VarId × Value) × IsOneOf new q × (q.0.n ≡ n) × (q.1 ≡ v)
 
 -- the fault is the one that firing the way from t gives; want of memory says nothing
 abbrev pub IsReceiveFault : s.Net ℕ → List Value → s.Way ℕ → ReceiveFault → Type 0

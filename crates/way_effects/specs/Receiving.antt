@@ -94,4 +94,5 @@ LastOrOther false new n = IsLast new n → ⊥
 
 -- a pair for the effect is added, unless the last one is of its variable
 abbrev pub AddsOne : Effect → List (VarId × Value) → List (VarId × Value) → Type 0
-AddsOne e old new = (IsLast old e.target.n × (new ≡ old)) ⊎ ((IsLast old e.target.n → ⊥) × (new ≡ old ++ (e.target, e.value) ∷ []))
+AddsOne e old new = (IsLast old e.target.n × (new ≡ old))
+    ⊎ ((IsLast old e.target.n → ⊥) × (new ≡ old ++ (e.target, e.value) ∷ []))

@@ -12,7 +12,8 @@ takes_part flags part = part.0 || flag_at flags part.1.n
 -- the ways that take part where the way `top` is fired: itself, and of each of them the parts that take part
 pub data TakesPart (p : GtsParts) (flags : List Bool) (top : ℕ) : ℕ → Type 0 where
   itself : TakesPart p flags top top
-  part : {n m : ℕ} (part : Bool × WayId) → TakesPart p flags top n → HasPart p n part → takes_part flags part ≡ true → part.1.n ≡ m → TakesPart p flags top m
+  part : {n m : ℕ} (part : Bool × WayId) → TakesPart p flags top n → HasPart p n part → takes_part flags part ≡ true
+      → part.1.n ≡ m → TakesPart p flags top m
 
 -- one of these ways has the number
 pub record HasWay (ways : List WayId) (n : ℕ) : Type 0 where

@@ -17,28 +17,42 @@ pub record HaveTrees (p : GtsParts) (parts : List (Bool × WayId)) (left : ℕ) 
   pub low : branches_height branches ≤ left
 
 -- the parts of a joint are lower than it
-pub parts_lower : (p : GtsParts) (n left : ℕ) (w : s.Way ℕ) (x : Way) (parts : List (Bool × WayId)) → IsWayAt p n w → height w ≤ left → Stands p.ways.items n x
+pub parts_lower : (p : GtsParts) (n left : ℕ) (w : s.Way ℕ) (x : Way) (parts : List (Bool × WayId)) → IsWayAt p n w
+    → height w ≤ left → Stands p.ways.items n x
     → body_of x ≡ Joins (map part_of parts) → (0 < left) × HaveTrees p parts (left - 1)
-parts_lower p n left w x parts means low st is = go w means low (subst (λ (b : Body (s.Transition ℕ)). Stands (bodies_of p) n b) is (stands_map body_of p.ways.items n x st))
+parts_lower p n left w x parts means low st is =
+    go w means low (subst (λ (b : Body (s.Transition ℕ)). Stands (bodies_of p) n b) is
+    (stands_map body_of p.ways.items n x st))
   where
-    go : (w : s.Way ℕ) → Means_way (bodies_of p) n w → height w ≤ left → Stands (bodies_of p) n (Joins (map part_of parts)) → (0 < left) × HaveTrees p parts (left - 1)
+    go : (w : s.Way ℕ) → Means_way (bodies_of p) n w → height w ≤ left
+        → Stands (bodies_of p) n (Joins (map part_of parts)) → (0 < left) × HaveTrees p parts (left - 1)
     go (s.Leaf l) (leaf e) low t = let both : Acts l ≡ Joins (map part_of parts) = stands_one (bodies_of p) n (Acts l) (Joins (map part_of parts)) e t in absurd (cc)
     go (s.Joint bs) (joint {parts = ps} e m) low t =
-        let both : Joins ps ≡ Joins (map part_of parts) = stands_one (bodies_of p) n (Joins ps) (Joins (map part_of parts)) e t in
+        let both : Joins ps ≡ Joins (map part_of parts) =
+        stands_one (bodies_of p) n (Joins ps) (Joins (map part_of parts)) e t in
         let same : ps ≡ map part_of parts = cc in
-        let small : suc (branches_height bs) ≤ left = low in
-        (omega (arith, small), record { branches = bs; means = subst (λ (z : List (Bool × ℕ)). Mean_parts (bodies_of p) z bs) same m; low = omega (arith, small) })
+        let small : suc (branches_height bs) ≤ left = low in (
+          omega (arith, small),
+          record {
+            branches = bs;
+            means = subst (λ (z : List (Bool × ℕ)). Mean_parts (bodies_of p) z bs) same m;
+            low = omega (arith, small);
+          },
+        )
 
 -- a tree no higher than so much that the number of a way stands for
 abbrev pub HasTree : GtsParts → ℕ → ℕ → Type 0
 HasTree p n left = (w : s.Way ℕ) × IsWayAt p n w × (height w ≤ left)
 
 -- each part is no higher than all of them
-pub part_low : (p : GtsParts) (parts : List (Bool × WayId)) (bs : s.Branches (s.Transition ℕ)) (left k : ℕ) (q : Bool × WayId) → Mean_parts (bodies_of p) (map part_of parts) bs
+pub part_low : (p : GtsParts) (parts : List (Bool × WayId)) (bs : s.Branches (s.Transition ℕ)) (left k : ℕ)
+    (q : Bool × WayId) → Mean_parts (bodies_of p) (map part_of parts) bs
     → branches_height bs ≤ left → Stands parts k q → HasTree p q.1.n left
 part_low p [] bs left k q means low st = absurd (stands_none k q st)
 part_low p (r ∷ parts) s.Empty left k q means low st = elim means [ ]
 part_low p (r ∷ parts) (s.Branch must t bs) left zero q (part m ms) low st =
     let same : r ≡ q = cc in
-    subst (λ (z : Bool × WayId). HasTree p z.1.n left) same (t, m, le_trans (le-max_left (height t) (branches_height bs)) low)
-part_low p (r ∷ parts) (s.Branch must t bs) left (suc k) q (part m ms) low st = part_low p parts bs left k q ms (le_trans (le-max_right (height t) (branches_height bs)) low) st
+    subst (λ (z : Bool × WayId). HasTree p z.1.n left) same
+    (t, m, le_trans (le-max_left (height t) (branches_height bs)) low)
+part_low p (r ∷ parts) (s.Branch must t bs) left (suc k) q (part m ms) low st =
+    part_low p parts bs left k q ms (le_trans (le-max_right (height t) (branches_height bs)) low) st

@@ -49,7 +49,8 @@ module _ {A : Type 0} where
   read_stands (x ∷ xs) (suc n) a h e = read_stands xs n a (omega (arith, h)) e
 
   -- the first items, with one more
-  pub one_more : (xs : List A) (a : A) (n : ℕ) (b : A) → Stands (xs ++ a ∷ []) n b → (Stands xs n b) ⊎ ((n ≡ length xs) × (b ≡ a))
+  pub one_more : (xs : List A) (a : A) (n : ℕ) (b : A) → Stands (xs ++ a ∷ []) n b
+      → (Stands xs n b) ⊎ ((n ≡ length xs) × (b ≡ a))
   one_more xs a n b h = elim (stands_split xs (a ∷ []) n b h) [ inl k ↦ inl k | inr k ↦ inr (last k.0 k.1 k.2) ]
     where
       last : (k : ℕ) → n ≡ length xs + k → Stands (a ∷ []) k b → (n ≡ length xs) × (b ≡ a)
@@ -58,7 +59,8 @@ module _ {A : Type 0} where
       last (suc (suc k)) e s = cc
 
   pub one_of_more : (xs : List A) (a : A) (b : A) → IsOneOf (xs ++ a ∷ []) b → (IsOneOf xs b) ⊎ (b ≡ a)
-  one_of_more xs a b h = elim (one_more xs a h.place b h.stands) [ inl k ↦ inl (record { place = h.place; stands = k }) | inr k ↦ inr k.1 ]
+  one_of_more xs a b h = elim (one_more xs a h.place b h.stands)
+      [ inl k ↦ inl (record { place = h.place; stands = k }) | inr k ↦ inr k.1 ]
 
   pub one_kept : (xs : List A) (a : A) (b : A) → IsOneOf xs b → IsOneOf (xs ++ a ∷ []) b
   one_kept xs a b h = record { place = h.place; stands = stands_left xs (a ∷ []) h.place b h.stands }

@@ -52,31 +52,36 @@ waits_or_not w place = go (contains nat_cmp w place) refl
     go false e = inr (λ h. not_true (subst (λ b. IsTrue b) e h))
 
 -- one of the parts has the number, or none has
-part_or_none : (ps : List (Bool × WayId)) (n : ℕ) → ((q : Bool × WayId) × IsOneOf ps q × (q.1.n ≡ n)) ⊎ ((q : Bool × WayId) → IsOneOf ps q → q.1.n ≡ n → ⊥)
+part_or_none : (ps : List (Bool × WayId)) (n : ℕ)
+    → ((q : Bool × WayId) × IsOneOf ps q × (q.1.n ≡ n)) ⊎ ((q : Bool × WayId) → IsOneOf ps q → q.1.n ≡ n → ⊥)
 part_or_none [] n = inr (λ q o e. stands_none o.place q o.stands)
 part_or_none (p ∷ ps) n = elim (cases_eq p.1.n n) [
   | inl e ↦ inl (p, one_first p ps, e)
   | inr f ↦ (elim (part_or_none ps n) [
     | inl r ↦ inl (r.0, one_rest p ps r.0 r.1, r.2)
-    | inr g ↦ inr (λ q o e. elim (one_cases p ps q o) [ inl i ↦ f (ap (λ (z : Bool × WayId). z.1.n) i ∙ e) | inr k ↦ g q k e ])
+    | inr g ↦ inr (λ q o e. elim (one_cases p ps q o)
+        [ inl i ↦ f (ap (λ (z : Bool × WayId). z.1.n) i ∙ e) | inr k ↦ g q k e ])
   ])
 ]
 
 -- flags of parts that stay
 module _ (flags : List Bool) (n : ℕ) (b : Bool) where
-  musts_stay : (ps : List (Bool × WayId)) → ((q : Bool × WayId) → IsOneOf ps q → q.1.n ≡ n → ⊥) → musts_by (set flags n b) ps ≡ musts_by flags ps
+  musts_stay : (ps : List (Bool × WayId)) → ((q : Bool × WayId) → IsOneOf ps q → q.1.n ≡ n → ⊥)
+      → musts_by (set flags n b) ps ≡ musts_by flags ps
   musts_stay [] lacks = refl
   musts_stay (p ∷ ps) lacks =
       ap (λ z. (not p.0 || z) && musts_by (set flags n b) ps) (flag_other flags n p.1.n b (lacks p (one_first p ps)))
       ∙ ap (λ z. (not p.0 || flag_at flags p.1.n) && z) (musts_stay ps (λ q o. lacks q (one_rest p ps q o)))
 
-  some_stay : (ps : List (Bool × WayId)) → ((q : Bool × WayId) → IsOneOf ps q → q.1.n ≡ n → ⊥) → some_by (set flags n b) ps ≡ some_by flags ps
+  some_stay : (ps : List (Bool × WayId)) → ((q : Bool × WayId) → IsOneOf ps q → q.1.n ≡ n → ⊥)
+      → some_by (set flags n b) ps ≡ some_by flags ps
   some_stay [] lacks = refl
   some_stay (p ∷ ps) lacks =
       ap (λ z. z || some_by (set flags n b) ps) (flag_other flags n p.1.n b (lacks p (one_first p ps)))
       ∙ ap (λ z. flag_at flags p.1.n || z) (some_stay ps (λ q o. lacks q (one_rest p ps q o)))
 
-  can_stay : (t : List Value) (body : WayBody) → ((q : Bool × WayId) → IsOneOf (parts_of body) q → q.1.n ≡ n → ⊥) → can_by t (set flags n b) body ≡ can_by t flags body
+  can_stay : (t : List Value) (body : WayBody) → ((q : Bool × WayId) → IsOneOf (parts_of body) q → q.1.n ≡ n → ⊥)
+      → can_by t (set flags n b) body ≡ can_by t flags body
   can_stay t (Local guard action) lacks = refl
   can_stay t (Sync ps) lacks =
       ap (λ z. cond (has_must_in ps.items) z (some_by (set flags n b) ps.items)) (musts_stay ps.items lacks)
@@ -91,10 +96,12 @@ set_own (f ∷ flags) (suc n) = ap (λ z. f ∷ z) (set_own flags n)
 
 module _ (p : GtsParts) (sound : IsSound p) where
   -- right flags say what a way's guard or the flags of its parts say
-  pub flag_is : (t : List Value) → IsTotal p t → (flags : List Bool) → AreFlags p t flags → (n : ℕ) (way : Way) → Stands p.ways.items n way → flag_at flags n ≡ can_by t flags way.body
+  pub flag_is : (t : List Value) → IsTotal p t → (flags : List Bool) → AreFlags p t flags → (n : ℕ) (way : Way)
+      → Stands p.ways.items n way → flag_at flags n ≡ can_by t flags way.body
   flag_is t total flags are n way st =
       let tree = sound.trees n (stands_within p.ways.items n way st) in
-      same_answer (Can (HasValue (net_of p) t) tree.0) (flag_at flags n) (can_by t flags way.body) (are.flag n tree.0 tree.1)
+      same_answer (Can (HasValue (net_of p) t) tree.0) (flag_at flags n) (can_by t flags way.body)
+      (are.flag n tree.0 tree.1)
       (can_answer p sound t total flags n way tree.0 st tree.1 (λ q o u m. are.flag q.1.n u m))
 
   module _ (index : WayIndex) (ix : IsWayIndex p index) (t : List Value) where
@@ -114,17 +121,21 @@ module _ (p : GtsParts) (sound : IsSound p) where
     part_before n m j k a sj sk =
         let f = ix.placed n j sj in
         let g = ix.placed m k sk in
-        ix.order.after j k g.id f.id a.part g.at (subst (λ (z : ℕ). HasPart p z a.part) (sym g.number) a.has) f.at (f.number ∙ sym a.number)
+        ix.order.after j k g.id f.id a.part g.at (subst (λ (z : ℕ). HasPart p z a.part) (sym g.number) a.has) f.at
+        (f.number ∙ sym a.number)
 
     -- no way is a part of its own
-    not_own : (n : ℕ) (way : Way) → Stands p.ways.items n way → (q : Bool × WayId) → IsOneOf (parts_of way.body) q → q.1.n ≡ n → ⊥
+    not_own : (n : ℕ) (way : Way) → Stands p.ways.items n way → (q : Bool × WayId) → IsOneOf (parts_of way.body) q
+        → q.1.n ≡ n → ⊥
     not_own n way st q o e =
         let r = place_of n (stands_within p.ways.items n way st) in
-        let h = part_before n n r.0 r.0 (record { part = q; has = record { way = way; stands = st; is_part = o }; number = e }) r.1 r.1 in
+        let h = part_before n n r.0 r.0 (record
+        { part = q; has = record { way = way; stands = st; is_part = o }; number = e }) r.1 r.1 in
         omega (arith, h)
 
     -- the flag was right
-    pub looked_still : (n place : ℕ) (way : Way) (waiting : BTreeSet ℕ) (flags : List Bool) → Stands index.places.items n place → Stands p.ways.items n way → flag_at flags n ≡ can_by t flags way.body
+    pub looked_still : (n place : ℕ) (way : Way) (waiting : BTreeSet ℕ) (flags : List Bool)
+        → Stands index.places.items n place → Stands p.ways.items n way → flag_at flags n ≡ can_by t flags way.body
         → IsSettledBut p index.places.items t place waiting flags → AreSettled p index.places.items t waiting flags
     looked_still n place way waiting flags at here e but = record {
       long = but.long;
@@ -137,13 +148,18 @@ module _ (p : GtsParts) (sound : IsSound p) where
       where
         now : (m : ℕ) (w : Way) → Stands p.ways.items m w → m ≡ n → flag_at flags m ≡ can_by t flags w.body
         now m w st i =
-            let same : w ≡ way = stands_one p.ways.items n w way (subst (λ (z : ℕ). Stands p.ways.items z w) i st) here in
+            let same : w ≡ way = stands_one p.ways.items n w way (subst (λ (z : ℕ). Stands p.ways.items z w) i st)
+            here in
             ap (λ z. flag_at flags z) i ∙ e ∙ ap (λ (z : Way). can_by t flags z.body) (sym same)
 
     -- the flag was turned, and the ways above wait
-    pub looked_turned : (n place : ℕ) (way : Way) (old new : BTreeSet ℕ) (flags : List Bool) → Stands index.places.items n place → Stands p.ways.items n way
-        → (can_by t flags way.body ≡ flag_at flags n → ⊥) → ((q : ℕ) → (WaitsAt new q ↔ (WaitsAt old q ⊎ IsPlaceOf index.places.items (λ m. IsOneOf index.above.pairs.items (n, m)) q)))
-        → IsSettledBut p index.places.items t place old flags → AreSettled p index.places.items t new (flip flags n) × ((q : ℕ) → WaitsAt new q → place < q)
+    pub looked_turned : (n place : ℕ) (way : Way) (old new : BTreeSet ℕ) (flags : List Bool)
+        → Stands index.places.items n place → Stands p.ways.items n way
+        → (can_by t flags way.body ≡ flag_at flags n → ⊥)
+        → ((q : ℕ) → (WaitsAt new q ↔ (WaitsAt old q
+        ⊎ IsPlaceOf index.places.items (λ m. IsOneOf index.above.pairs.items (n, m)) q)))
+        → IsSettledBut p index.places.items t place old flags
+        → AreSettled p index.places.items t new (flip flags n) × ((q : ℕ) → WaitsAt new q → place < q)
     looked_turned n place way old new flags at here differs adds but = (
       record {
         long = set_long flags n (not (flag_at flags n)) ∙ but.long;
@@ -169,9 +185,11 @@ module _ (p : GtsParts) (sound : IsSound p) where
         ]
 
         -- the way itself
-        own : (m : ℕ) (w : Way) → Stands p.ways.items m w → m ≡ n → flag_at (flip flags n) m ≡ can_by t (flip flags n) w.body
+        own : (m : ℕ) (w : Way) → Stands p.ways.items m w → m ≡ n
+            → flag_at (flip flags n) m ≡ can_by t (flip flags n) w.body
         own m w st e =
-            let body : w ≡ way = stands_one p.ways.items n w way (subst (λ (z : ℕ). Stands p.ways.items z w) e st) here in
+            let body : w ≡ way = stands_one p.ways.items n w way (subst (λ (z : ℕ). Stands p.ways.items z w) e st)
+            here in
             ap (λ z. flag_at (flip flags n) z) e
             ∙ flag_same flags n (not (flag_at flags n)) (let h = stands_within p.ways.items n way here in omega (arith, h, but.long))
             ∙ other_mark (can_by t flags way.body) (flag_at flags n) differs
@@ -179,36 +197,50 @@ module _ (p : GtsParts) (sound : IsSound p) where
             ∙ ap (λ (z : Way). can_by t (flip flags n) z.body) (sym body)
 
         right : (m : ℕ) (w : Way) → Stands p.ways.items m w
-            → ((q : Bool × WayId) × IsOneOf (parts_of w.body) q × (q.1.n ≡ n)) ⊎ ((q : Bool × WayId) → IsOneOf (parts_of w.body) q → q.1.n ≡ n → ⊥)
-            → (m ≡ n) ⊎ (m ≡ n → ⊥) → Stands index.places.items m place ⊎ (Waits index.places.items old m ⊎ (flag_at flags m ≡ can_by t flags w.body))
+            → ((q : Bool × WayId) × IsOneOf (parts_of w.body) q × (q.1.n ≡ n))
+            ⊎ ((q : Bool × WayId) → IsOneOf (parts_of w.body) q → q.1.n ≡ n → ⊥)
+            → (m ≡ n) ⊎ (m ≡ n → ⊥) → Stands index.places.items m place
+            ⊎ (Waits index.places.items old m ⊎ (flag_at flags m ≡ can_by t flags w.body))
             → Waits index.places.items new m ⊎ (flag_at (flip flags n) m ≡ can_by t (flip flags n) w.body)
         right m w st (inl r) told before =
             let below = stands_within p.ways.items m w st in
-            let o : IsOneOf index.above.pairs.items (n, m) = ix.above.all n m below (record { part = r.0; has = record { way = w; stands = st; is_part = r.1 }; number = r.2 }) in
+            let o : IsOneOf index.above.pairs.items (n, m) =
+            ix.above.all n m below (record
+            { part = r.0; has = record { way = w; stands = st; is_part = r.1 }; number = r.2 }) in
             let k = place_of m below in
             inl (k.0, k.1, (adds k.0).1 (inr (record { n = m; has = o; stands = k.1 })))
         right m w st (inr lacks) (inl e) before = inr (own m w st e)
         right m w st (inr lacks) (inr f) (inl a) = absurd (f (one_way m n place a at))
         right m w st (inr lacks) (inr f) (inr (inl h)) = inl (h.0, h.1, (adds h.0).1 (inl h.2))
         right m w st (inr lacks) (inr f) (inr (inr e)) =
-            inr (flag_other flags n m (not (flag_at flags n)) f ∙ e ∙ sym (can_stay flags n (not (flag_at flags n)) t w.body lacks))
+            inr (flag_other flags n m (not (flag_at flags n)) f ∙ e
+            ∙ sym (can_stay flags n (not (flag_at flags n)) t w.body lacks))
 
     -- where none waits, all flags are right
-    pub all_right : IsTotal p t → (waiting : BTreeSet ℕ) (flags : List Bool) → AreSettled p index.places.items t waiting flags → ((q : ℕ) → WaitsAt waiting q → ⊥) → AreFlags p t flags
-    all_right total waiting flags are none = renewed p sound index.order.items ix.order t total (length index.order.items) flags (omega arith) (up (length index.order.items) (omega arith))
+    pub all_right : IsTotal p t → (waiting : BTreeSet ℕ) (flags : List Bool)
+        → AreSettled p index.places.items t waiting flags → ((q : ℕ) → WaitsAt waiting q → ⊥) → AreFlags p t flags
+    all_right total waiting flags are none =
+        renewed p sound index.order.items ix.order t total (length index.order.items) flags (omega arith)
+        (up (length index.order.items) (omega arith))
       where
         up : (i : ℕ) → i ≤ length index.order.items → AreSetTo p index.order.items t i flags
         up zero h = record { long = are.long; flag = λ k id below. absurd (omega (arith, below)) }
         up (suc i) h =
             let a = stands_some index.order.items i (omega (arith, h)) in
             let w = stands_some p.ways.items a.0.n (ix.order.inside i a.0 a.1) in
-            let e : flag_at flags a.0.n ≡ can_by t flags w.0.body = elim (are.right a.0.n w.0 w.1) [ inl k ↦ absurd (none k.0 k.2) | inr r ↦ r ] in
-            let more = renew_more p sound index.order.items ix.order t total i flags a.0 w.0 (flag_at flags a.0.n) (up i (omega (arith, h))) a.1 w.1 e in
-            subst (λ (m : ℕ). AreSetTo p index.order.items t m flags) (omega arith) (subst (λ (z : List Bool). AreSetTo p index.order.items t (i + 1) z) (set_own flags a.0.n) more)
+            let e : flag_at flags a.0.n ≡ can_by t flags w.0.body =
+            elim (are.right a.0.n w.0 w.1) [ inl k ↦ absurd (none k.0 k.2) | inr r ↦ r ] in
+            let more = renew_more p sound index.order.items ix.order t total i flags a.0 w.0 (flag_at flags a.0.n)
+            (up i (omega (arith, h))) a.1 w.1 e in
+            subst (λ (m : ℕ). AreSetTo p index.order.items t m flags) (omega arith)
+            (subst (λ (z : List Bool). AreSetTo p index.order.items t (i + 1) z) (set_own flags a.0.n) more)
 
     -- the ways whose guards name what changed wait at first
-    pub first_settled : IsTotal p t → (changed : List VarId) (flags : List Bool) → WereFlags p t changed flags → (waiting : BTreeSet ℕ)
-        → ((q : ℕ) → (WaitsAt waiting q ↔ IsPlaceOf index.places.items (IsPaired index.guards.pairs.items (map (λ (x : VarId). x.n) changed)) q)) → AreSettled p index.places.items t waiting flags
+    pub first_settled : IsTotal p t → (changed : List VarId) (flags : List Bool) → WereFlags p t changed flags
+        → (waiting : BTreeSet ℕ)
+        → ((q : ℕ) → (WaitsAt waiting q ↔ IsPlaceOf index.places.items
+        (IsPaired index.guards.pairs.items (map (λ (x : VarId). x.n) changed)) q))
+        → AreSettled p index.places.items t waiting flags
     first_settled total changed flags were waiting waits = record {
       long = were.were.long;
       within = λ q h. (let r = (waits q).0 h in (r.n, r.stands));
@@ -218,12 +250,14 @@ module _ (p : GtsParts) (sound : IsSound p) where
         was : (n : ℕ) (way : Way) → Stands p.ways.items n way → flag_at flags n ≡ can_by were.before flags way.body
         was n way st = flag_is were.before were.total flags were.were n way st
 
-        right : (n : ℕ) (way : Way) → Stands p.ways.items n way → (body : WayBody) → way.body ≡ body → Waits index.places.items waiting n ⊎ (flag_at flags n ≡ can_by t flags way.body)
+        right : (n : ℕ) (way : Way) → Stands p.ways.items n way → (body : WayBody) → way.body ≡ body
+            → Waits index.places.items waiting n ⊎ (flag_at flags n ≡ can_by t flags way.body)
         right n way st (Sync ps) e =
             inr (was n way st ∙ ap (λ z. can_by were.before flags z) e ∙ ap (λ z. can_by t flags z) (sym e))
         right n way st (Local guard action) e = elim (waits_or_not waiting k.0) [
           | inl h ↦ inl (k.0, k.1, h)
-          | inr lacks ↦ inr (was n way st ∙ ap (λ z. can_by were.before flags z) e ∙ same lacks ∙ ap (λ z. can_by t flags z) (sym e))
+          | inr lacks ↦ inr (was n way st ∙ ap (λ z. can_by were.before flags z) e ∙ same lacks
+              ∙ ap (λ z. can_by t flags z) (sym e))
         ]
           where
             below : n < length p.ways.items
@@ -235,19 +269,23 @@ module _ (p : GtsParts) (sound : IsSound p) where
             pair : (x : VarId) → Mentions x (out-Expr VarId guard) → IsOneOf index.guards.pairs.items (x.n, n)
             pair x m = ix.guards.all n way x below st (subst (λ z. GuardNames z x) (sym e) m)
 
-            kept : (WaitsAt waiting k.0 → ⊥) → (x : VarId) → Mentions x (out-Expr VarId guard) → value_at were.before x.n ≡ value_at t x.n
+            kept : (WaitsAt waiting k.0 → ⊥) → (x : VarId) → Mentions x (out-Expr VarId guard)
+                → value_at were.before x.n ≡ value_at t x.n
             kept lacks x m = were.same x.n (λ y o i. lacks ((waits k.0).1 (record {
               n = n;
               has = record {
                 first = x.n;
-                is_one = subst (λ (z : ℕ). IsOneOf (map (λ (x : VarId). x.n) changed) z) i (record { place = o.place; stands = stands_map (λ (x : VarId). x.n) changed o.place y o.stands });
+                is_one = subst (λ (z : ℕ). IsOneOf (map (λ (x : VarId). x.n) changed) z) i
+                    (record { place = o.place; stands = stands_map (λ (x : VarId). x.n) changed o.place y o.stands });
                 pair = pair x m;
               };
               stands = k.1;
             })))
 
             same : (WaitsAt waiting k.0 → ⊥) → is_met were.before (guard, true) ≡ is_met t (guard, true)
-            same lacks = ap (λ z. is_truth z true) (same_in p were.before t were.total total guard kind.Truth (sound.guards n way guard action st e) (kept lacks))
+            same lacks = ap (λ z. is_truth z true)
+                (same_in p were.before t were.total total guard kind.Truth (sound.guards n way guard action st e)
+                (kept lacks))
 
 -- how many looks are left at most: those from the first place that waits
 abbrev left_of : ℕ → List ℕ → ℕ
@@ -258,11 +296,15 @@ abbrev pub looks_left : ℕ → BTreeSet ℕ → ℕ
 looks_left count waiting = left_of count waiting.keys
 
 first_waits : (w : BTreeSet ℕ) (k : ℕ) (ks : List ℕ) → w.keys ≡ k ∷ ks → WaitsAt w k
-first_waits w k ks e = subst (λ (z : List ℕ). IsTrue (list_any (is_at (nat_cmp k)) z)) (sym e) (subst (λ r. IsTrue (is_eq r || list_any (is_at (nat_cmp k)) ks)) (nat_cmp_is k k Equal refl) refl)
+first_waits w k ks e = subst (λ (z : List ℕ). IsTrue (list_any (is_at (nat_cmp k)) z)) (sym e)
+    (subst (λ r. IsTrue (is_eq r || list_any (is_at (nat_cmp k)) ks)) (nat_cmp_is k k Equal refl) refl)
 
 -- a look leaves fewer
-pub looks_less : (count place : ℕ) (old mid new : BTreeSet ℕ) → old.keys ≡ place ∷ mid.keys → ((q : ℕ) → WaitsAt new q → place < q) → ((q : ℕ) → WaitsAt new q → q < count) → looks_left count new < looks_left count old
-looks_less count place old mid new e later within = subst (λ (z : List ℕ). looks_left count new < left_of count z) (sym e) (go new.keys refl)
+pub looks_less : (count place : ℕ) (old mid new : BTreeSet ℕ) → old.keys ≡ place ∷ mid.keys
+    → ((q : ℕ) → WaitsAt new q → place < q) → ((q : ℕ) → WaitsAt new q → q < count)
+    → looks_left count new < looks_left count old
+looks_less count place old mid new e later within =
+    subst (λ (z : List ℕ). looks_left count new < left_of count z) (sym e) (go new.keys refl)
   where
     go : (ks : List ℕ) → new.keys ≡ ks → left_of count ks < suc (count - place)
     go [] i = let e : left_of count [] ≡ 0 = refl in omega (arith, e)
@@ -287,14 +329,17 @@ module _ (p : GtsParts) (index : WayIndex) (ix : IsWayIndex p index) where
   pub within_order : (n place : ℕ) → Stands index.places.items n place → place < length index.order.items
   within_order n place st = let r = ix.placed n place st in stands_within index.order.items place r.id r.at
 
-  pub here_way : (n place : ℕ) (way : WayId) → Stands index.places.items n place → Stands index.order.items place way → Stands index.places.items way.n place
+  pub here_way : (n place : ℕ) (way : WayId) → Stands index.places.items n place → Stands index.order.items place way
+      → Stands index.places.items way.n place
   here_way n place way st at =
       let r = ix.placed n place st in
       let same : way ≡ r.id = stands_one index.order.items place way r.id at r.at in
       subst (λ (z : ℕ). Stands index.places.items z place) (sym (ap (λ (z : WayId). z.n) same ∙ r.number)) st
 
   -- a place was taken
-  pub taken : (t : List Value) (place : ℕ) (old new : BTreeSet ℕ) (flags : List Bool) → AreSettled p index.places.items t old flags → WaitsAt old place → ((q : ℕ) → (WaitsAt new q ↔ (WaitsAt old q × (q ≡ place → ⊥))))
+  pub taken : (t : List Value) (place : ℕ) (old new : BTreeSet ℕ) (flags : List Bool)
+      → AreSettled p index.places.items t old flags → WaitsAt old place
+      → ((q : ℕ) → (WaitsAt new q ↔ (WaitsAt old q × (q ≡ place → ⊥))))
       → ((q : ℕ) → WaitsAt new q → place < q) → IsSettledBut p index.places.items t place new flags
   taken t place old new flags are is rest later = record {
     long = are.long;
@@ -304,7 +349,8 @@ module _ (p : GtsParts) (index : WayIndex) (ix : IsWayIndex p index) where
     right = λ n way st. elim (are.right n way st) [ inl k ↦ waits n k (cases_eq k.0 place) | inr e ↦ inr (inr e) ];
   }
     where
-      waits : (n : ℕ) → (k : Waits index.places.items old n) → (k.0 ≡ place) ⊎ (k.0 ≡ place → ⊥) → {X : Type 0} → Stands index.places.items n place ⊎ (Waits index.places.items new n ⊎ X)
+      waits : (n : ℕ) → (k : Waits index.places.items old n) → (k.0 ≡ place) ⊎ (k.0 ≡ place → ⊥) → {X : Type 0}
+          → Stands index.places.items n place ⊎ (Waits index.places.items new n ⊎ X)
       waits n k (inl e) = inl (subst (λ (z : ℕ). Stands index.places.items n z) e k.1)
       waits n k (inr f) = inr (inl (k.0, k.1, (rest k.0).1 (k.2, f)))
 
@@ -318,28 +364,33 @@ module _ (p : GtsParts) (places : List ℕ) where
   }
 
   -- a place that waits comes after those of all ways that were
-  pub looked_behind : (waiting : BTreeSet ℕ) (ways : List WayId) (place : ℕ) → AreLooked p places waiting ways → WaitsAt waiting place → AreBehind p places place ways
+  pub looked_behind : (waiting : BTreeSet ℕ) (ways : List WayId) (place : ℕ) → AreLooked p places waiting ways
+      → WaitsAt waiting place → AreBehind p places place ways
   looked_behind waiting ways place are is = record { are = are.are; before = λ id q o s. are.before id q place o s is }
 
   -- the flag of the next one was right
-  pub behind_still : (waiting : BTreeSet ℕ) (ways : List WayId) (place : ℕ) → AreBehind p places place ways → ((q : ℕ) → WaitsAt waiting q → place < q) → AreLooked p places waiting ways
+  pub behind_still : (waiting : BTreeSet ℕ) (ways : List WayId) (place : ℕ) → AreBehind p places place ways
+      → ((q : ℕ) → WaitsAt waiting q → place < q) → AreLooked p places waiting ways
   behind_still waiting ways place are later = record {
     are = are.are;
     before = λ id q next o s w. (let a = are.before id q o s in let b = later next w in omega (arith, a, b));
   }
 
   -- the flag of the next one was turned
-  pub behind_more : (waiting : BTreeSet ℕ) (ways : List WayId) (place : ℕ) (id : WayId) → id.n < length p.ways.items → Stands places id.n place → AreBehind p places place ways → ((q : ℕ) → WaitsAt waiting q → place < q)
+  pub behind_more : (waiting : BTreeSet ℕ) (ways : List WayId) (place : ℕ) (id : WayId) → id.n < length p.ways.items
+      → Stands places id.n place → AreBehind p places place ways → ((q : ℕ) → WaitsAt waiting q → place < q)
       → AreLooked p places waiting (ways ++ id ∷ [])
   behind_more waiting ways place id within at are later = record {
     are = record {
-      inside = λ a o. elim (last_cases ways id a o) [ inl k ↦ are.are.inside a k | inr e ↦ subst (λ (z : WayId). z.n < length p.ways.items) e within ];
+      inside = λ a o. elim (last_cases ways id a o)
+          [ inl k ↦ are.are.inside a k | inr e ↦ subst (λ (z : WayId). z.n < length p.ways.items) e within ];
       once = λ j k a b s t e. once j k a b (one_more ways id j a s) (one_more ways id k b t) e;
     };
     before = λ a q next o s w. elim (last_cases ways id a o) [
       | inl k ↦ (let f = are.before a q k s in let g = later next w in omega (arith, f, g))
       | inr e ↦ (
-          let same : place ≡ q = stands_one places id.n place q at (subst (λ (z : WayId). Stands places z.n q) (sym e) s) in
+          let same : place ≡ q = stands_one places id.n place q
+          at (subst (λ (z : WayId). Stands places z.n q) (sym e) s) in
           let g = later next w in omega (arith, same, g))
     ];
   }
@@ -348,7 +399,8 @@ module _ (p : GtsParts) (places : List ℕ) where
       fresh : (k : ℕ) (a : WayId) → Stands ways k a → a.n ≡ id.n → ⊥
       fresh k a s e = let h = are.before a place (one_here ways k a s) (subst (λ (z : ℕ). Stands places z place) (sym e) at) in omega (arith, h)
 
-      once : (j k : ℕ) (a b : WayId) → (Stands ways j a) ⊎ ((j ≡ length ways) × (a ≡ id)) → (Stands ways k b) ⊎ ((k ≡ length ways) × (b ≡ id)) → a.n ≡ b.n → j ≡ k
+      once : (j k : ℕ) (a b : WayId) → (Stands ways j a) ⊎ ((j ≡ length ways) × (a ≡ id))
+          → (Stands ways k b) ⊎ ((k ≡ length ways) × (b ≡ id)) → a.n ≡ b.n → j ≡ k
       once j k a b (inl s) (inl t) e = are.are.once j k a b s t e
       once j k a b (inl s) (inr t) e = absurd (fresh j a s (e ∙ ap (λ (z : WayId). z.n) t.1))
       once j k a b (inr s) (inl t) e = absurd (fresh k b t (sym e ∙ ap (λ (z : WayId). z.n) s.1))

@@ -34,7 +34,8 @@ pub record IsGuard (p : GtsParts) (q : ℕ × ℕ) : Type 0 where
 -- the pairs of a variable and a way whose guard names it, of the first so many ways
 pub record AreGuards (p : GtsParts) (count : ℕ) (guards : List (ℕ × ℕ)) : Type 0 where
   pub only : (q : ℕ × ℕ) → IsOneOf guards q → IsGuard p q
-  pub all : (n : ℕ) (way : Way) (x : VarId) → n < count → Stands p.ways.items n way → GuardNames way.body x → IsOneOf guards (x.n, n)
+  pub all : (n : ℕ) (way : Way) (x : VarId) → n < count → Stands p.ways.items n way → GuardNames way.body x
+      → IsOneOf guards (x.n, n)
 
 -- way m has way n as a part
 pub record IsAbove (p : GtsParts) (n m : ℕ) : Type 0 where
@@ -76,4 +77,5 @@ pub record AddsParts (parts : List (Bool × WayId)) (n : ℕ) (old new : List (�
 
 -- each way that stands among the first so many of the order has a place at which it stands
 pub record ArePlacedUpTo (order : List WayId) (count : ℕ) (places : List ℕ) : Type 0 where
-  pub placed : (k : ℕ) (id : WayId) (place : ℕ) → k < count → Stands order k id → Stands places id.n place → IsPlacedAt order id.n place
+  pub placed : (k : ℕ) (id : WayId) (place : ℕ) → k < count → Stands order k id → Stands places id.n place
+      → IsPlacedAt order id.n place

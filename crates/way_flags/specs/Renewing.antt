@@ -33,18 +33,22 @@ abbrev pub Waits : List ℕ → BTreeSet ℕ → ℕ → Type 0
 Waits places waiting n = (place : ℕ) × Stands places n place × WaitsAt waiting place
 
 -- places of ways alone wait; each way waits, or its flag says what its guard or the flags of its parts say
-pub record AreSettled (p : GtsParts) (places : List ℕ) (t : List Value) (waiting : BTreeSet ℕ) (flags : List Bool) : Type 0 where
+pub record AreSettled (p : GtsParts) (places : List ℕ) (t : List Value) (waiting : BTreeSet ℕ)
+    (flags : List Bool) : Type 0 where
   pub long : length flags ≡ length p.ways.items
   pub within : (place : ℕ) → WaitsAt waiting place → (n : ℕ) × Stands places n place
-  pub right : (n : ℕ) (way : Way) → Stands p.ways.items n way → Waits places waiting n ⊎ (flag_at flags n ≡ can_by t flags way.body)
+  pub right : (n : ℕ) (way : Way) → Stands p.ways.items n way
+      → Waits places waiting n ⊎ (flag_at flags n ≡ can_by t flags way.body)
 
 -- the same but for the way that was taken from this place, where none before it waits
-pub record IsSettledBut (p : GtsParts) (places : List ℕ) (t : List Value) (done : ℕ) (waiting : BTreeSet ℕ) (flags : List Bool) : Type 0 where
+pub record IsSettledBut (p : GtsParts) (places : List ℕ) (t : List Value) (done : ℕ) (waiting : BTreeSet ℕ)
+    (flags : List Bool) : Type 0 where
   pub long : length flags ≡ length p.ways.items
   pub here : (n : ℕ) × Stands places n done
   pub within : (place : ℕ) → WaitsAt waiting place → (n : ℕ) × Stands places n place
   pub later : (place : ℕ) → WaitsAt waiting place → done < place
-  pub right : (n : ℕ) (way : Way) → Stands p.ways.items n way → Stands places n done ⊎ (Waits places waiting n ⊎ (flag_at flags n ≡ can_by t flags way.body))
+  pub right : (n : ℕ) (way : Way) → Stands p.ways.items n way
+      → Stands places n done ⊎ (Waits places waiting n ⊎ (flag_at flags n ≡ can_by t flags way.body))
 
 -- ways that were looked at, each once: their places come before this one
 pub record AreBehind (p : GtsParts) (places : List ℕ) (place : ℕ) (ways : List WayId) : Type 0 where

@@ -35,7 +35,8 @@ pub record IsOrder (p : GtsParts) (order : List WayId) : Type 0 where
   pub inside : (k : ℕ) (id : WayId) → Stands order k id → id.n < length p.ways.items
   pub once : (j k : ℕ) (id other : WayId) → Stands order j id → Stands order k other → id.n ≡ other.n → j ≡ k
   pub all : (n : ℕ) → n < length p.ways.items → (k : ℕ) × (id : WayId) × Stands order k id × (id.n ≡ n)
-  pub after : (j k : ℕ) (id other : WayId) (part : Bool × WayId) → Stands order k id → HasPart p id.n part → Stands order j other → other.n ≡ part.1.n → j < k
+  pub after : (j k : ℕ) (id other : WayId) (part : Bool × WayId) → Stands order k id → HasPart p id.n part
+      → Stands order j other → other.n ≡ part.1.n → j < k
 
 -- the first ways of such an order, and for each way whether it is among them
 pub record IsPlacing (p : GtsParts) (order : List WayId) (placed : List Bool) : Type 0 where
@@ -43,8 +44,10 @@ pub record IsPlacing (p : GtsParts) (order : List WayId) (placed : List Bool) : 
   pub inside : (k : ℕ) (id : WayId) → Stands order k id → (id.n < length p.ways.items) × (flag_at placed id.n ≡ true)
   pub once : (j k : ℕ) (id other : WayId) → Stands order j id → Stands order k other → id.n ≡ other.n → j ≡ k
   pub all : (n : ℕ) → flag_at placed n ≡ true → (k : ℕ) × (id : WayId) × Stands order k id × (id.n ≡ n)
-  pub after : (j k : ℕ) (id other : WayId) (part : Bool × WayId) → Stands order k id → HasPart p id.n part → Stands order j other → other.n ≡ part.1.n → j < k
-  pub ready : (k : ℕ) (id : WayId) (part : Bool × WayId) → Stands order k id → HasPart p id.n part → flag_at placed part.1.n ≡ true
+  pub after : (j k : ℕ) (id other : WayId) (part : Bool × WayId) → Stands order k id → HasPart p id.n part
+      → Stands order j other → other.n ≡ part.1.n → j < k
+  pub ready : (k : ℕ) (id : WayId) (part : Bool × WayId) → Stands order k id → HasPart p id.n part
+      → flag_at placed part.1.n ≡ true
 
 -- whether each part's flag is set
 abbrev pub are_set : List Bool → List (Bool × WayId) → Bool

@@ -43,5 +43,7 @@ IsObserverFound p (Some (wide.Observer n)) = IsWideObserver p n × ((k : ℕ) �
 -- the least flow with too many possible values, or else the first such observer, or none
 abbrev pub IsFirstWide : GtsParts → Option Wide → Type 0
 IsFirstWide p None = ((count n : ℕ) → IsWideFlow p count n → ⊥) × ((n : ℕ) → IsWideObserver p n → ⊥)
-IsFirstWide p (Some (wide.Flow n)) = ((count : ℕ) × IsWideFlow p count n) × ((count k : ℕ) → IsWideFlow p count k → n ≤ k)
-IsFirstWide p (Some (wide.Observer n)) = ((count k : ℕ) → IsWideFlow p count k → ⊥) × IsWideObserver p n × ((k : ℕ) → IsWideObserver p k → n ≤ k)
+IsFirstWide p (Some (wide.Flow n)) =
+    ((count : ℕ) × IsWideFlow p count n) × ((count k : ℕ) → IsWideFlow p count k → n ≤ k)
+IsFirstWide p (Some (wide.Observer n)) =
+    ((count k : ℕ) → IsWideFlow p count k → ⊥) × IsWideObserver p n × ((k : ℕ) → IsWideObserver p k → n ≤ k)

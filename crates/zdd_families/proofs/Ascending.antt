@@ -13,7 +13,11 @@ IsAscending (x ∷ s) = AllByRecursion (λ y. x < y) s × IsAscending s
 
 each_from : (x : ℕ) (s : List ℕ) → ((e : ℕ) → IsOneOf s e → x < e) → AllByRecursion (λ y. x < y) s
 each_from x [] h = tt
-each_from x (y ∷ s) h = (h y (one_here (y ∷ s) 0 y refl), each_from x s (λ e i. h e (one_here (y ∷ s) (suc i.place) e i.stands)))
+each_from x (y ∷ s) h = (
+  h y (one_here (y ∷ s) 0 y refl),
+  each_from x s
+      (λ e i. h e (one_here (y ∷ s) (suc i.place) e i.stands)),
+)
 
 each_at : (x : ℕ) (s : List ℕ) → AllByRecursion (λ y. x < y) s → (k e : ℕ) → Stands s k e → x < e
 each_at x [] a k e p = absurd (stands_none k e p)

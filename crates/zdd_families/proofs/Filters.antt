@@ -7,7 +7,8 @@ use Rattle.zdd_families.proofs.Laws.{filter_alike, each-filter, each_of, has_eac
 pub minus-filter : (p : List ℕ → Bool) (f : Family) → minus f (filter p f) ≡ filter (λ s. not (p s)) f
 unfolding minus
 minus-filter p f = filter_alike (λ s. not (has (filter p f) s)) (λ s. not (p s)) f
-    (each_of (λ s. has f s ≡ true) (λ s. not (has (filter p f) s) ≡ not (p s)) (λ s k. ap not (decide s (p s) refl k)) f (has_each f))
+    (each_of (λ s. has f s ≡ true) (λ s. not (has (filter p f) s) ≡ not (p s)) (λ s k. ap not (decide s (p s) refl k)) f
+    (has_each f))
   where
     decide : (s : List ℕ) (b : Bool) → p s ≡ b → has f s ≡ true → has (filter p f) s ≡ p s
     decide s true e k = has-filter-yes p s f e k ∙ sym e
@@ -22,4 +23,7 @@ order-filter p (s ∷ f) o = elim (p s) as (λ b. IsInOrder (cond b (s ∷ filte
 
 -- a filter of a family is one
 pub IsFamily-filter : (p : List ℕ → Bool) (f : Family) → IsFamily f → IsFamily (filter p f)
-IsFamily-filter p f h = record { ascending = each-filter Ascends p f h.ascending; in_order = order-filter p f h.in_order }
+IsFamily-filter p f h = record {
+  ascending = each-filter Ascends p f h.ascending;
+  in_order = order-filter p f h.in_order;
+}

@@ -21,7 +21,8 @@ one_above x e (y ∷ s) a i = ⊎_elim (λ t. subst (λ z. x < z) t a.0) (λ j. 
 
 -- nothing at or below the first number is among the others, nor below it among all
 one_not_below : (x e : ℕ) (s : List ℕ) → AllByRecursion (λ y. x < y) s → e < x → IsOneOf (x ∷ s) e → ⊥
-one_not_below x e s a l i = ⊎_elim (λ t. lt_irrefl x (subst (λ z. z < x) (sym t) l)) (λ j. lt_irrefl x (lt_trans (one_above x e s a j) l)) (one_cases x s e i)
+one_not_below x e s a l i = ⊎_elim (λ t. lt_irrefl x (subst (λ z. z < x) (sym t) l))
+    (λ j. lt_irrefl x (lt_trans (one_above x e s a j) l)) (one_cases x s e i)
 
 holds_one : (x : ℕ) (s : List ℕ) → holds x s ≡ true → IsOneOf s x
 holds_one x [] h = let wrong : ⊥ = cc in absurd wrong
@@ -53,7 +54,8 @@ within_all (y ∷ s) t h x i =
 
 all_within : (s t : List ℕ) → ((x : ℕ) → IsOneOf s x → IsOneOf t x) → within s t ≡ true
 all_within [] t h = refl
-all_within (y ∷ s) t h = ap₂ (λ a b. a && b) (one_holds y t (h y (one_first y s))) (all_within s t (λ x i. h x (one_rest y s x i)))
+all_within (y ∷ s) t h = ap₂ (λ a b. a && b) (one_holds y t (h y (one_first y s)))
+    (all_within s t (λ x i. h x (one_rest y s x i)))
 
 pub within_law : (s t : List ℕ) → (within s t ≡ true) ↔ ((x : ℕ) → IsOneOf s x → IsOneOf t x)
 within_law s t = (within_all s t, all_within s t)
@@ -81,10 +83,14 @@ before_same : (x y : ℕ) (s t : List ℕ) → x ≡ y → AllByRecursion (λ z.
 before_same x y s t e a p = record {
   least = p.least;
   in_first = one_rest x s p.least p.in_first;
-  not_in_second = λ i. ⊎_elim (λ h. lt_irrefl x (subst (λ z. x < z) (sym h ∙ sym e) (one_above x p.least s a p.in_first))) (λ j. p.not_in_second j) (one_cases y t p.least i);
+  not_in_second = λ i. ⊎_elim (λ h. lt_irrefl x
+      (subst (λ z. x < z) (sym h ∙ sym e) (one_above x p.least s a p.in_first))) (λ j. p.not_in_second j)
+      (one_cases y t p.least i);
   same_below = λ z l. (
-    (λ i. ⊎_elim (λ h. subst (λ w. IsOneOf (y ∷ t) w) (sym (sym h ∙ e)) (one_first y t)) (λ j. one_rest y t z ((p.same_below z l).0 j)) (one_cases x s z i)),
-    (λ i. ⊎_elim (λ h. subst (λ w. IsOneOf (x ∷ s) w) (sym (sym h ∙ sym e)) (one_first x s)) (λ j. one_rest x s z ((p.same_below z l).1 j)) (one_cases y t z i)),
+    (λ i. ⊎_elim (λ h. subst (λ w. IsOneOf (y ∷ t) w) (sym (sym h ∙ e)) (one_first y t))
+        (λ j. one_rest y t z ((p.same_below z l).0 j)) (one_cases x s z i)),
+    (λ i. ⊎_elim (λ h. subst (λ w. IsOneOf (x ∷ s) w) (sym (sym h ∙ sym e)) (one_first x s))
+        (λ j. one_rest x s z ((p.same_below z l).1 j)) (one_cases y t z i)),
   );
 }
 
@@ -97,14 +103,18 @@ less_before (x ∷ s) [] a b h = record {
   not_in_second = one_none x;
   same_below = λ z l. ((λ i. absurd (one_not_below x z s a.0 l i)), (λ i. absurd (one_none z i)));
 }
-less_before (x ∷ s) (y ∷ t) a b h = ⊎_elim below (λ r. ⊎_elim (equal (λ g. less_before s t a.1 b.1 g)) above r) (three x y)
+less_before (x ∷ s) (y ∷ t) a b h =
+    ⊎_elim below (λ r. ⊎_elim (equal (λ g. less_before s t a.1 b.1 g)) above r) (three x y)
   where
     below : x < y → IsBefore (x ∷ s) (y ∷ t)
     below l = record {
       least = x;
       in_first = one_first x s;
       not_in_second = one_not_below y x t b.0 l;
-      same_below = λ z m. ((λ i. absurd (one_not_below x z s a.0 m i)), (λ i. absurd (one_not_below y z t b.0 (lt_trans m l) i)));
+      same_below = λ z m. (
+        (λ i. absurd (one_not_below x z s a.0 m i)),
+        (λ i. absurd (one_not_below y z t b.0 (lt_trans m l) i)),
+      );
     }
 
     equal : (order s t ≡ Less → IsBefore s t) → x ≡ y → IsBefore (x ∷ s) (y ∷ t)
@@ -146,7 +156,11 @@ before_less s t a b p = step (order s t) refl
     step Greater e = absurd (one_way s t p (less_before t s b a (order-flip s t ∙ ap flip e)))
 
 pub order_law : (s t : List ℕ) → Ascends s → Ascends t → ((order s t ≡ Less) ↔ IsBefore s t)
-order_law s t a b = (less_before s t (is_ascending s a) (is_ascending t b), before_less s t (is_ascending s a) (is_ascending t b))
+order_law s t a b = (
+  less_before s t (is_ascending s a) (is_ascending t b),
+  before_less s t (is_ascending s a)
+      (is_ascending t b),
+)
 
 -- ---- the operations
 or_both : (a b c : Bool) → (a || (b || c)) ≡ ((a || b) || (a || c))
@@ -162,15 +176,20 @@ or_swap true true c = refl
 or_swap true false c = refl
 or_swap false b c = refl
 
-has_place : (s u : List ℕ) (f : Family) → ((g : Family) → has (union f g) s ≡ (has f s || has g s)) → (g : Family) → has (place u (union f) f g) s ≡ ((same s u || has f s) || has g s)
+has_place : (s u : List ℕ) (f : Family) → ((g : Family) → has (union f g) s ≡ (has f s || has g s)) → (g : Family)
+    → has (place u (union f) f g) s ≡ ((same s u || has f s) || has g s)
 has_place s u f ih [] = sym (or-false (same s u || has f s))
 has_place s u f ih (t ∷ g) = step (has_place s u f ih g) (order u t) refl
   where
-    step : has (place u (union f) f g) s ≡ ((same s u || has f s) || has g s) → (o : Ordering) → order u t ≡ o → has (placed (order u t) u t (union f) f g) s ≡ ((same s u || has f s) || (same s t || has g s))
-    step rest Less e = ap (λ o. has (placed o u t (union f) f g) s) e ∙ ap (λ b. same s u || b) (ih (t ∷ g)) ∙ or_assoc (same s u) (has f s) (same s t || has g s)
-    step rest Equal e = ap (λ o. has (placed o u t (union f) f g) s) e ∙ ap (λ b. same s u || b) (ih g) ∙ or_both (same s u) (has f s) (has g s)
+    step : has (place u (union f) f g) s ≡ ((same s u || has f s) || has g s) → (o : Ordering) → order u t ≡ o
+        → has (placed (order u t) u t (union f) f g) s ≡ ((same s u || has f s) || (same s t || has g s))
+    step rest Less e = ap (λ o. has (placed o u t (union f) f g) s) e ∙ ap (λ b. same s u || b) (ih (t ∷ g))
+        ∙ or_assoc (same s u) (has f s) (same s t || has g s)
+    step rest Equal e = ap (λ o. has (placed o u t (union f) f g) s) e ∙ ap (λ b. same s u || b) (ih g)
+        ∙ or_both (same s u) (has f s) (has g s)
         ∙ ap (λ x. (same s u || has f s) || (same s x || has g s)) (order_equal u t e)
-    step rest Greater e = ap (λ o. has (placed o u t (union f) f g) s) e ∙ ap (λ b. same s t || b) rest ∙ or_swap (same s t) (same s u || has f s) (has g s)
+    step rest Greater e = ap (λ o. has (placed o u t (union f) f g) s) e ∙ ap (λ b. same s t || b) rest
+        ∙ or_swap (same s t) (same s u || has f s) (has g s)
 
 pub has-union : (f g : Family) (s : List ℕ) → has (union f g) s ≡ (has f s || has g s)
 unfolding union
@@ -181,19 +200,24 @@ pub has-filter : (q : List ℕ → Bool) (s : List ℕ) (f : Family) → has (fi
 has-filter q s [] = refl
 has-filter q s (u ∷ f) = step (has-filter q s f) (same s u) refl (q u) refl
   where
-    step : has (filter q f) s ≡ (has f s && q s) → (a : Bool) → same s u ≡ a → (b : Bool) → q u ≡ b → has (cond (q u) (u ∷ filter q f) (filter q f)) s ≡ ((same s u || has f s) && q s)
+    step : has (filter q f) s ≡ (has f s && q s) → (a : Bool) → same s u ≡ a → (b : Bool) → q u ≡ b
+        → has (cond (q u) (u ∷ filter q f) (filter q f)) s ≡ ((same s u || has f s) && q s)
     step ih true e true h =
         let w : q s ≡ true = ap q (same-true s u e) ∙ h in
-        ap (λ b. has (cond b (u ∷ filter q f) (filter q f)) s) h ∙ ap (λ b. b || has (filter q f) s) e ∙ sym (ap₂ (λ a b. (a || has f s) && b) e w)
+        ap (λ b. has (cond b (u ∷ filter q f) (filter q f)) s) h ∙ ap (λ b. b || has (filter q f) s) e
+        ∙ sym (ap₂ (λ a b. (a || has f s) && b) e w)
     step ih true e false h =
         let w : q s ≡ false = ap q (same-true s u e) ∙ h in
-        ap (λ b. has (cond b (u ∷ filter q f) (filter q f)) s) h ∙ ih ∙ ap (λ b. has f s && b) w ∙ and_false (has f s) ∙ sym (ap₂ (λ a b. (a || has f s) && b) e w)
+        ap (λ b. has (cond b (u ∷ filter q f) (filter q f)) s) h ∙ ih ∙ ap (λ b. has f s && b) w ∙ and_false (has f s)
+        ∙ sym (ap₂ (λ a b. (a || has f s) && b) e w)
       where
         and_false : (b : Bool) → (b && false) ≡ false
         and_false true = refl
         and_false false = refl
-    step ih false e true h = ap (λ b. has (cond b (u ∷ filter q f) (filter q f)) s) h ∙ ap (λ b. b || has (filter q f) s) e ∙ ih ∙ sym (ap (λ a. (a || has f s) && q s) e)
-    step ih false e false h = ap (λ b. has (cond b (u ∷ filter q f) (filter q f)) s) h ∙ ih ∙ sym (ap (λ a. (a || has f s) && q s) e)
+    step ih false e true h = ap (λ b. has (cond b (u ∷ filter q f) (filter q f)) s) h
+        ∙ ap (λ b. b || has (filter q f) s) e ∙ ih ∙ sym (ap (λ a. (a || has f s) && q s) e)
+    step ih false e false h = ap (λ b. has (cond b (u ∷ filter q f) (filter q f)) s) h ∙ ih
+        ∙ sym (ap (λ a. (a || has f s) && q s) e)
 
 pub has-meet : (f g : Family) (s : List ℕ) → has (meet f g) s ≡ (has f s && has g s)
 unfolding meet
@@ -211,6 +235,7 @@ pub has-without : (f g : Family) (s : List ℕ) → has (without f g) s ≡ (has
 unfolding without
 has-without f g s = has-filter (λ u. not (list_any (λ t. within t u) g)) s f
 
-pub has-minimal : (f : Family) (s : List ℕ) → has (minimal f) s ≡ (has f s && not (list_any (λ t. within t s && not (same t s)) f))
+pub has-minimal : (f : Family) (s : List ℕ)
+    → has (minimal f) s ≡ (has f s && not (list_any (λ t. within t s && not (same t s)) f))
 unfolding minimal
 has-minimal f s = has-filter (λ u. not (list_any (λ t. within t u && not (same t u)) f)) s f

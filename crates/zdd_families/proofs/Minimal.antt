@@ -48,9 +48,11 @@ shorter (x ∷ s) (y ∷ t) a b h =
     ⊎_elim (λ l. absurd (not_held_above x (y ∷ t) (l, set_less x y t l b.0) p.0))
     (λ r. ⊎_elim
     (λ e. let a2 : IsAbove_set y s = subst (λ z. IsAbove_set z s) e a.0 in
-    ⊎_elim (λ q. inl (ap₂ (λ (m : ℕ) (n : List ℕ). m ∷ n) e q)) (λ q. inr (omega arith)) (shorter s t a.1 b.1 (sym (within-more y s t a2) ∙ p.1)))
+    ⊎_elim (λ q. inl (ap₂ (λ (m : ℕ) (n : List ℕ). m ∷ n) e q)) (λ q. inr (omega arith))
+    (shorter s t a.1 b.1 (sym (within-more y s t a2) ∙ p.1)))
     (λ l. let a2 : IsAbove_set y (x ∷ s) = (l, set_less y x s l a.0) in
-    ⊎_elim (λ q. inr (omega (arith, ap length q))) (λ q. inr (omega arith)) (shorter (x ∷ s) t a b.1 (sym (within-more y (x ∷ s) t a2) ∙ h)))
+    ⊎_elim (λ q. inr (omega (arith, ap length q))) (λ q. inr (omega arith))
+    (shorter (x ∷ s) t a b.1 (sym (within-more y (x ∷ s) t a2) ∙ h)))
     r)
     three
 
@@ -103,14 +105,21 @@ abbrev pub proper : List ℕ → List ℕ → Bool
 proper t s = within t s && not (same t s)
 
 -- ---- each set contains a minimal one
-some_minimal : (f : Family) → AllByRecursion Ascends f → (n : ℕ) (t : List ℕ) → length t < n → has f t ≡ true → Witness (λ m. within m t) (minimal f)
+some_minimal : (f : Family) → AllByRecursion Ascends f → (n : ℕ) (t : List ℕ) → length t < n → has f t ≡ true
+    → Witness (λ m. within m t) (minimal f)
 unfolding minimal
 some_minimal f a zero t l h = absurd (omega (arith, l))
 some_minimal f a (suc n) t l h = step (some_minimal f a n) (list_any (λ u. proper u t) f) refl
   where
-    step : ((t : List ℕ) → length t < n → has f t ≡ true → Witness (λ m. within m t) (filter (λ s. not (list_any (λ t. proper t s) f)) f))
-        → (b : Bool) → list_any (λ u. proper u t) f ≡ b → Witness (λ m. within m t) (filter (λ s. not (list_any (λ t. proper t s) f)) f)
-    step ih false e = record { set = t; in_family = has-filter-yes (λ s. not (list_any (λ t. proper t s) f)) t f (ap not e) h; passes = within-refl t }
+    step : ((t : List ℕ) → length t < n → has f t ≡ true
+        → Witness (λ m. within m t) (filter (λ s. not (list_any (λ t. proper t s) f)) f))
+        → (b : Bool) → list_any (λ u. proper u t) f ≡ b
+        → Witness (λ m. within m t) (filter (λ s. not (list_any (λ t. proper t s) f)) f)
+    step ih false e = record {
+      set = t;
+      in_family = has-filter-yes (λ s. not (list_any (λ t. proper t s) f)) t f (ap not e) h;
+      passes = within-refl t;
+    }
     step ih true e =
         let w = witness (λ u. proper u t) f e in
         let p = and_parts (within w.set t) (not (same w.set t)) w.passes in
@@ -124,44 +133,63 @@ any-minimal : (p : List ℕ → Bool) (f : Family) → list_any p (minimal f) �
 unfolding minimal
 any-minimal p f h = any-filter p (λ s. not (list_any (λ t. proper t s) f)) f h
 
-pub any_within-minimal : (f : Family) → AllByRecursion Ascends f → (s : List ℕ) → list_any (λ t. within t s) f ≡ list_any (λ t. within t s) (minimal f)
+pub any_within-minimal : (f : Family) → AllByRecursion Ascends f → (s : List ℕ)
+    → list_any (λ t. within t s) f ≡ list_any (λ t. within t s) (minimal f)
 any_within-minimal f a s = alike _ _
     (λ h. let w = witness (λ t. within t s) f h in
     let m = some_minimal f a (suc (length w.set)) w.set (omega arith) w.in_family in
     any_from (λ t. within t s) (minimal f) m.set m.in_family (within-through m.set w.set s m.passes w.passes))
     (λ h. back f s h)
   where
-    back : (f : Family) (s : List ℕ) → list_any (λ t. within t s) (minimal f) ≡ true → list_any (λ t. within t s) f ≡ true
+    back : (f : Family) (s : List ℕ) → list_any (λ t. within t s) (minimal f) ≡ true
+        → list_any (λ t. within t s) f ≡ true
     back f s h = any-minimal (λ t. within t s) f h
 
 -- ---- M by halves
 filter-filter : (p q : List ℕ → Bool) (f : Family) → filter q (filter p f) ≡ filter (λ s. p s && q s) f
 filter-filter p q [] = refl
-filter-filter p q (s ∷ f) = elim (p s) as (λ b. filter q (cond b (s ∷ filter p f) (filter p f)) ≡ cond (b && q s) (s ∷ filter (λ s. p s && q s) f) (filter (λ s. p s && q s) f))
+filter-filter p q (s ∷ f) = elim (p s) as
+    (λ b. filter q (cond b (s ∷ filter p f) (filter p f))
+    ≡ cond (b && q s) (s ∷ filter (λ s. p s && q s) f) (filter (λ s. p s && q s) f))
     [ true ↦ ap (λ x. cond (q s) (s ∷ x) x) (filter-filter p q f) | false ↦ filter-filter p q f ]
 
-any_proper-under : (v : ℕ) (f0 f1 : Family) (s : List ℕ) → IsAbove_set v s → list_any (λ t. proper t s) (node v f0 f1) ≡ list_any (λ t. proper t s) f0
+any_proper-under : (v : ℕ) (f0 f1 : Family) (s : List ℕ) → IsAbove_set v s
+    → list_any (λ t. proper t s) (node v f0 f1) ≡ list_any (λ t. proper t s) f0
 any_proper-under v f0 f1 s a =
     list_any-append (λ t. proper t s) (map (λ t. v ∷ t) f1) f0
-    ∙ ap (λ x. x || list_any (λ t. proper t s) f0) (list_any-map v (λ t. proper t s) f1 ∙ list_any-none (λ t. proper (v ∷ t) s) f1 (every (λ t. proper (v ∷ t) s ≡ false) (λ t. ap (λ b. b && not (same (v ∷ t) s)) (within-not v t s a)) f1))
+    ∙ ap (λ x. x || list_any (λ t. proper t s) f0)
+    (list_any-map v (λ t. proper t s) f1
+    ∙ list_any-none (λ t. proper (v ∷ t) s) f1
+    (every (λ t. proper (v ∷ t) s ≡ false) (λ t. ap (λ b. b && not (same (v ∷ t) s)) (within-not v t s a)) f1))
 
-any_proper-with : (v : ℕ) (f0 f1 : Family) (s : List ℕ) → IsAbove v f0 → IsAbove v f1 → list_any (λ t. proper t (v ∷ s)) (node v f0 f1) ≡ (list_any (λ t. proper t s) f1 || list_any (λ t. within t s) f0)
+any_proper-with : (v : ℕ) (f0 f1 : Family) (s : List ℕ) → IsAbove v f0 → IsAbove v f1
+    → list_any (λ t. proper t (v ∷ s)) (node v f0 f1) ≡ (list_any (λ t. proper t s) f1 || list_any (λ t. within t s) f0)
 any_proper-with v f0 f1 s a b =
     list_any-append (λ t. proper t (v ∷ s)) (map (λ t. v ∷ t) f1) f0
     ∙ ap₂ (λ x y. x || y)
-    (list_any-map v (λ t. proper t (v ∷ s)) f1 ∙ list_any-alike (λ t. proper (v ∷ t) (v ∷ s)) (λ t. proper t s) f1 (each_of (IsAbove_set v) (λ t. proper (v ∷ t) (v ∷ s) ≡ proper t s) (λ t k. ap₂ (λ x y. x && not y) (within-both v t s k) (same-with v t s)) f1 b))
-    (list_any-alike (λ t. proper t (v ∷ s)) (λ t. within t s) f0 (each_of (IsAbove_set v) (λ t. proper t (v ∷ s) ≡ within t s) (λ t k. ap₂ (λ x y. x && not y) (within-more v t s k) (same-under v t s k) ∙ and-true (within t s)) f0 a))
+    (list_any-map v (λ t. proper t (v ∷ s)) f1
+    ∙ list_any-alike (λ t. proper (v ∷ t) (v ∷ s)) (λ t. proper t s) f1
+    (each_of (IsAbove_set v) (λ t. proper (v ∷ t) (v ∷ s) ≡ proper t s)
+    (λ t k. ap₂ (λ x y. x && not y) (within-both v t s k) (same-with v t s)) f1 b))
+    (list_any-alike (λ t. proper t (v ∷ s)) (λ t. within t s) f0
+    (each_of (IsAbove_set v) (λ t. proper t (v ∷ s) ≡ within t s)
+    (λ t k. ap₂ (λ x y. x && not y) (within-more v t s k) (same-under v t s k) ∙ and-true (within t s)) f0 a))
 
-pub minimal-node : (v : ℕ) (f0 f1 : Family) → IsAbove v f0 → IsAbove v f1 → AllByRecursion Ascends f0 → minimal (node v f0 f1) ≡ node v (minimal f0) (without (minimal f1) (minimal f0))
+pub minimal-node : (v : ℕ) (f0 f1 : Family) → IsAbove v f0 → IsAbove v f1 → AllByRecursion Ascends f0
+    → minimal (node v f0 f1) ≡ node v (minimal f0) (without (minimal f1) (minimal f0))
 unfolding minimal without
 minimal-node v f0 f1 a b c =
     let f = node v f0 f1 in
     let N = λ (h : Family) (s : List ℕ). not (list_any (λ t. proper t s) h) in
     let W = λ (h : Family) (s : List ℕ). not (list_any (λ t. within t s) h) in
     filter-node v (N f) f0 f1 ∙ ap₂ (node v)
-    (filter_alike (N f) (N f0) f0 (each_of (IsAbove_set v) (λ s. N f s ≡ N f0 s) (λ s k. ap not (any_proper-under v f0 f1 s k)) f0 a))
-    (filter_alike (λ s. N f (v ∷ s)) (λ s. N f1 s && W (filter (N f0) f0) s) f1 (every (λ s. N f (v ∷ s) ≡ (N f1 s && W (filter (N f0) f0) s))
-    (λ s. ap not (any_proper-with v f0 f1 s a b) ∙ not_or (list_any (λ t. proper t s) f1) (list_any (λ t. within t s) f0) ∙ ap (λ x. N f1 s && not x) (any_within-minimal f0 c s)) f1)
+    (filter_alike (N f) (N f0) f0 (each_of (IsAbove_set v) (λ s. N f s ≡ N f0 s)
+    (λ s k. ap not (any_proper-under v f0 f1 s k)) f0 a))
+    (filter_alike (λ s. N f (v ∷ s)) (λ s. N f1 s && W (filter (N f0) f0) s) f1
+    (every (λ s. N f (v ∷ s) ≡ (N f1 s && W (filter (N f0) f0) s))
+    (λ s. ap not (any_proper-with v f0 f1 s a b)
+    ∙ not_or (list_any (λ t. proper t s) f1) (list_any (λ t. within t s) f0)
+    ∙ ap (λ x. N f1 s && not x) (any_within-minimal f0 c s)) f1)
     ∙ sym (filter-filter (N f1) (W (filter (N f0) f0)) f1))
   where
     not_or : (a b : Bool) → not (a || b) ≡ (not a && not b)

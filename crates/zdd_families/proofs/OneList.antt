@@ -15,7 +15,8 @@ not_both : (s t : List ℕ) → order s t ≡ Less → order t s ≡ Less → �
 not_both s t h k = let e : Less ≡ Greater = sym k ∙ order-flip s t ∙ ap flip h in absurd (cc)
 
 -- a set of a list is the first or comes after it
-first_or_after : (s t : List ℕ) (f : Family) → AllByRecursion (λ u. order s u ≡ Less) f → has (s ∷ f) t ≡ true → (t ≡ s) ⊎ (order s t ≡ Less)
+first_or_after : (s t : List ℕ) (f : Family) → AllByRecursion (λ u. order s u ≡ Less) f → has (s ∷ f) t ≡ true
+    → (t ≡ s) ⊎ (order s t ≡ Less)
 first_or_after s t f after h = step (same t s) refl
   where
     step : (b : Bool) → same t s ≡ b → (t ≡ s) ⊎ (order s t ≡ Less)
@@ -39,7 +40,8 @@ same_sets (s ∷ f) (t ∷ g) a b h = ap₂ (λ (x : List ℕ) (y : Family). x �
     first : s ≡ t
     first = elim (first_or_after t s g b.0 (sym (h s) ∙ (has_each (s ∷ f)).0)) [
       | inl is ↦ is
-      | inr later ↦ elim (first_or_after s t f a.0 (h t ∙ (has_each (t ∷ g)).0)) [ inl is ↦ sym is | inr earlier ↦ absurd (not_both s t earlier later) ]
+      | inr later ↦ elim (first_or_after s t f a.0 (h t ∙ (has_each (t ∷ g)).0))
+          [ inl is ↦ sym is | inr earlier ↦ absurd (not_both s t earlier later) ]
     ]
 
     rest : (u : List ℕ) → has f u ≡ has g u

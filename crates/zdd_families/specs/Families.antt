@@ -75,10 +75,12 @@ without f g = filter (λ s. not (list_any (λ t. within t s) g)) f
 unfoldable pub minimal : Family → Family
 minimal f = filter (λ s. not (list_any (λ t. within t s && not (same t s)) f)) f
 
--- the set s, which comes before the sets of f, is put in its place among the sets of g; rest joins f with the sets that are left of g
+-- the set s, which comes before the sets of f, is put in its place among the sets of g; rest joins f with the sets that
+-- are left of g
 abbrev pub place : List ℕ → (Family → Family) → Family → Family → Family
 place s rest f [] = s ∷ f
-place s rest f (t ∷ g) = elim (order s t) [ Less ↦ s ∷ rest (t ∷ g) | Equal ↦ s ∷ rest g | Greater ↦ t ∷ place s rest f g ]
+place s rest f (t ∷ g) = elim (order s t)
+    [ Less ↦ s ∷ rest (t ∷ g) | Equal ↦ s ∷ rest g | Greater ↦ t ∷ place s rest f g ]
 
 -- the sets that are in f or in g, in order
 unfoldable pub union : Family → Family → Family

@@ -53,7 +53,8 @@ upper v h = map (filter (λ x. not (eqb v x))) (filter (holds v) h)
 abbrev pub lower : ℕ → Family → Family
 lower v h = filter (λ s. not (holds v s)) h
 
--- h is a half of f: a counted section of the minimal sets of some section of f; or, where v is the least event in the sets
+-- h is a half of f: a counted section of the minimal sets of some section of f; or, where v is the least event in the
+-- sets
 -- of the section, a part of the minimal sets of its upper half and the minimal sets of its lower half
 pub data IsHalf (f : Family) : Family → Type 0 where
   of_minimal : (i : ℕ) (p : List ℕ) {h : Family} → IsSetBelow i p → IsCounted (minimal (section i p f)) h → IsHalf f h

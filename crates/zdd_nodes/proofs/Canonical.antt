@@ -3,7 +3,8 @@ use Rattle.std.proofs.Common.{◌≡◌, ◌≢◌, ℕ, [], ◌∷◌, refl, sy
 use Rattle.zdd_families.specs.Families.{Family, node, IsAbove}
 
 -- the two halves of a node are those of no other
-split_same : (v : ℕ) (hi ki lo ko : Family) → IsAbove v lo → IsAbove v ko → node v lo hi ≡ node v ko ki → (hi ≡ ki) × (lo ≡ ko)
+split_same : (v : ℕ) (hi ki lo ko : Family) → IsAbove v lo → IsAbove v ko → node v lo hi ≡ node v ko ki
+    → (hi ≡ ki) × (lo ≡ ko)
 split_same v [] [] lo ko a b e = (refl, e)
 split_same v [] (t ∷ ki) lo ko a b e = absurd (lt_irrefl v (subst (IsAbove v) e a).0.0)
 split_same v (s ∷ hi) [] lo ko a b e = absurd (lt_irrefl v (subst (IsAbove v) (sym e) b).0.0)
@@ -15,7 +16,8 @@ split_same v (s ∷ hi) (t ∷ ki) lo ko a b e =
     let both : s ∷ hi ≡ t ∷ ki = cc in
     (both, r.1)
 
-pub node_same : (v w : ℕ) (hi ki lo ko : Family) → hi ≢ [] → ki ≢ [] → IsAbove v lo → IsAbove w ko → node v lo hi ≡ node w ko ki → (v ≡ w) × (hi ≡ ki) × (lo ≡ ko)
+pub node_same : (v w : ℕ) (hi ki lo ko : Family) → hi ≢ [] → ki ≢ [] → IsAbove v lo → IsAbove w ko
+    → node v lo hi ≡ node w ko ki → (v ≡ w) × (hi ≡ ki) × (lo ≡ ko)
 node_same v w [] ki lo ko p q a b e = absurd (p refl)
 node_same v w (s ∷ hi) [] lo ko p q a b e = absurd (q refl)
 node_same v w (s ∷ hi) (t ∷ ki) lo ko p q a b e =

@@ -14,7 +14,8 @@ pub record Halved (P : Family → Type 0) (made : Family) (v : ℕ) (L H : Famil
   pub whole : (h : Family) → IsMade made h → P h
 
 -- lo is the number of the lower half, drawn from s0 to s1, and hi that of the upper half, drawn from s1 to s2
-module _ (P : Family → Type 0) (made : Family) (v : ℕ) (L H : Family) (halved : Halved P made v L H) (s0 s1 s2 : Stored) (lo hi : NodeId) (dl : Draws P L s0 s1 (Ok lo)) (dh : Draws P H s1 s2 (Ok hi)) where
+module _ (P : Family → Type 0) (made : Family) (v : ℕ) (L H : Family) (halved : Halved P made v L H) (s0 s1 s2 : Stored)
+    (lo hi : NodeId) (dl : Draws P L s0 s1 (Ok lo)) (dh : Draws P H s1 s2 (Ok hi)) where
   lo_is : family s2 lo.n ≡ L
   lo_is = kept P s1 s2 lo.n dh.grows dl.ok.0 ∙ dl.ok.1
 
@@ -30,8 +31,11 @@ module _ (P : Family → Type 0) (made : Family) (v : ℕ) (L H : Family) (halve
   pub done : (s3 : Stored) (r : Result NodeId NodeFault) → (let m = node v (family s2 lo.n) (family s2 hi.n) in Draws (IsMade m) m s2 s3 r) → Draws P made s0 s3 r
   done s3 r d =
       let e = ap₂ (node v) lo_is dh.ok.1 ∙ sym halved.is in
-      Draws-after P made s0 s2 s3 r (Grows-then P s0 s1 s2 dl.grows dh.grows) (Draws-weaker (IsMade made) P made s2 s3 r halved.whole (subst (λ x. Draws (IsMade x) x s2 s3 r) e d))
+      Draws-after P made s0 s2 s3 r (Grows-then P s0 s1 s2 dl.grows dh.grows)
+      (Draws-weaker (IsMade made) P made s2 s3 r halved.whole (subst (λ x. Draws (IsMade x) x s2 s3 r) e d))
 
 -- a fact of families of numbers that were there before
-pub moved : (P : Family → Type 0) (s t : Stored) (a b : ℕ) → Grows P s t → IsNumber s a → IsNumber s b → (C : Family → Family → Type 0) → C (family t a) (family t b) → C (family s a) (family s b)
-moved P s t a b g p q C c = subst (λ x. C x (family s b)) (kept P s t a g p) (subst (λ y. C (family t a) y) (kept P s t b g q) c)
+pub moved : (P : Family → Type 0) (s t : Stored) (a b : ℕ) → Grows P s t → IsNumber s a → IsNumber s b
+    → (C : Family → Family → Type 0) → C (family t a) (family t b) → C (family s a) (family s b)
+moved P s t a b g p q C c = subst (λ x. C x (family s b)) (kept P s t a g p)
+    (subst (λ y. C (family t a) y) (kept P s t b g q) c)

@@ -15,13 +15,15 @@ use Rattle.zdd_nodes.proofs.Lists.{AreDifferent-push}
 use Rattle.zdd_nodes.proofs.Growing.{kept, full_weaker}
 
 -- a family of the grown store was stored before or is one that P allows
-before_or_allowed : (P : Family → Type 0) (s t : Stored) → Grows P s t → (j : ℕ) → j < length t.families → IsStored (get_or t.families j []) s ⊎ P (get_or t.families j [])
+before_or_allowed : (P : Family → Type 0) (s t : Stored) → Grows P s t → (j : ℕ) → j < length t.families
+    → IsStored (get_or t.families j []) s ⊎ P (get_or t.families j [])
 before_or_allowed P s t g j h =
     let split : (j < length s.families) ⊎ (length s.families ≤ j) = grind arith in
     ⊎_elim
     (λ l. inl (suc (suc j), omega arith, omega (arith, l), sym (kept P s t (suc (suc j)) g (omega (arith, l)))))
     (λ l. let e : get_or t.families j [] ≡ get_or g.added (j - length s.families) [] = ap (λ x. get_or x j []) g.families ∙ get_or-append_right s.families g.added (length s.families) j [] refl l in
-    inr (subst P (sym e) (g.all (j - length s.families) [] (omega (arith, ap length g.families, length-append s.families g.added)))))
+    inr (subst P (sym e) (g.all (j - length s.families) []
+    (omega (arith, ap length g.families, length-append s.families g.added)))))
     split
 
 -- where all families of the nodes are allowed, a full store shows more allowed families than its limit
@@ -30,16 +32,19 @@ full_is_more P s allowed f =
     let fs = s.families in
     record {
       members = fs ++ f.family ∷ [];
-      different = AreDifferent-push fs f.family f.different (λ k h. f.missing k [] (slice_get_within fs k f.family h) (get_or_from_slice_get fs k f.family [] h));
+      different = AreDifferent-push fs f.family f.different
+          (λ k h. f.missing k [] (slice_get_within fs k f.family h) (get_or_from_slice_get fs k f.family [] h));
       all = All-append P fs (f.family ∷ []) allowed (All-cons P f.family [] f.allowed (All-nil P));
       count = omega (arith, length-append fs (f.family ∷ []), f.full);
     }
 
-pub more_than_limit : (P : Family → Type 0) (made : Family) (s t : Stored) (r : Result NodeId NodeFault) → Draws P made s t r → r ≡ Err Full → IsMoreThan s.limit (λ h. IsStored h s ⊎ P h)
+pub more_than_limit : (P : Family → Type 0) (made : Family) (s t : Stored) (r : Result NodeId NodeFault)
+    → Draws P made s t r → r ≡ Err Full → IsMoreThan s.limit (λ h. IsStored h s ⊎ P h)
 more_than_limit P made s t r d e =
     let Q = λ (h : Family). IsStored h s ⊎ P h in
     subst (λ n. IsMoreThan n Q) d.grows.limit
-    (full_is_more Q t (All-from_get_or Q t.families [] (λ i h. before_or_allowed P s t d.grows i h)) (full_weaker P Q t (λ h x. inr x) (d.full e)))
+    (full_is_more Q t (All-from_get_or Q t.families [] (λ i h. before_or_allowed P s t d.grows i h))
+    (full_weaker P Q t (λ h x. inr x) (d.full e)))
 
 -- ---- different families take different nodes
 
@@ -63,7 +68,8 @@ stays (y ∷ ys) (suc n) (suc j) z p other = let one = stays ys n j z p (λ e. o
 
 module _ {A : Type 0} where
   -- different items of a list are no more than its items
-  pub different_fit : (xs ys : List A) → AreDifferent xs → ((k : ℕ) (x : A) → Stands xs k x → IsOneOf ys x) → length xs ≤ length ys
+  pub different_fit : (xs ys : List A) → AreDifferent xs → ((k : ℕ) (x : A) → Stands xs k x → IsOneOf ys x)
+      → length xs ≤ length ys
   different_fit [] ys d among = omega arith
   different_fit (x ∷ xs) ys d among =
       let one = among 0 x refl in
@@ -84,7 +90,8 @@ module _ {A : Type 0} where
 stored_one : (s : Stored) (n : ℕ) → 2 ≤ n → IsNumber s n → IsOneOf s.families (family s n)
 stored_one s zero two h = absurd (omega (arith, two))
 stored_one s (suc zero) two h = absurd (omega (arith, two))
-stored_one s (suc (suc k)) two h = one_here s.families k (family s (suc (suc k))) (slice_get-get_or s.families k [] (omega (arith, h)))
+stored_one s (suc (suc k)) two h = one_here s.families k (family s (suc (suc k)))
+    (slice_get-get_or s.families k [] (omega (arith, h)))
 
 pub each_takes_a_node : (s : Stored) (n : ℕ) → IsMoreThan n (λ h. IsStored h s) → n < length s.families
 each_takes_a_node s n m =

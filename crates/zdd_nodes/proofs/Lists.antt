@@ -8,22 +8,26 @@ use Rattle.zdd_families.specs.Families.{Family, IsAbove}
 use Rattle.zdd_families.proofs.Laws.{IsAbove-node}
 use Rattle.zdd_nodes.specs.Nodes.{all_of, at, IsNode}
 
-pub slice_get-push_cases : {A : Type 0} (xs : List A) (x : A) (k : ℕ) (m : A) → slice_get (xs ++ x ∷ []) k ≡ Some m → (slice_get xs k ≡ Some m) ⊎ ((k ≡ length xs) × (m ≡ x))
+pub slice_get-push_cases : {A : Type 0} (xs : List A) (x : A) (k : ℕ) (m : A) → slice_get (xs ++ x ∷ []) k ≡ Some m
+    → (slice_get xs k ≡ Some m) ⊎ ((k ≡ length xs) × (m ≡ x))
 slice_get-push_cases [] x zero m e = let h : m ≡ x = cc in inr (refl, h)
 slice_get-push_cases [] x (suc k) m e = let no : ⊥ = cc in absurd no
 slice_get-push_cases (y ∷ xs) x zero m e = inl e
-slice_get-push_cases (y ∷ xs) x (suc k) m e = ⊎_elim (λ l. inl l) (λ r. inr (ap suc r.0, r.1)) (slice_get-push_cases xs x k m e)
+slice_get-push_cases (y ∷ xs) x (suc k) m e =
+    ⊎_elim (λ l. inl l) (λ r. inr (ap suc r.0, r.1)) (slice_get-push_cases xs x k m e)
 
 pub slice_get-push_here : {A : Type 0} (xs : List A) (x : A) → slice_get (xs ++ x ∷ []) (length xs) ≡ Some x
 slice_get-push_here [] x = refl
 slice_get-push_here (y ∷ xs) x = slice_get-push_here xs x
 
-pub slice_get-push_before : {A : Type 0} (xs : List A) (x : A) (k : ℕ) (m : A) → slice_get xs k ≡ Some m → slice_get (xs ++ x ∷ []) k ≡ Some m
+pub slice_get-push_before : {A : Type 0} (xs : List A) (x : A) (k : ℕ) (m : A) → slice_get xs k ≡ Some m
+    → slice_get (xs ++ x ∷ []) k ≡ Some m
 slice_get-push_before [] x k m e = let no : ⊥ = cc in absurd no
 slice_get-push_before (y ∷ xs) x zero m e = e
 slice_get-push_before (y ∷ xs) x (suc k) m e = slice_get-push_before xs x k m e
 
-pub AreDifferent-push : {A : Type 0} (xs : List A) (x : A) → AreDifferent xs → ((k : ℕ) → slice_get xs k ≡ Some x → ⊥) → AreDifferent (xs ++ x ∷ [])
+pub AreDifferent-push : {A : Type 0} (xs : List A) (x : A) → AreDifferent xs → ((k : ℕ) → slice_get xs k ≡ Some x → ⊥)
+    → AreDifferent (xs ++ x ∷ [])
 AreDifferent-push xs x d lacks = record {
   one = λ m n a p q.
       ⊎_elim
@@ -46,7 +50,8 @@ at-seam fs f =
 pub stands : (fs : List Family) (n : ℕ) → n < length fs + 2 → slice_get (all_of fs) n ≡ Some (at fs n)
 stands fs n h = slice_get-get_or (all_of fs) n [] (in_all fs n h)
 
-pub same_number : (fs : List Family) → AreDifferent (all_of fs) → (i j : ℕ) → i < length fs + 2 → j < length fs + 2 → at fs i ≡ at fs j → i ≡ j
+pub same_number : (fs : List Family) → AreDifferent (all_of fs) → (i j : ℕ) → i < length fs + 2 → j < length fs + 2
+    → at fs i ≡ at fs j → i ≡ j
 same_number fs d i j p q e = d.one i j (at fs j) (stands fs i p ∙ ap Some e) (stands fs j q)
 
 pub nodes_different : (fs : List Family) → AreDifferent (all_of fs) → AreDifferent fs
@@ -58,4 +63,5 @@ some_sets fs d n p q = λ e. let z : n ≡ 0 = same_number fs d n 0 q (omega ari
 
 -- a node lies above every number below its event
 pub node_above : (fs : List Family) (v k w lo hi : ℕ) → v < w → IsNode fs k w lo hi → IsAbove v (at fs k)
-node_above fs v k w lo hi h i = subst (IsAbove v) (sym i.is) (IsAbove-node v w (at fs lo) (at fs hi) h i.lo_above i.hi_above)
+node_above fs v k w lo hi h i = subst (IsAbove v) (sym i.is)
+    (IsAbove-node v w (at fs lo) (at fs hi) h i.lo_above i.hi_above)

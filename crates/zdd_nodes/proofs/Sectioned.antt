@@ -19,11 +19,14 @@ module _ (s : Stored) (sound : IsSoundStore s) where
       let two = is_node n h c in
       let t = sound.nodes n two inside in
       let i = t.halves in
-      elim (counted_halves t.event (family s t.lo) (family s t.hi) i.lo_above i.hi_above h (subst (λ x. IsCounted x h) i.is c)) [
+      elim (counted_halves t.event (family s t.lo) (family s t.hi) i.lo_above i.hi_above h
+      (subst (λ x. IsCounted x h) i.is c)) [
         | inl whole ↦ (n, two, inside, i.is ∙ sym whole)
         | inr half ↦ elim half [
-          | inl lower ↦ stored_below bound t.lo (omega (arith, l, i.lo_before)) (omega (arith, inside, i.lo_before)) h lower
-          | inr upper ↦ stored_below bound t.hi (omega (arith, l, i.hi_before)) (omega (arith, inside, i.hi_before)) h upper
+          | inl lower ↦ stored_below bound t.lo (omega (arith, l, i.lo_before)) (omega (arith, inside, i.lo_before)) h
+              lower
+          | inr upper ↦ stored_below bound t.hi (omega (arith, l, i.hi_before)) (omega (arith, inside, i.hi_before)) h
+              upper
         ]
       ]
 

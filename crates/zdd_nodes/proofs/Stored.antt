@@ -18,7 +18,8 @@ length-grown : (fs : List Family) (ns : List Node) → length (grown fs ns) ≡ 
 length-grown fs [] = omega arith
 length-grown fs (n ∷ ns) = let f = node n.event.n (at fs n.lo.n) (at fs n.hi.n) in omega (arith, length-grown (fs ++ f ∷ []) ns, length-append fs (f ∷ []))
 
-grown-push : (fs : List Family) (ns : List Node) (n : Node) → grown fs (ns ++ n ∷ []) ≡ grown fs ns ++ node n.event.n (at (grown fs ns) n.lo.n) (at (grown fs ns) n.hi.n) ∷ []
+grown-push : (fs : List Family) (ns : List Node) (n : Node)
+    → grown fs (ns ++ n ∷ []) ≡ grown fs ns ++ node n.event.n (at (grown fs ns) n.lo.n) (at (grown fs ns) n.hi.n) ∷ []
 grown-push fs [] n = refl
 grown-push fs (m ∷ ns) n = grown-push (fs ++ node m.event.n (at fs m.lo.n) (at fs m.hi.n) ∷ []) ns n
 
@@ -26,7 +27,9 @@ pub length-families : (ns : List Node) → length (families_of ns) ≡ length ns
 unfolding families_of
 length-families ns = omega (arith, length-grown [] ns)
 
-pub families-push : (ns : List Node) (n : Node) → families_of (ns ++ n ∷ []) ≡ families_of ns ++ node n.event.n (at (families_of ns) n.lo.n) (at (families_of ns) n.hi.n) ∷ []
+pub families-push : (ns : List Node) (n : Node)
+    → families_of (ns ++ n ∷ []) ≡ families_of ns ++ node n.event.n (at (families_of ns) n.lo.n)
+    (at (families_of ns) n.hi.n) ∷ []
 unfolding families_of
 families-push ns n = grown-push [] ns n
 
@@ -62,7 +65,8 @@ IsStore-new limit h = record {
 
 node_from : (a b : Node) → a.event ≡ b.event → a.lo ≡ b.lo → a.hi ≡ b.hi → a ≡ b
 node_from a b p q r =
-    ap (λ x. record { event = x; lo = a.lo; hi = a.hi }) p ∙ ap (λ x. record { event = b.event; lo = x; hi = a.hi }) q ∙ ap (λ x. record { event = b.event; lo = b.lo; hi = x }) r
+    ap (λ x. record { event = x; lo = a.lo; hi = a.hi }) p ∙ ap (λ x. record { event = b.event; lo = x; hi = a.hi }) q
+    ∙ ap (λ x. record { event = b.event; lo = b.lo; hi = x }) r
 
 node_eq-parts : (a b c d e f : ℕ) → (eqb a b && (eqb c d && eqb e f)) ≡ true → (a ≡ b) × (c ≡ d) × (e ≡ f)
 node_eq-parts a b c d e f h = let p = and_parts _ _ h in let q = and_parts _ _ p.1 in (eqb-true a b p.0, eqb-true c d q.0, eqb-true e f q.1)
@@ -73,7 +77,8 @@ node_eq-true a b h = let t = node_eq-parts a.event.n b.event.n a.lo.n b.lo.n a.h
 node_eq-refl : (a : Node) → node_eq a a ≡ true
 node_eq-refl a = rw (eq-eqb a.event.n a.event.n refl, eq-eqb a.lo.n a.lo.n refl, eq-eqb a.hi.n a.hi.n refl) refl
 
-IsNode-more : (fs gs : List Family) (k v lo hi : ℕ) → k ≤ length fs + 2 → at (fs ++ gs) k ≡ node v (at fs lo) (at fs hi) → lo < k → hi < k → at fs hi ≢ [] → IsAbove v (at fs lo) → IsAbove v (at fs hi) → IsNode (fs ++ gs) k v lo hi
+IsNode-more : (fs gs : List Family) (k v lo hi : ℕ) → k ≤ length fs + 2 → at (fs ++ gs) k ≡ node v (at fs lo) (at fs hi)
+    → lo < k → hi < k → at fs hi ≢ [] → IsAbove v (at fs lo) → IsAbove v (at fs hi) → IsNode (fs ++ gs) k v lo hi
 IsNode-more fs gs k v lo hi h e p q z a b =
     let el = at-append fs gs lo (omega arith) in
     let eh = at-append fs gs hi (omega arith) in
@@ -86,8 +91,10 @@ IsNode-more fs gs k v lo hi h e p q z a b =
       is = e ∙ ap (λ x. node v x (at fs hi)) (sym el) ∙ ap (λ x. node v (at (fs ++ gs) lo) x) (sym eh);
     }
 
-pub IsNode-grow : (fs gs : List Family) (k v lo hi : ℕ) → k < length fs + 2 → IsNode fs k v lo hi → IsNode (fs ++ gs) k v lo hi
-IsNode-grow fs gs k v lo hi h i = IsNode-more fs gs k v lo hi (omega arith) (at-append fs gs k h ∙ i.is) i.lo_before i.hi_before i.hi_some i.lo_above i.hi_above
+pub IsNode-grow : (fs gs : List Family) (k v lo hi : ℕ) → k < length fs + 2 → IsNode fs k v lo hi
+    → IsNode (fs ++ gs) k v lo hi
+IsNode-grow fs gs k v lo hi h i = IsNode-more fs gs k v lo hi (omega arith) (at-append fs gs k h ∙ i.is) i.lo_before
+    i.hi_before i.hi_some i.lo_above i.hi_above
 
 -- what a call of `node` knows of its arguments, where the upper half is not empty
 pub record IsCall (fs : List Family) (n : Node) : Type 0 where
@@ -101,7 +108,8 @@ pub record IsCall (fs : List Family) (n : Node) : Type 0 where
 abbrev pub made : List Family → Node → Family
 made fs n = node n.event.n (at fs n.lo.n) (at fs n.hi.n)
 
-module _ (nodes : List Node) (index : List (Node × NodeId)) (limit : ℕ) (n : Node) (s : IsStore nodes index limit) (c : IsCall (families_of nodes) n) (absent : lookup (node_eq n) index ≡ None) where
+module _ (nodes : List Node) (index : List (Node × NodeId)) (limit : ℕ) (n : Node) (s : IsStore nodes index limit)
+    (c : IsCall (families_of nodes) n) (absent : lookup (node_eq n) index ≡ None) where
   abbrev fs : List Family
   fs = families_of nodes
 
@@ -115,7 +123,8 @@ module _ (nodes : List Node) (index : List (Node × NodeId)) (limit : ℕ) (n : 
       let k_in = slice_get_within nodes k m was in
       let m_lo : m.lo.n < length fs + 2 = omega (arith, i.lo_before) in
       let m_hi : m.hi.n < length fs + 2 = omega (arith, i.hi_before) in
-      let t = node_same m.event.n n.event.n (at fs m.hi.n) (at fs n.hi.n) (at fs m.lo.n) (at fs n.lo.n) i.hi_some hi_sets i.lo_above c.lo_above (sym i.is ∙ e) in
+      let t = node_same m.event.n n.event.n (at fs m.hi.n) (at fs n.hi.n) (at fs m.lo.n) (at fs n.lo.n) i.hi_some
+      hi_sets i.lo_above c.lo_above (sym i.is ∙ e) in
       let lo_same = same_number fs s.different m.lo.n n.lo.n m_lo c.lo_in t.2 in
       let hi_same = same_number fs s.different m.hi.n n.hi.n m_hi c.hi_in t.1 in
       let mn : m ≡ n = node_from m n (id_from _ _ t.0) (id_from _ _ lo_same) (id_from _ _ hi_same) in
@@ -132,38 +141,49 @@ module _ (nodes : List Node) (index : List (Node × NodeId)) (limit : ℕ) (n : 
       let two : k + 2 ≡ suc (suc k) = omega arith in
       stored_not k (get_or nodes k n) (slice_get-get_or nodes k n k_in) (ap (at fs) two ∙ e)
 
-  module _ (index2 : List (Node × NodeId)) (number : NodeId) (room : length nodes < limit) (number_is : number.n ≡ length nodes + 2)
-      (updates : (q : Node) → lookup (node_eq q) index2 ≡ cond (node_eq n q) (Some number) (lookup (node_eq q) index)) where
-    found_after : (k : Node) (m : NodeId) → lookup (node_eq k) index2 ≡ Some m → (b : Bool) → node_eq n k ≡ b → (2 ≤ m.n) × (slice_get (nodes ++ n ∷ []) (m.n - 2) ≡ Some k)
+  module _ (index2 : List (Node × NodeId)) (number : NodeId) (room : length nodes < limit)
+      (number_is : number.n ≡ length nodes + 2)
+      (updates : (q : Node) → lookup (node_eq q) index2
+      ≡ cond (node_eq n q) (Some number) (lookup (node_eq q) index)) where
+    found_after : (k : Node) (m : NodeId) → lookup (node_eq k) index2 ≡ Some m → (b : Bool) → node_eq n k ≡ b
+        → (2 ≤ m.n) × (slice_get (nodes ++ n ∷ []) (m.n - 2) ≡ Some k)
     found_after k m h true e =
-        let g : Some number ≡ Some m = ap (λ b. cond b (Some number) (lookup (node_eq k) index)) (sym e) ∙ sym (updates k) ∙ h in
+        let g : Some number ≡ Some m = ap (λ b. cond b (Some number) (lookup (node_eq k) index)) (sym e)
+        ∙ sym (updates k) ∙ h in
         let mm : number ≡ m = cc in
         let mn : m.n ≡ length nodes + 2 = ap (λ x. x.n) (sym mm) ∙ number_is in
         let ml : m.n - 2 ≡ length nodes = omega arith in
         (omega arith, ap (slice_get (nodes ++ n ∷ [])) ml ∙ slice_get-push_here nodes n ∙ ap Some (node_eq-true n k e))
     found_after k m h false e =
-        let g : lookup (node_eq k) index ≡ Some m = ap (λ b. cond b (Some number) (lookup (node_eq k) index)) (sym e) ∙ sym (updates k) ∙ h in
+        let g : lookup (node_eq k) index ≡ Some m =
+        ap (λ b. cond b (Some number) (lookup (node_eq k) index)) (sym e) ∙ sym (updates k) ∙ h in
         let o = s.found k m g in
         (o.0, slice_get-push_before nodes n (m.n - 2) k o.1)
 
-    listed_old : (k : ℕ) (m : Node) → slice_get nodes k ≡ Some m → (b : Bool) → node_eq n m ≡ b → (x : NodeId) × (lookup (node_eq m) index2 ≡ Some x) × (x.n ≡ k + 2)
+    listed_old : (k : ℕ) (m : Node) → slice_get nodes k ≡ Some m → (b : Bool) → node_eq n m ≡ b
+        → (x : NodeId) × (lookup (node_eq m) index2 ≡ Some x) × (x.n ≡ k + 2)
     listed_old k m l true e = let t = s.listed k m l in
         let h : lookup (node_eq n) index ≡ Some t.0 = ap (λ z. lookup (node_eq z) index) (node_eq-true n m e) ∙ t.1 in
         let o : ⊥ = cc in absurd o
     listed_old k m l false e = let t = s.listed k m l in (t.0, updates m ∙ ap (λ b. cond b (Some number) (lookup (node_eq m) index)) e ∙ t.1, t.2)
 
-    listed_new : (k : ℕ) (m : Node) → (k ≡ length nodes) × (m ≡ n) → (x : NodeId) × (lookup (node_eq m) index2 ≡ Some x) × (x.n ≡ k + 2)
+    listed_new : (k : ℕ) (m : Node) → (k ≡ length nodes) × (m ≡ n)
+        → (x : NodeId) × (lookup (node_eq m) index2 ≡ Some x) × (x.n ≡ k + 2)
     listed_new k m t = (
       number,
-      updates m ∙ ap (λ z. cond (node_eq n z) (Some number) (lookup (node_eq m) index)) t.1 ∙ ap (λ b. cond b (Some number) (lookup (node_eq m) index)) (node_eq-refl n),
+      updates m ∙ ap (λ z. cond (node_eq n z) (Some number) (lookup (node_eq m) index)) t.1
+          ∙ ap (λ b. cond b (Some number) (lookup (node_eq m) index)) (node_eq-refl n),
       number_is ∙ ap (λ x. x + 2) (sym t.0),
     )
 
-    each_new : (k : ℕ) (m : Node) → (k ≡ length nodes) × (m ≡ n) → IsNode (fs ++ made fs n ∷ []) (k + 2) m.event.n m.lo.n m.hi.n
+    each_new : (k : ℕ) (m : Node) → (k ≡ length nodes) × (m ≡ n)
+        → IsNode (fs ++ made fs n ∷ []) (k + 2) m.event.n m.lo.n m.hi.n
     each_new k m t =
         let kl : k + 2 ≡ length fs + 2 = omega (arith, length-families nodes, t.0) in
         subst (λ x. IsNode (fs ++ made fs n ∷ []) (k + 2) x.event.n x.lo.n x.hi.n) (sym t.1)
-        (IsNode-more fs (made fs n ∷ []) (k + 2) n.event.n n.lo.n n.hi.n (omega arith) (ap (at (fs ++ made fs n ∷ [])) kl ∙ at-seam fs (made fs n)) (omega (arith, c.lo_in)) (omega (arith, c.hi_in)) hi_sets c.lo_above c.hi_above)
+        (IsNode-more fs (made fs n ∷ []) (k + 2) n.event.n n.lo.n n.hi.n (omega arith)
+        (ap (at (fs ++ made fs n ∷ [])) kl ∙ at-seam fs (made fs n)) (omega (arith, c.lo_in))
+        (omega (arith, c.hi_in)) hi_sets c.lo_above c.hi_above)
 
     families_after : (k : ℕ) → k < length (nodes ++ n ∷ []) + 2 → IsFamily (at (fs ++ made fs n ∷ []) k)
     families_after k h =
@@ -172,12 +192,14 @@ module _ (nodes : List Node) (index : List (Node × NodeId)) (limit : ℕ) (n : 
         ⊎_elim
         (λ l. subst IsFamily (sym (at-append fs (made fs n ∷ []) k l)) (s.families k (omega arith)))
         (λ e. subst IsFamily (sym (ap (at (fs ++ made fs n ∷ [])) e ∙ at-seam fs (made fs n)))
-        (IsFamily-node n.event.n (at fs n.lo.n) (at fs n.hi.n) c.lo_above c.hi_above (s.families n.lo.n (omega (arith, c.lo_in))) (s.families n.hi.n (omega (arith, c.hi_in)))))
+        (IsFamily-node n.event.n (at fs n.lo.n) (at fs n.hi.n) c.lo_above c.hi_above
+        (s.families n.lo.n (omega (arith, c.lo_in))) (s.families n.hi.n (omega (arith, c.hi_in)))))
         split
 
     different_after : AreDifferent (all_of (fs ++ made fs n ∷ []))
     different_after = AreDifferent-push (all_of fs) (made fs n) s.different
-        (λ k h. is_missing k (omega (arith, slice_get_within (all_of fs) k (made fs n) h)) (get_or_from_slice_get (all_of fs) k (made fs n) [] h))
+        (λ k h. is_missing k (omega (arith, slice_get_within (all_of fs) k (made fs n) h))
+        (get_or_from_slice_get (all_of fs) k (made fs n) [] h))
 
     pub IsStore-push : IsStore (nodes ++ n ∷ []) index2 limit
     IsStore-push =
@@ -191,7 +213,8 @@ module _ (nodes : List Node) (index : List (Node × NodeId)) (limit : ℕ) (n : 
           families = λ k h. subst (λ gs. IsFamily (at gs k)) (sym e) (families_after k h);
           different = subst (λ gs. AreDifferent (all_of gs)) (sym e) different_after;
           found = λ k m h. found_after k m h (node_eq n k) refl;
-          listed = λ k m h. ⊎_elim (λ l. listed_old k m l (node_eq n m) refl) (listed_new k m) (slice_get-push_cases nodes n k m h);
+          listed = λ k m h. ⊎_elim (λ l. listed_old k m l (node_eq n m) refl) (listed_new k m)
+              (slice_get-push_cases nodes n k m h);
           within_limit = omega (arith, length-append nodes (n ∷ []));
           limit_small = s.limit_small;
         }

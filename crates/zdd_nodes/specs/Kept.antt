@@ -19,13 +19,17 @@ families_of ns = grown [] ns
 abbrev pub node_eq : Node → Node → Bool
 node_eq a b = eqb a.event.n b.event.n && (eqb a.lo.n b.lo.n && eqb a.hi.n b.hi.n)
 
--- what a store keeps: each node has earlier halves at greater events, no two numbers stand for one family, each family is kept
+-- what a store keeps: each node has earlier halves at greater events, no two numbers stand for one family, each family
+-- is kept
 -- in order, the table has exactly the nodes' numbers, and there are at most limit nodes
 pub record IsStore (nodes : List Node) (index : List (Node × NodeId)) (limit : ℕ) : Type 0 where
-  pub each : (k : ℕ) (n : Node) → slice_get nodes k ≡ Some n → IsNode (families_of nodes) (k + 2) n.event.n n.lo.n n.hi.n
+  pub each : (k : ℕ) (n : Node) → slice_get nodes k ≡ Some n
+      → IsNode (families_of nodes) (k + 2) n.event.n n.lo.n n.hi.n
   pub families : (k : ℕ) → k < length nodes + 2 → IsFamily (at (families_of nodes) k)
   pub different : AreDifferent (all_of (families_of nodes))
-  pub found : (k : Node) (n : NodeId) → lookup (node_eq k) index ≡ Some n → (2 ≤ n.n) × (slice_get nodes (n.n - 2) ≡ Some k)
-  pub listed : (k : ℕ) (n : Node) → slice_get nodes k ≡ Some n → (m : NodeId) × (lookup (node_eq n) index ≡ Some m) × (m.n ≡ k + 2)
+  pub found : (k : Node) (n : NodeId) → lookup (node_eq k) index ≡ Some n
+      → (2 ≤ n.n) × (slice_get nodes (n.n - 2) ≡ Some k)
+  pub listed : (k : ℕ) (n : Node) → slice_get nodes k ≡ Some n
+      → (m : NodeId) × (lookup (node_eq n) index ≡ Some m) × (m.n ≡ k + 2)
   pub within_limit : length nodes ≤ limit
   pub limit_small : limit ≤ 16777216

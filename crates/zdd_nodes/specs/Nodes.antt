@@ -17,7 +17,8 @@ pub record Stored : Type 0 where
   pub families : List Family
   pub limit : ℕ
 
--- the families of all numbers: 0 stands for the empty family, 1 for the family of the empty set, and the nodes are numbered from 2
+-- the families of all numbers: 0 stands for the empty family, 1 for the family of the empty set, and the nodes are
+-- numbered from 2
 abbrev pub all_of : List Family → List Family
 all_of fs = [] ∷ ([] ∷ []) ∷ fs
 
@@ -33,7 +34,8 @@ family s n = at s.families n
 abbrev pub IsNumber : Stored → ℕ → Type 0
 IsNumber s n = n < length s.families + 2
 
--- a node's number, event and halves: its sets with the event come from the family of hi, which is not empty, those without it
+-- a node's number, event and halves: its sets with the event come from the family of hi, which is not empty, those
+-- without it
 -- are the family of lo, and the halves have lesser numbers and greater events
 pub record IsNode (fs : List Family) (n event lo hi : ℕ) : Type 0 where
   pub lo_before : lo < n
@@ -50,7 +52,8 @@ pub record HasHalves (fs : List Family) (n : ℕ) : Type 0 where
   pub hi : ℕ
   pub halves : IsNode fs n event lo hi
 
--- what every store keeps: no two numbers stand for one family, each is kept in order, each from 2 on is that of a node whose
+-- what every store keeps: no two numbers stand for one family, each is kept in order, each from 2 on is that of a node
+-- whose
 -- halves are stored, and there are at most limit nodes
 pub record IsSoundStore (s : Stored) : Type 0 where
   pub different : AreDifferent (all_of s.families)
@@ -73,7 +76,8 @@ pub record IsFullFor (P : Family → Type 0) (s : Stored) : Type 0 where
   pub different : AreDifferent s.families
   pub full : length s.families ≡ s.limit
 
--- a call answers the number of the made family or refuses; all families that it adds have P, and where it says Full the store
+-- a call answers the number of the made family or refuses; all families that it adds have P, and where it says Full the
+-- store
 -- has its limit of nodes and lacks another such family
 pub record Draws (P : Family → Type 0) (made : Family) (old new : Stored) (r : Result NodeId NodeFault) : Type 0 where
   pub grows : Grows P old new
@@ -88,7 +92,8 @@ pub record HasNoRoom (made : Family) (s : Stored) : Type 0 where
 -- the made family has this number: it had it before and nothing changed, or its node came last
 pub data Makes (made : Family) (old : Stored) : Stored → ℕ → Type 0 where
   known : (n : ℕ) → IsNumber old n → family old n ≡ made → Makes made old old n
-  added : ((n : ℕ) → IsNumber old n → family old n ≢ made) → Makes made old (record { families = old.families ++ made ∷ []; limit = old.limit }) (length old.families + 2)
+  added : ((n : ℕ) → IsNumber old n → family old n ≢ made)
+      → Makes made old (record { families = old.families ++ made ∷ []; limit = old.limit }) (length old.families + 2)
 
 -- h is the family of a node of the store
 abbrev pub IsStored : Family → Stored → Type 0

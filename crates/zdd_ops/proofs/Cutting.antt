@@ -13,7 +13,8 @@ module _ (fs : List Family) (f g none : NodeId) (none_is : none.n ≡ 0) where
   nil_above : (v : ℕ) → IsAbove v (at fs none.n)
   nil_above v = subst (λ k. IsAbove v (at fs k)) (sym none_is) tt
 
-  pub cut_left : (event : Id EventKind) (lo hi : NodeId) → IsNode fs f.n event.n lo.n hi.n → f.n < length fs + 2 → g.n < length fs + 2 → IsAbove event.n (at fs g.n)
+  pub cut_left : (event : Id EventKind) (lo hi : NodeId) → IsNode fs f.n event.n lo.n hi.n → f.n < length fs + 2
+      → g.n < length fs + 2 → IsAbove event.n (at fs g.n)
       → IsCut fs f.n g.n (record { event = event; f0 = lo; f1 = hi; g0 = g; g1 = none })
   cut_left event lo hi i h l a = record {
     f_is = i.is;
@@ -31,7 +32,8 @@ module _ (fs : List Family) (f g none : NodeId) (none_is : none.n ≡ 0) where
     less10 = omega (arith, i.hi_before);
   }
 
-  pub cut_right : (event : Id EventKind) (lo hi : NodeId) → IsNode fs g.n event.n lo.n hi.n → f.n < length fs + 2 → g.n < length fs + 2 → IsAbove event.n (at fs f.n)
+  pub cut_right : (event : Id EventKind) (lo hi : NodeId) → IsNode fs g.n event.n lo.n hi.n → f.n < length fs + 2
+      → g.n < length fs + 2 → IsAbove event.n (at fs f.n)
       → IsCut fs f.n g.n (record { event = event; f0 = f; f1 = none; g0 = lo; g1 = hi })
   cut_right event lo hi i h l a = record {
     f_is = as_node event.n f.n;

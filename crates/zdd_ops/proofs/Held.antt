@@ -16,22 +16,30 @@ use Rattle.zdd_ops.specs.contracts.memo.Join.{the_type}
 use denote.Enum.Bare.{sameb}
 use Rattle.zdd_ops.specs.Operations.{join_of, result_of, AreNumbers, join_eq, operation_eq, IsResult, IsSound, Remembers}
 
-numbers-grow : (P : Family → Type 0) (s t : Stored) (k : Operation) → Grows P s t → AreNumbers s.families k → AreNumbers t.families k
+numbers-grow : (P : Family → Type 0) (s t : Stored) (k : Operation) → Grows P s t → AreNumbers s.families k
+    → AreNumbers t.families k
 numbers-grow P s t (Joined j f g) a n = (still P s t f.n a n.0, still P s t g.n a n.1)
 numbers-grow P s t (Without f g) a n = (still P s t f.n a n.0, still P s t g.n a n.1)
 numbers-grow P s t (Having f e) a n = still P s t f.n a n
 numbers-grow P s t (Minimal f) a n = still P s t f.n a n
 
-result-grow : (P : Family → Type 0) (s t : Stored) (k : Operation) → Grows P s t → AreNumbers s.families k → result_of t.families k ≡ result_of s.families k
+result-grow : (P : Family → Type 0) (s t : Stored) (k : Operation) → Grows P s t → AreNumbers s.families k
+    → result_of t.families k ≡ result_of s.families k
 result-grow P s t (Joined j f g) a n = ap₂ (join_of j) (kept P s t f.n a n.0) (kept P s t g.n a n.1)
 result-grow P s t (Without f g) a n = ap₂ without (kept P s t f.n a n.0) (kept P s t g.n a n.1)
 result-grow P s t (Having f e) a n = ap (λ x. having x e.n) (kept P s t f.n a n)
 result-grow P s t (Minimal f) a n = ap minimal (kept P s t f.n a n)
 
-IsResult-grow : (P : Family → Type 0) (s t : Stored) (k : Operation) (n : ℕ) → Grows P s t → IsResult s.families k n → IsResult t.families k n
-IsResult-grow P s t k n a i = record { operands = numbers-grow P s t k a i.operands; in_store = still P s t n a i.in_store; is = kept P s t n a i.in_store ∙ i.is ∙ sym (result-grow P s t k a i.operands) }
+IsResult-grow : (P : Family → Type 0) (s t : Stored) (k : Operation) (n : ℕ) → Grows P s t → IsResult s.families k n
+    → IsResult t.families k n
+IsResult-grow P s t k n a i = record {
+  operands = numbers-grow P s t k a i.operands;
+  in_store = still P s t n a i.in_store;
+  is = kept P s t n a i.in_store ∙ i.is ∙ sym (result-grow P s t k a i.operands);
+}
 
-pub IsSound-grow : (P : Family → Type 0) (s t : Stored) (entries : List (Operation × NodeId)) → Grows P s t → IsSound entries s.families → IsSound entries t.families
+pub IsSound-grow : (P : Family → Type 0) (s t : Stored) (entries : List (Operation × NodeId)) → Grows P s t
+    → IsSound entries s.families → IsSound entries t.families
 IsSound-grow P s t entries a i = record { each = λ k n h. IsResult-grow P s t k n.n a (i.each k n h) }
 
 join_same : (a b : Join) → join_eq a b ≡ true → a ≡ b
@@ -48,7 +56,8 @@ join_same Minus Minus e = refl
 operation_same : (k q : Operation) → operation_eq k q ≡ true → k ≡ q
 operation_same (Joined j f g) (Joined k h i) e =
     let a = and_parts _ _ e in let b = and_parts _ _ a.1 in
-    ap (λ x. Joined x f g) (join_same j k a.0) ∙ ap₂ (Joined k) (id_from f h (eqb-true _ _ b.0)) (id_from g i (eqb-true _ _ b.1))
+    ap (λ x. Joined x f g) (join_same j k a.0)
+    ∙ ap₂ (Joined k) (id_from f h (eqb-true _ _ b.0)) (id_from g i (eqb-true _ _ b.1))
 operation_same (Without f g) (Without h i) e = let b = and_parts _ _ e in ap₂ Without (id_from f h (eqb-true _ _ b.0)) (id_from g i (eqb-true _ _ b.1))
 operation_same (Having f d) (Having h i) e = let b = and_parts _ _ e in ap₂ Having (id_from f h (eqb-true _ _ b.0)) (id_from d i (eqb-true _ _ b.1))
 operation_same (Minimal f) (Minimal h) e = ap Minimal (id_from f h (eqb-true _ _ e))
@@ -66,34 +75,51 @@ operation_same (Minimal f) (Without h i) e = let wrong : ⊥ = cc in absurd wron
 operation_same (Minimal f) (Having h i) e = let wrong : ⊥ = cc in absurd wrong
 
 -- one more result, of an operation on numbers of the older store s
-pub IsSound-remember : (P Q : Family → Type 0) (s t u : Stored) (k : Operation) (n : NodeId) (old new : List (Operation × NodeId)) → Grows P s u → AreNumbers s.families k → Grows Q t u → IsSound old t.families
-    → (n.n < length u.families + 2) × (at u.families n.n ≡ result_of s.families k) → Remembers k n old new → IsSound new u.families
+pub IsSound-remember : (P Q : Family → Type 0) (s t u : Stored) (k : Operation) (n : NodeId)
+    (old new : List (Operation × NodeId)) → Grows P s u → AreNumbers s.families k → Grows Q t u → IsSound old t.families
+    → (n.n < length u.families + 2) × (at u.families n.n ≡ result_of s.families k) → Remembers k n old new
+    → IsSound new u.families
 IsSound-remember P Q s t u k n old new a numbers b sound is r =
-    let here : IsResult u.families k n.n = record { operands = numbers-grow P s u k a numbers; in_store = is.0; is = is.1 ∙ sym (result-grow P s u k a numbers) } in
+    let here : IsResult u.families k n.n =
+    record {
+      operands = numbers-grow P s u k a numbers;
+      in_store = is.0;
+      is = is.1
+          ∙ sym (result-grow P s u k a numbers);
+    } in
     record {
       each = λ q m h. ⊎_elim
           (λ l. (IsSound-grow Q t u old b sound).each q m l)
-          (λ x. subst (λ y. IsResult u.families y m.n) (operation_same k q x.0) (subst (λ y. IsResult u.families k y.n) (sym x.1) here))
+          (λ x. subst (λ y. IsResult u.families y m.n) (operation_same k q x.0)
+          (subst (λ y. IsResult u.families k y.n) (sym x.1) here))
           (r.each q m h);
     }
 
 -- ---- one entry more
-remember_ok : (k : Operation) (n : NodeId) (old new : List (Operation × NodeId)) → ((q : Operation) → lookup (operation_eq q) new ≡ cond (operation_eq k q) (Some n) (lookup (operation_eq q) old)) → Remembers k n old new
+remember_ok : (k : Operation) (n : NodeId) (old new : List (Operation × NodeId))
+    → ((q : Operation) → lookup (operation_eq q) new ≡ cond (operation_eq k q) (Some n) (lookup (operation_eq q) old))
+    → Remembers k n old new
 remember_ok k n old new u = record { each = λ q m h. step q m h (operation_eq k q) refl }
   where
-    step : (q : Operation) (m : NodeId) → lookup (operation_eq q) new ≡ Some m → (b : Bool) → operation_eq k q ≡ b → (lookup (operation_eq q) old ≡ Some m) ⊎ ((operation_eq k q ≡ true) × (m ≡ n))
+    step : (q : Operation) (m : NodeId) → lookup (operation_eq q) new ≡ Some m → (b : Bool) → operation_eq k q ≡ b
+        → (lookup (operation_eq q) old ≡ Some m) ⊎ ((operation_eq k q ≡ true) × (m ≡ n))
     step q m h true e = let w : Some n ≡ Some m = ap (λ b. cond b (Some n) (lookup (operation_eq q) old)) (sym e) ∙ sym (u q) ∙ h in let nm : m ≡ n = cc in inr (e, nm)
     step q m h false e = inl (ap (λ b. cond b (Some n) (lookup (operation_eq q) old)) (sym e) ∙ sym (u q) ∙ h)
 
 remember_same : (k : Operation) (n : NodeId) (old new : List (Operation × NodeId)) → new ≡ old → Remembers k n old new
 remember_same k n old new e = record { each = λ q m h. inl (ap (lookup (operation_eq q)) (sym e) ∙ h) }
 
-pub remember_after : {T E : Type 0} (U : Type 0) (r : Result T E) (k : Operation) (n : NodeId) (old new : List (Operation × NodeId)) → OnOk r U → OnErr r (new ≡ old) → (U → (q : Operation) → lookup (operation_eq q) new ≡ cond (operation_eq k q) (Some n) (lookup (operation_eq q) old)) → Remembers k n old new
+pub remember_after : {T E : Type 0} (U : Type 0) (r : Result T E) (k : Operation) (n : NodeId)
+    (old new : List (Operation × NodeId)) → OnOk r U → OnErr r (new ≡ old)
+    → (U → (q : Operation) → lookup (operation_eq q) new
+    ≡ cond (operation_eq k q) (Some n) (lookup (operation_eq q) old)) → Remembers k n old new
 remember_after U (Ok x) k n old new u e f = remember_ok k n old new (f u)
 remember_after U (Err x) k n old new u e f = remember_same k n old new e
 
-pub remember_from : (k : Operation) (n : NodeId) (old mid new : List (Operation × NodeId)) → (mid ≡ old) ⊎ (mid ≡ []) → Remembers k n mid new → Remembers k n old new
-remember_from k n old mid new e r = record { each = λ q m h. ⊎_elim (λ l. inl (back q m l)) (λ t. inr t) (r.each q m h) }
+pub remember_from : (k : Operation) (n : NodeId) (old mid new : List (Operation × NodeId)) → (mid ≡ old) ⊎ (mid ≡ [])
+    → Remembers k n mid new → Remembers k n old new
+remember_from k n old mid new e r =
+    record { each = λ q m h. ⊎_elim (λ l. inl (back q m l)) (λ t. inr t) (r.each q m h) }
   where
     back : (q : Operation) (m : NodeId) → lookup (operation_eq q) mid ≡ Some m → lookup (operation_eq q) old ≡ Some m
     back q m l = ⊎_elim (λ x. ap (lookup (operation_eq q)) (sym x) ∙ l) (λ x. let y : lookup (operation_eq q) [] ≡ Some m = ap (lookup (operation_eq q)) (sym x) ∙ l in cc) e
@@ -131,14 +157,18 @@ same_operations (Minimal f) (Joined k h i) = refl
 same_operations (Minimal f) (Without h i) = refl
 same_operations (Minimal f) (Having h i) = refl
 
-lookup_alike : (p q : Operation → Bool) → ((k : Operation) → p k ≡ q k) → (es : List (Operation × NodeId)) → lookup p es ≡ lookup q es
+lookup_alike : (p q : Operation → Bool) → ((k : Operation) → p k ≡ q k) → (es : List (Operation × NodeId))
+    → lookup p es ≡ lookup q es
 lookup_alike p q h [] = refl
 lookup_alike p q h (e ∷ es) = ap₂ (λ b x. cond b (Some e.1) x) (h e.0) (lookup_alike p q h es)
 
-derived_lookup : (k : Operation) (es : List (Operation × NodeId)) → lookup ((derived.eq-value).it k) es ≡ lookup (operation_eq k) es
+derived_lookup : (k : Operation) (es : List (Operation × NodeId))
+    → lookup ((derived.eq-value).it k) es ≡ lookup (operation_eq k) es
 derived_lookup k es = lookup_alike ((derived.eq-value).it k) (operation_eq k) (same_operations k) es
 
 pub derived_updates : (k : Operation) (n : NodeId) (old new : List (Operation × NodeId))
-    → ((q : Operation) → lookup ((derived.eq-value).it q) new ≡ cond ((derived.eq-value).it k q) (Some n) (lookup ((derived.eq-value).it q) old))
+    → ((q : Operation) → lookup ((derived.eq-value).it q) new
+    ≡ cond ((derived.eq-value).it k q) (Some n) (lookup ((derived.eq-value).it q) old))
     → (q : Operation) → lookup (operation_eq q) new ≡ cond (operation_eq k q) (Some n) (lookup (operation_eq q) old)
-derived_updates k n old new u q = sym (derived_lookup q new) ∙ u q ∙ ap₂ (λ b x. cond b (Some n) x) (same_operations k q) (derived_lookup q old)
+derived_updates k n old new u q = sym (derived_lookup q new) ∙ u q
+    ∙ ap₂ (λ b x. cond b (Some n) x) (same_operations k q) (derived_lookup q old)

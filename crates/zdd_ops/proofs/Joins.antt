@@ -14,7 +14,8 @@ use Rattle.zdd_ops.specs.declared.cut.Cut.{Cut}
 use Rattle.zdd_ops.specs.Cuts.{IsCut}
 use Rattle.zdd_ops.specs.Operations.{join_of, IsKnown}
 
-join-halves : (j : Join) (v : ℕ) (f0 f1 g0 g1 : Family) → IsAbove v f0 → IsAbove v g0 → join_of j (node v f0 f1) (node v g0 g1) ≡ node v (join_of j f0 g0) (join_of j f1 g1)
+join-halves : (j : Join) (v : ℕ) (f0 f1 g0 g1 : Family) → IsAbove v f0 → IsAbove v g0
+    → join_of j (node v f0 f1) (node v g0 g1) ≡ node v (join_of j f0 g0) (join_of j f1 g1)
 join-halves Union v f0 f1 g0 g1 a b = union-node v f0 f1 g0 g1 a b
 join-halves Meet v f0 f1 g0 g1 a b = meet-node v f0 f1 g0 g1 a b
 join-halves Minus v f0 f1 g0 g1 a b = minus-node v f0 f1 g0 g1 a b
@@ -39,7 +40,8 @@ module _ (j : Join) (s0 : Stored) (f g : ℕ) (cut : Cut) (c : IsCut s0.families
   Upper = join_of j (fam cut.f1.n) (fam cut.g1.n)
 
   made_is : Made ≡ node cut.event.n Lower Upper
-  made_is = ap₂ (join_of j) c.f_is c.g_is ∙ join-halves j cut.event.n (fam cut.f0.n) (fam cut.f1.n) (fam cut.g0.n) (fam cut.g1.n) c.f0_above c.g0_above
+  made_is = ap₂ (join_of j) c.f_is c.g_is
+      ∙ join-halves j cut.event.n (fam cut.f0.n) (fam cut.f1.n) (fam cut.g0.n) (fam cut.g1.n) c.f0_above c.g0_above
 
   lower_is_above : IsAbove cut.event.n Lower
   lower_is_above = join-above j cut.event.n (fam cut.f0.n) (fam cut.g0.n) c.f0_above c.g0_above
@@ -48,14 +50,23 @@ module _ (j : Join) (s0 : Stored) (f g : ℕ) (cut : Cut) (c : IsCut s0.families
   upper_is_above = join-above j cut.event.n (fam cut.f1.n) (fam cut.g1.n) c.f1_above c.g1_above
 
   pub join_halved : Halved (IsCounted Made) Made cut.event.n Lower Upper
-  join_halved = record { is = made_is; lower_above = lower_is_above; upper_above = upper_is_above; whole = counted_made Made }
+  join_halved = record {
+    is = made_is;
+    lower_above = lower_is_above;
+    upper_above = upper_is_above;
+    whole = counted_made Made;
+  }
 
-  pub join_lower : (s1 : Stored) (r : Result NodeId NodeFault) → Draws (IsCounted Lower) Lower s0 s1 r → Draws (IsCounted Made) Lower s0 s1 r
-  join_lower s1 r d = Draws-weaker (IsCounted Lower) (IsCounted Made) Lower s0 s1 r (λ h x. subst (λ m. IsCounted m h) (sym made_is) (IsCounted-lower cut.event.n Lower Upper h lower_is_above x)) d
+  pub join_lower : (s1 : Stored) (r : Result NodeId NodeFault) → Draws (IsCounted Lower) Lower s0 s1 r
+      → Draws (IsCounted Made) Lower s0 s1 r
+  join_lower s1 r d = Draws-weaker (IsCounted Lower) (IsCounted Made) Lower s0 s1 r
+      (λ h x. subst (λ m. IsCounted m h) (sym made_is) (IsCounted-lower cut.event.n Lower Upper h lower_is_above x)) d
 
   pub join_upper : (s1 s2 : Stored) (r : Result NodeId NodeFault) → Grows (IsCounted Made) s0 s1
       → (let made = join_of j (family s1 cut.f1.n) (family s1 cut.g1.n) in Draws (IsCounted made) made s1 s2 r) → Draws (IsCounted Made) Upper s1 s2 r
-  join_upper s1 s2 r a d = Draws-weaker (IsCounted Upper) (IsCounted Made) Upper s1 s2 r (λ h x. subst (λ m. IsCounted m h) (sym made_is) (IsCounted-upper cut.event.n Lower Upper h lower_is_above upper_is_above x))
+  join_upper s1 s2 r a d = Draws-weaker (IsCounted Upper) (IsCounted Made) Upper s1 s2 r
+      (λ h x. subst (λ m. IsCounted m h) (sym made_is)
+      (IsCounted-upper cut.event.n Lower Upper h lower_is_above upper_is_above x))
       (moved (IsCounted Made) s0 s1 cut.f1.n cut.g1.n a c.f1_in c.g1_in (λ x y. let made = join_of j x y in Draws (IsCounted made) made s1 s2 r) d)
 
 -- ---- what is known at once
@@ -105,4 +116,8 @@ without_f f g e fs h l = (
 )
 
 pub without_none : (f g n : ℕ) → n ≡ 0 → f ≡ g → IsKnown without f g n
-without_none f g n z e fs h l = (omega arith, ap (at fs) z ∙ sym (ap (without (at fs f)) (ap (at fs) (sym e)) ∙ without-self (at fs f)))
+without_none f g n z e fs h l = (
+  omega arith,
+  ap (at fs) z
+      ∙ sym (ap (without (at fs f)) (ap (at fs) (sym e)) ∙ without-self (at fs f)),
+)

@@ -17,7 +17,8 @@ minimal_small fs zero h = sym minimal-nil
 minimal_small fs (suc zero) h = sym minimal-unit
 minimal_small fs (suc (suc f)) h = absurd (omega (arith, h))
 
-module _ (s0 : Stored) (f v lo hi : ℕ) (i : IsNode s0.families f v lo hi) (f_in : IsNumber s0 f) (ascending : AllByRecursion Ascends (family s0 lo)) where
+module _ (s0 : Stored) (f v lo hi : ℕ) (i : IsNode s0.families f v lo hi) (f_in : IsNumber s0 f)
+    (ascending : AllByRecursion Ascends (family s0 lo)) where
   abbrev fam : ℕ → Family
   fam n = family s0 n
 
@@ -44,24 +45,35 @@ module _ (s0 : Stored) (f v lo hi : ℕ) (i : IsNode s0.families f v lo hi) (f_i
     is = made_is;
     lower_above = IsAbove-minimal v (fam lo) i.lo_above;
     upper_above = IsAbove-without v Above Lower (IsAbove-minimal v (fam hi) i.hi_above);
-    whole = λ h x. to_f h (half_whole v (fam lo) (fam hi) i.lo_above i.hi_above h (subst (λ m. IsCounted (minimal m) h) i.is (counted_made Made h x)));
+    whole = λ h x. to_f h (half_whole v (fam lo) (fam hi) i.lo_above i.hi_above h
+        (subst (λ m. IsCounted (minimal m) h) i.is (counted_made Made h x)));
   }
 
-  pub minimal_lower : (s1 : Stored) (r : Result NodeId NodeFault) → Draws (IsHalf (fam lo)) Lower s0 s1 r → Draws Q Lower s0 s1 r
-  minimal_lower s1 r d = Draws-weaker (IsHalf (fam lo)) Q Lower s0 s1 r (λ h x. to_f h (half_lower v (fam lo) (fam hi) i.lo_above i.hi_above h x)) d
+  pub minimal_lower : (s1 : Stored) (r : Result NodeId NodeFault) → Draws (IsHalf (fam lo)) Lower s0 s1 r
+      → Draws Q Lower s0 s1 r
+  minimal_lower s1 r d = Draws-weaker (IsHalf (fam lo)) Q Lower s0 s1 r
+      (λ h x. to_f h (half_lower v (fam lo) (fam hi) i.lo_above i.hi_above h x)) d
 
-  pub minimal_above : (s1 s2 : Stored) (r : Result NodeId NodeFault) → Grows Q s0 s1 → Draws (IsHalf (family s1 hi)) (minimal (family s1 hi)) s1 s2 r → Draws Q Above s1 s2 r
-  minimal_above s1 s2 r a d = Draws-weaker (IsHalf (fam hi)) Q Above s1 s2 r (λ h x. to_f h (half_upper v (fam lo) (fam hi) i.lo_above i.hi_above h x))
-      (moved Q s0 s1 hi hi a (lt_trans i.hi_before f_in) (lt_trans i.hi_before f_in) (λ x y. Draws (IsHalf x) (minimal x) s1 s2 r) d)
+  pub minimal_above : (s1 s2 : Stored) (r : Result NodeId NodeFault) → Grows Q s0 s1
+      → Draws (IsHalf (family s1 hi)) (minimal (family s1 hi)) s1 s2 r → Draws Q Above s1 s2 r
+  minimal_above s1 s2 r a d = Draws-weaker (IsHalf (fam hi)) Q Above s1 s2 r
+      (λ h x. to_f h (half_upper v (fam lo) (fam hi) i.lo_above i.hi_above h x))
+      (moved Q s0 s1 hi hi a (lt_trans i.hi_before f_in) (lt_trans i.hi_before f_in)
+      (λ x y. Draws (IsHalf x) (minimal x) s1 s2 r) d)
 
-  module _ (s1 s2 : Stored) (low up : NodeId) (dl : Draws Q Lower s0 s1 (Ok low)) (du : Draws Q Above s1 s2 (Ok up)) where
+  module _ (s1 s2 : Stored) (low up : NodeId) (dl : Draws Q Lower s0 s1 (Ok low))
+      (du : Draws Q Above s1 s2 (Ok up)) where
     pub low_in : IsNumber s2 low.n
     low_in = still Q s1 s2 low.n du.grows dl.ok.0
 
     -- the upper half: the minimal sets of the upper half that contain none of the lower half
-    pub minimal_upper : (s3 : Stored) (r : Result NodeId NodeFault) → Draws (IsPart (family s2 up.n) (family s2 low.n)) (without (family s2 up.n) (family s2 low.n)) s2 s3 r → Draws Q (without Above Lower) s1 s3 r
+    pub minimal_upper : (s3 : Stored) (r : Result NodeId NodeFault)
+        → Draws (IsPart (family s2 up.n) (family s2 low.n)) (without (family s2 up.n) (family s2 low.n)) s2 s3 r
+        → Draws Q (without Above Lower) s1 s3 r
     minimal_upper s3 r d =
         let low_is = kept Q s1 s2 low.n du.grows dl.ok.0 ∙ dl.ok.1 in
-        let e = subst (λ x. Draws (IsPart x Lower) (without x Lower) s2 s3 r) du.ok.1 (subst (λ y. Draws (IsPart (family s2 up.n) y) (without (family s2 up.n) y) s2 s3 r) low_is d) in
+        let e = subst (λ x. Draws (IsPart x Lower) (without x Lower) s2 s3 r) du.ok.1
+        (subst (λ y. Draws (IsPart (family s2 up.n) y) (without (family s2 up.n) y) s2 s3 r) low_is d) in
         Draws-after Q (without Above Lower) s1 s2 s3 r du.grows
-        (Draws-weaker (IsPart Above Lower) Q (without Above Lower) s2 s3 r (λ h x. to_f h (half_parts v (fam lo) (fam hi) i.lo_above i.hi_above i.hi_some h x)) e)
+        (Draws-weaker (IsPart Above Lower) Q (without Above Lower) s2 s3 r
+        (λ h x. to_f h (half_parts v (fam lo) (fam hi) i.lo_above i.hi_above i.hi_some h x)) e)

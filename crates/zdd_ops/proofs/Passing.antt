@@ -39,14 +39,18 @@ lower_meet f g r (half v lo hi a b c rest) =
 -- a part of f and what is left of g is one of f and g
 pub part_lower : (f g r h : Family) → IsLower f g r → IsPart f r h → IsPart f g h
 part_lower f g r h whole p = p
-part_lower f g r h (half v lo hi a b c rest) p = part_lower f g (node v lo hi) h rest (IsPart-00 v f [] lo hi h a tt b c p)
+part_lower f g r h (half v lo hi a b c rest) p =
+    part_lower f g (node v lo hi) h rest (IsPart-00 v f [] lo hi h a tt b c p)
 
 -- the sets without those of what is left
 pub without_passed : (s t : Stored) (f g r : ℕ) (result : Result NodeId NodeFault) → IsPassed s.families f g r
-    → Draws (IsPart (family s f) (family s r)) (without (family s f) (family s r)) s t result → Draws (IsPart (family s f) (family s g)) (without (family s f) (family s g)) s t result
+    → Draws (IsPart (family s f) (family s r)) (without (family s f) (family s r)) s t result
+    → Draws (IsPart (family s f) (family s g)) (without (family s f) (family s g)) s t result
 without_passed s t f g r result p d =
-    subst (λ m. Draws (IsPart (family s f) (family s g)) m s t result) (sym (without_lower (family s f) (family s g) (family s r) p.lower))
-    (Draws-weaker (IsPart (family s f) (family s r)) (IsPart (family s f) (family s g)) (without (family s f) (family s r)) s t result
+    subst (λ m. Draws (IsPart (family s f) (family s g)) m s t result)
+    (sym (without_lower (family s f) (family s g) (family s r) p.lower))
+    (Draws-weaker (IsPart (family s f) (family s r)) (IsPart (family s f) (family s g))
+    (without (family s f) (family s r)) s t result
     (λ h x. part_lower (family s f) (family s g) (family s r) h p.lower x) d)
 
 -- ---- the numbers
@@ -54,7 +58,8 @@ pub passed_none : (fs : List Family) (f g : ℕ) → g < length fs + 2 → IsPas
 passed_none fs f g h = record { left_in = h; no_more = omega arith; lower = whole }
 
 -- one more lower half
-pub passed_half : (fs : List Family) (f g event lo hi : ℕ) → g < length fs + 2 → IsNode fs g event lo hi → IsAbove event (at fs f) → IsPassed fs f g lo
+pub passed_half : (fs : List Family) (f g event lo hi : ℕ) → g < length fs + 2 → IsNode fs g event lo hi
+    → IsAbove event (at fs f) → IsPassed fs f g lo
 passed_half fs f g event lo hi h i a = record {
   left_in = omega (arith, h, i.lo_before);
   no_more = omega (arith, i.lo_before);
@@ -79,7 +84,8 @@ above_small fs v (suc zero) h = (tt, tt)
 above_small fs v (suc (suc n)) h = absurd (omega (arith, h))
 
 -- ---- both families
-pub both_second : (fs : List Family) (f g : ℕ) (left : Operands) (lower : NodeId) → ArePassed fs Meet f g left → IsPassed fs left.f.n left.g.n lower.n → ArePassed fs Meet f g (record { f = left.f; g = lower })
+pub both_second : (fs : List Family) (f g : ℕ) (left : Operands) (lower : NodeId) → ArePassed fs Meet f g left
+    → IsPassed fs left.f.n left.g.n lower.n → ArePassed fs Meet f g (record { f = left.f; g = lower })
 both_second fs f g left lower a p = record {
   f_in = a.f_in;
   g_in = p.left_in;
@@ -88,7 +94,8 @@ both_second fs f g left lower a p = record {
   same = a.same ∙ meet_lower (at fs left.f.n) (at fs left.g.n) (at fs lower.n) p.lower;
 }
 
-pub both_first : (fs : List Family) (f g : ℕ) (left : Operands) (lower : NodeId) → ArePassed fs Meet f g left → IsPassed fs left.g.n left.f.n lower.n → ArePassed fs Meet f g (record { f = lower; g = left.g })
+pub both_first : (fs : List Family) (f g : ℕ) (left : Operands) (lower : NodeId) → ArePassed fs Meet f g left
+    → IsPassed fs left.g.n left.f.n lower.n → ArePassed fs Meet f g (record { f = lower; g = left.g })
 both_first fs f g left lower a p = record {
   f_in = p.left_in;
   g_in = a.g_in;
@@ -97,11 +104,19 @@ both_first fs f g left lower a p = record {
   same = a.same ∙ lower_meet (at fs left.g.n) (at fs left.f.n) (at fs lower.n) p.lower;
 }
 
-pub minus_second : (fs : List Family) (f g lower : NodeId) → f.n < length fs + 2 → IsPassed fs f.n g.n lower.n → ArePassed fs Minus f.n g.n (record { f = f; g = lower })
-minus_second fs f g lower h p = record { f_in = h; g_in = p.left_in; f_no_more = omega arith; g_no_more = p.no_more; same = minus_lower (at fs f.n) (at fs g.n) (at fs lower.n) p.lower }
+pub minus_second : (fs : List Family) (f g lower : NodeId) → f.n < length fs + 2 → IsPassed fs f.n g.n lower.n
+    → ArePassed fs Minus f.n g.n (record { f = f; g = lower })
+minus_second fs f g lower h p = record {
+  f_in = h;
+  g_in = p.left_in;
+  f_no_more = omega arith;
+  g_no_more = p.no_more;
+  same = minus_lower (at fs f.n) (at fs g.n) (at fs lower.n) p.lower;
+}
 
 -- a join of what is left
-pub join_passed : (s t : Stored) (j : Join) (f g : ℕ) (left : Operands) (result : Result NodeId NodeFault) → ArePassed s.families j f g left
+pub join_passed : (s t : Stored) (j : Join) (f g : ℕ) (left : Operands) (result : Result NodeId NodeFault)
+    → ArePassed s.families j f g left
     → (let made = join_of j (family s left.f.n) (family s left.g.n) in Draws (IsCounted made) made s t result)
     → (let made = join_of j (family s f) (family s g) in Draws (IsCounted made) made s t result)
 join_passed s t j f g left result p d = subst (λ m. Draws (IsCounted m) m s t result) (sym p.same) d

@@ -31,37 +31,55 @@ module _ (s0 : Stored) (f g : ℕ) (cut : Cut) (c : IsCut s0.families f g cut) w
   Second = without (fam cut.f1.n) (fam cut.g1.n)
 
   made_is : Made ≡ node cut.event.n Lower (meet First Second)
-  made_is = ap₂ without c.f_is c.g_is ∙ without-node cut.event.n (fam cut.f0.n) (fam cut.f1.n) (fam cut.g0.n) (fam cut.g1.n) c.f0_above c.g0_above c.g1_above
+  made_is = ap₂ without c.f_is c.g_is
+      ∙ without-node cut.event.n (fam cut.f0.n) (fam cut.f1.n) (fam cut.g0.n) (fam cut.g1.n) c.f0_above c.g0_above
+      c.g1_above
 
   lower_is_above : IsAbove cut.event.n Lower
   lower_is_above = IsAbove-without cut.event.n (fam cut.f0.n) (fam cut.g0.n) c.f0_above
 
   upper_is_above : IsAbove cut.event.n (meet First Second)
-  upper_is_above = IsAbove-meet cut.event.n First Second (IsAbove-without cut.event.n (fam cut.f1.n) (fam cut.g0.n) c.f1_above)
+  upper_is_above = IsAbove-meet cut.event.n First Second
+      (IsAbove-without cut.event.n (fam cut.f1.n) (fam cut.g0.n) c.f1_above)
 
-  at_whole : (h : Family) → IsPart (node cut.event.n (fam cut.f0.n) (fam cut.f1.n)) (node cut.event.n (fam cut.g0.n) (fam cut.g1.n)) h → Q h
-  at_whole h x = subst (λ m. IsPart (fam f) m h) (sym c.g_is) (subst (λ m. IsPart m (node cut.event.n (fam cut.g0.n) (fam cut.g1.n)) h) (sym c.f_is) x)
+  at_whole : (h : Family) → IsPart (node cut.event.n (fam cut.f0.n) (fam cut.f1.n))
+      (node cut.event.n (fam cut.g0.n) (fam cut.g1.n)) h → Q h
+  at_whole h x = subst (λ m. IsPart (fam f) m h) (sym c.g_is)
+      (subst (λ m. IsPart m (node cut.event.n (fam cut.g0.n) (fam cut.g1.n)) h) (sym c.f_is) x)
 
   pub without_halved : Halved Q Made cut.event.n Lower (meet First Second)
-  without_halved = record { is = made_is; lower_above = lower_is_above; upper_above = upper_is_above; whole = λ h x. IsPart-whole (fam f) (fam g) h (counted_made Made h x) }
+  without_halved = record {
+    is = made_is;
+    lower_above = lower_is_above;
+    upper_above = upper_is_above;
+    whole = λ h x. IsPart-whole (fam f) (fam g) h (counted_made Made h x);
+  }
 
   -- the operation is asked for two numbers of the store s
   abbrev Asked : Stored → Stored → ℕ → ℕ → Result NodeId NodeFault → Type 0
   Asked s t x y r = Draws (IsPart (family s x) (family s y)) (without (family s x) (family s y)) s t r
 
-  pub without_lower : (s1 : Stored) (r : Result NodeId NodeFault) → Asked s0 s1 cut.f0.n cut.g0.n r → Draws Q Lower s0 s1 r
-  without_lower s1 r d = Draws-weaker (IsPart (fam cut.f0.n) (fam cut.g0.n)) Q Lower s0 s1 r (λ h x. at_whole h (IsPart-00 cut.event.n _ _ _ _ h c.f0_above c.f1_above c.g0_above c.g1_above x)) d
+  pub without_lower : (s1 : Stored) (r : Result NodeId NodeFault) → Asked s0 s1 cut.f0.n cut.g0.n r
+      → Draws Q Lower s0 s1 r
+  without_lower s1 r d = Draws-weaker (IsPart (fam cut.f0.n) (fam cut.g0.n)) Q Lower s0 s1 r
+      (λ h x. at_whole h (IsPart-00 cut.event.n _ _ _ _ h c.f0_above c.f1_above c.g0_above c.g1_above x)) d
 
-  pub without_first : (s1 s2 : Stored) (r : Result NodeId NodeFault) → Grows Q s0 s1 → Asked s1 s2 cut.f1.n cut.g0.n r → Draws Q First s1 s2 r
-  without_first s1 s2 r a d = Draws-weaker (IsPart (fam cut.f1.n) (fam cut.g0.n)) Q First s1 s2 r (λ h x. at_whole h (IsPart-10 cut.event.n _ _ _ _ h c.f0_above c.f1_above c.g0_above c.g1_above x))
+  pub without_first : (s1 s2 : Stored) (r : Result NodeId NodeFault) → Grows Q s0 s1 → Asked s1 s2 cut.f1.n cut.g0.n r
+      → Draws Q First s1 s2 r
+  without_first s1 s2 r a d = Draws-weaker (IsPart (fam cut.f1.n) (fam cut.g0.n)) Q First s1 s2 r
+      (λ h x. at_whole h (IsPart-10 cut.event.n _ _ _ _ h c.f0_above c.f1_above c.g0_above c.g1_above x))
       (moved Q s0 s1 cut.f1.n cut.g0.n a c.f1_in c.g0_in (λ x y. Draws (IsPart x y) (without x y) s1 s2 r) d)
 
-  pub without_second : (s1 s2 : Stored) (r : Result NodeId NodeFault) → Grows Q s0 s1 → Asked s1 s2 cut.f1.n cut.g1.n r → Draws Q Second s1 s2 r
-  without_second s1 s2 r a d = Draws-weaker (IsPart (fam cut.f1.n) (fam cut.g1.n)) Q Second s1 s2 r (λ h x. at_whole h (IsPart-11 cut.event.n _ _ _ _ h c.f0_above c.f1_above c.g0_above c.g1_above x))
+  pub without_second : (s1 s2 : Stored) (r : Result NodeId NodeFault) → Grows Q s0 s1 → Asked s1 s2 cut.f1.n cut.g1.n r
+      → Draws Q Second s1 s2 r
+  without_second s1 s2 r a d = Draws-weaker (IsPart (fam cut.f1.n) (fam cut.g1.n)) Q Second s1 s2 r
+      (λ h x. at_whole h (IsPart-11 cut.event.n _ _ _ _ h c.f0_above c.f1_above c.g0_above c.g1_above x))
       (moved Q s0 s1 cut.f1.n cut.g1.n a c.f1_in c.g1_in (λ x y. Draws (IsPart x y) (without x y) s1 s2 r) d)
 
   in_meet : (h : Family) → IsCounted (meet First Second) h → Q h
-  in_meet h x = IsPart-whole (fam f) (fam g) h (subst (λ m. IsCounted m h) (sym made_is) (IsCounted-upper cut.event.n Lower (meet First Second) h lower_is_above upper_is_above x))
+  in_meet h x = IsPart-whole (fam f) (fam g) h
+      (subst (λ m. IsCounted m h) (sym made_is)
+      (IsCounted-upper cut.event.n Lower (meet First Second) h lower_is_above upper_is_above x))
 
   module _ (s1 s2 s3 : Stored) (a b : NodeId) (da : Draws Q First s1 s2 (Ok a)) (db : Draws Q Second s2 s3 (Ok b)) where
     pub first_in : IsNumber s3 a.n
@@ -72,4 +90,5 @@ module _ (s0 : Stored) (f g : ℕ) (cut : Cut) (c : IsCut s0.families f g cut) w
     without_upper s4 r d =
         let e = ap₂ meet (kept Q s2 s3 a.n db.grows da.ok.0 ∙ da.ok.1) db.ok.1 in
         Draws-after Q (meet First Second) s1 s3 s4 r (Grows-then Q s1 s2 s3 da.grows db.grows)
-        (Draws-weaker (IsCounted (meet First Second)) Q (meet First Second) s3 s4 r in_meet (subst (λ m. Draws (IsCounted m) m s3 s4 r) e d))
+        (Draws-weaker (IsCounted (meet First Second)) Q (meet First Second) s3 s4 r in_meet
+        (subst (λ m. Draws (IsCounted m) m s3 s4 r) e d))

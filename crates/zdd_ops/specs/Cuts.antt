@@ -23,11 +23,13 @@ pub record IsCut (fs : List Family) (f g : ℕ) (c : Cut) : Type 0 where
   pub less11 : c.f1.n + c.g1.n < f + g
   pub less10 : c.f1.n + c.g0.n < f + g
 
--- what is left of a family where it is its lower half again and again, each time at an event below all events of f and of
+-- what is left of a family where it is its lower half again and again, each time at an event below all events of f and
+-- of
 -- both halves
 pub data IsLower (f g : Family) : Family → Type 0 where
   whole : IsLower f g g
-  half : (v : ℕ) (lo hi : Family) → IsAbove v f → IsAbove v lo → IsAbove v hi → IsLower f g (node v lo hi) → IsLower f g lo
+  half : (v : ℕ) (lo hi : Family) → IsAbove v f → IsAbove v lo → IsAbove v hi → IsLower f g (node v lo hi)
+      → IsLower f g lo
 
 -- r is the number of what is left of g
 pub record IsPassed (fs : List Family) (f g r : ℕ) : Type 0 where

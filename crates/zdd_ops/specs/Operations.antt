@@ -55,8 +55,10 @@ pub record IsSound (entries : List (Operation × NodeId)) (fs : List Family) : T
 
 -- every result that is held was held before or is the number n for the operation k
 pub record Remembers (k : Operation) (n : NodeId) (old new : List (Operation × NodeId)) : Type 0 where
-  pub each : (q : Operation) (m : NodeId) → lookup (operation_eq q) new ≡ Some m → (lookup (operation_eq q) old ≡ Some m) ⊎ ((operation_eq k q ≡ true) × (m ≡ n))
+  pub each : (q : Operation) (m : NodeId) → lookup (operation_eq q) new ≡ Some m
+      → (lookup (operation_eq q) old ≡ Some m) ⊎ ((operation_eq k q ≡ true) × (m ≡ n))
 
 -- whatever families the nodes have, n is the number of what the operation makes of f and g
 abbrev pub IsKnown : (Family → Family → Family) → ℕ → ℕ → ℕ → Type 0
-IsKnown made f g n = (fs : List Family) → f < length fs + 2 → g < length fs + 2 → (n < length fs + 2) × (at fs n ≡ made (at fs f) (at fs g))
+IsKnown made f g n = (fs : List Family) → f < length fs + 2 → g < length fs + 2
+    → (n < length fs + 2) × (at fs n ≡ made (at fs f) (at fs g))

@@ -13,4 +13,5 @@ pub returns-clause-lists : goal.returns-clause-lists
 returns-clause-lists c = λ trees fs h n a b. walk_lists trees fs h n a b
 
 pub returns-clause-sections : goal.returns-clause-sections
-returns-clause-sections c = λ m k p fs a u. left_section m _ k 0 m p fs refl (omega arith) (is_ascending p a) (all_zero p) u
+returns-clause-sections c = λ m k p fs a u. left_section m _ k 0 m p fs refl (omega arith) (is_ascending p a)
+    (all_zero p) u

@@ -9,13 +9,15 @@ pub returns-in_err-events-in-Some : goal.returns-in_err-events-in-Some
 returns-in_err-events-in-Some c = λ x of.
     let r = err_from_is_err_and c.from_residual.result c.from_residual.ensures.1 in
     let p = c.args.flattened.now.system in
-    let h = list_refused_same x p _ _ c.in_err-events-in-Some.field-0.0 (c.as_bytes-bytes.ensures.value ∙ c.as_str.ensures) (c.in_err-events-in-Some.ensures x of) in
+    let h = list_refused_same x p _ _ c.in_err-events-in-Some.field-0.0
+    (c.as_bytes-bytes.ensures.value ∙ c.as_str.ensures) (c.in_err-events-in-Some.ensures x of) in
     rw c.in-Some.is (list_stops x p _ _ _ c.in_err-events-in-Some.field-0.0 r.1 r.2 h)
 
 pub returns-in_ok-events-in-Some : goal.returns-in_ok-events-in-Some
 returns-in_ok-events-in-Some c = λ x of.
     let p = c.args.flattened.now.system in
-    let h = list_given_same x p _ _ c.in_ok-events-in-Some.events (c.as_bytes-bytes.ensures.value ∙ c.as_str.ensures) (c.in_ok-events-in-Some.ensures x of) in
+    let h = list_given_same x p _ _ c.in_ok-events-in-Some.events (c.as_bytes-bytes.ensures.value ∙ c.as_str.ensures)
+    (c.in_ok-events-in-Some.ensures x of) in
     rw c.in-Some.is (list_given x p _ c.in_ok-events-in-Some.events h)
 
 pub returns-in-None : goal.returns-in-None

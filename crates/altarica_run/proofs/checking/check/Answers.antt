@@ -27,7 +27,8 @@ open-requires-clause-trees g c =
 pub open-requires-clause-firable : goal.open-requires-clause-firable
 open-requires-clause-firable g c =
     let p = c.args.prepared.now in
-    c.drawn_sets.ensures.firable (trees_of (λ n. n) p.forest) (table_of p.table.equations) (Cuts c.args.family) c.requires.answer
+    c.drawn_sets.ensures.firable (trees_of (λ n. n) p.forest) (table_of p.table.equations) (Cuts c.args.family)
+    c.requires.answer
 
 pub returns-in_err-said : goal.returns-in_err-said
 returns-in_err-said g c = λ job w is e.
@@ -55,23 +56,30 @@ print_check-requires-clause-known g c =
 
 pub returns-in_err-print_check : goal.returns-in_err-print_check
 returns-in_err-print_check g c = λ job w is e.
-    let r = err_from_is_err_and c.from_residual-in_err-print_check.result c.from_residual-in_err-print_check.ensures.1 in
+    let r = err_from_is_err_and c.from_residual-in_err-print_check.result
+    c.from_residual-in_err-print_check.ensures.1 in
     let p = c.args.prepared.now in
     let f = c.args.family in
     let sound = c.parts-sound_parts.ensures.sound in
     let kinds = c.lawful_systems.ensures.net p.system sound in
     let i = ap lists_cuts e in
-    let d = are_drawn job w p is i kinds (λ o h. c.lawful_systems.ensures.observers p.system o sound h) c.drawn_sets.ensures.meant (Cuts f) c.requires.answer in
+    let d = are_drawn job w p is i kinds (λ o h. c.lawful_systems.ensures.observers p.system o sound h)
+    c.drawn_sets.ensures.meant (Cuts f) c.requires.answer in
     let forest = forest_is job w p is i in
     let o = source_observer job w p is i in
     let q = renamed job w p is i in
     let t = table job w p is i in
-    let said = c.in_ok-said.ensures job w is e is.flat.flat is.flat.views t.wanted t.are (seen job w p is i).0 (seen job w p is i).1 in
-    let lines = subst (λ (z : List Chain). AreVerdicts p.system is.flat.flat w.dropped (observed job w p is i) t.wanted.value z c.in_ok-said.said.items) (sym c.deref.ensures.value) said in
-    let verdicts = subst (λ (z : List Verdict). AreVerdicts p.system is.flat.flat w.dropped (observed job w p is i) t.wanted.value c.deref.result.now z) (sym c.deref-2.ensures.value) lines in
-    let few = few_counted c.stored_sections.ensures c.room_for_families.ensures f.store f.root.n p.nodes c.len-sound_store.ensures.sound c.requires.answer.1 c.requires.within in
+    let said = c.in_ok-said.ensures job w is e is.flat.flat is.flat.views t.wanted t.are (seen job w p is i).0
+    (seen job w p is i).1 in
+    let lines = subst (λ (z : List Chain). AreVerdicts p.system is.flat.flat w.dropped (observed job w p is i)
+    t.wanted.value z c.in_ok-said.said.items) (sym c.deref.ensures.value) said in
+    let verdicts = subst (λ (z : List Verdict). AreVerdicts p.system is.flat.flat w.dropped (observed job w p is i)
+    t.wanted.value c.deref.result.now z) (sym c.deref-2.ensures.value) lines in
+    let few = few_counted c.stored_sections.ensures c.room_for_families.ensures f.store f.root.n p.nodes
+    c.len-sound_store.ensures.sound c.requires.answer.1 c.requires.within in
     let told = checks_told job w p is i e c.deref.result.now c.deref.ensures.value (sets_of f) _ d.0 d.1
-    (c.check_of_the_source.ensures w.source p.system is.flat.flat w.dropped p.forest forest o (observed job w p is i) q t.wanted.value (sets_of f) _ d.1 c.in_ok-lister.ensures.lines c.deref.result.now c.deref-2.result.now verdicts)
+    (c.check_of_the_source.ensures w.source p.system is.flat.flat w.dropped p.forest forest o (observed job w p is i) q
+    t.wanted.value (sets_of f) _ d.1 c.in_ok-lister.ensures.lines c.deref.result.now c.deref-2.result.now verdicts)
     few in
     printed_partly (Tells job w) _ Done told _ c.in_err-print_check.ensures _ _ r.1 r.2
 
@@ -82,17 +90,23 @@ returns g c = λ job w is e.
     let sound = c.parts-sound_parts.ensures.sound in
     let kinds = c.lawful_systems.ensures.net p.system sound in
     let i = ap lists_cuts e in
-    let d = are_drawn job w p is i kinds (λ o h. c.lawful_systems.ensures.observers p.system o sound h) c.drawn_sets.ensures.meant (Cuts f) c.requires.answer in
+    let d = are_drawn job w p is i kinds (λ o h. c.lawful_systems.ensures.observers p.system o sound h)
+    c.drawn_sets.ensures.meant (Cuts f) c.requires.answer in
     let forest = forest_is job w p is i in
     let o = source_observer job w p is i in
     let q = renamed job w p is i in
     let t = table job w p is i in
-    let said = c.in_ok-said.ensures job w is e is.flat.flat is.flat.views t.wanted t.are (seen job w p is i).0 (seen job w p is i).1 in
-    let lines = subst (λ (z : List Chain). AreVerdicts p.system is.flat.flat w.dropped (observed job w p is i) t.wanted.value z c.in_ok-said.said.items) (sym c.deref.ensures.value) said in
-    let verdicts = subst (λ (z : List Verdict). AreVerdicts p.system is.flat.flat w.dropped (observed job w p is i) t.wanted.value c.deref.result.now z) (sym c.deref-2.ensures.value) lines in
-    let few = few_counted c.stored_sections.ensures c.room_for_families.ensures f.store f.root.n p.nodes c.len-sound_store.ensures.sound c.requires.answer.1 c.requires.within in
+    let said = c.in_ok-said.ensures job w is e is.flat.flat is.flat.views t.wanted t.are (seen job w p is i).0
+    (seen job w p is i).1 in
+    let lines = subst (λ (z : List Chain). AreVerdicts p.system is.flat.flat w.dropped (observed job w p is i)
+    t.wanted.value z c.in_ok-said.said.items) (sym c.deref.ensures.value) said in
+    let verdicts = subst (λ (z : List Verdict). AreVerdicts p.system is.flat.flat w.dropped (observed job w p is i)
+    t.wanted.value c.deref.result.now z) (sym c.deref-2.ensures.value) lines in
+    let few = few_counted c.stored_sections.ensures c.room_for_families.ensures f.store f.root.n p.nodes
+    c.len-sound_store.ensures.sound c.requires.answer.1 c.requires.within in
     let told = checks_told job w p is i e c.deref.result.now c.deref.ensures.value (sets_of f) _ d.0 d.1
-    (c.check_of_the_source.ensures w.source p.system is.flat.flat w.dropped p.forest forest o (observed job w p is i) q t.wanted.value (sets_of f) _ d.1 c.in_ok-lister.ensures.lines c.deref.result.now c.deref-2.result.now verdicts)
+    (c.check_of_the_source.ensures w.source p.system is.flat.flat w.dropped p.forest forest o (observed job w p is i) q
+    t.wanted.value (sets_of f) _ d.1 c.in_ok-lister.ensures.lines c.deref.result.now c.deref-2.result.now verdicts)
     few in
     printed_whole (Tells job w) _ Done told tt c.in_ok-print_check.ensures
 

@@ -16,7 +16,8 @@ pub returns-in-Some : goal.returns-in-Some
 returns-in-Some c = λ job w is e flat views wanted are o stands.
     let p = c.args.prepared.now in
     let h = rw c.deref.ensures.value at (rw c.deref-in-Some.ensures.value at c.verdicts.ensures flat views) in
-    said_same p.system flat w.dropped p.request.dropped.items p.request.chains.items w.wanted p.request.wanted wanted c.in-Some.wanted
+    said_same p.system flat w.dropped p.request.dropped.items p.request.chains.items w.wanted p.request.wanted wanted
+    c.in-Some.wanted
     are is.requested.wanted.are c.in-Some.is is.requested.dropped.are o stands _ h
 
 pub returns-in-None : goal.returns-in-None

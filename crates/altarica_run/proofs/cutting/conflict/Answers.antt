@@ -22,7 +22,8 @@ open-requires-clause-trees g c =
 pub open-requires-clause-firable : goal.open-requires-clause-firable
 open-requires-clause-firable g c =
     let p = c.args.prepared.now in
-    c.drawn_sets.ensures.firable (trees_of (λ n. n) p.forest) (table_of p.table.equations) (Conflicts c.args.family) c.requires.answer
+    c.drawn_sets.ensures.firable (trees_of (λ n. n) p.forest) (table_of p.table.equations) (Conflicts c.args.family)
+    c.requires.answer
 
 pub returns-in_err-lister : goal.returns-in_err-lister
 returns-in_err-lister g c = λ job w is e.
@@ -45,17 +46,23 @@ print_conflict-requires-clause-known g c =
 
 pub returns-in_err-print_conflict : goal.returns-in_err-print_conflict
 returns-in_err-print_conflict g c = λ job w is e.
-    let r = err_from_is_err_and c.from_residual-in_err-print_conflict.result c.from_residual-in_err-print_conflict.ensures.1 in
+    let r = err_from_is_err_and c.from_residual-in_err-print_conflict.result
+    c.from_residual-in_err-print_conflict.ensures.1 in
     let p = c.args.prepared.now in
     let sound = c.parts-sound_parts.ensures.sound in
     let kinds = c.lawful_systems.ensures.net p.system sound in
     let f = forest_is job w p is e in
-    let a = agrees job w p is e kinds (λ o h. c.lawful_systems.ensures.observers p.system o sound h) c.table_agrees.ensures.agrees in
-    let d = are_drawn job w p is e kinds (λ o h. c.lawful_systems.ensures.observers p.system o sound h) c.drawn_sets.ensures.meant (Conflicts c.args.family) c.requires.answer in
+    let a = agrees job w p is e kinds (λ o h. c.lawful_systems.ensures.observers p.system o sound h)
+    c.table_agrees.ensures.agrees in
+    let d = are_drawn job w p is e kinds (λ o h. c.lawful_systems.ensures.observers p.system o sound h)
+    c.drawn_sets.ensures.meant (Conflicts c.args.family) c.requires.answer in
     let k = conflict_printed job w p is e
-    (λ set sets events lists l x. c.conflicts_of_the_source.ensures.meets w.source p.system is.flat.flat w.dropped p.forest f (observed job w p is e) (table job w p is e).wanted.value _ _ a set sets events lists l x)
-    (λ set sets events lists fault l x y. c.conflicts_of_the_source.ensures.text w.source p.system is.flat.flat w.dropped p.forest f set sets events lists fault l x y)
-    (g.K.Sink.state c.args.out.now) (g.K.Sink.state c.print_conflict.new.out) (Err c.in_err-print_conflict.field-0.0) (sets_of c.args.family) _ d.0 d.1 c.in_ok-lister.ensures.lines c.in_err-print_conflict.ensures in
+    (λ set sets events lists l x. c.conflicts_of_the_source.ensures.meets w.source p.system is.flat.flat w.dropped
+    p.forest f (observed job w p is e) (table job w p is e).wanted.value _ _ a set sets events lists l x)
+    (λ set sets events lists fault l x y. c.conflicts_of_the_source.ensures.text w.source p.system is.flat.flat
+    w.dropped p.forest f set sets events lists fault l x y)
+    (g.K.Sink.state c.args.out.now) (g.K.Sink.state c.print_conflict.new.out) (Err c.in_err-print_conflict.field-0.0)
+    (sets_of c.args.family) _ d.0 d.1 c.in_ok-lister.ensures.lines c.in_err-print_conflict.ensures in
     printed_partly (Tells job w) k.0 Fault k.1 _ k.2 _ _ r.1 r.2
 
 pub returns : goal.returns
@@ -64,10 +71,15 @@ returns g c = λ job w is e.
     let sound = c.parts-sound_parts.ensures.sound in
     let kinds = c.lawful_systems.ensures.net p.system sound in
     let f = forest_is job w p is e in
-    let a = agrees job w p is e kinds (λ o h. c.lawful_systems.ensures.observers p.system o sound h) c.table_agrees.ensures.agrees in
-    let d = are_drawn job w p is e kinds (λ o h. c.lawful_systems.ensures.observers p.system o sound h) c.drawn_sets.ensures.meant (Conflicts c.args.family) c.requires.answer in
+    let a = agrees job w p is e kinds (λ o h. c.lawful_systems.ensures.observers p.system o sound h)
+    c.table_agrees.ensures.agrees in
+    let d = are_drawn job w p is e kinds (λ o h. c.lawful_systems.ensures.observers p.system o sound h)
+    c.drawn_sets.ensures.meant (Conflicts c.args.family) c.requires.answer in
     let k = conflict_printed job w p is e
-    (λ set sets events lists l x. c.conflicts_of_the_source.ensures.meets w.source p.system is.flat.flat w.dropped p.forest f (observed job w p is e) (table job w p is e).wanted.value _ _ a set sets events lists l x)
-    (λ set sets events lists fault l x y. c.conflicts_of_the_source.ensures.text w.source p.system is.flat.flat w.dropped p.forest f set sets events lists fault l x y)
-    (g.K.Sink.state c.args.out.now) (g.K.Sink.state c.print_conflict.new.out) (Ok tt) (sets_of c.args.family) _ d.0 d.1 c.in_ok-lister.ensures.lines c.in_ok-print_conflict.ensures in
+    (λ set sets events lists l x. c.conflicts_of_the_source.ensures.meets w.source p.system is.flat.flat w.dropped
+    p.forest f (observed job w p is e) (table job w p is e).wanted.value _ _ a set sets events lists l x)
+    (λ set sets events lists fault l x y. c.conflicts_of_the_source.ensures.text w.source p.system is.flat.flat
+    w.dropped p.forest f set sets events lists fault l x y)
+    (g.K.Sink.state c.args.out.now) (g.K.Sink.state c.print_conflict.new.out) (Ok tt) (sets_of c.args.family) _ d.0 d.1
+    c.in_ok-lister.ensures.lines c.in_ok-print_conflict.ensures in
     printed_whole (Tells job w) k.0 Fault k.1 tt k.2

@@ -27,7 +27,8 @@ returns-in_err-put_nodes-in-Err-Full g c = λ job w is e.
     let p = c.args.prepared.now in
     let full = c.in-Err-Full.ensures.full (ap Err c.in-Err-Full.field-0-is) in
     let t = may_need job w p is e c.drawn_sets.ensures.nodes full in
-    printed_partly (Tells job w) (nodes_line p.nodes) Nodes t print.Write c.in_err-put_nodes-in-Err-Full.ensures _ _ r.1 r.2
+    printed_partly (Tells job w) (nodes_line p.nodes) Nodes t print.Write c.in_err-put_nodes-in-Err-Full.ensures _ _ r.1
+    r.2
 
 pub returns-in_ok-put_nodes-in-Err-Full : goal.returns-in_ok-put_nodes-in-Err-Full
 returns-in_ok-put_nodes-in-Err-Full g c = λ job w is e.

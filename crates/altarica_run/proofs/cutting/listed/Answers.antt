@@ -12,7 +12,8 @@ use Rattle.altarica_run.proofs.cutting.listed.Goals as goal
 pub conflict-requires-clause-answer : goal.conflict-requires-clause-answer
 conflict-requires-clause-answer g c =
     let p = c.args.prepared.now in
-    subst (λ (d : Drawn). IsAnswer (trees_of (λ n. n) p.forest) (table_of p.table.equations) d) c.in-Conflicts.is c.requires.answer
+    subst (λ (d : Drawn). IsAnswer (trees_of (λ n. n) p.forest) (table_of p.table.equations) d) c.in-Conflicts.is
+    c.requires.answer
 
 pub made-requires-clause-ready : goal.made-requires-clause-ready
 made-requires-clause-ready g c = let r = c.requires.ready in (r.0, r.1, r.2, r.2.command ∙ c.in-Make.is)
@@ -20,7 +21,8 @@ made-requires-clause-ready g c = let r = c.requires.ready in (r.0, r.1, r.2, r.2
 pub made-requires-clause-answer : goal.made-requires-clause-answer
 made-requires-clause-answer g c =
     let p = c.args.prepared.now in
-    subst (λ (d : Drawn). IsAnswer (trees_of (λ n. n) p.forest) (table_of p.table.equations) d) c.in-Cuts.is c.requires.answer
+    subst (λ (d : Drawn). IsAnswer (trees_of (λ n. n) p.forest) (table_of p.table.equations) d) c.in-Cuts.is
+    c.requires.answer
 
 pub made-requires-clause-within : goal.made-requires-clause-within
 made-requires-clause-within g c =
@@ -28,13 +30,19 @@ made-requires-clause-within g c =
 
 pub listing-requires-clause-ready : goal.listing-requires-clause-ready
 listing-requires-clause-ready g c =
-    let r = c.requires.ready in
-    (r.0, r.1, r.2, r.2.command ∙ only_cuts _ (ap lists_cuts (sym r.2.command) ∙ r.3) c.in_default.not-Make c.in_default.not-CheckCuts c.in_default.not-Modules)
+    let r = c.requires.ready in (
+      r.0,
+      r.1,
+      r.2,
+      r.2.command ∙ only_cuts _ (ap lists_cuts (sym r.2.command) ∙ r.3) c.in_default.not-Make
+          c.in_default.not-CheckCuts c.in_default.not-Modules,
+    )
 
 pub listing-requires-clause-answer : goal.listing-requires-clause-answer
 listing-requires-clause-answer g c =
     let p = c.args.prepared.now in
-    subst (λ (d : Drawn). IsAnswer (trees_of (λ n. n) p.forest) (table_of p.table.equations) d) c.in-Cuts.is c.requires.answer
+    subst (λ (d : Drawn). IsAnswer (trees_of (λ n. n) p.forest) (table_of p.table.equations) d) c.in-Cuts.is
+    c.requires.answer
 
 pub listing-requires-clause-within : goal.listing-requires-clause-within
 listing-requires-clause-within g c =
@@ -46,7 +54,8 @@ check-requires-clause-ready g c = let r = c.requires.ready in (r.0, r.1, r.2, r.
 pub check-requires-clause-answer : goal.check-requires-clause-answer
 check-requires-clause-answer g c =
     let p = c.args.prepared.now in
-    subst (λ (d : Drawn). IsAnswer (trees_of (λ n. n) p.forest) (table_of p.table.equations) d) c.in-Cuts.is c.requires.answer
+    subst (λ (d : Drawn). IsAnswer (trees_of (λ n. n) p.forest) (table_of p.table.equations) d) c.in-Cuts.is
+    c.requires.answer
 
 pub check-requires-clause-within : goal.check-requires-clause-within
 check-requires-clause-within g c =
@@ -58,7 +67,8 @@ in_short-requires-clause-ready g c = let r = c.requires.ready in (r.0, r.1, r.2,
 pub in_short-requires-clause-answer : goal.in_short-requires-clause-answer
 in_short-requires-clause-answer g c =
     let p = c.args.prepared.now in
-    subst (λ (d : Drawn). IsAnswer (trees_of (λ n. n) p.forest) (table_of p.table.equations) d) c.in-Cuts.is c.requires.answer
+    subst (λ (d : Drawn). IsAnswer (trees_of (λ n. n) p.forest) (table_of p.table.equations) d) c.in-Cuts.is
+    c.requires.answer
 
 pub in_short-requires-clause-within : goal.in_short-requires-clause-within
 in_short-requires-clause-within g c =

@@ -27,7 +27,8 @@ open-requires-clause-trees g c =
 pub open-requires-clause-firable : goal.open-requires-clause-firable
 open-requires-clause-firable g c =
     let p = c.args.prepared.now in
-    c.drawn_sets.ensures.firable (trees_of (λ n. n) p.forest) (table_of p.table.equations) (Cuts c.args.family) c.requires.answer
+    c.drawn_sets.ensures.firable (trees_of (λ n. n) p.forest) (table_of p.table.equations) (Cuts c.args.family)
+    c.requires.answer
 
 pub returns-in_err-counted : goal.returns-in_err-counted
 returns-in_err-counted g c = λ job w is e.
@@ -61,16 +62,21 @@ returns-in_err-print_cuts g c = λ job w is e.
     let sound = c.parts-sound_parts.ensures.sound in
     let kinds = c.lawful_systems.ensures.net p.system sound in
     let i = ap lists_cuts e in
-    let d = are_drawn job w p is i kinds (λ o h. c.lawful_systems.ensures.observers p.system o sound h) c.drawn_sets.ensures.meant (Cuts f) c.requires.answer in
-    let a = agrees job w p is i kinds (λ o h. c.lawful_systems.ensures.observers p.system o sound h) c.table_agrees.ensures.agrees in
+    let d = are_drawn job w p is i kinds (λ o h. c.lawful_systems.ensures.observers p.system o sound h)
+    c.drawn_sets.ensures.meant (Cuts f) c.requires.answer in
+    let a = agrees job w p is i kinds (λ o h. c.lawful_systems.ensures.observers p.system o sound h)
+    c.table_agrees.ensures.agrees in
     let forest = forest_is job w p is i in
     let o = source_observer job w p is i in
     let q = renamed job w p is i in
     let v = (table job w p is i).wanted.value in
-    let few = few_counted c.stored_sections.ensures c.room_for_families.ensures f.store f.root.n p.nodes c.len-sound_store.ensures.sound c.requires.answer.1 c.requires.within in
+    let few = few_counted c.stored_sections.ensures c.room_for_families.ensures f.store f.root.n p.nodes
+    c.len-sound_store.ensures.sound c.requires.answer.1 c.requires.within in
     let t = cuts_told job w p is i e (sets_of f) _ d.0 d.1
-    (c.cuts_of_the_source.ensures w.source p.system is.flat.flat w.dropped p.forest forest o (observed job w p is i) q v (sets_of f) _ d.1 c.in_ok-lister.ensures.lines)
-    (λ sets listed set one ls line. c.lines_of_the_source_replay.ensures w.source p.system is.flat.flat w.dropped p.forest forest o (observed job w p is i) q v _ _ a d.0 sets listed set one ls line)
+    (c.cuts_of_the_source.ensures w.source p.system is.flat.flat w.dropped p.forest forest o (observed job w p is i) q v
+    (sets_of f) _ d.1 c.in_ok-lister.ensures.lines)
+    (λ sets listed set one ls line. c.lines_of_the_source_replay.ensures w.source p.system is.flat.flat w.dropped
+    p.forest forest o (observed job w p is i) q v _ _ a d.0 sets listed set one ls line)
     few in
     let h = counted_text (g.K.Sink.state c.args.out.now) (g.K.Sink.state c.print_cuts.new.out) p.system
     (edges_of p.forest.trees.items) c.in_ok-lister.lister _ _ c.in_ok-counted.ensures.sets
@@ -84,15 +90,20 @@ returns g c = λ job w is e.
     let sound = c.parts-sound_parts.ensures.sound in
     let kinds = c.lawful_systems.ensures.net p.system sound in
     let i = ap lists_cuts e in
-    let d = are_drawn job w p is i kinds (λ o h. c.lawful_systems.ensures.observers p.system o sound h) c.drawn_sets.ensures.meant (Cuts f) c.requires.answer in
-    let a = agrees job w p is i kinds (λ o h. c.lawful_systems.ensures.observers p.system o sound h) c.table_agrees.ensures.agrees in
+    let d = are_drawn job w p is i kinds (λ o h. c.lawful_systems.ensures.observers p.system o sound h)
+    c.drawn_sets.ensures.meant (Cuts f) c.requires.answer in
+    let a = agrees job w p is i kinds (λ o h. c.lawful_systems.ensures.observers p.system o sound h)
+    c.table_agrees.ensures.agrees in
     let forest = forest_is job w p is i in
     let o = source_observer job w p is i in
     let q = renamed job w p is i in
     let v = (table job w p is i).wanted.value in
-    let few = few_counted c.stored_sections.ensures c.room_for_families.ensures f.store f.root.n p.nodes c.len-sound_store.ensures.sound c.requires.answer.1 c.requires.within in
+    let few = few_counted c.stored_sections.ensures c.room_for_families.ensures f.store f.root.n p.nodes
+    c.len-sound_store.ensures.sound c.requires.answer.1 c.requires.within in
     let t = cuts_told job w p is i e (sets_of f) _ d.0 d.1
-    (c.cuts_of_the_source.ensures w.source p.system is.flat.flat w.dropped p.forest forest o (observed job w p is i) q v (sets_of f) _ d.1 c.in_ok-lister.ensures.lines)
-    (λ sets listed set one ls line. c.lines_of_the_source_replay.ensures w.source p.system is.flat.flat w.dropped p.forest forest o (observed job w p is i) q v _ _ a d.0 sets listed set one ls line)
+    (c.cuts_of_the_source.ensures w.source p.system is.flat.flat w.dropped p.forest forest o (observed job w p is i) q v
+    (sets_of f) _ d.1 c.in_ok-lister.ensures.lines)
+    (λ sets listed set one ls line. c.lines_of_the_source_replay.ensures w.source p.system is.flat.flat w.dropped
+    p.forest forest o (observed job w p is i) q v _ _ a d.0 sets listed set one ls line)
     few in
     printed_whole (Tells job w) _ Done t tt (rw c.in_ok-counted.ensures.sets at c.in_ok-print_cuts.ensures)

@@ -11,14 +11,18 @@ returns-in_err-values g c = λ job w is e.
     let r = err_from_is_err_and c.from_residual.result c.from_residual.ensures.1 in
     let p = c.args.prepared.now in
     let answers = c.in_err-values.ensures.answers is.flat.flat is.flat.views in
-    settle_stops job w p is e c.deref.result.now c.deref.ensures.value (λ text. (c.settles_of_the_source.ensures.fault_lines w.source is.flat.flat p.system is.flat is.flat.views _ text).0)
+    settle_stops job w p is e c.deref.result.now c.deref.ensures.value
+    (λ text. (c.settles_of_the_source.ensures.fault_lines w.source is.flat.flat p.system is.flat is.flat.views _
+    text).0)
     _ answers _ _ r.1 r.2
 
 pub returns-in-None : goal.returns-in-None
 returns-in-None g c = λ job w is e.
     let p = c.args.prepared.now in
     let answers = c.in_ok-values.ensures.answers is.flat.flat is.flat.views in
-    fault_told_whole job w p is e c.deref.result.now c.deref.ensures.value (λ text. (c.settles_of_the_source.ensures.fault_lines w.source is.flat.flat p.system is.flat is.flat.views _ text).0)
+    fault_told_whole job w p is e c.deref.result.now c.deref.ensures.value
+    (λ text. (c.settles_of_the_source.ensures.fault_lines w.source is.flat.flat p.system is.flat is.flat.views _
+    text).0)
     _ c.in-None.is answers
 
 pub print_reasons-requires-clause-flows : goal.print_reasons-requires-clause-flows
@@ -30,12 +34,15 @@ print_reasons-requires-clause-flows g c =
 
 pub returns-in_err-print_reasons-in-Some : goal.returns-in_err-print_reasons-in-Some
 returns-in_err-print_reasons-in-Some g c = λ job w is e.
-    let r = err_from_is_err_and c.from_residual-in_err-print_reasons-in-Some.result c.from_residual-in_err-print_reasons-in-Some.ensures.1 in
+    let r = err_from_is_err_and c.from_residual-in_err-print_reasons-in-Some.result
+    c.from_residual-in_err-print_reasons-in-Some.ensures.1 in
     let p = c.args.prepared.now in
     let answers = c.in_ok-values.ensures.answers is.flat.flat is.flat.views in
     let shown = is.requested.shown in
-    explained_cut job w p is e c.deref.result.now c.deref.ensures.value p.request.shown shown.are (known_there p.system p.request.shown shown.inside) c.in-Some.values.values.items
-    (λ settles. (c.settles_of_the_source.ensures.settles w.source is.flat.flat p.system is.flat is.flat.views _ _).0 settles)
+    explained_cut job w p is e c.deref.result.now c.deref.ensures.value p.request.shown shown.are
+    (known_there p.system p.request.shown shown.inside) c.in-Some.values.values.items
+    (λ settles. (c.settles_of_the_source.ensures.settles w.source is.flat.flat p.system is.flat is.flat.views _ _).0
+    settles)
     (λ observer other same text. c.reasons_of_the_source.ensures w.source p.system is.flat _ observer other same text)
     _ _ _ c.in-Some.values refl c.in-Some.is answers _ c.in_err-print_reasons-in-Some.ensures _ _ r.1 r.2
 
@@ -44,7 +51,9 @@ returns-in_ok-print_reasons-in-Some g c = λ job w is e.
     let p = c.args.prepared.now in
     let answers = c.in_ok-values.ensures.answers is.flat.flat is.flat.views in
     let shown = is.requested.shown in
-    explained_whole job w p is e c.deref.result.now c.deref.ensures.value p.request.shown shown.are (known_there p.system p.request.shown shown.inside) c.in-Some.values.values.items
-    (λ settles. (c.settles_of_the_source.ensures.settles w.source is.flat.flat p.system is.flat is.flat.views _ _).0 settles)
+    explained_whole job w p is e c.deref.result.now c.deref.ensures.value p.request.shown shown.are
+    (known_there p.system p.request.shown shown.inside) c.in-Some.values.values.items
+    (λ settles. (c.settles_of_the_source.ensures.settles w.source is.flat.flat p.system is.flat is.flat.views _ _).0
+    settles)
     (λ observer other same text. c.reasons_of_the_source.ensures w.source p.system is.flat _ observer other same text)
     _ _ _ c.in-Some.values refl c.in-Some.is answers c.in_ok-print_reasons-in-Some.ensures

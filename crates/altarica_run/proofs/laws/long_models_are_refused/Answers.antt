@@ -6,4 +6,5 @@ returns-clause-stages c = λ files job text x loads told over h. over_passes fil
 
 pub returns-clause-call : goal.returns-clause-call
 returns-clause-call c =
-    λ k s job text gave quiet is loads told over. over_of k job (c.one_job.ensures k.words) is loads text told over quiet s gave
+    λ k s job text gave quiet is loads told over. over_of k job (c.one_job.ensures k.words) is loads text told over
+    quiet s gave

@@ -9,17 +9,21 @@ use Rattle.altarica_run.proofs.loading.job_texts.Goals as goal
 pub returns-then-makes_model : goal.returns-then-makes_model
 returns-then-makes_model g c =
     let told = g.H.Shelf.holds c.args.shelf.now in
-    let rose : List ℕ → Type 0 = λ name. Rose (g.H.Shelf.faults c.args.shelf.now name) (g.H.Shelf.faults c.args.shelf.now name) in
+    let rose : List ℕ → Type 0 = λ name. Rose (g.H.Shelf.faults c.args.shelf.now name)
+    (g.H.Shelf.faults c.args.shelf.now name) in
     let job = c.args.job.now in
     let e = sym c.makes_model.ensures ∙ c.if-makes_model.true in
     let made = made_job c.requires.0 job c.requires.1 e in
-    let short = subst (λ (z : List ℕ). length z ≤ limit_of ModelBytes) (sym c.in_ok-model.ensures) (c.generated_models_are_short.ensures job.number made.at_most) in
-    made_told told rose job e made.script (record { model = c.in_ok-model.model; script = None }) refl c.in_ok-model.ensures short
+    let short = subst (λ (z : List ℕ). length z ≤ limit_of ModelBytes) (sym c.in_ok-model.ensures)
+    (c.generated_models_are_short.ensures job.number made.at_most) in
+    made_told told rose job e made.script (record { model = c.in_ok-model.model; script = None }) refl
+    c.in_ok-model.ensures short
 
 pub returns : goal.returns
 returns g c =
     let told = g.H.Shelf.holds c.args.shelf.now in
-    let rose : List ℕ → Type 0 = λ name. Rose (g.H.Shelf.faults c.args.shelf.now name) (g.H.Shelf.faults c.load_all.new.shelf name) in
+    let rose : List ℕ → Type 0 = λ name. Rose (g.H.Shelf.faults c.args.shelf.now name)
+    (g.H.Shelf.faults c.load_all.new.shelf name) in
     let job = c.args.job.now in
     let e = sym c.makes_model.ensures ∙ c.if-makes_model.false in
     files_told told rose job e c.load_all.result c.load_all.ensures

@@ -13,28 +13,41 @@ pub returns-in_err-model : goal.returns-in_err-model
 returns-in_err-model g c =
     let r = err_from_is_err_and c.from_residual.result c.from_residual.ensures.1 in
     let told = g.H.Shelf.holds c.args.shelf.now in
-    let rose : List ℕ → Type 0 = λ name. Rose (g.H.Shelf.faults c.args.shelf.now name) (g.H.Shelf.faults c.load.new.shelf name) in
-    first_stops told rose (texts_where false) (model_file c.args.job.now.model) (script_files c.args.job.now.script) _ _ _ r.1 r.2
-    (subst (λ (z : List ℕ). AnswersFile told rose (model_file z) (Err c.in_err-model.field-0.0)) c.as_str-name.ensures c.in_err-model.ensures.loaded)
+    let rose : List ℕ → Type 0 = λ name. Rose (g.H.Shelf.faults c.args.shelf.now name)
+    (g.H.Shelf.faults c.load.new.shelf name) in
+    first_stops told rose (texts_where false) (model_file c.args.job.now.model) (script_files c.args.job.now.script) _ _
+    _ r.1 r.2
+    (subst (λ (z : List ℕ). AnswersFile told rose (model_file z) (Err c.in_err-model.field-0.0)) c.as_str-name.ensures
+    c.in_err-model.ensures.loaded)
 
 pub returns-in_err-script : goal.returns-in_err-script
 returns-in_err-script g c =
     let r = err_from_is_err_and c.from_residual-in_err-script.result c.from_residual-in_err-script.ensures.1 in
     let told = g.H.Shelf.holds c.args.shelf.now in
     let after = g.H.Shelf.holds c.load.new.shelf in
-    let part : List ℕ → Type 0 = λ name. Rose (g.H.Shelf.faults c.load.new.shelf name) (g.H.Shelf.faults c.load_script.new.shelf name) in
-    let rose : List ℕ → Type 0 = λ name. Rose (g.H.Shelf.faults c.args.shelf.now name) (g.H.Shelf.faults c.load_script.new.shelf name) in
-    let is = subst (λ (z : List ℕ). IsFile (told z) (limit_of ModelBytes) c.in_ok-model.model.items) c.as_str-name.ensures c.in_ok-model.ensures.loaded in
+    let part : List ℕ → Type 0 = λ name. Rose (g.H.Shelf.faults c.load.new.shelf name)
+    (g.H.Shelf.faults c.load_script.new.shelf name) in
+    let rose : List ℕ → Type 0 = λ name. Rose (g.H.Shelf.faults c.args.shelf.now name)
+    (g.H.Shelf.faults c.load_script.new.shelf name) in
+    let is = subst (λ (z : List ℕ). IsFile (told z) (limit_of ModelBytes) c.in_ok-model.model.items)
+    c.as_str-name.ensures c.in_ok-model.ensures.loaded in
     later_stops told rose (texts_where false) script_texts (model_file c.args.job.now.model)
     (script_files c.args.job.now.script) c.in_ok-model.model.items is _ _ _ r.1 r.2
-    (answers_same after told c.in_ok-model.ensures.keeps part rose (λ name h. rose_after _ _ _ (c.in_ok-model.ensures.rises name) h) script_texts (script_files c.args.job.now.script) (Err c.in_err-script.field-0.0) c.in_err-script.ensures)
+    (answers_same after told c.in_ok-model.ensures.keeps part rose
+    (λ name h. rose_after _ _ _ (c.in_ok-model.ensures.rises name) h) script_texts
+    (script_files c.args.job.now.script) (Err c.in_err-script.field-0.0) c.in_err-script.ensures)
 
 pub returns : goal.returns
 returns g c =
     let told = g.H.Shelf.holds c.args.shelf.now in
     let after = g.H.Shelf.holds c.load.new.shelf in
-    let part : List ℕ → Type 0 = λ name. Rose (g.H.Shelf.faults c.load.new.shelf name) (g.H.Shelf.faults c.load_script.new.shelf name) in
-    let rose : List ℕ → Type 0 = λ name. Rose (g.H.Shelf.faults c.args.shelf.now name) (g.H.Shelf.faults c.load_script.new.shelf name) in
-    let is = subst (λ (z : List ℕ). IsFile (told z) (limit_of ModelBytes) c.in_ok-model.model.items) c.as_str-name.ensures c.in_ok-model.ensures.loaded in
+    let part : List ℕ → Type 0 = λ name. Rose (g.H.Shelf.faults c.load.new.shelf name)
+    (g.H.Shelf.faults c.load_script.new.shelf name) in
+    let rose : List ℕ → Type 0 = λ name. Rose (g.H.Shelf.faults c.args.shelf.now name)
+    (g.H.Shelf.faults c.load_script.new.shelf name) in
+    let is = subst (λ (z : List ℕ). IsFile (told z) (limit_of ModelBytes) c.in_ok-model.model.items)
+    c.as_str-name.ensures c.in_ok-model.ensures.loaded in
     whole c.in_ok-model.model.items is
-    (answers_same after told c.in_ok-model.ensures.keeps part rose (λ name h. rose_after _ _ _ (c.in_ok-model.ensures.rises name) h) script_texts (script_files c.args.job.now.script) (Ok c.in_ok-script.script) c.in_ok-script.ensures)
+    (answers_same after told c.in_ok-model.ensures.keeps part rose
+    (λ name h. rose_after _ _ _ (c.in_ok-model.ensures.rises name) h) script_texts
+    (script_files c.args.job.now.script) (Ok c.in_ok-script.script) c.in_ok-script.ensures)

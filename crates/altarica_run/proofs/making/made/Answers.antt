@@ -25,10 +25,14 @@ returns-in_err-put_made g c = λ job w is e.
     let f = c.args.family.now in
     let sound = c.parts-parts.ensures.sound in
     let i = ap lists_cuts e in
-    let d = are_drawn job w p is i (c.lawful_systems.ensures.net p.system sound) (λ o h. c.lawful_systems.ensures.observers p.system o sound h)
+    let d = are_drawn job w p is i (c.lawful_systems.ensures.net p.system sound)
+    (λ o h. c.lawful_systems.ensures.observers p.system o sound h)
     c.drawn_sets.ensures.meant (Cuts f) c.requires.answer in
-    let few = few_counted c.stored_sections.ensures c.room_for_families.ensures f.store f.root.n p.nodes c.len-sound_store.ensures.sound c.requires.answer.1 c.requires.within in
-    let t = make_told job w p is i e (sets_of f) _ d.0 d.1 (made_text c.parts-parts.ensures.parts p.number c.in_ok-counted.ensures.sets c.in_ok-counted.ensures.largest) few in
+    let few = few_counted c.stored_sections.ensures c.room_for_families.ensures f.store f.root.n p.nodes
+    c.len-sound_store.ensures.sound c.requires.answer.1 c.requires.within in
+    let t = make_told job w p is i e (sets_of f) _ d.0 d.1
+    (made_text c.parts-parts.ensures.parts p.number c.in_ok-counted.ensures.sets
+    c.in_ok-counted.ensures.largest) few in
     printed_partly (Tells job w) _ Done t print.Write c.in_err-put_made.ensures _ _ r.1 r.2
 
 pub returns : goal.returns
@@ -37,8 +41,12 @@ returns g c = λ job w is e.
     let f = c.args.family.now in
     let sound = c.parts-parts.ensures.sound in
     let i = ap lists_cuts e in
-    let d = are_drawn job w p is i (c.lawful_systems.ensures.net p.system sound) (λ o h. c.lawful_systems.ensures.observers p.system o sound h)
+    let d = are_drawn job w p is i (c.lawful_systems.ensures.net p.system sound)
+    (λ o h. c.lawful_systems.ensures.observers p.system o sound h)
     c.drawn_sets.ensures.meant (Cuts f) c.requires.answer in
-    let few = few_counted c.stored_sections.ensures c.room_for_families.ensures f.store f.root.n p.nodes c.len-sound_store.ensures.sound c.requires.answer.1 c.requires.within in
-    let t = make_told job w p is i e (sets_of f) _ d.0 d.1 (made_text c.parts-parts.ensures.parts p.number c.in_ok-counted.ensures.sets c.in_ok-counted.ensures.largest) few in
+    let few = few_counted c.stored_sections.ensures c.room_for_families.ensures f.store f.root.n p.nodes
+    c.len-sound_store.ensures.sound c.requires.answer.1 c.requires.within in
+    let t = make_told job w p is i e (sets_of f) _ d.0 d.1
+    (made_text c.parts-parts.ensures.parts p.number c.in_ok-counted.ensures.sets
+    c.in_ok-counted.ensures.largest) few in
     printed_whole (Tells job w) _ Done t tt c.in_ok-put_made.ensures

@@ -25,7 +25,8 @@ returns-in_err-put_line-3 g c =
     let e : c.len-2.result ≡ length c.args.parts.now.events.items = search rules in
     writes_exit _ _ c.from_residual-in_err-put_line-3.ensures.1
     (writes_as _ _ (made_put c.args.counted.sets n u e refl)
-    (writes_on c.in_ok-put_line.ensures (writes_on c.in_ok-put_line-2.ensures (writes_cut _ _ c.in_err-put_line-3.ensures))))
+    (writes_on c.in_ok-put_line.ensures
+    (writes_on c.in_ok-put_line-2.ensures (writes_cut _ _ c.in_err-put_line-3.ensures))))
 
 pub returns-in_err-put_line-4 : goal.returns-in_err-put_line-4
 returns-in_err-put_line-4 g c =
@@ -34,7 +35,9 @@ returns-in_err-put_line-4 g c =
     let e : c.len-2.result ≡ length c.args.parts.now.events.items = search rules in
     writes_exit _ _ c.from_residual-in_err-put_line-4.ensures.1
     (writes_as _ _ (made_put c.args.counted.sets n u e refl)
-    (writes_on c.in_ok-put_line.ensures (writes_on c.in_ok-put_line-2.ensures (writes_on c.in_ok-put_line-3.ensures (writes_cut _ _ c.in_err-put_line-4.ensures)))))
+    (writes_on c.in_ok-put_line.ensures
+    (writes_on c.in_ok-put_line-2.ensures
+    (writes_on c.in_ok-put_line-3.ensures (writes_cut _ _ c.in_err-put_line-4.ensures)))))
 
 pub returns : goal.returns
 returns g c =
@@ -43,4 +46,6 @@ returns g c =
     let e : c.len-2.result ≡ length c.args.parts.now.events.items = search rules in
     let l : c.from-2.result ≡ c.args.counted.largest = search rules in
     writes_as _ _ (made_put c.args.counted.sets n u e l)
-    (writes_on c.in_ok-put_line.ensures (writes_on c.in_ok-put_line-2.ensures (writes_on c.in_ok-put_line-3.ensures (writes_on c.in_ok-put_line-4.ensures c.put_line-5.ensures))))
+    (writes_on c.in_ok-put_line.ensures
+    (writes_on c.in_ok-put_line-2.ensures
+    (writes_on c.in_ok-put_line-3.ensures (writes_on c.in_ok-put_line-4.ensures c.put_line-5.ensures))))

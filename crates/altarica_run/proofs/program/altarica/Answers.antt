@@ -26,14 +26,19 @@ tell-requires-clause-nodes g c =
 pub returns-in-Ok : goal.returns-in-Ok
 returns-in-Ok g c =
     let files = g.H.Shelf.holds c.args.shelf.now in
-    let rose : List ℕ → Type 0 = λ name. Rose (g.H.Shelf.faults c.args.shelf.now name) (g.H.Shelf.faults c.prepare.new.shelf name) in
+    let rose : List ℕ → Type 0 = λ name. Rose (g.H.Shelf.faults c.args.shelf.now name)
+    (g.H.Shelf.faults c.prepare.new.shelf name) in
     let p = c.in-Ok.ensures in
-    record { ends = job_told files rose (bytes_of_all c.args.words.now) _ _ p.job p.ready p.is_job p.passes _ (c.tell.ensures p.job p.ready p.is_ready) }
+    record {
+      ends = job_told files rose (bytes_of_all c.args.words.now) _ _ p.job p.ready p.is_job p.passes _
+          (c.tell.ensures p.job p.ready p.is_ready);
+    }
 
 pub returns-in-Refused : goal.returns-in-Refused
 returns-in-Refused g c =
     let files = g.H.Shelf.holds c.args.shelf.now in
-    let rose : List ℕ → Type 0 = λ name. Rose (g.H.Shelf.faults c.args.shelf.now name) (g.H.Shelf.faults c.prepare.new.shelf name) in
+    let rose : List ℕ → Type 0 = λ name. Rose (g.H.Shelf.faults c.args.shelf.now name)
+    (g.H.Shelf.faults c.prepare.new.shelf name) in
     let words = bytes_of_all c.args.words.now in
     let h = subst (λ (z : Stop). AnswersWords files rose words (Err z)) c.in-Refused.is c.in-Err.ensures in
     record { ends = refusal_told files rose words _ _ c.in-Refused.refusal h _ c.refuse.ensures }
@@ -41,5 +46,6 @@ returns-in-Refused g c =
 pub returns-in-Memory : goal.returns-in-Memory
 returns-in-Memory g c =
     let files = g.H.Shelf.holds c.args.shelf.now in
-    let rose : List ℕ → Type 0 = λ name. Rose (g.H.Shelf.faults c.args.shelf.now name) (g.H.Shelf.faults c.prepare.new.shelf name) in
+    let rose : List ℕ → Type 0 = λ name. Rose (g.H.Shelf.faults c.args.shelf.now name)
+    (g.H.Shelf.faults c.prepare.new.shelf name) in
     record { ends = memory_told files rose (bytes_of_all c.args.words.now) _ _ refl }

@@ -6,7 +6,8 @@ use Rattle.altarica_run.proofs.refusals.put_outside.Goals as goal
 
 -- the line of a broken rule in its five parts
 shown : (n rule : ℕ) (path : List ℕ) → n ≡ rule
-    → codes "outside: S" ++ (decimal n ++ (codes " at " ++ (path ++ 10 ∷ []))) ≡ line (codes "outside: S" ++ (decimal rule ++ (codes " at " ++ path)))
+    → codes "outside: S" ++ (decimal n ++ (codes " at " ++ (path ++ 10 ∷ [])))
+    ≡ line (codes "outside: S" ++ (decimal rule ++ (codes " at " ++ path)))
 shown n rule path e =
     line_four (codes "outside: S") (decimal n) (codes " at ") path
     ∙ ap (λ (k : ℕ). line (codes "outside: S" ++ (decimal k ++ (codes " at " ++ path)))) e
@@ -19,19 +20,24 @@ returns-in_err-put g c =
 pub returns-in_err-put_number : goal.returns-in_err-put_number
 returns-in_err-put_number g c =
     writes_exit _ _ c.from_residual-in_err-put_number.ensures.1
-    (writes_as _ _ (shown _ _ c.args.path.now c.from.ensures) (writes_on c.in_ok-put.ensures (writes_cut _ _ c.in_err-put_number.ensures)))
+    (writes_as _ _ (shown _ _ c.args.path.now c.from.ensures)
+    (writes_on c.in_ok-put.ensures (writes_cut _ _ c.in_err-put_number.ensures)))
 
 pub returns-in_err-put-2 : goal.returns-in_err-put-2
 returns-in_err-put-2 g c =
     writes_exit _ _ c.from_residual-in_err-put-2.ensures.1
-    (writes_as _ _ (shown _ _ c.args.path.now c.from.ensures) (writes_on c.in_ok-put.ensures (writes_on c.in_ok-put_number.ensures (writes_cut _ _ c.in_err-put-2.ensures))))
+    (writes_as _ _ (shown _ _ c.args.path.now c.from.ensures)
+    (writes_on c.in_ok-put.ensures (writes_on c.in_ok-put_number.ensures (writes_cut _ _ c.in_err-put-2.ensures))))
 
 pub returns-in_err-put-3 : goal.returns-in_err-put-3
 returns-in_err-put-3 g c =
     writes_exit _ _ c.from_residual-in_err-put-3.ensures.1
-    (writes_as _ _ (shown _ _ c.args.path.now c.from.ensures) (writes_on c.in_ok-put.ensures (writes_on c.in_ok-put_number.ensures (writes_on c.in_ok-put-2.ensures (writes_cut _ _ c.in_err-put-3.ensures)))))
+    (writes_as _ _ (shown _ _ c.args.path.now c.from.ensures)
+    (writes_on c.in_ok-put.ensures (writes_on c.in_ok-put_number.ensures
+    (writes_on c.in_ok-put-2.ensures (writes_cut _ _ c.in_err-put-3.ensures)))))
 
 pub returns : goal.returns
 returns g c =
     writes_as _ _ (shown _ _ c.args.path.now c.from.ensures)
-    (writes_on c.in_ok-put.ensures (writes_on c.in_ok-put_number.ensures (writes_on c.in_ok-put-2.ensures (writes_on c.in_ok-put-3.ensures c.put-4.ensures))))
+    (writes_on c.in_ok-put.ensures (writes_on c.in_ok-put_number.ensures
+    (writes_on c.in_ok-put-2.ensures (writes_on c.in_ok-put-3.ensures c.put-4.ensures))))

@@ -19,9 +19,11 @@ pub returns-in_err-put_number-2 : goal.returns-in_err-put_number-2
 returns-in_err-put_number-2 g c =
     writes_exit _ _ c.from_residual-in_err-put_number-2.ensures.1
     (writes_as _ _ (line_three (decimal c.args.place.line) (codes ":") (decimal c.args.place.column))
-    (writes_on c.in_ok-put_number.ensures (writes_on c.in_ok-put.ensures (writes_cut _ _ c.in_err-put_number-2.ensures))))
+    (writes_on c.in_ok-put_number.ensures
+    (writes_on c.in_ok-put.ensures (writes_cut _ _ c.in_err-put_number-2.ensures))))
 
 pub returns : goal.returns
 returns g c =
     writes_as _ _ (line_three (decimal c.args.place.line) (codes ":") (decimal c.args.place.column))
-    (writes_on c.in_ok-put_number.ensures (writes_on c.in_ok-put.ensures (writes_on c.in_ok-put_number-2.ensures c.put-2.ensures)))
+    (writes_on c.in_ok-put_number.ensures
+    (writes_on c.in_ok-put.ensures (writes_on c.in_ok-put_number-2.ensures c.put-2.ensures)))

@@ -7,7 +7,8 @@ use Rattle.altarica_run.proofs.refusals.put_rule.Goals as goal
 
 -- the line of a rule in its four parts
 ruled : (n rule : ℕ) (place : List ℕ) → n ≡ rule
-    → codes "rule: L" ++ (decimal n ++ (codes " at " ++ line place)) ≡ line (codes "rule: L" ++ (decimal rule ++ (codes " at " ++ place)))
+    → codes "rule: L" ++ (decimal n ++ (codes " at " ++ line place))
+    ≡ line (codes "rule: L" ++ (decimal rule ++ (codes " at " ++ place)))
 ruled n rule place e =
     line_onto (codes "rule: L") (decimal n) (codes " at " ++ place)
     ∙ ap (λ (k : ℕ). line (codes "rule: L" ++ (decimal k ++ (codes " at " ++ place)))) e
@@ -20,14 +21,17 @@ returns-in_err-put g c =
 pub returns-in_err-put_number : goal.returns-in_err-put_number
 returns-in_err-put_number g c =
     writes_exit _ _ c.from_residual-in_err-put_number.ensures.1
-    (writes_as _ _ (ruled _ _ (place_text c.args.place) c.from.ensures) (writes_on c.in_ok-put.ensures (writes_cut _ _ c.in_err-put_number.ensures)))
+    (writes_as _ _ (ruled _ _ (place_text c.args.place) c.from.ensures)
+    (writes_on c.in_ok-put.ensures (writes_cut _ _ c.in_err-put_number.ensures)))
 
 pub returns-in_err-put-2 : goal.returns-in_err-put-2
 returns-in_err-put-2 g c =
     writes_exit _ _ c.from_residual-in_err-put-2.ensures.1
-    (writes_as _ _ (ruled _ _ (place_text c.args.place) c.from.ensures) (writes_on c.in_ok-put.ensures (writes_on c.in_ok-put_number.ensures (writes_cut _ _ c.in_err-put-2.ensures))))
+    (writes_as _ _ (ruled _ _ (place_text c.args.place) c.from.ensures)
+    (writes_on c.in_ok-put.ensures (writes_on c.in_ok-put_number.ensures (writes_cut _ _ c.in_err-put-2.ensures))))
 
 pub returns : goal.returns
 returns g c =
     writes_as _ _ (ruled _ _ (place_text c.args.place) c.from.ensures)
-    (writes_on c.in_ok-put.ensures (writes_on c.in_ok-put_number.ensures (writes_on c.in_ok-put-2.ensures c.put_place.ensures)))
+    (writes_on c.in_ok-put.ensures (writes_on c.in_ok-put_number.ensures
+    (writes_on c.in_ok-put-2.ensures c.put_place.ensures)))

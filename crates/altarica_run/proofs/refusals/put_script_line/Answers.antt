@@ -24,4 +24,5 @@ returns-in_err-put-2 g c =
 pub returns : goal.returns
 returns g c =
     writes_as _ _ (line_three (codes "script: line ") (decimal c.args.number) c.args.wrong.now)
-    (writes_on c.in_ok-put.ensures (writes_on c.in_ok-put_number.ensures (writes_on c.in_ok-put-2.ensures c.put-3.ensures)))
+    (writes_on c.in_ok-put.ensures (writes_on c.in_ok-put_number.ensures
+    (writes_on c.in_ok-put-2.ensures c.put-3.ensures)))

@@ -23,19 +23,24 @@ returns-in_err-put g c =
 pub returns-in_err-put-2 : goal.returns-in_err-put-2
 returns-in_err-put-2 g c =
     writes_exit _ _ c.from_residual-in_err-put-2.ensures.1
-    (writes_as _ _ (sized c.args.count _ _ c.count_text.ensures refl) (writes_on c.in_ok-put.ensures (writes_cut _ _ c.in_err-put-2.ensures)))
+    (writes_as _ _ (sized c.args.count _ _ c.count_text.ensures refl)
+    (writes_on c.in_ok-put.ensures (writes_cut _ _ c.in_err-put-2.ensures)))
 
 pub returns-in_err-put-3 : goal.returns-in_err-put-3
 returns-in_err-put-3 g c =
     writes_exit _ _ c.from_residual-in_err-put-3.ensures.1
-    (writes_as _ _ (sized c.args.count _ _ c.count_text.ensures refl) (writes_on c.in_ok-put.ensures (writes_on c.in_ok-put-2.ensures (writes_cut _ _ c.in_err-put-3.ensures))))
+    (writes_as _ _ (sized c.args.count _ _ c.count_text.ensures refl)
+    (writes_on c.in_ok-put.ensures (writes_on c.in_ok-put-2.ensures (writes_cut _ _ c.in_err-put-3.ensures))))
 
 pub returns-in_err-put_number : goal.returns-in_err-put_number
 returns-in_err-put_number g c =
     writes_exit _ _ c.from_residual-in_err-put_number.ensures.1
-    (writes_as _ _ (sized c.args.count _ _ c.count_text.ensures c.limit.ensures) (writes_on c.in_ok-put.ensures (writes_on c.in_ok-put-2.ensures (writes_on c.in_ok-put-3.ensures (writes_cut _ _ c.in_err-put_number.ensures)))))
+    (writes_as _ _ (sized c.args.count _ _ c.count_text.ensures c.limit.ensures)
+    (writes_on c.in_ok-put.ensures (writes_on c.in_ok-put-2.ensures
+    (writes_on c.in_ok-put-3.ensures (writes_cut _ _ c.in_err-put_number.ensures)))))
 
 pub returns : goal.returns
 returns g c =
     writes_as _ _ (sized c.args.count _ _ c.count_text.ensures c.limit.ensures)
-    (writes_on c.in_ok-put.ensures (writes_on c.in_ok-put-2.ensures (writes_on c.in_ok-put-3.ensures (writes_on c.in_ok-put_number.ensures c.put-4.ensures))))
+    (writes_on c.in_ok-put.ensures (writes_on c.in_ok-put-2.ensures
+    (writes_on c.in_ok-put-3.ensures (writes_on c.in_ok-put_number.ensures c.put-4.ensures))))

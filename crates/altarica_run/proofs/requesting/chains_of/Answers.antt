@@ -15,4 +15,5 @@ returns-in-Some c = λ x of. rw c.in-Some.is (rw c.if-not-asked.false (c.listed.
 
 pub returns-in-None : goal.returns-in-None
 returns-in-None c = λ x of.
-    rw c.in-None.is (rw c.if-not-asked.false ([], no_cuts refl, no_lines c.args.flattened.now.system _ c.new-in-None.ensures.items))
+    rw c.in-None.is (rw c.if-not-asked.false
+    ([], no_cuts refl, no_lines c.args.flattened.now.system _ c.new-in-None.ensures.items))

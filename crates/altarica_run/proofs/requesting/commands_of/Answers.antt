@@ -24,4 +24,5 @@ returns-in_ok-commands-in-Some c = λ x of.
 
 pub returns-in-None : goal.returns-in-None
 returns-in-None c = λ x of.
-    rw c.in-None.is (rw c.if-not-asked.false ([], no_script refl, no_commands c.args.flattened.now.system _ c.new-in-None.ensures.items))
+    rw c.in-None.is (rw c.if-not-asked.false
+    ([], no_script refl, no_commands c.args.flattened.now.system _ c.new-in-None.ensures.items))

@@ -9,12 +9,16 @@ returns-then-not-asked c = λ x of. rw c.if-not-asked.true (None, no_path refl, 
 pub returns-in-Some-2 : goal.returns-in-Some-2
 returns-in-Some-2 c = λ x of.
     let h = c.in_ok-observer-in-Some.ensures x of in
-    rw c.in-Some.is (rw c.if-not-asked.false (shown_here x c.args.flattened.now.system of.flat _ _ (c.as_bytes-bytes.ensures.value ∙ c.as_str.ensures) _ _ c.in-Some-2.is h))
+    rw c.in-Some.is (rw c.if-not-asked.false
+    (shown_here x c.args.flattened.now.system of.flat _ _ (c.as_bytes-bytes.ensures.value ∙ c.as_str.ensures) _ _
+    c.in-Some-2.is h))
 
 pub returns-in-None-2 : goal.returns-in-None-2
 returns-in-None-2 c = λ x of.
     let h = c.in_ok-observer-in-Some.ensures x of in
-    rw c.in-Some.is (rw c.if-not-asked.false (shown_none x c.args.flattened.now.system _ _ (c.as_bytes-bytes.ensures.value ∙ c.as_str.ensures) _ c.in-None-2.is h))
+    rw c.in-Some.is (rw c.if-not-asked.false
+    (shown_none x c.args.flattened.now.system _ _ (c.as_bytes-bytes.ensures.value ∙ c.as_str.ensures) _
+    c.in-None-2.is h))
 
 pub returns-in-None : goal.returns-in-None
 returns-in-None c = λ x of.

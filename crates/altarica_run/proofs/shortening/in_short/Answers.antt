@@ -27,20 +27,25 @@ returns-in_err-short g c = λ job w is e.
 
 pub returns-in_err-print_modules : goal.returns-in_err-print_modules
 returns-in_err-print_modules g c = λ job w is e.
-    let r = err_from_is_err_and c.from_residual-in_err-print_modules.result c.from_residual-in_err-print_modules.ensures.1 in
+    let r = err_from_is_err_and c.from_residual-in_err-print_modules.result
+    c.from_residual-in_err-print_modules.ensures.1 in
     let p = c.args.prepared.now in
     let f = c.args.family.now in
     let sound = c.parts-sound_parts.ensures.sound in
     let kinds = c.lawful_systems.ensures.net p.system sound in
     let i = ap lists_cuts e in
-    let d = are_drawn job w p is i kinds (λ o h. c.lawful_systems.ensures.observers p.system o sound h) c.drawn_sets.ensures.meant (Cuts f) c.requires.answer in
+    let d = are_drawn job w p is i kinds (λ o h. c.lawful_systems.ensures.observers p.system o sound h)
+    c.drawn_sets.ensures.meant (Cuts f) c.requires.answer in
     let forest = forest_is job w p is i in
     let o = source_observer job w p is i in
     let q = renamed job w p is i in
     let t = table job w p is i in
-    let few = few_counted c.stored_sections.ensures c.room_for_families.ensures f.store f.root.n p.nodes c.len-sound_store.ensures.sound c.requires.answer.1 c.requires.within in
+    let few = few_counted c.stored_sections.ensures c.room_for_families.ensures f.store f.root.n p.nodes
+    c.len-sound_store.ensures.sound c.requires.answer.1 c.requires.within in
     let told = short_told job w p is i e (sets_of f) _ d.0 d.1
-    (c.modules_of_the_source.ensures w.source p.system is.flat.flat w.dropped p.forest forest o (observed job w p is i) q t.wanted.value (sets_of f) d.1 p.ranges.items (is.ranges.own e) c.in_ok-short.short (rw c.deref.ensures.value at c.in_ok-short.ensures.short))
+    (c.modules_of_the_source.ensures w.source p.system is.flat.flat w.dropped p.forest forest o (observed job w p is i)
+    q t.wanted.value (sets_of f) d.1 p.ranges.items (is.ranges.own e) c.in_ok-short.short
+    (rw c.deref.ensures.value at c.in_ok-short.ensures.short))
     few in
     printed_partly (Tells job w) _ Done told _ c.in_err-print_modules.ensures _ _ r.1 r.2
 
@@ -51,13 +56,17 @@ returns g c = λ job w is e.
     let sound = c.parts-sound_parts.ensures.sound in
     let kinds = c.lawful_systems.ensures.net p.system sound in
     let i = ap lists_cuts e in
-    let d = are_drawn job w p is i kinds (λ o h. c.lawful_systems.ensures.observers p.system o sound h) c.drawn_sets.ensures.meant (Cuts f) c.requires.answer in
+    let d = are_drawn job w p is i kinds (λ o h. c.lawful_systems.ensures.observers p.system o sound h)
+    c.drawn_sets.ensures.meant (Cuts f) c.requires.answer in
     let forest = forest_is job w p is i in
     let o = source_observer job w p is i in
     let q = renamed job w p is i in
     let t = table job w p is i in
-    let few = few_counted c.stored_sections.ensures c.room_for_families.ensures f.store f.root.n p.nodes c.len-sound_store.ensures.sound c.requires.answer.1 c.requires.within in
+    let few = few_counted c.stored_sections.ensures c.room_for_families.ensures f.store f.root.n p.nodes
+    c.len-sound_store.ensures.sound c.requires.answer.1 c.requires.within in
     let told = short_told job w p is i e (sets_of f) _ d.0 d.1
-    (c.modules_of_the_source.ensures w.source p.system is.flat.flat w.dropped p.forest forest o (observed job w p is i) q t.wanted.value (sets_of f) d.1 p.ranges.items (is.ranges.own e) c.in_ok-short.short (rw c.deref.ensures.value at c.in_ok-short.ensures.short))
+    (c.modules_of_the_source.ensures w.source p.system is.flat.flat w.dropped p.forest forest o (observed job w p is i)
+    q t.wanted.value (sets_of f) d.1 p.ranges.items (is.ranges.own e) c.in_ok-short.short
+    (rw c.deref.ensures.value at c.in_ok-short.ensures.short))
     few in
     printed_whole (Tells job w) _ Done told tt c.in_ok-print_modules.ensures

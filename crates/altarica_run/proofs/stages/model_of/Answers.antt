@@ -16,5 +16,9 @@ returns-in_err-model c =
     (parse_stops c.deref.result.now _ _ _ r.1 r.2 (record { lex = h.lex; syntax_at = h.syntax; depth = h.depth }))
 
 pub returns : goal.returns
-returns c =
-    (c.in_ok-model.model, reads (subst (λ (z : List ℕ). Reads z c.in_ok-model.model) c.deref.ensures.value c.in_ok-model.ensures.found), refl)
+returns c = (
+  c.in_ok-model.model,
+  reads (subst (λ (z : List ℕ). Reads z c.in_ok-model.model) c.deref.ensures.value
+      c.in_ok-model.ensures.found),
+  refl,
+)

@@ -10,14 +10,16 @@ pub returns-in_err-job : goal.returns-in_err-job
 returns-in_err-job g c =
     let r = err_from_is_err_and c.from_residual.result c.from_residual.ensures.1 in
     let files = g.H.Shelf.holds c.args.shelf.now in
-    let rose : List ℕ → Type 0 = λ name. Rose (g.H.Shelf.faults c.args.shelf.now name) (g.H.Shelf.faults c.args.shelf.now name) in
+    let rose : List ℕ → Type 0 = λ name. Rose (g.H.Shelf.faults c.args.shelf.now name)
+    (g.H.Shelf.faults c.args.shelf.now name) in
     words_stop files rose (bytes_of_all c.args.words.now) _ _ _ r.1 r.2 c.in_err-job.ensures
 
 pub returns-in_err-texts : goal.returns-in_err-texts
 returns-in_err-texts g c =
     let r = err_from_is_err_and c.from_residual-in_err-texts.result c.from_residual-in_err-texts.ensures.1 in
     let files = g.H.Shelf.holds c.args.shelf.now in
-    let rose : List ℕ → Type 0 = λ name. Rose (g.H.Shelf.faults c.args.shelf.now name) (g.H.Shelf.faults c.job_texts.new.shelf name) in
+    let rose : List ℕ → Type 0 = λ name. Rose (g.H.Shelf.faults c.args.shelf.now name)
+    (g.H.Shelf.faults c.job_texts.new.shelf name) in
     files_stop files rose
     (bytes_of_all c.args.words.now) c.in_ok-job.job c.in_ok-job.ensures _ _ _ r.1 r.2 c.in_err-texts.ensures
 
@@ -27,7 +29,8 @@ pass-requires-clause-model g c = c.in_ok-texts.ensures.short
 pub pass-requires-clause-script : goal.pass-requires-clause-script
 pass-requires-clause-script g c =
     let files = g.H.Shelf.holds c.args.shelf.now in
-    let rose : List ℕ → Type 0 = λ name. Rose (g.H.Shelf.faults c.args.shelf.now name) (g.H.Shelf.faults c.job_texts.new.shelf name) in
+    let rose : List ℕ → Type 0 = λ name. Rose (g.H.Shelf.faults c.args.shelf.now name)
+    (g.H.Shelf.faults c.job_texts.new.shelf name) in
     let job = c.in_ok-job.job in
     let rest = script_loaded files rose job c.in_ok-texts.texts c.in_ok-texts.ensures in
     (loaded_script files job.script c.in_ok-texts.texts.script rest).short
@@ -35,7 +38,8 @@ pass-requires-clause-script g c =
 pub pass-requires-clause-there : goal.pass-requires-clause-there
 pass-requires-clause-there g c =
     let files = g.H.Shelf.holds c.args.shelf.now in
-    let rose : List ℕ → Type 0 = λ name. Rose (g.H.Shelf.faults c.args.shelf.now name) (g.H.Shelf.faults c.job_texts.new.shelf name) in
+    let rose : List ℕ → Type 0 = λ name. Rose (g.H.Shelf.faults c.args.shelf.now name)
+    (g.H.Shelf.faults c.job_texts.new.shelf name) in
     let rest = script_loaded files rose c.in_ok-job.job c.in_ok-texts.texts c.in_ok-texts.ensures in
     script_there
     (bytes_of_all c.args.words.now) c.in_ok-job.job c.in_ok-texts.texts.script c.in_ok-job.ensures
@@ -48,6 +52,8 @@ pass-requires-clause-observer g c =
 pub returns : goal.returns
 returns g c =
     let files = g.H.Shelf.holds c.args.shelf.now in
-    let rose : List ℕ → Type 0 = λ name. Rose (g.H.Shelf.faults c.args.shelf.now name) (g.H.Shelf.faults c.job_texts.new.shelf name) in
+    let rose : List ℕ → Type 0 = λ name. Rose (g.H.Shelf.faults c.args.shelf.now name)
+    (g.H.Shelf.faults c.job_texts.new.shelf name) in
     job_passed files rose
-    (bytes_of_all c.args.words.now) c.in_ok-job.job c.in_ok-job.ensures c.in_ok-texts.texts c.in_ok-texts.ensures _ c.pass.ensures
+    (bytes_of_all c.args.words.now) c.in_ok-job.job c.in_ok-job.ensures c.in_ok-texts.texts c.in_ok-texts.ensures _
+    c.pass.ensures

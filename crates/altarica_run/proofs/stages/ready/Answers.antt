@@ -17,12 +17,14 @@ returns-in_err-request c = λ texts x second of.
     let r = err_from_is_err_and c.from_residual.result c.from_residual.ensures.1 in
     let job = c.args.job.now in
     stage_stops stop_told (Asks job texts) (Demands job.command) x
-    (IsRequested job.command x c.args.flattened.system) (IsReady job) _ _ _ r.1 r.2 (c.in_err-request.ensures texts x second of)
+    (IsRequested job.command x c.args.flattened.system) (IsReady job) _ _ _ r.1 r.2
+    (c.in_err-request.ensures texts x second of)
 
 pub forest_of-requires : goal.forest_of-requires
 forest_of-requires c =
     let source = c.requires.source in
-    let f = c.in_ok-request.ensures ([] ∷ script_texts c.args.script.now) source.0 (second_here (has_second c.args.job.now.command) [] c.args.script.now) source.1 in
+    let f = c.in_ok-request.ensures ([] ∷ script_texts c.args.script.now) source.0
+    (second_here (has_second c.args.job.now.command) [] c.args.script.now) source.1 in
     rw c.deref.ensures.value f.2.dropped.inside
 
 pub returns-in_err-forest : goal.returns-in_err-forest
@@ -40,7 +42,8 @@ returns-in_err-forest c = λ texts x second of.
 pub table_of-requires : goal.table_of-requires
 table_of-requires c =
     let source = c.requires.source in
-    let f = c.in_ok-request.ensures ([] ∷ script_texts c.args.script.now) source.0 (second_here (has_second c.args.job.now.command) [] c.args.script.now) source.1 in
+    let f = c.in_ok-request.ensures ([] ∷ script_texts c.args.script.now) source.0
+    (second_here (has_second c.args.job.now.command) [] c.args.script.now) source.1 in
     f.2.wanted.inside
 
 pub returns-in_err-table : goal.returns-in_err-table
@@ -53,9 +56,11 @@ returns-in_err-table c = λ texts x second of.
     let h = rw c.deref.ensures.value at c.in_ok-forest.ensures f.0 flat in
     let k = h f.2.dropped.are in
     let trees = forest_here job f.0 p c.in_ok-forest.forest k in
-    let l = c.in_err-table.ensures job.command f.0 flat f.2.wanted.are f.2.there (table_trees job.command p f.0 c.in_ok-forest.forest trees) in
+    let l = c.in_err-table.ensures job.command f.0 flat f.2.wanted.are f.2.there
+    (table_trees job.command p f.0 c.in_ok-forest.forest trees) in
     stage_passes stop_told (Asks job texts) (Demands job.command) x
-    (IsRequested job.command x p) (IsReady job) f.0 _ f.1 (table_stops job f.0 p c.in_ok-forest.forest k _ _ _ r.1 r.2 l)
+    (IsRequested job.command x p) (IsReady job) f.0 _ f.1
+    (table_stops job f.0 p c.in_ok-forest.forest k _ _ _ r.1 r.2 l)
 
 pub ranges_of-requires : goal.ranges_of-requires
 ranges_of-requires c =
@@ -78,9 +83,20 @@ returns c = λ texts x second of.
     let trees = forest_here job f.0 p c.in_ok-forest.forest k in
     let request = c.in_ok-request.request in
     let asked = subst (λ (z : Elaborated). IsRequested job.command z p f.0 request) (sym f.2.source) f.2 in
-    let units = subst (λ (z : Elaborated). HasRanges job.command z c.in_ok-ranges.ranges.items) (sym f.2.source) (c.in_ok-ranges.ensures x of.is_tree) in
-    let made : Prepared = record { command = job.command; system = p; request = request; forest = c.in_ok-forest.forest; table = c.in_ok-table.table; ranges = c.in_ok-ranges.ranges; nodes = job.nodes; number = job.number } in
-    let l = c.in_ok-table.ensures job.command f.0 flat f.2.wanted.are f.2.there (table_trees job.command p f.0 c.in_ok-forest.forest trees) in
+    let units = subst (λ (z : Elaborated). HasRanges job.command z c.in_ok-ranges.ranges.items) (sym f.2.source)
+    (c.in_ok-ranges.ensures x of.is_tree) in
+    let made : Prepared = record {
+      command = job.command;
+      system = p;
+      request = request;
+      forest = c.in_ok-forest.forest;
+      table = c.in_ok-table.table;
+      ranges = c.in_ok-ranges.ranges;
+      nodes = job.nodes;
+      number = job.number;
+    } in
+    let l = c.in_ok-table.ensures job.command f.0 flat f.2.wanted.are f.2.there
+    (table_trees job.command p f.0 c.in_ok-forest.forest trees) in
     stage_passes stop_told (Asks job texts) (Demands job.command) x
     (IsRequested job.command x p) (IsReady job) f.0 (Ok made) f.1
     (all_ready job f.0 p c.in_ok-forest.forest k flat request asked c.in_ok-ranges.ranges units c.in_ok-table.table l)

@@ -17,7 +17,8 @@ pub returns-in_err-classes : goal.returns-in_err-classes
 returns-in_err-classes c =
     let r = err_from_is_err_and c.from_residual.result c.from_residual.ensures.1 in
     stage_stops rule_told (Tables c.args.main.now)
-    (Then Instantiates (Then Binds Flattens)) c.args.model IsKeptTable IsFlattened _ _ _ r.1 r.2 c.in_err-classes.ensures
+    (Then Instantiates (Then Binds Flattens)) c.args.model IsKeptTable IsFlattened _ _ _ r.1 r.2
+    c.in_err-classes.ensures
 
 pub returns-in_err-tree : goal.returns-in_err-tree
 returns-in_err-tree c =
@@ -25,7 +26,8 @@ returns-in_err-tree c =
     let k = c.in_ok-classes.ensures in
     stage_passes rule_told (Tables c.args.main.now)
     (Then Instantiates (Then Binds Flattens)) c.args.model IsKeptTable IsFlattened k.0 _ k.1
-    (stage_stops rule_told Instantiates (Then Binds Flattens) k.0 IsTreeFor IsFlattened _ _ _ r.1 r.2 (c.in_err-tree.ensures k.0 k.2))
+    (stage_stops rule_told Instantiates (Then Binds Flattens) k.0 IsTreeFor IsFlattened _ _ _ r.1 r.2
+    (c.in_err-tree.ensures k.0 k.2))
 
 pub bind-requires : goal.bind-requires
 bind-requires c =
@@ -41,7 +43,8 @@ returns-in_err-bound c =
     stage_passes rule_told (Tables c.args.main.now)
     (Then Instantiates (Then Binds Flattens)) c.args.model IsKeptTable IsFlattened k.0 _ k.1
     (stage_passes rule_told Instantiates (Then Binds Flattens) k.0 IsTreeFor IsFlattened t.0 _ t.1
-    (stage_stops rule_told Binds Flattens t.0 IsBoundFrom IsFlattened _ _ _ r.1 r.2 (c.in_err-bound.ensures t.0.model t.0.units t.2).meets))
+    (stage_stops rule_told Binds Flattens t.0 IsBoundFrom IsFlattened _ _ _ r.1 r.2
+    (c.in_err-bound.ensures t.0.model t.0.units t.2).meets))
 
 pub flatten-requires : goal.flatten-requires
 flatten-requires c =
@@ -55,11 +58,13 @@ returns-in_err-system c =
     let k = c.in_ok-classes.ensures in
     let t = c.in_ok-tree.ensures k.0 k.2 in
     let b = (c.in_ok-bound.ensures t.0.model t.0.units t.2).meets in
-    let f = c.in_err-system.ensures t.0.model t.0.units b.0 t.2.table.kept t.2.are_units (declared_of t.0 b.0 b.1) b.2 in
+    let f = c.in_err-system.ensures t.0.model t.0.units b.0 t.2.table.kept t.2.are_units (declared_of t.0 b.0 b.1)
+    b.2 in
     stage_passes rule_told (Tables c.args.main.now)
     (Then Instantiates (Then Binds Flattens)) c.args.model IsKeptTable IsFlattened k.0 _ k.1
     (stage_passes rule_told Instantiates (Then Binds Flattens) k.0 IsTreeFor IsFlattened t.0 _ t.1
-    (stage_passes rule_told Binds Flattens t.0 IsBoundFrom IsFlattened b.0 _ b.1 (last_stops Flattens IsFlattened b.0 _ _ _ r.1 r.2 f)))
+    (stage_passes rule_told Binds Flattens t.0 IsBoundFrom IsFlattened b.0 _ b.1
+    (last_stops Flattens IsFlattened b.0 _ _ _ r.1 r.2 f)))
 
 pub returns : goal.returns
 returns c =
@@ -72,4 +77,5 @@ returns c =
     stage_passes rule_told (Tables c.args.main.now)
     (Then Instantiates (Then Binds Flattens)) c.args.model IsKeptTable IsFlattened k.0 (Ok made) k.1
     (stage_passes rule_told Instantiates (Then Binds Flattens) k.0 IsTreeFor IsFlattened t.0 (Ok made) t.1
-    (stage_passes rule_told Binds Flattens t.0 IsBoundFrom IsFlattened b.0 (Ok made) b.1 (f.0, f.1, flattened t.0 b.0 f.0 _ _ t.2 of f.1 f.2)))
+    (stage_passes rule_told Binds Flattens t.0 IsBoundFrom IsFlattened b.0 (Ok made) b.1
+    (f.0, f.1, flattened t.0 b.0 f.0 _ _ t.2 of f.1 f.2)))

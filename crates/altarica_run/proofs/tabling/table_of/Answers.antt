@@ -11,7 +11,8 @@ tabled-requires c = subst (HasObserver c.args.system.now) c.in-Some.is c.require
 pub returns-in-Some : goal.returns-in-Some
 returns-in-Some c = λ command w of e there trees.
     let b = is_there (has_table command) _ _ there c.in-Some.is in
-    subst (λ (z : Bool). IsStageOf (HasTable command c.args.system.now c.args.forest.now) (Where z Tabled w) c.tabled.result) (sym b)
+    subst (λ (z : Bool). IsStageOf (HasTable command c.args.system.now c.args.forest.now) (Where z Tabled w)
+    c.tabled.result) (sym b)
     (c.tabled.ensures command w of (e ∙ c.in-Some.is) (trees b))
 
 pub returns-in-None : goal.returns-in-None

@@ -10,7 +10,8 @@ pub returns-in_err-equations : goal.returns-in_err-equations
 returns-in_err-equations c = λ command w of e trees.
     let r = err_from_is_err_and c.from_residual.result c.from_residual.ensures.1 in
     table_refused command c.args.system.now w c.args.forest.now c.args.wanted of e trees (stands_some _ _ c.requires)
-    (c.tables_of_the_source.ensures.table) (c.tables_of_the_source.ensures.some c.args.system.now c.parts-parts.ensures.sound)
+    (c.tables_of_the_source.ensures.table)
+    (c.tables_of_the_source.ensures.some c.args.system.now c.parts-parts.ensures.sound)
     _ _ _ r.1 r.2 c.in_err-equations.ensures.gates
 
 pub returns-in_err-events : goal.returns-in_err-events
@@ -21,5 +22,6 @@ returns-in_err-events c = λ command w of e trees.
 pub returns : goal.returns
 returns c = λ command w of e trees.
     table_given command c.args.system.now w c.args.forest.now c.args.wanted of e trees (stands_some _ _ c.requires)
-    (c.tables_of_the_source.ensures.table) c.requires _ c.in_ok-equations.ensures.table c.in_ok-equations.ensures.few _ refl
+    (c.tables_of_the_source.ensures.table) c.requires _ c.in_ok-equations.ensures.table c.in_ok-equations.ensures.few _
+    refl
     (c.in_ok-events.ensures ∙ ap (λ (z : GtsParts). (naming_of_parts z).events) c.parts-parts.ensures.parts)

@@ -41,7 +41,8 @@ returns-in_err-put_many-3 g c =
     writes_exit _ _ c.from_residual-in_err-put_many-3.ensures.1
     (writes_as _ _
     (parts_line c.parts-parts.ensures.parts c.len.result c.len-2.result c.len-3.result _ units variables events refl)
-    (writes_on c.in_ok-put_many.ensures (writes_on c.in_ok-put_many-2.ensures (writes_cut _ _ c.in_err-put_many-3.ensures))))
+    (writes_on c.in_ok-put_many.ensures
+    (writes_on c.in_ok-put_many-2.ensures (writes_cut _ _ c.in_err-put_many-3.ensures))))
 
 pub returns-in_err-put_many-4 : goal.returns-in_err-put_many-4
 returns-in_err-put_many-4 g c =

@@ -23,7 +23,8 @@ pub returns-in-Replay : goal.returns-in-Replay
 returns-in-Replay g c = λ job w is.
     let h = rw c.deref.ensures.value at c.replay.ensures is.flat.flat is.flat.views in
     replayed job w c.args.prepared.now is
-    (λ cs text end. (c.replays_of_the_source.ensures w.source is.flat.flat c.args.prepared.now.system is.flat is.flat.views cs text end).0)
+    (λ cs text end. (c.replays_of_the_source.ensures w.source is.flat.flat c.args.prepared.now.system is.flat
+    is.flat.views cs text end).0)
     (is.command ∙ c.in-Replay.is) _ _ c.replayed.ensures h
 
 pub returns-in-Fragment : goal.returns-in-Fragment
@@ -55,7 +56,8 @@ cuts-requires-clause-ready g c =
 
 pub returns-in-Cuts : goal.returns-in-Cuts
 returns-in-Cuts g c = λ job w is.
-    subst (λ (z : Status). IsWritten (Tells job w) (g.K.Sink.state c.args.out.now) (g.K.Sink.state c.cuts.new.out) z) (sym c.printed.ensures)
+    subst (λ (z : Status). IsWritten (Tells job w) (g.K.Sink.state c.args.out.now) (g.K.Sink.state c.cuts.new.out) z)
+    (sym c.printed.ensures)
     (c.cuts.ensures job w is (ap lists_cuts is.command ∙ one_lists _ c.in-Cuts.is))
 
 pub explain-requires-clause-commands : goal.explain-requires-clause-commands
@@ -66,5 +68,6 @@ explain-requires-clause-ready g c = let r = c.requires.ready in (r.0, r.1, r.2, 
 
 pub returns-in-Explain : goal.returns-in-Explain
 returns-in-Explain g c = λ job w is.
-    subst (λ (z : Status). IsWritten (Tells job w) (g.K.Sink.state c.args.out.now) (g.K.Sink.state c.explain.new.out) z) (sym c.explained.ensures)
+    subst (λ (z : Status). IsWritten (Tells job w) (g.K.Sink.state c.args.out.now) (g.K.Sink.state c.explain.new.out) z)
+    (sym c.explained.ensures)
     (c.explain.ensures job w is (is.command ∙ c.in-Explain.is))

@@ -8,7 +8,8 @@ use Rattle.ar_firing.proofs.least.conflicts_by_tests.Goals as goal
 
 pub returns-clause-met : goal.returns-clause-met
 returns-clause-met g c =
-    λ sys dropped both observer wanted conflict top agrees set m. met_is_conflicting sys dropped both.keyed both.static observer wanted conflict top agrees m
+    λ sys dropped both observer wanted conflict top agrees set m. met_is_conflicting sys dropped both.keyed both.static
+    observer wanted conflict top agrees m
 
 pub returns-clause-free : goal.returns-clause-free
 returns-clause-free g c = λ sys dropped both observer wanted conflict top agrees calm set m.

@@ -8,7 +8,8 @@ use Rattle.ar_firing.proofs.least.cuts_by_tests.Goals as goal
 
 pub returns-clause-no_conflict : goal.returns-clause-no_conflict
 returns-clause-no_conflict g c =
-    λ sys dropped both observer wanted conflict top agrees free. no_conflict sys dropped both.keyed both.static observer wanted conflict top agrees free
+    λ sys dropped both observer wanted conflict top agrees free. no_conflict sys dropped both.keyed both.static observer
+    wanted conflict top agrees free
 
 pub returns-clause-makes : goal.returns-clause-makes
 returns-clause-makes g c = λ sys dropped both observer wanted conflict top agrees free set.

@@ -12,7 +12,8 @@ advance-requires-clause-column c = column_fits _ _ _ _ _ _ c.loop-len.invariant 
 
 pub loop-len-preserved-in-Gap : goal.loop-len-preserved-in-Gap
 loop-len-preserved-in-Gap c =
-    read_gap _ _ _ _ _ _ _ _ _ c.loop-len.invariant c.in-Gap.ensures.0 c.advance.ensures.rest c.advance.ensures.at c.advance.ensures.place c.in-Gap.ensures.2
+    read_gap _ _ _ _ _ _ _ _ _ c.loop-len.invariant c.in-Gap.ensures.0 c.advance.ensures.rest c.advance.ensures.at
+    c.advance.ensures.place c.in-Gap.ensures.2
 
 pub token-requires : goal.token-requires
 token-requires c = start_fits _ _ _ _ _ _ c.loop-len.invariant c.requires c.in-Text.ensures.0
@@ -25,5 +26,6 @@ advance-requires-in-Text-clause-column c = column_fits _ _ _ _ _ _ c.loop-len.in
 
 pub loop-len-preserved : goal.loop-len-preserved
 loop-len-preserved c =
-    read_token _ _ _ _ _ _ _ _ _ c.loop-len.invariant c.in-Text.ensures.0 c.advance-in-Text.ensures.rest c.advance-in-Text.ensures.at c.advance-in-Text.ensures.place
+    read_token _ _ _ _ _ _ _ _ _ c.loop-len.invariant c.in-Text.ensures.0 c.advance-in-Text.ensures.rest
+    c.advance-in-Text.ensures.at c.advance-in-Text.ensures.place
     _ _ _ c.in-Text.ensures.2 c.token.ensures c.in_ok-push-in-Text.ensures.items

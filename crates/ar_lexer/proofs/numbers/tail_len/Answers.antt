@@ -8,4 +8,5 @@ use Rattle.ar_lexer.proofs.numbers.tail_len.Goals as goal
 pub returns : goal.returns
 returns c =
     tail_made _ _ _ c.fraction_len-fraction.ensures
-    (subst (λ (s : List ℕ). IsLongestFront IsExponent s c.exponent_len-exponent.result) (take_rest c.args.bytes.now c.fraction_len-fraction.result) c.exponent_len-exponent.ensures)
+    (subst (λ (s : List ℕ). IsLongestFront IsExponent s c.exponent_len-exponent.result)
+    (take_rest c.args.bytes.now c.fraction_len-fraction.result) c.exponent_len-exponent.ensures)

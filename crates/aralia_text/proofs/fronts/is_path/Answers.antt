@@ -7,7 +7,8 @@ use Rattle.aralia_text.proofs.Runs.{run_passes, run_exact}
 use Rattle.aralia_text.proofs.fronts.is_path.Goals as goal
 
 whole : (text : List ℕ) → prefix_len is_path_byte text ≡ length text → IsPath text
-whole text all = subst IsPath (ap (λ (k : ℕ). take k text) all ∙ take_all (length text) text (omega arith)) (run_passes text)
+whole text all = subst IsPath (ap (λ (k : ℕ). take k text) all ∙ take_all (length text) text (omega arith))
+    (run_passes text)
 
 all_pass : (text : List ℕ) → IsPath text → prefix_len is_path_byte text ≡ length text
 all_pass text h = ap (prefix_len is_path_byte) (sym (append-nil text)) ∙ run_exact text [] h tt

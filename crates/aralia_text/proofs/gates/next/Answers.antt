@@ -10,19 +10,26 @@ use Rattle.aralia_text.proofs.gates.next.Goals as goal
 pub returns-in_err-behind-clause-stuck : goal.returns-in_err-behind-clause-stuck
 returns-in_err-behind-clause-stuck c =
     err_is _ c.from_residual.result c.in_err-behind.field-0.0 c.from_residual.ensures.1
-    (no_prefix (IsOperandAt c.args.gates c.args.names.now) (operand_text c.args.names.now) Stops (joint_text (all_needed c.args.joint)) c.args.rest.now c.requires.some.0 c.requires.some.1 _
-    (subst (λ (z : List ℕ). IsStuckIn z c.args.rest.now c.in_err-behind.field-0.0.left) (c.as_bytes.ensures.value ∙ c.between.ensures) c.in_err-behind.ensures.stuck))
+    (no_prefix (IsOperandAt c.args.gates c.args.names.now) (operand_text c.args.names.now) Stops
+    (joint_text (all_needed c.args.joint)) c.args.rest.now c.requires.some.0 c.requires.some.1 _
+    (subst (λ (z : List ℕ). IsStuckIn z c.args.rest.now c.in_err-behind.field-0.0.left)
+    (c.as_bytes.ensures.value ∙ c.between.ensures) c.in_err-behind.ensures.stuck))
 
 pub returns-clause-found : goal.returns-clause-found
 returns-clause-found c =
     ok_map c.operand.result
     (λ r h.
-    prefixed_read (IsOperandAt c.args.gates c.args.names.now) (operand_text c.args.names.now) Stops (joint_text (all_needed c.args.joint)) c.args.rest.now c.in_ok-behind.behind.now
-    (c.in_ok-behind.ensures.found ∙ ap (λ (z : List ℕ). z ++ c.in_ok-behind.behind.now) (c.as_bytes.ensures.value ∙ c.between.ensures)) (operand_of r.0) r.1.now h) c.operand.ensures.found
+    prefixed_read (IsOperandAt c.args.gates c.args.names.now) (operand_text c.args.names.now) Stops
+    (joint_text (all_needed c.args.joint)) c.args.rest.now c.in_ok-behind.behind.now
+    (c.in_ok-behind.ensures.found ∙ ap (λ (z : List ℕ). z ++ c.in_ok-behind.behind.now)
+    (c.as_bytes.ensures.value ∙ c.between.ensures)) (operand_of r.0) r.1.now h) c.operand.ensures.found
 
 pub returns-clause-stuck : goal.returns-clause-stuck
 returns-clause-stuck c =
     err_map c.operand.result
     (λ stuck k.
-    prefixed_stuck (IsOperandAt c.args.gates c.args.names.now) (operand_text c.args.names.now) Stops (joint_text (all_needed c.args.joint)) c.args.rest.now c.in_ok-behind.behind.now
-    (c.in_ok-behind.ensures.found ∙ ap (λ (z : List ℕ). z ++ c.in_ok-behind.behind.now) (c.as_bytes.ensures.value ∙ c.between.ensures)) c.requires.some.0 c.requires.some.1 stuck.left k) c.operand.ensures.stuck
+    prefixed_stuck (IsOperandAt c.args.gates c.args.names.now) (operand_text c.args.names.now) Stops
+    (joint_text (all_needed c.args.joint)) c.args.rest.now c.in_ok-behind.behind.now
+    (c.in_ok-behind.ensures.found ∙ ap (λ (z : List ℕ). z ++ c.in_ok-behind.behind.now)
+    (c.as_bytes.ensures.value ∙ c.between.ensures)) c.requires.some.0 c.requires.some.1 stuck.left k)
+    c.operand.ensures.stuck

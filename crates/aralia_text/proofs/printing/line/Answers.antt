@@ -5,10 +5,13 @@ pub returns-in_err-name : goal.returns-in_err-name
 returns-in_err-name g c = writes_exit _ _ c.from_residual.ensures.1 (writes_cut _ _ c.in_err-name.ensures)
 
 pub returns-in_err-put : goal.returns-in_err-put
-returns-in_err-put g c = writes_exit _ _ c.from_residual-in_err-put.ensures.1 (writes_on c.in_ok-name.ensures (writes_cut _ _ c.in_err-put.ensures))
+returns-in_err-put g c = writes_exit _ _ c.from_residual-in_err-put.ensures.1
+    (writes_on c.in_ok-name.ensures (writes_cut _ _ c.in_err-put.ensures))
 
 pub returns-in_err-operands : goal.returns-in_err-operands
-returns-in_err-operands g c = writes_exit _ _ c.from_residual-in_err-operands.ensures.1 (writes_on c.in_ok-name.ensures (writes_on c.in_ok-put.ensures (writes_cut _ _ c.in_err-operands.ensures)))
+returns-in_err-operands g c = writes_exit _ _ c.from_residual-in_err-operands.ensures.1
+    (writes_on c.in_ok-name.ensures (writes_on c.in_ok-put.ensures (writes_cut _ _ c.in_err-operands.ensures)))
 
 pub returns : goal.returns
-returns g c = writes_on c.in_ok-name.ensures (writes_on c.in_ok-put.ensures (writes_on c.in_ok-operands.ensures c.put-2.ensures))
+returns g c = writes_on c.in_ok-name.ensures
+    (writes_on c.in_ok-put.ensures (writes_on c.in_ok-operands.ensures c.put-2.ensures))

@@ -12,14 +12,17 @@ pub returns-in_err-joined : goal.returns-in_err-joined
 returns-in_err-joined g c =
     writes_exit _ _ c.from_residual.ensures.1
     (leaves_cut _ _ c.loop-one.invariant c.in_err-joined.ensures
-    (next_read (λ (xs : List Operand). more_text c.args.events.now (all_needed c.args.joint) (map operand_of xs)) c.args.operands.now c.loop-one.one-index _ c.loop-one-test.true))
+    (next_read (λ (xs : List Operand). more_text c.args.events.now (all_needed c.args.joint) (map operand_of xs))
+    c.args.operands.now c.loop-one.one-index _ c.loop-one-test.true))
 
 pub loop-one-preserved : goal.loop-one-preserved
 loop-one-preserved g c =
     leaves_on _ _ c.loop-one.invariant c.in_ok-joined.ensures
-    (next_read (λ (xs : List Operand). more_text c.args.events.now (all_needed c.args.joint) (map operand_of xs)) c.args.operands.now c.loop-one.one-index _ c.loop-one-test.true)
+    (next_read (λ (xs : List Operand). more_text c.args.events.now (all_needed c.args.joint) (map operand_of xs))
+    c.args.operands.now c.loop-one.one-index _ c.loop-one-test.true)
 
 pub returns : goal.returns
 returns g c =
     leaves_none _ c.loop-one.invariant
-    (no_item (λ (xs : List Operand). more_text c.args.events.now (all_needed c.args.joint) (map operand_of xs)) c.args.operands.now c.loop-one.one-index c.loop-one-test.false)
+    (no_item (λ (xs : List Operand). more_text c.args.events.now (all_needed c.args.joint) (map operand_of xs))
+    c.args.operands.now c.loop-one.one-index c.loop-one-test.false)

@@ -6,7 +6,11 @@ use Rattle.ar_io.proofs.Writing.{writes_exit, writes_on, writes_cut, writes_as}
 use Rattle.aralia_text.proofs.printing.print.Goals as goal
 
 pub returns-in_err-lines : goal.returns-in_err-lines
-returns-in_err-lines g c = writes_exit _ _ c.from_residual.ensures.1 (writes_cut _ _ (writes_as _ _ (ap (λ (z : List Gate). gate_lines c.args.events.now 0 (map gate_of z)) c.deref.ensures.value) c.in_err-lines.ensures))
+returns-in_err-lines g c = writes_exit _ _ c.from_residual.ensures.1
+    (writes_cut _ _ (writes_as _ _ (ap (λ (z : List Gate). gate_lines c.args.events.now 0 (map gate_of z))
+    c.deref.ensures.value) c.in_err-lines.ensures))
 
 pub returns : goal.returns
-returns g c = writes_on (writes_as _ _ (ap (λ (z : List Gate). gate_lines c.args.events.now 0 (map gate_of z)) c.deref.ensures.value) c.in_ok-lines.ensures) c.last.ensures
+returns g c = writes_on (writes_as _ _
+    (ap (λ (z : List Gate). gate_lines c.args.events.now 0 (map gate_of z)) c.deref.ensures.value)
+    c.in_ok-lines.ensures) c.last.ensures

@@ -15,7 +15,8 @@ returns-then-begins_with-clause-found c = always_read _ _ _ _ c.in_ok-left.ensur
 pub returns-in_err-left-2-clause-stuck : goal.returns-in_err-left-2-clause-stuck
 returns-in_err-left-2-clause-stuck c =
     err_is _ c.from_residual-in_err-left-2.result c.in_err-left-2.field-0.0 c.from_residual-in_err-left-2.ensures.1
-    (never_stuck c.args.gates _ _ (sym c.begins_with-2.ensures ∙ c.if-begins_with-2.true) _ c.in_err-left-2.ensures.stuck)
+    (never_stuck c.args.gates _ _ (sym c.begins_with-2.ensures ∙ c.if-begins_with-2.true) _
+    c.in_err-left-2.ensures.stuck)
 
 pub returns-then-begins_with-2-clause-found : goal.returns-then-begins_with-2-clause-found
 returns-then-begins_with-2-clause-found c = never_read _ _ _ _ c.in_ok-left-2.ensures.found
@@ -23,9 +24,11 @@ returns-then-begins_with-2-clause-found c = never_read _ _ _ _ c.in_ok-left-2.en
 pub returns-clause-found : goal.returns-clause-found
 returns-clause-found c =
     ok_map c.operand.result
-    (λ r h. other_read c.args.gates _ _ (sym c.begins_with.ensures ∙ c.if-begins_with.false) (sym c.begins_with-2.ensures ∙ c.if-begins_with-2.false) _ _ h) c.operand.ensures.found
+    (λ r h. other_read c.args.gates _ _ (sym c.begins_with.ensures ∙ c.if-begins_with.false)
+    (sym c.begins_with-2.ensures ∙ c.if-begins_with-2.false) _ _ h) c.operand.ensures.found
 
 pub returns-clause-stuck : goal.returns-clause-stuck
 returns-clause-stuck c =
     err_map c.operand.result
-    (λ stuck k. other_stuck c.args.gates _ _ (sym c.begins_with.ensures ∙ c.if-begins_with.false) (sym c.begins_with-2.ensures ∙ c.if-begins_with-2.false) _ k) c.operand.ensures.stuck
+    (λ stuck k. other_stuck c.args.gates _ _ (sym c.begins_with.ensures ∙ c.if-begins_with.false)
+    (sym c.begins_with-2.ensures ∙ c.if-begins_with-2.false) _ k) c.operand.ensures.stuck

@@ -8,13 +8,19 @@ use Rattle.aralia_text.proofs.reading.table.Goals as goal
 
 pub returns-in_err-conflict-clause-stuck : goal.returns-in_err-conflict-clause-stuck
 returns-in_err-conflict-clause-stuck c =
-    let n : c.len.result ≡ length (map gate_of c.in_ok-gates.gates.items) = c.len.ensures ∙ vec_len-items c.in_ok-gates.gates ∙ sym (length-map c.in_ok-gates.gates.items gate_of) in
-    stop_is _ c.from_residual-in_err-conflict.result c.in_err-conflict.field-0.0 c.from_residual-in_err-conflict.ensures.1
+    let n : c.len.result ≡ length (map gate_of c.in_ok-gates.gates.items) =
+    c.len.ensures ∙ vec_len-items c.in_ok-gates.gates ∙ sym (length-map c.in_ok-gates.gates.items gate_of) in
+    stop_is _ c.from_residual-in_err-conflict.result c.in_err-conflict.field-0.0
+    c.from_residual-in_err-conflict.ensures.1
     (last_stuck _ _ _ _ c.in_ok-gates.ensures.found c.in_ok-gates.ensures.end _
-    (subst (λ (k : ℕ). IsStuck (AreLast k c.args.names.now) (last_text c.args.names.now) IsEnd c.in_ok-gates.left.now c.in_err-conflict.field-0.0.left) n c.in_err-conflict.ensures.stuck))
+    (subst (λ (k : ℕ). IsStuck (AreLast k c.args.names.now) (last_text c.args.names.now) IsEnd c.in_ok-gates.left.now
+    c.in_err-conflict.field-0.0.left) n c.in_err-conflict.ensures.stuck))
 
 pub returns-clause-found : goal.returns-clause-found
 returns-clause-found c =
-    let n : c.len.result ≡ length (map gate_of c.in_ok-gates.gates.items) = c.len.ensures ∙ vec_len-items c.in_ok-gates.gates ∙ sym (length-map c.in_ok-gates.gates.items gate_of) in
+    let n : c.len.result ≡ length (map gate_of c.in_ok-gates.gates.items) =
+    c.len.ensures ∙ vec_len-items c.in_ok-gates.gates ∙ sym (length-map c.in_ok-gates.gates.items gate_of) in
     table_read _ _ _ _ c.in_ok-gates.ensures.found c.in_ok-gates.ensures.end _
-    (subst (λ (k : ℕ). IsRead (AreLast k c.args.names.now) (last_text c.args.names.now) IsEnd c.in_ok-gates.left.now (last_of (operand_of c.in_ok-conflict.conflict) (operand_of c.in_ok-conflict.top)) []) n c.in_ok-conflict.ensures.found)
+    (subst (λ (k : ℕ). IsRead (AreLast k c.args.names.now) (last_text c.args.names.now) IsEnd c.in_ok-gates.left.now
+    (last_of (operand_of c.in_ok-conflict.conflict) (operand_of c.in_ok-conflict.top)) []) n
+    c.in_ok-conflict.ensures.found)

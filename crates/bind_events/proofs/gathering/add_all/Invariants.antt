@@ -9,6 +9,8 @@ use Rattle.bind_events.proofs.Sited.{forms_of_sites}
 use Rattle.bind_events.proofs.gathering.add_all.Given as goal
 
 abbrev pub invariant-loop-site : goal.invariant-loop-site
-invariant-loop-site l = (m : RootedModel) (units : List UnitPath) (u : UnitPath) → AreSettled m units l.scopes l.values → Stands units l.unit.n u
+invariant-loop-site l = (m : RootedModel) (units : List UnitPath) (u : UnitPath) → AreSettled m units l.scopes l.values
+    → Stands units l.unit.n u
     → AreMembers m u (forms_of_sites m.declared l.sites)
-    → AddsMembers m units l.scopes.tree.now u (forms_of_sites m.declared (take l.site-index l.sites)) l.fn.events.items l.events.items
+    → AddsMembers m units l.scopes.tree.now u (forms_of_sites m.declared (take l.site-index l.sites)) l.fn.events.items
+    l.events.items

@@ -9,5 +9,6 @@ use Rattle.bind_events.proofs.Gathered.{AreFilled}
 use Rattle.bind_events.proofs.gathering.add_ways.Given as goal
 
 abbrev pub invariant-loop-place : goal.invariant-loop-place
-invariant-loop-place l = (m : RootedModel) (units : List UnitPath) → AreSettled m units l.scopes l.values → Along (HasWays m units l.scopes.tree.now []) (events m units) l.fn.events.items
+invariant-loop-place l = (m : RootedModel) (units : List UnitPath) → AreSettled m units l.scopes l.values
+    → Along (HasWays m units l.scopes.tree.now []) (events m units) l.fn.events.items
     → AreFilled m units l.scopes.tree.now l.place l.events.items

@@ -11,7 +11,25 @@ returns c =
     let event = c.index_mut.result.now in
     let l : n < length events = omega (arith, c.if-n-len.false, c.len.ensures, c.args.events.now.ok.0) in
     let s = item_stands events n event l c.index_mut.ensures.value in
-    let e = ap (λ (d : DeclaredEvent). length d.ways.items) (stands_one events n c.index.result.now event (item_stands events n c.index.result.now l c.index.ensures) s) in
+    let e = ap (λ (d : DeclaredEvent). length d.ways.items)
+    (stands_one events n c.index.result.now event (item_stands events n c.index.result.now l c.index.ensures)
+    s) in
     let few : length c.push.new.self.items < 2 ^ 32 =
-    omega (arith, c.if-len.false, c.len-2.ensures, c.index.result.now.ways.ok.0, event.ways.ok.0, e, c.in_ok-push.ensures.len, c.push.new.self.ok.0) in
-    record { event = event; stands = s; ways = c.push.new.self; is = c.in_ok-push.ensures.items; few = few; new_is = refl }
+    omega (
+      arith,
+      c.if-len.false,
+      c.len-2.ensures,
+      c.index.result.now.ways.ok.0,
+      event.ways.ok.0,
+      e,
+      c.in_ok-push.ensures.len,
+      c.push.new.self.ok.0,
+    ) in
+    record {
+      event = event;
+      stands = s;
+      ways = c.push.new.self;
+      is = c.in_ok-push.ensures.items;
+      few = few;
+      new_is = refl;
+    }

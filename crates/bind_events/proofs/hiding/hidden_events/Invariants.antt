@@ -9,4 +9,5 @@ use Rattle.bind_events.proofs.hiding.hidden_events.Given as goal
 
 abbrev pub invariant-loop-place : goal.invariant-loop-place
 invariant-loop-place l = (m : RootedModel) (units : List UnitPath) → IsTreeOf m units l.scopes.tree.now
-    → Marks (events m units) (IsHidden m (take l.place units)) (replicate (length l.scopes.tree.now.events.items) false) l.marks.items
+    → Marks (events m units) (IsHidden m (take l.place units)) (replicate (length l.scopes.tree.now.events.items) false)
+    l.marks.items

@@ -9,5 +9,7 @@ use Rattle.bind_events.proofs.Sited.{forms_of_sites}
 use Rattle.bind_events.proofs.hiding.hide_in.Given as goal
 
 abbrev pub invariant-loop-site : goal.invariant-loop-site
-invariant-loop-site l = (m : RootedModel) (units : List UnitPath) (u : UnitPath) → IsTreeOf m units l.scopes.tree.now → Stands units l.unit.n u
-    → Marks (events m units) (HidesIn m u (forms_of_sites m.declared (take l.site-index l.sites))) l.fn.marks.items l.marks.items
+invariant-loop-site l = (m : RootedModel) (units : List UnitPath) (u : UnitPath) → IsTreeOf m units l.scopes.tree.now
+    → Stands units l.unit.n u
+    → Marks (events m units) (HidesIn m u (forms_of_sites m.declared (take l.site-index l.sites))) l.fn.marks.items
+    l.marks.items

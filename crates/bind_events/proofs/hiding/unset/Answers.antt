@@ -6,7 +6,8 @@ pub loop-init : goal.loop-init
 loop-init c = c.new-marks.ensures.items
 
 pub loop-preserved : goal.loop-preserved
-loop-preserved c = c.in_ok-push.ensures.items ∙ (ap (λ (xs : List Bool). xs ++ false ∷ []) c.loop.invariant ∙ replicate_next c.loop.counter)
+loop-preserved c = c.in_ok-push.ensures.items
+    ∙ (ap (λ (xs : List Bool). xs ++ false ∷ []) c.loop.invariant ∙ replicate_next c.loop.counter)
 
 pub returns : goal.returns
 returns c =

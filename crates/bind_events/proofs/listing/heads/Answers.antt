@@ -30,12 +30,15 @@ loop-place-preserved c = λ m units is pre.
     let j = rw c.deref.ensures.value at c.in-Some.ensures.lookup.3.0 in
     let k = rw c.deref.ensures.value at c.in-Some.ensures.lookup.1 in
     let marked = item_stands c.in_ok-hidden.hidden.items c.loop-place.place c.in-Some.mark.now j k in
-    let path = item_stands c.args.paths.now c.loop-place.place c.in-Some-get.path.now c.in-Some-get.ensures.lookup.3.0 c.in-Some-get.ensures.lookup.1 in
-    let named = stands_one (map (thing_path m) (events m units)) c.loop-place.place c.in-Some-get.path.now (thing_path m w.0)
+    let path = item_stands c.args.paths.now c.loop-place.place c.in-Some-get.path.now c.in-Some-get.ensures.lookup.3.0
+    c.in-Some-get.ensures.lookup.1 in
+    let named = stands_one (map (thing_path m) (events m units)) c.loop-place.place c.in-Some-get.path.now
+    (thing_path m w.0)
     (subst (λ (ps : List (List ℕ)). Stands ps c.loop-place.place c.in-Some-get.path.now) pre path)
     (stands_map (thing_path m) (events m units) c.loop-place.place w.0 w.1) in
     let told = (c.in_ok-hidden.ensures m units is).tell c.loop-place.place w.0 c.in-Some.mark.now w.1 marked in
-    rows_more (events m units) c.loop-place.place w.0 c.in_ok-event.event c.loop-place.events.items c.push.new.self.items w.1 (c.loop-place.invariant m units is pre)
+    rows_more (events m units) c.loop-place.place w.0 c.in_ok-event.event c.loop-place.events.items
+    c.push.new.self.items w.1 (c.loop-place.invariant m units is pre)
     (c.in_ok-event.ensures m units c.args.scopes.now.tree.now w.0 named w.2 told) c.in_ok-push.ensures.items
 
 pub returns : goal.returns

@@ -9,5 +9,6 @@ use Rattle.bind_events.specs.Gathering.{HasWays}
 use Rattle.bind_events.proofs.listing.heads.Given as goal
 
 abbrev pub invariant-loop-place : goal.invariant-loop-place
-invariant-loop-place l = (m : RootedModel) (units : List UnitPath) → IsTreeOf m units l.scopes.tree.now → l.paths ≡ map (thing_path m) (events m units)
+invariant-loop-place l = (m : RootedModel) (units : List UnitPath) → IsTreeOf m units l.scopes.tree.now
+    → l.paths ≡ map (thing_path m) (events m units)
     → Along (HasWays m units l.scopes.tree.now []) (take l.place (events m units)) l.events.items

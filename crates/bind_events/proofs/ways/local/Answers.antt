@@ -7,6 +7,8 @@ use Rattle.bind_events.proofs.ways.local.Goals as goal
 pub returns : goal.returns
 returns c = λ m units u x here st at o.
     let tested = guard x here c.args.action.now (one_here units c.args.unit.n u at) o in
-    bound_local m units c.args.scopes.now.tree.now u x here c.args.guard.now c.args.action.now c.in_ok-test.test c.in_ok-act.act (c.in_ok-test.ensures.bound m units u Truth st at tested)
-    (c.in_ok-test.ensures.typed m units u Truth st at tested) (c.in_ok-act.ensures.bound m units u x here c.args.guard.now st at o)
+    bound_local m units c.args.scopes.now.tree.now u x here c.args.guard.now c.args.action.now c.in_ok-test.test
+    c.in_ok-act.act (c.in_ok-test.ensures.bound m units u Truth st at tested)
+    (c.in_ok-test.ensures.typed m units u Truth st at tested)
+    (c.in_ok-act.ensures.bound m units u x here c.args.guard.now st at o)
     (c.in_ok-act.ensures.sound m units u x here c.args.guard.now st at o)

@@ -6,8 +6,10 @@ loop-part-init c = λ m units u is at. rows_start c.new-bound.result.items c.new
 
 pub loop-part-preserved : goal.loop-part-preserved
 loop-part-preserved c = λ m units u is at.
-    rows_next c.args.parts.now c.loop-part.part-index c.part-item.result c.in_ok-found.found c.loop-part.bound.items c.push.new.self.items c.loop-part-test.true c.part-item.is
+    rows_next c.args.parts.now c.loop-part.part-index c.part-item.result c.in_ok-found.found c.loop-part.bound.items
+    c.push.new.self.items c.loop-part-test.true c.part-item.is
     (c.loop-part.invariant m units u is at) (c.in_ok-found.ensures m units u is at) c.in_ok-push.ensures.items
 
 pub returns : goal.returns
-returns c = λ m units u is at. rows_end c.args.parts.now c.loop-part.part-index c.loop-part.bound.items c.loop-part-test.false (c.loop-part.invariant m units u is at)
+returns c = λ m units u is at. rows_end c.args.parts.now c.loop-part.part-index c.loop-part.bound.items
+    c.loop-part-test.false (c.loop-part.invariant m units u is at)

@@ -7,5 +7,6 @@ use Rattle.bind_events.specs.Ways.{IsBoundPart}
 use Rattle.bind_events.proofs.ways.parts_of.Given as goal
 
 abbrev pub invariant-loop-part : goal.invariant-loop-part
-invariant-loop-part l = (m : RootedModel) (units : List UnitPath) (u : UnitPath) → IsTreeOf m units l.scopes.tree.now → Stands units l.unit.n u
+invariant-loop-part l = (m : RootedModel) (units : List UnitPath) (u : UnitPath) → IsTreeOf m units l.scopes.tree.now
+    → Stands units l.unit.n u
     → Along (IsBoundPart m units u) (take l.part-index l.parts) l.bound.items

@@ -8,4 +8,5 @@ use Rattle.bind_expressions.proofs.laws.right_expressions.Goals as goal
 
 pub returns : goal.returns
 returns c = λ kinds leaves sorts compatible e f k is_full named right becomes.
-    typed_whole (StandsFor leaves) kinds sorts (λ p l j s h. subst (λ z. HasKind sorts z j) s (compatible p j h)) e (out-Expr VarId f) k is_full named right becomes
+    typed_whole (StandsFor leaves) kinds sorts (λ p l j s h. subst (λ z. HasKind sorts z j) s (compatible p j h)) e
+    (out-Expr VarId f) k is_full named right becomes

@@ -10,12 +10,18 @@ use Rattle.bind_expressions.specs.Wrong.{IsMistyped, Names}
 use Rattle.bind_expressions.proofs.mistyping.+mistyped.Given as goal
 
 abbrev pub invariant-wrong_in-loop-e : goal.invariant-wrong_in-loop-e
-invariant-wrong_in-loop-e g l = IsEarliest (Until (AtItem l.es (λ (k : ℕ) (e : RawExpr). IsMistyped (Names (g.N.Naming.kind_at l.naming)) (OfKind l.kind) e)) l.e-index) l.found
+invariant-wrong_in-loop-e g l = IsEarliest
+    (Until (AtItem l.es (λ (k : ℕ) (e : RawExpr). IsMistyped (Names (g.N.Naming.kind_at l.naming)) (OfKind l.kind) e))
+    l.e-index) l.found
 
 abbrev pub invariant-wrong_terms-loop-e : goal.invariant-wrong_terms-loop-e
-invariant-wrong_terms-loop-e g l = IsEarliest (Until (AtItem l.parts (λ (k : ℕ) (p : Bool × RawExpr). IsMistyped (Names (g.N.Naming.kind_at l.naming)) (OfKind Whole) p.1)) l.e-index) l.found
+invariant-wrong_terms-loop-e g l = IsEarliest
+    (Until (AtItem l.parts (λ (k : ℕ) (p : Bool × RawExpr). IsMistyped (Names (g.N.Naming.kind_at l.naming))
+    (OfKind Whole) p.1)) l.e-index) l.found
 
 abbrev pub invariant-wrong_cases-loop-test : goal.invariant-wrong_cases-loop-test
-invariant-wrong_cases-loop-test g l = (first : RawExpr) → IsFormOf (Names (g.N.Naming.kind_at l.naming)) (level_of first) l.kind
+invariant-wrong_cases-loop-test g l = (first : RawExpr)
+    → IsFormOf (Names (g.N.Naming.kind_at l.naming)) (level_of first) l.kind
     → IsEarliest (Until (AtItem l.cases (λ (k : ℕ) (c : RawExpr × RawExpr) (p : Place).
-    IsMistyped (Names (g.N.Naming.kind_at l.naming)) (OfKind Truth) c.0 p ⊎ IsMistyped (Names (g.N.Naming.kind_at l.naming)) (Like first) c.1 p)) l.test-index) l.found
+    IsMistyped (Names (g.N.Naming.kind_at l.naming)) (OfKind Truth) c.0 p
+    ⊎ IsMistyped (Names (g.N.Naming.kind_at l.naming)) (Like first) c.1 p)) l.test-index) l.found

@@ -3,11 +3,13 @@ use Rattle.bind_expressions.proofs.MistypedForms.{wrong_real, wrong_kind, right_
 use Rattle.bind_expressions.proofs.mistyping.wrong_itself.Goals as goal
 
 pub returns-then-is_real : goal.returns-then-is_real
-returns-then-is_real g c = wrong_real (g.N.Naming.kind_at c.args.naming.now) (demanding c.args.want) c.args.expr.now (c.is_real.ensures.0 c.if-is_real.true)
+returns-then-is_real g c = wrong_real (g.N.Naming.kind_at c.args.naming.now) (demanding c.args.want) c.args.expr.now
+    (c.is_real.ensures.0 c.if-is_real.true)
 
 pub returns-then-differ : goal.returns-then-differ
 returns-then-differ g c =
-    wrong_kind (g.N.Naming.kind_at c.args.naming.now) c.args.expr.now c.form_kind.result c.args.want c.form_kind.ensures (c.differ.ensures.0 c.if-differ.true)
+    wrong_kind (g.N.Naming.kind_at c.args.naming.now) c.args.expr.now c.form_kind.result c.args.want c.form_kind.ensures
+    (c.differ.ensures.0 c.if-differ.true)
 
 pub returns-else-differ : goal.returns-else-differ
 returns-else-differ g c =

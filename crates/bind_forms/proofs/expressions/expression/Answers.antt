@@ -12,7 +12,8 @@ returns-clause-bound c = λ m units u k s at tested.
     let h = settled_leaves leaves c.args.values.now s at c.deref.ensures.value in
     let e = c.args.written.now in
     ok_map c.translated.result
-    (λ f b. expression_bound h e f k (λ p w. s.names.naming p (rule.in_expression Everything k e tested w)) (λ p w. s.names.kinds p (rule.in_expression Everything k e tested w)) b) c.translated.ensures
+    (λ f b. expression_bound h e f k (λ p w. s.names.naming p (rule.in_expression Everything k e tested w))
+    (λ p w. s.names.kinds p (rule.in_expression Everything k e tested w)) b) c.translated.ensures
 
 pub returns-clause-typed : goal.returns-clause-typed
 returns-clause-typed c = λ m units u k s at tested.
@@ -20,5 +21,6 @@ returns-clause-typed c = λ m units u k s at tested.
     let h = settled_leaves leaves c.args.values.now s at c.deref.ensures.value in
     let e = c.args.written.now in
     ok_map c.translated.result
-    (λ f b. expression_typed h e f k (λ p w. s.names.naming p (rule.in_expression Everything k e tested w)) (λ p w. s.names.kinds p (rule.in_expression Everything k e tested w)) b
+    (λ f b. expression_typed h e f k (λ p w. s.names.naming p (rule.in_expression Everything k e tested w))
+    (λ p w. s.names.kinds p (rule.in_expression Everything k e tested w)) b
     (c.is_full.ensures c.if-not-is_full.false)) c.translated.ensures

@@ -6,4 +6,6 @@ use Rattle.bind_instructions.specs.Parts.{BreaksInside}
 use Rattle.bind_instructions.proofs.parts.+parts.Given as goal
 
 abbrev pub invariant-first_in-loop-instr : goal.invariant-first_in-loop-instr
-invariant-first_in-loop-instr g l = IsEarliest (Until (AtItem l.instrs (λ (k : ℕ) (i : Instr). BreaksInside (g.R.Rule.breaks l.rule) (out-Instr i))) l.instr-index) l.found
+invariant-first_in-loop-instr g l =
+    IsEarliest (Until (AtItem l.instrs (λ (k : ℕ) (i : Instr). BreaksInside (g.R.Rule.breaks l.rule) (out-Instr i)))
+    l.instr-index) l.found

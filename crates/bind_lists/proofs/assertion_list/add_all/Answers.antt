@@ -21,12 +21,18 @@ loop-site-preserved c = λ m units u st at e.
     let i = c.loop-site.site-index in
     let site = get_or sites i none in
     let s = stands_get sites i none c.loop-site-test.true in
-    let one = subst (λ (ss : List Site). IsOneOf ss (site_of site)) e (one_here (map site_of sites) i (site_of site) (stands_map site_of sites i site s)) in
-    adds_join m units c.args.scopes.now.tree.now (all_in u (flat_map asserted (forms_of m.declared (map site_of (take i sites))))) (all_in u (flat_map asserted (form_of (owned_at m.declared (site_of site))))) _
-    c.args.acts.now.items c.loop-site.acts.items c.add_at.new.acts.items (sites_next m.declared u sites i site s) (c.loop-site.invariant m units u st at e) (c.in_ok-add_at.ensures m units u st at one)
+    let one = subst (λ (ss : List Site). IsOneOf ss (site_of site)) e
+    (one_here (map site_of sites) i (site_of site) (stands_map site_of sites i site s)) in
+    adds_join m units c.args.scopes.now.tree.now
+    (all_in u (flat_map asserted (forms_of m.declared (map site_of (take i sites)))))
+    (all_in u (flat_map asserted (form_of (owned_at m.declared (site_of site))))) _
+    c.args.acts.now.items c.loop-site.acts.items c.add_at.new.acts.items (sites_next m.declared u sites i site s)
+    (c.loop-site.invariant m units u st at e) (c.in_ok-add_at.ensures m units u st at one)
 
 pub returns : goal.returns
 returns c = λ m units u st at e.
-    let sites : map site_of (take c.loop-site.site-index c.args.sites.now) ≡ _ = ap (map site_of) (take_all c.loop-site.site-index c.args.sites.now c.loop-site-test.false) ∙ e in
-    subst (λ (ss : List Site). AddsAssertions m units c.args.scopes.now.tree.now (all_in u (flat_map asserted (forms_of m.declared ss))) c.args.acts.now.items c.loop-site.acts.items) sites
+    let sites : map site_of (take c.loop-site.site-index c.args.sites.now) ≡ _ =
+    ap (map site_of) (take_all c.loop-site.site-index c.args.sites.now c.loop-site-test.false) ∙ e in
+    subst (λ (ss : List Site). AddsAssertions m units c.args.scopes.now.tree.now
+    (all_in u (flat_map asserted (forms_of m.declared ss))) c.args.acts.now.items c.loop-site.acts.items) sites
     (c.loop-site.invariant m units u st at e)

@@ -11,5 +11,8 @@ use Rattle.bind_lists.specs.Adding.{AddsAssertions}
 use Rattle.bind_lists.proofs.assertion_list.add_all.Given as goal
 
 abbrev pub invariant-loop-site : goal.invariant-loop-site
-invariant-loop-site l = (m : RootedModel) (units : List UnitPath) (u : UnitPath) → AreSettled m units l.scopes l.values → Stands units l.unit.n u → map site_of l.sites ≡ members_at m u
-    → AddsAssertions m units l.scopes.tree.now (all_in u (flat_map asserted (forms_of m.declared (map site_of (take l.site-index l.sites))))) l.fn.acts.items l.acts.items
+invariant-loop-site l = (m : RootedModel) (units : List UnitPath) (u : UnitPath) → AreSettled m units l.scopes l.values
+    → Stands units l.unit.n u → map site_of l.sites ≡ members_at m u
+    → AddsAssertions m units l.scopes.tree.now
+    (all_in u (flat_map asserted (forms_of m.declared (map site_of (take l.site-index l.sites))))) l.fn.acts.items
+    l.acts.items

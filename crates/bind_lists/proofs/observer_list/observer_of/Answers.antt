@@ -9,9 +9,11 @@ returns c = λ m units t st pre is one.
     let tied = st.are.is_tree in
     let form = c.in-Some.form in
     let written = c.in-Some.written.now in
-    let e = observer_is m units t c.args.node.now is (listed_observer m units t tied.table.kept one) form written (c.in-Some.ensures m.declared tied.table.table.holds.bodies) in
+    let e = observer_is m units t c.args.node.now is (listed_observer m units t tied.table.kept one) form written
+    (c.in-Some.ensures m.declared tied.table.table.holds.bodies) in
     let kind = c.in-Some-kind_of_type.ensures m units st.are in
     let tested = observer t form one e (sym kind) in
     bound_observer m units c.args.scopes.now.tree.now t _ form written e kind
-    (c.in_ok-value.ensures.bound m units t.unit c.in-Some-kind_of_type.kind st is.node.unit tested) (c.in_ok-value.ensures.typed m units t.unit c.in-Some-kind_of_type.kind st is.node.unit tested)
+    (c.in_ok-value.ensures.bound m units t.unit c.in-Some-kind_of_type.kind st is.node.unit tested)
+    (c.in_ok-value.ensures.typed m units t.unit c.in-Some-kind_of_type.kind st is.node.unit tested)
     (c.in_ok-path.ensures m units t is.given tied pre is.node)

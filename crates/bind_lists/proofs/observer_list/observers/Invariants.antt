@@ -9,5 +9,6 @@ use Rattle.bind_lists.specs.Bound.{IsBoundObserver}
 use Rattle.bind_lists.proofs.observer_list.observers.Given as goal
 
 abbrev pub invariant-loop-node : goal.invariant-loop-node
-invariant-loop-node l = (m : RootedModel) (units : List UnitPath) → AreSettled m units l.scopes l.values → l.prefixes ≡ map (prefix m) units
+invariant-loop-node l = (m : RootedModel) (units : List UnitPath) → AreSettled m units l.scopes l.values
+    → l.prefixes ≡ map (prefix m) units
     → Along (IsBoundObserver m units l.scopes.tree.now) (take l.node-index (observers m units)) l.observers.items

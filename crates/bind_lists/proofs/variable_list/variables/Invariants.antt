@@ -8,5 +8,6 @@ use Rattle.bind_lists.proofs.Varied.{AreFirst}
 use Rattle.bind_lists.proofs.variable_list.variables.Given as goal
 
 abbrev pub invariant-loop-place : goal.invariant-loop-place
-invariant-loop-place l = (m : RootedModel) (units : List UnitPath) → IsTreeOf m units l.tree → AreValues m units l.tree l.values → l.prefixes ≡ map (prefix m) units
+invariant-loop-place l = (m : RootedModel) (units : List UnitPath) → IsTreeOf m units l.tree
+    → AreValues m units l.tree l.values → l.prefixes ≡ map (prefix m) units
     → AreFirst m units l.tree l.place l.variables.items

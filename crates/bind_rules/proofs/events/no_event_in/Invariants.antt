@@ -11,5 +11,7 @@ use Rattle.bind_rules.specs.Breaking.{IsNoEvent}
 use Rattle.bind_rules.proofs.events.no_event_in.Given as goal
 
 abbrev pub invariant-loop-part : goal.invariant-loop-part
-invariant-loop-part l = (m : RootedModel) (units : List UnitPath) (u : UnitPath) → IsTreeOf m units l.scopes.tree.now → Stands units l.unit.n u
-    → IsEarliest (Until (AtItem l.parts (λ (j : ℕ) (p : Part) (q : Place). IsNoEvent m u p.event q)) l.part-index) l.found
+invariant-loop-part l = (m : RootedModel) (units : List UnitPath) (u : UnitPath) → IsTreeOf m units l.scopes.tree.now
+    → Stands units l.unit.n u
+    → IsEarliest (Until (AtItem l.parts (λ (j : ℕ) (p : Part) (q : Place). IsNoEvent m u p.event q)) l.part-index)
+    l.found

@@ -11,18 +11,33 @@ use Rattle.bind_rules.proofs.expressions.in_action.Goals as goal
 
 pub returns-in-Names : goal.returns-in-Names
 returns-in-Names c = λ m units u are at. rw c.in-Names.is (
-    let names : UnitNames = record { scopes = c.args.scopes; unit = c.args.unit; scope = scope.Everything; sort = sort.States } in
+    let names : UnitNames = record {
+      scopes = c.args.scopes;
+      unit = c.args.unit;
+      scope = scope.Everything;
+      sort = sort.States;
+    } in
     let h : AreNamesOf m units u s.Everything names = record { are = are; at = at; in_scope = everything } in
     inside_named h (out-Instr c.args.instr.now) c.misnamed_inside.result c.misnamed_inside.ensures)
 
 pub returns-in-Kinds : goal.returns-in-Kinds
 returns-in-Kinds c = λ m units u are at. rw c.in-Kinds.is (
-    let names : UnitNames = record { scopes = c.args.scopes; unit = c.args.unit; scope = scope.Everything; sort = sort.States } in
+    let names : UnitNames = record {
+      scopes = c.args.scopes;
+      unit = c.args.unit;
+      scope = scope.Everything;
+      sort = sort.States;
+    } in
     let h : AreNamesOf m units u s.Everything names = record { are = are; at = at; in_scope = everything } in
     inside_typed h (out-Instr c.args.instr.now) c.mistyped_inside.result c.mistyped_inside.ensures)
 
 pub returns-in-Targets : goal.returns-in-Targets
 returns-in-Targets c = λ m units u are at. rw c.in-Targets.is (
-    let names : UnitNames = record { scopes = c.args.scopes; unit = c.args.unit; scope = scope.Everything; sort = sort.States } in
+    let names : UnitNames = record {
+      scopes = c.args.scopes;
+      unit = c.args.unit;
+      scope = scope.Everything;
+      sort = sort.States;
+    } in
     let h : AreNamesOf m units u s.Everything names = record { are = are; at = at; in_scope = everything } in
     inside_acted h refl (out-Instr c.args.instr.now) c.first_breach-found.result c.first_breach-found.ensures)

@@ -16,13 +16,23 @@ returns-then-unit-len c = λ m units u s are at is.
 
 pub returns-in-Names : goal.returns-in-Names
 returns-in-Names c = λ m units u meant are at is. rw c.in-Names.is (
-    let names : UnitNames = record { scopes = c.args.scopes; unit = c.args.unit; scope = c.args.scope; sort = sort.States } in
+    let names : UnitNames = record {
+      scopes = c.args.scopes;
+      unit = c.args.unit;
+      scope = c.args.scope;
+      sort = sort.States;
+    } in
     let h : AreNamesOf m units u meant names = record { are = are; at = at; in_scope = is } in
     expression_named h c.args.expr.now c.first_misnamed.result c.first_misnamed.ensures)
 
 pub returns-in-Kinds : goal.returns-in-Kinds
 returns-in-Kinds c = λ m units u meant are at is. rw c.in-Kinds.is (
-    let names : UnitNames = record { scopes = c.args.scopes; unit = c.args.unit; scope = scope.Everything; sort = sort.States } in
+    let names : UnitNames = record {
+      scopes = c.args.scopes;
+      unit = c.args.unit;
+      scope = scope.Everything;
+      sort = sort.States;
+    } in
     let h : AreNamesOf m units u s.Everything names = record { are = are; at = at; in_scope = everything } in
     expression_typed h c.args.kind c.args.expr.now c.first_mistyped.result c.first_mistyped.ensures)
 

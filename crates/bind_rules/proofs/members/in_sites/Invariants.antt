@@ -14,5 +14,8 @@ use Rattle.bind_rules.specs.Breaking.{BreaksOneMember}
 use Rattle.bind_rules.proofs.members.in_sites.Given as goal
 
 abbrev pub invariant-loop-site : goal.invariant-loop-site
-invariant-loop-site l = (m : RootedModel) (units : List UnitPath) (u : UnitPath) → AreScopes m units l.scopes → Stands units l.unit.n u
-    → IsEarliest (Until (AtItem l.sites (λ (j : ℕ) (site : BodyId × ℕ) (q : Place). BreaksOneMember m l.rule u (form_of (owned_at m.declared (site_of site))) q)) l.site-index) l.found
+invariant-loop-site l = (m : RootedModel) (units : List UnitPath) (u : UnitPath) → AreScopes m units l.scopes
+    → Stands units l.unit.n u
+    → IsEarliest (Until (AtItem l.sites
+    (λ (j : ℕ) (site : BodyId × ℕ) (q : Place). BreaksOneMember m l.rule u
+    (form_of (owned_at m.declared (site_of site))) q)) l.site-index) l.found

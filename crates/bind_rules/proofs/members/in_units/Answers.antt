@@ -14,11 +14,15 @@ loop-place-preserved c = λ m units are.
     let l = rw c.deref-node-items.ensures.value at c.loop-place-test.true in
     let i = rw c.deref-node-items.ensures.value at c.node-item.is in
     let s = item_stands c.args.scopes.now.tree.now.units.items c.loop-place.place c.node-item.result l i in
-    let a = along_back units c.args.scopes.now.tree.now.units.items are.is_tree.units_are c.loop-place.place c.node-item.result s in
+    let a = along_back units c.args.scopes.now.tree.now.units.items are.is_tree.units_are c.loop-place.place
+    c.node-item.result s in
     let at = subst (λ (n : ℕ). Stands units n a.0) (sym c.new.ensures) a.1 in
-    loop_next _ _ _ _ _ _ _ s (c.loop-place.invariant m units are) (unit_now m units c.args.rule c.loop-place.place a.0 c.in_unit-here.result a.1 (c.in_unit-here.ensures m units a.0 are at a.2)) c.earlier-found.ensures
+    loop_next _ _ _ _ _ _ _ s (c.loop-place.invariant m units are)
+    (unit_now m units c.args.rule c.loop-place.place a.0 c.in_unit-here.result a.1
+    (c.in_unit-here.ensures m units a.0 are at a.2)) c.earlier-found.ensures
 
 pub returns : goal.returns
 returns c = λ m units are.
     let l = rw c.deref-node-items.ensures.value at c.loop-place-test.false in
-    loop_end _ _ _ _ _ l (unit_to m units c.args.rule _) (unit_back m units c.args.rule c.args.scopes.now.tree.now are.is_tree) (c.loop-place.invariant m units are)
+    loop_end _ _ _ _ _ l (unit_to m units c.args.rule _)
+    (unit_back m units c.args.rule c.args.scopes.now.tree.now are.is_tree) (c.loop-place.invariant m units are)

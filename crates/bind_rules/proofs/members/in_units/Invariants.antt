@@ -11,4 +11,5 @@ use Rattle.bind_rules.proofs.members.in_units.Given as goal
 
 abbrev pub invariant-loop-place : goal.invariant-loop-place
 invariant-loop-place l = (m : RootedModel) (units : List UnitPath) → AreScopes m units l.scopes
-    → IsEarliest (Until (AtItem l.scopes.tree.now.units.items (λ (j : ℕ) (d : UnitNode) (q : Place). BreaksUnitAt m units l.rule j q)) l.place) l.found
+    → IsEarliest (Until (AtItem l.scopes.tree.now.units.items
+    (λ (j : ℕ) (d : UnitNode) (q : Place). BreaksUnitAt m units l.rule j q)) l.place) l.found

@@ -13,4 +13,6 @@ use Rattle.bind_rules.proofs.values.in_observers.Given as goal
 
 abbrev pub invariant-loop-node : goal.invariant-loop-node
 invariant-loop-node l = (m : RootedModel) (units : List UnitPath) → AreScopes m units l.scopes
-    → IsEarliest (Until (AtItem l.scopes.tree.now.observers.items (λ (j : ℕ) (d : MemNode) (q : Place). BreaksAt (observers m units) (BreaksObserver m l.rule) j q)) l.node-index) l.found
+    → IsEarliest (Until (AtItem l.scopes.tree.now.observers.items
+    (λ (j : ℕ) (d : MemNode) (q : Place). BreaksAt (observers m units) (BreaksObserver m l.rule) j q)) l.node-index)
+    l.found

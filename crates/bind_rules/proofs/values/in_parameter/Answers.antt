@@ -3,10 +3,13 @@ use Rattle.bind_rules.proofs.Valued.{not_valued, parameter_scope, parameter_attr
 use Rattle.bind_rules.proofs.values.in_parameter.Goals as goal
 
 pub returns-then-not-is_read : goal.returns-then-not-is_read
-returns-then-not-is_read c = λ m units t are st is. not_valued m c.args.rule t (not_read c.is_read.result c.if-not-is_read.true (c.is_read.ensures.valued m units t are st))
+returns-then-not-is_read c = λ m units t are st is. not_valued m c.args.rule t
+    (not_read c.is_read.result c.if-not-is_read.true (c.is_read.ensures.valued m units t are st))
 
 pub returns : goal.returns
 returns c = λ m units t are st is.
     let v = is_read c.is_read.result c.if-not-is_read.false (c.is_read.ensures.valued m units t are st) in
     parameter_earliest m units t c.args.node.now is v c.args.rule c.in_value.result
-    (c.in_value.ensures m units t are (parameter_scope m units t c.args.place st) (parameter_attribute m units t c.args.node.now is v) (parameter_of_kind m units t c.args.node.now is v c.kind_of.result c.kind_of.ensures))
+    (c.in_value.ensures m units t are (parameter_scope m units t c.args.place st)
+    (parameter_attribute m units t c.args.node.now is v)
+    (parameter_of_kind m units t c.args.node.now is v c.kind_of.result c.kind_of.ensures))

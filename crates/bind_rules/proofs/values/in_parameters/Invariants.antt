@@ -13,4 +13,6 @@ use Rattle.bind_rules.proofs.values.in_parameters.Given as goal
 
 abbrev pub invariant-loop-place : goal.invariant-loop-place
 invariant-loop-place l = (m : RootedModel) (units : List UnitPath) → AreScopes m units l.scopes
-    → IsEarliest (Until (AtItem l.scopes.tree.now.parameters.items (λ (j : ℕ) (d : ParNode) (q : Place). BreaksAt (parameters m units) (BreaksParameter m l.rule) j q)) l.place) l.found
+    → IsEarliest (Until (AtItem l.scopes.tree.now.parameters.items
+    (λ (j : ℕ) (d : ParNode) (q : Place). BreaksAt (parameters m units) (BreaksParameter m l.rule) j q)) l.place)
+    l.found

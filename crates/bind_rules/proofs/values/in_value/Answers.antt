@@ -14,5 +14,8 @@ pub returns-in-Some : goal.returns-in-Some
 returns-in-Some c = λ m units t are own h kind.
     let w = c.in-Some.ensures.in_force m units t c.args.value are.is_tree.table.table refl h in
     let e = kind_one refl (sym w.3) in
-    let scope = subst (λ (z : Scope). IsScope m units w.0.unit z (s.scope_of t.name w.0.setting)) (sym c.scope_of-scope.ensures) (scope_is m units t c.args.own w.0 c.args.value.source.setting own w.1 w.2.source.setting_is) in
-    value_earliest m c.args.rule t w.0 w.1 c.args.kind kind c.in-Some.expr.now e c.in_expression.result (c.in_expression.ensures m units w.0.unit (s.scope_of t.name w.0.setting) are w.2.unit scope)
+    let scope = subst (λ (z : Scope). IsScope m units w.0.unit z (s.scope_of t.name w.0.setting))
+    (sym c.scope_of-scope.ensures) (scope_is m units t c.args.own w.0 c.args.value.source.setting own w.1
+    w.2.source.setting_is) in
+    value_earliest m c.args.rule t w.0 w.1 c.args.kind kind c.in-Some.expr.now e c.in_expression.result
+    (c.in_expression.ensures m units w.0.unit (s.scope_of t.name w.0.setting) are w.2.unit scope)

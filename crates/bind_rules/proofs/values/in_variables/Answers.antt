@@ -14,10 +14,16 @@ loop-node-preserved c = λ m units are.
     let l = rw c.deref-node-items.ensures.value at c.loop-node-test.true in
     let i = rw c.deref-node-items.ensures.value at c.node-item.is in
     let s = item_stands c.args.scopes.now.tree.now.variables.items c.loop-node.node-index c.node-item.result l i in
-    let a = along_back (variables m units) c.args.scopes.now.tree.now.variables.items are.is_tree.variables_are c.loop-node.node-index c.node-item.result s in
-    loop_next _ _ _ _ _ _ _ s (c.loop-node.invariant m units are) (thing_now (variables m units) (BreaksValue m c.args.rule) c.loop-node.node-index a.0 c.in_variable.result a.1 (c.in_variable.ensures m units a.0 are a.2)) c.earlier-found.ensures
+    let a = along_back (variables m units) c.args.scopes.now.tree.now.variables.items are.is_tree.variables_are
+    c.loop-node.node-index c.node-item.result s in
+    loop_next _ _ _ _ _ _ _ s (c.loop-node.invariant m units are)
+    (thing_now (variables m units) (BreaksValue m c.args.rule) c.loop-node.node-index a.0 c.in_variable.result a.1
+    (c.in_variable.ensures m units a.0 are a.2)) c.earlier-found.ensures
 
 pub returns : goal.returns
 returns c = λ m units are.
     let l = rw c.deref-node-items.ensures.value at c.loop-node-test.false in
-    loop_end _ _ _ _ _ l (thing_to (variables m units) (BreaksValue m c.args.rule) c.args.scopes.now.tree.now.variables.items are.is_tree.variables_are) (thing_back (variables m units) (BreaksValue m c.args.rule) c.args.scopes.now.tree.now.variables.items are.is_tree.variables_are) (c.loop-node.invariant m units are)
+    loop_end _ _ _ _ _ l (thing_to (variables m units) (BreaksValue m c.args.rule)
+    c.args.scopes.now.tree.now.variables.items are.is_tree.variables_are)
+    (thing_back (variables m units) (BreaksValue m c.args.rule) c.args.scopes.now.tree.now.variables.items
+    are.is_tree.variables_are) (c.loop-node.invariant m units are)

@@ -13,4 +13,6 @@ use Rattle.bind_rules.proofs.values.in_variables.Given as goal
 
 abbrev pub invariant-loop-node : goal.invariant-loop-node
 invariant-loop-node l = (m : RootedModel) (units : List UnitPath) → AreScopes m units l.scopes
-    → IsEarliest (Until (AtItem l.scopes.tree.now.variables.items (λ (j : ℕ) (d : VarNode) (q : Place). BreaksAt (variables m units) (BreaksValue m l.rule) j q)) l.node-index) l.found
+    → IsEarliest (Until (AtItem l.scopes.tree.now.variables.items
+    (λ (j : ℕ) (d : VarNode) (q : Place). BreaksAt (variables m units) (BreaksValue m l.rule) j q)) l.node-index)
+    l.found

@@ -11,6 +11,9 @@ pub returns : goal.returns
 returns c = λ m table known stands first.
     on_ok_weaker c.add_sites.result (λ a.
     let n = c.new.ensures ∙ c.in-Ok.ensures.1 in
-    let b = subst (λ (z : ℕ). AddsNames z (named_at m.declared (map site_of c.deref.result.now)) c.args.names.now c.add_sites.new.names) n a in
-    first_more m c.args.classes.now table c.args.place c.args.body.now stands c.args.names.now c.add_sites.new.names (subst (λ (z : List (BodyId × ℕ)). AddsNames c.args.place (named_at m.declared (map site_of z)) c.args.names.now c.add_sites.new.names) c.deref.ensures.value b) first)
+    let b = subst (λ (z : ℕ). AddsNames z (named_at m.declared (map site_of c.deref.result.now)) c.args.names.now
+    c.add_sites.new.names) n a in
+    first_more m c.args.classes.now table c.args.place c.args.body.now stands c.args.names.now c.add_sites.new.names
+    (subst (λ (z : List (BodyId × ℕ)). AddsNames c.args.place (named_at m.declared (map site_of z)) c.args.names.now
+    c.add_sites.new.names) c.deref.ensures.value b) first)
     (c.add_sites.ensures m.declared table.holds known)

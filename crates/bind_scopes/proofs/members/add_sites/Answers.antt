@@ -24,4 +24,5 @@ loop-site-preserved c = λ d holds known.
 pub returns : goal.returns
 returns c = λ d holds known.
     let e = take_all c.loop-site.site-index c.args.sites.now (omega arith) in
-    subst (λ (ss : List (BodyId × ℕ)). AddsNames c.args.body.n (named_at d (map site_of ss)) c.args.names.now c.loop-site.names) e (c.loop-site.invariant d holds known)
+    subst (λ (ss : List (BodyId × ℕ)). AddsNames c.args.body.n (named_at d (map site_of ss)) c.args.names.now
+    c.loop-site.names) e (c.loop-site.invariant d holds known)

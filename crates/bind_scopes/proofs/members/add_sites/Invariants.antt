@@ -7,4 +7,5 @@ use Rattle.bind_scopes.specs.Members.{AddsNames}
 use Rattle.bind_scopes.proofs.members.add_sites.Given as goal
 
 abbrev pub invariant-loop-site : goal.invariant-loop-site
-invariant-loop-site l = (d : Declared) → Holds d l.classes → KnowsPlaces l.classes.types.items l.places → AddsNames l.body.n (named_at d (map site_of (take l.site-index l.sites))) l.initial.names l.names
+invariant-loop-site l = (d : Declared) → Holds d l.classes → KnowsPlaces l.classes.types.items l.places
+    → AddsNames l.body.n (named_at d (map site_of (take l.site-index l.sites))) l.initial.names l.names

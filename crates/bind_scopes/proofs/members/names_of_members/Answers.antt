@@ -12,7 +12,8 @@ loop-place-preserved c = λ m table.
     let l = rw c.deref-body-items.ensures.value at c.loop-place-test.true in
     let is = rw c.deref-body-items.ensures.value at c.body-item.is in
     let s = item_stands c.args.classes.now.bodies.items c.loop-place.place c.body-item.result l is in
-    c.in_ok-add_body.ensures m table (rw c.deref.ensures.value at c.in_ok-places.ensures) s (c.loop-place.invariant m table)
+    c.in_ok-add_body.ensures m table (rw c.deref.ensures.value at c.in_ok-places.ensures) s
+    (c.loop-place.invariant m table)
 
 pub returns : goal.returns
 returns c = λ m table.

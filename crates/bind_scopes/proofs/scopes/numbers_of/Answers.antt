@@ -13,7 +13,8 @@ loop-place-preserved c =
     let l : c.loop-place.place < length c.args.list.now = omega arith in
     let none : NameId = record { n = 0; of = record {} } in
     let st = stands_get c.args.list.now c.loop-place.place none l in
-    numbers_more c.args.list.now c.loop-place.place _ st _ _ (rw c.in-Ok.ensures.1 at c.in_ok-insert.ensures.updates.0) c.loop-place.invariant
+    numbers_more c.args.list.now c.loop-place.place _ st _ _ (rw c.in-Ok.ensures.1 at c.in_ok-insert.ensures.updates.0)
+    c.loop-place.invariant
 
 pub returns-clause-at : goal.returns-clause-at
 returns-clause-at c = c.loop-place.invariant.at

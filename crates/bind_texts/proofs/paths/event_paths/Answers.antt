@@ -19,15 +19,20 @@ no_node = record {
 pub loop-node-preserved : goal.loop-node-preserved
 unfolding no_node
 loop-node-preserved c = λ m units tree fronts.
-    let along = subst (λ (ds : List MemNode). Along (IsPlainNode m units) (events m units) ds) (sym c.deref-node-items.ensures.value) tree.events_are in
+    let along = subst (λ (ds : List MemNode). Along (IsPlainNode m units) (events m units) ds)
+    (sym c.deref-node-items.ensures.value) tree.events_are in
     let nodes = c.deref-node-items.result.now in
     let w = along_back (events m units) nodes along c.loop-node.node-index (get_or nodes c.loop-node.node-index no_node)
     (stands_get nodes c.loop-node.node-index no_node c.loop-node-test.true) in
-    texts_more (IsPlainNode m units) (thing_path m) (events m units) nodes along c.loop-node.node-index w.0 c.loop-node.paths.items c.push.new.self.items c.in_ok-path.path
-    w.1 (c.loop-node.invariant m units tree fronts) (c.in_ok-path.ensures m units w.0 w.2.given tree fronts w.2.node) c.in_ok-push.ensures.items
+    texts_more (IsPlainNode m units) (thing_path m) (events m units) nodes along c.loop-node.node-index w.0
+    c.loop-node.paths.items c.push.new.self.items c.in_ok-path.path
+    w.1 (c.loop-node.invariant m units tree fronts) (c.in_ok-path.ensures m units w.0 w.2.given tree fronts w.2.node)
+    c.in_ok-push.ensures.items
 
 pub returns : goal.returns
 returns c = λ m units tree fronts.
-    let along = subst (λ (ds : List MemNode). Along (IsPlainNode m units) (events m units) ds) (sym c.deref-node-items.ensures.value) tree.events_are in
-    texts_end (IsPlainNode m units) (thing_path m) (events m units) c.deref-node-items.result.now along c.loop-node.node-index c.loop-node.paths.items
+    let along = subst (λ (ds : List MemNode). Along (IsPlainNode m units) (events m units) ds)
+    (sym c.deref-node-items.ensures.value) tree.events_are in
+    texts_end (IsPlainNode m units) (thing_path m) (events m units) c.deref-node-items.result.now along
+    c.loop-node.node-index c.loop-node.paths.items
     (omega (arith, c.loop-node-test.false)) (c.loop-node.invariant m units tree fronts)

@@ -7,5 +7,6 @@ use Rattle.hierarchy.specs.Units.{UnitPath}
 use Rattle.bind_texts.proofs.paths.event_paths.Given as goal
 
 abbrev pub invariant-loop-node : goal.invariant-loop-node
-invariant-loop-node l = (m : RootedModel) (units : List UnitPath) → IsTreeOf m units l.tree → l.prefixes ≡ map (prefix m) units
+invariant-loop-node l = (m : RootedModel) (units : List UnitPath) → IsTreeOf m units l.tree
+    → l.prefixes ≡ map (prefix m) units
     → l.paths.items ≡ map (thing_path m) (take l.node-index (events m units))

@@ -6,4 +6,5 @@ use Rattle.hierarchy.specs.Units.{UnitPath}
 use Rattle.bind_texts.proofs.paths.prefixes.Given as goal
 
 abbrev pub invariant-loop-node : goal.invariant-loop-node
-invariant-loop-node l = (m : RootedModel) (units : List UnitPath) → IsTreeOf m units l.tree → l.texts.items ≡ map (prefix m) (take l.node-index units)
+invariant-loop-node l = (m : RootedModel) (units : List UnitPath) → IsTreeOf m units l.tree
+    → l.texts.items ≡ map (prefix m) (take l.node-index units)

@@ -6,4 +6,5 @@ use Rattle.bind_values.specs.Values.{AreNamesKept, AreFirst}
 use Rattle.bind_values.proofs.computing.parameter_values.Given as goal
 
 abbrev pub invariant-loop-place : goal.invariant-loop-place
-invariant-loop-place l = (m : RootedModel) (units : List UnitPath) → AreScopes m units l.scopes → AreNamesKept m units → AreFirst m units l.place l.values.items
+invariant-loop-place l = (m : RootedModel) (units : List UnitPath) → AreScopes m units l.scopes → AreNamesKept m units
+    → AreFirst m units l.place l.values.items

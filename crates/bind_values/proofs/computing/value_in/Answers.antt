@@ -20,4 +20,5 @@ pub returns : goal.returns
 returns c = λ m units t n are kept has h first names.
     let w = c.in-Some.ensures.in_force m units t c.args.value are.is_tree.table.table refl h in
     ok_map c.computed.result
-    (λ v r. value_right are kept t has n c.args.parameters.now first names w.0 w.1 c.args.value.from.n w.2.unit c.in-Some.expr.now r.0 v (kind_one refl (sym w.3)) r.1 r.2) c.computed.ensures
+    (λ v r. value_right are kept t has n c.args.parameters.now first names w.0 w.1 c.args.value.from.n w.2.unit
+    c.in-Some.expr.now r.0 v (kind_one refl (sym w.3)) r.1 r.2) c.computed.ensures

@@ -8,5 +8,6 @@ use Rattle.bind_values.specs.Values.{AreNamesKept, IsParameterValue, IsValue}
 use Rattle.bind_values.proofs.computing.variable_values.Given as goal
 
 abbrev pub invariant-loop-node : goal.invariant-loop-node
-invariant-loop-node l = (m : RootedModel) (units : List UnitPath) → AreScopes m units l.scopes → AreNamesKept m units → Along (IsParameterValue m) (parameters m units) l.parameters
+invariant-loop-node l = (m : RootedModel) (units : List UnitPath) → AreScopes m units l.scopes → AreNamesKept m units
+    → Along (IsParameterValue m) (parameters m units) l.parameters
     → Along (IsValue m) (take l.node-index (variables m units)) l.values.items

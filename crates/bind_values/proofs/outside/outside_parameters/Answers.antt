@@ -16,13 +16,17 @@ loop-place-preserved c = λ m units are rows.
     let i = rw c.deref-node-items.ensures.value at c.node-item.is in
     let s = item_stands nodes c.loop-place.place c.node-item.result l i in
     let a = along_back (parameters m units) nodes are.is_tree.parameters_are c.loop-place.place c.node-item.result s in
-    let v = known_value (IsParameterValue m) (parameters m units) c.args.values.now rows c.loop-place.place a.0 c.known.result a.1 c.known.ensures in
+    let v = known_value (IsParameterValue m) (parameters m units) c.args.values.now rows c.loop-place.place a.0
+    c.known.result a.1 c.known.ensures in
     let one = one_here (parameters m units) c.loop-place.place a.0 a.1 in
     loop_next _ _ _ _ _ _ _ s (c.loop-place.invariant m units are rows)
-    (thing_now m units (parameters m units) c.loop-place.place a.0 c.outside_parameter.result a.1 (c.outside_parameter.ensures m units a.0 are one a.2 v)) c.earlier-found.ensures
+    (thing_now m units (parameters m units) c.loop-place.place a.0 c.outside_parameter.result a.1
+    (c.outside_parameter.ensures m units a.0 are one a.2 v)) c.earlier-found.ensures
 
 pub returns : goal.returns
 returns c = λ m units are rows.
     let nodes = c.args.scopes.now.tree.now.parameters.items in
     let l = rw c.deref-node-items.ensures.value at c.loop-place-test.false in
-    loop_end _ _ _ _ _ l (thing_to m units (parameters m units) nodes are.is_tree.parameters_are) (thing_back m units (parameters m units) nodes are.is_tree.parameters_are) (c.loop-place.invariant m units are rows)
+    loop_end _ _ _ _ _ l (thing_to m units (parameters m units) nodes are.is_tree.parameters_are)
+    (thing_back m units (parameters m units) nodes are.is_tree.parameters_are)
+    (c.loop-place.invariant m units are rows)

@@ -13,5 +13,7 @@ use Rattle.bind_values.proofs.OutsideDomains.{BreaksAt}
 use Rattle.bind_values.proofs.outside.outside_parameters.Given as goal
 
 abbrev pub invariant-loop-place : goal.invariant-loop-place
-invariant-loop-place l = (m : RootedModel) (units : List UnitPath) → AreScopes m units l.scopes → Along (IsParameterValue m) (parameters m units) l.values
-    → IsEarliest (Until (AtItem l.scopes.tree.now.parameters.items (λ (j : ℕ) (d : ParNode) (q : Place). BreaksAt m units (parameters m units) j q)) l.place) l.found
+invariant-loop-place l = (m : RootedModel) (units : List UnitPath) → AreScopes m units l.scopes
+    → Along (IsParameterValue m) (parameters m units) l.values
+    → IsEarliest (Until (AtItem l.scopes.tree.now.parameters.items
+    (λ (j : ℕ) (d : ParNode) (q : Place). BreaksAt m units (parameters m units) j q)) l.place) l.found

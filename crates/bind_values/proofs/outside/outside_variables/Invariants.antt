@@ -13,5 +13,7 @@ use Rattle.bind_values.proofs.OutsideDomains.{BreaksAt}
 use Rattle.bind_values.proofs.outside.outside_variables.Given as goal
 
 abbrev pub invariant-loop-place : goal.invariant-loop-place
-invariant-loop-place l = (m : RootedModel) (units : List UnitPath) → AreScopes m units l.scopes → Along (IsValue m) (variables m units) l.values
-    → IsEarliest (Until (AtItem l.scopes.tree.now.variables.items (λ (j : ℕ) (d : VarNode) (q : Place). BreaksAt m units (variables m units) j q)) l.place) l.found
+invariant-loop-place l = (m : RootedModel) (units : List UnitPath) → AreScopes m units l.scopes
+    → Along (IsValue m) (variables m units) l.values
+    → IsEarliest (Until (AtItem l.scopes.tree.now.variables.items
+    (λ (j : ℕ) (d : VarNode) (q : Place). BreaksAt m units (variables m units) j q)) l.place) l.found

@@ -40,7 +40,8 @@ lines_are p [] = refl
 lines_are p (c ∷ cs) = ap (λ (z : List (List Label)). labels_of p c.ways.items ∷ z) (lines_are p cs)
 
 -- the parts of the text, one by one
-joined : (a b k m : List ℕ) (g h i j : Bool) → a ≡ b → k ≡ m → g ≡ h → i ≡ j → a ++ (k ++ last_line (g && i)) ≡ b ++ (m ++ last_line (h && j))
+joined : (a b k m : List ℕ) (g h i j : Bool) → a ≡ b → k ≡ m → g ≡ h → i ≡ j
+    → a ++ (k ++ last_line (g && i)) ≡ b ++ (m ++ last_line (h && j))
 joined a b k m g h i j d e f w =
     ap (λ (z : List ℕ). z ++ (k ++ last_line (g && i))) d
     ∙ ap (λ (z : List ℕ). b ++ (z ++ last_line (g && i))) e
@@ -48,27 +49,37 @@ joined a b k m g h i j d e f w =
     ∙ ap (λ (z : Bool). b ++ (m ++ last_line (h && z))) w
 
 -- the missing cuts are listed
-missing_listed : (p : GtsParts) (edges : List Edge) (flat : System ℕ) (dropped : List ℕ) (other : Expr ℕ) (wanted : Value) (lines : List (List Label)) (ts : List ModeTree) (sets lists : List (List ℕ))
-    → AreListed (Cut flat dropped other wanted) sets → (u : Unlisted p edges lines ts sets lists) → AreListed (IsMissing flat dropped other wanted lines) u.left
+missing_listed : (p : GtsParts) (edges : List Edge) (flat : System ℕ) (dropped : List ℕ) (other : Expr ℕ)
+    (wanted : Value) (lines : List (List Label)) (ts : List ModeTree) (sets lists : List (List ℕ))
+    → AreListed (Cut flat dropped other wanted) sets → (u : Unlisted p edges lines ts sets lists)
+    → AreListed (IsMissing flat dropped other wanted lines) u.left
 missing_listed p edges flat dropped other wanted lines ts sets lists listed u = record {
   ascend = λ k s st. listed.ascend (u.place k) s (u.places k s st);
   sound = λ k s st. record { is_cut = listed.sound (u.place k) s (u.places k s st); unlisted = u.unlisted k s st };
   whole = λ s m.
       let o = listed.whole s m.is_cut in
       (o.0, u.whole o.1.place o.0 o.1.stands (λ hl. m.unlisted (listed_members lines o.0 s o.3 o.2 hl)), o.2, o.3);
-  in_order = λ j k a b lt sa sb. listed.in_order (u.place j) (u.place k) a b (u.later j k lt) (u.places j a sa) (u.places k b sb);
+  in_order = λ j k a b lt sa sb. listed.in_order (u.place j) (u.place k) a b (u.later j k lt) (u.places j a sa)
+      (u.places k b sb);
 }
 
-module _ (x : Elaborated) (p : GtsParts) (flat : System ℕ) (dropped : List ℕ) (f : Forest) (one : (a b : System ℕ) → Views p a → Views p b → a ≡ b) (h : IsForestOf x p flat dropped f) where
-  lines_along : {left orders : List (List ℕ)} → AreInFiringOrder (trees_of (λ n. n) f) left orders → Along (IsLine x.system dropped) left (map (labels_in p (edges_of f.trees.items)) orders)
+module _ (x : Elaborated) (p : GtsParts) (flat : System ℕ) (dropped : List ℕ) (f : Forest)
+    (one : (a b : System ℕ) → Views p a → Views p b → a ≡ b) (h : IsForestOf x p flat dropped f) where
+  lines_along : {left orders : List (List ℕ)} → AreInFiringOrder (trees_of (λ n. n) f) left orders
+      → Along (IsLine x.system dropped) left (map (labels_in p (edges_of f.trees.items)) orders)
   lines_along l.none = l.none
-  lines_along (l.one_and {a = s} {b = es} g gs) = l.one_and (source_set x p flat dropped f one h s es g) (lines_along gs)
+  lines_along (l.one_and {a = s} {b = es} g gs) =
+      l.one_and (source_set x p flat dropped f one h s es g) (lines_along gs)
 
-  texts_are : (orders : List (List ℕ)) → missing_texts p (edges_of f.trees.items) orders ≡ missing_lines (naming_of x.declarations) x.system (map (labels_in p (edges_of f.trees.items)) orders)
+  texts_are : (orders : List (List ℕ))
+      → missing_texts p (edges_of f.trees.items) orders
+      ≡ missing_lines (naming_of x.declarations) x.system (map (labels_in p (edges_of f.trees.items)) orders)
   texts_are [] = refl
   texts_are (es ∷ more) =
-      ap (λ (z : List ℕ). line (codes "missing " ++ z) ++ missing_texts p (edges_of f.trees.items) more) (text_is x p flat dropped f one h es)
-      ∙ ap (λ (z : List ℕ). line (codes "missing " ++ labels_text (naming_of x.declarations) x.system (labels_in p (edges_of f.trees.items) es)) ++ z) (texts_are more)
+      ap (λ (z : List ℕ). line (codes "missing " ++ z) ++ missing_texts p (edges_of f.trees.items) more)
+      (text_is x p flat dropped f one h es)
+      ∙ ap (λ (z : List ℕ). line (codes "missing " ++ labels_text (naming_of x.declarations) x.system
+      (labels_in p (edges_of f.trees.items) es)) ++ z) (texts_are more)
 
 pub returns : goal.returns
 returns c = λ x p flat dropped f h observer other q wanted sets lists listed g chains verdicts are.
@@ -82,17 +93,20 @@ returns c = λ x p flat dropped f h observer other q wanted sets lists listed g 
     let same = lines_are p chains in
     let u = unlisted_of p edges lines (trees_of (λ n. n) f) g in
     let s = all_said p flat dropped other wanted lines chains 0 chains verdicts are.long
-    (λ n v st. subst (λ (z : ℕ). IsVerdict flat dropped other wanted lines chains z v) (omega arith) (are.each n v st)) in
+    (λ n v st. subst (λ (z : ℕ). IsVerdict flat dropped other wanted lines chains z v) (omega arith)
+    (are.each n v st)) in
     record {
       said = s.all;
-      are_said = subst (λ (ls : List (List Label)). AreSaid x.system dropped observer wanted ls s.all) (sym same) (record {
-        long = s.long ∙ are.long ∙ sym (length-map chains (λ (d : Chain). labels_of p d.ways.items));
-        each = λ n said st.
-            said_back (IsNumber things) x.system flat image dropped observer other q wanted lines n said
-            (subst (λ (z : ℕ). IsSaid flat dropped other wanted lines z said) (omega arith) (s.each n said st));
-      });
+      are_said = subst (λ (ls : List (List Label)). AreSaid x.system dropped observer wanted ls s.all) (sym same)
+          (record {
+            long = s.long ∙ are.long ∙ sym (length-map chains (λ (d : Chain). labels_of p d.ways.items));
+            each = λ n said st.
+                said_back (IsNumber things) x.system flat image dropped observer other q wanted lines n said
+                (subst (λ (z : ℕ). IsSaid flat dropped other wanted lines z said) (omega arith) (s.each n said st));
+          });
       missing = u.left;
-      are_missing = subst (λ (ls : List (List Label)). AreListed (IsMissing x.system dropped observer wanted ls) u.left) (sym same)
+      are_missing = subst (λ (ls : List (List Label)). AreListed (IsMissing x.system dropped observer wanted ls) u.left)
+          (sym same)
           (listed_as
           (λ set m. missing_back (IsNumber things) x.system flat image dropped observer other q wanted lines set m)
           (λ set m. missing_there (IsNumber things) x.system flat image dropped observer other q wanted lines set m)

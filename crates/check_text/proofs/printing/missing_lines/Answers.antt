@@ -15,15 +15,18 @@ pub returns-in_err-missing_line-clause-text : goal.returns-in_err-missing_line-c
 returns-in_err-missing_line-clause-text g c =
     writes_exit _ _ c.from_residual.ensures.1
     (leaves_cut _ _ c.loop-events.invariant.text c.in_err-missing_line.ensures.text
-    (ap (λ (z : List (List ℕ)). missing_at c.args.gts.now c.args.ways.now (chain_lines c.args.gts.now c.args.chains.now) z) c.in-Some.ensures.first.1))
+    (ap (λ (z : List (List ℕ)). missing_at c.args.gts.now c.args.ways.now (chain_lines c.args.gts.now c.args.chains.now)
+    z) c.in-Some.ensures.first.1))
 
 pub loop-events-preserved : goal.loop-events-preserved
 loop-events-preserved g c =
     let lines = chain_lines c.args.gts.now c.args.chains.now in
     let rest = c.next.follows.lender-at-none in
-    let e = gives_some c.loop-events.lister rest c.next.result c.in-Some.events c.in-Some.is c.next.follows.holds-at-none in
+    let e = gives_some c.loop-events.lister rest c.next.result c.in-Some.events c.in-Some.is
+    c.next.follows.holds-at-none in
     record {
-      text = leaves_on _ _ c.loop-events.invariant.text c.in_ok-missing_line.ensures.text (ap (λ (z : List (List ℕ)). missing_at c.args.gts.now c.args.ways.now lines z) e);
+      text = leaves_on _ _ c.loop-events.invariant.text c.in_ok-missing_line.ensures.text
+          (ap (λ (z : List (List ℕ)). missing_at c.args.gts.now c.args.ways.now lines z) e);
       ways = all_rest c.args.gts.now c.args.ways.now c.loop-events.lister _ rest e c.loop-events.invariant.ways;
       whole =
           ap (λ (b : Bool). b && all_listed lines rest) c.in_ok-missing_line.ensures.whole

@@ -22,18 +22,22 @@ missing_lines-requires-clause-ways g c =
 pub returns-in_err-verdict_lines : goal.returns-in_err-verdict_lines
 returns-in_err-verdict_lines g c =
     let ts : List ModeTree = c.args.forest.now.trees.items in
-    let r = err_from_is_err_and c.from_residual-in_err-verdict_lines.result c.from_residual-in_err-verdict_lines.ensures.1 in
+    let r = err_from_is_err_and c.from_residual-in_err-verdict_lines.result
+    c.from_residual-in_err-verdict_lines.ensures.1 in
     failed c.from_residual-in_err-verdict_lines.result (r.1 ∙ ap Err r.2)
-    (writes_as _ _ (whole_text (edges_of ts) c.requires.one_way c.in_ok-ways.ways.items c.in_ok-ways.ensures c.args.gts.now c.args.chains.now c.args.verdicts.now c.args.lister c.requires.known _ refl)
+    (writes_as _ _ (whole_text (edges_of ts) c.requires.one_way c.in_ok-ways.ways.items c.in_ok-ways.ensures
+    c.args.gts.now c.args.chains.now c.args.verdicts.now c.args.lister c.requires.known _ refl)
     (writes_cut _ _ c.in_err-verdict_lines.ensures))
 
 pub returns-in_err-missing_lines : goal.returns-in_err-missing_lines
 returns-in_err-missing_lines g c =
     let ts : List ModeTree = c.args.forest.now.trees.items in
     let are = subst (λ (z : List WayId). AreWaysOf (edges_of ts) z) (sym c.deref.ensures.value) c.in_ok-ways.ensures in
-    let r = err_from_is_err_and c.from_residual-in_err-missing_lines.result c.from_residual-in_err-missing_lines.ensures.1 in
+    let r = err_from_is_err_and c.from_residual-in_err-missing_lines.result
+    c.from_residual-in_err-missing_lines.ensures.1 in
     failed c.from_residual-in_err-missing_lines.result (r.1 ∙ ap Err r.2)
-    (writes_as _ _ (whole_text (edges_of ts) c.requires.one_way c.deref.result.now are c.args.gts.now c.args.chains.now c.args.verdicts.now c.args.lister c.requires.known _ refl)
+    (writes_as _ _ (whole_text (edges_of ts) c.requires.one_way c.deref.result.now are c.args.gts.now c.args.chains.now
+    c.args.verdicts.now c.args.lister c.requires.known _ refl)
     (writes_on c.in_ok-verdict_lines.ensures (writes_cut _ _ c.in_err-missing_lines.ensures.text)))
 
 pub returns-in_err-answer : goal.returns-in_err-answer
@@ -41,17 +45,23 @@ returns-in_err-answer g c =
     let ts : List ModeTree = c.args.forest.now.trees.items in
     let are = subst (λ (z : List WayId). AreWaysOf (edges_of ts) z) (sym c.deref.ensures.value) c.in_ok-ways.ensures in
     let r = err_from_is_err_and c.from_residual-in_err-answer.result c.from_residual-in_err-answer.ensures.1 in
-    let b : c.both.result ≡ (all_verdicts_good c.args.verdicts.now && all_listed (chain_lines c.args.gts.now c.args.chains.now) c.args.lister) =
-    c.both.ensures ∙ ap (λ (z : Bool). z && c.missing_lines.new.whole) c.all_good-good.ensures ∙ ap (λ (z : Bool). all_verdicts_good c.args.verdicts.now && z) c.in_ok-missing_lines.ensures.whole in
+    let b : c.both.result ≡ (all_verdicts_good c.args.verdicts.now && all_listed
+    (chain_lines c.args.gts.now c.args.chains.now) c.args.lister) =
+    c.both.ensures ∙ ap (λ (z : Bool). z && c.missing_lines.new.whole) c.all_good-good.ensures
+    ∙ ap (λ (z : Bool). all_verdicts_good c.args.verdicts.now && z) c.in_ok-missing_lines.ensures.whole in
     failed c.from_residual-in_err-answer.result (r.1 ∙ ap Err r.2)
-    (writes_as _ _ (whole_text (edges_of ts) c.requires.one_way c.deref.result.now are c.args.gts.now c.args.chains.now c.args.verdicts.now c.args.lister c.requires.known c.both.result b)
+    (writes_as _ _ (whole_text (edges_of ts) c.requires.one_way c.deref.result.now are c.args.gts.now c.args.chains.now
+    c.args.verdicts.now c.args.lister c.requires.known c.both.result b)
     (writes_on c.in_ok-verdict_lines.ensures (writes_on c.in_ok-missing_lines.ensures.text c.in_err-answer.ensures)))
 
 pub returns : goal.returns
 returns g c =
     let ts : List ModeTree = c.args.forest.now.trees.items in
     let are = subst (λ (z : List WayId). AreWaysOf (edges_of ts) z) (sym c.deref.ensures.value) c.in_ok-ways.ensures in
-    let b : c.both.result ≡ (all_verdicts_good c.args.verdicts.now && all_listed (chain_lines c.args.gts.now c.args.chains.now) c.args.lister) =
-    c.both.ensures ∙ ap (λ (z : Bool). z && c.missing_lines.new.whole) c.all_good-good.ensures ∙ ap (λ (z : Bool). all_verdicts_good c.args.verdicts.now && z) c.in_ok-missing_lines.ensures.whole in
-    writes_as _ _ (whole_text (edges_of ts) c.requires.one_way c.deref.result.now are c.args.gts.now c.args.chains.now c.args.verdicts.now c.args.lister c.requires.known c.both.result b)
+    let b : c.both.result ≡ (all_verdicts_good c.args.verdicts.now && all_listed
+    (chain_lines c.args.gts.now c.args.chains.now) c.args.lister) =
+    c.both.ensures ∙ ap (λ (z : Bool). z && c.missing_lines.new.whole) c.all_good-good.ensures
+    ∙ ap (λ (z : Bool). all_verdicts_good c.args.verdicts.now && z) c.in_ok-missing_lines.ensures.whole in
+    writes_as _ _ (whole_text (edges_of ts) c.requires.one_way c.deref.result.now are c.args.gts.now c.args.chains.now
+    c.args.verdicts.now c.args.lister c.requires.known c.both.result b)
     (writes_on c.in_ok-verdict_lines.ensures (writes_on c.in_ok-missing_lines.ensures.text c.in_ok-answer.ensures))

@@ -14,10 +14,12 @@ pub loop-owned-preserved : goal.loop-owned-preserved
 loop-owned-preserved c = λ d known h.
     let e = take_item c.args.own.now c.loop-owned.owned-index c.owned-item.result (omega arith) c.owned-item.is in
     let k = c.loop-owned.invariant d known h in
-    subst (λ (os : List Owned). Opens d os c.args.opened.now.items c.add_inside.new.opened.items c.add_inside.new.seen) (sym e)
+    subst (λ (os : List Owned). Opens d os c.args.opened.now.items c.add_inside.new.opened.items c.add_inside.new.seen)
+    (sym e)
     (opens_next d _ _ _ _ _ _ _ k (c.in_ok-add_inside.ensures d known k.is_seen))
 
 pub returns : goal.returns
 returns c = λ d known h.
     let e = take_all c.loop-owned.owned-index c.args.own.now (omega arith) in
-    subst (λ (os : List Owned). Opens d os c.args.opened.now.items c.loop-owned.opened.items c.loop-owned.seen) e (c.loop-owned.invariant d known h)
+    subst (λ (os : List Owned). Opens d os c.args.opened.now.items c.loop-owned.opened.items c.loop-owned.seen) e
+    (c.loop-owned.invariant d known h)

@@ -14,10 +14,14 @@ returns-in-None-at c = λ d known. again_none d _ _ (λ k p e.
 
 pub returns-then-branch : goal.returns-then-branch
 returns-then-branch c = λ d known.
-    again_there d _ _ c.in-Some.inside.body.n _ (sym (c.in-Some.ensures d known.known) ∙ ap (λ (o : Option Place). Some (c.in-Some.inside.body.n, o)) c.in-Some-at.is)
+    again_there d _ _ c.in-Some.inside.body.n _
+    (sym (c.in-Some.ensures d known.known)
+    ∙ ap (λ (o : Option Place). Some (c.in-Some.inside.body.n, o)) c.in-Some-at.is)
     ((c.in_ok-reaches-in-Some-at.ensures d known).0 c.if-branch.true)
 
 pub returns-else-branch : goal.returns-else-branch
 returns-else-branch c = λ d known.
-    again_not d _ _ c.in-Some.inside.body.n c.in-Some-at.at (sym (c.in-Some.ensures d known.known) ∙ ap (λ (o : Option Place). Some (c.in-Some.inside.body.n, o)) c.in-Some-at.is)
+    again_not d _ _ c.in-Some.inside.body.n c.in-Some-at.at
+    (sym (c.in-Some.ensures d known.known)
+    ∙ ap (λ (o : Option Place). Some (c.in-Some.inside.body.n, o)) c.in-Some-at.is)
     (λ w. let h = (c.in_ok-reaches-in-Some-at.ensures d known).1 w in cc)

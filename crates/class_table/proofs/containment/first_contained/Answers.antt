@@ -13,4 +13,5 @@ loop-place-preserved c = λ d known. let s = item_stands c.args.bodies.now c.loo
     loop_next _ _ _ _ _ _ _ s (c.loop-place.invariant d known) (rw c.in-Ok.ensures.1 at h) c.earliest-found.ensures
 
 pub returns : goal.returns
-returns c = λ d known. loop_end _ _ _ _ _ (omega arith) (contained_to d _ known.as_text) (contained_back d _ known.as_text) (c.loop-place.invariant d known)
+returns c = λ d known. loop_end _ _ _ _ _ (omega arith) (contained_to d _ known.as_text)
+    (contained_back d _ known.as_text) (c.loop-place.invariant d known)

@@ -7,4 +7,5 @@ use Rattle.class_table.proofs.Looping.{AtItem}
 use Rattle.class_table.proofs.containment.first_contained.Given as goal
 
 abbrev pub invariant-loop-place : goal.invariant-loop-place
-invariant-loop-place l = (d : Declared) → Shows d l.bodies l.types → IsEarliest (Until (AtItem l.bodies (λ (k : ℕ) (b : Body). NamesAgain d k b.own.items)) l.place) l.found
+invariant-loop-place l = (d : Declared) → Shows d l.bodies l.types
+    → IsEarliest (Until (AtItem l.bodies (λ (k : ℕ) (b : Body). NamesAgain d k b.own.items)) l.place) l.found

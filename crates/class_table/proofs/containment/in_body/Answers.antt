@@ -12,4 +12,5 @@ loop-owned-preserved c = λ d known. let s = item_stands c.args.own.now c.loop-o
     loop_next _ _ _ _ _ _ _ s (c.loop-owned.invariant d known) (c.in_ok-again.ensures d known) c.earliest-found.ensures
 
 pub returns : goal.returns
-returns c = λ d known. loop_end _ _ _ _ _ (omega arith) (again_to d _ _) (again_back d _ _) (c.loop-owned.invariant d known)
+returns c = λ d known. loop_end _ _ _ _ _ (omega arith) (again_to d _ _) (again_back d _ _)
+    (c.loop-owned.invariant d known)

@@ -7,4 +7,5 @@ use Rattle.class_table.proofs.Looping.{AtItem}
 use Rattle.class_table.proofs.containment.in_body.Given as goal
 
 abbrev pub invariant-loop-owned : goal.invariant-loop-owned
-invariant-loop-owned l = (d : Declared) → Shows d l.bodies l.types → IsEarliest (Until (AtItem l.own (λ (k : ℕ) (o : Owned). IsAgain d l.body o)) l.owned-index) l.found
+invariant-loop-owned l = (d : Declared) → Shows d l.bodies l.types
+    → IsEarliest (Until (AtItem l.own (λ (k : ℕ) (o : Owned). IsAgain d l.body o)) l.owned-index) l.found

@@ -8,7 +8,8 @@ use Rattle.class_table.proofs.containment.reaches.Goals as goal
 
 pub loop-next-init : goal.loop-next-init
 loop-next-init c = λ d known.
-    let same : c.in_ok-seen.seen.items ≡ replicate (length c.args.bodies.now) false = c.in_ok-seen.ensures.items_if_clones_equal (search rules) in
+    let same : c.in_ok-seen.seen.items ≡ replicate (length c.args.bodies.now) false =
+    c.in_ok-seen.ensures.items_if_clones_equal (search rules) in
     search_start d _ _ _ _ c.in_ok-opened.ensures.items (none_seen _ _ same)
 
 pub loop-next-preserved : goal.loop-next-preserved
@@ -17,7 +18,8 @@ loop-next-preserved c = λ d known.
     let e : length c.open_inside.new.seen ≡ c.loop-next.seen.len =
     (let a = c.open_inside.auto.seen in let b = c.deref_mut.ensures.len in let f = c.loop-next.seen.ok.0 in let g = ap length c.deref_mut.ensures.value in omega arith) in
     let g = rw c.deref.ensures.value at c.get.ensures.lookup in
-    let s = sym (copied_get c.loop-next.opened.items c.loop-next.next _ g.0 g.1) ∙ (sym c.copied.ensures ∙ c.in-Some.is) in
+    let s = sym (copied_get c.loop-next.opened.items c.loop-next.next _ g.0 g.1)
+    ∙ (sym c.copied.ensures ∙ c.in-Some.is) in
     rw (take_at c.open_inside.new.seen _ _ e)
     (search_next d _ _ _ _ _ _ _ _ h s c.if-body-to.false
     (c.in_ok-open_inside.ensures d known (rw c.deref_mut.ensures.value h.is_seen)))
@@ -34,8 +36,11 @@ pub returns-then-body-to : goal.returns-then-body-to
 returns-then-body-to c = λ d known.
     let h = c.loop-next.invariant d known in
     let g = rw c.deref.ensures.value at c.get.ensures.lookup in
-    let s = sym (copied_get c.loop-next.opened.items c.loop-next.next _ g.0 g.1) ∙ (sym c.copied.ensures ∙ c.in-Some.is) in
-    (λ f. subst (IsWithin d c.args.from) c.if-body-to.true (h.within c.in-Some.body (one_here _ c.loop-next.next _ s)), λ w. refl)
+    let s = sym (copied_get c.loop-next.opened.items c.loop-next.next _ g.0 g.1)
+    ∙ (sym c.copied.ensures ∙ c.in-Some.is) in (
+      λ f. subst (IsWithin d c.args.from) c.if-body-to.true (h.within c.in-Some.body (one_here _ c.loop-next.next _ s)),
+      λ w. refl,
+    )
 
 pub returns : goal.returns
 returns c = λ d known.

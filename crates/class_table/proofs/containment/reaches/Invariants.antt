@@ -4,4 +4,5 @@ use Rattle.class_table.proofs.Searches.{Search}
 use Rattle.class_table.proofs.containment.reaches.Given as goal
 
 abbrev pub invariant-loop-next : goal.invariant-loop-next
-invariant-loop-next l = (d : Declared) → Shows d l.bodies l.types → Search d l.from l.to l.next l.opened.items l.seen.items
+invariant-loop-next l = (d : Declared) → Shows d l.bodies l.types
+    → Search d l.from l.to l.next l.opened.items l.seen.items

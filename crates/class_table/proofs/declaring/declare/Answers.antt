@@ -9,20 +9,23 @@ loop-item-init c =
       done = _;
       joined = i.0;
       count = i.1 ∙ (c.args.items.ok.0 ∙ ap length (sym i.0));
-      so_far = parts_start _ _ _ _ c.new-bodies.ensures.items c.new-types.ensures.items c.new-symbols.ensures.list c.new-blocks.ensures.items c.new-symbols.ensures.numbered;
+      so_far = parts_start _ _ _ _ c.new-bodies.ensures.items c.new-types.ensures.items c.new-symbols.ensures.list
+          c.new-blocks.ensures.items c.new-symbols.ensures.numbered;
     }
 
 pub loop-item-preserved-in_ok-push-in-Domain : goal.loop-item-preserved-in_ok-push-in-Domain
 loop-item-preserved-in_ok-push-in-Domain c =
     let h = c.loop-item.invariant in
     on_next _ _ _ _ _ _ _ _ _ _ _ _ _ _ _ c.in-Some.ensures.steps.0 c.in-Some.ensures.steps.1 c.in-Domain.is h
-    (domain_next _ _ _ _ _ _ _ c.in-Domain.domain _ c.in_ok-push-in-Domain.ensures.items h.so_far (c.in_ok-body-in-Domain.ensures h.so_far.numbered))
+    (domain_next _ _ _ _ _ _ _ c.in-Domain.domain _ c.in_ok-push-in-Domain.ensures.items h.so_far
+    (c.in_ok-body-in-Domain.ensures h.so_far.numbered))
 
 pub loop-item-preserved-in_ok-push-in-Domain-2 : goal.loop-item-preserved-in_ok-push-in-Domain-2
 loop-item-preserved-in_ok-push-in-Domain-2 c =
     let h = c.loop-item.invariant in
     on_next _ _ _ _ _ _ _ _ _ _ _ _ _ _ _ c.in-Some.ensures.steps.0 c.in-Some.ensures.steps.1 c.in-Domain.is h
-    (domain_next _ _ _ _ _ _ _ c.in-Domain.domain _ c.in_ok-push-in-Domain.ensures.items h.so_far (c.in_ok-body-in-Domain.ensures h.so_far.numbered))
+    (domain_next _ _ _ _ _ _ _ c.in-Domain.domain _ c.in_ok-push-in-Domain.ensures.items h.so_far
+    (c.in_ok-body-in-Domain.ensures h.so_far.numbered))
 
 pub loop-item-preserved-in_ok-push-in-Class : goal.loop-item-preserved-in_ok-push-in-Class
 loop-item-preserved-in_ok-push-in-Class c =

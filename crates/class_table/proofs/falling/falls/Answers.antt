@@ -12,8 +12,10 @@ loop-place-init c = λ d known k b l s. absurd (omega (arith, l))
 
 pub loop-place-preserved : goal.loop-place-preserved
 loop-place-preserved c = λ d known.
-    let here = item_stands c.args.bodies.now c.loop-place.place c.index-bodies-place.result (omega arith) c.index-bodies-place.is in
-    below_next_at c.args.bodies.now (λ (k : ℕ) (b : Body). FallsIn d c.args.ranks.now b.own.items (slice_index c.args.ranks.now k)) _ _ here
+    let here = item_stands c.args.bodies.now c.loop-place.place c.index-bodies-place.result (omega arith)
+    c.index-bodies-place.is in
+    below_next_at c.args.bodies.now (λ (k : ℕ) (b : Body). FallsIn d c.args.ranks.now b.own.items
+    (slice_index c.args.ranks.now k)) _ _ here
     (c.loop-place.invariant d known) (let h = rw c.deref.ensures.value at (c.falls_in.ensures d known.known c.if-not-falls_in.false) in h)
 
 pub returns : goal.returns

@@ -11,7 +11,8 @@ loop-owned-init c = λ d known k o l s b e. absurd (omega (arith, l))
 
 pub loop-owned-preserved : goal.loop-owned-preserved
 loop-owned-preserved c = λ d known.
-    below_next c.args.own.now (λ (o : Owned). (b : ℕ × Option Place) → inside d o ≡ Some b → slice_index c.args.ranks.now b.0 < c.args.rank) _ _
+    below_next c.args.own.now (λ (o : Owned). (b : ℕ × Option Place) → inside d o ≡ Some b
+    → slice_index c.args.ranks.now b.0 < c.args.rank) _ _
     (item_stands c.args.own.now c.loop-owned.owned-index c.owned-item.result (omega arith) c.owned-item.is)
     (c.loop-owned.invariant d known) (c.falls_one.ensures d known c.if-not-falls_one.false)
 

@@ -8,4 +8,5 @@ use Rattle.class_table.specs.declared.tables.Owned.{Owned}
 use Rattle.class_table.proofs.falling.falls_in.Given as goal
 
 abbrev pub invariant-loop-owned : goal.invariant-loop-owned
-invariant-loop-owned l = (d : Declared) → KnowsTypes d l.types → (k : ℕ) (o : Owned) → k < l.owned-index → Stands l.own k o → (b : ℕ × Option Place) → inside d o ≡ Some b → slice_index l.ranks b.0 < l.rank
+invariant-loop-owned l = (d : Declared) → KnowsTypes d l.types → (k : ℕ) (o : Owned) → k < l.owned-index
+    → Stands l.own k o → (b : ℕ × Option Place) → inside d o ≡ Some b → slice_index l.ranks b.0 < l.rank

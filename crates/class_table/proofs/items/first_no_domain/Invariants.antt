@@ -6,4 +6,5 @@ use Rattle.class_table.proofs.Looping.{AtItem}
 use Rattle.class_table.proofs.items.first_no_domain.Given as goal
 
 abbrev pub invariant-loop-item : goal.invariant-loop-item
-invariant-loop-item l = IsEarliest (Until (AtItem l.items (λ (k : ℕ) (i : Item). IsNoDomainItem i)) l.item-index) l.found
+invariant-loop-item l = IsEarliest (Until (AtItem l.items (λ (k : ℕ) (i : Item). IsNoDomainItem i)) l.item-index)
+    l.found

@@ -12,4 +12,5 @@ returns-in-Range c =
     body_range _ _ _ _ c.in-Range.is h
 
 pub returns-in-Symbols : goal.returns-in-Symbols
-returns-in-Symbols c = ok_map _ (λ r h. body_symbols _ _ r c.in-Symbols.is h) (rw c.deref.ensures.value at c.are_no_symbols.ensures)
+returns-in-Symbols c = ok_map _ (λ r h. body_symbols _ _ r c.in-Symbols.is h)
+    (rw c.deref.ensures.value at c.are_no_symbols.ensures)

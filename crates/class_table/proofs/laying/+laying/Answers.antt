@@ -10,22 +10,26 @@ use Rattle.class_table.proofs.laying.+laying.Goals as goal
 pub lay_unit-loop-member-init : goal.lay_unit-loop-member-init
 lay_unit-loop-member-init t c =
     let i = c.into_iter-member-iterator.ensures.into_iter_gives in
-    on_start _ _ _ _ _ _ _ i.0 (i.1 ∙ (c.args.unit.members.ok.0 ∙ ap length (sym i.0))) c.new-own.ensures.items refl refl c.in_ok-push.ensures.items
+    on_start _ _ _ _ _ _ _ i.0 (i.1 ∙ (c.args.unit.members.ok.0 ∙ ap length (sym i.0))) c.new-own.ensures.items refl
+    refl c.in_ok-push.ensures.items
 
 pub lay_unit-loop-member-preserved : goal.lay_unit-loop-member-preserved
 lay_unit-loop-member-preserved t c =
-    on_next _ _ _ _ _ _ _ _ _ _ _ _ c.in-Some.ensures.steps.0 c.in-Some.ensures.steps.1 c.in_ok-push-2.ensures.items c.loop-member.invariant c.in_ok-kept.ensures
+    on_next _ _ _ _ _ _ _ _ _ _ _ _ c.in-Some.ensures.steps.0 c.in-Some.ensures.steps.1 c.in_ok-push-2.ensures.items
+    c.loop-member.invariant c.in_ok-kept.ensures
 
 pub lay_unit-returns-clause-laid : goal.lay_unit-returns-clause-laid
 lay_unit-returns-clause-laid t c =
     let e : length c.keep_own.new.bodies ≡ c.loop-member.bodies.len =
     (let a = c.keep_own.auto.bodies in let f = c.loop-member.bodies.ok.0 in let g = ap length c.deref_mut.ensures.value in omega arith) in
     rw (take_at c.keep_own.new.bodies _ _ e)
-    (on_end _ _ _ _ _ _ _ _ c.in-None.ensures.steps.0 (c.len-place.ensures ∙ c.args.bodies.now.ok.0) c.loop-member.invariant (rw c.deref_mut.ensures.value at c.keep_own.ensures))
+    (on_end _ _ _ _ _ _ _ _ c.in-None.ensures.steps.0 (c.len-place.ensures ∙ c.args.bodies.now.ok.0)
+    c.loop-member.invariant (rw c.deref_mut.ensures.value at c.keep_own.ensures))
 
 pub lay_member-returns-in-Block : goal.lay_member-returns-in-Block
 lay_member-returns-in-Block t c =
-    ok_map _ (λ o l. member_block c.in-Block.unit o _ _ l (out-Member c.args.member) c.args.member (ap out-Member c.in-Block.is ∙ view.outs-Block c.in-Block.unit) refl) c.lay_block.ensures
+    ok_map _ (λ o l. member_block c.in-Block.unit o _ _ l (out-Member c.args.member) c.args.member
+    (ap out-Member c.in-Block.is ∙ view.outs-Block c.in-Block.unit) refl) c.lay_block.ensures
 
 pub lay_member-returns-in-Extends : goal.lay_member-returns-in-Extends
 unfolding out-Member denote.Hole.Carrier.out
@@ -33,19 +37,24 @@ lay_member-returns-in-Extends t c = rw c.in-Extends.is (member_plain (M.Extends 
 
 pub lay_member-returns-in-Declare : goal.lay_member-returns-in-Declare
 unfolding out-Member denote.Hole.Carrier.out
-lay_member-returns-in-Declare t c = rw c.in-Declare.is (member_plain (M.Declare c.in-Declare.a c.in-Declare.b c.in-Declare.c) _ refl)
+lay_member-returns-in-Declare t c =
+    rw c.in-Declare.is (member_plain (M.Declare c.in-Declare.a c.in-Declare.b c.in-Declare.c) _ refl)
 
 pub lay_member-returns-in-Clones : goal.lay_member-returns-in-Clones
 unfolding out-Member denote.Hole.Carrier.out
-lay_member-returns-in-Clones t c = rw c.in-Clones.is (member_plain (M.Clones c.in-Clones.a c.in-Clones.b c.in-Clones.c) _ refl)
+lay_member-returns-in-Clones t c = rw c.in-Clones.is
+    (member_plain (M.Clones c.in-Clones.a c.in-Clones.b c.in-Clones.c) _ refl)
 
 pub lay_member-returns-in-Embeds : goal.lay_member-returns-in-Embeds
 unfolding out-Member denote.Hole.Carrier.out
-lay_member-returns-in-Embeds t c = rw c.in-Embeds.is (member_plain (M.Embeds c.in-Embeds.a c.in-Embeds.b c.in-Embeds.c) _ refl)
+lay_member-returns-in-Embeds t c = rw c.in-Embeds.is
+    (member_plain (M.Embeds c.in-Embeds.a c.in-Embeds.b c.in-Embeds.c) _ refl)
 
 pub lay_member-returns-in-Parameter : goal.lay_member-returns-in-Parameter
 unfolding out-Member denote.Hole.Carrier.out
-lay_member-returns-in-Parameter t c = rw c.in-Parameter.is (member_plain (M.Parameter c.in-Parameter.a c.in-Parameter.b c.in-Parameter.c c.in-Parameter.d) _ refl)
+lay_member-returns-in-Parameter t c =
+    rw c.in-Parameter.is (member_plain (M.Parameter c.in-Parameter.a c.in-Parameter.b c.in-Parameter.c c.in-Parameter.d)
+    _ refl)
 
 pub lay_member-returns-in-Kept : goal.lay_member-returns-in-Kept
 unfolding out-Member denote.Hole.Carrier.out
@@ -53,11 +62,14 @@ lay_member-returns-in-Kept t c = rw c.in-Kept.is (member_plain (M.Kept c.in-Kept
 
 pub lay_member-returns-in-Event : goal.lay_member-returns-in-Event
 unfolding out-Member denote.Hole.Carrier.out
-lay_member-returns-in-Event t c = rw c.in-Event.is (member_plain (M.Event c.in-Event.a c.in-Event.b c.in-Event.c) _ refl)
+lay_member-returns-in-Event t c = rw c.in-Event.is
+    (member_plain (M.Event c.in-Event.a c.in-Event.b c.in-Event.c) _ refl)
 
 pub lay_member-returns-in-Observer : goal.lay_member-returns-in-Observer
 unfolding out-Member denote.Hole.Carrier.out
-lay_member-returns-in-Observer t c = rw c.in-Observer.is (member_plain (M.Observer c.in-Observer.a c.in-Observer.b c.in-Observer.c c.in-Observer.d) _ refl)
+lay_member-returns-in-Observer t c =
+    rw c.in-Observer.is (member_plain (M.Observer c.in-Observer.a c.in-Observer.b c.in-Observer.c c.in-Observer.d) _
+    refl)
 
 pub lay_member-returns-in-Hide : goal.lay_member-returns-in-Hide
 unfolding out-Member denote.Hole.Carrier.out
@@ -65,7 +77,8 @@ lay_member-returns-in-Hide t c = rw c.in-Hide.is (member_plain (M.Hide c.in-Hide
 
 pub lay_member-returns-in-Local : goal.lay_member-returns-in-Local
 unfolding out-Member denote.Hole.Carrier.out
-lay_member-returns-in-Local t c = rw c.in-Local.is (member_plain (M.Local c.in-Local.a c.in-Local.b c.in-Local.c c.in-Local.d) _ refl)
+lay_member-returns-in-Local t c = rw c.in-Local.is
+    (member_plain (M.Local c.in-Local.a c.in-Local.b c.in-Local.c c.in-Local.d) _ refl)
 
 pub lay_member-returns-in-Sync : goal.lay_member-returns-in-Sync
 unfolding out-Member denote.Hole.Carrier.out

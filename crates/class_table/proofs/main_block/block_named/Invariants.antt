@@ -5,4 +5,5 @@ use Rattle.class_table.specs.Main.{IsNamedBlock}
 use Rattle.class_table.proofs.main_block.block_named.Given as goal
 
 abbrev pub invariant-loop-block : goal.invariant-loop-block
-invariant-loop-block l = (k : ℕ) (b : BodyId) → k < l.block-index → Stands l.blocks k b → IsNamedBlock l.bodies l.name.n b → ⊥
+invariant-loop-block l = (k : ℕ) (b : BodyId) → k < l.block-index → Stands l.blocks k b
+    → IsNamedBlock l.bodies l.name.n b → ⊥

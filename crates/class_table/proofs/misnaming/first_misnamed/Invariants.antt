@@ -7,4 +7,5 @@ use Rattle.class_table.proofs.Looping.{AtItem}
 use Rattle.class_table.proofs.misnaming.first_misnamed.Given as goal
 
 abbrev pub invariant-loop-body : goal.invariant-loop-body
-invariant-loop-body l = (d : Declared) → Shows d l.bodies l.types → IsEarliest (Until (AtItem l.bodies (λ (k : ℕ) (b : Body). MisnamesOne d b.own.items)) l.body-index) l.found
+invariant-loop-body l = (d : Declared) → Shows d l.bodies l.types
+    → IsEarliest (Until (AtItem l.bodies (λ (k : ℕ) (b : Body). MisnamesOne d b.own.items)) l.body-index) l.found

@@ -12,7 +12,8 @@ loop-owned-init c = λ d known. loop_start _ _
 pub loop-owned-preserved : goal.loop-owned-preserved
 loop-owned-preserved c = λ d known. let s = item_stands c.args.own.now c.loop-owned.owned-index c.owned-item.result (omega arith) c.owned-item.is in
     loop_next _ _ _ _ _ _ _ s (c.loop-owned.invariant d known)
-    (subst (IsEarliest (MisnamesIn d c.owned-item.result)) (sym (c.misnamed.ensures d known)) (owned_found d c.owned-item.result)) c.earliest-found.ensures
+    (subst (IsEarliest (MisnamesIn d c.owned-item.result)) (sym (c.misnamed.ensures d known))
+    (owned_found d c.owned-item.result)) c.earliest-found.ensures
 
 pub returns : goal.returns
 returns c = λ d known. loop_end _ _ _ _ _ (omega arith) (one_to d _) (one_back d _) (c.loop-owned.invariant d known)

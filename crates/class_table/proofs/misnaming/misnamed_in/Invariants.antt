@@ -8,4 +8,5 @@ use Rattle.class_table.proofs.Looping.{AtItem}
 use Rattle.class_table.proofs.misnaming.misnamed_in.Given as goal
 
 abbrev pub invariant-loop-owned : goal.invariant-loop-owned
-invariant-loop-owned l = (d : Declared) → KnowsTypes d l.types → IsEarliest (Until (AtItem l.own (λ (k : ℕ) (o : Owned). MisnamesIn d o)) l.owned-index) l.found
+invariant-loop-owned l = (d : Declared) → KnowsTypes d l.types
+    → IsEarliest (Until (AtItem l.own (λ (k : ℕ) (o : Owned). MisnamesIn d o)) l.owned-index) l.found

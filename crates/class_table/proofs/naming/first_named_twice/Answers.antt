@@ -10,7 +10,9 @@ loop-body-init c = λ d known l. loop_start _ _
 pub loop-body-preserved : goal.loop-body-preserved
 loop-body-preserved c = λ d known l. let s = item_stands c.args.bodies.now c.loop-body.body-index c.body-item.result (omega arith) c.body-item.is in
     loop_next _ _ _ _ _ _ _ s (c.loop-body.invariant d known l)
-    (rw c.deref.ensures.value at (c.in_ok-in_body.ensures d (record { as_text = l.as_text; known = known }))) c.earliest-found.ensures
+    (rw c.deref.ensures.value at (c.in_ok-in_body.ensures d (record { as_text = l.as_text; known = known })))
+    c.earliest-found.ensures
 
 pub returns : goal.returns
-returns c = λ d known l. loop_end _ _ _ _ _ (omega arith) (named_to d _ l) (named_back d _ l) (c.loop-body.invariant d known l)
+returns c = λ d known l. loop_end _ _ _ _ _ (omega arith) (named_to d _ l) (named_back d _ l)
+    (c.loop-body.invariant d known l)

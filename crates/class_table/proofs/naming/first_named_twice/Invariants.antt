@@ -12,4 +12,6 @@ use Rattle.class_table.proofs.naming.first_named_twice.Given as goal
 
 abbrev pub invariant-loop-body : goal.invariant-loop-body
 invariant-loop-body l = (d : Declared) → KnowsTypes d l.types → IsListed d l.bodies
-    → IsEarliest (Until (AtItem l.bodies (λ (k : ℕ) (b : Body). IsRepeated (map member_place (named_at d (map site_of b.all.items))))) l.body-index) l.found
+    → IsEarliest (Until (AtItem l.bodies
+    (λ (k : ℕ) (b : Body). IsRepeated (map member_place (named_at d (map site_of b.all.items))))) l.body-index)
+    l.found

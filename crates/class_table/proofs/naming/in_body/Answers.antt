@@ -16,9 +16,12 @@ loop-site-preserved c = λ d known.
     let none : BodyId × ℕ = (record { n = 0; of = record {} }, 0) in
     let s = stands_get c.args.all.now c.loop-site.site-index none l in
     let e = map_next site_of c.args.all.now c.loop-site.site-index _ s in
-    subst (HasMet c.meet_site.new.names) (sym (ap (λ (xs : List Site). map member_place (named_at d xs)) e ∙ named_next d _ _)) (c.in_ok-meet_site.ensures d _ known (c.loop-site.invariant d known))
+    subst (HasMet c.meet_site.new.names)
+    (sym (ap (λ (xs : List Site). map member_place (named_at d xs)) e ∙ named_next d _ _))
+    (c.in_ok-meet_site.ensures d _ known (c.loop-site.invariant d known))
 
 pub returns : goal.returns
 returns c = λ d known.
     let e = take_all c.loop-site.site-index c.args.all.now (omega arith) in
-    (subst (λ (xs : List (BodyId × ℕ)). HasMet c.loop-site.names (map member_place (named_at d (map site_of xs)))) e (c.loop-site.invariant d known)).found
+    (subst (λ (xs : List (BodyId × ℕ)). HasMet c.loop-site.names (map member_place (named_at d (map site_of xs)))) e
+    (c.loop-site.invariant d known)).found

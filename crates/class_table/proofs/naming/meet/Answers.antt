@@ -9,7 +9,9 @@ use Rattle.class_table.proofs.naming.meet.Goals as goal
 pub returns-then-is_declared : goal.returns-then-is_declared
 unfolding out-Member denote.Hole.Carrier.out
 returns-then-is_declared c = λ d s met known h. rw c.in-Plain.is (rw c.in-Declare.is
-    (subst (λ (ms : List (ℕ × Place)). OnOk c.add_all.result (HasMet c.add_all.new.self (met ++ ms))) (declared_names d s c.in-Declare.type_name.form c.in-Declare.field-2.items c.in-Declare.list.items (c.if-is_declared.ensures d known))
+    (subst (λ (ms : List (ℕ × Place)). OnOk c.add_all.result (HasMet c.add_all.new.self (met ++ ms)))
+    (declared_names d s c.in-Declare.type_name.form c.in-Declare.field-2.items c.in-Declare.list.items
+    (c.if-is_declared.ensures d known))
     (rw c.deref.ensures.value at (c.add_all.ensures met h))))
 
 pub returns-in-Extends : goal.returns-in-Extends

@@ -13,7 +13,8 @@ returns-in_err-keep c =
     let a = c.in_ok-bodies.ensures in
     let d = declared_of _ _ a in
     let w = rw c.deref.ensures.value at c.in_ok-wrong_item.ensures in
-    let t = refuses1 c.args.model (option_map (λ t. t.now) c.args.main) d _ _ (declares c.args.model _ a) w c.in_err-keep.ensures in
+    let t = refuses1 c.args.model (option_map (λ t. t.now) c.args.main) d _ _ (declares c.args.model _ a) w
+    c.in_err-keep.ensures in
     let r = err_from_is_err_and c.from_residual-in_err-keep.result c.from_residual-in_err-keep.ensures.1 in
     meets_err c.args.model _ _ _ (r.1 ∙ ap (λ e. Err e) r.2) t
 
@@ -26,7 +27,8 @@ returns-in_err-keep-2 c =
     let b = rw c.deref-2.ensures.value at c.in_ok-kinds.ensures in
     let m = rw c.deref-3.ensures.value at c.first_misnamed.ensures in
     let n = b d (types_parts c.args.model _ a) in
-    let t = refuses2 c.args.model (option_map (λ t. t.now) c.args.main) d _ _ (declares c.args.model _ a) k (m d (shows_parts c.args.model _ a _ n)) c.in_err-keep-2.ensures in
+    let t = refuses2 c.args.model (option_map (λ t. t.now) c.args.main) d _ _ (declares c.args.model _ a) k
+    (m d (shows_parts c.args.model _ a _ n)) c.in_err-keep-2.ensures in
     let r = err_from_is_err_and c.from_residual-in_err-keep-2.result c.from_residual-in_err-keep-2.ensures.1 in
     meets_err c.args.model _ _ _ (r.1 ∙ ap (λ e. Err e) r.2) t
 
@@ -42,7 +44,8 @@ returns-in_err-keep-3 c =
     let s = shows_parts c.args.model _ a _ n in
     let k2 = passes2 c.args.model (option_map (λ t. t.now) c.args.main) d _ _ k (m d s) c.in_ok-keep-2.ensures in
     let f = rw c.deref-6.ensures.value at c.in_ok-first_inside_itself.ensures in
-    let t = refuses3 c.args.model (option_map (λ t. t.now) c.args.main) d _ _ (declares c.args.model _ a) k2 (f d s) c.in_err-keep-3.ensures in
+    let t = refuses3 c.args.model (option_map (λ t. t.now) c.args.main) d _ _ (declares c.args.model _ a) k2 (f d s)
+    c.in_err-keep-3.ensures in
     let r = err_from_is_err_and c.from_residual-in_err-keep-3.result c.from_residual-in_err-keep-3.ensures.1 in
     meets_err c.args.model _ _ _ (r.1 ∙ ap (λ e. Err e) r.2) t
 
@@ -62,7 +65,8 @@ returns-in_err-keep-4 c =
     let listed = c.in_ok-listed.ensures d s in
     let y = rw c.deref-8.ensures.value at c.in_ok-first_named_twice.ensures in
     let found = y d n listed in
-    let t = refuses4 c.args.model (option_map (λ t. t.now) c.args.main) d _ _ (declares c.args.model _ a) k3 found c.in_err-keep-4.ensures in
+    let t = refuses4 c.args.model (option_map (λ t. t.now) c.args.main) d _ _ (declares c.args.model _ a) k3 found
+    c.in_err-keep-4.ensures in
     let r = err_from_is_err_and c.from_residual-in_err-keep-4.result c.from_residual-in_err-keep-4.ensures.1 in
     meets_err c.args.model _ _ _ (r.1 ∙ ap (λ e. Err e) r.2) t
 
@@ -86,7 +90,9 @@ returns-in_default c =
     let u = c.deref-9.ensures.value in
     let along = subst (λ (bs : List Body). Along IsBodyOf bs d.bodies) (sym u) listed.as_text in
     let blocks = ap (map (λ (x : BodyId). x.n)) c.deref-10.ensures.value ∙ blocks_parts c.args.model _ a in
-    refuses5 c.args.model _ d (declares c.args.model _ a) k4 (lacks c.main_block.result (none_of c.main_block.result c.in_default.not-Some) (c.main_block.ensures.none d along blocks))
+    refuses5 c.args.model _ d (declares c.args.model _ a) k4
+    (lacks c.main_block.result (none_of c.main_block.result c.in_default.not-Some)
+    (c.main_block.ensures.none d along blocks))
 
 pub returns : goal.returns
 returns c =
@@ -109,4 +115,5 @@ returns c =
     let along = subst (λ (bs : List Body). Along IsBodyOf bs d.bodies) (sym u) listed.as_text in
     let blocks = ap (map (λ (x : BodyId). x.n)) c.deref-10.ensures.value ∙ blocks_parts c.args.model _ a in
     let is_main = c.in-Some.ensures.some d along blocks in
-    meets_ok c.args.model _ _ (gives c.args.model _ d _ k4 (table_of c.args.model _ a _ _ refl refl refl listed is_main))
+    meets_ok c.args.model _ _ (gives c.args.model _ d _ k4
+    (table_of c.args.model _ a _ _ refl refl refl listed is_main))

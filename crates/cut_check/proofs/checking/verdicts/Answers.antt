@@ -15,27 +15,36 @@ use Rattle.cut_check.proofs.RowLemmas.{have_bits, are_wide}
 use Rattle.cut_check.proofs.checking.verdicts.Goals as goal
 
 -- the rows are those of the system
-rows_are : (p q : GtsParts) (ds : List ℕ) (chains : List Chain) (allowed table : List Bool) (rows : List Row) → q ≡ p → table ≡ allowed → AreOpenEvents q ds allowed
+rows_are : (p q : GtsParts) (ds : List ℕ) (chains : List Chain) (allowed table : List Bool) (rows : List Row) → q ≡ p
+    → table ≡ allowed → AreOpenEvents q ds allowed
     → ((dropped : List ℕ) → AreOpenEvents q dropped table → AreRows q dropped chains rows) → AreRows p ds chains rows
 rows_are p q ds chains allowed table rows e f h made =
-    subst (λ (z : GtsParts). AreRows z ds chains rows) e (made ds (subst (λ (z : List Bool). AreOpenEvents q ds z) (sym f) h))
+    subst (λ (z : GtsParts). AreRows z ds chains rows) e
+    (made ds (subst (λ (z : List Bool). AreOpenEvents q ds z) (sym f) h))
 
 pub true_lines-requires-clause-rows : goal.true_lines-requires-clause-rows
 true_lines-requires-clause-rows c =
-    let rows = rows_are c.args.gts.now c.parts-parts.result.now (numbers_of c.args.dropped.now) c.args.chains.now c.in_ok-allowed.allowed.items c.deref.result.now c.in_ok-rows.rows.items c.parts-parts.ensures.parts c.deref.ensures.value c.in_ok-allowed.ensures c.in_ok-rows.ensures in
+    let rows = rows_are c.args.gts.now c.parts-parts.result.now (numbers_of c.args.dropped.now) c.args.chains.now
+    c.in_ok-allowed.allowed.items c.deref.result.now c.in_ok-rows.rows.items c.parts-parts.ensures.parts
+    c.deref.ensures.value c.in_ok-allowed.ensures c.in_ok-rows.ensures in
     ap length c.deref-2.ensures.value ∙ rows.long
 
 pub verdict_of-requires-clause-rows : goal.verdict_of-requires-clause-rows
 verdict_of-requires-clause-rows c =
-    let rows = rows_are c.args.gts.now c.parts-parts.result.now (numbers_of c.args.dropped.now) c.args.chains.now c.in_ok-allowed.allowed.items c.deref.result.now c.in_ok-rows.rows.items c.parts-parts.ensures.parts c.deref.ensures.value c.in_ok-allowed.ensures c.in_ok-rows.ensures in
+    let rows = rows_are c.args.gts.now c.parts-parts.result.now (numbers_of c.args.dropped.now) c.args.chains.now
+    c.in_ok-allowed.allowed.items c.deref.result.now c.in_ok-rows.rows.items c.parts-parts.ensures.parts
+    c.deref.ensures.value c.in_ok-allowed.ensures c.in_ok-rows.ensures in
     ap length c.deref-in-loop-n.ensures.value ∙ rows.long
 
 pub verdict_of-requires-clause-wide : goal.verdict_of-requires-clause-wide
 verdict_of-requires-clause-wide c =
     let p = c.args.gts.now in
     let ds = numbers_of c.args.dropped.now in
-    let rows = rows_are p c.parts-parts.result.now ds c.args.chains.now c.in_ok-allowed.allowed.items c.deref.result.now c.in_ok-rows.rows.items c.parts-parts.ensures.parts c.deref.ensures.value c.in_ok-allowed.ensures c.in_ok-rows.ensures in
-    subst (λ (z : List Row). AreWide z) (sym c.deref-in-loop-n.ensures.value) (are_wide p ds c.args.chains.now c.in_ok-rows.rows.items rows)
+    let rows = rows_are p c.parts-parts.result.now ds c.args.chains.now c.in_ok-allowed.allowed.items c.deref.result.now
+    c.in_ok-rows.rows.items c.parts-parts.ensures.parts c.deref.ensures.value c.in_ok-allowed.ensures
+    c.in_ok-rows.ensures in
+    subst (λ (z : List Row). AreWide z) (sym c.deref-in-loop-n.ensures.value)
+    (are_wide p ds c.args.chains.now c.in_ok-rows.rows.items rows)
 
 pub loop-n-preserved : goal.loop-n-preserved
 loop-n-preserved c =
@@ -44,16 +53,32 @@ loop-n-preserved c =
     let ds = numbers_of c.args.dropped.now in
     let chains = c.args.chains.now in
     let lines = chain_lines p chains in
-    let rows = rows_are p q ds chains c.in_ok-allowed.allowed.items c.deref.result.now c.in_ok-rows.rows.items c.parts-parts.ensures.parts c.deref.ensures.value c.in_ok-allowed.ensures c.in_ok-rows.ensures in
-    let have = subst (λ (z : List Row). HaveBits lines z) (sym c.deref-in-loop-n.ensures.value) (have_bits p ds chains c.in_ok-rows.rows.items rows) in
+    let rows = rows_are p q ds chains c.in_ok-allowed.allowed.items c.deref.result.now c.in_ok-rows.rows.items
+    c.parts-parts.ensures.parts c.deref.ensures.value c.in_ok-allowed.ensures c.in_ok-rows.ensures in
+    let have = subst (λ (z : List Row). HaveBits lines z) (sym c.deref-in-loop-n.ensures.value)
+    (have_bits p ds chains c.in_ok-rows.rows.items rows) in
     let own = subst (λ (z : List Row). AreRows p ds chains z) (sym c.deref-2.ensures.value) rows in
     record {
-      long = omega (arith, ap length c.in_ok-push.ensures.items, length-append c.loop-n.all.items (c.verdict_of.result ∷ []), c.loop-n.invariant.long);
+      long = omega (
+        arith,
+        ap length c.in_ok-push.ensures.items,
+        length-append c.loop-n.all.items
+            (c.verdict_of.result ∷ []),
+        c.loop-n.invariant.long,
+      );
       each = λ system views o s.
-          let t = read_stands q.observers.items c.args.observer c.index-observer.result.now (subst (λ (z : GtsParts). c.args.observer < length z.observers.items) (sym c.parts-parts.ensures.parts) c.requires.observer) c.index-observer.ensures in
-          let same = stands_one p.observers.items c.args.observer c.index-observer.result.now o (subst (λ (z : GtsParts). Stands z.observers.items c.args.observer c.index-observer.result.now) c.parts-parts.ensures.parts t) s in
-          let truth = subst (λ (z : Observer). AreTruths system ds (numbered z.value) c.args.wanted lines c.in_ok-truths.truths.items) same (c.in_ok-truths.ensures.truths system views ds own) in
-          let its = subst (λ (z : List Bool). AreTruths system ds (numbered o.value) c.args.wanted lines z) (sym c.deref-in-loop-n-2.ensures.value) truth in
-          verdicts_more system ds (numbered o.value) c.args.wanted lines chains c.loop-n.all.items _ c.verdict_of.result c.loop-n.n c.in_ok-push.ensures.items c.loop-n.invariant.long
-          (c.verdict_of.ensures system ds (numbered o.value) c.args.wanted lines have its) (c.loop-n.invariant.each system views o s);
+          let t = read_stands q.observers.items c.args.observer c.index-observer.result.now
+          (subst (λ (z : GtsParts). c.args.observer < length z.observers.items)
+          (sym c.parts-parts.ensures.parts) c.requires.observer) c.index-observer.ensures in
+          let same = stands_one p.observers.items c.args.observer c.index-observer.result.now o
+          (subst (λ (z : GtsParts). Stands z.observers.items c.args.observer c.index-observer.result.now)
+          c.parts-parts.ensures.parts t) s in
+          let truth = subst (λ (z : Observer). AreTruths system ds (numbered z.value) c.args.wanted lines
+          c.in_ok-truths.truths.items) same (c.in_ok-truths.ensures.truths system views ds own) in
+          let its = subst (λ (z : List Bool). AreTruths system ds (numbered o.value) c.args.wanted lines z)
+          (sym c.deref-in-loop-n-2.ensures.value) truth in
+          verdicts_more system ds (numbered o.value) c.args.wanted lines chains c.loop-n.all.items _ c.verdict_of.result
+          c.loop-n.n c.in_ok-push.ensures.items c.loop-n.invariant.long
+          (c.verdict_of.ensures system ds (numbered o.value) c.args.wanted lines have its)
+          (c.loop-n.invariant.each system views o s);
     }

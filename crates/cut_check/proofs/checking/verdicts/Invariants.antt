@@ -11,6 +11,8 @@ use Rattle.cut_check.proofs.checking.verdicts.Given as goal
 abbrev pub invariant-loop-n : goal.invariant-loop-n
 invariant-loop-n l = record {
   long : length l.all.items ≡ l.n;
-  each : (system : System ℕ) → Views l.gts system → (o : Observer) → Stands l.gts.observers.items l.fn.observer o → (n : ℕ) (v : Verdict) → Stands l.all.items n v
-      → IsVerdict system (numbers_of l.dropped) (numbered o.value) l.fn.wanted (chain_lines l.gts l.chains) l.chains n v;
+  each : (system : System ℕ) → Views l.gts system → (o : Observer) → Stands l.gts.observers.items l.fn.observer o
+      → (n : ℕ) (v : Verdict) → Stands l.all.items n v
+      → IsVerdict system (numbers_of l.dropped) (numbered o.value) l.fn.wanted (chain_lines l.gts l.chains) l.chains n
+      v;
 }

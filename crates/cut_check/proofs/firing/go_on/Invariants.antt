@@ -12,7 +12,8 @@ invariant-loop-fired l = record {
   system : l.stepper.system ≡ l.initial.stepper.system;
   short : vec_len l.fired ≤ length l.ways;
   front : l.fired.items ≡ take (vec_len l.fired) l.ways;
-  fired : (system : System ℕ) → Views l.gts system → (dropped : List ℕ) → AreOpen system dropped (labels_of l.gts l.ways)
+  fired : (system : System ℕ) → Views l.gts system → (dropped : List ℕ)
+      → AreOpen system dropped (labels_of l.gts l.ways)
       → HasFired l.gts system dropped l.initial.fired.items l.initial.stepper
       → HasFired l.gts system dropped l.fired.items l.stepper;
 }

@@ -11,12 +11,16 @@ returns-clause-lines g c = λ things sys flat f dropped observer other q wanted 
 
 pub returns-clause-said : goal.returns-clause-said
 returns-clause-said g c = λ things sys flat f dropped observer other q wanted lines n said. (
-  λ h. said_there (IsNumber things) sys flat (flat_image things sys flat f) dropped observer other q wanted lines n said h,
-  λ h. said_back (IsNumber things) sys flat (flat_image things sys flat f) dropped observer other q wanted lines n said h,
+  λ h. said_there (IsNumber things) sys flat (flat_image things sys flat f) dropped observer other q wanted lines n said
+      h,
+  λ h. said_back (IsNumber things) sys flat (flat_image things sys flat f) dropped observer other q wanted lines n said
+      h,
 )
 
 pub returns-clause-missing : goal.returns-clause-missing
 returns-clause-missing g c = λ things sys flat f dropped observer other q wanted lines set. (
-  λ h. missing_there (IsNumber things) sys flat (flat_image things sys flat f) dropped observer other q wanted lines set h,
-  λ h. missing_back (IsNumber things) sys flat (flat_image things sys flat f) dropped observer other q wanted lines set h,
+  λ h. missing_there (IsNumber things) sys flat (flat_image things sys flat f) dropped observer other q wanted lines set
+      h,
+  λ h. missing_back (IsNumber things) sys flat (flat_image things sys flat f) dropped observer other q wanted lines set
+      h,
 )

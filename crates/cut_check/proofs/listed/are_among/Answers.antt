@@ -17,7 +17,8 @@ pub index-requires : goal.index-requires
 index-requires c =
     let ways = c.args.ways.now in
     let i = c.loop-way.way-index in
-    let k = known_at c.args.parts.now ways i (get_or ways i none) c.requires (stands_get ways i none c.loop-way-test.true) in
+    let k = known_at c.args.parts.now ways i (get_or ways i none) c.requires
+    (stands_get ways i none c.loop-way-test.true) in
     omega (arith, k, c.args.parts.now.ways.ok)
 
 pub returns-then-not-is_among : goal.returns-then-not-is_among
@@ -28,7 +29,8 @@ returns-then-not-is_among c = λ h.
     let k = known_at p ways i (get_or ways i none) c.requires (stands_get ways i none c.loop-way-test.true) in
     let s = read_stands p.ways.items (get_or ways i none).n c.index.result.now k c.index.ensures in
     c.if-not-is_among.ensures (h.each c.index.result.now.event.n
-    (event_there p ways i (get_or ways i none) c.index.result.now.event.n (stands_get ways i none c.loop-way-test.true) (sym (event_read p (get_or ways i none).n c.index.result.now s))))
+    (event_there p ways i (get_or ways i none) c.index.result.now.event.n (stands_get ways i none c.loop-way-test.true)
+    (sym (event_read p (get_or ways i none).n c.index.result.now s))))
 
 pub loop-way-preserved : goal.loop-way-preserved
 loop-way-preserved c =
@@ -38,4 +40,5 @@ loop-way-preserved c =
     let k = known_at p ways i (get_or ways i none) c.requires (stands_get ways i none c.loop-way-test.true) in
     let s = read_stands p.ways.items (get_or ways i none).n c.index.result.now k c.index.ensures in
     within_more _ _ _ _ (events_more p ways i none c.loop-way-test.true)
-    (subst (λ (z : ℕ). IsOneOf (numbers_of c.args.cut.now) z) (event_read p (get_or ways i none).n c.index.result.now s) c.if-not-is_among.ensures) c.loop-way.invariant
+    (subst (λ (z : ℕ). IsOneOf (numbers_of c.args.cut.now) z) (event_read p (get_or ways i none).n c.index.result.now s)
+    c.if-not-is_among.ensures) c.loop-way.invariant

@@ -7,4 +7,6 @@ abbrev none : EventId
 none = record { n = 0; of = record {} }
 
 pub loop-event-preserved : goal.loop-event-preserved
-loop-event-preserved c = within_more _ _ _ _ (numbers_more c.args.cut.now c.loop-event.event-index none c.loop-event-test.true) c.if-not-has_event.ensures c.loop-event.invariant
+loop-event-preserved c = within_more _ _ _ _
+    (numbers_more c.args.cut.now c.loop-event.event-index none c.loop-event-test.true) c.if-not-has_event.ensures
+    c.loop-event.invariant

@@ -18,13 +18,17 @@ pub index_mut-requires : goal.index_mut-requires
 index_mut-requires c =
     let ds = c.args.dropped.now in
     let i = c.loop-event.event-index in
-    let k = c.requires.each (get_or ds i none) (one_here ds i (get_or ds i none) (stands_get ds i none c.loop-event-test.true)) in
+    let k = c.requires.each (get_or ds i none)
+    (one_here ds i (get_or ds i none) (stands_get ds i none c.loop-event-test.true)) in
     omega (arith, k, c.loop-event.invariant.long)
 
 pub loop-event-preserved : goal.loop-event-preserved
 loop-event-preserved c =
     let ds = c.args.dropped.now in
     let i = c.loop-event.event-index in
-    let k = c.requires.each (get_or ds i none) (one_here ds i (get_or ds i none) (stands_get ds i none c.loop-event-test.true)) in
-    subst (λ (z : List ℕ). AreOpenEvents c.args.parts.now z (set c.loop-event.allowed.items (get_or ds i none).n false)) (sym (numbers_more ds i none c.loop-event-test.true))
-    (drop_more c.args.parts.now (numbers_of (take i ds)) (get_or ds i none).n c.loop-event.allowed.items _ refl (omega (arith, k, c.loop-event.invariant.long)) c.loop-event.invariant)
+    let k = c.requires.each (get_or ds i none)
+    (one_here ds i (get_or ds i none) (stands_get ds i none c.loop-event-test.true)) in
+    subst (λ (z : List ℕ). AreOpenEvents c.args.parts.now z (set c.loop-event.allowed.items (get_or ds i none).n false))
+    (sym (numbers_more ds i none c.loop-event-test.true))
+    (drop_more c.args.parts.now (numbers_of (take i ds)) (get_or ds i none).n c.loop-event.allowed.items _ refl
+    (omega (arith, k, c.loop-event.invariant.long)) c.loop-event.invariant)

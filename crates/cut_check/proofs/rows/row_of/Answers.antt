@@ -18,7 +18,8 @@ pub index-requires : goal.index-requires
 index-requires c =
     let ways = c.args.ways.now in
     let i = c.loop-way.way-index in
-    let k = known_at c.args.parts.now ways i (get_or ways i none) c.requires.known (stands_get ways i none c.loop-way-test.true) in
+    let k = known_at c.args.parts.now ways i (get_or ways i none) c.requires.known
+    (stands_get ways i none c.loop-way-test.true) in
     omega (arith, k, c.args.parts.now.ways.ok)
 
 pub add-requires-clause-inside : goal.add-requires-clause-inside
@@ -53,12 +54,16 @@ loop-way-preserved c =
     record {
       long = c.add.ensures.long ∙ c.loop-way.invariant.long;
       row = λ dropped table.
-          row_more p dropped c.args.allowed.now table (labels_of p (take i ways)) _ (label_of p (get_or ways i none).n) c.index.result.now.event.n c.loop-way.row c.add.new.row
-          (labels_more p ways i none c.loop-way-test.true) (event_read p (get_or ways i none).n c.index.result.now s) (omega (arith, lt, c.requires.allowed))
+          row_more p dropped c.args.allowed.now table (labels_of p (take i ways)) _ (label_of p (get_or ways i none).n)
+          c.index.result.now.event.n c.loop-way.row c.add.new.row
+          (labels_more p ways i none c.loop-way-test.true) (event_read p (get_or ways i none).n c.index.result.now s)
+          (omega (arith, lt, c.requires.allowed))
           (c.loop-way.invariant.row dropped table) c.add.ensures.long c.add.ensures.bits c.add.ensures.fit;
     }
 
 pub returns : goal.returns
 returns c = λ dropped table.
-    let e : take c.loop-way.way-index c.args.ways.now ≡ c.args.ways.now = take_all c.loop-way.way-index c.args.ways.now (omega (arith, c.loop-way-test.false)) in
-    subst (λ (z : List WayId). IsRow c.args.parts.now dropped (labels_of c.args.parts.now z) c.loop-way.row) e (c.loop-way.invariant.row dropped table)
+    let e : take c.loop-way.way-index c.args.ways.now ≡ c.args.ways.now =
+    take_all c.loop-way.way-index c.args.ways.now (omega (arith, c.loop-way-test.false)) in
+    subst (λ (z : List WayId). IsRow c.args.parts.now dropped (labels_of c.args.parts.now z) c.loop-way.row) e
+    (c.loop-way.invariant.row dropped table)

@@ -8,5 +8,6 @@ use Rattle.cut_check.proofs.rows.row_of.Given as goal
 abbrev pub invariant-loop-way : goal.invariant-loop-way
 invariant-loop-way l = record {
   long : length l.row.words.items ≡ words_for (length l.parts.events.items);
-  row : (dropped : List ℕ) → AreOpenEvents l.parts dropped l.allowed → IsRow l.parts dropped (labels_of l.parts (take l.way-index l.ways)) l.row;
+  row : (dropped : List ℕ) → AreOpenEvents l.parts dropped l.allowed
+      → IsRow l.parts dropped (labels_of l.parts (take l.way-index l.ways)) l.row;
 }

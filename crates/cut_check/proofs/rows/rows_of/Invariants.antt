@@ -4,4 +4,5 @@ use Rattle.cut_check.proofs.rows.rows_of.Given as goal
 
 -- the rows of the lines so far
 abbrev pub invariant-loop-chain : goal.invariant-loop-chain
-invariant-loop-chain l = (dropped : List ℕ) → AreOpenEvents l.parts dropped l.allowed → AreRows l.parts dropped (take l.chain-index l.chains) l.rows.items
+invariant-loop-chain l = (dropped : List ℕ) → AreOpenEvents l.parts dropped l.allowed
+    → AreRows l.parts dropped (take l.chain-index l.chains) l.rows.items

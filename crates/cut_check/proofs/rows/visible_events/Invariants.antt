@@ -9,5 +9,6 @@ use Rattle.cut_check.proofs.rows.visible_events.Given as goal
 abbrev pub invariant-loop-event : goal.invariant-loop-event
 invariant-loop-event l = record {
   long : length l.allowed.items ≡ l.event-index;
-  each : (n : ℕ) (b : Bool) (e : Event) → Stands l.allowed.items n b → Stands l.parts.events.items n e → IsAnswer b (e.hidden ≡ false);
+  each : (n : ℕ) (b : Bool) (e : Event) → Stands l.allowed.items n b → Stands l.parts.events.items n e
+      → IsAnswer b (e.hidden ≡ false);
 }

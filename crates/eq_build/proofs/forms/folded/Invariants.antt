@@ -8,5 +8,6 @@ abbrev pub invariant-loop-entries : goal.invariant-loop-entries
 invariant-loop-entries l = record {
   few : length l.gates.items ≤ most_gates;
   same : folded (gates_in l.initial.gates.items) (entries_in l.start) (with_step l.step (lists_in l.operands))
-      ≡ folded (gates_in l.gates.items) (entries_in l.so_far.items) (with_step l.step (lists_in (drop l.entries-index l.operands)));
+      ≡ folded (gates_in l.gates.items) (entries_in l.so_far.items)
+      (with_step l.step (lists_in (drop l.entries-index l.operands)));
 }

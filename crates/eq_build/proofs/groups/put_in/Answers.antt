@@ -66,7 +66,8 @@ returns-clause-put c =
 pub returns-then-not-before-clause-rises : goal.returns-then-not-before-clause-rises
 returns-then-not-before-clause-rises c =
     let t : Term = record { value = c.args.value; operands = operands_in c.args.operands.now } in
-    subst Rises (sym (returns-then-not-before-clause-put c)) (term_rises t (map group_of c.args.groups.now.items) c.requires)
+    subst Rises (sym (returns-then-not-before-clause-put c))
+    (term_rises t (map group_of c.args.groups.now.items) c.requires)
 
 pub returns-clause-rises : goal.returns-clause-rises
 returns-clause-rises c =
@@ -79,7 +80,9 @@ returns-in_err-push-clause-rises c =
     let k = c.place_of-place.result in
     let p = c.index_mut-group.result.now in
     let l : k < length ps = omega (arith, c.if-place-len.true, c.len.ensures) in
-    let from : (d : flat.Group) → p ≡ get_or ps k d = λ d. c.index_mut-group.ensures.value ∙ get_or_default ps k p d l in
+    let from : (d : flat.Group) → p ≡ get_or ps k d =
+    λ d. c.index_mut-group.ensures.value ∙ get_or_default ps k p d l in
     let same = same_group p c.push.new.self c.in_err-push.ensures.items in
-    subst Rises (sym (set_same ps k (record { value = p.value; terms = c.push.new.self }) l (λ d. same ∙ ap group_of (from d))))
+    subst Rises (sym (set_same ps k (record { value = p.value; terms = c.push.new.self }) l
+    (λ d. same ∙ ap group_of (from d))))
     c.requires

@@ -12,7 +12,8 @@ use Rattle.event_lists.proofs.reading.read_events.Given as goal
 abbrev pub invariant-loop-rest : goal.invariant-loop-rest
 invariant-loop-rest l =
     (x : Elaborated) → IsOfTree x l.tree l.gts
-    → IsRead x (pieces is_comma l.text) (parts_left l.rest) (map (λ (e : EventId). e.n) l.events.items) × AreEventsOf l.gts l.events.items
+    → IsRead x (pieces is_comma l.text) (parts_left l.rest) (map (λ (e : EventId). e.n) l.events.items)
+    × AreEventsOf l.gts l.events.items
 
 abbrev pub decreases-loop-rest : goal.decreases-loop-rest
 decreases-loop-rest l = bytes_left l.rest

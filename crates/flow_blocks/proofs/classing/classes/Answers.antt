@@ -13,6 +13,9 @@ loop-number-preserved c = record {
 
 pub returns : goal.returns
 returns c = λ uses all.
-    let end : c.loop-number.number ≡ c.args.count = omega (arith, c.loop-number-test.false, c.loop-number.auto.number-end) in
-    whole_table c.args.count 4294967295 uses (members_of c.loop-number.table.blocks.items) c.loop-number.table.class_of.items
-    (subst (λ (n : ℕ). IsPartTable c.args.count 4294967295 uses n (members_of c.loop-number.table.blocks.items) c.loop-number.table.class_of.items) end (c.loop-number.invariant.table uses all))
+    let end : c.loop-number.number ≡ c.args.count =
+    omega (arith, c.loop-number-test.false, c.loop-number.auto.number-end) in
+    whole_table c.args.count 4294967295 uses (members_of c.loop-number.table.blocks.items)
+    c.loop-number.table.class_of.items
+    (subst (λ (n : ℕ). IsPartTable c.args.count 4294967295 uses n (members_of c.loop-number.table.blocks.items)
+    c.loop-number.table.class_of.items) end (c.loop-number.invariant.table uses all))

@@ -8,5 +8,6 @@ abbrev pub invariant-loop-number : goal.invariant-loop-number
 invariant-loop-number l = record {
   long : length l.table.class_of.items ≡ l.count;
   few : length l.table.blocks.items ≤ l.number;
-  table : (uses : List (ℕ × ℕ)) → AreAllDependences l.count uses l.rows → IsPartTable l.count 4294967295 uses l.number (members_of l.table.blocks.items) l.table.class_of.items;
+  table : (uses : List (ℕ × ℕ)) → AreAllDependences l.count uses l.rows
+      → IsPartTable l.count 4294967295 uses l.number (members_of l.table.blocks.items) l.table.class_of.items;
 }

@@ -17,14 +17,19 @@ loop-member-preserved c =
     record {
       long = length-set c.loop-member.class_of member c.args.class ∙ c.loop-member.invariant.long;
       members = λ n one. elim (cases_eq n member) [
-        | inl same ↦ subst (λ (k : ℕ). Stands (set c.loop-member.class_of member c.args.class) k c.args.class) (sym same) (set_stands c.loop-member.class_of member c.args.class inside)
-        | inr other ↦ set_keeps c.loop-member.class_of member n c.args.class other ∙ (elim (one_of_next c.args.members.now c.loop-member.member-index 0 n c.loop-member-test.true one) [
-          | inl earlier ↦ c.loop-member.invariant.members n earlier
-          | inr this ↦ absurd (other this)
-        ])
+        | inl same ↦ subst (λ (k : ℕ). Stands (set c.loop-member.class_of member c.args.class) k c.args.class)
+            (sym same) (set_stands c.loop-member.class_of member c.args.class inside)
+        | inr other ↦ set_keeps c.loop-member.class_of member n c.args.class other
+            ∙ (elim (one_of_next c.args.members.now c.loop-member.member-index 0 n c.loop-member-test.true one) [
+              | inl earlier ↦ c.loop-member.invariant.members n earlier
+              | inr this ↦ absurd (other this)
+            ])
       ];
       others = λ n lacks.
-          let not_this = λ (same : n ≡ member). lacks (subst (λ (k : ℕ). IsOneOf (take (c.loop-member.member-index + 1) c.args.members.now) k) (sym same) (next_one c.args.members.now c.loop-member.member-index 0 c.loop-member-test.true)) in
+          let not_this = λ (same : n ≡ member). lacks
+          (subst (λ (k : ℕ). IsOneOf (take (c.loop-member.member-index + 1) c.args.members.now) k) (sym same)
+          (next_one c.args.members.now c.loop-member.member-index 0 c.loop-member-test.true)) in
           set_keeps c.loop-member.class_of member n c.args.class not_this
-          ∙ c.loop-member.invariant.others n (λ earlier. lacks (one_of_more c.args.members.now c.loop-member.member-index n earlier));
+          ∙ c.loop-member.invariant.others n
+          (λ earlier. lacks (one_of_more c.args.members.now c.loop-member.member-index n earlier));
     }

@@ -7,5 +7,6 @@ abbrev pub invariant-loop-member : goal.invariant-loop-member
 invariant-loop-member l = record {
   long : length l.class_of ≡ length l.fn.class_of;
   members : (n : ℕ) → IsOneOf (take l.member-index l.members) n → Stands l.class_of n l.class;
-  others : (n : ℕ) → (IsOneOf (take l.member-index l.members) n → ⊥) → slice_get l.class_of n ≡ slice_get l.fn.class_of n;
+  others : (n : ℕ) → (IsOneOf (take l.member-index l.members) n → ⊥)
+      → slice_get l.class_of n ≡ slice_get l.fn.class_of n;
 }

@@ -6,34 +6,42 @@ use Rattle.flow_blocks.proofs.UseLemmas.{one_at, one_of_next, neither, one_of_bo
 use Rattle.flow_blocks.proofs.closing.pass.Goals as goal
 
 pub join-differs-requires-clause-from : goal.join-differs-requires-clause-from
-join-differs-requires-clause-from c = (c.requires.below _ _ (one_at c.args.uses.now c.loop-from.from-index (0, 0) c.loop-from-test.true)).0
+join-differs-requires-clause-from c =
+    (c.requires.below _ _ (one_at c.args.uses.now c.loop-from.from-index (0, 0) c.loop-from-test.true)).0
 
 pub join-differs-requires-clause-to : goal.join-differs-requires-clause-to
-join-differs-requires-clause-to c = (c.requires.below _ _ (one_at c.args.uses.now c.loop-from.from-index (0, 0) c.loop-from-test.true)).1
+join-differs-requires-clause-to c =
+    (c.requires.below _ _ (one_at c.args.uses.now c.loop-from.from-index (0, 0) c.loop-from-test.true)).1
 
 -- where the row did not change, no bit did
-still : (c : goal.After-either-changed) → c.join-differs.result ≡ false → (a n : ℕ) → HasBit c.join-differs.new.rows a n → HasBit c.loop-from.rows a n
+still : (c : goal.After-either-changed) → c.join-differs.result ≡ false → (a n : ℕ) → HasBit c.join-differs.new.rows a n
+    → HasBit c.loop-from.rows a n
 still c e a n h = elim ((c.join-differs.ensures.bits a n).0 h) [
   | inl old ↦ old
   | inr new ↦ subst (λ (k : ℕ). HasBit c.loop-from.rows k n) (sym new.0) (c.join-differs.ensures.still e n new.1)
 ]
 
-sound : (c : goal.After-either-changed) → AreDependences c.args.uses.now c.args.rows.now → AreDependences c.args.uses.now c.join-differs.new.rows
+sound : (c : goal.After-either-changed) → AreDependences c.args.uses.now c.args.rows.now
+    → AreDependences c.args.uses.now c.join-differs.new.rows
 sound c old a n h = elim ((c.join-differs.ensures.bits a n).0 h) [
   | inl before ↦ c.loop-from.invariant.sound old a n before
   | inr new ↦ subst (λ (k : ℕ). Depends c.args.uses.now k n) (sym new.0)
-      (through (one_at c.args.uses.now c.loop-from.from-index (0, 0) c.loop-from-test.true) (c.loop-from.invariant.sound old _ n new.1))
+      (through (one_at c.args.uses.now c.loop-from.from-index (0, 0) c.loop-from-test.true)
+      (c.loop-from.invariant.sound old _ n new.1))
 ]
 
-closed : (c : goal.After-either-changed) → c.loop-from.changed ≡ false → c.join-differs.result ≡ false → AreClosed (take (c.loop-from.from-index + 1) c.args.uses.now) c.join-differs.new.rows
+closed : (c : goal.After-either-changed) → c.loop-from.changed ≡ false → c.join-differs.result ≡ false
+    → AreClosed (take (c.loop-from.from-index + 1) c.args.uses.now) c.join-differs.new.rows
 closed c before now = record {
   closed = λ a b n one h.
       let old = still c now b n h in
-      (c.join-differs.ensures.bits a n).1 (inl (elim (one_of_next c.args.uses.now c.loop-from.from-index (0, 0) (a, b) c.loop-from-test.true one) [
+      (c.join-differs.ensures.bits a n).1
+      (inl (elim (one_of_next c.args.uses.now c.loop-from.from-index (0, 0) (a, b) c.loop-from-test.true one) [
         | inl earlier ↦ (c.loop-from.invariant.closed before).closed a b n earlier old
         | inr this ↦
             subst (λ (k : ℕ). HasBit c.loop-from.rows k n) (sym (ap (λ (p : ℕ × ℕ). p.0) this))
-            (c.join-differs.ensures.still now n (subst (λ (k : ℕ). HasBit c.loop-from.rows k n) (ap (λ (p : ℕ × ℕ). p.1) this) old))
+            (c.join-differs.ensures.still now n
+            (subst (λ (k : ℕ). HasBit c.loop-from.rows k n) (ap (λ (p : ℕ × ℕ). p.1) this) old))
       ]));
 }
 

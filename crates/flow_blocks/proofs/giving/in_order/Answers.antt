@@ -26,7 +26,15 @@ new-requires-clause-classes c = λ n d p.
     omega (arith, within, as_many c.args.table.now.blocks.items)
 
 pub numbers_below-requires : goal.numbers_below-requires
-numbers_below-requires c = omega (arith, c.len.ensures, c.args.table.now.blocks.ok.0, as_many c.args.table.now.blocks.items, c.requires.table.few, c.ranges.count)
+numbers_below-requires c = omega (
+  arith,
+  c.len.ensures,
+  c.args.table.now.blocks.ok.0,
+  as_many
+      c.args.table.now.blocks.items,
+  c.requires.table.few,
+  c.ranges.count,
+)
 
 pub examine_all-requires : goal.examine_all-requires
 examine_all-requires c =
@@ -37,7 +45,8 @@ examine_all-requires c =
       uses = c.args.uses.now;
       class_of = c.args.table.now.class_of.items;
       waits = c.in_ok-waiting.ensures.waits c.deref.result.now
-          (λ e lt. subst (λ (l : List ℕ). IsOneOf l e) (sym c.deref.ensures.value) (c.in_ok-all.ensures.all e (omega (arith, lt, number))))
+          (λ e lt. subst (λ (l : List ℕ). IsOneOf l e) (sym c.deref.ensures.value)
+          (c.in_ok-all.ensures.all e (omega (arith, lt, number))))
           (λ e one. let low = c.in_ok-all.ensures.below e (subst (λ (l : List ℕ). IsOneOf l e) c.deref.ensures.value one) in omega (arith, low, number));
     }
 
@@ -49,31 +58,45 @@ loop-class-init c =
     let not_given = λ (e : ℕ) (g : WasGiven c.examine_all.new.self.given.items e).
     c.in_ok-waiting.ensures.given e (subst (λ (l : List Bool). WasGiven l e) c.in_ok-examine_all.ensures.given g) in
     record {
-      waits = subst (λ (n : ℕ). IsWaiting n c.args.uses.now c.args.table.now.class_of.items c.examine_all.new.self []) (sym (as_many blocks.items))
+      waits = subst (λ (n : ℕ). IsWaiting n c.args.uses.now c.args.table.now.class_of.items c.examine_all.new.self [])
+          (sym (as_many blocks.items))
           (c.in_ok-examine_all.ensures.waits (length blocks.items) c.args.uses.now c.args.table.now.class_of.items
           (c.in_ok-waiting.ensures.waits c.deref.result.now
-          (λ e lt. subst (λ (l : List ℕ). IsOneOf l e) (sym c.deref.ensures.value) (c.in_ok-all.ensures.all e (omega (arith, lt, number))))
+          (λ e lt. subst (λ (l : List ℕ). IsOneOf l e) (sym c.deref.ensures.value)
+          (c.in_ok-all.ensures.all e (omega (arith, lt, number))))
           (λ e one. let low = c.in_ok-all.ensures.below e (subst (λ (l : List ℕ). IsOneOf l e) c.deref.ensures.value one) in omega (arith, low, number))));
       together = record {
         number = λ n e p g. absurd (not_given e g);
         class = λ n e p given. absurd (let there = subst (λ (l : List (List ℕ)). IsGiven l n) none given in stands_none there.is_one.place there.members there.is_one.stands);
       };
       follow = λ rest f.
-          subst (λ (l : List (List ℕ)). Follow c.args.count c.args.uses.now [] (l ++ rest)) (sym none) (subst (λ (l : List (List ℕ)). Follow c.args.count c.args.uses.now l rest) none f);
+          subst (λ (l : List (List ℕ)). Follow c.args.count c.args.uses.now [] (l ++ rest)) (sym none)
+          (subst (λ (l : List (List ℕ)). Follow c.args.count c.args.uses.now l rest) none f);
     }
 
 pub give-requires : goal.give-requires
 give-requires c =
     let classes = members_of c.args.table.now.blocks.items in
-    let state = taken_state c.args.count c.args.uses.now classes c.args.table.now.class_of.items c.requires.table c.requires.below c.loop-class.waiting (members_of c.loop-class.ordered.items)
-    c.loop-class.invariant.waits c.loop-class.invariant.together c.in-Some.class c.take_least.new.ready c.in-Some.ensures.some c.in-Some.ensures.rest in
-    (record { count = length classes; uses = c.args.uses.now; class_of = c.args.table.now.class_of.items; waits = state.0 }, state.1)
+    let state = taken_state c.args.count c.args.uses.now classes c.args.table.now.class_of.items c.requires.table
+    c.requires.below c.loop-class.waiting (members_of c.loop-class.ordered.items)
+    c.loop-class.invariant.waits c.loop-class.invariant.together c.in-Some.class c.take_least.new.ready
+    c.in-Some.ensures.some c.in-Some.ensures.rest in (
+      record {
+        count = length classes;
+        uses = c.args.uses.now;
+        class_of = c.args.table.now.class_of.items;
+        waits = state.0;
+      },
+      state.1,
+    )
 
 pub loop-class-smaller : goal.loop-class-smaller
 loop-class-smaller c =
     let ready = c.loop-class.invariant.waits.ready c.in-Some.class c.in-Some.ensures.some in
-    let less = gives_less c.loop-class.waiting.given.items c.in-Some.class (omega (arith, ready.0, c.loop-class.invariant.waits.long_given)) ready.1 in
-    subst (λ (l : List Bool). left_to_give l < left_to_give c.loop-class.waiting.given.items) (sym c.in_ok-give.ensures.given) less
+    let less = gives_less c.loop-class.waiting.given.items c.in-Some.class
+    (omega (arith, ready.0, c.loop-class.invariant.waits.long_given)) ready.1 in
+    subst (λ (l : List Bool). left_to_give l < left_to_give c.loop-class.waiting.given.items)
+    (sym c.in_ok-give.ensures.given) less
 
 pub loop-class-preserved : goal.loop-class-preserved
 loop-class-preserved c =
@@ -83,23 +106,35 @@ loop-class-preserved c =
     let waits = c.loop-class.invariant.waits in
     let ready = waits.ready class c.in-Some.ensures.some in
     let members = c.in_ok-members.members.items in
-    let state = taken_state c.args.count c.args.uses.now classes c.args.table.now.class_of.items c.requires.table c.requires.below c.loop-class.waiting lists
+    let state = taken_state c.args.count c.args.uses.now classes c.args.table.now.class_of.items c.requires.table
+    c.requires.below c.loop-class.waiting lists
     waits c.loop-class.invariant.together class c.take_least.new.ready c.in-Some.ensures.some c.in-Some.ensures.rest in
-    let inside : class < length c.args.table.now.blocks.items = omega (arith, ready.0, as_many c.args.table.now.blocks.items) in
+    let inside : class < length c.args.table.now.blocks.items =
+    omega (arith, ready.0, as_many c.args.table.now.blocks.items) in
     let block : Stands c.args.table.now.blocks.items class c.index.result.now =
-    slice_get-get_or c.args.table.now.blocks.items class c.index.result.now inside ∙ ap (λ (b : Block). Some b) (sym c.index.ensures) in
+    slice_get-get_or c.args.table.now.blocks.items class c.index.result.now inside
+    ∙ ap (λ (b : Block). Some b) (sym c.index.ensures) in
     let at : Stands classes class members =
-    stands_map (λ (b : Block). b.members.items) c.args.table.now.blocks.items class c.index.result.now block ∙ ap (λ (l : List ℕ). Some l) (sym (c.in_ok-members.ensures.items ∙ c.deref-in-Some.ensures.value)) in
-    let grown : members_of c.push.new.self.items ≡ lists ++ members ∷ [] = ap members_of c.in_ok-push.ensures.items ∙ map-append (λ (b : Block). b.members.items) c.loop-class.ordered.items _ in
+    stands_map (λ (b : Block). b.members.items) c.args.table.now.blocks.items class c.index.result.now block
+    ∙ ap (λ (l : List ℕ). Some l) (sym (c.in_ok-members.ensures.items ∙ c.deref-in-Some.ensures.value)) in
+    let grown : members_of c.push.new.self.items ≡ lists ++ members ∷ [] =
+    ap members_of c.in_ok-push.ensures.items
+    ∙ map-append (λ (b : Block). b.members.items) c.loop-class.ordered.items _ in
     record {
-      waits = c.in_ok-give.ensures.waits (length classes) c.args.uses.now c.args.table.now.class_of.items state.0 state.1;
-      together = subst (λ (l : List (List ℕ)). AreGivenTogether c.args.table.now.class_of.items c.give.new.self.given.items l) (sym grown)
-          (given_more c.args.count c.args.uses.now classes c.args.table.now.class_of.items c.requires.table c.requires.below c.loop-class.waiting lists waits c.loop-class.invariant.together
-          class members c.give.new.self.given.items at (omega (arith, ready.0, waits.long_given)) c.in_ok-give.ensures.given);
+      waits = c.in_ok-give.ensures.waits (length classes) c.args.uses.now c.args.table.now.class_of.items state.0
+          state.1;
+      together = subst (λ (l : List (List ℕ)). AreGivenTogether c.args.table.now.class_of.items
+          c.give.new.self.given.items l) (sym grown)
+          (given_more c.args.count c.args.uses.now classes c.args.table.now.class_of.items c.requires.table
+          c.requires.below c.loop-class.waiting lists waits c.loop-class.invariant.together
+          class members c.give.new.self.given.items at (omega (arith, ready.0, waits.long_given))
+          c.in_ok-give.ensures.given);
       follow = λ rest f.
-          subst (λ (l : List (List ℕ)). Follow c.args.count c.args.uses.now [] l) (sym (append_assoc lists (members ∷ []) rest) ∙ ap (λ (l : List (List ℕ)). l ++ rest) (sym grown))
+          subst (λ (l : List (List ℕ)). Follow c.args.count c.args.uses.now [] l)
+          (sym (append_assoc lists (members ∷ []) rest) ∙ ap (λ (l : List (List ℕ)). l ++ rest) (sym grown))
           (c.loop-class.invariant.follow (members ∷ rest) (next
-          (next_class c.args.count c.args.uses.now classes c.args.table.now.class_of.items c.requires.table c.requires.below c.loop-class.waiting lists waits c.loop-class.invariant.together
+          (next_class c.args.count c.args.uses.now classes c.args.table.now.class_of.items c.requires.table
+          c.requires.below c.loop-class.waiting lists waits c.loop-class.invariant.together
           class members at c.in-Some.ensures.some c.in-Some.ensures.least)
           (subst (λ (l : List (List ℕ)). Follow c.args.count c.args.uses.now l rest) grown f)));
     }
@@ -108,6 +143,8 @@ pub returns : goal.returns
 returns c =
     let classes = members_of c.args.table.now.blocks.items in
     let lists = members_of c.loop-class.ordered.items in
-    let done = all_given_now c.args.count c.args.uses.now classes c.args.table.now.class_of.items c.requires.table c.requires.below c.requires.reaches.0 c.requires.reaches.1 c.loop-class.waiting
+    let done = all_given_now c.args.count c.args.uses.now classes c.args.table.now.class_of.items c.requires.table
+    c.requires.below c.requires.reaches.0 c.requires.reaches.1 c.loop-class.waiting
     c.loop-class.invariant.waits (c.in_default.ensures.none) lists c.loop-class.invariant.together in
-    subst (λ (l : List (List ℕ)). Follow c.args.count c.args.uses.now [] l) (append-nil lists) (c.loop-class.invariant.follow [] (all_given done))
+    subst (λ (l : List (List ℕ)). Follow c.args.count c.args.uses.now [] l) (append-nil lists)
+    (c.loop-class.invariant.follow [] (all_given done))

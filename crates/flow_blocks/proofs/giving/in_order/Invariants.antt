@@ -9,7 +9,8 @@ abbrev pub invariant-loop-class : goal.invariant-loop-class
 invariant-loop-class l = record {
   waits : IsWaiting (length (members_of l.table.blocks.items)) l.uses l.table.class_of.items l.waiting [];
   together : AreGivenTogether l.table.class_of.items l.waiting.given.items (members_of l.ordered.items);
-  follow : (rest : List (List ℕ)) → Follow l.count l.uses (members_of l.ordered.items) rest → Follow l.count l.uses [] (members_of l.ordered.items ++ rest);
+  follow : (rest : List (List ℕ)) → Follow l.count l.uses (members_of l.ordered.items) rest
+      → Follow l.count l.uses [] (members_of l.ordered.items ++ rest);
 }
 
 abbrev pub decreases-loop-class : goal.decreases-loop-class

@@ -12,7 +12,8 @@ loop-number-preserved c =
     let grown : c.push.new.self.items ≡ old ++ c.loop-number.number ∷ [] = c.in_ok-push.ensures.items in
     record {
       all = λ n lt. subst (λ (l : List ℕ). IsOneOf l n) (sym grown) (elim (cases_eq n c.loop-number.number) [
-        | inl is ↦ subst (λ (k : ℕ). IsOneOf (old ++ c.loop-number.number ∷ []) k) (sym is) (record { place = length old; stands = stands_next old c.loop-number.number [] })
+        | inl is ↦ subst (λ (k : ℕ). IsOneOf (old ++ c.loop-number.number ∷ []) k) (sym is)
+            (record { place = length old; stands = stands_next old c.loop-number.number [] })
         | inr other ↦ let one = c.loop-number.invariant.all n (omega arith) in record { place = one.place; stands = stands_left old (c.loop-number.number ∷ []) one.place n one.stands }
       ]);
       below = λ n one. let there = subst (λ (l : List ℕ). IsOneOf l n) grown one in elim (stands_split old (c.loop-number.number ∷ []) there.place n there.stands) [

@@ -4,4 +4,8 @@ use Rattle.ar_base.specs.Lists.{IsOneOf}
 use Rattle.flow_blocks.proofs.giving.numbers_below.Given as goal
 
 abbrev pub invariant-loop-number : goal.invariant-loop-number
-invariant-loop-number l = record { all : (n : ℕ) → n < l.number → IsOneOf l.numbers.items n; below : (n : ℕ) → IsOneOf l.numbers.items n → n < l.number }
+invariant-loop-number l = record {
+  all : (n : ℕ) → n < l.number → IsOneOf l.numbers.items n;
+  below : (n : ℕ)
+      → IsOneOf l.numbers.items n → n < l.number;
+}

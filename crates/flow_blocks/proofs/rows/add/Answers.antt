@@ -10,12 +10,14 @@ long c = c.or_into.auto.row
 -- no word gets less
 more : (c : goal.After-slice_known-2-1) (k : ℕ) → slice_index c.args.row.now k ≤ slice_index c.or_into.new.row k
 more c k =
-    let word = or_everywhere c.args.row.now c.args.with.now c.or_into.new.row c.requires (long c) c.or_into.ensures.or k in
+    let word = or_everywhere c.args.row.now c.args.with.now c.or_into.new.row c.requires (long c) c.or_into.ensures.or
+    k in
     let least = le_or_l (slice_index c.args.row.now k) (slice_index c.args.with.now k) in
     omega arith
 
 pub returns-clause-bits : goal.returns-clause-bits
-returns-clause-bits c = or_sets c.args.row.now c.args.with.now c.or_into.new.row c.requires (long c) c.or_into.ensures.or
+returns-clause-bits c = or_sets c.args.row.now c.args.with.now c.or_into.new.row c.requires (long c)
+    c.or_into.ensures.or
 
 pub returns-clause-less : goal.returns-clause-less
 returns-clause-less c = λ yes.

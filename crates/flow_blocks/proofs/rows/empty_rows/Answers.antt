@@ -9,17 +9,24 @@ use Rattle.flow_blocks.proofs.rows.empty_rows.Goals as goal
 pub loop-alloc-preserved : goal.loop-alloc-preserved
 loop-alloc-preserved c =
     let grown = c.in_ok-push.ensures.items in
-    let long : length c.push.new.self.items ≡ length c.loop-alloc.rows.items + 1 = ap length grown ∙ length-append c.loop-alloc.rows.items (c.in_ok-vec.field-0 ∷ []) in
+    let long : length c.push.new.self.items ≡ length c.loop-alloc.rows.items + 1 =
+    ap length grown ∙ length-append c.loop-alloc.rows.items (c.in_ok-vec.field-0 ∷ []) in
     record {
       within = omega (arith, long, c.loop-alloc-test.true, c.len.ensures);
-      each = λ a lt. ap (λ (rows : List Row). row_of rows a) grown ∙ elim (cases_lt a (length c.loop-alloc.rows.items)) [
-        | inl below ↦ row_push c.loop-alloc.rows.items c.in_ok-vec.field-0 a below ∙ c.loop-alloc.invariant.each a below
-        | inr past ↦ row_last c.loop-alloc.rows.items c.in_ok-vec.field-0 a (omega (arith, long, lt)) ∙ c.in_ok-vec.ensures.items_if_clones_equal (search rules)
-      ];
+      each = λ a lt. ap (λ (rows : List Row). row_of rows a) grown
+          ∙ elim (cases_lt a (length c.loop-alloc.rows.items)) [
+            | inl below ↦ row_push c.loop-alloc.rows.items c.in_ok-vec.field-0 a below ∙ c.loop-alloc.invariant.each a below
+            | inr past ↦ row_last c.loop-alloc.rows.items c.in_ok-vec.field-0 a (omega (arith, long, lt))
+                ∙ c.in_ok-vec.ensures.items_if_clones_equal (search rules)
+          ];
     }
 
 pub returns-clause-rows : goal.returns-clause-rows
-returns-clause-rows c = record { long = omega arith; wide = λ a lt. ap length (c.loop-alloc.invariant.each a (omega arith)) ∙ length-replicate ((c.args.count + 63) / 64) 0 }
+returns-clause-rows c = record {
+  long = omega arith;
+  wide = λ a lt. ap length (c.loop-alloc.invariant.each a (omega arith))
+      ∙ length-replicate ((c.args.count + 63) / 64) 0;
+}
 
 pub returns-clause-none : goal.returns-clause-none
 returns-clause-none c = λ a n is. elim (cases_lt a (length c.loop-alloc.rows.items)) [

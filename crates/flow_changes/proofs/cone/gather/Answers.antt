@@ -4,4 +4,5 @@ use Rattle.flow_changes.specs.Known.{numbers_of}
 use Rattle.flow_changes.proofs.cone.gather.Goals as goal
 
 pub see_new-requires-clause-within : goal.see_new-requires-clause-within
-see_new-requires-clause-within c = within_long (numbers_of c.args.new.now) c.args.parts.now.variables.items c.args.marks.now.items (sym c.requires.long) (new_inside c.args.parts.now c.args.new.now c.requires.new)
+see_new-requires-clause-within c = within_long (numbers_of c.args.new.now) c.args.parts.now.variables.items
+    c.args.marks.now.items (sym c.requires.long) (new_inside c.args.parts.now c.args.new.now c.requires.new)

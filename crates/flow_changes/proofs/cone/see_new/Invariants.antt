@@ -8,5 +8,6 @@ abbrev pub invariant-loop-variable : goal.invariant-loop-variable
 invariant-loop-variable l = record {
   long : length l.marks.items ≡ length l.initial.marks.items;
   marking : AreMarked l.marks.items l.found.items;
-  sees : Sees (IsRenewed (take l.variable-index l.new)) l.initial.marks.items l.initial.found.items l.marks.items l.found.items;
+  sees : Sees (IsRenewed (take l.variable-index l.new)) l.initial.marks.items l.initial.found.items l.marks.items
+      l.found.items;
 }

@@ -10,7 +10,8 @@ pub loop-assign-init : goal.loop-assign-init
 loop-assign-init c = record {
   long = refl;
   marking = c.requires.marking;
-  sees = sees_nothing (IsTargetOf c.args.parts.now []) c.args.marks.now.items c.args.found.now.items (λ k h. absurd (none_targets c.args.parts.now c.args.pairs.now k h));
+  sees = sees_nothing (IsTargetOf c.args.parts.now []) c.args.marks.now.items c.args.found.now.items
+      (λ k h. absurd (none_targets c.args.parts.now c.args.pairs.now k h));
 }
 
 pub index-requires : goal.index-requires
@@ -29,7 +30,8 @@ see-requires-clause-within c =
     let r = get_or pairs i no_reader in
     let h = c.requires.within r (one_here pairs i r (stands_get pairs i no_reader c.loop-assign-test.true)) in
     let a = c.index.result.now in
-    let t = aims p a c.requires.sound (record { place = r.1.n; stands = stands_item p.assigns.items r.1.n a h c.index.ensures }) in
+    let t = aims p a c.requires.sound (record
+    { place = r.1.n; stands = stands_item p.assigns.items r.1.n a h c.index.ensures }) in
     let k = stands_within p.variables.items a.target.n t.variable t.stands in
     omega (arith, k, c.loop-assign.invariant.long, c.requires.long)
 
@@ -46,9 +48,13 @@ loop-assign-preserved c =
     record {
       long = e.long ∙ c.loop-assign.invariant.long;
       marking = e.marking;
-      sees = targets_next p pairs i r a at (stands_item p.assigns.items r.1.n a h c.index.ensures) c.args.marks.now.items c.loop-assign.marks.items c.see.new.marks.items c.args.found.now.items c.loop-assign.found.items c.see.new.found.items
+      sees = targets_next p pairs i r a at (stands_item p.assigns.items r.1.n a h c.index.ensures)
+          c.args.marks.now.items c.loop-assign.marks.items c.see.new.marks.items c.args.found.now.items
+          c.loop-assign.found.items c.see.new.found.items
           c.loop-assign.invariant.sees e.sees;
     }
 
 pub returns-clause-sees : goal.returns-clause-sees
-returns-clause-sees c = sees_done (IsTargetOf c.args.parts.now) c.args.pairs.now c.loop-assign.assign-index c.args.marks.now.items c.loop-assign.marks.items c.args.found.now.items c.loop-assign.found.items c.loop-assign-test.false c.loop-assign.invariant.sees
+returns-clause-sees c = sees_done (IsTargetOf c.args.parts.now) c.args.pairs.now c.loop-assign.assign-index
+    c.args.marks.now.items c.loop-assign.marks.items c.args.found.now.items c.loop-assign.found.items
+    c.loop-assign-test.false c.loop-assign.invariant.sees

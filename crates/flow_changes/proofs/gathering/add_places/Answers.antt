@@ -21,7 +21,9 @@ loop-assign-preserved c =
     let r = get_or pairs i no_reader in
     let at = stands_get pairs i no_reader c.loop-assign-test.true in
     let h = c.requires r (one_here pairs i r at) in
-    gathers_next places pairs i r (get_or places r.1.n 0) c.args.list.now.items c.loop-assign.list.items c.push.new.self.items at (stands_get places r.1.n 0 h) c.in_ok-push.ensures.items c.loop-assign.invariant
+    gathers_next places pairs i r (get_or places r.1.n 0) c.args.list.now.items c.loop-assign.list.items
+    c.push.new.self.items at (stands_get places r.1.n 0 h) c.in_ok-push.ensures.items c.loop-assign.invariant
 
 pub returns : goal.returns
-returns c = gathers_done c.args.places.now c.args.pairs.now c.loop-assign.assign-index c.args.list.now.items c.loop-assign.list.items c.loop-assign-test.false c.loop-assign.invariant
+returns c = gathers_done c.args.places.now c.args.pairs.now c.loop-assign.assign-index c.args.list.now.items
+    c.loop-assign.list.items c.loop-assign-test.false c.loop-assign.invariant

@@ -11,6 +11,7 @@ use Rattle.flow_changes.proofs.known.yielded.Goals as goal
 pub returns : goal.returns
 returns c =
     let k = c.args.known.now in (
-      subst (λ (cs : List (Expr VarId × Bool)). Passes (Knows k.values.now k.known.now) (map condition_of cs)) c.deref.ensures.value (holds _ _ c.if-not-reaches.false c.in_ok-reaches.ensures),
+      subst (λ (cs : List (Expr VarId × Bool)). Passes (Knows k.values.now k.known.now) (map condition_of cs))
+          c.deref.ensures.value (holds _ _ c.if-not-reaches.false c.in_ok-reaches.ensures),
       tells k.values.now k.known.now c.args.assign.now.value c.in_ok-set.set c.in_ok-set.ensures.yields,
     )

@@ -7,4 +7,5 @@ use Rattle.flow_changes.proofs.putting.apply.Goals as goal
 
 pub apply_known-requires-clause-named : goal.apply_known-requires-clause-named
 apply_known-requires-clause-named c =
-    subst (λ (z : List Bool). (n : ℕ) → Names (assign_of c.args.assign.now) n → Stands z n true) c.deref.ensures.value (holds _ c.names_marked.result c.if-names_marked.true c.names_marked.ensures)
+    subst (λ (z : List Bool). (n : ℕ) → Names (assign_of c.args.assign.now) n → Stands z n true) c.deref.ensures.value
+    (holds _ c.names_marked.result c.if-names_marked.true c.names_marked.ensures)

@@ -18,11 +18,14 @@ returns-then-not-are_met c =
     let a = c.args.assign.now in
     let t = c.args.values.now.items in
     let known = c.args.known.now.items in
-    let met : list_all (is_met t) a.when.items ≡ c.are_met.result = sym (c.are_met.ensures ∙ ap (λ (z : List Value). list_all (is_met z) c.deref-2.result.now) c.deref.ensures.value
+    let met : list_all (is_met t) a.when.items ≡ c.are_met.result =
+    sym (c.are_met.ensures ∙ ap (λ (z : List Value). list_all (is_met z) c.deref-2.result.now)
+    c.deref.ensures.value
     ∙ ap (λ (z : List (Expr VarId × Bool)). list_all (is_met t) z) c.deref-2.ensures.value) in
     record {
       touches = λ x sx. touches_not x.domain a.target.n t known;
-      applies = applies_not p a t known (not_met p c.requires.sound a c.requires.one t c.requires.total known c.requires.named (met ∙ c.if-not-are_met.true));
+      applies = applies_not p a t known (not_met p c.requires.sound a c.requires.one t c.requires.total known
+          c.requires.named (met ∙ c.if-not-are_met.true));
     }
 
 pub index-requires : goal.index-requires
@@ -36,7 +39,9 @@ put-requires-clause-domain c =
     let t = c.args.assign.now.target.n in
     let a = aims p c.args.assign.now c.requires.sound c.requires.one in
     let h = stands_within p.variables.items t a.variable a.stands in
-    subst (λ (x : Variable). IsDomain x.domain) (stands_one p.variables.items t a.variable c.index.result.now a.stands (stands_item p.variables.items t c.index.result.now h c.index.ensures)) a.domain
+    subst (λ (x : Variable). IsDomain x.domain)
+    (stands_one p.variables.items t a.variable c.index.result.now a.stands
+    (stands_item p.variables.items t c.index.result.now h c.index.ensures)) a.domain
 
 pub put-requires-clause-within : goal.put-requires-clause-within
 put-requires-clause-within c =
@@ -53,8 +58,10 @@ returns-clause-touches c = λ x sx.
     let p = c.args.parts.now in
     let t = c.args.assign.now.target.n in
     let h = stands_within p.variables.items t x sx in
-    let same = stands_one p.variables.items t c.index.result.now x (stands_item p.variables.items t c.index.result.now h c.index.ensures) sx in
-    subst (λ (z : Variable). Touches z.domain t c.args.values.now.items c.args.known.now.items c.put.new.values.items c.put.new.known.items) same c.put.ensures.touches
+    let same = stands_one p.variables.items t c.index.result.now x
+    (stands_item p.variables.items t c.index.result.now h c.index.ensures) sx in
+    subst (λ (z : Variable). Touches z.domain t c.args.values.now.items c.args.known.now.items c.put.new.values.items
+    c.put.new.known.items) same c.put.ensures.touches
 
 pub returns-clause-applies : goal.returns-clause-applies
 returns-clause-applies c =
@@ -64,9 +71,15 @@ returns-clause-applies c =
     let known = c.args.known.now.items in
     let d = c.index.result.now.domain in
     let v = c.value_in-v.result in
-    let met : list_all (is_met t) a.when.items ≡ c.are_met.result = sym (c.are_met.ensures ∙ ap (λ (z : List Value). list_all (is_met z) c.deref-2.result.now) c.deref.ensures.value
+    let met : list_all (is_met t) a.when.items ≡ c.are_met.result =
+    sym (c.are_met.ensures ∙ ap (λ (z : List Value). list_all (is_met z) c.deref-2.result.now)
+    c.deref.ensures.value
     ∙ ap (λ (z : List (Expr VarId × Bool)). list_all (is_met t) z) c.deref-2.ensures.value) in
-    let is : v ≡ value_in t a.value = c.value_in-v.ensures ∙ ap (λ (z : List Value). value_in z a.value) c.deref-3.ensures.value in
-    let gives = yields_value p c.requires.sound a c.requires.one t c.requires.total known c.requires.named (met ∙ c.if-not-are_met.false) v is in
-    some_as (Puts d a.target.n (v ∷ []) t known c.put.new.values.items c.put.new.known.items) (Applies p a t known c.put.new.values.items c.put.new.known.items) c.put.result
-    (λ changed puts. applies_set p a t known d (v ∷ []) c.put.new.values.items c.put.new.known.items changed gives puts) c.put.ensures.puts
+    let is : v ≡ value_in t a.value = c.value_in-v.ensures
+    ∙ ap (λ (z : List Value). value_in z a.value) c.deref-3.ensures.value in
+    let gives = yields_value p c.requires.sound a c.requires.one t c.requires.total known c.requires.named
+    (met ∙ c.if-not-are_met.false) v is in
+    some_as (Puts d a.target.n (v ∷ []) t known c.put.new.values.items c.put.new.known.items)
+    (Applies p a t known c.put.new.values.items c.put.new.known.items) c.put.result
+    (λ changed puts. applies_set p a t known d (v ∷ []) c.put.new.values.items c.put.new.known.items changed gives puts)
+    c.put.ensures.puts

@@ -21,7 +21,9 @@ put_all-changed-requires-clause-domain c =
     let t = c.args.assign.now.target.n in
     let a = aims p c.args.assign.now c.requires.sound c.requires.one in
     let h = stands_within p.variables.items t a.variable a.stands in
-    subst (λ (x : Variable). IsDomain x.domain) (stands_one p.variables.items t a.variable c.index.result.now a.stands (stands_item p.variables.items t c.index.result.now h c.index.ensures)) a.domain
+    subst (λ (x : Variable). IsDomain x.domain)
+    (stands_one p.variables.items t a.variable c.index.result.now a.stands
+    (stands_item p.variables.items t c.index.result.now h c.index.ensures)) a.domain
 
 pub put_all-changed-requires-clause-within : goal.put_all-changed-requires-clause-within
 put_all-changed-requires-clause-within c =
@@ -38,8 +40,10 @@ returns-clause-touches c = λ x sx.
     let p = c.args.parts.now in
     let t = c.args.assign.now.target.n in
     let h = stands_within p.variables.items t x sx in
-    let same = stands_one p.variables.items t c.index.result.now x (stands_item p.variables.items t c.index.result.now h c.index.ensures) sx in
-    subst (λ (z : Variable). Touches z.domain t c.args.values.now.items c.args.known.now.items c.put_all-changed.new.values.items c.put_all-changed.new.known.items) same c.put_all-changed.ensures.touches
+    let same = stands_one p.variables.items t c.index.result.now x
+    (stands_item p.variables.items t c.index.result.now h c.index.ensures) sx in
+    subst (λ (z : Variable). Touches z.domain t c.args.values.now.items c.args.known.now.items
+    c.put_all-changed.new.values.items c.put_all-changed.new.known.items) same c.put_all-changed.ensures.touches
 
 pub returns-clause-applies : goal.returns-clause-applies
 returns-clause-applies c =
@@ -48,9 +52,15 @@ returns-clause-applies c =
     let values = c.args.values.now.items in
     let known = c.args.known.now.items in
     let d = c.index.result.now.domain in
-    let told = subst (λ (z : List Bool). Reaches (Knows values z) (assign_of a) c.in_ok-set.field-0) c.deref-2.ensures.value (subst (λ (z : List Value). Reaches (Knows z c.deref-2.result.now) (assign_of a) c.in_ok-set.field-0) c.deref.ensures.value c.in_ok-set.ensures) in
+    let told = subst (λ (z : List Bool). Reaches (Knows values z) (assign_of a) c.in_ok-set.field-0)
+    c.deref-2.ensures.value (subst (λ (z : List Value). Reaches (Knows z c.deref-2.result.now) (assign_of a)
+    c.in_ok-set.field-0) c.deref.ensures.value c.in_ok-set.ensures) in
     let gives = subst (λ (o : Option (List Value)). Reaches (Knows values known) (assign_of a) o) c.in-Some.is told in
-    let set = subst (λ (z : List Value). Reaches (Knows values known) (assign_of a) (Some z)) (sym c.values.ensures.values) gives in
-    some_as (Puts d a.target.n c.values.result.now values known c.put_all-changed.new.values.items c.put_all-changed.new.known.items) (Applies p a values known c.put_all-changed.new.values.items c.put_all-changed.new.known.items)
+    let set = subst (λ (z : List Value). Reaches (Knows values known) (assign_of a) (Some z))
+    (sym c.values.ensures.values) gives in
+    some_as (Puts d a.target.n c.values.result.now values known c.put_all-changed.new.values.items
+    c.put_all-changed.new.known.items)
+    (Applies p a values known c.put_all-changed.new.values.items c.put_all-changed.new.known.items)
     c.put_all-changed.result
-    (λ changed puts. applies_set p a values known d c.values.result.now c.put_all-changed.new.values.items c.put_all-changed.new.known.items changed set puts) c.put_all-changed.ensures.puts
+    (λ changed puts. applies_set p a values known d c.values.result.now c.put_all-changed.new.values.items
+    c.put_all-changed.new.known.items changed set puts) c.put_all-changed.ensures.puts

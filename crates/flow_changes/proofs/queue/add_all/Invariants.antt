@@ -3,4 +3,5 @@ use Rattle.flow_changes.specs.Queue.{AddsPlaces, IsPlaceOf}
 use Rattle.flow_changes.proofs.queue.add_all.Given as goal
 
 abbrev pub invariant-loop-assign : goal.invariant-loop-assign
-invariant-loop-assign l = AddsPlaces l.assign-index (IsPlaceOf l.places (take l.assign-index l.pairs)) l.initial.work l.work
+invariant-loop-assign l = AddsPlaces l.assign-index (IsPlaceOf l.places (take l.assign-index l.pairs)) l.initial.work
+    l.work

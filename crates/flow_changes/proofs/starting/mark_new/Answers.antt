@@ -12,8 +12,10 @@ pub index_mut-requires : goal.index_mut-requires
 index_mut-requires c =
     let new = c.args.new.now in
     let i = c.loop-variable.variable-index in
-    let h = new_within new c.args.known.now.items c.requires i (get_or new i no_pair) (stands_get new i no_pair c.loop-variable-test.true) in
-    let l : (get_or new i no_pair).0.n < length c.loop-variable.known.items = omega (arith, h, c.loop-variable.invariant.keeps.long) in
+    let h = new_within new c.args.known.now.items c.requires i (get_or new i no_pair)
+    (stands_get new i no_pair c.loop-variable-test.true) in
+    let l : (get_or new i no_pair).0.n < length c.loop-variable.known.items =
+    omega (arith, h, c.loop-variable.invariant.keeps.long) in
     search (rules, l)
 
 pub loop-variable-preserved : goal.loop-variable-preserved
@@ -22,7 +24,8 @@ loop-variable-preserved c =
     let i = c.loop-variable.variable-index in
     let r = get_or new i no_pair in
     let at = stands_get new i no_pair c.loop-variable-test.true in
-    set_next true (numbers_of new) i r.0.n c.args.known.now.items c.loop-variable.known.items (new_there new i r at) (new_within new c.args.known.now.items c.requires i r at) c.loop-variable.invariant
+    set_next true (numbers_of new) i r.0.n c.args.known.now.items c.loop-variable.known.items (new_there new i r at)
+    (new_within new c.args.known.now.items c.requires i r at) c.loop-variable.invariant
 
 pub returns : goal.returns
 returns c = set_done true (numbers_of c.args.new.now) c.loop-variable.variable-index c.args.known.now.items c.loop-variable.known.items (let l = numbers_long c.args.new.now in omega (arith, l, c.loop-variable-test.false)) c.loop-variable.invariant

@@ -10,8 +10,10 @@ pub index_mut-requires : goal.index_mut-requires
 index_mut-requires c =
     let new = c.args.new.now in
     let i = c.loop-variable.variable-index in
-    let h = new_within new c.args.values.now.items c.requires i (get_or new i no_pair) (stands_get new i no_pair c.loop-variable-test.true) in
-    let l : (get_or new i no_pair).0.n < length c.loop-variable.values.items = omega (arith, h, c.loop-variable.invariant.long) in
+    let h = new_within new c.args.values.now.items c.requires i (get_or new i no_pair)
+    (stands_get new i no_pair c.loop-variable-test.true) in
+    let l : (get_or new i no_pair).0.n < length c.loop-variable.values.items =
+    omega (arith, h, c.loop-variable.invariant.long) in
     search (rules, l)
 
 pub loop-variable-preserved : goal.loop-variable-preserved
@@ -22,8 +24,10 @@ loop-variable-preserved c =
     let v = c.loop-variable.invariant in
     record {
       long = length-set c.loop-variable.values.items r.0.n r.1 ∙ v.long;
-      values = written_next c.loop-variable.values.items new i r (stands_get new i no_pair c.loop-variable-test.true) ∙ v.values;
+      values = written_next c.loop-variable.values.items new i r (stands_get new i no_pair c.loop-variable-test.true)
+          ∙ v.values;
     }
 
 pub returns : goal.returns
-returns c = sym (written_done c.loop-variable.values.items c.args.new.now c.loop-variable.variable-index c.loop-variable-test.false) ∙ c.loop-variable.invariant.values
+returns c = sym (written_done c.loop-variable.values.items c.args.new.now c.loop-variable.variable-index
+    c.loop-variable-test.false) ∙ c.loop-variable.invariant.values

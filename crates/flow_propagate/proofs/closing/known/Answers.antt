@@ -8,7 +8,8 @@ use Rattle.flow_propagate.proofs.closing.known.Goals as goal
 pub close-requires : goal.close-requires
 close-requires c =
     let places = c.deref-2.ensures.value in
-    let count : length c.deref-2.result.now ≡ length c.args.parts.now.assigns.items = ap (λ (z : List ℕ). length z) places ∙ c.requires.schedule.long in
+    let count : length c.deref-2.result.now ≡ length c.args.parts.now.assigns.items =
+    ap (λ (z : List ℕ). length z) places ∙ c.requires.schedule.long in
     record {
       sound = c.requires.sound;
       readers = c.requires.readers;
@@ -23,8 +24,11 @@ returns c =
     let s = c.in_ok-first.ensures in
     let m = c.in_ok-known.ensures.moves in
     record {
-      facts = are_facts c.args.parts.now c.args.values.now c.in_ok-known.known.table.rows.items (m.sound c.args.values.now (starts_sound c.args.parts.now c.args.values.now c.in_ok-first.first.rows.items c.requires.long s))
-          (λ n v g. m.grows n v (starts_given c.args.parts.now c.args.values.now c.in_ok-first.first.rows.items c.requires.long s n v g)) c.in_ok-known.ensures.closed;
+      facts = are_facts c.args.parts.now c.args.values.now c.in_ok-known.known.table.rows.items
+          (m.sound c.args.values.now (starts_sound c.args.parts.now c.args.values.now c.in_ok-first.first.rows.items
+          c.requires.long s))
+          (λ n v g. m.grows n v (starts_given c.args.parts.now c.args.values.now c.in_ok-first.first.rows.items
+          c.requires.long s n v g)) c.in_ok-known.ensures.closed;
       long = m.long ∙ s.long;
       outside = c.in_ok-known.ensures.outside;
     }

@@ -14,7 +14,8 @@ pub returns-then-index : goal.returns-then-index
 returns-then-index c =
     let p = c.args.parts.now in
     use_not p c.args.variable c.args.assign c.index.result.now c.args.uses.now.items
-    (stands_item p.variables.items c.args.variable c.index.result.now (reads_below p c.args.variable c.args.assign c.requires.sound c.requires.reads) c.index.ensures) c.if-index.true
+    (stands_item p.variables.items c.args.variable c.index.result.now
+    (reads_below p c.args.variable c.args.assign c.requires.sound c.requires.reads) c.index.ensures) c.if-index.true
 
 pub index-requires-3 : goal.index-requires-3
 index-requires-3 c =
@@ -43,6 +44,8 @@ returns c =
     let h = target_below p n c.index-2.result.now c.requires.sound st in
     let first : c.index-2.result.now.target.n < length before = omega (arith, h, c.requires.places.long) in
     let second : x < length before = omega (arith, below, c.requires.places.long) in
-    use_one p x n c.index.result.now c.index-2.result.now before c.requires.sound c.requires.places c.requires.reads (stands_item p.variables.items x c.index.result.now below c.index.ensures) c.if-index.false st
+    use_one p x n c.index.result.now c.index-2.result.now before c.requires.sound c.requires.places c.requires.reads
+    (stands_item p.variables.items x c.index.result.now below c.index.ensures) c.if-index.false st
     c.index-3.result.now c.index-4.result.now c.args.uses.now.items c.push.new.self.items
-    (stands_item before c.index-2.result.now.target.n c.index-3.result.now first c.index-3.ensures) (stands_item before x c.index-4.result.now second c.index-4.ensures) c.in_ok-push.ensures.items
+    (stands_item before c.index-2.result.now.target.n c.index-3.result.now first c.index-3.ensures)
+    (stands_item before x c.index-4.result.now second c.index-4.ensures) c.in_ok-push.ensures.items

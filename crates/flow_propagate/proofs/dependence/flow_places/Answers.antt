@@ -4,21 +4,30 @@ use Rattle.flow_propagate.proofs.FlowUses.{places_start, places_more, places_all
 use Rattle.flow_propagate.proofs.dependence.flow_places.Goals as goal
 
 pub loop-variable-init : goal.loop-variable-init
-loop-variable-init c = (subst (λ (z : List ℕ). ArePlaces c.args.variables.now 0 z) (sym c.new-before.ensures.items) (places_start c.args.variables.now), refl)
+loop-variable-init c = (
+  subst (λ (z : List ℕ). ArePlaces c.args.variables.now 0 z) (sym c.new-before.ensures.items)
+      (places_start c.args.variables.now),
+  refl,
+)
 
 pub loop-variable-preserved : goal.loop-variable-preserved
 loop-variable-preserved c = (
-  places_more c.args.variables.now c.loop-variable.variable-index c.loop-variable.count c.loop-variable.before.items c.push.new.self.items c.loop-variable.invariant.0 c.loop-variable.invariant.1 c.in_ok-push.ensures.items,
-  c.next_count-count.ensures ∙ count_more c.args.variables.now c.loop-variable.variable-index c.variable-item.result c.loop-variable.count c.loop-variable-test.true c.variable-item.is c.loop-variable.invariant.1,
+  places_more c.args.variables.now c.loop-variable.variable-index c.loop-variable.count c.loop-variable.before.items
+      c.push.new.self.items c.loop-variable.invariant.0 c.loop-variable.invariant.1 c.in_ok-push.ensures.items,
+  c.next_count-count.ensures ∙ count_more c.args.variables.now c.loop-variable.variable-index c.variable-item.result
+      c.loop-variable.count c.loop-variable-test.true c.variable-item.is c.loop-variable.invariant.1,
 )
 
 pub next_count-count-requires : goal.next_count-count-requires
 next_count-count-requires c =
-    let r = count_below c.args.variables.now c.loop-variable.variable-index c.loop-variable.count c.loop-variable-test.true c.loop-variable.invariant.1 in
+    let r = count_below c.args.variables.now c.loop-variable.variable-index c.loop-variable.count
+    c.loop-variable-test.true c.loop-variable.invariant.1 in
     omega (arith, r, c.requires)
 
 pub returns : goal.returns
 returns c = record {
-  places = places_all c.args.variables.now c.loop-variable.variable-index c.loop-variable.before.items c.loop-variable-test.false c.loop-variable.auto.variable-index-end c.loop-variable.invariant.0;
-  count = count_all c.args.variables.now c.loop-variable.variable-index c.loop-variable.count c.loop-variable-test.false c.loop-variable.invariant.1;
+  places = places_all c.args.variables.now c.loop-variable.variable-index c.loop-variable.before.items
+      c.loop-variable-test.false c.loop-variable.auto.variable-index-end c.loop-variable.invariant.0;
+  count = count_all c.args.variables.now c.loop-variable.variable-index c.loop-variable.count c.loop-variable-test.false
+      c.loop-variable.invariant.1;
 }

@@ -13,15 +13,18 @@ use Rattle.flow_propagate.proofs.determined.determine_parts.Goals as goal
 
 pub returns-in-Some : goal.returns-in-Some
 returns-in-Some c =
-    subst (λ (n : ℕ). f.Flows (net_of c.args.parts.now) c.args.values.now (f.Fails (f.Two n))) (sym c.new.ensures) (f.two (c.in-Some.ensures c.args.values.now c.in_ok-known.ensures.facts))
+    subst (λ (n : ℕ). f.Flows (net_of c.args.parts.now) c.args.values.now (f.Fails (f.Two n))) (sym c.new.ensures)
+    (f.two (c.in-Some.ensures c.args.values.now c.in_ok-known.ensures.facts))
 
 pub returns-in-Some-outside : goal.returns-in-Some-outside
 returns-in-Some-outside c =
     let p = c.args.parts.now in
     let rows = c.in_ok-known.known.table.rows.items in
-    let least = subst (λ (o : Option ℕ). IsLeast p.assigns.items (length p.assigns.items) (LeavesDomain p rows) o) c.in-Some-outside.is c.in_ok-known.ensures.outside in
+    let least = subst (λ (o : Option ℕ). IsLeast p.assigns.items (length p.assigns.items) (LeavesDomain p rows) o)
+    c.in-Some-outside.is c.in_ok-known.ensures.outside in
     subst (λ (n : ℕ). f.Flows (net_of p) c.args.values.now (f.Fails (f.Outside n))) (sym c.new-in-Some-outside.ensures)
-    (f.outside (c.in_default.ensures c.args.values.now c.in_ok-known.ensures.facts) (outside_found p c.requires.sound c.args.values.now rows c.in_ok-known.ensures.facts c.in-Some-outside.n least))
+    (f.outside (c.in_default.ensures c.args.values.now c.in_ok-known.ensures.facts)
+    (outside_found p c.requires.sound c.args.values.now rows c.in_ok-known.ensures.facts c.in-Some-outside.n least))
 
 pub returns-in-Some-first_broken : goal.returns-in-Some-first_broken
 returns-in-Some-first_broken c =
@@ -30,12 +33,15 @@ returns-in-Some-first_broken c =
     let rows = c.in_ok-known.known.table.rows.items in
     let total = c.in_ok-total.total.items in
     let facts = c.in_ok-known.ensures.facts in
-    let least = subst (λ (o : Option ℕ). IsLeast p.assigns.items (length p.assigns.items) (LeavesDomain p rows) o) c.in_default-outside.is c.in_ok-known.ensures.outside in
+    let least = subst (λ (o : Option ℕ). IsLeast p.assigns.items (length p.assigns.items) (LeavesDomain p rows) o)
+    c.in_default-outside.is c.in_ok-known.ensures.outside in
     let whole = completes p t rows facts total c.requires.state.long c.in_ok-total.ensures in
     let is = completes_total p c.requires.sound t total c.requires.state whole in
-    let found = subst (λ (z : List Value). IsFirst p.assigns.items (Breaks z) c.in-Some-first_broken.n) c.deref.ensures.value c.in-Some-first_broken.ensures in
+    let found = subst (λ (z : List Value). IsFirst p.assigns.items (Breaks z) c.in-Some-first_broken.n)
+    c.deref.ensures.value c.in-Some-first_broken.ensures in
     subst (λ (n : ℕ). f.Flows (net_of p) t (f.Fails (f.Broken n))) (sym c.new-in-Some-first_broken.ensures)
-    (f.broken total (c.in_default.ensures t facts) (outside_none p c.requires.sound t rows facts least) whole (broken_found p c.requires.sound total is c.in-Some-first_broken.n found))
+    (f.broken total (c.in_default.ensures t facts) (outside_none p c.requires.sound t rows facts least) whole
+    (broken_found p c.requires.sound total is c.in-Some-first_broken.n found))
 
 pub returns : goal.returns
 returns c =
@@ -44,19 +50,25 @@ returns c =
     let rows = c.in_ok-known.known.table.rows.items in
     let total = c.in_ok-total.total.items in
     let facts = c.in_ok-known.ensures.facts in
-    let least = subst (λ (o : Option ℕ). IsLeast p.assigns.items (length p.assigns.items) (LeavesDomain p rows) o) c.in_default-outside.is c.in_ok-known.ensures.outside in
+    let least = subst (λ (o : Option ℕ). IsLeast p.assigns.items (length p.assigns.items) (LeavesDomain p rows) o)
+    c.in_default-outside.is c.in_ok-known.ensures.outside in
     let two = c.in_default.ensures t facts in
     let whole = completes p t rows facts total c.requires.state.long c.in_ok-total.ensures in
     let is = completes_total p c.requires.sound t total c.requires.state whole in
-    let none = subst (λ (z : List Value). HasNo p.assigns.items (Breaks z)) c.deref.ensures.value c.in_default-first_broken.ensures in
-    let flows : f.Flows (net_of p) t (f.Total total) = f.all_hold two (outside_none p c.requires.sound t rows facts least) whole (broken_none p c.requires.sound total is none) in
-    let marks = subst (λ (n : ℕ). AreMarks rows n c.in_ok-marks.marks.items) c.in_ok-known.ensures.long c.in_ok-marks.ensures in
+    let none = subst (λ (z : List Value). HasNo p.assigns.items (Breaks z)) c.deref.ensures.value
+    c.in_default-first_broken.ensures in
+    let flows : f.Flows (net_of p) t (f.Total total) =
+    f.all_hold two (outside_none p c.requires.sound t rows facts least) whole
+    (broken_none p c.requires.sound total is none) in
+    let marks = subst (λ (n : ℕ). AreMarks rows n c.in_ok-marks.marks.items) c.in_ok-known.ensures.long
+    c.in_ok-marks.ensures in
     record {
       is = record {
         total = is;
         flows = flows_itself (net_of p) t total flows;
         long = marks.long;
-        facts = tell_facts p c.requires.sound t total rows c.in_ok-marks.marks.items facts c.requires.state.long c.in_ok-known.ensures.long c.in_ok-total.ensures two (completed_states whole) marks;
+        facts = tell_facts p c.requires.sound t total rows c.in_ok-marks.marks.items facts c.requires.state.long
+            c.in_ok-known.ensures.long c.in_ok-total.ensures two (completed_states whole) marks;
       };
       flows = flows;
     }

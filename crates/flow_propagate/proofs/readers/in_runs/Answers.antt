@@ -15,9 +15,11 @@ with_starts-requires c =
       ascending = rising typed (λ j k q r h s t. c.requires.ascending j k q r h
           (subst (λ (z : List (ℕ × ℕ)). Stands z j q) e s) (subst (λ (z : List (ℕ × ℕ)). Stands z k r) e t));
       below = λ r o. c.requires.below (plain_pair r)
-          (subst (λ (z : List (ℕ × ℕ)). IsOneOf z (plain_pair r)) e (record { place = o.place; stands = stands_map plain_pair typed o.place r o.stands }));
+          (subst (λ (z : List (ℕ × ℕ)). IsOneOf z (plain_pair r)) e
+          (record { place = o.place; stands = stands_map plain_pair typed o.place r o.stands }));
       few = c.requires.few;
     }
 
 pub returns : goal.returns
-returns c = IfOk-weaker c.with_starts.result _ _ (λ runs h. ap (λ (z : List Reader). map plain_pair z) h ∙ c.in_ok-typed.ensures) c.with_starts.ensures
+returns c = IfOk-weaker c.with_starts.result _ _
+    (λ runs h. ap (λ (z : List Reader). map plain_pair z) h ∙ c.in_ok-typed.ensures) c.with_starts.ensures

@@ -2,4 +2,5 @@ use Rattle.flow_propagate.proofs.ReaderPairs.{readers_sorted}
 use Rattle.flow_propagate.proofs.readers.readers.Goals as goal
 
 pub returns : goal.returns
-returns c = readers_sorted c.args.parts.now c.in_ok-pairs.pairs.items c.ascending.result.items c.in_ok-pairs.ensures c.ascending.ensures
+returns c = readers_sorted c.args.parts.now c.in_ok-pairs.pairs.items c.ascending.result.items c.in_ok-pairs.ensures
+    c.ascending.ensures

@@ -6,4 +6,5 @@ use Rattle.flow_propagate.specs.Searches.{IsTwo}
 use Rattle.flow_propagate.proofs.searches.first_two.Given as goal
 
 abbrev pub invariant-loop-place : goal.invariant-loop-place
-invariant-loop-place l = (k : ℕ) (x : Variable) → k < l.place → Stands l.parts.variables.items k x → IsTwo x.is_state (row_at l.table.rows.items k) → ⊥
+invariant-loop-place l = (k : ℕ) (x : Variable) → k < l.place → Stands l.parts.variables.items k x
+    → IsTwo x.is_state (row_at l.table.rows.items k) → ⊥

@@ -10,6 +10,7 @@ use Rattle.flow_propagate.proofs.table.yielded.Goals as goal
 
 pub returns : goal.returns
 returns c = (
-  subst (λ (cs : List (Expr VarId × Bool)). Passes (Holds c.args.table.now.rows.items) (map condition_of cs)) c.deref.ensures.value (holds _ _ c.if-not-reaches.false c.in_ok-reaches.ensures),
+  subst (λ (cs : List (Expr VarId × Bool)). Passes (Holds c.args.table.now.rows.items) (map condition_of cs))
+      c.deref.ensures.value (holds _ _ c.if-not-reaches.false c.in_ok-reaches.ensures),
   tells c.args.table.now.rows.items c.args.assign.now.value c.in_ok-set.set c.in_ok-set.ensures.yields,
 )

@@ -18,8 +18,10 @@ reached-requires-clause-orderly c =
     let p = c.args.gts.now in
     let whole : c.len.result ≡ length c.parts-parts.result.now.variables.items = search rules in
     let e : length (net_of p).variables ≡ c.len.result =
-    variables_long 0 p.variables.items ∙ (ap (λ (z : GtsParts). length z.variables.items) (sym c.parts-parts.ensures.parts) ∙ sym whole) in
-    subst (λ n. AreOrderly n (reasons_of c.args.reasons.now)) e (orderly (net_of p) c.requires.reasons.values (reasons_of c.args.reasons.now) c.requires.reasons.are)
+    variables_long 0 p.variables.items
+    ∙ (ap (λ (z : GtsParts). length z.variables.items) (sym c.parts-parts.ensures.parts) ∙ sym whole) in
+    subst (λ n. AreOrderly n (reasons_of c.args.reasons.now)) e
+    (orderly (net_of p) c.requires.reasons.values (reasons_of c.args.reasons.now) c.requires.reasons.are)
 
 pub reached-requires-clause-below : goal.reached-requires-clause-below
 reached-requires-clause-below c = λ n i.
@@ -27,9 +29,12 @@ reached-requires-clause-below c = λ n i.
     let o = c.index.result.now in
     let whole : c.len.result ≡ length c.parts-parts.result.now.variables.items = search rules in
     let e = ap (λ (z : GtsParts). length z.variables.items) c.parts-parts.ensures.parts in
-    let st : Stands p.observers.items c.args.observer o = stands_item p.observers.items c.args.observer o c.requires.range
-    (subst (λ (z : GtsParts). o ≡ get_or z.observers.items c.args.observer o) c.parts-parts.ensures.parts c.index.ensures) in
-    let h = first_below p c.parts-parts.ensures.sound o (one_here p.observers.items c.args.observer o st) [] (numbers_of c.in_ok-first.first.items) c.in_ok-first.ensures n
+    let st : Stands p.observers.items c.args.observer o =
+    stands_item p.observers.items c.args.observer o c.requires.range
+    (subst (λ (z : GtsParts). o ≡ get_or z.observers.items c.args.observer o) c.parts-parts.ensures.parts
+    c.index.ensures) in
+    let h = first_below p c.parts-parts.ensures.sound o (one_here p.observers.items c.args.observer o st) []
+    (numbers_of c.in_ok-first.first.items) c.in_ok-first.ensures n
     (subst (λ (z : List VarId). IsOneOf (numbers_of z) n) c.deref.ensures.value i) in
     omega (arith, h, whole, e)
 
@@ -41,13 +46,21 @@ returns c = λ one so.
     let first = numbers_of c.in_ok-first.first.items in
     let seen = c.in_ok-seen.seen.items in
     let whole : c.len.result ≡ length c.parts-parts.result.now.variables.items = search rules in
-    let e : c.len.result ≡ length p.variables.items = whole ∙ ap (λ (z : GtsParts). length z.variables.items) c.parts-parts.ensures.parts in
-    let st : Stands p.observers.items c.args.observer o = stands_item p.observers.items c.args.observer o c.requires.range
-    (subst (λ (z : GtsParts). o ≡ get_or z.observers.items c.args.observer o) c.parts-parts.ensures.parts c.index.ensures) in
-    let order = subst (λ n. AreOrderly n rs) (variables_long 0 p.variables.items) (orderly (net_of p) c.requires.reasons.values rs c.requires.reasons.are) in
-    let reached = subst (λ (z : List VarId). AreReached rs (numbers_of z) seen) c.deref.ensures.value c.in_ok-seen.ensures.reached in
+    let e : c.len.result ≡ length p.variables.items =
+    whole ∙ ap (λ (z : GtsParts). length z.variables.items) c.parts-parts.ensures.parts in
+    let st : Stands p.observers.items c.args.observer o =
+    stands_item p.observers.items c.args.observer o c.requires.range
+    (subst (λ (z : GtsParts). o ≡ get_or z.observers.items c.args.observer o) c.parts-parts.ensures.parts
+    c.index.ensures) in
+    let order = subst (λ n. AreOrderly n rs) (variables_long 0 p.variables.items)
+    (orderly (net_of p) c.requires.reasons.values rs c.requires.reasons.are) in
+    let reached = subst (λ (z : List VarId). AreReached rs (numbers_of z) seen) c.deref.ensures.value
+    c.in_ok-seen.ensures.reached in
     variables_as _ _ c.members.result
-    (λ v h. subst (λ (z : Observer). IsCone (net_of p) rs (numbered z.value) (numbers_of v.items)) (stands_one p.observers.items c.args.observer o one st so)
-    (is_cone p c.parts-parts.ensures.sound o (one_here p.observers.items c.args.observer o st) rs first c.in_ok-first.ensures seen (numbers_of v.items)
+    (λ v h. subst (λ (z : Observer). IsCone (net_of p) rs (numbered z.value) (numbers_of v.items))
+    (stands_one p.observers.items c.args.observer o one st so)
+    (is_cone p c.parts-parts.ensures.sound o (one_here p.observers.items c.args.observer o st) rs first
+    c.in_ok-first.ensures seen (numbers_of v.items)
     (c.in_ok-seen.ensures.long ∙ e) order reached
-    (subst (λ (z : List Bool). AreMembers z (length z) (numbers_of v.items)) c.deref-2.ensures.value h))) c.members.ensures
+    (subst (λ (z : List Bool). AreMembers z (length z) (numbers_of v.items)) c.deref-2.ensures.value h)))
+    c.members.ensures

@@ -14,12 +14,14 @@ use Rattle.flow_reasons.proofs.known.brings.Goals as goal
 
 pub returns-then-is_known : goal.returns-then-is_known
 returns-then-is_known c = λ b.
-    not_open c.args.values.now c.args.marks.now c.args.assign.now.target.n (sym c.is_known.ensures ∙ c.if-is_known.true) b.is_open
+    not_open c.args.values.now c.args.marks.now c.args.assign.now.target.n (sym c.is_known.ensures ∙ c.if-is_known.true)
+    b.is_open
 
 pub returns-then-not-reaches : goal.returns-then-not-reaches
 returns-then-not-reaches c = λ b.
     fails _ _ c.if-not-reaches.true c.in_ok-reaches.ensures
-    (subst (λ (z : List (Expr VarId × Bool)). Passes (Known c.args.values.now c.args.marks.now) (map condition_of z)) (sym c.deref.ensures.value) b.passes)
+    (subst (λ (z : List (Expr VarId × Bool)). Passes (Known c.args.values.now c.args.marks.now) (map condition_of z))
+    (sym c.deref.ensures.value) b.passes)
 
 pub returns : goal.returns
 returns c =
@@ -30,6 +32,8 @@ returns c =
     brings_answer values marks a c.in_ok-set.set v c.has-yields.result
     (open_from values marks a.target.n c.requires.marks (sym c.is_known.ensures ∙ c.if-is_known.false))
     (stands_get values a.target.n (Truth false) c.requires.values)
-    (subst (λ (z : List (Expr VarId × Bool)). Passes (Known values marks) (map condition_of z)) c.deref.ensures.value (holds _ _ c.if-not-reaches.false c.in_ok-reaches.ensures))
+    (subst (λ (z : List (Expr VarId × Bool)). Passes (Known values marks) (map condition_of z)) c.deref.ensures.value
+    (holds _ _ c.if-not-reaches.false c.in_ok-reaches.ensures))
     (tells values marks a.value c.in_ok-set.set c.in_ok-set.ensures.yields)
-    (subst (λ (z : List Value). IsAnswer c.has-yields.result (Contains z v)) c.values.ensures.values c.has-yields.ensures)
+    (subst (λ (z : List Value). IsAnswer c.has-yields.result (Contains z v)) c.values.ensures.values
+    c.has-yields.ensures)

@@ -11,8 +11,10 @@ pub loop-test-preserved : goal.loop-test-preserved
 loop-test-preserved c =
     let k = c.args.known.now in
     let s = tells k.values.now k.marks.now c.loop-test-item.result.0 c.in_ok-set.set c.in_ok-set.ensures.yields in
-    decides_on k.values.now k.marks.now c.args.conditions.now c.loop-test.test-index c.loop-test-item.result c.loop-test-test.true c.loop-test-item.is c.loop-test.invariant
-    (s.sound _ (subst (λ (z : List Value). Contains z (Truth c.loop-test-item.result.1)) c.values.ensures.values c.if-not-has.ensures))
+    decides_on k.values.now k.marks.now c.args.conditions.now c.loop-test.test-index c.loop-test-item.result
+    c.loop-test-test.true c.loop-test-item.is c.loop-test.invariant
+    (s.sound _ (subst (λ (z : List Value). Contains z (Truth c.loop-test-item.result.1)) c.values.ensures.values
+    c.if-not-has.ensures))
 
 pub returns : goal.returns
 returns c = decides_all _ _ _ _ c.loop-test-test.false c.loop-test.invariant
@@ -21,5 +23,7 @@ pub returns-then-not-has : goal.returns-then-not-has
 returns-then-not-has c =
     let k = c.args.known.now in
     let s = tells k.values.now k.marks.now c.loop-test-item.result.0 c.in_ok-set.set c.in_ok-set.ensures.yields in
-    decides_not k.values.now k.marks.now c.args.conditions.now c.loop-test.test-index c.loop-test-item.result c.loop-test-test.true c.loop-test-item.is c.loop-test.invariant
-    (λ y. c.if-not-has.ensures (subst (λ (z : List Value). Contains z (Truth c.loop-test-item.result.1)) (sym c.values.ensures.values) (s.complete _ y)))
+    decides_not k.values.now k.marks.now c.args.conditions.now c.loop-test.test-index c.loop-test-item.result
+    c.loop-test-test.true c.loop-test-item.is c.loop-test.invariant
+    (λ y. c.if-not-has.ensures (subst (λ (z : List Value). Contains z (Truth c.loop-test-item.result.1))
+    (sym c.values.ensures.values) (s.complete _ y)))

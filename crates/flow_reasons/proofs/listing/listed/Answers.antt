@@ -13,7 +13,8 @@ use Rattle.flow_reasons.proofs.listing.listed.Goals.{then-not-variable+in_ok-rea
 
 pub loop-place-init : goal.loop-place-init
 loop-place-init c =
-    listed_none c.args.parts.now c.requires.sound c.args.values.now c.requires.standing c.args.marks.now c.requires.marks c.new-found.result.items c.new-found.ensures.items
+    listed_none c.args.parts.now c.requires.sound c.args.values.now c.requires.standing c.args.marks.now
+    c.requires.marks c.new-found.result.items c.new-found.ensures.items
 
 pub loop-place-preserved : goal.loop-place-preserved
 loop-place-preserved c =
@@ -25,26 +26,34 @@ loop-place-preserved c =
     let x = c.variable-item.result in
     let found = c.loop-place.found.items in
     let items = c.deref-variable-items.ensures.value in
-    let below : i < length p.variables.items = subst (λ (z : List Variable). i < length z) items c.loop-place-test.true in
+    let below : i < length p.variables.items =
+    subst (λ (z : List Variable). i < length z) items c.loop-place-test.true in
     let is = subst (λ (z : List Variable). x ≡ get_or z i x) items c.variable-item.is in
     let sx : Stands p.variables.items i x = stands_item p.variables.items i x below is in
-    let P : List Reason → Type 0 = λ z. AreListed p c.requires.sound values c.requires.standing marks c.requires.marks (i + 1) z in
+    let P : List Reason → Type 0 = λ z. AreListed p c.requires.sound values c.requires.standing marks c.requires.marks
+    (i + 1) z in
     elim c.if-not-variable.branch [
       | then-not-variable+in_ok-reason+in_ok-push w ↦
           subst P (sym (ap (λ z. z.items) w.found-is ∙ w.in_ok-push.ensures.items))
-          (listed_flow p c.requires.sound values c.requires.standing marks c.requires.marks i x found w.in_ok-reason.reason
+          (listed_flow p c.requires.sound values c.requires.standing marks c.requires.marks i x found
+          w.in_ok-reason.reason
           (get_or values i (Truth false)) (get_or marks i Unknown) w.index-rests-place.result sx w.if-not-variable.true
           (stands_get values i (Truth false) (omega (arith, below, c.requires.standing.total.long)))
           (stands_get marks i Unknown (omega (arith, below, c.requires.marks.are.long))) rests c.requires.rests
-          (stands_item rests i w.index-rests-place.result (omega (arith, below, c.requires.marks.are.long, c.requires.rests.are.long)) w.index-rests-place.is)
-          (w.in_ok-reason.ensures ∙ ap (λ (z : List VarId). reason_made i (get_or values i (Truth false)) (get_or marks i Unknown) z) w.deref.ensures.value)
+          (stands_item rests i w.index-rests-place.result
+          (omega (arith, below, c.requires.marks.are.long, c.requires.rests.are.long)) w.index-rests-place.is)
+          (w.in_ok-reason.ensures ∙ ap (λ (z : List VarId). reason_made i (get_or values i (Truth false))
+          (get_or marks i Unknown) z) w.deref.ensures.value)
           c.loop-place.invariant)
       | else-not-variable w ↦
           subst P (sym (ap (λ z. z.items) w.found-is))
-          (listed_state p c.requires.sound values c.requires.standing marks c.requires.marks i x found sx w.if-not-variable.false c.loop-place.invariant)
+          (listed_state p c.requires.sound values c.requires.standing marks c.requires.marks i x found sx
+          w.if-not-variable.false c.loop-place.invariant)
     ]
 
 pub returns : goal.returns
 returns c =
-    listed_done c.args.parts.now c.requires.sound c.args.values.now c.requires.standing c.args.marks.now c.requires.marks c.loop-place.place c.loop-place.found.items
-    (subst (λ (z : List Variable). length z ≤ c.loop-place.place) c.deref-variable-items.ensures.value c.loop-place-test.false) c.loop-place.invariant
+    listed_done c.args.parts.now c.requires.sound c.args.values.now c.requires.standing c.args.marks.now
+    c.requires.marks c.loop-place.place c.loop-place.found.items
+    (subst (λ (z : List Variable). length z ≤ c.loop-place.place) c.deref-variable-items.ensures.value
+    c.loop-place-test.false) c.loop-place.invariant

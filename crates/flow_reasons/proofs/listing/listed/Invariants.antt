@@ -5,4 +5,5 @@ use Rattle.flow_reasons.specs.Answers.{reasons_of}
 use Rattle.flow_reasons.proofs.listing.listed.Given as goal
 
 abbrev pub invariant-loop-place : goal.invariant-loop-place
-invariant-loop-place l = AreReasonsFrom (net_of l.parts) l.values 0 (variables_from 0 (take l.place l.parts.variables.items)) (reasons_of l.found.items)
+invariant-loop-place l = AreReasonsFrom (net_of l.parts) l.values 0
+    (variables_from 0 (take l.place l.parts.variables.items)) (reasons_of l.found.items)

@@ -7,7 +7,8 @@ pub rows-init : goal.rows-init
 rows-init c = empty_none _ c.new-rests.ensures.items
 
 pub rows-preserved : goal.rows-preserved
-rows-preserved c = empty_more c.rows._row c.rows.rests.items c.push.new.self.items c.new.result c.rows.invariant c.new.ensures.items c.in_ok-push.ensures.items
+rows-preserved c = empty_more c.rows._row c.rows.rests.items c.push.new.self.items c.new.result c.rows.invariant
+    c.new.ensures.items c.in_ok-push.ensures.items
 
 pub returns : goal.returns
 returns c =

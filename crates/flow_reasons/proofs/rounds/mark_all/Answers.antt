@@ -11,7 +11,8 @@ use Rattle.flow_reasons.proofs.rounds.mark_all.Goals.{then-not-is_known+in_ok-pu
 
 pub loop-n-init : goal.loop-n-init
 loop-n-init c =
-    subst (λ (z : List ℕ). MarksAll c.args.parts.now [] c.args.round c.args.marks.now c.args.marks.now z) (sym c.new-fresh.ensures.items)
+    subst (λ (z : List ℕ). MarksAll c.args.parts.now [] c.args.round c.args.marks.now c.args.marks.now z)
+    (sym c.new-fresh.ensures.items)
     (marks_none c.args.parts.now c.args.round c.args.marks.now c.args.bringing.now)
 
 pub index-requires : goal.index-requires
@@ -25,7 +26,8 @@ bounds-marks-target c =
     let xs = c.args.bringing.now in
     let i = c.loop-n.n-index in
     let h = c.requires.inside (get_or xs i 0) (one_here xs i (get_or xs i 0) (stands_get xs i 0 c.loop-n-test.true)) in
-    let t = target_below c.args.parts.now c.requires.sound (get_or xs i 0) c.index.result.now (stands_item c.args.parts.now.assigns.items (get_or xs i 0) c.index.result.now h c.index.ensures) in
+    let t = target_below c.args.parts.now c.requires.sound (get_or xs i 0) c.index.result.now
+    (stands_item c.args.parts.now.assigns.items (get_or xs i 0) c.index.result.now h c.index.ensures) in
     omega (arith, t, c.requires.marks, c.loop-n.invariant.long)
 
 pub loop-n-preserved : goal.loop-n-preserved
@@ -47,13 +49,16 @@ loop-n-preserved c =
           let new : List Mark = set marks a.target.n (Added c.args.round w.new.result) in
           subst (λ (z : List Mark). P z c.if-not-is_known.fresh.items) (sym w.marks-is)
           (subst (λ (z : List ℕ). P new z) (sym (ap (λ z. z.items) w.fresh-is ∙ w.in_ok-push.ensures.items))
-          (marks_taken p c.args.round c.args.marks.now xs i c.requires.ascends c.loop-n-test.true a st marks fresh c.loop-n.invariant w.new.result w.new.ensures o inside))
+          (marks_taken p c.args.round c.args.marks.now xs i c.requires.ascends c.loop-n-test.true a st marks fresh
+          c.loop-n.invariant w.new.result w.new.ensures o inside))
       | else-not-is_known w ↦
           subst (λ (z : List Mark). P z c.if-not-is_known.fresh.items) (sym w.marks-is)
           (subst (λ (z : List ℕ). P marks z) (sym (ap (λ z. z.items) w.fresh-is))
-          (marks_left p c.args.round c.args.marks.now xs i c.requires.ascends c.loop-n-test.true a st marks fresh c.loop-n.invariant
+          (marks_left p c.args.round c.args.marks.now xs i c.requires.ascends c.loop-n-test.true a st marks fresh
+          c.loop-n.invariant
           (not_open [] marks a.target.n (sym c.is_known.ensures ∙ w.if-not-is_known.false))))
     ]
 
 pub returns : goal.returns
-returns c = marks_done c.args.parts.now c.args.round c.args.marks.now c.args.bringing.now c.loop-n.n-index c.loop-n.marks c.loop-n.fresh.items c.loop-n-test.false c.loop-n.invariant
+returns c = marks_done c.args.parts.now c.args.round c.args.marks.now c.args.bringing.now c.loop-n.n-index
+    c.loop-n.marks c.loop-n.fresh.items c.loop-n-test.false c.loop-n.invariant

@@ -10,7 +10,8 @@ use Rattle.flow_reasons.proofs.seeing.members.Goals as goal
 use Rattle.flow_reasons.proofs.seeing.members.Goals.{then-is_seen+in_ok-push, else-is_seen}
 
 pub loop-place-init : goal.loop-place-init
-loop-place-init c = members_none c.args.seen.now (numbers_of c.new-found.result.items) (ap numbers_of c.new-found.ensures.items)
+loop-place-init c = members_none c.args.seen.now (numbers_of c.new-found.result.items)
+    (ap numbers_of c.new-found.ensures.items)
 
 pub loop-place-preserved : goal.loop-place-preserved
 loop-place-preserved c =

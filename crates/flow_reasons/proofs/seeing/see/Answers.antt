@@ -9,7 +9,8 @@ returns-in_ok-push c =
     let seen = c.args.seen.now in
     let n = c.args.n in
     sees_new n seen c.args.found.now.items c.push.new.self.items c.requires.are c.requires.below
-    (subst (λ (z : Bool). Stands seen n z) c.if-not-seen-n.true (stands_get seen n false c.requires.below)) c.in_ok-push.ensures.items
+    (subst (λ (z : Bool). Stands seen n z) c.if-not-seen-n.true (stands_get seen n false c.requires.below))
+    c.in_ok-push.ensures.items
 
 pub returns-else-not-seen-n : goal.returns-else-not-seen-n
 returns-else-not-seen-n c =

@@ -17,12 +17,17 @@ pub see-requires-clause-below : goal.see-requires-clause-below
 see-requires-clause-below c =
     let xs = c.args.variables.now in
     let i = c.loop-variable.variable-index in
-    let h = c.requires.below (get_or xs i past).n (one_here (numbers_of xs) i (get_or xs i past).n (stands_map (λ (x : VarId). x.n) xs i (get_or xs i past) (stands_get xs i past c.loop-variable-test.true))) in
+    let h = c.requires.below (get_or xs i past).n
+    (one_here (numbers_of xs) i (get_or xs i past).n
+    (stands_map (λ (x : VarId). x.n) xs i (get_or xs i past)
+    (stands_get xs i past c.loop-variable-test.true))) in
     omega (arith, h, c.loop-variable.invariant.long)
 
 pub loop-variable-preserved : goal.loop-variable-preserved
 loop-variable-preserved c =
     let xs = c.args.variables.now in
     let i = c.loop-variable.variable-index in
-    sees_next (numbers_of (take i xs)) (numbers_of (take (i + 1) xs)) (get_or xs i past).n c.args.seen.now c.loop-variable.seen c.see.new.seen c.args.found.now.items c.loop-variable.found.items
-    c.see.new.found.items (numbers_next xs i past c.loop-variable-test.true) c.loop-variable.invariant c.in_ok-see.ensures
+    sees_next (numbers_of (take i xs)) (numbers_of (take (i + 1) xs)) (get_or xs i past).n c.args.seen.now
+    c.loop-variable.seen c.see.new.seen c.args.found.now.items c.loop-variable.found.items
+    c.see.new.found.items (numbers_next xs i past c.loop-variable-test.true) c.loop-variable.invariant
+    c.in_ok-see.ensures

@@ -27,8 +27,10 @@ use Rattle.forest_text.proofs.SameLines.{tree_texts, trees_same, events_counted}
 use Rattle.forest_text.proofs.LiveThere.{live_events_there}
 use Rattle.forest_text.proofs.laws.forests_of_the_source.Goals as goal
 
-flat_live : (p : GtsParts) (flat : System ℕ) (views : Views p flat) (dropped : List ℕ) (f : Forest) → KeepsAll flat dropped
-    → IsForest flat dropped (trees_of (number_in p) f) → AreLiveEvents flat dropped (events_of (trees_of (number_in p) f))
+flat_live : (p : GtsParts) (flat : System ℕ) (views : Views p flat) (dropped : List ℕ) (f : Forest)
+    → KeepsAll flat dropped
+    → IsForest flat dropped (trees_of (number_in p) f)
+    → AreLiveEvents flat dropped (events_of (trees_of (number_in p) f))
 flat_live p flat views dropped f keeps is =
     are_live flat dropped (keyed_by p flat views) (all_static flat dropped keeps) (trees_of (number_in p) f) is
 
@@ -55,7 +57,9 @@ returns-clause-text c = λ x p flat of views dropped f keeps is own.
       trees = trees;
       is_forest = forest_there (turned (IsNumber things)) flat x.system image dropped is;
       events = events_of trees;
-      are_live = live_events_there things x.system flat flat_of dropped (events_of trees) (flat_live p flat views dropped f keeps is);
+      are_live = live_events_there things x.system flat flat_of dropped (events_of trees)
+          (flat_live p flat views dropped f keeps is);
       is_text = ap (λ z. z ++ events_line (edge_count f.trees.items)) text
-          ∙ ap (λ z. tree_lines names x.system trees ++ events_line z) (sym (events_counted (number_in p) f.trees.items));
+          ∙ ap (λ z. tree_lines names x.system trees ++ events_line z)
+          (sym (events_counted (number_in p) f.trees.items));
     }

@@ -5,4 +5,5 @@ use Rattle.forest_text.proofs.printing.edges.Given as goal
 
 abbrev pub invariant-loop-edge : goal.invariant-loop-edge
 invariant-loop-edge g l =
-    Leaves (g.K.Sink.state l.initial.out) (g.K.Sink.state l.out) (edge_lines l.gts (drop l.edge-index l.edges)) (edge_lines l.gts l.edges)
+    Leaves (g.K.Sink.state l.initial.out) (g.K.Sink.state l.out) (edge_lines l.gts (drop l.edge-index l.edges))
+    (edge_lines l.gts l.edges)

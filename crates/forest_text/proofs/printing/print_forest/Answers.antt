@@ -8,5 +8,6 @@ use Rattle.forest_text.proofs.printing.print_forest.Goals as goal
 pub returns : goal.returns
 returns g c =
     writes_on
-    (writes_as _ _ (ap (λ (z : List ModeTree). trees_text c.args.gts.now z) c.deref.ensures.value) c.in_ok-trees.ensures)
+    (writes_as _ _ (ap (λ (z : List ModeTree). trees_text c.args.gts.now z) c.deref.ensures.value)
+    c.in_ok-trees.ensures)
     (writes_as _ _ (ap events_line (c.edges_in.ensures ∙ ap edge_count c.deref-2.ensures.value)) c.events.ensures)

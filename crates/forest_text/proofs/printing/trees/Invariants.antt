@@ -5,4 +5,5 @@ use Rattle.forest_text.proofs.printing.trees.Given as goal
 
 abbrev pub invariant-loop-one : goal.invariant-loop-one
 invariant-loop-one g l =
-    Leaves (g.K.Sink.state l.initial.out) (g.K.Sink.state l.out) (trees_text l.gts (drop l.one-index l.trees)) (trees_text l.gts l.trees)
+    Leaves (g.K.Sink.state l.initial.out) (g.K.Sink.state l.out) (trees_text l.gts (drop l.one-index l.trees))
+    (trees_text l.gts l.trees)

@@ -14,11 +14,15 @@ loop-left-init c =
     let gates = c.args.gates.now in
     let long : length (map gate_of gates) ≡ length gates = length-map gates gate_of in
     let none = c.in_ok-marks.marks.items in
-    let begun : none ≡ replicate (length (map gate_of gates)) false = c.in_ok-marks.ensures ∙ ap (λ n. replicate n false) (sym long) in
-    let kept : length c.mark.new.marks ≡ c.in_ok-marks.marks.len = c.mark.ensures.long ∙ ap length c.deref_mut.ensures.value ∙ sym c.in_ok-marks.marks.ok.0 in
-    subst (λ ms. IsMarking (map gate_of gates) (operand_of c.args.root) (length gates) ms) (sym (with_items_is c.in_ok-marks.marks c.mark.new.marks kept))
+    let begun : none ≡ replicate (length (map gate_of gates)) false =
+    c.in_ok-marks.ensures ∙ ap (λ n. replicate n false) (sym long) in
+    let kept : length c.mark.new.marks ≡ c.in_ok-marks.marks.len =
+    c.mark.ensures.long ∙ ap length c.deref_mut.ensures.value ∙ sym c.in_ok-marks.marks.ok.0 in
+    subst (λ ms. IsMarking (map gate_of gates) (operand_of c.args.root) (length gates) ms)
+    (sym (with_items_is c.in_ok-marks.marks c.mark.new.marks kept))
     (subst (λ n. IsMarking (map gate_of gates) (operand_of c.args.root) n c.mark.new.marks) long
-    (marking_begins (map gate_of gates) (operand_of c.args.root) none c.mark.new.marks begun (ap length begun ∙ length-replicate (length (map gate_of gates)) false)
+    (marking_begins (map gate_of gates) (operand_of c.args.root) none c.mark.new.marks begun
+    (ap length begun ∙ length-replicate (length (map gate_of gates)) false)
     (subst (λ z. Marks (operand_of c.args.root ∷ []) z c.mark.new.marks) c.deref_mut.ensures.value c.mark.ensures)))
 
 pub index-requires : goal.index-requires
@@ -39,8 +43,10 @@ mark_all-requires c =
     let gate = c.index-gates-left.result in
     let short : l < length gates = omega (arith, i.left_in, length-map gates gate_of, c.loop-left-test.true) in
     let stands : Stands gates l gate = slice_get_read gates (length gates) l gate refl short c.index-gates-left.is in
-    let same : gate.operands.items ≡ c.deref.result.now = ap (λ g. g.operands.items) c.index-gates-left.is ∙ sym c.deref.ensures.value in
-    let long : length c.deref_mut-then-index.result.now ≡ length (map gate_of gates) = ap length c.deref_mut-then-index.ensures.value ∙ i.long in
+    let same : gate.operands.items ≡ c.deref.result.now =
+    ap (λ g. g.operands.items) c.index-gates-left.is ∙ sym c.deref.ensures.value in
+    let long : length c.deref_mut-then-index.result.now ≡ length (map gate_of gates) =
+    ap length c.deref_mut-then-index.ensures.value ∙ i.long in
     subst (λ os. AreBelow (length c.deref_mut-then-index.result.now) (map operand_of os)) same
     (all_below (map gate_of gates) l (length c.deref_mut-then-index.result.now) (gate_of gate) c.requires.ordered
     (stands_map gate_of gates l gate stands) (omega (arith, long, length-map gates gate_of, short)))
@@ -54,16 +60,21 @@ loop-left-preserved-then-index c =
     let marks = c.loop-left.marks.items in
     let short : l < length gates = omega (arith, i.left_in, length-map gates gate_of, c.loop-left-test.true) in
     let stands : Stands gates l gate = slice_get_read gates (length gates) l gate refl short c.index-gates-left.is in
-    let same : gate.operands.items ≡ c.deref.result.now = ap (λ g. g.operands.items) c.index-gates-left.is ∙ sym c.deref.ensures.value in
+    let same : gate.operands.items ≡ c.deref.result.now =
+    ap (λ g. g.operands.items) c.index-gates-left.is ∙ sym c.deref.ensures.value in
     let inside : l < length marks = omega (arith, i.long, length-map gates gate_of, short) in
     let marked : Stands marks l true = subst (λ b. Stands marks l b) c.if-index.true
     (slice_get_read marks (length marks) l c.index.result.now refl inside c.index.ensures) in
-    let kept : length c.mark_all.new.marks ≡ c.loop-left.marks.len = c.mark_all.ensures.long ∙ ap length c.deref_mut-then-index.ensures.value ∙ sym c.loop-left.marks.ok.0 in
-    subst (λ ms. IsMarking (map gate_of gates) (operand_of c.args.root) l ms) (sym (with_items_is c.loop-left.marks c.mark_all.new.marks kept))
-    (marking_on (map gate_of gates) (operand_of c.args.root) c.requires.ordered c.loop-left.left l (omega (arith, c.loop-left-test.true)) marks i
+    let kept : length c.mark_all.new.marks ≡ c.loop-left.marks.len =
+    c.mark_all.ensures.long ∙ ap length c.deref_mut-then-index.ensures.value ∙ sym c.loop-left.marks.ok.0 in
+    subst (λ ms. IsMarking (map gate_of gates) (operand_of c.args.root) l ms)
+    (sym (with_items_is c.loop-left.marks c.mark_all.new.marks kept))
+    (marking_on (map gate_of gates) (operand_of c.args.root) c.requires.ordered c.loop-left.left l
+    (omega (arith, c.loop-left-test.true)) marks i
     (gate_of gate) c.mark_all.new.marks (stands_map gate_of gates l gate stands) marked
     (subst (λ os. Marks (map operand_of os) marks c.mark_all.new.marks) (sym same)
-    (subst (λ z. Marks (map operand_of c.deref.result.now) z c.mark_all.new.marks) c.deref_mut-then-index.ensures.value c.mark_all.ensures)))
+    (subst (λ z. Marks (map operand_of c.deref.result.now) z c.mark_all.new.marks) c.deref_mut-then-index.ensures.value
+    c.mark_all.ensures)))
 
 pub loop-left-preserved : goal.loop-left-preserved
 loop-left-preserved c =
@@ -74,10 +85,12 @@ loop-left-preserved c =
     let inside : l < length marks = omega (arith, i.left_in, i.long, c.loop-left-test.true) in
     let unset : Stands marks l false = subst (λ b. Stands marks l b) c.if-index.false
     (slice_get_read marks (length marks) l c.index.result.now refl inside c.index.ensures) in
-    marking_passes (map gate_of gates) (operand_of c.args.root) c.requires.ordered c.loop-left.left l (omega (arith, c.loop-left-test.true)) marks i unset
+    marking_passes (map gate_of gates) (operand_of c.args.root) c.requires.ordered c.loop-left.left l
+    (omega (arith, c.loop-left-test.true)) marks i unset
 
 pub returns : goal.returns
 returns c =
     let zero : c.loop-left.left ≡ 0 = omega (arith, c.loop-left-test.false) in
     marking_ends (map gate_of c.args.gates.now) (operand_of c.args.root) c.loop-left.marks.items
-    (subst (λ n. IsMarking (map gate_of c.args.gates.now) (operand_of c.args.root) n c.loop-left.marks.items) zero c.loop-left.invariant)
+    (subst (λ n. IsMarking (map gate_of c.args.gates.now) (operand_of c.args.root) n c.loop-left.marks.items) zero
+    c.loop-left.invariant)

@@ -14,9 +14,11 @@ loop-operand-preserved c =
     let k = c.loop-operand.operand-index in
     let operands = c.args.operands.now in
     let o = get_or operands k Always in
-    subst (λ z. Marks (map operand_of z) c.args.marks.now c.mark.new.marks) (sym (take_more operands k Always c.loop-operand-test.true))
+    subst (λ z. Marks (map operand_of z) c.args.marks.now c.mark.new.marks)
+    (sym (take_more operands k Always c.loop-operand-test.true))
     (subst (λ z. Marks z c.args.marks.now c.mark.new.marks) (sym (map-append operand_of (take k operands) (o ∷ [])))
-    (marks_then (map operand_of (take k operands)) (operand_of o ∷ []) c.args.marks.now c.loop-operand.marks c.mark.new.marks c.loop-operand.invariant c.mark.ensures))
+    (marks_then (map operand_of (take k operands)) (operand_of o ∷ []) c.args.marks.now c.loop-operand.marks
+    c.mark.new.marks c.loop-operand.invariant c.mark.ensures))
 
 pub returns : goal.returns
 returns c =

@@ -6,4 +6,5 @@ use Rattle.gate_diagrams.proofs.draw.draw.Given as goal
 
 abbrev pub invariant-loop-number : goal.invariant-loop-number
 invariant-loop-number l =
-    IsDrawing (family l.fn.ops l.fn.firable.n) (map gate_of l.gates) (operand_of l.fn.root) l.number l.table.items l.fn.ops l.ops
+    IsDrawing (family l.fn.ops l.fn.firable.n) (map gate_of l.gates) (operand_of l.fn.root) l.number l.table.items
+    l.fn.ops l.ops

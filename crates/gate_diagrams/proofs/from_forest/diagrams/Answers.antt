@@ -15,7 +15,8 @@ returns-in_err-firable-clause-full c = λ e.
     in_forest c.args.forest.now c.deref.result.now c.forest_paths.new.ops c.into_store-trees.result c.in-Ok.paths.items
     c.deref.ensures.value c.into_store-trees.ensures.same c.in-Ok.ensures.listed in
     let walk =
-    a_walk c.into_store-trees.result c.in-Ok.paths.items families c.requires.trees.apart c.new-ops.ensures.families c.new-ops.ensures.limit c.in_err-firable.ensures.drawn in
+    a_walk c.into_store-trees.result c.in-Ok.paths.items families c.requires.trees.apart c.new-ops.ensures.families
+    c.new-ops.ensures.limit c.in_err-firable.ensures.drawn in
     let p = err_from_is_err_and c.from_residual.result c.from_residual.ensures.1 in
     let x = sym p.1 ∙ e in
     let y : p.0 ≡ Full = cc in
@@ -27,7 +28,8 @@ answer-requires-clause-firable_in c =
     in_forest c.args.forest.now c.deref.result.now c.forest_paths.new.ops c.into_store-trees.result c.in-Ok.paths.items
     c.deref.ensures.value c.into_store-trees.ensures.same c.in-Ok.ensures.listed in
     let walk =
-    a_walk c.into_store-trees.result c.in-Ok.paths.items families c.requires.trees.apart c.new-ops.ensures.families c.new-ops.ensures.limit c.in_ok-firable.ensures.drawn in
+    a_walk c.into_store-trees.result c.in-Ok.paths.items families c.requires.trees.apart c.new-ops.ensures.families
+    c.new-ops.ensures.limit c.in_ok-firable.ensures.drawn in
     firable_in walk
 
 pub answer-requires-clause-stored : goal.answer-requires-clause-stored
@@ -36,7 +38,8 @@ answer-requires-clause-stored c =
     in_forest c.args.forest.now c.deref.result.now c.forest_paths.new.ops c.into_store-trees.result c.in-Ok.paths.items
     c.deref.ensures.value c.into_store-trees.ensures.same c.in-Ok.ensures.listed in
     let walk =
-    a_walk c.into_store-trees.result c.in-Ok.paths.items families c.requires.trees.apart c.new-ops.ensures.families c.new-ops.ensures.limit c.in_ok-firable.ensures.drawn in
+    a_walk c.into_store-trees.result c.in-Ok.paths.items families c.requires.trees.apart c.new-ops.ensures.families
+    c.new-ops.ensures.limit c.in_ok-firable.ensures.drawn in
     firable_stored walk
 
 pub returns-clause-sets : goal.returns-clause-sets
@@ -45,7 +48,8 @@ returns-clause-sets c =
     in_forest c.args.forest.now c.deref.result.now c.forest_paths.new.ops c.into_store-trees.result c.in-Ok.paths.items
     c.deref.ensures.value c.into_store-trees.ensures.same c.in-Ok.ensures.listed in
     let walk =
-    a_walk c.into_store-trees.result c.in-Ok.paths.items families c.requires.trees.apart c.new-ops.ensures.families c.new-ops.ensures.limit c.in_ok-firable.ensures.drawn in
+    a_walk c.into_store-trees.result c.in-Ok.paths.items families c.requires.trees.apart c.new-ops.ensures.families
+    c.new-ops.ensures.limit c.in_ok-firable.ensures.drawn in
     c.answer.ensures.sets (trees_of (λ n. n) c.args.forest.now) (firable_listed walk)
 
 pub returns-clause-needed : goal.returns-clause-needed
@@ -54,7 +58,8 @@ returns-clause-needed c =
     in_forest c.args.forest.now c.deref.result.now c.forest_paths.new.ops c.into_store-trees.result c.in-Ok.paths.items
     c.deref.ensures.value c.into_store-trees.ensures.same c.in-Ok.ensures.listed in
     let walk =
-    a_walk c.into_store-trees.result c.in-Ok.paths.items families c.requires.trees.apart c.new-ops.ensures.families c.new-ops.ensures.limit c.in_ok-firable.ensures.drawn in
+    a_walk c.into_store-trees.result c.in-Ok.paths.items families c.requires.trees.apart c.new-ops.ensures.families
+    c.new-ops.ensures.limit c.in_ok-firable.ensures.drawn in
     answer_needed walk (table_of c.args.equations.now) c.answer.result c.answer.ensures.needed
 
 pub returns-clause-within : goal.returns-clause-within
@@ -63,7 +68,8 @@ returns-clause-within c =
     in_forest c.args.forest.now c.deref.result.now c.forest_paths.new.ops c.into_store-trees.result c.in-Ok.paths.items
     c.deref.ensures.value c.into_store-trees.ensures.same c.in-Ok.ensures.listed in
     let walk =
-    a_walk c.into_store-trees.result c.in-Ok.paths.items families c.requires.trees.apart c.new-ops.ensures.families c.new-ops.ensures.limit c.in_ok-firable.ensures.drawn in
+    a_walk c.into_store-trees.result c.in-Ok.paths.items families c.requires.trees.apart c.new-ops.ensures.families
+    c.new-ops.ensures.limit c.in_ok-firable.ensures.drawn in
     subst (λ n. IfOk c.answer.result (λ d. length (store_of d).families ≤ n)) (limit_kept walk) c.answer.ensures.within
 
 pub returns-clause-full : goal.returns-clause-full
@@ -72,6 +78,8 @@ returns-clause-full c = λ e.
     in_forest c.args.forest.now c.deref.result.now c.forest_paths.new.ops c.into_store-trees.result c.in-Ok.paths.items
     c.deref.ensures.value c.into_store-trees.ensures.same c.in-Ok.ensures.listed in
     let walk =
-    a_walk c.into_store-trees.result c.in-Ok.paths.items families c.requires.trees.apart c.new-ops.ensures.families c.new-ops.ensures.limit c.in_ok-firable.ensures.drawn in
+    a_walk c.into_store-trees.result c.in-Ok.paths.items families c.requires.trees.apart c.new-ops.ensures.families
+    c.new-ops.ensures.limit c.in_ok-firable.ensures.drawn in
     let trees = trees_of (λ n. n) c.args.forest.now in
-    subst (NodesMay trees (table_of c.args.equations.now)) (limit_kept walk) (c.answer.ensures.full trees (firable_listed walk) e)
+    subst (NodesMay trees (table_of c.args.equations.now)) (limit_kept walk)
+    (c.answer.ensures.full trees (firable_listed walk) e)

@@ -8,4 +8,5 @@ use Rattle.gate_diagrams.proofs.gates.gate.Given as goal
 abbrev pub invariant-loop-place : goal.invariant-loop-place
 invariant-loop-place l =
     let all = family l.fn.ops l.firable.n in
-    IsSoFar (IsNeeded all (map gate_of l.gates) (operand_of l.root)) all (map gate_of l.gates) (gate_of l.gate) l.place l.fn.ops l.ops l.so_far.n
+    IsSoFar (IsNeeded all (map gate_of l.gates) (operand_of l.root)) all (map gate_of l.gates) (gate_of l.gate) l.place
+    l.fn.ops l.ops l.so_far.n

@@ -7,18 +7,31 @@ use Rattle.gate_diagrams.proofs.gates.one_more.Goals as goal
 
 pub operand-requires-clause-table : goal.operand-requires-clause-table
 operand-requires-clause-table c =
-    m.is_in_table (map gate_of c.args.gates.now) (operand_of c.args.root) (length c.args.table.now) (gate_of c.args.gate.now) c.args.table.now c.args.ops.now c.args.firable.n c.requires.firable_in c.requires.ready c.args.place (operand_of c.index.result.now)
-    (stands_map operand_of c.args.gate.now.operands.items c.args.place c.index.result.now (slice_get_read c.args.gate.now.operands.items (length c.args.gate.now.operands.items) c.args.place c.index.result.now refl c.requires.place_in c.index.ensures))
+    m.is_in_table (map gate_of c.args.gates.now) (operand_of c.args.root) (length c.args.table.now)
+    (gate_of c.args.gate.now) c.args.table.now c.args.ops.now c.args.firable.n c.requires.firable_in
+    c.requires.ready c.args.place (operand_of c.index.result.now)
+    (stands_map operand_of c.args.gate.now.operands.items c.args.place c.index.result.now
+    (slice_get_read c.args.gate.now.operands.items (length c.args.gate.now.operands.items) c.args.place
+    c.index.result.now refl c.requires.place_in c.index.ensures))
 
 pub operand-requires-clause-named : goal.operand-requires-clause-named
 operand-requires-clause-named c =
-    m.is_named (map gate_of c.args.gates.now) (operand_of c.args.root) (length c.args.table.now) (gate_of c.args.gate.now) c.args.table.now c.args.ops.now c.args.firable.n c.requires.firable_in c.requires.ready c.args.place (operand_of c.index.result.now)
-    (stands_map operand_of c.args.gate.now.operands.items c.args.place c.index.result.now (slice_get_read c.args.gate.now.operands.items (length c.args.gate.now.operands.items) c.args.place c.index.result.now refl c.requires.place_in c.index.ensures))
+    m.is_named (map gate_of c.args.gates.now) (operand_of c.args.root) (length c.args.table.now)
+    (gate_of c.args.gate.now) c.args.table.now c.args.ops.now c.args.firable.n c.requires.firable_in
+    c.requires.ready c.args.place (operand_of c.index.result.now)
+    (stands_map operand_of c.args.gate.now.operands.items c.args.place c.index.result.now
+    (slice_get_read c.args.gate.now.operands.items (length c.args.gate.now.operands.items) c.args.place
+    c.index.result.now refl c.requires.place_in c.index.ensures))
 
 pub returns : goal.returns
 returns c = record {
   drawn =
-      m.more_drawn (map gate_of c.args.gates.now) (operand_of c.args.root) (length c.args.table.now) (gate_of c.args.gate.now) c.args.table.now c.args.ops.now c.args.firable.n c.requires.firable_in c.requires.ready c.args.place (operand_of c.index.result.now)
-      (stands_map operand_of c.args.gate.now.operands.items c.args.place c.index.result.now (slice_get_read c.args.gate.now.operands.items (length c.args.gate.now.operands.items) c.args.place c.index.result.now refl c.requires.place_in c.index.ensures))
-      c.args.so_far c.in_ok-next.next c.requires.so_far_in c.requires.so_far_is c.operand.new.ops c.join.new.ops c.join.result c.in_ok-next.ensures.drawn c.join.ensures.drawn;
+      m.more_drawn (map gate_of c.args.gates.now) (operand_of c.args.root) (length c.args.table.now)
+      (gate_of c.args.gate.now) c.args.table.now c.args.ops.now c.args.firable.n c.requires.firable_in
+      c.requires.ready c.args.place (operand_of c.index.result.now)
+      (stands_map operand_of c.args.gate.now.operands.items c.args.place c.index.result.now
+      (slice_get_read c.args.gate.now.operands.items (length c.args.gate.now.operands.items) c.args.place
+      c.index.result.now refl c.requires.place_in c.index.ensures))
+      c.args.so_far c.in_ok-next.next c.requires.so_far_in c.requires.so_far_is c.operand.new.ops c.join.new.ops
+      c.join.result c.in_ok-next.ensures.drawn c.join.ensures.drawn;
 }

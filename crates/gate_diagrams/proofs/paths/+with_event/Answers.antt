@@ -12,7 +12,8 @@ node-requires-then-event-first-clause-hi_above t c =
 pub returns-then-event-first-clause-more : goal.returns-then-event-first-clause-more
 returns-then-event-first-clause-more t c = λ s o.
     a.in_front c.args.event.n c.args.ops.now c.node-then-event-first.new.self c.new-then-event-first.result.n
-    c.args.set.n s c.node-then-event-first.result c.new-then-event-first.ensures o.is c.node-then-event-first.ensures.drawn
+    c.args.set.n s c.node-then-event-first.result c.new-then-event-first.ensures o.is
+    c.node-then-event-first.ensures.drawn
 
 pub returns-then-event-first-2-clause-grows : goal.returns-then-event-first-2-clause-grows
 returns-then-event-first-2-clause-grows t c = Grows-none (λ h. Unit {0}) c.args.ops.now
@@ -20,7 +21,8 @@ returns-then-event-first-2-clause-grows t c = Grows-none (λ h. Unit {0}) c.args
 pub returns-then-event-first-2-clause-more : goal.returns-then-event-first-2-clause-more
 returns-then-event-first-2-clause-more t c = λ s o.
     let i = a.node_here c.store.ensures.same c.in-Some.ensures.halves in
-    a.has_event c.args.ops.now c.args.set.n _ _ _ i o.in_store c.args.event.n c.args.set c.if-event-first-2.true refl s o
+    a.has_event c.args.ops.now c.args.set.n _ _ _ i o.in_store c.args.event.n c.args.set c.if-event-first-2.true refl s
+    o
 
 pub with_event-requires : goal.with_event-requires
 with_event-requires t c =
@@ -55,4 +57,5 @@ returns-clause-more t c = λ s o.
     let i = a.node_here c.store.ensures.same c.in-Some.ensures.halves in
     let later : c.in-Some.first.n < c.args.event.n = grind (arith, c.if-event-first.false, c.if-event-first-2.false) in
     a.in_rest c.args.ops.now c.args.set.n _ _ _ i o.in_store c.args.event.n later c.with_event.new.ops c.in_ok-more.more
-    c.in_ok-more.ensures.more s o c.new-2.result.n c.node-2.new.self c.node-2.result c.new-2.ensures c.node-2.ensures.drawn
+    c.in_ok-more.ensures.more s o c.new-2.result.n c.node-2.new.self c.node-2.result c.new-2.ensures
+    c.node-2.ensures.drawn

@@ -19,15 +19,19 @@ half-requires-clause-least c = λ x l.
     let k = c.loop-tree.tree-index in
     let tree = get_or c.args.left.now k nothing in
     lacks_at x (families_left c.args.trees.now c.args.left.now) k (family c.args.trees.now tree.n)
-    (stands_map (λ (n : NodeId). family c.args.trees.now n.n) c.args.left.now k tree (stands_get c.args.left.now k nothing c.loop-tree-test.true)) (c.requires.least x l)
+    (stands_map (λ (n : NodeId). family c.args.trees.now n.n) c.args.left.now k tree
+    (stands_get c.args.left.now k nothing c.loop-tree-test.true)) (c.requires.least x l)
 
 pub loop-tree-preserved : goal.loop-tree-preserved
 loop-tree-preserved c =
     let k = c.loop-tree.tree-index in
     let tree = get_or c.args.left.now k nothing in
-    subst (λ os. AreHalves c.args.trees.now c.args.event.n c.args.taken os c.push.new.self.items) (sym (take_more c.args.left.now k nothing c.loop-tree-test.true))
-    (subst (λ ns. AreHalves c.args.trees.now c.args.event.n c.args.taken (take k c.args.left.now ++ tree ∷ []) ns) (sym c.in_ok-push.ensures.items)
-    (halves_more c.args.trees.now c.args.event.n c.args.taken (take k c.args.left.now) c.loop-tree.made.items tree c.half.result c.loop-tree.invariant c.half.ensures))
+    subst (λ os. AreHalves c.args.trees.now c.args.event.n c.args.taken os c.push.new.self.items)
+    (sym (take_more c.args.left.now k nothing c.loop-tree-test.true))
+    (subst (λ ns. AreHalves c.args.trees.now c.args.event.n c.args.taken (take k c.args.left.now ++ tree ∷ []) ns)
+    (sym c.in_ok-push.ensures.items)
+    (halves_more c.args.trees.now c.args.event.n c.args.taken (take k c.args.left.now) c.loop-tree.made.items tree
+    c.half.result c.loop-tree.invariant c.half.ensures))
 
 pub returns : goal.returns
 returns c =

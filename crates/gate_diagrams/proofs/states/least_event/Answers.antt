@@ -16,9 +16,12 @@ loop-tree-preserved c =
     let k = c.loop-tree.tree-index in
     let trees = c.args.trees.now in
     let tree = get_or c.args.left.now k nothing in
-    subst (λ os. IsLeastEvent (families_left trees os) c.sooner-least.result) (sym (take_more c.args.left.now k nothing c.loop-tree-test.true))
-    (subst (λ fs. IsLeastEvent fs c.sooner-least.result) (sym (families_more trees (take k c.args.left.now) (tree ∷ [])))
-    (c.sooner-least.ensures (families_left trees (take k c.args.left.now)) (family trees tree.n ∷ []) c.loop-tree.invariant c.first_event.ensures))
+    subst (λ os. IsLeastEvent (families_left trees os) c.sooner-least.result)
+    (sym (take_more c.args.left.now k nothing c.loop-tree-test.true))
+    (subst (λ fs. IsLeastEvent fs c.sooner-least.result)
+    (sym (families_more trees (take k c.args.left.now) (tree ∷ [])))
+    (c.sooner-least.ensures (families_left trees (take k c.args.left.now)) (family trees tree.n ∷ [])
+    c.loop-tree.invariant c.first_event.ensures))
 
 pub returns : goal.returns
 returns c =

@@ -12,100 +12,159 @@ use Rattle.gate_diagrams.proofs.walk.+walk.Goals as goal
 pub returns-then-is_dead-clause-drawn : goal.returns-then-is_dead-clause-drawn
 returns-then-is_dead-clause-drawn t c = λ n b.
     let fs = families_left c.args.trees.now c.args.left.items in
-    let d = g.dead_at c.args.trees.now c.args.left.items (subst (λ z. list_any (λ (m : NodeId). nat_eq m.n 0) z ≡ true) c.deref.ensures.value (sym c.is_dead.ensures ∙ c.if-is_dead.true)) in
+    let d = g.dead_at c.args.trees.now c.args.left.items
+    (subst (λ z. list_any (λ (m : NodeId). nat_eq m.n 0) z ≡ true) c.deref.ensures.value
+    (sym c.is_dead.ensures ∙ c.if-is_dead.true)) in
     Draws-stays (IsCounted (left_of n 0 fs)) (left_of n 0 fs) c.args.ops.now c.new.result (omega (arith, c.new.ensures))
     (ap (family c.args.ops.now) c.new.ensures ∙ sym (g.left_dead n 0 fs d.0 d.1))
 
 pub returns-in_default-clause-drawn : goal.returns-in_default-clause-drawn
 returns-in_default-clause-drawn t c = λ n b.
     let fs = families_left c.args.trees.now c.args.left.items in
-    let alive = subst (λ z. list_any (λ (m : NodeId). nat_eq m.n 0) z ≡ false) c.deref.ensures.value (sym c.is_dead.ensures ∙ c.if-is_dead.false) in
-    let none = subst (λ z. IsLeastEvent (families_left c.args.trees.now z) None) c.deref-2.ensures.value c.in_default.ensures in
-    Draws-stays (IsCounted (left_of n 0 fs)) (left_of n 0 fs) c.args.ops.now c.new-in_default.result (omega (arith, c.new-in_default.ensures))
+    let alive = subst (λ z. list_any (λ (m : NodeId). nat_eq m.n 0) z ≡ false) c.deref.ensures.value
+    (sym c.is_dead.ensures ∙ c.if-is_dead.false) in
+    let none = subst (λ z. IsLeastEvent (families_left c.args.trees.now z) None) c.deref-2.ensures.value
+    c.in_default.ensures in
+    Draws-stays (IsCounted (left_of n 0 fs)) (left_of n 0 fs) c.args.ops.now c.new-in_default.result
+    (omega (arith, c.new-in_default.ensures))
     (ap (family c.args.ops.now) c.new-in_default.ensures
     ∙ sym (g.left_done c.args.trees.now c.requires.sound c.args.left.items c.requires.in_store alive none n))
 
 pub walk-requires : goal.walk-requires
 walk-requires t c =
-    let l = (subst (λ z. IsLeastEvent (families_left c.args.trees.now z) (Some c.in-Some.event)) c.deref-2.ensures.value c.in-Some.ensures) in
-    let w = (subst (λ z. AreHalves c.args.trees.now c.in-Some.event.n false z c.in_ok-without.without.items) c.deref-3.ensures.value c.in_ok-without.ensures) in
+    let l = (subst (λ z. IsLeastEvent (families_left c.args.trees.now z) (Some c.in-Some.event)) c.deref-2.ensures.value
+    c.in-Some.ensures) in
+    let w = (subst (λ z. AreHalves c.args.trees.now c.in-Some.event.n false z c.in_ok-without.without.items)
+    c.deref-3.ensures.value c.in_ok-without.ensures) in
     (omega (arith, c.decreases, w.smaller l.0), (c.requires.sound, (w.in_store, (c.requires.walked, c.requires.made))))
 
 pub returns-in_err-lo-clause-drawn : goal.returns-in_err-lo-clause-drawn
 returns-in_err-lo-clause-drawn t c =
-    let l = (subst (λ z. IsLeastEvent (families_left c.args.trees.now z) (Some c.in-Some.event)) c.deref-2.ensures.value c.in-Some.ensures) in
-    let w = (subst (λ z. AreHalves c.args.trees.now c.in-Some.event.n false z c.in_ok-without.without.items) c.deref-3.ensures.value c.in_ok-without.ensures) in
+    let l = (subst (λ z. IsLeastEvent (families_left c.args.trees.now z) (Some c.in-Some.event)) c.deref-2.ensures.value
+    c.in-Some.ensures) in
+    let w = (subst (λ z. AreHalves c.args.trees.now c.in-Some.event.n false z c.in_ok-without.without.items)
+    c.deref-3.ensures.value c.in_ok-without.ensures) in
     let p = err_from_is_err_and c.from_residual-in_err-lo.result c.from_residual-in_err-lo.ensures.1 in
-    rw (p.1, p.2) (g.lower_refused c.args.trees.now c.args.left.items c.in-Some.event.n l.0 l.1 c.in_ok-without.without.items w c.args.ops.now c.walk.new.ops c.in_err-lo.field-0.0 c.in_err-lo.ensures.drawn)
+    rw (p.1, p.2) (g.lower_refused c.args.trees.now c.args.left.items c.in-Some.event.n l.0 l.1
+    c.in_ok-without.without.items w c.args.ops.now c.walk.new.ops c.in_err-lo.field-0.0 c.in_err-lo.ensures.drawn)
 
 pub returns-in_err-with-clause-drawn : goal.returns-in_err-with-clause-drawn
 returns-in_err-with-clause-drawn t c =
-    let l = (subst (λ z. IsLeastEvent (families_left c.args.trees.now z) (Some c.in-Some.event)) c.deref-2.ensures.value c.in-Some.ensures) in
-    let w = (subst (λ z. AreHalves c.args.trees.now c.in-Some.event.n false z c.in_ok-without.without.items) c.deref-3.ensures.value c.in_ok-without.ensures) in
+    let l = (subst (λ z. IsLeastEvent (families_left c.args.trees.now z) (Some c.in-Some.event)) c.deref-2.ensures.value
+    c.in-Some.ensures) in
+    let w = (subst (λ z. AreHalves c.args.trees.now c.in-Some.event.n false z c.in_ok-without.without.items)
+    c.deref-3.ensures.value c.in_ok-without.ensures) in
     let p = err_from_is_err_and c.from_residual-in_err-with.result c.from_residual-in_err-with.ensures.1 in
-    rw (p.1, p.2) (g.lower_memory c.args.trees.now c.args.left.items c.in-Some.event.n l.0 l.1 c.in_ok-without.without.items w c.args.ops.now c.walk.new.ops (Ok c.in_ok-lo.lo) c.in_ok-lo.ensures.drawn)
+    rw (p.1, p.2) (g.lower_memory c.args.trees.now c.args.left.items c.in-Some.event.n l.0 l.1
+    c.in_ok-without.without.items w c.args.ops.now c.walk.new.ops (Ok c.in_ok-lo.lo) c.in_ok-lo.ensures.drawn)
 
 pub walk-requires-2 : goal.walk-requires-2
 walk-requires-2 t c =
-    let l = (subst (λ z. IsLeastEvent (families_left c.args.trees.now z) (Some c.in-Some.event)) c.deref-2.ensures.value c.in-Some.ensures) in
-    let u = (subst (λ z. AreHalves c.args.trees.now c.in-Some.event.n true z c.in_ok-with.with.items) c.deref-4.ensures.value c.in_ok-with.ensures) in
-    (omega (arith, c.decreases, u.smaller l.0), (c.requires.sound, (u.in_store, (c.in_ok-lo.ensures.walked, c.in_ok-lo.ensures.sound))))
+    let l = (subst (λ z. IsLeastEvent (families_left c.args.trees.now z) (Some c.in-Some.event)) c.deref-2.ensures.value
+    c.in-Some.ensures) in
+    let u = (subst (λ z. AreHalves c.args.trees.now c.in-Some.event.n true z c.in_ok-with.with.items)
+    c.deref-4.ensures.value c.in_ok-with.ensures) in (
+      omega (arith, c.decreases, u.smaller l.0),
+      (c.requires.sound, (u.in_store, (c.in_ok-lo.ensures.walked, c.in_ok-lo.ensures.sound))),
+    )
 
 pub returns-in_err-hi-clause-drawn : goal.returns-in_err-hi-clause-drawn
 returns-in_err-hi-clause-drawn t c =
-    let l = (subst (λ z. IsLeastEvent (families_left c.args.trees.now z) (Some c.in-Some.event)) c.deref-2.ensures.value c.in-Some.ensures) in
-    let w = (subst (λ z. AreHalves c.args.trees.now c.in-Some.event.n false z c.in_ok-without.without.items) c.deref-3.ensures.value c.in_ok-without.ensures) in
-    let t = (subst (λ z. AreHalves c.args.trees.now c.in-Some.event.n true z c.in_ok-with.with.items) c.deref-4.ensures.value c.in_ok-with.ensures) in
+    let l = (subst (λ z. IsLeastEvent (families_left c.args.trees.now z) (Some c.in-Some.event)) c.deref-2.ensures.value
+    c.in-Some.ensures) in
+    let w = (subst (λ z. AreHalves c.args.trees.now c.in-Some.event.n false z c.in_ok-without.without.items)
+    c.deref-3.ensures.value c.in_ok-without.ensures) in
+    let t = (subst (λ z. AreHalves c.args.trees.now c.in-Some.event.n true z c.in_ok-with.with.items)
+    c.deref-4.ensures.value c.in_ok-with.ensures) in
     let p = err_from_is_err_and c.from_residual-in_err-hi.result c.from_residual-in_err-hi.ensures.1 in
-    rw (p.1, p.2) (g.upper_refused c.args.trees.now c.args.left.items c.in-Some.event.n l.0 l.1 c.in_ok-without.without.items w c.args.ops.now c.walk.new.ops c.in_ok-with.with.items t c.in_ok-lo.lo c.in_ok-lo.ensures.drawn c.walk-2.new.ops c.in_err-hi.field-0.0 c.in_err-hi.ensures.drawn)
+    rw (p.1, p.2) (g.upper_refused c.args.trees.now c.args.left.items c.in-Some.event.n l.0 l.1
+    c.in_ok-without.without.items w c.args.ops.now c.walk.new.ops c.in_ok-with.with.items t c.in_ok-lo.lo
+    c.in_ok-lo.ensures.drawn c.walk-2.new.ops c.in_err-hi.field-0.0 c.in_err-hi.ensures.drawn)
 
 pub node-requires-clause-lo_in : goal.node-requires-clause-lo_in
 node-requires-clause-lo_in t c =
-    let l = (subst (λ z. IsLeastEvent (families_left c.args.trees.now z) (Some c.in-Some.event)) c.deref-2.ensures.value c.in-Some.ensures) in
-    let w = (subst (λ z. AreHalves c.args.trees.now c.in-Some.event.n false z c.in_ok-without.without.items) c.deref-3.ensures.value c.in_ok-without.ensures) in
-    let t = (subst (λ z. AreHalves c.args.trees.now c.in-Some.event.n true z c.in_ok-with.with.items) c.deref-4.ensures.value c.in_ok-with.ensures) in
-    g.lo_in c.args.trees.now c.args.left.items c.in-Some.event.n l.0 l.1 c.in_ok-without.without.items w c.args.ops.now c.walk.new.ops c.in_ok-with.with.items t c.in_ok-lo.lo c.in_ok-lo.ensures.drawn c.walk-2.new.ops c.in_ok-hi.hi c.in_ok-hi.ensures.drawn
+    let l = (subst (λ z. IsLeastEvent (families_left c.args.trees.now z) (Some c.in-Some.event)) c.deref-2.ensures.value
+    c.in-Some.ensures) in
+    let w = (subst (λ z. AreHalves c.args.trees.now c.in-Some.event.n false z c.in_ok-without.without.items)
+    c.deref-3.ensures.value c.in_ok-without.ensures) in
+    let t = (subst (λ z. AreHalves c.args.trees.now c.in-Some.event.n true z c.in_ok-with.with.items)
+    c.deref-4.ensures.value c.in_ok-with.ensures) in
+    g.lo_in c.args.trees.now c.args.left.items c.in-Some.event.n l.0 l.1 c.in_ok-without.without.items w c.args.ops.now
+    c.walk.new.ops c.in_ok-with.with.items t c.in_ok-lo.lo c.in_ok-lo.ensures.drawn c.walk-2.new.ops c.in_ok-hi.hi
+    c.in_ok-hi.ensures.drawn
 
 pub node-requires-clause-hi_in : goal.node-requires-clause-hi_in
 node-requires-clause-hi_in t c =
-    let l = (subst (λ z. IsLeastEvent (families_left c.args.trees.now z) (Some c.in-Some.event)) c.deref-2.ensures.value c.in-Some.ensures) in
-    let w = (subst (λ z. AreHalves c.args.trees.now c.in-Some.event.n false z c.in_ok-without.without.items) c.deref-3.ensures.value c.in_ok-without.ensures) in
-    let t = (subst (λ z. AreHalves c.args.trees.now c.in-Some.event.n true z c.in_ok-with.with.items) c.deref-4.ensures.value c.in_ok-with.ensures) in
-    g.hi_in c.args.trees.now c.args.left.items c.in-Some.event.n l.0 l.1 c.in_ok-without.without.items w c.args.ops.now c.walk.new.ops c.in_ok-with.with.items t c.in_ok-lo.lo c.in_ok-lo.ensures.drawn c.walk-2.new.ops c.in_ok-hi.hi c.in_ok-hi.ensures.drawn
+    let l = (subst (λ z. IsLeastEvent (families_left c.args.trees.now z) (Some c.in-Some.event)) c.deref-2.ensures.value
+    c.in-Some.ensures) in
+    let w = (subst (λ z. AreHalves c.args.trees.now c.in-Some.event.n false z c.in_ok-without.without.items)
+    c.deref-3.ensures.value c.in_ok-without.ensures) in
+    let t = (subst (λ z. AreHalves c.args.trees.now c.in-Some.event.n true z c.in_ok-with.with.items)
+    c.deref-4.ensures.value c.in_ok-with.ensures) in
+    g.hi_in c.args.trees.now c.args.left.items c.in-Some.event.n l.0 l.1 c.in_ok-without.without.items w c.args.ops.now
+    c.walk.new.ops c.in_ok-with.with.items t c.in_ok-lo.lo c.in_ok-lo.ensures.drawn c.walk-2.new.ops c.in_ok-hi.hi
+    c.in_ok-hi.ensures.drawn
 
 pub node-requires-clause-lo_above : goal.node-requires-clause-lo_above
 node-requires-clause-lo_above t c =
-    let l = (subst (λ z. IsLeastEvent (families_left c.args.trees.now z) (Some c.in-Some.event)) c.deref-2.ensures.value c.in-Some.ensures) in
-    let w = (subst (λ z. AreHalves c.args.trees.now c.in-Some.event.n false z c.in_ok-without.without.items) c.deref-3.ensures.value c.in_ok-without.ensures) in
-    let t = (subst (λ z. AreHalves c.args.trees.now c.in-Some.event.n true z c.in_ok-with.with.items) c.deref-4.ensures.value c.in_ok-with.ensures) in
-    g.lo_above c.args.trees.now c.args.left.items c.in-Some.event.n l.0 l.1 c.in_ok-without.without.items w c.args.ops.now c.walk.new.ops c.in_ok-with.with.items t c.in_ok-lo.lo c.in_ok-lo.ensures.drawn c.walk-2.new.ops c.in_ok-hi.hi c.in_ok-hi.ensures.drawn
+    let l = (subst (λ z. IsLeastEvent (families_left c.args.trees.now z) (Some c.in-Some.event)) c.deref-2.ensures.value
+    c.in-Some.ensures) in
+    let w = (subst (λ z. AreHalves c.args.trees.now c.in-Some.event.n false z c.in_ok-without.without.items)
+    c.deref-3.ensures.value c.in_ok-without.ensures) in
+    let t = (subst (λ z. AreHalves c.args.trees.now c.in-Some.event.n true z c.in_ok-with.with.items)
+    c.deref-4.ensures.value c.in_ok-with.ensures) in
+    g.lo_above c.args.trees.now c.args.left.items c.in-Some.event.n l.0 l.1 c.in_ok-without.without.items w
+    c.args.ops.now c.walk.new.ops c.in_ok-with.with.items t c.in_ok-lo.lo c.in_ok-lo.ensures.drawn c.walk-2.new.ops
+    c.in_ok-hi.hi c.in_ok-hi.ensures.drawn
 
 pub node-requires-clause-hi_above : goal.node-requires-clause-hi_above
 node-requires-clause-hi_above t c =
-    let l = (subst (λ z. IsLeastEvent (families_left c.args.trees.now z) (Some c.in-Some.event)) c.deref-2.ensures.value c.in-Some.ensures) in
-    let w = (subst (λ z. AreHalves c.args.trees.now c.in-Some.event.n false z c.in_ok-without.without.items) c.deref-3.ensures.value c.in_ok-without.ensures) in
-    let t = (subst (λ z. AreHalves c.args.trees.now c.in-Some.event.n true z c.in_ok-with.with.items) c.deref-4.ensures.value c.in_ok-with.ensures) in
-    g.hi_above c.args.trees.now c.args.left.items c.in-Some.event.n l.0 l.1 c.in_ok-without.without.items w c.args.ops.now c.walk.new.ops c.in_ok-with.with.items t c.in_ok-lo.lo c.in_ok-lo.ensures.drawn c.walk-2.new.ops c.in_ok-hi.hi c.in_ok-hi.ensures.drawn
+    let l = (subst (λ z. IsLeastEvent (families_left c.args.trees.now z) (Some c.in-Some.event)) c.deref-2.ensures.value
+    c.in-Some.ensures) in
+    let w = (subst (λ z. AreHalves c.args.trees.now c.in-Some.event.n false z c.in_ok-without.without.items)
+    c.deref-3.ensures.value c.in_ok-without.ensures) in
+    let t = (subst (λ z. AreHalves c.args.trees.now c.in-Some.event.n true z c.in_ok-with.with.items)
+    c.deref-4.ensures.value c.in_ok-with.ensures) in
+    g.hi_above c.args.trees.now c.args.left.items c.in-Some.event.n l.0 l.1 c.in_ok-without.without.items w
+    c.args.ops.now c.walk.new.ops c.in_ok-with.with.items t c.in_ok-lo.lo c.in_ok-lo.ensures.drawn c.walk-2.new.ops
+    c.in_ok-hi.hi c.in_ok-hi.ensures.drawn
 
 pub returns-in_err-made-clause-drawn : goal.returns-in_err-made-clause-drawn
 returns-in_err-made-clause-drawn t c =
-    let l = (subst (λ z. IsLeastEvent (families_left c.args.trees.now z) (Some c.in-Some.event)) c.deref-2.ensures.value c.in-Some.ensures) in
-    let w = (subst (λ z. AreHalves c.args.trees.now c.in-Some.event.n false z c.in_ok-without.without.items) c.deref-3.ensures.value c.in_ok-without.ensures) in
-    let t = (subst (λ z. AreHalves c.args.trees.now c.in-Some.event.n true z c.in_ok-with.with.items) c.deref-4.ensures.value c.in_ok-with.ensures) in
+    let l = (subst (λ z. IsLeastEvent (families_left c.args.trees.now z) (Some c.in-Some.event)) c.deref-2.ensures.value
+    c.in-Some.ensures) in
+    let w = (subst (λ z. AreHalves c.args.trees.now c.in-Some.event.n false z c.in_ok-without.without.items)
+    c.deref-3.ensures.value c.in_ok-without.ensures) in
+    let t = (subst (λ z. AreHalves c.args.trees.now c.in-Some.event.n true z c.in_ok-with.with.items)
+    c.deref-4.ensures.value c.in_ok-with.ensures) in
     let p = err_from_is_err_and c.from_residual-in_err-made.result c.from_residual-in_err-made.ensures.1 in
-    rw (p.1, p.2) (g.whole_drawn c.args.trees.now c.args.left.items c.in-Some.event.n l.0 l.1 c.in_ok-without.without.items w c.args.ops.now c.walk.new.ops c.in_ok-with.with.items t c.in_ok-lo.lo c.in_ok-lo.ensures.drawn c.walk-2.new.ops c.in_ok-hi.hi c.in_ok-hi.ensures.drawn c.node.new.self _ c.in_err-made.ensures.drawn)
+    rw (p.1, p.2) (g.whole_drawn c.args.trees.now c.args.left.items c.in-Some.event.n l.0 l.1
+    c.in_ok-without.without.items w c.args.ops.now c.walk.new.ops c.in_ok-with.with.items t c.in_ok-lo.lo
+    c.in_ok-lo.ensures.drawn c.walk-2.new.ops c.in_ok-hi.hi c.in_ok-hi.ensures.drawn c.node.new.self _
+    c.in_err-made.ensures.drawn)
 
 pub returns-clause-walked : goal.returns-clause-walked
 returns-clause-walked t c =
-    let l = (subst (λ z. IsLeastEvent (families_left c.args.trees.now z) (Some c.in-Some.event)) c.deref-2.ensures.value c.in-Some.ensures) in
-    let w = (subst (λ z. AreHalves c.args.trees.now c.in-Some.event.n false z c.in_ok-without.without.items) c.deref-3.ensures.value c.in_ok-without.ensures) in
-    let t = (subst (λ z. AreHalves c.args.trees.now c.in-Some.event.n true z c.in_ok-with.with.items) c.deref-4.ensures.value c.in_ok-with.ensures) in
-    g.whole_walked c.args.trees.now c.args.left.items c.in-Some.event.n l.0 l.1 c.in_ok-without.without.items w c.args.ops.now c.walk.new.ops c.in_ok-with.with.items t c.in_ok-lo.lo c.in_ok-lo.ensures.drawn c.walk-2.new.ops c.in_ok-hi.hi c.in_ok-hi.ensures.drawn
-    c.node.new.self c.in_ok-made.made c.args.left refl c.in_ok-made.ensures.drawn c.walk-2.new.walked c.remember.new.self c.in_ok-hi.ensures.walked c.remember.ensures
+    let l = (subst (λ z. IsLeastEvent (families_left c.args.trees.now z) (Some c.in-Some.event)) c.deref-2.ensures.value
+    c.in-Some.ensures) in
+    let w = (subst (λ z. AreHalves c.args.trees.now c.in-Some.event.n false z c.in_ok-without.without.items)
+    c.deref-3.ensures.value c.in_ok-without.ensures) in
+    let t = (subst (λ z. AreHalves c.args.trees.now c.in-Some.event.n true z c.in_ok-with.with.items)
+    c.deref-4.ensures.value c.in_ok-with.ensures) in
+    g.whole_walked c.args.trees.now c.args.left.items c.in-Some.event.n l.0 l.1 c.in_ok-without.without.items w
+    c.args.ops.now c.walk.new.ops c.in_ok-with.with.items t c.in_ok-lo.lo c.in_ok-lo.ensures.drawn c.walk-2.new.ops
+    c.in_ok-hi.hi c.in_ok-hi.ensures.drawn
+    c.node.new.self c.in_ok-made.made c.args.left refl c.in_ok-made.ensures.drawn c.walk-2.new.walked
+    c.remember.new.self c.in_ok-hi.ensures.walked c.remember.ensures
 
 pub returns-clause-drawn : goal.returns-clause-drawn
 returns-clause-drawn t c =
-    let l = (subst (λ z. IsLeastEvent (families_left c.args.trees.now z) (Some c.in-Some.event)) c.deref-2.ensures.value c.in-Some.ensures) in
-    let w = (subst (λ z. AreHalves c.args.trees.now c.in-Some.event.n false z c.in_ok-without.without.items) c.deref-3.ensures.value c.in_ok-without.ensures) in
-    let t = (subst (λ z. AreHalves c.args.trees.now c.in-Some.event.n true z c.in_ok-with.with.items) c.deref-4.ensures.value c.in_ok-with.ensures) in
-    g.whole_drawn c.args.trees.now c.args.left.items c.in-Some.event.n l.0 l.1 c.in_ok-without.without.items w c.args.ops.now c.walk.new.ops c.in_ok-with.with.items t c.in_ok-lo.lo c.in_ok-lo.ensures.drawn c.walk-2.new.ops c.in_ok-hi.hi c.in_ok-hi.ensures.drawn c.node.new.self (Ok c.in_ok-made.made) c.in_ok-made.ensures.drawn
+    let l = (subst (λ z. IsLeastEvent (families_left c.args.trees.now z) (Some c.in-Some.event)) c.deref-2.ensures.value
+    c.in-Some.ensures) in
+    let w = (subst (λ z. AreHalves c.args.trees.now c.in-Some.event.n false z c.in_ok-without.without.items)
+    c.deref-3.ensures.value c.in_ok-without.ensures) in
+    let t = (subst (λ z. AreHalves c.args.trees.now c.in-Some.event.n true z c.in_ok-with.with.items)
+    c.deref-4.ensures.value c.in_ok-with.ensures) in
+    g.whole_drawn c.args.trees.now c.args.left.items c.in-Some.event.n l.0 l.1 c.in_ok-without.without.items w
+    c.args.ops.now c.walk.new.ops c.in_ok-with.with.items t c.in_ok-lo.lo c.in_ok-lo.ensures.drawn c.walk-2.new.ops
+    c.in_ok-hi.hi c.in_ok-hi.ensures.drawn c.node.new.self (Ok c.in_ok-made.made) c.in_ok-made.ensures.drawn

@@ -7,4 +7,5 @@ use Rattle.gate_modules.proofs.entries.entries_agree.Given as goal
 abbrev pub invariant-loop-entry : goal.invariant-loop-entry
 invariant-loop-entry l =
     AreTwins l.store l.twins × (length l.twins ≡ length l.fn.twins)
-    × ((e : ℕ) → IsOneOf (node_numbers (take l.entry-index l.fn.entries)) e → EntryAgrees l.store l.fn.to l.fn.reference.node.n l.fn.reference.end.n e)
+    × ((e : ℕ) → IsOneOf (node_numbers (take l.entry-index l.fn.entries)) e
+    → EntryAgrees l.store l.fn.to l.fn.reference.node.n l.fn.reference.end.n e)

@@ -4,4 +4,7 @@ use Rattle.gate_modules.proofs.Entering.{entries_from}
 use Rattle.gate_modules.proofs.entries.entries_of.Goals as goal
 
 pub returns : goal.returns
-returns c = entries_from c.args.store.now c.args.from c.args.root.n (node_numbers c.collect.new.entries.items) c.in_ok-collect.ensures.covered (subst (λ z. Adds c.args.store.now c.args.from c.args.root.n (node_numbers z) (node_numbers c.collect.new.entries.items)) c.new-entries.ensures.items c.in_ok-collect.ensures.added)
+returns c = entries_from c.args.store.now c.args.from c.args.root.n (node_numbers c.collect.new.entries.items)
+    c.in_ok-collect.ensures.covered (subst
+    (λ z. Adds c.args.store.now c.args.from c.args.root.n (node_numbers z) (node_numbers c.collect.new.entries.items))
+    c.new-entries.ensures.items c.in_ok-collect.ensures.added)

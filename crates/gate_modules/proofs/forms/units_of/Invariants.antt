@@ -4,4 +4,5 @@ use Rattle.gate_modules.specs.Shortened.{numbers, touches, units_where}
 use Rattle.gate_modules.proofs.forms.units_of.Given as goal
 
 abbrev pub invariant-loop-range : goal.invariant-loop-range
-invariant-loop-range l = map (λ (u : UnitId). u.n) l.units.items ≡ units_where (touches (numbers l.fn.taken)) (take l.range-index l.fn.chosen)
+invariant-loop-range l = map (λ (u : UnitId). u.n) l.units.items
+    ≡ units_where (touches (numbers l.fn.taken)) (take l.range-index l.fn.chosen)

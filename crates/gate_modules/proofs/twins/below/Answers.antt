@@ -2,4 +2,5 @@ use Rattle.gate_modules.proofs.Ending.{ends_at_node}
 use Rattle.gate_modules.proofs.twins.below.Goals as goal
 
 pub returns-in_default-clause-halves : goal.returns-in_default-clause-halves
-returns-in_default-clause-halves c = ends_at_node c.args.store.now c.args.to c.args.number.n _ _ _ c.in-Some.ensures.halves c.if-event-to.false
+returns-in_default-clause-halves c =
+    ends_at_node c.args.store.now c.args.to c.args.number.n _ _ _ c.in-Some.ensures.halves c.if-event-to.false

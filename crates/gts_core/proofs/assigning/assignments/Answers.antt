@@ -4,6 +4,8 @@ use Rattle.gts_core.proofs.assigning.assignments.Goals as goal
 
 pub returns : goal.returns
 returns c = record {
-  assigns = give_whole c.args.act.now [] c.new-out.result.items c.assigned.new.out.items refl c.new-out.ensures.items c.in_ok-assigned.ensures;
-  places = give_places c.args.act.now [] c.new-out.result.items c.assigned.new.out.items c.new-out.ensures.items c.in_ok-assigned.ensures;
+  assigns = give_whole c.args.act.now [] c.new-out.result.items c.assigned.new.out.items refl c.new-out.ensures.items
+      c.in_ok-assigned.ensures;
+  places = give_places c.args.act.now [] c.new-out.result.items c.assigned.new.out.items c.new-out.ensures.items
+      c.in_ok-assigned.ensures;
 }

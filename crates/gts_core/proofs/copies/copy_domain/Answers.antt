@@ -12,7 +12,9 @@ returns-in-Boolean c = subst (λ (d : Domain). IsSameDomain d Boolean) (sym c.in
 pub returns-in_ok-clone-in-Symbols : goal.returns-in_ok-clone-in-Symbols
 returns-in_ok-clone-in-Symbols c =
     subst (λ (d : Domain). IsSameDomain d (Symbols c.in_ok-clone-in-Symbols.field-0)) (sym c.in-Symbols.is)
-    (symbols (each_same c.in-Symbols.symbols.items c.in_ok-clone-in-Symbols.field-0.items c.in_ok-clone-in-Symbols.ensures.cases.0))
+    (symbols (each_same c.in-Symbols.symbols.items c.in_ok-clone-in-Symbols.field-0.items
+    c.in_ok-clone-in-Symbols.ensures.cases.0))
 
 pub returns-in-Range : goal.returns-in-Range
-returns-in-Range c = ranges c.args.domain.now c.in-Range.low c.in-Range.high _ _ c.in-Range.is (search rules) (search rules)
+returns-in-Range c = ranges c.args.domain.now c.in-Range.low c.in-Range.high _ _ c.in-Range.is (search rules)
+    (search rules)

@@ -10,12 +10,14 @@ use Rattle.gts_core.proofs.expressions.+expression.Goals as goal
 
 pub expression-returns-in-Not : goal.expression-returns-in-Not
 expression-returns-in-Not g t c =
-    writes_as _ _ (ap (λ a. codes "(not " ++ expr_text c.args.parts.now a ++ codes ")") c.deref.ensures ∙ not_text c.args.parts.now c.args.expr.now c.in-Not.a c.in-Not.is) c.opposite.ensures
+    writes_as _ _ (ap (λ a. codes "(not " ++ expr_text c.args.parts.now a ++ codes ")") c.deref.ensures
+    ∙ not_text c.args.parts.now c.args.expr.now c.in-Not.a c.in-Not.is) c.opposite.ensures
 
 pub expression-returns-in-Sum : goal.expression-returns-in-Sum
 expression-returns-in-Sum g t c =
     let form : Bool × Expr VarId → Bool × List ℕ = λ p. (p.0, expr_text c.args.parts.now p.1) in
-    writes_as _ _ (ap (λ (ps : List (Bool × Expr VarId)). codes "(" ++ summed true (map form ps) ++ codes ")") c.deref-in-Sum.ensures.value
+    writes_as _ _ (ap (λ (ps : List (Bool × Expr VarId)). codes "(" ++ summed true (map form ps) ++ codes ")")
+    c.deref-in-Sum.ensures.value
     ∙ sum_text c.args.parts.now c.args.expr.now c.in-Sum.terms c.in-Sum.is) c.sum.ensures
 
 pub opposite-returns-in_err-put : goal.opposite-returns-in_err-put
@@ -34,82 +36,124 @@ opposite-returns g t c =
 
 pub expression-returns-in-All : goal.expression-returns-in-All
 expression-returns-in-All g t c =
-    writes_as _ _ (ap (λ (es : List (Expr VarId)). codes "(" ++ separated true (codes " and ") (map (expr_text c.args.parts.now) es) ++ codes ")") c.deref-in-All.ensures.value
+    writes_as _ _ (ap (λ (es : List (Expr VarId)). codes "(" ++ separated true (codes " and ")
+    (map (expr_text c.args.parts.now) es) ++ codes ")") c.deref-in-All.ensures.value
     ∙ all_text c.args.parts.now c.args.expr.now c.in-All.es c.in-All.is) c.listed.ensures
 
 pub expression-returns-in-Any : goal.expression-returns-in-Any
 expression-returns-in-Any g t c =
-    writes_as _ _ (ap (λ (es : List (Expr VarId)). codes "(" ++ separated true (codes " or ") (map (expr_text c.args.parts.now) es) ++ codes ")") c.deref-in-Any.ensures.value
+    writes_as _ _ (ap (λ (es : List (Expr VarId)). codes "(" ++ separated true (codes " or ")
+    (map (expr_text c.args.parts.now) es) ++ codes ")") c.deref-in-Any.ensures.value
     ∙ any_text c.args.parts.now c.args.expr.now c.in-Any.es c.in-Any.is) c.listed-in-Any.ensures
 
 pub expression-returns-in-Product : goal.expression-returns-in-Product
 expression-returns-in-Product g t c =
-    writes_as _ _ (ap (λ (es : List (Expr VarId)). codes "(" ++ separated true (codes " * ") (map (expr_text c.args.parts.now) es) ++ codes ")") c.deref-in-Product.ensures.value
+    writes_as _ _ (ap (λ (es : List (Expr VarId)). codes "(" ++ separated true (codes " * ")
+    (map (expr_text c.args.parts.now) es) ++ codes ")") c.deref-in-Product.ensures.value
     ∙ product_text c.args.parts.now c.args.expr.now c.in-Product.es c.in-Product.is) c.listed-in-Product.ensures
 
 pub expression-returns-in-Least : goal.expression-returns-in-Least
 expression-returns-in-Least g t c =
-    writes_as _ _ (ap (λ (es : List (Expr VarId)). codes "min(" ++ separated true (codes ", ") (map (expr_text c.args.parts.now) es) ++ codes ")") c.deref-in-Least.ensures.value
+    writes_as _ _ (ap (λ (es : List (Expr VarId)). codes "min(" ++ separated true (codes ", ")
+    (map (expr_text c.args.parts.now) es) ++ codes ")") c.deref-in-Least.ensures.value
     ∙ least_text c.args.parts.now c.args.expr.now c.in-Least.es c.in-Least.is) c.listed-in-Least.ensures
 
 pub expression-returns-in-Greatest : goal.expression-returns-in-Greatest
 expression-returns-in-Greatest g t c =
-    writes_as _ _ (ap (λ (es : List (Expr VarId)). codes "max(" ++ separated true (codes ", ") (map (expr_text c.args.parts.now) es) ++ codes ")") c.deref-in-Greatest.ensures.value
+    writes_as _ _ (ap (λ (es : List (Expr VarId)). codes "max(" ++ separated true (codes ", ")
+    (map (expr_text c.args.parts.now) es) ++ codes ")") c.deref-in-Greatest.ensures.value
     ∙ greatest_text c.args.parts.now c.args.expr.now c.in-Greatest.es c.in-Greatest.is) c.listed-in-Greatest.ensures
 
 pub expression-returns-in-Count : goal.expression-returns-in-Count
 expression-returns-in-Count g t c =
-    writes_as _ _ (ap (λ (es : List (Expr VarId)). codes "count(" ++ separated true (codes ", ") (map (expr_text c.args.parts.now) es) ++ codes ")") c.deref-in-Count.ensures.value
+    writes_as _ _ (ap (λ (es : List (Expr VarId)). codes "count(" ++ separated true (codes ", ")
+    (map (expr_text c.args.parts.now) es) ++ codes ")") c.deref-in-Count.ensures.value
     ∙ count_text c.args.parts.now c.args.expr.now c.in-Count.es c.in-Count.is) c.listed-in-Count.ensures
 
 pub expression-returns-in_err-put-in-Compare : goal.expression-returns-in_err-put-in-Compare
 expression-returns-in_err-put-in-Compare g t c =
     writes_exit _ _ c.from_residual.ensures.1
-    (writes_as _ _ (compare_text c.args.parts.now c.args.expr.now c.in-Compare.relation c.in-Compare.a c.in-Compare.b c.in-Compare.is)
+    (writes_as _ _ (compare_text c.args.parts.now c.args.expr.now c.in-Compare.relation c.in-Compare.a c.in-Compare.b
+    c.in-Compare.is)
     (writes_cut _ _ c.in_err-put-in-Compare.ensures))
 
 pub expression-returns-in_err-expression-in-Compare : goal.expression-returns-in_err-expression-in-Compare
 expression-returns-in_err-expression-in-Compare g t c =
     writes_exit _ _ c.from_residual-in_err-expression-in-Compare.ensures.1
-    (writes_as _ _ (compare_text c.args.parts.now c.args.expr.now c.in-Compare.relation c.in-Compare.a c.in-Compare.b c.in-Compare.is)
-    (writes_cut _ _ (writes_cut _ _ (writes_cut _ _ (writes_on c.in_ok-put-in-Compare.ensures (writes_as _ _ (ap (expr_text c.args.parts.now) c.deref-in-Compare.ensures) c.in_err-expression-in-Compare.ensures))))))
+    (writes_as _ _ (compare_text c.args.parts.now c.args.expr.now c.in-Compare.relation c.in-Compare.a c.in-Compare.b
+    c.in-Compare.is)
+    (writes_cut _ _ (writes_cut _ _ (writes_cut _ _
+    (writes_on c.in_ok-put-in-Compare.ensures
+    (writes_as _ _ (ap (expr_text c.args.parts.now) c.deref-in-Compare.ensures)
+    c.in_err-expression-in-Compare.ensures))))))
 
 pub expression-returns-in_err-put-in-Compare-2 : goal.expression-returns-in_err-put-in-Compare-2
 expression-returns-in_err-put-in-Compare-2 g t c =
     writes_exit _ _ c.from_residual-in_err-put-in-Compare-2.ensures.1
-    (writes_as _ _ (compare_text c.args.parts.now c.args.expr.now c.in-Compare.relation c.in-Compare.a c.in-Compare.b c.in-Compare.is)
-    (writes_cut _ _ (writes_cut _ _ (writes_on (writes_on c.in_ok-put-in-Compare.ensures (writes_as _ _ (ap (expr_text c.args.parts.now) c.deref-in-Compare.ensures) c.in_ok-expression-in-Compare.ensures)) (writes_as _ _ c.relation_text.ensures c.in_err-put-in-Compare-2.ensures)))))
+    (writes_as _ _ (compare_text c.args.parts.now c.args.expr.now c.in-Compare.relation c.in-Compare.a c.in-Compare.b
+    c.in-Compare.is)
+    (writes_cut _ _ (writes_cut _ _ (writes_on
+    (writes_on c.in_ok-put-in-Compare.ensures
+    (writes_as _ _ (ap (expr_text c.args.parts.now) c.deref-in-Compare.ensures)
+    c.in_ok-expression-in-Compare.ensures))
+    (writes_as _ _ c.relation_text.ensures c.in_err-put-in-Compare-2.ensures)))))
 
 pub expression-returns-in_err-expression-in-Compare-2 : goal.expression-returns-in_err-expression-in-Compare-2
 expression-returns-in_err-expression-in-Compare-2 g t c =
     writes_exit _ _ c.from_residual-in_err-expression-in-Compare-2.ensures.1
-    (writes_as _ _ (compare_text c.args.parts.now c.args.expr.now c.in-Compare.relation c.in-Compare.a c.in-Compare.b c.in-Compare.is)
-    (writes_cut _ _ (writes_on (writes_on (writes_on c.in_ok-put-in-Compare.ensures (writes_as _ _ (ap (expr_text c.args.parts.now) c.deref-in-Compare.ensures) c.in_ok-expression-in-Compare.ensures)) (writes_as _ _ c.relation_text.ensures c.in_ok-put-in-Compare-2.ensures)) (writes_as _ _ (ap (expr_text c.args.parts.now) c.deref-in-Compare-2.ensures) c.in_err-expression-in-Compare-2.ensures))))
+    (writes_as _ _ (compare_text c.args.parts.now c.args.expr.now c.in-Compare.relation c.in-Compare.a c.in-Compare.b
+    c.in-Compare.is)
+    (writes_cut _ _ (writes_on (writes_on
+    (writes_on c.in_ok-put-in-Compare.ensures
+    (writes_as _ _ (ap (expr_text c.args.parts.now) c.deref-in-Compare.ensures)
+    c.in_ok-expression-in-Compare.ensures))
+    (writes_as _ _ c.relation_text.ensures c.in_ok-put-in-Compare-2.ensures))
+    (writes_as _ _ (ap (expr_text c.args.parts.now) c.deref-in-Compare-2.ensures)
+    c.in_err-expression-in-Compare-2.ensures))))
 
 pub expression-returns-in_ok-expression-in-Compare-2 : goal.expression-returns-in_ok-expression-in-Compare-2
 expression-returns-in_ok-expression-in-Compare-2 g t c =
-    writes_as _ _ (compare_text c.args.parts.now c.args.expr.now c.in-Compare.relation c.in-Compare.a c.in-Compare.b c.in-Compare.is)
-    (writes_on (writes_on (writes_on (writes_on c.in_ok-put-in-Compare.ensures (writes_as _ _ (ap (expr_text c.args.parts.now) c.deref-in-Compare.ensures) c.in_ok-expression-in-Compare.ensures)) (writes_as _ _ c.relation_text.ensures c.in_ok-put-in-Compare-2.ensures)) (writes_as _ _ (ap (expr_text c.args.parts.now) c.deref-in-Compare-2.ensures) c.in_ok-expression-in-Compare-2.ensures)) c.put-in-Compare-3.ensures)
+    writes_as _ _ (compare_text c.args.parts.now c.args.expr.now c.in-Compare.relation c.in-Compare.a c.in-Compare.b
+    c.in-Compare.is)
+    (writes_on (writes_on (writes_on (writes_on c.in_ok-put-in-Compare.ensures
+    (writes_as _ _ (ap (expr_text c.args.parts.now) c.deref-in-Compare.ensures)
+    c.in_ok-expression-in-Compare.ensures))
+    (writes_as _ _ c.relation_text.ensures c.in_ok-put-in-Compare-2.ensures))
+    (writes_as _ _ (ap (expr_text c.args.parts.now) c.deref-in-Compare-2.ensures)
+    c.in_ok-expression-in-Compare-2.ensures)) c.put-in-Compare-3.ensures)
 
 pub expression-returns-in_err-chosen-in-Choose : goal.expression-returns-in_err-chosen-in-Choose
 expression-returns-in_err-chosen-in-Choose g t c =
     let long : c.len-one.result ≡ length c.in-Choose.choices.items = search rules in
     writes_exit _ _ c.from_residual-in_err-chosen-in-Choose.ensures.1
-    (writes_as _ _ (choose_text c.args.parts.now c.args.expr.now (nat_eq c.len-one.result 1) c.in-Choose.choices c.in-Choose.other c.in-Choose.is (ap (λ n. nat_eq n 1) long))
-    (writes_cut _ _ (writes_cut _ _ (writes_as _ _ (ap (λ (cs : List (Expr VarId × Expr VarId)). cases_form (nat_eq c.len-one.result 1) (map (texts c.args.parts.now) cs)) c.deref-in-Choose.ensures.value) c.in_err-chosen-in-Choose.ensures))))
+    (writes_as _ _ (choose_text c.args.parts.now c.args.expr.now (nat_eq c.len-one.result 1) c.in-Choose.choices
+    c.in-Choose.other c.in-Choose.is (ap (λ n. nat_eq n 1) long))
+    (writes_cut _ _ (writes_cut _ _ (writes_as _ _
+    (ap (λ (cs : List (Expr VarId × Expr VarId)). cases_form (nat_eq c.len-one.result 1)
+    (map (texts c.args.parts.now) cs)) c.deref-in-Choose.ensures.value) c.in_err-chosen-in-Choose.ensures))))
 
 pub expression-returns-in_err-expression-in-Choose : goal.expression-returns-in_err-expression-in-Choose
 expression-returns-in_err-expression-in-Choose g t c =
     let long : c.len-one.result ≡ length c.in-Choose.choices.items = search rules in
     writes_exit _ _ c.from_residual-in_err-expression-in-Choose.ensures.1
-    (writes_as _ _ (choose_text c.args.parts.now c.args.expr.now (nat_eq c.len-one.result 1) c.in-Choose.choices c.in-Choose.other c.in-Choose.is (ap (λ n. nat_eq n 1) long))
-    (writes_cut _ _ (writes_on (writes_as _ _ (ap (λ (cs : List (Expr VarId × Expr VarId)). cases_form (nat_eq c.len-one.result 1) (map (texts c.args.parts.now) cs)) c.deref-in-Choose.ensures.value) c.in_ok-chosen-in-Choose.ensures) (writes_as _ _ (ap (expr_text c.args.parts.now) c.deref-in-Choose-2.ensures) c.in_err-expression-in-Choose.ensures))))
+    (writes_as _ _ (choose_text c.args.parts.now c.args.expr.now (nat_eq c.len-one.result 1) c.in-Choose.choices
+    c.in-Choose.other c.in-Choose.is (ap (λ n. nat_eq n 1) long))
+    (writes_cut _ _ (writes_on (writes_as _ _
+    (ap (λ (cs : List (Expr VarId × Expr VarId)). cases_form (nat_eq c.len-one.result 1)
+    (map (texts c.args.parts.now) cs)) c.deref-in-Choose.ensures.value) c.in_ok-chosen-in-Choose.ensures)
+    (writes_as _ _ (ap (expr_text c.args.parts.now) c.deref-in-Choose-2.ensures)
+    c.in_err-expression-in-Choose.ensures))))
 
 pub expression-returns-in_ok-expression-in-Choose : goal.expression-returns-in_ok-expression-in-Choose
 expression-returns-in_ok-expression-in-Choose g t c =
     let long : c.len-one.result ≡ length c.in-Choose.choices.items = search rules in
-    writes_as _ _ (choose_text c.args.parts.now c.args.expr.now (nat_eq c.len-one.result 1) c.in-Choose.choices c.in-Choose.other c.in-Choose.is (ap (λ n. nat_eq n 1) long))
-    (writes_on (writes_on (writes_as _ _ (ap (λ (cs : List (Expr VarId × Expr VarId)). cases_form (nat_eq c.len-one.result 1) (map (texts c.args.parts.now) cs)) c.deref-in-Choose.ensures.value) c.in_ok-chosen-in-Choose.ensures) (writes_as _ _ (ap (expr_text c.args.parts.now) c.deref-in-Choose-2.ensures) c.in_ok-expression-in-Choose.ensures)) (writes_as _ _ c.either.ensures c.put-in-Choose.ensures))
+    writes_as _ _ (choose_text c.args.parts.now c.args.expr.now (nat_eq c.len-one.result 1) c.in-Choose.choices
+    c.in-Choose.other c.in-Choose.is (ap (λ n. nat_eq n 1) long))
+    (writes_on (writes_on (writes_as _ _
+    (ap (λ (cs : List (Expr VarId × Expr VarId)). cases_form (nat_eq c.len-one.result 1)
+    (map (texts c.args.parts.now) cs)) c.deref-in-Choose.ensures.value) c.in_ok-chosen-in-Choose.ensures)
+    (writes_as _ _ (ap (expr_text c.args.parts.now) c.deref-in-Choose-2.ensures)
+    c.in_ok-expression-in-Choose.ensures)) (writes_as _ _ c.either.ensures c.put-in-Choose.ensures))
 
 pub chosen-returns-in_err-put : goal.chosen-returns-in_err-put
 chosen-returns-in_err-put g t c =
@@ -123,7 +167,8 @@ chosen-returns-in_err-cases g t c =
 
 pub chosen-returns : goal.chosen-returns
 chosen-returns g t c =
-    writes_on (writes_on (writes_as _ _ c.either.ensures c.in_ok-put.ensures) c.in_ok-cases.ensures) (writes_as _ _ c.either-2.ensures c.put-2.ensures)
+    writes_on (writes_on (writes_as _ _ c.either.ensures c.in_ok-put.ensures) c.in_ok-cases.ensures)
+    (writes_as _ _ c.either-2.ensures c.put-2.ensures)
 
 pub listed-returns-in_err-put : goal.listed-returns-in_err-put
 listed-returns-in_err-put g t c =
@@ -158,81 +203,152 @@ cases-loop-test-init g t c = leaves_all _ _
 
 pub cases-returns-in_err-put : goal.cases-returns-in_err-put
 cases-returns-in_err-put g t c =
-    writes_exit _ _ c.from_residual.ensures.1 (leaves_cut _ _ c.loop-test.invariant (writes_as _ _ (case_text c.args.one _ _) (writes_cut _ _ (writes_cut _ _ (writes_cut _ _ (writes_cut _ _ (writes_as _ _ c.either.ensures c.in_err-put.ensures))))))
-    (next_item (λ (xs : List (Expr VarId × Expr VarId)). concat (map (case_form c.args.one) (map (λ (d : Expr VarId × Expr VarId). (expr_text c.args.parts.now d.0, expr_text c.args.parts.now d.1)) xs))) c.args.choices.now c.loop-test.test-index c.loop-test-item.result c.loop-test-test.true c.loop-test-item.is))
+    writes_exit _ _ c.from_residual.ensures.1
+    (leaves_cut _ _ c.loop-test.invariant
+    (writes_as _ _ (case_text c.args.one _ _)
+    (writes_cut _ _ (writes_cut _ _ (writes_cut _ _
+    (writes_cut _ _ (writes_as _ _ c.either.ensures c.in_err-put.ensures))))))
+    (next_item (λ (xs : List (Expr VarId × Expr VarId)). concat
+    (map (case_form c.args.one) (map (λ (d : Expr VarId × Expr VarId).
+    (expr_text c.args.parts.now d.0, expr_text c.args.parts.now d.1)) xs))) c.args.choices.now
+    c.loop-test.test-index c.loop-test-item.result c.loop-test-test.true c.loop-test-item.is))
 
 pub cases-returns-in_err-expression : goal.cases-returns-in_err-expression
 cases-returns-in_err-expression g t c =
-    writes_exit _ _ c.from_residual-in_err-expression.ensures.1 (leaves_cut _ _ c.loop-test.invariant (writes_as _ _ (case_text c.args.one _ _) (writes_cut _ _ (writes_cut _ _ (writes_cut _ _ (writes_on (writes_as _ _ c.either.ensures c.in_ok-put.ensures) c.in_err-expression.ensures)))))
-    (next_item (λ (xs : List (Expr VarId × Expr VarId)). concat (map (case_form c.args.one) (map (λ (d : Expr VarId × Expr VarId). (expr_text c.args.parts.now d.0, expr_text c.args.parts.now d.1)) xs))) c.args.choices.now c.loop-test.test-index c.loop-test-item.result c.loop-test-test.true c.loop-test-item.is))
+    writes_exit _ _ c.from_residual-in_err-expression.ensures.1
+    (leaves_cut _ _ c.loop-test.invariant
+    (writes_as _ _ (case_text c.args.one _ _)
+    (writes_cut _ _ (writes_cut _ _ (writes_cut _ _
+    (writes_on (writes_as _ _ c.either.ensures c.in_ok-put.ensures) c.in_err-expression.ensures)))))
+    (next_item (λ (xs : List (Expr VarId × Expr VarId)). concat
+    (map (case_form c.args.one) (map (λ (d : Expr VarId × Expr VarId).
+    (expr_text c.args.parts.now d.0, expr_text c.args.parts.now d.1)) xs))) c.args.choices.now
+    c.loop-test.test-index c.loop-test-item.result c.loop-test-test.true c.loop-test-item.is))
 
 pub cases-returns-in_err-put-2 : goal.cases-returns-in_err-put-2
 cases-returns-in_err-put-2 g t c =
-    writes_exit _ _ c.from_residual-in_err-put-2.ensures.1 (leaves_cut _ _ c.loop-test.invariant (writes_as _ _ (case_text c.args.one _ _) (writes_cut _ _ (writes_cut _ _ (writes_on (writes_on (writes_as _ _ c.either.ensures c.in_ok-put.ensures) c.in_ok-expression.ensures) (writes_as _ _ c.either-in-loop-test.ensures c.in_err-put-2.ensures)))))
-    (next_item (λ (xs : List (Expr VarId × Expr VarId)). concat (map (case_form c.args.one) (map (λ (d : Expr VarId × Expr VarId). (expr_text c.args.parts.now d.0, expr_text c.args.parts.now d.1)) xs))) c.args.choices.now c.loop-test.test-index c.loop-test-item.result c.loop-test-test.true c.loop-test-item.is))
+    writes_exit _ _ c.from_residual-in_err-put-2.ensures.1
+    (leaves_cut _ _ c.loop-test.invariant
+    (writes_as _ _ (case_text c.args.one _ _)
+    (writes_cut _ _ (writes_cut _ _ (writes_on
+    (writes_on (writes_as _ _ c.either.ensures c.in_ok-put.ensures) c.in_ok-expression.ensures)
+    (writes_as _ _ c.either-in-loop-test.ensures c.in_err-put-2.ensures)))))
+    (next_item (λ (xs : List (Expr VarId × Expr VarId)). concat
+    (map (case_form c.args.one) (map (λ (d : Expr VarId × Expr VarId).
+    (expr_text c.args.parts.now d.0, expr_text c.args.parts.now d.1)) xs))) c.args.choices.now
+    c.loop-test.test-index c.loop-test-item.result c.loop-test-test.true c.loop-test-item.is))
 
 pub cases-returns-in_err-expression-2 : goal.cases-returns-in_err-expression-2
 cases-returns-in_err-expression-2 g t c =
-    writes_exit _ _ c.from_residual-in_err-expression-2.ensures.1 (leaves_cut _ _ c.loop-test.invariant (writes_as _ _ (case_text c.args.one _ _) (writes_cut _ _ (writes_on (writes_on (writes_on (writes_as _ _ c.either.ensures c.in_ok-put.ensures) c.in_ok-expression.ensures) (writes_as _ _ c.either-in-loop-test.ensures c.in_ok-put-2.ensures)) c.in_err-expression-2.ensures)))
-    (next_item (λ (xs : List (Expr VarId × Expr VarId)). concat (map (case_form c.args.one) (map (λ (d : Expr VarId × Expr VarId). (expr_text c.args.parts.now d.0, expr_text c.args.parts.now d.1)) xs))) c.args.choices.now c.loop-test.test-index c.loop-test-item.result c.loop-test-test.true c.loop-test-item.is))
+    writes_exit _ _ c.from_residual-in_err-expression-2.ensures.1
+    (leaves_cut _ _ c.loop-test.invariant
+    (writes_as _ _ (case_text c.args.one _ _)
+    (writes_cut _ _ (writes_on (writes_on
+    (writes_on (writes_as _ _ c.either.ensures c.in_ok-put.ensures) c.in_ok-expression.ensures)
+    (writes_as _ _ c.either-in-loop-test.ensures c.in_ok-put-2.ensures)) c.in_err-expression-2.ensures)))
+    (next_item (λ (xs : List (Expr VarId × Expr VarId)). concat
+    (map (case_form c.args.one) (map (λ (d : Expr VarId × Expr VarId).
+    (expr_text c.args.parts.now d.0, expr_text c.args.parts.now d.1)) xs))) c.args.choices.now
+    c.loop-test.test-index c.loop-test-item.result c.loop-test-test.true c.loop-test-item.is))
 
 pub cases-returns-in_err-put-3 : goal.cases-returns-in_err-put-3
 cases-returns-in_err-put-3 g t c =
-    writes_exit _ _ c.from_residual-in_err-put-3.ensures.1 (leaves_cut _ _ c.loop-test.invariant (writes_as _ _ (case_text c.args.one _ _) (writes_on (writes_on (writes_on (writes_on (writes_as _ _ c.either.ensures c.in_ok-put.ensures) c.in_ok-expression.ensures) (writes_as _ _ c.either-in-loop-test.ensures c.in_ok-put-2.ensures)) c.in_ok-expression-2.ensures) (writes_as _ _ c.either-in-loop-test-2.ensures c.in_err-put-3.ensures)))
-    (next_item (λ (xs : List (Expr VarId × Expr VarId)). concat (map (case_form c.args.one) (map (λ (d : Expr VarId × Expr VarId). (expr_text c.args.parts.now d.0, expr_text c.args.parts.now d.1)) xs))) c.args.choices.now c.loop-test.test-index c.loop-test-item.result c.loop-test-test.true c.loop-test-item.is))
+    writes_exit _ _ c.from_residual-in_err-put-3.ensures.1
+    (leaves_cut _ _ c.loop-test.invariant
+    (writes_as _ _ (case_text c.args.one _ _)
+    (writes_on (writes_on (writes_on (writes_on (writes_as _ _ c.either.ensures c.in_ok-put.ensures)
+    c.in_ok-expression.ensures) (writes_as _ _ c.either-in-loop-test.ensures c.in_ok-put-2.ensures))
+    c.in_ok-expression-2.ensures) (writes_as _ _ c.either-in-loop-test-2.ensures c.in_err-put-3.ensures)))
+    (next_item (λ (xs : List (Expr VarId × Expr VarId)). concat
+    (map (case_form c.args.one) (map (λ (d : Expr VarId × Expr VarId).
+    (expr_text c.args.parts.now d.0, expr_text c.args.parts.now d.1)) xs))) c.args.choices.now
+    c.loop-test.test-index c.loop-test-item.result c.loop-test-test.true c.loop-test-item.is))
 
 pub cases-loop-test-preserved : goal.cases-loop-test-preserved
 cases-loop-test-preserved g t c =
-    leaves_on _ _ c.loop-test.invariant (writes_as _ _ (case_text c.args.one _ _) (writes_on (writes_on (writes_on (writes_on (writes_as _ _ c.either.ensures c.in_ok-put.ensures) c.in_ok-expression.ensures) (writes_as _ _ c.either-in-loop-test.ensures c.in_ok-put-2.ensures)) c.in_ok-expression-2.ensures) (writes_as _ _ c.either-in-loop-test-2.ensures c.in_ok-put-3.ensures)))
-    (next_item (λ (xs : List (Expr VarId × Expr VarId)). concat (map (case_form c.args.one) (map (λ (d : Expr VarId × Expr VarId). (expr_text c.args.parts.now d.0, expr_text c.args.parts.now d.1)) xs))) c.args.choices.now c.loop-test.test-index c.loop-test-item.result c.loop-test-test.true c.loop-test-item.is)
+    leaves_on _ _ c.loop-test.invariant
+    (writes_as _ _ (case_text c.args.one _ _)
+    (writes_on (writes_on (writes_on (writes_on (writes_as _ _ c.either.ensures c.in_ok-put.ensures)
+    c.in_ok-expression.ensures) (writes_as _ _ c.either-in-loop-test.ensures c.in_ok-put-2.ensures))
+    c.in_ok-expression-2.ensures) (writes_as _ _ c.either-in-loop-test-2.ensures c.in_ok-put-3.ensures)))
+    (next_item (λ (xs : List (Expr VarId × Expr VarId)). concat
+    (map (case_form c.args.one) (map (λ (d : Expr VarId × Expr VarId).
+    (expr_text c.args.parts.now d.0, expr_text c.args.parts.now d.1)) xs))) c.args.choices.now
+    c.loop-test.test-index c.loop-test-item.result c.loop-test-test.true c.loop-test-item.is)
 
 pub cases-returns : goal.cases-returns
 cases-returns g t c =
     leaves_none _ c.loop-test.invariant
-    (no_item (λ (xs : List (Expr VarId × Expr VarId)). concat (map (case_form c.args.one) (map (λ (d : Expr VarId × Expr VarId). (expr_text c.args.parts.now d.0, expr_text c.args.parts.now d.1)) xs))) c.args.choices.now c.loop-test.test-index c.loop-test-test.false)
+    (no_item (λ (xs : List (Expr VarId × Expr VarId)). concat
+    (map (case_form c.args.one) (map (λ (d : Expr VarId × Expr VarId).
+    (expr_text c.args.parts.now d.0, expr_text c.args.parts.now d.1)) xs))) c.args.choices.now
+    c.loop-test.test-index c.loop-test-test.false)
 
 pub operands-loop-e-init : goal.operands-loop-e-init
 operands-loop-e-init g t c = leaves_all _ _
 
 pub operands-returns-in_err-put : goal.operands-returns-in_err-put
 operands-returns-in_err-put g t c =
-    writes_exit _ _ c.from_residual.ensures.1 (leaves_cut _ _ c.loop-e.invariant (writes_cut _ _ (writes_as _ _ c.either.ensures c.in_err-put.ensures))
-    (next_item (λ (xs : List (Expr VarId)). separated c.loop-e.first c.args.separator.now (map (expr_text c.args.parts.now) xs)) c.args.es.now c.loop-e.e-index c.e-item.result c.loop-e-test.true c.e-item.is))
+    writes_exit _ _ c.from_residual.ensures.1
+    (leaves_cut _ _ c.loop-e.invariant (writes_cut _ _ (writes_as _ _ c.either.ensures c.in_err-put.ensures))
+    (next_item (λ (xs : List (Expr VarId)). separated c.loop-e.first c.args.separator.now
+    (map (expr_text c.args.parts.now) xs)) c.args.es.now c.loop-e.e-index c.e-item.result c.loop-e-test.true
+    c.e-item.is))
 
 pub operands-returns-in_err-expression : goal.operands-returns-in_err-expression
 operands-returns-in_err-expression g t c =
-    writes_exit _ _ c.from_residual-in_err-expression.ensures.1 (leaves_cut _ _ c.loop-e.invariant (writes_on (writes_as _ _ c.either.ensures c.in_ok-put.ensures) c.in_err-expression.ensures)
-    (next_item (λ (xs : List (Expr VarId)). separated c.loop-e.first c.args.separator.now (map (expr_text c.args.parts.now) xs)) c.args.es.now c.loop-e.e-index c.e-item.result c.loop-e-test.true c.e-item.is))
+    writes_exit _ _ c.from_residual-in_err-expression.ensures.1
+    (leaves_cut _ _ c.loop-e.invariant
+    (writes_on (writes_as _ _ c.either.ensures c.in_ok-put.ensures) c.in_err-expression.ensures)
+    (next_item (λ (xs : List (Expr VarId)). separated c.loop-e.first c.args.separator.now
+    (map (expr_text c.args.parts.now) xs)) c.args.es.now c.loop-e.e-index c.e-item.result c.loop-e-test.true
+    c.e-item.is))
 
 pub operands-loop-e-preserved : goal.operands-loop-e-preserved
 operands-loop-e-preserved g t c =
-    leaves_on _ _ c.loop-e.invariant (writes_on (writes_as _ _ c.either.ensures c.in_ok-put.ensures) c.in_ok-expression.ensures)
-    (next_item (λ (xs : List (Expr VarId)). separated c.loop-e.first c.args.separator.now (map (expr_text c.args.parts.now) xs)) c.args.es.now c.loop-e.e-index c.e-item.result c.loop-e-test.true c.e-item.is)
+    leaves_on _ _ c.loop-e.invariant (writes_on (writes_as _ _ c.either.ensures c.in_ok-put.ensures)
+    c.in_ok-expression.ensures)
+    (next_item (λ (xs : List (Expr VarId)). separated c.loop-e.first c.args.separator.now
+    (map (expr_text c.args.parts.now) xs)) c.args.es.now c.loop-e.e-index c.e-item.result c.loop-e-test.true
+    c.e-item.is)
 
 pub operands-returns : goal.operands-returns
 operands-returns g t c =
     leaves_none _ c.loop-e.invariant
-    (no_item (λ (xs : List (Expr VarId)). separated c.loop-e.first c.args.separator.now (map (expr_text c.args.parts.now) xs)) c.args.es.now c.loop-e.e-index c.loop-e-test.false)
+    (no_item (λ (xs : List (Expr VarId)). separated c.loop-e.first c.args.separator.now
+    (map (expr_text c.args.parts.now) xs)) c.args.es.now c.loop-e.e-index c.loop-e-test.false)
 
 pub terms-loop-plus-init : goal.terms-loop-plus-init
 terms-loop-plus-init g t c = leaves_all _ _
 
 pub terms-returns-in_err-put : goal.terms-returns-in_err-put
 terms-returns-in_err-put g t c =
-    writes_exit _ _ c.from_residual.ensures.1 (leaves_cut _ _ c.loop-plus.invariant (writes_cut _ _ (writes_as _ _ c.sign.ensures c.in_err-put.ensures))
-    (next_item (λ (xs : List (Bool × Expr VarId)). summed c.loop-plus.first (map (λ (q : Bool × Expr VarId). (q.0, expr_text c.args.parts.now q.1)) xs)) c.args.all.now c.loop-plus.plus-index c.loop-plus-item.result c.loop-plus-test.true c.loop-plus-item.is))
+    writes_exit _ _ c.from_residual.ensures.1
+    (leaves_cut _ _ c.loop-plus.invariant (writes_cut _ _ (writes_as _ _ c.sign.ensures c.in_err-put.ensures))
+    (next_item (λ (xs : List (Bool × Expr VarId)). summed c.loop-plus.first
+    (map (λ (q : Bool × Expr VarId). (q.0, expr_text c.args.parts.now q.1)) xs)) c.args.all.now
+    c.loop-plus.plus-index c.loop-plus-item.result c.loop-plus-test.true c.loop-plus-item.is))
 
 pub terms-returns-in_err-expression : goal.terms-returns-in_err-expression
 terms-returns-in_err-expression g t c =
-    writes_exit _ _ c.from_residual-in_err-expression.ensures.1 (leaves_cut _ _ c.loop-plus.invariant (writes_on (writes_as _ _ c.sign.ensures c.in_ok-put.ensures) c.in_err-expression.ensures)
-    (next_item (λ (xs : List (Bool × Expr VarId)). summed c.loop-plus.first (map (λ (q : Bool × Expr VarId). (q.0, expr_text c.args.parts.now q.1)) xs)) c.args.all.now c.loop-plus.plus-index c.loop-plus-item.result c.loop-plus-test.true c.loop-plus-item.is))
+    writes_exit _ _ c.from_residual-in_err-expression.ensures.1
+    (leaves_cut _ _ c.loop-plus.invariant
+    (writes_on (writes_as _ _ c.sign.ensures c.in_ok-put.ensures) c.in_err-expression.ensures)
+    (next_item (λ (xs : List (Bool × Expr VarId)). summed c.loop-plus.first
+    (map (λ (q : Bool × Expr VarId). (q.0, expr_text c.args.parts.now q.1)) xs)) c.args.all.now
+    c.loop-plus.plus-index c.loop-plus-item.result c.loop-plus-test.true c.loop-plus-item.is))
 
 pub terms-loop-plus-preserved : goal.terms-loop-plus-preserved
 terms-loop-plus-preserved g t c =
-    leaves_on _ _ c.loop-plus.invariant (writes_on (writes_as _ _ c.sign.ensures c.in_ok-put.ensures) c.in_ok-expression.ensures)
-    (next_item (λ (xs : List (Bool × Expr VarId)). summed c.loop-plus.first (map (λ (q : Bool × Expr VarId). (q.0, expr_text c.args.parts.now q.1)) xs)) c.args.all.now c.loop-plus.plus-index c.loop-plus-item.result c.loop-plus-test.true c.loop-plus-item.is)
+    leaves_on _ _ c.loop-plus.invariant
+    (writes_on (writes_as _ _ c.sign.ensures c.in_ok-put.ensures) c.in_ok-expression.ensures)
+    (next_item (λ (xs : List (Bool × Expr VarId)). summed c.loop-plus.first
+    (map (λ (q : Bool × Expr VarId). (q.0, expr_text c.args.parts.now q.1)) xs)) c.args.all.now
+    c.loop-plus.plus-index c.loop-plus-item.result c.loop-plus-test.true c.loop-plus-item.is)
 
 pub terms-returns : goal.terms-returns
 terms-returns g t c =
     leaves_none _ c.loop-plus.invariant
-    (no_item (λ (xs : List (Bool × Expr VarId)). summed c.loop-plus.first (map (λ (q : Bool × Expr VarId). (q.0, expr_text c.args.parts.now q.1)) xs)) c.args.all.now c.loop-plus.plus-index c.loop-plus-test.false)
+    (no_item (λ (xs : List (Bool × Expr VarId)). summed c.loop-plus.first
+    (map (λ (q : Bool × Expr VarId). (q.0, expr_text c.args.parts.now q.1)) xs)) c.args.all.now
+    c.loop-plus.plus-index c.loop-plus-test.false)

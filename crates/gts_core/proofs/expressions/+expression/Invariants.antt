@@ -10,8 +10,11 @@ use Rattle.gts_core.proofs.expressions.+expression.Given as goal
 abbrev pub invariant-cases-loop-test : goal.invariant-cases-loop-test
 invariant-cases-loop-test g l =
     Leaves (g.K.Sink.state l.initial.out) (g.K.Sink.state l.out)
-    (concat (map (case_form l.one) (map (λ (d : Expr VarId × Expr VarId). (expr_text l.parts d.0, expr_text l.parts d.1)) (drop l.test-index l.choices))))
-    (concat (map (case_form l.one) (map (λ (d : Expr VarId × Expr VarId). (expr_text l.parts d.0, expr_text l.parts d.1)) l.choices)))
+    (concat (map (case_form l.one) (map
+    (λ (d : Expr VarId × Expr VarId). (expr_text l.parts d.0, expr_text l.parts d.1))
+    (drop l.test-index l.choices))))
+    (concat (map (case_form l.one) (map
+    (λ (d : Expr VarId × Expr VarId). (expr_text l.parts d.0, expr_text l.parts d.1)) l.choices)))
 
 abbrev pub invariant-operands-loop-e : goal.invariant-operands-loop-e
 invariant-operands-loop-e g l =

@@ -14,15 +14,20 @@ use Rattle.gts_core.proofs.names.+naming.Goals as goal
 pub add_named-returns-in-Variable : goal.add_named-returns-in-Variable
 add_named-returns-in-Variable t c =
     let x = c.in-Variable.x in
-    ok_as _ _ c.add_one.result (λ h. named.at_level c.args.expr.now c.args.found.now.items c.add_one.new.found.items (Variable x) (λ y. y ≡ x) (ap (out-Expr VarId) c.in-Variable.is ∙ opened.opened-variable x)
+    ok_as _ _ c.add_one.result (λ h. named.at_level c.args.expr.now c.args.found.now.items c.add_one.new.found.items
+    (Variable x) (λ y. y ≡ x) (ap (out-Expr VarId) c.in-Variable.is ∙ opened.opened-variable x)
     (λ y d. named.of_variable y x d) (λ y e. subst (λ (z : VarId). Mentions z (Variable x)) (sym e) m.itself)
-    (added.adds_one (λ y. y ≡ x) x c.args.found.now.items c.add_one.new.found.items refl (λ y e. e) h)) c.add_one.ensures
+    (added.adds_one (λ y. y ≡ x) x c.args.found.now.items c.add_one.new.found.items refl (λ y e. e) h))
+    c.add_one.ensures
 
 pub add_named-returns-in-Not : goal.add_named-returns-in-Not
 add_named-returns-in-Not t c =
     let a = c.in-Not.a in
-    ok_as _ _ c.add_named.result (λ h. named.at_level c.args.expr.now c.args.found.now.items c.add_named.new.found.items (Not a) (λ x. Mentions x (out-Expr VarId a.value)) (opened.opened-not c.args.expr.now a c.in-Not.is)
-    (λ x d. named.of_not x a d) (λ x d. m.in_not d) (subst (λ (z : Expr VarId). Adds (λ x. Mentions x (out-Expr VarId z)) c.args.found.now.items c.add_named.new.found.items) c.deref.ensures h)) c.add_named.ensures
+    ok_as _ _ c.add_named.result (λ h. named.at_level c.args.expr.now c.args.found.now.items c.add_named.new.found.items
+    (Not a) (λ x. Mentions x (out-Expr VarId a.value)) (opened.opened-not c.args.expr.now a c.in-Not.is)
+    (λ x d. named.of_not x a d) (λ x d. m.in_not d)
+    (subst (λ (z : Expr VarId). Adds (λ x. Mentions x (out-Expr VarId z)) c.args.found.now.items
+    c.add_named.new.found.items) c.deref.ensures h)) c.add_named.ensures
 
 pub add_named-returns-in_ok-add_named-in-Compare : goal.add_named-returns-in_ok-add_named-in-Compare
 add_named-returns-in_ok-add_named-in-Compare t c =
@@ -33,17 +38,25 @@ add_named-returns-in_ok-add_named-in-Compare t c =
     let new = c.add_named-in-Compare-2.new.found.items in
     let left : VarId → Type 0 = λ x. Mentions x (out-Expr VarId a.value) in
     let right : VarId → Type 0 = λ x. Mentions x (out-Expr VarId b.value) in
-    let first = subst (λ (z : Expr VarId). Adds (λ x. Mentions x (out-Expr VarId z)) old mid) c.deref-in-Compare.ensures c.in_ok-add_named-in-Compare.ensures in
-    ok_as _ _ c.add_named-in-Compare-2.result (λ h. named.at_level c.args.expr.now old new (Compare c.in-Compare.field-0 a b) (λ x. left x ⊎ right x) (opened.opened-compare c.args.expr.now c.in-Compare.field-0 a b c.in-Compare.is)
-    (λ x d. named.of_compare x c.in-Compare.field-0 a b d) (λ x d. elim d [ inl l ↦ m.in_left l | inr r ↦ m.in_right r ])
+    let first = subst (λ (z : Expr VarId). Adds (λ x. Mentions x (out-Expr VarId z)) old mid) c.deref-in-Compare.ensures
+    c.in_ok-add_named-in-Compare.ensures in
+    ok_as _ _ c.add_named-in-Compare-2.result
+    (λ h. named.at_level c.args.expr.now old new (Compare c.in-Compare.field-0 a b) (λ x. left x ⊎ right x)
+    (opened.opened-compare c.args.expr.now c.in-Compare.field-0 a b c.in-Compare.is)
+    (λ x d. named.of_compare x c.in-Compare.field-0 a b d)
+    (λ x d. elim d [ inl l ↦ m.in_left l | inr r ↦ m.in_right r ])
     (added.adds_then left right (λ x. left x ⊎ right x) old mid new first
-    (subst (λ (z : Expr VarId). Adds (λ x. Mentions x (out-Expr VarId z)) mid new) c.deref-in-Compare-2.ensures h) (λ x d. d) (λ x d. inl d) (λ x d. inr d))) c.add_named-in-Compare-2.ensures
+    (subst (λ (z : Expr VarId). Adds (λ x. Mentions x (out-Expr VarId z)) mid new) c.deref-in-Compare-2.ensures h)
+    (λ x d. d) (λ x d. inl d) (λ x d. inr d))) c.add_named-in-Compare-2.ensures
 
 pub add_named-returns-in-Sum : goal.add_named-returns-in-Sum
 add_named-returns-in-Sum t c =
     let ps = c.in-Sum.parts in
-    ok_as _ _ c.add_parts.result (λ h. named.at_level c.args.expr.now c.args.found.now.items c.add_parts.new.found.items (Sum ps) (λ x. Parts_mention x ps.items) (opened.opened-sum c.args.expr.now ps c.in-Sum.is)
-    (λ x d. named.of_sum x ps d) (λ x d. m.in_sum d) (subst (λ (z : List (Bool × Expr VarId)). Adds (λ x. Parts_mention x z) c.args.found.now.items c.add_parts.new.found.items) c.deref-in-Sum.ensures.value h)) c.add_parts.ensures
+    ok_as _ _ c.add_parts.result (λ h. named.at_level c.args.expr.now c.args.found.now.items c.add_parts.new.found.items
+    (Sum ps) (λ x. Parts_mention x ps.items) (opened.opened-sum c.args.expr.now ps c.in-Sum.is)
+    (λ x d. named.of_sum x ps d) (λ x d. m.in_sum d)
+    (subst (λ (z : List (Bool × Expr VarId)). Adds (λ x. Parts_mention x z) c.args.found.now.items
+    c.add_parts.new.found.items) c.deref-in-Sum.ensures.value h)) c.add_parts.ensures
 
 pub add_named-returns-in_ok-add_cases-in-Choose : goal.add_named-returns-in_ok-add_cases-in-Choose
 add_named-returns-in_ok-add_cases-in-Choose t c =
@@ -54,53 +67,81 @@ add_named-returns-in_ok-add_cases-in-Choose t c =
     let new = c.add_named-in-Choose.new.found.items in
     let left : VarId → Type 0 = λ x. Cases_mention x cs.items in
     let right : VarId → Type 0 = λ x. Mentions x (out-Expr VarId other.value) in
-    let first = subst (λ (z : List (Expr VarId × Expr VarId)). Adds (λ x. Cases_mention x z) old mid) c.deref-in-Choose.ensures.value c.in_ok-add_cases-in-Choose.ensures in
-    ok_as _ _ c.add_named-in-Choose.result (λ h. named.at_level c.args.expr.now old new (Choose cs other) (λ x. left x ⊎ right x) (opened.opened-choice c.args.expr.now cs other c.in-Choose.is)
+    let first = subst (λ (z : List (Expr VarId × Expr VarId)). Adds (λ x. Cases_mention x z) old mid)
+    c.deref-in-Choose.ensures.value c.in_ok-add_cases-in-Choose.ensures in
+    ok_as _ _ c.add_named-in-Choose.result
+    (λ h. named.at_level c.args.expr.now old new (Choose cs other) (λ x. left x ⊎ right x)
+    (opened.opened-choice c.args.expr.now cs other c.in-Choose.is)
     (λ x d. named.of_choose x cs other d) (λ x d. elim d [ inl l ↦ m.in_cases l | inr r ↦ m.in_other r ])
     (added.adds_then left right (λ x. left x ⊎ right x) old mid new first
-    (subst (λ (z : Expr VarId). Adds (λ x. Mentions x (out-Expr VarId z)) mid new) c.deref-in-Choose-2.ensures h) (λ x d. d) (λ x d. inl d) (λ x d. inr d))) c.add_named-in-Choose.ensures
+    (subst (λ (z : Expr VarId). Adds (λ x. Mentions x (out-Expr VarId z)) mid new) c.deref-in-Choose-2.ensures h)
+    (λ x d. d) (λ x d. inl d) (λ x d. inr d))) c.add_named-in-Choose.ensures
 
 pub add_named-returns-in-All : goal.add_named-returns-in-All
 add_named-returns-in-All t c =
     let es = c.in-All.es in
-    ok_as _ _ c.add_some.result (λ h. named.at_level c.args.expr.now c.args.found.now.items c.add_some.new.found.items (All es) (λ x. Some_mentions x es.items) (opened.opened-all c.args.expr.now es c.in-All.is)
-    (λ x d. named.of_all x es d) (λ x d. m.in_all d) (subst (λ (z : List (Expr VarId)). Adds (λ x. Some_mentions x z) c.args.found.now.items c.add_some.new.found.items) c.deref-in-All.ensures.value h)) c.add_some.ensures
+    ok_as _ _ c.add_some.result (λ h. named.at_level c.args.expr.now c.args.found.now.items c.add_some.new.found.items
+    (All es) (λ x. Some_mentions x es.items) (opened.opened-all c.args.expr.now es c.in-All.is)
+    (λ x d. named.of_all x es d) (λ x d. m.in_all d)
+    (subst (λ (z : List (Expr VarId)). Adds (λ x. Some_mentions x z) c.args.found.now.items
+    c.add_some.new.found.items) c.deref-in-All.ensures.value h)) c.add_some.ensures
 
 pub add_named-returns-in-Any : goal.add_named-returns-in-Any
 add_named-returns-in-Any t c =
     let es = c.in-Any.es in
-    ok_as _ _ c.add_some-in-Any.result (λ h. named.at_level c.args.expr.now c.args.found.now.items c.add_some-in-Any.new.found.items (Any es) (λ x. Some_mentions x es.items) (opened.opened-any c.args.expr.now es c.in-Any.is)
-    (λ x d. named.of_any x es d) (λ x d. m.in_any d) (subst (λ (z : List (Expr VarId)). Adds (λ x. Some_mentions x z) c.args.found.now.items c.add_some-in-Any.new.found.items) c.deref-in-Any.ensures.value h)) c.add_some-in-Any.ensures
+    ok_as _ _ c.add_some-in-Any.result
+    (λ h. named.at_level c.args.expr.now c.args.found.now.items c.add_some-in-Any.new.found.items (Any es)
+    (λ x. Some_mentions x es.items) (opened.opened-any c.args.expr.now es c.in-Any.is)
+    (λ x d. named.of_any x es d) (λ x d. m.in_any d)
+    (subst (λ (z : List (Expr VarId)). Adds (λ x. Some_mentions x z) c.args.found.now.items
+    c.add_some-in-Any.new.found.items) c.deref-in-Any.ensures.value h)) c.add_some-in-Any.ensures
 
 pub add_named-returns-in-Product : goal.add_named-returns-in-Product
 add_named-returns-in-Product t c =
     let es = c.in-Product.es in
-    ok_as _ _ c.add_some-in-Product.result (λ h. named.at_level c.args.expr.now c.args.found.now.items c.add_some-in-Product.new.found.items (Product es) (λ x. Some_mentions x es.items) (opened.opened-product c.args.expr.now es c.in-Product.is)
-    (λ x d. named.of_product x es d) (λ x d. m.in_product d) (subst (λ (z : List (Expr VarId)). Adds (λ x. Some_mentions x z) c.args.found.now.items c.add_some-in-Product.new.found.items) c.deref-in-Product.ensures.value h)) c.add_some-in-Product.ensures
+    ok_as _ _ c.add_some-in-Product.result
+    (λ h. named.at_level c.args.expr.now c.args.found.now.items c.add_some-in-Product.new.found.items (Product es)
+    (λ x. Some_mentions x es.items) (opened.opened-product c.args.expr.now es c.in-Product.is)
+    (λ x d. named.of_product x es d) (λ x d. m.in_product d)
+    (subst (λ (z : List (Expr VarId)). Adds (λ x. Some_mentions x z) c.args.found.now.items
+    c.add_some-in-Product.new.found.items) c.deref-in-Product.ensures.value h)) c.add_some-in-Product.ensures
 
 pub add_named-returns-in-Least : goal.add_named-returns-in-Least
 add_named-returns-in-Least t c =
     let es = c.in-Least.es in
-    ok_as _ _ c.add_some-in-Least.result (λ h. named.at_level c.args.expr.now c.args.found.now.items c.add_some-in-Least.new.found.items (Least es) (λ x. Some_mentions x es.items) (opened.opened-least c.args.expr.now es c.in-Least.is)
-    (λ x d. named.of_least x es d) (λ x d. m.in_least d) (subst (λ (z : List (Expr VarId)). Adds (λ x. Some_mentions x z) c.args.found.now.items c.add_some-in-Least.new.found.items) c.deref-in-Least.ensures.value h)) c.add_some-in-Least.ensures
+    ok_as _ _ c.add_some-in-Least.result
+    (λ h. named.at_level c.args.expr.now c.args.found.now.items c.add_some-in-Least.new.found.items (Least es)
+    (λ x. Some_mentions x es.items) (opened.opened-least c.args.expr.now es c.in-Least.is)
+    (λ x d. named.of_least x es d) (λ x d. m.in_least d)
+    (subst (λ (z : List (Expr VarId)). Adds (λ x. Some_mentions x z) c.args.found.now.items
+    c.add_some-in-Least.new.found.items) c.deref-in-Least.ensures.value h)) c.add_some-in-Least.ensures
 
 pub add_named-returns-in-Greatest : goal.add_named-returns-in-Greatest
 add_named-returns-in-Greatest t c =
     let es = c.in-Greatest.es in
-    ok_as _ _ c.add_some-in-Greatest.result (λ h. named.at_level c.args.expr.now c.args.found.now.items c.add_some-in-Greatest.new.found.items (Greatest es) (λ x. Some_mentions x es.items) (opened.opened-greatest c.args.expr.now es c.in-Greatest.is)
-    (λ x d. named.of_greatest x es d) (λ x d. m.in_greatest d) (subst (λ (z : List (Expr VarId)). Adds (λ x. Some_mentions x z) c.args.found.now.items c.add_some-in-Greatest.new.found.items) c.deref-in-Greatest.ensures.value h)) c.add_some-in-Greatest.ensures
+    ok_as _ _ c.add_some-in-Greatest.result
+    (λ h. named.at_level c.args.expr.now c.args.found.now.items c.add_some-in-Greatest.new.found.items (Greatest es)
+    (λ x. Some_mentions x es.items) (opened.opened-greatest c.args.expr.now es c.in-Greatest.is)
+    (λ x d. named.of_greatest x es d) (λ x d. m.in_greatest d)
+    (subst (λ (z : List (Expr VarId)). Adds (λ x. Some_mentions x z) c.args.found.now.items
+    c.add_some-in-Greatest.new.found.items) c.deref-in-Greatest.ensures.value h)) c.add_some-in-Greatest.ensures
 
 pub add_named-returns-in-Count : goal.add_named-returns-in-Count
 add_named-returns-in-Count t c =
     let es = c.in-Count.es in
-    ok_as _ _ c.add_some-in-Count.result (λ h. named.at_level c.args.expr.now c.args.found.now.items c.add_some-in-Count.new.found.items (Count es) (λ x. Some_mentions x es.items) (opened.opened-count c.args.expr.now es c.in-Count.is)
-    (λ x d. named.of_count x es d) (λ x d. m.in_count d) (subst (λ (z : List (Expr VarId)). Adds (λ x. Some_mentions x z) c.args.found.now.items c.add_some-in-Count.new.found.items) c.deref-in-Count.ensures.value h)) c.add_some-in-Count.ensures
+    ok_as _ _ c.add_some-in-Count.result
+    (λ h. named.at_level c.args.expr.now c.args.found.now.items c.add_some-in-Count.new.found.items (Count es)
+    (λ x. Some_mentions x es.items) (opened.opened-count c.args.expr.now es c.in-Count.is)
+    (λ x d. named.of_count x es d) (λ x d. m.in_count d)
+    (subst (λ (z : List (Expr VarId)). Adds (λ x. Some_mentions x z) c.args.found.now.items
+    c.add_some-in-Count.new.found.items) c.deref-in-Count.ensures.value h)) c.add_some-in-Count.ensures
 
 pub add_some-loop-e-init : goal.add_some-loop-e-init
 add_some-loop-e-init t c = added.remains_start _ _
 
 pub add_some-loop-e-preserved : goal.add_some-loop-e-preserved
-add_some-loop-e-preserved t c = named.some_on _ _ _ c.args.es.now c.loop-e.e-index c.e-item.result c.loop-e-test.true c.e-item.is c.loop-e.invariant c.in_ok-add_named.ensures
+add_some-loop-e-preserved t c = named.some_on _ _ _ c.args.es.now c.loop-e.e-index c.e-item.result c.loop-e-test.true
+    c.e-item.is c.loop-e.invariant c.in_ok-add_named.ensures
 
 pub add_some-returns : goal.add_some-returns
 add_some-returns t c = named.some_all _ _ c.args.es.now c.loop-e.e-index c.loop-e-test.false c.loop-e.invariant
@@ -109,7 +150,8 @@ pub add_parts-loop-e-init : goal.add_parts-loop-e-init
 add_parts-loop-e-init t c = added.remains_start _ _
 
 pub add_parts-loop-e-preserved : goal.add_parts-loop-e-preserved
-add_parts-loop-e-preserved t c = named.parts_on _ _ _ c.args.parts.now c.loop-e.e-index c.loop-e-item.result c.loop-e-test.true c.loop-e-item.is c.loop-e.invariant c.in_ok-add_named.ensures
+add_parts-loop-e-preserved t c = named.parts_on _ _ _ c.args.parts.now c.loop-e.e-index c.loop-e-item.result
+    c.loop-e-test.true c.loop-e-item.is c.loop-e.invariant c.in_ok-add_named.ensures
 
 pub add_parts-returns : goal.add_parts-returns
 add_parts-returns t c = named.parts_all _ _ c.args.parts.now c.loop-e.e-index c.loop-e-test.false c.loop-e.invariant
@@ -118,7 +160,10 @@ pub add_cases-loop-test-init : goal.add_cases-loop-test-init
 add_cases-loop-test-init t c = added.remains_start _ _
 
 pub add_cases-loop-test-preserved : goal.add_cases-loop-test-preserved
-add_cases-loop-test-preserved t c = named.cases_on _ _ _ _ c.args.cases.now c.loop-test.test-index c.loop-test-item.result c.loop-test-test.true c.loop-test-item.is c.loop-test.invariant c.in_ok-add_named.ensures c.in_ok-add_named-2.ensures
+add_cases-loop-test-preserved t c =
+    named.cases_on _ _ _ _ c.args.cases.now c.loop-test.test-index c.loop-test-item.result c.loop-test-test.true
+    c.loop-test-item.is c.loop-test.invariant c.in_ok-add_named.ensures c.in_ok-add_named-2.ensures
 
 pub add_cases-returns : goal.add_cases-returns
-add_cases-returns t c = named.cases_all _ _ c.args.cases.now c.loop-test.test-index c.loop-test-test.false c.loop-test.invariant
+add_cases-returns t c = named.cases_all _ _ c.args.cases.now c.loop-test.test-index c.loop-test-test.false
+    c.loop-test.invariant

@@ -12,14 +12,17 @@ loop-condition-init g c = leaves_all _ _
 pub returns-in_err-when : goal.returns-in_err-when
 returns-in_err-when g c =
     writes_exit _ _ c.from_residual.ensures.1 (leaves_cut _ _ c.loop-condition.invariant c.in_err-when.ensures
-    (next_item (λ (xs : List (Expr VarId × Bool)). concat (map (condition_text c.args.parts.now) xs)) c.args.all.now c.loop-condition.condition-index c.condition-item.result c.loop-condition-test.true c.condition-item.is))
+    (next_item (λ (xs : List (Expr VarId × Bool)). concat (map (condition_text c.args.parts.now) xs)) c.args.all.now
+    c.loop-condition.condition-index c.condition-item.result c.loop-condition-test.true c.condition-item.is))
 
 pub loop-condition-preserved : goal.loop-condition-preserved
 loop-condition-preserved g c =
     leaves_on _ _ c.loop-condition.invariant c.in_ok-when.ensures
-    (next_item (λ (xs : List (Expr VarId × Bool)). concat (map (condition_text c.args.parts.now) xs)) c.args.all.now c.loop-condition.condition-index c.condition-item.result c.loop-condition-test.true c.condition-item.is)
+    (next_item (λ (xs : List (Expr VarId × Bool)). concat (map (condition_text c.args.parts.now) xs)) c.args.all.now
+    c.loop-condition.condition-index c.condition-item.result c.loop-condition-test.true c.condition-item.is)
 
 pub returns : goal.returns
 returns g c =
     leaves_none _ c.loop-condition.invariant
-    (no_item (λ (xs : List (Expr VarId × Bool)). concat (map (condition_text c.args.parts.now) xs)) c.args.all.now c.loop-condition.condition-index c.loop-condition-test.false)
+    (no_item (λ (xs : List (Expr VarId × Bool)). concat (map (condition_text c.args.parts.now) xs)) c.args.all.now
+    c.loop-condition.condition-index c.loop-condition-test.false)

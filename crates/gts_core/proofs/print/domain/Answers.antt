@@ -7,7 +7,8 @@ use Rattle.gts_core.proofs.print.domain.Goals as goal
 
 pub returns-in-Symbols : goal.returns-in-Symbols
 returns-in-Symbols g c =
-    writes_as _ _ (ap (λ (ks : List ℕ). codes "{" ++ separated true (codes ", ") (map (text_at c.args.parts.now.symbols.items) ks) ++ codes "}") c.deref.ensures.value
+    writes_as _ _ (ap (λ (ks : List ℕ). codes "{" ++ separated true (codes ", ")
+    (map (text_at c.args.parts.now.symbols.items) ks) ++ codes "}") c.deref.ensures.value
     ∙ ap (domain_text c.args.parts.now) (sym c.in-Symbols.is)) c.symbol_set.ensures
 
 pub returns-in-Range : goal.returns-in-Range

@@ -11,15 +11,25 @@ loop-event-init g c = leaves_all _ _
 
 pub returns-in_err-ways : goal.returns-in_err-ways
 returns-in_err-ways g c =
-    writes_exit _ _ c.from_residual.ensures.1 (leaves_cut _ _ c.loop-event.invariant (writes_as _ _ (ap (λ (ws : List WayId). concat (map (λ (w : WayId). line_found c.args.parts.now c.event-item.result.hidden (slice_get c.args.parts.now.ways.items w.n)) ws)) c.deref.ensures.value) c.in_err-ways.ensures)
-    (next_item (λ (xs : List Event). concat (map (event_lines c.args.parts.now) xs)) c.args.all.now c.loop-event.event-index c.event-item.result c.loop-event-test.true c.event-item.is))
+    writes_exit _ _ c.from_residual.ensures.1
+    (leaves_cut _ _ c.loop-event.invariant
+    (writes_as _ _ (ap (λ (ws : List WayId). concat
+    (map (λ (w : WayId). line_found c.args.parts.now c.event-item.result.hidden
+    (slice_get c.args.parts.now.ways.items w.n)) ws)) c.deref.ensures.value) c.in_err-ways.ensures)
+    (next_item (λ (xs : List Event). concat (map (event_lines c.args.parts.now) xs)) c.args.all.now
+    c.loop-event.event-index c.event-item.result c.loop-event-test.true c.event-item.is))
 
 pub loop-event-preserved : goal.loop-event-preserved
 loop-event-preserved g c =
-    leaves_on _ _ c.loop-event.invariant (writes_as _ _ (ap (λ (ws : List WayId). concat (map (λ (w : WayId). line_found c.args.parts.now c.event-item.result.hidden (slice_get c.args.parts.now.ways.items w.n)) ws)) c.deref.ensures.value) c.in_ok-ways.ensures)
-    (next_item (λ (xs : List Event). concat (map (event_lines c.args.parts.now) xs)) c.args.all.now c.loop-event.event-index c.event-item.result c.loop-event-test.true c.event-item.is)
+    leaves_on _ _ c.loop-event.invariant
+    (writes_as _ _ (ap (λ (ws : List WayId). concat
+    (map (λ (w : WayId). line_found c.args.parts.now c.event-item.result.hidden
+    (slice_get c.args.parts.now.ways.items w.n)) ws)) c.deref.ensures.value) c.in_ok-ways.ensures)
+    (next_item (λ (xs : List Event). concat (map (event_lines c.args.parts.now) xs)) c.args.all.now
+    c.loop-event.event-index c.event-item.result c.loop-event-test.true c.event-item.is)
 
 pub returns : goal.returns
 returns g c =
     leaves_none _ c.loop-event.invariant
-    (no_item (λ (xs : List Event). concat (map (event_lines c.args.parts.now) xs)) c.args.all.now c.loop-event.event-index c.loop-event-test.false)
+    (no_item (λ (xs : List Event). concat (map (event_lines c.args.parts.now) xs)) c.args.all.now
+    c.loop-event.event-index c.loop-event-test.false)

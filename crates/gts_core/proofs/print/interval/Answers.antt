@@ -15,24 +15,28 @@ returns-in_err-whole g c =
     let low : SFits w64 c.args.low = search rules in
     let high : SFits w64 c.args.high = search rules in
     writes_exit _ _ c.from_residual-in_err-whole.ensures.1
-    (writes_cut _ _ (writes_cut _ _ (writes_cut _ _ (writes_on c.in_ok-put.ensures (simp to_z-of_z at c.in_err-whole.ensures)))))
+    (writes_cut _ _ (writes_cut _ _ (writes_cut _ _
+    (writes_on c.in_ok-put.ensures (simp to_z-of_z at c.in_err-whole.ensures)))))
 
 pub returns-in_err-put-2 : goal.returns-in_err-put-2
 returns-in_err-put-2 g c =
     let low : SFits w64 c.args.low = search rules in
     let high : SFits w64 c.args.high = search rules in
     writes_exit _ _ c.from_residual-in_err-put-2.ensures.1
-    (writes_cut _ _ (writes_cut _ _ (writes_on (writes_on c.in_ok-put.ensures (simp to_z-of_z at c.in_ok-whole.ensures)) c.in_err-put-2.ensures)))
+    (writes_cut _ _ (writes_cut _ _ (writes_on (writes_on c.in_ok-put.ensures (simp to_z-of_z at c.in_ok-whole.ensures))
+    c.in_err-put-2.ensures)))
 
 pub returns-in_err-whole-2 : goal.returns-in_err-whole-2
 returns-in_err-whole-2 g c =
     let low : SFits w64 c.args.low = search rules in
     let high : SFits w64 c.args.high = search rules in
     writes_exit _ _ c.from_residual-in_err-whole-2.ensures.1
-    (writes_cut _ _ (writes_on (writes_on (writes_on c.in_ok-put.ensures (simp to_z-of_z at c.in_ok-whole.ensures)) c.in_ok-put-2.ensures) (simp to_z-of_z at c.in_err-whole-2.ensures)))
+    (writes_cut _ _ (writes_on (writes_on (writes_on c.in_ok-put.ensures (simp to_z-of_z at c.in_ok-whole.ensures))
+    c.in_ok-put-2.ensures) (simp to_z-of_z at c.in_err-whole-2.ensures)))
 
 pub returns : goal.returns
 returns g c =
     let low : SFits w64 c.args.low = search rules in
     let high : SFits w64 c.args.high = search rules in
-    writes_on (writes_on (writes_on (writes_on c.in_ok-put.ensures (simp to_z-of_z at c.in_ok-whole.ensures)) c.in_ok-put-2.ensures) (simp to_z-of_z at c.in_ok-whole-2.ensures)) c.put-3.ensures
+    writes_on (writes_on (writes_on (writes_on c.in_ok-put.ensures (simp to_z-of_z at c.in_ok-whole.ensures))
+    c.in_ok-put-2.ensures) (simp to_z-of_z at c.in_ok-whole-2.ensures)) c.put-3.ensures

@@ -11,14 +11,17 @@ loop-o-init g c = leaves_all _ _
 pub returns-in_err-observer : goal.returns-in_err-observer
 returns-in_err-observer g c =
     writes_exit _ _ c.from_residual.ensures.1 (leaves_cut _ _ c.loop-o.invariant c.in_err-observer.ensures
-    (next_item (λ (xs : List Observer). concat (map (observer_line c.args.parts.now) xs)) c.args.all.now c.loop-o.o-index c.o-item.result c.loop-o-test.true c.o-item.is))
+    (next_item (λ (xs : List Observer). concat (map (observer_line c.args.parts.now) xs)) c.args.all.now
+    c.loop-o.o-index c.o-item.result c.loop-o-test.true c.o-item.is))
 
 pub loop-o-preserved : goal.loop-o-preserved
 loop-o-preserved g c =
     leaves_on _ _ c.loop-o.invariant c.in_ok-observer.ensures
-    (next_item (λ (xs : List Observer). concat (map (observer_line c.args.parts.now) xs)) c.args.all.now c.loop-o.o-index c.o-item.result c.loop-o-test.true c.o-item.is)
+    (next_item (λ (xs : List Observer). concat (map (observer_line c.args.parts.now) xs)) c.args.all.now
+    c.loop-o.o-index c.o-item.result c.loop-o-test.true c.o-item.is)
 
 pub returns : goal.returns
 returns g c =
     leaves_none _ c.loop-o.invariant
-    (no_item (λ (xs : List Observer). concat (map (observer_line c.args.parts.now) xs)) c.args.all.now c.loop-o.o-index c.loop-o-test.false)
+    (no_item (λ (xs : List Observer). concat (map (observer_line c.args.parts.now) xs)) c.args.all.now c.loop-o.o-index
+    c.loop-o-test.false)

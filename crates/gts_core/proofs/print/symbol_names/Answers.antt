@@ -8,20 +8,38 @@ loop-symbol-init g c = leaves_all _ _
 
 pub returns-in_err-put : goal.returns-in_err-put
 returns-in_err-put g c =
-    writes_exit _ _ c.from_residual.ensures.1 (leaves_cut _ _ c.loop-symbol.invariant (writes_cut _ _ (writes_as _ _ c.either.ensures c.in_err-put.ensures))
-    (next_read (λ (xs : List ℕ). separated c.loop-symbol.first (codes ", ") (map (text_at c.args.parts.now.symbols.items) xs)) c.args.symbols.now c.loop-symbol.symbol-index 0 c.loop-symbol-test.true))
+    writes_exit _ _ c.from_residual.ensures.1
+    (leaves_cut _ _ c.loop-symbol.invariant (writes_cut _ _ (writes_as _ _ c.either.ensures c.in_err-put.ensures))
+    (next_read (λ (xs : List ℕ). separated c.loop-symbol.first (codes ", ")
+    (map (text_at c.args.parts.now.symbols.items) xs)) c.args.symbols.now c.loop-symbol.symbol-index 0
+    c.loop-symbol-test.true))
 
 pub returns-in_err-put-2 : goal.returns-in_err-put-2
 returns-in_err-put-2 g c =
-    writes_exit _ _ c.from_residual-in_err-put-2.ensures.1 (leaves_cut _ _ c.loop-symbol.invariant (writes_on (writes_as _ _ c.either.ensures c.in_ok-put.ensures) (writes_as _ _ (c.text_at.ensures ∙ ap (λ (ts : List (List ℕ)). text_at ts (get_or c.args.symbols.now c.loop-symbol.symbol-index 0)) c.deref.ensures.value) c.in_err-put-2.ensures))
-    (next_read (λ (xs : List ℕ). separated c.loop-symbol.first (codes ", ") (map (text_at c.args.parts.now.symbols.items) xs)) c.args.symbols.now c.loop-symbol.symbol-index 0 c.loop-symbol-test.true))
+    writes_exit _ _ c.from_residual-in_err-put-2.ensures.1
+    (leaves_cut _ _ c.loop-symbol.invariant
+    (writes_on (writes_as _ _ c.either.ensures c.in_ok-put.ensures)
+    (writes_as _ _ (c.text_at.ensures
+    ∙ ap (λ (ts : List (List ℕ)). text_at ts (get_or c.args.symbols.now c.loop-symbol.symbol-index 0))
+    c.deref.ensures.value) c.in_err-put-2.ensures))
+    (next_read (λ (xs : List ℕ). separated c.loop-symbol.first (codes ", ")
+    (map (text_at c.args.parts.now.symbols.items) xs)) c.args.symbols.now c.loop-symbol.symbol-index 0
+    c.loop-symbol-test.true))
 
 pub loop-symbol-preserved : goal.loop-symbol-preserved
 loop-symbol-preserved g c =
-    leaves_on _ _ c.loop-symbol.invariant (writes_on (writes_as _ _ c.either.ensures c.in_ok-put.ensures) (writes_as _ _ (c.text_at.ensures ∙ ap (λ (ts : List (List ℕ)). text_at ts (get_or c.args.symbols.now c.loop-symbol.symbol-index 0)) c.deref.ensures.value) c.in_ok-put-2.ensures))
-    (next_read (λ (xs : List ℕ). separated c.loop-symbol.first (codes ", ") (map (text_at c.args.parts.now.symbols.items) xs)) c.args.symbols.now c.loop-symbol.symbol-index 0 c.loop-symbol-test.true)
+    leaves_on _ _ c.loop-symbol.invariant
+    (writes_on (writes_as _ _ c.either.ensures c.in_ok-put.ensures)
+    (writes_as _ _ (c.text_at.ensures
+    ∙ ap (λ (ts : List (List ℕ)). text_at ts (get_or c.args.symbols.now c.loop-symbol.symbol-index 0))
+    c.deref.ensures.value) c.in_ok-put-2.ensures))
+    (next_read (λ (xs : List ℕ). separated c.loop-symbol.first (codes ", ")
+    (map (text_at c.args.parts.now.symbols.items) xs)) c.args.symbols.now c.loop-symbol.symbol-index 0
+    c.loop-symbol-test.true)
 
 pub returns : goal.returns
 returns g c =
     leaves_none _ c.loop-symbol.invariant
-    (no_item (λ (xs : List ℕ). separated c.loop-symbol.first (codes ", ") (map (text_at c.args.parts.now.symbols.items) xs)) c.args.symbols.now c.loop-symbol.symbol-index c.loop-symbol-test.false)
+    (no_item (λ (xs : List ℕ). separated c.loop-symbol.first (codes ", ")
+    (map (text_at c.args.parts.now.symbols.items) xs)) c.args.symbols.now c.loop-symbol.symbol-index
+    c.loop-symbol-test.false)

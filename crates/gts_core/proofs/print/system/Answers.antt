@@ -11,18 +11,38 @@ use Rattle.gts_core.proofs.print.system.Goals as goal
 pub returns-in_err-variables : goal.returns-in_err-variables
 returns-in_err-variables g c =
     writes_exit _ _ c.from_residual.ensures.1
-    (writes_cut _ _ (writes_cut _ _ (writes_cut _ _ (writes_as _ _ (ap (λ (xs : List Variable). concat (map (variable_line c.args.parts.now) xs)) c.deref.ensures.value) c.in_err-variables.ensures))))
+    (writes_cut _ _ (writes_cut _ _ (writes_cut _ _
+    (writes_as _ _ (ap (λ (xs : List Variable). concat (map (variable_line c.args.parts.now) xs))
+    c.deref.ensures.value) c.in_err-variables.ensures))))
 
 pub returns-in_err-events : goal.returns-in_err-events
 returns-in_err-events g c =
     writes_exit _ _ c.from_residual-in_err-events.ensures.1
-    (writes_cut _ _ (writes_cut _ _ (writes_on (writes_as _ _ (ap (λ (xs : List Variable). concat (map (variable_line c.args.parts.now) xs)) c.deref.ensures.value) c.in_ok-variables.ensures) (writes_as _ _ (ap (λ (xs : List Event). concat (map (event_lines c.args.parts.now) xs)) c.deref-2.ensures.value) c.in_err-events.ensures))))
+    (writes_cut _ _ (writes_cut _ _ (writes_on
+    (writes_as _ _ (ap (λ (xs : List Variable). concat (map (variable_line c.args.parts.now) xs))
+    c.deref.ensures.value) c.in_ok-variables.ensures)
+    (writes_as _ _ (ap (λ (xs : List Event). concat (map (event_lines c.args.parts.now) xs))
+    c.deref-2.ensures.value) c.in_err-events.ensures))))
 
 pub returns-in_err-asserts : goal.returns-in_err-asserts
 returns-in_err-asserts g c =
     writes_exit _ _ c.from_residual-in_err-asserts.ensures.1
-    (writes_cut _ _ (writes_on (writes_on (writes_as _ _ (ap (λ (xs : List Variable). concat (map (variable_line c.args.parts.now) xs)) c.deref.ensures.value) c.in_ok-variables.ensures) (writes_as _ _ (ap (λ (xs : List Event). concat (map (event_lines c.args.parts.now) xs)) c.deref-2.ensures.value) c.in_ok-events.ensures)) (writes_as _ _ (ap (λ (xs : List Assign). assert_lines c.args.parts.now 0 xs) c.deref-3.ensures.value) c.in_err-asserts.ensures)))
+    (writes_cut _ _ (writes_on (writes_on
+    (writes_as _ _ (ap (λ (xs : List Variable). concat (map (variable_line c.args.parts.now) xs))
+    c.deref.ensures.value) c.in_ok-variables.ensures)
+    (writes_as _ _ (ap (λ (xs : List Event). concat (map (event_lines c.args.parts.now) xs))
+    c.deref-2.ensures.value) c.in_ok-events.ensures))
+    (writes_as _ _ (ap (λ (xs : List Assign). assert_lines c.args.parts.now 0 xs) c.deref-3.ensures.value)
+    c.in_err-asserts.ensures)))
 
 pub returns : goal.returns
 returns g c =
-    writes_on (writes_on (writes_on (writes_as _ _ (ap (λ (xs : List Variable). concat (map (variable_line c.args.parts.now) xs)) c.deref.ensures.value) c.in_ok-variables.ensures) (writes_as _ _ (ap (λ (xs : List Event). concat (map (event_lines c.args.parts.now) xs)) c.deref-2.ensures.value) c.in_ok-events.ensures)) (writes_as _ _ (ap (λ (xs : List Assign). assert_lines c.args.parts.now 0 xs) c.deref-3.ensures.value) c.in_ok-asserts.ensures)) (writes_as _ _ (ap (λ (xs : List Observer). concat (map (observer_line c.args.parts.now) xs)) c.deref-4.ensures.value) c.observers.ensures)
+    writes_on (writes_on (writes_on (writes_as _ _
+    (ap (λ (xs : List Variable). concat (map (variable_line c.args.parts.now) xs)) c.deref.ensures.value)
+    c.in_ok-variables.ensures) (writes_as _ _
+    (ap (λ (xs : List Event). concat (map (event_lines c.args.parts.now) xs)) c.deref-2.ensures.value)
+    c.in_ok-events.ensures)) (writes_as _ _
+    (ap (λ (xs : List Assign). assert_lines c.args.parts.now 0 xs) c.deref-3.ensures.value)
+    c.in_ok-asserts.ensures)) (writes_as _ _
+    (ap (λ (xs : List Observer). concat (map (observer_line c.args.parts.now) xs)) c.deref-4.ensures.value)
+    c.observers.ensures)

@@ -11,14 +11,17 @@ loop-x-init g c = leaves_all _ _
 pub returns-in_err-variable : goal.returns-in_err-variable
 returns-in_err-variable g c =
     writes_exit _ _ c.from_residual.ensures.1 (leaves_cut _ _ c.loop-x.invariant c.in_err-variable.ensures
-    (next_item (λ (xs : List Variable). concat (map (variable_line c.args.parts.now) xs)) c.args.all.now c.loop-x.x-index c.x-item.result c.loop-x-test.true c.x-item.is))
+    (next_item (λ (xs : List Variable). concat (map (variable_line c.args.parts.now) xs)) c.args.all.now
+    c.loop-x.x-index c.x-item.result c.loop-x-test.true c.x-item.is))
 
 pub loop-x-preserved : goal.loop-x-preserved
 loop-x-preserved g c =
     leaves_on _ _ c.loop-x.invariant c.in_ok-variable.ensures
-    (next_item (λ (xs : List Variable). concat (map (variable_line c.args.parts.now) xs)) c.args.all.now c.loop-x.x-index c.x-item.result c.loop-x-test.true c.x-item.is)
+    (next_item (λ (xs : List Variable). concat (map (variable_line c.args.parts.now) xs)) c.args.all.now
+    c.loop-x.x-index c.x-item.result c.loop-x-test.true c.x-item.is)
 
 pub returns : goal.returns
 returns g c =
     leaves_none _ c.loop-x.invariant
-    (no_item (λ (xs : List Variable). concat (map (variable_line c.args.parts.now) xs)) c.args.all.now c.loop-x.x-index c.loop-x-test.false)
+    (no_item (λ (xs : List Variable). concat (map (variable_line c.args.parts.now) xs)) c.args.all.now c.loop-x.x-index
+    c.loop-x-test.false)

@@ -7,10 +7,12 @@ use Rattle.gts_core.proofs.readings.are_met.Goals as goal
 pub returns-then-not-is_met : goal.returns-then-not-is_met
 returns-then-not-is_met c =
     let test = is_met c.args.values.now in
-    sym (list_all_at test c.args.conditions.now c.loop-test.test-index c.loop-test-item.result c.loop-test-test.true (ap test (sym c.loop-test-item.is) ∙ sym c.is_met.ensures ∙ c.if-not-is_met.true))
+    sym (list_all_at test c.args.conditions.now c.loop-test.test-index c.loop-test-item.result c.loop-test-test.true
+    (ap test (sym c.loop-test-item.is) ∙ sym c.is_met.ensures ∙ c.if-not-is_met.true))
 
 pub loop-test-preserved : goal.loop-test-preserved
 loop-test-preserved c =
     let test = is_met c.args.values.now in
     list_all_more test c.args.conditions.now c.loop-test.test-index c.loop-test-item.result c.loop-test-test.true
-    ∙ and_from _ _ c.loop-test.invariant (ap test (sym c.loop-test-item.is) ∙ sym c.is_met.ensures ∙ c.if-not-is_met.false)
+    ∙ and_from _ _ c.loop-test.invariant
+    (ap test (sym c.loop-test-item.is) ∙ sym c.is_met.ensures ∙ c.if-not-is_met.false)

@@ -19,8 +19,12 @@ act_nodes-returns-in-If t c = λ cs a.
     let h = rw c.deref.ensures at c.act_nodes-here.ensures in
     let k = rw c.deref-in-If.ensures at c.act_nodes-there.ensures in
     both_capped _ _ _ c.act_nodes-here.result c.act_nodes-there.result c.sum-in-If.result n
-    (h (cs ++ (numbered c.in-If.test, true) ∷ []) (inner_nodes cs c.in-If.test true c.args.above c.nodes-in-If.result c.sum-inner.result a c.nodes-in-If.ensures c.sum-inner.ensures))
-    (k (cs ++ (numbered c.in-If.test, false) ∷ []) (inner_nodes cs c.in-If.test false c.args.above c.nodes-in-If.result c.sum-inner.result a c.nodes-in-If.ensures c.sum-inner.ensures)) c.sum-in-If.ensures
+    (h (cs ++ (numbered c.in-If.test, true) ∷ [])
+    (inner_nodes cs c.in-If.test true c.args.above c.nodes-in-If.result c.sum-inner.result a c.nodes-in-If.ensures
+    c.sum-inner.ensures))
+    (k (cs ++ (numbered c.in-If.test, false) ∷ [])
+    (inner_nodes cs c.in-If.test false c.args.above c.nodes-in-If.result c.sum-inner.result a c.nodes-in-If.ensures
+    c.sum-inner.ensures)) c.sum-in-If.ensures
 
 pub act_nodes-returns-in-All : goal.act_nodes-returns-in-All
 act_nodes-returns-in-All t c = λ cs a.
@@ -30,4 +34,5 @@ act_nodes-returns-in-All t c = λ cs a.
 pub acts_nodes-loop-act-preserved : goal.acts_nodes-loop-act-preserved
 acts_nodes-loop-act-preserved t c = λ cs a.
     let s = item_stands c.args.acts.now c.loop-act.act-index c.act-item.result c.loop-act-test.true c.act-item.is in
-    acts_next c.args.acts.now c.loop-act.act-index c.act-item.result cs c.loop-act.total c.act_nodes.result c.sum-total.result s (c.loop-act.invariant cs a) (c.act_nodes.ensures cs a) c.sum-total.ensures
+    acts_next c.args.acts.now c.loop-act.act-index c.act-item.result cs c.loop-act.total c.act_nodes.result
+    c.sum-total.result s (c.loop-act.invariant cs a) (c.act_nodes.ensures cs a) c.sum-total.ensures

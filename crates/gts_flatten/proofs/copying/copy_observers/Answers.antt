@@ -6,5 +6,6 @@ loop-observer-init c = rows_start c.new-copies.result.items c.new-copies.ensures
 
 pub loop-observer-preserved : goal.loop-observer-preserved
 loop-observer-preserved c =
-    rows_next c.args.observers.now c.loop-observer.observer-index c.observer-item.result c.in_ok-copy.copy c.loop-observer.copies.items c.push.new.self.items c.loop-observer-test.true
+    rows_next c.args.observers.now c.loop-observer.observer-index c.observer-item.result c.in_ok-copy.copy
+    c.loop-observer.copies.items c.push.new.self.items c.loop-observer-test.true
     c.observer-item.is c.loop-observer.invariant c.in_ok-copy.ensures c.in_ok-push.ensures.items

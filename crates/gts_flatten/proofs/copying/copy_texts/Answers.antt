@@ -4,8 +4,10 @@ use Rattle.gts_flatten.proofs.copying.copy_texts.Goals as goal
 
 pub loop-text-preserved : goal.loop-text-preserved
 loop-text-preserved c =
-    same_next c.args.texts.now c.loop-text.text-index c.text-item.result c.in_ok-copy.copy c.loop-text.copies.items c.push.new.self.items c.loop-text-test.true c.text-item.is
+    same_next c.args.texts.now c.loop-text.text-index c.text-item.result c.in_ok-copy.copy c.loop-text.copies.items
+    c.push.new.self.items c.loop-text-test.true c.text-item.is
     c.loop-text.invariant c.in_ok-copy.ensures c.in_ok-push.ensures.items
 
 pub returns : goal.returns
-returns c = same_end c.args.texts.now c.loop-text.text-index c.loop-text.copies.items (omega (arith, c.loop-text-test.false)) c.loop-text.invariant
+returns c = same_end c.args.texts.now c.loop-text.text-index c.loop-text.copies.items
+    (omega (arith, c.loop-text-test.false)) c.loop-text.invariant

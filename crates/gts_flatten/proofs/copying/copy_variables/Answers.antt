@@ -6,5 +6,6 @@ loop-variable-init c = rows_start c.new-copies.result.items c.new-copies.ensures
 
 pub loop-variable-preserved : goal.loop-variable-preserved
 loop-variable-preserved c =
-    rows_next c.args.variables.now c.loop-variable.variable-index c.variable-item.result c.in_ok-copy.copy c.loop-variable.copies.items c.push.new.self.items c.loop-variable-test.true
+    rows_next c.args.variables.now c.loop-variable.variable-index c.variable-item.result c.in_ok-copy.copy
+    c.loop-variable.copies.items c.push.new.self.items c.loop-variable-test.true
     c.variable-item.is c.loop-variable.invariant c.in_ok-copy.ensures c.in_ok-push.ensures.items

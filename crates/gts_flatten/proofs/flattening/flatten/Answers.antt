@@ -15,7 +15,8 @@ pub returns-in_err-plan : goal.returns-in_err-plan
 returns-in_err-plan c m units d k are of from =
     let r = err_from_is_err_and c.from_residual.result c.from_residual.ensures.1 in
     let different = events_different m units d k are of in
-    refused_so d c.args.bound.now from different _ _ _ r.1 r.2 (refused_told d c.args.bound.now from different _ (rw c.deref.ensures.value at c.in_err-plan.ensures))
+    refused_so d c.args.bound.now from different _ _ _ r.1 r.2
+    (refused_told d c.args.bound.now from different _ (rw c.deref.ensures.value at c.in_err-plan.ensures))
 
 pub returns-in_err-fit_nodes : goal.returns-in_err-fit_nodes
 returns-in_err-fit_nodes c m units d k are of from =
@@ -23,8 +24,11 @@ returns-in_err-fit_nodes c m units d k are of from =
     let different = events_different m units d k are of in
     let e = rw c.deref.ensures.value at c.in_ok-plan.ensures in
     let p = passed d c.args.bound.now from different e.0 e.1 in
-    let f = rw c.deref-2.ensures.value at (rw c.deref-3.ensures.value at (rw c.deref-4.ensures.value at c.in_err-fit_nodes.ensures)) in
-    refused_so d c.args.bound.now from different _ _ _ r.1 r.2 (nodes_refused d c.args.bound.now from different e.0 p _ (f p.meant.flat (is_system d c.args.bound.now from different p.meant)))
+    let f = rw c.deref-2.ensures.value
+    at (rw c.deref-3.ensures.value at (rw c.deref-4.ensures.value at c.in_err-fit_nodes.ensures)) in
+    refused_so d c.args.bound.now from different _ _ _ r.1 r.2
+    (nodes_refused d c.args.bound.now from different e.0 p _
+    (f p.meant.flat (is_system d c.args.bound.now from different p.meant)))
 
 pub parts_of-requires-clause-plan : goal.parts_of-requires-clause-plan
 parts_of-requires-clause-plan c =
@@ -37,11 +41,14 @@ new-requires c =
     let b = c.args.bound.now in
     let e = rw c.deref.ensures.value at c.in_ok-plan.ensures in
     let w = ways_of b.events.items e.0 e.1 in
-    let n = are_counts (declared_from 0 b.events.items) (declared_keyed b.events.items) (declared_key b.events.items) e.0 w.0 in
+    let n = are_counts (declared_from 0 b.events.items) (declared_keyed b.events.items) (declared_key b.events.items)
+    e.0 w.0 in
     let made = (rw c.deref-5.ensures.value at c.in_ok-parts.ensures) (map length e.0) n e.2.is in
     let f = flat_of b e.0 w.0 in
-    let g = (rw c.deref-2.ensures.value at (rw c.deref-3.ensures.value at (rw c.deref-4.ensures.value at c.in_ok-fit_nodes.ensures))) f.0 f.1 in
-    sound b e.0 w.0 c.in_ok-plan.plan.items e.2.is c.requires c.in_ok-parts.parts made w.1 (few_assigns b f.0 g.0 f.1 g.1)
+    let g = (rw c.deref-2.ensures.value
+    at (rw c.deref-3.ensures.value at (rw c.deref-4.ensures.value at c.in_ok-fit_nodes.ensures))) f.0 f.1 in
+    sound b e.0 w.0 c.in_ok-plan.plan.items e.2.is c.requires c.in_ok-parts.parts made w.1
+    (few_assigns b f.0 g.0 f.1 g.1)
 
 pub returns : goal.returns
 returns c m units d k are of from =
@@ -50,12 +57,15 @@ returns c m units d k are of from =
     let e = rw c.deref.ensures.value at c.in_ok-plan.ensures in
     let p = passed d b from different e.0 e.1 in
     let w = ways_of b.events.items e.0 e.1 in
-    let n = are_counts (declared_from 0 b.events.items) (declared_keyed b.events.items) (declared_key b.events.items) e.0 w.0 in
+    let n = are_counts (declared_from 0 b.events.items) (declared_keyed b.events.items) (declared_key b.events.items)
+    e.0 w.0 in
     let made = (rw c.deref-5.ensures.value at c.in_ok-parts.ensures) (map length e.0) n e.2.is in
-    let g = (rw c.deref-2.ensures.value at (rw c.deref-3.ensures.value at (rw c.deref-4.ensures.value at c.in_ok-fit_nodes.ensures)))
+    let g = (rw c.deref-2.ensures.value
+    at (rw c.deref-3.ensures.value at (rw c.deref-4.ensures.value at c.in_ok-fit_nodes.ensures)))
     p.meant.flat (is_system d b from different p.meant) in
     let is_sound = sound b e.0 w.0 c.in_ok-plan.plan.items e.2.is c.requires c.in_ok-parts.parts made w.1 (few_assigns b p.meant.flat g.0 (is_system d b from different p.meant) g.1) in (
       elaborated d b from different p.meant,
       flattens d b from different e.0 p g.0 g.1,
-      rw c.new.ensures (is_flat d b from different p.meant w.0 c.in_ok-plan.plan.items e.2.is c.requires c.in_ok-parts.parts made is_sound),
+      rw c.new.ensures (is_flat d b from different p.meant w.0 c.in_ok-plan.plan.items e.2.is c.requires
+          c.in_ok-parts.parts made is_sound),
     )

@@ -8,17 +8,21 @@ pub loop-number-preserved : goal.loop-number-preserved
 loop-number-preserved c =
     let i = c.loop-number.invariant in
     let run : IsRun c.args.plan.now c.loop-number.number c.loop-number.first c.in_ok-ways.ways.items =
-    subst (λ (n : ℕ). IsRun c.args.plan.now n c.loop-number.first c.in_ok-ways.ways.items) c.new.ensures c.in_ok-ways.ensures in
-    let len : c.len-first.result ≡ length c.in_ok-ways.ways.items = omega (arith, c.in_ok-ways.ways.ok.0, c.len-first.ensures) in
+    subst (λ (n : ℕ). IsRun c.args.plan.now n c.loop-number.first c.in_ok-ways.ways.items) c.new.ensures
+    c.in_ok-ways.ensures in
+    let len : c.len-first.result ≡ length c.in_ok-ways.ways.items =
+    omega (arith, c.in_ok-ways.ways.ok.0, c.len-first.ensures) in
     let there = item_stands c.args.declared.now c.loop-number.number c.index-declared-number.result c.loop-number-test.true c.index-declared-number.is in (
       (let a = length-append c.loop-number.events.items (c.in_ok-made.made ∷ []) in let e = ap length c.in_ok-push.ensures.items in omega (arith, a, e, i.0)),
       (let w = run.within i.1 in omega (arith, w, len)),
       λ counts are eq.
           let k = i.2 counts are eq in
-          let f = first_after counts c.args.declared.now c.args.plan.now are eq c.loop-number.number c.loop-number.first c.in_ok-ways.ways.items c.loop-number-test.true k.0 run in
+          let f = first_after counts c.args.declared.now c.args.plan.now are eq c.loop-number.number c.loop-number.first
+          c.in_ok-ways.ways.items c.loop-number-test.true k.0 run in
           let w = run_ways counts c.args.declared.now c.args.plan.now are eq c.loop-number.number c.loop-number.first c.in_ok-ways.ways.items c.loop-number-test.true k.0 run in (
             omega (arith, f, len),
-            event_more counts c.args.declared.now c.loop-number.events.items c.push.new.self.items c.loop-number.number c.index-declared-number.result c.in_ok-made.made i.0 there
+            event_more counts c.args.declared.now c.loop-number.events.items c.push.new.self.items c.loop-number.number
+                c.index-declared-number.result c.in_ok-made.made i.0 there
                 (c.in_ok-made.ensures counts c.loop-number.number w) c.in_ok-push.ensures.items k.1,
           ),
     )

@@ -10,5 +10,8 @@ use Rattle.gts_flatten.proofs.making.events_of.Given as goal
 
 abbrev pub invariant-loop-number : goal.invariant-loop-number
 invariant-loop-number l = (length l.events.items ≡ l.number) × (l.first ≤ length l.plan)
-    × ((counts : List ℕ) → AreCounts (declared_from 0 l.declared) counts → map planned_of l.plan ≡ planned_ways counts (declared_from 0 l.declared)
-    → (l.first ≡ first_of counts l.number) × ((n : ℕ) (d : DeclaredEvent) (e : Event) → Stands l.declared n d → Stands l.events.items n e → IsMadeEvent counts n d e))
+    × ((counts : List ℕ) → AreCounts (declared_from 0 l.declared) counts
+    → map planned_of l.plan ≡ planned_ways counts (declared_from 0 l.declared)
+    → (l.first ≡ first_of counts l.number)
+    × ((n : ℕ) (d : DeclaredEvent) (e : Event) → Stands l.declared n d → Stands l.events.items n e
+    → IsMadeEvent counts n d e))

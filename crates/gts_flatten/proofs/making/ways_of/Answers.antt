@@ -6,5 +6,6 @@ loop-planned-init c = rows_start c.new-ways.result.items c.new-ways.ensures.item
 
 pub loop-planned-preserved : goal.loop-planned-preserved
 loop-planned-preserved c =
-    rows_next c.args.plan.now c.loop-planned.planned-index c.planned-item.result c.in_ok-way.way c.loop-planned.ways.items c.push.new.self.items c.loop-planned-test.true
+    rows_next c.args.plan.now c.loop-planned.planned-index c.planned-item.result c.in_ok-way.way
+    c.loop-planned.ways.items c.push.new.self.items c.loop-planned-test.true
     c.planned-item.is c.loop-planned.invariant c.in_ok-way.ensures c.in_ok-push.ensures.items

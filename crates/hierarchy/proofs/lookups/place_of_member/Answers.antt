@@ -9,20 +9,33 @@ loop-place-init c = λ k d f l p e. omega (arith, f, l)
 
 pub returns-then-nodes-place : goal.returns-then-nodes-place
 returns-then-nodes-place c =
-    let low = IsPartitionPoint-from_clause (λ (d : MemNode). ltb d.unit.n c.args.unit.n) _ _ c.partition_point-from.ensures.partitioned (IsPartitionedBy-ltb (λ (d : MemNode). d.unit.n) _ c.args.unit.n c.requires) (λ a r q k. search rules) in
-    let high = IsPartitionPoint-from_clause (λ (d : MemNode). leb d.unit.n c.args.unit.n) _ _ c.partition_point-to.ensures.partitioned (IsPartitionedBy-leb (λ (d : MemNode). d.unit.n) _ c.args.unit.n c.requires) (λ a r q k. search rules) in
-    node_found (λ (d : MemNode). d) c.args.nodes.now c.args.unit.n c.args.name.n c.partition_point-from.result c.partition_point-to.result low high c.loop-place.place _ c.loop-place.auto.place c.loop-place-test.true c.partition_point-to.ensures.bound c.if-nodes-place.true
+    let low = IsPartitionPoint-from_clause (λ (d : MemNode). ltb d.unit.n c.args.unit.n) _ _
+    c.partition_point-from.ensures.partitioned
+    (IsPartitionedBy-ltb (λ (d : MemNode). d.unit.n) _ c.args.unit.n c.requires) (λ a r q k. search rules) in
+    let high = IsPartitionPoint-from_clause (λ (d : MemNode). leb d.unit.n c.args.unit.n) _ _
+    c.partition_point-to.ensures.partitioned
+    (IsPartitionedBy-leb (λ (d : MemNode). d.unit.n) _ c.args.unit.n c.requires) (λ a r q k. search rules) in
+    node_found (λ (d : MemNode). d) c.args.nodes.now c.args.unit.n c.args.name.n c.partition_point-from.result
+    c.partition_point-to.result low high c.loop-place.place _ c.loop-place.auto.place c.loop-place-test.true
+    c.partition_point-to.ensures.bound c.if-nodes-place.true
 
 pub loop-place-preserved : goal.loop-place-preserved
 loop-place-preserved c =
-    let l : c.loop-place.place < length c.args.nodes.now = omega (arith, c.loop-place-test.true, c.partition_point-to.ensures.bound) in
-    none_more (λ (d : MemNode). d.name.n) c.args.nodes.now c.args.name.n c.partition_point-from.result c.loop-place.place _ l c.if-nodes-place.false c.loop-place.invariant
+    let l : c.loop-place.place < length c.args.nodes.now =
+    omega (arith, c.loop-place-test.true, c.partition_point-to.ensures.bound) in
+    none_more (λ (d : MemNode). d.name.n) c.args.nodes.now c.args.name.n c.partition_point-from.result
+    c.loop-place.place _ l c.if-nodes-place.false c.loop-place.invariant
 
 pub returns : goal.returns
 returns c =
-    let low = IsPartitionPoint-from_clause (λ (d : MemNode). ltb d.unit.n c.args.unit.n) _ _ c.partition_point-from.ensures.partitioned (IsPartitionedBy-ltb (λ (d : MemNode). d.unit.n) _ c.args.unit.n c.requires) (λ a r q k. search rules) in
-    let high = IsPartitionPoint-from_clause (λ (d : MemNode). leb d.unit.n c.args.unit.n) _ _ c.partition_point-to.ensures.partitioned (IsPartitionedBy-leb (λ (d : MemNode). d.unit.n) _ c.args.unit.n c.requires) (λ a r q k. search rules) in
+    let low = IsPartitionPoint-from_clause (λ (d : MemNode). ltb d.unit.n c.args.unit.n) _ _
+    c.partition_point-from.ensures.partitioned
+    (IsPartitionedBy-ltb (λ (d : MemNode). d.unit.n) _ c.args.unit.n c.requires) (λ a r q k. search rules) in
+    let high = IsPartitionPoint-from_clause (λ (d : MemNode). leb d.unit.n c.args.unit.n) _ _
+    c.partition_point-to.ensures.partitioned
+    (IsPartitionedBy-leb (λ (d : MemNode). d.unit.n) _ c.args.unit.n c.requires) (λ a r q k. search rules) in
     λ k d p u e. c.loop-place.invariant k d
-    (run_from (λ (d : MemNode). d.unit.n) c.args.nodes.now c.args.unit.n c.partition_point-from.result c.partition_point-to.result low high k d p u)
+    (run_from (λ (d : MemNode). d.unit.n) c.args.nodes.now c.args.unit.n c.partition_point-from.result
+    c.partition_point-to.result low high k d p u)
     (let l = run_to (λ (d : MemNode). d.unit.n) c.args.nodes.now c.args.unit.n c.partition_point-from.result c.partition_point-to.result low high k d p u in search (rules, l))
     p e

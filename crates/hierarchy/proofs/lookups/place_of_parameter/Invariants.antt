@@ -5,4 +5,5 @@ use Rattle.hierarchy.proofs.lookups.place_of_parameter.Given as goal
 
 -- no node of the run up to here has the name
 abbrev pub invariant-loop-place : goal.invariant-loop-place
-invariant-loop-place l = (k : ℕ) (d : ParNode) → l.from ≤ k → k < l.place → Stands l.nodes k d → d.node.name.n ≡ l.name.n → ⊥
+invariant-loop-place l = (k : ℕ) (d : ParNode) → l.from ≤ k → k < l.place → Stands l.nodes k d
+    → d.node.name.n ≡ l.name.n → ⊥

@@ -8,7 +8,8 @@ pub returns : goal.returns
 returns c = λ t s.
     let o = s.outlines in
     let units = (rw c.deref.ensures.value at c.in_ok-units.ensures) t.model t.units o s.outcomes in
-    let variables_are = (rw c.deref-2.ensures.value at c.in_ok-variables.ensures) t.model t.units o (declarations_kept t s.kept) in
+    let variables_are = (rw c.deref-2.ensures.value at c.in_ok-variables.ensures) t.model t.units o
+    (declarations_kept t s.kept) in
     let parameters_are = (rw c.deref-3.ensures.value at c.in_ok-parameters.ensures) t.model t.units o in
     let events_are = (rw c.deref-4.ensures.value at c.in_ok-events.ensures) t.model t.units o in
     let observers_are = (rw c.deref-5.ensures.value at c.in_ok-observers.ensures) t.model t.units o in

@@ -13,7 +13,8 @@ returns-in_err-fit c = λ m t.
     let u = c.in_ok-unfolded.ensures.ok m t in
     let r = err_from_is_err_and c.from_residual-in_err-fit.result c.from_residual-in_err-fit.ensures.1 in
     let h = rw c.deref.ensures.value at c.in_err-fit.ensures in
-    limits_stop m (IsSettled c.args.classes.now) c.args.classes.now _ u.0 u.1 _ _ _ r.1 r.2 (h m u.0 (outlines_of m c.args.classes.now t u.0 _ u.1))
+    limits_stop m (IsSettled c.args.classes.now) c.args.classes.now _ u.0 u.1 _ _ _ r.1 r.2
+    (h m u.0 (outlines_of m c.args.classes.now t u.0 _ u.1))
 
 pub returns-in_err-keep_rules : goal.returns-in_err-keep_rules
 returns-in_err-keep_rules c = λ m t.

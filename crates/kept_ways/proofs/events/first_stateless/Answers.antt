@@ -24,8 +24,11 @@ pub returns-then-is_none : goal.returns-then-is_none
 returns-then-is_none c =
     let unit = c.loop-unit.unit in (
       record {
-        moves = subst (λ (z : Bool). Stands c.args.moving.now unit z) c.if-moves.true (stands_get c.args.moving.now unit false c.loop-unit-test.true);
-        none = subst (λ (z : Option VarId). Stands c.args.firsts.now unit z) (none_is (get_or c.args.firsts.now unit None) c.if-is_none.ensures) (stands_get c.args.firsts.now unit None (omega (arith, c.loop-unit-test.true, c.requires.long)));
+        moves = subst (λ (z : Bool). Stands c.args.moving.now unit z) c.if-moves.true
+            (stands_get c.args.moving.now unit false c.loop-unit-test.true);
+        none = subst (λ (z : Option VarId). Stands c.args.firsts.now unit z)
+            (none_is (get_or c.args.firsts.now unit None) c.if-is_none.ensures)
+            (stands_get c.args.firsts.now unit None (omega (arith, c.loop-unit-test.true, c.requires.long)));
       },
       below (IsStateless c.args.moving.now c.args.firsts.now) unit c.loop-unit.invariant,
     )

@@ -8,7 +8,8 @@ use Rattle.kept_ways.proofs.events.is_joint.Goals as goal
 pub returns-in-Some : goal.returns-in-Some
 returns-in-Some c =
     let e = c.in-Some.ensures.lookup in
-    let st = subst (λ (z : List Way). Stands z c.args.way.n c.in-Some.way.now) c.deref.ensures.value (stands_item c.deref.result.now c.args.way.n c.in-Some.way.now e.3.0 e.1) in
+    let st = subst (λ (z : List Way). Stands z c.args.way.n c.in-Some.way.now) c.deref.ensures.value
+    (stands_item c.deref.result.now c.args.way.n c.in-Some.way.now e.3.0 e.1) in
     joint_of c.args.parts.now c.args.way.n c.in-Some.way.now c.is_sync.result st c.is_sync.ensures
 
 pub returns-in-None : goal.returns-in-None

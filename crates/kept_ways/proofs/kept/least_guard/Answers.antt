@@ -6,7 +6,9 @@ pub loop-way-init : goal.loop-way-init
 loop-way-init c = least_start (λ (k : KeptWay). k.mode.guard_alone) c.args.kept.now
 
 pub loop-way-preserved : goal.loop-way-preserved
-loop-way-preserved c = least_more (λ (k : KeptWay). k.mode.guard_alone) c.args.kept.now c.loop-way.way-index _ c.loop-way.least c.least_with-least.result c.loop-way-test.true c.loop-way.invariant c.least_with-least.ensures
+loop-way-preserved c = least_more (λ (k : KeptWay). k.mode.guard_alone) c.args.kept.now c.loop-way.way-index _
+    c.loop-way.least c.least_with-least.result c.loop-way-test.true c.loop-way.invariant c.least_with-least.ensures
 
 pub returns : goal.returns
-returns c = least_all (λ (k : KeptWay). k.mode.guard_alone) c.args.kept.now c.loop-way.way-index c.loop-way.least c.loop-way-test.false c.loop-way.invariant
+returns c = least_all (λ (k : KeptWay). k.mode.guard_alone) c.args.kept.now c.loop-way.way-index c.loop-way.least
+    c.loop-way-test.false c.loop-way.invariant

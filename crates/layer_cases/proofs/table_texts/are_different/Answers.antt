@@ -13,8 +13,12 @@ short texts h = record {
 }
 
 -- two texts that are not the same are different
-two : (texts : List (List ℕ)) (x y : List ℕ) → length texts ≡ 2 → x ≡ get_or texts 0 x → y ≡ get_or texts 1 y → (x ≡ y → ⊥) → AreDifferent texts
-two texts x y l i j d = record { one = λ m n a s t. by m n a s t (stands_within texts m a s) (stands_within texts n a t) }
+two : (texts : List (List ℕ)) (x y : List ℕ) → length texts ≡ 2 → x ≡ get_or texts 0 x → y ≡ get_or texts 1 y
+    → (x ≡ y → ⊥) → AreDifferent texts
+two texts x y l i j d = record {
+  one = λ m n a s t. by m n a s t (stands_within texts m a s)
+      (stands_within texts n a t);
+}
   where
     first : Stands texts 0 x
     first = stands_item texts 0 x (omega (arith, l)) i
@@ -37,7 +41,8 @@ differ xs ys r e h same = let t : bytes_eq xs ys ≡ true = (bytes_eq-Decides xs
 
 pub returns-then-texts-eq2-clause-different : goal.returns-then-texts-eq2-clause-different
 returns-then-texts-eq2-clause-different c = λ h.
-    two c.args.texts.now c.index-texts-0.result c.index-texts-1.result (grind (arith, c.if-texts-eq2.true)) c.index-texts-0.is c.index-texts-1.is
+    two c.args.texts.now c.index-texts-0.result c.index-texts-1.result (grind (arith, c.if-texts-eq2.true))
+    c.index-texts-0.is c.index-texts-1.is
     (λ same. differ c.as_str.result.now c.as_str-then-texts-eq2.result.now c.ne.result c.ne.ensures h
     (c.as_str.ensures ∙ (same ∙ sym c.as_str-then-texts-eq2.ensures)))
 

@@ -10,6 +10,9 @@ loop-n-init c = live_start c.args.reaches.now c.new-live.result.items c.new-live
 
 pub loop-n-preserved : goal.loop-n-preserved
 loop-n-preserved c =
-    let st = stands_item c.args.reaches.now c.loop-n.n c.index-reaches-n.result c.loop-n-test.true c.index-reaches-n.is in
-    live_more c.args.reaches.now c.requires.apart c.loop-n.n c.index-reaches-n.result st c.new.result c.new.ensures c.loop-n.live.items c.loop-n.invariant c.add_edges.new.live.items
-    (subst (λ (z : List Edge). c.add_edges.new.live.items ≡ c.loop-n.live.items ++ map (live_at c.new.result) z) c.deref.ensures.value c.in_ok-add_edges.ensures)
+    let st = stands_item c.args.reaches.now c.loop-n.n c.index-reaches-n.result c.loop-n-test.true
+    c.index-reaches-n.is in
+    live_more c.args.reaches.now c.requires.apart c.loop-n.n c.index-reaches-n.result st c.new.result c.new.ensures
+    c.loop-n.live.items c.loop-n.invariant c.add_edges.new.live.items
+    (subst (λ (z : List Edge). c.add_edges.new.live.items ≡ c.loop-n.live.items ++ map (live_at c.new.result) z)
+    c.deref.ensures.value c.in_ok-add_edges.ensures)

@@ -8,12 +8,15 @@ use Rattle.live_edges.proofs.reaches.least_wrong.Goals as goal
 
 pub returns-then-reach : goal.returns-then-reach
 returns-then-reach c =
-    let st = stands_item c.args.reaches.now c.loop-n.n c.index-reaches-n.result c.loop-n-test.true c.index-reaches-n.is in
-    first_place (IsWrongAt c.args.reaches.now) c.loop-n.n (record { reach = c.index-reaches-n.result; stands = st; wrong = c.if-reach.true }) c.loop-n.invariant
+    let st = stands_item c.args.reaches.now c.loop-n.n c.index-reaches-n.result c.loop-n-test.true
+    c.index-reaches-n.is in
+    first_place (IsWrongAt c.args.reaches.now) c.loop-n.n
+    (record { reach = c.index-reaches-n.result; stands = st; wrong = c.if-reach.true }) c.loop-n.invariant
 
 pub loop-n-preserved : goal.loop-n-preserved
 loop-n-preserved c =
-    let st = stands_item c.args.reaches.now c.loop-n.n c.index-reaches-n.result c.loop-n-test.true c.index-reaches-n.is in
+    let st = stands_item c.args.reaches.now c.loop-n.n c.index-reaches-n.result c.loop-n-test.true
+    c.index-reaches-n.is in
     place_more (IsWrongAt c.args.reaches.now) c.loop-n.n c.loop-n.invariant
     (λ q. let e = ap (λ (z : Reach). z.wrong) (stands_one c.args.reaches.now c.loop-n.n q.reach c.index-reaches-n.result q.stands st) in let t = q.wrong in let u = c.if-reach.false in cc)
 

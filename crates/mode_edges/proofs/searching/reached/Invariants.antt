@@ -4,7 +4,9 @@ use Rattle.mode_edges.specs.Reached.{IsReaching}
 use Rattle.mode_edges.proofs.searching.reached.Given as goal
 
 abbrev pub invariant-loop-next : goal.invariant-loop-next
-invariant-loop-next l = IsReaching (record { parts = l.parts; number = l.variable.n; domain = values_of l.place.domain; ways = l.ways }) l.place.value l.next 0 l.found
+invariant-loop-next l = IsReaching (record
+    { parts = l.parts; number = l.variable.n; domain = values_of l.place.domain; ways = l.ways }) l.place.value l.next 0
+    l.found
 
 abbrev pub decreases-loop-next : goal.decreases-loop-next
 decreases-loop-next l = length (values_of l.place.domain) - l.next

@@ -11,6 +11,8 @@ pub returns : goal.returns
 returns c =
     let x = c.args.at.now.variable.n in
     let values = c.args.at.now.values.now in
-    let reaches = subst (λ (z : Option (List Value)). Reaches (HasAt x values) (assign_of c.args.assign.now) z) c.in-Some.is c.in_ok-set.ensures in
-    ok_as _ _ c.add_all.result (λ h. gives_set x values c.args.assign.now c.in-Some.set c.args.values.now.items c.add_all.new.values.items c.if-assign-at.false reaches
+    let reaches = subst (λ (z : Option (List Value)). Reaches (HasAt x values) (assign_of c.args.assign.now) z)
+    c.in-Some.is c.in_ok-set.ensures in
+    ok_as _ _ c.add_all.result (λ h. gives_set x values c.args.assign.now c.in-Some.set c.args.values.now.items
+    c.add_all.new.values.items c.if-assign-at.false reaches
     (h ∙ ap (λ z. c.args.values.now.items ++ z) c.values.ensures.values)) c.add_all.ensures

@@ -5,4 +5,6 @@ use Rattle.gts_core.proofs.Added.{Remains}
 use Rattle.mode_ways.proofs.moves.given.Given as goal
 
 abbrev pub invariant-loop-assign : goal.invariant-loop-assign
-invariant-loop-assign l = Remains (λ v. SomeHas (GivesValue (HasAt l.at.variable.n l.at.values.now) l.at.variable.n) (drop l.assign-index l.action) v) (λ v. SomeHas (GivesValue (HasAt l.at.variable.n l.at.values.now) l.at.variable.n) l.action v) [] l.values.items
+invariant-loop-assign l = Remains (λ v. SomeHas (GivesValue (HasAt l.at.variable.n l.at.values.now) l.at.variable.n)
+    (drop l.assign-index l.action) v) (λ v. SomeHas (GivesValue (HasAt l.at.variable.n l.at.values.now) l.at.variable.n)
+    l.action v) [] l.values.items

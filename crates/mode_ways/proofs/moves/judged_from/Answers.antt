@@ -5,7 +5,12 @@ use Rattle.mode_ways.proofs.Leading.{only_there}
 use Rattle.mode_ways.proofs.moves.judged_from.Goals as goal
 
 pub returns : goal.returns
-returns c = (c.requires.one, only_there c.args.values.now c.args.first c.if-has_other.ensures, listed c.args.domain.now c.args.first (c.if-not-holds.ensures.0 (search rules)))
+returns c = (
+  c.requires.one,
+  only_there c.args.values.now c.args.first c.if-has_other.ensures,
+  listed c.args.domain.now
+      c.args.first (c.if-not-holds.ensures.0 (search rules)),
+)
 
 pub returns-then-has_other : goal.returns-then-has_other
 returns-then-has_other c = let o = c.if-has_other.ensures in two o.other c.args.first o.has c.requires.one o.differs

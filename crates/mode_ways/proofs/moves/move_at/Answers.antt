@@ -12,13 +12,17 @@ returns-then-not-has c =
     let x = c.args.variable.n in
     let m = c.args.mode in
     let s = tells x (m ∷ []) c.args.guard.now c.in_ok-can.can c.in_ok-can.ensures.yields in
-    λ d. c.if-not-has.ensures (subst (λ (z : List Value). Contains z (Truth true)) (sym c.values.ensures.values) (s.complete (Truth true) (can_back x m c.args.guard.now c.args.action.now d)))
+    λ d. c.if-not-has.ensures (subst (λ (z : List Value). Contains z (Truth true)) (sym c.values.ensures.values)
+    (s.complete (Truth true) (can_back x m c.args.guard.now c.args.action.now d)))
 
 pub returns : goal.returns
 returns c =
     let x = c.args.variable.n in
     let m = c.args.mode in
     let s = tells x (m ∷ []) c.args.guard.now c.in_ok-can.can c.in_ok-can.ensures.yields in
-    let y = s.sound (Truth true) (subst (λ (z : List Value). Contains z (Truth true)) c.values.ensures.values c.if-not-has.ensures) in
-    judged_is x m c.args.guard.now c.args.action.now c.in_ok-values.values.items (values_of c.args.domain.now) c.in_ok-values.ensures (can_there x m c.args.guard.now c.args.action.now y) c.judged.result
-    (subst (λ (z : List Value). IsJudged z (values_of c.args.domain.now) c.judged.result) c.deref.ensures.value c.judged.ensures)
+    let y = s.sound (Truth true) (subst (λ (z : List Value). Contains z (Truth true)) c.values.ensures.values
+    c.if-not-has.ensures) in
+    judged_is x m c.args.guard.now c.args.action.now c.in_ok-values.values.items (values_of c.args.domain.now)
+    c.in_ok-values.ensures (can_there x m c.args.guard.now c.args.action.now y) c.judged.result
+    (subst (λ (z : List Value). IsJudged z (values_of c.args.domain.now) c.judged.result) c.deref.ensures.value
+    c.judged.ensures)

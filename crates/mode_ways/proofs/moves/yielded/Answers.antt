@@ -10,6 +10,8 @@ use Rattle.mode_ways.proofs.moves.yielded.Goals as goal
 
 pub returns : goal.returns
 returns c = (
-  subst (λ (cs : List (Expr VarId × Bool)). Passes (HasAt c.args.at.now.variable.n c.args.at.now.values.now) (map condition_of cs)) c.deref.ensures.value (holds _ _ c.if-not-reaches.false c.in_ok-reaches.ensures),
-  tells c.args.at.now.variable.n c.args.at.now.values.now c.args.assign.now.value c.in_ok-set.set c.in_ok-set.ensures.yields,
+  subst (λ (cs : List (Expr VarId × Bool)). Passes (HasAt c.args.at.now.variable.n c.args.at.now.values.now)
+      (map condition_of cs)) c.deref.ensures.value (holds _ _ c.if-not-reaches.false c.in_ok-reaches.ensures),
+  tells c.args.at.now.variable.n c.args.at.now.values.now c.args.assign.now.value c.in_ok-set.set
+      c.in_ok-set.ensures.yields,
 )

@@ -24,5 +24,6 @@ returns c =
     added.adds_one target a.target old mid refl (λ x e. e) c.in_ok-push.ensures.items in
     ok_as _ _ c.add_tests.result (λ h. added.adds_then target (ReadsVariable a) (NamesVariable a) old mid new first
     (added.adds_then value tests (ReadsVariable a) mid more new c.in_ok-add_named.ensures
-    (subst (λ (z : List (Expr VarId × Bool)). Adds (λ x. Tests x z) more new) c.deref.ensures.value h) (λ x d. d) (λ x d. inl d) (λ x d. inr d))
+    (subst (λ (z : List (Expr VarId × Bool)). Adds (λ x. Tests x z) more new) c.deref.ensures.value h) (λ x d. d)
+    (λ x d. inl d) (λ x d. inr d))
     (λ x d. d) (λ x d. inl d) (λ x d. inr d)) c.add_tests.ensures

@@ -5,4 +5,5 @@ use Rattle.module_text.specs.Arranged.{IsGroupOf}
 use Rattle.module_text.proofs.arranging.groups_of.Given as goal
 
 abbrev pub invariant-loop-module : goal.invariant-loop-module
-invariant-loop-module l = Along (IsGroupOf (edges_of l.forest.trees.items)) (take l.module-index l.modules) l.groups.items
+invariant-loop-module l = Along (IsGroupOf (edges_of l.forest.trees.items)) (take l.module-index l.modules)
+    l.groups.items

@@ -4,4 +4,5 @@ use Rattle.module_text.specs.Arranged.{groups_lines}
 use Rattle.module_text.proofs.printing.all_groups.Given as goal
 
 abbrev pub invariant-loop-one : goal.invariant-loop-one
-invariant-loop-one g l = Leaves (g.K.Sink.state l.initial.out) (g.K.Sink.state l.out) (groups_lines l.gts (drop l.one-index l.groups)) (groups_lines l.gts l.groups)
+invariant-loop-one g l = Leaves (g.K.Sink.state l.initial.out) (g.K.Sink.state l.out)
+    (groups_lines l.gts (drop l.one-index l.groups)) (groups_lines l.gts l.groups)

@@ -9,18 +9,24 @@ pub loop-one-init : goal.loop-one-init
 loop-one-init g c = leaves_all _ _
 
 pub form-requires : goal.form-requires
-form-requires g c = c.requires.each _ (one_here c.args.lines.now c.loop-one.one-index c.one-item.result (stands_item c.args.lines.now c.loop-one.one-index c.one-item.result c.loop-one-test.true c.one-item.is))
+form-requires g c = c.requires.each _
+    (one_here c.args.lines.now c.loop-one.one-index c.one-item.result
+    (stands_item c.args.lines.now c.loop-one.one-index c.one-item.result c.loop-one-test.true c.one-item.is))
 
 pub returns-in_err-form : goal.returns-in_err-form
 returns-in_err-form g c =
     writes_exit _ _ c.from_residual.ensures.1
     (leaves_cut _ _ c.loop-one.invariant c.in_err-form.ensures
-    (next_item (λ (xs : List Line). form_lines c.args.gts.now xs) c.args.lines.now c.loop-one.one-index c.one-item.result c.loop-one-test.true c.one-item.is))
+    (next_item (λ (xs : List Line). form_lines c.args.gts.now xs) c.args.lines.now c.loop-one.one-index
+    c.one-item.result c.loop-one-test.true c.one-item.is))
 
 pub loop-one-preserved : goal.loop-one-preserved
 loop-one-preserved g c =
     leaves_on _ _ c.loop-one.invariant c.in_ok-form.ensures
-    (next_item (λ (xs : List Line). form_lines c.args.gts.now xs) c.args.lines.now c.loop-one.one-index c.one-item.result c.loop-one-test.true c.one-item.is)
+    (next_item (λ (xs : List Line). form_lines c.args.gts.now xs) c.args.lines.now c.loop-one.one-index
+    c.one-item.result c.loop-one-test.true c.one-item.is)
 
 pub returns : goal.returns
-returns g c = leaves_none _ c.loop-one.invariant (no_item (λ (xs : List Line). form_lines c.args.gts.now xs) c.args.lines.now c.loop-one.one-index c.loop-one-test.false)
+returns g c = leaves_none _ c.loop-one.invariant
+    (no_item (λ (xs : List Line). form_lines c.args.gts.now xs) c.args.lines.now c.loop-one.one-index
+    c.loop-one-test.false)

@@ -4,4 +4,5 @@ use Rattle.module_text.specs.Arranged.{form_lines}
 use Rattle.module_text.proofs.printing.forms.Given as goal
 
 abbrev pub invariant-loop-one : goal.invariant-loop-one
-invariant-loop-one g l = Leaves (g.K.Sink.state l.initial.out) (g.K.Sink.state l.out) (form_lines l.gts (drop l.one-index l.lines)) (form_lines l.gts l.lines)
+invariant-loop-one g l = Leaves (g.K.Sink.state l.initial.out) (g.K.Sink.state l.out)
+    (form_lines l.gts (drop l.one-index l.lines)) (form_lines l.gts l.lines)

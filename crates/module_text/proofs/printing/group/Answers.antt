@@ -8,7 +8,12 @@ use Rattle.module_text.specs.declared.arranging.Line.{Line}
 use Rattle.module_text.proofs.printing.group.Goals as goal
 
 pub returns-in_err-head : goal.returns-in_err-head
-returns-in_err-head g c = writes_exit _ _ c.from_residual.ensures.1 (writes_cut _ _ (writes_as _ _ (ap (λ (z : GtsParts). module_line (text_at z.units.items c.args.group.now.unit.n)) c.parts.ensures.parts) c.in_err-head.ensures))
+returns-in_err-head g c = writes_exit _ _ c.from_residual.ensures.1
+    (writes_cut _ _ (writes_as _ _ (ap (λ (z : GtsParts). module_line (text_at z.units.items c.args.group.now.unit.n))
+    c.parts.ensures.parts) c.in_err-head.ensures))
 
 pub returns : goal.returns
-returns g c = (writes_on (writes_as _ _ (ap (λ (z : GtsParts). module_line (text_at z.units.items c.args.group.now.unit.n)) c.parts.ensures.parts) c.in_ok-head.ensures) (writes_as _ _ (ap (λ (z : List Line). part_lines c.args.gts.now z) c.deref.ensures.value) c.parts-2.ensures))
+returns g c = (writes_on (writes_as _ _
+    (ap (λ (z : GtsParts). module_line (text_at z.units.items c.args.group.now.unit.n)) c.parts.ensures.parts)
+    c.in_ok-head.ensures) (writes_as _ _ (ap (λ (z : List Line). part_lines c.args.gts.now z) c.deref.ensures.value)
+    c.parts-2.ensures))

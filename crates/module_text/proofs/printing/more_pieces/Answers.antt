@@ -10,18 +10,24 @@ pub loop-one-init : goal.loop-one-init
 loop-one-init g c = leaves_all _ _
 
 pub next_piece-requires : goal.next_piece-requires
-next_piece-requires g c = c.requires.each _ (one_here c.args.pieces.now c.loop-one.one-index _ (stands_get c.args.pieces.now c.loop-one.one-index _ c.loop-one-test.true))
+next_piece-requires g c = c.requires.each _
+    (one_here c.args.pieces.now c.loop-one.one-index _
+    (stands_get c.args.pieces.now c.loop-one.one-index _ c.loop-one-test.true))
 
 pub returns-in_err-next_piece : goal.returns-in_err-next_piece
 returns-in_err-next_piece g c =
     writes_exit _ _ c.from_residual.ensures.1
     (leaves_cut _ _ c.loop-one.invariant c.in_err-next_piece.ensures
-    (next_read (λ (xs : List Piece). separated false (codes ", ") (map (piece_text c.args.gts.now) xs)) c.args.pieces.now c.loop-one.one-index _ c.loop-one-test.true))
+    (next_read (λ (xs : List Piece). separated false (codes ", ") (map (piece_text c.args.gts.now) xs))
+    c.args.pieces.now c.loop-one.one-index _ c.loop-one-test.true))
 
 pub loop-one-preserved : goal.loop-one-preserved
 loop-one-preserved g c =
     leaves_on _ _ c.loop-one.invariant c.in_ok-next_piece.ensures
-    (next_read (λ (xs : List Piece). separated false (codes ", ") (map (piece_text c.args.gts.now) xs)) c.args.pieces.now c.loop-one.one-index _ c.loop-one-test.true)
+    (next_read (λ (xs : List Piece). separated false (codes ", ") (map (piece_text c.args.gts.now) xs))
+    c.args.pieces.now c.loop-one.one-index _ c.loop-one-test.true)
 
 pub returns : goal.returns
-returns g c = leaves_none _ c.loop-one.invariant (no_item (λ (xs : List Piece). separated false (codes ", ") (map (piece_text c.args.gts.now) xs)) c.args.pieces.now c.loop-one.one-index c.loop-one-test.false)
+returns g c = leaves_none _ c.loop-one.invariant
+    (no_item (λ (xs : List Piece). separated false (codes ", ") (map (piece_text c.args.gts.now) xs)) c.args.pieces.now
+    c.loop-one.one-index c.loop-one-test.false)

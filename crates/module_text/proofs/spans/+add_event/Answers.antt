@@ -10,7 +10,8 @@ add_at-requires-clause-next t c =
     let o = c.in-Some.owner in
     let d = inner_node nodes u _ o c.requires.known c.in-Some.is in
     let l = c.requires.owners.each u d.node o d.stands d.owner in
-    own_reach nodes u c.args.event (u - 1) d.node o c.args.ranges.now d.stands d.owner (omega (arith, l)) c.requires.next
+    own_reach nodes u c.args.event (u - 1) d.node o c.args.ranges.now d.stands d.owner (omega (arith, l))
+    c.requires.next
 
 pub add_event-requires : goal.add_event-requires
 add_event-requires t c =
@@ -21,7 +22,8 @@ add_event-requires t c =
     let l : o.n < u = c.requires.owners.each u d.node o d.stands d.owner in
     let k = c.requires.known in
     let room : length c.add_at.new.ranges + 1 ≡ length nodes = (let a = c.add_at.ensures.long in let b = c.requires.room in omega (arith, a, b)) in
-    let reach = above_reach nodes c.requires.owners u c.args.event (u - 1) d.node o c.args.ranges.now c.add_at.new.ranges d.stands d.owner (omega (arith, l)) c.requires.next c.add_at.ensures in
+    let reach = above_reach nodes c.requires.owners u c.args.event (u - 1) d.node o c.args.ranges.now
+    c.add_at.new.ranges d.stands d.owner (omega (arith, l)) c.requires.next c.add_at.ensures in
     ((let e = c.decreases in omega (arith, l, e)), (c.requires.owners, (c.requires.small, (omega (arith, l, k), (room, reach)))))
 
 pub returns : goal.returns
@@ -31,5 +33,6 @@ returns t c =
     let o = c.in-Some.owner in
     let d = inner_node nodes u _ o c.requires.known c.in-Some.is in
     let l = c.requires.owners.each u d.node o d.stands d.owner in
-    gains_up nodes u c.args.event (u - 1) d.node o c.args.ranges.now c.add_at.new.ranges c.add_event.new.ranges d.stands d.owner (omega (arith, l))
+    gains_up nodes u c.args.event (u - 1) d.node o c.args.ranges.now c.add_at.new.ranges c.add_event.new.ranges d.stands
+    d.owner (omega (arith, l))
     c.add_at.ensures c.add_event.ensures

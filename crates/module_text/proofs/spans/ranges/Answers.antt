@@ -37,10 +37,12 @@ add_event-requires-clause-known c =
 pub add_event-requires-clause-room : goal.add_event-requires-clause-room
 add_event-requires-clause-room c =
     let tree = c.args.tree.now in
-    let empty = subst (λ (z : List UnitNode). AreEmpty (length z) c.in_ok-ranges.ranges.items) c.deref.ensures.value c.in_ok-ranges.ensures in
+    let empty = subst (λ (z : List UnitNode). AreEmpty (length z) c.in_ok-ranges.ranges.items) c.deref.ensures.value
+    c.in_ok-ranges.ensures in
     let long = empty.long (some_units c.requires.model c.requires.units tree c.requires.is_tree) in
     ap (λ (z : List Range). length z + 1) c.deref_mut.ensures.value
-    ∙ (ap (λ (z : ℕ). z + 1) c.loop-number.invariant.long ∙ (long ∙ sym (ap length c.deref-in-loop-number.ensures.value)))
+    ∙ (ap (λ (z : ℕ). z + 1) c.loop-number.invariant.long
+    ∙ (long ∙ sym (ap length c.deref-in-loop-number.ensures.value)))
 
 pub add_event-requires-clause-next : goal.add_event-requires-clause-next
 add_event-requires-clause-next c =
@@ -54,9 +56,11 @@ add_event-requires-clause-next c =
     let there = stands_get c.deref-event-items.result.now n no_node c.loop-number-test.true in
     let s = subst (λ (ds : List MemNode). Stands ds n d) c.deref-event-items.ensures.value there in
     let empty = subst (λ (z : List UnitNode). AreEmpty (length z) start) c.deref.ensures.value c.in_ok-ranges.ensures in
-    subst (λ (z : List UnitNode). AllReach z d.unit.n n c.deref_mut.result.now) (sym c.deref-in-loop-number.ensures.value)
+    subst (λ (z : List UnitNode). AllReach z d.unit.n n c.deref_mut.result.now)
+    (sym c.deref-in-loop-number.ensures.value)
     (subst (λ (z : List Range). AllReach nodes d.unit.n n z) (sym c.deref_mut.ensures.value)
-    (all_reach nodes events n d start old (of_between c.requires.model c.requires.units tree c.requires.is_tree) empty s c.loop-number.invariant))
+    (all_reach nodes events n d start old (of_between c.requires.model c.requires.units tree c.requires.is_tree) empty s
+    c.loop-number.invariant))
 
 pub loop-number-preserved : goal.loop-number-preserved
 loop-number-preserved c =

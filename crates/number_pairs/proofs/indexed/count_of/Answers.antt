@@ -9,9 +9,11 @@ returns-in-Some-clause-above c = λ q o.
     let w = stands_within pairs o.place q o.stands in
     let last = length pairs - 1 in
     let e = ap (λ (z : ℕ × ℕ). z.0) (get_or_from_slice_get pairs o.place q q o.stands) in
-    let i = ap (λ (z : ℕ × ℕ). z.0) (get_or_from_slice_get pairs last c.in-Some.pair.now q (sym c.in-Some.ensures.value)) in
+    let i = ap (λ (z : ℕ × ℕ). z.0) (get_or_from_slice_get pairs last c.in-Some.pair.now q
+    (sym c.in-Some.ensures.value)) in
     let h = c.requires o.place last q (omega (arith, w)) (omega (arith, w)) in
     omega (arith, h, e, i)
 
 pub returns-in-Some-clause-least : goal.returns-in-Some-clause-least
-returns-in-Some-clause-least c = λ h. (c.in-Some.pair.now, record { place = length c.args.pairs.now - 1; stands = sym c.in-Some.ensures.value }, refl)
+returns-in-Some-clause-least c = λ h.
+    (c.in-Some.pair.now, record { place = length c.args.pairs.now - 1; stands = sym c.in-Some.ensures.value }, refl)

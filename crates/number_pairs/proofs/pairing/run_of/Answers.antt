@@ -5,21 +5,36 @@ use Rattle.number_pairs.proofs.pairing.run_of.Goals as goal
 
 pub slice_bounds-result-count : goal.slice_bounds-result-count
 slice_bounds-result-count c =
-    let low = IsPartitionPoint-from_clause (λ (r : ℕ × ℕ). ltb r.0 c.args.first) _ _ c.partition_point-from.ensures.partitioned (IsPartitionedBy-ltb (λ (r : ℕ × ℕ). r.0) _ c.args.first c.requires) (λ a r q k. search rules) in
-    let high = IsPartitionPoint-from_clause (λ (r : ℕ × ℕ). leb r.0 c.args.first) _ _ c.partition_point-to.ensures.partitioned (IsPartitionedBy-leb (λ (r : ℕ × ℕ). r.0) _ c.args.first c.requires) (λ a r q k. search rules) in
-    in_order c.args.pairs.now c.args.first c.partition_point-from.result c.partition_point-to.result low high c.partition_point-to.ensures.bound c.partition_point-from.ensures.bound
+    let low = IsPartitionPoint-from_clause (λ (r : ℕ × ℕ). ltb r.0 c.args.first) _ _
+    c.partition_point-from.ensures.partitioned
+    (IsPartitionedBy-ltb (λ (r : ℕ × ℕ). r.0) _ c.args.first c.requires) (λ a r q k. search rules) in
+    let high = IsPartitionPoint-from_clause (λ (r : ℕ × ℕ). leb r.0 c.args.first) _ _
+    c.partition_point-to.ensures.partitioned
+    (IsPartitionedBy-leb (λ (r : ℕ × ℕ). r.0) _ c.args.first c.requires) (λ a r q k. search rules) in
+    in_order c.args.pairs.now c.args.first c.partition_point-from.result c.partition_point-to.result low high
+    c.partition_point-to.ensures.bound c.partition_point-from.ensures.bound
 
 pub slice_bounds-result-start : goal.slice_bounds-result-start
 slice_bounds-result-start c =
-    let low = IsPartitionPoint-from_clause (λ (r : ℕ × ℕ). ltb r.0 c.args.first) _ _ c.partition_point-from.ensures.partitioned (IsPartitionedBy-ltb (λ (r : ℕ × ℕ). r.0) _ c.args.first c.requires) (λ a r q k. search rules) in
-    let high = IsPartitionPoint-from_clause (λ (r : ℕ × ℕ). leb r.0 c.args.first) _ _ c.partition_point-to.ensures.partitioned (IsPartitionedBy-leb (λ (r : ℕ × ℕ). r.0) _ c.args.first c.requires) (λ a r q k. search rules) in
-    let h : c.partition_point-from.result ≤ c.partition_point-to.result = in_order c.args.pairs.now c.args.first c.partition_point-from.result c.partition_point-to.result low high c.partition_point-to.ensures.bound c.partition_point-from.ensures.bound in
+    let low = IsPartitionPoint-from_clause (λ (r : ℕ × ℕ). ltb r.0 c.args.first) _ _
+    c.partition_point-from.ensures.partitioned
+    (IsPartitionedBy-ltb (λ (r : ℕ × ℕ). r.0) _ c.args.first c.requires) (λ a r q k. search rules) in
+    let high = IsPartitionPoint-from_clause (λ (r : ℕ × ℕ). leb r.0 c.args.first) _ _
+    c.partition_point-to.ensures.partitioned
+    (IsPartitionedBy-leb (λ (r : ℕ × ℕ). r.0) _ c.args.first c.requires) (λ a r q k. search rules) in
+    let h : c.partition_point-from.result ≤ c.partition_point-to.result =
+    in_order c.args.pairs.now c.args.first c.partition_point-from.result c.partition_point-to.result low high
+    c.partition_point-to.ensures.bound c.partition_point-from.ensures.bound in
     search (rules, h, c.partition_point-to.ensures.bound)
 
 pub returns : goal.returns
 returns c =
-    let low = IsPartitionPoint-from_clause (λ (r : ℕ × ℕ). ltb r.0 c.args.first) _ _ c.partition_point-from.ensures.partitioned (IsPartitionedBy-ltb (λ (r : ℕ × ℕ). r.0) _ c.args.first c.requires) (λ a r q k. search rules) in
-    let high = IsPartitionPoint-from_clause (λ (r : ℕ × ℕ). leb r.0 c.args.first) _ _ c.partition_point-to.ensures.partitioned (IsPartitionedBy-leb (λ (r : ℕ × ℕ). r.0) _ c.args.first c.requires) (λ a r q k. search rules) in
+    let low = IsPartitionPoint-from_clause (λ (r : ℕ × ℕ). ltb r.0 c.args.first) _ _
+    c.partition_point-from.ensures.partitioned
+    (IsPartitionedBy-ltb (λ (r : ℕ × ℕ). r.0) _ c.args.first c.requires) (λ a r q k. search rules) in
+    let high = IsPartitionPoint-from_clause (λ (r : ℕ × ℕ). leb r.0 c.args.first) _ _
+    c.partition_point-to.ensures.partitioned
+    (IsPartitionedBy-leb (λ (r : ℕ × ℕ). r.0) _ c.args.first c.requires) (λ a r q k. search rules) in
     let pairs = c.args.pairs.now in
     let from = c.partition_point-from.result in
     let to = c.partition_point-to.result in

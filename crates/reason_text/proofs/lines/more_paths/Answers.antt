@@ -17,11 +17,16 @@ loop-variable-init g c = leaves_all _ _
 pub returns-in_err-next_path : goal.returns-in_err-next_path
 returns-in_err-next_path g c =
     writes_exit _ _ c.from_residual.ensures.1
-    (leaves_cut _ _ c.loop-variable.invariant c.in_err-next_path.ensures (next_read (rest c.args.parts.now) c.args.variables.now c.loop-variable.variable-index _ c.loop-variable-test.true))
+    (leaves_cut _ _ c.loop-variable.invariant c.in_err-next_path.ensures
+    (next_read (rest c.args.parts.now) c.args.variables.now c.loop-variable.variable-index _
+    c.loop-variable-test.true))
 
 pub loop-variable-preserved : goal.loop-variable-preserved
 loop-variable-preserved g c =
-    leaves_on _ _ c.loop-variable.invariant c.in_ok-next_path.ensures (next_read (rest c.args.parts.now) c.args.variables.now c.loop-variable.variable-index _ c.loop-variable-test.true)
+    leaves_on _ _ c.loop-variable.invariant c.in_ok-next_path.ensures
+    (next_read (rest c.args.parts.now) c.args.variables.now c.loop-variable.variable-index _
+    c.loop-variable-test.true)
 
 pub returns : goal.returns
-returns g c = leaves_none _ c.loop-variable.invariant (no_item (rest c.args.parts.now) c.args.variables.now c.loop-variable.variable-index c.loop-variable-test.false)
+returns g c = leaves_none _ c.loop-variable.invariant
+    (no_item (rest c.args.parts.now) c.args.variables.now c.loop-variable.variable-index c.loop-variable-test.false)

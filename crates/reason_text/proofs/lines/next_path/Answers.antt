@@ -8,5 +8,6 @@ returns-in_err-put g c = writes_exit _ _ c.from_residual.ensures.1 (writes_cut _
 
 pub returns : goal.returns
 returns g c =
-    writes_as _ _ (next_pieces (naming_of_parts c.args.parts.now) c.args.variable.n c.variable_path.result.now c.variable_path.ensures)
+    writes_as _ _ (next_pieces (naming_of_parts c.args.parts.now) c.args.variable.n c.variable_path.result.now
+    c.variable_path.ensures)
     (writes_on c.in_ok-put.ensures c.put-2.ensures)

@@ -17,18 +17,23 @@ loop-reason-init g c = leaves_all _ _
 pub told_line-requires : goal.told_line-requires
 told_line-requires g c =
     c.requires.each c.reason-item.result (one_here c.args.reasons.now c.loop-reason.reason-index c.reason-item.result
-    (stands_item c.args.reasons.now c.loop-reason.reason-index c.reason-item.result c.loop-reason-test.true c.reason-item.is))
+    (stands_item c.args.reasons.now c.loop-reason.reason-index c.reason-item.result c.loop-reason-test.true
+    c.reason-item.is))
 
 pub returns-in_err-told_line : goal.returns-in_err-told_line
 returns-in_err-told_line g c =
     writes_exit _ _ c.from_residual.ensures.1
     (leaves_cut _ _ c.loop-reason.invariant c.in_err-told_line.ensures
-    (next_item (rest c.args.parts.now c.args.told.now) c.args.reasons.now c.loop-reason.reason-index c.reason-item.result c.loop-reason-test.true c.reason-item.is))
+    (next_item (rest c.args.parts.now c.args.told.now) c.args.reasons.now c.loop-reason.reason-index
+    c.reason-item.result c.loop-reason-test.true c.reason-item.is))
 
 pub loop-reason-preserved : goal.loop-reason-preserved
 loop-reason-preserved g c =
     leaves_on _ _ c.loop-reason.invariant c.in_ok-told_line.ensures
-    (next_item (rest c.args.parts.now c.args.told.now) c.args.reasons.now c.loop-reason.reason-index c.reason-item.result c.loop-reason-test.true c.reason-item.is)
+    (next_item (rest c.args.parts.now c.args.told.now) c.args.reasons.now c.loop-reason.reason-index
+    c.reason-item.result c.loop-reason-test.true c.reason-item.is)
 
 pub returns : goal.returns
-returns g c = leaves_none _ c.loop-reason.invariant (no_item (rest c.args.parts.now c.args.told.now) c.args.reasons.now c.loop-reason.reason-index c.loop-reason-test.false)
+returns g c = leaves_none _ c.loop-reason.invariant
+    (no_item (rest c.args.parts.now c.args.told.now) c.args.reasons.now c.loop-reason.reason-index
+    c.loop-reason-test.false)

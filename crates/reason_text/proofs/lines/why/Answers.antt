@@ -13,5 +13,6 @@ returns-in-Some g c =
     let r = c.args.reason.now in
     writes_as _ _
     (ap (λ (z : List VarId). added_text names c.in-Some.by.n r.round (numbers_of z)) c.deref.ensures.value
-    ∙ ap (λ (z : Option AssignId). why_text names (option_map (λ (a : AssignId). a.n) z) r.round (numbers_of r.rests_on.items)) (sym c.in-Some.is))
+    ∙ ap (λ (z : Option AssignId). why_text names (option_map (λ (a : AssignId). a.n) z) r.round
+    (numbers_of r.rests_on.items)) (sym c.in-Some.is))
     c.added.ensures

@@ -31,12 +31,19 @@ returns-in_err-told_lines g c =
     let told = c.in_ok-told.told.items in
     let names = naming_of_parts p in
     let observer = observed p c.args.observer in
-    let h = subst (λ (z : List Reason). AreTold p (reasons_of z) observer told) c.deref.ensures.value c.in_ok-told.ensures in
+    let h = subst (λ (z : List Reason). AreTold p (reasons_of z) observer told) c.deref.ensures.value
+    c.in_ok-told.ensures in
     let is : IsReasonText names (net_of p) values observer (told_lines names told (reasons_of found)) =
-    record { reasons = reasons_of found; are_reasons = are; lines = lines_are p values found are names observer told h } in
-    let e = line_as p c.parts.result.now told c.deref-2.result.now found c.deref-3.result.now c.parts.ensures.parts c.deref-2.ensures.value c.deref-3.ensures.value in
+    record {
+      reasons = reasons_of found;
+      are_reasons = are;
+      lines = lines_are p values found are names observer told h;
+    } in
+    let e = line_as p c.parts.result.now told c.deref-2.result.now found c.deref-3.result.now c.parts.ensures.parts
+    c.deref-2.ensures.value c.deref-3.ensures.value in
     let r = err_from_is_err_and c.from_residual-in_err-told_lines.result c.from_residual-in_err-told_lines.ensures.1 in
-    failed (IsReasonText names (net_of p) values observer) c.from_residual-in_err-told_lines.result (r.1 ∙ ap Err r.2) is
+    failed (IsReasonText names (net_of p) values observer) c.from_residual-in_err-told_lines.result (r.1 ∙ ap Err r.2)
+    is
     (writes_as _ _ e c.in_err-told_lines.ensures)
 
 pub returns : goal.returns
@@ -48,8 +55,14 @@ returns g c =
     let told = c.in_ok-told.told.items in
     let names = naming_of_parts p in
     let observer = observed p c.args.observer in
-    let h = subst (λ (z : List Reason). AreTold p (reasons_of z) observer told) c.deref.ensures.value c.in_ok-told.ensures in
+    let h = subst (λ (z : List Reason). AreTold p (reasons_of z) observer told) c.deref.ensures.value
+    c.in_ok-told.ensures in
     let is : IsReasonText names (net_of p) values observer (told_lines names told (reasons_of found)) =
-    record { reasons = reasons_of found; are_reasons = are; lines = lines_are p values found are names observer told h } in
-    let e = line_as p c.parts.result.now told c.deref-2.result.now found c.deref-3.result.now c.parts.ensures.parts c.deref-2.ensures.value c.deref-3.ensures.value in
+    record {
+      reasons = reasons_of found;
+      are_reasons = are;
+      lines = lines_are p values found are names observer told h;
+    } in
+    let e = line_as p c.parts.result.now told c.deref-2.result.now found c.deref-3.result.now c.parts.ensures.parts
+    c.deref-2.ensures.value c.deref-3.ensures.value in
     (told_lines names told (reasons_of found), is, writes_as _ _ e c.in_ok-told_lines.ensures)

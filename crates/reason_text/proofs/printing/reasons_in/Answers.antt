@@ -11,5 +11,6 @@ unreachable-requires c =
     let net = net_of c.args.gts.now in
     let t = c.args.state.now.values.items in
     let h = subst (λ (z : PropagateFault). IsReasonsAnswer net t (Err z)) c.in-Err-Flow.field-0-is
-    (subst (λ (z : Result (Vec Reason Global) PropagateFault). IsReasonsAnswer net t z) c.in-Err-Flow.is c.reasons.ensures) in
+    (subst (λ (z : Result (Vec Reason Global) PropagateFault). IsReasonsAnswer net t z) c.in-Err-Flow.is
+    c.reasons.ensures) in
     let e = flows_same net c.requires.flows.flows h in cc (e)

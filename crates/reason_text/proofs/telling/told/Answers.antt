@@ -9,9 +9,11 @@ pub returns-in-None : goal.returns-in-None
 returns-in-None c =
     let p = c.args.gts.now in
     let whole : c.len-count.result ≡ length c.parts.result.now.variables.items = search rules in
-    let e : c.len-count.result ≡ length p.variables.items = whole ∙ ap (λ (z : GtsParts). length z.variables.items) c.parts.ensures.parts in
+    let e : c.len-count.result ≡ length p.variables.items =
+    whole ∙ ap (λ (z : GtsParts). length z.variables.items) c.parts.ensures.parts in
     marks_as _ _ c.all.result
-    (λ v h. subst (λ (z : Option ℕ). AreTold p (reasons_of c.args.reasons.now) (observed p z) v.items) (sym c.in-None.is)
+    (λ v h. subst (λ (z : Option ℕ). AreTold p (reasons_of c.args.reasons.now) (observed p z) v.items)
+    (sym c.in-None.is)
     (told_all p (reasons_of c.args.reasons.now) c.len-count.result v.items e h)) c.all.ensures
 
 pub those_of-requires-clause-range : goal.those_of-requires-clause-range
@@ -25,4 +27,5 @@ those_of-requires-clause-count c =
 pub returns-in-Some : goal.returns-in-Some
 returns-in-Some c =
     marks_as _ _ c.those_of.result
-    (λ v h. subst (λ (z : Option ℕ). AreTold c.args.gts.now (reasons_of c.args.reasons.now) (observed c.args.gts.now z) v.items) (sym c.in-Some.is) h) c.those_of.ensures
+    (λ v h. subst (λ (z : Option ℕ). AreTold c.args.gts.now (reasons_of c.args.reasons.now) (observed c.args.gts.now z)
+    v.items) (sym c.in-Some.is) h) c.those_of.ensures

@@ -18,7 +18,8 @@ pub returns-in_err-way_named-in-Fires-clause-bad : goal.returns-in_err-way_named
 returns-in_err-way_named-in-Fires-clause-bad c = λ x of.
     let r = err_from_is_err_and c.from_residual.result c.from_residual.ensures.1 in
     line_passed x c.args.line.now c.args.number _ _ _ r.1 r.2
-    (label_bad x c.args.gts.now c.args.line.now c.in-Fires.label.now c.args.number _ c.in-Fires.ensures (c.in_err-way_named-in-Fires.ensures x of))
+    (label_bad x c.args.gts.now c.args.line.now c.in-Fires.label.now c.args.number _ c.in-Fires.ensures
+    (c.in_err-way_named-in-Fires.ensures x of))
 
 pub returns-clause-added : goal.returns-clause-added
 returns-clause-added c = λ x of.
@@ -29,11 +30,16 @@ returns-clause-added c = λ x of.
     (elim c.match-line_of.branch [
       | in-Fires+in_ok-way_named-in-Fires w ↦ (
           let a = w.in_ok-way_named-in-Fires.ensures x of in
-          subst (λ (z : Command). Adds x line (map (command_of p) old) (map (command_of p) old ++ command_of p z ∷ [])) (sym w.command-is)
-          (adds_fire (map (command_of p) old) w.in-Fires.label.now (label_of p w.in_ok-way_named-in-Fires.field-0.n) w.in-Fires.ensures a.0 a.2))
-      | in-GoesBack w ↦ subst (λ (z : Command). Adds x line (map (command_of p) old) (map (command_of p) old ++ command_of p z ∷ [])) (sym w.command-is) (adds_back _ w.in-GoesBack.ensures)
-      | in-Shows w ↦ subst (λ (z : Command). Adds x line (map (command_of p) old) (map (command_of p) old ++ command_of p z ∷ [])) (sym w.command-is) (adds_show _ w.in-Shows.ensures)
-      | in-ListsEnabled w ↦ subst (λ (z : Command). Adds x line (map (command_of p) old) (map (command_of p) old ++ command_of p z ∷ [])) (sym w.command-is) (adds_list _ w.in-ListsEnabled.ensures)
+          subst (λ (z : Command). Adds x line (map (command_of p) old) (map (command_of p) old ++ command_of p z ∷ []))
+          (sym w.command-is)
+          (adds_fire (map (command_of p) old) w.in-Fires.label.now (label_of p w.in_ok-way_named-in-Fires.field-0.n)
+          w.in-Fires.ensures a.0 a.2))
+      | in-GoesBack w ↦ subst (λ (z : Command). Adds x line (map (command_of p) old)
+          (map (command_of p) old ++ command_of p z ∷ [])) (sym w.command-is) (adds_back _ w.in-GoesBack.ensures)
+      | in-Shows w ↦ subst (λ (z : Command). Adds x line (map (command_of p) old)
+          (map (command_of p) old ++ command_of p z ∷ [])) (sym w.command-is) (adds_show _ w.in-Shows.ensures)
+      | in-ListsEnabled w ↦ subst (λ (z : Command). Adds x line (map (command_of p) old)
+          (map (command_of p) old ++ command_of p z ∷ [])) (sym w.command-is) (adds_list _ w.in-ListsEnabled.ensures)
     ])
 
 pub returns-clause-firable : goal.returns-clause-firable

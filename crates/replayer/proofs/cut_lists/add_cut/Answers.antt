@@ -16,7 +16,8 @@ pub returns-in_err-ways-clause-bad : goal.returns-in_err-ways-clause-bad
 returns-in_err-ways-clause-bad c = λ x of.
     let r = err_from_is_err_and c.from_residual.result c.from_residual.ensures.1 in
     line_passed x c.args.line.now c.args.number _ _ _ r.1 r.2
-    (labels_bad x c.args.gts.now c.args.line.now (texts_in c.in-Labels.inner.now) c.args.number _ c.in-Labels.ensures.0 c.in-Labels.ensures.1 (c.in_err-ways.ensures x of))
+    (labels_bad x c.args.gts.now c.args.line.now (texts_in c.in-Labels.inner.now) c.args.number _ c.in-Labels.ensures.0
+    c.in-Labels.ensures.1 (c.in_err-ways.ensures x of))
 
 pub returns-clause-added : goal.returns-clause-added
 returns-clause-added c = λ x of.
@@ -24,11 +25,14 @@ returns-clause-added c = λ x of.
     let line = c.args.line.now in
     let old = c.args.chains.now.items in
     let a = c.in_ok-ways.ensures x of in
-    one_added p x line c.args.number old c.push.new.self.items (record { line = c.args.number; ways = c.in_ok-ways.ways }) c.in_ok-push.ensures.items
-    (adds_cut (map (cut_of p) old) (texts_in c.in-Labels.inner.now) (labels_of p c.in_ok-ways.ways.items) c.in-Labels.ensures.0 c.in-Labels.ensures.1 a.0
+    one_added p x line c.args.number old c.push.new.self.items
+    (record { line = c.args.number; ways = c.in_ok-ways.ways }) c.in_ok-push.ensures.items
+    (adds_cut (map (cut_of p) old) (texts_in c.in-Labels.inner.now) (labels_of p c.in_ok-ways.ways.items)
+    c.in-Labels.ensures.0 c.in-Labels.ensures.1 a.0
     (λ others d. one_cut line (texts_in c.in-Labels.inner.now) others c.in-Labels.ensures.1 d) a.2)
 
 pub returns-clause-known : goal.returns-clause-known
 returns-clause-known c = λ x of h.
     let a = c.in_ok-ways.ensures x of in
-    chains_more c.args.gts.now c.args.chains.now.items c.push.new.self.items (record { line = c.args.number; ways = c.in_ok-ways.ways }) c.in_ok-push.ensures.items a.1 h
+    chains_more c.args.gts.now c.args.chains.now.items c.push.new.self.items
+    (record { line = c.args.number; ways = c.in_ok-ways.ways }) c.in_ok-push.ensures.items a.1 h

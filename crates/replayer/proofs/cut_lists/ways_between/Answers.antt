@@ -18,7 +18,8 @@ returns-in_err-way c = λ x of.
     let r = err_from_is_err_and c.from_residual.result c.from_residual.ensures.1 in
     labels_as x c.args.gts.now _ c.args.line _ _ _ r.1 r.2
     (label_fails x c.args.gts.now _ _ _ _ _ c.args.line _
-    (ap (map trimmed) (comma_first _ _ _ _ c.in-Some.is c.first_piece.ensures) ∙ ap (λ (z : List _). z ∷ map trimmed (commas_left c.first_piece.result.1)) (sym c.trimmed.ensures))
+    (ap (map trimmed) (comma_first _ _ _ _ c.in-Some.is c.first_piece.ensures)
+    ∙ ap (λ (z : List _). z ∷ map trimmed (commas_left c.first_piece.result.1)) (sym c.trimmed.ensures))
     (c.loop-rest.invariant.reached x of) (c.in_err-way.ensures x of))
 
 pub loop-rest-preserved : goal.loop-rest-preserved
@@ -26,7 +27,8 @@ loop-rest-preserved c = record {
   reached = λ x of.
       let a = c.in_ok-way.ensures x of in
       reached_more _ _ _ _ _ _ _
-      (ap (map trimmed) (comma_first _ _ _ _ c.in-Some.is c.first_piece.ensures) ∙ ap (λ (z : List _). z ∷ map trimmed (commas_left c.first_piece.result.1)) (sym c.trimmed.ensures))
+      (ap (map trimmed) (comma_first _ _ _ _ c.in-Some.is c.first_piece.ensures)
+      ∙ ap (λ (z : List _). z ∷ map trimmed (commas_left c.first_piece.result.1)) (sym c.trimmed.ensures))
       (labels_more c.args.gts.now _ _ c.in_ok-way.way c.in_ok-push.ensures.items)
       (c.loop-rest.invariant.reached x of) a.0 a.2;
   known = λ x of.

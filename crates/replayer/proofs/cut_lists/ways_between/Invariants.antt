@@ -12,7 +12,8 @@ use Rattle.replayer.proofs.cut_lists.ways_between.Given as goal
 abbrev pub invariant-loop-rest : goal.invariant-loop-rest
 invariant-loop-rest l = record {
   reached : (x : Elaborated) → IsOfTree x l.tree l.gts
-      → AreReached x (map trimmed (pieces is_comma l.inner)) (map trimmed (commas_left l.rest)) (labels_of l.gts l.ways.items);
+      → AreReached x (map trimmed (pieces is_comma l.inner)) (map trimmed (commas_left l.rest))
+      (labels_of l.gts l.ways.items);
   known : (x : Elaborated) → IsOfTree x l.tree l.gts → AreKnownWays l.gts l.ways.items;
 }
 

@@ -7,4 +7,5 @@ use Rattle.replayer.proofs.enabled.events_lines.Given as goal
 abbrev pub invariant-loop-event : goal.invariant-loop-event
 invariant-loop-event g l =
     (can : ℕ → Bool) → AreAnswers l.gts l.stepper.values can
-    → Leaves (g.K.Sink.state l.initial.out) (g.K.Sink.state l.out) (events_lines l.gts can (drop l.event-index l.events)) (events_lines l.gts can l.events)
+    → Leaves (g.K.Sink.state l.initial.out) (g.K.Sink.state l.out)
+    (events_lines l.gts can (drop l.event-index l.events)) (events_lines l.gts can l.events)

@@ -7,4 +7,5 @@ use Rattle.replayer.proofs.enabled.way_lines.Given as goal
 abbrev pub invariant-loop-way : goal.invariant-loop-way
 invariant-loop-way g l =
     (can : ℕ → Bool) → AreAnswers l.gts l.stepper.values can
-    → Leaves (g.K.Sink.state l.initial.out) (g.K.Sink.state l.out) (way_lines l.gts can (drop l.way-index l.ways)) (way_lines l.gts can l.ways)
+    → Leaves (g.K.Sink.state l.initial.out) (g.K.Sink.state l.out) (way_lines l.gts can (drop l.way-index l.ways))
+    (way_lines l.gts can l.ways)

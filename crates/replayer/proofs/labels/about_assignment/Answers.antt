@@ -20,8 +20,16 @@ returns-in_err-put-2 g c =
 pub returns-in_err-place : goal.returns-in_err-place
 returns-in_err-place g c =
     writes_exit _ _ c.from_residual-in_err-place.ensures.1
-    (writes_on c.in_ok-put.ensures (writes_on c.in_ok-number.ensures (writes_on c.in_ok-put-2.ensures (writes_cut _ _ (writes_as _ _ (place_read c.args.parts.now c.args.n c.index.result.now (read_stands c.args.parts.now.assigns.items c.args.n c.index.result.now c.requires.inside c.index.ensures)) c.in_err-place.ensures)))))
+    (writes_on c.in_ok-put.ensures (writes_on c.in_ok-number.ensures
+    (writes_on c.in_ok-put-2.ensures (writes_cut _ _
+    (writes_as _ _ (place_read c.args.parts.now c.args.n c.index.result.now
+    (read_stands c.args.parts.now.assigns.items c.args.n c.index.result.now c.requires.inside c.index.ensures))
+    c.in_err-place.ensures)))))
 
 pub returns : goal.returns
 returns g c =
-    writes_on c.in_ok-put.ensures (writes_on c.in_ok-number.ensures (writes_on c.in_ok-put-2.ensures (writes_on (writes_as _ _ (place_read c.args.parts.now c.args.n c.index.result.now (read_stands c.args.parts.now.assigns.items c.args.n c.index.result.now c.requires.inside c.index.ensures)) c.in_ok-place.ensures) c.put-3.ensures)))
+    writes_on c.in_ok-put.ensures (writes_on c.in_ok-number.ensures
+    (writes_on c.in_ok-put-2.ensures (writes_on
+    (writes_as _ _ (place_read c.args.parts.now c.args.n c.index.result.now
+    (read_stands c.args.parts.now.assigns.items c.args.n c.index.result.now c.requires.inside c.index.ensures))
+    c.in_ok-place.ensures) c.put-3.ensures)))

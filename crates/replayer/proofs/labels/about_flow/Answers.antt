@@ -13,4 +13,5 @@ returns-in_err-put-2 g c =
 
 pub returns : goal.returns
 returns g c =
-    writes_on c.in_ok-put.ensures (writes_on (writes_as _ _ c.variable_path.ensures c.in_ok-put-2.ensures) c.put-3.ensures)
+    writes_on c.in_ok-put.ensures (writes_on (writes_as _ _ c.variable_path.ensures c.in_ok-put-2.ensures)
+    c.put-3.ensures)

@@ -18,13 +18,15 @@ returns-in-Two g c =
 pub returns-in-Outside : goal.returns-in-Outside
 returns-in-Outside g c =
     writes_as _ _
-    (ap (λ (q : GtsParts). flow_fault_text (naming_of_parts q) (flows.Outside c.in-Outside.x.n)) c.parts-parts.ensures.parts
+    (ap (λ (q : GtsParts). flow_fault_text (naming_of_parts q) (flows.Outside c.in-Outside.x.n))
+    c.parts-parts.ensures.parts
     ∙ ap (λ (f : FlowFault). flow_fault_text (naming_of_parts c.args.gts.now) (fault_of f)) (sym c.in-Outside.is))
     c.about_flow-in-Outside.ensures
 
 pub returns-in-Broken : goal.returns-in-Broken
 returns-in-Broken g c =
     writes_as _ _
-    (ap (λ (q : GtsParts). flow_fault_text (naming_of_parts q) (flows.Broken c.in-Broken.a.n)) c.parts-parts.ensures.parts
+    (ap (λ (q : GtsParts). flow_fault_text (naming_of_parts q) (flows.Broken c.in-Broken.a.n))
+    c.parts-parts.ensures.parts
     ∙ ap (λ (f : FlowFault). flow_fault_text (naming_of_parts c.args.gts.now) (fault_of f)) (sym c.in-Broken.is))
     c.about_assignment.ensures

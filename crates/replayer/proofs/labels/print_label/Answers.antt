@@ -11,10 +11,15 @@ label-requires g c =
     let parts = c.parts-parts.result.now in
     let sound = subst IsSound (sym c.parts-parts.ensures.parts) c.parts-parts.ensures.sound in
     number_read parts c.args.way.n c.index-found.result.now sound
-    (read_stands parts.ways.items c.args.way.n c.index-found.result.now (subst (λ (p : GtsParts). c.args.way.n < length p.ways.items) (sym c.parts-parts.ensures.parts) c.requires) c.index-found.ensures)
+    (read_stands parts.ways.items c.args.way.n c.index-found.result.now
+    (subst (λ (p : GtsParts). c.args.way.n < length p.ways.items) (sym c.parts-parts.ensures.parts) c.requires)
+    c.index-found.ensures)
 
 pub returns : goal.returns
 returns g c =
     let parts = c.parts-parts.result.now in
-    let found = read_stands parts.ways.items c.args.way.n c.index-found.result.now (subst (λ (p : GtsParts). c.args.way.n < length p.ways.items) (sym c.parts-parts.ensures.parts) c.requires) c.index-found.ensures in
-    writes_as _ _ (label_read parts c.args.way.n c.index-found.result.now found ∙ ap (λ (p : GtsParts). way_label p c.args.way.n) c.parts-parts.ensures.parts) c.label.ensures
+    let found = read_stands parts.ways.items c.args.way.n c.index-found.result.now
+    (subst (λ (p : GtsParts). c.args.way.n < length p.ways.items) (sym c.parts-parts.ensures.parts) c.requires)
+    c.index-found.ensures in
+    writes_as _ _ (label_read parts c.args.way.n c.index-found.result.now found
+    ∙ ap (λ (p : GtsParts). way_label p c.args.way.n) c.parts-parts.ensures.parts) c.label.ensures

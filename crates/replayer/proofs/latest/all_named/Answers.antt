@@ -7,7 +7,8 @@ use Rattle.replayer.proofs.ObservingLemmas.{observed_start, observed_more, obser
 use Rattle.replayer.proofs.latest.all_named.Goals as goal
 
 pub loop-place-init : goal.loop-place-init
-loop-place-init c = subst (λ (z : List (ℕ × ℕ)). AreObserved c.args.parts.now 0 z) (sym c.new-pairs.ensures.items) (observed_start c.args.parts.now)
+loop-place-init c = subst (λ (z : List (ℕ × ℕ)). AreObserved c.args.parts.now 0 z) (sym c.new-pairs.ensures.items)
+    (observed_start c.args.parts.now)
 
 pub loop-place-preserved : goal.loop-place-preserved
 loop-place-preserved c =
@@ -16,8 +17,13 @@ loop-place-preserved c =
     let o = c.observer-item.result in
     let below = subst (λ (z : List Observer). i < length z) items c.loop-place-test.true in
     let is = subst (λ (z : List Observer). o ≡ get_or z i o) items c.observer-item.is in
-    let st : Stands c.args.parts.now.observers.items i o = subst (λ (z : Observer). Stands c.args.parts.now.observers.items i z) (sym is) (stands_get c.args.parts.now.observers.items i o below) in
-    observed_more c.args.parts.now i o c.loop-place.pairs.items c.add_named_pairs.new.found.items st c.loop-place.invariant c.in_ok-add_named_pairs.ensures
+    let st : Stands c.args.parts.now.observers.items i o =
+    subst (λ (z : Observer). Stands c.args.parts.now.observers.items i z) (sym is)
+    (stands_get c.args.parts.now.observers.items i o below) in
+    observed_more c.args.parts.now i o c.loop-place.pairs.items c.add_named_pairs.new.found.items st
+    c.loop-place.invariant c.in_ok-add_named_pairs.ensures
 
 pub returns : goal.returns
-returns c = observed_all c.args.parts.now c.loop-place.place c.loop-place.pairs.items (subst (λ (z : List Observer). length z ≤ c.loop-place.place) c.deref-observer-items.ensures.value c.loop-place-test.false) c.loop-place.invariant
+returns c = observed_all c.args.parts.now c.loop-place.place c.loop-place.pairs.items
+    (subst (λ (z : List Observer). length z ≤ c.loop-place.place) c.deref-observer-items.ensures.value
+    c.loop-place-test.false) c.loop-place.invariant

@@ -12,7 +12,14 @@ use Rattle.replayer.proofs.laws.replays_of_the_source.Goals as goal
 
 -- equal namings name alike
 alike : (a b : Naming) → a ≡ b → NameAlike a b
-alike a b e = subst (λ (z : Naming). NameAlike a z) e (record { variables = λ n. refl; events = λ n. refl; observers = λ n. refl; symbols = λ n. refl; places = λ n. refl })
+alike a b e = subst (λ (z : Naming). NameAlike a z) e
+    (record {
+      variables = λ n. refl;
+      events = λ n. refl;
+      observers = λ n. refl;
+      symbols = λ n. refl;
+      places = λ n. refl;
+    })
 
 pub returns : goal.returns
 returns c = λ x flat p is views commands text end.
@@ -22,13 +29,15 @@ returns c = λ x flat p is views commands text end.
       λ r. record {
         moments = r.moments;
         runs = runs_there (turned (IsNumber things)) flat x.system (flat_back things x.system flat own) r.runs;
-        trace = trace_there (turned (IsNumber things)) flat x.system (flat_back things x.system flat own) (naming_of_parts p) (naming_of x.declarations) (alike _ _ is.names) r.trace;
+        trace = trace_there (turned (IsNumber things)) flat x.system (flat_back things x.system flat own)
+            (naming_of_parts p) (naming_of x.declarations) (alike _ _ is.names) r.trace;
         ends = r.ends;
       },
       λ r. record {
         moments = r.moments;
         runs = runs_there (IsNumber things) x.system flat (flat_image things x.system flat own) r.runs;
-        trace = trace_there (IsNumber things) x.system flat (flat_image things x.system flat own) (naming_of x.declarations) (naming_of_parts p) (alike _ _ (sym is.names)) r.trace;
+        trace = trace_there (IsNumber things) x.system flat (flat_image things x.system flat own)
+            (naming_of x.declarations) (naming_of_parts p) (alike _ _ (sym is.names)) r.trace;
         ends = r.ends;
       },
     )

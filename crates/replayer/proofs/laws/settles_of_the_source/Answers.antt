@@ -12,7 +12,14 @@ use Rattle.replayer.proofs.laws.settles_of_the_source.Goals as goal
 
 -- equal namings name alike
 alike : (a b : Naming) → a ≡ b → NameAlike a b
-alike a b e = subst (λ (z : Naming). NameAlike a z) e (record { variables = λ n. refl; events = λ n. refl; observers = λ n. refl; symbols = λ n. refl; places = λ n. refl })
+alike a b e = subst (λ (z : Naming). NameAlike a z) e
+    (record {
+      variables = λ n. refl;
+      events = λ n. refl;
+      observers = λ n. refl;
+      symbols = λ n. refl;
+      places = λ n. refl;
+    })
 
 pub returns-clause-settles : goal.returns-clause-settles
 returns-clause-settles c = λ x flat p is views commands t.
@@ -45,13 +52,15 @@ returns-clause-fault_lines c = λ x flat p is views commands text.
         fault = r.fault;
         runs = runs_there (turned (IsNumber things)) flat x.system (flat_back things x.system flat own) r.runs;
         is_fault = r.is_fault;
-        told = moment_there (turned (IsNumber things)) flat x.system (flat_back things x.system flat own) (naming_of_parts p) (naming_of x.declarations) (alike _ _ is.names) r.told;
+        told = moment_there (turned (IsNumber things)) flat x.system (flat_back things x.system flat own)
+            (naming_of_parts p) (naming_of x.declarations) (alike _ _ is.names) r.told;
       },
       λ r. record {
         before = r.before;
         fault = r.fault;
         runs = runs_there (IsNumber things) x.system flat (flat_image things x.system flat own) r.runs;
         is_fault = r.is_fault;
-        told = moment_there (IsNumber things) x.system flat (flat_image things x.system flat own) (naming_of x.declarations) (naming_of_parts p) (alike _ _ (sym is.names)) r.told;
+        told = moment_there (IsNumber things) x.system flat (flat_image things x.system flat own)
+            (naming_of x.declarations) (naming_of_parts p) (alike _ _ (sym is.names)) r.told;
       },
     )

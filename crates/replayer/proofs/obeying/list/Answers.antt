@@ -15,7 +15,8 @@ returns-in_err-listed g c = λ system views.
     let may = some_answers p c.requires.sound at.values in
     let r = err_from_is_err_and c.from_residual.result c.from_residual.ensures.1 in
     answers_as (r.1 ∙ ap Err r.2)
-    (on_cut p c.requires.sound system views at.below at.values _ (list_on p c.requires.sound system views at) c.requires.below total (c.in_err-listed.ensures may.0 may.1))
+    (on_cut p c.requires.sound system views at.below at.values _ (list_on p c.requires.sound system views at)
+    c.requires.below total (c.in_err-listed.ensures may.0 may.1))
 
 pub returns : goal.returns
 returns g c = λ system views.

@@ -3,8 +3,15 @@ use Rattle.replayer.proofs.VisibleLemmas.{found_stands, found_none}
 use Rattle.replayer.proofs.paths.unless_hidden.Goals as goal
 
 pub returns-else-found : goal.returns-else-found
-returns-else-found c =
-    (refl, (c.in-Some.found.now, found_stands _ _ c.args.event.n c.in-Some.found.now c.deref.ensures.value c.in-Some.ensures.lookup.0 c.in-Some.ensures.lookup.1, c.if-found.false))
+returns-else-found c = (
+  refl,
+  (
+    c.in-Some.found.now,
+    found_stands _ _ c.args.event.n c.in-Some.found.now c.deref.ensures.value
+        c.in-Some.ensures.lookup.0 c.in-Some.ensures.lookup.1,
+    c.if-found.false,
+  ),
+)
 
 pub returns-in-None : goal.returns-in-None
 returns-in-None c = λ v s.

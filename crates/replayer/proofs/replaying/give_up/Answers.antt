@@ -19,13 +19,15 @@ returns-in_err-not_started-in-Flow g c = λ system views commands fires.
     let p = c.args.gts.now in
     let fails = subst (λ (f : PropagateFault). IsStartFault (net_of p) f) c.in-Flow.is c.requires.fault in
     let r = err_from_is_err_and c.from_residual.result c.from_residual.ensures.1 in
-    replay_as (r.1 ∙ ap Err r.2) (no_start_cut p c.requires.sound system views (fault_of c.in-Flow.flow) commands fails c.in_err-not_started-in-Flow.ensures)
+    replay_as (r.1 ∙ ap Err r.2) (no_start_cut p c.requires.sound system views (fault_of c.in-Flow.flow) commands fails
+    c.in_err-not_started-in-Flow.ensures)
 
 pub returns-in_ok-not_started-in-Flow : goal.returns-in_ok-not_started-in-Flow
 returns-in_ok-not_started-in-Flow g c = λ system views commands fires.
     let p = c.args.gts.now in
     let fails = subst (λ (f : PropagateFault). IsStartFault (net_of p) f) c.in-Flow.is c.requires.fault in
-    no_start_whole p c.requires.sound system views (fault_of c.in-Flow.flow) commands fails c.in_ok-not_started-in-Flow.ensures
+    no_start_whole p c.requires.sound system views (fault_of c.in-Flow.flow) commands fails
+    c.in_ok-not_started-in-Flow.ensures
 
 pub returns-in-Memory : goal.returns-in-Memory
 returns-in-Memory g c = λ system views commands fires.

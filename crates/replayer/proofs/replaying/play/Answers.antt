@@ -27,34 +27,41 @@ none = code.Fire (record { n = 0; of = record {} })
 pub returns-in_err-latest : goal.returns-in_err-latest
 returns-in_err-latest g c = λ system views.
     let r = err_from_is_err_and c.from_residual.result c.from_residual.ensures.1 in
-    replay_as (r.1 ∙ ap Err r.2) (no_memory c.args.gts.now c.requires.sound system views _ (fires_ways c.args.gts.now system views c.requires.sound c.args.commands.now c.requires.firable) _)
+    replay_as (r.1 ∙ ap Err r.2) (no_memory c.args.gts.now c.requires.sound system views _
+    (fires_ways c.args.gts.now system views c.requires.sound c.args.commands.now c.requires.firable) _)
 
 pub returns-in_err-started : goal.returns-in_err-started
 returns-in_err-started g c = λ system views.
     let p = c.args.gts.now in
     let t = c.args.stepper.values in
     let total = subst (λ (q : GtsParts). IsTotal q t) c.requires.same c.values.ensures.total in
-    let e = ap (λ (u : List Value). line (codes "start") ++ values_text p u) (c.deref-2.ensures.value ∙ c.values-2.ensures.values) in
+    let e = ap (λ (u : List Value). line (codes "start") ++ values_text p u)
+    (c.deref-2.ensures.value ∙ c.values-2.ensures.values) in
     let r = err_from_is_err_and c.from_residual-in_err-started.result c.from_residual-in_err-started.ensures.1 in
     replay_as (r.1 ∙ ap Err r.2)
-    (started_cut p c.requires.sound system views t _ c.requires.starts total (fires_ways p system views c.requires.sound c.args.commands.now c.requires.firable) (writes_as _ _ e c.in_err-started.ensures))
+    (started_cut p c.requires.sound system views t _ c.requires.starts total
+    (fires_ways p system views c.requires.sound c.args.commands.now c.requires.firable)
+    (writes_as _ _ e c.in_err-started.ensures))
 
 pub loop-command-init : goal.loop-command-init
 loop-command-init g c =
     let p = c.args.gts.now in
     let total = subst (λ (q : GtsParts). IsTotal q c.args.stepper.values) c.requires.same c.values.ensures.total in
-    let e = ap (λ (u : List Value). line (codes "start") ++ values_text p u) (c.deref-2.ensures.value ∙ c.values-2.ensures.values) in
+    let e = ap (λ (u : List Value). line (codes "start") ++ values_text p u)
+    (c.deref-2.ensures.value ∙ c.values-2.ensures.values) in
     record {
       same = c.requires.same;
       totals = subst (AreTotal p) (sym c.requires.no_step) (total_none p);
       latest = record {
         values = c.in_ok-latest.ensures.values ∙ c.deref.ensures.value ∙ c.values.ensures.values;
         total = total;
-        observed = subst (λ (q : GtsParts). AreInOrder q c.in_ok-latest.latest.observed.items) c.parts.ensures.parts c.in_ok-latest.ensures.observed;
+        observed = subst (λ (q : GtsParts). AreInOrder q c.in_ok-latest.latest.observed.items) c.parts.ensures.parts
+            c.in_ok-latest.ensures.observed;
       };
       played = λ system views.
           started_on p c.requires.sound system views c.args.stepper _ c.requires.starts c.requires.no_step total
-          (fires_ways p system views c.requires.sound c.args.commands.now c.requires.firable) (writes_as _ _ e c.in_ok-started.ensures);
+          (fires_ways p system views c.requires.sound c.args.commands.now c.requires.firable)
+          (writes_as _ _ e c.in_ok-started.ensures);
     }
 
 pub obey-requires-clause-firable : goal.obey-requires-clause-firable
@@ -70,7 +77,8 @@ returns-in_err-obey g c = λ system views.
     let i = c.loop-command.command-index in
     let r = err_from_is_err_and c.from_residual-in_err-obey.result c.from_residual-in_err-obey.ensures.1 in
     replay_as (r.1 ∙ ap Err r.2)
-    (obeyed_err (command_of p (get_or cs i none)) _ _ _ (at_drop_more (λ (xs : List Command). map (command_of p) xs) cs i none c.loop-command-test.true)
+    (obeyed_err (command_of p (get_or cs i none)) _ _ _
+    (at_drop_more (λ (xs : List Command). map (command_of p) xs) cs i none c.loop-command-test.true)
     (c.loop-command.invariant.played system views) (c.in_err-obey.ensures.answers system views))
 
 pub returns-in-Fault : goal.returns-in-Fault
@@ -78,9 +86,12 @@ returns-in-Fault g c = λ system views.
     let p = c.args.gts.now in
     let cs = c.args.commands.now in
     let i = c.loop-command.command-index in
-    let a = subst (λ (z : End). Answers (naming_of_parts p) system c.loop-command.stepper c.obey.new.stepper (command_of p (get_or cs i none)) (g.K.Sink.state c.loop-command.out) (g.K.Sink.state c.obey.new.out) (Ok z))
+    let a = subst (λ (z : End). Answers (naming_of_parts p) system c.loop-command.stepper c.obey.new.stepper
+    (command_of p (get_or cs i none)) (g.K.Sink.state c.loop-command.out) (g.K.Sink.state c.obey.new.out)
+    (Ok z))
     c.in-Fault.is (c.in_ok-obey.ensures.answers system views) in
-    obeyed_stop (command_of p (get_or cs i none)) _ _ (at_drop_more (λ (xs : List Command). map (command_of p) xs) cs i none c.loop-command-test.true)
+    obeyed_stop (command_of p (get_or cs i none)) _ _
+    (at_drop_more (λ (xs : List Command). map (command_of p) xs) cs i none c.loop-command-test.true)
     (c.loop-command.invariant.played system views) a
 
 pub loop-command-preserved : goal.loop-command-preserved
@@ -93,9 +104,12 @@ loop-command-preserved g c =
       totals = c.in_ok-obey.ensures.below;
       latest = c.in_ok-obey.ensures.latest c.in-Done.is;
       played = λ system views.
-          let a = subst (λ (z : End). Answers (naming_of_parts p) system c.loop-command.stepper c.obey.new.stepper (command_of p (get_or cs i none)) (g.K.Sink.state c.loop-command.out) (g.K.Sink.state c.obey.new.out) (Ok z))
+          let a = subst (λ (z : End). Answers (naming_of_parts p) system c.loop-command.stepper c.obey.new.stepper
+          (command_of p (get_or cs i none)) (g.K.Sink.state c.loop-command.out) (g.K.Sink.state c.obey.new.out)
+          (Ok z))
           c.in-Done.is (c.in_ok-obey.ensures.answers system views) in
-          obeyed_on (command_of p (get_or cs i none)) _ _ (at_drop_more (λ (xs : List Command). map (command_of p) xs) cs i none c.loop-command-test.true)
+          obeyed_on (command_of p (get_or cs i none)) _ _
+          (at_drop_more (λ (xs : List Command). map (command_of p) xs) cs i none c.loop-command-test.true)
           (c.loop-command.invariant.played system views) a;
     }
 
@@ -104,13 +118,17 @@ returns-in_err-ended g c = λ system views.
     let p = c.args.gts.now in
     let r = err_from_is_err_and c.from_residual-in_err-ended.result c.from_residual-in_err-ended.ensures.1 in
     replay_as (r.1 ∙ ap Err r.2)
-    (ended_cut p c.requires.sound system views (at_drop_all (λ (xs : List Command). map (command_of p) xs) c.args.commands.now c.loop-command.command-index c.loop-command-test.false)
+    (ended_cut p c.requires.sound system views
+    (at_drop_all (λ (xs : List Command). map (command_of p) xs) c.args.commands.now c.loop-command.command-index
+    c.loop-command-test.false)
     (c.loop-command.invariant.played system views)
     (writes_as _ _ (ap (λ n. line (codes "end " ++ decimal n)) c.steps.ensures) c.in_err-ended.ensures))
 
 pub returns : goal.returns
 returns g c = λ system views.
     let p = c.args.gts.now in
-    ended_whole p c.requires.sound system views (at_drop_all (λ (xs : List Command). map (command_of p) xs) c.args.commands.now c.loop-command.command-index c.loop-command-test.false)
+    ended_whole p c.requires.sound system views
+    (at_drop_all (λ (xs : List Command). map (command_of p) xs) c.args.commands.now c.loop-command.command-index
+    c.loop-command-test.false)
     (c.loop-command.invariant.played system views)
     (writes_as _ _ (ap (λ n. line (codes "end " ++ decimal n)) c.steps.ensures) c.in_ok-ended.ensures)

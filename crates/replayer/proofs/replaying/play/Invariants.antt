@@ -13,5 +13,6 @@ invariant-loop-command g l = record {
   totals : AreTotal l.gts l.stepper.below;
   latest : IsLatest l.gts l.stepper.values l.latest;
   played : (system : System ℕ) → Views l.gts system
-      → IsPlayed (naming_of_parts l.gts) system (map (command_of l.gts) l.commands) l.stepper (map (command_of l.gts) (drop l.command-index l.commands)) (g.K.Sink.state l.fn.out) (g.K.Sink.state l.out);
+      → IsPlayed (naming_of_parts l.gts) system (map (command_of l.gts) l.commands) l.stepper
+      (map (command_of l.gts) (drop l.command-index l.commands)) (g.K.Sink.state l.fn.out) (g.K.Sink.state l.out);
 }

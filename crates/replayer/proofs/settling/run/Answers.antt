@@ -22,7 +22,8 @@ pub loop-command-init : goal.loop-command-init
 loop-command-init g c = record {
   same = c.requires.same;
   silent = λ system views. refl;
-  running = λ system views. running c.args.gts.now c.requires.sound system views c.args.stepper _ c.requires.starts c.requires.no_step;
+  running = λ system views. running c.args.gts.now c.requires.sound system views c.args.stepper _ c.requires.starts
+      c.requires.no_step;
 }
 
 pub take-requires-clause-firable : goal.take-requires-clause-firable
@@ -38,17 +39,22 @@ returns-in_err-take-clause-answers g c = λ system views.
     let i = c.loop-command.command-index in
     let r = err_from_is_err_and c.from_residual.result c.from_residual.ensures.1 in
     settles_as (naming_of_parts p) system (map (command_of p) cs) _ _ (r.1 ∙ ap Err r.2)
-    (running_fails (naming_of_parts p) c.take.new.stepper (command_of p (get_or cs i none)) _ _ _ _ _ _ (at_drop_more (λ (xs : List Command). map (command_of p) xs) cs i none c.loop-command-test.true)
-    (c.loop-command.invariant.running system views) (c.loop-command.invariant.silent system views) (c.in_err-take.ensures.answers system views))
+    (running_fails (naming_of_parts p) c.take.new.stepper (command_of p (get_or cs i none)) _ _ _ _ _ _
+    (at_drop_more (λ (xs : List Command). map (command_of p) xs) cs i none c.loop-command-test.true)
+    (c.loop-command.invariant.running system views) (c.loop-command.invariant.silent system views)
+    (c.in_err-take.ensures.answers system views))
 
 pub returns-in-Fault-clause-answers : goal.returns-in-Fault-clause-answers
 returns-in-Fault-clause-answers g c = λ system views.
     let p = c.args.gts.now in
     let cs = c.args.commands.now in
     let i = c.loop-command.command-index in
-    let a = subst (λ (z : End). AnswersCommand (naming_of_parts p) system c.loop-command.stepper c.take.new.stepper (command_of p (get_or cs i none)) (g.K.Sink.state c.loop-command.out) (g.K.Sink.state c.take.new.out) (Ok z))
+    let a = subst (λ (z : End). AnswersCommand (naming_of_parts p) system c.loop-command.stepper c.take.new.stepper
+    (command_of p (get_or cs i none)) (g.K.Sink.state c.loop-command.out) (g.K.Sink.state c.take.new.out)
+    (Ok z))
     c.in-Fault.is (c.in_ok-take.ensures.answers system views) in
-    running_told (naming_of_parts p) c.take.new.stepper (command_of p (get_or cs i none)) _ _ _ _ _ (at_drop_more (λ (xs : List Command). map (command_of p) xs) cs i none c.loop-command-test.true)
+    running_told (naming_of_parts p) c.take.new.stepper (command_of p (get_or cs i none)) _ _ _ _ _
+    (at_drop_more (λ (xs : List Command). map (command_of p) xs) cs i none c.loop-command-test.true)
     (c.loop-command.invariant.running system views) (c.loop-command.invariant.silent system views) a
 
 pub loop-command-preserved : goal.loop-command-preserved
@@ -59,21 +65,28 @@ loop-command-preserved g c =
     record {
       same = c.in_ok-take.ensures.system ∙ c.loop-command.invariant.same;
       silent = λ system views.
-          let a = subst (λ (z : End). AnswersCommand (naming_of_parts p) system c.loop-command.stepper c.take.new.stepper (command_of p (get_or cs i none)) (g.K.Sink.state c.loop-command.out) (g.K.Sink.state c.take.new.out) (Ok z))
+          let a = subst (λ (z : End). AnswersCommand (naming_of_parts p) system c.loop-command.stepper
+          c.take.new.stepper (command_of p (get_or cs i none)) (g.K.Sink.state c.loop-command.out)
+          (g.K.Sink.state c.take.new.out) (Ok z))
           c.in-Done.is (c.in_ok-take.ensures.answers system views) in
           a.1 ∙ c.loop-command.invariant.silent system views;
       running = λ system views.
-          let a = subst (λ (z : End). AnswersCommand (naming_of_parts p) system c.loop-command.stepper c.take.new.stepper (command_of p (get_or cs i none)) (g.K.Sink.state c.loop-command.out) (g.K.Sink.state c.take.new.out) (Ok z))
+          let a = subst (λ (z : End). AnswersCommand (naming_of_parts p) system c.loop-command.stepper
+          c.take.new.stepper (command_of p (get_or cs i none)) (g.K.Sink.state c.loop-command.out)
+          (g.K.Sink.state c.take.new.out) (Ok z))
           c.in-Done.is (c.in_ok-take.ensures.answers system views) in
-          running_on (command_of p (get_or cs i none)) _ _ (at_drop_more (λ (xs : List Command). map (command_of p) xs) cs i none c.loop-command-test.true)
+          running_on (command_of p (get_or cs i none)) _ _
+          (at_drop_more (λ (xs : List Command). map (command_of p) xs) cs i none c.loop-command-test.true)
           (c.loop-command.invariant.running system views) a.0;
     }
 
 pub returns-clause-answers : goal.returns-clause-answers
 returns-clause-answers g c = λ system views.
     let p = c.args.gts.now in
-    let settled = running_ends _ (at_drop_all (λ (xs : List Command). map (command_of p) xs) c.args.commands.now c.loop-command.command-index c.loop-command-test.false)
+    let settled = running_ends _ (at_drop_all (λ (xs : List Command). map (command_of p) xs) c.args.commands.now
+    c.loop-command.command-index c.loop-command-test.false)
     (c.loop-command.invariant.running system views) in (
-      subst (λ (t : List Value). Settles system (map (command_of p) c.args.commands.now) t) (sym (c.in_ok-values.ensures ∙ c.deref.ensures.value ∙ c.values.ensures.values)) settled,
+      subst (λ (t : List Value). Settles system (map (command_of p) c.args.commands.now) t)
+          (sym (c.in_ok-values.ensures ∙ c.deref.ensures.value ∙ c.values.ensures.values)) settled,
       c.loop-command.invariant.silent system views,
     )

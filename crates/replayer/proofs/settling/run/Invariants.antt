@@ -11,5 +11,6 @@ invariant-loop-command g l = record {
   same : l.stepper.system ≡ l.gts;
   silent : (system : System ℕ) → Views l.gts system → g.K.Sink.state l.out ≡ g.K.Sink.state l.fn.out;
   running : (system : System ℕ) → Views l.gts system
-      → IsRunning system (map (command_of l.gts) l.commands) l.stepper (map (command_of l.gts) (drop l.command-index l.commands));
+      → IsRunning system (map (command_of l.gts) l.commands) l.stepper
+      (map (command_of l.gts) (drop l.command-index l.commands));
 }

@@ -20,11 +20,17 @@ returns-in_err-not_started-in-Flow-clause-answers g c = λ system views commands
     let p = c.args.gts.now in
     let fails = subst (λ (f : PropagateFault). IsStartFault (net_of p) f) c.in-Flow.is c.requires.fault in
     let r = err_from_is_err_and c.from_residual.result c.from_residual.ensures.1 in
-    settles_as (naming_of_parts p) system commands _ _ (r.1 ∙ ap Err r.2)
-    (_, unstarted p c.requires.sound system views (fault_of c.in-Flow.flow) commands fails, c.in_err-not_started-in-Flow.ensures)
+    settles_as (naming_of_parts p) system commands _ _ (r.1 ∙ ap Err r.2) (
+      _,
+      unstarted p c.requires.sound system views (fault_of c.in-Flow.flow) commands fails,
+      c.in_err-not_started-in-Flow.ensures,
+    )
 
 pub returns-in_ok-not_started-in-Flow-clause-answers : goal.returns-in_ok-not_started-in-Flow-clause-answers
 returns-in_ok-not_started-in-Flow-clause-answers g c = λ system views commands.
     let p = c.args.gts.now in
-    let fails = subst (λ (f : PropagateFault). IsStartFault (net_of p) f) c.in-Flow.is c.requires.fault in
-    (_, unstarted p c.requires.sound system views (fault_of c.in-Flow.flow) commands fails, c.in_ok-not_started-in-Flow.ensures)
+    let fails = subst (λ (f : PropagateFault). IsStartFault (net_of p) f) c.in-Flow.is c.requires.fault in (
+      _,
+      unstarted p c.requires.sound system views (fault_of c.in-Flow.flow) commands fails,
+      c.in_ok-not_started-in-Flow.ensures,
+    )

@@ -12,4 +12,7 @@ returns-in_err-variable_lines g c =
 
 pub returns : goal.returns
 returns g c =
-    writes_on c.in_ok-variable_lines.ensures (writes_as _ _ (ap (λ (os : List Observer). observer_lines c.args.parts.now c.args.values.now 0 os) c.deref.ensures.value ∙ observers_alike c.args.parts.now c.args.values.now 0 c.args.parts.now.observers.items) c.observer_lines.ensures)
+    writes_on c.in_ok-variable_lines.ensures
+    (writes_as _ _ (ap (λ (os : List Observer). observer_lines c.args.parts.now c.args.values.now 0 os)
+    c.deref.ensures.value ∙ observers_alike c.args.parts.now c.args.values.now 0 c.args.parts.now.observers.items)
+    c.observer_lines.ensures)

@@ -11,7 +11,9 @@ returns-then-is_same g c =
     let one = observer_line (naming_of_parts c.args.parts.now) in
     let old = observer_value c.args.parts.now c.args.old.now c.args.n in
     let new = observer_value c.args.parts.now c.args.new.now c.args.n in
-    let e : is_same old new ≡ true = sym (ap (λ v. is_same v c.observer_value-is.result) c.observer_value-was.ensures ∙ ap (λ v. is_same old v) c.observer_value-is.ensures) ∙ sym c.is_same.ensures ∙ c.if-is_same.true in
+    let e : is_same old new ≡ true = sym
+    (ap (λ v. is_same v c.observer_value-is.result) c.observer_value-was.ensures
+    ∙ ap (λ v. is_same old v) c.observer_value-is.ensures) ∙ sym c.is_same.ensures ∙ c.if-is_same.true in
     writes_as _ _ (sym (ap (λ (b : Bool). if b then [] else one c.args.n new) e)) c.put.ensures
 
 pub returns-else-is_same : goal.returns-else-is_same
@@ -19,5 +21,8 @@ returns-else-is_same g c =
     let one = observer_line (naming_of_parts c.args.parts.now) in
     let old = observer_value c.args.parts.now c.args.old.now c.args.n in
     let new = observer_value c.args.parts.now c.args.new.now c.args.n in
-    let e : is_same old new ≡ false = sym (ap (λ v. is_same v c.observer_value-is.result) c.observer_value-was.ensures ∙ ap (λ v. is_same old v) c.observer_value-is.ensures) ∙ sym c.is_same.ensures ∙ c.if-is_same.false in
-    writes_as _ _ (ap (λ v. one c.args.n v) c.observer_value-is.ensures ∙ sym (ap (λ (b : Bool). if b then [] else one c.args.n new) e)) c.observer_line.ensures
+    let e : is_same old new ≡ false = sym
+    (ap (λ v. is_same v c.observer_value-is.result) c.observer_value-was.ensures
+    ∙ ap (λ v. is_same old v) c.observer_value-is.ensures) ∙ sym c.is_same.ensures ∙ c.if-is_same.false in
+    writes_as _ _ (ap (λ v. one c.args.n v) c.observer_value-is.ensures
+    ∙ sym (ap (λ (b : Bool). if b then [] else one c.args.n new) e)) c.observer_line.ensures

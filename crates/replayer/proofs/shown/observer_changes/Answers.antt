@@ -11,14 +11,17 @@ pub returns-in_err-observer_change : goal.returns-in_err-observer_change
 returns-in_err-observer_change g c =
     writes_exit _ _ c.from_residual.ensures.1
     (leaves_cut _ _ c.loop-number.invariant c.in_err-observer_change.ensures
-    (next_read (λ (xs : List ℕ). texts_of (observer_text c.args.parts.now c.args.old.now c.args.new.now) xs) c.args.touched.now c.loop-number.number-index 0 c.loop-number-test.true))
+    (next_read (λ (xs : List ℕ). texts_of (observer_text c.args.parts.now c.args.old.now c.args.new.now) xs)
+    c.args.touched.now c.loop-number.number-index 0 c.loop-number-test.true))
 
 pub loop-number-preserved : goal.loop-number-preserved
 loop-number-preserved g c =
     leaves_on _ _ c.loop-number.invariant c.in_ok-observer_change.ensures
-    (next_read (λ (xs : List ℕ). texts_of (observer_text c.args.parts.now c.args.old.now c.args.new.now) xs) c.args.touched.now c.loop-number.number-index 0 c.loop-number-test.true)
+    (next_read (λ (xs : List ℕ). texts_of (observer_text c.args.parts.now c.args.old.now c.args.new.now) xs)
+    c.args.touched.now c.loop-number.number-index 0 c.loop-number-test.true)
 
 pub returns : goal.returns
 returns g c =
     leaves_none _ c.loop-number.invariant
-    (no_item (λ (xs : List ℕ). texts_of (observer_text c.args.parts.now c.args.old.now c.args.new.now) xs) c.args.touched.now c.loop-number.number-index c.loop-number-test.false)
+    (no_item (λ (xs : List ℕ). texts_of (observer_text c.args.parts.now c.args.old.now c.args.new.now) xs)
+    c.args.touched.now c.loop-number.number-index c.loop-number-test.false)

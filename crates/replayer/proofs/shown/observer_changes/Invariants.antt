@@ -6,5 +6,6 @@ use Rattle.replayer.proofs.shown.observer_changes.Given as goal
 
 abbrev pub invariant-loop-number : goal.invariant-loop-number
 invariant-loop-number g l =
-    Leaves (g.K.Sink.state l.initial.out) (g.K.Sink.state l.out) (texts_of (observer_text l.parts l.old l.new) (drop l.number-index l.touched))
+    Leaves (g.K.Sink.state l.initial.out) (g.K.Sink.state l.out)
+    (texts_of (observer_text l.parts l.old l.new) (drop l.number-index l.touched))
     (texts_of (observer_text l.parts l.old l.new) l.touched)

@@ -11,8 +11,12 @@ returns-in_err-put g c =
 pub returns-in_err-named_value : goal.returns-in_err-named_value
 returns-in_err-named_value g c =
     writes_exit _ _ c.from_residual-in_err-named_value.ensures.1
-    (writes_on c.in_ok-put.ensures (writes_cut _ _ (writes_as _ _ (ap (λ (z : List ℕ). z ++ (codes " = " ++ value_text c.args.parts.now.symbols.items c.args.v)) c.observer_path.ensures) c.in_err-named_value.ensures)))
+    (writes_on c.in_ok-put.ensures (writes_cut _ _
+    (writes_as _ _ (ap (λ (z : List ℕ). z ++ (codes " = " ++ value_text c.args.parts.now.symbols.items c.args.v))
+    c.observer_path.ensures) c.in_err-named_value.ensures)))
 
 pub returns : goal.returns
 returns g c =
-    writes_on c.in_ok-put.ensures (writes_on (writes_as _ _ (ap (λ (z : List ℕ). z ++ (codes " = " ++ value_text c.args.parts.now.symbols.items c.args.v)) c.observer_path.ensures) c.in_ok-named_value.ensures) c.put-2.ensures)
+    writes_on c.in_ok-put.ensures (writes_on
+    (writes_as _ _ (ap (λ (z : List ℕ). z ++ (codes " = " ++ value_text c.args.parts.now.symbols.items c.args.v))
+    c.observer_path.ensures) c.in_ok-named_value.ensures) c.put-2.ensures)

@@ -20,18 +20,23 @@ returns-in_err-variable_line g c =
     let one = variable_line (naming_of_parts c.args.parts.now) in
     let x = get_or c.args.changed.now c.loop-variable.variable-index none in
     writes_exit _ _ c.from_residual.ensures.1
-    (leaves_cut _ _ c.loop-variable.invariant (writes_as _ _ (ap (λ v. one x.n v) c.value_at.ensures) c.in_err-variable_line.ensures)
-    (next_read (λ (xs : List VarId). texts_of (λ n. one n (value_at c.args.new.now n)) (numbers xs)) c.args.changed.now c.loop-variable.variable-index none c.loop-variable-test.true))
+    (leaves_cut _ _ c.loop-variable.invariant
+    (writes_as _ _ (ap (λ v. one x.n v) c.value_at.ensures) c.in_err-variable_line.ensures)
+    (next_read (λ (xs : List VarId). texts_of (λ n. one n (value_at c.args.new.now n)) (numbers xs)) c.args.changed.now
+    c.loop-variable.variable-index none c.loop-variable-test.true))
 
 pub loop-variable-preserved : goal.loop-variable-preserved
 loop-variable-preserved g c =
     let one = variable_line (naming_of_parts c.args.parts.now) in
     let x = get_or c.args.changed.now c.loop-variable.variable-index none in
-    leaves_on _ _ c.loop-variable.invariant (writes_as _ _ (ap (λ v. one x.n v) c.value_at.ensures) c.in_ok-variable_line.ensures)
-    (next_read (λ (xs : List VarId). texts_of (λ n. one n (value_at c.args.new.now n)) (numbers xs)) c.args.changed.now c.loop-variable.variable-index none c.loop-variable-test.true)
+    leaves_on _ _ c.loop-variable.invariant
+    (writes_as _ _ (ap (λ v. one x.n v) c.value_at.ensures) c.in_ok-variable_line.ensures)
+    (next_read (λ (xs : List VarId). texts_of (λ n. one n (value_at c.args.new.now n)) (numbers xs)) c.args.changed.now
+    c.loop-variable.variable-index none c.loop-variable-test.true)
 
 pub returns : goal.returns
 returns g c =
     let one = variable_line (naming_of_parts c.args.parts.now) in
     leaves_none _ c.loop-variable.invariant
-    (no_item (λ (xs : List VarId). texts_of (λ n. one n (value_at c.args.new.now n)) (numbers xs)) c.args.changed.now c.loop-variable.variable-index c.loop-variable-test.false)
+    (no_item (λ (xs : List VarId). texts_of (λ n. one n (value_at c.args.new.now n)) (numbers xs)) c.args.changed.now
+    c.loop-variable.variable-index c.loop-variable-test.false)

@@ -10,5 +10,6 @@ use Rattle.replayer.proofs.shown.variable_changes.Given as goal
 abbrev pub invariant-loop-variable : goal.invariant-loop-variable
 invariant-loop-variable g l =
     Leaves (g.K.Sink.state l.initial.out) (g.K.Sink.state l.out)
-    (texts_of (λ n. variable_line (naming_of_parts l.parts) n (value_at l.new n)) (numbers (drop l.variable-index l.changed)))
+    (texts_of (λ n. variable_line (naming_of_parts l.parts) n (value_at l.new n))
+    (numbers (drop l.variable-index l.changed)))
     (texts_of (λ n. variable_line (naming_of_parts l.parts) n (value_at l.new n)) (numbers l.changed))

@@ -7,6 +7,7 @@ use Rattle.replayer.proofs.shown.variable_lines.Given as goal
 abbrev pub invariant-loop-v : goal.invariant-loop-v
 invariant-loop-v g l = record {
   leaves : Leaves (g.K.Sink.state l.initial.out) (g.K.Sink.state l.out)
-      (lines_from (variable_line (naming_of_parts l.parts)) l.v-index (drop l.v-index l.values)) (lines_from (variable_line (naming_of_parts l.parts)) 0 l.values);
+      (lines_from (variable_line (naming_of_parts l.parts)) l.v-index (drop l.v-index l.values))
+      (lines_from (variable_line (naming_of_parts l.parts)) 0 l.values);
   numbered : l.number ≡ l.v-index;
 }

@@ -7,5 +7,6 @@ use Rattle.replayer.proofs.touched.touched.Goals as goal
 pub returns : goal.returns
 returns c =
     let h = rw c.deref.ensures.value at c.in_ok-all.ensures.each in
-    let named = λ (n : ℕ). subst (λ (z : List ℕ). IsOneOf c.in_ok-all.all.items n ↔ IsPaired c.args.pairs.now z n) c.in_ok-firsts.ensures (h n) in
+    let named = λ (n : ℕ). subst (λ (z : List ℕ). IsOneOf c.in_ok-all.all.items n ↔ IsPaired c.args.pairs.now z n)
+    c.in_ok-firsts.ensures (h n) in
     paired_touched c.args.pairs.now c.args.variables.now c.in_ok-all.all.items c.in_ok-all.ensures.ascends named

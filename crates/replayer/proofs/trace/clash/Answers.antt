@@ -12,4 +12,6 @@ returns-in_err-put g c =
 
 pub returns : goal.returns
 returns g c =
-    writes_on c.in_ok-put.ensures (writes_as _ _ (c.variable_path.ensures ∙ ap (λ (q : GtsParts). text_at (naming_of_parts q).variables c.args.n) c.parts.ensures.parts) c.put-2.ensures)
+    writes_on c.in_ok-put.ensures (writes_as _ _
+    (c.variable_path.ensures ∙ ap (λ (q : GtsParts). text_at (naming_of_parts q).variables c.args.n)
+    c.parts.ensures.parts) c.put-2.ensures)

@@ -7,13 +7,17 @@ use Rattle.replayer.specs.Printing.{changes_text}
 use Rattle.replayer.proofs.trace.fired.Goals as goal
 
 pub changed_lines-requires-clause-old : goal.changed_lines-requires-clause-old
-changed_lines-requires-clause-old g c = subst (λ (q : GtsParts). IsTotal q c.args.old.now) (sym c.parts.ensures.parts) c.requires.old
+changed_lines-requires-clause-old g c =
+    subst (λ (q : GtsParts). IsTotal q c.args.old.now) (sym c.parts.ensures.parts) c.requires.old
 
 pub changed_lines-requires-clause-new : goal.changed_lines-requires-clause-new
-changed_lines-requires-clause-new g c = subst (λ (q : GtsParts). IsTotal q c.args.new.now) (sym c.parts.ensures.parts) c.requires.new
+changed_lines-requires-clause-new g c =
+    subst (λ (q : GtsParts). IsTotal q c.args.new.now) (sym c.parts.ensures.parts) c.requires.new
 
 pub changed_lines-requires-clause-touched : goal.changed_lines-requires-clause-touched
-changed_lines-requires-clause-touched g c = subst (λ (q : GtsParts). AreTouched q c.args.changed.now c.args.touched.now) (sym c.parts.ensures.parts) c.requires.touched
+changed_lines-requires-clause-touched g c =
+    subst (λ (q : GtsParts). AreTouched q c.args.changed.now c.args.touched.now) (sym c.parts.ensures.parts)
+    c.requires.touched
 
 pub returns-in_err-put : goal.returns-in_err-put
 returns-in_err-put g c =
@@ -32,4 +36,6 @@ returns-in_err-put-2 g c =
 
 pub returns : goal.returns
 returns g c =
-    writes_on c.in_ok-put.ensures (writes_on (writes_on c.in_ok-print_label.ensures c.in_ok-put-2.ensures) (writes_as _ _ (ap (λ (q : GtsParts). changes_text q c.args.old.now c.args.new.now) c.parts.ensures.parts) c.changed_lines.ensures))
+    writes_on c.in_ok-put.ensures (writes_on (writes_on c.in_ok-print_label.ensures c.in_ok-put-2.ensures)
+    (writes_as _ _ (ap (λ (q : GtsParts). changes_text q c.args.old.now c.args.new.now) c.parts.ensures.parts)
+    c.changed_lines.ensures))

@@ -11,4 +11,5 @@ returns-in_err-put g c =
 
 pub returns : goal.returns
 returns g c =
-    writes_on c.in_ok-put.ensures (writes_as _ _ (ap (λ (q : GtsParts). values_text q c.args.values.now) c.parts.ensures.parts) c.all_lines.ensures)
+    writes_on c.in_ok-put.ensures (writes_as _ _
+    (ap (λ (q : GtsParts). values_text q c.args.values.now) c.parts.ensures.parts) c.all_lines.ensures)

@@ -10,10 +10,12 @@ returns-in_default-clause-none c = λ k small e.
 
 pub returns-in_default-parse-clause-none : goal.returns-in_default-parse-clause-none
 returns-in_default-parse-clause-none c = λ k small e.
-    c.in_default-parse.not-Ok k (parse-decimal 64 k c.in-Ok.text.now c.parse.result small small (c.in-Ok.ensures.cases.0 ∙ e) c.parse.ensures.value.0)
+    c.in_default-parse.not-Ok k (parse-decimal 64 k c.in-Ok.text.now c.parse.result small small
+    (c.in-Ok.ensures.cases.0 ∙ e) c.parse.ensures.value.0)
 
 pub returns-else-is_written-clause-none : goal.returns-else-is_written-clause-none
 returns-else-is_written-clause-none c = λ k small e.
-    let r = parse-decimal 64 k c.in-Ok.text.now c.parse.result small small (c.in-Ok.ensures.cases.0 ∙ e) c.parse.ensures.value.0 in
+    let r = parse-decimal 64 k c.in-Ok.text.now c.parse.result small small (c.in-Ok.ensures.cases.0 ∙ e)
+    c.parse.ensures.value.0 in
     let same : k ≡ c.in-Ok-parse.k = cc in
     c.if-is_written.ensures (e ∙ ap decimal same)

@@ -8,4 +8,5 @@ pub returns-clause-system : goal.returns-clause-system
 returns-clause-system c = λ m units different du de x y p q. system_same m different du de p q
 
 pub returns-clause-runs : goal.returns-clause-runs
-returns-clause-runs c = λ m units different du de x y p q. same_runs (λ (t u : Thing). t ≡ u) x y (system_same m different du de p q)
+returns-clause-runs c = λ m units different du de x y p q. same_runs (λ (t u : Thing). t ≡ u) x y
+    (system_same m different du de p q)

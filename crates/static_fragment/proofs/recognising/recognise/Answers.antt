@@ -155,7 +155,8 @@ returns-clause-ok c = λ system views.
 pub returns-clause-ways : goal.returns-clause-ways
 returns-clause-ways c =
     let p = c.parts-parts.result.now in
-    let found = subst (λ (z : List Reach). AreFromWays p z) (sym c.deref-5.ensures.value) c.in_ok-reaches.ensures.found in
+    let found = subst (λ (z : List Reach). AreFromWays p z) (sym c.deref-5.ensures.value)
+    c.in_ok-reaches.ensures.found in
     let sound = subst IsSound (sym c.parts-parts.ensures.parts) c.parts-parts.ensures.sound in
     subst (λ (z : GtsParts). OwnTheirWays z c.in_ok-trees.trees.trees.items) c.parts-parts.ensures.parts
     (own_ways found sound _ _ c.in_ok-trees.trees.trees.items c.in_ok-trees.ensures)

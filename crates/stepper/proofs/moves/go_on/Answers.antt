@@ -12,7 +12,8 @@ use Rattle.stepper.proofs.Kept.{kept_value}
 use Rattle.stepper.proofs.moves.go_on.Goals as goal
 
 -- the flags were those of the valuation before
-were : (p : GtsParts) (old new : List Value) (xs : List VarId) (can : List Bool) → IsTotal p old → AreFlags p old can → length old ≡ length new → AreChanges old new xs → WereFlags p new xs can
+were : (p : GtsParts) (old new : List Value) (xs : List VarId) (can : List Bool) → IsTotal p old → AreFlags p old can
+    → length old ≡ length new → AreChanges old new xs → WereFlags p new xs can
 were p old new xs can total flags long are = record {
   before = old;
   total = total;
@@ -30,7 +31,9 @@ renew-requires-clause-were c =
     let new = c.propagate_from.new.present.determined.values.values.items in
     let now = c.propagate_from.ensures.present.determined.total in
     let was = c.requires.present.determined.total in
-    let it = were p old new c.in_ok-flows.flows.variables.items c.args.can.now.items was c.requires.flags (was.long ∙ sym now.long) c.in_ok-flows.ensures.ok.tells.changes in
-    subst (λ (z : GtsParts). WereFlags z c.deref.result.now c.deref-2.result.now c.args.can.now.items) (sym c.parts-parts.ensures.parts)
+    let it = were p old new c.in_ok-flows.flows.variables.items c.args.can.now.items was c.requires.flags
+    (was.long ∙ sym now.long) c.in_ok-flows.ensures.ok.tells.changes in
+    subst (λ (z : GtsParts). WereFlags z c.deref.result.now c.deref-2.result.now c.args.can.now.items)
+    (sym c.parts-parts.ensures.parts)
     (subst (λ (z : List Value). WereFlags p z c.deref-2.result.now c.args.can.now.items) (sym c.deref.ensures.value)
     (subst (λ (z : List VarId). WereFlags p new z c.args.can.now.items) (sym c.deref-2.ensures.value) it))

@@ -9,6 +9,8 @@ loop-event-preserved c = (
   λ counts known.
       let s = stands_get c.args.parts.now c.loop-event.event-index _ c.loop-event-test.true in
       let r = read_number counts _ _ (known.right _ _ c.in_ok-count.ensures) in
-      choice_step counts c.args.parts.now c.loop-event.event-index _ c.in_ok-count.count c.loop-event.product c.min-product.result _ s r
-      (c.min-product.ensures ∙ ap (λ (n : ℕ). min n 257) c.saturating_mul.ensures) (c.loop-event.invariant.1 counts known),
+      choice_step counts c.args.parts.now c.loop-event.event-index _ c.in_ok-count.count c.loop-event.product
+      c.min-product.result _ s r
+      (c.min-product.ensures ∙ ap (λ (n : ℕ). min n 257) c.saturating_mul.ensures)
+      (c.loop-event.invariant.1 counts known),
 )

@@ -6,4 +6,5 @@ use Rattle.sync_expand.proofs.counting.choice_count.Given as goal
 abbrev pub invariant-loop-event : goal.invariant-loop-event
 invariant-loop-event l = (l.product ≤ 257)
     × ((counts : List ℕ) → AreKnown counts l.found
-    → min 257 (l.product * choice_count counts (map event_part_of (drop l.event-index l.parts))) ≡ min 257 (choice_count counts (map event_part_of l.parts)))
+    → min 257 (l.product * choice_count counts (map event_part_of (drop l.event-index l.parts)))
+    ≡ min 257 (choice_count counts (map event_part_of l.parts)))

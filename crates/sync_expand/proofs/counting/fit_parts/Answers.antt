@@ -10,9 +10,11 @@ pub loop-declared-preserved : goal.loop-declared-preserved
 loop-declared-preserved c = (
   omega arith,
   λ counts known few.
-      let s = item_stands c.args.events.now c.loop-declared.declared-index c.declared-item.result (omega arith) c.declared-item.is in
+      let s = item_stands c.args.events.now c.loop-declared.declared-index c.declared-item.result (omega arith)
+      c.declared-item.is in
       let d = declared_stands 0 c.args.events.now c.loop-declared.declared-index c.declared-item.result s in
-      let n = (rw c.deref.ensures.value at c.in_ok-more.ensures) counts known (few.few _ (one_here _ c.loop-declared.declared-index _ d)) in
+      let n = (rw c.deref.ensures.value at c.in_ok-more.ensures) counts known
+      (few.few _ (one_here _ c.loop-declared.declared-index _ d)) in
       let a = all_next counts c.args.events.now c.loop-declared.declared-index c.declared-item.result s in
       let i = c.loop-declared.invariant.1 counts known few in
       omega (arith, a, i, n),

@@ -6,4 +6,5 @@ use Rattle.sync_expand.proofs.counting.fit_parts.Given as goal
 abbrev pub invariant-loop-declared : goal.invariant-loop-declared
 invariant-loop-declared l = (l.total ≤ 1000001)
     × ((counts : List ℕ) → AreKnown counts l.found → AreFew counts (declared_from 0 l.events)
-    → min 1000001 (l.total + all_parts counts (drop l.declared-index (declared_from 0 l.events))) ≡ min 1000001 (all_parts counts (declared_from 0 l.events)))
+    → min 1000001 (l.total + all_parts counts (drop l.declared-index (declared_from 0 l.events)))
+    ≡ min 1000001 (all_parts counts (declared_from 0 l.events)))

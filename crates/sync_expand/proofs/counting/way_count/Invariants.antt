@@ -6,4 +6,5 @@ use Rattle.sync_expand.proofs.counting.way_count.Given as goal
 abbrev pub invariant-loop-way : goal.invariant-loop-way
 invariant-loop-way l = (l.total ≤ 257)
     × ((counts : List ℕ) → AreKnown counts l.found
-    → min 257 (l.total + way_count counts (map member_of (drop l.way-index l.ways))) ≡ min 257 (way_count counts (map member_of l.ways)))
+    → min 257 (l.total + way_count counts (map member_of (drop l.way-index l.ways)))
+    ≡ min 257 (way_count counts (map member_of l.ways)))

@@ -17,7 +17,9 @@ pub returns-in_err-counts : goal.returns-in_err-counts
 returns-in_err-counts c =
     let r = err_from_is_err_and c.from_residual-in_err-counts.result c.from_residual-in_err-counts.ensures.1 in
     let all = have_all c.args.events.now _ c.in_ok-keep_rule.ensures.kept c.requires in
-    meets_err c.args.events.now _ _ _ r.1 r.2 (ways_refuse c.args.events.now all.keeps all.ways all.are _ (c.in_err-counts.ensures (map length all.ways) all.counts))
+    meets_err c.args.events.now _ _ _ r.1 r.2
+    (ways_refuse c.args.events.now all.keeps all.ways all.are _
+    (c.in_err-counts.ensures (map length all.ways) all.counts))
 
 pub returns-in_err-fit_parts : goal.returns-in_err-fit_parts
 returns-in_err-fit_parts c =
@@ -29,7 +31,8 @@ returns-in_err-fit_parts c =
     let known = some_known (map length all.ways) _ found most in
     let f = rw c.deref-3.ensures.value at c.in_err-fit_parts.ensures in
     meets_err c.args.events.now _ _ _ r.1 r.2
-    (parts_refuse c.args.events.now all.keeps all.ways all.are most all.parts _ (f (map length all.ways) known (few_of _ _ all.counts most)))
+    (parts_refuse c.args.events.now all.keeps all.ways all.are most all.parts _
+    (f (map length all.ways) known (few_of _ _ all.counts most)))
 
 pub returns : goal.returns
 returns c =
@@ -41,7 +44,8 @@ returns c =
     let few = few_of _ _ all.counts most in
     let f = (rw c.deref-3.ensures.value at c.in_ok-fit_parts.ensures) (map length all.ways) known few in
     let parts : all_parts (map length all.ways) (declared_from 0 c.args.events.now) ≤ 1000000 =
-    fits_within WayParts (λ (ns : List ℕ). all_parts ns (declared_from 0 c.args.events.now)) (map length all.ways) f.0 f.1 in
+    fits_within WayParts (λ (ns : List ℕ). all_parts ns (declared_from 0 c.args.events.now)) (map length all.ways) f.0
+    f.1 in
     let num = c.in_ok-numbering.ensures (map length all.ways) found most (sum_small c.args.events.now all c.requires most) in (
       all.ways,
       expands c.args.events.now all.keeps all.ways all.are most (let e = all.parts in omega (arith, e, parts)),

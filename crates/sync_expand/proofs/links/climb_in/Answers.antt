@@ -16,7 +16,8 @@ loop-way-preserved c =
 
 pub returns : goal.returns
 returns c =
-    loop_end c.args.ways.now (λ (k : ℕ) (w : DeclaredWay). IsClimbOf w c.args.event c.args.ranks.now c.args.gap) _ _ _ (omega arith)
+    loop_end c.args.ways.now (λ (k : ℕ) (w : DeclaredWay). IsClimbOf w c.args.event c.args.ranks.now c.args.gap) _ _ _
+    (omega arith)
     (λ k w l s h. record { way = w; is_way = one_here _ k w s; climb = h })
     (λ l h. (h.is_way.place, record { item = h.way; stands = h.is_way.stands; has = h.climb }))
     c.loop-way.invariant

@@ -5,4 +5,5 @@ use Rattle.sync_expand.proofs.FirstLinks.{AtItem}
 use Rattle.sync_expand.proofs.links.climb_in.Given as goal
 
 abbrev pub invariant-loop-way : goal.invariant-loop-way
-invariant-loop-way l = IsFirstLink (Until (AtItem l.ways (λ (k : ℕ) (w : DeclaredWay). IsClimbOf w l.event l.ranks l.gap)) l.way-index) l.found
+invariant-loop-way l = IsFirstLink (Until
+    (AtItem l.ways (λ (k : ℕ) (w : DeclaredWay). IsClimbOf w l.event l.ranks l.gap)) l.way-index) l.found

@@ -12,12 +12,17 @@ use Rattle.sync_expand.proofs.planning.plan.Goals as goal
 
 pub loop-place-preserved : goal.loop-place-preserved
 loop-place-preserved c = λ counts num few.
-    let s = item_stands c.args.events.now c.loop-place.place c.index-events-place.result (omega arith) c.index-events-place.is in
+    let s = item_stands c.args.events.now c.loop-place.place c.index-events-place.result (omega arith)
+    c.index-events-place.is in
     let d = declared_stands 0 c.args.events.now c.loop-place.place c.index-events-place.result s in
-    let a = (rw c.deref.ensures.value at c.in_ok-plan_event.ensures) counts num (few.few _ (one_here _ c.loop-place.place _ d)) in
-    plan_next counts c.args.events.now c.loop-place.place c.index-events-place.result _ _ _ s c.new-event.ensures (c.loop-place.invariant counts num few) a
+    let a = (rw c.deref.ensures.value at c.in_ok-plan_event.ensures) counts num
+    (few.few _ (one_here _ c.loop-place.place _ d)) in
+    plan_next counts c.args.events.now c.loop-place.place c.index-events-place.result _ _ _ s c.new-event.ensures
+    (c.loop-place.invariant counts num few) a
 
 pub returns : goal.returns
 returns c = λ counts num few.
     let l = declared_length 0 c.args.events.now in
-    c.loop-place.invariant counts num few ∙ ap (λ (ds : List (Declared (Transition ℕ) ℕ)). planned_ways counts ds) (take_all c.loop-place.place (declared_from 0 c.args.events.now) (omega (arith, l)))
+    c.loop-place.invariant counts num few
+    ∙ ap (λ (ds : List (Declared (Transition ℕ) ℕ)). planned_ways counts ds)
+    (take_all c.loop-place.place (declared_from 0 c.args.events.now) (omega (arith, l)))

@@ -13,11 +13,15 @@ pub loop-place-preserved : goal.loop-place-preserved
 loop-place-preserved c = λ counts num few low.
     let n = (rw c.deref.ensures.value at c.in_ok-total.ensures) counts num.are_known in
     let t : c.in_ok-total.total ≡ choice_count counts (map event_part_of c.args.parts.now) = omega (arith, n, few) in
-    adds_choice c.args.event.n c.args.first c.loop-place.place _ _ _ _ _ low (c.in_ok-chosen.ensures counts num t c.loop-place-test.true) (c.loop-place.invariant counts num few low) c.in_ok-push.ensures
+    adds_choice c.args.event.n c.args.first c.loop-place.place _ _ _ _ _ low
+    (c.in_ok-chosen.ensures counts num t c.loop-place-test.true) (c.loop-place.invariant counts num few low)
+    c.in_ok-push.ensures
 
 pub returns : goal.returns
 returns c = λ counts num few low.
     let n = (rw c.deref.ensures.value at c.in_ok-total.ensures) counts num.are_known in
     let l = choices_length counts (map event_part_of c.args.parts.now) in
-    let e = take_all c.loop-place.place (choices_by counts (map event_part_of c.args.parts.now)) (omega (arith, n, l, few, c.loop-place-test.false)) in
-    subst (λ (cs : List (List (Bool × ℕ))). Adds c.args.event.n c.args.first (map Joins cs) c.args.plan.now.items c.loop-place.plan.items) e (c.loop-place.invariant counts num few low)
+    let e = take_all c.loop-place.place (choices_by counts (map event_part_of c.args.parts.now))
+    (omega (arith, n, l, few, c.loop-place-test.false)) in
+    subst (λ (cs : List (List (Bool × ℕ))). Adds c.args.event.n c.args.first (map Joins cs) c.args.plan.now.items
+    c.loop-place.plan.items) e (c.loop-place.invariant counts num few low)

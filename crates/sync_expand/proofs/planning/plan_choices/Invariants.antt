@@ -9,4 +9,5 @@ use Rattle.sync_expand.proofs.planning.plan_choices.Given as goal
 abbrev pub invariant-loop-place : goal.invariant-loop-place
 invariant-loop-place l = (c : List ℕ) → IsNumbering c l.numbering.counts.items l.numbering.firsts.items
     → choice_count c (map event_part_of l.parts) ≤ 256 → l.first ≤ length l.initial.plan.items
-    → Adds l.event.n l.first (map Joins (take l.place (choices_by c (map event_part_of l.parts)))) l.initial.plan.items l.plan.items
+    → Adds l.event.n l.first (map Joins (take l.place (choices_by c (map event_part_of l.parts)))) l.initial.plan.items
+    l.plan.items

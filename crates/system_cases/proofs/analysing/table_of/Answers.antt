@@ -18,6 +18,7 @@ returns c =
     let trees = trees_of (number_in p) c.args.forest.now in
     let table = table_of c.in_ok-equations.equations in
     let o = stands_some _ _ c.requires.observer in
-    let h = subst (λ (z : Option Observer). AtObserver z (IsTableOf p c.args.forest.now (Truth true) table)) o.1 c.in_ok-equations.ensures.table in
+    let h = subst (λ (z : Option Observer). AtObserver z (IsTableOf p c.args.forest.now (Truth true) table)) o.1
+    c.in_ok-equations.ensures.table in
     c.ordered_table.ensures (net_of p) trees (numbered o.0.value) (Truth true) table
     (are_trees f.flat [] both.keyed both.static trees f.is_forest) h

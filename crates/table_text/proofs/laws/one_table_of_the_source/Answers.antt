@@ -38,9 +38,11 @@ pub returns : goal.returns
 returns g c = λ things sys dropped static n wanted one other a b.
     let vars = variables_along things sys a.flat b.flat a.is_flat b.is_flat in
     let along = net_along things sys a.flat b.flat a.is_flat b.is_flat in
-    let o = along_on a.flat.observers b.flat.observers (observers_along things sys a.flat b.flat a.is_flat b.is_flat) n a.observed a.is_observed in
+    let o = along_on a.flat.observers b.flat.observers (observers_along things sys a.flat b.flat a.is_flat b.is_flat) n
+    a.observed a.is_observed in
     let seen : o.0 ≡ b.observed = stands_one b.flat.observers n o.0 b.observed o.1 b.is_observed in
-    let trees : a.trees ≡ b.trees = c.one_forest.ensures.forests sys dropped static a.trees b.trees a.is_forest b.is_forest in
+    let trees : a.trees ≡ b.trees = c.one_forest.ensures.forests sys dropped static a.trees b.trees a.is_forest
+    b.is_forest in
     let there = table_there a.flat.net b.flat.net vars along a.trees a.observed o.0 o.2.renames wanted one a.is_table in
     let moved = subst (λ (z : Expr ℕ). IsTable b.flat.net a.trees z wanted one) seen there in
     c.one_table.ensures.one b.flat.net b.trees b.observed wanted one other

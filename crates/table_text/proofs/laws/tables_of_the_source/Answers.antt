@@ -28,7 +28,8 @@ returns-clause-table c = λ x p flat of views dropped f is n o stands wanted tab
       flat = flat;
       is_flat = flat_of;
       trees = trees;
-      is_forest = forest_there (turned (IsNumber things)) flat x.system (flat_back things x.system flat flat_of) dropped is;
+      is_forest = forest_there (turned (IsNumber things)) flat x.system (flat_back things x.system flat flat_of) dropped
+          is;
       observed = numbered o.value;
       is_observed = subst (λ (z : List (Expr ℕ)). Stands z n (numbered o.value)) (sym views.observers)
           (stands_map (λ (z : Observer). numbered z.value) p.observers.items n o stands);

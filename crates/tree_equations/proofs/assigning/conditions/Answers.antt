@@ -56,7 +56,8 @@ returns-in_err-entries c =
     (stops_up c.in_err-entries.field-0.0 (λ n y k t. n t.entries k t.builds) c.in_err-entries.ensures) in
     gives_as signs_in signs_in
     (λ os k. Threads (Tests read) (gates_in c.args.gates.now.items) (map condition_of xs) os k)
-    (λ os k. Builds_conditions read (gates_in c.args.gates.now.items) (map condition_of xs) os k) c.from_residual.result c.built.new.gates.items (λ a k d. tests_on read d)
+    (λ os k. Builds_conditions read (gates_in c.args.gates.now.items) (map condition_of xs) os k) c.from_residual.result
+    c.built.new.gates.items (λ a k d. tests_on read d)
     (λ os k d. (os, tests_back read d)) stopped
 
 pub returns : goal.returns

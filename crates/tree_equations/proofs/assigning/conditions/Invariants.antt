@@ -10,6 +10,7 @@ use Rattle.tree_equations.proofs.assigning.conditions.Given as goal
 abbrev pub invariant-loop-test : goal.invariant-loop-test
 invariant-loop-test l = record {
   few : length l.gates.items ≤ most_gates;
-  so_far : Sofar condition_of operand_of (Tests (row_at l.rows)) (tests_one (row_at l.rows)) (tests_more (row_at l.rows))
+  so_far : Sofar condition_of operand_of (Tests (row_at l.rows)) (tests_one (row_at l.rows))
+      (tests_more (row_at l.rows))
       (gates_in l.initial.gates.items) l.conditions l.test-index l.operands.items (gates_in l.gates.items);
 }

@@ -23,7 +23,8 @@ loop-entry-preserved c =
     let items = c.deref-entry-items.ensures.value in
     let old = c.loop-entry.groups in
     let whole = with_terms (given_terms (values_of dom) cs (row_in r.entries)) [] in
-    let so_far : List Entry → List Group → Type 0 = λ z gs. with_terms (given_terms (values_of dom) cs (entries_in z)) gs ≡ whole in
+    let so_far : List Entry → List Group
+    → Type 0 = λ z gs. with_terms (given_terms (values_of dom) cs (entries_in z)) gs ≡ whole in
     let before = subst (λ (z : List Entry). so_far (drop i z) old) (sym items) c.loop-entry.invariant in
     elim c.if-holds.branch [
       | then-holds+in_ok-term+in_ok-put w ↦
@@ -32,7 +33,8 @@ loop-entry-preserved c =
           (given_put dom cs old w.put.new.self (operands_in w.deref-then-holds.result.now) es i (get_or es i _) whole l
           (get_or_default es i _ _ l) (w.if-holds.ensures.0 (search rules))
           (ap operands_in w.deref-then-holds.ensures.value ∙ w.in_ok-term.ensures
-          ∙ ap (λ (z : List sign.Operand). operands_in z ++ operand_of (get_or es i _).operand ∷ []) w.deref.ensures.value)
+          ∙ ap (λ (z : List sign.Operand). operands_in z ++ operand_of (get_or es i _).operand ∷ [])
+          w.deref.ensures.value)
           w.in_ok-put.ensures before))
       | else-holds w ↦
           subst (λ (gs : List Group). so_far (drop (i + 1) r.entries.items) gs) (sym w.groups-is)

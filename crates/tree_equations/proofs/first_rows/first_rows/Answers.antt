@@ -22,7 +22,8 @@ loop-entries-init c =
       long = c.in_ok-rows.ensures.long;
       same = λ x. first_from (trees_in c.args.trees.now) (lists_in c.args.modes.items) 0 c.args.variables.now x
           (row_at c.in_ok-rows.rows.items) (c.in_ok-rows.ensures.reading x)
-          ∙ ap (λ (z : List ModeTree). reading_or (trees_in z) (lists_in c.args.modes.items) (row_at c.in_ok-rows.rows.items) 0
+          ∙ ap (λ (z : List ModeTree). reading_or (trees_in z) (lists_in c.args.modes.items)
+          (row_at c.in_ok-rows.rows.items) 0
           c.args.variables.now x) (sym (take_all (length c.args.modes.items) c.args.trees.now l));
     }
 
@@ -70,7 +71,8 @@ loop-entries-preserved c =
           elim w.else-number-variables.branch [
             | else-number-variables-via-then-number-variables+else-variables-number u ↦ λ v st is.
                 let one = stands_one vs number u.index-variables-number.result v
-                (stands_item vs number u.index-variables-number.result u.if-number-variables.true u.index-variables-number.is)
+                (stands_item vs number u.index-variables-number.result u.if-number-variables.true
+                u.index-variables-number.is)
                 st in
                 let not : u.index-variables-number.result.is_state ≡ false = search rules in
                 differ (sym (ap (λ (z : Variable). z.is_state) one ∙ is) ∙ not)

@@ -28,8 +28,10 @@ loop-k-preserved c =
     let st = stands_item xs k a c.loop-k-test.true c.index-assigns-k.is in
     let under = c.requires.under a (one_here xs k a st) in
     let under_rows : a.target.n < length c.loop-k.rows.items = omega (arith, under, c.loop-k.invariant.long) in
-    let more = take_more xs k a c.loop-k-test.true ∙ ap (λ (z : Assign). take k xs ++ z ∷ []) (sym c.index-assigns-k.is) in
-    subst (λ (z : List Assign). AreByTarget c.args.count xs z (set c.loop-k.rows.items a.target.n c.push.new.self)) (sym more)
+    let more = take_more xs k a c.loop-k-test.true
+    ∙ ap (λ (z : Assign). take k xs ++ z ∷ []) (sym c.index-assigns-k.is) in
+    subst (λ (z : List Assign). AreByTarget c.args.count xs z (set c.loop-k.rows.items a.target.n c.push.new.self))
+    (sym more)
     (target_next c.args.count xs (take k xs) k a c.loop-k.rows.items
     (set c.loop-k.rows.items a.target.n c.push.new.self) c.push.new.self k st under refl
     (c.in_ok-push.ensures.items ∙ ap (λ z. z ++ k ∷ []) (ap (λ (r : Vec ℕ Global). r.items) c.index_mut.ensures.value

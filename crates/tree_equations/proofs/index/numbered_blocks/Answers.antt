@@ -19,7 +19,8 @@ numbers_at-requires c =
     let bs = c.args.blocks.now in
     let i = c.loop-block.block-index in
     let b = c.block-item.result in
-    let st = stands_map (λ (b : Block). b.members.items) bs i b (stands_item bs i b c.loop-block-test.true c.block-item.is) in
+    let st = stands_map (λ (b : Block). b.members.items) bs i b
+    (stands_item bs i b c.loop-block-test.true c.block-item.is) in
     λ n o. c.requires b.members.items (one_here (members_of bs) i b.members.items st) n
     (subst (λ (z : List ℕ). IsOneOf z n) c.deref.ensures.value o)
 

@@ -26,7 +26,8 @@ pub may_leave-requires : goal.may_leave-requires
 may_leave-requires c =
     let vs = c.args.parts.now.variables.items in
     let x = c.index-variable.result.now in
-    (c.requires.sound.variables c.args.flow x (stands_item vs c.args.flow x c.requires.flow c.index-variable.ensures)).domain
+    (c.requires.sound.variables c.args.flow x
+    (stands_item vs c.args.flow x c.requires.flow c.index-variable.ensures)).domain
 
 pub loop-k-init : goal.loop-k-init
 loop-k-init c = λ x at. one_start c.args.parts.now c.args.flow x at c.args.leaving.now.items

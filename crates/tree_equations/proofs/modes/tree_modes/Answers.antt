@@ -46,7 +46,9 @@ returns-in_err-operand c =
     entries_passed_on (modes_of (tree_in tree) g) c.from_residual-in_err-operand.result fault
     c.mode-in-loop-edge.new.gates.items c.from_residual-in_err-operand.ensures.1
     (stops_up fault
-    (λ l. edge_stops most_gates all (row_of plain e) (edges_in (drop (suc i) es)) h (modes_of (tree_in tree) g).gates same
-    (subst (λ (z : List Edge). most_gates < length (all_of h (EventIs e.event.n true ∷ not_left e.to (edges_in z))).gates)
+    (λ l. edge_stops most_gates all (row_of plain e) (edges_in (drop (suc i) es)) h (modes_of (tree_in tree) g).gates
+    same
+    (subst (λ (z : List Edge). most_gates < length
+    (all_of h (EventIs e.event.n true ∷ not_left e.to (edges_in z))).gates)
     c.deref-in-loop-edge.ensures.value l))
     c.in_err-operand.ensures)

@@ -25,7 +25,8 @@ rounds-requires-clause-under c =
     let bs = c.args.blocks.now in
     let i = c.loop-block.block-index in
     let b = c.block-item.result in
-    let st = stands_map (λ (b : Vec ℕ Global). b.items) bs i b (stands_item bs i b c.loop-block-test.true c.block-item.is) in
+    let st = stands_map (λ (b : Vec ℕ Global). b.items) bs i b
+    (stands_item bs i b c.loop-block-test.true c.block-item.is) in
     subst (λ (z : List ℕ). AreUnder (length c.args.parts.now.variables.items) z) (sym c.deref.ensures.value)
     (c.requires.under b.items (one_here (blocks_in bs) i b.items st))
 

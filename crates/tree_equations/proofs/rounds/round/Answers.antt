@@ -37,7 +37,8 @@ loop-n-preserved c =
     record {
       few = c.in_ok-row.ensures.1;
       so_far = each_next itself row_in (RoundOf net read) (round_one read net) (round_more read net)
-          (gates_in c.args.gates.now.items) (gates_in c.loop-n.gates.items) (gates_in c.flow_round.new.gates.items) b i n
+          (gates_in c.args.gates.now.items) (gates_in c.loop-n.gates.items) (gates_in c.flow_round.new.gates.items) b i
+          n
           c.loop-n.new.items c.push.new.self.items c.in_ok-row.row
           (item_next b i n c.loop-n-test.true (get_or_default b i 0 n c.loop-n-test.true)) c.in_ok-row.ensures.0
           c.in_ok-push.ensures.items c.loop-n.invariant.so_far;

@@ -38,7 +38,8 @@ returns-in_err-new-clause-rounds c =
 
 pub put_rows-requires-clause-long : goal.put_rows-requires-clause-long
 put_rows-requires-clause-long c =
-    sym (length-map c.in_ok-new.new.items _) ∙ threads_long c.in_ok-new.ensures.0 ∙ ap length (itself_all c.args.block.now)
+    sym (length-map c.in_ok-new.new.items _) ∙ threads_long c.in_ok-new.ensures.0
+    ∙ ap length (itself_all c.args.block.now)
 
 pub put_rows-requires-clause-under : goal.put_rows-requires-clause-under
 put_rows-requires-clause-under c = λ n o.
@@ -62,7 +63,8 @@ loop-preserved c =
     record {
       few = c.in_ok-new.ensures.1;
       long = c.put_rows.ensures.long ∙ c.loop.invariant.long;
-      so_far = rounds_next net block (length block) g first c.loop.counter h k read (row_at c.put_rows.new.rows.items) rows
+      so_far = rounds_next net block (length block) g first c.loop.counter h k read (row_at c.put_rows.new.rows.items)
+          rows
           d c.put_rows.ensures.reading c.loop.invariant.so_far;
     }
 
@@ -72,8 +74,10 @@ returns-clause-rounds c =
     let block = c.args.block.now in
     let past = c.loop-test.false in
     let within = c.loop.auto.counter-end in (
-      rounds_end net block (length block) (gates_in c.args.gates.now.items) (row_at c.args.rows.now.items) c.loop.counter
-          (gates_in c.loop.gates.items) (row_at c.loop.rows.items) (omega (arith, past, within)) c.loop.invariant.so_far,
+      rounds_end net block (length block) (gates_in c.args.gates.now.items) (row_at c.args.rows.now.items)
+          c.loop.counter
+          (gates_in c.loop.gates.items) (row_at c.loop.rows.items) (omega (arith, past, within))
+          c.loop.invariant.so_far,
       c.loop.invariant.few,
     )
 

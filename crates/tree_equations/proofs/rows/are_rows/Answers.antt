@@ -30,7 +30,8 @@ loop-k-preserved c = λ j n r l st su.
       | inl h ↦ c.loop-k.invariant j n r h st su
       | inr e ↦
           let number = stands_one ns k n (get_or ns k 0) (subst (λ (z : ℕ). Stands ns z n) e su) here in
-          let one = stands_one c.args.new.now k r c.index-new-k.result (subst (λ (z : ℕ). Stands c.args.new.now z r) e st)
+          let one = stands_one c.args.new.now k r c.index-new-k.result
+          (subst (λ (z : ℕ). Stands c.args.new.now z r) e st)
           (stands_item c.args.new.now k c.index-new-k.result c.loop-k-test.true c.index-new-k.is) in
           let same = c.same_row.ensures c.if-not-same_row.false in
           ap (row_at c.args.rows.now) number

@@ -34,7 +34,8 @@ loop-assign-preserved c =
     record {
       few = c.in_ok-operand.ensures.1;
       so_far = each_next assign_of operand_of (Sees_broken read) (broken_one read) (broken_more read)
-          (gates_in c.args.gates.now.items) (gates_in c.loop-assign.gates.items) (gates_in c.breaks.new.gates.items) xs i
+          (gates_in c.args.gates.now.items) (gates_in c.loop-assign.gates.items) (gates_in c.breaks.new.gates.items) xs
+          i
           a c.loop-assign.seen.items c.push.new.self.items c.in_ok-operand.operand
           (item_next xs i a c.loop-assign-test.true c.assign-item.is) c.in_ok-operand.ensures.0
           c.in_ok-push.ensures.items c.loop-assign.invariant.so_far;

@@ -22,7 +22,8 @@ index-assign-requires c =
     let i = c.loop-k.k-index in
     let k = get_or ks i 0 in
     let at = along_at c.requires.leaving.1 i k c.loop-k-test.true (get_or_default ks i 0 k c.loop-k-test.true) in
-    let h : k < length c.args.parts.now.assigns.items = stands_within c.args.parts.now.assigns.items k at.1.assign at.1.stands in
+    let h : k < length c.args.parts.now.assigns.items =
+    stands_within c.args.parts.now.assigns.items k at.1.assign at.1.stands in
     search (rules, h)
 
 pub index-requires : goal.index-requires
@@ -54,7 +55,8 @@ outside-requires-clause-domain c =
     let h : n < length p.variables.items =
     subst (λ (z : Assign). z.target.n < length p.variables.items) same
     (stands_within p.variables.items at.1.assign.target.n at.1.variable at.1.is_target) in
-    (c.requires.sound.variables n c.index.result.now (stands_item p.variables.items n c.index.result.now h c.index.ensures)).domain
+    (c.requires.sound.variables n c.index.result.now
+    (stands_item p.variables.items n c.index.result.now h c.index.ensures)).domain
 
 pub loop-k-init : goal.loop-k-init
 loop-k-init c =
@@ -85,7 +87,8 @@ loop-k-preserved c =
           let here = stands_item p.assigns.items k a within c.index-assign.ensures in
           let same = stands_one p.assigns.items k at.1.assign a at.1.stands here in
           let target = subst (λ (z : Assign). Stands p.variables.items z.target.n at.1.variable) same at.1.is_target in
-          let there = stands_item p.variables.items a.target.n x (stands_within p.variables.items a.target.n at.1.variable target)
+          let there = stands_item p.variables.items a.target.n x
+          (stands_within p.variables.items a.target.n at.1.variable target)
           c.index.ensures in
           let variable = stands_one p.variables.items a.target.n at.1.variable x target there in
           let pair = at.1.is ∙ ap (λ (z : Assign). (variable_of z.target.n at.1.variable, assign_of z)) same
@@ -114,7 +117,8 @@ returns-in_err-operand c = λ pairs along.
     let here = stands_item p.assigns.items k a within c.index-assign.ensures in
     let same = stands_one p.assigns.items k at.1.assign a at.1.stands here in
     let target = subst (λ (z : Assign). Stands p.variables.items z.target.n at.1.variable) same at.1.is_target in
-    let there = stands_item p.variables.items a.target.n x (stands_within p.variables.items a.target.n at.1.variable target)
+    let there = stands_item p.variables.items a.target.n x
+    (stands_within p.variables.items a.target.n at.1.variable target)
     c.index.ensures in
     let variable = stands_one p.variables.items a.target.n at.1.variable x target there in
     let pair = at.1.is ∙ ap (λ (z : Assign). (variable_of z.target.n at.1.variable, assign_of z)) same

@@ -32,5 +32,6 @@ loop-other-preserved c =
       | else-ne w ↦
           let s : x.value ≡ (get_or ys i d0).value = search rules in
           subst so_far (sym w.terms-is)
-          (others_skip cs x old.items ys i (get_or ys i d0) whole l (get_or_default ys i _ _ l) s c.loop-other.invariant)
+          (others_skip cs x old.items ys i (get_or ys i d0) whole l (get_or_default ys i _ _ l) s
+          c.loop-other.invariant)
     ]

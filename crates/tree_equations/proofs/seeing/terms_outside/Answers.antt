@@ -27,15 +27,18 @@ loop-entry-preserved c =
     let before = subst (λ (z : List Entry). so_far (drop i z) old) (sym items) c.loop-entry.invariant in
     elim c.if-not-holds.branch [
       | then-not-holds+in_ok-term+in_ok-push w ↦
-          subst (λ (ts : Vec (Vec sign.Operand Global) Global). so_far (drop (i + 1) r.entries.items) ts) (sym w.terms-is)
+          subst (λ (ts : Vec (Vec sign.Operand Global) Global). so_far (drop (i + 1) r.entries.items) ts)
+          (sym w.terms-is)
           (subst (λ (z : List Entry). so_far (drop (i + 1) z) w.push.new.self) items
           (outside_put dom cs old.items w.push.new.self.items w.in_ok-term.term es i (get_or es i _) whole l
           (get_or_default es i _ _ l) c.requires (λ h. never_true (w.if-not-holds.ensures.1 h))
           (w.in_ok-term.ensures
-          ∙ ap (λ (z : List sign.Operand). operands_in z ++ operand_of (get_or es i _).operand ∷ []) w.deref.ensures.value)
+          ∙ ap (λ (z : List sign.Operand). operands_in z ++ operand_of (get_or es i _).operand ∷ [])
+          w.deref.ensures.value)
           w.in_ok-push.ensures.items before))
       | else-not-holds w ↦
-          subst (λ (ts : Vec (Vec sign.Operand Global) Global). so_far (drop (i + 1) r.entries.items) ts) (sym w.terms-is)
+          subst (λ (ts : Vec (Vec sign.Operand Global) Global). so_far (drop (i + 1) r.entries.items) ts)
+          (sym w.terms-is)
           (subst (λ (z : List Entry). so_far (drop (i + 1) z) old) items
           (outside_skip dom cs old.items es i (get_or es i _) whole l (get_or_default es i _ _ l)
           (w.if-not-holds.ensures.0 (search rules)) before))

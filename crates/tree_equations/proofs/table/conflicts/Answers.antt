@@ -78,14 +78,16 @@ returns-in_err-new c =
     let w = c.in_ok-leaving.ensures in
     let along = subst (λ (z : List ℕ). Along (IsLeaving p) z w.leaving) (sym c.deref-4.ensures.value) w.are in
     let outs = signs_in c.in_ok-seen_outside.seen_outside in
-    let d3 = subst (λ (z : List Entries). Threads (Sees_outside (row_at z)) g2 w.leaving outs g3) c.deref-3.ensures.value
+    let d3 = subst (λ (z : List Entries). Threads (Sees_outside (row_at z)) g2 w.leaving outs g3)
+    c.deref-3.ensures.value
     (c.in_ok-seen_outside.ensures w.leaving along).0 in
     gives_on (λ (o : sign.Operand). (known, operand_of o)) (Conflicting net known g)
     (TooMany (λ ess h. Threads (Totals_of (row_at c.deref-5.result.now)) g3
     (flows_from 0 (variables_from 0 c.deref-6.result.now)) ess h)) c.from_residual-in_err-new.result
     c.in_err-new.field-0.0 c.totals.new.gates.items
     (λ n. conflict_third net known g twos g2 d2 w.leaving w.all outs g3 d3
-    (subst (λ (z : List Entries). TooMany (λ ess h. Threads (Totals_of (row_at z)) g3 (flows_from 0 net.variables) ess h))
+    (subst (λ (z : List Entries). TooMany
+    (λ ess h. Threads (Totals_of (row_at z)) g3 (flows_from 0 net.variables) ess h))
     c.deref-5.ensures.value
     (subst (λ (vs : List Variable). TooMany (λ ess h. Threads (Totals_of (row_at c.deref-5.result.now)) g3
     (flows_from 0 (variables_from 0 vs)) ess h)) c.deref-6.ensures.value n))) c.from_residual-in_err-new.ensures.1
@@ -131,7 +133,8 @@ returns-in_err-seen_broken c =
     let w = c.in_ok-leaving.ensures in
     let along = subst (λ (z : List ℕ). Along (IsLeaving p) z w.leaving) (sym c.deref-4.ensures.value) w.are in
     let outs = signs_in c.in_ok-seen_outside.seen_outside in
-    let d3 = subst (λ (z : List Entries). Threads (Sees_outside (row_at z)) g2 w.leaving outs g3) c.deref-3.ensures.value
+    let d3 = subst (λ (z : List Entries). Threads (Sees_outside (row_at z)) g2 w.leaving outs g3)
+    c.deref-3.ensures.value
     (c.in_ok-seen_outside.ensures w.leaving along).0 in
     let totals = lists_in c.in_ok-new.new.items in
     let d4 = subst (λ (z : List Entries). Threads (Totals_of (row_at z)) g3 (flows_from 0 net.variables) totals g4)
@@ -142,7 +145,8 @@ returns-in_err-seen_broken c =
     let is = c.put_rows.ensures.reading ∙ ap (λ (ns : List ℕ). updated known ns totals)
     (c.deref-8.ensures.value ∙ sym (numbers_are p flows c.requires.index.flows)) in
     gives_on (λ (o : sign.Operand). (total, operand_of o)) (Conflicting net known g)
-    (TooMany (λ os h. Threads (Sees_broken (row_at c.deref-9.result.now)) g4 (map assign_of c.deref-10.result.now) os h))
+    (TooMany (λ os h. Threads (Sees_broken (row_at c.deref-9.result.now)) g4 (map assign_of c.deref-10.result.now) os
+    h))
     c.from_residual-in_err-seen_broken.result c.in_err-seen_broken.field-0.0 c.broken.new.gates.items
     (λ n. conflict_fourth net known g twos g2 d2 w.leaving w.all outs g3 d3 totals g4 d4 total is
     (subst (λ (z : List Entries). TooMany (λ os h. Threads (Sees_broken (row_at z)) g4 net.assertions os h))
@@ -169,7 +173,8 @@ returns c =
     let w = c.in_ok-leaving.ensures in
     let along = subst (λ (z : List ℕ). Along (IsLeaving p) z w.leaving) (sym c.deref-4.ensures.value) w.are in
     let outs = signs_in c.in_ok-seen_outside.seen_outside in
-    let d3 = subst (λ (z : List Entries). Threads (Sees_outside (row_at z)) g2 w.leaving outs g3) c.deref-3.ensures.value
+    let d3 = subst (λ (z : List Entries). Threads (Sees_outside (row_at z)) g2 w.leaving outs g3)
+    c.deref-3.ensures.value
     (c.in_ok-seen_outside.ensures w.leaving along).0 in
     let totals = lists_in c.in_ok-new.new.items in
     let d4 = subst (λ (z : List Entries). Threads (Totals_of (row_at z)) g3 (flows_from 0 net.variables) totals g4)
@@ -185,9 +190,11 @@ returns c =
     (subst (λ (xs : List Assign). Threads (Sees_broken (row_at c.deref-9.result.now)) g4 (map assign_of xs) broken g5)
     c.deref-10.ensures.value c.in_ok-seen_broken.ensures.0) in
     let m = any_of g5 (twos ++ (outs ++ broken)) in
-    let all = ap (λ (z : List sign.Operand). operands_in z ++ (operands_in c.deref-12.result.now ++ operands_in c.deref-13.result.now))
+    let all = ap (λ (z : List sign.Operand). operands_in
+    z ++ (operands_in c.deref-12.result.now ++ operands_in c.deref-13.result.now))
     c.deref-11.ensures.value
-    ∙ ap (λ (z : List sign.Operand). twos ++ (operands_in z ++ operands_in c.deref-13.result.now)) c.deref-12.ensures.value
+    ∙ ap (λ (z : List sign.Operand). twos ++ (operands_in z ++ operands_in c.deref-13.result.now))
+    c.deref-12.ensures.value
     ∙ ap (λ (z : List sign.Operand). twos ++ (outs ++ operands_in z)) c.deref-13.ensures.value in
     both_give total m (Conflicting net known g) c.one_of_all.result c.one_of_all.new.gates.items
     (conflict_last net known g twos g2 d2 w.leaving w.all outs g3 d3 totals g4 d4 total is broken g5 d5)

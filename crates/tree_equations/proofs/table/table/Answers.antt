@@ -29,14 +29,16 @@ use Rattle.tree_equations.proofs.table.table.Goals as goal
 
 pub first_rows-requires : goal.first_rows-requires
 first_rows-requires c =
-    sym (length-map c.in_ok-modes.modes.items _) ∙ threads_long c.in_ok-modes.ensures.0 ∙ length-map c.deref-2.result.now _
+    sym (length-map c.in_ok-modes.modes.items _) ∙ threads_long c.in_ok-modes.ensures.0
+    ∙ length-map c.deref-2.result.now _
     ∙ ap length (c.deref-2.ensures.value ∙ sym c.deref-4.ensures.value)
 
 pub all_rounds-requires-clause-under : goal.all_rounds-requires-clause-under
 all_rounds-requires-clause-under c = λ block o.
     let p = c.parts-parts.result.now in
     let bs = c.in_ok-blocks.blocks.items in
-    let are = subst (λ (z : GtsParts). AreBlocks (net_of z) (blocks_in bs)) (sym c.parts-parts.ensures.parts) c.in_ok-blocks.ensures in
+    let are = subst (λ (z : GtsParts). AreBlocks (net_of z) (blocks_in bs)) (sym c.parts-parts.ensures.parts)
+    c.in_ok-blocks.ensures in
     blocks_under (net_of p) (length p.variables.items) (blocks_in bs) (variables_long 0 p.variables.items)
     (are_numbered p).key are block
     (subst (λ (z : List (Vec ℕ Global)). IsOneOf (blocks_in z) block) c.deref-5.ensures.value o)
@@ -47,7 +49,8 @@ returns-in_err-modes-clause-gates c =
     let net = net_of p in
     let forest = c.args.forest.now in
     let trees = trees_in forest.trees.items in
-    let first : List flat.Gate → List ModeTree → Type 0 = λ gs ts. TooMany (λ ess h. Threads Has_modes (gates_in gs) (map tree_in ts) ess h) in
+    let first : List flat.Gate → List ModeTree
+    → Type 0 = λ gs ts. TooMany (λ ess h. Threads Has_modes (gates_in gs) (map tree_in ts) ess h) in
     err_on (first c.new-gates.result.items c.deref-2.result.now) _ c.from_residual-in_err-modes.result
     c.in_err-modes.field-0.0
     (λ n. all_need p c.args.gts.now c.parts-parts.ensures.parts forest c.args.wanted c.args.observer
@@ -68,10 +71,12 @@ returns-in_err-all_rounds-clause-gates c =
     (subst (λ (ts : List ModeTree). Threads Has_modes (gates_in c.new-gates.result.items) (map tree_in ts) modes g1)
     c.deref-2.ensures.value c.in_ok-modes.ensures.0) in
     let bs = c.in_ok-blocks.blocks.items in
-    let are = subst (λ (z : GtsParts). AreBlocks (net_of z) (blocks_in bs)) (sym c.parts-parts.ensures.parts) c.in_ok-blocks.ensures in
+    let are = subst (λ (z : GtsParts). AreBlocks (net_of z) (blocks_in bs)) (sym c.parts-parts.ensures.parts)
+    c.in_ok-blocks.ensures in
     let first = row_at c.in_ok-rows.rows.items in
     let is = c.in_ok-rows.ensures.reading
-    ∙ ap (λ (ts : List ModeTree). first_reading (trees_in ts) modes 0 (variables_from 0 c.deref-3.result.now)) c.deref-4.ensures.value
+    ∙ ap (λ (ts : List ModeTree). first_reading (trees_in ts) modes 0 (variables_from 0 c.deref-3.result.now))
+    c.deref-4.ensures.value
     ∙ ap (λ (vs : List Variable). first_reading trees modes 0 (variables_from 0 vs)) c.deref-3.ensures.value in
     err_on (TooMany (λ last h. All_rounds net (blocks_in c.deref-5.result.now) g1 first last h)) _
     c.from_residual-in_err-all_rounds.result c.in_err-all_rounds.field-0.0
@@ -93,10 +98,12 @@ returns-in_err-conflict-clause-gates c =
     (subst (λ (ts : List ModeTree). Threads Has_modes (gates_in c.new-gates.result.items) (map tree_in ts) modes g1)
     c.deref-2.ensures.value c.in_ok-modes.ensures.0) in
     let bs = c.in_ok-blocks.blocks.items in
-    let are = subst (λ (z : GtsParts). AreBlocks (net_of z) (blocks_in bs)) (sym c.parts-parts.ensures.parts) c.in_ok-blocks.ensures in
+    let are = subst (λ (z : GtsParts). AreBlocks (net_of z) (blocks_in bs)) (sym c.parts-parts.ensures.parts)
+    c.in_ok-blocks.ensures in
     let first = row_at c.in_ok-rows.rows.items in
     let is = c.in_ok-rows.ensures.reading
-    ∙ ap (λ (ts : List ModeTree). first_reading (trees_in ts) modes 0 (variables_from 0 c.deref-3.result.now)) c.deref-4.ensures.value
+    ∙ ap (λ (ts : List ModeTree). first_reading (trees_in ts) modes 0 (variables_from 0 c.deref-3.result.now))
+    c.deref-4.ensures.value
     ∙ ap (λ (vs : List Variable). first_reading trees modes 0 (variables_from 0 vs)) c.deref-3.ensures.value in
     let known = row_at c.all_rounds.new.rows.items in
     let g2 = gates_in c.all_rounds.new.gates.items in
@@ -119,10 +126,12 @@ returns-in_err-seen-clause-gates c =
     (subst (λ (ts : List ModeTree). Threads Has_modes (gates_in c.new-gates.result.items) (map tree_in ts) modes g1)
     c.deref-2.ensures.value c.in_ok-modes.ensures.0) in
     let bs = c.in_ok-blocks.blocks.items in
-    let are = subst (λ (z : GtsParts). AreBlocks (net_of z) (blocks_in bs)) (sym c.parts-parts.ensures.parts) c.in_ok-blocks.ensures in
+    let are = subst (λ (z : GtsParts). AreBlocks (net_of z) (blocks_in bs)) (sym c.parts-parts.ensures.parts)
+    c.in_ok-blocks.ensures in
     let first = row_at c.in_ok-rows.rows.items in
     let is = c.in_ok-rows.ensures.reading
-    ∙ ap (λ (ts : List ModeTree). first_reading (trees_in ts) modes 0 (variables_from 0 c.deref-3.result.now)) c.deref-4.ensures.value
+    ∙ ap (λ (ts : List ModeTree). first_reading (trees_in ts) modes 0 (variables_from 0 c.deref-3.result.now))
+    c.deref-4.ensures.value
     ∙ ap (λ (vs : List Variable). first_reading trees modes 0 (variables_from 0 vs)) c.deref-3.ensures.value in
     let known = row_at c.all_rounds.new.rows.items in
     let g2 = gates_in c.all_rounds.new.gates.items in
@@ -131,7 +140,8 @@ returns-in_err-seen-clause-gates c =
     let r : Reading × Operand = (row_at c.conflicts.new.rows.items, operand_of c.in_ok-conflict.conflict) in
     let g3 = gates_in c.conflicts.new.gates.items in
     let o = c.index.result.now in
-    let under = subst (λ (z : GtsParts). c.args.observer < length z.observers.items) (sym c.parts-parts.ensures.parts) c.requires in
+    let under = subst (λ (z : GtsParts). c.args.observer < length z.observers.items) (sym c.parts-parts.ensures.parts)
+    c.requires in
     let st = stands_item p.observers.items c.args.observer o under c.index.ensures in
     err_on (TooMany (λ es h. Builds (row_at c.deref-6.result.now) g3 (out-Expr ℕ (numbered o.value))
     (record { entries = es; gates = h }))) _ c.from_residual-in_err-seen.result c.in_err-seen.field-0.0
@@ -154,10 +164,12 @@ returns-clause-table c =
     (subst (λ (ts : List ModeTree). Threads Has_modes (gates_in c.new-gates.result.items) (map tree_in ts) modes g1)
     c.deref-2.ensures.value c.in_ok-modes.ensures.0) in
     let bs = c.in_ok-blocks.blocks.items in
-    let are = subst (λ (z : GtsParts). AreBlocks (net_of z) (blocks_in bs)) (sym c.parts-parts.ensures.parts) c.in_ok-blocks.ensures in
+    let are = subst (λ (z : GtsParts). AreBlocks (net_of z) (blocks_in bs)) (sym c.parts-parts.ensures.parts)
+    c.in_ok-blocks.ensures in
     let first = row_at c.in_ok-rows.rows.items in
     let is = c.in_ok-rows.ensures.reading
-    ∙ ap (λ (ts : List ModeTree). first_reading (trees_in ts) modes 0 (variables_from 0 c.deref-3.result.now)) c.deref-4.ensures.value
+    ∙ ap (λ (ts : List ModeTree). first_reading (trees_in ts) modes 0 (variables_from 0 c.deref-3.result.now))
+    c.deref-4.ensures.value
     ∙ ap (λ (vs : List Variable). first_reading trees modes 0 (variables_from 0 vs)) c.deref-3.ensures.value in
     let known = row_at c.all_rounds.new.rows.items in
     let g2 = gates_in c.all_rounds.new.gates.items in
@@ -166,13 +178,15 @@ returns-clause-table c =
     let r : Reading × Operand = (row_at c.conflicts.new.rows.items, operand_of c.in_ok-conflict.conflict) in
     let g3 = gates_in c.conflicts.new.gates.items in
     let o = c.index.result.now in
-    let under = subst (λ (z : GtsParts). c.args.observer < length z.observers.items) (sym c.parts-parts.ensures.parts) c.requires in
+    let under = subst (λ (z : GtsParts). c.args.observer < length z.observers.items) (sym c.parts-parts.ensures.parts)
+    c.requires in
     let st = stands_item p.observers.items c.args.observer o under c.index.ensures in
     let es = row_in c.in_ok-seen.seen in
     let h = gates_in c.built.new.gates.items in
     let seen = subst (λ (z : List Entries). Builds (row_at z) g3 (out-Expr ℕ (numbered o.value))
     (record { entries = es; gates = h })) c.deref-6.ensures.value c.in_ok-seen.ensures.0 in
-    let made = table_made net trees (numbered o.value) c.args.wanted modes g1 d1 (blocks_in bs) are first is known g2 d2 r
+    let made = table_made net trees (numbered o.value) c.args.wanted modes g1 d1 (blocks_in bs) are first is known g2 d2
+    r
     g3 c.in_ok-conflict.ensures.0 es h seen in
     let top = c.operand_for-top.ensures
     ∙ ap (λ (z : List Entry). e.operand_for (entries_in z) c.args.wanted) c.deref-7.ensures.value in

@@ -45,7 +45,8 @@ loop-n-init c =
     record {
       few = c.requires.few;
       so_far = each_start as_is row_in (Totals_of read) (total_one read) (total_more read)
-          (gates_in c.args.gates.now.items) (flows_from 0 (variables_from 0 c.args.variables.now)) c.new-totals.result.items
+          (gates_in c.args.gates.now.items) (flows_from 0 (variables_from 0 c.args.variables.now))
+          c.new-totals.result.items
           c.new-totals.ensures.items;
     }
 

@@ -15,64 +15,85 @@ typed-returns-in-Variable g t c =
 pub typed-returns-in-Not : goal.typed-returns-in-Not
 typed-returns-in-Not g t c =
     let kinds = g.E.Env.kind_at c.args.env.now in
-    kinded.not-arm kinds c.args.expr.now c.deref.result.now c.in-Not.a c.typed.result c.kind_where.result c.is_kind.result c.in-Not.is c.deref.ensures c.typed.ensures c.is_kind.ensures c.kind_where.ensures
+    kinded.not-arm kinds c.args.expr.now c.deref.result.now c.in-Not.a c.typed.result c.kind_where.result
+    c.is_kind.result c.in-Not.is c.deref.ensures c.typed.ensures c.is_kind.ensures c.kind_where.ensures
 
 pub typed-returns-in-All : goal.typed-returns-in-All
 typed-returns-in-All g t c =
     let kinds = g.E.Env.kind_at c.args.env.now in
-    kinded.all-arm kinds c.args.expr.now c.deref-in-All.result.now c.in-All.es c.kind_where-in-All.result c.each_has.result c.in-All.is c.deref-in-All.ensures.value c.each_has.ensures c.kind_where-in-All.ensures
+    kinded.all-arm kinds c.args.expr.now c.deref-in-All.result.now c.in-All.es c.kind_where-in-All.result
+    c.each_has.result c.in-All.is c.deref-in-All.ensures.value c.each_has.ensures c.kind_where-in-All.ensures
 
 pub typed-returns-in-Any : goal.typed-returns-in-Any
 typed-returns-in-Any g t c =
     let kinds = g.E.Env.kind_at c.args.env.now in
-    kinded.any-arm kinds c.args.expr.now c.deref-in-Any.result.now c.in-Any.es c.kind_where-in-Any.result c.each_has-in-Any.result c.in-Any.is c.deref-in-Any.ensures.value c.each_has-in-Any.ensures c.kind_where-in-Any.ensures
+    kinded.any-arm kinds c.args.expr.now c.deref-in-Any.result.now c.in-Any.es c.kind_where-in-Any.result
+    c.each_has-in-Any.result c.in-Any.is c.deref-in-Any.ensures.value c.each_has-in-Any.ensures
+    c.kind_where-in-Any.ensures
 
 pub typed-returns-in-Product : goal.typed-returns-in-Product
 typed-returns-in-Product g t c =
     let kinds = g.E.Env.kind_at c.args.env.now in
-    kinded.product-arm kinds c.args.expr.now c.deref-in-Product.result.now c.in-Product.es c.kind_where-in-Product.result c.each_has-in-Product.result c.in-Product.is c.deref-in-Product.ensures.value c.each_has-in-Product.ensures c.kind_where-in-Product.ensures
+    kinded.product-arm kinds c.args.expr.now c.deref-in-Product.result.now c.in-Product.es
+    c.kind_where-in-Product.result c.each_has-in-Product.result c.in-Product.is c.deref-in-Product.ensures.value
+    c.each_has-in-Product.ensures c.kind_where-in-Product.ensures
 
 pub typed-returns-in-Least : goal.typed-returns-in-Least
 typed-returns-in-Least g t c =
     let kinds = g.E.Env.kind_at c.args.env.now in
-    kinded.least-arm kinds c.args.expr.now c.deref-in-Least.result.now c.in-Least.es c.kind_where-in-Least.result c.each_has-in-Least.result c.in-Least.is c.deref-in-Least.ensures.value c.each_has-in-Least.ensures c.kind_where-in-Least.ensures
+    kinded.least-arm kinds c.args.expr.now c.deref-in-Least.result.now c.in-Least.es c.kind_where-in-Least.result
+    c.each_has-in-Least.result c.in-Least.is c.deref-in-Least.ensures.value c.each_has-in-Least.ensures
+    c.kind_where-in-Least.ensures
 
 pub typed-returns-in-Greatest : goal.typed-returns-in-Greatest
 typed-returns-in-Greatest g t c =
     let kinds = g.E.Env.kind_at c.args.env.now in
-    kinded.greatest-arm kinds c.args.expr.now c.deref-in-Greatest.result.now c.in-Greatest.es c.kind_where-in-Greatest.result c.each_has-in-Greatest.result c.in-Greatest.is c.deref-in-Greatest.ensures.value c.each_has-in-Greatest.ensures c.kind_where-in-Greatest.ensures
+    kinded.greatest-arm kinds c.args.expr.now c.deref-in-Greatest.result.now c.in-Greatest.es
+    c.kind_where-in-Greatest.result c.each_has-in-Greatest.result c.in-Greatest.is c.deref-in-Greatest.ensures.value
+    c.each_has-in-Greatest.ensures c.kind_where-in-Greatest.ensures
 
 pub typed-returns-in-Count : goal.typed-returns-in-Count
 typed-returns-in-Count g t c =
     let kinds = g.E.Env.kind_at c.args.env.now in
-    kinded.count-arm kinds c.args.expr.now c.deref-in-Count.result.now c.in-Count.es c.kind_where-in-Count.result c.each_has-in-Count.result c.in-Count.is c.deref-in-Count.ensures.value c.each_has-in-Count.ensures c.kind_where-in-Count.ensures
+    kinded.count-arm kinds c.args.expr.now c.deref-in-Count.result.now c.in-Count.es c.kind_where-in-Count.result
+    c.each_has-in-Count.result c.in-Count.is c.deref-in-Count.ensures.value c.each_has-in-Count.ensures
+    c.kind_where-in-Count.ensures
 
 pub typed-returns-in-Sum : goal.typed-returns-in-Sum
 typed-returns-in-Sum g t c =
     let kinds = g.E.Env.kind_at c.args.env.now in
-    kinded.sum-arm kinds c.args.expr.now c.deref-in-Sum.result.now c.in-Sum.parts c.kind_where-in-Sum.result c.each_part.result c.in-Sum.is c.deref-in-Sum.ensures.value c.each_part.ensures c.kind_where-in-Sum.ensures
+    kinded.sum-arm kinds c.args.expr.now c.deref-in-Sum.result.now c.in-Sum.parts c.kind_where-in-Sum.result
+    c.each_part.result c.in-Sum.is c.deref-in-Sum.ensures.value c.each_part.ensures c.kind_where-in-Sum.ensures
 
 pub typed-returns-in-Some : goal.typed-returns-in-Some
 typed-returns-in-Some g t c =
     let kinds = g.E.Env.kind_at c.args.env.now in
-    kinded.compare-arm kinds c.args.expr.now c.deref-in-Compare.result.now c.deref-in-Some.result.now c.in-Compare.relation c.in-Compare.a c.in-Compare.b c.in-Some.kind c.typed-in-Some.result c.kind_where-in-Some.result c.compares.result
-    c.is_kind-same.result c.both.result c.in-Compare.is c.deref-in-Compare.ensures c.deref-in-Some.ensures c.in-Some.ensures c.typed-in-Some.ensures c.compares.ensures c.is_kind-same.ensures c.both.ensures c.kind_where-in-Some.ensures
+    kinded.compare-arm kinds c.args.expr.now c.deref-in-Compare.result.now c.deref-in-Some.result.now
+    c.in-Compare.relation c.in-Compare.a c.in-Compare.b c.in-Some.kind c.typed-in-Some.result
+    c.kind_where-in-Some.result c.compares.result
+    c.is_kind-same.result c.both.result c.in-Compare.is c.deref-in-Compare.ensures c.deref-in-Some.ensures
+    c.in-Some.ensures c.typed-in-Some.ensures c.compares.ensures c.is_kind-same.ensures c.both.ensures
+    c.kind_where-in-Some.ensures
 
 pub typed-returns-in-None : goal.typed-returns-in-None
 typed-returns-in-None g t c =
     let kinds = g.E.Env.kind_at c.args.env.now in
-    kinded.compare-none kinds c.args.expr.now c.deref-in-Compare.result.now c.in-Compare.relation c.in-Compare.a c.in-Compare.b c.in-Compare.is c.deref-in-Compare.ensures c.in-None.ensures
+    kinded.compare-none kinds c.args.expr.now c.deref-in-Compare.result.now c.in-Compare.relation c.in-Compare.a
+    c.in-Compare.b c.in-Compare.is c.deref-in-Compare.ensures c.in-None.ensures
 
 pub typed-returns-in-Some-typed : goal.typed-returns-in-Some-typed
 typed-returns-in-Some-typed g t c =
     let kinds = g.E.Env.kind_at c.args.env.now in
-    kinded.choice-arm kinds c.args.expr.now c.deref-in-Choose.result.now c.deref-in-Some-typed.result.now c.in-Choose.cases c.in-Choose.other c.in-Some-typed.kind c.kind_where-in-Some-typed.result c.each_case.result
-    c.in-Choose.is c.deref-in-Some-typed.ensures.value c.deref-in-Choose.ensures c.in-Some-typed.ensures c.each_case.ensures c.kind_where-in-Some-typed.ensures
+    kinded.choice-arm kinds c.args.expr.now c.deref-in-Choose.result.now c.deref-in-Some-typed.result.now
+    c.in-Choose.cases c.in-Choose.other c.in-Some-typed.kind c.kind_where-in-Some-typed.result c.each_case.result
+    c.in-Choose.is c.deref-in-Some-typed.ensures.value c.deref-in-Choose.ensures c.in-Some-typed.ensures
+    c.each_case.ensures c.kind_where-in-Some-typed.ensures
 
 pub typed-returns-in-None-typed : goal.typed-returns-in-None-typed
 typed-returns-in-None-typed g t c =
     let kinds = g.E.Env.kind_at c.args.env.now in
-    kinded.choice-none kinds c.args.expr.now c.deref-in-Choose.result.now c.in-Choose.cases c.in-Choose.other c.in-Choose.is c.deref-in-Choose.ensures c.in-None-typed.ensures
+    kinded.choice-none kinds c.args.expr.now c.deref-in-Choose.result.now c.in-Choose.cases c.in-Choose.other
+    c.in-Choose.is c.deref-in-Choose.ensures c.in-None-typed.ensures
 
 pub each_has-loop-e-init : goal.each_has-loop-e-init
 each_has-loop-e-init g t c =
@@ -82,18 +103,21 @@ each_has-loop-e-init g t c =
 pub each_has-loop-e-preserved : goal.each_has-loop-e-preserved
 each_has-loop-e-preserved g t c =
     let kinds = g.E.Env.kind_at c.args.env.now in
-    kinded.each-goes-on kinds c.args.es.now c.loop-e.e-index c.e-item.result c.args.kind c.typed.result c.is_kind.result c.loop-e-test.true c.e-item.is c.typed.ensures c.is_kind.ensures c.if-not-is_kind.false c.loop-e.invariant
+    kinded.each-goes-on kinds c.args.es.now c.loop-e.e-index c.e-item.result c.args.kind c.typed.result c.is_kind.result
+    c.loop-e-test.true c.e-item.is c.typed.ensures c.is_kind.ensures c.if-not-is_kind.false c.loop-e.invariant
 
 pub each_has-returns-then-not-is_kind : goal.each_has-returns-then-not-is_kind
 each_has-returns-then-not-is_kind g t c =
     let kinds = g.E.Env.kind_at c.args.env.now in
-    kinded.each-fails kinds c.args.es.now c.loop-e.e-index c.e-item.result c.args.kind c.typed.result c.is_kind.result c.loop-e-test.true c.e-item.is c.typed.ensures c.is_kind.ensures c.if-not-is_kind.true
+    kinded.each-fails kinds c.args.es.now c.loop-e.e-index c.e-item.result c.args.kind c.typed.result c.is_kind.result
+    c.loop-e-test.true c.e-item.is c.typed.ensures c.is_kind.ensures c.if-not-is_kind.true
 
 pub each_has-returns : goal.each_has-returns
 each_has-returns g t c =
     let kinds = g.E.Env.kind_at c.args.env.now in
     kinded.each-ends kinds c.args.es.now c.loop-e.e-index c.args.kind
-    (kinded.not-empty (length c.args.es.now) c.is_empty.result c.is_empty.ensures c.if-is_empty.false) c.loop-e-test.false c.loop-e.invariant
+    (kinded.not-empty (length c.args.es.now) c.is_empty.result c.is_empty.ensures c.if-is_empty.false)
+    c.loop-e-test.false c.loop-e.invariant
 
 pub each_part-loop-e-init : goal.each_part-loop-e-init
 each_part-loop-e-init g t c =
@@ -103,18 +127,21 @@ each_part-loop-e-init g t c =
 pub each_part-loop-e-preserved : goal.each_part-loop-e-preserved
 each_part-loop-e-preserved g t c =
     let kinds = g.E.Env.kind_at c.args.env.now in
-    kinded.parts-go-on kinds c.args.parts.now c.loop-e.e-index c.loop-e-item.result c.typed.result c.is_kind.result c.loop-e-test.true c.loop-e-item.is c.typed.ensures c.is_kind.ensures c.if-not-is_kind.false c.loop-e.invariant
+    kinded.parts-go-on kinds c.args.parts.now c.loop-e.e-index c.loop-e-item.result c.typed.result c.is_kind.result
+    c.loop-e-test.true c.loop-e-item.is c.typed.ensures c.is_kind.ensures c.if-not-is_kind.false c.loop-e.invariant
 
 pub each_part-returns-then-not-is_kind : goal.each_part-returns-then-not-is_kind
 each_part-returns-then-not-is_kind g t c =
     let kinds = g.E.Env.kind_at c.args.env.now in
-    kinded.parts-fail kinds c.args.parts.now c.loop-e.e-index c.loop-e-item.result c.typed.result c.is_kind.result c.loop-e-test.true c.loop-e-item.is c.typed.ensures c.is_kind.ensures c.if-not-is_kind.true
+    kinded.parts-fail kinds c.args.parts.now c.loop-e.e-index c.loop-e-item.result c.typed.result c.is_kind.result
+    c.loop-e-test.true c.loop-e-item.is c.typed.ensures c.is_kind.ensures c.if-not-is_kind.true
 
 pub each_part-returns : goal.each_part-returns
 each_part-returns g t c =
     let kinds = g.E.Env.kind_at c.args.env.now in
     kinded.parts-end kinds c.args.parts.now c.loop-e.e-index
-    (kinded.not-empty (length c.args.parts.now) c.is_empty.result c.is_empty.ensures c.if-is_empty.false) c.loop-e-test.false c.loop-e.invariant
+    (kinded.not-empty (length c.args.parts.now) c.is_empty.result c.is_empty.ensures c.if-is_empty.false)
+    c.loop-e-test.false c.loop-e.invariant
 
 pub each_case-loop-test-init : goal.each_case-loop-test-init
 each_case-loop-test-init g t c =
@@ -124,21 +151,29 @@ each_case-loop-test-init g t c =
 pub each_case-loop-test-preserved : goal.each_case-loop-test-preserved
 each_case-loop-test-preserved g t c =
     let kinds = g.E.Env.kind_at c.args.env.now in
-    kinded.cases-go-on kinds c.args.cases.now c.loop-test.test-index c.loop-test-item.result c.args.kind c.typed.result c.typed-in-loop-test.result c.is_kind.result c.is_kind-in-loop-test.result c.loop-test-test.true c.loop-test-item.is
-    c.typed.ensures c.is_kind.ensures c.if-not-is_kind.false c.typed-in-loop-test.ensures c.is_kind-in-loop-test.ensures c.if-not-is_kind-2.false c.loop-test.invariant
+    kinded.cases-go-on kinds c.args.cases.now c.loop-test.test-index c.loop-test-item.result c.args.kind c.typed.result
+    c.typed-in-loop-test.result c.is_kind.result c.is_kind-in-loop-test.result c.loop-test-test.true
+    c.loop-test-item.is
+    c.typed.ensures c.is_kind.ensures c.if-not-is_kind.false c.typed-in-loop-test.ensures c.is_kind-in-loop-test.ensures
+    c.if-not-is_kind-2.false c.loop-test.invariant
 
 pub each_case-returns-then-not-is_kind : goal.each_case-returns-then-not-is_kind
 each_case-returns-then-not-is_kind g t c =
     let kinds = g.E.Env.kind_at c.args.env.now in
-    kinded.test-fails kinds c.args.cases.now c.loop-test.test-index c.loop-test-item.result c.args.kind c.typed.result c.is_kind.result c.loop-test-test.true c.loop-test-item.is c.typed.ensures c.is_kind.ensures c.if-not-is_kind.true
+    kinded.test-fails kinds c.args.cases.now c.loop-test.test-index c.loop-test-item.result c.args.kind c.typed.result
+    c.is_kind.result c.loop-test-test.true c.loop-test-item.is c.typed.ensures c.is_kind.ensures
+    c.if-not-is_kind.true
 
 pub each_case-returns-then-not-is_kind-2 : goal.each_case-returns-then-not-is_kind-2
 each_case-returns-then-not-is_kind-2 g t c =
     let kinds = g.E.Env.kind_at c.args.env.now in
-    kinded.value-fails kinds c.args.cases.now c.loop-test.test-index c.loop-test-item.result c.args.kind c.typed-in-loop-test.result c.is_kind-in-loop-test.result c.loop-test-test.true c.loop-test-item.is c.typed-in-loop-test.ensures c.is_kind-in-loop-test.ensures c.if-not-is_kind-2.true
+    kinded.value-fails kinds c.args.cases.now c.loop-test.test-index c.loop-test-item.result c.args.kind
+    c.typed-in-loop-test.result c.is_kind-in-loop-test.result c.loop-test-test.true c.loop-test-item.is
+    c.typed-in-loop-test.ensures c.is_kind-in-loop-test.ensures c.if-not-is_kind-2.true
 
 pub each_case-returns : goal.each_case-returns
 each_case-returns g t c =
     let kinds = g.E.Env.kind_at c.args.env.now in
     kinded.cases-end kinds c.args.cases.now c.loop-test.test-index c.args.kind
-    (kinded.not-empty (length c.args.cases.now) c.is_empty.result c.is_empty.ensures c.if-is_empty.false) c.loop-test-test.false c.loop-test.invariant
+    (kinded.not-empty (length c.args.cases.now) c.is_empty.result c.is_empty.ensures c.if-is_empty.false)
+    c.loop-test-test.false c.loop-test.invariant

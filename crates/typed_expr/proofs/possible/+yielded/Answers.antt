@@ -15,77 +15,98 @@ use Rattle.typed_expr.proofs.possible.+yielded.Goals as goal
 pub yielded-returns-in-Constant : goal.yielded-returns-in-Constant
 yielded-returns-in-Constant g t c =
     let facts = facts_of (g.E.Env.facts_at c.args.env.now) in
-    arm.constant-arm facts c.args.most c.gathered.result c.args.expr.now c.in-Constant.v c.in-Constant.is c.gathered.ensures
+    arm.constant-arm facts c.args.most c.gathered.result c.args.expr.now c.in-Constant.v c.in-Constant.is
+    c.gathered.ensures
 
 pub yielded-returns-in-Variable : goal.yielded-returns-in-Variable
 yielded-returns-in-Variable g t c =
     let facts = facts_of (g.E.Env.facts_at c.args.env.now) in
     let found =
     subst
-    (λ (l : List Value). Gathers c.args.most c.gathered-in-Variable.result (Contains l)) c.facts.ensures c.gathered-in-Variable.ensures in
-    arm.variable-arm facts c.args.most c.gathered-in-Variable.result c.args.expr.now c.in-Variable.x c.in-Variable.is found
+    (λ (l : List Value). Gathers c.args.most c.gathered-in-Variable.result (Contains l)) c.facts.ensures
+    c.gathered-in-Variable.ensures in
+    arm.variable-arm facts c.args.most c.gathered-in-Variable.result c.args.expr.now c.in-Variable.x c.in-Variable.is
+    found
 
 pub yielded-returns-in-Sum : goal.yielded-returns-in-Sum
 yielded-returns-in-Sum g t c =
     let facts = facts_of (g.E.Env.facts_at c.args.env.now) in
-    arm.sum-arm facts c.args.most c.summed.result c.args.expr.now c.deref-in-Sum.result.now c.in-Sum.parts c.in-Sum.is c.deref-in-Sum.ensures.value c.summed.ensures
+    arm.sum-arm facts c.args.most c.summed.result c.args.expr.now c.deref-in-Sum.result.now c.in-Sum.parts c.in-Sum.is
+    c.deref-in-Sum.ensures.value c.summed.ensures
 
 pub yielded-returns-in-Product : goal.yielded-returns-in-Product
 yielded-returns-in-Product g t c =
     let facts = facts_of (g.E.Env.facts_at c.args.env.now) in
-    arm.product-arm facts c.args.most c.folded.result c.args.expr.now c.deref-in-Product.result.now c.in-Product.es c.in-Product.is c.deref-in-Product.ensures.value c.folded.ensures
+    arm.product-arm facts c.args.most c.folded.result c.args.expr.now c.deref-in-Product.result.now c.in-Product.es
+    c.in-Product.is c.deref-in-Product.ensures.value c.folded.ensures
 
 pub yielded-returns-in-Least : goal.yielded-returns-in-Least
 yielded-returns-in-Least g t c =
     let facts = facts_of (g.E.Env.facts_at c.args.env.now) in
-    arm.least-arm facts c.args.most c.folded-in-Least.result c.args.expr.now c.deref-in-Least.result.now c.in-Least.es c.in-Least.is c.deref-in-Least.ensures.value c.folded-in-Least.ensures
+    arm.least-arm facts c.args.most c.folded-in-Least.result c.args.expr.now c.deref-in-Least.result.now c.in-Least.es
+    c.in-Least.is c.deref-in-Least.ensures.value c.folded-in-Least.ensures
 
 pub yielded-returns-in-Greatest : goal.yielded-returns-in-Greatest
 yielded-returns-in-Greatest g t c =
     let facts = facts_of (g.E.Env.facts_at c.args.env.now) in
-    arm.greatest-arm facts c.args.most c.folded-in-Greatest.result c.args.expr.now c.deref-in-Greatest.result.now c.in-Greatest.es c.in-Greatest.is c.deref-in-Greatest.ensures.value c.folded-in-Greatest.ensures
+    arm.greatest-arm facts c.args.most c.folded-in-Greatest.result c.args.expr.now c.deref-in-Greatest.result.now
+    c.in-Greatest.es c.in-Greatest.is c.deref-in-Greatest.ensures.value c.folded-in-Greatest.ensures
 
 pub yielded-returns-in-Count : goal.yielded-returns-in-Count
 yielded-returns-in-Count g t c =
     let facts = facts_of (g.E.Env.facts_at c.args.env.now) in
-    arm.count-arm facts c.args.most c.folded-in-Count.result c.args.expr.now c.deref-in-Count.result.now c.in-Count.es c.in-Count.is c.deref-in-Count.ensures.value c.folded-in-Count.ensures
+    arm.count-arm facts c.args.most c.folded-in-Count.result c.args.expr.now c.deref-in-Count.result.now c.in-Count.es
+    c.in-Count.is c.deref-in-Count.ensures.value c.folded-in-Count.ensures
 
 pub yielded-returns-in_ok-set-in-Not : goal.yielded-returns-in_ok-set-in-Not
 yielded-returns-in_ok-set-in-Not g t c =
     let facts = facts_of (g.E.Env.facts_at c.args.env.now) in
-    arm.not-arm facts c.args.most c.truth_set.result c.args.expr.now c.deref.result.now c.in-Not.a c.in_ok-set-in-Not.set c.has.result c.has-in-Not.result c.in-Not.is c.deref.ensures
+    arm.not-arm facts c.args.most c.truth_set.result c.args.expr.now c.deref.result.now c.in-Not.a
+    c.in_ok-set-in-Not.set c.has.result c.has-in-Not.result c.in-Not.is c.deref.ensures
     c.in_ok-set-in-Not.ensures c.has.ensures c.has-in-Not.ensures c.truth_set.ensures
 
 pub yielded-returns-in_err-set-in-Not : goal.yielded-returns-in_err-set-in-Not
 yielded-returns-in_err-set-in-Not g t c =
     let facts = facts_of (g.E.Env.facts_at c.args.env.now) in
     err-same
-    (λ (r : Result (List Value) Stop). Evaluates facts c.args.most r (out-Expr g.row.V.Denot c.args.expr.now)) c.from_residual.result c.in_err-set-in-Not.field-0.0 c.from_residual.ensures.1
-    (arm.not-stop facts c.args.most c.in_err-set-in-Not.field-0.0 c.args.expr.now c.deref.result.now c.in-Not.a c.in-Not.is c.deref.ensures c.in_err-set-in-Not.ensures)
+    (λ (r : Result (List Value) Stop). Evaluates facts c.args.most r (out-Expr g.row.V.Denot c.args.expr.now))
+    c.from_residual.result c.in_err-set-in-Not.field-0.0 c.from_residual.ensures.1
+    (arm.not-stop facts c.args.most c.in_err-set-in-Not.field-0.0 c.args.expr.now c.deref.result.now c.in-Not.a
+    c.in-Not.is c.deref.ensures c.in_err-set-in-Not.ensures)
 
 pub yielded-returns-in_ok-one_false-in-All : goal.yielded-returns-in_ok-one_false-in-All
 yielded-returns-in_ok-one_false-in-All g t c =
     let facts = facts_of (g.E.Env.facts_at c.args.env.now) in
-    arm.all-arm facts c.args.most c.truth_set-in-All.result c.args.expr.now c.deref-in-All.result.now c.in-All.es c.in_ok-one_false-in-All.one_false c.in_ok-one_false-in-All.all_true c.in-All.is c.deref-in-All.ensures.value c.in_ok-one_false-in-All.ensures c.truth_set-in-All.ensures
+    arm.all-arm facts c.args.most c.truth_set-in-All.result c.args.expr.now c.deref-in-All.result.now c.in-All.es
+    c.in_ok-one_false-in-All.one_false c.in_ok-one_false-in-All.all_true c.in-All.is c.deref-in-All.ensures.value
+    c.in_ok-one_false-in-All.ensures c.truth_set-in-All.ensures
 
 pub yielded-returns-in_ok-one_true-in-Any : goal.yielded-returns-in_ok-one_true-in-Any
 yielded-returns-in_ok-one_true-in-Any g t c =
     let facts = facts_of (g.E.Env.facts_at c.args.env.now) in
-    arm.any-arm facts c.args.most c.truth_set-in-Any.result c.args.expr.now c.deref-in-Any.result.now c.in-Any.es c.in_ok-one_true-in-Any.one_true c.in_ok-one_true-in-Any.all_false c.in-Any.is c.deref-in-Any.ensures.value c.in_ok-one_true-in-Any.ensures c.truth_set-in-Any.ensures
+    arm.any-arm facts c.args.most c.truth_set-in-Any.result c.args.expr.now c.deref-in-Any.result.now c.in-Any.es
+    c.in_ok-one_true-in-Any.one_true c.in_ok-one_true-in-Any.all_false c.in-Any.is c.deref-in-Any.ensures.value
+    c.in_ok-one_true-in-Any.ensures c.truth_set-in-Any.ensures
 
 pub yielded-returns-in_err-one_false-in-All : goal.yielded-returns-in_err-one_false-in-All
 yielded-returns-in_err-one_false-in-All g t c =
     let facts = facts_of (g.E.Env.facts_at c.args.env.now) in
     err-same
-    (λ (r : Result (List Value) Stop). Evaluates facts c.args.most r (out-Expr g.row.V.Denot c.args.expr.now)) c.from_residual-in_err-one_false-in-All.result c.in_err-one_false-in-All.field-0.0 c.from_residual-in_err-one_false-in-All.ensures.1
-    (arm.all-stop facts c.args.most c.in_err-one_false-in-All.field-0.0 c.args.expr.now c.deref-in-All.result.now c.in-All.es c.in-All.is c.deref-in-All.ensures.value c.in_err-one_false-in-All.ensures)
+    (λ (r : Result (List Value) Stop). Evaluates facts c.args.most r (out-Expr g.row.V.Denot c.args.expr.now))
+    c.from_residual-in_err-one_false-in-All.result c.in_err-one_false-in-All.field-0.0
+    c.from_residual-in_err-one_false-in-All.ensures.1
+    (arm.all-stop facts c.args.most c.in_err-one_false-in-All.field-0.0 c.args.expr.now c.deref-in-All.result.now
+    c.in-All.es c.in-All.is c.deref-in-All.ensures.value c.in_err-one_false-in-All.ensures)
 
 pub yielded-returns-in_err-one_true-in-Any : goal.yielded-returns-in_err-one_true-in-Any
 yielded-returns-in_err-one_true-in-Any g t c =
     let facts = facts_of (g.E.Env.facts_at c.args.env.now) in
     err-same
-    (λ (r : Result (List Value) Stop). Evaluates facts c.args.most r (out-Expr g.row.V.Denot c.args.expr.now)) c.from_residual-in_err-one_true-in-Any.result c.in_err-one_true-in-Any.field-0.0 c.from_residual-in_err-one_true-in-Any.ensures.1
-    (arm.any-stop facts c.args.most c.in_err-one_true-in-Any.field-0.0 c.args.expr.now c.deref-in-Any.result.now c.in-Any.es c.in-Any.is c.deref-in-Any.ensures.value c.in_err-one_true-in-Any.ensures)
+    (λ (r : Result (List Value) Stop). Evaluates facts c.args.most r (out-Expr g.row.V.Denot c.args.expr.now))
+    c.from_residual-in_err-one_true-in-Any.result c.in_err-one_true-in-Any.field-0.0
+    c.from_residual-in_err-one_true-in-Any.ensures.1
+    (arm.any-stop facts c.args.most c.in_err-one_true-in-Any.field-0.0 c.args.expr.now c.deref-in-Any.result.now
+    c.in-Any.es c.in-Any.is c.deref-in-Any.ensures.value c.in_err-one_true-in-Any.ensures)
 
 pub yielded-returns-in_ok-right-in-Compare : goal.yielded-returns-in_ok-right-in-Compare
 yielded-returns-in_ok-right-in-Compare g t c =
@@ -95,46 +116,69 @@ yielded-returns-in_ok-right-in-Compare g t c =
     let ry = c.in_ok-right-in-Compare.right in
     let f1 =
     subst
-    (λ (l : List Value). IsTrue c.some_related-can_be_false.result ↔ SomeRelated rel l c.values-in-Compare.result.now false) c.values.ensures.values c.some_related-can_be_false.ensures in
+    (λ (l : List Value). IsTrue c.some_related-can_be_false.result
+    ↔ SomeRelated rel l c.values-in-Compare.result.now false) c.values.ensures.values
+    c.some_related-can_be_false.ensures in
     let f2 =
     subst
-    (λ (l : List Value). IsTrue c.some_related-can_be_false.result ↔ SomeRelated rel lx l false) c.values-in-Compare.ensures.values f1 in
+    (λ (l : List Value). IsTrue c.some_related-can_be_false.result ↔ SomeRelated rel lx l false)
+    c.values-in-Compare.ensures.values f1 in
     let t1 =
     subst
-    (λ (l : List Value). IsTrue c.some_related-can_be_true.result ↔ SomeRelated rel l c.values-in-Compare-3.result.now true) c.values-in-Compare-2.ensures.values c.some_related-can_be_true.ensures in
+    (λ (l : List Value). IsTrue c.some_related-can_be_true.result
+    ↔ SomeRelated rel l c.values-in-Compare-3.result.now true) c.values-in-Compare-2.ensures.values
+    c.some_related-can_be_true.ensures in
     let t2 =
     subst
-    (λ (l : List Value). IsTrue c.some_related-can_be_true.result ↔ SomeRelated rel lx l true) c.values-in-Compare-3.ensures.values t1 in
-    arm.compare-arm facts c.args.most c.truth_set-in-Compare.result c.args.expr.now c.deref-in-Compare.result.now c.deref-in-Compare-2.result.now rel c.in-Compare.a c.in-Compare.b lx ry c.some_related-can_be_false.result c.some_related-can_be_true.result
-    c.in-Compare.is c.deref-in-Compare.ensures c.deref-in-Compare-2.ensures c.in_ok-left-in-Compare.ensures c.in_ok-right-in-Compare.ensures f2 t2 c.truth_set-in-Compare.ensures
+    (λ (l : List Value). IsTrue c.some_related-can_be_true.result ↔ SomeRelated rel lx l true)
+    c.values-in-Compare-3.ensures.values t1 in
+    arm.compare-arm facts c.args.most c.truth_set-in-Compare.result c.args.expr.now c.deref-in-Compare.result.now
+    c.deref-in-Compare-2.result.now rel c.in-Compare.a c.in-Compare.b lx ry c.some_related-can_be_false.result
+    c.some_related-can_be_true.result
+    c.in-Compare.is c.deref-in-Compare.ensures c.deref-in-Compare-2.ensures c.in_ok-left-in-Compare.ensures
+    c.in_ok-right-in-Compare.ensures f2 t2 c.truth_set-in-Compare.ensures
 
 pub yielded-returns-in_err-left-in-Compare : goal.yielded-returns-in_err-left-in-Compare
 yielded-returns-in_err-left-in-Compare g t c =
     let facts = facts_of (g.E.Env.facts_at c.args.env.now) in
     err-same
-    (λ (r : Result (List Value) Stop). Evaluates facts c.args.most r (out-Expr g.row.V.Denot c.args.expr.now)) c.from_residual-in_err-left-in-Compare.result c.in_err-left-in-Compare.field-0.0 c.from_residual-in_err-left-in-Compare.ensures.1
-    (arm.left-stop facts c.args.most c.in_err-left-in-Compare.field-0.0 c.args.expr.now c.deref-in-Compare.result.now c.in-Compare.relation c.in-Compare.a c.in-Compare.b c.in-Compare.is c.deref-in-Compare.ensures c.in_err-left-in-Compare.ensures)
+    (λ (r : Result (List Value) Stop). Evaluates facts c.args.most r (out-Expr g.row.V.Denot c.args.expr.now))
+    c.from_residual-in_err-left-in-Compare.result c.in_err-left-in-Compare.field-0.0
+    c.from_residual-in_err-left-in-Compare.ensures.1
+    (arm.left-stop facts c.args.most c.in_err-left-in-Compare.field-0.0 c.args.expr.now c.deref-in-Compare.result.now
+    c.in-Compare.relation c.in-Compare.a c.in-Compare.b c.in-Compare.is c.deref-in-Compare.ensures
+    c.in_err-left-in-Compare.ensures)
 
 pub yielded-returns-in_err-right-in-Compare : goal.yielded-returns-in_err-right-in-Compare
 yielded-returns-in_err-right-in-Compare g t c =
     let facts = facts_of (g.E.Env.facts_at c.args.env.now) in
     err-same
-    (λ (r : Result (List Value) Stop). Evaluates facts c.args.most r (out-Expr g.row.V.Denot c.args.expr.now)) c.from_residual-in_err-right-in-Compare.result c.in_err-right-in-Compare.field-0.0 c.from_residual-in_err-right-in-Compare.ensures.1
-    (arm.right-stop facts c.args.most c.in_err-right-in-Compare.field-0.0 c.args.expr.now c.deref-in-Compare-2.result.now c.in-Compare.relation c.in-Compare.a c.in-Compare.b c.in-Compare.is c.deref-in-Compare-2.ensures c.in_err-right-in-Compare.ensures)
+    (λ (r : Result (List Value) Stop). Evaluates facts c.args.most r (out-Expr g.row.V.Denot c.args.expr.now))
+    c.from_residual-in_err-right-in-Compare.result c.in_err-right-in-Compare.field-0.0
+    c.from_residual-in_err-right-in-Compare.ensures.1
+    (arm.right-stop facts c.args.most c.in_err-right-in-Compare.field-0.0 c.args.expr.now
+    c.deref-in-Compare-2.result.now c.in-Compare.relation c.in-Compare.a c.in-Compare.b c.in-Compare.is
+    c.deref-in-Compare-2.ensures c.in_err-right-in-Compare.ensures)
 
 pub yielded-returns-in_err-set-in-Choose : goal.yielded-returns-in_err-set-in-Choose
 yielded-returns-in_err-set-in-Choose g t c =
     let facts = facts_of (g.E.Env.facts_at c.args.env.now) in
     err-same
-    (λ (r : Result (List Value) Stop). Evaluates facts c.args.most r (out-Expr g.row.V.Denot c.args.expr.now)) c.from_residual-in_err-set-in-Choose.result c.in_err-set-in-Choose.field-0.0 c.from_residual-in_err-set-in-Choose.ensures.1
-    (arm.cases-stop facts c.args.most c.in_err-set-in-Choose.field-0.0 c.args.expr.now c.deref-in-Choose.result.now c.in-Choose.cases c.in-Choose.other c.in-Choose.is c.deref-in-Choose.ensures.value c.in_err-set-in-Choose.ensures)
+    (λ (r : Result (List Value) Stop). Evaluates facts c.args.most r (out-Expr g.row.V.Denot c.args.expr.now))
+    c.from_residual-in_err-set-in-Choose.result c.in_err-set-in-Choose.field-0.0
+    c.from_residual-in_err-set-in-Choose.ensures.1
+    (arm.cases-stop facts c.args.most c.in_err-set-in-Choose.field-0.0 c.args.expr.now c.deref-in-Choose.result.now
+    c.in-Choose.cases c.in-Choose.other c.in-Choose.is c.deref-in-Choose.ensures.value
+    c.in_err-set-in-Choose.ensures)
 
 pub tally-returns-in_err-set : goal.tally-returns-in_err-set
 tally-returns-in_err-set g t c =
     let facts = facts_of (g.E.Env.facts_at c.args.env.now) in
     err-same
-    (λ (r : Result (Bool × Bool) Stop). Tallies facts c.args.most c.args.b r c.args.es.now) c.from_residual.result c.in_err-set.field-0.0 c.from_residual.ensures.1
-    (loop.wide-here facts c.args.most c.args.es.now c.loop-e.e-index c.e-item.result c.in_err-set.field-0.0 c.loop-e-test.true c.e-item.is c.in_err-set.ensures)
+    (λ (r : Result (Bool × Bool) Stop). Tallies facts c.args.most c.args.b r c.args.es.now) c.from_residual.result
+    c.in_err-set.field-0.0 c.from_residual.ensures.1
+    (loop.wide-here facts c.args.most c.args.es.now c.loop-e.e-index c.e-item.result c.in_err-set.field-0.0
+    c.loop-e-test.true c.e-item.is c.in_err-set.ensures)
 
 pub tally-loop-e-init : goal.tally-loop-e-init
 tally-loop-e-init g t c =
@@ -144,15 +188,21 @@ tally-loop-e-init g t c =
 pub tally-loop-e-preserved : goal.tally-loop-e-preserved
 tally-loop-e-preserved g t c =
     let facts = facts_of (g.E.Env.facts_at c.args.env.now) in
-    loop.tally-goes-on facts c.args.most c.args.b c.loop-e.one_other c.loop-e.each c.either-one_other.result c.both-each.result c.has.result c.has-in-loop-e.result c.args.es.now c.loop-e.e-index c.e-item.result c.in_ok-set.set
-    c.loop-e-test.true c.e-item.is c.loop-e.invariant c.in_ok-set.ensures c.has.ensures c.has-in-loop-e.ensures c.either-one_other.ensures c.both-each.ensures
+    loop.tally-goes-on facts c.args.most c.args.b c.loop-e.one_other c.loop-e.each c.either-one_other.result
+    c.both-each.result c.has.result c.has-in-loop-e.result c.args.es.now c.loop-e.e-index c.e-item.result
+    c.in_ok-set.set
+    c.loop-e-test.true c.e-item.is c.loop-e.invariant c.in_ok-set.ensures c.has.ensures c.has-in-loop-e.ensures
+    c.either-one_other.ensures c.both-each.ensures
 
 pub tally-returns-then-is_none : goal.tally-returns-then-is_none
 tally-returns-then-is_none g t c =
     let facts = facts_of (g.E.Env.facts_at c.args.env.now) in
     let next =
-    loop.tally-goes-on facts c.args.most c.args.b c.loop-e.one_other c.loop-e.each c.either-one_other.result c.both-each.result c.has.result c.has-in-loop-e.result c.args.es.now c.loop-e.e-index c.e-item.result c.in_ok-set.set
-    c.loop-e-test.true c.e-item.is c.loop-e.invariant c.in_ok-set.ensures c.has.ensures c.has-in-loop-e.ensures c.either-one_other.ensures c.both-each.ensures in
+    loop.tally-goes-on facts c.args.most c.args.b c.loop-e.one_other c.loop-e.each c.either-one_other.result
+    c.both-each.result c.has.result c.has-in-loop-e.result c.args.es.now c.loop-e.e-index c.e-item.result
+    c.in_ok-set.set
+    c.loop-e-test.true c.e-item.is c.loop-e.invariant c.in_ok-set.ensures c.has.ensures c.has-in-loop-e.ensures
+    c.either-one_other.ensures c.both-each.ensures in
     loop.tally-stops-early facts c.args.most c.args.b c.either-one_other.result c.both-each.result c.args.es.now
     (c.loop-e.e-index + 1) c.if-one_other.true c.if-not-each.true
     (loop.none-there _ c.is_none.result c.is_none.ensures c.if-is_none.true) next
@@ -161,55 +211,73 @@ pub folded-returns-in_err-so_far : goal.folded-returns-in_err-so_far
 folded-returns-in_err-so_far g t c =
     let facts = facts_of (g.E.Env.facts_at c.args.env.now) in
     err-same
-    (λ (r : Result (List Value) Stop). Folds facts c.args.most c.args.step r c.args.es.now) c.from_residual.result c.in_err-so_far.field-0.0 c.from_residual.ensures.1
-    (loop.fold-begins-stop facts c.args.most c.args.step c.args.es.now c.start_value.result c.in_err-so_far.field-0.0 c.start_value.ensures c.in_err-so_far.ensures)
+    (λ (r : Result (List Value) Stop). Folds facts c.args.most c.args.step r c.args.es.now) c.from_residual.result
+    c.in_err-so_far.field-0.0 c.from_residual.ensures.1
+    (loop.fold-begins-stop facts c.args.most c.args.step c.args.es.now c.start_value.result c.in_err-so_far.field-0.0
+    c.start_value.ensures c.in_err-so_far.ensures)
 
 pub folded-loop-e-init : goal.folded-loop-e-init
 folded-loop-e-init g t c =
     let facts = facts_of (g.E.Env.facts_at c.args.env.now) in
-    loop.fold-begins facts c.args.most c.args.step c.args.es.now c.start_value.result c.in_ok-so_far.so_far c.start_value.ensures c.in_ok-so_far.ensures
+    loop.fold-begins facts c.args.most c.args.step c.args.es.now c.start_value.result c.in_ok-so_far.so_far
+    c.start_value.ensures c.in_ok-so_far.ensures
 
 pub folded-loop-e-preserved : goal.folded-loop-e-preserved
 folded-loop-e-preserved g t c =
     let facts = facts_of (g.E.Env.facts_at c.args.env.now) in
     let step1 =
     subst
-    (λ (l : List Value). Gathers c.args.most (Ok c.in_ok-more.more) (IsNext c.args.step c.loop-e.first l c.values-in-loop-e.result.now)) c.values.ensures.values c.in_ok-more.ensures in
+    (λ (l : List Value). Gathers c.args.most (Ok c.in_ok-more.more)
+    (IsNext c.args.step c.loop-e.first l c.values-in-loop-e.result.now)) c.values.ensures.values
+    c.in_ok-more.ensures in
     let step2 =
     subst
-    (λ (l : List Value). Gathers c.args.most (Ok c.in_ok-more.more) (IsNext c.args.step c.loop-e.first c.loop-e.so_far l)) c.values-in-loop-e.ensures.values step1 in
-    loop.fold-goes-on facts c.args.most c.args.step c.loop-e.first c.args.es.now c.loop-e.e-index c.e-item.result c.loop-e.so_far c.in_ok-set.set c.in_ok-more.more c.loop-e-test.true c.e-item.is c.loop-e.invariant c.in_ok-set.ensures step2
+    (λ (l : List Value). Gathers c.args.most (Ok c.in_ok-more.more)
+    (IsNext c.args.step c.loop-e.first c.loop-e.so_far l)) c.values-in-loop-e.ensures.values step1 in
+    loop.fold-goes-on facts c.args.most c.args.step c.loop-e.first c.args.es.now c.loop-e.e-index c.e-item.result
+    c.loop-e.so_far c.in_ok-set.set c.in_ok-more.more c.loop-e-test.true c.e-item.is c.loop-e.invariant
+    c.in_ok-set.ensures step2
 
 pub folded-returns-in_err-set : goal.folded-returns-in_err-set
 folded-returns-in_err-set g t c =
     let facts = facts_of (g.E.Env.facts_at c.args.env.now) in
     err-same
-    (λ (r : Result (List Value) Stop). Folds facts c.args.most c.args.step r c.args.es.now) c.from_residual-in_err-set.result c.in_err-set.field-0.0 c.from_residual-in_err-set.ensures.1
-    (loop.fold-operand-stop facts c.args.most c.args.step c.args.es.now c.loop-e.e-index c.e-item.result c.in_err-set.field-0.0 c.loop-e-test.true c.e-item.is c.in_err-set.ensures)
+    (λ (r : Result (List Value) Stop). Folds facts c.args.most c.args.step r c.args.es.now)
+    c.from_residual-in_err-set.result c.in_err-set.field-0.0 c.from_residual-in_err-set.ensures.1
+    (loop.fold-operand-stop facts c.args.most c.args.step c.args.es.now c.loop-e.e-index c.e-item.result
+    c.in_err-set.field-0.0 c.loop-e-test.true c.e-item.is c.in_err-set.ensures)
 
 pub folded-returns-in_err-more : goal.folded-returns-in_err-more
 folded-returns-in_err-more g t c =
     let facts = facts_of (g.E.Env.facts_at c.args.env.now) in
     let step1 =
     subst
-    (λ (l : List Value). Gathers c.args.most (Err c.in_err-more.field-0.0) (IsNext c.args.step c.loop-e.first l c.values-in-loop-e.result.now)) c.values.ensures.values c.in_err-more.ensures in
+    (λ (l : List Value). Gathers c.args.most (Err c.in_err-more.field-0.0)
+    (IsNext c.args.step c.loop-e.first l c.values-in-loop-e.result.now)) c.values.ensures.values
+    c.in_err-more.ensures in
     let step2 =
     subst
-    (λ (l : List Value). Gathers c.args.most (Err c.in_err-more.field-0.0) (IsNext c.args.step c.loop-e.first c.loop-e.so_far l)) c.values-in-loop-e.ensures.values step1 in
+    (λ (l : List Value). Gathers c.args.most (Err c.in_err-more.field-0.0)
+    (IsNext c.args.step c.loop-e.first c.loop-e.so_far l)) c.values-in-loop-e.ensures.values step1 in
     err-same
-    (λ (r : Result (List Value) Stop). Folds facts c.args.most c.args.step r c.args.es.now) c.from_residual-in_err-more.result c.in_err-more.field-0.0 c.from_residual-in_err-more.ensures.1
-    (loop.fold-step-stop facts c.args.most c.args.step c.loop-e.first c.args.es.now c.loop-e.e-index c.e-item.result c.loop-e.so_far c.in_ok-set.set c.in_err-more.field-0.0 c.loop-e-test.true c.e-item.is c.loop-e.invariant c.in_ok-set.ensures step2)
+    (λ (r : Result (List Value) Stop). Folds facts c.args.most c.args.step r c.args.es.now)
+    c.from_residual-in_err-more.result c.in_err-more.field-0.0 c.from_residual-in_err-more.ensures.1
+    (loop.fold-step-stop facts c.args.most c.args.step c.loop-e.first c.args.es.now c.loop-e.e-index c.e-item.result
+    c.loop-e.so_far c.in_ok-set.set c.in_err-more.field-0.0 c.loop-e-test.true c.e-item.is c.loop-e.invariant
+    c.in_ok-set.ensures step2)
 
 pub folded-returns : goal.folded-returns
 folded-returns g t c =
     let facts = facts_of (g.E.Env.facts_at c.args.env.now) in
-    loop.fold-ends facts c.args.most c.args.step c.loop-e.first c.args.es.now c.loop-e.e-index c.loop-e.so_far c.loop-e-test.false c.loop-e.invariant
+    loop.fold-ends facts c.args.most c.args.step c.loop-e.first c.args.es.now c.loop-e.e-index c.loop-e.so_far
+    c.loop-e-test.false c.loop-e.invariant
 
 pub summed-returns-in_err-so_far : goal.summed-returns-in_err-so_far
 summed-returns-in_err-so_far g t c =
     let facts = facts_of (g.E.Env.facts_at c.args.env.now) in
     err-same
-    (λ (r : Result (List Value) Stop). Sums facts c.args.most r c.args.parts.now) c.from_residual.result c.in_err-so_far.field-0.0 c.from_residual.ensures.1
+    (λ (r : Result (List Value) Stop). Sums facts c.args.most r c.args.parts.now) c.from_residual.result
+    c.in_err-so_far.field-0.0 c.from_residual.ensures.1
     (loop.sum-begins-stop facts c.args.most c.args.parts.now _ c.in_err-so_far.field-0.0 refl c.in_err-so_far.ensures)
 
 pub summed-loop-plus-init : goal.summed-loop-plus-init
@@ -222,36 +290,52 @@ summed-loop-plus-preserved g t c =
     let facts = facts_of (g.E.Env.facts_at c.args.env.now) in
     let step1 =
     subst
-    (λ (l : List Value). Gathers c.args.most (Ok c.in_ok-more.more) (IsNext (Part c.loop-plus-item.result.0) false l c.values-in-loop-plus.result.now)) c.values.ensures.values c.in_ok-more.ensures in
+    (λ (l : List Value). Gathers c.args.most (Ok c.in_ok-more.more)
+    (IsNext (Part c.loop-plus-item.result.0) false l c.values-in-loop-plus.result.now)) c.values.ensures.values
+    c.in_ok-more.ensures in
     let step2 =
     subst
-    (λ (l : List Value). Gathers c.args.most (Ok c.in_ok-more.more) (IsNext (Part c.loop-plus-item.result.0) false c.loop-plus.so_far l)) c.values-in-loop-plus.ensures.values step1 in
-    loop.sum-goes-on facts c.args.most c.args.parts.now c.loop-plus.plus-index c.loop-plus-item.result c.loop-plus.so_far c.in_ok-set.set c.in_ok-more.more c.loop-plus-test.true c.loop-plus-item.is c.loop-plus.invariant c.in_ok-set.ensures step2
+    (λ (l : List Value). Gathers c.args.most (Ok c.in_ok-more.more)
+    (IsNext (Part c.loop-plus-item.result.0) false c.loop-plus.so_far l)) c.values-in-loop-plus.ensures.values
+    step1 in
+    loop.sum-goes-on facts c.args.most c.args.parts.now c.loop-plus.plus-index c.loop-plus-item.result
+    c.loop-plus.so_far c.in_ok-set.set c.in_ok-more.more c.loop-plus-test.true c.loop-plus-item.is
+    c.loop-plus.invariant c.in_ok-set.ensures step2
 
 pub summed-returns-in_err-set : goal.summed-returns-in_err-set
 summed-returns-in_err-set g t c =
     let facts = facts_of (g.E.Env.facts_at c.args.env.now) in
     err-same
-    (λ (r : Result (List Value) Stop). Sums facts c.args.most r c.args.parts.now) c.from_residual-in_err-set.result c.in_err-set.field-0.0 c.from_residual-in_err-set.ensures.1
-    (loop.sum-operand-stop facts c.args.most c.args.parts.now c.loop-plus.plus-index c.loop-plus-item.result c.in_err-set.field-0.0 c.loop-plus-test.true c.loop-plus-item.is c.in_err-set.ensures)
+    (λ (r : Result (List Value) Stop). Sums facts c.args.most r c.args.parts.now) c.from_residual-in_err-set.result
+    c.in_err-set.field-0.0 c.from_residual-in_err-set.ensures.1
+    (loop.sum-operand-stop facts c.args.most c.args.parts.now c.loop-plus.plus-index c.loop-plus-item.result
+    c.in_err-set.field-0.0 c.loop-plus-test.true c.loop-plus-item.is c.in_err-set.ensures)
 
 pub summed-returns-in_err-more : goal.summed-returns-in_err-more
 summed-returns-in_err-more g t c =
     let facts = facts_of (g.E.Env.facts_at c.args.env.now) in
     let step1 =
     subst
-    (λ (l : List Value). Gathers c.args.most (Err c.in_err-more.field-0.0) (IsNext (Part c.loop-plus-item.result.0) false l c.values-in-loop-plus.result.now)) c.values.ensures.values c.in_err-more.ensures in
+    (λ (l : List Value). Gathers c.args.most (Err c.in_err-more.field-0.0)
+    (IsNext (Part c.loop-plus-item.result.0) false l c.values-in-loop-plus.result.now)) c.values.ensures.values
+    c.in_err-more.ensures in
     let step2 =
     subst
-    (λ (l : List Value). Gathers c.args.most (Err c.in_err-more.field-0.0) (IsNext (Part c.loop-plus-item.result.0) false c.loop-plus.so_far l)) c.values-in-loop-plus.ensures.values step1 in
+    (λ (l : List Value). Gathers c.args.most (Err c.in_err-more.field-0.0)
+    (IsNext (Part c.loop-plus-item.result.0) false c.loop-plus.so_far l)) c.values-in-loop-plus.ensures.values
+    step1 in
     err-same
-    (λ (r : Result (List Value) Stop). Sums facts c.args.most r c.args.parts.now) c.from_residual-in_err-more.result c.in_err-more.field-0.0 c.from_residual-in_err-more.ensures.1
-    (loop.sum-step-stop facts c.args.most c.args.parts.now c.loop-plus.plus-index c.loop-plus-item.result c.loop-plus.so_far c.in_ok-set.set c.in_err-more.field-0.0 c.loop-plus-test.true c.loop-plus-item.is c.loop-plus.invariant c.in_ok-set.ensures step2)
+    (λ (r : Result (List Value) Stop). Sums facts c.args.most r c.args.parts.now) c.from_residual-in_err-more.result
+    c.in_err-more.field-0.0 c.from_residual-in_err-more.ensures.1
+    (loop.sum-step-stop facts c.args.most c.args.parts.now c.loop-plus.plus-index c.loop-plus-item.result
+    c.loop-plus.so_far c.in_ok-set.set c.in_err-more.field-0.0 c.loop-plus-test.true c.loop-plus-item.is
+    c.loop-plus.invariant c.in_ok-set.ensures step2)
 
 pub summed-returns : goal.summed-returns
 summed-returns g t c =
     let facts = facts_of (g.E.Env.facts_at c.args.env.now) in
-    loop.sum-ends facts c.args.most c.args.parts.now c.loop-plus.plus-index c.loop-plus.so_far c.loop-plus-test.false c.loop-plus.invariant
+    loop.sum-ends facts c.args.most c.args.parts.now c.loop-plus.plus-index c.loop-plus.so_far c.loop-plus-test.false
+    c.loop-plus.invariant
 
 pub chosen-loop-test-init : goal.chosen-loop-test-init
 chosen-loop-test-init g t c =
@@ -262,22 +346,30 @@ chosen-loop-test-init g t c =
 pub chosen-loop-test-preserved : goal.chosen-loop-test-preserved
 chosen-loop-test-preserved g t c =
     let facts = facts_of (g.E.Env.facts_at c.args.env.now) in
-    loop.choice-goes-on facts c.args.most c.args.cases.now c.loop-test.test-index c.loop-test-item.result c.loop-test.so_far c.in_ok-tests.tests c.in_ok-more.more c.loop-test.passes c.both-takes.result c.has.result c.has-in-loop-test.result
-    c.both-passes.result c.loop-test-test.true c.loop-test-item.is c.loop-test.invariant c.in_ok-tests.ensures c.in_ok-more.ensures c.has.ensures c.both-takes.ensures c.has-in-loop-test.ensures c.both-passes.ensures
+    loop.choice-goes-on facts c.args.most c.args.cases.now c.loop-test.test-index c.loop-test-item.result
+    c.loop-test.so_far c.in_ok-tests.tests c.in_ok-more.more c.loop-test.passes c.both-takes.result c.has.result
+    c.has-in-loop-test.result
+    c.both-passes.result c.loop-test-test.true c.loop-test-item.is c.loop-test.invariant c.in_ok-tests.ensures
+    c.in_ok-more.ensures c.has.ensures c.both-takes.ensures c.has-in-loop-test.ensures c.both-passes.ensures
 
 pub chosen-returns-in_err-tests : goal.chosen-returns-in_err-tests
 chosen-returns-in_err-tests g t c =
     let facts = facts_of (g.E.Env.facts_at c.args.env.now) in
     err-same
-    (λ (r : Result (List Value × Bool) Stop). Chooses facts c.args.most r c.args.cases.now) c.from_residual.result c.in_err-tests.field-0.0 c.from_residual.ensures.1
-    (loop.case-test-stop facts c.args.most c.args.cases.now c.loop-test.test-index c.loop-test-item.result c.in_err-tests.field-0.0 c.loop-test-test.true c.loop-test-item.is c.in_err-tests.ensures)
+    (λ (r : Result (List Value × Bool) Stop). Chooses facts c.args.most r c.args.cases.now) c.from_residual.result
+    c.in_err-tests.field-0.0 c.from_residual.ensures.1
+    (loop.case-test-stop facts c.args.most c.args.cases.now c.loop-test.test-index c.loop-test-item.result
+    c.in_err-tests.field-0.0 c.loop-test-test.true c.loop-test-item.is c.in_err-tests.ensures)
 
 pub chosen-returns-then-is_none : goal.chosen-returns-then-is_none
 chosen-returns-then-is_none g t c =
     let facts = facts_of (g.E.Env.facts_at c.args.env.now) in
     let next =
-    loop.choice-goes-on facts c.args.most c.args.cases.now c.loop-test.test-index c.loop-test-item.result c.loop-test.so_far c.in_ok-tests.tests c.in_ok-more.more c.loop-test.passes c.both-takes.result c.has.result c.has-in-loop-test.result
-    c.both-passes.result c.loop-test-test.true c.loop-test-item.is c.loop-test.invariant c.in_ok-tests.ensures c.in_ok-more.ensures c.has.ensures c.both-takes.ensures c.has-in-loop-test.ensures c.both-passes.ensures in
+    loop.choice-goes-on facts c.args.most c.args.cases.now c.loop-test.test-index c.loop-test-item.result
+    c.loop-test.so_far c.in_ok-tests.tests c.in_ok-more.more c.loop-test.passes c.both-takes.result c.has.result
+    c.has-in-loop-test.result
+    c.both-passes.result c.loop-test-test.true c.loop-test-item.is c.loop-test.invariant c.in_ok-tests.ensures
+    c.in_ok-more.ensures c.has.ensures c.both-takes.ensures c.has-in-loop-test.ensures c.both-passes.ensures in
     loop.choice-stops-early facts c.args.most c.args.cases.now
     (c.loop-test.test-index + 1) c.in_ok-more.more c.both-passes.result c.if-not-passes.true
     (loop.none-there _ c.is_none.result c.is_none.ensures c.if-is_none.true) next
@@ -285,21 +377,28 @@ chosen-returns-then-is_none g t c =
 pub yielded-returns-in_ok-set-in-Choose : goal.yielded-returns-in_ok-set-in-Choose
 yielded-returns-in_ok-set-in-Choose g t c =
     let facts = facts_of (g.E.Env.facts_at c.args.env.now) in
-    arm.choice-arm facts c.args.most c.with_branch.result c.args.expr.now c.deref-in-Choose-2.result.now c.deref-in-Choose.result.now c.in-Choose.cases c.in-Choose.other c.in_ok-set-in-Choose.set
-    c.in_ok-set-in-Choose.passes c.in-Choose.is c.deref-in-Choose.ensures.value c.deref-in-Choose-2.ensures c.in_ok-set-in-Choose.ensures c.with_branch.ensures
+    arm.choice-arm facts c.args.most c.with_branch.result c.args.expr.now c.deref-in-Choose-2.result.now
+    c.deref-in-Choose.result.now c.in-Choose.cases c.in-Choose.other c.in_ok-set-in-Choose.set
+    c.in_ok-set-in-Choose.passes c.in-Choose.is c.deref-in-Choose.ensures.value c.deref-in-Choose-2.ensures
+    c.in_ok-set-in-Choose.ensures c.with_branch.ensures
 
 pub chosen-returns-in_err-more : goal.chosen-returns-in_err-more
 chosen-returns-in_err-more g t c =
     let facts = facts_of (g.E.Env.facts_at c.args.env.now) in
     err-same
-    (λ (r : Result (List Value × Bool) Stop). Chooses facts c.args.most r c.args.cases.now) c.from_residual-in_err-more.result c.in_err-more.field-0.0 c.from_residual-in_err-more.ensures.1
-    (loop.case-branch-stop facts c.args.most c.args.cases.now c.loop-test.test-index c.loop-test-item.result c.loop-test.so_far c.in_ok-tests.tests c.loop-test.passes c.both-takes.result c.has.result c.in_err-more.field-0.0
-    c.loop-test-test.true c.loop-test-item.is c.loop-test.invariant c.in_ok-tests.ensures c.has.ensures c.both-takes.ensures c.in_err-more.ensures)
+    (λ (r : Result (List Value × Bool) Stop). Chooses facts c.args.most r c.args.cases.now)
+    c.from_residual-in_err-more.result c.in_err-more.field-0.0 c.from_residual-in_err-more.ensures.1
+    (loop.case-branch-stop facts c.args.most c.args.cases.now c.loop-test.test-index c.loop-test-item.result
+    c.loop-test.so_far c.in_ok-tests.tests c.loop-test.passes c.both-takes.result c.has.result
+    c.in_err-more.field-0.0
+    c.loop-test-test.true c.loop-test-item.is c.loop-test.invariant c.in_ok-tests.ensures c.has.ensures
+    c.both-takes.ensures c.in_err-more.ensures)
 
 pub chosen-returns : goal.chosen-returns
 chosen-returns g t c =
     let facts = facts_of (g.E.Env.facts_at c.args.env.now) in
-    loop.choice-ends facts c.args.most c.args.cases.now c.loop-test.test-index c.loop-test.so_far c.loop-test.passes c.loop-test-test.false c.loop-test.invariant
+    loop.choice-ends facts c.args.most c.args.cases.now c.loop-test.test-index c.loop-test.so_far c.loop-test.passes
+    c.loop-test-test.false c.loop-test.invariant
 
 pub with_branch-returns-then-is_none : goal.with_branch-returns-then-is_none
 with_branch-returns-then-is_none g t c =
@@ -312,11 +411,15 @@ pub with_branch-returns : goal.with_branch-returns
 with_branch-returns g t c =
     let facts = facts_of (g.E.Env.facts_at c.args.env.now) in
     form.branch-done facts c.args.most
-    (out-Expr g.row.V.Denot c.args.value.now) c.args.set c.in_ok-values.values c.args.takes c.joined_where.result c.in_ok-values.ensures c.joined_where.ensures
+    (out-Expr g.row.V.Denot c.args.value.now) c.args.set c.in_ok-values.values c.args.takes c.joined_where.result
+    c.in_ok-values.ensures c.joined_where.ensures
 
 pub with_branch-returns-in_err-values : goal.with_branch-returns-in_err-values
 with_branch-returns-in_err-values g t c =
     let facts = facts_of (g.E.Env.facts_at c.args.env.now) in
     err-same
-    (λ (r : Result (List Value) Stop). Joins facts c.args.most r c.args.takes c.args.set (out-Expr g.row.V.Denot c.args.value.now)) c.from_residual.result c.in_err-values.field-0.0 c.from_residual.ensures.1
-    (form.branch-stop facts c.args.most (out-Expr g.row.V.Denot c.args.value.now) c.args.set c.args.takes c.in_err-values.field-0.0 c.in_err-values.ensures)
+    (λ (r : Result (List Value) Stop). Joins facts c.args.most r c.args.takes c.args.set
+    (out-Expr g.row.V.Denot c.args.value.now)) c.from_residual.result c.in_err-values.field-0.0
+    c.from_residual.ensures.1
+    (form.branch-stop facts c.args.most (out-Expr g.row.V.Denot c.args.value.now) c.args.set c.args.takes
+    c.in_err-values.field-0.0 c.in_err-values.ensures)

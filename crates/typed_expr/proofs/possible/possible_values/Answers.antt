@@ -10,4 +10,5 @@ pub returns-in-Err-TooMany-clause-yields : goal.returns-in-Err-TooMany-clause-yi
 returns-in-Err-TooMany-clause-yields g c =
     let facts = facts_of (g.E.Env.facts_at c.args.env.now) in
     subst
-    (λ (s : Stop). Stopped (Some c.args.most) (λ n. IsWide facts n (out-Expr g.row.V.Denot c.args.expr.now)) s) c.in-Err-TooMany.field-0-is c.in-Err-TooMany.ensures
+    (λ (s : Stop). Stopped (Some c.args.most) (λ n. IsWide facts n (out-Expr g.row.V.Denot c.args.expr.now)) s)
+    c.in-Err-TooMany.field-0-is c.in-Err-TooMany.ensures

@@ -8,8 +8,10 @@ use Rattle.typed_expr.proofs.sets.gathered.Goals as goal
 pub returns-in_err-out : goal.returns-in_err-out
 returns-in_err-out c =
     err-same
-    (λ (r : Result (List Value) Stop). Gathers c.args.most r (Contains c.args.values.now)) c.from_residual.result c.in_err-out.field-0.0 c.from_residual.ensures.1
-    (gathered-as c.args.most c.new.result c.args.values.now (Err c.in_err-out.field-0.0) c.new.ensures c.in_err-out.ensures)
+    (λ (r : Result (List Value) Stop). Gathers c.args.most r (Contains c.args.values.now)) c.from_residual.result
+    c.in_err-out.field-0.0 c.from_residual.ensures.1
+    (gathered-as c.args.most c.new.result c.args.values.now (Err c.in_err-out.field-0.0) c.new.ensures
+    c.in_err-out.ensures)
 
 pub returns : goal.returns
 returns c =

@@ -15,7 +15,8 @@ loop-low-preserved-then-before c =
       within = within;
       lower =
           lower-grows c.args.values.now c.args.v m c.requires (omega arith)
-          (at-any c.args.values.now c.args.v m (Truth false) true (omega arith) (sym c.before-in-loop-low.ensures ∙ c.if-before.true));
+          (at-any c.args.values.now c.args.v m (Truth false) true (omega arith)
+          (sym c.before-in-loop-low.ensures ∙ c.if-before.true));
       upper = c.loop-low.invariant.upper;
     }
 
@@ -32,5 +33,6 @@ loop-low-preserved c =
       lower = c.loop-low.invariant.lower;
       upper =
           upper-grows c.args.values.now c.args.v m c.requires
-          (at-any c.args.values.now c.args.v m (Truth false) false (omega arith) (sym c.before-in-loop-low.ensures ∙ c.if-before.false));
+          (at-any c.args.values.now c.args.v m (Truth false) false (omega arith)
+          (sym c.before-in-loop-low.ensures ∙ c.if-before.false));
     }

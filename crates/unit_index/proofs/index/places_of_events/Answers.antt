@@ -20,7 +20,9 @@ unfolding no_node
 loop-place-preserved c =
     let node = get_or c.args.nodes.now c.loop-place.place no_node in
     let s = stands_get c.args.nodes.now c.loop-place.place no_node c.loop-place-test.true in
-    tells_more (λ (d : MemNode). d) c.args.nodes.now c.loop-place.place node s c.loop-place.places c.add.new.places c.in_ok-add.ensures.0 c.loop-place.invariant
+    tells_more (λ (d : MemNode). d) c.args.nodes.now c.loop-place.place node s c.loop-place.places c.add.new.places
+    c.in_ok-add.ensures.0 c.loop-place.invariant
 
 pub returns : goal.returns
-returns c = tells_all (λ (d : MemNode). d) c.args.nodes.now c.loop-place.place c.loop-place.places c.loop-place-test.false c.loop-place.invariant
+returns c = tells_all (λ (d : MemNode). d) c.args.nodes.now c.loop-place.place c.loop-place.places
+    c.loop-place-test.false c.loop-place.invariant

@@ -10,7 +10,9 @@ pub loop-place-preserved : goal.loop-place-preserved
 loop-place-preserved c =
     let node = c.index-nodes-place.result in
     let s = item_stands c.args.nodes.now c.loop-place.place node c.loop-place-test.true c.index-nodes-place.is in
-    tells_more (λ (d : ParNode). d.node) c.args.nodes.now c.loop-place.place node s c.loop-place.places c.add.new.places c.in_ok-add.ensures.0 c.loop-place.invariant
+    tells_more (λ (d : ParNode). d.node) c.args.nodes.now c.loop-place.place node s c.loop-place.places c.add.new.places
+    c.in_ok-add.ensures.0 c.loop-place.invariant
 
 pub returns : goal.returns
-returns c = tells_all (λ (d : ParNode). d.node) c.args.nodes.now c.loop-place.place c.loop-place.places c.loop-place-test.false c.loop-place.invariant
+returns c = tells_all (λ (d : ParNode). d.node) c.args.nodes.now c.loop-place.place c.loop-place.places
+    c.loop-place-test.false c.loop-place.invariant

@@ -6,7 +6,8 @@ use Rattle.unit_names.proofs.naming.add.Goals as goal
 pub returns-in_ok-push-in-Unit : goal.returns-in_ok-push-in-Unit
 returns-in_ok-push-in-Unit c = λ m units u a s.
     let l = c.in-Unit.ensures m units u a s in
-    subst (λ (new : List Entry). AddsName m units u c.args.name.n c.args.entries.now.items new) (sym c.in_ok-push-in-Unit.ensures.items) (added (c.args.name, c.in-Unit.found) l.0 refl l.1 l.2)
+    subst (λ (new : List Entry). AddsName m units u c.args.name.n c.args.entries.now.items new)
+    (sym c.in_ok-push-in-Unit.ensures.items) (added (c.args.name, c.in-Unit.found) l.0 refl l.1 l.2)
 
 pub returns-in-Nothing : goal.returns-in-Nothing
 returns-in-Nothing c = λ m units u a s. nothing (not_nothing (c.in-Nothing.ensures m units u a s))

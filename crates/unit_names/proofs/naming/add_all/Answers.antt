@@ -13,9 +13,13 @@ loop-name-init c = λ m units u a s. none
 pub loop-name-preserved : goal.loop-name-preserved
 loop-name-preserved c = λ m units u a s.
     let first : NameId × Place = (record { n = 0; of = record {} }, record { line = 0; column = 0 }) in
-    let e = map_next (λ (n : NameId × Place). n.0.n) c.args.names.now c.loop-name.name-index _ (stands_get c.args.names.now c.loop-name.name-index first c.loop-name-test.true) in
-    subst (λ (xs : List ℕ). AddsNames m units u c.args.entries.now.items xs c.add.new.entries.items) (sym e) (one_more (c.loop-name.invariant m units u a s) (c.in_ok-add.ensures m units u a s))
+    let e = map_next (λ (n : NameId × Place). n.0.n) c.args.names.now c.loop-name.name-index _
+    (stands_get c.args.names.now c.loop-name.name-index first c.loop-name-test.true) in
+    subst (λ (xs : List ℕ). AddsNames m units u c.args.entries.now.items xs c.add.new.entries.items) (sym e)
+    (one_more (c.loop-name.invariant m units u a s) (c.in_ok-add.ensures m units u a s))
 
 pub returns : goal.returns
 returns c = λ m units u a s.
-    subst (λ (ns : List (NameId × Place)). AddsNames m units u c.args.entries.now.items (map (λ (n : NameId × Place). n.0.n) ns) c.loop-name.entries.items) (take_all c.loop-name.name-index c.args.names.now c.loop-name-test.false) (c.loop-name.invariant m units u a s)
+    subst (λ (ns : List (NameId × Place)). AddsNames m units u c.args.entries.now.items
+    (map (λ (n : NameId × Place). n.0.n) ns) c.loop-name.entries.items)
+    (take_all c.loop-name.name-index c.args.names.now c.loop-name-test.false) (c.loop-name.invariant m units u a s)

@@ -10,5 +10,7 @@ use Rattle.unit_names.proofs.naming.add_all.Given as goal
 
 -- the names up to here were looked up
 abbrev pub invariant-loop-name : goal.invariant-loop-name
-invariant-loop-name l = (m : RootedModel) (units : List UnitPath) (u : UnitPath) → AreOutcomes m units l.walks → Stands units l.unit.n u
-    → AddsNames m units u l.fn.entries.items (map (λ (n : NameId × Place). n.0.n) (take l.name-index l.names)) l.entries.items
+invariant-loop-name l = (m : RootedModel) (units : List UnitPath) (u : UnitPath) → AreOutcomes m units l.walks
+    → Stands units l.unit.n u
+    → AddsNames m units u l.fn.entries.items (map (λ (n : NameId × Place). n.0.n) (take l.name-index l.names))
+    l.entries.items

@@ -10,5 +10,6 @@ use Rattle.unit_names.proofs.naming.aliases_of.Given as goal
 
 -- the members up to here were looked at
 abbrev pub invariant-loop-site : goal.invariant-loop-site
-invariant-loop-site l = (d : Declared) (m : RootedModel) (units : List UnitPath) (u : UnitPath) → Along IsBodyOf l.bodies d.bodies → AreOutcomes m units l.walks → Stands units l.unit.n u
+invariant-loop-site l = (d : Declared) (m : RootedModel) (units : List UnitPath) (u : UnitPath)
+    → Along IsBodyOf l.bodies d.bodies → AreOutcomes m units l.walks → Stands units l.unit.n u
     → AddsNames m units u [] (names_at_sites alias_names d (map site_of (take l.site-index l.all))) l.aliases.items

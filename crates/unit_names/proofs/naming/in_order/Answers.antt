@@ -5,4 +5,6 @@ use Rattle.unit_names.specs.Naming.{Entry}
 use Rattle.unit_names.proofs.naming.in_order.Goals as goal
 
 pub returns-clause-ordered : goal.returns-clause-ordered
-returns-clause-ordered c = IsNonDecreasingBy-from_sort (λ (e : Entry). e.0.n) _ (c.in_ok-sort_by_key.ensures.sorted (λ (e : Entry). e.0.n) (always_returns_same _ _ _ (λ a r f k. search (rules, of_calls))))
+returns-clause-ordered c = IsNonDecreasingBy-from_sort (λ (e : Entry). e.0.n) _
+    (c.in_ok-sort_by_key.ensures.sorted (λ (e : Entry). e.0.n)
+    (always_returns_same _ _ _ (λ a r f k. search (rules, of_calls))))

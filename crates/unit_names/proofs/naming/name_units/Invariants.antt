@@ -8,4 +8,5 @@ use Rattle.unit_names.proofs.naming.name_units.Given as goal
 
 -- the units up to here have their nodes
 abbrev pub invariant-loop-place : goal.invariant-loop-place
-invariant-loop-place l = (m : RootedModel) (units : List UnitPath) → AreOutlines m units l.classes l.outlines → AreOutcomes m units l.walks → Along (IsUnit m units) (take l.place units) l.nodes.items
+invariant-loop-place l = (m : RootedModel) (units : List UnitPath) → AreOutlines m units l.classes l.outlines
+    → AreOutcomes m units l.walks → Along (IsUnit m units) (take l.place units) l.nodes.items

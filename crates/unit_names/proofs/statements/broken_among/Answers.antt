@@ -11,7 +11,9 @@ loop-site-init c = λ m units u k a s. loop_start _ _
 pub loop-site-preserved : goal.loop-site-preserved
 loop-site-preserved c = λ m units u k a s.
     let first : BodyId × ℕ = (record { n = 0; of = record {} }, 0) in
-    loop_next _ _ _ _ _ _ _ (stands_get c.args.all.now c.loop-site.site-index first c.loop-site-test.true) (c.loop-site.invariant m units u k a s) (c.broken_at_site.ensures m units u k a s) c.earliest-found.ensures
+    loop_next _ _ _ _ _ _ _ (stands_get c.args.all.now c.loop-site.site-index first c.loop-site-test.true)
+    (c.loop-site.invariant m units u k a s) (c.broken_at_site.ensures m units u k a s) c.earliest-found.ensures
 
 pub returns : goal.returns
-returns c = λ m units u k a s. loop_end _ _ _ _ _ c.loop-site-test.false (among_to c.args.all.now) (among_back c.args.all.now) (c.loop-site.invariant m units u k a s)
+returns c = λ m units u k a s. loop_end _ _ _ _ _ c.loop-site-test.false (among_to c.args.all.now)
+    (among_back c.args.all.now) (c.loop-site.invariant m units u k a s)

@@ -12,5 +12,6 @@ use Rattle.unit_names.proofs.statements.broken_among.Given as goal
 
 -- the earliest place of the members up to here
 abbrev pub invariant-loop-site : goal.invariant-loop-site
-invariant-loop-site l = (m : RootedModel) (units : List UnitPath) (u : UnitPath) → Along IsBodyOf l.bodies m.declared.bodies → AreOutcomes m units l.walks → Stands units l.unit.n u
+invariant-loop-site l = (m : RootedModel) (units : List UnitPath) (u : UnitPath)
+    → Along IsBodyOf l.bodies m.declared.bodies → AreOutcomes m units l.walks → Stands units l.unit.n u
     → IsEarliest (Until (AtItem l.all (SiteEnds m u (broken_so l.looping))) l.site-index) l.found

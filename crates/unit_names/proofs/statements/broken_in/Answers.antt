@@ -14,10 +14,16 @@ use Rattle.unit_names.proofs.statements.broken_in.Goals as goal
 pub returns-in_err-body : goal.returns-in_err-body
 returns-in_err-body c = λ m units u t a s e.
     let past = rw c.deref.ensures.value at c.in_err-body.ensures.lookup.3 in
-    subst (λ (r : Option Place). IsEarliest (EndsIn m u (broken_so c.args.looping)) r) (sym c.from_residual.ensures) (no_body u t e past)
+    subst (λ (r : Option Place). IsEarliest (EndsIn m u (broken_so c.args.looping)) r) (sym c.from_residual.ensures)
+    (no_body u t e past)
 
 pub returns : goal.returns
 returns c = λ m units u t a s e.
-    let here = item_stands c.deref.result.now c.args.body.n c.in_ok-body.body.now c.in_ok-body.ensures.lookup.3.0 c.in_ok-body.ensures.lookup.1 in
-    let at = members_here u t e c.in_ok-body.body.now (subst (λ (bs : List Body). Stands bs c.args.body.n c.in_ok-body.body.now) c.deref.ensures.value here) in
-    unit_ends t.kept c.broken_among.result at c.deref-3.ensures.value (c.broken_among.ensures m units u (subst (λ (bs : List Body). Along IsBodyOf bs m.declared.bodies) (sym c.deref-2.ensures.value) t.table.holds.bodies) a s)
+    let here = item_stands c.deref.result.now c.args.body.n c.in_ok-body.body.now c.in_ok-body.ensures.lookup.3.0
+    c.in_ok-body.ensures.lookup.1 in
+    let at = members_here u t e c.in_ok-body.body.now
+    (subst (λ (bs : List Body). Stands bs c.args.body.n c.in_ok-body.body.now) c.deref.ensures.value here) in
+    unit_ends t.kept c.broken_among.result at c.deref-3.ensures.value
+    (c.broken_among.ensures m units u
+    (subst (λ (bs : List Body). Along IsBodyOf bs m.declared.bodies) (sym c.deref-2.ensures.value)
+    t.table.holds.bodies) a s)

@@ -11,5 +11,6 @@ use Rattle.unit_names.proofs.statements.first_broken.Given as goal
 
 -- the earliest place of the units up to here
 abbrev pub invariant-loop-place : goal.invariant-loop-place
-invariant-loop-place l = (m : RootedModel) (units : List UnitPath) → AreOutlines m units l.classes l.outlines → AreOutcomes m units l.walks
+invariant-loop-place l = (m : RootedModel) (units : List UnitPath) → AreOutlines m units l.classes l.outlines
+    → AreOutcomes m units l.walks
     → IsEarliest (Until (AtItem l.outlines (UnitEnds m units (broken_so l.looping))) l.place) l.found

@@ -7,4 +7,5 @@ use Rattle.unit_settings.specs.Searched.{IsFirstIn}
 use Rattle.unit_settings.proofs.declarations.of_bodies.Given as goal
 
 abbrev pub invariant-loop-body : goal.invariant-loop-body
-invariant-loop-body l = (d : Declared) → Holds d l.classes → KnowsPlaces l.classes.types.items l.places → Along (IsFirstIn d) (take l.body-index l.classes.bodies.items) l.firsts.items
+invariant-loop-body l = (d : Declared) → Holds d l.classes → KnowsPlaces l.classes.types.items l.places
+    → Along (IsFirstIn d) (take l.body-index l.classes.bodies.items) l.firsts.items

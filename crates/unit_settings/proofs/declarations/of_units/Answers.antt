@@ -11,9 +11,16 @@ loop-outline-init c = λ m units classes h bodies. loop_start _ _
 pub loop-outline-preserved : goal.loop-outline-preserved
 loop-outline-preserved c = λ m units classes h bodies.
     let l : c.loop-outline.outline-index < length c.args.outlines.now = omega arith in
-    let none : Outline = record { name = record { n = 0; of = record {} }; owner = None; body = record { n = 0; of = record {} }; set_at = None } in
+    let none : Outline = record {
+      name = record { n = 0; of = record {} };
+      owner = None;
+      body = record { n = 0; of = record {} };
+      set_at = None;
+    } in
     let s = stands_get c.args.outlines.now c.loop-outline.outline-index none l in
-    loop_next _ _ _ _ _ _ _ s (c.loop-outline.invariant m units classes h bodies) (c.of_body.ensures m classes h.table.table bodies) c.earliest-found.ensures
+    loop_next _ _ _ _ _ _ _ s (c.loop-outline.invariant m units classes h bodies)
+    (c.of_body.ensures m classes h.table.table bodies) c.earliest-found.ensures
 
 pub returns : goal.returns
-returns c = λ m units classes h bodies. loop_end _ _ _ _ _ (omega arith) (unit_to m units _ h.along) (unit_back m units _ h.along) (c.loop-outline.invariant m units classes h bodies)
+returns c = λ m units classes h bodies. loop_end _ _ _ _ _ (omega arith) (unit_to m units _ h.along)
+    (unit_back m units _ h.along) (c.loop-outline.invariant m units classes h bodies)

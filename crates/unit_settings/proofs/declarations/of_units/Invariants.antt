@@ -12,5 +12,8 @@ use Rattle.unit_settings.specs.Searched.{BreaksOne, forms_of, IsFirstIn}
 use Rattle.unit_settings.proofs.declarations.of_units.Given as goal
 
 abbrev pub invariant-loop-outline : goal.invariant-loop-outline
-invariant-loop-outline l = (m : RootedModel) (units : List UnitPath) (classes : Classes) → AreOutlines m units classes l.outlines → Along (IsFirstIn m.declared) classes.bodies.items l.firsts
-    → IsEarliest (Until (AtItem l.outlines (λ (j : ℕ) (o : Outline) (q : Place). BreaksOne m.declared (forms_of m.declared (unwrap_or (slice_get m.members o.body.n) [])) q)) l.outline-index) l.found
+invariant-loop-outline l = (m : RootedModel) (units : List UnitPath) (classes : Classes)
+    → AreOutlines m units classes l.outlines → Along (IsFirstIn m.declared) classes.bodies.items l.firsts
+    → IsEarliest (Until (AtItem l.outlines
+    (λ (j : ℕ) (o : Outline) (q : Place). BreaksOne m.declared
+    (forms_of m.declared (unwrap_or (slice_get m.members o.body.n) [])) q)) l.outline-index) l.found

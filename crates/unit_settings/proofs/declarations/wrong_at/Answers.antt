@@ -14,4 +14,5 @@ returns-in-None c = λ d holds known.
 pub returns-in-Some : goal.returns-in-Some
 returns-in-Some c = λ d holds known.
     let e = rw c.deref.ensures.value at (c.in-Some.ensures d) in
-    subst (λ (o : Option Owned). IsEarliest (BreaksOne d (form_of o)) c.wrong.result) (e holds.bodies) (c.wrong.ensures d holds known)
+    subst (λ (o : Option Owned). IsEarliest (BreaksOne d (form_of o)) c.wrong.result) (e holds.bodies)
+    (c.wrong.ensures d holds known)

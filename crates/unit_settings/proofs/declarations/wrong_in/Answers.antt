@@ -13,7 +13,9 @@ loop-site-preserved c = λ d holds known.
     let l : c.loop-site.site-index < length c.args.sites.now = omega arith in
     let none : BodyId × ℕ = (record { n = 0; of = record {} }, 0) in
     let s = stands_get c.args.sites.now c.loop-site.site-index none l in
-    loop_next _ _ _ _ _ _ _ s (c.loop-site.invariant d holds known) (c.wrong_at.ensures d holds known) c.earliest-found.ensures
+    loop_next _ _ _ _ _ _ _ s (c.loop-site.invariant d holds known) (c.wrong_at.ensures d holds known)
+    c.earliest-found.ensures
 
 pub returns : goal.returns
-returns c = λ d holds known. loop_end _ _ _ _ _ (omega arith) (site_to d _) (site_back d _) (c.loop-site.invariant d holds known)
+returns c = λ d holds known. loop_end _ _ _ _ _ (omega arith) (site_to d _) (site_back d _)
+    (c.loop-site.invariant d holds known)

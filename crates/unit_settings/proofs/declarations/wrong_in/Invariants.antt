@@ -13,4 +13,6 @@ use Rattle.unit_settings.proofs.declarations.wrong_in.Given as goal
 
 abbrev pub invariant-loop-site : goal.invariant-loop-site
 invariant-loop-site l = (d : Declared) → Holds d l.classes → KnowsPlaces l.classes.types.items l.places
-    → IsEarliest (Until (AtItem l.sites (λ (j : ℕ) (site : BodyId × ℕ) (q : Place). BreaksOne d (form_of (owned_at d (site_of site))) q)) l.site-index) l.found
+    → IsEarliest (Until (AtItem l.sites
+    (λ (j : ℕ) (site : BodyId × ℕ) (q : Place). BreaksOne d (form_of (owned_at d (site_of site))) q)) l.site-index)
+    l.found

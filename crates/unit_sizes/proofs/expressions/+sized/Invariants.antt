@@ -11,4 +11,5 @@ abbrev pub invariant-summed-loop-e : goal.invariant-summed-loop-e
 invariant-summed-loop-e l = l.size ≡ capped (sum (map (λ (p : Bool × RawExpr). expr_size p.1) (take l.e-index l.parts)))
 
 abbrev pub invariant-chosen-loop-test : goal.invariant-chosen-loop-test
-invariant-chosen-loop-test l = l.size ≡ capped (sum (map (λ (c : RawExpr × RawExpr). expr_size c.0 + expr_size c.1) (take l.test-index l.cases)))
+invariant-chosen-loop-test l = l.size
+    ≡ capped (sum (map (λ (c : RawExpr × RawExpr). expr_size c.0 + expr_size c.1) (take l.test-index l.cases)))

@@ -6,4 +6,5 @@ use Rattle.unit_sizes.proofs.members.events_of.Goals as goal
 
 pub returns-in-Declare : goal.returns-in-Declare
 unfolding out-Member denote.Hole.Carrier.out
-returns-in-Declare c = λ d s. rw c.in-Declare.is (ap capped (sym (events_none d s c.in-Declare.field-2.items c.in-Declare.field-1.items c.in-Declare.field-0.form)))
+returns-in-Declare c = λ d s. rw c.in-Declare.is
+    (ap capped (sym (events_none d s c.in-Declare.field-2.items c.in-Declare.field-1.items c.in-Declare.field-0.form)))

@@ -10,7 +10,8 @@ loop-body-init c = λ d a known. push_start (AreOwn d) _ c.new-rows.ensures.item
 pub loop-body-preserved : goal.loop-body-preserved
 loop-body-preserved c = λ d a known.
     let s = item_stands c.args.bodies.now c.loop-body.body-index c.body-item.result (omega arith) c.body-item.is in
-    push_next (AreOwn d) _ _ _ _ _ _ s (c.loop-body.invariant d a known) (rw c.deref.ensures.value at (c.in_ok-own_counts.ensures d a known)) c.in_ok-push.ensures.items
+    push_next (AreOwn d) _ _ _ _ _ _ s (c.loop-body.invariant d a known)
+    (rw c.deref.ensures.value at (c.in_ok-own_counts.ensures d a known)) c.in_ok-push.ensures.items
 
 pub returns : goal.returns
 returns c = λ d a known. push_end (AreOwn d) _ _ _ (omega arith) (c.loop-body.invariant d a known)

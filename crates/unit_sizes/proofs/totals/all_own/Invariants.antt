@@ -7,4 +7,5 @@ use Rattle.unit_sizes.specs.Typing.{KnowsPlaces}
 use Rattle.unit_sizes.proofs.totals.all_own.Given as goal
 
 abbrev pub invariant-loop-body : goal.invariant-loop-body
-invariant-loop-body l = (d : Declared) → Along (IsNamedType d.symbols) l.types d.types → KnowsPlaces l.types l.places → Along (AreOwn d) (take l.body-index l.bodies) l.rows.items
+invariant-loop-body l = (d : Declared) → Along (IsNamedType d.symbols) l.types d.types → KnowsPlaces l.types l.places
+    → Along (AreOwn d) (take l.body-index l.bodies) l.rows.items

@@ -16,9 +16,11 @@ loop-site-preserved c = λ d bodies shown own.
     let s = stands_get c.args.sites.now c.loop-site.site-index none l in
     let e = map_next site_of c.args.sites.now c.loop-site.site-index _ s in
     subst (λ (xs : List Site). AreAt d xs c.with-counts.result) (sym e)
-    (at_join d _ _ _ (c.with-counts.ensures _ _ _ _ (c.loop-site.invariant d bodies shown own) (c.at_site.ensures d bodies shown own)))
+    (at_join d _ _ _ (c.with-counts.ensures _ _ _ _ (c.loop-site.invariant d bodies shown own)
+    (c.at_site.ensures d bodies shown own)))
 
 pub returns : goal.returns
 returns c = λ d bodies shown own.
     let e = take_all c.loop-site.site-index c.args.sites.now (omega arith) in
-    subst (λ (xs : List (BodyId × ℕ)). AreAt d (map site_of xs) c.loop-site.counts) e (c.loop-site.invariant d bodies shown own)
+    subst (λ (xs : List (BodyId × ℕ)). AreAt d (map site_of xs) c.loop-site.counts) e
+    (c.loop-site.invariant d bodies shown own)

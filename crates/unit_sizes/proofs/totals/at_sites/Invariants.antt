@@ -7,4 +7,5 @@ use Rattle.unit_sizes.specs.Counting.{AreOwn, AreAt}
 use Rattle.unit_sizes.proofs.totals.at_sites.Given as goal
 
 abbrev pub invariant-loop-site : goal.invariant-loop-site
-invariant-loop-site l = (d : Declared) (bodies : List Body) → Along IsBodyOf bodies d.bodies → Along (AreOwn d) bodies l.rows → AreAt d (map site_of (take l.site-index l.sites)) l.counts
+invariant-loop-site l = (d : Declared) (bodies : List Body) → Along IsBodyOf bodies d.bodies
+    → Along (AreOwn d) bodies l.rows → AreAt d (map site_of (take l.site-index l.sites)) l.counts

@@ -10,7 +10,8 @@ loop-body-init c = λ d a known. push_start (AreOfBody d) _ c.new-counts.ensures
 pub loop-body-preserved : goal.loop-body-preserved
 loop-body-preserved c = λ d a known.
     let s = item_stands c.args.bodies.now c.loop-body.body-index c.body-item.result (omega arith) c.body-item.is in
-    push_next (AreOfBody d) _ _ _ _ _ _ s (c.loop-body.invariant d a known) (rw c.deref.ensures.value at (c.at_sites.ensures d c.args.bodies.now a known)) c.in_ok-push.ensures.items
+    push_next (AreOfBody d) _ _ _ _ _ _ s (c.loop-body.invariant d a known)
+    (rw c.deref.ensures.value at (c.at_sites.ensures d c.args.bodies.now a known)) c.in_ok-push.ensures.items
 
 pub returns : goal.returns
 returns c = λ d a known. push_end (AreOfBody d) _ _ _ (omega arith) (c.loop-body.invariant d a known)

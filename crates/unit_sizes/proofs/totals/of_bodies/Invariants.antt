@@ -6,4 +6,5 @@ use Rattle.unit_sizes.specs.Counting.{AreOwn, AreOfBody}
 use Rattle.unit_sizes.proofs.totals.of_bodies.Given as goal
 
 abbrev pub invariant-loop-body : goal.invariant-loop-body
-invariant-loop-body l = (d : Declared) → Along IsBodyOf l.bodies d.bodies → Along (AreOwn d) l.bodies l.rows → Along (AreOfBody d) (take l.body-index l.bodies) l.counts.items
+invariant-loop-body l = (d : Declared) → Along IsBodyOf l.bodies d.bodies → Along (AreOwn d) l.bodies l.rows
+    → Along (AreOfBody d) (take l.body-index l.bodies) l.counts.items

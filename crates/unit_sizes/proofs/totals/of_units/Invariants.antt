@@ -10,5 +10,6 @@ use Rattle.unit_sizes.specs.Counting.{AreCounts, AreOfBody}
 use Rattle.unit_sizes.proofs.totals.of_units.Given as goal
 
 abbrev pub invariant-loop-outline : goal.invariant-loop-outline
-invariant-loop-outline l = (m : RootedModel) (units : List UnitPath) (classes : Classes) → AreOutlines m units classes l.outlines → Along (AreOfBody m.declared) classes.bodies.items l.counts
+invariant-loop-outline l = (m : RootedModel) (units : List UnitPath) (classes : Classes)
+    → AreOutlines m units classes l.outlines → Along (AreOfBody m.declared) classes.bodies.items l.counts
     → AreCounts (flat_map (names_at m) (take l.outline-index units)) (tree_nodes m (take l.outline-index units)) l.total

@@ -7,4 +7,5 @@ use Rattle.unit_sizes.specs.Typing.{KnowsPlaces}
 use Rattle.unit_sizes.proofs.totals.own_counts.Given as goal
 
 abbrev pub invariant-loop-owned : goal.invariant-loop-owned
-invariant-loop-owned l = (d : Declared) → Along (IsNamedType d.symbols) l.types d.types → KnowsPlaces l.types l.places → Along (AreOf d) (take l.owned-index l.own) l.counts.items
+invariant-loop-owned l = (d : Declared) → Along (IsNamedType d.symbols) l.types d.types → KnowsPlaces l.types l.places
+    → Along (AreOf d) (take l.owned-index l.own) l.counts.items

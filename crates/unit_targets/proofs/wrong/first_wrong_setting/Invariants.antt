@@ -10,4 +10,5 @@ use Rattle.unit_targets.proofs.wrong.first_wrong_setting.Given as goal
 
 -- the earliest place of the units up to here
 abbrev pub invariant-loop-place : goal.invariant-loop-place
-invariant-loop-place l = (m : RootedModel) (units : List UnitPath) → AreOutlines m units l.classes l.outlines → AreOutcomes m units l.walks → IsEarliest (Until (AtItem l.outlines (BreaksNumber m units)) l.place) l.found
+invariant-loop-place l = (m : RootedModel) (units : List UnitPath) → AreOutlines m units l.classes l.outlines
+    → AreOutcomes m units l.walks → IsEarliest (Until (AtItem l.outlines (BreaksNumber m units)) l.place) l.found

@@ -17,9 +17,12 @@ loop-place-preserved c =
     let met = c.in_ok-is_new.ensures c.args.settings.now c.loop-place.place x c.loop-place.invariant.0 s words in (
       met.have_met,
       λ m units classes u o a k t.
-          loop_next _ _ c.loop-place.place x _ _ _ s (c.loop-place.invariant.1 m units classes u o a k t) (c.wrong_here-wrong.ensures m units classes u o a k t c.args.settings.now c.loop-place.place met.told) c.earliest-first.ensures,
+          loop_next _ _ c.loop-place.place x _ _ _ s (c.loop-place.invariant.1 m units classes u o a k t)
+          (c.wrong_here-wrong.ensures m units classes u o a k t c.args.settings.now c.loop-place.place met.told)
+          c.earliest-first.ensures,
     )
 
 pub returns : goal.returns
 returns c = λ m units classes u o a k t.
-    loop_end _ _ _ c.loop-place.place _ (omega arith) (setting_to m u c.args.settings.now) (setting_back m u c.args.settings.now) (c.loop-place.invariant.1 m units classes u o a k t)
+    loop_end _ _ _ c.loop-place.place _ (omega arith) (setting_to m u c.args.settings.now)
+    (setting_back m u c.args.settings.now) (c.loop-place.invariant.1 m units classes u o a k t)

@@ -14,5 +14,8 @@ use Rattle.unit_targets.proofs.wrong.wrong_among.Given as goal
 
 -- the targets of the settings up to here were met, and the earliest place of these settings was found
 abbrev pub invariant-loop-place : goal.invariant-loop-place
-invariant-loop-place l = HaveMet l.settings l.place l.targets × ((m : RootedModel) (units : List UnitPath) (classes : Classes) (u : UnitPath) → AreOutlines m units classes l.outlines → AreOutcomes m units l.walks
-    → AreSettables m units l.settables → Stands units l.unit.n u → IsEarliest (Until (AtItem l.settings (BreaksAt m u l.settings)) l.place) l.first)
+invariant-loop-place l = HaveMet l.settings l.place l.targets
+    × ((m : RootedModel) (units : List UnitPath) (classes : Classes) (u : UnitPath)
+    → AreOutlines m units classes l.outlines → AreOutcomes m units l.walks
+    → AreSettables m units l.settables → Stands units l.unit.n u
+    → IsEarliest (Until (AtItem l.settings (BreaksAt m u l.settings)) l.place) l.first)

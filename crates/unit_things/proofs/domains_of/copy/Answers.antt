@@ -5,5 +5,7 @@ use Rattle.unit_things.proofs.domains_of.copy.Goals as goal
 
 pub returns-in_ok-clone-in-Symbols : goal.returns-in_ok-clone-in-Symbols
 returns-in_ok-clone-in-Symbols c = λ symbols declared h.
-    let e = AllZip-map (λ (x : ℕ). x) c.in-Symbols.symbols.items c.in_ok-clone-in-Symbols.field-0.items c.in_ok-clone-in-Symbols.ensures.cases.0 in
-    same_symbols symbols declared c.args.domain.now c.in-Symbols.symbols c.in_ok-clone-in-Symbols.field-0 c.in-Symbols.is (e ∙ map_same c.in-Symbols.symbols.items) h
+    let e = AllZip-map (λ (x : ℕ). x) c.in-Symbols.symbols.items c.in_ok-clone-in-Symbols.field-0.items
+    c.in_ok-clone-in-Symbols.ensures.cases.0 in
+    same_symbols symbols declared c.args.domain.now c.in-Symbols.symbols c.in_ok-clone-in-Symbols.field-0
+    c.in-Symbols.is (e ∙ map_same c.in-Symbols.symbols.items) h

@@ -15,4 +15,5 @@ loop-name-preserved c =
     let none : NameId × Place = (record { n = 0; of = record {} }, record { line = 0; column = 0 }) in
     let s = stands_get c.args.names.now c.loop-name.name-index none l in
     let e = map_next (name_node c.args.unit (site_of c.args.site)) c.args.names.now c.loop-name.name-index _ s in
-    grown _ _ _ _ _ _ c.loop-name.invariant (c.in_ok-push.ensures.items ∙ ap (λ (d : MemNode). c.loop-name.nodes.items ++ d ∷ []) c.node.ensures) e
+    grown _ _ _ _ _ _ c.loop-name.invariant
+    (c.in_ok-push.ensures.items ∙ ap (λ (d : MemNode). c.loop-name.nodes.items ++ d ∷ []) c.node.ensures) e

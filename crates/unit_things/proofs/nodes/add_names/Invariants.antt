@@ -4,4 +4,5 @@ use Rattle.unit_things.specs.Nodes.{names_nodes}
 use Rattle.unit_things.proofs.nodes.add_names.Given as goal
 
 abbrev pub invariant-loop-name : goal.invariant-loop-name
-invariant-loop-name l = l.nodes.items ≡ l.fn.nodes.items ++ names_nodes l.unit (site_of l.site) (take l.name-index l.names)
+invariant-loop-name l = l.nodes.items
+    ≡ l.fn.nodes.items ++ names_nodes l.unit (site_of l.site) (take l.name-index l.names)

@@ -22,4 +22,5 @@ loop-site-preserved c = λ d holds known.
     let joined = nodes_join c.args.unit (test_of c.args.listed) (named_at d before) _ in
     grown _ _ _ _ _ _ (c.loop-site.invariant d holds known) (c.in_ok-add_site.ensures d holds known)
     (ap (λ (ss : List Site). nodes_of c.args.unit (test_of c.args.listed) (named_at d ss)) e
-    ∙ (ap (λ (gs : List NamedMember). nodes_of c.args.unit (test_of c.args.listed) gs) (f ∙ ap (λ (gs : List NamedMember). named_at d before ++ gs) (append-nil _)) ∙ joined))
+    ∙ (ap (λ (gs : List NamedMember). nodes_of c.args.unit (test_of c.args.listed) gs)
+    (f ∙ ap (λ (gs : List NamedMember). named_at d before ++ gs) (append-nil _)) ∙ joined))

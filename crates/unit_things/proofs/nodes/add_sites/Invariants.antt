@@ -8,4 +8,5 @@ use Rattle.unit_things.proofs.nodes.add_sites.Given as goal
 
 abbrev pub invariant-loop-site : goal.invariant-loop-site
 invariant-loop-site l = (d : Declared) → Holds d l.classes → KnowsPlaces l.classes.types.items l.places
-    → l.nodes.items ≡ l.fn.nodes.items ++ nodes_of l.unit (test_of l.listed) (named_at d (map site_of (take l.site-index l.sites)))
+    → l.nodes.items ≡ l.fn.nodes.items ++ nodes_of l.unit (test_of l.listed)
+    (named_at d (map site_of (take l.site-index l.sites)))

@@ -21,7 +21,12 @@ loop-place-init c = λ m units h known.
 pub loop-place-preserved : goal.loop-place-preserved
 loop-place-preserved c = λ m units h known.
     let l : c.loop-place.place < length c.args.outlines.now = omega arith in
-    let none : Outline = record { name = record { n = 0; of = record {} }; owner = None; body = record { n = 0; of = record {} }; set_at = None } in
+    let none : Outline = record {
+      name = record { n = 0; of = record {} };
+      owner = None;
+      body = record { n = 0; of = record {} };
+      set_at = None;
+    } in
     let s = stands_get c.args.outlines.now c.loop-place.place none l in
     let w = along_back units c.args.outlines.now h.along c.loop-place.place _ s in
     let n : c.new.result.n ≡ c.loop-place.place = omega (arith, c.in-Ok.ensures, c.new.ensures) in
@@ -29,13 +34,19 @@ loop-place-preserved c = λ m units h known.
     let there = subst (λ (k : ℕ). Stands units k w.0) (sym n) w.1 in
     let grown = c.in_ok-add_unit.ensures m w.0 h.table.table known w.2.body in
     let things = ap (flat_map (things_in test m)) (take_next units c.loop-place.place w.0 w.1)
-    ∙ (flat_map-append (things_in test m) (take c.loop-place.place units) (w.0 ∷ []) ∙ ap (λ (ts : List Thing). flat_map (things_in test m) (take c.loop-place.place units) ++ ts) (append-nil (things_in test m w.0))) in
+    ∙ (flat_map-append (things_in test m) (take c.loop-place.place units) (w.0 ∷ [])
+    ∙ ap (λ (ts : List Thing). flat_map (things_in test m) (take c.loop-place.place units) ++ ts)
+    (append-nil (things_in test m w.0))) in
     subst (λ (ts : List Thing). Along (IsNodeSo m units test) ts c.add_unit.new.nodes.items) (sym things)
-    (subst (Along (IsNodeSo m units test) (flat_map (things_in test m) (take c.loop-place.place units) ++ things_in test m w.0)) (sym grown)
-    (along_append _ _ _ _ (c.loop-place.invariant m units h known) (unit_nodes m units test c.new.result w.0 there h.table.kept)))
+    (subst (Along (IsNodeSo m units test)
+    (flat_map (things_in test m) (take c.loop-place.place units) ++ things_in test m w.0)) (sym grown)
+    (along_append _ _ _ _ (c.loop-place.invariant m units h known)
+    (unit_nodes m units test c.new.result w.0 there h.table.kept)))
 
 pub returns : goal.returns
 returns c = λ m units h known.
     let n = along_length units c.args.outlines.now h.along in
     let e = take_all c.loop-place.place units (omega arith) in
-    subst (λ (us : List UnitPath). Along (IsNodeSo m units (test_of c.args.listed)) (flat_map (things_in (test_of c.args.listed) m) us) c.loop-place.nodes.items) e (c.loop-place.invariant m units h known)
+    subst (λ (us : List UnitPath). Along (IsNodeSo m units (test_of c.args.listed))
+    (flat_map (things_in (test_of c.args.listed) m) us) c.loop-place.nodes.items) e
+    (c.loop-place.invariant m units h known)

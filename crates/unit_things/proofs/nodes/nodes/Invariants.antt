@@ -10,5 +10,7 @@ use Rattle.unit_things.specs.Nodes.{test_of, IsNodeSo}
 use Rattle.unit_things.proofs.nodes.nodes.Given as goal
 
 abbrev pub invariant-loop-place : goal.invariant-loop-place
-invariant-loop-place l = (m : RootedModel) (units : List UnitPath) → AreOutlines m units l.classes l.outlines → KnowsPlaces l.classes.types.items l.places
-    → Along (IsNodeSo m units (test_of l.listed)) (flat_map (things_in (test_of l.listed) m) (take l.place units)) l.nodes.items
+invariant-loop-place l = (m : RootedModel) (units : List UnitPath) → AreOutlines m units l.classes l.outlines
+    → KnowsPlaces l.classes.types.items l.places
+    → Along (IsNodeSo m units (test_of l.listed)) (flat_map (things_in (test_of l.listed) m) (take l.place units))
+    l.nodes.items

@@ -14,17 +14,21 @@ returns-in-Some-None c = λ m units t h known so.
     let g = so.given in
     let at = given_at m t.unit t.name g so.node.is in
     let site : site_of (c.args.node.source.body, c.args.node.source.member) ≡ g.site =
-    ap (λ (n : ℕ). record { body = n; place = c.args.node.source.member }) so.node.source.body ∙ ap (λ (n : ℕ). record { body = g.site.body; place = n }) so.node.source.member in
+    ap (λ (n : ℕ). record { body = n; place = c.args.node.source.member }) so.node.source.body
+    ∙ ap (λ (n : ℕ). record { body = g.site.body; place = n }) so.node.source.member in
     let owned = rw c.deref.ensures.value at (c.in-Some.ensures m.declared) in
     let there = owned h.table.table.holds.bodies ∙ ap (λ (z : Site). owned_at m.declared z) site in
     let type : parameter_type (owned_at m.declared g.site) ≡ Some None =
-    sym (ap parameter_type there) ∙ (sym c.type_of.ensures ∙ (c.in-Some-None.is ∙ ap (λ (f : Option TypeForm). Some f) c.in-Some-None.field-0-is)) in
-    let kind = kept_kind g _ (parameter_owned m.declared g.site g so.passes (owned_at m.declared g.site) at.given) type in
+    sym (ap parameter_type there) ∙ (sym c.type_of.ensures
+    ∙ (c.in-Some-None.is ∙ ap (λ (f : Option TypeForm). Some f) c.in-Some-None.field-0-is)) in
+    let kind = kept_kind g _ (parameter_owned m.declared g.site g so.passes (owned_at m.declared g.site) at.given)
+    type in
     record {
       given = g;
       node = so.node;
       domain = subst (λ (z : MemberKind). HasParameterDomain m.declared z None) (sym kind) kept_domain;
-      value = subst (λ (z : MemberKind). HasAttributeOf m units t z (record { from = c.args.node.unit; source = c.args.node.source })) (sym kind) tt;
+      value = subst (λ (z : MemberKind). HasAttributeOf m units t z
+          (record { from = c.args.node.unit; source = c.args.node.source })) (sym kind) tt;
     }
 
 pub returns-in-Some-Some : goal.returns-in-Some-Some
@@ -32,10 +36,13 @@ returns-in-Some-Some c = λ m units t h known so.
     let g = so.given in
     let at = given_at m t.unit t.name g so.node.is in
     let site : site_of (c.args.node.source.body, c.args.node.source.member) ≡ g.site =
-    ap (λ (n : ℕ). record { body = n; place = c.args.node.source.member }) so.node.source.body ∙ ap (λ (n : ℕ). record { body = g.site.body; place = n }) so.node.source.member in
+    ap (λ (n : ℕ). record { body = n; place = c.args.node.source.member }) so.node.source.body
+    ∙ ap (λ (n : ℕ). record { body = g.site.body; place = n }) so.node.source.member in
     let owned = rw c.deref.ensures.value at (c.in-Some.ensures m.declared) in
     let there = owned h.table.table.holds.bodies ∙ ap (λ (z : Site). owned_at m.declared z) site in
     let type : parameter_type (owned_at m.declared g.site) ≡ Some (Some c.in-Some-Some.form) =
-    sym (ap parameter_type there) ∙ (sym c.type_of.ensures ∙ (c.in-Some-Some.is ∙ ap (λ (f : Option TypeForm). Some f) c.in-Some-Some.field-0-is)) in
-    let kind = typed_kind g _ c.in-Some-Some.form (parameter_owned m.declared g.site g so.passes (owned_at m.declared g.site) at.given) type in
+    sym (ap parameter_type there) ∙ (sym c.type_of.ensures
+    ∙ (c.in-Some-Some.is ∙ ap (λ (f : Option TypeForm). Some f) c.in-Some-Some.field-0-is)) in
+    let kind = typed_kind g _ c.in-Some-Some.form
+    (parameter_owned m.declared g.site g so.passes (owned_at m.declared g.site) at.given) type in
     c.typed.ensures m units t g kind.0 h known so.node kind.1

@@ -8,4 +8,5 @@ use Rattle.unit_things.proofs.plain.events.Goals as goal
 pub returns : goal.returns
 returns c = λ m units h.
     let known = rw c.deref.ensures.value at c.in_ok-places.ensures in
-    ok_map c.nodes.result (λ v a. plain_nodes m units is_event (flat_map (things_in is_event m) units) v.items a) (c.nodes.ensures m units h known)
+    ok_map c.nodes.result (λ v a. plain_nodes m units is_event (flat_map (things_in is_event m) units) v.items a)
+    (c.nodes.ensures m units h known)

@@ -5,4 +5,6 @@ use Rattle.hierarchy.specs.Settings.{word_of, setting_for}
 use Rattle.unit_things.proofs.targets.setting_of.Given as goal
 
 abbrev pub invariant-loop-place : goal.invariant-loop-place
-invariant-loop-place l = (u : UnitPath) (s : Site) → setting_for u s 0 l.settings (map word_of l.target) ≡ setting_for u s l.place (drop l.place l.settings) (map word_of l.target)
+invariant-loop-place l = (u : UnitPath) (s : Site)
+    → setting_for u s 0 l.settings (map word_of l.target)
+    ≡ setting_for u s l.place (drop l.place l.settings) (map word_of l.target)

@@ -17,24 +17,35 @@ pub loop-level-preserved : goal.loop-level-preserved
 loop-level-preserved c = λ m units u h there.
     let on = c.loop-level.invariant m units u h there in
     let o = c.in-Some.outline.now in
-    let s = item_stands c.args.outlines.now c.loop-level.at.n o c.in-Some.ensures.lookup.3.0 c.in-Some.ensures.lookup.1 in
+    let s = item_stands c.args.outlines.now c.loop-level.at.n o c.in-Some.ensures.lookup.3.0
+    c.in-Some.ensures.lookup.1 in
     let is = outline_of m units c.args.outlines.now h.along c.loop-level.at.n on.unit o on.stands s in
     let w = owner_some units on.unit o.owner c.in-Some-owner.owner is.owner c.in-Some-owner.is in
     let name = subst (λ (v : UnitPath). IsName v o.name) w.2 is.name in
     let set = subst (λ (v : UnitPath). IsSetAt (set_at_of v) o.set_at) w.2 is.set_at in
-    let a = rw c.deref.ensures.value at (c.in_ok-attribute.ensures m units w.1 w.0.set_at h.table.table.holds set w.3) in
-    subst (λ (ws : List Word). IsOn m units u (map word_of c.args.target.items) c.in-Some-owner.owner.n (map word_of ws) c.match-branch-2.found) (sym c.in_ok-insert.ensures.items)
+    let a = rw c.deref.ensures.value at (c.in_ok-attribute.ensures m units w.1 w.0.set_at h.table.table.holds set
+    w.3) in
+    subst (λ (ws : List Word). IsOn m units u (map word_of c.args.target.items) c.in-Some-owner.owner.n (map word_of ws)
+    c.match-branch-2.found) (sym c.in_ok-insert.ensures.items)
     (elim c.match-branch-2.branch [
-      | in-Some-2 v ↦ subst (λ (f : Option Attribute). IsOn m units u (map word_of c.args.target.items) c.in-Some-owner.owner.n (Named o.name.n ∷ map word_of c.loop-level.target.items) f) (sym v.found-is)
-          (on_set m units u _ c.loop-level.at.n _ _ on w.0 w.1 w.2 c.in-Some-owner.owner.n w.3 o.name.n _ name (subst (AreAttribute units (set_by m w.1 w.0.set_at (map word_of c.loop-level.target.items))) v.in-Some-2.is a))
-      | in_default-2 v ↦ subst (λ (f : Option Attribute). IsOn m units u (map word_of c.args.target.items) c.in-Some-owner.owner.n (Named o.name.n ∷ map word_of c.loop-level.target.items) f) (sym v.found-is)
-          (on_none m units u _ c.loop-level.at.n _ _ on w.0 w.1 w.2 c.in-Some-owner.owner.n w.3 o.name.n name (subst (AreAttribute units (set_by m w.1 w.0.set_at (map word_of c.loop-level.target.items))) v.in_default-2.is a))
+      | in-Some-2 v ↦ subst (λ (f : Option Attribute). IsOn m units u (map word_of c.args.target.items)
+          c.in-Some-owner.owner.n (Named o.name.n ∷ map word_of c.loop-level.target.items) f) (sym v.found-is)
+          (on_set m units u _ c.loop-level.at.n _ _ on w.0 w.1 w.2 c.in-Some-owner.owner.n w.3 o.name.n _ name
+          (subst (AreAttribute units (set_by m w.1 w.0.set_at (map word_of c.loop-level.target.items)))
+          v.in-Some-2.is a))
+      | in_default-2 v ↦ subst (λ (f : Option Attribute). IsOn m units u (map word_of c.args.target.items)
+          c.in-Some-owner.owner.n (Named o.name.n ∷ map word_of c.loop-level.target.items) f) (sym v.found-is)
+          (on_none m units u _ c.loop-level.at.n _ _ on w.0 w.1 w.2 c.in-Some-owner.owner.n w.3 o.name.n name
+          (subst (AreAttribute units (set_by m w.1 w.0.set_at (map word_of c.loop-level.target.items)))
+          v.in_default-2.is a))
     ])
 
 pub returns-in_default-owner : goal.returns-in_default-owner
 returns-in_default-owner c = λ m units u h there.
     let on = c.loop-level.invariant m units u h there in
     let o = c.in-Some.outline.now in
-    let s = item_stands c.args.outlines.now c.loop-level.at.n o c.in-Some.ensures.lookup.3.0 c.in-Some.ensures.lookup.1 in
+    let s = item_stands c.args.outlines.now c.loop-level.at.n o c.in-Some.ensures.lookup.3.0
+    c.in-Some.ensures.lookup.1 in
     let is = outline_of m units c.args.outlines.now h.along c.loop-level.at.n on.unit o on.stands s in
-    on_end m units u _ c.loop-level.at.n _ c.loop-level.found on (owner_none units on.unit o.owner is.owner c.in_default-owner.is)
+    on_end m units u _ c.loop-level.at.n _ c.loop-level.found on
+    (owner_none units on.unit o.owner is.owner c.in_default-owner.is)

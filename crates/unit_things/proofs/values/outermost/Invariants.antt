@@ -8,5 +8,6 @@ use Rattle.unit_things.proofs.Upward.{IsOn}
 use Rattle.unit_things.proofs.values.outermost.Given as goal
 
 abbrev pub invariant-loop-level : goal.invariant-loop-level
-invariant-loop-level l = (m : RootedModel) (units : List UnitPath) (u : UnitPath) → AreOutlines m units l.classes l.outlines → Stands units l.fn.unit.n u
+invariant-loop-level l = (m : RootedModel) (units : List UnitPath) (u : UnitPath)
+    → AreOutlines m units l.classes l.outlines → Stands units l.fn.unit.n u
     → IsOn m units u (map word_of l.fn.target.items) l.at.n (map word_of l.target.items) l.found

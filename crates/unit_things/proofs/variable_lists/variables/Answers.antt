@@ -15,15 +15,22 @@ loop-node-init c = λ m units h kept. push_start (IsVariable m units) _ c.new-va
 pub loop-node-preserved : goal.loop-node-preserved
 loop-node-preserved c = λ m units h kept.
     let known = rw c.deref.ensures.value at c.in_ok-places.ensures in
-    let a = subst (λ (ds : List MemNode). Along (IsNodeSo m units is_variable) (variables m units) ds) (sym c.deref-node-items.ensures.value) (c.in_ok-nodes.ensures m units h known) in
-    let none : MemNode = record { unit = record { n = 0; of = record {} }; name = record { n = 0; of = record {} }; source = record { body = record { n = 0; of = record {} }; member = 0; setting = None } } in
+    let a = subst (λ (ds : List MemNode). Along (IsNodeSo m units is_variable) (variables m units) ds)
+    (sym c.deref-node-items.ensures.value) (c.in_ok-nodes.ensures m units h known) in
+    let none : MemNode = record {
+      unit = record { n = 0; of = record {} };
+      name = record { n = 0; of = record {} };
+      source = record { body = record { n = 0; of = record {} }; member = 0; setting = None };
+    } in
     let s = stands_get c.deref-node-items.result.now c.loop-node.node-index none c.loop-node-test.true in
     let w = along_back (variables m units) c.deref-node-items.result.now a c.loop-node.node-index _ s in
-    push_next (IsVariable m units) _ _ _ _ _ _ w.1 (c.loop-node.invariant m units h kept) (c.in_ok-variable.ensures m units w.0 h known kept w.2) c.in_ok-push.ensures.items
+    push_next (IsVariable m units) _ _ _ _ _ _ w.1 (c.loop-node.invariant m units h kept)
+    (c.in_ok-variable.ensures m units w.0 h known kept w.2) c.in_ok-push.ensures.items
 
 pub returns : goal.returns
 returns c = λ m units h kept.
     let known = rw c.deref.ensures.value at c.in_ok-places.ensures in
-    let a = subst (λ (ds : List MemNode). Along (IsNodeSo m units is_variable) (variables m units) ds) (sym c.deref-node-items.ensures.value) (c.in_ok-nodes.ensures m units h known) in
+    let a = subst (λ (ds : List MemNode). Along (IsNodeSo m units is_variable) (variables m units) ds)
+    (sym c.deref-node-items.ensures.value) (c.in_ok-nodes.ensures m units h known) in
     let n = along_length (variables m units) c.deref-node-items.result.now a in
     push_end (IsVariable m units) _ _ _ (omega arith) (c.loop-node.invariant m units h kept)

@@ -9,5 +9,6 @@ use Rattle.unit_things.specs.Values.{KeepsDeclarations}
 use Rattle.unit_things.proofs.variable_lists.variables.Given as goal
 
 abbrev pub invariant-loop-node : goal.invariant-loop-node
-invariant-loop-node l = (m : RootedModel) (units : List UnitPath) → AreOutlines m units l.classes l.outlines → KeepsDeclarations m units
+invariant-loop-node l = (m : RootedModel) (units : List UnitPath) → AreOutlines m units l.classes l.outlines
+    → KeepsDeclarations m units
     → Along (IsVariable m units) (take l.node-index (variables m units)) l.variables.items

@@ -16,6 +16,7 @@ decreases-grow_unit l = 2 * l.room
 abbrev pub invariant-grow_insides-loop-named : goal.invariant-grow_insides-loop-named
 invariant-grow_insides-loop-named l = record {
   small : length l.nodes.items ≤ 16384;
-  fronts : (m : RootedModel) (u : UnitPath) → IsFormsFor m l.forms → IsTable m [] l.fn.table → Stands (paths_of l.fn.table) l.node.unit u → l.node.outline.body.n ≡ body_of m u → length u + 1 + l.room ≡ 64
+  fronts : (m : RootedModel) (u : UnitPath) → IsFormsFor m l.forms → IsTable m [] l.fn.table
+      → Stands (paths_of l.fn.table) l.node.unit u → l.node.outline.body.n ≡ body_of m u → length u + 1 + l.room ≡ 64
       → Fronts m l.fn.table l.table l.fn.nodes.items l.nodes.items u l.at.n (only_units (names_at m u)) l.named-index;
 }

@@ -6,7 +6,9 @@ pub returns-in-Alias : goal.returns-in-Alias
 returns-in-Alias c = λ m u g f t p named kind. alias_none m c.args.table.now u c.args.named.now g t named c.in-Alias.is
 
 pub returns-in-Inner : goal.returns-in-Inner
-returns-in-Inner c = λ m u g f t p named kind. c.inner_unit.ensures m u g f t p (sym named.name) kind (inner_own c.args.named.now g named c.in-Inner.is)
+returns-in-Inner c = λ m u g f t p named kind. c.inner_unit.ensures m u g f t p (sym named.name) kind
+    (inner_own c.args.named.now g named c.in-Inner.is)
 
 pub returns-in-Clone : goal.returns-in-Clone
-returns-in-Clone c = λ m u g f t p named kind. c.inner_unit-in-Clone.ensures m u g f t p (sym named.name) kind (clone_own c.args.named.now g named c.in-Clone.is)
+returns-in-Clone c = λ m u g f t p named kind. c.inner_unit-in-Clone.ensures m u g f t p (sym named.name) kind
+    (clone_own c.args.named.now g named c.in-Clone.is)

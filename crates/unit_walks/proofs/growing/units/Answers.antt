@@ -21,11 +21,14 @@ returns-in_err-grow_unit-clause-limit c = λ m k.
     let t = c.in_ok-table.ensures m k.table.main in
     let z = c.limit.ensures in
     let p = err_from_is_err_and c.from_residual-in_err-grow_unit.result c.from_residual-in_err-grow_unit.ensures.1 in
-    rw (p.1, p.2) (refused m c.in_err-grow_unit.field-0.0 c.new-nodes.result.items c.new-nodes.ensures.items (c.in_err-grow_unit.ensures.limit m [] f t t.main (omega (arith, z))))
+    rw (p.1, p.2) (refused m c.in_err-grow_unit.field-0.0 c.new-nodes.result.items c.new-nodes.ensures.items
+    (c.in_err-grow_unit.ensures.limit m [] f t t.main (omega (arith, z))))
 
 pub returns-clause-ok : goal.returns-clause-ok
 returns-clause-ok c = λ m k.
     let f = c.in_ok-forms.ensures m k in
     let t = c.in_ok-table.ensures m k.table.main in
     let z = c.limit.ensures in
-    unfolded m c.in_ok-table.table c.new-nodes.result.items _ c.new-nodes.ensures.items c.in_ok-grow_unit.ensures.small (c.in_ok-outlines.ensures ∙ ap (map (λ (n : Node). n.outline)) c.deref.ensures.value) f (c.in_ok-grow_unit.ensures.ok m [] f t t.main (omega (arith, z)))
+    unfolded m c.in_ok-table.table c.new-nodes.result.items _ c.new-nodes.ensures.items c.in_ok-grow_unit.ensures.small
+    (c.in_ok-outlines.ensures ∙ ap (map (λ (n : Node). n.outline)) c.deref.ensures.value) f
+    (c.in_ok-grow_unit.ensures.ok m [] f t t.main (omega (arith, z)))

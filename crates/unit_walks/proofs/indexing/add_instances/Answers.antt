@@ -12,9 +12,12 @@ pub loop-name-init : goal.loop-name-init
 loop-name-init c = λ gs h. rw append-nil h
 
 pub loop-name-preserved : goal.loop-name-preserved
-loop-name-preserved c = λ gs h. instance_pushed c.loop-name.list.items c.push.new.self.items c.args.names.now c.loop-name.name-index gs c.args.body c.args.site _ (omega arith) c.in_ok-push.ensures.items (c.loop-name.invariant gs h)
+loop-name-preserved c = λ gs h. instance_pushed c.loop-name.list.items c.push.new.self.items c.args.names.now
+    c.loop-name.name-index gs c.args.body c.args.site _ (omega arith) c.in_ok-push.ensures.items
+    (c.loop-name.invariant gs h)
 
 pub returns : goal.returns
 returns c = λ gs h.
     let e = take_all c.loop-name.name-index c.args.names.now (omega arith) in
-    subst (λ (ns : List (NameId × Place)). Along IsUnitName c.loop-name.list.items (gs ++ instances (site_of c.args.site) c.args.body.n ns)) e (c.loop-name.invariant gs h)
+    subst (λ (ns : List (NameId × Place)). Along IsUnitName c.loop-name.list.items
+    (gs ++ instances (site_of c.args.site) c.args.body.n ns)) e (c.loop-name.invariant gs h)

@@ -7,4 +7,5 @@ pub returns-in-Plain : goal.returns-in-Plain
 returns-in-Plain c = λ d k. rw c.in-Plain.is (c.add_plain.ensures d k)
 
 pub returns-in_ok-push-in-Nested : goal.returns-in_ok-push-in-Nested
-returns-in_ok-push-in-Nested c = λ d k gs h. rw c.in-Nested.is (rw c.in_ok-push-in-Nested.ensures.items (along_push _ gs _ _ h (record { name = refl; form = inner refl refl })))
+returns-in_ok-push-in-Nested c = λ d k gs h. rw c.in-Nested.is
+    (rw c.in_ok-push-in-Nested.ensures.items (along_push _ gs _ _ h (record { name = refl; form = inner refl refl })))

@@ -9,19 +9,29 @@ use Rattle.unit_walks.proofs.indexing.add_plain.Goals as goal
 
 pub returns-in-None : goal.returns-in-None
 unfolding out-Member denote.Hole.Carrier.out
-returns-in-None c = λ d k gs h. rw c.in-Declare.is (rw (declares_none d c.args.classes.now (site_of c.args.site) c.in-Declare.type_name.form c.in-Declare.field-2.items c.in-Declare.names.items k c.in-None.ensures, append-nil) h)
+returns-in-None c = λ d k gs h. rw c.in-Declare.is
+    (rw (
+      declares_none d c.args.classes.now (site_of c.args.site) c.in-Declare.type_name.form c.in-Declare.field-2.items
+          c.in-Declare.names.items k c.in-None.ensures,
+      append-nil,
+    ) h)
 
 pub returns-in-Some : goal.returns-in-Some
 unfolding out-Member denote.Hole.Carrier.out
-returns-in-Some c = λ d k. rw c.in-Declare.is (rw (declares_instances d c.args.classes.now (site_of c.args.site) c.in-Declare.type_name.form c.in-Declare.field-2.items c.in-Declare.names.items c.in-Some.body k c.in-Some.ensures) (rw c.deref.ensures.value at c.add_instances.ensures))
+returns-in-Some c = λ d k. rw c.in-Declare.is
+    (rw (declares_instances d c.args.classes.now (site_of c.args.site) c.in-Declare.type_name.form
+    c.in-Declare.field-2.items c.in-Declare.names.items c.in-Some.body k c.in-Some.ensures)
+    (rw c.deref.ensures.value at c.add_instances.ensures))
 
 pub returns-in_ok-push-in-Clones : goal.returns-in_ok-push-in-Clones
 unfolding out-Member denote.Hole.Carrier.out
-returns-in_ok-push-in-Clones c = λ d k gs h. rw c.in-Clones.is (rw c.in_ok-push-in-Clones.ensures.items (along_push _ gs _ _ h (record { name = refl; form = clone refl })))
+returns-in_ok-push-in-Clones c = λ d k gs h. rw c.in-Clones.is
+    (rw c.in_ok-push-in-Clones.ensures.items (along_push _ gs _ _ h (record { name = refl; form = clone refl })))
 
 pub returns-in_ok-push-in-Embeds : goal.returns-in_ok-push-in-Embeds
 unfolding out-Member denote.Hole.Carrier.out
-returns-in_ok-push-in-Embeds c = λ d k gs h. rw c.in-Embeds.is (rw c.in_ok-push-in-Embeds.ensures.items (along_push _ gs _ _ h (record { name = refl; form = alias refl })))
+returns-in_ok-push-in-Embeds c = λ d k gs h. rw c.in-Embeds.is
+    (rw c.in_ok-push-in-Embeds.ensures.items (along_push _ gs _ _ h (record { name = refl; form = alias refl })))
 
 pub returns-in-Extends : goal.returns-in-Extends
 unfolding out-Member denote.Hole.Carrier.out

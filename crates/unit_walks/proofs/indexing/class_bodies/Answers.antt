@@ -13,10 +13,13 @@ loop-name-init c = λ x. ap (lookup (nat_eq x)) c.new-classes.ensures.empty
 
 pub loop-name-preserved : goal.loop-name-preserved
 loop-name-preserved c =
-    let e = take_item c.args.types.now c.loop-name.name-index c.loop-name-item.result (omega arith) c.loop-name-item.is in
-    subst (λ (ts : List (NameId × TypeBody)). (x : ℕ) → class_at c.add_class.new.classes x ≡ class_in ts x) (sym e) (c.in_ok-add_class.ensures _ c.loop-name.invariant)
+    let e = take_item c.args.types.now c.loop-name.name-index c.loop-name-item.result (omega arith)
+    c.loop-name-item.is in
+    subst (λ (ts : List (NameId × TypeBody)). (x : ℕ) → class_at c.add_class.new.classes x ≡ class_in ts x) (sym e)
+    (c.in_ok-add_class.ensures _ c.loop-name.invariant)
 
 pub returns : goal.returns
 returns c = λ d a.
     let e = take_all c.loop-name.name-index c.args.types.now (omega arith) in
-    are_classes d _ c.args.types.now a (λ x. c.loop-name.invariant x ∙ ap (λ (ts : List (NameId × TypeBody)). class_in ts x) e)
+    are_classes d _ c.args.types.now a
+    (λ x. c.loop-name.invariant x ∙ ap (λ (ts : List (NameId × TypeBody)). class_in ts x) e)

@@ -7,9 +7,12 @@ use Rattle.unit_walks.proofs.indexing.index_list.Goals as goal
 pub loop-place-preserved : goal.loop-place-preserved
 loop-place-preserved c = λ lists v p e h.
     let n = c.index-list-place.result in
-    let at = subst (λ ns. Stands ns c.loop-place.place n) (sym e) (item_stands c.args.list.now c.loop-place.place n c.loop-place-test.true c.index-list-place.is) in
+    let at = subst (λ ns. Stands ns c.loop-place.place n) (sym e)
+    (item_stands c.args.list.now c.loop-place.place n c.loop-place-test.true c.index-list-place.is) in
     let u = c.in_ok-insert.ensures.updates in
-    index_put lists c.args.body c.loop-place.place c.in-Ok.number c.in-Ok-try_from.place v n c.loop-place.places c.insert.new.self c.in-Ok.ensures.1 c.in-Ok-try_from.ensures.1 p at (c.loop-place.invariant lists v p e h) u.1 u.2
+    index_put lists c.args.body c.loop-place.place c.in-Ok.number c.in-Ok-try_from.place v n c.loop-place.places
+    c.insert.new.self c.in-Ok.ensures.1 c.in-Ok-try_from.ensures.1 p at (c.loop-place.invariant lists v p e h) u.1
+    u.2
 
 pub returns : goal.returns
 returns c = λ lists v p e h. index_next lists c.args.body c.loop-place.place v c.loop-place.places p (let z = ap length e in let y = c.loop-place-test.false in omega (arith, z, y)) (c.loop-place.invariant lists v p e h)

@@ -8,4 +8,5 @@ use Rattle.unit_walks.specs.Forms.{IsUnitList}
 use Rattle.unit_walks.proofs.indexing.list_bodies.Given as goal
 
 abbrev pub invariant-loop-body : goal.invariant-loop-body
-invariant-loop-body l = (d : Declared) → AreClasses d l.classes → Along IsBodyOf l.bodies d.bodies → Along (IsUnitList d) l.lists.items (map sites_kept (take l.body-index l.bodies))
+invariant-loop-body l = (d : Declared) → AreClasses d l.classes → Along IsBodyOf l.bodies d.bodies
+    → Along (IsUnitList d) l.lists.items (map sites_kept (take l.body-index l.bodies))

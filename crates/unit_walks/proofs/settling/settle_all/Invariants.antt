@@ -8,4 +8,5 @@ use Rattle.unit_walks.proofs.Outcomes.{Settling}
 use Rattle.unit_walks.proofs.settling.settle_all.Given as goal
 
 abbrev pub invariant-loop-place : goal.invariant-loop-place
-invariant-loop-place l = (m : RootedModel) (units : List UnitPath) → IsFormsFor m l.forms → IsTable m [] l.fn.table → Tied m units (paths_of l.fn.table) units l.nodes → Settling m units l.place 0 l.fn.table l.table l.ids l.walks
+invariant-loop-place l = (m : RootedModel) (units : List UnitPath) → IsFormsFor m l.forms → IsTable m [] l.fn.table
+    → Tied m units (paths_of l.fn.table) units l.nodes → Settling m units l.place 0 l.fn.table l.table l.ids l.walks

@@ -8,5 +8,6 @@ use Rattle.unit_walks.proofs.tables.start_table.Goals as goal
 pub returns : goal.returns
 returns c = λ m e.
     let d : Met = record { owner = None; name = c.new.result; body = c.args.main; set_at = None } in
-    table_started m (record { units = c.push.new.self; known = c.new-2.result; count = 0 }) d (c.in_ok-push.ensures.items ∙ ap (λ ds. ds ++ d ∷ []) c.new-units.ensures.items) refl e refl
+    table_started m (record { units = c.push.new.self; known = c.new-2.result; count = 0 }) d
+    (c.in_ok-push.ensures.items ∙ ap (λ ds. ds ++ d ∷ []) c.new-units.ensures.items) refl e refl
     (λ a x. ap (lookup (same_pair (a, x))) c.new-2.ensures.empty)

@@ -5,21 +5,38 @@ use Rattle.unit_walks.proofs.Stepping.{if_ok, look_absent, look_inner, look_clon
 use Rattle.unit_walks.proofs.walking.look.Goals as goal
 
 pub returns-in-None-clause-step : goal.returns-in-None-clause-step
-returns-in-None-clause-step c = if_ok c.answer.result (λ r h. look_absent c.args.forms.now c.args.top.now c.args.table.now c.in-Some.here c.args.name.n c.in-Some.ensures c.answer.new.table r c.in-None.ensures h.0 h.1) c.answer.ensures
+returns-in-None-clause-step c = if_ok c.answer.result
+    (λ r h. look_absent c.args.forms.now c.args.top.now c.args.table.now c.in-Some.here c.args.name.n c.in-Some.ensures
+    c.answer.new.table r c.in-None.ensures h.0 h.1) c.answer.ensures
 
 pub returns-in_ok-enter-in-Some-Inner-clause-step : goal.returns-in_ok-enter-in-Some-Inner-clause-step
 returns-in_ok-enter-in-Some-Inner-clause-step c =
-    let e : Some (form.Inner c.in-Some-Inner.body c.in-Some-Inner.set_at) ≡ form_at c.args.forms.now c.in-Some.here.body.n c.args.name.n = ap Some (sym c.in-Some-Inner.field-0-is) ∙ c.in-Some-Inner.ensures in
-    look_inner c.args.forms.now c.args.top.now c.args.table.now c.in-Some.here c.args.name.n c.in-Some.ensures c.enter.new.table
-    (record { owner = Some c.args.top.now.at; name = c.args.name; body = c.in-Some-Inner.body; set_at = c.in-Some-Inner.set_at }) c.in_ok-enter-in-Some-Inner.field-0 c.args.name c.in-Some-Inner.body c.in-Some-Inner.set_at
+    let e : Some (form.Inner c.in-Some-Inner.body c.in-Some-Inner.set_at)
+    ≡ form_at c.args.forms.now c.in-Some.here.body.n c.args.name.n =
+    ap Some (sym c.in-Some-Inner.field-0-is) ∙ c.in-Some-Inner.ensures in
+    look_inner c.args.forms.now c.args.top.now c.args.table.now c.in-Some.here c.args.name.n c.in-Some.ensures
+    c.enter.new.table
+    (record {
+      owner = Some c.args.top.now.at;
+      name = c.args.name;
+      body = c.in-Some-Inner.body;
+      set_at = c.in-Some-Inner.set_at;
+    }) c.in_ok-enter-in-Some-Inner.field-0 c.args.name c.in-Some-Inner.body
+    c.in-Some-Inner.set_at
     refl e refl c.in_ok-enter-in-Some-Inner.ensures
 
 pub returns-in-Some-Clone-clause-step : goal.returns-in-Some-Clone-clause-step
 returns-in-Some-Clone-clause-step c =
-    let e : Some (form.Clone c.in-Some-Clone.path) ≡ form_at c.args.forms.now c.in-Some.here.body.n c.args.name.n = ap Some (sym c.in-Some-Clone.field-0-is) ∙ c.in-Some-Clone.ensures in
-    if_ok c.follow.result (λ r h. look_clone c.args.forms.now c.args.top.now c.args.table.now c.in-Some.here c.args.name.n c.in-Some.ensures c.follow.new.table r c.in-Some-Clone.path e h) c.follow.ensures.step
+    let e : Some (form.Clone c.in-Some-Clone.path) ≡ form_at c.args.forms.now c.in-Some.here.body.n c.args.name.n =
+    ap Some (sym c.in-Some-Clone.field-0-is) ∙ c.in-Some-Clone.ensures in
+    if_ok c.follow.result (λ r h. look_clone c.args.forms.now c.args.top.now c.args.table.now c.in-Some.here
+    c.args.name.n c.in-Some.ensures c.follow.new.table r c.in-Some-Clone.path e h) c.follow.ensures.step
 
 pub returns-in-Some-Alias-clause-step : goal.returns-in-Some-Alias-clause-step
 returns-in-Some-Alias-clause-step c =
-    let e : Some (form.Alias c.in-Some-Alias.path) ≡ form_at c.args.forms.now c.in-Some.here.body.n c.args.name.n = ap Some (sym c.in-Some-Alias.field-0-is) ∙ c.in-Some-Alias.ensures in
-    if_ok c.follow-in-Some-Alias.result (λ r h. look_alias c.args.forms.now c.args.top.now c.args.table.now c.in-Some.here c.args.name.n c.in-Some.ensures c.follow-in-Some-Alias.new.table r c.in-Some-Alias.path e h) c.follow-in-Some-Alias.ensures.step
+    let e : Some (form.Alias c.in-Some-Alias.path) ≡ form_at c.args.forms.now c.in-Some.here.body.n c.args.name.n =
+    ap Some (sym c.in-Some-Alias.field-0-is) ∙ c.in-Some-Alias.ensures in
+    if_ok c.follow-in-Some-Alias.result
+    (λ r h. look_alias c.args.forms.now c.args.top.now c.args.table.now c.in-Some.here c.args.name.n
+    c.in-Some.ensures c.follow-in-Some-Alias.new.table r c.in-Some-Alias.path e h)
+    c.follow-in-Some-Alias.ensures.step

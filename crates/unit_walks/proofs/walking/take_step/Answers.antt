@@ -7,24 +7,37 @@ use Rattle.unit_walks.proofs.walking.take_step.Goals as goal
 
 pub returns-in-Some-ToUnit-clause-step : goal.returns-in-Some-ToUnit-clause-step
 returns-in-Some-ToUnit-clause-step c = λ m below f w.
-    let more : numbers c.args.top.now.rest.now ≡ c.in-Some.name.now.n ∷ numbers c.in-Some.rest.now = ap numbers c.in-Some.ensures.cases.0 in
+    let more : numbers c.args.top.now.rest.now ≡ c.in-Some.name.now.n ∷ numbers c.in-Some.rest.now =
+    ap numbers c.in-Some.ensures.cases.0 in
     step_unit m below c.args.top.now c.args.table.now c.in-Some.name.now.n (numbers c.in-Some.rest.now) w more _
-    (sym c.in-Some-ToUnit.ensures ∙ ap Some (c.in-Some-ToUnit.field-0-is ∙ ap known.ToUnit (sym c.in-Some-ToUnit.at-is))) refl refl refl refl
+    (sym c.in-Some-ToUnit.ensures ∙ ap Some
+    (c.in-Some-ToUnit.field-0-is ∙ ap known.ToUnit (sym c.in-Some-ToUnit.at-is))) refl refl refl refl
 
 pub returns-in-Some-Nothing-clause-step : goal.returns-in-Some-Nothing-clause-step
 returns-in-Some-Nothing-clause-step c = λ m below f w.
-    let more : numbers c.args.top.now.rest.now ≡ c.in-Some.name.now.n ∷ numbers c.in-Some.rest.now = ap numbers c.in-Some.ensures.cases.0 in
-    let e : known_at c.args.table.now c.args.top.now.at c.in-Some.name.now.n ≡ Some known.Nothing = sym c.in-Some-Nothing.ensures ∙ ap Some c.in-Some-Nothing.field-0-is in
-    if_ok c.answer.result (λ r h. step_nothing m below c.args.top.now c.args.table.now c.in-Some.name.now.n (numbers c.in-Some.rest.now) w more c.answer.new.table r e h.0 h.1) c.answer.ensures
+    let more : numbers c.args.top.now.rest.now ≡ c.in-Some.name.now.n ∷ numbers c.in-Some.rest.now =
+    ap numbers c.in-Some.ensures.cases.0 in
+    let e : known_at c.args.table.now c.args.top.now.at c.in-Some.name.now.n ≡ Some known.Nothing =
+    sym c.in-Some-Nothing.ensures ∙ ap Some c.in-Some-Nothing.field-0-is in
+    if_ok c.answer.result (λ r h. step_nothing m below c.args.top.now c.args.table.now c.in-Some.name.now.n
+    (numbers c.in-Some.rest.now) w more c.answer.new.table r e h.0 h.1) c.answer.ensures
 
 pub returns-in-Some-Loops-clause-step : goal.returns-in-Some-Loops-clause-step
 returns-in-Some-Loops-clause-step c = λ m below f w.
-    let more : numbers c.args.top.now.rest.now ≡ c.in-Some.name.now.n ∷ numbers c.in-Some.rest.now = ap numbers c.in-Some.ensures.cases.0 in
-    let e : known_at c.args.table.now c.args.top.now.at c.in-Some.name.now.n ≡ Some known.Loops = sym c.in-Some-Loops.ensures ∙ ap Some c.in-Some-Loops.field-0-is in
-    if_ok c.answer-in-Some-Loops.result (λ r h. step_loops m below c.args.top.now c.args.table.now c.in-Some.name.now.n (numbers c.in-Some.rest.now) w more c.answer-in-Some-Loops.new.table r e h.0 h.1) c.answer-in-Some-Loops.ensures
+    let more : numbers c.args.top.now.rest.now ≡ c.in-Some.name.now.n ∷ numbers c.in-Some.rest.now =
+    ap numbers c.in-Some.ensures.cases.0 in
+    let e : known_at c.args.table.now c.args.top.now.at c.in-Some.name.now.n ≡ Some known.Loops =
+    sym c.in-Some-Loops.ensures ∙ ap Some c.in-Some-Loops.field-0-is in
+    if_ok c.answer-in-Some-Loops.result
+    (λ r h. step_loops m below c.args.top.now c.args.table.now c.in-Some.name.now.n (numbers c.in-Some.rest.now) w
+    more c.answer-in-Some-Loops.new.table r e h.0 h.1) c.answer-in-Some-Loops.ensures
 
 pub returns-in-Some-Following-clause-step : goal.returns-in-Some-Following-clause-step
 returns-in-Some-Following-clause-step c = λ m below f w.
-    let more : numbers c.args.top.now.rest.now ≡ c.in-Some.name.now.n ∷ numbers c.in-Some.rest.now = ap numbers c.in-Some.ensures.cases.0 in
-    let e : known_at c.args.table.now c.args.top.now.at c.in-Some.name.now.n ≡ Some known.Following = sym c.in-Some-Following.ensures ∙ ap Some c.in-Some-Following.field-0-is in
-    if_ok c.answer-in-Some-Following.result (λ r h. step_following m below c.args.top.now c.args.table.now c.in-Some.name.now.n (numbers c.in-Some.rest.now) w more c.answer-in-Some-Following.new.table r e h.0 h.1) c.answer-in-Some-Following.ensures
+    let more : numbers c.args.top.now.rest.now ≡ c.in-Some.name.now.n ∷ numbers c.in-Some.rest.now =
+    ap numbers c.in-Some.ensures.cases.0 in
+    let e : known_at c.args.table.now c.args.top.now.at c.in-Some.name.now.n ≡ Some known.Following =
+    sym c.in-Some-Following.ensures ∙ ap Some c.in-Some-Following.field-0-is in
+    if_ok c.answer-in-Some-Following.result
+    (λ r h. step_following m below c.args.top.now c.args.table.now c.in-Some.name.now.n (numbers c.in-Some.rest.now)
+    w more c.answer-in-Some-Following.new.table r e h.0 h.1) c.answer-in-Some-Following.ensures

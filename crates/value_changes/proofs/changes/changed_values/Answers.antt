@@ -13,9 +13,12 @@ pub loop-place-init : goal.loop-place-init
 loop-place-init c =
     let p = c.args.parts.now in
     let m = c.args.members.now in
-    let none : AreFound p m 0 c.args.old.now c.args.values.now [] [] = found_none p m c.args.old.now c.args.values.now c.requires.ascend in
-    subst (λ (z : List ℕ). AreFound p m 0 c.args.old.now c.args.values.now c.new-variables.result.items z) (sym c.new-codes.ensures.items)
-    (subst (λ (z : List VarId). AreFound p m 0 c.args.old.now c.args.values.now z []) (sym c.new-variables.ensures.items) none)
+    let none : AreFound p m 0 c.args.old.now c.args.values.now [] [] =
+    found_none p m c.args.old.now c.args.values.now c.requires.ascend in
+    subst (λ (z : List ℕ). AreFound p m 0 c.args.old.now c.args.values.now c.new-variables.result.items z)
+    (sym c.new-codes.ensures.items)
+    (subst (λ (z : List VarId). AreFound p m 0 c.args.old.now c.args.values.now z [])
+    (sym c.new-variables.ensures.items) none)
 
 pub bounds-values-x : goal.bounds-values-x
 bounds-values-x c =
@@ -61,16 +64,28 @@ loop-place-preserved c =
           let x = b.new.result in
           let one = b.index.result.now in
           let d = coded one.domain v in
-          let variables : c.if-differs.variables.items ≡ xs ++ x ∷ [] = ap (λ (z : Vec VarId Global). z.items) b.variables-is ∙ b.in_ok-push.ensures.items in
-          let pushed : c.if-differs.codes.items ≡ cs ++ b.code_of.result ∷ [] = ap (λ (z : Vec ℕ Global). z.items) b.codes-is ∙ b.in_ok-push-2.ensures.items in
-          let codes : c.if-differs.codes.items ≡ cs ++ d ∷ [] = pushed ∙ ap (λ (z : ℕ). cs ++ z ∷ []) b.code_of.ensures in
+          let variables : c.if-differs.variables.items ≡ xs ++ x ∷ [] =
+          ap (λ (z : Vec VarId Global). z.items) b.variables-is ∙ b.in_ok-push.ensures.items in
+          let pushed : c.if-differs.codes.items ≡ cs ++ b.code_of.result ∷ [] =
+          ap (λ (z : Vec ℕ Global). z.items) b.codes-is ∙ b.in_ok-push-2.ensures.items in
+          let codes : c.if-differs.codes.items ≡ cs ++ d ∷ [] =
+          pushed ∙ ap (λ (z : ℕ). cs ++ z ∷ []) b.code_of.ensures in
           let more : AreFound p m (i + 1) old new (xs ++ x ∷ []) (cs ++ d ∷ []) =
-          found_more p m old new c.requires.ascend i n xs cs s c.loop-place.invariant v w at there (λ e. b.if-differs.ensures (sym e)) x b.new.ensures one (stands_item p.variables.items n one h b.index.ensures) in
-          subst (λ (z : List ℕ). AreFound p m (i + 1) old new c.if-differs.variables.items z) (sym codes) (subst (λ (z : List VarId). AreFound p m (i + 1) old new z (cs ++ d ∷ [])) (sym variables) more)
+          found_more p m old new c.requires.ascend i n xs cs s c.loop-place.invariant v w at there
+          (λ e. b.if-differs.ensures (sym e)) x b.new.ensures one
+          (stands_item p.variables.items n one h b.index.ensures) in
+          subst (λ (z : List ℕ). AreFound p m (i + 1) old new c.if-differs.variables.items z) (sym codes)
+          (subst (λ (z : List VarId). AreFound p m (i + 1) old new z (cs ++ d ∷ [])) (sym variables) more)
       | else-differs b ↦
-          let more : AreFound p m (i + 1) old new xs cs = found_same p m old new c.requires.ascend i n xs cs s c.loop-place.invariant v w at there (sym (same_value w v b.if-differs.ensures)) in
-          subst (λ (z : Vec ℕ Global). AreFound p m (i + 1) old new c.if-differs.variables.items z.items) (sym b.codes-is) (subst (λ (z : Vec VarId Global). AreFound p m (i + 1) old new z.items cs) (sym b.variables-is) more)
+          let more : AreFound p m (i + 1) old new xs cs =
+          found_same p m old new c.requires.ascend i n xs cs s c.loop-place.invariant v w at there
+          (sym (same_value w v b.if-differs.ensures)) in
+          subst (λ (z : Vec ℕ Global). AreFound p m (i + 1) old new c.if-differs.variables.items z.items)
+          (sym b.codes-is) (subst (λ (z : Vec VarId Global). AreFound p m (i + 1) old new z.items cs)
+          (sym b.variables-is) more)
     ]
 
 pub returns : goal.returns
-returns c = found_all c.args.parts.now c.args.members.now c.args.old.now c.args.values.now c.requires.ascend c.loop-place.place c.loop-place.variables.items c.loop-place.codes.items c.loop-place-test.false c.loop-place.invariant
+returns c = found_all c.args.parts.now c.args.members.now c.args.old.now c.args.values.now c.requires.ascend
+    c.loop-place.place c.loop-place.variables.items c.loop-place.codes.items c.loop-place-test.false
+    c.loop-place.invariant

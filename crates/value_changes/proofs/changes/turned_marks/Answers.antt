@@ -23,7 +23,8 @@ marks_same false false h = refl
 pub loop-place-init : goal.loop-place-init
 loop-place-init c =
     let m = c.args.members.now in
-    subst (λ (z : List VarId). AreTurned m 0 c.args.old_known.now c.args.known.now z) (sym c.new-variables.ensures.items) (turned_none m c.args.old_known.now c.args.known.now c.requires.ascend)
+    subst (λ (z : List VarId). AreTurned m 0 c.args.old_known.now c.args.known.now z)
+    (sym c.new-variables.ensures.items) (turned_none m c.args.old_known.now c.args.known.now c.requires.ascend)
 
 pub bounds-known-n : goal.bounds-known-n
 bounds-known-n c =
@@ -49,15 +50,20 @@ loop-place-preserved c =
     elim c.if-old_known-place.branch [
       | then-old_known-place+in_ok-push h ↦
           let x = h.new.result in
-          let variables : c.if-old_known-place.variables.items ≡ xs ++ x ∷ [] = ap (λ (z : Vec VarId Global). z.items) h.variables-is ∙ h.in_ok-push.ensures.items in
+          let variables : c.if-old_known-place.variables.items ≡ xs ++ x ∷ [] =
+          ap (λ (z : Vec VarId Global). z.items) h.variables-is ∙ h.in_ok-push.ensures.items in
           let differ : a ≡ b → ⊥ = marks_differ a b h.if-old_known-place.true in
-          let more : AreTurned m (i + 1) old new (xs ++ x ∷ []) = turned_more m old new c.requires.ascend i n xs s c.loop-place.invariant a b at there differ x h.new.ensures in
+          let more : AreTurned m (i + 1) old new (xs ++ x ∷ []) =
+          turned_more m old new c.requires.ascend i n xs s c.loop-place.invariant a b at there differ x
+          h.new.ensures in
           subst (λ (z : List VarId). AreTurned m (i + 1) old new z) (sym variables) more
       | else-old_known-place h ↦
           let same : a ≡ b = marks_same a b h.if-old_known-place.false in
-          let more : AreTurned m (i + 1) old new xs = turned_same m old new c.requires.ascend i n xs s c.loop-place.invariant a b at there same in
+          let more : AreTurned m (i + 1) old new xs =
+          turned_same m old new c.requires.ascend i n xs s c.loop-place.invariant a b at there same in
           subst (λ (z : Vec VarId Global). AreTurned m (i + 1) old new z.items) (sym h.variables-is) more
     ]
 
 pub returns : goal.returns
-returns c = turned_all c.args.members.now c.args.old_known.now c.args.known.now c.requires.ascend c.loop-place.place c.loop-place.variables.items c.loop-place-test.false c.loop-place.invariant
+returns c = turned_all c.args.members.now c.args.old_known.now c.args.known.now c.requires.ascend c.loop-place.place
+    c.loop-place.variables.items c.loop-place-test.false c.loop-place.invariant

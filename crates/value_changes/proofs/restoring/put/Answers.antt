@@ -18,7 +18,8 @@ loop-place-preserved c =
     let d = get_or cs i 0 in
     let below : i < length xs = c.loop-place-test.true in
     let also : i < length cs = omega (arith, below, c.requires.long) in
-    c.put_one.ensures ∙ ap (λ (z : Value). set c.loop-place.values.items x.n z) c.value_at.ensures ∙ ap (λ (z : List Value). set z x.n (decoded_at p x.n d)) c.loop-place.invariant
+    c.put_one.ensures ∙ ap (λ (z : Value). set c.loop-place.values.items x.n z) c.value_at.ensures
+    ∙ ap (λ (z : List Value). set z x.n (decoded_at p x.n d)) c.loop-place.invariant
     ∙ sym (restored_next p t xs cs i x d c.requires.long below (stands_get xs i none below) (stands_get cs i 0 also))
 
 pub returns : goal.returns

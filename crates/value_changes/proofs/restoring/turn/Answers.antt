@@ -16,7 +16,10 @@ loop-variable-preserved c =
     let i = c.loop-variable.variable-index in
     let x = get_or xs i no_variable in
     let more : take (i + 1) xs ≡ take i xs ++ x ∷ [] = take_more xs i no_variable c.loop-variable-test.true in
-    c.turn_one.ensures ∙ ap (λ (z : List Bool). flip z x.n) c.loop-variable.invariant ∙ sym (ap (turned first) more ∙ turned_last first (take i xs) x)
+    c.turn_one.ensures ∙ ap (λ (z : List Bool). flip z x.n) c.loop-variable.invariant
+    ∙ sym (ap (turned first) more ∙ turned_last first (take i xs) x)
 
 pub returns : goal.returns
-returns c = c.loop-variable.invariant ∙ ap (turned c.args.marks.now.items) (take_all c.loop-variable.variable-index c.args.variables.now c.loop-variable-test.false)
+returns c = c.loop-variable.invariant
+    ∙ ap (turned c.args.marks.now.items)
+    (take_all c.loop-variable.variable-index c.args.variables.now c.loop-variable-test.false)

@@ -9,7 +9,8 @@ value_of-requires c =
     let xs = c.args.parts.now.variables.items in
     let l = rw c.deref.ensures.value at c.in-Some.ensures.lookup.3.0 in
     let i = rw c.deref.ensures.value at c.in-Some.ensures.lookup.1 in
-    (c.requires.variables c.args.variable.n c.in-Some.one.now (stands_item xs c.args.variable.n c.in-Some.one.now l i)).domain
+    (c.requires.variables c.args.variable.n c.in-Some.one.now
+    (stands_item xs c.args.variable.n c.in-Some.one.now l i)).domain
 
 pub returns-in-Some : goal.returns-in-Some
 returns-in-Some c =

@@ -11,8 +11,10 @@ pub returns-then-eq : goal.returns-then-eq
 returns-then-eq c =
     let same : c.as_str.result.now ≡ c.args.word.now
     = (bytes_eq-Decides c.as_str.result.now c.args.word.now).0 (sym c.eq.ensures ∙ c.if-eq.true) in
-    let stands = is_here c.args.symbols.now c.loop-place.place c.index-symbols-place.result c.loop-place-test.true c.index-symbols-place.is in
-    w.symbol (subst (λ (z : List ℕ). Stands c.args.symbols.now c.loop-place.place z) (sym c.as_str.ensures ∙ same) stands)
+    let stands = is_here c.args.symbols.now c.loop-place.place c.index-symbols-place.result c.loop-place-test.true
+    c.index-symbols-place.is in
+    w.symbol (subst (λ (z : List ℕ). Stands c.args.symbols.now c.loop-place.place z) (sym c.as_str.ensures ∙ same)
+    stands)
 
 pub loop-place-preserved : goal.loop-place-preserved
 loop-place-preserved c =

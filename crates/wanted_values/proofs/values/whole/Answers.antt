@@ -13,4 +13,5 @@ returns-in-text c = λ symbols. w.less_zero c.in-text.is
 pub returns-in_ok-number-in_default : goal.returns-in_ok-number-in_default
 returns-in_ok-number-in_default c = λ symbols.
     let f = c.in_ok-number-in_default.ensures.found in
-    subst (λ (z : ℤ). Writes symbols c.args.word.now kind.Whole (value.Whole z)) (sym (to_z-of_z w64 _ f.0)) (w.whole f.0 f.1)
+    subst (λ (z : ℤ). Writes symbols c.args.word.now kind.Whole (value.Whole z)) (sym (to_z-of_z w64 _ f.0))
+    (w.whole f.0 f.1)

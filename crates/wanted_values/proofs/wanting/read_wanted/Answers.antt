@@ -15,7 +15,8 @@ returns-in_default c = λ x of.
 
 pub returns-in_default-get : goal.returns-in_default-get
 returns-in_default-get c = λ x of n named.
-    let own = subst (λ (o : Option ℕ). AnswersObserver x c.args.observer.now o) c.in-Some.is (c.in_ok-number.ensures x of) in
+    let own = subst (λ (o : Option ℕ). AnswersObserver x c.args.observer.now o) c.in-Some.is
+    (c.in_ok-number.ensures x of) in
     let l : c.in-Some.number < length c.args.gts.now.observers.items = inside of.flat own in
     let r = stands_some c.args.gts.now.observers.items c.in-Some.number l in
     let same = c.deref.ensures.value ∙ ap (λ (p : GtsParts). p.observers.items) c.parts-parts.ensures.parts in
@@ -24,26 +25,32 @@ returns-in_default-get c = λ x of n named.
 
 pub returns-in_default-value_of : goal.returns-in_default-value_of
 returns-in_default-value_of c = λ x of.
-    let own = subst (λ (o : Option ℕ). AnswersObserver x c.args.observer.now o) c.in-Some.is (c.in_ok-number.ensures x of) in
+    let own = subst (λ (o : Option ℕ). AnswersObserver x c.args.observer.now o) c.in-Some.is
+    (c.in_ok-number.ensures x of) in
     let same = c.deref.ensures.value ∙ ap (λ (p : GtsParts). p.observers.items) c.parts-parts.ensures.parts in
     let stands : Stands c.args.gts.now.observers.items c.in-Some.number c.in-Some-get.found.now
-    = found_stands _ _ c.in-Some.number c.in-Some-get.found.now same c.in-Some-get.ensures.lookup.0 c.in-Some-get.ensures.lookup.1 in
+    = found_stands _ _ c.in-Some.number c.in-Some-get.found.now same c.in-Some-get.ensures.lookup.0
+    c.in-Some-get.ensures.lookup.1 in
     let symbols = c.deref-2.ensures.value ∙ ap (λ (p : GtsParts). p.symbols.items) c.parts-parts.ensures.parts in
     record {
       number = c.in-Some.number;
       names = own;
       none = wants_none of.flat c.in-Some-get.found.now own stands
-          (subst (λ (z : List (List ℕ)). (v : Value) → Wants z c.args.value.now c.in-Some-get.found.now.kind v → ⊥) symbols c.in_default-value_of.ensures);
+          (subst (λ (z : List (List ℕ)). (v : Value) → Wants z c.args.value.now c.in-Some-get.found.now.kind v → ⊥)
+          symbols c.in_default-value_of.ensures);
     }
 
 pub returns : goal.returns
 returns c = λ x of.
-    let own = subst (λ (o : Option ℕ). AnswersObserver x c.args.observer.now o) c.in-Some.is (c.in_ok-number.ensures x of) in
+    let own = subst (λ (o : Option ℕ). AnswersObserver x c.args.observer.now o) c.in-Some.is
+    (c.in_ok-number.ensures x of) in
     let same = c.deref.ensures.value ∙ ap (λ (p : GtsParts). p.observers.items) c.parts-parts.ensures.parts in
     let stands : Stands c.args.gts.now.observers.items c.in-Some.number c.in-Some-get.found.now
-    = found_stands _ _ c.in-Some.number c.in-Some-get.found.now same c.in-Some-get.ensures.lookup.0 c.in-Some-get.ensures.lookup.1 in
+    = found_stands _ _ c.in-Some.number c.in-Some-get.found.now same c.in-Some-get.ensures.lookup.0
+    c.in-Some-get.ensures.lookup.1 in
     let symbols = c.deref-2.ensures.value ∙ ap (λ (p : GtsParts). p.symbols.items) c.parts-parts.ensures.parts in (
       is_wanted of.flat c.in-Some-get.found.now c.in-Some-value_of.value own stands
-          (subst (λ (z : List (List ℕ)). Wants z c.args.value.now c.in-Some-get.found.now.kind c.in-Some-value_of.value) symbols c.in-Some-value_of.ensures),
+          (subst (λ (z : List (List ℕ)). Wants z c.args.value.now c.in-Some-get.found.now.kind c.in-Some-value_of.value)
+          symbols c.in-Some-value_of.ensures),
       inside of.flat own,
     )

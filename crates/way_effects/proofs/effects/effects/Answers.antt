@@ -22,7 +22,8 @@ loop-way-preserved c =
     let id : WayId = get_or ids i no_way in
     let w : Way = c.index.result.now in
     let more : take (i + 1) ids ≡ take i ids ++ id ∷ [] = take_more ids i no_way c.loop-way-test.true in
-    let st : slice_get ways id.n ≡ Some w = read_stands ways id.n w (c.requires i id (stands_get ids i no_way c.loop-way-test.true)) c.index.ensures in
+    let st : slice_get ways id.n ≡ Some w =
+    read_stands ways id.n w (c.requires i id (stands_get ids i no_way c.loop-way-test.true)) c.index.ensures in
     c.in_ok-add_effects.ensures ∙ ap (λ (z : List Effect). z ++ body_effects t w.body) c.loop-way.invariant
     ∙ ap (λ (z : Option Way). taken_effects t ways (take i ids) ++ found_effects t z) (sym st)
     ∙ sym (taken_more t ways (take i ids) id) ∙ ap (taken_effects t ways) (sym more)

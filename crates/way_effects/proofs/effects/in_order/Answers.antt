@@ -6,4 +6,6 @@ use Rattle.way_effects.proofs.effects.in_order.Goals as goal
 
 pub returns-clause-ordered : goal.returns-clause-ordered
 returns-clause-ordered c =
-    IsNonDecreasingBy-from_sort (λ (e : Effect). e.target.n) _ (c.in_ok-sort_by_key.ensures.sorted (λ (e : Effect). e.target.n) (always_returns_same _ _ _ (λ a r f k. search (rules, of_calls))))
+    IsNonDecreasingBy-from_sort (λ (e : Effect). e.target.n) _
+    (c.in_ok-sort_by_key.ensures.sorted (λ (e : Effect). e.target.n)
+    (always_returns_same _ _ _ (λ a r f k. search (rules, of_calls))))

@@ -16,7 +16,8 @@ returns-then-clash c =
     let i = c.loop-place.place in
     let at : Stands effects i (get_or effects i no_effect) = stands_get effects i no_effect c.loop-place-test.true in
     let before : Stands effects (i - 1) (get_or effects (i - 1) no_effect) = stands_get effects (i - 1) no_effect (let h = c.loop-place-test.true in omega (arith, h)) in (
-      two_there effects (i - 1) i (get_or effects (i - 1) no_effect) (get_or effects i no_effect) before at c.if-clash.ensures,
+      two_there effects (i - 1) i (get_or effects (i - 1) no_effect) (get_or effects i no_effect) before
+          at c.if-clash.ensures,
       none_lesser effects c.requires i (get_or effects i no_effect) at c.loop-place.invariant,
     )
 

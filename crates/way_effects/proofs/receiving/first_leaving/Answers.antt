@@ -17,7 +17,14 @@ index-requires c =
     let effects = c.args.effects.now in
     let i = c.loop-effect.effect-index in
     let e : Effect = get_or effects i no_effect in
-    let x = c.requires.targets e.target.n e.value (record { place = i; effect = e; stands = stands_get effects i no_effect c.loop-effect-test.true; target = refl; value = refl }) in
+    let x = c.requires.targets e.target.n e.value
+    (record {
+      place = i;
+      effect = e;
+      stands = stands_get effects i no_effect c.loop-effect-test.true;
+      target = refl;
+      value = refl;
+    }) in
     let w = stands_within p.variables.items e.target.n x.variable x.stands in
     let count : vec_len p.variables ≡ length p.variables.items = omega (arith, p.variables.ok.0) in
     omega (arith, w, count)
@@ -29,9 +36,17 @@ leaves-requires c =
     let effects = c.args.effects.now in
     let i = c.loop-effect.effect-index in
     let e : Effect = get_or effects i no_effect in
-    let x = c.requires.targets e.target.n e.value (record { place = i; effect = e; stands = stands_get effects i no_effect c.loop-effect-test.true; target = refl; value = refl }) in
+    let x = c.requires.targets e.target.n e.value
+    (record {
+      place = i;
+      effect = e;
+      stands = stands_get effects i no_effect c.loop-effect-test.true;
+      target = refl;
+      value = refl;
+    }) in
     let w = stands_within p.variables.items e.target.n x.variable x.stands in
-    (c.requires.sound.variables e.target.n c.index.result.now (read_stands p.variables.items e.target.n c.index.result.now w c.index.ensures)).domain
+    (c.requires.sound.variables e.target.n c.index.result.now
+    (read_stands p.variables.items e.target.n c.index.result.now w c.index.ensures)).domain
 
 pub returns-then-leaves : goal.returns-then-leaves
 unfolding no_effect
@@ -41,7 +56,8 @@ returns-then-leaves c =
     let i = c.loop-effect.effect-index in
     let e : Effect = get_or effects i no_effect in
     let at : Stands effects i e = stands_get effects i no_effect c.loop-effect-test.true in
-    let x = c.requires.targets e.target.n e.value (record { place = i; effect = e; stands = at; target = refl; value = refl }) in
+    let x = c.requires.targets e.target.n e.value
+    (record { place = i; effect = e; stands = at; target = refl; value = refl }) in
     let w = stands_within p.variables.items e.target.n x.variable x.stands in
     let there : Stands p.variables.items e.target.n c.index.result.now = read_stands p.variables.items e.target.n c.index.result.now w c.index.ensures in (
       leaves_there p effects i e c.index.result.now at there c.if-leaves.ensures,
@@ -56,10 +72,13 @@ loop-effect-preserved c =
     let i = c.loop-effect.effect-index in
     let e : Effect = get_or effects i no_effect in
     let at : Stands effects i e = stands_get effects i no_effect c.loop-effect-test.true in
-    let x = c.requires.targets e.target.n e.value (record { place = i; effect = e; stands = at; target = refl; value = refl }) in
+    let x = c.requires.targets e.target.n e.value
+    (record { place = i; effect = e; stands = at; target = refl; value = refl }) in
     let w = stands_within p.variables.items e.target.n x.variable x.stands in
-    let there : Stands p.variables.items e.target.n c.index.result.now = read_stands p.variables.items e.target.n c.index.result.now w c.index.ensures in
+    let there : Stands p.variables.items e.target.n c.index.result.now =
+    read_stands p.variables.items e.target.n c.index.result.now w c.index.ensures in
     keep_next p effects i e c.index.result.now at there c.if-leaves.ensures c.loop-effect.invariant
 
 pub returns : goal.returns
-returns c = keeps_all c.args.parts.now c.args.effects.now c.loop-effect.effect-index c.loop-effect-test.false c.loop-effect.invariant
+returns c = keeps_all c.args.parts.now c.args.effects.now c.loop-effect.effect-index c.loop-effect-test.false
+    c.loop-effect.invariant

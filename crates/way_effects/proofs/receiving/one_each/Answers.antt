@@ -13,7 +13,9 @@ unfolding no_effect
 loop-effect-preserved c =
     let effects = c.args.effects.now in
     let i = c.loop-effect.effect-index in
-    each_next effects c.requires i (get_or effects i no_effect) (stands_get effects i no_effect c.loop-effect-test.true) c.loop-effect.new.items c.loop-effect.invariant c.add_one.new.new.items c.in_ok-add_one.ensures
+    each_next effects c.requires i (get_or effects i no_effect) (stands_get effects i no_effect c.loop-effect-test.true)
+    c.loop-effect.new.items c.loop-effect.invariant c.add_one.new.new.items c.in_ok-add_one.ensures
 
 pub returns : goal.returns
-returns c = each_all c.args.effects.now c.loop-effect.effect-index c.loop-effect.new.items c.loop-effect-test.false c.loop-effect.invariant
+returns c = each_all c.args.effects.now c.loop-effect.effect-index c.loop-effect.new.items c.loop-effect-test.false
+    c.loop-effect.invariant

@@ -12,7 +12,12 @@ use Rattle.way_effects.proofs.receiving.received.Goals as goal
 pub effects-requires : goal.effects-requires
 effects-requires c = λ k id s.
     taker_within c.args.parts.now c.requires.sound c.args.flags.now c.args.way.n c.requires.inside id.n
-    (c.in_ok-ways.ensures.sound id.n (record { place = k; way = id; stands = subst (λ (z : List WayId). Stands z k id) c.deref.ensures.value s; number = refl }))
+    (c.in_ok-ways.ensures.sound id.n (record {
+      place = k;
+      way = id;
+      stands = subst (λ (z : List WayId). Stands z k id) c.deref.ensures.value s;
+      number = refl;
+    }))
 
 pub returns-in-Some-clause-fault : goal.returns-in-Some-clause-fault
 returns-in-Some-clause-fault c = λ w m.
@@ -21,10 +26,15 @@ returns-in-Some-clause-fault c = λ w m.
     let ids = c.in_ok-ways.ways.items in
     let all = c.in_ok-all.all.items in
     let sorted = c.in_ok-effects.effects.items in
-    let is : all ≡ taken_effects t p.ways.items ids = c.in_ok-all.ensures ∙ ap (taken_effects t p.ways.items) c.deref.ensures.value in
-    let states : AreToState p sorted = moved_to_state p c.requires.sound t ids all sorted is c.in_ok-effects.ensures.same in
-    let found : IsLeastClash sorted (Some c.in-Some.variable) = subst (λ (z : List Effect). IsLeastClash z (Some c.in-Some.variable)) c.deref-2.ensures.value c.in-Some.ensures in
-    clash_step p c.requires.sound t c.requires.total c.args.flags.now c.requires.right c.args.way.n c.requires.can ids c.in_ok-ways.ensures all sorted is c.in_ok-effects.ensures.same w m states c.in-Some.variable found
+    let is : all ≡ taken_effects t p.ways.items ids =
+    c.in_ok-all.ensures ∙ ap (taken_effects t p.ways.items) c.deref.ensures.value in
+    let states : AreToState p sorted =
+    moved_to_state p c.requires.sound t ids all sorted is c.in_ok-effects.ensures.same in
+    let found : IsLeastClash sorted (Some c.in-Some.variable) =
+    subst (λ (z : List Effect). IsLeastClash z (Some c.in-Some.variable)) c.deref-2.ensures.value
+    c.in-Some.ensures in
+    clash_step p c.requires.sound t c.requires.total c.args.flags.now c.requires.right c.args.way.n c.requires.can ids
+    c.in_ok-ways.ensures all sorted is c.in_ok-effects.ensures.same w m states c.in-Some.variable found
 
 pub first_leaving-requires-clause-targets : goal.first_leaving-requires-clause-targets
 first_leaving-requires-clause-targets c =
@@ -33,8 +43,10 @@ first_leaving-requires-clause-targets c =
     let ids = c.in_ok-ways.ways.items in
     let all = c.in_ok-all.all.items in
     let sorted = c.in_ok-effects.effects.items in
-    let is : all ≡ taken_effects t p.ways.items ids = c.in_ok-all.ensures ∙ ap (taken_effects t p.ways.items) c.deref.ensures.value in
-    let states : AreToState p sorted = moved_to_state p c.requires.sound t ids all sorted is c.in_ok-effects.ensures.same in
+    let is : all ≡ taken_effects t p.ways.items ids =
+    c.in_ok-all.ensures ∙ ap (taken_effects t p.ways.items) c.deref.ensures.value in
+    let states : AreToState p sorted =
+    moved_to_state p c.requires.sound t ids all sorted is c.in_ok-effects.ensures.same in
     subst (λ (z : List Effect). AreToState p z) (sym c.deref-3.ensures.value) states
 
 pub returns-in-Some-first_leaving-clause-fault : goal.returns-in-Some-first_leaving-clause-fault
@@ -44,10 +56,15 @@ returns-in-Some-first_leaving-clause-fault c = λ w m.
     let ids = c.in_ok-ways.ways.items in
     let all = c.in_ok-all.all.items in
     let sorted = c.in_ok-effects.effects.items in
-    let is : all ≡ taken_effects t p.ways.items ids = c.in_ok-all.ensures ∙ ap (taken_effects t p.ways.items) c.deref.ensures.value in
-    let none : IsLeastClash sorted None = subst (λ (z : List Effect). IsLeastClash z None) c.deref-2.ensures.value c.in_default.ensures in
-    let found : IsLeastLeaving p sorted (Some c.in-Some-first_leaving.variable) = subst (λ (z : List Effect). IsLeastLeaving p z (Some c.in-Some-first_leaving.variable)) c.deref-3.ensures.value c.in-Some-first_leaving.ensures in
-    range_step p c.requires.sound t c.requires.total c.args.flags.now c.requires.right c.args.way.n c.requires.can ids c.in_ok-ways.ensures all sorted is c.in_ok-effects.ensures.same w m c.in-Some-first_leaving.variable none found
+    let is : all ≡ taken_effects t p.ways.items ids =
+    c.in_ok-all.ensures ∙ ap (taken_effects t p.ways.items) c.deref.ensures.value in
+    let none : IsLeastClash sorted None =
+    subst (λ (z : List Effect). IsLeastClash z None) c.deref-2.ensures.value c.in_default.ensures in
+    let found : IsLeastLeaving p sorted (Some c.in-Some-first_leaving.variable) =
+    subst (λ (z : List Effect). IsLeastLeaving p z (Some c.in-Some-first_leaving.variable))
+    c.deref-3.ensures.value c.in-Some-first_leaving.ensures in
+    range_step p c.requires.sound t c.requires.total c.args.flags.now c.requires.right c.args.way.n c.requires.can ids
+    c.in_ok-ways.ensures all sorted is c.in_ok-effects.ensures.same w m c.in-Some-first_leaving.variable none found
 
 pub returns-clause-new : goal.returns-clause-new
 returns-clause-new c =
@@ -56,10 +73,16 @@ returns-clause-new c =
     let ids = c.in_ok-ways.ways.items in
     let all = c.in_ok-all.all.items in
     let sorted = c.in_ok-effects.effects.items in
-    let is : all ≡ taken_effects t p.ways.items ids = c.in_ok-all.ensures ∙ ap (taken_effects t p.ways.items) c.deref.ensures.value in
-    let states : AreToState p sorted = moved_to_state p c.requires.sound t ids all sorted is c.in_ok-effects.ensures.same in
-    let keeps : IsLeastLeaving p sorted None = subst (λ (z : List Effect). IsLeastLeaving p z None) c.deref-3.ensures.value c.in_default-first_leaving.ensures in
-    let each : AreOneEach sorted c.in_ok-one_each.field-0.items = subst (λ (z : List Effect). AreOneEach z c.in_ok-one_each.field-0.items) c.deref-4.ensures.value c.in_ok-one_each.ensures in
+    let is : all ≡ taken_effects t p.ways.items ids =
+    c.in_ok-all.ensures ∙ ap (taken_effects t p.ways.items) c.deref.ensures.value in
+    let states : AreToState p sorted =
+    moved_to_state p c.requires.sound t ids all sorted is c.in_ok-effects.ensures.same in
+    let keeps : IsLeastLeaving p sorted None =
+    subst (λ (z : List Effect). IsLeastLeaving p z None) c.deref-3.ensures.value
+    c.in_default-first_leaving.ensures in
+    let each : AreOneEach sorted c.in_ok-one_each.field-0.items =
+    subst (λ (z : List Effect). AreOneEach z c.in_ok-one_each.field-0.items) c.deref-4.ensures.value
+    c.in_ok-one_each.ensures in
     new_values p sorted c.in_ok-one_each.field-0.items states keeps each
 
 pub returns-clause-state : goal.returns-clause-state
@@ -69,11 +92,18 @@ returns-clause-state c =
     let ids = c.in_ok-ways.ways.items in
     let all = c.in_ok-all.all.items in
     let sorted = c.in_ok-effects.effects.items in
-    let is : all ≡ taken_effects t p.ways.items ids = c.in_ok-all.ensures ∙ ap (taken_effects t p.ways.items) c.deref.ensures.value in
-    let states : AreToState p sorted = moved_to_state p c.requires.sound t ids all sorted is c.in_ok-effects.ensures.same in
-    let keeps : IsLeastLeaving p sorted None = subst (λ (z : List Effect). IsLeastLeaving p z None) c.deref-3.ensures.value c.in_default-first_leaving.ensures in
-    let each : AreOneEach sorted c.in_ok-one_each.field-0.items = subst (λ (z : List Effect). AreOneEach z c.in_ok-one_each.field-0.items) c.deref-4.ensures.value c.in_ok-one_each.ensures in
-    written_state p t c.in_ok-one_each.field-0.items c.requires.total (new_values p sorted c.in_ok-one_each.field-0.items states keeps each)
+    let is : all ≡ taken_effects t p.ways.items ids =
+    c.in_ok-all.ensures ∙ ap (taken_effects t p.ways.items) c.deref.ensures.value in
+    let states : AreToState p sorted =
+    moved_to_state p c.requires.sound t ids all sorted is c.in_ok-effects.ensures.same in
+    let keeps : IsLeastLeaving p sorted None =
+    subst (λ (z : List Effect). IsLeastLeaving p z None) c.deref-3.ensures.value
+    c.in_default-first_leaving.ensures in
+    let each : AreOneEach sorted c.in_ok-one_each.field-0.items =
+    subst (λ (z : List Effect). AreOneEach z c.in_ok-one_each.field-0.items) c.deref-4.ensures.value
+    c.in_ok-one_each.ensures in
+    written_state p t c.in_ok-one_each.field-0.items c.requires.total
+    (new_values p sorted c.in_ok-one_each.field-0.items states keeps each)
 
 pub returns-clause-exactly : goal.returns-clause-exactly
 returns-clause-exactly c = λ w m.
@@ -82,10 +112,15 @@ returns-clause-exactly c = λ w m.
     let ids = c.in_ok-ways.ways.items in
     let all = c.in_ok-all.all.items in
     let sorted = c.in_ok-effects.effects.items in
-    let is : all ≡ taken_effects t p.ways.items ids = c.in_ok-all.ensures ∙ ap (taken_effects t p.ways.items) c.deref.ensures.value in
-    let none : IsLeastClash sorted None = subst (λ (z : List Effect). IsLeastClash z None) c.deref-2.ensures.value c.in_default.ensures in
-    let each : AreOneEach sorted c.in_ok-one_each.field-0.items = subst (λ (z : List Effect). AreOneEach z c.in_ok-one_each.field-0.items) c.deref-4.ensures.value c.in_ok-one_each.ensures in
-    exactly p c.requires.sound t c.requires.total c.args.flags.now c.requires.right c.args.way.n c.requires.can ids c.in_ok-ways.ensures all sorted is c.in_ok-effects.ensures.same w m none c.in_ok-one_each.field-0.items each
+    let is : all ≡ taken_effects t p.ways.items ids =
+    c.in_ok-all.ensures ∙ ap (taken_effects t p.ways.items) c.deref.ensures.value in
+    let none : IsLeastClash sorted None =
+    subst (λ (z : List Effect). IsLeastClash z None) c.deref-2.ensures.value c.in_default.ensures in
+    let each : AreOneEach sorted c.in_ok-one_each.field-0.items =
+    subst (λ (z : List Effect). AreOneEach z c.in_ok-one_each.field-0.items) c.deref-4.ensures.value
+    c.in_ok-one_each.ensures in
+    exactly p c.requires.sound t c.requires.total c.args.flags.now c.requires.right c.args.way.n c.requires.can ids
+    c.in_ok-ways.ensures all sorted is c.in_ok-effects.ensures.same w m none c.in_ok-one_each.field-0.items each
 
 pub returns-clause-received : goal.returns-clause-received
 returns-clause-received c = λ w m.
@@ -94,8 +129,16 @@ returns-clause-received c = λ w m.
     let ids = c.in_ok-ways.ways.items in
     let all = c.in_ok-all.all.items in
     let sorted = c.in_ok-effects.effects.items in
-    let is : all ≡ taken_effects t p.ways.items ids = c.in_ok-all.ensures ∙ ap (taken_effects t p.ways.items) c.deref.ensures.value in
-    let none : IsLeastClash sorted None = subst (λ (z : List Effect). IsLeastClash z None) c.deref-2.ensures.value c.in_default.ensures in
-    let keeps : IsLeastLeaving p sorted None = subst (λ (z : List Effect). IsLeastLeaving p z None) c.deref-3.ensures.value c.in_default-first_leaving.ensures in
-    let each : AreOneEach sorted c.in_ok-one_each.field-0.items = subst (λ (z : List Effect). AreOneEach z c.in_ok-one_each.field-0.items) c.deref-4.ensures.value c.in_ok-one_each.ensures in
-    ready p c.requires.sound t c.requires.total c.args.flags.now c.requires.right c.args.way.n c.requires.can ids c.in_ok-ways.ensures all sorted is c.in_ok-effects.ensures.same w m none keeps c.in_ok-one_each.field-0.items each
+    let is : all ≡ taken_effects t p.ways.items ids =
+    c.in_ok-all.ensures ∙ ap (taken_effects t p.ways.items) c.deref.ensures.value in
+    let none : IsLeastClash sorted None =
+    subst (λ (z : List Effect). IsLeastClash z None) c.deref-2.ensures.value c.in_default.ensures in
+    let keeps : IsLeastLeaving p sorted None =
+    subst (λ (z : List Effect). IsLeastLeaving p z None) c.deref-3.ensures.value
+    c.in_default-first_leaving.ensures in
+    let each : AreOneEach sorted c.in_ok-one_each.field-0.items =
+    subst (λ (z : List Effect). AreOneEach z c.in_ok-one_each.field-0.items) c.deref-4.ensures.value
+    c.in_ok-one_each.ensures in
+    ready p c.requires.sound t c.requires.total c.args.flags.now c.requires.right c.args.way.n c.requires.can ids
+    c.in_ok-ways.ensures all sorted is c.in_ok-effects.ensures.same w m none keeps c.in_ok-one_each.field-0.items
+    each

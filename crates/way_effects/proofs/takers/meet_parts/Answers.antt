@@ -23,8 +23,10 @@ loop-must-preserved c =
     (elim c.if-takes_part.branch [
       | then-takes_part+in_ok-meet w ↦
           subst (λ (z : Met). Meets (IsTaken (take i ps ++ q ∷ []) flags) old z) (sym w.met-is)
-          (meets_one flags (take i ps) q old c.loop-must.met w.meet.new.met c.loop-must.invariant (sym c.takes_part.ensures ∙ w.if-takes_part.true) w.in_ok-meet.ensures)
+          (meets_one flags (take i ps) q old c.loop-must.met w.meet.new.met c.loop-must.invariant
+          (sym c.takes_part.ensures ∙ w.if-takes_part.true) w.in_ok-meet.ensures)
       | else-takes_part w ↦
           subst (λ (z : Met). Meets (IsTaken (take i ps ++ q ∷ []) flags) old z) (sym w.met-is)
-          (meets_past flags (take i ps) q old c.loop-must.met c.loop-must.invariant (sym c.takes_part.ensures ∙ w.if-takes_part.false))
+          (meets_past flags (take i ps) q old c.loop-must.met c.loop-must.invariant
+          (sym c.takes_part.ensures ∙ w.if-takes_part.false))
     ])

@@ -6,7 +6,8 @@ use Rattle.way_effects.proofs.Meeting.{taking_first, taking_next, taking_all, me
 use Rattle.way_effects.proofs.takers.takers.Goals as goal
 
 pub loop-done-init : goal.loop-done-init
-loop-done-init c = taking_first c.args.parts.now c.requires.sound c.args.flags.now c.args.way.n c.requires.inside c.args.way c.in_ok-met.met refl c.in_ok-met.ensures
+loop-done-init c = taking_first c.args.parts.now c.requires.sound c.args.flags.now c.args.way.n c.requires.inside
+    c.args.way c.in_ok-met.met refl c.in_ok-met.ensures
 
 pub index-requires : goal.index-requires
 index-requires c =
@@ -17,7 +18,8 @@ index-requires c =
     let count : c.len.result ≡ length met.ways.items = c.len.ensures ∙ (let h : vec_len met.ways ≡ length met.ways.items = omega (arith, met.ways.ok.0) in h) in
     let below : done < length met.ways.items = (let h = c.loop-done-test.true in omega (arith, h, count)) in
     let at : Stands met.ways.items done id = read_stands met.ways.items done id below c.index-next.ensures in
-    let within = met_within p c.requires.sound c.args.flags.now c.args.way.n c.requires.inside done met done id c.loop-done.invariant at in
+    let within = met_within p c.requires.sound c.args.flags.now c.args.way.n c.requires.inside done met done id
+    c.loop-done.invariant at in
     let ways : vec_len p.ways ≡ length p.ways.items = omega (arith, p.ways.ok.0) in
     omega (arith, within, ways)
 
@@ -28,7 +30,8 @@ loop-done-smaller c =
     let done = c.loop-done.done in
     let count : c.len.result ≡ length met.ways.items = c.len.ensures ∙ (let h : vec_len met.ways ≡ length met.ways.items = omega (arith, met.ways.ok.0) in h) in
     let below : done < length met.ways.items = (let h = c.loop-done-test.true in omega (arith, h, count)) in
-    let few = few_met p c.requires.sound c.args.flags.now c.args.way.n c.requires.inside done met c.loop-done.invariant in
+    let few = few_met p c.requires.sound c.args.flags.now c.args.way.n c.requires.inside done met
+    c.loop-done.invariant in
     let smaller : length p.ways.items - (done + 1) < length p.ways.items - done = omega (arith, below, few) in
     smaller
 
@@ -41,8 +44,11 @@ loop-done-preserved c =
     let count : c.len.result ≡ length met.ways.items = c.len.ensures ∙ (let h : vec_len met.ways ≡ length met.ways.items = omega (arith, met.ways.ok.0) in h) in
     let below : done < length met.ways.items = (let h = c.loop-done-test.true in omega (arith, h, count)) in
     let at : Stands met.ways.items done id = read_stands met.ways.items done id below c.index-next.ensures in
-    let within = met_within p c.requires.sound c.args.flags.now c.args.way.n c.requires.inside done met done id c.loop-done.invariant at in
-    taking_next p c.requires.sound c.args.flags.now c.args.way.n c.requires.inside done met c.meet_parts.new.met id c.index.result.now at (read_stands p.ways.items id.n c.index.result.now within c.index.ensures) c.in_ok-meet_parts.ensures c.loop-done.invariant
+    let within = met_within p c.requires.sound c.args.flags.now c.args.way.n c.requires.inside done met done id
+    c.loop-done.invariant at in
+    taking_next p c.requires.sound c.args.flags.now c.args.way.n c.requires.inside done met c.meet_parts.new.met id
+    c.index.result.now at (read_stands p.ways.items id.n c.index.result.now within c.index.ensures)
+    c.in_ok-meet_parts.ensures c.loop-done.invariant
 
 pub returns : goal.returns
 returns c =

@@ -17,9 +17,12 @@ loop-way-preserved c =
     let i = c.loop-way.way-index in
     let id : WayId = get_or order i (record { n = 0; of = record {} }) in
     let at : Stands order i id = stands_get order i (record { n = 0; of = record {} }) c.loop-way-test.true in
-    renew_more p c.requires.sound order c.requires.order c.args.values.now c.requires.total i c.loop-way.flags.items id c.index.result.now c.can_fire-can.result c.loop-way.invariant at
+    renew_more p c.requires.sound order c.requires.order c.args.values.now c.requires.total i c.loop-way.flags.items id
+    c.index.result.now c.can_fire-can.result c.loop-way.invariant at
     (read_stands p.ways.items id.n c.index.result.now (c.requires.order.inside i id at) c.index.ensures)
-    (c.can_fire-can.ensures ∙ ap (λ (z : List Bool). can_by c.args.values.now z c.index.result.now.body) c.deref.ensures.value)
+    (c.can_fire-can.ensures ∙ ap (λ (z : List Bool). can_by c.args.values.now z c.index.result.now.body)
+    c.deref.ensures.value)
 
 pub returns : goal.returns
-returns c = renewed c.args.parts.now c.requires.sound c.args.order.now c.requires.order c.args.values.now c.requires.total c.loop-way.way-index c.loop-way.flags.items c.loop-way-test.false c.loop-way.invariant
+returns c = renewed c.args.parts.now c.requires.sound c.args.order.now c.requires.order c.args.values.now
+    c.requires.total c.loop-way.way-index c.loop-way.flags.items c.loop-way-test.false c.loop-way.invariant

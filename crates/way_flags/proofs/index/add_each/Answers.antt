@@ -19,7 +19,9 @@ loop-part-preserved c =
     let q = get_or ps i no_part in
     let more : take (i + 1) ps ≡ take i ps ++ q ∷ [] = take_more ps i no_part c.loop-part-test.true in
     subst (λ (z : List (Bool × WayId)). AddsParts z c.args.n c.args.pairs.now.items c.push.new.self.items) (sym more)
-    (parts_more (take i ps) q c.args.n c.args.pairs.now.items c.loop-part.pairs.items c.push.new.self.items c.loop-part.invariant c.in_ok-push.ensures.items)
+    (parts_more (take i ps) q c.args.n c.args.pairs.now.items c.loop-part.pairs.items c.push.new.self.items
+    c.loop-part.invariant c.in_ok-push.ensures.items)
 
 pub returns : goal.returns
-returns c = subst (λ (z : List (Bool × WayId)). AddsParts z c.args.n c.args.pairs.now.items c.loop-part.pairs.items) (take_all c.loop-part.part-index c.args.parts.now c.loop-part-test.false) c.loop-part.invariant
+returns c = subst (λ (z : List (Bool × WayId)). AddsParts z c.args.n c.args.pairs.now.items c.loop-part.pairs.items)
+    (take_all c.loop-part.part-index c.args.parts.now c.loop-part-test.false) c.loop-part.invariant

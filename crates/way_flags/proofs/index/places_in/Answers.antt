@@ -22,15 +22,18 @@ loop-place-preserved c =
       | then-n-len h ↦
           let same = ap (λ (z : Vec ℕ Global). z.items) h.places-is in (
             ap length same ∙ length-set c.loop-place.places.items id.n i ∙ inv.0,
-            subst (λ (z : List ℕ). ArePlacedUpTo order (i + 1) z) (sym same) (places_more order i id c.loop-place.places.items at inv.1),
+            subst (λ (z : List ℕ). ArePlacedUpTo order (i + 1) z) (sym same)
+                (places_more order i id c.loop-place.places.items at inv.1),
           )
       | else-n-len h ↦
           let same = ap (λ (z : Vec ℕ Global). z.items) h.places-is in
           let out : length c.loop-place.places.items ≤ id.n = (let e = h.if-n-len.false in omega (arith, e, c.len.ensures)) in (
             ap length same ∙ inv.0,
-            subst (λ (z : List ℕ). ArePlacedUpTo order (i + 1) z) (sym same) (places_past order i id c.loop-place.places.items at out inv.1),
+            subst (λ (z : List ℕ). ArePlacedUpTo order (i + 1) z) (sym same)
+                (places_past order i id c.loop-place.places.items at out inv.1),
           )
     ]
 
 pub returns-clause-placed : goal.returns-clause-placed
-returns-clause-placed c = places_all c.args.order.now c.loop-place.place c.loop-place.places.items c.loop-place-test.false c.loop-place.invariant.1
+returns-clause-placed c = places_all c.args.order.now c.loop-place.place c.loop-place.places.items
+    c.loop-place-test.false c.loop-place.invariant.1

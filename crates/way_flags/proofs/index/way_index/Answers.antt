@@ -9,7 +9,10 @@ returns c =
     record {
       order = c.in_ok-order.ensures;
       long = long;
-      placed = all_placed p c.in_ok-order.order.items c.deref.result.now c.in_ok-places.places.items c.deref.ensures.value c.in_ok-order.ensures long c.in_ok-places.ensures.placed;
-      guards = guards_moved p c.in_ok-named.named.items c.in_ok-guards.guards.pairs.items c.in_ok-named.ensures (same_pairs c.in_ok-named.named.items c.in_ok-guards.guards.pairs.items c.in_ok-guards.ensures);
-      above = above_moved p c.in_ok-having.having.items c.in_ok-above.above.pairs.items c.in_ok-having.ensures (same_pairs c.in_ok-having.having.items c.in_ok-above.above.pairs.items c.in_ok-above.ensures);
+      placed = all_placed p c.in_ok-order.order.items c.deref.result.now c.in_ok-places.places.items
+          c.deref.ensures.value c.in_ok-order.ensures long c.in_ok-places.ensures.placed;
+      guards = guards_moved p c.in_ok-named.named.items c.in_ok-guards.guards.pairs.items c.in_ok-named.ensures
+          (same_pairs c.in_ok-named.named.items c.in_ok-guards.guards.pairs.items c.in_ok-guards.ensures);
+      above = above_moved p c.in_ok-having.having.items c.in_ok-above.above.pairs.items c.in_ok-having.ensures
+          (same_pairs c.in_ok-having.having.items c.in_ok-above.above.pairs.items c.in_ok-above.ensures);
     }

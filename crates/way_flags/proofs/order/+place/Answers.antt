@@ -10,7 +10,8 @@ use Rattle.way_flags.proofs.order.+place.Goals.{place_parts-then-not-is_set+in_o
 pub place_parts-place-requires : goal.place_parts-place-requires
 place_parts-place-requires t c =
     let d = c.requires.deep in
-    let tree = part_low c.args.parts.now c.args.ways.now d.0 c.args.left c.loop-way.way-index _ d.1 d.2 (stands_get c.args.ways.now c.loop-way.way-index _ c.loop-way-test.true) in
+    let tree = part_low c.args.parts.now c.args.ways.now d.0 c.args.left c.loop-way.way-index _ d.1 d.2
+    (stands_get c.args.ways.now c.loop-way.way-index _ c.loop-way-test.true) in
     (omega arith, (tree, c.loop-way.invariant.0))
 
 pub place_parts-loop-way-preserved : goal.place_parts-loop-way-preserved
@@ -23,13 +24,24 @@ place_parts-loop-way-preserved t c =
       | place_parts-then-not-is_set+in_ok-place w ↦
           (let new = w.place.new.placing.placed.items in
           let e = w.in_ok-place.ensures in
-          subst (λ (z : Placing). IsPlacing c.args.parts.now z.order.items z.placed.items × Keeps first z.placed.items × ArePlaced z.placed.items ways (i + 1)) (sym w.placing-is)
-          (e.order, keeps_on first mid new c.loop-way.invariant.1 e.keeps, placed_more first mid new ways i _ (stands_get ways i _ c.loop-way-test.true) e.keeps e.placed c.loop-way.invariant.2))
+          subst (λ (z : Placing). IsPlacing c.args.parts.now z.order.items z.placed.items × Keeps first z.placed.items
+          × ArePlaced z.placed.items ways (i + 1)) (sym w.placing-is) (
+            e.order,
+            keeps_on first mid new c.loop-way.invariant.1 e.keeps,
+            placed_more first mid new ways i _
+                (stands_get ways i _ c.loop-way-test.true) e.keeps e.placed c.loop-way.invariant.2,
+          ))
       | place_parts-else-not-is_set w ↦
           (let set : flag_at mid (get_or ways i (false, record { n = 0; of = record {} })).1.n ≡ true = ap (λ (z : List Bool). flag_at z (get_or ways i (false, record { n = 0; of = record {} })).1.n) (sym c.deref.ensures.value) ∙ sym c.is_set.ensures ∙ w.if-not-is_set.false in
-          subst (λ (z : Placing). IsPlacing c.args.parts.now z.order.items z.placed.items × Keeps first z.placed.items × ArePlaced z.placed.items ways (i + 1)) (sym w.placing-is)
-          (c.loop-way.invariant.0, c.loop-way.invariant.1, placed_more first mid mid ways i _ (stands_get ways i _ c.loop-way-test.true) (keeps_same mid) set c.loop-way.invariant.2))
+          subst (λ (z : Placing). IsPlacing c.args.parts.now z.order.items z.placed.items × Keeps first z.placed.items
+          × ArePlaced z.placed.items ways (i + 1)) (sym w.placing-is) (
+            c.loop-way.invariant.0,
+            c.loop-way.invariant.1,
+            placed_more first mid mid ways i _
+                (stands_get ways i _ c.loop-way-test.true) (keeps_same mid) set c.loop-way.invariant.2,
+          ))
     ]
 
 pub place_parts-returns-clause-placed : goal.place_parts-returns-clause-placed
-place_parts-returns-clause-placed t c = each_set c.loop-way.placing.placed.items c.args.ways.now c.loop-way.way-index (omega arith) c.loop-way.invariant.2
+place_parts-returns-clause-placed t c =
+    each_set c.loop-way.placing.placed.items c.args.ways.now c.loop-way.way-index (omega arith) c.loop-way.invariant.2

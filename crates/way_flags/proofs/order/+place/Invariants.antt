@@ -10,4 +10,6 @@ decreases-place_parts l = 2 * l.left + 1
 
 abbrev pub invariant-place_parts-loop-way : goal.invariant-place_parts-loop-way
 invariant-place_parts-loop-way l =
-    IsPlacing l.parts l.placing.order.items l.placing.placed.items × Keeps l.initial.placing.placed.items l.placing.placed.items × ArePlaced l.placing.placed.items l.ways l.way-index
+    IsPlacing l.parts l.placing.order.items l.placing.placed.items
+    × Keeps l.initial.placing.placed.items l.placing.placed.items
+    × ArePlaced l.placing.placed.items l.ways l.way-index

@@ -12,7 +12,9 @@ returns-clause-order c =
     let placed = c.args.placing.now.placed.items in
     let order = c.args.placing.now.order.items in
     let id = c.args.way in
-    let fresh : flag_at placed id.n ≡ false = ap (λ (z : List Bool). flag_at z id.n) (sym c.deref.ensures.value) ∙ sym c.is_set.ensures ∙ c.if-is_set.false in
+    let fresh : flag_at placed id.n ≡ false =
+    ap (λ (z : List Bool). flag_at z id.n) (sym c.deref.ensures.value) ∙ sym c.is_set.ensures
+    ∙ c.if-is_set.false in
     let grown : c.push.new.self.items ≡ order ++ id ∷ [] = c.in_ok-push.ensures.items in
     let there = stands_some p.ways.items id.n c.requires.within in
     subst (λ (z : List WayId). IsPlacing p z (set placed id.n true)) (sym grown)
@@ -22,4 +24,5 @@ pub returns-clause-keeps : goal.returns-clause-keeps
 returns-clause-keeps c = record { keeps = λ n h. flag_kept c.args.placing.now.placed.items c.args.way.n n h }
 
 pub returns-clause-placed : goal.returns-clause-placed
-returns-clause-placed c = flag_same c.args.placing.now.placed.items c.args.way.n true (omega (arith, c.requires.within, c.requires.order.long))
+returns-clause-placed c = flag_same c.args.placing.now.placed.items c.args.way.n true
+    (omega (arith, c.requires.within, c.requires.order.long))

@@ -11,4 +11,5 @@ place-requires-clause-deep c =
     subst (λ (n : ℕ). HasTree p n c.len-most.result) (sym at) (tree.0, tree.1, omega (arith, tree.2))
 
 pub returns : goal.returns
-returns c = all_ordered c.args.parts.now c.loop-n.placing.order.items c.loop-n.placing.placed.items c.loop-n.n (omega arith) c.loop-n.invariant.0 c.loop-n.invariant.1
+returns c = all_ordered c.args.parts.now c.loop-n.placing.order.items c.loop-n.placing.placed.items c.loop-n.n
+    (omega arith) c.loop-n.invariant.0 c.loop-n.invariant.1

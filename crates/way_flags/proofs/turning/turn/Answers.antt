@@ -16,7 +16,9 @@ loop-way-preserved c =
     let i = c.loop-way.way-index in
     let w = get_or ws i no_way in
     let more : take (i + 1) ws ≡ take i ws ++ w ∷ [] = take_more ws i no_way c.loop-way-test.true in
-    c.turn_one.ensures ∙ ap (λ (z : List Bool). flip z w.n) c.loop-way.invariant ∙ sym (ap (turned first) more ∙ turned_last first (take i ws) w)
+    c.turn_one.ensures ∙ ap (λ (z : List Bool). flip z w.n) c.loop-way.invariant
+    ∙ sym (ap (turned first) more ∙ turned_last first (take i ws) w)
 
 pub returns : goal.returns
-returns c = c.loop-way.invariant ∙ ap (turned c.args.flags.now.items) (take_all c.loop-way.way-index c.args.ways.now c.loop-way-test.false)
+returns c = c.loop-way.invariant ∙ ap (turned c.args.flags.now.items)
+    (take_all c.loop-way.way-index c.args.ways.now c.loop-way-test.false)

@@ -11,15 +11,22 @@ is_way : (ways : List ℕ) (i : ℕ) → i < length ways → IsOneOf ways (get_o
 is_way ways i h = record { place = i; stands = stands_get ways i 0 h }
 
 nothing_more : (places : List ℕ) (P : ℕ → Type 0) (q : ℕ) → (P q) ↔ (P q ⊎ IsPlaceOf places (IsOneOf []) q)
-nothing_more places P q = ((λ h. inl h), (λ h. elim h [ inl k ↦ k | inr r ↦ absurd (stands_none r.has.place r.n r.has.stands) ]))
+nothing_more places P q = (
+  (λ h. inl h),
+  (λ h. elim h [ inl k ↦ k | inr r ↦ absurd (stands_none r.has.place r.n r.has.stands) ]),
+)
 
-one_more : (places ways : List ℕ) (w place q : ℕ) (First Old New : ℕ → Type 0) → Stands places w place → ((q : ℕ) → (Old q ↔ (First q ⊎ IsPlaceOf places (IsOneOf ways) q)))
+one_more : (places ways : List ℕ) (w place q : ℕ) (First Old New : ℕ → Type 0) → Stands places w place
+    → ((q : ℕ) → (Old q ↔ (First q ⊎ IsPlaceOf places (IsOneOf ways) q)))
     → ((q : ℕ) → (New q ↔ (Old q ⊎ (q ≡ place)))) → (New q ↔ (First q ⊎ IsPlaceOf places (IsOneOf (ways ++ w ∷ [])) q))
 one_more places ways w place q First Old New st before adds = (there, back)
   where
     there : New q → First q ⊎ IsPlaceOf places (IsOneOf (ways ++ w ∷ [])) q
     there h = elim ((adds q).0 h) [
-      | inl o ↦ (elim ((before q).0 o) [ inl f ↦ inl f | inr r ↦ inr (record { n = r.n; has = one_left ways (w ∷ []) r.n r.has; stands = r.stands }) ])
+      | inl o ↦ (elim ((before q).0 o) [
+        | inl f ↦ inl f
+        | inr r ↦ inr (record { n = r.n; has = one_left ways (w ∷ []) r.n r.has; stands = r.stands })
+      ])
       | inr e ↦ inr (record { n = w; has = one_last ways w; stands = subst (λ (z : ℕ). Stands places w z) (sym e) st })
     ]
 
@@ -28,7 +35,8 @@ one_more places ways w place q First Old New st before adds = (there, back)
       | inl f ↦ (adds q).1 (inl ((before q).1 (inl f)))
       | inr r ↦ (elim (last_cases ways w r.n r.has) [
         | inl o ↦ (adds q).1 (inl ((before q).1 (inr (record { n = r.n; has = o; stands = r.stands }))))
-        | inr e ↦ (adds q).1 (inr (stands_one places w q place (subst (λ (z : ℕ). Stands places z q) (sym e) r.stands) st))
+        | inr e ↦ (adds q).1 (inr (stands_one places w q place (subst (λ (z : ℕ). Stands places z q) (sym e) r.stands)
+            st))
       ])
     ]
 
@@ -36,7 +44,8 @@ pub loop-way-init : goal.loop-way-init
 loop-way-init c = λ q. nothing_more c.args.places.now (WaitsAt c.args.waiting.now) q
 
 pub bounds-places-way : goal.bounds-places-way
-bounds-places-way c = c.requires (get_or c.args.ways.now c.loop-way.way-index 0) (is_way c.args.ways.now c.loop-way.way-index c.loop-way-test.true)
+bounds-places-way c = c.requires (get_or c.args.ways.now c.loop-way.way-index 0)
+    (is_way c.args.ways.now c.loop-way.way-index c.loop-way-test.true)
 
 pub loop-way-preserved : goal.loop-way-preserved
 loop-way-preserved c =
@@ -46,9 +55,13 @@ loop-way-preserved c =
     let places = c.args.places.now in
     let more : take (i + 1) ws ≡ take i ws ++ w ∷ [] = take_more ws i 0 c.loop-way-test.true in
     let below : w < length places = c.requires w (is_way ws i c.loop-way-test.true) in
-    λ q. subst (λ (z : List ℕ). WaitsAt c.add_place.new.waiting q ↔ (WaitsAt c.args.waiting.now q ⊎ IsPlaceOf places (IsOneOf z) q)) (sym more)
-    (one_more places (take i ws) w _ q (WaitsAt c.args.waiting.now) (WaitsAt c.loop-way.waiting) (WaitsAt c.add_place.new.waiting)
+    λ q. subst (λ (z : List ℕ). WaitsAt c.add_place.new.waiting q
+    ↔ (WaitsAt c.args.waiting.now q ⊎ IsPlaceOf places (IsOneOf z) q)) (sym more)
+    (one_more places (take i ws) w _ q (WaitsAt c.args.waiting.now) (WaitsAt c.loop-way.waiting)
+    (WaitsAt c.add_place.new.waiting)
     (stands_get places w 0 below) c.loop-way.invariant c.in_ok-add_place.ensures)
 
 pub returns : goal.returns
-returns c = λ q. subst (λ (z : List ℕ). WaitsAt c.loop-way.waiting q ↔ (WaitsAt c.args.waiting.now q ⊎ IsPlaceOf c.args.places.now (IsOneOf z) q)) (take_all c.loop-way.way-index c.args.ways.now c.loop-way-test.false) (c.loop-way.invariant q)
+returns c = λ q. subst (λ (z : List ℕ). WaitsAt c.loop-way.waiting q
+    ↔ (WaitsAt c.args.waiting.now q ⊎ IsPlaceOf c.args.places.now (IsOneOf z) q))
+    (take_all c.loop-way.way-index c.args.ways.now c.loop-way-test.false) (c.loop-way.invariant q)

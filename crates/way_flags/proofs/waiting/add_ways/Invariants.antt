@@ -4,4 +4,5 @@ use Rattle.way_flags.specs.Renewing.{WaitsAt, IsPlaceOf}
 use Rattle.way_flags.proofs.waiting.add_ways.Given as goal
 
 abbrev pub invariant-loop-way : goal.invariant-loop-way
-invariant-loop-way l = (q : ℕ) → WaitsAt l.waiting q ↔ (WaitsAt l.initial.waiting q ⊎ IsPlaceOf l.places (IsOneOf (take l.way-index l.ways)) q)
+invariant-loop-way l = (q : ℕ) → WaitsAt l.waiting q
+    ↔ (WaitsAt l.initial.waiting q ⊎ IsPlaceOf l.places (IsOneOf (take l.way-index l.ways)) q)

@@ -13,4 +13,7 @@ pub returns-then-wide : goal.returns-then-wide
 returns-then-wide c = λ p a. by_value (holds _ _ c.if-wide.true (c.in_ok-wide.ensures p a))
 
 pub returns : goal.returns
-returns c = says_as c.args.domains.now.rows.items _ _ c.is_some_wide.result (λ p a b h. assign_wide p c.args.assign.now b (fails _ _ c.if-wide.false (c.in_ok-wide.ensures p a)) (subst (λ (z : List (Expr VarId × Bool)). IsAnswer b (IsSomeWide p z)) c.deref.ensures.value h)) c.is_some_wide.ensures
+returns c = says_as c.args.domains.now.rows.items _ _ c.is_some_wide.result
+    (λ p a b h. assign_wide p c.args.assign.now b (fails _ _ c.if-wide.false (c.in_ok-wide.ensures p a))
+    (subst (λ (z : List (Expr VarId × Bool)). IsAnswer b (IsSomeWide p z)) c.deref.ensures.value h))
+    c.is_some_wide.ensures

@@ -10,4 +10,6 @@ use Rattle.domain_rows.specs.Rows.{AreDomains}
 use Rattle.wide_values.proofs.searches.is_some_wide.Given as goal
 
 abbrev pub invariant-loop-test : goal.invariant-loop-test
-invariant-loop-test l = (p : GtsParts) → AreDomains p (length p.variables.items) l.domains.rows.items → (x : Expr VarId × Bool) → IsOneOf (take l.test-index l.conditions) x → IsWide (Allows (net_of p)) 64 (out-Expr ℕ (numbered x.0)) → ⊥
+invariant-loop-test l = (p : GtsParts) → AreDomains p (length p.variables.items) l.domains.rows.items
+    → (x : Expr VarId × Bool) → IsOneOf (take l.test-index l.conditions) x
+    → IsWide (Allows (net_of p)) 64 (out-Expr ℕ (numbered x.0)) → ⊥

@@ -10,48 +10,93 @@ use Rattle.zdd_ops.proofs.halving.+join_in.Goals as goal
 
 pub returns-in-Some-recall-clause-drawn : goal.returns-in-Some-recall-clause-drawn
 returns-in-Some-recall-clause-drawn t c =
-    let i = c.requires.sound.each (Joined c.args.join c.pass_for-left.result.f c.pass_for-left.result.g) c.in-Some-recall.number (sym c.recall.ensures ∙ c.in-Some-recall.is) in
-    join_passed c.args.store.now c.args.store.now c.args.join c.args.f.n c.args.g.n c.pass_for-left.result _ c.pass_for-left.ensures (Draws-stays _ _ c.args.store.now c.in-Some-recall.number i.in_store i.is)
+    let i = c.requires.sound.each (Joined c.args.join c.pass_for-left.result.f c.pass_for-left.result.g)
+    c.in-Some-recall.number (sym c.recall.ensures ∙ c.in-Some-recall.is) in
+    join_passed c.args.store.now c.args.store.now c.args.join c.args.f.n c.args.g.n c.pass_for-left.result _
+    c.pass_for-left.ensures (Draws-stays _ _ c.args.store.now c.in-Some-recall.number i.in_store i.is)
 
 pub returns-in_err-lo-clause-drawn : goal.returns-in_err-lo-clause-drawn
 returns-in_err-lo-clause-drawn t c =
     let p = err_from_is_err_and c.from_residual.result c.from_residual.ensures.1 in
-    rw (p.1, p.2) (join_passed c.args.store.now c.join_in.new.store c.args.join c.args.f.n c.args.g.n c.pass_for-left.result _ c.pass_for-left.ensures (Draws-refused _ _ _ c.args.store.now c.join_in.new.store _ (join_lower c.args.join c.args.store.now c.pass_for-left.result.f.n c.pass_for-left.result.g.n c.cut_at-cut.result c.cut_at-cut.ensures c.join_in.new.store _ c.in_err-lo.ensures.drawn)))
+    rw (p.1, p.2) (join_passed c.args.store.now c.join_in.new.store c.args.join c.args.f.n c.args.g.n
+    c.pass_for-left.result _ c.pass_for-left.ensures
+    (Draws-refused _ _ _ c.args.store.now c.join_in.new.store _
+    (join_lower c.args.join c.args.store.now c.pass_for-left.result.f.n c.pass_for-left.result.g.n
+    c.cut_at-cut.result c.cut_at-cut.ensures c.join_in.new.store _ c.in_err-lo.ensures.drawn)))
 
 pub returns-in_err-hi-clause-drawn : goal.returns-in_err-hi-clause-drawn
 returns-in_err-hi-clause-drawn t c =
     let p = err_from_is_err_and c.from_residual-in_err-hi.result c.from_residual-in_err-hi.ensures.1 in
-    let dl = join_lower c.args.join c.args.store.now c.pass_for-left.result.f.n c.pass_for-left.result.g.n c.cut_at-cut.result c.cut_at-cut.ensures c.join_in.new.store (Ok c.in_ok-lo.lo) c.in_ok-lo.ensures.drawn in
-    rw (p.1, p.2) (join_passed c.args.store.now c.join_in-2.new.store c.args.join c.args.f.n c.args.g.n c.pass_for-left.result _ c.pass_for-left.ensures (Draws-refused _ _ _ c.args.store.now c.join_in-2.new.store _ (Draws-after _ _ c.args.store.now c.join_in.new.store c.join_in-2.new.store _ dl.grows (join_upper c.args.join c.args.store.now c.pass_for-left.result.f.n c.pass_for-left.result.g.n c.cut_at-cut.result c.cut_at-cut.ensures c.join_in.new.store c.join_in-2.new.store _ dl.grows c.in_err-hi.ensures.drawn))))
+    let dl = join_lower c.args.join c.args.store.now c.pass_for-left.result.f.n c.pass_for-left.result.g.n
+    c.cut_at-cut.result c.cut_at-cut.ensures c.join_in.new.store (Ok c.in_ok-lo.lo) c.in_ok-lo.ensures.drawn in
+    rw (p.1, p.2) (join_passed c.args.store.now c.join_in-2.new.store c.args.join c.args.f.n c.args.g.n
+    c.pass_for-left.result _ c.pass_for-left.ensures
+    (Draws-refused _ _ _ c.args.store.now c.join_in-2.new.store _
+    (Draws-after _ _ c.args.store.now c.join_in.new.store c.join_in-2.new.store _ dl.grows
+    (join_upper c.args.join c.args.store.now c.pass_for-left.result.f.n c.pass_for-left.result.g.n
+    c.cut_at-cut.result c.cut_at-cut.ensures c.join_in.new.store c.join_in-2.new.store _ dl.grows
+    c.in_err-hi.ensures.drawn))))
 
 pub node-requires-clause-lo_above : goal.node-requires-clause-lo_above
 node-requires-clause-lo_above t c =
-    let dl = join_lower c.args.join c.args.store.now c.pass_for-left.result.f.n c.pass_for-left.result.g.n c.cut_at-cut.result c.cut_at-cut.ensures c.join_in.new.store (Ok c.in_ok-lo.lo) c.in_ok-lo.ensures.drawn in
-    let dh = join_upper c.args.join c.args.store.now c.pass_for-left.result.f.n c.pass_for-left.result.g.n c.cut_at-cut.result c.cut_at-cut.ensures c.join_in.new.store c.join_in-2.new.store (Ok c.in_ok-hi.hi) dl.grows c.in_ok-hi.ensures.drawn in
-    lo_above _ _ _ _ _ (join_halved c.args.join c.args.store.now c.pass_for-left.result.f.n c.pass_for-left.result.g.n c.cut_at-cut.result c.cut_at-cut.ensures) c.args.store.now c.join_in.new.store c.join_in-2.new.store c.in_ok-lo.lo c.in_ok-hi.hi dl dh
+    let dl = join_lower c.args.join c.args.store.now c.pass_for-left.result.f.n c.pass_for-left.result.g.n
+    c.cut_at-cut.result c.cut_at-cut.ensures c.join_in.new.store (Ok c.in_ok-lo.lo) c.in_ok-lo.ensures.drawn in
+    let dh = join_upper c.args.join c.args.store.now c.pass_for-left.result.f.n c.pass_for-left.result.g.n
+    c.cut_at-cut.result c.cut_at-cut.ensures c.join_in.new.store c.join_in-2.new.store (Ok c.in_ok-hi.hi)
+    dl.grows c.in_ok-hi.ensures.drawn in
+    lo_above _ _ _ _ _ (join_halved c.args.join c.args.store.now c.pass_for-left.result.f.n c.pass_for-left.result.g.n
+    c.cut_at-cut.result c.cut_at-cut.ensures) c.args.store.now c.join_in.new.store c.join_in-2.new.store
+    c.in_ok-lo.lo c.in_ok-hi.hi dl dh
 
 pub node-requires-clause-hi_above : goal.node-requires-clause-hi_above
 node-requires-clause-hi_above t c =
-    let dl = join_lower c.args.join c.args.store.now c.pass_for-left.result.f.n c.pass_for-left.result.g.n c.cut_at-cut.result c.cut_at-cut.ensures c.join_in.new.store (Ok c.in_ok-lo.lo) c.in_ok-lo.ensures.drawn in
-    let dh = join_upper c.args.join c.args.store.now c.pass_for-left.result.f.n c.pass_for-left.result.g.n c.cut_at-cut.result c.cut_at-cut.ensures c.join_in.new.store c.join_in-2.new.store (Ok c.in_ok-hi.hi) dl.grows c.in_ok-hi.ensures.drawn in
-    hi_above _ _ _ _ _ (join_halved c.args.join c.args.store.now c.pass_for-left.result.f.n c.pass_for-left.result.g.n c.cut_at-cut.result c.cut_at-cut.ensures) c.args.store.now c.join_in.new.store c.join_in-2.new.store c.in_ok-lo.lo c.in_ok-hi.hi dl dh
+    let dl = join_lower c.args.join c.args.store.now c.pass_for-left.result.f.n c.pass_for-left.result.g.n
+    c.cut_at-cut.result c.cut_at-cut.ensures c.join_in.new.store (Ok c.in_ok-lo.lo) c.in_ok-lo.ensures.drawn in
+    let dh = join_upper c.args.join c.args.store.now c.pass_for-left.result.f.n c.pass_for-left.result.g.n
+    c.cut_at-cut.result c.cut_at-cut.ensures c.join_in.new.store c.join_in-2.new.store (Ok c.in_ok-hi.hi)
+    dl.grows c.in_ok-hi.ensures.drawn in
+    hi_above _ _ _ _ _ (join_halved c.args.join c.args.store.now c.pass_for-left.result.f.n c.pass_for-left.result.g.n
+    c.cut_at-cut.result c.cut_at-cut.ensures) c.args.store.now c.join_in.new.store c.join_in-2.new.store
+    c.in_ok-lo.lo c.in_ok-hi.hi dl dh
 
 pub returns-in_err-made-clause-drawn : goal.returns-in_err-made-clause-drawn
 returns-in_err-made-clause-drawn t c =
     let p = err_from_is_err_and c.from_residual-in_err-made.result c.from_residual-in_err-made.ensures.1 in
-    let dl = join_lower c.args.join c.args.store.now c.pass_for-left.result.f.n c.pass_for-left.result.g.n c.cut_at-cut.result c.cut_at-cut.ensures c.join_in.new.store (Ok c.in_ok-lo.lo) c.in_ok-lo.ensures.drawn in
-    let dh = join_upper c.args.join c.args.store.now c.pass_for-left.result.f.n c.pass_for-left.result.g.n c.cut_at-cut.result c.cut_at-cut.ensures c.join_in.new.store c.join_in-2.new.store (Ok c.in_ok-hi.hi) dl.grows c.in_ok-hi.ensures.drawn in
-    rw (p.1, p.2) (join_passed c.args.store.now c.node.new.self c.args.join c.args.f.n c.args.g.n c.pass_for-left.result _ c.pass_for-left.ensures (done _ _ _ _ _ (join_halved c.args.join c.args.store.now c.pass_for-left.result.f.n c.pass_for-left.result.g.n c.cut_at-cut.result c.cut_at-cut.ensures) c.args.store.now c.join_in.new.store c.join_in-2.new.store c.in_ok-lo.lo c.in_ok-hi.hi dl dh c.node.new.self _ c.in_err-made.ensures.drawn))
+    let dl = join_lower c.args.join c.args.store.now c.pass_for-left.result.f.n c.pass_for-left.result.g.n
+    c.cut_at-cut.result c.cut_at-cut.ensures c.join_in.new.store (Ok c.in_ok-lo.lo) c.in_ok-lo.ensures.drawn in
+    let dh = join_upper c.args.join c.args.store.now c.pass_for-left.result.f.n c.pass_for-left.result.g.n
+    c.cut_at-cut.result c.cut_at-cut.ensures c.join_in.new.store c.join_in-2.new.store (Ok c.in_ok-hi.hi)
+    dl.grows c.in_ok-hi.ensures.drawn in
+    rw (p.1, p.2) (join_passed c.args.store.now c.node.new.self c.args.join c.args.f.n c.args.g.n c.pass_for-left.result
+    _ c.pass_for-left.ensures (done _ _ _ _ _
+    (join_halved c.args.join c.args.store.now c.pass_for-left.result.f.n c.pass_for-left.result.g.n
+    c.cut_at-cut.result c.cut_at-cut.ensures) c.args.store.now c.join_in.new.store c.join_in-2.new.store
+    c.in_ok-lo.lo c.in_ok-hi.hi dl dh c.node.new.self _ c.in_err-made.ensures.drawn))
 
 pub returns-clause-drawn : goal.returns-clause-drawn
 returns-clause-drawn t c =
-    let dl = join_lower c.args.join c.args.store.now c.pass_for-left.result.f.n c.pass_for-left.result.g.n c.cut_at-cut.result c.cut_at-cut.ensures c.join_in.new.store (Ok c.in_ok-lo.lo) c.in_ok-lo.ensures.drawn in
-    let dh = join_upper c.args.join c.args.store.now c.pass_for-left.result.f.n c.pass_for-left.result.g.n c.cut_at-cut.result c.cut_at-cut.ensures c.join_in.new.store c.join_in-2.new.store (Ok c.in_ok-hi.hi) dl.grows c.in_ok-hi.ensures.drawn in
-    join_passed c.args.store.now c.node.new.self c.args.join c.args.f.n c.args.g.n c.pass_for-left.result _ c.pass_for-left.ensures (done _ _ _ _ _ (join_halved c.args.join c.args.store.now c.pass_for-left.result.f.n c.pass_for-left.result.g.n c.cut_at-cut.result c.cut_at-cut.ensures) c.args.store.now c.join_in.new.store c.join_in-2.new.store c.in_ok-lo.lo c.in_ok-hi.hi dl dh c.node.new.self _ c.in_ok-made.ensures.drawn)
+    let dl = join_lower c.args.join c.args.store.now c.pass_for-left.result.f.n c.pass_for-left.result.g.n
+    c.cut_at-cut.result c.cut_at-cut.ensures c.join_in.new.store (Ok c.in_ok-lo.lo) c.in_ok-lo.ensures.drawn in
+    let dh = join_upper c.args.join c.args.store.now c.pass_for-left.result.f.n c.pass_for-left.result.g.n
+    c.cut_at-cut.result c.cut_at-cut.ensures c.join_in.new.store c.join_in-2.new.store (Ok c.in_ok-hi.hi)
+    dl.grows c.in_ok-hi.ensures.drawn in
+    join_passed c.args.store.now c.node.new.self c.args.join c.args.f.n c.args.g.n c.pass_for-left.result _
+    c.pass_for-left.ensures (done _ _ _ _ _
+    (join_halved c.args.join c.args.store.now c.pass_for-left.result.f.n c.pass_for-left.result.g.n
+    c.cut_at-cut.result c.cut_at-cut.ensures) c.args.store.now c.join_in.new.store c.join_in-2.new.store
+    c.in_ok-lo.lo c.in_ok-hi.hi dl dh c.node.new.self _ c.in_ok-made.ensures.drawn)
 
 pub returns-clause-sound : goal.returns-clause-sound
 returns-clause-sound t c =
-    let dl = join_lower c.args.join c.args.store.now c.pass_for-left.result.f.n c.pass_for-left.result.g.n c.cut_at-cut.result c.cut_at-cut.ensures c.join_in.new.store (Ok c.in_ok-lo.lo) c.in_ok-lo.ensures.drawn in
-    let dh = join_upper c.args.join c.args.store.now c.pass_for-left.result.f.n c.pass_for-left.result.g.n c.cut_at-cut.result c.cut_at-cut.ensures c.join_in.new.store c.join_in-2.new.store (Ok c.in_ok-hi.hi) dl.grows c.in_ok-hi.ensures.drawn in
-    let w = done _ _ _ _ _ (join_halved c.args.join c.args.store.now c.pass_for-left.result.f.n c.pass_for-left.result.g.n c.cut_at-cut.result c.cut_at-cut.ensures) c.args.store.now c.join_in.new.store c.join_in-2.new.store c.in_ok-lo.lo c.in_ok-hi.hi dl dh c.node.new.self _ c.in_ok-made.ensures.drawn in
-    IsSound-remember _ _ c.args.store.now c.join_in-2.new.store c.node.new.self (Joined c.args.join c.pass_for-left.result.f c.pass_for-left.result.g) c.in_ok-made.made c.join_in-2.new.memo c.remember.new.self w.grows (c.pass_for-left.ensures.f_in, c.pass_for-left.ensures.g_in) c.in_ok-made.ensures.drawn.grows c.in_ok-hi.ensures.sound w.ok c.remember.ensures.entry
+    let dl = join_lower c.args.join c.args.store.now c.pass_for-left.result.f.n c.pass_for-left.result.g.n
+    c.cut_at-cut.result c.cut_at-cut.ensures c.join_in.new.store (Ok c.in_ok-lo.lo) c.in_ok-lo.ensures.drawn in
+    let dh = join_upper c.args.join c.args.store.now c.pass_for-left.result.f.n c.pass_for-left.result.g.n
+    c.cut_at-cut.result c.cut_at-cut.ensures c.join_in.new.store c.join_in-2.new.store (Ok c.in_ok-hi.hi)
+    dl.grows c.in_ok-hi.ensures.drawn in
+    let w = done _ _ _ _ _ (join_halved c.args.join c.args.store.now c.pass_for-left.result.f.n
+    c.pass_for-left.result.g.n c.cut_at-cut.result c.cut_at-cut.ensures) c.args.store.now c.join_in.new.store
+    c.join_in-2.new.store c.in_ok-lo.lo c.in_ok-hi.hi dl dh c.node.new.self _ c.in_ok-made.ensures.drawn in
+    IsSound-remember _ _ c.args.store.now c.join_in-2.new.store c.node.new.self
+    (Joined c.args.join c.pass_for-left.result.f c.pass_for-left.result.g) c.in_ok-made.made c.join_in-2.new.memo
+    c.remember.new.self w.grows (c.pass_for-left.ensures.f_in, c.pass_for-left.ensures.g_in)
+    c.in_ok-made.ensures.drawn.grows c.in_ok-hi.ensures.sound w.ok c.remember.ensures.entry

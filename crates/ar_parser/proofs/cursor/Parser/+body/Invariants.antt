@@ -31,14 +31,16 @@ decreases-sections l = 8 * l.left + 5
 
 abbrev pub invariant-members-loop-self : goal.invariant-members-loop-self
 invariant-members-loop-self l =
-    GathersGroups (IsMember l.left (IsBody l.left)) member_text ends_members l.fn.members.items l.members.items l.fn.self.rest.now l.self.rest.now
+    GathersGroups (IsMember l.left (IsBody l.left)) member_text ends_members l.fn.members.items l.members.items
+    l.fn.self.rest.now l.self.rest.now
 
 abbrev pub decreases-members-loop-self : goal.decreases-members-loop-self
 decreases-members-loop-self l = length l.self.rest.now
 
 abbrev pub invariant-later_clauses-loop-self : goal.invariant-later_clauses-loop-self
 invariant-later_clauses-loop-self l =
-    GathersGroups (IsLater l.left (IsBody l.left)) later_text ends_body l.fn.members.items l.members.items l.fn.self.rest.now l.self.rest.now
+    GathersGroups (IsLater l.left (IsBody l.left)) later_text ends_body l.fn.members.items l.members.items
+    l.fn.self.rest.now l.self.rest.now
 
 abbrev pub decreases-later_clauses-loop-self : goal.decreases-later_clauses-loop-self
 decreases-later_clauses-loop-self l = length l.self.rest.now

@@ -68,7 +68,8 @@ decreases-compare l = 8 * l.left + 6
 
 abbrev pub invariant-more_operands-loop-chain : goal.invariant-more_operands-loop-chain
 invariant-more_operands-loop-chain l =
-    Gathers (λ e. token (separator_of l.chain) ▸ Node (operand_form l.chain l.left) e) (λ n. token (separator_of l.chain) ▸ operand_text l.chain n) (ends_chain l.chain)
+    Gathers (λ e. token (separator_of l.chain) ▸ Node (operand_form l.chain l.left) e)
+    (λ n. token (separator_of l.chain) ▸ operand_text l.chain n) (ends_chain l.chain)
     l.fn.operands.items l.operands.items l.fn.self.rest.now l.self.rest.now
 
 abbrev pub decreases-more_operands-loop-chain : goal.decreases-more_operands-loop-chain
@@ -76,21 +77,24 @@ decreases-more_operands-loop-chain l = length l.self.rest.now
 
 abbrev pub invariant-more_terms-loop-plus : goal.invariant-more_terms-loop-plus
 invariant-more_terms-loop-plus l =
-    Gathers (IsTerm (IsProduct (IsMinus l.left))) term_text ends_sum l.fn.terms.items l.terms.items l.fn.self.rest.now l.self.rest.now
+    Gathers (IsTerm (IsProduct (IsMinus l.left))) term_text ends_sum l.fn.terms.items l.terms.items l.fn.self.rest.now
+    l.self.rest.now
 
 abbrev pub decreases-more_terms-loop-plus : goal.decreases-more_terms-loop-plus
 decreases-more_terms-loop-plus l = length l.self.rest.now
 
 abbrev pub invariant-more_arguments-loop-self : goal.invariant-more_arguments-loop-self
 invariant-more_arguments-loop-self l =
-    Gathers (λ e. token (Sign COMMA) ▸ Node (IsExpr l.left) e) (λ n. token (Sign COMMA) ▸ expr_text deep n) ends_list l.fn.operands.items l.operands.items l.fn.self.rest.now l.self.rest.now
+    Gathers (λ e. token (Sign COMMA) ▸ Node (IsExpr l.left) e) (λ n. token (Sign COMMA) ▸ expr_text deep n) ends_list
+    l.fn.operands.items l.operands.items l.fn.self.rest.now l.self.rest.now
 
 abbrev pub decreases-more_arguments-loop-self : goal.decreases-more_arguments-loop-self
 decreases-more_arguments-loop-self l = length l.self.rest.now
 
 abbrev pub invariant-cases-loop-self : goal.invariant-cases-loop-self
 invariant-cases-loop-self l =
-    Gathers (IsCase (IsExpr l.left)) case_text ends_cases l.initial.cases.items l.cases.items l.fn.self.rest.now l.self.rest.now
+    Gathers (IsCase (IsExpr l.left)) case_text ends_cases l.initial.cases.items l.cases.items l.fn.self.rest.now
+    l.self.rest.now
 
 abbrev pub decreases-cases-loop-self : goal.decreases-cases-loop-self
 decreases-cases-loop-self l = length l.self.rest.now

@@ -16,7 +16,8 @@ decreases-unread l = 4 * l.left + 2
 
 abbrev pub invariant-unread-loop-self : goal.invariant-unread-loop-self
 invariant-unread-loop-self l =
-    Spans (unread l.left) l.fn.self.rest.now l.self.rest.now × Loops unread_text ends_unread l.fn.self.rest.now l.self.rest.now
+    Spans (unread l.left) l.fn.self.rest.now l.self.rest.now
+    × Loops unread_text ends_unread l.fn.self.rest.now l.self.rest.now
 
 abbrev pub decreases-unread-loop-self : goal.decreases-unread-loop-self
 decreases-unread-loop-self l = length l.self.rest.now

@@ -9,10 +9,15 @@ use Rattle.ar_parser.proofs.BodyTexts.{moves_assertion}
 use Rattle.std.proofs.Common.{inl}
 
 pub returns-in_err-instr-clause-only : goal.returns-in_err-instr-clause-only
-returns-in_err-instr-clause-only c = loops_fail c.loop-self.invariant.loops (ap not (sym (c.loop-self-test.ensures ∙ ap begins_instr c.kind.ensures))) c.in_err-instr.ensures.only c.from_residual.ensures.1 follows_any
+returns-in_err-instr-clause-only c =
+    loops_fail c.loop-self.invariant.loops (ap not (sym (c.loop-self-test.ensures ∙ ap begins_instr c.kind.ensures)))
+    c.in_err-instr.ensures.only c.from_residual.ensures.1 follows_any
 
 pub loop-self-preserved : goal.loop-self-preserved
-loop-self-preserved c = gathers_push c.loop-self.invariant (ap not (sym (c.loop-self-test.ensures ∙ ap begins_instr c.kind.ensures))) (spans_map c.in_ok-instr.ensures.found (λ next ts h. record { i = _; is = refl; reads = h })) c.in_ok-instr.ensures.only follows_any c.in_ok-push.ensures.items
+loop-self-preserved c = gathers_push c.loop-self.invariant
+    (ap not (sym (c.loop-self-test.ensures ∙ ap begins_instr c.kind.ensures)))
+    (spans_map c.in_ok-instr.ensures.found (λ next ts h. record { i = _; is = refl; reads = h }))
+    c.in_ok-instr.ensures.only follows_any c.in_ok-push.ensures.items
 
 pub returns-in_err-push-clause-only : goal.returns-in_err-push-clause-only
 returns-in_err-push-clause-only c = let l = loops_next c.loop-self.invariant.loops (ap not (sym (c.loop-self-test.ensures ∙ ap begins_instr c.kind.ensures))) c.in_ok-instr.ensures.only follows_any in finds_memory l.front l.passed c.from_residual-in_err-push.ensures.1

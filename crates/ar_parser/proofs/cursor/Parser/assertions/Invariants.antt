@@ -8,7 +8,8 @@ use Rattle.ar_parser.proofs.cursor.Parser.assertions.Given as goal
 
 abbrev pub invariant-loop-self : goal.invariant-loop-self
 invariant-loop-self l =
-    Gathers (IsAssertion l.left) (instr_text deep) ends_assertions l.fn.members.items l.members.items l.fn.self.rest.now l.self.rest.now
+    Gathers (IsAssertion l.left) (instr_text deep) ends_assertions l.fn.members.items l.members.items l.fn.self.rest.now
+    l.self.rest.now
 
 abbrev pub decreases-loop-self : goal.decreases-loop-self
 decreases-loop-self l = length l.self.rest.now

@@ -9,13 +9,16 @@ pub returns-then-is_at-clause-found : goal.returns-then-is_at-clause-found
 returns-then-is_at-clause-found c = kept_grouped c.args.left _ _ _ c.unread_group.ensures.found
 
 pub returns-then-is_at-clause-only : goal.returns-then-is_at-clause-only
-returns-then-is_at-clause-only c = finds_given c.unread_group.ensures.only (λ n next ts h s k. (kept_bracketed n next ts h (k ∙ c.if-is_at.ensures.yes), s))
+returns-then-is_at-clause-only c = finds_given c.unread_group.ensures.only
+    (λ n next ts h s k. (kept_bracketed n next ts h (k ∙ c.if-is_at.ensures.yes), s))
 
 pub returns-clause-found : goal.returns-clause-found
 returns-clause-found c = kept_plain c.args.left c.skip.ensures c.requires c.if-is_at.ensures.no
 
 pub returns-clause-only : goal.returns-clause-only
-returns-clause-only c = finds_given (finds_ok _ (finds_token c.skip.ensures)) (λ n next ts h s k. (kept_token_given n next ts h k c.if-is_at.ensures.no, refl))
+returns-clause-only c = finds_given (finds_ok _ (finds_token c.skip.ensures))
+    (λ n next ts h s k. (kept_token_given n next ts h k c.if-is_at.ensures.no, refl))
 
 pub returns-then-is_at-clause-stuck : goal.returns-then-is_at-clause-stuck
-returns-then-is_at-clause-stuck c = halts_over _ c.unread_group.ensures.stuck (λ e r. refuses_map r (λ m next ts h. inr h))
+returns-then-is_at-clause-stuck c =
+    halts_over _ c.unread_group.ensures.stuck (λ e r. refuses_map r (λ m next ts h. inr h))

@@ -10,7 +10,8 @@ use Rattle.ar_parser.specs.Texts.{path_text}
 
 abbrev pub invariant-loop-self : goal.invariant-loop-self
 invariant-loop-self l =
-    Gathers (λ x. token (Sign COMMA) ▸ IsHidden x) (λ n. token (Sign COMMA) ▸ path_text) ends_semicolon l.fn.members.items l.members.items l.fn.self.rest.now l.self.rest.now
+    Gathers (λ x. token (Sign COMMA) ▸ IsHidden x) (λ n. token (Sign COMMA) ▸ path_text) ends_semicolon
+    l.fn.members.items l.members.items l.fn.self.rest.now l.self.rest.now
 
 abbrev pub decreases-loop-self : goal.decreases-loop-self
 decreases-loop-self l = length l.self.rest.now

@@ -7,13 +7,22 @@ use Rattle.ar_parser.proofs.Standing.{halts_err, refuses_turn, passes, turns_eac
 use Rattle.ar_parser.proofs.ItemParts.{turns_item, unsigned_past}
 
 pub returns-in_err-item-clause-only : goal.returns-in_err-item-clause-only
-returns-in_err-item-clause-only c = loops_fail c.loop-self.invariant.0.loops (item_open (kind_at c.loop-self.self.rest.now) (ap begins_item (sym c.kind.ensures) ∙ sym c.loop-self-test.ensures)) c.in_err-item.ensures.only c.from_residual.ensures.1 items_follow
+returns-in_err-item-clause-only c =
+    loops_fail c.loop-self.invariant.0.loops
+    (item_open (kind_at c.loop-self.self.rest.now) (ap begins_item (sym c.kind.ensures) ∙ sym c.loop-self-test.ensures))
+    c.in_err-item.ensures.only c.from_residual.ensures.1 items_follow
 
 pub returns-in_err-push-clause-only : goal.returns-in_err-push-clause-only
 returns-in_err-push-clause-only c = let l = loops_next c.loop-self.invariant.0.loops (item_open (kind_at c.loop-self.self.rest.now) (ap begins_item (sym c.kind.ensures) ∙ sym c.loop-self-test.ensures)) c.in_ok-item.ensures.only items_follow in finds_memory l.front l.passed c.from_residual-in_err-push.ensures.1
 
 pub loop-self-preserved : goal.loop-self-preserved
-loop-self-preserved c = (gathers_push c.loop-self.invariant.0 (item_open (kind_at c.loop-self.self.rest.now) (ap begins_item (sym c.kind.ensures) ∙ sym c.loop-self-test.ensures)) c.in_ok-item.ensures.found c.in_ok-item.ensures.only items_follow c.in_ok-push.ensures.items, unsigned_past c.in_ok-item.ensures.found c.loop-self.invariant.1)
+loop-self-preserved c = (
+  gathers_push c.loop-self.invariant.0
+      (item_open (kind_at c.loop-self.self.rest.now) (ap begins_item (sym c.kind.ensures) ∙ sym c.loop-self-test.ensures))
+      c.in_ok-item.ensures.found c.in_ok-item.ensures.only items_follow c.in_ok-push.ensures.items,
+  unsigned_past
+      c.in_ok-item.ensures.found c.loop-self.invariant.1,
+)
 
 pub returns-clause-only : goal.returns-clause-only
 returns-clause-only c = loops_stop c.loop-self.invariant.0.loops (λ n next ts h k. let x : true ≡ false = sym (item_begins n next ts h) ∙ ap begins_item (k ∙ sym c.kind.ensures) ∙ sym c.loop-self-test.ensures in absurd (cc))

@@ -7,7 +7,8 @@ use Rattle.ar_parser.proofs.Finding.{Gathers}
 use Rattle.ar_parser.proofs.cursor.Parser.more_items.Given as goal
 
 abbrev pub invariant-loop-self : goal.invariant-loop-self
-invariant-loop-self l = Gathers (IsItem l.left) (item_text deep) is_end l.fn.items.items l.items.items l.fn.self.rest.now l.self.rest.now × AreUnsigned l.self.rest.now
+invariant-loop-self l = Gathers (IsItem l.left) (item_text deep) is_end l.fn.items.items l.items.items
+    l.fn.self.rest.now l.self.rest.now × AreUnsigned l.self.rest.now
 
 abbrev pub decreases-loop-self : goal.decreases-loop-self
 decreases-loop-self l = length l.self.rest.now

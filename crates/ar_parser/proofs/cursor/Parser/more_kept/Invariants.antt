@@ -8,7 +8,8 @@ use Rattle.ar_parser.specs.Parts.{kept_piece_text}
 
 abbrev pub invariant-loop-self : goal.invariant-loop-self
 invariant-loop-self l =
-    Spans (many (kept_piece l.left)) l.fn.self.rest.now l.self.rest.now × Loops kept_piece_text ends_kept l.fn.self.rest.now l.self.rest.now
+    Spans (many (kept_piece l.left)) l.fn.self.rest.now l.self.rest.now
+    × Loops kept_piece_text ends_kept l.fn.self.rest.now l.self.rest.now
 
 abbrev pub decreases-loop-self : goal.decreases-loop-self
 decreases-loop-self l = length l.self.rest.now

@@ -13,7 +13,8 @@ use Rattle.ar_parser.proofs.Turning.{turns_name}
 pub returns-in_err-name-clause-only : goal.returns-in_err-name-clause-only
 returns-in_err-name-clause-only c = λ left.
     let e = c.loop-self-test.ensures.taken in
-    loops_fail c.loop-self.invariant.3 (ap ends_path (eats_kind e)) (finds_then (finds_token e) (c.in_err-name.ensures.only left) follows_any) c.from_residual.ensures.1 follows_any
+    loops_fail c.loop-self.invariant.3 (ap ends_path (eats_kind e))
+    (finds_then (finds_token e) (c.in_err-name.ensures.only left) follows_any) c.from_residual.ensures.1 follows_any
 
 pub loop-self-preserved : goal.loop-self-preserved
 loop-self-preserved c =
@@ -21,14 +22,17 @@ loop-self-preserved c =
     let i = c.loop-self.invariant in (
       i.0 ++ c.in_ok-name.name.name ∷ [],
       c.in_ok-push.ensures.items ∙ ap (λ s. s ++ c.in_ok-name.name.name ∷ []) i.1 ∙ append_assoc _ i.0 _,
-      spans_push (λ x. token (Sign DOT) ▸ IsName x) i.0 c.in_ok-name.name.name i.2 (spans_then (spans_token e) (spans_name c.in_ok-name.ensures.found)),
-      loops_next i.3 (ap ends_path (eats_kind e)) (finds_then (finds_token e) (c.in_ok-name.ensures.only 0) follows_any) follows_any,
+      spans_push (λ x. token (Sign DOT) ▸ IsName x) i.0 c.in_ok-name.name.name i.2
+          (spans_then (spans_token e) (spans_name c.in_ok-name.ensures.found)),
+      loops_next i.3 (ap ends_path (eats_kind e)) (finds_then (finds_token e) (c.in_ok-name.ensures.only 0) follows_any)
+          follows_any,
     )
 
 pub returns-in_err-push-clause-only : goal.returns-in_err-push-clause-only
 returns-in_err-push-clause-only c = λ left.
     let e = c.loop-self-test.ensures.taken in
-    let l = loops_next c.loop-self.invariant.3 (ap ends_path (eats_kind e)) (finds_then (finds_token e) (c.in_ok-name.ensures.only 0) follows_any) follows_any in
+    let l = loops_next c.loop-self.invariant.3 (ap ends_path (eats_kind e))
+    (finds_then (finds_token e) (c.in_ok-name.ensures.only 0) follows_any) follows_any in
     finds_memory l.front l.passed c.from_residual-in_err-push.ensures.1
 
 pub returns-clause-only : goal.returns-clause-only
@@ -39,7 +43,9 @@ returns-clause-only c = λ left.
 pub returns-in_err-name-clause-stuck : goal.returns-in_err-name-clause-stuck
 returns-in_err-name-clause-stuck c = λ left.
     let i = c.loop-self.invariant in
-    halts_err _ _ c.from_residual.ensures.1 (refuses_turn (passes i.2 (λ m l. turns_each (λ x. turns_then turns_token (turns_name x)) i.0)) (refuses_then (passes_token c.loop-self-test.ensures.taken) (c.in_err-name.ensures.stuck left)))
+    halts_err _ _ c.from_residual.ensures.1
+    (refuses_turn (passes i.2 (λ m l. turns_each (λ x. turns_then turns_token (turns_name x)) i.0))
+    (refuses_then (passes_token c.loop-self-test.ensures.taken) (c.in_err-name.ensures.stuck left)))
 
 pub returns-in_err-push-clause-stuck : goal.returns-in_err-push-clause-stuck
 returns-in_err-push-clause-stuck c = λ left. halts_memory _ _ _ _ _ c.from_residual-in_err-push.ensures.1

@@ -7,7 +7,8 @@ use Rattle.ar_parser.proofs.cursor.Parser.transitions.Given as goal
 
 abbrev pub invariant-loop-self : goal.invariant-loop-self
 invariant-loop-self l =
-    Gathers (IsTransition l.left) transition_of ends_transitions l.fn.members.items l.members.items l.fn.self.rest.now l.self.rest.now
+    Gathers (IsTransition l.left) transition_of ends_transitions l.fn.members.items l.members.items l.fn.self.rest.now
+    l.self.rest.now
 
 abbrev pub decreases-loop-self : goal.decreases-loop-self
 decreases-loop-self l = length l.self.rest.now

@@ -4,24 +4,31 @@ use Rattle.bind_scopes.proofs.scopes.Scopes.constant.Goals as goal
 
 pub returns-then-is_read_at : goal.returns-then-is_read_at
 returns-then-is_read_at c =
-    first_parameter c.args.self.now c.requires.scopes c.args.unit.n c.requires.in_range c.args.path.now c.in-Some.place true
-    (parameter_there c.args.self.now c.requires.scopes c.args.unit.n c.requires.in_range c.args.path.now _ (rw c.deref.ensures.value at c.in-Some.ensures))
+    first_parameter c.args.self.now c.requires.scopes c.args.unit.n c.requires.in_range c.args.path.now c.in-Some.place
+    true
+    (parameter_there c.args.self.now c.requires.scopes c.args.unit.n c.requires.in_range c.args.path.now _
+    (rw c.deref.ensures.value at c.in-Some.ensures))
     (sym c.is_read_at.ensures ∙ c.if-is_read_at.true)
 
 pub returns-else-is_read_at : goal.returns-else-is_read_at
 returns-else-is_read_at c =
-    first_parameter c.args.self.now c.requires.scopes c.args.unit.n c.requires.in_range c.args.path.now c.in-Some.place false
-    (parameter_there c.args.self.now c.requires.scopes c.args.unit.n c.requires.in_range c.args.path.now _ (rw c.deref.ensures.value at c.in-Some.ensures))
+    first_parameter c.args.self.now c.requires.scopes c.args.unit.n c.requires.in_range c.args.path.now c.in-Some.place
+    false
+    (parameter_there c.args.self.now c.requires.scopes c.args.unit.n c.requires.in_range c.args.path.now _
+    (rw c.deref.ensures.value at c.in-Some.ensures))
     (sym c.is_read_at.ensures ∙ c.if-is_read_at.false)
 
 pub returns-in-Some-symbol : goal.returns-in-Some-symbol
 returns-in-Some-symbol c =
-    first_symbol c.args.self.now c.requires.scopes c.args.unit.n c.requires.in_range c.args.path.now (Some c.in-Some-symbol.symbol)
-    (parameter_there c.args.self.now c.requires.scopes c.args.unit.n c.requires.in_range c.args.path.now None (rw c.deref.ensures.value at c.in-None.ensures))
+    first_symbol c.args.self.now c.requires.scopes c.args.unit.n c.requires.in_range c.args.path.now
+    (Some c.in-Some-symbol.symbol)
+    (parameter_there c.args.self.now c.requires.scopes c.args.unit.n c.requires.in_range c.args.path.now None
+    (rw c.deref.ensures.value at c.in-None.ensures))
     c.in-Some-symbol.ensures
 
 pub returns-in-None-symbol : goal.returns-in-None-symbol
 returns-in-None-symbol c =
     first_symbol c.args.self.now c.requires.scopes c.args.unit.n c.requires.in_range c.args.path.now None
-    (parameter_there c.args.self.now c.requires.scopes c.args.unit.n c.requires.in_range c.args.path.now None (rw c.deref.ensures.value at c.in-None.ensures))
+    (parameter_there c.args.self.now c.requires.scopes c.args.unit.n c.requires.in_range c.args.path.now None
+    (rw c.deref.ensures.value at c.in-None.ensures))
     c.in-None-symbol.ensures

@@ -9,7 +9,8 @@ use Rattle.bind_scopes.proofs.scopes.Scopes.kind_of_type.Goals as goal
 pub returns-in-Some-Domain : goal.returns-in-Some-Domain
 returns-in-Some-Domain c = λ m units are. rw c.in-Named.is (
     ap (λ (k : ValueKind). Some k) c.kind_of_domain.ensures
-    ∙ type_kind m.declared.symbols (type_named m.declared c.in-Named.name.n) c.in-Some-Domain.field-0.now c.in-Some-Domain.domain c.in-Some-Domain.field-0-is
+    ∙ type_kind m.declared.symbols (type_named m.declared c.in-Named.name.n) c.in-Some-Domain.field-0.now
+    c.in-Some-Domain.domain c.in-Some-Domain.field-0-is
     ((rw c.deref.ensures.value at (c.in-Some-Domain.ensures m.declared)) are.is_tree.table.table.holds.types are.types))
 
 pub returns-in-Some-Class : goal.returns-in-Some-Class

@@ -5,4 +5,5 @@ use Rattle.class_table.specs.Names.{name_and_place}
 use Rattle.class_table.proofs.repeats.Repeats.add_all.Given as goal
 
 abbrev pub invariant-loop-name : goal.invariant-loop-name
-invariant-loop-name l = (names : List (ℕ × Place)) → HasMet l.initial.self names → HasMet l.self (names ++ map name_and_place (take l.name-index l.list))
+invariant-loop-name l = (names : List (ℕ × Place)) → HasMet l.initial.self names
+    → HasMet l.self (names ++ map name_and_place (take l.name-index l.list))

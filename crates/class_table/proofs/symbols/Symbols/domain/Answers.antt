@@ -10,4 +10,5 @@ returns-in-Range c = λ h.
     simp to_z-of_z (domain_range _ _ _ _ c.in-Range.is h)
 
 pub returns-in_ok-numbers-in-Symbols : goal.returns-in_ok-numbers-in-Symbols
-returns-in_ok-numbers-in-Symbols c = λ h. domain_symbols _ _ _ _ _ c.in-Symbols.is (rw c.deref.ensures.value at (c.in_ok-numbers-in-Symbols.ensures h))
+returns-in_ok-numbers-in-Symbols c =
+    λ h. domain_symbols _ _ _ _ _ c.in-Symbols.is (rw c.deref.ensures.value at (c.in_ok-numbers-in-Symbols.ensures h))

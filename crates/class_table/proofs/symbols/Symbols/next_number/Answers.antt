@@ -7,5 +7,6 @@ use Rattle.class_table.proofs.symbols.Symbols.next_number.Goals as goal
 pub returns : goal.returns
 returns c = λ h e. number_new c.args.self.now _ c.args.name.n c.in-Ok.number e
     (let e = c.in-Ok.ensures in let f = c.len.ensures in let g = length_map (λ (x : NameId). x.n) c.args.self.now.list.items in omega arith)
-    (ap (map (λ (x : NameId). x.n)) c.in_ok-push.ensures.items ∙ map_join (λ (x : NameId). x.n) c.args.self.now.list.items _)
+    (ap (map (λ (x : NameId). x.n)) c.in_ok-push.ensures.items
+    ∙ map_join (λ (x : NameId). x.n) c.args.self.now.list.items _)
     c.in_ok-insert.ensures.updates.0 h

@@ -3,7 +3,8 @@ use Rattle.class_table.proofs.Numbered.{number_known}
 use Rattle.class_table.proofs.symbols.Symbols.number.Goals as goal
 
 pub returns-in-Some : goal.returns-in-Some
-returns-in-Some c = λ h. number_known c.args.self.now c.args.name.n c.in-Some.number (sym c.get.ensures.value ∙ (sym c.copied.ensures ∙ c.in-Some.is)) h
+returns-in-Some c = λ h. number_known c.args.self.now c.args.name.n c.in-Some.number
+    (sym c.get.ensures.value ∙ (sym c.copied.ensures ∙ c.in-Some.is)) h
 
 pub returns-in-None : goal.returns-in-None
 returns-in-None c = λ h. c.next_number.ensures h (sym c.get.ensures.value ∙ (sym c.copied.ensures ∙ c.in-None.is))

@@ -20,12 +20,17 @@ loop-name-preserved c = λ h.
     let s = stands_get c.args.names.now c.loop-name.name-index none l in
     let g = c.loop-name.invariant h in
     let k = numbers_next _ _ _ _ _ _ _ (get_or c.args.names.now c.loop-name.name-index none) _ c.in_ok-push.ensures.items g (c.in_ok-number.ensures g.0.numbered) in (
-      subst (λ (xs : List ℕ). UsesMore xs c.args.self.now c.number.new.self) (sym (map_next (λ (n : NameId × Place). n.0.n) c.args.names.now c.loop-name.name-index _ s)) k.0,
-      subst (λ (ns : List (NameId × Place)). Along (λ (n : NameId × Place) (m : ℕ). Stands (list_of c.number.new.self) m n.0.n) ns c.push.new.self.items) (sym (take_next c.args.names.now c.loop-name.name-index _ s)) k.1,
+      subst (λ (xs : List ℕ). UsesMore xs c.args.self.now c.number.new.self)
+          (sym (map_next (λ (n : NameId × Place). n.0.n) c.args.names.now c.loop-name.name-index _ s)) k.0,
+      subst (λ (ns : List (NameId × Place)). Along
+          (λ (n : NameId × Place) (m : ℕ). Stands (list_of c.number.new.self) m n.0.n) ns c.push.new.self.items)
+          (sym (take_next c.args.names.now c.loop-name.name-index _ s)) k.1,
     )
 
 pub returns : goal.returns
 returns c = λ h.
     let e = take_all c.loop-name.name-index c.args.names.now (omega arith) in
-    subst (λ (ns : List (NameId × Place)). UsesMore (map (λ (n : NameId × Place). n.0.n) ns) c.args.self.now c.loop-name.self × Along (λ (n : NameId × Place) (k : ℕ). Stands (list_of c.loop-name.self) k n.0.n) ns c.loop-name.numbers.items) e
+    subst (λ (ns : List (NameId × Place)). UsesMore (map (λ (n : NameId × Place). n.0.n) ns) c.args.self.now
+    c.loop-name.self × Along (λ (n : NameId × Place) (k : ℕ). Stands (list_of c.loop-name.self) k n.0.n) ns
+    c.loop-name.numbers.items) e
     (c.loop-name.invariant h)

@@ -6,5 +6,7 @@ use Rattle.class_table.specs.Symbols.{AreNumbered, UsesMore, list_of}
 use Rattle.class_table.proofs.symbols.Symbols.numbers.Given as goal
 
 abbrev pub invariant-loop-name : goal.invariant-loop-name
-invariant-loop-name l = AreNumbered l.initial.self → UsesMore (map (λ (n : NameId × Place). n.0.n) (take l.name-index l.names)) l.initial.self l.self
-    × Along (λ (n : NameId × Place) (k : ℕ). Stands (list_of l.self) k n.0.n) (take l.name-index l.names) l.numbers.items
+invariant-loop-name l = AreNumbered l.initial.self
+    → UsesMore (map (λ (n : NameId × Place). n.0.n) (take l.name-index l.names)) l.initial.self l.self
+    × Along (λ (n : NameId × Place) (k : ℕ). Stands (list_of l.self) k n.0.n) (take l.name-index l.names)
+    l.numbers.items

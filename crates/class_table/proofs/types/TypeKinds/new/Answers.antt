@@ -15,8 +15,10 @@ loop-name-init c = λ x. ap (lookup (nat_eq x)) c.new.ensures.empty
 
 pub loop-name-preserved : goal.loop-name-preserved
 loop-name-preserved c =
-    let e = take_item c.args.types.now c.loop-name.name-index c.loop-name-item.result (omega arith) c.loop-name-item.is in
-    subst (λ (ts : List (NameId × TypeBody)). (x : ℕ) → kind_at c.add.new.self x ≡ kind_in ts x) (sym e) (c.in_ok-add.ensures _ c.loop-name.invariant)
+    let e = take_item c.args.types.now c.loop-name.name-index c.loop-name-item.result (omega arith)
+    c.loop-name-item.is in
+    subst (λ (ts : List (NameId × TypeBody)). (x : ℕ) → kind_at c.add.new.self x ≡ kind_in ts x) (sym e)
+    (c.in_ok-add.ensures _ c.loop-name.invariant)
 
 pub returns : goal.returns
 returns c = λ d a.

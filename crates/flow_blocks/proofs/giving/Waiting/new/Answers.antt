@@ -14,7 +14,8 @@ given_is : (c : goal.After-new) → c.in_ok-vec.field-0.items ≡ replicate c.le
 given_is c = c.in_ok-vec.ensures.items_if_clones_equal (search rules)
 
 pub returns-clause-given : goal.returns-clause-given
-returns-clause-given c = λ e g. none_marked c.len-count.result e (subst (λ (l : List Bool). Stands l e true) (given_is c) g)
+returns-clause-given c = λ e g. none_marked c.len-count.result e
+    (subst (λ (l : List Bool). Stands l e true) (given_is c) g)
 
 number : (c : goal.After-new) → c.len-count.result ≡ length c.args.table.now.blocks.items
 number c = c.len-count.ensures ∙ c.args.table.now.blocks.ok.0
@@ -35,6 +36,11 @@ returns-clause-waits c = λ pending all below.
       watching = λ d e one. absurd (c.in_ok-empty_lists.ensures.none d e one);
       targets = λ e d one. crossing e d ((c.in_ok-class_targets.ensures.targets e d).0 one);
       left = λ e d free x. inr (inr ((c.in_ok-class_targets.ensures.targets e d).1 (back e d x)));
-      closed = λ e d g x. absurd (none_marked c.len-count.result e (subst (λ (l : List Bool). Stands l e true) (given_is c) g));
-      to_look_at = λ e one. (below e one, λ g. none_marked c.len-count.result e (subst (λ (l : List Bool). Stands l e true) (given_is c) g));
+      closed = λ e d g x. absurd (none_marked c.len-count.result e
+          (subst (λ (l : List Bool). Stands l e true) (given_is c) g));
+      to_look_at = λ e one. (
+        below e one,
+        λ g. none_marked c.len-count.result e
+            (subst (λ (l : List Bool). Stands l e true) (given_is c) g),
+      );
     }

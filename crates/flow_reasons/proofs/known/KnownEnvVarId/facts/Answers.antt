@@ -9,12 +9,15 @@ returns-then-place-self c =
     let t = c.args.self.now.values.now in
     let n = c.args.v.now.n in
     let e : 1 ≡ n + 1 - n = omega arith in
-    let k : true ≡ is_fact_found (slice_get c.args.self.now.marks.now n) = sym c.if-not-is_known.false ∙ c.is_known.ensures in
-    subst (λ (k : ℕ). take k (drop n t) ≡ values_at t n) e (one_there t n c.if-place-self.true) ∙ ap (λ (b : Bool). if b then values_at t n else []) k
+    let k : true ≡ is_fact_found (slice_get c.args.self.now.marks.now n) =
+    sym c.if-not-is_known.false ∙ c.is_known.ensures in
+    subst (λ (k : ℕ). take k (drop n t) ≡ values_at t n) e (one_there t n c.if-place-self.true)
+    ∙ ap (λ (b : Bool). if b then values_at t n else []) k
 
 pub returns-else-place-self : goal.returns-else-place-self
 returns-else-place-self c =
     let t = c.args.self.now.values.now in
     let n = c.args.v.now.n in
-    let k : true ≡ is_fact_found (slice_get c.args.self.now.marks.now n) = sym c.if-not-is_known.false ∙ c.is_known.ensures in
+    let k : true ≡ is_fact_found (slice_get c.args.self.now.marks.now n) =
+    sym c.if-not-is_known.false ∙ c.is_known.ensures in
     one_past t n c.if-place-self.false ∙ ap (λ (b : Bool). if b then values_at t n else []) k

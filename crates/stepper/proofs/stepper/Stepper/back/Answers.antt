@@ -15,17 +15,21 @@ use Rattle.stepper.proofs.stepper.Stepper.back.Goals as goal
 pub restore-requires-clause-long : goal.restore-requires-clause-long
 restore-requires-clause-long c =
     let s = c.self.inside in
-    (told_back s.gts.now (point_of s) s.steps.items c.pop.new.self.items c.in-Some.changed c.in-Some.ensures.items c.self.invariant.told).0.long
+    (told_back s.gts.now (point_of s) s.steps.items c.pop.new.self.items c.in-Some.changed c.in-Some.ensures.items
+    c.self.invariant.told).0.long
 
 pub returns-clause-changed : goal.returns-clause-changed
 returns-clause-changed c =
     let s = c.self.inside in
     let step = c.in-Some.changed in
     let xs = step.flows.variables.items in
-    let told = (told_back s.gts.now (point_of s) s.steps.items c.pop.new.self.items step c.in-Some.ensures.items c.self.invariant.told).0 in
+    let told = (told_back s.gts.now (point_of s) s.steps.items c.pop.new.self.items step c.in-Some.ensures.items
+    c.self.invariant.told).0 in
     let here = (point_of s).values in
     let there = (before s.gts.now (point_of s) step).values in
-    let back : c.restore.new.present.determined.values.values.items ≡ there = c.restore.ensures.values ∙ ap (λ (z : GtsParts). restored z here xs step.flows.old.items) c.parts.ensures.parts in
+    let back : c.restore.new.present.determined.values.values.items ≡ there =
+    c.restore.ensures.values ∙ ap (λ (z : GtsParts). restored z here xs step.flows.old.items)
+    c.parts.ensures.parts in
     let seen : here ≡ c.args.self.now.values = ap (λ (z : Standing). z.values) c.self.view_is in
     subst (λ (z : List Value). AreChanges z c.restore.new.present.determined.values.values.items xs) seen
     (subst (λ (z : List Value). AreChanges here z xs) (sym back) (changes_back there here xs told.changes))
@@ -39,15 +43,21 @@ invariant_of-self-2 c =
     let here = point_of s in
     let there = before p here step in
     let told = told_back p here s.steps.items rest step c.in-Some.ensures.items c.self.invariant.told in
-    let values : c.restore.new.present.determined.values.values.items ≡ there.values = c.restore.ensures.values ∙ ap (λ (z : GtsParts). restored z here.values step.flows.variables.items step.flows.old.items) c.parts.ensures.parts in
+    let values : c.restore.new.present.determined.values.values.items ≡ there.values =
+    c.restore.ensures.values ∙ ap (λ (z : GtsParts). restored z here.values step.flows.variables.items
+    step.flows.old.items) c.parts.ensures.parts in
     let can : c.turn.new.flags.items ≡ there.can = c.turn.ensures ∙ ap (turned s.can.items) c.deref.ensures.value in
-    let same : point_at c.restore.new.present c.turn.new.flags.items ≡ there = same_point (point_at c.restore.new.present c.turn.new.flags.items) there values c.restore.ensures.known can in
-    let point : IsPoint p (point_at c.restore.new.present c.turn.new.flags.items) = subst (λ (z : Point). IsPoint p z) (sym same) told.0.point in
+    let same : point_at c.restore.new.present c.turn.new.flags.items ≡ there =
+    same_point (point_at c.restore.new.present c.turn.new.flags.items) there values c.restore.ensures.known
+    can in
+    let point : IsPoint p (point_at c.restore.new.present c.turn.new.flags.items) =
+    subst (λ (z : Point). IsPoint p z) (sym same) told.0.point in
     record {
       present = record {
         determined = point.determined;
         long = ap length c.restore.ensures.marks ∙ c.self.invariant.present.long;
-        unset = λ n st. c.self.invariant.present.unset n (subst (λ (z : List Bool). Stands z n true) c.restore.ensures.marks st);
+        unset = λ n st. c.self.invariant.present.unset n
+            (subst (λ (z : List Bool). Stands z n true) c.restore.ensures.marks st);
       };
       flags = point.flags;
       told = subst (λ (z : Point). AreTold p z (reverse rest)) (sym same) told.1;

@@ -9,4 +9,5 @@ pub returns : goal.returns
 returns c =
     let s = c.self.inside in
     let count : c.len.result ≡ length s.steps.items = omega (arith, s.steps.ok.0) in
-    count ∙ sym (length-reverse s.steps.items) ∙ sym (below_long s.gts.now (point_of s) (reverse s.steps.items)) ∙ ap (λ (z : Standing). length z.below) c.self.view_is
+    count ∙ sym (length-reverse s.steps.items) ∙ sym (below_long s.gts.now (point_of s) (reverse s.steps.items))
+    ∙ ap (λ (z : Standing). length z.below) c.self.view_is

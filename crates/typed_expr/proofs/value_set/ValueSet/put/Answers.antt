@@ -12,14 +12,16 @@ returns-then-is_full-clause-err c =
     let at : GoesAt c.self.inside.items.items c.args.v c.in-Some.place =
     subst (λ (xs : List Value). GoesAt xs c.args.v c.in-Some.place) c.as_slice.ensures c.in-Some.ensures in
     subst (λ (xs : List Value). Refuses c.args.most xs c.args.v TooMany) c.self.view_is
-    (refuses c.args.most c.self.inside.items.items c.args.v c.in-Some.place c.len.result at c.self.invariant c.len.ensures.value c.if-is_full.ensures)
+    (refuses c.args.most c.self.inside.items.items c.args.v c.in-Some.place c.len.result at c.self.invariant
+    c.len.ensures.value c.if-is_full.ensures)
 
 pub invariant_of-self : goal.invariant_of-self
 invariant_of-self c =
     let at : GoesAt c.self.inside.items.items c.args.v c.in-Some.place =
     subst (λ (xs : List Value). GoesAt xs c.args.v c.in-Some.place) c.as_slice.ensures c.in-Some.ensures in
     either_way c.insert.result c.insert.ensures.ok c.insert.ensures.err
-    (λ h. subst IsAscending (sym h) (ascending-insert c.self.inside.items.items c.in-Some.place c.args.v at c.self.invariant))
+    (λ h. subst IsAscending (sym h) (ascending-insert c.self.inside.items.items c.in-Some.place c.args.v
+    at c.self.invariant))
     (λ h. subst IsAscending (sym (ap (λ s. s.items) h)) c.self.invariant)
 
 pub returns-clause-ok : goal.returns-clause-ok
@@ -27,14 +29,17 @@ returns-clause-ok c =
     let at : GoesAt c.self.inside.items.items c.args.v c.in-Some.place =
     subst (λ (xs : List Value). GoesAt xs c.args.v c.in-Some.place) c.as_slice.ensures c.in-Some.ensures in
     let put =
-    inserts c.args.most c.self.inside.items.items c.args.v c.in-Some.place c.len.result at c.len.ensures.value c.if-is_full.ensures in
+    inserts c.args.most c.self.inside.items.items c.args.v c.in-Some.place c.len.result at c.len.ensures.value
+    c.if-is_full.ensures in
     let put_here : Inserts c.args.most c.args.self.now c.args.v
     (insert c.self.inside.items.items c.in-Some.place c.args.v)
     = subst
-    (λ (xs : List Value). Inserts c.args.most xs c.args.v (insert c.self.inside.items.items c.in-Some.place c.args.v)) c.self.view_is put in
+    (λ (xs : List Value). Inserts c.args.most xs c.args.v (insert c.self.inside.items.items c.in-Some.place c.args.v))
+    c.self.view_is put in
     elim c.match-insert.branch [
       | in-Ok w ↦
           on_ok c.match-insert.result tt w.result-is
-          (subst (λ (xs : List Value). Inserts c.args.most c.args.self.now c.args.v xs) (sym w.in-Ok.ensures.ok) put_here)
+          (subst (λ (xs : List Value). Inserts c.args.most c.args.self.now c.args.v xs) (sym w.in-Ok.ensures.ok)
+          put_here)
       | in-Err w ↦ on_err _ c.match-insert.result _ w.result-is
     ]

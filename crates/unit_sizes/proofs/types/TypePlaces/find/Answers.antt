@@ -17,15 +17,20 @@ returns-in_err-place c = λ d a known.
 
 pub returns-in-Some : goal.returns-in-Some
 returns-in-Some c = λ d a known.
-    let e : hash.get nat_eq c.args.self.now.places c.args.name.n ≡ Some c.in_ok-place.field-0.now = sym c.in_ok-place.ensures.value in
-    let w = found_some d c.args.types.now a c.args.name.n c.in_ok-place.field-0.now (sym (known.each c.args.name.n) ∙ e) in
-    let s = item_stands c.args.types.now c.in_ok-place.field-0.now c.in-Some.found.now c.in-Some.ensures.lookup.3.0 c.in-Some.ensures.lookup.1 in
+    let e : hash.get nat_eq c.args.self.now.places c.args.name.n ≡ Some c.in_ok-place.field-0.now =
+    sym c.in_ok-place.ensures.value in
+    let w = found_some d c.args.types.now a c.args.name.n c.in_ok-place.field-0.now
+    (sym (known.each c.args.name.n) ∙ e) in
+    let s = item_stands c.args.types.now c.in_ok-place.field-0.now c.in-Some.found.now c.in-Some.ensures.lookup.3.0
+    c.in-Some.ensures.lookup.1 in
     let same = stands_one c.args.types.now c.in_ok-place.field-0.now w.0 c.in-Some.found.now w.1 s in
     rw same at w.2
 
 pub returns-in-None : goal.returns-in-None
 returns-in-None c = λ d a known.
-    let e : hash.get nat_eq c.args.self.now.places c.args.name.n ≡ Some c.in_ok-place.field-0.now = sym c.in_ok-place.ensures.value in
-    let w = found_some d c.args.types.now a c.args.name.n c.in_ok-place.field-0.now (sym (known.each c.args.name.n) ∙ e) in
+    let e : hash.get nat_eq c.args.self.now.places c.args.name.n ≡ Some c.in_ok-place.field-0.now =
+    sym c.in_ok-place.ensures.value in
+    let w = found_some d c.args.types.now a c.args.name.n c.in_ok-place.field-0.now
+    (sym (known.each c.args.name.n) ∙ e) in
     let l = stands_within c.args.types.now c.in_ok-place.field-0.now w.0 w.1 in
     absurd (omega (arith, c.in-None.ensures.lookup.3))

@@ -10,6 +10,9 @@ pub returns-in-Declare : goal.returns-in-Declare
 unfolding out-Member denote.Hole.Carrier.out
 returns-in-Declare c = λ d s holds known. rw c.in-Declare.is (
     let kind = rw c.deref.ensures.value at (c.declared-kind.ensures d s holds known) in
-    let entries = ap (λ (o : Option Settable). same_entries o c.in-Declare.names.items) kind ∙ sym (declared_entries s (declared_kind d s c.in-Declare.type_name.form c.in-Declare.settings.items) c.in-Declare.names.items) in
-    subst (λ (es : List (ℕ × Settable)). OnOk c.keep_all.result (Adds c.args.body.n es c.args.self.now c.keep_all.new.self)) entries
+    let entries = ap (λ (o : Option Settable). same_entries o c.in-Declare.names.items) kind
+    ∙ sym (declared_entries s (declared_kind d s c.in-Declare.type_name.form c.in-Declare.settings.items)
+    c.in-Declare.names.items) in
+    subst (λ (es : List (ℕ × Settable)). OnOk c.keep_all.result
+    (Adds c.args.body.n es c.args.self.now c.keep_all.new.self)) entries
     (rw c.deref-in-Declare.ensures.value at c.keep_all.ensures))

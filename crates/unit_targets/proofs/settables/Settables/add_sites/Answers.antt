@@ -20,5 +20,6 @@ loop-site-preserved c = λ d holds known.
     let s = stands_get c.args.sites.now c.loop-site.site-index none l in
     let e = map_next site_of c.args.sites.now c.loop-site.site-index _ s in
     let before = map site_of (take c.loop-site.site-index c.args.sites.now) in
-    subst (λ (es : List (ℕ × Settable)). Adds c.args.body.n es c.args.self.now c.add_site.new.self) (sym (ap (λ (ss : List Site). entries_of (named_at d ss)) e ∙ sites_next d before _))
+    subst (λ (es : List (ℕ × Settable)). Adds c.args.body.n es c.args.self.now c.add_site.new.self)
+    (sym (ap (λ (ss : List Site). entries_of (named_at d ss)) e ∙ sites_next d before _))
     (adds_more c.args.body.n _ _ _ _ _ (c.loop-site.invariant d holds known) (c.in_ok-add_site.ensures d holds known))

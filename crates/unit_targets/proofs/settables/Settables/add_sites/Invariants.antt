@@ -8,4 +8,5 @@ use Rattle.unit_targets.proofs.settables.Settables.add_sites.Given as goal
 
 -- the entries of the members up to here were added
 abbrev pub invariant-loop-site : goal.invariant-loop-site
-invariant-loop-site l = (d : Declared) → Holds d l.classes → KnowsPlaces l.classes.types.items l.places → Adds l.body.n (entries_of (named_at d (map site_of (take l.site-index l.sites)))) l.fn.self l.self
+invariant-loop-site l = (d : Declared) → Holds d l.classes → KnowsPlaces l.classes.types.items l.places
+    → Adds l.body.n (entries_of (named_at d (map site_of (take l.site-index l.sites)))) l.fn.self l.self

@@ -7,11 +7,17 @@ use Rattle.unit_targets.proofs.settables.Settables.new.Goals as goal
 pub loop-outline-preserved : goal.loop-outline-preserved
 loop-outline-preserved c = λ m units h.
     let l : c.loop-outline.outline-index < length c.args.outlines.now = omega arith in
-    let none : Outline = record { name = record { n = 0; of = record {} }; owner = None; body = record { n = 0; of = record {} }; set_at = None } in
+    let none : Outline = record {
+      name = record { n = 0; of = record {} };
+      owner = None;
+      body = record { n = 0; of = record {} };
+      set_at = None;
+    } in
     let s = stands_get c.args.outlines.now c.loop-outline.outline-index none l in
     let w = along_back units c.args.outlines.now h.along c.loop-outline.outline-index _ s in
     let known = rw c.deref.ensures.value at c.in_ok-places.ensures in
-    settables_next m units c.loop-outline.outline-index _ w.0 _ _ w.1 w.2.body (c.loop-outline.invariant m units h) (c.in_ok-add_body.ensures m h.table.table known)
+    settables_next m units c.loop-outline.outline-index _ w.0 _ _ w.1 w.2.body (c.loop-outline.invariant m units h)
+    (c.in_ok-add_body.ensures m h.table.table known)
 
 pub returns : goal.returns
 returns c = λ m units h.

@@ -7,4 +7,5 @@ use Rattle.unit_targets.proofs.settables.Settables.new.Given as goal
 
 -- the entries of the units up to here are kept
 abbrev pub invariant-loop-outline : goal.invariant-loop-outline
-invariant-loop-outline l = (m : RootedModel) (units : List UnitPath) → AreOutlines m units l.classes l.outlines → AreSettablesTo m units l.outline-index l.settables
+invariant-loop-outline l = (m : RootedModel) (units : List UnitPath) → AreOutlines m units l.classes l.outlines
+    → AreSettablesTo m units l.outline-index l.settables

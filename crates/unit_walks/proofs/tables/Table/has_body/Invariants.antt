@@ -8,7 +8,8 @@ use Rattle.unit_walks.proofs.TableSteps.{IsUp}
 use Rattle.unit_walks.proofs.tables.Table.has_body.Given as goal
 
 abbrev pub invariant-up : goal.invariant-up
-invariant-up l = (m : RootedModel) (frames : List Frame) (u : UnitPath) → IsTable m frames l.self → Stands (paths_of l.self) l.unit u → IsUp m (paths_of l.self) u l.at l.body.n
+invariant-up l = (m : RootedModel) (frames : List Frame) (u : UnitPath) → IsTable m frames l.self
+    → Stands (paths_of l.self) l.unit u → IsUp m (paths_of l.self) u l.at l.body.n
 
 abbrev pub decreases-up : goal.decreases-up
 decreases-up l = l.at

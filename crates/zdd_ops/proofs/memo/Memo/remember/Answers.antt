@@ -7,5 +7,10 @@ pub returns-clause-entry : goal.returns-clause-entry
 returns-clause-entry c =
     let mid = c.if-len-ge-MOST_RESULTS.self-inside.results.entries in
     remember_from c.args.operation c.args.number c.args.self.now mid c.insert.new.self.entries
-    (elim c.if-len-ge-MOST_RESULTS.branch [ then-len-ge-MOST_RESULTS w ↦ inr (ap (λ m. m.results.entries) w.self-inside-is ∙ w.clear.ensures.empty) | else-len-ge-MOST_RESULTS w ↦ inl (ap (λ m. m.results.entries) w.self-inside-is ∙ c.self.view_is) ])
-    (remember_after _ c.insert.result c.args.operation c.args.number mid c.insert.new.self.entries c.insert.ensures.updates c.insert.ensures.err (λ u. derived_updates c.args.operation c.args.number mid c.insert.new.self.entries u.0))
+    (elim c.if-len-ge-MOST_RESULTS.branch [
+      | then-len-ge-MOST_RESULTS w ↦ inr (ap (λ m. m.results.entries) w.self-inside-is ∙ w.clear.ensures.empty)
+      | else-len-ge-MOST_RESULTS w ↦ inl (ap (λ m. m.results.entries) w.self-inside-is ∙ c.self.view_is)
+    ])
+    (remember_after _ c.insert.result c.args.operation c.args.number mid c.insert.new.self.entries
+    c.insert.ensures.updates c.insert.ensures.err
+    (λ u. derived_updates c.args.operation c.args.number mid c.insert.new.self.entries u.0))

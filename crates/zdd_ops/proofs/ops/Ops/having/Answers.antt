@@ -8,5 +8,7 @@ use Rattle.zdd_ops.proofs.ops.Ops.having.Goals as goal
 
 pub returns-clause-full : goal.returns-clause-full
 returns-clause-full c =
-    subst (λ (v : Stored). c.having_in.result ≡ Err Full → IsMoreThan v.limit (λ h. IsStored h v ⊎ IsCounted (having (family v c.args.f.n) c.args.event.n) h)) c.self.view_is
+    subst (λ (v : Stored). c.having_in.result ≡ Err Full
+    → IsMoreThan v.limit (λ h. IsStored h v ⊎ IsCounted (having (family v c.args.f.n) c.args.event.n) h))
+    c.self.view_is
     (more_than_limit _ _ c.self.inside.store c.having_in.new.store c.having_in.result c.having_in.ensures.drawn)

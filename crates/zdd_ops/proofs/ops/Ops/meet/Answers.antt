@@ -8,5 +8,7 @@ use Rattle.zdd_ops.proofs.ops.Ops.meet.Goals as goal
 
 pub returns-clause-full : goal.returns-clause-full
 returns-clause-full c =
-    subst (λ (v : Stored). c.join_in.result ≡ Err Full → IsMoreThan v.limit (λ h. IsStored h v ⊎ IsCounted (meet (family v c.args.f.n) (family v c.args.g.n)) h)) c.self.view_is
+    subst (λ (v : Stored). c.join_in.result ≡ Err Full
+    → IsMoreThan v.limit (λ h. IsStored h v ⊎ IsCounted (meet (family v c.args.f.n) (family v c.args.g.n)) h))
+    c.self.view_is
     (more_than_limit _ _ c.self.inside.store c.join_in.new.store c.join_in.result c.join_in.ensures.drawn)

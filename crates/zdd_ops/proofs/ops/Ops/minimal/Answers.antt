@@ -7,5 +7,6 @@ use Rattle.zdd_ops.proofs.ops.Ops.minimal.Goals as goal
 
 pub returns-clause-full : goal.returns-clause-full
 returns-clause-full c =
-    subst (λ (v : Stored). c.minimal_in.result ≡ Err Full → IsMoreThan v.limit (λ h. IsStored h v ⊎ IsHalf (family v c.args.f.n) h)) c.self.view_is
+    subst (λ (v : Stored). c.minimal_in.result ≡ Err Full
+    → IsMoreThan v.limit (λ h. IsStored h v ⊎ IsHalf (family v c.args.f.n) h)) c.self.view_is
     (more_than_limit _ _ c.self.inside.store c.minimal_in.new.store c.minimal_in.result c.minimal_in.ensures.drawn)

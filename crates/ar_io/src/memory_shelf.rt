@@ -52,7 +52,8 @@ impl MemoryShelf {
     /// Puts a text under a name. A name that was placed before has the new bytes. After a refusal
     /// the shelf is as it was.
     pub fn place(&mut self, name: &str, bytes: &[u8]) -> Result<(), Memory>
-        ensures placed { OnOk result ((other : List ℕ) → held_of self.new.texts other ≡ (if bytes_eq name.now other then Some bytes.now else held_of self.old.texts other)) }
+        ensures placed { OnOk result ((other : List ℕ) → held_of self.new.texts other
+            ≡ (if bytes_eq name.now other then Some bytes.now else held_of self.old.texts other)) }
         ensures err { OnErr result (self.new.texts ≡ self.old.texts) }
         ensures failing { self.new.failing ≡ self.old.failing }
         ensures calls { self.new.calls ≡ self.old.calls }

@@ -268,7 +268,8 @@ impl<'a> Parser<'a> {
 
     /// Takes "!" or "?": true for "!".
     fn must(&mut self) -> Result<bool, Refusal>
-        ensures found { Takes (λ must. token (Sign (if must then EXCLAMATION else QUESTION))) result self.old.rest.now self.new.rest.now }
+        ensures found { Takes (λ must. token (Sign (if must then EXCLAMATION else QUESTION))) result
+            self.old.rest.now self.new.rest.now }
         ensures only { (left : ℕ) → Finds (λ _. one_of is_part) anything left result
             self.old.rest.now self.new.rest.now }
         ensures stuck { (left : ℕ) → Halts (λ _. one_of is_part) left result self.old.rest.now

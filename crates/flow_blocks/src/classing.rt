@@ -136,7 +136,8 @@ fn is_other(count: u32, rows: &[Vec<u64>], least: u32, number: u32) -> bool
 
 /// Adds a number where it is a member.
 fn add_if(is_member: bool, number: u32, members: &mut Vec<u32>) -> Result<(), Memory>
-    ensures { IfOk result (λ _. members.new.items ≡ (if is_member then members.old.items ++ number ∷ [] else members.old.items)) }
+    ensures { IfOk result (λ _. members.new.items
+        ≡ (if is_member then members.old.items ++ number ∷ [] else members.old.items)) }
 {
     if is_member {
         members.push(number)?;

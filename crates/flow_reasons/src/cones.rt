@@ -86,7 +86,8 @@ fn rests_upon(reasons: &[Reason], variable: u32) -> &[VarId]
 
 // The variables that the reason rests on, where it is that of this variable.
 fn rests_of(reason: &Reason, variable: u32) -> &[VarId]
-    ensures { result.now ≡ (if reason.now.flow.n == variable then reason.now.rests_on.items else []) }
+    ensures { result.now
+        ≡ (if reason.now.flow.n == variable then reason.now.rests_on.items else []) }
 {
     if reason.flow.n == variable {
         &reason.rests_on

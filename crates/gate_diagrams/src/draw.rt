@@ -59,7 +59,8 @@ fn next_gate(
         (length table.now) (gate_of next.now) table.now ops.old }
     ensures drawn { Draws (IsNeeded (family ops.old firable.n) (map gate_of gates.now)
         (operand_of root))
-        (cond marked (family_at (family ops.old firable.n) (map gate_of gates.now) (GateIs (length table.now) true)) [])
+        (cond marked (family_at (family ops.old firable.n) (map gate_of gates.now)
+        (GateIs (length table.now) true)) [])
         ops.old ops.new result }
 {
     if marked {

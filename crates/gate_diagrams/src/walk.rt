@@ -29,7 +29,8 @@ pub(crate) fn walk(
     ensures sound { OnOk result (IsSoundStore ops.new) }
     ensures walked { AreWalked trees.now ops.new walked.new }
     ensures drawn { (n : ℕ) → AreEventsBelow n (families_left trees.now left.items)
-        → let made = left_of n 0 (families_left trees.now left.items) in Draws (IsCounted made) made ops.old ops.new result }
+        → let made = left_of n 0 (families_left trees.now left.items) in
+        Draws (IsCounted made) made ops.old ops.new result }
 {
     if is_dead(&left) {
         return Ok(NodeId::new(0));

@@ -98,7 +98,8 @@ fn way_line<K: Sink>(
     requires same { stepper.now.system ≡ gts.now }
     requires inside { way.n < length gts.now.ways.items }
     ensures { (can : ℕ → Bool) → AreAnswers gts.now stepper.now.values can
-        → Writes (K.state out.old) (K.state out.new) (if can way.n then line (codes "  " ++ way_label gts.now way.n) else []) result }
+        → Writes (K.state out.old) (K.state out.new)
+        (if can way.n then line (codes "  " ++ way_label gts.now way.n) else []) result }
 {
     if stepper.enabled(way) {
         label_line(out, gts, way)

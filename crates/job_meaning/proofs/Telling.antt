@@ -48,7 +48,7 @@ use Rattle.altarica_run.specs.declared.refusals.Refusal.{Refusal}
 use Rattle.altarica_run.specs.declared.status.Status.{Status}
 use Rattle.altarica_run.specs.declared.status.Status.TheVariants.{Done, Fault, Nodes}
 use Rattle.altarica_run.proofs.ExplainLemmas.{settled_flows}
-use Rattle.job_meaning.specs.Definite.{IsDefinite, SaysOf, AgreeButNodes}
+use Rattle.job_meaning.specs.Definite.{IsDefinite, SaysOf, AgreeButNodes, EndAlike}
 use Rattle.job_meaning.specs.Definite as says
 use Rattle.job_meaning.proofs.Asking.{OneList, same_some}
 use Rattle.job_meaning.proofs.Cuts.{forest_text_one, cut_text_one, conflict_text_one, no_conflict, check_text_one}
@@ -363,21 +363,67 @@ module _ (job : Job) (w : Ready) where
       → Tells job w s a → Tells job w t b → AgreeButNodes s a t b
   tells_one n fit s t a b p q = told_one job.command n fit s t a b (told_by job w s a p) (told_by job w t b q)
 
+-- Ends
+
+alike : (s t : List ℕ) (a b : Status) → AgreeButNodes s a t b → EndAlike a b
+alike s t a b (inl p) = inl p.1
+alike s t a b (inr p) = inr p
+
+module _ (job : Job) (w : Ready) where
+  told_ends : (v : Verb) → IsFitWhere (is_static v) w → (s t : List ℕ) (a b : Status) → Told v job w s a
+      → Told v job w t b → EndAlike a b
+  told_ends verb.Flat fit s t a b p q = inl (p.1 ∙ sym q.1)
+  told_ends verb.Check fit s t a b p q =
+      alike s t a b (told_one job w verb.Check (λ e. let z : verb.Check ≡ verb.Flat = e in cc) fit s t a b p q)
+  told_ends verb.Replay fit s t a b p q =
+      alike s t a b (told_one job w verb.Replay (λ e. let z : verb.Replay ≡ verb.Flat = e in cc) fit s t a b p q)
+  told_ends verb.Fragment fit s t a b p q =
+      alike s t a b (told_one job w verb.Fragment (λ e. let z : verb.Fragment ≡ verb.Flat = e in cc) fit s t a b p q)
+  told_ends verb.Equations fit s t a b p q =
+      alike s t a b (told_one job w verb.Equations (λ e. let z : verb.Equations ≡ verb.Flat = e in cc) fit s t a b p q)
+  told_ends verb.Cuts fit s t a b p q =
+      alike s t a b (told_one job w verb.Cuts (λ e. let z : verb.Cuts ≡ verb.Flat = e in cc) fit s t a b p q)
+  told_ends verb.Make fit s t a b p q =
+      alike s t a b (told_one job w verb.Make (λ e. let z : verb.Make ≡ verb.Flat = e in cc) fit s t a b p q)
+  told_ends verb.Explain fit s t a b p q =
+      alike s t a b (told_one job w verb.Explain (λ e. let z : verb.Explain ≡ verb.Flat = e in cc) fit s t a b p q)
+  told_ends verb.CheckCuts fit s t a b p q =
+      alike s t a b (told_one job w verb.CheckCuts (λ e. let z : verb.CheckCuts ≡ verb.Flat = e in cc) fit s t a b p q)
+  told_ends verb.Modules fit s t a b p q =
+      alike s t a b (told_one job w verb.Modules (λ e. let z : verb.Modules ≡ verb.Flat = e in cc) fit s t a b p q)
+
+  pub ends_alike : IsFitWhere (is_static job.command) w → (s t : List ℕ) (a b : Status) → Tells job w s a
+      → Tells job w t b → EndAlike a b
+  ends_alike fit s t a b p q = told_ends job.command fit s t a b (told_by job w s a p) (told_by job w t b q)
+
 -- Refusals and texts
 
-refused_same : (r q : Refusal) → r ≡ q → (line_of r ≡ line_of q) × (status_of r ≡ status_of q)
-refused_same r q e = (ap line_of e, ap status_of e)
-
-module _ (one_list : OneList) (x : Elaborated) (is : IsDefinite x) (job : Job) (not_flat : job.command ≢ verb.Flat)
-    (texts : List (List ℕ)) where
-  pub saying_one : (s t : List ℕ) (a b : Status) → SaysOf job texts x s a → SaysOf job texts x t b
-      → AgreeButNodes s a t b
-  saying_one s t a b (says.refuses {r = r} h) (says.refuses {r = q} k) =
-      inl (refused_same r q (same_err r q (readies_one job texts one_list x is (Err r) (Err q) h k)))
-  saying_one s t a b (says.refuses {r = r} h) (says.tells {w = w} k m) =
+module _ (one_list : OneList) (x : Elaborated) (is : IsDefinite x) (job : Job) (texts : List (List ℕ)) where
+  -- where both are told alike, so are both sayings
+  says_so : (Same : List ℕ → Status → List ℕ → Status → Type 0)
+      → ((s : List ℕ) (a : Status) → Same s a s a)
+      → ((w : Ready) → IsFitWhere (is_static job.command) w → (s t : List ℕ) (a b : Status) → Tells job w s a
+      → Tells job w t b → Same s a t b)
+      → (s t : List ℕ) (a b : Status) → SaysOf job texts x s a → SaysOf job texts x t b → Same s a t b
+  says_so Same itself told s t a b (says.refuses {r = r} h) (says.refuses {r = q} k) =
+      let e = same_err r q (readies_one job texts one_list x is (Err r) (Err q) h k) in
+      subst (λ (z : Refusal). Same (line_of r) (status_of r) (line_of z) (status_of z)) e
+      (itself (line_of r) (status_of r))
+  says_so Same itself told s t a b (says.refuses {r = r} h) (says.tells {w = w} k m) =
       ok_err w r (readies_one job texts one_list x is (Ok w) (Err r) k h)
-  saying_one s t a b (says.tells {w = w} k m) (says.refuses {r = r} h) =
+  says_so Same itself told s t a b (says.tells {w = w} k m) (says.refuses {r = r} h) =
       ok_err w r (readies_one job texts one_list x is (Ok w) (Err r) k h)
-  saying_one s t a b (says.tells {w = w} h p) (says.tells {w = v} k q) =
+  says_so Same itself told s t a b (says.tells {w = w} h p) (says.tells {w = v} k q) =
       let e : v ≡ w = same_ok v w (readies_one job texts one_list x is (Ok v) (Ok w) k h) in
-      tells_one job w not_flat (readies_on job texts x w is h) s t a b p (subst (λ (z : Ready). Tells job z t b) e q)
+      told w (readies_on job texts x w is h) s t a b p (subst (λ (z : Ready). Tells job z t b) e q)
+
+  pub saying_one : job.command ≢ verb.Flat → (s t : List ℕ) (a b : Status) → SaysOf job texts x s a
+      → SaysOf job texts x t b → AgreeButNodes s a t b
+  saying_one not_flat s t a b p q =
+      says_so AgreeButNodes (λ u z. inl (refl, refl))
+      (λ w fit u v y z h k. tells_one job w not_flat fit u v y z h k) s t a b p q
+
+  pub saying_ends : (s t : List ℕ) (a b : Status) → SaysOf job texts x s a → SaysOf job texts x t b → EndAlike a b
+  saying_ends s t a b p q =
+      says_so (λ u y v z. EndAlike y z) (λ u z. inl refl)
+      (λ w fit u v y z h k. ends_alike job w fit u v y z h k) s t a b p q

@@ -26,3 +26,7 @@ pub data SaysOf (job : Job) (texts : List (List ℕ)) (x : Elaborated) : List �
 -- the texts are one, and both end alike; or one of the two ends with the status of `nodes: N`
 abbrev pub AgreeButNodes : List ℕ → Status → List ℕ → Status → Type 0
 AgreeButNodes s a t b = ((s ≡ t) × (a ≡ b)) ⊎ ((a ≡ Nodes) ⊎ (b ≡ Nodes))
+
+-- both end alike, or one of the two ends with the status of `nodes: N`
+abbrev pub EndAlike : Status → Status → Type 0
+EndAlike a b = (a ≡ b) ⊎ ((a ≡ Nodes) ⊎ (b ≡ Nodes))

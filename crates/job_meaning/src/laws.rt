@@ -9,7 +9,7 @@ ghost use Rattle.altarica_run.specs.Stages.{Ready, Asks, Readies};
 ghost use Rattle.altarica_run.specs.Tells.{Tells};
 ghost use Rattle.altarica_run.specs.declared.refusals.Refusal.{Refusal};
 ghost use Rattle.altarica_run.specs.declared.status.Status.{Status};
-ghost use Rattle.job_meaning.specs.Definite.{IsDefinite, SaysOf, AgreeButNodes};
+ghost use Rattle.job_meaning.specs.Definite.{IsDefinite, SaysOf, AgreeButNodes, EndAlike};
 
 use ar_readings::readings::trees_keep;
 use replayer::laws::one_list;
@@ -33,20 +33,26 @@ pub fn one_readiness()
 }
 
 /// A job that has passed its stages tells one text and ends in one way, save that the line
-/// `nodes: N` may stand beside it. This is not said of `flat`.
+/// `nodes: N` may stand beside it. That the text is one is not said of `flat`.
 pub fn one_text()
-    ensures { (x : Elaborated) → IsDefinite x → (job : Job) → job.command ≢ Flat
+    ensures text { (x : Elaborated) → IsDefinite x → (job : Job) → job.command ≢ Flat
         → (texts : List (List ℕ)) (w : Ready) → Readies job texts x (Ok w)
         → (s t : List ℕ) (a b : Status) → Tells job w s a → Tells job w t b
         → AgreeButNodes s a t b }
+    ensures ends { (x : Elaborated) → IsDefinite x → (job : Job) (texts : List (List ℕ)) (w : Ready)
+        → Readies job texts x (Ok w) → (s t : List ℕ) (a b : Status)
+        → Tells job w s a → Tells job w t b → EndAlike a b }
 {}
 
 /// Of one source the words of a job say one text and end in one way, save that the line `nodes: N`
-/// may stand beside it. This is not said of `flat`.
+/// may stand beside it. That the text is one is not said of `flat`.
 pub fn one_saying()
-    ensures { (x : Elaborated) → IsDefinite x → (job : Job) → job.command ≢ Flat
+    ensures text { (x : Elaborated) → IsDefinite x → (job : Job) → job.command ≢ Flat
         → (texts : List (List ℕ)) (s t : List ℕ) (a b : Status)
         → SaysOf job texts x s a → SaysOf job texts x t b → AgreeButNodes s a t b }
+    ensures ends { (x : Elaborated) → IsDefinite x → (job : Job) (texts : List (List ℕ))
+        (s t : List ℕ) (a b : Status) → SaysOf job texts x s a → SaysOf job texts x t b
+        → EndAlike a b }
 {
     one_list();
 }

@@ -1,0 +1,8 @@
+pub mod Stages
+pub mod Asking
+pub mod Tables
+pub mod Demanding
+pub mod Cuts
+pub mod Modules
+pub mod Telling
+pub mod Sources

@@ -80,8 +80,7 @@ module _ (x : Elaborated) (p : GtsParts) (bytes : Vec ℕ Global) where
 -- What a command asks
 
 -- the system with the commands of the script, the cut lines of the list, the events that are dropped and the observer
--- with
--- its value
+-- with its value
 abbrev asked_so_far : Elaborated → List runs.Command → List CutLine → List ℕ → Option Wanted → Option ℕ → Ready
 asked_so_far x cs cuts events wanted shown =
     record { source = x; commands = cs; lines = cuts; dropped = events; wanted = wanted; shown = shown }

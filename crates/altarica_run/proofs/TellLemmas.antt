@@ -14,6 +14,7 @@ use Rattle.gts_core.specs.declared.system.Variable.{Variable}
 use Rattle.forest_text.specs.Printed.{forest_text}
 use Rattle.forest_text.specs.Texts.{IsForestText}
 use Rattle.gts_core.specs.Printed.{flat_text}
+use Rattle.gts_core.specs.Sound.{IsSound}
 use Rattle.gts_flatten.specs.Elaborating.{Elaborated}
 use Rattle.gts_flatten.specs.Flat.{IsFlat, naming_of, naming_of_parts}
 use Rattle.hierarchy.specs.Listing.{variables, events, observers}
@@ -81,12 +82,13 @@ module _ (job : Job) (w : Ready) (p : Prepared) (is : IsReady job w p) where
       let i = counted w.source p.system is.flat in
       text_written (Tells job w) _ Done s r k (subst (λ (z : List ℕ). Tells job w z Done) (sym i) (check e)) h
 
-  pub flattened : {old new : SinkState} → job.command ≡ Flat → (s : Status) (r : Result (Unit {0}) SinkFailed)
+  pub flattened : {old new : SinkState} → job.command ≡ Flat → IsSound p.system
+      → (s : Status) (r : Result (Unit {0}) SinkFailed)
       → s ≡ status_written Done r → Writes old new (flat_text p.system) r
       → IsWritten (Tells job w) old new s
-  flattened e s r k h =
+  flattened e sound s r k h =
       text_written (Tells job w) (flat_text p.system) Done s r k
-      (flat e (record { parts = p.system; is_flat = is.flat; is_text = refl })) h
+      (flat e (record { parts = p.system; is_sound = sound; is_flat = is.flat; is_text = refl })) h
 
   pub forest_told : {old new : SinkState} → job.command ≡ Fragment
       → IsForestText (naming_of w.source.declarations) w.source.system w.dropped (forest_text p.system p.forest)

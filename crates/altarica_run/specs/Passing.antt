@@ -264,8 +264,7 @@ pub record HasForest (v : Verb) (p : GtsParts) (dropped : List ℕ) (forest : Fo
 -- The gate table
 
 -- the gates are those of the source's table, as the trees of the forest give them to the flat system, and the events
--- are
--- called by their paths
+-- are called by their paths
 pub record IsGateTable (p : GtsParts) (w : Ready) (forest : Forest) (t : GateTable) : Type 0 where
   pub wanted : Wanted
   pub are : w.wanted ≡ Some wanted

@@ -28,8 +28,7 @@ use Rattle.altarica_run.specs.declared.refusals.Refusal.TheVariants.{NoCommand, 
 
 -- what stands ready: the source's system over paths with its names, the commands of the script, the cut lines of the
 -- list, the events that are dropped, the observer and the value that are asked for, and the observer alone whose cone
--- is
--- to be explained
+-- is to be explained
 pub record Ready : Type 0 where
   pub source : Elaborated
   pub commands : List Command

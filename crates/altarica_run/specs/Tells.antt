@@ -15,6 +15,7 @@ use Rattle.eq_core.specs.Gates.{Table}
 use Rattle.forest_text.specs.Texts.{IsForestText}
 use Rattle.gate_diagrams.specs.Needed.{NodesMay}
 use Rattle.gts_core.specs.Printed.{flat_text}
+use Rattle.gts_core.specs.Sound.{IsSound}
 use Rattle.gts_core.specs.declared.system.GtsParts.{GtsParts}
 use Rattle.gts_flatten.specs.Elaborating.{Elaborated}
 use Rattle.gts_flatten.specs.Flat.{IsFlat, naming_of}
@@ -52,9 +53,10 @@ check_text d =
     counts_line (length d.units) (length (variables d.model d.units)) (length (events d.model d.units))
     (length (observers d.model d.units))
 
--- the text of the flat system of the source
+-- the text of the flat system of the source, whose parts are sound: so a range begins at its lesser bound
 pub record IsFlatText (x : Elaborated) (text : List ℕ) : Type 0 where
   pub parts : GtsParts
+  pub is_sound : IsSound parts
   pub is_flat : IsFlat x parts
   pub is_text : text ≡ flat_text parts
 

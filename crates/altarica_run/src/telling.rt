@@ -38,7 +38,11 @@ pub fn tell<K: Sink>(alloc: Global, prepared: &Prepared, out: &mut K) -> Status
 {
     match prepared.command {
         Verb::Check => written(Status::Done, check(&prepared.system, out)),
-        Verb::Flat => written(Status::Done, prepared.system.print(out)),
+        Verb::Flat => {
+            // The parts of the system are sound.
+            prepared.system.parts();
+            written(Status::Done, prepared.system.print(out))
+        }
         Verb::Replay => {
             // The replays of the flat system are those of its source.
             replays_of_the_source();

@@ -14,7 +14,7 @@ returns-in-Check g c = λ job w is.
 pub returns-in-Flat : goal.returns-in-Flat
 returns-in-Flat g c = λ job w is.
     flattened job w c.args.prepared.now is
-    (is.command ∙ c.in-Flat.is) _ _ c.written-in-Flat.ensures c.print.ensures
+    (is.command ∙ c.in-Flat.is) c.parts.ensures.sound _ _ c.written-in-Flat.ensures c.print.ensures
 
 pub replay-requires : goal.replay-requires
 replay-requires g c = rw c.deref.ensures.value c.requires.commands

@@ -20,7 +20,8 @@ use Rattle.gts_core.specs.declared.system.GtsParts.{GtsParts}
 use Rattle.gts_flatten.specs.Elaborating.{Elaborated}
 use Rattle.gts_flatten.specs.Flat.{IsFlat}
 use Rattle.hierarchy.specs.Listing.{observers}
-use Rattle.replayer.specs.CutLists.{CutLine, cut_of, AnswersCuts}
+use Rattle.replayer.specs.Chains.{cut_of, AnswersCuts}
+use Rattle.replayer.specs.CutLists.{CutLine}
 use Rattle.replayer.specs.Flat.{command_of, AnswersScript, IsBadScript}
 use Rattle.replayer.specs.declared.commands.Command.{Command}
 use Rattle.replayer.specs.declared.commands.Command.TheVariants.{Fire}

@@ -31,7 +31,8 @@ use Rattle.mode_forests.specs.Ways.{OwnTheirWays}
 use Rattle.mode_forests.specs.declared.forests.Forest.{Forest}
 use Rattle.module_text.specs.Ranges.{AreRangesOf}
 use Rattle.reason_text.specs.Answers.{IsObserverIn}
-use Rattle.replayer.specs.CutLists.{CutLine, CutList, cut_of, HaveKnownWays}
+use Rattle.replayer.specs.Chains.{cut_of, HaveKnownWays}
+use Rattle.replayer.specs.CutLists.{CutLine, CutList}
 use Rattle.replayer.specs.Flat.{command_of, AreFirable, IsOfTree}
 use Rattle.replayer.specs.Scripts.{BadLine, Commands}
 use Rattle.replayer.specs.declared.commands.Command.{Command}

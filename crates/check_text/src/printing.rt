@@ -5,7 +5,7 @@ ghost use Rattle.ar_base.specs.Texts.{separated};
 ghost use Rattle.ar_io.specs.Writing.{Writes};
 ghost use Rattle.mode_forests.specs.Ways.{OwnTheirWays};
 ghost use Rattle.min_cuts.specs.Kept.{numbers};
-ghost use Rattle.replayer.specs.CutLists.{HaveKnownWays};
+ghost use Rattle.replayer.specs.Chains.{HaveKnownWays};
 ghost use Rattle.replayer.specs.Flat.{way_label};
 ghost use Rattle.cut_check.specs.Flat.{chain_lines};
 ghost use Rattle.cut_text.specs.Answers.{Prints};

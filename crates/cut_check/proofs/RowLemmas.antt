@@ -16,7 +16,7 @@ use Rattle.gts_core.specs.declared.system.Event.{Event}
 use Rattle.gts_core.specs.declared.system.GtsParts.{GtsParts}
 use Rattle.gts_core.specs.declared.system.Way.{Way}
 use Rattle.gts_core.proofs.Tests.{and_answer, turned_answer}
-use Rattle.replayer.specs.CutLists.{labels_of, HaveKnownWays}
+use Rattle.replayer.specs.Chains.{labels_of, HaveKnownWays}
 use Rattle.replayer.specs.CutReads.{AreKnownWays}
 use Rattle.replayer.specs.Flat.{label_of, label_found}
 use Rattle.cut_check.specs.Flat.{chain_lines}

@@ -33,7 +33,7 @@ use Rattle.gts_core.specs.declared.bound.Chain.{Chain}
 use Rattle.gts_core.specs.declared.system.GtsParts.{GtsParts}
 use Rattle.gts_core.specs.declared.system.Observer.{Observer}
 use Rattle.gts_core.proofs.Reading.{yielded_value, value_yielded}
-use Rattle.replayer.specs.CutLists.{labels_of}
+use Rattle.replayer.specs.Chains.{labels_of}
 use Rattle.replayer.specs.CutReads.{AreKnownWays}
 use Rattle.replayer.specs.Flat.{label_of}
 use Rattle.replayer.proofs.WayLemmas.{way_named}

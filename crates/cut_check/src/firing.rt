@@ -13,7 +13,7 @@ ghost use Rattle.domains.specs.declared.Value.{Value as TheValue};
 ghost use Rattle.gts_core.specs.Readings.{value_in};
 ghost use Rattle.gts_core.specs.Sound.{IsSound};
 ghost use Rattle.gts_core.specs.View.{Views, net_of, numbered};
-ghost use Rattle.replayer.specs.CutLists.{labels_of, HaveKnownWays};
+ghost use Rattle.replayer.specs.Chains.{labels_of, HaveKnownWays};
 ghost use Rattle.replayer.specs.CutReads.{AreKnownWays};
 ghost use Rattle.replayer.specs.Flat.{label_of};
 ghost use Rattle.cut_check.specs.Flat.{chain_lines};

@@ -9,7 +9,8 @@ use Rattle.gts_core.specs.declared.bound.Chain.{Chain}
 use Rattle.gts_core.specs.declared.system.GtsParts.{GtsParts}
 use Rattle.gts_flatten.specs.Elaborating.{Elaborated}
 use Rattle.replayer.specs.CutLines.{IsPassed, IsCutLine, texts_in, trimmed, is_comma}
-use Rattle.replayer.specs.CutLists.{CutLine, Lists, IsBadLabel, IsFirstBadLabel, IsBadCut, IsFirstBadCut, CutList, labels_of, cut_of, HaveKnownWays, IsBadList, AnswersCuts}
+use Rattle.replayer.specs.Chains.{labels_of, cut_of, HaveKnownWays, IsBadList, AnswersCuts}
+use Rattle.replayer.specs.CutLists.{CutLine, Lists, IsBadLabel, IsFirstBadLabel, IsBadCut, IsFirstBadCut, CutList}
 use Rattle.replayer.specs.CutLists as lists
 use Rattle.replayer.specs.CutReads.{AreKnownWays, AnswersLabels, AreReached, AddsCuts, IsBadCutLine, HasRead}
 use Rattle.replayer.specs.Flat.{label_of}

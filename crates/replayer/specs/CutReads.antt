@@ -8,7 +8,8 @@ use Rattle.ar_meaning.specs.Runs.{Label}
 use Rattle.gts_core.specs.declared.system.GtsParts.{GtsParts}
 use Rattle.gts_flatten.specs.Elaborating.{Elaborated}
 use Rattle.replayer.specs.CutLines.{IsPassed, IsCutLine, texts_in, is_comma}
-use Rattle.replayer.specs.CutLists.{CutLine, Lists, IsBadLabel, IsFirstBadLabel, IsBadCut, labels_of}
+use Rattle.replayer.specs.Chains.{labels_of}
+use Rattle.replayer.specs.CutLists.{CutLine, Lists, IsBadLabel, IsFirstBadLabel, IsBadCut}
 use Rattle.replayer.specs.Labels.{IsLabel}
 use Rattle.replayer.specs.Lines.{pieces}
 use Rattle.replayer.specs.Scripts.{Why, IsNoCommand, LacksWay, NamesNoEvent}

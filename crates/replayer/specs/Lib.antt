@@ -12,4 +12,5 @@ pub mod Settles
 pub mod Settling
 pub mod CutLines
 pub mod CutLists
+pub mod Chains
 pub mod CutReads

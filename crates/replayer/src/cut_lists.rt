@@ -5,7 +5,7 @@ ghost use Rattle.ar_base.specs.Counts.{limit_of};
 ghost use Rattle.ar_base.specs.declared.counts.Count.TheVariants.{ScriptBytes};
 ghost use Rattle.gts_flatten.specs.Elaborating.{Elaborated};
 ghost use Rattle.replayer.specs.CutLines.{is_comma, texts_in, trimmed};
-ghost use Rattle.replayer.specs.CutLists.{cut_of, HaveKnownWays, AnswersCuts};
+ghost use Rattle.replayer.specs.Chains.{cut_of, HaveKnownWays, AnswersCuts};
 ghost use Rattle.replayer.specs.CutReads.{AddsCuts, IsBadCutLine, AnswersLabels};
 ghost use Rattle.replayer.specs.Flat.{IsOfTree};
 ghost use Rattle.replayer.specs.Lines.{pieces};

@@ -2,7 +2,7 @@ use Rattle.std.proofs.Common.{◌∙◌, ◌∷◌, [], List, get_or, length, ap
 use Rattle.ar_base.specs.Numbers.{WayId}
 use Rattle.ar_base.proofs.Standing.{stands_get, stands_item}
 use Rattle.gts_core.specs.View.{numbered}
-use Rattle.replayer.specs.CutLists.{labels_of}
+use Rattle.replayer.specs.Chains.{labels_of}
 use Rattle.replayer.specs.CutReads.{AreKnownWays}
 use Rattle.cut_check.specs.Flat.{chain_lines}
 use Rattle.cut_check.proofs.RowLemmas.{chain_known}

@@ -1,7 +1,8 @@
 use Rattle.std.proofs.Common.{map, refl}
 use Rattle.std.proofs.lemmas.Result.{err_from_is_err_and}
 use Rattle.replayer.specs.CutLines.{texts_in}
-use Rattle.replayer.specs.CutLists.{cut_of, labels_of, no_cut}
+use Rattle.replayer.specs.Chains.{cut_of, labels_of}
+use Rattle.replayer.specs.CutLists.{no_cut}
 use Rattle.replayer.proofs.CutLineLemmas.{one_cut}
 use Rattle.replayer.proofs.CutListLemmas.{adds_nothing, adds_cut, labels_bad, one_added, chains_more, line_passed}
 use Rattle.replayer.proofs.cut_lists.add_cut.Goals as goal

@@ -1,6 +1,6 @@
 use Rattle.std.proofs.Common.{map, ap, arith}
 use Rattle.std.proofs.lemmas.Result.{err_from_is_err_and}
-use Rattle.replayer.specs.CutLists.{cut_of}
+use Rattle.replayer.specs.Chains.{cut_of}
 use Rattle.replayer.specs.Reads.{lines_left}
 use Rattle.replayer.proofs.CutListLemmas.{read_none, read_more, read_bad, read_end, list_passed, chains_none}
 use Rattle.replayer.proofs.ScriptLemmas.{left_first, left_less}

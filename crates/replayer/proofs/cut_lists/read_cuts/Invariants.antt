@@ -1,6 +1,6 @@
 use Rattle.std.proofs.Common.{◌≤◌, ◌+◌, map, length}
 use Rattle.gts_flatten.specs.Elaborating.{Elaborated}
-use Rattle.replayer.specs.CutLists.{cut_of, HaveKnownWays}
+use Rattle.replayer.specs.Chains.{cut_of, HaveKnownWays}
 use Rattle.replayer.specs.CutReads.{HasRead}
 use Rattle.replayer.specs.Flat.{IsOfTree}
 use Rattle.replayer.specs.Lines.{lines_of}

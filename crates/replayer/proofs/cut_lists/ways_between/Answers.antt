@@ -1,7 +1,7 @@
 use Rattle.std.proofs.Common.{◌∷◌, List, map, ap, sym, ◌∙◌}
 use Rattle.std.proofs.lemmas.Result.{err_from_is_err_and}
 use Rattle.replayer.specs.CutLines.{trimmed}
-use Rattle.replayer.specs.CutLists.{labels_of}
+use Rattle.replayer.specs.Chains.{labels_of}
 use Rattle.replayer.specs.CutReads.{commas_left}
 use Rattle.replayer.proofs.CutLineLemmas.{comma_first}
 use Rattle.replayer.proofs.CutListLemmas.{reached_none, reached_more, label_fails, known_none, known_more, labels_more, labels_as}

@@ -1,7 +1,7 @@
 use Rattle.std.proofs.Common.{map}
 use Rattle.gts_flatten.specs.Elaborating.{Elaborated}
 use Rattle.replayer.specs.CutLines.{is_comma, trimmed}
-use Rattle.replayer.specs.CutLists.{labels_of}
+use Rattle.replayer.specs.Chains.{labels_of}
 use Rattle.replayer.specs.CutReads.{AreKnownWays, AreReached, commas_left}
 use Rattle.replayer.specs.Flat.{IsOfTree}
 use Rattle.replayer.specs.Lines.{pieces}

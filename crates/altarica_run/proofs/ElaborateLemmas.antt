@@ -7,8 +7,8 @@ use Rattle.ar_base.specs.declared.faults.RuleFault.TheVariants.{Rule, Limit, Mem
 use Rattle.ar_base.specs.declared.places.Place.{Place}
 use Rattle.ar_syntax.specs.declared.items.Model.{Model}
 use Rattle.ar_parser.specs.Models.{HasFaultAt, SyntaxStandsAt, DepthStandsAt}
-use Rattle.ar_parser.specs.declared.lexeme.ParseFault.{ParseFault}
-use Rattle.ar_parser.specs.declared.lexeme.ParseFault.TheVariants as parse
+use Rattle.ar_parser.specs.declared.fault.ParseFault.{ParseFault}
+use Rattle.ar_parser.specs.declared.fault.ParseFault.TheVariants as parse
 use Rattle.class_table.specs.Declaring.{Declared, IsDeclared}
 use Rattle.class_table.specs.Rules.{Breaks, text_rules}
 use Rattle.class_table.specs.Tabling.{Tabulates, table, breach}

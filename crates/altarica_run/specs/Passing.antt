@@ -12,8 +12,8 @@ use Rattle.ar_firing.specs.Rules.{KeepsAll}
 use Rattle.ar_io.specs.Outside.{Told}
 use Rattle.ar_meaning.specs.Runs as runs
 use Rattle.ar_meaning.specs.Systems.{System}
-use Rattle.ar_parser.specs.declared.lexeme.ParseFault.{ParseFault}
-use Rattle.ar_parser.specs.declared.lexeme.ParseFault.TheVariants as parse
+use Rattle.ar_parser.specs.declared.fault.ParseFault.{ParseFault}
+use Rattle.ar_parser.specs.declared.fault.ParseFault.TheVariants as parse
 use Rattle.eq_core.specs.Views.{table_of}
 use Rattle.event_lists.specs.Naming.{NamesEvents, HasUnknown, AreEventsOf}
 use Rattle.event_lists.specs.declared.reading.ListFault.{ListFault}

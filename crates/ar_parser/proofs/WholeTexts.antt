@@ -4,19 +4,20 @@ use Rattle.ar_base.specs.declared.places.Place.{Place}
 use Rattle.ar_lexer.specs.declared.token.TokenKind.TheVariants.{End}
 use Rattle.ar_syntax.specs.declared.items.Model.{Model}
 use Rattle.ar_syntax.specs.declared.items.Item.{Item}
-use Rattle.ar_parser.specs.declared.lexeme.ParseFault.{ParseFault}
-use Rattle.ar_parser.specs.declared.lexeme.ParseFault.TheVariants.{Lex, Syntax, Depth, Memory}
-use Rattle.ar_parser.specs.declared.lexeme.Refusal.{Refusal}
-use Rattle.ar_parser.specs.declared.lexeme.Refusal.TheVariants as refusal
-use Rattle.ar_parser.specs.Words.{Tokens, Has, place_at}
-use Rattle.ar_parser.specs.Texts.{IsSyntaxAt, IsDepthAt}
+use Rattle.ar_parser.specs.declared.fault.ParseFault.{ParseFault}
+use Rattle.ar_parser.specs.declared.fault.ParseFault.TheVariants.{Lex, Syntax, Depth, Memory}
+use Rattle.ar_grammar.specs.declared.lexeme.Refusal.{Refusal}
+use Rattle.ar_grammar.specs.declared.lexeme.Refusal.TheVariants as refusal
+use Rattle.ar_grammar.specs.Words.{Tokens, Has, place_at}
+use Rattle.ar_grammar.specs.Texts.{IsSyntaxAt, IsDepthAt}
 use Rattle.ar_parser.specs.Names.{told}
-use Rattle.ar_parser.specs.Models.{AreItems, AreLexemes, HasFaultAt, ReadsWithin, Reaches, IsRefusedAt, SyntaxStandsAt, DepthStandsAt}
-use Rattle.ar_parser.specs.Results.{Gets, Plain, AreUnsigned, IsRefusedAs}
+use Rattle.ar_parser.specs.Models.{AreLexemes, HasFaultAt, ReadsWithin, Reaches, IsRefusedAt, SyntaxStandsAt, DepthStandsAt}
+use Rattle.ar_grammar.specs.Items.{AreItems}
+use Rattle.ar_grammar.specs.Results.{Gets, Plain, AreUnsigned, IsRefusedAs}
 use Rattle.ar_parser.proofs.NameLemmas.{one_lexing, no_fault_there, one_fault_place}
 use Rattle.ar_parser.proofs.PlainTexts.{plain_tokens, unsigned_tokens}
-use Rattle.ar_parser.proofs.Places.{IsRefusal, one_refusal, not_both, text_stands}
-use Rattle.ar_parser.proofs.ItemParts.{turns_items}
+use Rattle.ar_grammar.proofs.Places.{IsRefusal, one_refusal, not_both, text_stands}
+use Rattle.ar_grammar.proofs.ItemParts.{turns_items}
 
 -- Lexical faults
 

@@ -1,11 +1,2 @@
-pub mod Words
-pub mod Paths
-pub mod Expressions
-pub mod Instructions
-pub mod Members
 pub mod Models
-pub mod Results
-pub mod Chains
-pub mod Texts
-pub mod Parts
 pub mod Names

@@ -1,63 +1,22 @@
--- The grammar of models, and what it is to read a text.
-use Rattle.std.specs.Prelude.{◌≡◌, ◌≢◌, ℕ, ◌<◌, Result, Ok, Err, ◌-◌, ◌≤ℤ◌, ℤ, pos, neg_ℤ, List, [], ◌∷◌, ◌++◌, map, take, drop}
+-- What it is to read a text, and where a text that has no reading is refused.
+use Rattle.std.specs.Prelude.{◌≡◌, ◌≢◌, ℕ, ◌<◌, Result, Ok, Err, ◌-◌, List, [], ◌∷◌, ◌++◌, map, take, drop}
 use Rattle.ar_base.specs.declared.places.Place.{Place}
 use Rattle.ar_base.specs.Counts.{limit_of}
 use Rattle.ar_base.specs.declared.counts.Count.TheVariants.{Nesting}
 use Rattle.ar_base.specs.Lists.{Stands}
 use Rattle.ar_base.specs.Texts.{Interns}
 use Rattle.ar_lexer.specs.declared.token.Token.{Token}
-use Rattle.ar_lexer.specs.declared.token.TokenKind.{TokenKind}
-use Rattle.ar_lexer.specs.declared.token.TokenKind.TheVariants.{Name, Whole, Sign, Reserved, End}
-use Rattle.ar_lexer.specs.declared.signs.TheConstants.{OPEN_BRACE, CLOSE_BRACE, OPEN_BRACKET, CLOSE_BRACKET, COMMA, SEMICOLON, MINUS}
-use Rattle.ar_lexer.specs.declared.words.TheConstants.{BLOCK, CLASS, DOMAIN}
+use Rattle.ar_lexer.specs.declared.token.TokenKind.TheVariants.{Name, End}
 use Rattle.ar_lexer.specs.declared.token.LexFault.{LexFault}
 use Rattle.ar_lexer.specs.declared.token.LexFault.TheVariants.{Byte, OpenComment, Number, Memory}
 use Rattle.ar_lexer.specs.Tokens.{AreTokens, IsFirstFault, end_of_text, place_after}
-use Rattle.ar_syntax.specs.declared.items.DomainBody.{DomainBody}
-use Rattle.ar_syntax.specs.declared.items.DomainBody.TheVariants as domain
-use Rattle.ar_syntax.specs.declared.items.DomainDecl.{DomainDecl}
-use Rattle.ar_syntax.specs.declared.items.Item.{Item}
-use Rattle.ar_syntax.specs.declared.items.Item.TheVariants as item
 use Rattle.ar_syntax.specs.declared.items.Model.{Model}
-use Rattle.ar_parser.specs.declared.lexeme.Lexeme.{Lexeme}
-use Rattle.ar_parser.specs.declared.lexeme.ParseFault.{ParseFault}
-use Rattle.ar_parser.specs.declared.lexeme.ParseFault.TheVariants as fault
-use Rattle.ar_parser.specs.Words.{Form, Tokens, token, nothing, never, ◌▸◌, ◌∣◌, each, between, place_at}
-use Rattle.ar_parser.specs.Paths.{IsPlacedName, AreNames}
-use Rattle.ar_parser.specs.Members.{IsBody, IsUnit}
-use Rattle.ar_parser.specs.Texts.{IsSyntaxAt, IsDepthAt}
-
--- a whole number, which has no sign
-pub record IsWhole (z : ℤ) (next : TokenKind) (ts : Tokens) : Type 0 where
-  pub no_sign : pos 0 ≤ℤ z
-  pub reads : token (Whole z) next ts
-
--- Bound = [ "-" ] whole
-pub data IsBound (z : ℤ) (next : TokenKind) (ts : Tokens) : Type 0 where
-  whole : IsWhole z next ts → IsBound z next ts
-  negated : (n : ℤ) → z ≡ neg_ℤ n → (token (Sign MINUS) ▸ IsWhole n) next ts → IsBound z next ts
-
--- DomainBody = "{" name { "," name } "}" | "[" Bound "," Bound "]"
-abbrev pub IsDomainBody : DomainBody → Form
-IsDomainBody (domain.Symbols names) = between (Sign OPEN_BRACE) (Sign CLOSE_BRACE) (AreNames names.items)
-IsDomainBody (domain.Range low high) =
-    between (Sign OPEN_BRACKET) (Sign COMMA) (IsBound low) ▸ IsBound high ▸ token (Sign CLOSE_BRACKET)
-
--- "domain" name DomainBody [ ";" ]
-abbrev pub IsDomain : DomainDecl → Form
-IsDomain d = token (Reserved DOMAIN) ▸ IsPlacedName (d.name, d.at) ▸ IsDomainBody
-    d.body ▸ (nothing ∣ token (Sign SEMICOLON))
-
--- Item = Domain | "class" name Body "end" | "block" name Body "end"
-abbrev pub IsItem : ℕ → Item → Form
-IsItem n (item.Domain d) = IsDomain d
-IsItem n (item.Class u) = token (Reserved CLASS) ▸ IsUnit (IsBody n) u
-IsItem n (item.Block u) = token (Reserved BLOCK) ▸ IsUnit (IsBody n) u
-
--- Model = Item { Item }
-abbrev pub AreItems : ℕ → List Item → Form
-AreItems n [] = never
-AreItems n (x ∷ more) = IsItem n x ▸ each (IsItem n) more
+use Rattle.ar_grammar.specs.declared.lexeme.Lexeme.{Lexeme}
+use Rattle.ar_grammar.specs.Words.{Tokens, place_at}
+use Rattle.ar_grammar.specs.Items.{AreItems}
+use Rattle.ar_grammar.specs.Texts.{IsSyntaxAt, IsDepthAt}
+use Rattle.ar_parser.specs.declared.fault.ParseFault.{ParseFault}
+use Rattle.ar_parser.specs.declared.fault.ParseFault.TheVariants as fault
 
 -- a token without the number of its name
 abbrev pub token_of : Lexeme → Token

@@ -1,19 +1,9 @@
-//! The grammar of models: what source tree a text has, and where a text that has none is refused.
+//! The reading of a text as a model: what source tree it has, and where a text that has none is refused.
 #![tactic(auto)]
 
-mod begins;
-mod body;
-mod cursor;
-mod expressions;
-mod instructions;
-mod lexeme;
-mod members;
-mod model;
+mod fault;
 mod numbering;
-mod paths;
 mod reading;
-mod terms;
-mod unread;
 
-pub use lexeme::{Lexeme, ParseFault};
+pub use fault::ParseFault;
 pub use reading::parse;

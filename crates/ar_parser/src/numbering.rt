@@ -4,12 +4,13 @@ ghost use Rattle.std.specs.Prelude.{◌≡◌, ◌≢◌, ◌+◌, ◌-◌, ◌<
 ghost use Rattle.ar_base.specs.Counts.{limit_of};
 ghost use Rattle.ar_base.specs.declared.counts.Count.TheVariants.{ModelBytes};
 ghost use Rattle.ar_lexer.specs.declared.token.TokenKind.TheVariants.{Name};
-ghost use Rattle.ar_parser.specs.declared.lexeme.ParseFault.TheVariants.{Lex, Memory};
+ghost use Rattle.ar_parser.specs.declared.fault.ParseFault.TheVariants.{Lex, Memory};
 ghost use Rattle.ar_parser.specs.Models.{token_of, IsNumbered, AreNumbered, AreLexemes, HasFaultAt};
 ghost use Rattle.ar_parser.specs.Names.{IsSpelled, AreSpelled, lexeme_of, fault_of};
 
-use crate::lexeme::{Lexeme, ParseFault};
+use crate::fault::ParseFault;
 use ar_base::{NameId, Names, Place};
+use ar_grammar::Lexeme;
 use ar_lexer::{LexFault, Token, TokenKind, tokens};
 use std::alloc::Global;
 use std::str::from_utf8_unchecked;

@@ -1,15 +1,15 @@
-//! The public call.
+//! The public call: a text is cut in tokens, and these are read as a model.
 
 ghost use Rattle.std.specs.Prelude.{◌≡◌, ◌≢◌, ◌≤◌, ℕ, length, IfOk, IfErr, IsErrAnd};
 ghost use Rattle.ar_base.specs.Counts.{limit_of};
 ghost use Rattle.ar_base.specs.declared.counts.Count.TheVariants.{ModelBytes, Nesting};
-ghost use Rattle.ar_parser.specs.declared.lexeme.ParseFault.TheVariants.{Lex, Syntax, Depth, Memory};
+ghost use Rattle.ar_parser.specs.declared.fault.ParseFault.TheVariants.{Lex, Syntax, Depth, Memory};
 ghost use Rattle.ar_parser.specs.Models.{HasFaultAt, ReadsWithin, Reads, Reaches, SyntaxStandsAt, DepthStandsAt};
 
-use crate::cursor::{Parser, place_of};
-use crate::lexeme::ParseFault;
+use crate::fault::{ParseFault, refused_at};
 use crate::numbering::lexemes;
 use ar_base::{Count, Names};
+use ar_grammar::{Parser, place_of};
 use ar_syntax::Model;
 use std::alloc::Global;
 
@@ -56,6 +56,6 @@ pub fn parse(alloc: Global, text: &[u8]) -> Result<Model, ParseFault>
     } = parser;
     match read {
         Ok(items) => Ok(Model { names, items, end }),
-        Err(refused) => Err(refused.at(place_of(rest, end))),
+        Err(refused) => Err(refused_at(refused, place_of(rest, end))),
     }
 }

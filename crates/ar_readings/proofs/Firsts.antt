@@ -7,18 +7,18 @@ use Rattle.ar_lexer.specs.declared.words.TheConstants.{BLOCK, BOOLEAN, CLONES, E
 use Rattle.ar_syntax.specs.declared.expressions.RawForm.{RawForm}
 use Rattle.ar_syntax.specs.declared.instructions.Instr.{Instr}
 use Rattle.ar_syntax.specs.declared.members.Member.{Member}
-use Rattle.ar_parser.specs.Words.{Form, Tokens, kind_or, Has}
-use Rattle.ar_parser.specs.Expressions.{IsExpr}
-use Rattle.ar_parser.specs.Instructions.{IsSimpleOf, assign, tie, skip, simple, group, conditional, IsInstr}
-use Rattle.ar_parser.specs.Members.{plain_token, unread_piece, IsSingle, extends, boolean, clones, embeds, kept_value, parameter, observer, IsSection, IsKeyed, single, block, event, hide, IsMember, keyed, named, IsLater}
+use Rattle.ar_grammar.specs.Words.{Form, Tokens, kind_or, Has}
+use Rattle.ar_grammar.specs.Expressions.{IsExpr}
+use Rattle.ar_grammar.specs.Instructions.{IsSimpleOf, assign, tie, skip, simple, group, conditional, IsInstr}
+use Rattle.ar_grammar.specs.Members.{plain_token, unread_piece, IsSingle, extends, boolean, clones, embeds, kept_value, parameter, observer, IsSection, IsKeyed, single, block, event, hide, IsMember, keyed, named, IsLater}
 use Rattle.std.specs.Prelude.{◌==◌}
 use Rattle.std.proofs.lemmas.Bool.{eqb-true, or_right, or_left}
-use Rattle.ar_parser.specs.Results.{goes_unread, is_name, begins_instr, begins_keyed, begins_member, begins_section, begins_later}
-use Rattle.ar_parser.proofs.Finding.{then_kind}
-use Rattle.ar_parser.proofs.ExpressionForms.{then_first, path_first}
-use Rattle.ar_parser.proofs.InstrParts.{between_kind}
-use Rattle.ar_parser.proofs.BodyParts.{boolean_kind, named_kind}
-use Rattle.ar_parser.proofs.UnreadParts.{plain_kind}
+use Rattle.ar_grammar.specs.Results.{goes_unread, is_name, begins_instr, begins_keyed, begins_member, begins_section, begins_later}
+use Rattle.ar_grammar.proofs.Finding.{then_kind}
+use Rattle.ar_grammar.proofs.ExpressionForms.{then_first, path_first}
+use Rattle.ar_grammar.proofs.InstrParts.{between_kind}
+use Rattle.ar_grammar.proofs.BodyParts.{boolean_kind, named_kind}
+use Rattle.ar_grammar.proofs.UnreadParts.{plain_kind}
 
 -- Instructions
 

@@ -12,14 +12,14 @@ use Rattle.ar_lexer.specs.declared.words.TheConstants.{AND, CASE, OR}
 use Rattle.ar_syntax.specs.declared.paths.Path.{Path}
 use Rattle.ar_syntax.specs.declared.expressions.RawExpr.{RawExpr}
 use Rattle.ar_syntax.specs.declared.expressions.RawForm.{RawForm}
-use Rattle.ar_parser.specs.declared.lexeme.Lexeme.{Lexeme}
+use Rattle.ar_grammar.specs.declared.lexeme.Lexeme.{Lexeme}
 use Rattle.ar_base.specs.Numbers.{NameId}
-use Rattle.ar_parser.specs.Words.{Form, Tokens, kind_or, token, ◌▸◌, between, each, separated, standing, StandsAt}
-use Rattle.ar_parser.specs.Paths.{IsName, IsPlacedName, AreNames, IsStart, IsPath}
-use Rattle.ar_parser.specs.Expressions as tree
-use Rattle.ar_parser.specs.Expressions.{Node, OneOrMore, IsProduct, IsTerm, AreTerms, IsSum, IsCompare, IsNegation, IsAnd, IsOr, IsIf, IsChoice, IsCase, IsSwitch, AreOperands, IsPrimary, IsMinusOf, IsExpr, IsNot, IsMinus}
-use Rattle.ar_parser.proofs.ExpressionForms.{then_some, token_some}
-use Rattle.ar_parser.proofs.MemberParts.{name_some}
+use Rattle.ar_grammar.specs.Words.{Form, Tokens, kind_or, token, ◌▸◌, between, each, separated, standing, StandsAt}
+use Rattle.ar_grammar.specs.Paths.{IsName, IsPlacedName, AreNames, IsStart, IsPath}
+use Rattle.ar_grammar.specs.Expressions as tree
+use Rattle.ar_grammar.specs.Expressions.{Node, OneOrMore, IsProduct, IsTerm, AreTerms, IsSum, IsCompare, IsNegation, IsAnd, IsOr, IsIf, IsChoice, IsCase, IsSwitch, AreOperands, IsPrimary, IsMinusOf, IsExpr, IsNot, IsMinus}
+use Rattle.ar_grammar.proofs.ExpressionForms.{then_some, token_some}
+use Rattle.ar_grammar.proofs.MemberParts.{name_some}
 use Rattle.ar_readings.specs.Expressions.{Listed, all, any, product, least, greatest, count, form_of}
 use Rattle.ar_readings.specs.Keeps as keeps
 use Rattle.ar_readings.specs.Keeps.{IsListOf, IsNameIn, PathKeeps, FormKeeps, ExprKeepsTo, ExprKeeps}
@@ -39,13 +39,13 @@ use Rattle.ar_syntax.specs.declared.items.DomainBody.{DomainBody}
 use Rattle.ar_syntax.specs.declared.items.DomainBody.TheVariants as domain
 use Rattle.ar_syntax.specs.declared.items.Item.{Item}
 use Rattle.ar_syntax.specs.declared.items.Item.TheVariants as item
-use Rattle.ar_parser.specs.Words.{groups, concat}
-use Rattle.ar_parser.specs.Instructions as step
-use Rattle.ar_parser.specs.Instructions.{IsElse, IsSimpleOf, IsInstr}
-use Rattle.ar_parser.specs.Members as grammar
-use Rattle.ar_parser.specs.Members.{IsTypeForm, IsType, IsWord, IsSetting, AreSettings, IsAttribute, IsEvent, IsDeclared, IsPart, IsTransition, IsAssertion, IsSection, IsHidden, IsUnit, IsSingle, IsKeyed, IsMember, IsLater, AreSections, IsBodyOf, IsBody}
-use Rattle.ar_parser.specs.Models.{IsDomainBody, IsItem, AreItems}
-use Rattle.ar_parser.proofs.MemberParts.{word_some}
+use Rattle.ar_grammar.specs.Words.{groups, concat}
+use Rattle.ar_grammar.specs.Instructions as step
+use Rattle.ar_grammar.specs.Instructions.{IsElse, IsSimpleOf, IsInstr}
+use Rattle.ar_grammar.specs.Members as grammar
+use Rattle.ar_grammar.specs.Members.{IsTypeForm, IsType, IsWord, IsSetting, AreSettings, IsAttribute, IsEvent, IsDeclared, IsPart, IsTransition, IsAssertion, IsSection, IsHidden, IsUnit, IsSingle, IsKeyed, IsMember, IsLater, AreSections, IsBodyOf, IsBody}
+use Rattle.ar_grammar.specs.Items.{IsDomainBody, IsItem, AreItems}
+use Rattle.ar_grammar.proofs.MemberParts.{word_some}
 use Rattle.ar_readings.specs.Keeps.{OptionKeeps, StepKeeps, InstrKeepsTo, InstrKeeps, TypeKeeps, WordKeeps, SettingKeeps, PartKeeps, MemberKeeps, UnitKeepsTo, UnitKeeps, DomainKeeps, ItemKeeps}
 use Rattle.std.proofs.Common.{map}
 use Rattle.std.proofs.lemmas.List.{length-map}

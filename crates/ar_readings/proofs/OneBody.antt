@@ -19,15 +19,15 @@ use Rattle.ar_syntax.specs.declared.members.TypeName.{TypeName}
 use Rattle.ar_syntax.specs.declared.members.Unit.{Unit as UnitTree}
 use Rattle.ar_base.specs.Numbers.{NameId}
 use Rattle.ar_base.proofs.Truths.{not_true}
-use Rattle.ar_parser.specs.Words.{Form, Tokens, kind_or, token, ◌▸◌, between, groups, covering}
-use Rattle.ar_parser.specs.Paths.{IsPlacedName, IsPath}
-use Rattle.ar_parser.specs.Expressions.{Node, IsExpr}
-use Rattle.ar_parser.specs.Members.{IsTypeForm, IsType, IsEvent, IsDeclared, IsTransition, IsAssertion, IsSection, IsHidden, IsUnit, IsSingle, extends, boolean, clones, embeds, kept_value, parameter, observer, IsKeyed, single, block, event, hide, IsMember, keyed, named, IsLater, AreSections, some, IsBodyOf, IsBody, kept}
-use Rattle.ar_parser.specs.Members as grammar
-use Rattle.ar_parser.specs.Results.{kind_at, anything, is_word, ends_path, ends_attribute, ends_semicolon, ends_body, ends_members, ends_section, begins_instr, begins_keyed, begins_section, begins_later}
-use Rattle.ar_parser.proofs.Finding.{fails, token_kind, then_kind, kind_join}
-use Rattle.ar_parser.proofs.ExpressionForms.{sign_from, word_from}
-use Rattle.ar_parser.proofs.BodyParts.{section_ends_assertions, member_open, later_open}
+use Rattle.ar_grammar.specs.Words.{Form, Tokens, kind_or, token, ◌▸◌, between, groups, covering}
+use Rattle.ar_grammar.specs.Paths.{IsPlacedName, IsPath}
+use Rattle.ar_grammar.specs.Expressions.{Node, IsExpr}
+use Rattle.ar_grammar.specs.Members.{IsTypeForm, IsType, IsEvent, IsDeclared, IsTransition, IsAssertion, IsSection, IsHidden, IsUnit, IsSingle, extends, boolean, clones, embeds, kept_value, parameter, observer, IsKeyed, single, block, event, hide, IsMember, keyed, named, IsLater, AreSections, some, IsBodyOf, IsBody, kept}
+use Rattle.ar_grammar.specs.Members as grammar
+use Rattle.ar_grammar.specs.Results.{kind_at, anything, is_word, ends_path, ends_attribute, ends_semicolon, ends_body, ends_members, ends_section, begins_instr, begins_keyed, begins_section, begins_later}
+use Rattle.ar_grammar.proofs.Finding.{fails, token_kind, then_kind, kind_join}
+use Rattle.ar_grammar.proofs.ExpressionForms.{sign_from, word_from}
+use Rattle.ar_grammar.proofs.BodyParts.{section_ends_assertions, member_open, later_open}
 use Rattle.ar_readings.proofs.Firsts.{instr_first, section_first, keyed_first, member_first, later_first}
 use Rattle.ar_readings.specs.Expressions.{SamePath, SameExpr}
 use Rattle.ar_readings.specs.Members.{SameUnitBy, SameMemberBy, SameMemberToDepth, SameMember, SameUnit}

@@ -9,13 +9,13 @@ use Rattle.ar_lexer.specs.declared.words.TheConstants.{IF, MAIN, OWNER, SKIP}
 use Rattle.ar_syntax.specs.declared.paths.Path.{Path}
 use Rattle.ar_syntax.specs.declared.expressions.RawExpr.{RawExpr}
 use Rattle.ar_syntax.specs.declared.instructions.Instr.{Instr}
-use Rattle.ar_parser.specs.Words.{Form, Tokens, kind_or, token, ◌▸◌, between}
-use Rattle.ar_parser.specs.Paths.{IsPath}
-use Rattle.ar_parser.specs.Expressions.{Node, IsExpr}
-use Rattle.ar_parser.specs.Instructions.{IsElse, IsIfOf, IsGroupOf, IsSimpleOf, assign, tie, skip, IsInstrOf, simple, group, conditional, IsInstr}
-use Rattle.ar_parser.specs.Results.{kind_at, anything, is_sign, is_word, ends_group, begins_instr}
-use Rattle.ar_parser.proofs.Finding.{fails, then_kind}
-use Rattle.ar_parser.proofs.ExpressionForms.{sign_from, word_from}
+use Rattle.ar_grammar.specs.Words.{Form, Tokens, kind_or, token, ◌▸◌, between}
+use Rattle.ar_grammar.specs.Paths.{IsPath}
+use Rattle.ar_grammar.specs.Expressions.{Node, IsExpr}
+use Rattle.ar_grammar.specs.Instructions.{IsElse, IsIfOf, IsGroupOf, IsSimpleOf, assign, tie, skip, IsInstrOf, simple, group, conditional, IsInstr}
+use Rattle.ar_grammar.specs.Results.{kind_at, anything, is_sign, is_word, ends_group, begins_instr}
+use Rattle.ar_grammar.proofs.Finding.{fails, then_kind}
+use Rattle.ar_grammar.proofs.ExpressionForms.{sign_from, word_from}
 use Rattle.ar_readings.proofs.Firsts.{instr_first}
 use Rattle.ar_readings.specs.Expressions.{SamePath, SameExpr, SameOption, SameSteps, SameStepsToDepth, SameInstr}
 use Rattle.ar_readings.specs.Expressions as same

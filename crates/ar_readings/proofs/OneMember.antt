@@ -22,15 +22,15 @@ use Rattle.ar_syntax.specs.declared.members.TypeName.{TypeName}
 use Rattle.ar_syntax.specs.declared.members.Word.{Word}
 use Rattle.ar_syntax.specs.declared.members.Word.TheVariants as word
 use Rattle.ar_base.specs.Numbers.{NameId}
-use Rattle.ar_parser.specs.Words.{Form, Tokens, token, ◌▸◌, separated, between}
-use Rattle.ar_parser.specs.Paths.{IsPlacedName}
-use Rattle.ar_parser.specs.Expressions.{Node, IsExpr}
-use Rattle.ar_parser.specs.Instructions.{IsInstr}
-use Rattle.ar_parser.specs.Members.{IsTypeForm, IsType, IsWord, IsSetting, AreSettings, IsEvent, IsDeclared, IsPart, IsTransition, sync, local, IsAssertion, IsHidden}
-use Rattle.ar_parser.specs.Results.{kind_at, anything, is_sign, is_word, is_name, ends_path, ends_names, ends_expr, ends_list, ends_attribute, ends_semicolon, begins_expr, begins_part}
-use Rattle.ar_parser.proofs.Finding.{fails}
-use Rattle.ar_parser.proofs.ExpressionForms.{then_map, then_assoc, expr_first, sign_from, word_from}
-use Rattle.ar_parser.proofs.MemberParts.{list_end, semicolon_path}
+use Rattle.ar_grammar.specs.Words.{Form, Tokens, token, ◌▸◌, separated, between}
+use Rattle.ar_grammar.specs.Paths.{IsPlacedName}
+use Rattle.ar_grammar.specs.Expressions.{Node, IsExpr}
+use Rattle.ar_grammar.specs.Instructions.{IsInstr}
+use Rattle.ar_grammar.specs.Members.{IsTypeForm, IsType, IsWord, IsSetting, AreSettings, IsEvent, IsDeclared, IsPart, IsTransition, sync, local, IsAssertion, IsHidden}
+use Rattle.ar_grammar.specs.Results.{kind_at, anything, is_sign, is_word, is_name, ends_path, ends_names, ends_expr, ends_list, ends_attribute, ends_semicolon, begins_expr, begins_part}
+use Rattle.ar_grammar.proofs.Finding.{fails}
+use Rattle.ar_grammar.proofs.ExpressionForms.{then_map, then_assoc, expr_first, sign_from, word_from}
+use Rattle.ar_grammar.proofs.MemberParts.{list_end, semicolon_path}
 use Rattle.ar_readings.specs.Expressions.{SameExpr, SameInstr}
 use Rattle.ar_readings.specs.Members.{SameSetting, SamePart, SameMemberBy, SameMemberToDepth, SameMember}
 use Rattle.ar_readings.specs.Members as same

@@ -16,11 +16,12 @@ use Rattle.ar_syntax.specs.declared.items.Item.{Item}
 use Rattle.ar_syntax.specs.declared.items.Item.TheVariants as item
 use Rattle.ar_base.specs.Numbers.{NameId}
 use Rattle.ar_base.proofs.Truths.{not_true}
-use Rattle.ar_parser.specs.Words.{Form, Tokens, kind_or, token, nothing, ◌▸◌, ◌∣◌}
-use Rattle.ar_parser.specs.Models.{IsWhole, IsBound, whole, negated, IsDomainBody, IsDomain, IsItem, AreItems, text_of, IsNumbered, name, other, AreNumbered}
-use Rattle.ar_parser.specs.Results.{kind_at, anything, is_sign, is_word, ends_item, is_end}
-use Rattle.ar_parser.proofs.Finding.{fails, token_kind, then_kind}
-use Rattle.ar_parser.proofs.ExpressionForms.{sign_from, word_from}
+use Rattle.ar_grammar.specs.Words.{Form, Tokens, kind_or, token, nothing, ◌▸◌, ◌∣◌}
+use Rattle.ar_parser.specs.Models.{text_of, IsNumbered, name, other, AreNumbered}
+use Rattle.ar_grammar.specs.Items.{IsWhole, IsBound, whole, negated, IsDomainBody, IsDomain, IsItem, AreItems}
+use Rattle.ar_grammar.specs.Results.{kind_at, anything, is_sign, is_word, ends_item, is_end}
+use Rattle.ar_grammar.proofs.Finding.{fails, token_kind, then_kind}
+use Rattle.ar_grammar.proofs.ExpressionForms.{sign_from, word_from}
 use Rattle.ar_parser.proofs.NameLemmas.{one_lexing, one_interned}
 use Rattle.ar_readings.specs.Models.{SameDomain, SameDeclared, SameItem, SameModel, HasOneTree}
 use Rattle.ar_readings.specs.Models as same

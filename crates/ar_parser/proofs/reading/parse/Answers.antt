@@ -56,30 +56,31 @@ returns-in-Err-clause-faulty c = λ at f. absurd
     (no_fault_there c.args.text.now _ _ _ at c.in_ok-lexemes.ensures.found f)
 
 pub returns-in-Err-clause-only : goal.returns-in-Err-clause-only
-returns-in-Err-clause-only c = λ n model m. told_reaches (Vec Item Global) Model 128 n c.in-Err.refused _ _ c.at.ensures
+returns-in-Err-clause-only c =
+    λ n model m. told_reaches (Vec Item Global) Model 128 n c.in-Err.refused _ _ c.refused_at.ensures
     (gets_at_limit {A = Vec Item Global} n (Err c.in-Err.refused) c.limit.ensures
     (c.in-Err.ensures.only n (its_items c.args.text.now _ _ _ _ n model c.as_slice.ensures.value
     c.in_ok-lexemes.ensures.found m)))
 
 pub returns-in-Err-clause-syntax : goal.returns-in-Err-clause-syntax
 returns-in-Err-clause-syntax c = told_syntax 128 c.args.text.now _ _ _
-    (stopped c.in_ok-lexemes.ensures.found c.as_slice.ensures.value c.place_of.ensures) c.in-Err.refused _ c.at.ensures
-    (at_limit c.in-Err.refused _ _ c.limit.ensures c.in-Err.ensures.stuck)
+    (stopped c.in_ok-lexemes.ensures.found c.as_slice.ensures.value c.place_of.ensures) c.in-Err.refused _
+    c.refused_at.ensures (at_limit c.in-Err.refused _ _ c.limit.ensures c.in-Err.ensures.stuck)
 
 pub returns-in-Err-clause-depth : goal.returns-in-Err-clause-depth
 returns-in-Err-clause-depth c = told_depth 128 c.args.text.now _ _ _
-    (stopped c.in_ok-lexemes.ensures.found c.as_slice.ensures.value c.place_of.ensures) c.in-Err.refused _ c.at.ensures
-    (at_limit c.in-Err.refused _ _ c.limit.ensures c.in-Err.ensures.stuck)
+    (stopped c.in_ok-lexemes.ensures.found c.as_slice.ensures.value c.place_of.ensures) c.in-Err.refused _
+    c.refused_at.ensures (at_limit c.in-Err.refused _ _ c.limit.ensures c.in-Err.ensures.stuck)
 
 pub returns-in-Err-clause-lex : goal.returns-in-Err-clause-lex
-returns-in-Err-clause-lex c = told_not_lex c.args.text.now c.in-Err.refused _ _ c.at.ensures
+returns-in-Err-clause-lex c = told_not_lex c.args.text.now c.in-Err.refused _ _ c.refused_at.ensures
 
 pub returns-in-Err-clause-stuck : goal.returns-in-Err-clause-stuck
 returns-in-Err-clause-stuck c = syntax_told 128 c.args.text.now _ _ _
-    (stopped c.in_ok-lexemes.ensures.found c.as_slice.ensures.value c.place_of.ensures) c.in-Err.refused _ c.at.ensures
-    (at_limit c.in-Err.refused _ _ c.limit.ensures c.in-Err.ensures.stuck)
+    (stopped c.in_ok-lexemes.ensures.found c.as_slice.ensures.value c.place_of.ensures) c.in-Err.refused _
+    c.refused_at.ensures (at_limit c.in-Err.refused _ _ c.limit.ensures c.in-Err.ensures.stuck)
 
 pub returns-in-Err-clause-deep : goal.returns-in-Err-clause-deep
 returns-in-Err-clause-deep c = depth_told 128 c.args.text.now _ _ _
-    (stopped c.in_ok-lexemes.ensures.found c.as_slice.ensures.value c.place_of.ensures) c.in-Err.refused _ c.at.ensures
-    (at_limit c.in-Err.refused _ _ c.limit.ensures c.in-Err.ensures.stuck)
+    (stopped c.in_ok-lexemes.ensures.found c.as_slice.ensures.value c.place_of.ensures) c.in-Err.refused _
+    c.refused_at.ensures (at_limit c.in-Err.refused _ _ c.limit.ensures c.in-Err.ensures.stuck)

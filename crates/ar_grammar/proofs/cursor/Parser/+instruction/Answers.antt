@@ -1,0 +1,235 @@
+use Rattle.std.proofs.Common.{◌-◌, List, refl, sym, ap, ◌∙◌, subst}
+use Rattle.ar_lexer.specs.declared.token.TokenKind.TheVariants.{Sign, Reserved}
+use Rattle.ar_lexer.specs.declared.signs.TheConstants.{OPEN_BRACE, CLOSE_BRACE}
+use Rattle.ar_lexer.specs.declared.words.TheConstants.{ELSE, IF, THEN}
+use Rattle.ar_syntax.specs.declared.instructions.Instr.{Instr}
+use Rattle.ar_grammar.specs.Words.{token, ◌▸◌, between, each}
+use Rattle.ar_grammar.specs.Expressions.{Node, IsExpr}
+use Rattle.ar_grammar.specs.Instructions.{IsInstr, IsElse, IsSimple, IsGroup, IsConditional}
+use Rattle.ar_grammar.specs.Results.{begins_instr, is_word}
+use Rattle.ar_grammar.proofs.Finding.{apart}
+use Rattle.ar_grammar.proofs.ExpressionForms.{then_map}
+use Rattle.ar_grammar.proofs.Finding.{finds_then, finds_fails, finds_given, finds_plain, finds_err, finds_ok, finds_memory, finds_inside, finds_no_room, finds_nothing, finds_token, finds_at, loops_stop, loops_fail, loops_next, gathers_push, spans_then, spans_token, spans_expected, spans_map, takes_map, eats_kind, follows_token, follows_any}
+use Rattle.ar_grammar.proofs.InstrParts.{not_sign, pushed_all, conditional_in, group_in, simple_in}
+use Rattle.ar_grammar.proofs.InstrTexts.{instr_begins, instr_some, instr_if, instr_group, instr_simple, else_taken, else_none, instr_not_over, some_instr, some_group_end, instr_at, instr_clear, moves_instr, moves_each, leads, refuses_leads, refuses_again}
+use Rattle.std.proofs.Common.{inl, inr}
+use Rattle.ar_grammar.specs.Texts as text
+use Rattle.ar_grammar.proofs.Finding.{token_kind, then_kind}
+use Rattle.ar_grammar.proofs.Standing.{halts_err, halts_over, refuses_fails, refuses_then, refuses_map, refuses_inside, refuses_no_room, passes, passes_token, passes_expected, begins_token, begins_then, begins_map}
+use Rattle.ar_grammar.proofs.Turning.{turns_enclosed}
+use Rattle.ar_grammar.proofs.cursor.Parser.+instruction.Goals as goal
+
+pub instr-returns-then-left-eq0-clause-only : goal.instr-returns-then-left-eq0-clause-only
+instr-returns-then-left-eq0-clause-only t c =
+    finds_no_room begins_instr _ _ (c.begins_instr.ensures ∙ ap begins_instr c.kind.ensures) c.no_room.ensures.deep
+    c.no_room.ensures.other c.if-left-eq0.true instr_begins instr_some
+
+pub instr-returns-then-is_at-clause-found : goal.instr-returns-then-is_at-clause-found
+instr-returns-then-is_at-clause-found t c =
+    takes_map (IsConditional (c.args.left - 1)) (IsInstr c.args.left) _ _ _ c.conditional.ensures.found
+    (λ i next ts h. conditional_in c.args.left i next ts c.if-left-eq0.false h)
+
+pub instr-returns-then-is_at-clause-only : goal.instr-returns-then-is_at-clause-only
+instr-returns-then-is_at-clause-only t c =
+    finds_given (finds_inside c.if-left-eq0.false c.conditional.ensures.only)
+    (λ n next ts h s k. (instr_if n next ts h (k ∙ c.if-is_at.ensures.yes), s))
+
+pub instr-returns-then-is_at-2-clause-found : goal.instr-returns-then-is_at-2-clause-found
+instr-returns-then-is_at-2-clause-found t c =
+    takes_map (IsGroup (c.args.left - 1)) (IsInstr c.args.left) _ _ _ c.group.ensures.found
+    (λ i next ts h. group_in c.args.left i next ts c.if-left-eq0.false h)
+
+pub instr-returns-then-is_at-2-clause-only : goal.instr-returns-then-is_at-2-clause-only
+instr-returns-then-is_at-2-clause-only t c =
+    finds_given (finds_inside c.if-left-eq0.false c.group.ensures.only)
+    (λ n next ts h s k. (instr_group n next ts h (k ∙ c.if-is_at-2.ensures.yes), s))
+
+pub instr-returns-clause-found : goal.instr-returns-clause-found
+instr-returns-clause-found t c = takes_map (IsSimple (c.args.left - 1)) (IsInstr c.args.left) _ _ _
+    c.simple.ensures.found (λ i next ts h. simple_in c.args.left i next ts c.if-left-eq0.false h)
+
+pub instr-returns-clause-only : goal.instr-returns-clause-only
+instr-returns-clause-only t c = finds_plain (finds_inside c.if-left-eq0.false c.simple.ensures.only)
+    (λ n next ts h s k none. (
+      instr_simple n next ts h (λ e. c.if-is_at.ensures.no (sym k ∙ e))
+          (λ e. c.if-is_at-2.ensures.no (sym k ∙ e)) none,
+      s,
+    ))
+
+pub conditional-returns-in_err-test-clause-only : goal.conditional-returns-in_err-test-clause-only
+conditional-returns-in_err-test-clause-only t c =
+    finds_given (finds_fails c.in_err-test.ensures.only c.from_residual.ensures.1 follows_any)
+    (λ n next ts h s k. (h, s))
+
+pub conditional-returns-in_err-inner-clause-only : goal.conditional-returns-in_err-inner-clause-only
+conditional-returns-in_err-inner-clause-only t c =
+    finds_given (finds_then c.in_ok-test.ensures.only
+    (finds_fails c.in_err-inner.ensures.only c.from_residual-in_err-inner.ensures.1 follows_any) follows_any)
+    (λ n next ts h s k. (h, s))
+
+pub conditional-returns-in_err-no-clause-only : goal.conditional-returns-in_err-no-clause-only
+conditional-returns-in_err-no-clause-only t c =
+    finds_given (finds_then c.in_ok-test.ensures.only
+    (finds_then c.in_ok-inner.ensures.only (finds_err c.in_err-no.ensures.only c.from_residual-in_err-no.ensures.1)
+    follows_any) follows_any) (λ n next ts h s k. (h, s))
+
+pub conditional-returns-in_err-yes-clause-only : goal.conditional-returns-in_err-yes-clause-only
+conditional-returns-in_err-yes-clause-only t c = let f = finds_then c.in_ok-test.ensures.only (finds_then c.in_ok-inner.ensures.only c.in_ok-no.ensures.only follows_any) follows_any in finds_memory f.front f.passed c.from_residual-in_err-yes.ensures.1
+
+pub conditional-returns-clause-found : goal.conditional-returns-clause-found
+conditional-returns-clause-found t c =
+    spans_map (spans_then c.in_ok-test.ensures.found (spans_then c.in_ok-inner.ensures.found c.in_ok-no.ensures.found))
+    (λ next ts h. record {
+      test = c.in_ok-test.test;
+      yes = c.in_ok-yes.yes;
+      no = c.in_ok-no.no;
+      is = refl;
+      reads = subst (λ (x : Instr). (between (Reserved IF) (Reserved THEN)
+          (Node (IsExpr c.args.left) c.in_ok-test.test) ▸ IsInstr c.args.left x ▸ IsElse (IsInstr c.args.left)
+          c.in_ok-no.no) next ts) (sym c.in_ok-yes.ensures.ok) h;
+    })
+
+pub conditional-returns-clause-only : goal.conditional-returns-clause-only
+conditional-returns-clause-only t c =
+    finds_ok _ (finds_given (finds_then c.in_ok-test.ensures.only
+    (finds_then c.in_ok-inner.ensures.only c.in_ok-no.ensures.only follows_any) follows_any)
+    (λ n next ts h s k. (h, s)))
+
+pub other_branch-returns-in_err-inner-clause-only : goal.other_branch-returns-in_err-inner-clause-only
+other_branch-returns-in_err-inner-clause-only t c =
+    finds_given (finds_then (finds_token c.if-eat.ensures.taken)
+    (finds_err c.in_err-inner.ensures.only c.from_residual.ensures.1) follows_any)
+    (λ n next ts h s k. (else_taken n next ts h (k ∙ eats_kind c.if-eat.ensures.taken), s))
+
+pub other_branch-returns-in_err-boxed-clause-only : goal.other_branch-returns-in_err-boxed-clause-only
+other_branch-returns-in_err-boxed-clause-only t c = let f = finds_then (finds_token c.if-eat.ensures.taken) c.in_ok-inner.ensures.only follows_any in finds_memory f.front f.passed c.from_residual-in_err-boxed.ensures.1
+
+pub other_branch-returns-then-eat-clause-found : goal.other_branch-returns-then-eat-clause-found
+other_branch-returns-then-eat-clause-found t c =
+    spans_map (spans_then (spans_token c.if-eat.ensures.taken) c.in_ok-inner.ensures.found)
+    (λ next ts h. subst (λ (x : Instr). (token (Reserved ELSE) ▸ IsInstr c.args.left x) next ts)
+    (sym c.in_ok-boxed.ensures.ok) h)
+
+pub other_branch-returns-then-eat-clause-only : goal.other_branch-returns-then-eat-clause-only
+other_branch-returns-then-eat-clause-only t c =
+    finds_given (finds_then (finds_token c.if-eat.ensures.taken) (finds_ok _ c.in_ok-inner.ensures.only) follows_any)
+    (λ n next ts h s k. (else_taken n next ts h (k ∙ eats_kind c.if-eat.ensures.taken), s))
+
+pub other_branch-returns-clause-only : goal.other_branch-returns-clause-only
+other_branch-returns-clause-only t c =
+    finds_at (finds_given (finds_nothing _)
+    (λ n next ts h s k. (else_none n next ts h (λ e. c.if-eat.ensures.other (sym k ∙ e)), refl))) c.if-eat.ensures.left
+
+pub group-returns-in_err-expect-clause-only : goal.group-returns-in_err-expect-clause-only
+group-returns-in_err-expect-clause-only t c =
+    finds_given (finds_fails (c.in_err-expect.ensures.only _) c.from_residual.ensures.1 follows_any)
+    (λ n next ts h s k. (h, s))
+
+pub group-returns-in_err-more_instrs-clause-only : goal.group-returns-in_err-more_instrs-clause-only
+group-returns-in_err-more_instrs-clause-only t c =
+    finds_given (finds_then (c.in_ok-expect.ensures.only _)
+    (finds_fails c.in_err-more_instrs.ensures.only c.from_residual-in_err-more_instrs.ensures.1 (follows_token refl))
+    follows_any) (λ n next ts h s k. (h, s))
+
+pub group-returns-in_err-expect-2-clause-only : goal.group-returns-in_err-expect-2-clause-only
+group-returns-in_err-expect-2-clause-only t c =
+    finds_given (finds_then (c.in_ok-expect.ensures.only _)
+    (finds_then c.in_ok-more_instrs.ensures.only
+    (finds_err (c.in_err-expect-2.ensures.only _) c.from_residual-in_err-expect-2.ensures.1) (follows_token refl))
+    follows_any) (λ n next ts h s k. (h, s))
+
+pub group-returns-clause-found : goal.group-returns-clause-found
+group-returns-clause-found t c = let m = c.in_ok-more_instrs.ensures.found in
+    spans_map (spans_then (spans_expected c.in_ok-expect.ensures.found)
+    (spans_then m.2 (spans_expected c.in_ok-expect-2.ensures.found)))
+    (λ next ts h. record {
+      instrs = c.more_instrs.new.instrs;
+      is = refl;
+      reads = subst (λ (xs : List Instr). between (Sign OPEN_BRACE) (Sign CLOSE_BRACE) (each (IsInstr c.args.left) xs)
+          next ts) (sym (pushed_all m.1 c.new-instrs.ensures.items)) h;
+    })
+
+pub group-returns-clause-only : goal.group-returns-clause-only
+group-returns-clause-only t c = finds_given
+    (finds_then (c.in_ok-expect.ensures.only _)
+    (finds_then c.in_ok-more_instrs.ensures.only (finds_ok _ (c.in_ok-expect-2.ensures.only _)) (follows_token refl))
+    follows_any) (λ n next ts h s k. (h, s))
+
+pub more_instrs-returns-in_err-inner-clause-only : goal.more_instrs-returns-in_err-inner-clause-only
+more_instrs-returns-in_err-inner-clause-only t c =
+    loops_fail c.loop-self.invariant.loops (not_sign CLOSE_BRACE _ c.loop-self-test.ensures.no)
+    c.in_err-inner.ensures.only c.from_residual.ensures.1 follows_any
+
+pub more_instrs-loop-self-preserved : goal.more_instrs-loop-self-preserved
+more_instrs-loop-self-preserved t c =
+    gathers_push c.loop-self.invariant (not_sign CLOSE_BRACE _ c.loop-self-test.ensures.no) c.in_ok-inner.ensures.found
+    c.in_ok-inner.ensures.only follows_any c.in_ok-push.ensures.items
+
+pub more_instrs-returns-in_err-push-clause-only : goal.more_instrs-returns-in_err-push-clause-only
+more_instrs-returns-in_err-push-clause-only t c = let l = loops_next c.loop-self.invariant.loops (not_sign CLOSE_BRACE _ c.loop-self-test.ensures.no) c.in_ok-inner.ensures.only follows_any in finds_memory l.front l.passed c.from_residual-in_err-push.ensures.1
+
+pub more_instrs-returns-clause-only : goal.more_instrs-returns-clause-only
+more_instrs-returns-clause-only t c =
+    loops_stop c.loop-self.invariant.loops
+    (λ n next ts h k. instr_not_over n next ts h (k ∙ c.loop-self-test.ensures.yes))
+
+pub instr-returns-then-left-eq0-clause-stuck : goal.instr-returns-then-left-eq0-clause-stuck
+instr-returns-then-left-eq0-clause-stuck t c =
+    refuses_no_room begins_instr _ _ (c.begins_instr.ensures ∙ ap begins_instr c.kind.ensures) c.no_room.ensures.deep
+    c.no_room.ensures.other refl c.if-left-eq0.true some_instr (instr_at 2)
+
+pub instr-returns-then-is_at-clause-stuck : goal.instr-returns-then-is_at-clause-stuck
+instr-returns-then-is_at-clause-stuck t c =
+    halts_over _ c.conditional.ensures.stuck
+    (λ e r. refuses_inside c.if-left-eq0.false r (λ m next ts h. text.conditional h))
+
+pub instr-returns-then-is_at-2-clause-stuck : goal.instr-returns-then-is_at-2-clause-stuck
+instr-returns-then-is_at-2-clause-stuck t c =
+    halts_over _ c.group.ensures.stuck (λ e r. refuses_inside c.if-left-eq0.false r (λ m next ts h. text.group h))
+
+pub instr-returns-clause-stuck : goal.instr-returns-clause-stuck
+instr-returns-clause-stuck t c = halts_over _ c.simple.ensures.stuck
+    (λ e r. refuses_inside c.if-left-eq0.false r (λ m next ts h. text.simple h))
+
+pub conditional-returns-in_err-test-clause-stuck : goal.conditional-returns-in_err-test-clause-stuck
+conditional-returns-in_err-test-clause-stuck t c =
+    halts_err _ _ c.from_residual.ensures.1
+    (refuses_fails c.in_err-test.ensures.stuck
+    (λ m. begins_then (some_instr m) (begins_map (begins_then (begins_token (Reserved ELSE)) (some_instr m))
+    (λ next ts h. inr h))))
+
+pub conditional-returns-in_err-inner-clause-stuck : goal.conditional-returns-in_err-inner-clause-stuck
+conditional-returns-in_err-inner-clause-stuck t c =
+    halts_err _ _ c.from_residual-in_err-inner.ensures.1
+    (refuses_then (passes c.in_ok-test.ensures.found (λ m l. turns_enclosed _ _ _ m l _))
+    (refuses_fails c.in_err-inner.ensures.stuck
+    (λ m. begins_map (begins_then (begins_token (Reserved ELSE)) (some_instr m)) (λ next ts h. inr h))))
+
+pub conditional-returns-in_err-no-clause-stuck : goal.conditional-returns-in_err-no-clause-stuck
+conditional-returns-in_err-no-clause-stuck t c =
+    halts_err _ _ c.from_residual-in_err-no.ensures.1
+    (refuses_then (passes c.in_ok-test.ensures.found (λ m l. turns_enclosed _ _ _ m l _))
+    (refuses_map (refuses_leads (leads c.in_ok-inner.ensures.found (λ m l. moves_instr _ m l _))
+    (λ m next ts h. inr (then_kind h ∙ sym c.in_err-no.ensures.began)) c.in_err-no.ensures.stuck)
+    (λ m next ts h. then_map h (λ next ts j. j) (λ next ts j. inr j))))
+
+pub other_branch-returns-in_err-inner-clause-stuck : goal.other_branch-returns-in_err-inner-clause-stuck
+other_branch-returns-in_err-inner-clause-stuck t c =
+    halts_err _ _ c.from_residual.ensures.1
+    (refuses_then (passes_token c.if-eat.ensures.taken) c.in_err-inner.ensures.stuck)
+
+pub group-returns-in_err-expect-clause-stuck : goal.group-returns-in_err-expect-clause-stuck
+group-returns-in_err-expect-clause-stuck t c =
+    halts_err _ _ c.from_residual.ensures.1 (refuses_fails (c.in_err-expect.ensures.stuck _) (λ m. some_group_end))
+
+pub group-returns-in_err-more_instrs-clause-stuck : goal.group-returns-in_err-more_instrs-clause-stuck
+group-returns-in_err-more_instrs-clause-stuck t c =
+    halts_err _ _ c.from_residual-in_err-more_instrs.ensures.1
+    (refuses_then (passes_expected c.in_ok-expect.ensures.found)
+    (refuses_fails c.in_err-more_instrs.ensures.stuck (λ m. begins_token (Sign CLOSE_BRACE))))
+
+pub group-returns-in_err-expect-2-clause-stuck : goal.group-returns-in_err-expect-2-clause-stuck
+group-returns-in_err-expect-2-clause-stuck t c = halts_err _ _ c.from_residual-in_err-expect-2.ensures.1 (let g = c.in_ok-more_instrs.ensures.found in refuses_then (passes_expected c.in_ok-expect.ensures.found) (refuses_leads (leads g.2 (λ m l. moves_each (moves_instr _ m l) g.0)) (λ m next ts h. inl (λ e. apart (is_word ELSE) e (token_kind h) refl refl)) (c.in_err-expect-2.ensures.stuck _)))
+
+pub more_instrs-returns-in_err-inner-clause-stuck : goal.more_instrs-returns-in_err-inner-clause-stuck
+more_instrs-returns-in_err-inner-clause-stuck t c = halts_err _ _ c.from_residual.ensures.1 (let g = c.loop-self.invariant in refuses_again (leads g.taken (λ m l. moves_each (moves_instr _ m l) g.more)) (λ m next ts h. inl (instr_clear m next ts h)) c.in_err-inner.ensures.stuck)

@@ -1,0 +1,30 @@
+use Rattle.std.proofs.Common.{length, ◌+◌, ◌*◌}
+use Rattle.ar_grammar.specs.Words.{deep}
+use Rattle.ar_grammar.specs.Texts.{instr_text}
+use Rattle.ar_grammar.specs.Instructions.{IsInstr}
+use Rattle.ar_grammar.specs.Results.{ends_group}
+use Rattle.ar_grammar.proofs.Finding.{Gathers}
+use Rattle.ar_grammar.proofs.cursor.Parser.+instruction.Given as goal
+
+abbrev pub decreases-instr : goal.decreases-instr
+decreases-instr l = 4 * l.left
+
+abbrev pub decreases-other_branch : goal.decreases-other_branch
+decreases-other_branch l = 4 * l.left + 1
+
+abbrev pub decreases-more_instrs : goal.decreases-more_instrs
+decreases-more_instrs l = 4 * l.left + 1
+
+abbrev pub decreases-conditional : goal.decreases-conditional
+decreases-conditional l = 4 * l.left + 2
+
+abbrev pub decreases-group : goal.decreases-group
+decreases-group l = 4 * l.left + 2
+
+abbrev pub invariant-more_instrs-loop-self : goal.invariant-more_instrs-loop-self
+invariant-more_instrs-loop-self l =
+    Gathers (IsInstr l.left) (instr_text deep) ends_group l.fn.instrs.items l.instrs.items l.fn.self.rest.now
+    l.self.rest.now
+
+abbrev pub decreases-more_instrs-loop-self : goal.decreases-more_instrs-loop-self
+decreases-more_instrs-loop-self l = length l.self.rest.now

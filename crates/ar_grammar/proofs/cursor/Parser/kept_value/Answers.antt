@@ -1,0 +1,92 @@
+use Rattle.std.proofs.Common.{refl}
+use Rattle.ar_grammar.proofs.Finding.{finds_then, finds_fails, finds_err, finds_ok, spans_then, spans_expected, follows_token, follows_any}
+use Rattle.ar_grammar.proofs.cursor.Parser.kept_value.Goals as goal
+use Rattle.ar_grammar.proofs.Standing.{halts_err, refuses_fails, refuses_then, passes, passes_expected, begins_then, begins_token}
+use Rattle.ar_grammar.proofs.Turning.{turns_placed}
+use Rattle.ar_grammar.proofs.UnreadParts.{turns_kept, some_kept}
+use Rattle.ar_lexer.specs.declared.token.TokenKind.TheVariants.{Name, Sign}
+use Rattle.ar_lexer.specs.declared.signs.TheConstants.{EQUALS, SEMICOLON}
+
+pub returns-in_err-expect-clause-only : goal.returns-in_err-expect-clause-only
+returns-in_err-expect-clause-only c = finds_fails (c.in_err-expect.ensures.only _) c.from_residual.ensures.1 follows_any
+
+pub returns-in_err-name-clause-only : goal.returns-in_err-name-clause-only
+returns-in_err-name-clause-only c =
+    finds_then (c.in_ok-expect.ensures.only _)
+    (finds_fails (c.in_err-name.ensures.only _) c.from_residual-in_err-name.ensures.1 follows_any) follows_any
+
+pub returns-in_err-expect-2-clause-only : goal.returns-in_err-expect-2-clause-only
+returns-in_err-expect-2-clause-only c =
+    finds_then (c.in_ok-expect.ensures.only _)
+    (finds_then (c.in_ok-name.ensures.only _)
+    (finds_fails (c.in_err-expect-2.ensures.only _) c.from_residual-in_err-expect-2.ensures.1 follows_any) follows_any)
+    follows_any
+
+pub returns-in_err-span-clause-only : goal.returns-in_err-span-clause-only
+returns-in_err-span-clause-only c =
+    finds_then (c.in_ok-expect.ensures.only _)
+    (finds_then (c.in_ok-name.ensures.only _)
+    (finds_then (c.in_ok-expect-2.ensures.only _)
+    (finds_fails c.in_err-span.ensures.only c.from_residual-in_err-span.ensures.1 (follows_token refl)) follows_any)
+    follows_any) follows_any
+
+pub returns-in_err-expect-3-clause-only : goal.returns-in_err-expect-3-clause-only
+returns-in_err-expect-3-clause-only c =
+    finds_then (c.in_ok-expect.ensures.only _)
+    (finds_then (c.in_ok-name.ensures.only _)
+    (finds_then (c.in_ok-expect-2.ensures.only _)
+    (finds_then c.in_ok-span.ensures.only
+    (finds_err (c.in_err-expect-3.ensures.only _) c.from_residual-in_err-expect-3.ensures.1) (follows_token refl))
+    follows_any) follows_any) follows_any
+
+pub returns-clause-found : goal.returns-clause-found
+returns-clause-found c = spans_then (spans_expected c.in_ok-expect.ensures.found)
+    (spans_then c.in_ok-name.ensures.found
+    (spans_then (spans_expected c.in_ok-expect-2.ensures.found)
+    (spans_then c.in_ok-span.ensures.found (spans_expected c.in_ok-expect-3.ensures.found))))
+
+pub returns-clause-only : goal.returns-clause-only
+returns-clause-only c = finds_then (c.in_ok-expect.ensures.only _)
+    (finds_then (c.in_ok-name.ensures.only _)
+    (finds_then (c.in_ok-expect-2.ensures.only _)
+    (finds_then c.in_ok-span.ensures.only (finds_ok _ (c.in_ok-expect-3.ensures.only _)) (follows_token refl))
+    follows_any) follows_any) follows_any
+
+pub returns-in_err-expect-clause-stuck : goal.returns-in_err-expect-clause-stuck
+returns-in_err-expect-clause-stuck c =
+    halts_err _ _ c.from_residual.ensures.1
+    (refuses_fails (c.in_err-expect.ensures.stuck _)
+    (λ m. begins_then (begins_token Name)
+    (begins_then (begins_token (Sign EQUALS)) (begins_then (some_kept m) (begins_token (Sign SEMICOLON))))))
+
+pub returns-in_err-name-clause-stuck : goal.returns-in_err-name-clause-stuck
+returns-in_err-name-clause-stuck c =
+    halts_err _ _ c.from_residual-in_err-name.ensures.1
+    (refuses_then (passes_expected c.in_ok-expect.ensures.found)
+    (refuses_fails (c.in_err-name.ensures.stuck _)
+    (λ m. begins_then (begins_token (Sign EQUALS)) (begins_then (some_kept m) (begins_token (Sign SEMICOLON))))))
+
+pub returns-in_err-expect-2-clause-stuck : goal.returns-in_err-expect-2-clause-stuck
+returns-in_err-expect-2-clause-stuck c =
+    halts_err _ _ c.from_residual-in_err-expect-2.ensures.1
+    (refuses_then (passes_expected c.in_ok-expect.ensures.found)
+    (refuses_then (passes c.in_ok-name.ensures.found (λ m l. turns_placed _))
+    (refuses_fails (c.in_err-expect-2.ensures.stuck _)
+    (λ m. begins_then (some_kept m) (begins_token (Sign SEMICOLON))))))
+
+pub returns-in_err-span-clause-stuck : goal.returns-in_err-span-clause-stuck
+returns-in_err-span-clause-stuck c =
+    halts_err _ _ c.from_residual-in_err-span.ensures.1
+    (refuses_then (passes_expected c.in_ok-expect.ensures.found)
+    (refuses_then (passes c.in_ok-name.ensures.found (λ m l. turns_placed _))
+    (refuses_then (passes_expected c.in_ok-expect-2.ensures.found)
+    (refuses_fails c.in_err-span.ensures.stuck (λ m. begins_token (Sign SEMICOLON))))))
+
+pub returns-in_err-expect-3-clause-stuck : goal.returns-in_err-expect-3-clause-stuck
+returns-in_err-expect-3-clause-stuck c =
+    halts_err _ _ c.from_residual-in_err-expect-3.ensures.1
+    (refuses_then (passes_expected c.in_ok-expect.ensures.found)
+    (refuses_then (passes c.in_ok-name.ensures.found (λ m l. turns_placed _))
+    (refuses_then (passes_expected c.in_ok-expect-2.ensures.found)
+    (refuses_then (passes c.in_ok-span.ensures.found (λ m l next next' ts h. turns_kept _ m l next next' ts h.form))
+    (c.in_err-expect-3.ensures.stuck _)))))

@@ -1,0 +1,40 @@
+use Rattle.ar_grammar.proofs.Finding.{finds_given, finds_then, finds_fails, finds_err, finds_ok, follows_any}
+use Rattle.ar_grammar.proofs.PathForms.{names_made, pushed_first, pushed_more}
+use Rattle.ar_grammar.proofs.cursor.Parser.names.Goals as goal
+use Rattle.ar_grammar.proofs.Standing.{halts_err, halts_memory, refuses_fails, refuses_then, passes, begins_no_more}
+use Rattle.ar_grammar.proofs.Turning.{turns_placed}
+
+pub returns-in_err-first-clause-only : goal.returns-in_err-first-clause-only
+returns-in_err-first-clause-only c = λ left.
+    finds_given (finds_fails (c.in_err-first.ensures.only left) c.from_residual.ensures.1 follows_any)
+    (λ n next ts h s k. (h, s))
+
+pub returns-in_err-more_names-clause-only : goal.returns-in_err-more_names-clause-only
+returns-in_err-more_names-clause-only c = λ left.
+    finds_given (finds_then (c.in_ok-first.ensures.only left)
+    (finds_err (c.in_err-more_names.ensures.only left) c.from_residual-in_err-more_names.ensures.1) follows_any)
+    (λ n next ts h s k. (h, s))
+
+pub returns-clause-found : goal.returns-clause-found
+returns-clause-found c = let m = c.in_ok-more_names.ensures.found in
+    names_made m.0 c.in_ok-first.ensures.found m.2
+    (pushed_more (pushed_first c.in_ok-push.ensures.items c.new-names.ensures.items) m.1)
+
+pub returns-clause-only : goal.returns-clause-only
+returns-clause-only c = λ left.
+    finds_given (finds_then (c.in_ok-first.ensures.only left) (finds_ok _ (c.in_ok-more_names.ensures.only left))
+    follows_any)
+    (λ n next ts h s k. (h, s))
+
+pub returns-in_err-first-clause-stuck : goal.returns-in_err-first-clause-stuck
+returns-in_err-first-clause-stuck c =
+    λ left. halts_err _ _ c.from_residual.ensures.1
+    (refuses_fails (c.in_err-first.ensures.stuck left) (λ m. begins_no_more))
+
+pub returns-in_err-push-clause-stuck : goal.returns-in_err-push-clause-stuck
+returns-in_err-push-clause-stuck c = λ left. halts_memory _ _ _ _ _ c.from_residual-in_err-push.ensures.1
+
+pub returns-in_err-more_names-clause-stuck : goal.returns-in_err-more_names-clause-stuck
+returns-in_err-more_names-clause-stuck c =
+    λ left. halts_err _ _ c.from_residual-in_err-more_names.ensures.1
+    (refuses_then (passes c.in_ok-first.ensures.found (λ m l. turns_placed _)) (c.in_err-more_names.ensures.stuck left))

@@ -1,0 +1,52 @@
+use Rattle.std.proofs.Common.{refl}
+use Rattle.ar_grammar.proofs.Finding.{finds_then, finds_fails, finds_err, finds_ok, spans_then, spans_expected, follows_token, follows_any}
+use Rattle.ar_grammar.proofs.cursor.Parser.tied.Goals as goal
+use Rattle.ar_lexer.specs.declared.token.TokenKind.TheVariants.{Sign}
+use Rattle.ar_lexer.specs.declared.signs.TheConstants.{SEMICOLON}
+use Rattle.ar_grammar.proofs.Standing.{halts_err, refuses_fails, refuses_then, passes, passes_expected, begins_token, begins_then}
+use Rattle.ar_grammar.proofs.Turning.{turns_path}
+use Rattle.ar_grammar.proofs.InstrTexts.{some_path}
+
+pub returns-in_err-expect-clause-only : goal.returns-in_err-expect-clause-only
+returns-in_err-expect-clause-only c =
+    λ left. finds_fails (c.in_err-expect.ensures.only left) c.from_residual.ensures.1 follows_any
+
+pub returns-in_err-path-clause-only : goal.returns-in_err-path-clause-only
+returns-in_err-path-clause-only c =
+    λ left. finds_then (c.in_ok-expect.ensures.only left)
+    (finds_fails (c.in_err-path.ensures.only left) c.from_residual-in_err-path.ensures.1 (follows_token refl))
+    follows_any
+
+pub returns-in_err-expect-2-clause-only : goal.returns-in_err-expect-2-clause-only
+returns-in_err-expect-2-clause-only c =
+    λ left. finds_then (c.in_ok-expect.ensures.only left)
+    (finds_then (c.in_ok-path.ensures.only left)
+    (finds_err (c.in_err-expect-2.ensures.only left) c.from_residual-in_err-expect-2.ensures.1) (follows_token refl))
+    follows_any
+
+pub returns-clause-found : goal.returns-clause-found
+returns-clause-found c = spans_then (spans_expected c.in_ok-expect.ensures.found)
+    (spans_then c.in_ok-path.ensures.found (spans_expected c.in_ok-expect-2.ensures.found))
+
+pub returns-clause-only : goal.returns-clause-only
+returns-clause-only c = λ left. finds_then (c.in_ok-expect.ensures.only left)
+    (finds_then (c.in_ok-path.ensures.only left) (finds_ok _ (c.in_ok-expect-2.ensures.only left)) (follows_token refl))
+    follows_any
+
+pub returns-in_err-expect-clause-stuck : goal.returns-in_err-expect-clause-stuck
+returns-in_err-expect-clause-stuck c =
+    λ left. halts_err _ _ c.from_residual.ensures.1
+    (refuses_fails (c.in_err-expect.ensures.stuck left) (λ m. begins_then some_path (begins_token (Sign SEMICOLON))))
+
+pub returns-in_err-path-clause-stuck : goal.returns-in_err-path-clause-stuck
+returns-in_err-path-clause-stuck c =
+    λ left. halts_err _ _ c.from_residual-in_err-path.ensures.1
+    (refuses_then (passes_expected c.in_ok-expect.ensures.found)
+    (refuses_fails (c.in_err-path.ensures.stuck left) (λ m. begins_token (Sign SEMICOLON))))
+
+pub returns-in_err-expect-2-clause-stuck : goal.returns-in_err-expect-2-clause-stuck
+returns-in_err-expect-2-clause-stuck c =
+    λ left. halts_err _ _ c.from_residual-in_err-expect-2.ensures.1
+    (refuses_then (passes_expected c.in_ok-expect.ensures.found)
+    (refuses_then (passes c.in_ok-path.ensures.found (λ m l. turns_path c.in_ok-path.path))
+    (c.in_err-expect-2.ensures.stuck left)))

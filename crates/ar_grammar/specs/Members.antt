@@ -1,0 +1,219 @@
+-- The grammar of the members of a unit.
+use Rattle.std.specs.Prelude.{◌≡◌, ◌≢◌, ℕ, zero, suc, if◌then◌else◌, Option, Some, None, List, [], ◌∷◌, ◌++◌, Vec}
+use Rattle.std.specs.declared.alloc.Global.{Global}
+use Rattle.ar_base.specs.declared.places.Place.{Place}
+use Rattle.ar_base.specs.declared.places.Span.{Span}
+use Rattle.ar_lexer.specs.declared.token.TokenKind.{TokenKind}
+use Rattle.ar_lexer.specs.declared.token.TokenKind.TheVariants.{Sign, Reserved, End}
+use Rattle.ar_lexer.specs.declared.signs.TheConstants.{OPEN_PARENTHESIS, CLOSE_PARENTHESIS, COMMA, SEMICOLON, COLON, DOT, EQUALS, ARROW, EXCLAMATION, QUESTION, AMPERSAND}
+use Rattle.ar_lexer.specs.declared.words.TheConstants.{AS, ASSERTION, BLOCK, BOOLEAN, CLONES, EMBEDS, END, EVENT, EXTENDS, HIDE, INIT, INTEGER, OBSERVER, PARAMETER, REAL, RESET, TRANSITION}
+use Rattle.ar_syntax.specs.declared.paths.Path.{Path}
+use Rattle.ar_syntax.specs.declared.expressions.RawExpr.{RawExpr}
+use Rattle.ar_syntax.specs.declared.instructions.Instr.{Instr}
+use Rattle.ar_syntax.specs.declared.members.Member.{Member}
+use Rattle.ar_syntax.specs.declared.members.Member.TheVariants as member
+use Rattle.ar_syntax.specs.declared.members.Part.{Part}
+use Rattle.ar_syntax.specs.declared.members.Setting.{Setting}
+use Rattle.ar_syntax.specs.declared.members.TypeForm.{TypeForm}
+use Rattle.ar_syntax.specs.declared.members.TypeForm.TheVariants as type_form
+use Rattle.ar_syntax.specs.declared.members.TypeName.{TypeName}
+use Rattle.ar_syntax.specs.declared.members.Unit.{Unit as UnitTree}
+use Rattle.ar_syntax.specs.declared.members.Word.{Word}
+use Rattle.ar_syntax.specs.declared.members.Word.TheVariants as word
+use Rattle.ar_grammar.specs.declared.lexeme.Lexeme.{Lexeme}
+use Rattle.ar_base.specs.Numbers.{NameId}
+use Rattle.ar_grammar.specs.Words.{Form, Tokens, token, nothing, never, ◌▸◌, ◌∣◌, each, many, groups, separated, between, standing, covering}
+use Rattle.ar_grammar.specs.Paths.{IsName, IsPlacedName, AreNames, IsPath}
+use Rattle.ar_grammar.specs.Expressions.{Node, IsExpr}
+use Rattle.ar_grammar.specs.Instructions.{IsInstr}
+
+-- Type = "Boolean" | "Integer" | name
+abbrev pub IsTypeForm : TypeForm → Form
+IsTypeForm type_form.Boolean = token (Reserved BOOLEAN)
+IsTypeForm type_form.Integer = token (Reserved INTEGER)
+IsTypeForm (type_form.Named name) = IsName name
+
+abbrev pub IsType : TypeName → Form
+IsType type = standing type.at (IsTypeForm type.form)
+
+-- Word = name | "init" | "reset"
+abbrev pub IsWord : Word → Form
+IsWord (word.Name name) = IsName name
+IsWord word.Init = token (Reserved INIT)
+IsWord word.Reset = token (Reserved RESET)
+
+-- Setting = Word { "." Word } "=" Expr
+abbrev pub IsSetting : ℕ → Setting → Form
+IsSetting n s = standing s.at (separated (Sign DOT) IsWord s.target.items) ▸ token (Sign EQUALS) ▸ Node (IsExpr n)
+    s.value
+
+-- [ Settings ], Settings = "(" Setting { "," Setting } ")"
+abbrev pub AreSettings : ℕ → List Setting → Form
+AreSettings n [] = nothing
+AreSettings n (s ∷ more) = between (Sign OPEN_PARENTHESIS) (Sign CLOSE_PARENTHESIS)
+    (separated (Sign COMMA) (IsSetting n) (s ∷ more))
+
+-- any token but "(" and ")"
+pub record plain_token (next : TokenKind) (ts : Tokens) : Type 0 where
+  pub one : Lexeme
+  pub alone : ts ≡ one ∷ []
+  pub no_open : one.kind ≢ Sign OPEN_PARENTHESIS
+  pub no_close : one.kind ≢ Sign CLOSE_PARENTHESIS
+  pub no_end : one.kind ≢ End
+
+-- any token but "(", ")" and ";"
+pub record kept_token (next : TokenKind) (ts : Tokens) : Type 0 where
+  pub plain : plain_token next ts
+  pub no_semicolon : plain.one.kind ≢ Sign SEMICOLON
+
+-- Unread = { any token but "(" and ")" | "(" Unread ")" }, with at most n brackets open at one token
+abbrev pub unread_piece : ℕ → TokenKind → Tokens → Type 0
+unread_piece zero next ts = plain_token next ts
+unread_piece (suc n) next ts = (plain_token ∣ between (Sign OPEN_PARENTHESIS) (Sign CLOSE_PARENTHESIS)
+    (many (unread_piece n))) next ts
+
+abbrev pub unread : ℕ → Form
+unread n = many (unread_piece n)
+
+-- "(" Unread ")"
+abbrev pub bracketed : ℕ → Form
+bracketed zero = never
+bracketed (suc n) = between (Sign OPEN_PARENTHESIS) (Sign CLOSE_PARENTHESIS) (unread n)
+
+-- [ "(" Unread ")" ], with the span of what is unread
+abbrev pub IsAttribute : ℕ → Option Span → Form
+IsAttribute n None = nothing
+IsAttribute zero (Some span) = never
+IsAttribute (suc n) (Some span) = between (Sign OPEN_PARENTHESIS) (Sign CLOSE_PARENTHESIS) (covering span (unread n))
+
+-- Event = name [ "(" Unread ")" ]
+pub record IsEvent (n : ℕ) (m : Member) (next : TokenKind) (ts : Tokens) : Type 0 where
+  pub name : NameId
+  pub at : Place
+  pub attribute : Option Span
+  pub is : m ≡ member.Event name at attribute
+  pub reads : (IsPlacedName (name, at) ▸ IsAttribute n attribute) next ts
+
+-- Piece = any token but "(", ")" and ";" | "(" Unread ")"
+abbrev pub kept_piece : ℕ → TokenKind → Tokens → Type 0
+kept_piece zero next ts = kept_token next ts
+kept_piece (suc n) next ts = (kept_token ∣ between (Sign OPEN_PARENTHESIS) (Sign CLOSE_PARENTHESIS) (unread n)) next ts
+
+-- Kept = Piece { Piece }
+abbrev pub kept : ℕ → Form
+kept n = kept_piece n ▸ many (kept_piece n)
+
+-- Type Names [ Settings ] ";"
+pub record IsDeclared (n : ℕ) (m : Member) (next : TokenKind) (ts : Tokens) : Type 0 where
+  pub type : TypeName
+  pub names : Vec (NameId × Place) Global
+  pub settings : Vec Setting Global
+  pub is : m ≡ member.Declare type names settings
+  pub reads : (IsType type ▸ AreNames names.items ▸ AreSettings n settings.items ▸ token (Sign SEMICOLON)) next ts
+
+-- Part = ( "!" | "?" ) Path
+abbrev pub IsPart : Part → Form
+IsPart p = token (Sign (if p.must then EXCLAMATION else QUESTION)) ▸ IsPath p.event
+
+-- Transition = name ":" ( Part { "&" Part } ";" | Expr "->" Instr )
+pub data IsTransition (n : ℕ) (m : Member) (next : TokenKind) (ts : Tokens) : Type 0 where
+  sync : (name : NameId) (at : Place) (parts : Vec Part Global) → m ≡ member.Sync name at parts →
+      (IsPlacedName (name, at) ▸ between (Sign COLON) (Sign SEMICOLON) (separated (Sign AMPERSAND) IsPart parts.items))
+      next ts → IsTransition n m next ts
+  local : (name : NameId) (at : Place) (guard : RawExpr) (action : Instr) → m ≡ member.Local name at guard action →
+      (IsPlacedName (name, at) ▸ between (Sign COLON) (Sign ARROW) (Node (IsExpr n) guard) ▸ IsInstr n action) next ts
+      → IsTransition n m next ts
+
+-- an instruction of an assertion
+pub record IsAssertion (n : ℕ) (m : Member) (next : TokenKind) (ts : Tokens) : Type 0 where
+  pub i : Instr
+  pub is : m ≡ member.Assert i
+  pub reads : IsInstr n i next ts
+
+-- Section = "transition" { Transition } | "assertion" { Instr }
+abbrev pub IsSection : ℕ → List Member → Form
+IsSection n ms = (token (Reserved TRANSITION) ▸ each (IsTransition n) ms) ∣
+    (token (Reserved ASSERTION) ▸ each (IsAssertion n) ms)
+
+-- the path of a hidden event
+pub record IsHidden (m : Member) (next : TokenKind) (ts : Tokens) : Type 0 where
+  pub event : Path
+  pub is : m ≡ member.Hide event
+  pub reads : IsPath event next ts
+
+-- name Body "end"
+abbrev pub IsUnit : (List Member → Form) → UnitTree → Form
+IsUnit Body u = IsPlacedName (u.name, u.at) ▸ Body u.members.items ▸ token (Reserved END)
+
+-- A clause that begins with a reserved word and makes one member.
+pub data IsSingle (n : ℕ) (m : Member) (next : TokenKind) (ts : Tokens) : Type 0 where
+  -- "extends" name ";"
+  extends : (name : NameId) (at : Place)
+      → m ≡ member.Extends name at → between (Reserved EXTENDS) (Sign SEMICOLON) (IsPlacedName (name, at)) next ts
+      → IsSingle n m next ts
+  -- "Boolean" Names [ Settings ] ";"
+  boolean : (declared : IsDeclared n m next ts) → declared.type.form ≡ type_form.Boolean → IsSingle n m next ts
+  -- "clones" Path "as" name ";"
+  clones : (p : Path) (name : NameId) (at : Place)
+      → m ≡ member.Clones p name at → (token (Reserved CLONES) ▸ IsPath p ▸ between (Reserved AS) (Sign SEMICOLON)
+      (IsPlacedName (name, at))) next ts → IsSingle n m next ts
+  -- "embeds" Path "as" name ";"
+  embeds : (p : Path) (name : NameId) (at : Place)
+      → m ≡ member.Embeds p name at → (token (Reserved EMBEDS) ▸ IsPath p ▸ between (Reserved AS) (Sign SEMICOLON)
+      (IsPlacedName (name, at))) next ts → IsSingle n m next ts
+  -- "parameter" "Real" name "=" Kept ";"
+  kept_value : (name : NameId) (at : Place) (span : Span) → m ≡ member.Kept name at span →
+      (token (Reserved PARAMETER) ▸ token (Reserved REAL) ▸ IsPlacedName (name, at) ▸ between (Sign EQUALS)
+      (Sign SEMICOLON) (covering span (kept n))) next ts → IsSingle n m next ts
+  -- "parameter" Type name "=" Expr ";"
+  parameter : (type : TypeName) (name : NameId) (at : Place) (value : RawExpr) → m ≡ member.Parameter type name at value
+      →
+      (token (Reserved PARAMETER) ▸ IsType type ▸ IsPlacedName (name, at) ▸ between (Sign EQUALS) (Sign SEMICOLON)
+      (Node (IsExpr n) value)) next ts → IsSingle n m next ts
+  -- "observer" Type name "=" Expr ";"
+  observer : (type : TypeName) (name : NameId) (at : Place) (value : RawExpr) → m ≡ member.Observer type name at value →
+      (token (Reserved OBSERVER) ▸ IsType type ▸ IsPlacedName (name, at) ▸ between (Sign EQUALS) (Sign SEMICOLON)
+      (Node (IsExpr n) value)) next ts → IsSingle n m next ts
+
+-- A clause that begins with a reserved word, and the members that it makes.
+pub data IsKeyed (n : ℕ) (Body : List Member → Form) (ms : List Member) (next : TokenKind) (ts : Tokens) : Type 0 where
+  single : (m : Member) → ms ≡ m ∷ [] → IsSingle n m next ts → IsKeyed n Body ms next ts
+  -- "block" name Body "end"
+  block : (u : UnitTree) → ms ≡ member.Block u ∷ [] → (token (Reserved BLOCK) ▸ IsUnit Body u) next ts
+      → IsKeyed n Body ms next ts
+  -- "event" Event { "," Event } ";"
+  event : between (Reserved EVENT) (Sign SEMICOLON) (separated (Sign COMMA) (IsEvent n) ms) next ts
+      → IsKeyed n Body ms next ts
+  -- "hide" Path { "," Path } ";"
+  hide : between (Reserved HIDE) (Sign SEMICOLON) (separated (Sign COMMA) IsHidden ms) next ts
+      → IsKeyed n Body ms next ts
+
+-- Member = Keyed | name Names [ Settings ] ";"
+pub data IsMember (n : ℕ) (Body : List Member → Form) (ms : List Member) (next : TokenKind) (ts : Tokens) : Type 0 where
+  keyed : IsKeyed n Body ms next ts → IsMember n Body ms next ts
+  named : (m : Member) → ms ≡ m ∷ [] → (declared : IsDeclared n m next ts) → (name : NameId)
+      → declared.type.form ≡ type_form.Named name → IsMember n Body ms next ts
+
+-- Section | Keyed
+abbrev pub IsLater : ℕ → (List Member → Form) → List Member → Form
+IsLater n Body ms = IsSection n ms ∣ IsKeyed n Body ms
+
+-- [ Section { Section | Keyed } ]
+pub data AreSections (n : ℕ) (Body : List Member → Form) (ms : List Member) (next : TokenKind) (ts : Tokens) : Type
+    0 where
+  none : ms ≡ [] → nothing next ts → AreSections n Body ms next ts
+  some : (xs ys : List Member) → ms ≡ xs ++ ys → (IsSection n xs ▸ groups (IsLater n Body) ys) next ts
+      → AreSections n Body ms next ts
+
+-- Body = { Member } [ Section { Section | Keyed } ]
+pub record IsBodyOf (n : ℕ) (Body : List Member → Form) (ms : List Member) (next : TokenKind) (ts : Tokens) : Type
+    0 where
+  pub xs : List Member
+  pub ys : List Member
+  pub all : ms ≡ xs ++ ys
+  pub reads : (groups (IsMember n Body) xs ▸ AreSections n Body ys) next ts
+
+-- A body, with at most n productions open at one token. An empty body is open nowhere.
+abbrev pub IsBody : ℕ → List Member → TokenKind → Tokens → Type 0
+IsBody zero ms next ts = (ms ≡ []) × (ts ≡ [])
+IsBody (suc n) ms next ts = IsBodyOf n (IsBody n) ms next ts

@@ -1,0 +1,141 @@
+//! Which tokens begin an expression, an instruction, a member, a section, a body or an item.
+
+ghost use Rattle.std.specs.Prelude.{◌≡◌};
+ghost use Rattle.ar_grammar.specs.Results.{is_sign, is_word, begins_primary, begins_minus, begins_not, begins_expr, begins_instr, begins_keyed, begins_member, begins_section, begins_later, begins_body, begins_item};
+
+use ar_lexer::{TokenKind, signs, words};
+
+/// Whether the token is this sign.
+fn is_sign(sign: u8, kind: TokenKind) -> bool
+    ensures { result ≡ is_sign sign kind }
+{
+    match kind {
+        TokenKind::Sign(other) => other == sign,
+        _ => false,
+    }
+}
+
+/// Whether the token is this reserved word.
+fn is_word(word: u8, kind: TokenKind) -> bool
+    ensures { result ≡ is_word word kind }
+{
+    match kind {
+        TokenKind::Reserved(other) => other == word,
+        _ => false,
+    }
+}
+
+/// Whether the token begins an operand without a sign or word before it: a constant, a path, a call, a choice or a bracket.
+fn begins_primary(kind: TokenKind) -> bool
+    ensures { result ≡ begins_primary kind }
+{
+    match kind {
+        TokenKind::Name | TokenKind::Whole(_) | TokenKind::Real => true,
+        TokenKind::Sign(sign) => sign == signs::OPEN_PARENTHESIS,
+        TokenKind::Reserved(word) => {
+            word == words::OWNER
+                || word == words::MAIN
+                || word == words::TRUE
+                || word == words::FALSE
+                || word == words::MIN
+                || word == words::MAX
+                || word == words::COUNT
+                || word == words::SWITCH
+        }
+        TokenKind::End => false,
+    }
+}
+
+/// Whether the token begins an operand of a product.
+pub(crate) fn begins_minus(kind: TokenKind) -> bool
+    ensures { result ≡ begins_minus kind }
+{
+    is_sign(signs::MINUS, kind) || begins_primary(kind)
+}
+
+/// Whether the token begins an operand of `and`.
+pub(crate) fn begins_not(kind: TokenKind) -> bool
+    ensures { result ≡ begins_not kind }
+{
+    is_word(words::NOT, kind) || begins_minus(kind)
+}
+
+/// Whether the token begins an expression.
+pub(crate) fn begins_expr(kind: TokenKind) -> bool
+    ensures { result ≡ begins_expr kind }
+{
+    is_word(words::IF, kind) || begins_not(kind)
+}
+
+/// Whether the token begins an instruction.
+pub(crate) fn begins_instr(kind: TokenKind) -> bool
+    ensures { result ≡ begins_instr kind }
+{
+    match kind {
+        TokenKind::Name => true,
+        TokenKind::Sign(sign) => sign == signs::OPEN_BRACE,
+        TokenKind::Reserved(word) => word == words::OWNER
+            || word == words::MAIN
+            || word == words::SKIP
+            || word == words::IF,
+        _ => false,
+    }
+}
+
+/// Whether the token begins a clause that begins with a reserved word.
+fn begins_keyed(kind: TokenKind) -> bool
+    ensures { result ≡ begins_keyed kind }
+{
+    match kind {
+        TokenKind::Reserved(word) => {
+            word == words::EXTENDS
+                || word == words::BOOLEAN
+                || word == words::BLOCK
+                || word == words::CLONES
+                || word == words::EMBEDS
+                || word == words::PARAMETER
+                || word == words::EVENT
+                || word == words::OBSERVER
+                || word == words::HIDE
+        }
+        _ => false,
+    }
+}
+
+/// Whether the token begins a member.
+pub(crate) fn begins_member(kind: TokenKind) -> bool
+    ensures { result ≡ begins_member kind }
+{
+    match kind {
+        TokenKind::Name => true,
+        _ => begins_keyed(kind),
+    }
+}
+
+/// Whether the token begins a section.
+pub(crate) fn begins_section(kind: TokenKind) -> bool
+    ensures { result ≡ begins_section kind }
+{
+    is_word(words::TRANSITION, kind) || is_word(words::ASSERTION, kind)
+}
+
+/// Whether the token goes on with a body behind its first section.
+pub(crate) fn begins_later(kind: TokenKind) -> bool
+    ensures { result ≡ begins_later kind }
+{
+    begins_section(kind) || begins_keyed(kind)
+}
+
+/// Whether the token begins a body that is not empty.
+pub(crate) fn begins_body(kind: TokenKind) -> bool
+    ensures { result ≡ begins_body kind }
+{
+    begins_section(kind) || begins_member(kind)
+}
+
+/// Whether the token begins an item.
+pub(crate) fn begins_item(kind: TokenKind) -> bool
+    ensures { result ≡ begins_item kind }
+{
+    is_word(words::DOMAIN, kind) || is_word(words::CLASS, kind) || is_word(words::BLOCK, kind)
+}

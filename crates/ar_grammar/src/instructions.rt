@@ -1,0 +1,150 @@
+//! Instructions.
+
+ghost use Rattle.std.specs.Prelude.{◌≡◌, ◌++◌, ℕ, IfOk, IfErr};
+ghost use Rattle.ar_lexer.specs.declared.token.TokenKind.TheVariants.{Sign, Reserved};
+ghost use Rattle.ar_lexer.specs.declared.signs.TheConstants.{SEMICOLON, TIE};
+ghost use Rattle.ar_grammar.specs.Words.{token, deep, ◌▸◌, between, each, many};
+ghost use Rattle.ar_grammar.specs.Paths.{IsPath};
+ghost use Rattle.ar_grammar.specs.Instructions.{IsInstr, IsElse, IsConditional, IsGroup, IsSimple};
+ghost use Rattle.ar_lexer.specs.declared.words.TheConstants.{ELSE};
+ghost use Rattle.ar_grammar.specs.Texts.{path_text, expr_text, instr_text, conditional_text, else_text, group_text, simple_text};
+ghost use Rattle.ar_grammar.specs.Results.{kind_at, Takes, Finds, Halts, Spans, anything, ends_group};
+
+use crate::begins::begins_instr;
+use crate::cursor::{Parser, no_room};
+use crate::lexeme::Refusal;
+use ar_lexer::{TokenKind, signs, words};
+use ar_syntax::{Instr, Path};
+
+impl<'a> Parser<'a> {
+    /// Takes an instruction, with room for `left` open productions.
+    #[cycle(instruction)]
+    pub(crate) fn instr(&mut self, left: u32) -> Result<Instr, Refusal>
+        ensures found { Takes (IsInstr left) result self.old.rest.now self.new.rest.now }
+        ensures only { Finds (instr_text deep) anything left result self.old.rest.now
+            self.new.rest.now }
+        ensures stuck { Halts (instr_text deep) left result self.old.rest.now self.new.rest.now }
+    {
+        if left == 0 {
+            return Err(no_room(begins_instr(self.kind())));
+        }
+        if self.is_at(TokenKind::Reserved(words::IF)) {
+            return self.conditional(left - 1);
+        }
+        if self.is_at(TokenKind::Sign(signs::OPEN_BRACE)) {
+            return self.group(left - 1);
+        }
+        self.simple(left - 1)
+    }
+
+    /// Takes "if" Expr "then" Instr [ "else" Instr ].
+    #[cycle(instruction)]
+    fn conditional(&mut self, left: u32) -> Result<Instr, Refusal>
+        ensures found { Takes (IsConditional left) result self.old.rest.now self.new.rest.now }
+        ensures only { Finds (λ n. conditional_text (expr_text deep n) (instr_text deep n)) anything
+            left result self.old.rest.now self.new.rest.now }
+        ensures stuck { Halts (λ n. conditional_text (expr_text deep n) (instr_text deep n)) left
+            result self.old.rest.now self.new.rest.now }
+    {
+        let test = self.enclosed(
+            TokenKind::Reserved(words::IF),
+            TokenKind::Reserved(words::THEN),
+            left,
+        )?;
+        let inner = self.instr(left)?;
+        let no = self.other_branch(left)?;
+        let yes = Box::new(self.alloc, inner)?;
+        Ok(Instr::If(test, yes, no))
+    }
+
+    /// Takes [ "else" Instr ].
+    #[cycle(instruction)]
+    fn other_branch(&mut self, left: u32) -> Result<Option<Box<Instr>>, Refusal>
+        ensures found { Takes (IsElse (IsInstr left)) result self.old.rest.now self.new.rest.now }
+        ensures only { Finds (λ n. else_text (instr_text deep n)) anything left result
+            self.old.rest.now self.new.rest.now }
+        ensures began { IfErr result (λ _. kind_at self.old.rest.now ≡ Reserved ELSE) }
+        ensures stuck { Halts (λ n. token (Reserved ELSE) ▸ instr_text deep n) left result
+            self.old.rest.now self.new.rest.now }
+    {
+        if self.eat(TokenKind::Reserved(words::ELSE)) {
+            let inner = self.instr(left)?;
+            let boxed = Box::new(self.alloc, inner)?;
+            return Ok(Some(boxed));
+        }
+        Ok(None)
+    }
+
+    /// Takes "{" { Instr } "}".
+    #[cycle(instruction)]
+    fn group(&mut self, left: u32) -> Result<Instr, Refusal>
+        ensures found { Takes (IsGroup left) result self.old.rest.now self.new.rest.now }
+        ensures only { Finds (λ n. group_text (instr_text deep n)) anything left result
+            self.old.rest.now self.new.rest.now }
+        ensures stuck { Halts (λ n. group_text (instr_text deep n)) left result self.old.rest.now
+            self.new.rest.now }
+    {
+        self.expect(TokenKind::Sign(signs::OPEN_BRACE))?;
+        let mut instrs = Vec::new(self.alloc);
+        self.more_instrs(left, &mut instrs)?;
+        self.expect(TokenKind::Sign(signs::CLOSE_BRACE))?;
+        Ok(Instr::All(instrs))
+    }
+
+    /// Takes the instructions of a group: { Instr }.
+    #[cycle(instruction)]
+    fn more_instrs(&mut self, left: u32, instrs: &mut Vec<Instr>) -> Result<(), Refusal>
+        ensures found { IfOk result (λ _. (more : _) × (instrs.new.items ≡ instrs.old.items ++ more)
+            × Spans (each (IsInstr left) more) self.old.rest.now self.new.rest.now) }
+        ensures only { Finds (λ n. many (instr_text deep n)) ends_group left result
+            self.old.rest.now self.new.rest.now }
+        ensures stuck { Halts (λ n. many (instr_text deep n)) left result self.old.rest.now
+            self.new.rest.now }
+    {
+        while !self.is_at(TokenKind::Sign(signs::CLOSE_BRACE)) {
+            let inner = self.instr(left)?;
+            instrs.push(inner)?;
+        }
+        Ok(())
+    }
+
+    /// Takes Path ( ":=" Expr | ":=:" Path ) ";" or "skip" ";".
+    fn simple(&mut self, left: u32) -> Result<Instr, Refusal>
+        ensures found { Takes (IsSimple left) result self.old.rest.now self.new.rest.now }
+        ensures only { Finds (λ n. simple_text (expr_text deep n)) anything left result
+            self.old.rest.now self.new.rest.now }
+        ensures stuck { Halts (λ n. simple_text (expr_text deep n)) left result self.old.rest.now
+            self.new.rest.now }
+    {
+        if self.eat(TokenKind::Reserved(words::SKIP)) {
+            self.expect(TokenKind::Sign(signs::SEMICOLON))?;
+            return Ok(Instr::Skip);
+        }
+        let path = self.path()?;
+        if self.is_at(TokenKind::Sign(signs::TIE)) {
+            let other = self.tied()?;
+            return Ok(Instr::Tie(path, other));
+        }
+        let value = self.enclosed(
+            TokenKind::Sign(signs::ASSIGN),
+            TokenKind::Sign(signs::SEMICOLON),
+            left,
+        )?;
+        Ok(Instr::Assign(path, value))
+    }
+
+    /// Takes ":=:" Path ";".
+    fn tied(&mut self) -> Result<Path, Refusal>
+        ensures found { Takes (λ p. between (Sign TIE) (Sign SEMICOLON) (IsPath p)) result
+            self.old.rest.now self.new.rest.now }
+        ensures only { (left : ℕ) → Finds (λ _. between (Sign TIE) (Sign SEMICOLON) path_text)
+            anything left result self.old.rest.now self.new.rest.now }
+        ensures stuck { (left : ℕ) → Halts (λ _. between (Sign TIE) (Sign SEMICOLON) path_text) left
+            result self.old.rest.now self.new.rest.now }
+    {
+        self.expect(TokenKind::Sign(signs::TIE))?;
+        let path = self.path()?;
+        self.expect(TokenKind::Sign(signs::SEMICOLON))?;
+        Ok(path)
+    }
+}

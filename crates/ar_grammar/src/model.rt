@@ -1,0 +1,166 @@
+//! Domains, items and models.
+
+ghost use Rattle.std.specs.Prelude.{◌≡◌, ◌++◌, ℕ, Ok, IfOk, IfErr, IfSome};
+ghost use Rattle.ar_lexer.specs.declared.token.TokenKind.TheVariants.{End, Sign};
+ghost use Rattle.ar_lexer.specs.declared.signs.TheConstants.{SEMICOLON};
+ghost use Rattle.ar_grammar.specs.Words.{token, deep, nothing, ◌∣◌, each, many, Has};
+ghost use Rattle.ar_grammar.specs.Texts.{maybe, whole_text, bound_text, domain_text, item_text, model_text};
+ghost use Rattle.ar_grammar.specs.Parts.{domain_body_text};
+ghost use Rattle.ar_grammar.specs.Items.{IsWhole, IsBound, IsDomainBody, IsDomain, IsItem, AreItems};
+ghost use Rattle.ar_grammar.specs.Results.{Takes, Finds, Halts, Spans, Gets, Plain, AreUnsigned, IsRefusedAs, anything, ends_item, is_end};
+
+use crate::begins::begins_item;
+use crate::cursor::Parser;
+use crate::lexeme::Refusal;
+use ar_lexer::{TokenKind, signs, words};
+use ar_syntax::{DomainBody, DomainDecl, Item};
+
+impl<'a> Parser<'a> {
+    /// Takes a whole number.
+    fn whole(&mut self) -> Result<i64, Refusal>
+        requires { AreUnsigned self.old.rest.now }
+        ensures found { Takes IsWhole result self.old.rest.now self.new.rest.now }
+        ensures only { (left : ℕ) → Finds (λ _. whole_text) anything left result self.old.rest.now
+            self.new.rest.now }
+        ensures stuck { (left : ℕ) → Halts (λ _. whole_text) left result self.old.rest.now
+            self.new.rest.now }
+    {
+        match self.eat_whole() {
+            Some(n) => Ok(n),
+            None => Err(Refusal::Syntax),
+        }
+    }
+
+    /// Takes a bound of a range: [ "-" ] whole.
+    fn bound(&mut self) -> Result<i64, Refusal>
+        requires { AreUnsigned self.old.rest.now }
+        ensures found { Takes IsBound result self.old.rest.now self.new.rest.now }
+        ensures only { (left : ℕ) → Finds (λ _. bound_text) anything left result self.old.rest.now
+            self.new.rest.now }
+        ensures stuck { (left : ℕ) → Halts (λ _. bound_text) left result self.old.rest.now
+            self.new.rest.now }
+    {
+        if self.eat(TokenKind::Sign(signs::MINUS)) {
+            let n = self.whole()?;
+            return Ok(-n);
+        }
+        self.whole()
+    }
+
+    /// Takes what a domain holds: "{" Names "}" | "[" Bound "," Bound "]".
+    fn domain_body(&mut self) -> Result<DomainBody, Refusal>
+        requires { AreUnsigned self.old.rest.now }
+        ensures found { Takes IsDomainBody result self.old.rest.now self.new.rest.now }
+        ensures only { (left : ℕ) → Finds (λ _. domain_body_text) anything left result
+            self.old.rest.now self.new.rest.now }
+        ensures stuck { (left : ℕ) → Halts (λ _. domain_body_text) left result self.old.rest.now
+            self.new.rest.now }
+    {
+        if self.eat(TokenKind::Sign(signs::OPEN_BRACE)) {
+            let symbols = self.names()?;
+            self.expect(TokenKind::Sign(signs::CLOSE_BRACE))?;
+            return Ok(DomainBody::Symbols(symbols));
+        }
+        self.expect(TokenKind::Sign(signs::OPEN_BRACKET))?;
+        let low = self.bound()?;
+        self.expect(TokenKind::Sign(signs::COMMA))?;
+        let high = self.bound()?;
+        self.expect(TokenKind::Sign(signs::CLOSE_BRACKET))?;
+        Ok(DomainBody::Range(low, high))
+    }
+
+    /// Takes the semicolon that may stand behind a domain.
+    fn skip_semicolon(&mut self)
+        ensures found { Spans (nothing ∣ token (Sign SEMICOLON)) self.old.rest.now
+            self.new.rest.now }
+        ensures only { (left : ℕ) → Finds {A = Unit {0}} (λ _. maybe (token (Sign SEMICOLON)))
+            ends_item left (Ok tt) self.old.rest.now self.new.rest.now }
+    {
+        self.eat(TokenKind::Sign(signs::SEMICOLON));
+    }
+
+    /// Takes "domain" name DomainBody [ ";" ].
+    fn domain(&mut self) -> Result<DomainDecl, Refusal>
+        requires { AreUnsigned self.old.rest.now }
+        ensures found { Takes IsDomain result self.old.rest.now self.new.rest.now }
+        ensures only { (left : ℕ) → Finds (λ _. domain_text) ends_item left result self.old.rest.now
+            self.new.rest.now }
+        ensures stuck { (left : ℕ) → Halts (λ _. domain_text) left result self.old.rest.now
+            self.new.rest.now }
+    {
+        self.expect(TokenKind::Reserved(words::DOMAIN))?;
+        let (name, at) = self.placed_name()?;
+        let body = self.domain_body()?;
+        self.skip_semicolon();
+        Ok(DomainDecl { name, at, body })
+    }
+
+    /// Takes an item, with room for `left` open productions.
+    fn item(&mut self, left: u32) -> Result<Item, Refusal>
+        requires { AreUnsigned self.old.rest.now }
+        ensures found { Takes (IsItem left) result self.old.rest.now self.new.rest.now }
+        ensures only { Finds (item_text deep) ends_item left result self.old.rest.now
+            self.new.rest.now }
+        ensures stuck { Halts (item_text deep) left result self.old.rest.now self.new.rest.now }
+    {
+        if self.is_at(TokenKind::Reserved(words::DOMAIN)) {
+            let domain = self.domain()?;
+            return Ok(Item::Domain(domain));
+        }
+        if self.eat(TokenKind::Reserved(words::CLASS)) {
+            let class = self.unit(left)?;
+            return Ok(Item::Class(class));
+        }
+        self.expect(TokenKind::Reserved(words::BLOCK))?;
+        let block = self.unit(left)?;
+        Ok(Item::Block(block))
+    }
+
+    /// Takes the items behind the first.
+    fn more_items(&mut self, left: u32, items: &mut Vec<Item>) -> Result<(), Refusal>
+        requires { AreUnsigned self.old.rest.now }
+        ensures found { IfOk result (λ _. (more : _) × (items.new.items ≡ items.old.items ++ more)
+            × Spans (each (IsItem left) more) self.old.rest.now self.new.rest.now) }
+        ensures only { Finds (λ n. many (item_text deep n)) is_end left result self.old.rest.now
+            self.new.rest.now }
+        ensures stuck { Halts (λ n. many (item_text deep n)) left result self.old.rest.now
+            self.new.rest.now }
+    {
+        while begins_item(self.kind()) {
+            let item = self.item(left)?;
+            items.push(item)?;
+        }
+        Ok(())
+    }
+
+    /// Takes the items of a model: Item { Item }.
+    fn items(&mut self, left: u32) -> Result<Vec<Item>, Refusal>
+        requires { AreUnsigned self.old.rest.now }
+        ensures found { Takes (λ items. AreItems left items.items) result self.old.rest.now
+            self.new.rest.now }
+        ensures only { Finds (model_text deep) is_end left result self.old.rest.now
+            self.new.rest.now }
+        ensures stuck { Halts (model_text deep) left result self.old.rest.now self.new.rest.now }
+    {
+        let first = self.item(left)?;
+        let mut items = Vec::new(self.alloc);
+        items.push(first)?;
+        self.more_items(left, &mut items)?;
+        Ok(items)
+    }
+
+    /// Takes all that is left as the items of a model, or stops at the token that is refused.
+    pub fn model(&mut self, left: u32) -> Result<Vec<Item>, Refusal>
+        requires unsigned { AreUnsigned self.old.rest.now }
+        requires plain { Plain self.old.rest.now }
+        ensures found { IfOk result (λ items. AreItems left items.items End self.old.rest.now) }
+        ensures only { (n : ℕ) → Has (AreItems n) End self.old.rest.now → Gets left n result }
+        ensures stuck { IfErr result (λ e. IsRefusedAs left e self.old.rest.now self.new.rest.now) }
+    {
+        let items = self.items(left)?;
+        if self.rest.is_empty() {
+            return Ok(items);
+        }
+        Err(Refusal::Syntax)
+    }
+}

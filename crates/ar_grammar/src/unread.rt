@@ -1,0 +1,160 @@
+//! Attributes of events and kept values, which are read over.
+
+ghost use Rattle.std.specs.Prelude.{◌≡◌, ◌≢◌, ℕ, IfOk, true};
+ghost use Rattle.ar_lexer.specs.declared.token.TokenKind.TheVariants.{Sign};
+ghost use Rattle.ar_lexer.specs.declared.signs.TheConstants.{OPEN_PARENTHESIS, CLOSE_PARENTHESIS};
+ghost use Rattle.ar_grammar.specs.Words.{deep, many, covering};
+ghost use Rattle.ar_grammar.specs.Texts.{bracketed_text, kept_text};
+ghost use Rattle.ar_grammar.specs.Parts.{unread_text, attribute_text, kept_piece_text};
+ghost use Rattle.ar_grammar.specs.Members.{unread, unread_piece, kept, kept_piece, bracketed, IsAttribute};
+ghost use Rattle.ar_grammar.specs.Results.{kind_at, Takes, Finds, Halts, Spans, anything, goes_unread, goes_kept, ends_unread, ends_kept, ends_attribute};
+
+use crate::cursor::{Parser, no_room};
+use crate::lexeme::Refusal;
+use ar_base::Span;
+use ar_lexer::{TokenKind, signs};
+
+impl<'a> Parser<'a> {
+    /// Whether the next token goes on with what is unread: any token but the bracket that ends it.
+    fn is_at_unread(&self) -> bool
+        ensures { result ≡ goes_unread (kind_at self.now.rest.now) }
+    {
+        match self.kind() {
+            TokenKind::Sign(sign) => sign != signs::CLOSE_PARENTHESIS,
+            TokenKind::End => false,
+            _ => true,
+        }
+    }
+
+    /// Takes { any token but "(" and ")" | "(" Unread ")" }, with room for `left` open brackets.
+    #[cycle(unread)]
+    fn unread(&mut self, left: u32) -> Result<(), Refusal>
+        ensures found { IfOk result (λ _. Spans (unread left) self.old.rest.now self.new.rest.now) }
+        ensures only { Finds (λ n. many (unread_text n)) ends_unread left result self.old.rest.now
+            self.new.rest.now }
+        ensures stuck { Halts (λ n. many (unread_text n)) left result self.old.rest.now
+            self.new.rest.now }
+    {
+        while self.is_at_unread() {
+            self.unread_piece(left)?;
+        }
+        Ok(())
+    }
+
+    /// Takes one token, or brackets and what they hold.
+    #[cycle(unread)]
+    fn unread_piece(&mut self, left: u32) -> Result<(), Refusal>
+        requires { goes_unread (kind_at self.old.rest.now) ≡ true }
+        ensures found { IfOk result (λ _.
+            Spans (unread_piece left) self.old.rest.now self.new.rest.now) }
+        ensures only { Finds unread_text anything left result self.old.rest.now self.new.rest.now }
+        ensures stuck { Halts unread_text left result self.old.rest.now self.new.rest.now }
+    {
+        if self.is_at(TokenKind::Sign(signs::OPEN_PARENTHESIS)) {
+            return self.unread_group(left);
+        }
+        self.skip();
+        Ok(())
+    }
+
+    /// Takes "(" Unread ")".
+    #[cycle(unread)]
+    fn unread_group(&mut self, left: u32) -> Result<(), Refusal>
+        requires { kind_at self.old.rest.now ≡ Sign OPEN_PARENTHESIS }
+        ensures found { IfOk result (λ _.
+            Spans (bracketed left) self.old.rest.now self.new.rest.now) }
+        ensures only { Finds (bracketed_text deep) anything left result self.old.rest.now
+            self.new.rest.now }
+        ensures stuck { Halts (bracketed_text deep) left result self.old.rest.now
+            self.new.rest.now }
+    {
+        if left == 0 {
+            return Err(no_room(true));
+        }
+        self.expect(TokenKind::Sign(signs::OPEN_PARENTHESIS))?;
+        self.unread(left - 1)?;
+        self.expect(TokenKind::Sign(signs::CLOSE_PARENTHESIS))?;
+        Ok(())
+    }
+
+    /// Whether the next token goes on with a kept value: any token but `)` and `;`.
+    fn is_at_kept(&self) -> bool
+        ensures { result ≡ goes_kept (kind_at self.now.rest.now) }
+    {
+        match self.kind() {
+            TokenKind::Sign(sign) => sign != signs::CLOSE_PARENTHESIS && sign != signs::SEMICOLON,
+            TokenKind::End => false,
+            _ => true,
+        }
+    }
+
+    /// Takes [ "(" Unread ")" ] and gives the span of what is unread.
+    pub(crate) fn attribute(&mut self, left: u32) -> Result<Option<Span>, Refusal>
+        ensures found { Takes (IsAttribute left) result self.old.rest.now self.new.rest.now }
+        ensures only { Finds attribute_text ends_attribute left result self.old.rest.now
+            self.new.rest.now }
+        ensures stuck { Halts attribute_text left result self.old.rest.now self.new.rest.now }
+    {
+        if !self.is_at(TokenKind::Sign(signs::OPEN_PARENTHESIS)) {
+            return Ok(None);
+        }
+        if left == 0 {
+            return Err(no_room(true));
+        }
+        self.expect(TokenKind::Sign(signs::OPEN_PARENTHESIS))?;
+        let start = self.rest;
+        self.unread(left - 1)?;
+        let span = self.span_since(start);
+        self.expect(TokenKind::Sign(signs::CLOSE_PARENTHESIS))?;
+        Ok(Some(span))
+    }
+
+    /// Takes one token of a kept value, or brackets and what they hold.
+    fn kept_piece(&mut self, left: u32) -> Result<(), Refusal>
+        requires { goes_kept (kind_at self.old.rest.now) ≡ true }
+        ensures found { IfOk result (λ _.
+            Spans (kept_piece left) self.old.rest.now self.new.rest.now) }
+        ensures only { Finds kept_piece_text anything left result self.old.rest.now
+            self.new.rest.now }
+        ensures stuck { Halts kept_piece_text left result self.old.rest.now self.new.rest.now }
+    {
+        if self.is_at(TokenKind::Sign(signs::OPEN_PARENTHESIS)) {
+            return self.unread_group(left);
+        }
+        self.skip();
+        Ok(())
+    }
+
+    /// Takes the pieces of a kept value behind the first.
+    fn more_kept(&mut self, left: u32) -> Result<(), Refusal>
+        ensures found { IfOk result (λ _.
+            Spans (many (kept_piece left)) self.old.rest.now self.new.rest.now) }
+        ensures only { Finds (λ n. many (kept_piece_text n)) ends_kept left result self.old.rest.now
+            self.new.rest.now }
+        ensures stuck { Halts (λ n. many (kept_piece_text n)) left result self.old.rest.now
+            self.new.rest.now }
+    {
+        while self.is_at_kept() {
+            self.kept_piece(left)?;
+        }
+        Ok(())
+    }
+
+    /// Takes a kept value and gives its span: Piece { Piece }.
+    pub(crate) fn kept(&mut self, left: u32) -> Result<Span, Refusal>
+        ensures found { Takes (λ span. covering span (kept left)) result self.old.rest.now
+            self.new.rest.now }
+        ensures only { Finds (λ n. kept_text (bracketed_text deep n)) ends_kept left result
+            self.old.rest.now self.new.rest.now }
+        ensures stuck { Halts (λ n. kept_text (bracketed_text deep n)) left result self.old.rest.now
+            self.new.rest.now }
+    {
+        let start = self.rest;
+        if !self.is_at_kept() {
+            return Err(Refusal::Syntax);
+        }
+        self.kept_piece(left)?;
+        self.more_kept(left)?;
+        Ok(self.span_since(start))
+    }
+}

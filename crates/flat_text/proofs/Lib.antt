@@ -1,0 +1,5 @@
+pub mod Expressions
+pub mod Domains
+pub mod Plans
+pub mod Lines
+pub mod Flats

@@ -1,5 +1,5 @@
--- What a job tells that has passed its stages: one text each, but for `flat`.
-use Rattle.std.proofs.Common.{◌≡◌, ◌≢◌, ◌⊎◌, ◌++◌, ℕ, true, false, List, [], ◌∷◌, Option, Some, None, Ok, Err, length, refl, sym, ◌∙◌, ap, subst, inl, inr}
+-- What a job tells that has passed its stages is one text.
+use Rattle.std.proofs.Common.{◌≡◌, ◌⊎◌, ◌++◌, ℕ, true, false, List, [], ◌∷◌, Option, Some, None, Ok, Err, length, refl, sym, ◌∙◌, ap, subst, inl, inr}
 use Rattle.ar_base.specs.Lists.{Stands}
 use Rattle.ar_base.proofs.Items.{last_one}
 use Rattle.ar_base.proofs.Standing.{stands_one}
@@ -19,6 +19,7 @@ use Rattle.check_text.specs.Texts.{IsCheckText}
 use Rattle.cut_text.specs.Texts.{IsCutText, IsConflictText}
 use Rattle.domains.specs.declared.Value.{Value}
 use Rattle.eq_core.specs.Gates.{Table}
+use Rattle.flat_text.proofs.Flats.{flat_one}
 use Rattle.flow_rounds.specs.Reasons.{Reason}
 use Rattle.flow_rounds.proofs.Standing.{no_two, reasons_one}
 use Rattle.flow_rounds.proofs.Totals.{states_of}
@@ -46,9 +47,9 @@ use Rattle.altarica_run.specs.Tells.{Tells, check_text, IsFlatText, HasCuts, IsC
 use Rattle.altarica_run.specs.Tells as told
 use Rattle.altarica_run.specs.declared.refusals.Refusal.{Refusal}
 use Rattle.altarica_run.specs.declared.status.Status.{Status}
-use Rattle.altarica_run.specs.declared.status.Status.TheVariants.{Done, Fault, Nodes}
+use Rattle.altarica_run.specs.declared.status.Status.TheVariants.{Done, Fault}
 use Rattle.altarica_run.proofs.ExplainLemmas.{settled_flows}
-use Rattle.job_meaning.specs.Definite.{IsDefinite, SaysOf, AgreeButNodes, EndAlike}
+use Rattle.job_meaning.specs.Definite.{IsDefinite, SaysOf, SaysNodes, AgreeButNodes}
 use Rattle.job_meaning.specs.Definite as says
 use Rattle.job_meaning.proofs.Asking.{OneList, same_some}
 use Rattle.job_meaning.proofs.Cuts.{forest_text_one, cut_text_one, conflict_text_one, no_conflict, check_text_one}
@@ -89,8 +90,8 @@ Conflicting w text ends =
     IsConflictText (naming_of w.source.declarations) w.source.system w.dropped text × (ends ≡ Fault)
 
 -- a text about cuts, a conflict, or that nodes may lack
-abbrev AboutCuts : (List ℕ → Type 0) → Ready → List ℕ → Status → Type 0
-AboutCuts P w text ends = Well P text ends ⊎ (Conflicting w text ends ⊎ (ends ≡ Nodes))
+abbrev AboutCuts : (List ℕ → Type 0) → Job → Ready → List ℕ → Status → Type 0
+AboutCuts P job w text ends = Well P text ends ⊎ (Conflicting w text ends ⊎ SaysNodes job text ends)
 
 -- what the command tells
 abbrev Told : Verb → Job → Ready → List ℕ → Status → Type 0
@@ -100,11 +101,11 @@ Told verb.Replay job w text ends = Replayed w text ends
 Told verb.Fragment job w text ends =
     Well (IsForestText (naming_of w.source.declarations) w.source.system w.dropped) text ends
 Told verb.Equations job w text ends = Well (TableTold w) text ends
-Told verb.Cuts job w text ends = AboutCuts (IsCutsText w job.nodes) w text ends
-Told verb.Make job w text ends = AboutCuts (IsMakeText w job.number job.nodes) w text ends
+Told verb.Cuts job w text ends = AboutCuts (IsCutsText w job.nodes) job w text ends
+Told verb.Make job w text ends = AboutCuts (IsMakeText w job.number job.nodes) job w text ends
 Told verb.Explain job w text ends = Explained w text ends
-Told verb.CheckCuts job w text ends = AboutCuts (IsCheckedText w job.nodes) w text ends
-Told verb.Modules job w text ends = AboutCuts (IsShortText w job.nodes) w text ends
+Told verb.CheckCuts job w text ends = AboutCuts (IsCheckedText w job.nodes) job w text ends
+Told verb.Modules job w text ends = AboutCuts (IsShortText w job.nodes) job w text ends
 
 no_listing : {A : Type 0} → false ≡ true → A
 no_listing e = cc
@@ -123,8 +124,8 @@ module _ (job : Job) (w : Ready) where
   told_conflict verb.CheckCuts e text ends h = inr (inl h)
   told_conflict verb.Modules e text ends h = inr (inl h)
 
-  told_nodes : (v : Verb) → lists_cuts v ≡ true → (text : List ℕ) (ends : Status) → ends ≡ Nodes
-      → Told v job w text ends
+  told_nodes : (v : Verb) → lists_cuts v ≡ true → (text : List ℕ) (ends : Status)
+      → SaysNodes job text ends → Told v job w text ends
   told_nodes verb.Check e text ends h = no_listing e
   told_nodes verb.Flat e text ends h = no_listing e
   told_nodes verb.Replay e text ends h = no_listing e
@@ -152,7 +153,7 @@ module _ (job : Job) (w : Ready) where
   told_by text ends (told.explains e h) = subst (λ (v : Verb). Told v job w text ends) (sym e) (inl (h, refl))
   told_by text ends (told.unsettled e h) = subst (λ (v : Verb). Told v job w text ends) (sym e) (inr (h, refl))
   told_by text ends (told.conflict e h) = told_conflict job.command e text ends (h, refl)
-  told_by text ends (told.nodes e h) = told_nodes job.command e text ends refl
+  told_by text ends (told.nodes e h) = told_nodes job.command e text ends (refl, refl)
 
 -- The names of the source, and its system
 
@@ -315,115 +316,76 @@ module _ (w : Ready) (fit : IsFit w) where
       ∙ sym b.is_text
 
   about_one : (P : List ℕ → Type 0) → ((s t : List ℕ) → P s → P t → s ≡ t)
-      → ((s : List ℕ) → P s → IsConflictFree (system w) w.dropped)
-      → (s t : List ℕ) (a b : Status) → AboutCuts P w s a → AboutCuts P w t b → AgreeButNodes s a t b
-  about_one P one free s t a b (inl p) (inl q) = inl (one s t p.0 q.0, p.1 ∙ sym q.1)
-  about_one P one free s t a b (inl p) (inr (inl q)) = absurd
+      → ((s : List ℕ) → P s → IsConflictFree (system w) w.dropped) → (job : Job) → lists_cuts job.command ≡ true
+      → (s t : List ℕ) (a b : Status) → AboutCuts P job w s a → AboutCuts P job w t b → AgreeButNodes job s a t b
+  about_one P one free job asked s t a b (inl p) (inl q) = inl (one s t p.0 q.0, p.1 ∙ sym q.1)
+  about_one P one free job asked s t a b (inl p) (inr (inl q)) = absurd
       (no_conflict (naming w) (system w) w.dropped static (free s p.0) t q.0)
-  about_one P one free s t a b (inr (inl p)) (inl q) = absurd
+  about_one P one free job asked s t a b (inr (inl p)) (inl q) = absurd
       (no_conflict (naming w) (system w) w.dropped static (free t q.0) s p.0)
-  about_one P one free s t a b (inr (inl p)) (inr (inl q)) =
+  about_one P one free job asked s t a b (inr (inl p)) (inr (inl q)) =
       inl (conflict_text_one (naming w) (system w) w.dropped static s t p.0 q.0, p.1 ∙ sym q.1)
-  about_one P one free s t a b (inr (inr p)) q = inr (inl p)
-  about_one P one free s t a b p (inr (inr q)) = inr (inr q)
+  about_one P one free job asked s t a b (inr (inr p)) q = inr (asked, inl p)
+  about_one P one free job asked s t a b p (inr (inr q)) = inr (asked, inr q)
+
+-- Flat systems
+
+flat_text_one : (x : Elaborated) → IsDefinite x → (s t : List ℕ) → IsFlatText x s → IsFlatText x t → s ≡ t
+flat_text_one x is s t a b =
+    a.is_text
+    ∙ flat_one x is.names.events a.parts b.parts a.is_sound b.is_sound a.is_flat b.is_flat
+    ∙ sym b.is_text
 
 -- All commands
 
-well_one : (P : List ℕ → Type 0) → ((s t : List ℕ) → P s → P t → s ≡ t) → (s t : List ℕ) (a b : Status) → Well P s a
-    → Well P t b → AgreeButNodes s a t b
-well_one P one s t a b p q = inl (one s t p.0 q.0, p.1 ∙ sym q.1)
-
 module _ (job : Job) (w : Ready) where
-  told_one : (v : Verb) → (v ≡ verb.Flat → ⊥) → IsFitWhere (is_static v) w → (s t : List ℕ) (a b : Status)
-      → Told v job w s a → Told v job w t b → AgreeButNodes s a t b
-  told_one verb.Check n fit s t a b p q =
+  well_one : (P : List ℕ → Type 0) → ((s t : List ℕ) → P s → P t → s ≡ t) → (s t : List ℕ) (a b : Status)
+      → Well P s a → Well P t b → AgreeButNodes job s a t b
+  well_one P one s t a b p q = inl (one s t p.0 q.0, p.1 ∙ sym q.1)
+
+  told_one : (v : Verb) → job.command ≡ v → IsFitWhere (is_static v) w → (s t : List ℕ) (a b : Status)
+      → Told v job w s a → Told v job w t b → AgreeButNodes job s a t b
+  told_one verb.Check e fit s t a b p q =
       well_one (λ t. t ≡ check_text w.source.declarations) (λ s t h k. h ∙ sym k) s t a b p q
-  told_one verb.Flat n fit s t a b p q = absurd (n refl)
-  told_one verb.Replay n fit s t a b p q = inl (replayed_one w fit.0 s t a b p q)
-  told_one verb.Fragment n fit s t a b p q =
+  told_one verb.Flat e fit s t a b p q =
+      well_one (IsFlatText w.source) (flat_text_one w.source fit.0) s t a b p q
+  told_one verb.Replay e fit s t a b p q = inl (replayed_one w fit.0 s t a b p q)
+  told_one verb.Fragment e fit s t a b p q =
       well_one (IsForestText (naming_of w.source.declarations) w.source.system w.dropped)
       (forest_text_one (naming_of w.source.declarations) w.source.system w.dropped
       (keyed_static w (fit.0, fit.1 refl))) s t a b p q
-  told_one verb.Equations n fit s t a b p q = well_one (TableTold w) (table_text_one w (fit.0, fit.1 refl)) s t a b p q
-  told_one verb.Cuts n fit s t a b p q =
+  told_one verb.Equations e fit s t a b p q = well_one (TableTold w) (table_text_one w (fit.0, fit.1 refl)) s t a b p q
+  told_one verb.Cuts e fit s t a b p q =
       about_one w (fit.0, fit.1 refl) (IsCutsText w job.nodes) (cuts_one w (fit.0, fit.1 refl) job.nodes)
-      (λ s h. h.has.conflict_free) s t a b p q
-  told_one verb.Make n fit s t a b p q =
+      (λ s h. h.has.conflict_free) job (ap lists_cuts e) s t a b p q
+  told_one verb.Make e fit s t a b p q =
       about_one w (fit.0, fit.1 refl) (IsMakeText w job.number job.nodes)
-      (made_one w (fit.0, fit.1 refl) job.number job.nodes) (λ s h. h.has.conflict_free) s t a b p q
-  told_one verb.Explain n fit s t a b p q = inl (explained_one w fit.0 s t a b p q)
-  told_one verb.CheckCuts n fit s t a b p q =
+      (made_one w (fit.0, fit.1 refl) job.number job.nodes) (λ s h. h.has.conflict_free) job (ap lists_cuts e) s t a b
+      p q
+  told_one verb.Explain e fit s t a b p q = inl (explained_one w fit.0 s t a b p q)
+  told_one verb.CheckCuts e fit s t a b p q =
       about_one w (fit.0, fit.1 refl) (IsCheckedText w job.nodes) (checked_one w (fit.0, fit.1 refl) job.nodes)
-      (λ s h. h.has.conflict_free) s t a b p q
-  told_one verb.Modules n fit s t a b p q =
+      (λ s h. h.has.conflict_free) job (ap lists_cuts e) s t a b p q
+  told_one verb.Modules e fit s t a b p q =
       about_one w (fit.0, fit.1 refl) (IsShortText w job.nodes) (short_one w (fit.0, fit.1 refl) job.nodes)
-      (λ s h. h.has.conflict_free) s t a b p q
+      (λ s h. h.has.conflict_free) job (ap lists_cuts e) s t a b p q
 
-  pub tells_one : job.command ≢ verb.Flat → IsFitWhere (is_static job.command) w → (s t : List ℕ) (a b : Status)
-      → Tells job w s a → Tells job w t b → AgreeButNodes s a t b
-  tells_one n fit s t a b p q = told_one job.command n fit s t a b (told_by job w s a p) (told_by job w t b q)
-
--- Ends
-
-alike : (s t : List ℕ) (a b : Status) → AgreeButNodes s a t b → EndAlike a b
-alike s t a b (inl p) = inl p.1
-alike s t a b (inr p) = inr p
-
-module _ (job : Job) (w : Ready) where
-  told_ends : (v : Verb) → IsFitWhere (is_static v) w → (s t : List ℕ) (a b : Status) → Told v job w s a
-      → Told v job w t b → EndAlike a b
-  told_ends verb.Flat fit s t a b p q = inl (p.1 ∙ sym q.1)
-  told_ends verb.Check fit s t a b p q =
-      alike s t a b (told_one job w verb.Check (λ e. let z : verb.Check ≡ verb.Flat = e in cc) fit s t a b p q)
-  told_ends verb.Replay fit s t a b p q =
-      alike s t a b (told_one job w verb.Replay (λ e. let z : verb.Replay ≡ verb.Flat = e in cc) fit s t a b p q)
-  told_ends verb.Fragment fit s t a b p q =
-      alike s t a b (told_one job w verb.Fragment (λ e. let z : verb.Fragment ≡ verb.Flat = e in cc) fit s t a b p q)
-  told_ends verb.Equations fit s t a b p q =
-      alike s t a b (told_one job w verb.Equations (λ e. let z : verb.Equations ≡ verb.Flat = e in cc) fit s t a b p q)
-  told_ends verb.Cuts fit s t a b p q =
-      alike s t a b (told_one job w verb.Cuts (λ e. let z : verb.Cuts ≡ verb.Flat = e in cc) fit s t a b p q)
-  told_ends verb.Make fit s t a b p q =
-      alike s t a b (told_one job w verb.Make (λ e. let z : verb.Make ≡ verb.Flat = e in cc) fit s t a b p q)
-  told_ends verb.Explain fit s t a b p q =
-      alike s t a b (told_one job w verb.Explain (λ e. let z : verb.Explain ≡ verb.Flat = e in cc) fit s t a b p q)
-  told_ends verb.CheckCuts fit s t a b p q =
-      alike s t a b (told_one job w verb.CheckCuts (λ e. let z : verb.CheckCuts ≡ verb.Flat = e in cc) fit s t a b p q)
-  told_ends verb.Modules fit s t a b p q =
-      alike s t a b (told_one job w verb.Modules (λ e. let z : verb.Modules ≡ verb.Flat = e in cc) fit s t a b p q)
-
-  pub ends_alike : IsFitWhere (is_static job.command) w → (s t : List ℕ) (a b : Status) → Tells job w s a
-      → Tells job w t b → EndAlike a b
-  ends_alike fit s t a b p q = told_ends job.command fit s t a b (told_by job w s a p) (told_by job w t b q)
+  pub tells_one : IsFitWhere (is_static job.command) w → (s t : List ℕ) (a b : Status)
+      → Tells job w s a → Tells job w t b → AgreeButNodes job s a t b
+  tells_one fit s t a b p q = told_one job.command refl fit s t a b (told_by job w s a p) (told_by job w t b q)
 
 -- Refusals and texts
 
 module _ (one_list : OneList) (x : Elaborated) (is : IsDefinite x) (job : Job) (texts : List (List ℕ)) where
-  -- where both are told alike, so are both sayings
-  says_so : (Same : List ℕ → Status → List ℕ → Status → Type 0)
-      → ((s : List ℕ) (a : Status) → Same s a s a)
-      → ((w : Ready) → IsFitWhere (is_static job.command) w → (s t : List ℕ) (a b : Status) → Tells job w s a
-      → Tells job w t b → Same s a t b)
-      → (s t : List ℕ) (a b : Status) → SaysOf job texts x s a → SaysOf job texts x t b → Same s a t b
-  says_so Same itself told s t a b (says.refuses {r = r} h) (says.refuses {r = q} k) =
+  pub saying_one : (s t : List ℕ) (a b : Status) → SaysOf job texts x s a → SaysOf job texts x t b
+      → AgreeButNodes job s a t b
+  saying_one s t a b (says.refuses {r = r} h) (says.refuses {r = q} k) =
       let e = same_err r q (readies_one job texts one_list x is (Err r) (Err q) h k) in
-      subst (λ (z : Refusal). Same (line_of r) (status_of r) (line_of z) (status_of z)) e
-      (itself (line_of r) (status_of r))
-  says_so Same itself told s t a b (says.refuses {r = r} h) (says.tells {w = w} k m) =
+      inl (ap line_of e, ap status_of e)
+  saying_one s t a b (says.refuses {r = r} h) (says.tells {w = w} k m) =
       ok_err w r (readies_one job texts one_list x is (Ok w) (Err r) k h)
-  says_so Same itself told s t a b (says.tells {w = w} k m) (says.refuses {r = r} h) =
+  saying_one s t a b (says.tells {w = w} k m) (says.refuses {r = r} h) =
       ok_err w r (readies_one job texts one_list x is (Ok w) (Err r) k h)
-  says_so Same itself told s t a b (says.tells {w = w} h p) (says.tells {w = v} k q) =
+  saying_one s t a b (says.tells {w = w} h p) (says.tells {w = v} k q) =
       let e : v ≡ w = same_ok v w (readies_one job texts one_list x is (Ok v) (Ok w) k h) in
-      told w (readies_on job texts x w is h) s t a b p (subst (λ (z : Ready). Tells job z t b) e q)
-
-  pub saying_one : job.command ≢ verb.Flat → (s t : List ℕ) (a b : Status) → SaysOf job texts x s a
-      → SaysOf job texts x t b → AgreeButNodes s a t b
-  saying_one not_flat s t a b p q =
-      says_so AgreeButNodes (λ u z. inl (refl, refl))
-      (λ w fit u v y z h k. tells_one job w not_flat fit u v y z h k) s t a b p q
-
-  pub saying_ends : (s t : List ℕ) (a b : Status) → SaysOf job texts x s a → SaysOf job texts x t b → EndAlike a b
-  saying_ends s t a b p q =
-      says_so (λ u y v z. EndAlike y z) (λ u z. inl refl)
-      (λ w fit u v y z h k. ends_alike job w fit u v y z h k) s t a b p q
+      tells_one job w (readies_on job texts x w is h) s t a b p (subst (λ (z : Ready). Tells job z t b) e q)

@@ -1,15 +1,14 @@
 //! What follows from the definitions of the stages of a job, and of its text.
 
-ghost use Rattle.std.specs.Prelude.{◌≡◌, ◌≢◌, ℕ, List, Option, Result, Ok};
+ghost use Rattle.std.specs.Prelude.{◌≡◌, ℕ, List, Option, Result, Ok};
 ghost use Rattle.gts_flatten.specs.Elaborating.{Elaborated};
 ghost use Rattle.run_words.specs.declared.jobs.Job.{Job};
-ghost use Rattle.run_words.specs.declared.verbs.Verb.TheVariants.{Flat};
 ghost use Rattle.altarica_run.specs.Elaborates.{Elaborates};
 ghost use Rattle.altarica_run.specs.Stages.{Ready, Asks, Readies};
 ghost use Rattle.altarica_run.specs.Tells.{Tells};
 ghost use Rattle.altarica_run.specs.declared.refusals.Refusal.{Refusal};
 ghost use Rattle.altarica_run.specs.declared.status.Status.{Status};
-ghost use Rattle.job_meaning.specs.Definite.{IsDefinite, SaysOf, AgreeButNodes, EndAlike};
+ghost use Rattle.job_meaning.specs.Definite.{IsDefinite, SaysOf, AgreeButNodes};
 
 use ar_readings::readings::trees_keep;
 use replayer::laws::one_list;
@@ -32,27 +31,20 @@ pub fn one_readiness()
     one_list();
 }
 
-/// A job that has passed its stages tells one text and ends in one way, save that the line
-/// `nodes: N` may stand beside it. That the text is one is not said of `flat`.
+/// A job that has passed its stages tells one text and ends in one way, save that, where cuts are
+/// asked for, the line `nodes: N` may stand beside it.
 pub fn one_text()
-    ensures text { (x : Elaborated) → IsDefinite x → (job : Job) → job.command ≢ Flat
-        → (texts : List (List ℕ)) (w : Ready) → Readies job texts x (Ok w)
-        → (s t : List ℕ) (a b : Status) → Tells job w s a → Tells job w t b
-        → AgreeButNodes s a t b }
-    ensures ends { (x : Elaborated) → IsDefinite x → (job : Job) (texts : List (List ℕ)) (w : Ready)
+    ensures { (x : Elaborated) → IsDefinite x → (job : Job) (texts : List (List ℕ)) (w : Ready)
         → Readies job texts x (Ok w) → (s t : List ℕ) (a b : Status)
-        → Tells job w s a → Tells job w t b → EndAlike a b }
+        → Tells job w s a → Tells job w t b → AgreeButNodes job s a t b }
 {}
 
-/// Of one source the words of a job say one text and end in one way, save that the line `nodes: N`
-/// may stand beside it. That the text is one is not said of `flat`.
+/// Of one source the words of a job say one text and end in one way, save that, where cuts are asked
+/// for, the line `nodes: N` may stand beside it.
 pub fn one_saying()
-    ensures text { (x : Elaborated) → IsDefinite x → (job : Job) → job.command ≢ Flat
-        → (texts : List (List ℕ)) (s t : List ℕ) (a b : Status)
-        → SaysOf job texts x s a → SaysOf job texts x t b → AgreeButNodes s a t b }
-    ensures ends { (x : Elaborated) → IsDefinite x → (job : Job) (texts : List (List ℕ))
+    ensures { (x : Elaborated) → IsDefinite x → (job : Job) (texts : List (List ℕ))
         (s t : List ℕ) (a b : Status) → SaysOf job texts x s a → SaysOf job texts x t b
-        → EndAlike a b }
+        → AgreeButNodes job s a t b }
 {
     one_list();
 }

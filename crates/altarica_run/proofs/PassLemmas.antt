@@ -20,13 +20,13 @@ use Rattle.gts_core.specs.declared.system.GtsParts.{GtsParts}
 use Rattle.gts_flatten.specs.Elaborating.{Elaborated}
 use Rattle.gts_flatten.specs.Flat.{IsFlat}
 use Rattle.hierarchy.specs.Listing.{observers}
-use Rattle.replayer.specs.Chains.{cut_of, AnswersCuts}
-use Rattle.replayer.specs.CutLists.{CutLine}
-use Rattle.replayer.specs.Flat.{command_of, AnswersScript, IsBadScript}
-use Rattle.replayer.specs.declared.commands.Command.{Command}
-use Rattle.replayer.specs.declared.commands.Command.TheVariants.{Fire}
-use Rattle.replayer.specs.declared.commands.ScriptFault.{ScriptFault}
-use Rattle.replayer.specs.declared.commands.ScriptFault.TheVariants as script
+use Rattle.script_lines.specs.Chains.{cut_of, AnswersCuts}
+use Rattle.script_lines.specs.CutLists.{CutLine}
+use Rattle.script_lines.specs.Flat.{command_of, AnswersScript, IsBadScript}
+use Rattle.script_lines.specs.declared.commands.Command.{Command}
+use Rattle.script_lines.specs.declared.commands.Command.TheVariants.{Fire}
+use Rattle.script_lines.specs.declared.commands.ScriptFault.{ScriptFault}
+use Rattle.script_lines.specs.declared.commands.ScriptFault.TheVariants as script
 use Rattle.run_words.specs.Jobs.{IsJob, NamesFiles, form_of, IsJobOf, OptionsFit}
 use Rattle.run_words.specs.Lines.{Line}
 use Rattle.run_words.specs.declared.jobs.Job.{Job}

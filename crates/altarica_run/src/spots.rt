@@ -8,7 +8,7 @@ ghost use Rattle.altarica_run.specs.Spots.{path_in};
 
 use ar_base::{Memory, Text};
 use gts_core::GtsParts;
-use replayer::pieces::{event_path, variable_path};
+use text_pieces::pieces::{event_path, variable_path};
 use static_fragment::Spot;
 use std::alloc::Global;
 

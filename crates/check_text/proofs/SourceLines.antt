@@ -27,8 +27,8 @@ use Rattle.mode_forests.specs.Views.{trees_of}
 use Rattle.mode_forests.specs.declared.forests.Edge.{Edge}
 use Rattle.mode_forests.specs.declared.forests.Forest.{Forest}
 use Rattle.min_cuts.specs.Lines.{IsInFiringOrder}
-use Rattle.replayer.specs.Flat.{label_of, way_label}
-use Rattle.replayer.proofs.WayLemmas.{label_alike}
+use Rattle.text_pieces.specs.WayLabels.{label_of, way_label}
+use Rattle.text_pieces.proofs.Ways.{label_alike}
 use Rattle.cut_text.specs.Printed.{edges_of, way_in, labels_in, events_text, things_of, IsForestOf}
 use Rattle.cut_text.specs.Texts.{braced, labels_text}
 use Rattle.cut_text.proofs.FlatLines.{flat_line}

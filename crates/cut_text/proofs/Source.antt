@@ -40,8 +40,8 @@ use Rattle.mode_forests.specs.declared.forests.Edge.{Edge}
 use Rattle.mode_forests.specs.declared.forests.Forest.{Forest}
 use Rattle.min_cuts.specs.Lines.{IsInFiringOrder, AreInFiringOrder}
 use Rattle.min_cuts.specs.Sizes.{count}
-use Rattle.replayer.specs.Flat.{label_of, way_label}
-use Rattle.replayer.proofs.WayLemmas.{label_alike}
+use Rattle.text_pieces.specs.WayLabels.{label_of, way_label}
+use Rattle.text_pieces.proofs.Ways.{label_alike}
 use Rattle.cut_text.specs.Printed.{edges_of, way_in, labels_in, events_text, sets_text, cuts_text, conflict_text, things_of, IsForestOf}
 use Rattle.cut_text.specs.Texts.{braced, labels_text, label_lists, count_line, fault_line, IsCutText, IsConflictText}
 use Rattle.cut_text.proofs.FlatLines.{flat_line}

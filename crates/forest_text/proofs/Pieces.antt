@@ -7,7 +7,7 @@ use Rattle.ar_base.proofs.Lines.{line_after}
 use Rattle.ar_meaning.specs.ValueTexts.{value_text}
 use Rattle.gts_core.specs.declared.system.GtsParts.{GtsParts}
 use Rattle.gts_flatten.specs.Flat.{naming_of_parts}
-use Rattle.replayer.specs.Flat.{way_label}
+use Rattle.text_pieces.specs.WayLabels.{way_label}
 use Rattle.mode_forests.specs.declared.forests.Edge.{Edge}
 use Rattle.mode_forests.specs.declared.forests.ModeTree.{ModeTree}
 use Rattle.forest_text.specs.Texts.{edge_text, root_text, events_line}

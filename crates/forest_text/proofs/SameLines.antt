@@ -19,8 +19,8 @@ use Rattle.gts_core.specs.View.{Views}
 use Rattle.gts_core.specs.declared.system.GtsParts.{GtsParts}
 use Rattle.gts_core.specs.declared.system.Way.{Way}
 use Rattle.gts_flatten.specs.Flat.{naming_of_parts}
-use Rattle.replayer.specs.Flat.{label_found, label_of, way_label}
-use Rattle.replayer.proofs.WayLemmas.{label_alike}
+use Rattle.text_pieces.specs.WayLabels.{label_found, label_of, way_label}
+use Rattle.text_pieces.proofs.Ways.{label_alike}
 use Rattle.mode_forests.specs.Views.{row_of, tree_of, number_in, number_of_found}
 use Rattle.mode_forests.specs.Ways.{HasOwnWay, HaveOwnWays, OwnTheirWays}
 use Rattle.mode_forests.specs.declared.forests.Edge.{Edge}

@@ -1,6 +1,5 @@
 -- What the rules over the whole text give for the units of a tree: no two members of a unit have one name, and no unit
--- is
--- listed twice.
+-- is listed twice.
 use Rattle.std.proofs.Common.{◌≡◌, ℕ, zero, suc, ◌<◌, ◌≤◌, ◌⊎◌, inl, inr, Bool, true, false, ◌==◌, if◌then◌else◌, List, [], ◌∷◌, Option, Some, None, slice_get, unwrap_or, option_map, refl, sym, ◌∙◌, ap, subst, arith}
 use Rattle.ar_base.specs.Lists.{Stands, IsOneOf, AreDifferent}
 use Rattle.ar_base.proofs.Standing.{stands_none, stands_one}

@@ -1,6 +1,5 @@
 -- The list of units is closed under what members make, each unit in it but the first is made by a member of one in it,
--- and
--- none stands twice where no two members of a unit have one name.
+-- and none stands twice where no two members of a unit have one name.
 use Rattle.std.proofs.Common.{Bool, true, false, ◌≡◌, ◌≤◌, ◌<◌, ◌+◌, ◌⊎◌, inl, inr, ℕ, zero, suc, List, [], ◌∷◌, ◌++◌, Option, Some, None, length, length-append, refl, sym, ◌∙◌, ap, subst, append_assoc, arith}
 use Rattle.ar_syntax.specs.declared.paths.Path.{Path}
 use Rattle.ar_base.specs.Lists.{Stands, IsOneOf, AreDifferent}

@@ -63,8 +63,7 @@ pub record IsUnitIn (m : RootedModel) (test : MemberKind → Bool) (u : UnitPath
   pub leads : LeadsFrom m u x (Reaches v)
 
 -- the entries are the names of u that are units by what passes the test, each with the number of its unit, in the order
--- of
--- the names' numbers
+-- of the names' numbers
 pub record AreNames (m : RootedModel) (units : List UnitPath) (test : MemberKind → Bool) (u : UnitPath)
     (entries : List (NameId × UnitId)) : Type 0 where
   pub found : (x n : ℕ) → entry_in entries x ≡ Some n → (v : UnitPath) × Stands units n v × IsUnitIn m test u x v

@@ -26,7 +26,7 @@ use Rattle.cut_check.specs.Verdicts as v
 use Rattle.cut_text.specs.Texts.{label_lists, labels_text, count_line, fault_line, IsCutText, IsConflictText}
 use Rattle.domains.specs.declared.Value.{Value}
 use Rattle.forest_text.specs.Texts.{AreLiveEvents, IsForestText, tree_lines, events_line}
-use Rattle.replayer.specs.CutLists.{CutLine}
+use Rattle.script_lines.specs.CutLists.{CutLine}
 use Rattle.typed_expr.specs.declared.expr.Expr.{Expr}
 use Rattle.word_meaning.proofs.Labels.{along_one}
 

@@ -36,8 +36,8 @@ use Rattle.mode_forests.specs.Ways.{HasOwnWay, HaveOwnWays, OwnTheirWays}
 use Rattle.mode_forests.specs.declared.forests.Edge.{Edge}
 use Rattle.mode_forests.specs.declared.forests.Forest.{Forest}
 use Rattle.mode_forests.specs.declared.forests.ModeTree.{ModeTree}
-use Rattle.replayer.specs.Flat.{label_found, label_of, way_label}
-use Rattle.replayer.proofs.WayLemmas.{label_alike}
+use Rattle.text_pieces.specs.WayLabels.{label_found, label_of, way_label}
+use Rattle.text_pieces.proofs.Ways.{label_alike}
 use Rattle.zdd_families.specs.Families.{holds}
 use Rattle.cut_text.specs.Printed.{edges_of, things_of, IsForestOf}
 use Rattle.cut_text.specs.Texts.{braced, labels_text}

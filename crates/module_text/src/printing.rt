@@ -20,8 +20,8 @@ use cut_text::PrintFault;
 use gate_modules::Short;
 use gts_core::{Gts, GtsParts};
 use mode_forests::Forest;
-use replayer::pieces::{count, put};
-use replayer::print_label;
+use text_pieces::pieces::{count, put};
+use text_pieces::print_label;
 use std::alloc::Global;
 
 /// Writes the text of cuts in short: for each module `module PATH` and then each of its sets on a line of two spaces and

@@ -11,7 +11,7 @@ use Rattle.ar_firing.specs.Fragment as sys_
 use Rattle.ar_firing.specs.Fragment.{Path, Edge, IsModeOf}
 use Rattle.ar_firing.specs.Static.{IsStatic}
 use Rattle.ar_firing.specs.Cuts.{IsFirable}
-use Rattle.ar_firing.specs.Forest.{Row, IsModeVariable, IsForest, IsLine, firing_line}
+use Rattle.ar_firing.specs.Forest.{IsModeVariable, IsForest, IsLine, firing_line}
 use Rattle.ar_firing.specs.Forest as firing
 use Rattle.ar_firing.specs.Trees.{AreTrees}
 use Rattle.ar_firing.proofs.Shapes.{are_trees}

@@ -1,22 +1,20 @@
 -- What is printed by the parts of a flat system is the text of its source.
-use Rattle.std.proofs.Common.{◌≡◌, ◌-◌, ◌^◌, min, codes, decimal, ℕ, zero, suc, List, [], ◌∷◌, ◌++◌, map, reverse, length, slice_get, refl, sym, ◌∙◌, ap, subst, arith}
+use Rattle.std.proofs.Common.{◌≡◌, ◌-◌, ◌^◌, min, codes, decimal, ℕ, List, [], ◌∷◌, ◌++◌, map, reverse, length, refl, sym, ◌∙◌, ap, subst, arith}
 use Rattle.domains.specs.declared.Value.{Value}
-use Rattle.ar_base.specs.Lists.{Stands, IsOneOf, Along}
+use Rattle.ar_base.specs.Lists.{Along}
 use Rattle.ar_base.specs.Lists as l
 use Rattle.ar_base.specs.Texts.{line, text_at}
-use Rattle.ar_base.proofs.Standing.{along_length}
 use Rattle.typed_expr.specs.Pairs.{turned}
 use Rattle.typed_expr.specs.Yields.{Yields}
 use Rattle.typed_expr.specs.declared.expr.Expr.{Expr, out-Expr}
-use Rattle.ar_meaning.specs.Systems.{System, Event, Net}
+use Rattle.ar_meaning.specs.Systems.{System}
 use Rattle.ar_meaning.specs.Facts.{AreKeyed, HasValue}
 use Rattle.ar_meaning.specs.Flows.{FlowFault}
 use Rattle.ar_meaning.specs.Runs.{Label}
-use Rattle.ar_meaning.specs.TraceText.{Naming, label_text, way_text, ways_of, flow_fault_text}
+use Rattle.ar_meaning.specs.TraceText.{Naming, label_text, way_text, flow_fault_text}
 use Rattle.ar_meaning.specs.FlatOf.{IsNumber, IsFlatOf}
-use Rattle.ar_meaning.specs.Image.{Event_renames, Expr_renames}
+use Rattle.ar_meaning.specs.Image.{Expr_renames}
 use Rattle.typed_expr.proofs.Renaming.{carries, renames_turned}
-use Rattle.ar_meaning.proofs.ByNumber.{keyed}
 use Rattle.ar_meaning.proofs.ImageFlows.{value_there}
 use Rattle.ar_meaning.proofs.FlatSystems.{flat_image, flat_back}
 use Rattle.ar_meaning.proofs.ImageWays.{ways_count}
@@ -29,9 +27,9 @@ use Rattle.ar_firing.proofs.ImageModes.{line_there}
 use Rattle.ar_firing.proofs.OneListing.{listed_as}
 use Rattle.ar_firing.proofs.OrderedSets.{undropped}
 use Rattle.ar_firing.proofs.RulesHold.{all_static}
-use Rattle.gts_core.specs.View.{Views, net_of}
+use Rattle.gts_core.specs.View.{Views}
 use Rattle.gts_core.specs.declared.system.GtsParts.{GtsParts}
-use Rattle.gts_core.proofs.Viewing.{are_numbered, keyed_by}
+use Rattle.gts_core.proofs.Viewing.{keyed_by}
 use Rattle.gts_flatten.specs.Elaborating.{Elaborated}
 use Rattle.gts_flatten.specs.Flat.{naming_of, naming_of_parts}
 use Rattle.hierarchy.specs.Units.{Thing}

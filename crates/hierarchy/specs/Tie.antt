@@ -19,7 +19,7 @@ use Rattle.class_table.specs.Members.{Site, NamedMember, MemberKind, Variable, P
 use Rattle.class_table.specs.Tables.{IsDomainOf}
 use Rattle.class_table.specs.declared.tables.Classes.{Classes}
 use Rattle.hierarchy.specs.Models.{RootedModel, IsKeptTable}
-use Rattle.hierarchy.specs.Units.{Level, UnitPath, Thing, body_of, set_at_of, name_at, numbers}
+use Rattle.hierarchy.specs.Units.{Level, UnitPath, Thing, body_of, set_at_of, name_at}
 use Rattle.hierarchy.specs.Walks.{Reaches, LeadsFrom, IsUnitAt, IsThingAt}
 use Rattle.hierarchy.specs.Listing.{AreUnits, is_inner, variables, parameters, events, observers}
 use Rattle.hierarchy.specs.Settings.{in_force, is_state}

@@ -44,7 +44,7 @@ use Rattle.source_meaning.proofs.Different.{things_different}
 use Rattle.sync_expand.specs.Expanding.{greatest, most_ways}
 use Rattle.unit_walks.specs.Unfolding.{whole}
 use Rattle.word_meaning.specs.Named.{NamesOnce}
-use Rattle.altarica_run.specs.Elaborates.{Elaborates, Tables, rooted, Systems, reads}
+use Rattle.altarica_run.specs.Elaborates.{Elaborates, rooted, reads}
 use Rattle.altarica_run.specs.Elaborates as e
 use Rattle.job_meaning.specs.Definite.{IsDefinite}
 

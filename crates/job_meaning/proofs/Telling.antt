@@ -1,5 +1,5 @@
 -- What a job tells that has passed its stages is one text.
-use Rattle.std.proofs.Common.{◌≡◌, ◌⊎◌, ◌++◌, ℕ, true, false, List, [], ◌∷◌, Option, Some, None, Ok, Err, length, refl, sym, ◌∙◌, ap, subst, inl, inr}
+use Rattle.std.proofs.Common.{◌≡◌, ◌⊎◌, ℕ, true, false, List, Option, Some, None, Ok, Err, length, refl, sym, ◌∙◌, ap, subst, inl, inr}
 use Rattle.ar_base.specs.Lists.{Stands}
 use Rattle.ar_base.proofs.Items.{last_one}
 use Rattle.ar_base.proofs.Standing.{stands_one}
@@ -42,9 +42,8 @@ use Rattle.typed_expr.specs.declared.expr.Expr.{Expr}
 use Rattle.wanted_values.specs.declared.wanting.Wanted.{Wanted}
 use Rattle.altarica_run.specs.Refusals.{line_of, status_of}
 use Rattle.altarica_run.specs.Stages.{Ready, is_static, lists_cuts}
-use Rattle.altarica_run.specs.Tells.{Tells, check_text, IsFlatText, HasCuts, IsCutsText, IsCheckedText, IsShortText, IsObserverOf, IsExplained, make_lines, IsMakeText, MayNeedMore, status_at}
+use Rattle.altarica_run.specs.Tells.{Tells, check_text, IsFlatText, HasCuts, IsCutsText, IsCheckedText, IsShortText, IsObserverOf, IsExplained, make_lines, IsMakeText, status_at}
 use Rattle.altarica_run.specs.Tells as told
-use Rattle.altarica_run.specs.declared.refusals.Refusal.{Refusal}
 use Rattle.altarica_run.specs.declared.status.Status.{Status}
 use Rattle.altarica_run.specs.declared.status.Status.TheVariants.{Done, Fault}
 use Rattle.altarica_run.proofs.ExplainLemmas.{settled_flows}

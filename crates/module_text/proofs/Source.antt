@@ -1,20 +1,18 @@
 -- What is written by the parts of a flat system is the text of its source.
-use Rattle.std.proofs.Common.{◌≡◌, ◌-◌, ℕ, zero, suc, Bool, true, false, cond, List, [], ◌∷◌, ◌++◌, map, filter, slice_get, Option, Some, refl, sym, ◌∙◌, ap, ap₂, subst}
+use Rattle.std.proofs.Common.{◌≡◌, ◌-◌, ℕ, Bool, true, false, cond, List, [], ◌∷◌, ◌++◌, map, filter, slice_get, Option, Some, refl, sym, ◌∙◌, ap, ap₂, subst}
 use Rattle.std.specs.List.{flat_map}
 use Rattle.std.proofs.lemmas.List.{map-append, length-map}
 use Rattle.std.proofs.lemmas.List.Elements.{filter-append}
 use Rattle.domains.specs.declared.Value.{Value}
-use Rattle.ar_base.specs.Lists.{Stands, IsOneOf, Along}
-use Rattle.ar_base.specs.Lists as l
 use Rattle.ar_base.specs.Texts.{line, text_at}
-use Rattle.ar_base.proofs.Standing.{one_first, one_rest, along_length}
+use Rattle.ar_base.proofs.Standing.{one_first, one_rest}
 use Rattle.typed_expr.specs.Pairs.{turned}
 use Rattle.typed_expr.specs.declared.expr.Expr.{Expr}
-use Rattle.ar_meaning.specs.Systems.{System, Event}
+use Rattle.ar_meaning.specs.Systems.{System}
 use Rattle.ar_meaning.specs.Runs.{Label}
-use Rattle.ar_meaning.specs.TraceText.{Naming, label_text, way_text, ways_of}
+use Rattle.ar_meaning.specs.TraceText.{Naming, label_text, way_text}
 use Rattle.ar_meaning.specs.FlatOf.{IsNumber, IsFlatOf}
-use Rattle.ar_meaning.specs.Image.{Event_renames, Expr_renames}
+use Rattle.ar_meaning.specs.Image.{Expr_renames}
 use Rattle.ar_meaning.proofs.FlatSystems.{flat_image, flat_back}
 use Rattle.ar_meaning.proofs.ImageWays.{ways_count}
 use Rattle.ar_firing.specs.Cuts.{Cut}

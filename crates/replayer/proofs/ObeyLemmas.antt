@@ -1,36 +1,29 @@
 -- What each command answers.
 use Rattle.std.proofs.Common.{◌≡◌, ◌<◌, ℕ, List, [], ◌∷◌, ◌++◌, codes, length, Result, Err, refl, sym, subst, arith}
-use Rattle.std.proofs.lemmas.List.{length-map}
 use Rattle.ar_base.specs.Texts.{line}
-use Rattle.ar_base.proofs.Standing.{stands_within}
 use Rattle.ar_io.specs.Writing.{SinkState, Writes}
 use Rattle.ar_io.specs.declared.outside.SinkFailed.{SinkFailed}
 use Rattle.ar_io.proofs.Writing.{cut_longer, cut_nothing}
 use Rattle.domains.specs.declared.Value.{Value}
 use Rattle.ar_meaning.specs.Systems as s
-use Rattle.ar_meaning.specs.Flows as flows
 use Rattle.ar_meaning.specs.Runs.{Command, Fire, Back, Show, Enabled}
-use Rattle.ar_meaning.specs.Steps.{Step, Refused, Next, flow}
+use Rattle.ar_meaning.specs.Steps.{Step, Refused, Next}
 use Rattle.ar_meaning.specs.Steps as steps
 use Rattle.ar_meaning.specs.TraceText.{Naming, step_fault_text}
 use Rattle.flow_propagate.specs.Answers.{fault_of}
-use Rattle.flow_propagate.specs.declared.propagation.FlowFault.{FlowFault}
-use Rattle.flow_propagate.specs.declared.propagation.FlowFault.TheVariants as found
-use Rattle.gts_core.specs.View.{Views, IsWayAt, net_of, assign_of}
+use Rattle.gts_core.specs.View.{Views, IsWayAt, net_of}
 use Rattle.gts_core.specs.Sound.{IsSound}
 use Rattle.gts_core.specs.Readings.{IsTotal}
 use Rattle.gts_core.specs.declared.system.GtsParts.{GtsParts}
-use Rattle.gts_core.proofs.Viewing.{variables_long}
 use Rattle.gts_flatten.specs.Flat.{naming_of_parts}
 use Rattle.stepper.specs.Steps.{Standing, IsStepFault}
 use Rattle.stepper.specs.declared.faults.StepFault.{StepFault}
 use Rattle.stepper.specs.declared.faults.StepFault.TheVariants as fault
 use Rattle.text_pieces.specs.WayLabels.{label_of, way_label}
-use Rattle.text_pieces.specs.Faults.{IsInRange}
-use Rattle.replayer.specs.Playing.{AreTotal, Follows, IsBroken, Answers, goes_on, stops, write, memory, IsRefusal}
+use Rattle.replayer.specs.Playing.{AreTotal, Follows, Answers, stops, write, memory, IsRefusal}
 use Rattle.replayer.specs.Playing as refusal
 use Rattle.replayer.specs.Printing.{values_text, changes_text, events_lines}
-use Rattle.text_pieces.specs.Faults.{step_text, IsFaultInRange}
+use Rattle.text_pieces.specs.Faults.{step_text}
 use Rattle.replayer.specs.declared.replaying.End.{End}
 use Rattle.replayer.specs.declared.replaying.End.TheVariants.{Fault}
 use Rattle.replayer.specs.declared.replaying.ReplayFault.{ReplayFault}

@@ -21,7 +21,7 @@ use Rattle.stepper.specs.Steps.{Standing, IsStepFault}
 use Rattle.stepper.specs.declared.faults.StepFault.{StepFault}
 use Rattle.stepper.specs.declared.faults.StepFault.TheVariants as fault
 use Rattle.text_pieces.specs.WayLabels.{label_of, way_label}
-use Rattle.replayer.specs.Playing.{IsRefusal, refusal_text}
+use Rattle.replayer.specs.Playing.{IsRefusal}
 use Rattle.replayer.specs.Playing as refusal
 use Rattle.text_pieces.specs.Faults.{step_text}
 use Rattle.replayer.specs.Replays.{end_of}

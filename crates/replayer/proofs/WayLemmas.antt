@@ -1,5 +1,5 @@
 -- The ways that commands fire.
-use Rattle.std.proofs.Common.{◌≡◌, ◌<◌, ℕ, List, map, length, refl, sym, subst}
+use Rattle.std.proofs.Common.{◌≡◌, ◌<◌, ℕ, List, map, length, refl, subst}
 use Rattle.ar_base.specs.Lists.{Stands}
 use Rattle.ar_base.specs.Numbers.{WayId}
 use Rattle.ar_base.proofs.Standing.{stands_map_back}

@@ -10,7 +10,7 @@ use Rattle.gts_core.specs.declared.system.GtsParts.{GtsParts}
 use Rattle.gts_flatten.specs.Elaborating.{Elaborated}
 use Rattle.script_lines.specs.CutLines.{IsPassed, IsCutLine, texts_in, trimmed, is_comma}
 use Rattle.script_lines.specs.Chains.{labels_of, cut_of, HaveKnownWays, IsBadList, AnswersCuts}
-use Rattle.script_lines.specs.CutLists.{CutLine, Lists, IsBadLabel, IsFirstBadLabel, IsBadCut, IsFirstBadCut, CutList}
+use Rattle.script_lines.specs.CutLists.{CutLine, Lists, IsBadLabel, IsFirstBadLabel, IsBadCut, CutList}
 use Rattle.script_lines.specs.CutLists as lists
 use Rattle.script_lines.specs.CutReads.{AreKnownWays, AnswersLabels, AreReached, AddsCuts, IsBadCutLine, HasRead}
 use Rattle.text_pieces.specs.WayLabels.{label_of}

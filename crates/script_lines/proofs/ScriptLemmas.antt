@@ -12,7 +12,7 @@ use Rattle.gts_flatten.specs.Elaborating.{Elaborated}
 use Rattle.script_lines.specs.Flat.{AreFirable, IsFirable, IsBadScript, AnswersScript}
 use Rattle.script_lines.specs.Labels.{IsLabel, NeedsWay}
 use Rattle.script_lines.specs.Lines.{Line, Skipped, Fires, GoesBack, Shows, ListsEnabled, NoCommand, lines_of, line_said}
-use Rattle.script_lines.specs.Scripts.{Gives, IsBad, no_command, needs_way, no_event, Why, IsFirstBad, IsNoCommand, LacksWay, NamesNoEvent, Commands, gives, bad}
+use Rattle.script_lines.specs.Scripts.{Gives, IsBad, no_command, needs_way, no_event, Why, IsNoCommand, LacksWay, NamesNoEvent, Commands, gives, bad}
 use Rattle.script_lines.specs.Scripts as scripts
 use Rattle.script_lines.specs.Reads.{Adds, AnswersLabel, Reached, IsBadLine, lines_left, bytes_left}
 use Rattle.script_lines.specs.declared.commands.Command.{Command as Code}

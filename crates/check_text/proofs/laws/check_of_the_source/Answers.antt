@@ -1,6 +1,6 @@
 use Rattle.std.proofs.Common.{◌≡◌, ◌++◌, ◌∙◌, ◌&&◌, ℕ, Bool, List, [], ◌∷◌, map, codes, refl, sym, ap, subst, arith}
 use Rattle.std.proofs.lemmas.List.{length-map}
-use Rattle.ar_base.specs.Lists.{Stands, IsOneOf, Along}
+use Rattle.ar_base.specs.Lists.{Along}
 use Rattle.ar_base.specs.Lists as l
 use Rattle.ar_base.specs.Texts.{line}
 use Rattle.ar_firing.specs.Cuts.{Cut}

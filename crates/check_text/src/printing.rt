@@ -23,9 +23,9 @@ use cut_text::{PrintFault, event_ways};
 use gts_core::{Chain, Gts};
 use min_cuts::Lister;
 use mode_forests::Forest;
+use std::alloc::Global;
 use text_pieces::pieces::{number, put};
 use text_pieces::print_label;
-use std::alloc::Global;
 
 /// Writes the text of a check of a list of cuts: for each line of the list its verdict; then
 /// `missing ` and the labels of each cut of the lister that no line has, in its order; and last `yes`

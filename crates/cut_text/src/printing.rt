@@ -30,9 +30,9 @@ use gts_core::Gts;
 use itoa::Buffer;
 use min_cuts::Lister;
 use mode_forests::Forest;
+use std::alloc::Global;
 use text_pieces::pieces::put;
 use text_pieces::{print_flow_fault, print_label};
-use std::alloc::Global;
 
 /// Writes the text of a listing of cuts: for each set of the lister, in its order, a line `{a, b}`
 /// with the labels of its events' edges as they stand in the set, and last `count N` with the number

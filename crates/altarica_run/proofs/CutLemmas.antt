@@ -63,8 +63,8 @@ use Rattle.cut_text.specs.Printed.{edges_of, labels_in, cuts_text, conflict_text
 use Rattle.check_text.specs.Texts.{IsCheckText}
 use Rattle.cut_text.specs.Texts.{IsCutText, IsConflictText}
 use Rattle.module_text.specs.Texts.{IsModuleText}
-use Rattle.replayer.specs.Chains.{cut_of}
-use Rattle.replayer.specs.CutLists.{CutLine}
+use Rattle.script_lines.specs.Chains.{cut_of}
+use Rattle.script_lines.specs.CutLists.{CutLine}
 use Rattle.cut_text.specs.declared.faults.PrintFault.{PrintFault}
 use Rattle.cut_text.specs.declared.faults.PrintFault.TheVariants as print
 use Rattle.run_words.specs.declared.jobs.Job.{Job}

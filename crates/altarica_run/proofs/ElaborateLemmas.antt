@@ -21,7 +21,7 @@ use Rattle.gts_core.specs.declared.system.GtsParts.{GtsParts}
 use Rattle.gts_flatten.specs.Elaborating.{Elaborated, Flattens, has}
 use Rattle.gts_flatten.specs.Flat.{IsFlat}
 use Rattle.source_meaning.specs.Systems.{Declarations, AreOf, Binds, declares}
-use Rattle.altarica_run.specs.Elaborates.{Parses, reads, no_tokens, no_reading, too_deep, Tables, Ruled, Systems}
+use Rattle.altarica_run.specs.Elaborates.{Parses, no_tokens, no_reading, too_deep, Tables, Ruled}
 use Rattle.altarica_run.specs.Elaborates as elaborates
 use Rattle.altarica_run.specs.Passing.{stop_of_parse, stop_of_rules, IsStageOf, IsFlattened}
 use Rattle.altarica_run.specs.declared.refusals.Refusal.{Refusal}

@@ -27,9 +27,9 @@ use Rattle.hierarchy.specs.Listing.{variables}
 use Rattle.hierarchy.specs.Units.{Thing}
 use Rattle.reason_text.specs.Answers.{Explains, observed, AreSameObserver, IsObserverIn}
 use Rattle.reason_text.specs.Texts.{IsReasonText}
-use Rattle.replayer.specs.Flat.{command_of}
+use Rattle.script_lines.specs.Flat.{command_of}
 use Rattle.replayer.specs.Settles.{last_standing, Settles, IsFaultLine, AnswersSettle}
-use Rattle.replayer.specs.declared.commands.Command.{Command as Given}
+use Rattle.script_lines.specs.declared.commands.Command.{Command as Given}
 use Rattle.replayer.specs.declared.replaying.ReplayFault.{ReplayFault}
 use Rattle.replayer.specs.declared.replaying.ReplayFault.TheVariants as fault
 use Rattle.run_words.specs.declared.jobs.Job.{Job}

@@ -7,7 +7,7 @@ use Rattle.run_words.specs.declared.jobs.JobFault.{JobFault}
 use Rattle.run_words.specs.declared.jobs.JobFault.TheVariants as words
 use Rattle.run_words.specs.declared.verbs.Verb.{Verb}
 use Rattle.run_words.specs.declared.verbs.Verb.TheVariants.{Check, Flat, Replay, Fragment, Equations, Cuts, Make, Explain, CheckCuts, Modules}
-use Rattle.altarica_run.specs.Jobs.{IsNoJob, makes_model, AnswersJob}
+use Rattle.altarica_run.specs.Jobs.{makes_model, AnswersJob}
 use Rattle.altarica_run.specs.Passing.{stop_of_words}
 use Rattle.altarica_run.specs.declared.stops.Stop.{Stop}
 

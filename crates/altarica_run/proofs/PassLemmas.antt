@@ -1,6 +1,5 @@
 -- The stages of a job, as their calls answer.
-use Rattle.std.proofs.Common.{length, vec_len, rules, arith, ◌≡◌, ◌<◌, ◌≤◌, ℕ, Bool, true, false, List, [], ◌∷◌, Option, Some, None, Result, Ok, Err, Vec, map, codes, refl, sym, ◌∙◌, ap, subst}
-use Rattle.std.proofs.lemmas.Grind.{common_steps}
+use Rattle.std.proofs.Common.{length, vec_len, arith, ◌≡◌, ◌<◌, ◌≤◌, ℕ, Bool, true, false, List, [], ◌∷◌, Option, Some, None, Result, Ok, Err, Vec, map, codes, refl, sym, ◌∙◌, ap, subst}
 use Rattle.std.proofs.lemmas.List.{length-map}
 use Rattle.std.specs.Global.{Global}
 use Rattle.ar_base.specs.Counts.{limit_of}
@@ -20,13 +19,13 @@ use Rattle.gts_core.specs.declared.system.GtsParts.{GtsParts}
 use Rattle.gts_flatten.specs.Elaborating.{Elaborated}
 use Rattle.gts_flatten.specs.Flat.{IsFlat}
 use Rattle.hierarchy.specs.Listing.{observers}
-use Rattle.replayer.specs.Chains.{cut_of, AnswersCuts}
-use Rattle.replayer.specs.CutLists.{CutLine}
-use Rattle.replayer.specs.Flat.{command_of, AnswersScript, IsBadScript}
-use Rattle.replayer.specs.declared.commands.Command.{Command}
-use Rattle.replayer.specs.declared.commands.Command.TheVariants.{Fire}
-use Rattle.replayer.specs.declared.commands.ScriptFault.{ScriptFault}
-use Rattle.replayer.specs.declared.commands.ScriptFault.TheVariants as script
+use Rattle.script_lines.specs.Chains.{cut_of, AnswersCuts}
+use Rattle.script_lines.specs.CutLists.{CutLine}
+use Rattle.script_lines.specs.Flat.{command_of, AnswersScript, IsBadScript}
+use Rattle.script_lines.specs.declared.commands.Command.{Command}
+use Rattle.script_lines.specs.declared.commands.Command.TheVariants.{Fire}
+use Rattle.script_lines.specs.declared.commands.ScriptFault.{ScriptFault}
+use Rattle.script_lines.specs.declared.commands.ScriptFault.TheVariants as script
 use Rattle.run_words.specs.Jobs.{IsJob, NamesFiles, form_of, IsJobOf, OptionsFit}
 use Rattle.run_words.specs.Lines.{Line}
 use Rattle.run_words.specs.declared.jobs.Job.{Job}
@@ -43,7 +42,7 @@ use Rattle.wanted_values.specs.declared.wanting.WantedFault.{WantedFault}
 use Rattle.wanted_values.specs.declared.wanting.WantedFault.TheVariants as wanted
 use Rattle.altarica_run.specs.Passing as passing
 use Rattle.altarica_run.specs.Passing.{stop_of_wanted, stop_of_script, stop_of_cuts, stop_of_list, stop_told, IsStageOf, AreCommands, ReadsScript, no_script, gives, bad, AreLines, ReadsCuts, no_cuts, lists, bad_line, too_many, IsSecond, IsThere, has_second, where_asked, ReadsList, no_list, names, names_none, AreDropped, ReadsWanted, AreWanted, ReadsShown, no_path, shows, shows_none, IsShown, IsRequested, IsReady, RefusesWords, no_job, stage, not_read, AnswersWords}
-use Rattle.altarica_run.specs.Stages.{Ready, bare, has_script, has_list, has_table, explains, line_refused, cut_refused, path_asked, observer_asked, Scripted, ListsCuts, Drops, Wanting, Showing, AsksByWords, Asks, Readies, Stages, Passes, not_loaded, loaded}
+use Rattle.altarica_run.specs.Stages.{Ready, bare, has_script, has_list, has_table, explains, path_asked, observer_asked, Scripted, ListsCuts, Drops, Wanting, Showing, AsksByWords, Asks, Readies, Stages, not_loaded, loaded}
 use Rattle.altarica_run.specs.Stages as stages
 use Rattle.altarica_run.specs.declared.loading.Texts.{Texts}
 use Rattle.altarica_run.specs.declared.refusals.Refusal.{Refusal}

@@ -19,7 +19,7 @@ use Rattle.gts_flatten.specs.Elaborating.{Elaborated}
 use Rattle.gts_flatten.specs.Flat.{IsFlat, naming_of, naming_of_parts}
 use Rattle.hierarchy.specs.Listing.{variables, events, observers}
 use Rattle.hierarchy.specs.Paths.{unit_path, thing_path}
-use Rattle.replayer.specs.Flat.{command_of}
+use Rattle.script_lines.specs.Flat.{command_of}
 use Rattle.replayer.specs.Replays.{IsReplay, AnswersReplay}
 use Rattle.replayer.specs.Replays as replays
 use Rattle.replayer.specs.declared.replaying.End.{End}

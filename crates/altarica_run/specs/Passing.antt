@@ -31,13 +31,13 @@ use Rattle.mode_forests.specs.Ways.{OwnTheirWays}
 use Rattle.mode_forests.specs.declared.forests.Forest.{Forest}
 use Rattle.module_text.specs.Ranges.{AreRangesOf}
 use Rattle.reason_text.specs.Answers.{IsObserverIn}
-use Rattle.replayer.specs.Chains.{cut_of, HaveKnownWays}
-use Rattle.replayer.specs.CutLists.{CutLine, CutList}
-use Rattle.replayer.specs.Flat.{command_of, AreFirable, IsOfTree}
-use Rattle.replayer.specs.Scripts.{BadLine, Commands}
-use Rattle.replayer.specs.declared.commands.Command.{Command}
-use Rattle.replayer.specs.declared.commands.ScriptFault.{ScriptFault}
-use Rattle.replayer.specs.declared.commands.ScriptFault.TheVariants as script
+use Rattle.script_lines.specs.Chains.{cut_of, HaveKnownWays}
+use Rattle.script_lines.specs.CutLists.{CutLine, CutList}
+use Rattle.script_lines.specs.Flat.{command_of, AreFirable, IsOfTree}
+use Rattle.script_lines.specs.Scripts.{BadLine, Commands}
+use Rattle.script_lines.specs.declared.commands.Command.{Command}
+use Rattle.script_lines.specs.declared.commands.ScriptFault.{ScriptFault}
+use Rattle.script_lines.specs.declared.commands.ScriptFault.TheVariants as script
 use Rattle.run_words.specs.declared.jobs.Job.{Job}
 use Rattle.run_words.specs.declared.verbs.Verb.{Verb}
 use Rattle.run_words.specs.declared.verbs.Verb.TheVariants.{Replay, Explain, CheckCuts, Modules}

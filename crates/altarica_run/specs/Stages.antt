@@ -13,8 +13,8 @@ use Rattle.gts_flatten.specs.Elaborating.{Elaborated}
 use Rattle.gts_flatten.specs.Flat.{naming_of}
 use Rattle.hierarchy.specs.Listing.{variables}
 use Rattle.hierarchy.specs.Paths.{unit_path}
-use Rattle.replayer.specs.CutLists.{CutLine, CutList}
-use Rattle.replayer.specs.Scripts.{BadLine, Commands, Why, IsNoCommand, LacksWay, NamesNoEvent}
+use Rattle.script_lines.specs.CutLists.{CutLine, CutList}
+use Rattle.script_lines.specs.Scripts.{BadLine, Commands, Why, IsNoCommand, LacksWay, NamesNoEvent}
 use Rattle.run_words.specs.declared.jobs.Job.{Job}
 use Rattle.run_words.specs.declared.verbs.Verb.{Verb}
 use Rattle.run_words.specs.declared.verbs.Verb.TheVariants.{Replay, Fragment, Equations, Cuts, Make, Explain, CheckCuts, Modules}

@@ -15,8 +15,8 @@ use crate::stops::Stop;
 use crate::tabling::wanted_of;
 use ar_base::{Count, EventId, Text};
 use gts_core::Chain;
-use replayer::{Command, ScriptFault, read_cuts, read_script};
 use run_words::{Job, Verb};
+use script_lines::{Command, ScriptFault, read_cuts, read_script};
 use std::alloc::Global;
 use wanted_values::{Wanted, observer_named};
 

@@ -8,9 +8,9 @@ ghost use Rattle.altarica_run.specs.Spots.{path_in};
 
 use ar_base::{Memory, Text};
 use gts_core::GtsParts;
-use replayer::pieces::{event_path, variable_path};
 use static_fragment::Spot;
 use std::alloc::Global;
+use text_pieces::pieces::{event_path, variable_path};
 
 /// The canonical path of what a broken rule is shown with; `main` for the whole model.
 pub fn path_of(alloc: Global, parts: &GtsParts, spot: Spot) -> Result<Text, Memory>

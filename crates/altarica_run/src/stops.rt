@@ -4,8 +4,8 @@ use crate::refusals::Refusal;
 use ar_base::{Count, Memory, RuleFault};
 use ar_parser::ParseFault;
 use event_lists::ListFault;
-use replayer::ScriptFault;
 use run_words::JobFault;
+use script_lines::ScriptFault;
 use tree_equations::EqFault;
 use wanted_values::WantedFault;
 

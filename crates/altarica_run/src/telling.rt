@@ -2,7 +2,7 @@
 
 ghost use Rattle.std.specs.Prelude.{◌≡◌, ◌≤◌, ◌++◌, decimal, length};
 ghost use Rattle.ar_io.specs.Writing.{Writes};
-ghost use Rattle.replayer.specs.Flat.{AreFirable};
+ghost use Rattle.script_lines.specs.Flat.{AreFirable};
 ghost use Rattle.run_words.specs.declared.jobs.Job.{Job};
 ghost use Rattle.altarica_run.specs.Passing.{CanBeWritten, IsReady};
 ghost use Rattle.altarica_run.specs.Refusals.{line_of, status_of};

@@ -1,5 +1,5 @@
 -- An event at the front of a text.
-use Rattle.std.proofs.Common.{◌≡◌, ℕ, zero, suc, ◌+◌, ◌-◌, ◌≤◌, ◌<◌, ◌⊎◌, inl, inr, true, false, true≢false, List, [], ◌∷◌, ◌++◌, codes, length, take, drop, refl, sym, ap, ◌∙◌, subst, append_assoc, arith, unwrap_or, max}
+use Rattle.std.proofs.Common.{◌≡◌, ℕ, suc, ◌+◌, ◌-◌, ◌≤◌, ◌<◌, ◌⊎◌, inl, inr, true, false, true≢false, List, [], ◌∷◌, ◌++◌, codes, length, take, drop, refl, sym, ap, ◌∙◌, subst, append_assoc, arith, unwrap_or, max}
 use Rattle.std.proofs.lemmas.List.{append_cancel_left, length-take-le, length-drop, take-append-drop, take-append-le}
 use Rattle.ar_base.specs.Lists.{Stands, HasNo, AreDifferent}
 use Rattle.ar_base.specs.Texts.{text_at}

@@ -1,5 +1,5 @@
 -- What a result tells, told otherwise.
-use Rattle.std.proofs.Common.{◌≡◌, length, vec_len, Result, Ok, Err, IfOk, IfErr, IsErrAnd, subst, sym, ◌∙◌, rules, arith}
+use Rattle.std.proofs.Common.{◌≡◌, length, vec_len, Result, Ok, Err, IfErr, IsErrAnd, subst, sym, ◌∙◌, rules, arith}
 use Rattle.std.specs.declared.vec.Vec.{Vec}
 use Rattle.std.proofs.lemmas.Grind.{common_steps}
 use Rattle.aralia_text.specs.declared.fronts.Stuck.{Stuck}

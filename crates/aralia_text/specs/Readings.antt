@@ -48,8 +48,7 @@ abbrev pub Begins : List (List ℕ) → List ℕ → Type 0
 Begins events front = (table : Table) × (more : List ℕ) × IsTextOf events (front ++ more) table
 
 -- The first so many bytes of the text are the first part of a text of a table. With the next byte they are that of
--- none,
--- or the text ends there and is that of no table.
+-- none, or the text ends there and is that of no table.
 pub record IsFirstWrong (events : List (List ℕ)) (text : List ℕ) (k : ℕ) : Type 0 where
   pub within : k ≤ length text
   pub begins : Begins events (take k text)

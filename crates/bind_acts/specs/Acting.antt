@@ -35,8 +35,7 @@ pub record SetsBoth (x : VarId) (at : Place) (y : VarId) (other : Place) (a : Ac
 
 mutual
   -- the written instruction becomes this one, where paths stand for these variables and values; a `:=:` becomes its two
-  -- assignments, and
-  -- what assigns or ties a value, which no rule lets stand, becomes nothing
+  -- assignments, and what assigns or ties a value, which no rule lets stand, becomes nothing
   pub data ActsAs (leaves : Path → Leaf) : InstrForm → Act → Type 0 where
     skip : {a : Act} → out-Act a ≡ act.Skip → ActsAs leaves instr.Skip a
     assign : {p : Path} {r : RawExpr} {a : Act} (x : VarId) (e : Expr VarId) → leaves p ≡ leaf.Variable x

@@ -1,7 +1,7 @@
 -- Transitions and synchronisations by numbers.
 use Rattle.std.proofs.Common.{◌≡◌, ℕ, ◌+◌, ◌<◌, ◌≤◌, Bool, true, List, [], ◌∷◌, ◌++◌, map, take, take_all, get_or, length, Vec, refl, sym, subst, arith}
 use Rattle.std.specs.Global.{Global}
-use Rattle.ar_base.specs.Lists.{Stands, IsOneOf, Along}
+use Rattle.ar_base.specs.Lists.{Stands, Along}
 use Rattle.ar_base.specs.Lists as l
 use Rattle.ar_base.specs.Numbers.{NameId, VarId, EventId}
 use Rattle.ar_base.specs.declared.places.Place.{Place}

@@ -8,11 +8,10 @@ use Rattle.ar_syntax.specs.declared.expressions.RawForm.TheVariants as written
 use Rattle.ar_syntax.specs.declared.expressions.RawRelation.{RawRelation}
 use Rattle.ar_syntax.specs.declared.paths.Path.{Path}
 use Rattle.ar_syntax.proofs.Opened as opened
-use Rattle.domains.specs.declared.Value.{Value}
 use Rattle.domains.specs.declared.Value.TheVariants as value
 use Rattle.typed_expr.specs.Yields.{Level}
 use Rattle.typed_expr.specs.declared.expr.Relation.{Relation}
-use Rattle.typed_expr.specs.declared.expr.Expr.{Expr, Constant, Variable, out-Expr, roll-Expr, out-roll-Expr}
+use Rattle.typed_expr.specs.declared.expr.Expr.{Expr, Constant, out-Expr}
 use Rattle.typed_expr.specs.declared.expr.Expr.TheOpen as form
 use Rattle.typed_expr.specs.declared.expr.Expr.TheViews.{Not, All, Any, Compare, Sum, Product, Least, Greatest, Count, Choose, outs-Not, outs-All, outs-Any, outs-Compare, outs-Sum, outs-Product, outs-Least, outs-Greatest, outs-Count, outs-Choose}
 use Rattle.typed_expr.proofs.Opened.{opened-constant}

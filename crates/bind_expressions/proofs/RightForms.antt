@@ -15,7 +15,7 @@ use Rattle.typed_expr.specs.declared.expr.Expr.{Expr, out-Expr}
 use Rattle.typed_expr.specs.declared.expr.Expr.TheOpen as form
 use Rattle.typed_expr.specs.declared.expr.ValueKind.{ValueKind}
 use Rattle.typed_expr.specs.declared.expr.ValueKind.TheVariants.{Truth, Whole, Symbol}
-use Rattle.bind_expressions.specs.Operands.{RawLevel, level_of, Demand, AnyKind, OfKind, Like, Operand, wanting, each_wanting, terms, tests, branches, first_branch, is_equality, sides_by, choices, operands_of, PathIn}
+use Rattle.bind_expressions.specs.Operands.{RawLevel, level_of, AnyKind, OfKind, Like, Operand, wanting, each_wanting, first_branch, is_equality, sides_by, operands_of, PathIn}
 use Rattle.bind_expressions.specs.Operands as in_form
 use Rattle.bind_expressions.specs.Forms.{own_kind, HasForm}
 use Rattle.bind_expressions.specs.Forms as of_form

@@ -28,8 +28,7 @@ relation_of written.AtLeast = relation.AtLeast
 
 mutual
   -- the expression becomes this one, form by form, where its paths become these; `- A` is the sum of A alone, taken
-  -- away, and
-  -- a real, which has no value, is 0
+  -- away, and a real, which has no value, is 0
   pub data Becomes {V : Type 0} (names : Path → Level V → Type 0) : RawLevel → Level V → Type 0 where
     truth : {b : Bool} → Becomes names (raw.Truth b) (Constant (Truth b))
     whole : {n : ℤ} → Becomes names (raw.Whole n) (Constant (Whole n))

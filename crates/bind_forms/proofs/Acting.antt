@@ -1,5 +1,5 @@
 -- What instructions become in a unit, where they break no rule of names, kinds and targets.
-use Rattle.std.proofs.Common.{◌≡◌, ◌⊎◌, inl, inr, Bool, true, false, List, [], ◌∷◌, Option, Some, None, option_map, Box, Global, refl, sym, ◌∙◌, ap, subst}
+use Rattle.std.proofs.Common.{◌≡◌, inl, inr, Bool, true, false, List, [], ◌∷◌, Option, Some, None, option_map, Box, Global, refl, sym, ◌∙◌, ap, subst}
 use Rattle.ar_base.specs.Lists.{Stands, IsOneOf}
 use Rattle.ar_base.specs.Numbers.{VarId}
 use Rattle.ar_base.specs.declared.places.Place.{Place}
@@ -8,7 +8,6 @@ use Rattle.ar_syntax.specs.declared.expressions.RawExpr.{RawExpr}
 use Rattle.ar_syntax.specs.declared.expressions.RawForm.TheOpen as raw
 use Rattle.ar_syntax.specs.declared.instructions.Instr.{Instr, out-Instr}
 use Rattle.ar_syntax.specs.declared.instructions.Instr.TheOpen as instr
-use Rattle.ar_syntax.specs.declared.members.Setting.{Setting}
 use Rattle.ar_syntax.specs.declared.paths.Path.{Path}
 use Rattle.typed_expr.specs.Kinds.{HasKind}
 use Rattle.typed_expr.specs.Kinds as kind
@@ -16,21 +15,21 @@ use Rattle.typed_expr.specs.Yields.{Level}
 use Rattle.typed_expr.specs.declared.expr.Expr.{Expr, out-Expr}
 use Rattle.typed_expr.specs.declared.expr.Expr.TheOpen.{Variable}
 use Rattle.typed_expr.specs.declared.expr.ValueKind.{ValueKind}
-use Rattle.typed_expr.specs.declared.expr.ValueKind.TheVariants.{Truth, Whole, Symbol}
+use Rattle.typed_expr.specs.declared.expr.ValueKind.TheVariants.{Truth}
 use Rattle.gts_core.specs.Sound.{kind_of_domain}
 use Rattle.gts_core.specs.declared.bound.Act.{Act, out-Act}
 use Rattle.gts_core.specs.declared.bound.Act.TheOpen.{Act-F}
 use Rattle.gts_core.specs.declared.bound.Act.TheOpen as act
-use Rattle.class_table.specs.Members.{MemberKind, NamedMember}
+use Rattle.class_table.specs.Members.{MemberKind}
 use Rattle.class_table.specs.Members as given
 use Rattle.hierarchy.specs.Models.{RootedModel}
 use Rattle.hierarchy.specs.Units.{UnitPath, Thing, kind_at}
 use Rattle.hierarchy.specs.Walks.{Finds, is_variable}
 use Rattle.hierarchy.specs.Listing.{variables}
-use Rattle.hierarchy.specs.Settings.{TargetWord, Named, Init, Reset, target_of, is_init, is_reset, is_state, is_flow, is_state_variable, is_flow_variable}
+use Rattle.hierarchy.specs.Settings.{is_state, is_state_variable, is_flow_variable}
 use Rattle.hierarchy.specs.declared.tree.VarNode.{VarNode}
 use Rattle.hierarchy.specs.declared.tree.Tree.{Tree}
-use Rattle.hierarchy.proofs.TargetWords.{no_init, no_state}
+use Rattle.hierarchy.proofs.TargetWords.{no_state}
 use Rattle.source_meaning.specs.Kinds.{HasKindAt}
 use Rattle.source_meaning.specs.Kinds as k
 use Rattle.source_meaning.specs.Rules.{IsNot, Is}
@@ -60,7 +59,7 @@ use Rattle.bind_values.specs.declared.leaves.UnitLeaves.{UnitLeaves}
 use Rattle.bind_forms.specs.Full.{HasFull}
 use Rattle.bind_forms.specs.Keeping.{IsMisplaced, KeepsRules, KeepsInside}
 use Rattle.bind_forms.specs.Typed as typed
-use Rattle.bind_forms.specs.Typed.{kind_of_node, IsTypedIn, IsSoundIn}
+use Rattle.bind_forms.specs.Typed.{kind_of_node, IsSoundIn}
 use Rattle.bind_forms.proofs.Leafing.{AreLeavesOf, names_for, tree_for, names_of, leaf_for, leaf_variable}
 use Rattle.bind_forms.proofs.Rights.{any_mistyped, variables_in, symbols_in, path_leaf, expression_typed}
 

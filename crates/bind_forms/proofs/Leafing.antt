@@ -28,7 +28,6 @@ use Rattle.hierarchy.specs.declared.tree.ParNode.{ParNode}
 use Rattle.hierarchy.specs.declared.tree.VarNode.{VarNode}
 use Rattle.hierarchy.specs.declared.tree.Tree.{Tree}
 use Rattle.source_meaning.specs.Means.{is_valued}
-use Rattle.source_meaning.specs.Kinds.{kind_of_member, IsOfKind}
 use Rattle.source_meaning.specs.Tested as s
 use Rattle.source_meaning.specs.BoundExpressions.{IsLeafFor}
 use Rattle.bind_expressions.specs.Translating.{leaf_level}

@@ -1,5 +1,5 @@
 -- Values in force and observers, and where they break a rule.
-use Rattle.std.proofs.Common.{◌≡◌, ℕ, Bool, true, false, List, Option, Some, None, option_map, IsTrue, ◌↔◌, refl, sym, ◌∙◌, ap, subst}
+use Rattle.std.proofs.Common.{◌≡◌, ℕ, true, false, List, Option, Some, None, option_map, refl, sym, ◌∙◌, ap, subst}
 use Rattle.ar_base.specs.Lists.{Stands, IsOneOf, Along}
 use Rattle.ar_base.specs.Numbers.{NameId}
 use Rattle.ar_base.specs.declared.places.Place.{Place}
@@ -14,7 +14,7 @@ use Rattle.typed_expr.specs.declared.expr.ValueKind.{ValueKind}
 use Rattle.gts_core.specs.Sound.{kind_of_domain}
 use Rattle.class_table.specs.Declaring.{MemberForm, Declared, NamedType, DomainType, ClassType}
 use Rattle.class_table.specs.Earliest.{IsEarliest, nowhere}
-use Rattle.class_table.specs.Members.{Site, NamedMember, MemberKind, Variable, Parameter, Kept, Event, Observer, Inner, Clone, Alias, names_of, names_of_form, owned_at, declared_kind, kind_of, type_named, one_named}
+use Rattle.class_table.specs.Members.{Site, NamedMember, MemberKind, Variable, Parameter, Kept, Event, Observer, names_of, names_of_form, owned_at, declared_kind, kind_of, type_named, one_named}
 use Rattle.class_table.specs.declared.tables.Owned.{Owned}
 use Rattle.class_table.specs.declared.tables.Owned.TheVariants.{Plain, Nested}
 use Rattle.class_table.proofs.FirstPlaces.{earliest_same}
@@ -28,8 +28,7 @@ use Rattle.hierarchy.specs.Units.{UnitPath, Thing, name_at, kind_at}
 use Rattle.hierarchy.specs.Walks.{Has, thing, is_observer}
 use Rattle.hierarchy.specs.Listing.{parameters, observers, things_in}
 use Rattle.hierarchy.specs.Settings.{Attribute, in_force}
-use Rattle.hierarchy.specs.Tie.{IsVariable, IsParameter, HasAttribute, HasAttributeOf}
-use Rattle.hierarchy.specs.declared.tree.Attribute as tree
+use Rattle.hierarchy.specs.Tie.{IsVariable, IsParameter, HasAttribute}
 use Rattle.hierarchy.specs.declared.tree.ParNode.{ParNode}
 use Rattle.hierarchy.specs.declared.tree.VarNode.{VarNode}
 use Rattle.hierarchy.proofs.Things.{flat_origin, listed_has}

@@ -4,13 +4,12 @@ use Rattle.std.specs.Option.{option_or}
 use Rattle.std.specs.List.{flat_map}
 use Rattle.ar_base.specs.Lists.{Stands, AreDifferent, Along}
 use Rattle.ar_base.proofs.Standing.{stands_none, stands_one, stands_right, along_on}
-use Rattle.ar_base.proofs.Items.{last_one}
 use Rattle.ar_syntax.specs.declared.paths.PathStart.{PathStart}
 use Rattle.ar_syntax.specs.declared.paths.PathStart.TheVariants.{Here, Owner, Main}
 use Rattle.class_table.specs.Members.{NamedMember, MemberKind}
 use Rattle.hierarchy.specs.Models.{RootedModel}
 use Rattle.hierarchy.specs.Units.{UnitPath, Thing, kind_at, name_at, start_of}
-use Rattle.hierarchy.specs.Walks.{Reaches, NamesLead, LeadsFrom, LeadsTo, IsUnitAt, on, arrives, thing}
+use Rattle.hierarchy.specs.Walks.{Reaches, NamesLead, LeadsFrom, IsUnitAt, on, arrives}
 use Rattle.hierarchy.specs.Listing.{things_in, is_inner}
 use Rattle.hierarchy.specs.Tie.{IsUnit, IsTreeOf, IsNode, AnswersThing, entry_in, is_alias}
 use Rattle.hierarchy.specs.Finding.{StartsAt, FindsNode, HasOwner, unit_number}
@@ -19,7 +18,7 @@ use Rattle.hierarchy.specs.declared.tree.UnitNode.{UnitNode}
 use Rattle.hierarchy.specs.declared.tree.Tree.{Tree}
 use Rattle.hierarchy.proofs.Finding.{same_or_not}
 use Rattle.hierarchy.proofs.Looking.{leads_kind, named_so, main_first, owner_starts, starts_nowhere, thing_answer}
-use Rattle.hierarchy.proofs.Outcomes.{leads_same, walks_same, unit_of_reaches}
+use Rattle.hierarchy.proofs.Outcomes.{leads_same, unit_of_reaches}
 use Rattle.bind_scopes.specs.Searching.{step_in, owner_in, start_in, node_in}
 use Rattle.source_meaning.proofs.OneMeaning.{leads_same as leads_one}
 

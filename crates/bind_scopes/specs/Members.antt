@@ -1,8 +1,8 @@
 -- The names of members of bodies, as they are kept in a set.
-use Rattle.std.specs.Prelude.{◌≡◌, ◌⊎◌, ◌<◌, ℕ, true, List, [], slice_get, unwrap_or}
+use Rattle.std.specs.Prelude.{◌≡◌, ◌⊎◌, ◌<◌, ℕ, true, List}
 use Rattle.std.specs.HashSet.{HashSet, contains}
 use Rattle.ar_base.specs.Lists.{IsOneOf}
-use Rattle.class_table.specs.Members.{NamedMember, named_at}
+use Rattle.class_table.specs.Members.{NamedMember}
 use Rattle.hierarchy.specs.Models.{RootedModel}
 use Rattle.hierarchy.specs.Units.{names_in}
 use Rattle.unit_index.specs.Indexed.{same_pair}

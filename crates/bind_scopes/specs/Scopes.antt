@@ -31,8 +31,7 @@ use Rattle.bind_scopes.specs.declared.scopes.Scopes.{Scopes}
 -- The table
 
 -- the table is that of the tree of the model: it numbers the symbols, has the names of all members, knows the types and
--- has
--- the tree's index
+-- has the tree's index
 pub record AreScopes (m : RootedModel) (units : List UnitPath) (s : Scopes) : Type 0 where
   pub is_tree : IsTreeOf m units s.tree.now
   pub symbols : (x k : ℕ) → hash.get nat_eq s.symbols x ≡ Some k → Stands m.declared.symbols k x

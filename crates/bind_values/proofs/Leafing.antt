@@ -1,12 +1,11 @@
 -- What paths stand for, where the values of the parameters that they name are known.
-use Rattle.std.proofs.Common.{◌≡◌, ℕ, true, List, [], Option, Some, None, refl, sym, ◌∙◌, ap, subst}
+use Rattle.std.proofs.Common.{◌≡◌, ℕ, List, [], Option, Some, None, refl, sym, ◌∙◌, ap, subst}
 use Rattle.ar_base.specs.Lists.{Stands, Along}
 use Rattle.ar_base.proofs.Standing.{along_on}
 use Rattle.ar_syntax.specs.declared.paths.Path.{Path}
 use Rattle.domains.specs.declared.Value.{Value}
 use Rattle.domains.specs.declared.Value.TheVariants as value
 use Rattle.typed_expr.specs.Kinds.{kind_of}
-use Rattle.class_table.specs.Members.{MemberKind, Variable, Parameter, Kept, Inner, Clone, Alias, Event, Observer}
 use Rattle.hierarchy.specs.Models.{RootedModel}
 use Rattle.hierarchy.specs.Units.{UnitPath, Thing, kind_at}
 use Rattle.hierarchy.specs.Walks.{Finds, Has, thing, is_variable}
@@ -23,7 +22,7 @@ use Rattle.bind_expressions.specs.declared.naming.Leaf.TheVariants as stands
 use Rattle.bind_scopes.specs.Scopes.{AreScopes, IsNamedIn, variable, parameter, symbol, nothing, named_in}
 use Rattle.bind_scopes.specs.declared.scopes.Named.{Named}
 use Rattle.bind_scopes.specs.declared.scopes.Scopes.{Scopes}
-use Rattle.bind_scopes.proofs.NamedPaths.{kind_one, name_leads, name_only, symbol_alone, names_right, may_more}
+use Rattle.bind_scopes.proofs.NamedPaths.{kind_one, name_only, symbol_alone, names_right, may_more}
 use Rattle.bind_values.specs.Leaves.{leaf_of}
 use Rattle.bind_values.specs.Values.{IsValue, IsParameterValue}
 use Rattle.gts_core.proofs.Reading.{read_value}

@@ -1,7 +1,7 @@
 -- Values outside their domains.
 use Rattle.std.proofs.Common.{◌≡◌, ℕ, ◌⊎◌, inl, inr, Bool, true, false, ℤ, ◌≤ℤ◌, int_lt, List, [], ◌∷◌, Contains, map, Option, Some, None, option_map, refl, sym, ◌∙◌, ap, subst, arith}
 use Rattle.std.proofs.lemmas.Int.{ints}
-use Rattle.ar_base.specs.Lists.{Stands, IsOneOf, HasNo, AreDifferent, Along}
+use Rattle.ar_base.specs.Lists.{Stands, IsOneOf, AreDifferent, Along}
 use Rattle.ar_base.specs.Lists as along
 use Rattle.ar_base.specs.Breach.{IsEarlier}
 use Rattle.ar_base.specs.declared.places.Place.{Place}

@@ -1,7 +1,7 @@
 -- What the expression of a value comes to is the value.
-use Rattle.std.proofs.Common.{◌≡◌, ℕ, ◌+◌, ◌<◌, ◌≤◌, inl, inr, zero, suc, Bool, true, false, IsTrue, ◌↔◌, Result, Ok, Err, IfOk, option_map, take, length, List, [], ◌∷◌, ◌++◌, Option, Some, refl, sym, ◌∙◌, ap, subst, arith}
+use Rattle.std.proofs.Common.{◌≡◌, ℕ, ◌+◌, ◌<◌, ◌≤◌, inl, inr, zero, suc, false, option_map, take, length, List, [], ◌∷◌, ◌++◌, Option, Some, refl, sym, ◌∙◌, ap, subst, arith}
 use Rattle.std.proofs.lemmas.List.{take_all}
-use Rattle.ar_base.specs.Lists.{Stands, IsOneOf, Along}
+use Rattle.ar_base.specs.Lists.{Stands, Along}
 use Rattle.ar_base.specs.Lists as along
 use Rattle.ar_base.specs.Numbers.{VarId}
 use Rattle.ar_base.specs.declared.places.Place.{Place}
@@ -10,7 +10,7 @@ use Rattle.ar_base.proofs.Comparing.{side}
 use Rattle.ar_syntax.specs.declared.expressions.RawExpr.{RawExpr}
 use Rattle.ar_syntax.specs.declared.paths.Path.{Path}
 use Rattle.class_table.proofs.Taken.{take_next}
-use Rattle.class_table.specs.Members.{NamedMember, MemberKind, Variable, Parameter, Kept, Inner, Clone, Alias, Event, Observer}
+use Rattle.class_table.specs.Members.{NamedMember}
 use Rattle.domains.specs.declared.Value.{Value}
 use Rattle.domains.specs.declared.Value.TheVariants.{Truth}
 use Rattle.typed_expr.specs.Kinds.{kind_of}
@@ -23,8 +23,7 @@ use Rattle.hierarchy.specs.Units.{UnitPath, Thing, kind_at}
 use Rattle.hierarchy.specs.Walks.{Has}
 use Rattle.hierarchy.specs.Listing.{parameters}
 use Rattle.hierarchy.specs.Settings.{Attribute, in_force}
-use Rattle.hierarchy.specs.Tie.{IsParameter, HasAttribute, HasAttributeOf}
-use Rattle.hierarchy.specs.declared.tree.Attribute as tree
+use Rattle.hierarchy.specs.Tie.{IsParameter, HasAttribute}
 use Rattle.hierarchy.specs.declared.tree.ParNode.{ParNode}
 use Rattle.bind_scopes.proofs.NamedPaths.{kind_one}
 use Rattle.bind_expressions.specs.Operands.{level_of, OfKind, AnyKind, PathIn}
@@ -35,12 +34,11 @@ use Rattle.bind_expressions.specs.declared.naming.Leaf.TheVariants as stands
 use Rattle.bind_scopes.specs.Scopes.{AreScopes, named_in}
 use Rattle.bind_scopes.specs.declared.scopes.Scopes.{Scopes}
 use Rattle.bind_scopes.proofs.Kinding.{variable_kind, valued_kind}
-use Rattle.source_meaning.specs.Means.{is_valued, ValueOf, no_facts}
+use Rattle.source_meaning.specs.Means.{is_valued, no_facts}
 use Rattle.source_meaning.specs.Means as means
 use Rattle.source_meaning.specs.Kinds.{HasKindAt, IsOfKind}
 use Rattle.source_meaning.specs.Tested as s
 use Rattle.source_meaning.specs.Tested.{HasValue, of_variable, of_parameter, Tested, MayName, scope_of}
-use Rattle.source_meaning.specs.Rules.{BreaksNaming, BreaksKinds}
 use Rattle.source_meaning.specs.Rules as rules
 use Rattle.source_meaning.specs.BoundExpressions.{IsLeafFor, IsBoundExpression, IsNumberOf}
 use Rattle.source_meaning.proofs.BoundMeaning.{bound_meaning}

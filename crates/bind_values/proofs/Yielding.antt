@@ -1,5 +1,5 @@
 -- What expressions without variables yield, where nothing in them has a wrong kind.
-use Rattle.std.proofs.Common.{◌≡◌, ◌⊎◌, inl, inr, Bool, true, false, cond, List, [], ◌∷◌, map, Box, Vec, Global, refl, sym, ◌∙◌, ap, subst}
+use Rattle.std.proofs.Common.{◌≡◌, inl, inr, Bool, true, false, List, [], ◌∷◌, map, Box, Vec, Global, refl, sym, ◌∙◌, ap, subst}
 use Rattle.std.proofs.lemmas.Bool.{cond-true, cond-false}
 use Rattle.ar_base.specs.Lists.{IsOneOf}
 use Rattle.ar_base.specs.Numbers.{VarId}
@@ -18,9 +18,9 @@ use Rattle.typed_expr.specs.Yields as y
 use Rattle.typed_expr.specs.declared.expr.Expr.{Expr, out-Expr}
 use Rattle.typed_expr.specs.declared.expr.Expr.TheOpen as form
 use Rattle.typed_expr.specs.declared.expr.ValueKind.{ValueKind}
-use Rattle.typed_expr.specs.declared.expr.ValueKind.TheVariants.{Truth, Whole, Symbol}
+use Rattle.typed_expr.specs.declared.expr.ValueKind.TheVariants.{Truth, Whole}
 use Rattle.typed_expr.proofs.Valued.{Valued, level_value, value_of-level, truth-form}
-use Rattle.bind_expressions.specs.Operands.{RawLevel, level_of, OfKind, Like, Operand, wanting, each_wanting, first_branch, is_equality, sides_by, operands_of, PathIn}
+use Rattle.bind_expressions.specs.Operands.{RawLevel, level_of, OfKind, Like, Operand, wanting, first_branch, is_equality, operands_of, PathIn}
 use Rattle.bind_expressions.specs.Operands as in_form
 use Rattle.bind_expressions.specs.Forms.{HasForm}
 use Rattle.bind_expressions.specs.Forms as of_form

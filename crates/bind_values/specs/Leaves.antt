@@ -1,5 +1,5 @@
 -- What paths stand for in a unit, where the values of parameters are known.
-use Rattle.std.specs.Prelude.{ℕ, ◌<◌, false, length, List, Option, Some, None, slice_get, unwrap_or}
+use Rattle.std.specs.Prelude.{◌<◌, false, length, List, Option, Some, None}
 use Rattle.ar_syntax.specs.declared.paths.Path.{Path}
 use Rattle.domains.specs.declared.Value.{Value}
 use Rattle.domains.specs.declared.Value.TheVariants as value

@@ -18,7 +18,7 @@ use Rattle.cut_check.specs.Flat.{chain_lines}
 use Rattle.cut_check.specs.Verdicts.{events_of, IsListed}
 use Rattle.cut_check.specs.declared.checking.Verdict.{Verdict}
 use Rattle.mode_forests.specs.declared.forests.Edge.{Edge}
-use Rattle.replayer.specs.Flat.{way_label}
+use Rattle.text_pieces.specs.WayLabels.{way_label}
 use Rattle.cut_text.specs.Printed.{HaveOneWay, AreOfEdges, events_text}
 use Rattle.cut_text.specs.Tables.{AreWaysOf, texts_at}
 use Rattle.cut_text.specs.Texts.{braced}

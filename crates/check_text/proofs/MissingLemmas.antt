@@ -1,7 +1,7 @@
 -- The missing cuts among those that are listed.
 use Rattle.std.proofs.Common.{◌≡◌, ◌<◌, ◌+◌, ⊎_elim, ℕ, zero, suc, Bool, true, false, ◌&&◌, if◌then◌else◌, codes, List, [], ◌∷◌, ◌++◌, map, reverse, refl, sym, ◌∙◌, ap, subst, arith}
 use Rattle.std.proofs.lemmas.List.{reverse-append}
-use Rattle.ar_base.specs.Lists.{Stands, IsOneOf, Along}
+use Rattle.ar_base.specs.Lists.{Stands, IsOneOf}
 use Rattle.ar_base.specs.Lists as l
 use Rattle.ar_base.specs.Sets.{Within}
 use Rattle.ar_base.specs.Texts.{line}

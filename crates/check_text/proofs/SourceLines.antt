@@ -1,25 +1,20 @@
 -- The lines and labels of the sets of a flat system are those of its source.
-use Rattle.std.proofs.Common.{◌≡◌, ℕ, zero, suc, List, [], ◌∷◌, map, slice_get, refl, sym, ◌∙◌, ap, subst}
-use Rattle.ar_base.specs.Lists.{Stands, IsOneOf, Along}
-use Rattle.ar_base.specs.Lists as l
+use Rattle.std.proofs.Common.{◌≡◌, ℕ, List, [], ◌∷◌, map, refl, sym, ◌∙◌, ap, subst}
 use Rattle.ar_base.specs.Texts.{text_at}
-use Rattle.ar_base.proofs.Standing.{along_length}
 use Rattle.typed_expr.specs.Pairs.{turned}
-use Rattle.ar_meaning.specs.Systems.{System, Event, Net}
+use Rattle.ar_meaning.specs.Systems.{System}
 use Rattle.ar_meaning.specs.Facts.{AreKeyed}
-use Rattle.ar_meaning.specs.TraceText.{Naming, label_text, way_text, ways_of}
+use Rattle.ar_meaning.specs.TraceText.{Naming, label_text, way_text}
 use Rattle.ar_meaning.specs.FlatOf.{IsNumber, IsFlatOf}
-use Rattle.ar_meaning.specs.Image.{Event_renames}
-use Rattle.ar_meaning.proofs.ByNumber.{keyed}
 use Rattle.ar_meaning.proofs.FlatSystems.{flat_back}
 use Rattle.ar_meaning.proofs.ImageWays.{ways_count}
 use Rattle.ar_firing.specs.Static.{IsStatic}
 use Rattle.ar_firing.specs.Forest.{IsLine}
 use Rattle.ar_firing.proofs.ImageModes.{line_there}
 use Rattle.ar_firing.proofs.RulesHold.{all_static}
-use Rattle.gts_core.specs.View.{Views, net_of}
+use Rattle.gts_core.specs.View.{Views}
 use Rattle.gts_core.specs.declared.system.GtsParts.{GtsParts}
-use Rattle.gts_core.proofs.Viewing.{are_numbered, keyed_by}
+use Rattle.gts_core.proofs.Viewing.{keyed_by}
 use Rattle.gts_flatten.specs.Elaborating.{Elaborated}
 use Rattle.gts_flatten.specs.Flat.{naming_of}
 use Rattle.hierarchy.specs.Units.{Thing}
@@ -27,8 +22,8 @@ use Rattle.mode_forests.specs.Views.{trees_of}
 use Rattle.mode_forests.specs.declared.forests.Edge.{Edge}
 use Rattle.mode_forests.specs.declared.forests.Forest.{Forest}
 use Rattle.min_cuts.specs.Lines.{IsInFiringOrder}
-use Rattle.replayer.specs.Flat.{label_of, way_label}
-use Rattle.replayer.proofs.WayLemmas.{label_alike}
+use Rattle.text_pieces.specs.WayLabels.{label_of, way_label}
+use Rattle.text_pieces.proofs.Ways.{label_alike}
 use Rattle.cut_text.specs.Printed.{edges_of, way_in, labels_in, events_text, things_of, IsForestOf}
 use Rattle.cut_text.specs.Texts.{braced, labels_text}
 use Rattle.cut_text.proofs.FlatLines.{flat_line}

@@ -9,7 +9,7 @@ use Rattle.ar_meaning.specs.Runs.{Label}
 use Rattle.ar_meaning.specs.TraceText.{Naming}
 use Rattle.ar_firing.specs.Forest.{IsLine}
 use Rattle.ar_firing.specs.Listed.{AreListed}
-use Rattle.replayer.specs.CutLists.{CutLine}
+use Rattle.script_lines.specs.CutLists.{CutLine}
 use Rattle.cut_text.specs.Texts.{labels_text}
 use Rattle.cut_check.specs.Verdicts.{Said, IsGood, Fails, Holds, IsSaid, IsMissing}
 
@@ -71,8 +71,7 @@ pub record AreSaid {V : Type 0} (sys : System V) (dropped : List ℕ) (observer 
   pub each : (n : ℕ) (said : Said) → Stands all n said → IsSaid sys dropped observer wanted lines n said
 
 -- the text of the check of these cut lines: what is said of each line; then, in the order of a listing, each missing
--- cut
--- with its labels in firing order; and last `yes` where each line is good and no cut is missing, else `no`
+-- cut with its labels in firing order; and last `yes` where each line is good and no cut is missing, else `no`
 pub record IsCheckText {V : Type 0} (names : Naming) (sys : System V) (dropped : List ℕ) (observer : Expr V)
     (wanted : Value) (cuts : List CutLine) (text : List ℕ) : Type 0 where
   pub said : List Said

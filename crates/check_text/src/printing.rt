@@ -5,8 +5,8 @@ ghost use Rattle.ar_base.specs.Texts.{separated};
 ghost use Rattle.ar_io.specs.Writing.{Writes};
 ghost use Rattle.mode_forests.specs.Ways.{OwnTheirWays};
 ghost use Rattle.min_cuts.specs.Kept.{numbers};
-ghost use Rattle.replayer.specs.Chains.{HaveKnownWays};
-ghost use Rattle.replayer.specs.Flat.{way_label};
+ghost use Rattle.script_lines.specs.Chains.{HaveKnownWays};
+ghost use Rattle.text_pieces.specs.WayLabels.{way_label};
 ghost use Rattle.cut_check.specs.Flat.{chain_lines};
 ghost use Rattle.cut_text.specs.Answers.{Prints};
 ghost use Rattle.cut_text.specs.Printed.{edges_of, HaveOneWay, AreOfEdges};
@@ -23,9 +23,9 @@ use cut_text::{PrintFault, event_ways};
 use gts_core::{Chain, Gts};
 use min_cuts::Lister;
 use mode_forests::Forest;
-use replayer::pieces::{number, put};
-use replayer::print_label;
 use std::alloc::Global;
+use text_pieces::pieces::{number, put};
+use text_pieces::print_label;
 
 /// Writes the text of a check of a list of cuts: for each line of the list its verdict; then
 /// `missing ` and the labels of each cut of the lister that no line has, in its order; and last `yes`

@@ -1,5 +1,5 @@
 -- The parts of rule L1.
-use Rattle.std.proofs.Common.{◌≡◌, ℕ, ℤ, ◌+◌, ◌≤◌, ◌⊎◌, ◌↔◌, IsTrue, Bool, true, is_some, List, [], ◌∷◌, ◌++◌, map, take, length, Vec, Option, Some, None, Result, Ok, Err, IfOk, refl, sym, ◌∙◌, ap, subst, inl, inr, arith}
+use Rattle.std.proofs.Common.{◌≡◌, ℕ, ℤ, ◌+◌, ◌≤◌, ◌⊎◌, ◌↔◌, IsTrue, Bool, true, is_some, List, [], ◌∷◌, ◌++◌, map, take, length, Vec, Option, Some, None, refl, sym, ◌∙◌, ap, subst, inl, inr, arith}
 use Rattle.std.specs.Global.{Global}
 use Rattle.ar_base.specs.Lists.{Stands, IsOneOf}
 use Rattle.ar_base.specs.Numbers.{NameId}

@@ -1,6 +1,5 @@
 -- A model declares one thing.
 use Rattle.std.proofs.Common.{◌≡◌, ℕ, ◌+◌, List, [], ◌∷◌, ◌++◌, length, true≢false, refl, sym, ◌∙◌, ap, subst}
-use Rattle.ar_base.specs.declared.numbers.Id.{Id}
 use Rattle.ar_base.proofs.Comparing.{id_from}
 use Rattle.ar_syntax.specs.declared.items.Item.{Item}
 use Rattle.ar_syntax.specs.declared.items.Model.{Model}

@@ -33,8 +33,7 @@ pub data NamedType : Type 0 where
   ClassType : ℕ → NamedType
 
 -- what a model declares: the bodies, the types by the numbers of their names, the symbols by the numbers of their
--- names, and the
--- bodies of the top-level blocks
+-- names, and the bodies of the top-level blocks
 pub record Declared : Type 0 where
   pub bodies : List TextBody
   pub types : List (ℕ × NamedType)

@@ -13,7 +13,7 @@ use Rattle.gts_core.specs.declared.bound.Chain.{Chain}
 use Rattle.cut_check.specs.Flat.{IsVerdict}
 use Rattle.cut_check.specs.Rows.{HaveBits}
 use Rattle.cut_check.specs.Truths.{AreTruths}
-use Rattle.cut_check.specs.Verdicts.{events_of, MayHold, HoldsLine, Said, IsGood, Fails, Holds, IsSaid}
+use Rattle.cut_check.specs.Verdicts.{events_of, MayHold, HoldsLine, IsGood, Fails, Holds}
 use Rattle.cut_check.specs.Verdicts as v
 use Rattle.cut_check.specs.declared.checking.Verdict.{Verdict}
 use Rattle.cut_check.specs.declared.checking.Verdict.TheVariants as verdict

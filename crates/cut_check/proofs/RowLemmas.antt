@@ -16,9 +16,9 @@ use Rattle.gts_core.specs.declared.system.Event.{Event}
 use Rattle.gts_core.specs.declared.system.GtsParts.{GtsParts}
 use Rattle.gts_core.specs.declared.system.Way.{Way}
 use Rattle.gts_core.proofs.Tests.{and_answer, turned_answer}
-use Rattle.replayer.specs.Chains.{labels_of, HaveKnownWays}
-use Rattle.replayer.specs.CutReads.{AreKnownWays}
-use Rattle.replayer.specs.Flat.{label_of, label_found}
+use Rattle.script_lines.specs.Chains.{labels_of, HaveKnownWays}
+use Rattle.script_lines.specs.CutReads.{AreKnownWays}
+use Rattle.text_pieces.specs.WayLabels.{label_of, label_found}
 use Rattle.cut_check.specs.Flat.{chain_lines}
 use Rattle.cut_check.specs.Rows.{IsOpenEvent, AreOpenEvents, AreVisible, IsFit, IsFreshEvent, IsRow, AreRows, HaveBits, AreWide}
 use Rattle.cut_check.specs.Verdicts.{events_of}

@@ -33,10 +33,10 @@ use Rattle.gts_core.specs.declared.bound.Chain.{Chain}
 use Rattle.gts_core.specs.declared.system.GtsParts.{GtsParts}
 use Rattle.gts_core.specs.declared.system.Observer.{Observer}
 use Rattle.gts_core.proofs.Reading.{yielded_value, value_yielded}
-use Rattle.replayer.specs.Chains.{labels_of}
-use Rattle.replayer.specs.CutReads.{AreKnownWays}
-use Rattle.replayer.specs.Flat.{label_of}
-use Rattle.replayer.proofs.WayLemmas.{way_named}
+use Rattle.script_lines.specs.Chains.{labels_of}
+use Rattle.script_lines.specs.CutReads.{AreKnownWays}
+use Rattle.text_pieces.specs.WayLabels.{label_of}
+use Rattle.text_pieces.proofs.Ways.{way_named}
 use Rattle.flow_propagate.specs.declared.propagation.PropagateFault.{PropagateFault}
 use Rattle.flow_propagate.specs.declared.propagation.PropagateFault.TheVariants as propagates
 use Rattle.stepper.specs.Steps.{Standing, IsStartFault, IsStepFault}

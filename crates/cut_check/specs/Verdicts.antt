@@ -15,8 +15,7 @@ abbrev pub events_of : List Label → List ℕ
 events_of ls = map (λ (l : Label). l.event) ls
 
 -- the labels are an order of their events, each once: the run that fires them in this order, all of visible events that
--- are
--- not dropped, has no fault, and ends with the wanted value of the observer
+-- are not dropped, has no fault, and ends with the wanted value of the observer
 pub record IsTrueLine {V : Type 0} (sys : System V) (dropped : List ℕ) (observer : Expr V) (wanted : Value)
     (ls : List Label) : Type 0 where
   pub once : AreEvents ls (events_of ls)

@@ -8,7 +8,7 @@ ghost use Rattle.ar_meaning.specs.Systems.{System};
 ghost use Rattle.domains.specs.declared.Value.{Value as TheValue};
 ghost use Rattle.gts_core.specs.View.{Views, numbered};
 ghost use Rattle.gts_core.specs.declared.system.Observer.{Observer};
-ghost use Rattle.replayer.specs.Chains.{HaveKnownWays};
+ghost use Rattle.script_lines.specs.Chains.{HaveKnownWays};
 ghost use Rattle.typed_expr.specs.declared.expr.Expr.{Expr as TheExpr};
 ghost use Rattle.event_lists.specs.Naming.{AreEventsOf};
 ghost use Rattle.cut_check.specs.Flat.{chain_lines, numbers_of, AreVerdicts, IsVerdict};

@@ -18,9 +18,10 @@ use Rattle.gts_core.specs.Sound.{IsSound}
 use Rattle.gts_core.specs.View.{Views, IsWayAt, net_of}
 use Rattle.gts_core.specs.declared.system.GtsParts.{GtsParts}
 use Rattle.min_cuts.specs.Kept.{numbers}
-use Rattle.replayer.specs.Flat.{label_of, IsInRange}
-use Rattle.replayer.specs.Printing.{IsFaultInRange}
-use Rattle.replayer.proofs.WayLemmas.{IsNamed, way_named}
+use Rattle.text_pieces.specs.WayLabels.{label_of}
+use Rattle.text_pieces.specs.Faults.{IsInRange}
+use Rattle.text_pieces.specs.Faults.{IsFaultInRange}
+use Rattle.text_pieces.proofs.Ways.{IsNamed, way_named}
 use Rattle.stepper.specs.Steps.{IsStepFault}
 use Rattle.stepper.specs.declared.faults.StepFault.{StepFault}
 use Rattle.stepper.specs.declared.faults.StepFault.TheVariants as fault

@@ -11,7 +11,7 @@ use Rattle.ar_firing.specs.Fragment as sys_
 use Rattle.ar_firing.specs.Fragment.{Path, Edge, IsModeOf}
 use Rattle.ar_firing.specs.Static.{IsStatic}
 use Rattle.ar_firing.specs.Cuts.{IsFirable}
-use Rattle.ar_firing.specs.Forest.{Row, IsModeVariable, IsForest, IsLine, firing_line}
+use Rattle.ar_firing.specs.Forest.{IsModeVariable, IsForest, IsLine, firing_line}
 use Rattle.ar_firing.specs.Forest as firing
 use Rattle.ar_firing.specs.Trees.{AreTrees}
 use Rattle.ar_firing.proofs.Shapes.{are_trees}
@@ -23,7 +23,7 @@ use Rattle.mode_forests.specs.declared.forests.Edge as edges
 use Rattle.mode_forests.specs.declared.forests.ModeTree as code
 use Rattle.firable_families.specs.Firable.{IsFirableOf}
 use Rattle.min_cuts.specs.Lines.{line_from, IsInFiringOrder}
-use Rattle.replayer.specs.Flat.{label_found, label_of}
+use Rattle.text_pieces.specs.WayLabels.{label_found, label_of}
 use Rattle.cut_text.specs.Printed.{edges_of, way_in, labels_in}
 use Rattle.cut_text.proofs.TableLemmas.{tree_of_edge}
 use Rattle.cut_text.proofs.Known.{first_way}

@@ -1,5 +1,5 @@
 -- What is firable in the trees of a static system's forest is firable in the system, along the same paths.
-use Rattle.std.proofs.Common.{◌≡◌, ⊎_elim, ℕ, zero, suc, Bool, true, false, cond, eqb, List, [], ◌∷◌, length, refl, sym, ap, ◌∙◌, subst, arith, true≢false, eqb-true, eq-eqb}
+use Rattle.std.proofs.Common.{◌≡◌, ⊎_elim, ℕ, true, List, [], refl, sym, ap, ◌∙◌, subst, arith}
 use Rattle.std.proofs.lemmas.Bool.{cases_order}
 use Rattle.ar_base.specs.Lists.{Stands, IsOneOf}
 use Rattle.domains.specs.declared.Value.{Value}

@@ -14,7 +14,7 @@ use Rattle.gts_core.specs.declared.system.GtsParts.{GtsParts}
 use Rattle.mode_forests.specs.Ways.{OwnTheirWays}
 use Rattle.mode_forests.specs.declared.forests.Edge.{Edge}
 use Rattle.mode_forests.specs.declared.forests.ModeTree.{ModeTree}
-use Rattle.replayer.specs.Flat.{label_of, way_label}
+use Rattle.text_pieces.specs.WayLabels.{label_of, way_label}
 use Rattle.cut_text.specs.Printed.{edges_of, way_in, labels_in, sets_text, conflict_text, HaveOneWay, HasEdge, AreOfEdges}
 use Rattle.cut_text.specs.Tables.{AreWaysOf, way_found, way_at, texts_at, labels_at, lines_at, HasWay, AllHaveWays}
 use Rattle.cut_text.specs.Texts.{braced, fault_line}

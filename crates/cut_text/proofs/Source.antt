@@ -1,22 +1,20 @@
 -- What is printed by the parts of a flat system is the text of its source.
-use Rattle.std.proofs.Common.{◌≡◌, ◌-◌, ◌^◌, min, codes, decimal, ℕ, zero, suc, List, [], ◌∷◌, ◌++◌, map, reverse, length, slice_get, refl, sym, ◌∙◌, ap, subst, arith}
+use Rattle.std.proofs.Common.{◌≡◌, ◌-◌, ◌^◌, min, codes, decimal, ℕ, List, [], ◌∷◌, ◌++◌, map, reverse, length, refl, sym, ◌∙◌, ap, subst, arith}
 use Rattle.domains.specs.declared.Value.{Value}
-use Rattle.ar_base.specs.Lists.{Stands, IsOneOf, Along}
+use Rattle.ar_base.specs.Lists.{Along}
 use Rattle.ar_base.specs.Lists as l
 use Rattle.ar_base.specs.Texts.{line, text_at}
-use Rattle.ar_base.proofs.Standing.{along_length}
 use Rattle.typed_expr.specs.Pairs.{turned}
 use Rattle.typed_expr.specs.Yields.{Yields}
 use Rattle.typed_expr.specs.declared.expr.Expr.{Expr, out-Expr}
-use Rattle.ar_meaning.specs.Systems.{System, Event, Net}
+use Rattle.ar_meaning.specs.Systems.{System}
 use Rattle.ar_meaning.specs.Facts.{AreKeyed, HasValue}
 use Rattle.ar_meaning.specs.Flows.{FlowFault}
 use Rattle.ar_meaning.specs.Runs.{Label}
-use Rattle.ar_meaning.specs.TraceText.{Naming, label_text, way_text, ways_of, flow_fault_text}
+use Rattle.ar_meaning.specs.TraceText.{Naming, label_text, way_text, flow_fault_text}
 use Rattle.ar_meaning.specs.FlatOf.{IsNumber, IsFlatOf}
-use Rattle.ar_meaning.specs.Image.{Event_renames, Expr_renames}
+use Rattle.ar_meaning.specs.Image.{Expr_renames}
 use Rattle.typed_expr.proofs.Renaming.{carries, renames_turned}
-use Rattle.ar_meaning.proofs.ByNumber.{keyed}
 use Rattle.ar_meaning.proofs.ImageFlows.{value_there}
 use Rattle.ar_meaning.proofs.FlatSystems.{flat_image, flat_back}
 use Rattle.ar_meaning.proofs.ImageWays.{ways_count}
@@ -29,9 +27,9 @@ use Rattle.ar_firing.proofs.ImageModes.{line_there}
 use Rattle.ar_firing.proofs.OneListing.{listed_as}
 use Rattle.ar_firing.proofs.OrderedSets.{undropped}
 use Rattle.ar_firing.proofs.RulesHold.{all_static}
-use Rattle.gts_core.specs.View.{Views, net_of}
+use Rattle.gts_core.specs.View.{Views}
 use Rattle.gts_core.specs.declared.system.GtsParts.{GtsParts}
-use Rattle.gts_core.proofs.Viewing.{are_numbered, keyed_by}
+use Rattle.gts_core.proofs.Viewing.{keyed_by}
 use Rattle.gts_flatten.specs.Elaborating.{Elaborated}
 use Rattle.gts_flatten.specs.Flat.{naming_of, naming_of_parts}
 use Rattle.hierarchy.specs.Units.{Thing}
@@ -40,8 +38,8 @@ use Rattle.mode_forests.specs.declared.forests.Edge.{Edge}
 use Rattle.mode_forests.specs.declared.forests.Forest.{Forest}
 use Rattle.min_cuts.specs.Lines.{IsInFiringOrder, AreInFiringOrder}
 use Rattle.min_cuts.specs.Sizes.{count}
-use Rattle.replayer.specs.Flat.{label_of, way_label}
-use Rattle.replayer.proofs.WayLemmas.{label_alike}
+use Rattle.text_pieces.specs.WayLabels.{label_of, way_label}
+use Rattle.text_pieces.proofs.Ways.{label_alike}
 use Rattle.cut_text.specs.Printed.{edges_of, way_in, labels_in, events_text, sets_text, cuts_text, conflict_text, things_of, IsForestOf}
 use Rattle.cut_text.specs.Texts.{braced, labels_text, label_lists, count_line, fault_line, IsCutText, IsConflictText}
 use Rattle.cut_text.proofs.FlatLines.{flat_line}

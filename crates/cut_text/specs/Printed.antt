@@ -20,7 +20,7 @@ use Rattle.mode_forests.specs.Ways.{OwnTheirWays}
 use Rattle.mode_forests.specs.declared.forests.Edge.{Edge}
 use Rattle.mode_forests.specs.declared.forests.ModeTree.{ModeTree}
 use Rattle.mode_forests.specs.declared.forests.Forest.{Forest}
-use Rattle.replayer.specs.Flat.{label_of, way_label}
+use Rattle.text_pieces.specs.WayLabels.{label_of, way_label}
 use Rattle.cut_text.specs.Texts.{braced, count_line, fault_line}
 
 -- the edges of these trees, tree by tree

@@ -12,7 +12,7 @@ use Rattle.mode_forests.specs.declared.forests.Edge.{Edge}
 use Rattle.stepper.specs.declared.faults.StepFault.{StepFault}
 use Rattle.stepper.specs.declared.faults.StepFault.TheVariants as step
 use Rattle.ar_base.specs.declared.faults.Memory.{Memory}
-use Rattle.replayer.specs.Flat.{label_of, way_label}
+use Rattle.text_pieces.specs.WayLabels.{label_of, way_label}
 use Rattle.cut_text.specs.Texts.{braced}
 
 -- the table has the way of each of these edges at the number of its event

@@ -5,7 +5,7 @@ ghost use Rattle.ar_meaning.specs.Flows.{FlowFault as MetFault};
 ghost use Rattle.ar_meaning.specs.Systems.{System};
 ghost use Rattle.ar_firing.specs.Cuts.{Conflicts};
 ghost use Rattle.gts_core.specs.View.{Views};
-ghost use Rattle.replayer.specs.Flat.{IsInRange};
+ghost use Rattle.text_pieces.specs.Faults.{IsInRange};
 ghost use Rattle.min_cuts.specs.Kept.{numbers};
 ghost use Rattle.cut_text.specs.Tables.{labels_at, HaveWays, IsMet, TellsFlow};
 

@@ -11,7 +11,8 @@ ghost use Rattle.flow_propagate.specs.Answers.{fault_of};
 ghost use Rattle.gts_core.specs.View.{Views};
 ghost use Rattle.gts_flatten.specs.Flat.{naming_of_parts};
 ghost use Rattle.mode_forests.specs.Ways.{OwnTheirWays};
-ghost use Rattle.replayer.specs.Flat.{way_label, IsInRange};
+ghost use Rattle.text_pieces.specs.WayLabels.{way_label};
+ghost use Rattle.text_pieces.specs.Faults.{IsInRange};
 ghost use Rattle.min_cuts.specs.Kept.{numbers};
 ghost use Rattle.cut_text.specs.Answers.{Prints};
 ghost use Rattle.cut_text.specs.Printed.{edges_of, labels_in, cuts_text, conflict_text};
@@ -29,9 +30,9 @@ use gts_core::Gts;
 use itoa::Buffer;
 use min_cuts::Lister;
 use mode_forests::Forest;
-use replayer::pieces::put;
-use replayer::{print_flow_fault, print_label};
 use std::alloc::Global;
+use text_pieces::pieces::put;
+use text_pieces::{print_flow_fault, print_label};
 
 /// Writes the text of a listing of cuts: for each set of the lister, in its order, a line `{a, b}`
 /// with the labels of its events' edges as they stand in the set, and last `count N` with the number

@@ -1,5 +1,5 @@
 -- What the domains of the variables allow.
-use Rattle.std.proofs.Common.{◌≡◌, ◌<◌, ℕ, List, [], length, slice_get, Contains, Option, Some, None, Vec, Global, refl, sym, ap, ◌∙◌, subst, arith}
+use Rattle.std.proofs.Common.{◌≡◌, ℕ, List, [], length, slice_get, Contains, Option, Some, None, Vec, Global, refl, sym, ap, ◌∙◌, subst, arith}
 use Rattle.ar_base.specs.Lists.{Stands}
 use Rattle.ar_base.proofs.Standing.{stands_within, stands_some, one_none, one_contains}
 use Rattle.domains.specs.Domains.{values_of}

@@ -21,8 +21,7 @@ use Rattle.table_steps.specs.Table.{IsTable}
 use Rattle.drawn_cuts.specs.Drawn.{AreDrawn, sets_of, family_of}
 
 -- what is drawn for the table of a lawful static system by the trees of its forest, whatever the numbers of their ways,
--- is
--- what its firing orders mean: the conflict sets, where there are some, or else the cuts
+-- is what its firing orders mean: the conflict sets, where there are some, or else the cuts
 abbrev pub DrawnAreMeant : Type 0
 DrawnAreMeant = (sys : System ℕ) (dropped : List ℕ) (kinds : ℕ → ValueKind) (kind : ValueKind) (number : ℕ → ℕ)
     (forest : Forest) (observer : Expr ℕ) (wanted : Value) (table : Table) (drawn : Drawn) → IsLawful sys.net kinds

@@ -3,7 +3,7 @@ use Rattle.std.proofs.Common.{◌≡◌, ℕ, ℤ, ◌<◌, pos, Bool, List, [],
 use Rattle.domains.specs.declared.Value.{Value}
 use Rattle.domains.specs.declared.Value.TheVariants as v
 use Rattle.typed_expr.specs.Values.{truth_of, whole_of, lesser, greater, multiplied, counted, least_of, greatest_of}
-use Rattle.typed_expr.specs.Yields.{Level, Yields, Takes, Picks, Picks_parts}
+use Rattle.typed_expr.specs.Yields.{Level, Yields, Takes, Picks}
 use Rattle.typed_expr.specs.Yields as y
 use Rattle.typed_expr.specs.Kinds.{kind_of, HasKind, Each, Each_part, Each_case}
 use Rattle.typed_expr.specs.Kinds as k

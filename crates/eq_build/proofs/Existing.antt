@@ -7,7 +7,7 @@ use Rattle.typed_expr.specs.declared.expr.ValueKind.{ValueKind}
 use Rattle.typed_expr.specs.declared.expr.Expr.{Expr}
 use Rattle.eq_core.specs.Gates.{Gate}
 use Rattle.eq_build.specs.Entries.{Entry}
-use Rattle.eq_build.specs.Builds.{Builds, Builds_each, Builds_parts, Builds_cases}
+use Rattle.eq_build.specs.Builds.{Builds_each, Builds_parts, Builds_cases}
 use Rattle.eq_build.specs.Builds as b
 use Rattle.eq_build.specs.Laws.{SomeBuilt}
 

@@ -31,8 +31,7 @@ pub record IsOrderedTable (table : Table) : Type 0 where
   pub top : IsBelow (length table.gates) table.top
 
 -- of ordered gates, and operands that name no later ones, a joint makes ordered gates and an operand that names no
--- later
--- one
+-- later one
 abbrev pub KeepsOrder : Type 0
 KeepsOrder = (both : Bool) (gates : List Gate) (os : List Operand) → AreOrdered gates → AreBelow (length gates) os
     → AreOrdered (joined both gates [] os).gates

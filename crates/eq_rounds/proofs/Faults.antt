@@ -6,7 +6,7 @@ use Rattle.domains.specs.declared.Value.{Value}
 use Rattle.typed_expr.proofs.Facts.{yields_more}
 use Rattle.ar_meaning.specs.Systems.{Net}
 use Rattle.ar_meaning.specs.Facts.{Allows, IsGiven, HasValue, FactOf, AreKeyed}
-use Rattle.ar_meaning.specs.Flows.{HasTwo, IsOutside, Completes, none, state, IsBroken, FlowFault, Outcome, Fails, Total, Flows, broken, all_hold}
+use Rattle.ar_meaning.specs.Flows.{HasTwo, IsOutside, Completes, Outcome, Fails, Total, Flows, broken, all_hold}
 use Rattle.ar_meaning.specs.Flows as w
 use Rattle.ar_meaning.proofs.Least.{passes_more, closed}
 use Rattle.ar_meaning.proofs.OneAnswer.{same_value}

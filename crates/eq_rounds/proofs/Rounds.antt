@@ -6,7 +6,7 @@ use Rattle.ar_base.proofs.Standing.{stands_left, stands_right, one_contains}
 use Rattle.ar_meaning.proofs.Dependence.{passes_named}
 use Rattle.typed_expr.proofs.Facts.{yields_named}
 use Rattle.ar_meaning.specs.Systems.{Assign, Variable, Net}
-use Rattle.ar_meaning.specs.Facts.{Passes, Allows, IsGiven, Fact, FactOf}
+use Rattle.ar_meaning.specs.Facts.{Allows, IsGiven, FactOf}
 use Rattle.ar_meaning.specs.Facts as f
 use Rattle.ar_meaning.proofs.Least.{least, closed}
 use Rattle.eq_rounds.specs.Known.{Holds, Gives, HasRounds, IsKnown, HasBroken}

@@ -21,9 +21,9 @@ pub record Gives {V : Type 0} (net : Net V) (facts : V → Value → Type 0) (x 
   pub passes : Passes facts assign.conditions
   pub yields : Yields facts (out-Expr V assign.value) v
 
--- the readings of a block's rounds, as many as it has flows: the first holds nothing of the block, each next one
--- what the assignments give from the one before, and the last is what is known of the block
--- in the end; what they name outside the block is what is known in the end
+-- the readings of a block's rounds, as many as it has flows: the first holds nothing of the block, each next one what
+-- the assignments give from the one before, and the last is what is known of the block in the end; what they name
+-- outside the block is what is known in the end
 pub record HasRounds {V : Type 0} (net : Net V) (known : V → Value → Bool) (block : List V) : Type 0 where
   pub reading : ℕ → V → Value → Bool
   pub outside : (a : Assign V) (x : V) → IsOneOf net.assertions a → IsOneOf block a.target → Names a x

@@ -1,5 +1,5 @@
 -- The events that are read from a list so far.
-use Rattle.std.proofs.Common.{◌≡◌, ◌<◌, ◌+◌, ⊎_elim, ℕ, List, [], ◌∷◌, ◌++◌, map, length, Option, Some, None, refl, sym, ◌∙◌, ap, subst, arith, append_assoc}
+use Rattle.std.proofs.Common.{◌≡◌, ◌<◌, ◌+◌, ⊎_elim, ℕ, List, [], ◌∷◌, ◌++◌, map, length, Option, Some, None, refl, sym, ◌∙◌, ap, subst, append_assoc}
 use Rattle.std.proofs.lemmas.List.{append-nil, map-append}
 use Rattle.std.specs.Option.{MatchOption}
 use denote.Bor.{Bor}
@@ -9,10 +9,9 @@ use Rattle.ar_base.specs.Numbers.{EventId}
 use Rattle.ar_base.proofs.Standing.{one_none, one_split, one_cases, one_right, one_first}
 use Rattle.gts_core.specs.declared.system.GtsParts.{GtsParts}
 use Rattle.gts_flatten.specs.Elaborating.{Elaborated}
-use Rattle.replayer.specs.Labels.{NamesEvent}
-use Rattle.replayer.specs.Lines.{pieces}
-use Rattle.replayer.specs.Reads.{bytes_left}
-use Rattle.replayer.specs.CutLines.{is_comma}
+use Rattle.script_lines.specs.Labels.{NamesEvent}
+use Rattle.script_lines.specs.Lines.{pieces}
+use Rattle.script_lines.specs.CutLines.{is_comma}
 use Rattle.event_lists.specs.Naming.{NamesEvents, HasUnknown, AreEventsOf}
 
 -- the parts that are left, and their bytes with a comma more

@@ -1,13 +1,13 @@
 -- Lists of events by their paths.
-use Rattle.std.specs.Prelude.{◌<◌, ℕ, Bool, List, map, length, Result, Ok, Err, Vec}
+use Rattle.std.specs.Prelude.{◌<◌, ℕ, List, map, length, Result, Ok, Err, Vec}
 use Rattle.std.specs.Global.{Global}
 use Rattle.ar_base.specs.Lists.{IsOneOf, Along}
 use Rattle.ar_base.specs.Numbers.{EventId}
 use Rattle.gts_core.specs.declared.system.GtsParts.{GtsParts}
 use Rattle.gts_flatten.specs.Elaborating.{Elaborated}
-use Rattle.replayer.specs.Labels.{NamesEvent}
-use Rattle.replayer.specs.Lines.{is_mark, pieces}
-use Rattle.replayer.specs.CutLines.{is_comma}
+use Rattle.script_lines.specs.Labels.{NamesEvent}
+use Rattle.script_lines.specs.Lines.{pieces}
+use Rattle.script_lines.specs.CutLines.{is_comma}
 use Rattle.event_lists.specs.declared.reading.ListFault.{ListFault}
 use Rattle.event_lists.specs.declared.reading.ListFault.TheVariants.{NoEvent, Memory}
 

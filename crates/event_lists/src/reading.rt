@@ -1,13 +1,13 @@
 //! The events that a list names.
 
 ghost use Rattle.gts_flatten.specs.Elaborating.{Elaborated};
-ghost use Rattle.replayer.specs.Flat.{IsOfTree};
+ghost use Rattle.script_lines.specs.Flat.{IsOfTree};
 ghost use Rattle.event_lists.specs.Naming.{AnswersEvents};
 
 use ar_base::{EventId, Memory};
 use gts_core::Gts;
 use hierarchy::Tree;
-use replayer::{event_named, first_piece};
+use script_lines::{event_named, first_piece};
 use std::alloc::{AllocFailed, Global};
 
 /// Why a list gives no events.

@@ -9,7 +9,7 @@ use Rattle.ar_meaning.specs.Systems.{Variable, System}
 use Rattle.ar_meaning.specs.Facts.{AreKeyed}
 use Rattle.ar_meaning.specs.Runs.{Label}
 use Rattle.ar_firing.specs.Fragment as sys_
-use Rattle.ar_firing.specs.Fragment.{Path, Edge, IsModeOf, IsNamedStateOf, IsStateOf, IsLive}
+use Rattle.ar_firing.specs.Fragment.{Path, Edge, IsModeOf}
 use Rattle.ar_firing.specs.Static.{IsStatic}
 use Rattle.ar_firing.specs.Cuts.{IsFirable}
 use Rattle.ar_firing.specs.Operands.{IsFirableWith}

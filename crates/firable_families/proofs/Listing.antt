@@ -1,5 +1,5 @@
 -- Families that list the sets with a property, and what filters and minimal sets then list.
-use Rattle.std.proofs.Common.{◌≡◌, ⊎_elim, ℕ, zero, suc, ◌<◌, Bool, true, false, not, ◌&&◌, ◌||◌, List, [], ◌∷◌, Some, filter, refl, sym, ap, ap₂, ◌∙◌, subst, arith, true≢false, Less}
+use Rattle.std.proofs.Common.{◌≡◌, ℕ, zero, suc, ◌<◌, Bool, true, false, not, ◌&&◌, ◌||◌, List, [], ◌∷◌, Some, filter, refl, sym, ap, ap₂, ◌∙◌, subst, arith, true≢false, Less}
 use Rattle.std.specs.List.{AllByRecursion, list_any}
 use Rattle.std.proofs.lemmas.Bool.{and_parts}
 use Rattle.ar_base.specs.Lists.{Stands, IsOneOf}
@@ -14,7 +14,7 @@ use Rattle.zdd_families.specs.Families.{Family, same, within, has, order, IsInOr
 use Rattle.zdd_families.proofs.Filters.{IsFamily-filter}
 use Rattle.zdd_families.proofs.Laws.{same-true, same-refl, any_more, has-filter-yes}
 use Rattle.zdd_families.proofs.Members.{within_law, same_law, order_law, has-filter}
-use Rattle.zdd_families.proofs.Minimal.{witness, member_of, within-shorter, any_from}
+use Rattle.zdd_families.proofs.Minimal.{witness, member_of, any_from}
 use Rattle.firable_families.specs.Firable.{IsFirableOf, IsTrueAt, IsOfMembers, ListsLeast}
 
 -- the family lists the sets with P

@@ -1,11 +1,8 @@
 -- Places in lists that change, and ascending lists that grow.
-use Rattle.std.proofs.Common.{◌≡◌, ◌<◌, ◌+◌, ◌⊎◌, inl, inr, ℕ, zero, suc, List, [], ◌∷◌, ◌++◌, length, set, take, drop, Result, Ok, Err, IfOk, refl, ap, ◌∙◌, subst, arith}
-use Rattle.std.proofs.lemmas.Bool.{cases_eq}
-use Rattle.ar_base.specs.declared.faults.Memory.{Memory}
+use Rattle.std.proofs.Common.{◌≡◌, ◌<◌, ◌+◌, ◌⊎◌, inl, inr, ℕ, zero, suc, List, [], ◌∷◌, ◌++◌, length, set, take, drop, refl, ap, ◌∙◌, arith}
 use Rattle.ar_base.specs.Lists.{Stands, IsOneOf}
 use Rattle.ar_base.specs.Sets.{Ascends}
-use Rattle.ar_base.proofs.Standing.{stands_none, stands_split, stands_within, one_first, one_rest, one_cases, one_none, one_split, one_left, one_right, one_here, only_item}
-use Rattle.flow_propagate.proofs.Looking.{same_or_not}
+use Rattle.ar_base.proofs.Standing.{stands_none, one_first, one_split, one_left, one_right, only_item}
 
 module _ {A : Type 0} where
   pub set_here : (xs : List A) (k : ℕ) (x : A) → k < length xs → Stands (set xs k x) k x

@@ -3,7 +3,7 @@ use Rattle.std.proofs.Common.{◌≡◌, ◌<◌, ◌≤◌, ◌⊎◌, inl, inr
 use Rattle.std.specs.List.Sorted.{IsNonDecreasingBy}
 use Rattle.std.proofs.lemmas.Bool.{cases_eq}
 use Rattle.ar_base.specs.Lists.{IsOneOf}
-use Rattle.ar_base.proofs.Standing.{stands_get, stands_within, stands_map_back, one_here}
+use Rattle.ar_base.proofs.Standing.{stands_get, stands_within, stands_map_back}
 use Rattle.gts_core.specs.View.{assign_of}
 use Rattle.gts_core.specs.declared.system.GtsParts.{GtsParts}
 use Rattle.flow_propagate.specs.Plan.{AreReaders}

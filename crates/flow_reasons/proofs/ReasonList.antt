@@ -12,7 +12,7 @@ use Rattle.ar_meaning.specs.Dependence.{Names}
 use Rattle.ar_meaning.specs.Facts.{FactOf}
 use Rattle.ar_meaning.proofs.ByNumber.{given_from}
 use Rattle.flow_rounds.specs.Rounds.{Round}
-use Rattle.flow_rounds.specs.Reasons.{IsNamedFact, RestsOn, IsDerived, IsReset, IsReason, derived, reset, AreReasonsFrom, AreReasons, none, state, flow}
+use Rattle.flow_rounds.specs.Reasons.{IsNamedFact, RestsOn, IsReason, derived, reset, AreReasonsFrom, AreReasons, none, state, flow}
 use Rattle.flow_rounds.specs.Reasons as rounds
 use Rattle.flow_rounds.proofs.Rounding.{round_grows, round_fact}
 use Rattle.gts_core.specs.Sound.{IsSound}

@@ -20,8 +20,7 @@ came_before Given round = true
 came_before (Added r by) round = nat_lt r round
 
 -- the pair of variable x and assignment a gives one of the variables that the reason of flow n rests on: the assignment
--- is one to the flow
--- and added its fact, and the variable had its fact before
+-- is one to the flow and added its fact, and the variable had its fact before
 pub record IsRest (p : GtsParts) (marks : List Mark) (n x a : ℕ) : Type 0 where
   pub is_to : IsTo p a n
   pub round : ℕ

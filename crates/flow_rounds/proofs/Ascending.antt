@@ -1,9 +1,9 @@
 -- Two ascending lists with the same numbers are one list.
-use Rattle.std.proofs.Common.{◌≡◌, ◌<◌, inl, inr, ℕ, suc, List, [], ◌∷◌, refl, sym, arith}
+use Rattle.std.proofs.Common.{◌≡◌, inl, inr, ℕ, List, ◌∷◌, sym, arith}
 use Rattle.ar_base.specs.Lists.{IsOneOf}
 use Rattle.ar_base.specs.Sets.{Ascends}
-use Rattle.ar_base.proofs.Standing.{one_none, one_cases, one_first, one_rest}
-use Rattle.ar_base.proofs.Sets.{ascends_rest, ascends_first}
+use Rattle.ar_base.proofs.Standing.{one_cases}
+use Rattle.ar_base.proofs.Sets.{ascends_first}
 
 first_same : (x y : ℕ) (xs ys : List ℕ) → Ascends (x ∷ xs) → Ascends (y ∷ ys) → IsOneOf (y ∷ ys) x → IsOneOf (x ∷ xs) y
     → x ≡ y

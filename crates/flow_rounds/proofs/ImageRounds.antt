@@ -1,6 +1,6 @@
 -- An image has the same rounds, reasons and cones.
 use Rattle.std.proofs.Common.{ℕ, zero, suc, List, inl, inr, sym, ◌∙◌, subst}
-use Rattle.ar_base.specs.Lists.{Stands, IsOneOf, Along}
+use Rattle.ar_base.specs.Lists.{Along}
 use Rattle.ar_base.specs.Lists as l
 use Rattle.domains.specs.declared.Value.{Value}
 use Rattle.typed_expr.specs.Pairs.{turned}

@@ -7,7 +7,7 @@ use Rattle.ar_meaning.specs.Facts.{IsGiven, Allows, given, FactOf}
 use Rattle.ar_meaning.specs.Flows.{Completes, Flows, Total, all_hold}
 use Rattle.ar_meaning.specs.Flows as flows
 use Rattle.ar_meaning.proofs.Least.{least, closed, passes_more}
-use Rattle.ar_meaning.proofs.StatesAlone.{Same_states, states_same, same_at, same_flows, turned}
+use Rattle.ar_meaning.proofs.StatesAlone.{Same_states, same_at, turned}
 use Rattle.ar_meaning.proofs.StatesAlone as states
 use Rattle.flow_rounds.specs.Rounds.{Adds, Round}
 use Rattle.flow_rounds.specs.Reasons.{Reason, IsNamedFact, IsDerived, IsReason, derived, reset, AreReasonsFrom, none, state, flow}

@@ -36,8 +36,7 @@ pub record RestsOn {V : Type 0} (net : Net V) (facts : V → Value → Type 0) (
   pub whole : (n : ℕ) → IsNamedFact net facts a n → IsOneOf numbers n
 
 -- the value comes in a round: it does not stand after the rounds before, of the assertions that add it then the reason
--- has the first, and
--- it rests on the variables that this one names and that had a fact before
+-- has the first, and it rests on the variables that this one names and that had a fact before
 pub record IsDerived {V : Type 0} (net : Net V) (t : List Value) (x : Variable V) (r : Reason) : Type 0 where
   pub before : ℕ
   pub round : r.round ≡ suc before

@@ -23,8 +23,7 @@ pub record IsAdded {V : Type 0} (net : Net V) (facts : V → Value → Type 0) (
   pub adds : Adds net facts x v assign
 
 -- what stands after so many rounds: after none what the state gives, and after one more what stood before it and what
--- the assertions add
--- from that
+-- the assertions add from that
 abbrev pub Round : {V : Type 0} → Net V → List Value → ℕ → V → Value → Type 0
 Round net t zero x v = IsGiven net t x v
 Round net t (suc k) x v = Round net t k x v ⊎ IsAdded net (Round net t k) x v

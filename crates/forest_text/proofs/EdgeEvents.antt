@@ -1,10 +1,10 @@
 -- The events of a forest's edges are the events that have a live edge, each once.
-use Rattle.std.proofs.Common.{◌≡◌, ◌+◌, ◌⊎◌, ⊎_elim, ℕ, zero, suc, List, [], ◌∷◌, ◌++◌, map, length, refl, sym, ◌∙◌, ap, subst, arith}
+use Rattle.std.proofs.Common.{◌≡◌, ◌+◌, ◌⊎◌, ⊎_elim, ℕ, zero, suc, List, [], ◌∷◌, ◌++◌, map, refl, sym, ◌∙◌, subst, arith}
 use Rattle.domains.specs.declared.Value.{Value}
 use Rattle.ar_base.specs.Lists.{Stands, IsOneOf, AreDifferent}
-use Rattle.ar_base.proofs.Standing.{stands_split, stands_map, stands_map_back, stands_none, one_here, one_left, one_right, one_split, one_none}
+use Rattle.ar_base.proofs.Standing.{stands_map, stands_map_back, stands_none, one_here, one_left, one_right, one_split, one_none}
 use Rattle.ar_base.proofs.Items.{different_both}
-use Rattle.ar_meaning.specs.Systems.{Way, System}
+use Rattle.ar_meaning.specs.Systems.{System}
 use Rattle.ar_meaning.specs.Facts.{AreKeyed}
 use Rattle.ar_meaning.specs.Runs.{Label}
 use Rattle.ar_firing.specs.Fragment.{Edge, IsLive, IsModeOf, named, first}

@@ -1,13 +1,12 @@
 -- Lines in pieces.
-use Rattle.std.proofs.Common.{◌≡◌, ◌+◌, ◌<◌, ℕ, zero, suc, List, [], ◌∷◌, ◌++◌, codes, decimal, drop, length, append_assoc, refl, sym, ◌∙◌, ap, arith}
-use Rattle.ar_base.specs.Texts.{line}
+use Rattle.std.proofs.Common.{◌≡◌, ◌+◌, ℕ, zero, suc, List, [], ◌∷◌, ◌++◌, codes, decimal, drop, length, refl, ◌∙◌, ap}
 use Rattle.ar_base.specs.Lists.{Stands}
 use Rattle.ar_base.specs.Texts.{text_at}
 use Rattle.ar_base.proofs.Lines.{line_after}
 use Rattle.ar_meaning.specs.ValueTexts.{value_text}
 use Rattle.gts_core.specs.declared.system.GtsParts.{GtsParts}
 use Rattle.gts_flatten.specs.Flat.{naming_of_parts}
-use Rattle.replayer.specs.Flat.{way_label}
+use Rattle.text_pieces.specs.WayLabels.{way_label}
 use Rattle.mode_forests.specs.declared.forests.Edge.{Edge}
 use Rattle.mode_forests.specs.declared.forests.ModeTree.{ModeTree}
 use Rattle.forest_text.specs.Texts.{edge_text, root_text, events_line}

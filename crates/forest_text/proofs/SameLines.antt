@@ -1,17 +1,13 @@
 -- The lines of a flat system's forest as they are written are those of its system, and of the system's source.
-use Rattle.std.proofs.Common.{◌≡◌, ◌-◌, ◌+◌, ℕ, zero, suc, List, [], ◌∷◌, ◌++◌, map, length, slice_get, Option, Some, refl, sym, ◌∙◌, ap, subst, arith, length-append}
+use Rattle.std.proofs.Common.{◌≡◌, ◌-◌, ◌+◌, ℕ, List, [], ◌∷◌, ◌++◌, map, length, slice_get, Option, Some, refl, sym, ◌∙◌, ap, length-append}
 use Rattle.std.proofs.lemmas.List.{length-map}
-use Rattle.domains.specs.declared.Value.{Value}
-use Rattle.ar_base.specs.Lists.{Stands, IsOneOf, Along}
-use Rattle.ar_base.specs.Lists as l
 use Rattle.ar_base.specs.Texts.{text_at}
-use Rattle.ar_base.proofs.Standing.{one_first, one_rest, along_length}
-use Rattle.ar_meaning.specs.Systems.{System, Event}
+use Rattle.ar_base.proofs.Standing.{one_first, one_rest}
+use Rattle.ar_meaning.specs.Systems.{System}
 use Rattle.ar_meaning.specs.Runs.{Label}
-use Rattle.ar_meaning.specs.TraceText.{Naming, label_text, way_text, ways_of}
+use Rattle.ar_meaning.specs.TraceText.{Naming, label_text, way_text}
 use Rattle.ar_meaning.specs.ValueTexts.{value_text}
 use Rattle.ar_meaning.specs.FlatOf.{IsNumber, IsFlatOf}
-use Rattle.ar_meaning.specs.Image.{Event_renames}
 use Rattle.ar_meaning.proofs.ImageWays.{ways_count}
 use Rattle.ar_firing.specs.Forest.{Row}
 use Rattle.ar_firing.specs.Forest as firing
@@ -19,8 +15,8 @@ use Rattle.gts_core.specs.View.{Views}
 use Rattle.gts_core.specs.declared.system.GtsParts.{GtsParts}
 use Rattle.gts_core.specs.declared.system.Way.{Way}
 use Rattle.gts_flatten.specs.Flat.{naming_of_parts}
-use Rattle.replayer.specs.Flat.{label_found, label_of, way_label}
-use Rattle.replayer.proofs.WayLemmas.{label_alike}
+use Rattle.text_pieces.specs.WayLabels.{label_found, label_of, way_label}
+use Rattle.text_pieces.proofs.Ways.{label_alike}
 use Rattle.mode_forests.specs.Views.{row_of, tree_of, number_in, number_of_found}
 use Rattle.mode_forests.specs.Ways.{HasOwnWay, HaveOwnWays, OwnTheirWays}
 use Rattle.mode_forests.specs.declared.forests.Edge.{Edge}

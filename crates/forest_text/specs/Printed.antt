@@ -4,7 +4,7 @@ use Rattle.ar_base.specs.Texts.{text_at}
 use Rattle.ar_meaning.specs.ValueTexts.{value_text}
 use Rattle.gts_core.specs.declared.system.GtsParts.{GtsParts}
 use Rattle.gts_flatten.specs.Flat.{naming_of_parts}
-use Rattle.replayer.specs.Flat.{way_label}
+use Rattle.text_pieces.specs.WayLabels.{way_label}
 use Rattle.mode_forests.specs.declared.forests.Edge.{Edge}
 use Rattle.mode_forests.specs.declared.forests.ModeTree.{ModeTree}
 use Rattle.mode_forests.specs.declared.forests.Forest.{Forest}

@@ -9,8 +9,8 @@ ghost use Rattle.forest_text.specs.Printed.{edge_line, edge_lines, tree_line, tr
 use ar_io::{Sink, SinkFailed};
 use gts_core::{Gts, GtsParts};
 use mode_forests::{Edge, Forest, ModeTree};
-use replayer::pieces::{count, put, value, variable_path};
-use replayer::print_label;
+use text_pieces::pieces::{count, put, value, variable_path};
+use text_pieces::print_label;
 
 /// Writes the text of a forest of the system: for each tree `tree PATH at VALUE` with its variable and its initial mode, then
 /// a line for each of its edges, in their order, with the mode that it leaves, the label of its way and the mode that it enters,

@@ -1,7 +1,6 @@
 -- Edges of the ways of a variable are edges of the system, and its modes are reached along them.
 use Rattle.std.proofs.Common.{◌≡◌, ℕ, zero, suc, ◌⊎◌, inl, inr, Bool, true, false, not, ◌&&◌, cond, nat_eq, List, [], ◌∷◌, map, Contains, refl, sym, ap, ◌∙◌, subst, arith}
 use Rattle.std.specs.List.{filter}
-use Rattle.std.proofs.lemmas.Bool.Decides.{nat_tests}
 use Rattle.std.proofs.lemmas.Bool.{and_parts, eqb-true, eq-eqb}
 use Rattle.ar_base.specs.Lists.{Stands, IsOneOf}
 use Rattle.ar_base.specs.Numbers.{WayId}
@@ -9,12 +8,12 @@ use Rattle.ar_base.proofs.Standing.{stands_one, stands_none, stands_within, stan
 use Rattle.domains.specs.Domains.{values_of}
 use Rattle.domains.specs.declared.Value.{Value}
 use Rattle.ar_meaning.specs.Systems as s
-use Rattle.ar_meaning.specs.Systems.{System, Transition, Leaf, Way as Ways}
+use Rattle.ar_meaning.specs.Systems.{System, Transition, Way as Ways}
 use Rattle.ar_meaning.specs.Ways.{Can, Effects}
 use Rattle.ar_meaning.specs.Found.{IsAnswer}
 use Rattle.ar_meaning.specs.Runs.{Label}
 use Rattle.ar_meaning.proofs.Found.{holds}
-use Rattle.ar_firing.specs.Fragment.{IsOpen, IsKept, IsModeOf, At, Path, root, edge, IsReached, IsLive}
+use Rattle.ar_firing.specs.Fragment.{IsOpen, IsModeOf, At, Path, root, edge, IsReached, IsLive}
 use Rattle.ar_firing.specs.Fragment as f
 use Rattle.ar_firing.specs.Rules.{IsLiveAt, GivesOther, KeepsS1, KeepsS2, BreaksS4, names, gives, Spot, S4, Breaks, s4}
 use Rattle.gts_core.specs.View.{variable_of}

@@ -1,5 +1,5 @@
 -- A list of the firable sets is one list: what the walk draws is it.
-use Rattle.std.proofs.Common.{◌≡◌, ℕ, Bool, true, false, List, [], Result, refl, sym, subst}
+use Rattle.std.proofs.Common.{◌≡◌, ℕ, true, List, [], Result, sym, subst}
 use Rattle.ar_base.specs.Sets.{Ascends}
 use Rattle.ar_base.proofs.Truths.{alike}
 use Rattle.ar_firing.specs.Forest.{ModeTree}

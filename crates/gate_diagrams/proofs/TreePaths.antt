@@ -1,9 +1,9 @@
 -- One more tree of a forest, and the firable sets of the whole.
 use Rattle.std.proofs.Common.{◌≡◌, ⊎_elim, ℕ, zero, suc, ◌<◌, ◌+◌, List, [], ◌∷◌, ◌++◌, length, map, take, get_or, refl, sym, ap, ap₂, ◌∙◌, subst}
 use Rattle.std.proofs.lemmas.List.{take_more, map-append}
-use Rattle.ar_base.specs.Lists.{Stands, Along}
-use Rattle.ar_base.specs.Lists.Along.{none, one_and}
-use Rattle.ar_base.proofs.Standing.{stands_none, stands_get, stands_split}
+use Rattle.ar_base.specs.Lists.{Stands}
+use Rattle.ar_base.specs.Lists.Along.{none}
+use Rattle.ar_base.proofs.Standing.{stands_none, stands_split}
 use Rattle.ar_base.proofs.Items.{along_push}
 use Rattle.ar_firing.specs.Forest.{ModeTree}
 use Rattle.ar_firing.specs.Listed.{AreListed}

@@ -25,8 +25,7 @@ store_of (Conflicts f) = f.store
 store_of (Cuts f) = f.store
 
 -- every stored family is needed, where `all` are the firable sets: for the conflict operand, or, where that is true at
--- no
--- firable set, for it or the top operand
+-- no firable set, for it or the top operand
 abbrev pub AreNeeded : Family → Table → Drawn → Type 0
 AreNeeded all table (Conflicts f) = All (IsNeeded all table.gates table.conflict) f.store.families
 AreNeeded all table (Cuts f) = All (IsNeededByBoth all table) f.store.families

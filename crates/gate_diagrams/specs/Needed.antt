@@ -40,8 +40,7 @@ pub data IsNamed (gates : List Gate) (o : Operand) : Operand → Type 0 where
 
 -- where `all` are the firable sets, h is a counted section of: them; the family of a named operand with or without its
 -- sign; that of a gate of the cone; that of the first so many of its operands, met or joined as the gate says; or it is
--- a
--- half of the operand's own family
+-- a half of the operand's own family
 pub data IsNeeded (all : Family) (gates : List Gate) (o : Operand) (h : Family) : Type 0 where
   of_firable : IsCounted all h → IsNeeded all gates o h
   of_signed : (p : Operand) → IsNamed gates o p → IsCounted (family_at all gates p) h → IsNeeded all gates o h
@@ -60,8 +59,7 @@ abbrev pub IsConflictAt : List ModeTree → Table → List ℕ → Type 0
 IsConflictAt trees table set = IsTrueAt trees (value_at table.gates table.conflict) set
 
 -- a limit of nodes may be reached: where the conflict operand is true at a firable set, more families than the limit
--- are
--- needed for it; where it is true at none, more are needed for it and the top operand together
+-- are needed for it; where it is true at none, more are needed for it and the top operand together
 pub record NodesMay (trees : List ModeTree) (table : Table) (limit : ℕ) : Type 0 where
   pub all : Family
   pub is_all : AreListed (IsFirableOf trees) all

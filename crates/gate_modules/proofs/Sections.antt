@@ -3,8 +3,8 @@ use Rattle.std.proofs.Common.{◌≡◌, ◌≢◌, ◌⊎◌, inl, inr, ⊎_eli
 use Rattle.std.specs.List.{AllByRecursion}
 use Rattle.zdd_families.specs.Families.{Family, same, node, IsAbove}
 use Rattle.zdd_families.specs.Sections.{below, section}
-use Rattle.zdd_families.proofs.Laws.{IsAbove_set, filter-node, filter-none, every, each_of, same-refl, eqb-refl, eqb-above}
-use Rattle.zdd_families.proofs.Sections.{AtLeast, section-with, section-above, section-low, below-low, section-low_none}
+use Rattle.zdd_families.proofs.Laws.{IsAbove_set, filter-node, filter-none, every, same-refl, eqb-refl, eqb-above}
+use Rattle.zdd_families.proofs.Sections.{AtLeast, section-with, section-above, section-low, section-low_none}
 use Rattle.gate_modules.specs.Ends.{Alike, Agree, AgreeSome}
 
 -- whether the taken events begin with v

@@ -31,8 +31,7 @@ pub record ComesFrom (modules : List UnitSets) (forms : List Form) (set : List �
   pub is_made : IsMadeOf form choice set
 
 -- the forms stand for the family: of each choice for one of the forms a set of the family is made, and each set of the
--- family comes
--- from just one form and one choice
+-- family comes from just one form and one choice
 pub record StandFor (f : Family) (modules : List UnitSets) (forms : List Form) : Type 0 where
   pub made : (form : Form) (choice : List (List ℕ)) → IsOneOf forms form → IsChoice modules form choice
       → (set : List ℕ) × (has f set ≡ true) × IsMadeOf form choice set

@@ -59,8 +59,7 @@ abbrev pub HasEvents : Range → Type 0
 HasEvents r = r.from < r.to
 
 -- ranges of units, by the numbers of the units: of two that have events, no event is of both, or those of the unit with
--- the
--- greater number are among those of the other
+-- the greater number are among those of the other
 pub record AreRanges (ranges : List Range) : Type 0 where
   pub ascend : (j k : ℕ) (a b : Range) → j < k → Stands ranges j a → Stands ranges k b → a.unit.n < b.unit.n
   pub nested : (j k : ℕ) (a b : Range) → j < k → Stands ranges j a → Stands ranges k b → HasEvents a → HasEvents b

@@ -1,5 +1,5 @@
 -- The sets of events below a bound.
-use Rattle.std.specs.Prelude.{◌≡◌, ◌≢◌, ℕ, true, List, [], ◌++◌, map}
+use Rattle.std.specs.Prelude.{◌≡◌, ◌≢◌, ℕ, true, List, [], ◌++◌}
 use Rattle.zdd_families.specs.Families.{Family, has, IsFamily}
 use Rattle.zdd_families.specs.Sections.{section}
 use Rattle.zdd_families.specs.Behind.{behind}

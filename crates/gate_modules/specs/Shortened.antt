@@ -56,8 +56,7 @@ pub record IsModuleOf (f : Family) (r : Range) (m : UnitSets) : Type 0 where
   pub sets : AreListed (IsPart f r) m.sets
 
 -- the family in short: its chosen units by number, each with its parts, and the short forms of its sets, each once, in
--- the order of
--- the first set that has it
+-- the order of the first set that has it
 pub record IsShortened (f : Family) (ranges : List Range) (modules : List UnitSets) (forms : List Form) : Type 0 where
   pub chosen : List Range
   pub are_chosen : AreChosen f ranges chosen

@@ -9,7 +9,7 @@ use Rattle.typed_expr.specs.declared.expr.Expr.{Expr}
 use Rattle.ar_meaning.specs.Systems.{Assign}
 use Rattle.gts_core.specs.Bound.{Conditions, act_step, assigns_under}
 use Rattle.gts_core.specs.View.{numbered}
-use Rattle.gts_core.specs.declared.bound.Act.{Act, Skip, Set, out-Act, roll-Act, out-roll-Act}
+use Rattle.gts_core.specs.declared.bound.Act.{Act, Skip, Set, out-Act}
 use Rattle.gts_core.specs.declared.bound.Act.TheOpen as form
 use Rattle.gts_core.specs.declared.bound.Act.TheOpen.{Act-F}
 use Rattle.gts_core.specs.declared.bound.Act.TheFolds.{fold_out-Act, map-Act}

@@ -2,7 +2,7 @@
 use Rattle.std.proofs.Common.{◌≡◌, ℕ, ◌+◌, Bool, List, [], ◌∷◌, ◌++◌, map, take, Vec, Box, Global, refl, ap, ◌∙◌, min, arith}
 use Rattle.domains.specs.declared.Value.{Value}
 use Rattle.typed_expr.specs.declared.expr.Relation.{Relation}
-use Rattle.typed_expr.specs.declared.expr.Expr.{Expr, Constant, Variable, out-Expr, roll-Expr, out-roll-Expr}
+use Rattle.typed_expr.specs.declared.expr.Expr.{Expr, Constant, Variable, out-Expr}
 use Rattle.typed_expr.specs.declared.expr.Expr.TheOpen as form
 use Rattle.typed_expr.specs.declared.expr.Expr.TheOpen.{Expr-F}
 use Rattle.typed_expr.specs.declared.expr.Expr.TheFolds.{fold_out-Expr, map-Expr}

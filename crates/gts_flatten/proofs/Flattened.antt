@@ -41,7 +41,7 @@ use Rattle.sync_expand.specs.declared.plans.PlanBody.{PlanBody}
 use Rattle.sync_expand.specs.declared.plans.WayPlan.{WayPlan}
 use Rattle.sync_expand.proofs.DeclaredLemmas.{declared_back, declared_length}
 use Rattle.sync_expand.proofs.Capping.{read_number}
-use Rattle.gts_flatten.specs.Flat.{naming_of, naming_of_parts, HasBody, IsPlannedWay, AreWaysOf, IsFlat}
+use Rattle.gts_flatten.specs.Flat.{naming_of, naming_of_parts, HasBody, IsPlannedWay, IsFlat}
 use Rattle.gts_flatten.specs.Flat as flat
 use Rattle.gts_flatten.specs.Making.{IsSameVariable, IsSameObserver, AreMadeOf, IsMadeWay, IsMadeOf, acts, joins, IsTransitionOf, transition}
 use Rattle.gts_flatten.proofs.Alike.{lengths_alike}

@@ -1,9 +1,8 @@
 -- A way is no higher than there are ways, and ways by number that differ in their leaves alone stand for ways that do.
-use Rattle.std.proofs.Common.{◌≡◌, ℕ, zero, suc, ◌+◌, ◌<◌, ◌≤◌, Bool, List, [], ◌∷◌, length, get_or, refl, sym, ◌∙◌, ap, subst, arith, inl, inr}
+use Rattle.std.proofs.Common.{◌≡◌, ℕ, zero, suc, ◌+◌, ◌<◌, ◌≤◌, Bool, List, [], ◌∷◌, length, refl, sym, ◌∙◌, ap, subst, arith, inl, inr}
 use Rattle.std.specs.List.{range_with_len}
-use Rattle.std.proofs.lemmas.List.FromFn.{get_or-range_with_len}
 use Rattle.ar_base.specs.Lists.{Stands, IsOneOf, AreDifferent, Along}
-use Rattle.ar_base.proofs.Standing.{one_here, one_cases, one_none, stands_none, stands_get, stands_within, along_on}
+use Rattle.ar_base.proofs.Standing.{one_here, one_cases, one_none, stands_none, stands_within, along_on}
 use Rattle.ar_base.proofs.Few.{few_below}
 use Rattle.ar_meaning.specs.Systems.{Tree, Leaf, Joint, Branches, Empty, Branch}
 use Rattle.ar_meaning.specs.Image.{Trees_along, leaves, joints, Branches_along, no_branch, branch}

@@ -1,12 +1,11 @@
 -- Lists that are made item by item from another list.
-use Rattle.std.proofs.Common.{◌≡◌, ℕ, ℤ, ◌+◌, ◌<◌, ◌≤◌, List, [], ◌∷◌, ◌++◌, take, length, get_or, slice_get, Option, Some, None, Bor, is_some, ltb, IfSome, option_copied, sym, ap, ◌∙◌, subst}
+use Rattle.std.proofs.Common.{◌≡◌, ℕ, ◌+◌, ◌<◌, ◌≤◌, List, [], ◌∷◌, ◌++◌, take, length, get_or, slice_get, Option, Some, None, Bor, is_some, ltb, IfSome, option_copied, sym, ap, ◌∙◌, subst}
 use Rattle.std.proofs.lemmas.List.{take_more, take_all}
 use Rattle.ar_base.specs.Lists.{Along, none, one_and, Stands}
 use Rattle.ar_base.proofs.Items.{along_append}
 use Rattle.gts_core.specs.declared.bound.DeclaredEvent.{DeclaredEvent}
 use Rattle.gts_core.specs.declared.bound.DeclaredWay.{DeclaredWay}
 use Rattle.sync_expand.proofs.Placed.{copied_get}
-use Rattle.domains.specs.declared.Domain.{Domain}
 use Rattle.gts_flatten.specs.Placing.{IsWayAt, nothing, there}
 
 module _ {A B : Type 0} {R : A → B → Type 0} where

@@ -6,8 +6,7 @@ use Rattle.std.specs.List.{flat_map, range_with_len}
 use Rattle.ar_base.specs.Lists.{Stands, IsOneOf, Along}
 use Rattle.ar_base.specs.Numbers.{VarId, WayId}
 use Rattle.ar_base.proofs.Standing.{stands_one, stands_none, stands_map, stands_some, stands_within, one_here, along_on, along_back, along_length}
-use Rattle.domains.specs.Domains.{IsDomain, Holds, values_of}
-use Rattle.domains.specs.declared.Domain.{Domain}
+use Rattle.domains.specs.Domains.{Holds}
 use Rattle.domains.specs.declared.Value.{Value}
 use Rattle.domains.specs.declared.Value.TheVariants as value
 use Rattle.typed_expr.specs.declared.expr.Expr.{Expr}

@@ -4,7 +4,6 @@ use Rattle.std.specs.List.{flat_map}
 use Rattle.ar_base.specs.Lists.{Stands, IsOneOf, Along, none, one_and}
 use Rattle.ar_base.specs.Numbers.{VarId}
 use Rattle.ar_base.proofs.Standing.{stands_map, one_here, one_none, one_cases, one_split, one_first, one_rest, along_on, along_back, along_length}
-use Rattle.domains.specs.declared.Domain.{Domain}
 use Rattle.domains.specs.declared.Value.{Value}
 use Rattle.domains.specs.declared.Value.TheVariants as value
 use Rattle.typed_expr.specs.Kinds.{HasKind}

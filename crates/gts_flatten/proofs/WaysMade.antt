@@ -16,7 +16,7 @@ use Rattle.gts_core.specs.declared.system.Way.{Way}
 use Rattle.gts_core.specs.declared.system.WayBody.{WayBody}
 use Rattle.gts_core.specs.declared.system.WayBody.TheVariants.{Local}
 use Rattle.gts_core.proofs.Numbering.{copy_numbered}
-use Rattle.sync_expand.specs.Plans.{first_of, planned_of, planned_body, planned_ways, all_bodies, PlannedWay, IsResolved}
+use Rattle.sync_expand.specs.Plans.{first_of, planned_of, planned_body, PlannedWay, IsResolved}
 use Rattle.sync_expand.specs.Plans as plans
 use Rattle.sync_expand.specs.declared.plans.PlanBody.{PlanBody}
 use Rattle.sync_expand.specs.declared.plans.WayPlan.{WayPlan}
@@ -24,7 +24,7 @@ use Rattle.sync_expand.proofs.DeclaredLemmas.{declared_stands}
 use Rattle.sync_expand.proofs.KnownLemmas.{first_within}
 use Rattle.gts_flatten.specs.Making.{IsMadeWay, IsMadeOf, acts, joins, IsTransitionOf, transition}
 use Rattle.gts_flatten.proofs.EventsMade.{first_mono}
-use Rattle.gts_flatten.proofs.Heights.{Body_along, HasTree, tree_there}
+use Rattle.gts_flatten.proofs.Heights.{Body_along}
 use Rattle.gts_flatten.proofs.Heights as h
 
 -- one number

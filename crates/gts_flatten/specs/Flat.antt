@@ -65,8 +65,7 @@ pub record IsPlannedWay (planned : PlannedWay) (w : Way) : Type 0 where
   pub body : HasBody planned.body w.body
 
 -- the ways stand event by event, those of an event in order, and each part of a synchronised way is the number of its
--- way among all of
--- these: the number of its event's first way and its place among the event's ways
+-- way among all of these: the number of its event's first way and its place among the event's ways
 pub record AreWaysOf (x : Elaborated) (ways : List Way) : Type 0 where
   pub numbered : List (Declared (Transition ℕ) ℕ)
   pub are_numbered : Along (Declared_renames (IsVariableNumber x.declarations) (IsEventNumber x.declarations))
@@ -77,8 +76,7 @@ pub record AreWaysOf (x : Elaborated) (ways : List Way) : Type 0 where
 -- The flat system
 
 -- the parts are those of the flat system: as a system they are that of the declarations with numbers for variables, and
--- they have its
--- names and places
+-- they have its names and places
 pub record IsFlat (x : Elaborated) (p : GtsParts) : Type 0 where
   pub flat : System ℕ
   pub views : Views p flat

@@ -1,14 +1,13 @@
 -- What the rules over the whole text give for the units of a tree: no two members of a unit have one name, and no unit
--- is
--- listed twice.
-use Rattle.std.proofs.Common.{◌≡◌, ℕ, zero, suc, ◌<◌, ◌≤◌, ◌⊎◌, inl, inr, Bool, true, false, ◌==◌, if◌then◌else◌, List, [], ◌∷◌, Option, Some, None, slice_get, unwrap_or, option_map, refl, sym, ◌∙◌, ap, subst, arith}
+-- is listed twice.
+use Rattle.std.proofs.Common.{◌≡◌, ℕ, zero, suc, ◌<◌, ◌≤◌, ◌⊎◌, inl, inr, true, false, ◌==◌, List, [], ◌∷◌, Option, Some, None, slice_get, unwrap_or, refl, sym, ◌∙◌, ap, subst, arith}
 use Rattle.ar_base.specs.Lists.{Stands, IsOneOf, AreDifferent}
 use Rattle.ar_base.proofs.Standing.{stands_none, stands_one}
 use Rattle.ar_base.proofs.Comparing.{side}
-use Rattle.class_table.specs.Members.{Site, NamedMember, MemberKind, Members, named_at, member_named}
-use Rattle.class_table.specs.Rules.{Breaks, BreaksNames, text_rules, l4}
+use Rattle.class_table.specs.Members.{Site, NamedMember, named_at, member_named}
+use Rattle.class_table.specs.Rules.{l4}
 use Rattle.hierarchy.specs.Models.{RootedModel, IsKept}
-use Rattle.hierarchy.specs.Units.{UnitPath, body_of, members_at, names_at, name_at, kind_at}
+use Rattle.hierarchy.specs.Units.{UnitPath, body_of, names_at}
 use Rattle.hierarchy.specs.Listing.{AreUnits}
 use Rattle.hierarchy.proofs.Finding.{same_or_not}
 use Rattle.hierarchy.proofs.Places.{AreApart, lists_different}

@@ -1,12 +1,12 @@
 -- What is found in lists that are in order.
-use Rattle.std.proofs.Common.{◌≡◌, ℕ, zero, suc, ◌+◌, ◌<◌, ◌≤◌, ◌⊎◌, inl, inr, Bool, true, false, ◌==◌, nat_lt, if◌then◌else◌, List, [], ◌∷◌, map, length, get_or, Option, Some, None, slice_index_or, refl, sym, ap, ◌∙◌, subst, arith, ltb, leb}
+use Rattle.std.proofs.Common.{◌≡◌, ℕ, zero, suc, ◌+◌, ◌<◌, ◌≤◌, ◌⊎◌, inl, inr, Bool, true, false, ◌==◌, nat_lt, List, [], ◌∷◌, length, Some, None, slice_index_or, refl, sym, ap, ◌∙◌, subst, arith, ltb, leb}
 use Rattle.std.proofs.lemmas.Bool.{ltb-true, ltb-false, leb-true, leb-false}
 use Rattle.std.proofs.lemmas.Bool.Decides.{nat_tests}
-use Rattle.std.proofs.lemmas.Option.{get_or_from_slice_get, slice_get-get_or}
+use Rattle.std.proofs.lemmas.Option.{get_or_from_slice_get}
 use Rattle.std.specs.List.Sorted.{IsNonDecreasingBy, IsPartitionPoint}
-use Rattle.ar_base.specs.Lists.{Stands, IsOneOf}
+use Rattle.ar_base.specs.Lists.{Stands}
 use Rattle.ar_base.specs.Numbers.{NameId, UnitId}
-use Rattle.ar_base.proofs.Standing.{stands_within, stands_some, stands_map, stands_get, stands_one, one_cases}
+use Rattle.ar_base.proofs.Standing.{stands_within, stands_get, stands_one}
 use Rattle.ar_base.proofs.Comparing.{side}
 use Rattle.hierarchy.specs.Tie.{entry_in}
 use Rattle.hierarchy.specs.Finding.{entry_name, FindsNode}

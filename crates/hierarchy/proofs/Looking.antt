@@ -1,21 +1,21 @@
 -- What look-ups in a tree answer.
-use Rattle.std.proofs.Common.{◌≡◌, ℕ, zero, suc, ◌+◌, ◌<◌, ◌≤◌, ◌⊎◌, inl, inr, Bool, true, false, List, [], ◌∷◌, ◌++◌, map, length, drop, get_or, slice_index_or, Option, Some, None, option_map, refl, sym, ◌∙◌, ap, subst, arith, rules, Fits, w32}
+use Rattle.std.proofs.Common.{◌≡◌, ℕ, ◌+◌, ◌<◌, ◌≤◌, ◌⊎◌, inl, inr, Bool, true, List, [], ◌∷◌, ◌++◌, length, drop, slice_index_or, Option, Some, None, option_map, refl, sym, ◌∙◌, ap, subst, arith, rules, Fits, w32}
 use Rattle.std.specs.Option.{option_or}
 use Rattle.std.proofs.lemmas.List.{drop_more, drop_all}
 use Rattle.std.specs.List.Sorted.{IsNonDecreasingBy}
-use Rattle.ar_base.specs.Lists.{Stands, IsOneOf, AreDifferent, Along}
+use Rattle.ar_base.specs.Lists.{Stands, Along}
 use Rattle.ar_base.specs.Numbers.{NameId, UnitId}
-use Rattle.ar_base.proofs.Standing.{stands_none, stands_one, stands_within, stands_get, stands_some, along_on, along_back, along_length}
+use Rattle.ar_base.proofs.Standing.{stands_one, stands_within, stands_get, stands_some, along_on, along_back, along_length}
 use Rattle.ar_base.proofs.Items.{last_one}
 use Rattle.ar_syntax.specs.declared.paths.PathStart.{PathStart}
-use Rattle.ar_syntax.specs.declared.paths.PathStart.TheVariants.{Here, Owner, Main}
+use Rattle.ar_syntax.specs.declared.paths.PathStart.TheVariants.{Owner}
 use Rattle.class_table.specs.Members.{NamedMember, MemberKind, Inner, Clone, Alias, Variable, Parameter, Kept, Event, Observer}
 use Rattle.hierarchy.specs.Models.{RootedModel, IsKept}
-use Rattle.hierarchy.specs.Units.{UnitPath, Level, Thing, name_at, kind_at, start_of, numbers}
-use Rattle.hierarchy.specs.Walks.{Outcome, Reaches, Nothing, Loops, NameLeads, NamesLead, LeadsFrom, LeadsTo, Has, IsUnitAt, IsThingAt, thing, is_unitless, no_unit, absent, on, stops, loops, arrives, nowhere}
-use Rattle.hierarchy.specs.Listing.{AreUnits, Lists, unit, is_inner, things_in}
-use Rattle.hierarchy.specs.Tie.{IsOwner, of_main, of_unit, IsUnit, IsUnitIn, AreNames, is_alias, entry_in, IsTreeOf, AnswersUnit, AnswersThing, IsNode}
-use Rattle.hierarchy.specs.Finding.{unit_number, StartsAt, IsEntry, IsStep, FindsNode, HasOwner, FindsOwner}
+use Rattle.hierarchy.specs.Units.{UnitPath, Thing, name_at, kind_at, start_of, numbers}
+use Rattle.hierarchy.specs.Walks.{Reaches, NameLeads, NamesLead, LeadsFrom, IsUnitAt, IsThingAt, absent, on, arrives}
+use Rattle.hierarchy.specs.Listing.{AreUnits, unit, is_inner, things_in}
+use Rattle.hierarchy.specs.Tie.{IsOwner, of_main, of_unit, IsUnit, is_alias, entry_in, IsTreeOf, AnswersUnit, AnswersThing, IsNode}
+use Rattle.hierarchy.specs.Finding.{unit_number, StartsAt, IsStep, FindsNode, HasOwner}
 use Rattle.hierarchy.specs.declared.tree.UnitNode.{UnitNode}
 use Rattle.hierarchy.specs.declared.tree.MemNode.{MemNode}
 use Rattle.hierarchy.specs.declared.tree.Tree.{Tree}

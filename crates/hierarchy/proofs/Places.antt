@@ -1,14 +1,12 @@
 -- The list of units is closed under what members make, each unit in it but the first is made by a member of one in it,
--- and
--- none stands twice where no two members of a unit have one name.
-use Rattle.std.proofs.Common.{Bool, true, false, ◌≡◌, ◌≤◌, ◌<◌, ◌+◌, ◌⊎◌, inl, inr, ℕ, zero, suc, List, [], ◌∷◌, ◌++◌, Option, Some, None, length, length-append, refl, sym, ◌∙◌, ap, subst, append_assoc, arith}
-use Rattle.ar_syntax.specs.declared.paths.Path.{Path}
+-- and none stands twice where no two members of a unit have one name.
+use Rattle.std.proofs.Common.{Bool, true, false, ◌≡◌, ◌+◌, ◌⊎◌, inl, inr, ℕ, zero, suc, List, [], ◌∷◌, ◌++◌, Some, length, length-append, refl, sym, ◌∙◌, ap, subst, append_assoc, arith}
 use Rattle.ar_base.specs.Lists.{Stands, IsOneOf, AreDifferent}
 use Rattle.ar_base.proofs.Standing.{stands_one, stands_split, stands_none, one_here, one_none, one_cases, one_first, one_rest, one_left, one_right}
-use Rattle.class_table.specs.Members.{Site, NamedMember, MemberKind, Inner, Clone, Alias, Variable, Parameter, Kept, Event, Observer}
+use Rattle.class_table.specs.Members.{NamedMember, MemberKind, Inner, Clone, Alias, Variable, Parameter, Kept, Event, Observer}
 use Rattle.hierarchy.specs.Models.{RootedModel}
 use Rattle.hierarchy.specs.Units.{Level, UnitPath, Thing, has, bodies_of, body_of, set_at_of, names_at}
-use Rattle.hierarchy.specs.Walks.{Outcome, Reaches, Nothing, Loops, NameLeads, inner, clones, clones_again, no_unit, cloned}
+use Rattle.hierarchy.specs.Walks.{Outcome, Reaches, Nothing, Loops, NameLeads, inner, clones, cloned}
 use Rattle.hierarchy.specs.Listing.{Makes, MakesNone, Lists, Insides, unit, none, makes, passes, is_inner}
 use Rattle.hierarchy.proofs.Lists.{makes_one, makes_or_none}
 use Rattle.hierarchy.proofs.Outcomes.{unit_of_reaches}

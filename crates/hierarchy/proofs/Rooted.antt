@@ -1,5 +1,5 @@
 -- The table of a model is that of the model, seen from its main block.
-use Rattle.std.proofs.Common.{◌≡◌, ℕ, List, map, length, Option, Ok, refl, sym, ◌∙◌, ap, subst}
+use Rattle.std.proofs.Common.{ℕ, List, map, Option, Ok, refl, sym, ◌∙◌, subst}
 use Rattle.std.proofs.lemmas.List.{length-map}
 use Rattle.ar_base.specs.Breach.{AreKept}
 use Rattle.ar_base.specs.Lists.{Stands}
@@ -8,11 +8,10 @@ use Rattle.ar_syntax.specs.declared.items.Model.{Model}
 use Rattle.class_table.specs.Declaring.{Declared}
 use Rattle.class_table.specs.Members.{Site, Members}
 use Rattle.class_table.specs.Rules.{Breaks, text_rules}
-use Rattle.class_table.specs.Tables.{IsTableOf, IsBodyOf, IsMain}
+use Rattle.class_table.specs.Tables.{IsTableOf, IsMain}
 use Rattle.class_table.specs.Tabling.{Tabulates, table}
-use Rattle.class_table.specs.declared.tables.Body.{Body}
 use Rattle.class_table.specs.declared.tables.Classes.{Classes}
-use Rattle.hierarchy.specs.Models.{RootedModel, IsRootedIn, IsTableFor, IsKeptTable, IsKept, sites_kept}
+use Rattle.hierarchy.specs.Models.{RootedModel, IsRootedIn, IsKeptTable, sites_kept}
 
 -- a table with what it declares, as the model is seen from its main block
 model_of : Declared → Classes → RootedModel

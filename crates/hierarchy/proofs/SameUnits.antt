@@ -1,5 +1,5 @@
 -- Units that are one test as one.
-use Rattle.std.proofs.Common.{◌≡◌, Bool, true, ◌&&◌, ◌==◌, List, [], ◌∷◌, refl, ◌∙◌, ap}
+use Rattle.std.proofs.Common.{◌≡◌, Bool, true, ◌&&◌, ◌==◌, [], ◌∷◌, refl, ◌∙◌, ap}
 use Rattle.ar_base.proofs.Comparing.{itself}
 use Rattle.hierarchy.specs.Units.{UnitPath, same_unit}
 

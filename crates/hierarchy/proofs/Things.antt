@@ -1,11 +1,11 @@
 -- Things by unit and member: what is listed, and where.
-use Rattle.std.proofs.Common.{◌≡◌, ℕ, zero, suc, ◌+◌, ◌<◌, ◌≤◌, ◌⊎◌, inl, inr, Bool, true, false, if◌then◌else◌, List, [], ◌∷◌, ◌++◌, map, length, Option, Some, None, option_map, refl, sym, ◌∙◌, ap, subst, arith}
+use Rattle.std.proofs.Common.{◌≡◌, ℕ, suc, ◌+◌, ◌≤◌, ◌⊎◌, inl, inr, Bool, true, false, if◌then◌else◌, List, [], ◌∷◌, length, Option, Some, None, option_map, refl, sym, ◌∙◌, ap, subst, arith}
 use Rattle.std.specs.List.{flat_map, filter}
-use Rattle.ar_base.specs.Lists.{Stands, IsOneOf, AreDifferent}
+use Rattle.ar_base.specs.Lists.{Stands, IsOneOf}
 use Rattle.ar_base.proofs.Standing.{stands_split, stands_none, stands_within, stands_map, stands_map_back, one_here, one_left, one_right, one_cases, one_first, one_rest, one_none}
 use Rattle.class_table.specs.Members.{NamedMember, MemberKind}
 use Rattle.hierarchy.specs.Models.{RootedModel, IsKept}
-use Rattle.hierarchy.specs.Units.{UnitPath, Thing, names_at, name_at, kind_at}
+use Rattle.hierarchy.specs.Units.{UnitPath, Thing, names_at, name_at}
 use Rattle.hierarchy.specs.Walks.{thing, Has}
 use Rattle.hierarchy.specs.Listing.{things_in}
 use Rattle.hierarchy.proofs.Apart.{members_apart, named_here, named_back}

@@ -11,8 +11,7 @@ use Rattle.class_table.specs.declared.tables.Body.{Body}
 use Rattle.class_table.specs.declared.tables.Classes.{Classes}
 
 -- a model seen from its main block: what it declares, all members of each body, inherited ones first, the body of the
--- main
--- block, and the texts of its names
+-- main block, and the texts of its names
 pub record RootedModel : Type 0 where
   pub declared : Declared
   pub members : List (List Site)

@@ -19,7 +19,7 @@ use Rattle.class_table.specs.Members.{Site, NamedMember, MemberKind, Variable, P
 use Rattle.class_table.specs.Tables.{IsDomainOf}
 use Rattle.class_table.specs.declared.tables.Classes.{Classes}
 use Rattle.hierarchy.specs.Models.{RootedModel, IsKeptTable}
-use Rattle.hierarchy.specs.Units.{Level, UnitPath, Thing, body_of, set_at_of, name_at, numbers}
+use Rattle.hierarchy.specs.Units.{Level, UnitPath, Thing, body_of, set_at_of, name_at}
 use Rattle.hierarchy.specs.Walks.{Reaches, LeadsFrom, IsUnitAt, IsThingAt}
 use Rattle.hierarchy.specs.Listing.{AreUnits, is_inner, variables, parameters, events, observers}
 use Rattle.hierarchy.specs.Settings.{in_force, is_state}
@@ -63,8 +63,7 @@ pub record IsUnitIn (m : RootedModel) (test : MemberKind → Bool) (u : UnitPath
   pub leads : LeadsFrom m u x (Reaches v)
 
 -- the entries are the names of u that are units by what passes the test, each with the number of its unit, in the order
--- of
--- the names' numbers
+-- of the names' numbers
 pub record AreNames (m : RootedModel) (units : List UnitPath) (test : MemberKind → Bool) (u : UnitPath)
     (entries : List (NameId × UnitId)) : Type 0 where
   pub found : (x n : ℕ) → entry_in entries x ≡ Some n → (v : UnitPath) × Stands units n v × IsUnitIn m test u x v

@@ -7,8 +7,7 @@ use Rattle.class_table.specs.Members.{Site, NamedMember, MemberKind, named_at, m
 use Rattle.hierarchy.specs.Models.{RootedModel}
 
 -- a level of the tree: the unit's name in the unit above it, its body, and the declaration whose settings hold in it,
--- which a
--- block has none of
+-- which a block has none of
 pub record Level : Type 0 where
   pub name : ℕ
   pub body : ℕ

@@ -15,9 +15,8 @@ use Rattle.unit_sizes.specs.Limits.{FitsLimits}
 use Rattle.unit_settings.specs.Rules.{BreaksDeclaration, BreaksSetting}
 
 -- rule n is broken at this place, where the main block has these units: a clone or an alias whose path names no unit,
--- one whose
--- walk loops, a declaration of variables without its one setting, a setting without a target or the later of two of one
--- target
+-- one whose walk loops, a declaration of variables without its one setting, a setting without a target or the later of
+-- two of one target
 pub data Breaks (m : RootedModel) (units : List UnitPath) : ℕ → Place → Type 0 where
   l6 : {p : Place} → WalkEnds m units Nothing p → Breaks m units 6 p
   l7 : {p : Place} → WalkEnds m units Loops p → Breaks m units 7 p

@@ -6,10 +6,10 @@ use Rattle.ar_meaning.specs.Runs.{Command}
 use Rattle.domains.specs.declared.Value.{Value}
 use Rattle.event_lists.specs.Naming.{NamesEvents, HasUnknown}
 use Rattle.gts_flatten.specs.Elaborating.{Elaborated}
-use Rattle.replayer.specs.CutLines.{is_comma}
-use Rattle.replayer.specs.CutLists.{CutLine, CutList, HaveOneMeaning}
-use Rattle.replayer.specs.Lines.{pieces}
-use Rattle.replayer.specs.Scripts.{BadLine, Commands}
+use Rattle.script_lines.specs.CutLines.{is_comma}
+use Rattle.script_lines.specs.CutLists.{CutLine, CutList, HaveOneMeaning}
+use Rattle.script_lines.specs.Lines.{pieces}
+use Rattle.script_lines.specs.Scripts.{BadLine, Commands}
 use Rattle.run_words.specs.declared.jobs.Job.{Job}
 use Rattle.wanted_values.specs.Wanting.{IsWanted, NamesObserver, NamesNone, WantsNone}
 use Rattle.word_meaning.proofs.Labels.{along_one, one_event, one_meaning}

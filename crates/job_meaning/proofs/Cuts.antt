@@ -21,12 +21,12 @@ use Rattle.ar_meaning.specs.TraceText.{Naming, flow_fault_text}
 use Rattle.ar_meaning.proofs.OneAnswer.{flows_same, step_same}
 use Rattle.ar_meaning.proofs.OneRun.{way_same}
 use Rattle.check_text.specs.Texts.{lines_in, said_lines, missing_lines, last_line, all_good, is_none, AreSaid, IsCheckText}
-use Rattle.cut_check.specs.Verdicts.{Said, IsGood, Holds, IsSaid, fails, holds, good, HoldsLine, IsMissing}
+use Rattle.cut_check.specs.Verdicts.{Said, Holds, IsSaid, fails, holds, good, HoldsLine, IsMissing}
 use Rattle.cut_check.specs.Verdicts as v
 use Rattle.cut_text.specs.Texts.{label_lists, labels_text, count_line, fault_line, IsCutText, IsConflictText}
 use Rattle.domains.specs.declared.Value.{Value}
 use Rattle.forest_text.specs.Texts.{AreLiveEvents, IsForestText, tree_lines, events_line}
-use Rattle.replayer.specs.CutLists.{CutLine}
+use Rattle.script_lines.specs.CutLists.{CutLine}
 use Rattle.typed_expr.specs.declared.expr.Expr.{Expr}
 use Rattle.word_meaning.proofs.Labels.{along_one}
 

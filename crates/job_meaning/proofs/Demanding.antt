@@ -16,7 +16,7 @@ use Rattle.altarica_run.specs.declared.refusals.Refusal.TheVariants.{Outside}
 use Rattle.job_meaning.specs.Definite.{IsDefinite}
 use Rattle.job_meaning.proofs.Asking.{OfDefinite, OneList, asks_one, asks_on, same_some}
 use Rattle.job_meaning.proofs.Stages.{IsOne, PassesOn, then_one, then_on, where_one, where_on, same_ok}
-use Rattle.job_meaning.proofs.Tables.{table_one}
+use Rattle.table_text.proofs.OneTable.{table_one}
 
 -- its system without the dropped events keeps the rules
 abbrev pub IsKeptBy : Ready → Type 0

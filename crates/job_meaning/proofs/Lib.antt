@@ -1,6 +1,5 @@
 pub mod Stages
 pub mod Asking
-pub mod Tables
 pub mod Demanding
 pub mod Cuts
 pub mod Modules

@@ -38,13 +38,13 @@ use Rattle.hierarchy.specs.Paths.{name_text}
 use Rattle.hierarchy.specs.Units.{UnitPath, Thing}
 use Rattle.hierarchy.specs.Walks.{is_variable, is_event, is_observer}
 use Rattle.instantiate.specs.Unfolding.{Instantiates}
-use Rattle.replayer.specs.Reads.{has_mark}
+use Rattle.script_lines.specs.Reads.{has_mark}
 use Rattle.source_meaning.specs.Systems.{Declarations, AreOf, HasDeclarations, Binds, declares, IsVariable}
 use Rattle.source_meaning.proofs.Different.{things_different}
 use Rattle.sync_expand.specs.Expanding.{greatest, most_ways}
 use Rattle.unit_walks.specs.Unfolding.{whole}
 use Rattle.word_meaning.specs.Named.{NamesOnce}
-use Rattle.altarica_run.specs.Elaborates.{Elaborates, Tables, rooted, Systems, reads}
+use Rattle.altarica_run.specs.Elaborates.{Elaborates, rooted, reads}
 use Rattle.altarica_run.specs.Elaborates as e
 use Rattle.job_meaning.specs.Definite.{IsDefinite}
 

@@ -1,15 +1,14 @@
 -- What a job tells that has passed its stages is one text.
-use Rattle.std.proofs.Common.{◌≡◌, ◌⊎◌, ◌++◌, ℕ, true, false, List, [], ◌∷◌, Option, Some, None, Ok, Err, length, refl, sym, ◌∙◌, ap, subst, inl, inr}
+use Rattle.std.proofs.Common.{◌≡◌, ◌⊎◌, ℕ, true, false, List, Option, Some, None, Ok, Err, length, refl, sym, ◌∙◌, ap, subst, inl, inr}
 use Rattle.ar_base.specs.Lists.{Stands}
 use Rattle.ar_base.proofs.Items.{last_one}
 use Rattle.ar_base.proofs.Standing.{stands_one}
 use Rattle.ar_firing.specs.Cuts.{Cut, IsConflictFree}
 use Rattle.ar_firing.specs.Listed.{AreListed}
-use Rattle.ar_firing.specs.Operands.{HasFlows}
 use Rattle.ar_firing.specs.Static.{IsKeyedStatic}
 use Rattle.ar_firing.proofs.OneListing.{listed_same}
-use Rattle.ar_meaning.specs.Runs.{Moment, Starts, Start_fails, Fires, Fire_fails, Goes_back, No_step, Shows, Lists, Ends}
-use Rattle.ar_meaning.specs.Systems.{Net, System}
+use Rattle.ar_meaning.specs.Runs.{Moment}
+use Rattle.ar_meaning.specs.Systems.{System}
 use Rattle.ar_meaning.specs.TraceText.{Naming, MomentText, TraceText}
 use Rattle.ar_meaning.proofs.OneRun.{runs_same}
 use Rattle.ar_meaning.proofs.OneText.{moment_one, trace_one}
@@ -20,8 +19,6 @@ use Rattle.cut_text.specs.Texts.{IsCutText, IsConflictText}
 use Rattle.domains.specs.declared.Value.{Value}
 use Rattle.eq_core.specs.Gates.{Table}
 use Rattle.flat_text.proofs.Flats.{flat_one}
-use Rattle.flow_rounds.specs.Reasons.{Reason}
-use Rattle.flow_rounds.proofs.Standing.{no_two, reasons_one}
 use Rattle.flow_rounds.proofs.Totals.{states_of}
 use Rattle.forest_text.specs.Texts.{IsForestText}
 use Rattle.gts_flatten.specs.Elaborating.{Elaborated}
@@ -30,22 +27,23 @@ use Rattle.hierarchy.specs.Listing.{variables, events}
 use Rattle.hierarchy.specs.Units.{Thing}
 use Rattle.min_cuts.specs.Sizes.{count, largest}
 use Rattle.module_text.specs.Texts.{IsModuleText}
-use Rattle.reason_text.specs.Texts.{reason_line, ReasonLines, none, tells, leaves, IsTold, IsReasonText}
+use Rattle.reason_text.specs.Texts.{IsReasonText}
+use Rattle.reason_text.proofs.Source.{text_one}
 use Rattle.replayer.specs.Replays.{IsReplay, end_of}
-use Rattle.replayer.specs.Settles.{Settles, IsFaultLine, last_standing}
+use Rattle.replayer.specs.Settles.{IsFaultLine}
+use Rattle.replayer.proofs.SettledOnce.{settled_one, not_settled}
 use Rattle.replayer.specs.declared.replaying.End.{End}
-use Rattle.replayer.specs.declared.replaying.End.TheVariants as end
 use Rattle.run_words.specs.declared.jobs.Job.{Job}
 use Rattle.run_words.specs.declared.verbs.Verb.{Verb}
 use Rattle.run_words.specs.declared.verbs.Verb.TheVariants as verb
 use Rattle.table_text.specs.Texts.{IsTableText}
+use Rattle.table_text.proofs.OneTable.{table_one}
 use Rattle.typed_expr.specs.declared.expr.Expr.{Expr}
 use Rattle.wanted_values.specs.declared.wanting.Wanted.{Wanted}
 use Rattle.altarica_run.specs.Refusals.{line_of, status_of}
 use Rattle.altarica_run.specs.Stages.{Ready, is_static, lists_cuts}
-use Rattle.altarica_run.specs.Tells.{Tells, check_text, IsFlatText, HasCuts, IsCutsText, IsCheckedText, IsShortText, IsObserverOf, IsExplained, make_lines, IsMakeText, MayNeedMore, status_at}
+use Rattle.altarica_run.specs.Tells.{Tells, check_text, IsFlatText, HasCuts, IsCutsText, IsCheckedText, IsShortText, IsObserverOf, IsExplained, make_lines, IsMakeText, status_at}
 use Rattle.altarica_run.specs.Tells as told
-use Rattle.altarica_run.specs.declared.refusals.Refusal.{Refusal}
 use Rattle.altarica_run.specs.declared.status.Status.{Status}
 use Rattle.altarica_run.specs.declared.status.Status.TheVariants.{Done, Fault}
 use Rattle.altarica_run.proofs.ExplainLemmas.{settled_flows}
@@ -56,7 +54,6 @@ use Rattle.job_meaning.proofs.Cuts.{forest_text_one, cut_text_one, conflict_text
 use Rattle.job_meaning.proofs.Demanding.{IsFit, IsFitWhere, keyed_static, readies_one, readies_on}
 use Rattle.job_meaning.proofs.Modules.{module_text_one}
 use Rattle.job_meaning.proofs.Stages.{same_ok, same_err, ok_err}
-use Rattle.job_meaning.proofs.Tables.{table_one}
 
 -- What stands ready, by command
 
@@ -163,25 +160,6 @@ naming w = naming_of w.source.declarations
 abbrev system : Ready → System Thing
 system w = w.source.system
 
--- Reasons
-
-lines_one : (names : Naming) (P : ℕ → Type 0) {rs : List Reason} {s t : List ℕ} → ReasonLines names P rs s
-    → ReasonLines names P rs t → s ≡ t
-lines_one names P none none = refl
-lines_one names P (tells {r = r} h d) (tells k e) =
-    ap (λ (z : List ℕ). reason_line names r ++ z) (lines_one names P d e)
-lines_one names P (tells h d) (leaves k e) = absurd (k h)
-lines_one names P (leaves h d) (tells k e) = absurd (h k)
-lines_one names P (leaves h d) (leaves k e) = lines_one names P d e
-
-reason_text_one : (names : Naming) (net : Net Thing) (values : List Value) → HasFlows net values
-    → (observer : Option (Expr Thing)) (s t : List ℕ) → IsReasonText names net values observer s
-    → IsReasonText names net values observer t → s ≡ t
-reason_text_one names net values f observer s t a b =
-    let e = reasons_one net values (no_two f.flows) a.are_reasons b.are_reasons in
-    let there = subst (λ (z : List Reason). ReasonLines names (IsTold net z observer) z s) e a.lines in
-    lines_one names (IsTold net b.reasons observer) there b.lines
-
 -- Runs
 
 module _ (w : Ready) (is : IsDefinite w.source) where
@@ -192,35 +170,6 @@ module _ (w : Ready) (is : IsDefinite w.source) where
       let last : p.last ≡ q.last = p.replay.ends ∙ ap end_of e ∙ sym q.replay.ends in
       (trace_one (naming w) (system w) is.keyed there q.replay.trace, p.is_status ∙ ap status_at last ∙ sym q.is_status)
 
-  settled_one : (t u : List Value) → Settles (system w) w.commands t → Settles (system w) w.commands u → t ≡ u
-  settled_one t u a b =
-      let e : ◌≡◌ {A = List Moment} (Starts a.first ∷ a.moments) (Starts b.first ∷ b.moments) =
-      runs_same (system w) a.runs b.runs in
-      sym a.last ∙ ap (last_standing []) e ∙ b.last
-
-  -- moments that end in a fault are those of a run that does
-  faults_last : (before : List Moment) (fault : Moment) → end_of (fault ∷ []) ≡ end.Fault
-      → end_of (before ++ fault ∷ []) ≡ end.Fault
-  faults_last [] fault e = e
-  faults_last (Starts t ∷ ms) fault e = faults_last ms fault e
-  faults_last (Start_fails f ∷ ms) fault e = refl
-  faults_last (Fires l old new ∷ ms) fault e = faults_last ms fault e
-  faults_last (Fire_fails l f ∷ ms) fault e = refl
-  faults_last (Goes_back old new ∷ ms) fault e = faults_last ms fault e
-  faults_last (No_step ∷ ms) fault e = refl
-  faults_last (Shows t ∷ ms) fault e = faults_last ms fault e
-  faults_last (Lists ls ∷ ms) fault e = faults_last ms fault e
-  faults_last (Ends n ∷ ms) fault e = faults_last ms fault e
-
-  not_settled : (t : List Value) (text : List ℕ) → Settles (system w) w.commands t
-      → IsFaultLine (naming w) (system w) w.commands text → ⊥
-  not_settled t text a b =
-      let e : ◌≡◌ {A = List Moment} (Starts a.first ∷ a.moments) (b.before ++ b.fault ∷ []) =
-      runs_same (system w) a.runs b.runs in
-      let z : ◌≡◌ {A = End} end.Done end.Fault = sym a.no_fault ∙ ap end_of e ∙ faults_last b.before b.fault
-      b.is_fault in
-      cc
-
   observer_one : (n : Option ℕ) (o p : Option (Expr Thing)) → IsObserverOf (system w) n o
       → IsObserverOf (system w) n p → o ≡ p
   observer_one None o p a b = a ∙ sym b
@@ -228,11 +177,11 @@ module _ (w : Ready) (is : IsDefinite w.source) where
 
   explanations_one : (s t : List ℕ) → IsExplained w s → IsExplained w t → s ≡ t
   explanations_one s t a b =
-      let e : a.values ≡ b.values = settled_one a.values b.values a.settles b.settles in
+      let e : a.values ≡ b.values = settled_one (system w) w.commands a.values b.values a.settles b.settles in
       let o : a.observer ≡ b.observer = observer_one w.shown a.observer b.observer a.is_observer b.is_observer in
       let there = subst (λ (z : List Value). IsReasonText (naming w) (system w).net z a.observer s) e a.is_text in
       let moved = subst (λ (z : Option (Expr Thing)). IsReasonText (naming w) (system w).net b.values z s) o there in
-      reason_text_one (naming w) (system w).net b.values
+      text_one (naming w) (system w).net b.values
       (settled_flows (system w) (λ u total f. same_flows (system w).net (states_of f) f) w.commands b.values
       b.settles)
       b.observer s t moved b.is_text
@@ -246,8 +195,8 @@ module _ (w : Ready) (is : IsDefinite w.source) where
 
   explained_one : (s t : List ℕ) (a b : Status) → Explained w s a → Explained w t b → (s ≡ t) × (a ≡ b)
   explained_one s t a b (inl p) (inl q) = (explanations_one s t p.0 q.0, p.1 ∙ sym q.1)
-  explained_one s t a b (inl p) (inr q) = absurd (not_settled p.0.values t p.0.settles q.0)
-  explained_one s t a b (inr p) (inl q) = absurd (not_settled q.0.values s q.0.settles p.0)
+  explained_one s t a b (inl p) (inr q) = absurd (not_settled (system w) w.commands p.0.values (naming w) t p.0.settles q.0)
+  explained_one s t a b (inr p) (inl q) = absurd (not_settled (system w) w.commands q.0.values (naming w) s q.0.settles p.0)
   explained_one s t a b (inr p) (inr q) = (fault_lines_one s t p.0 q.0, p.1 ∙ sym q.1)
 
 -- Tables and cuts

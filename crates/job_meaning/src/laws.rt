@@ -11,7 +11,7 @@ ghost use Rattle.altarica_run.specs.declared.status.Status.{Status};
 ghost use Rattle.job_meaning.specs.Definite.{IsDefinite, SaysOf, AgreeButNodes};
 
 use ar_readings::readings::trees_keep;
-use replayer::laws::one_list;
+use script_lines::laws::one_list;
 
 /// What the words, the script and the list of cuts of a job ask of a source is one thing, or they
 /// are refused in one way.

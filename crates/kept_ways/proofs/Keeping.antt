@@ -1,8 +1,8 @@
 -- Kept ways, one label after the other.
-use Rattle.std.proofs.Common.{◌≡◌, ℕ, ◌+◌, ◌<◌, ◌≤◌, ◌⊎◌, inl, inr, zero, suc, Bool, true, false, List, [], ◌∷◌, ◌++◌, length, Option, Some, None, MatchOption, refl, sym, ◌∙◌, subst, arith}
+use Rattle.std.proofs.Common.{◌≡◌, ℕ, ◌+◌, ◌<◌, ◌≤◌, ◌⊎◌, inl, inr, Bool, true, false, List, [], ◌∷◌, ◌++◌, length, Option, Some, None, MatchOption, refl, sym, ◌∙◌, subst, arith}
 use Rattle.std.proofs.lemmas.List.{append-nil}
 use Rattle.std.proofs.lemmas.Bool.{cases_lt}
-use Rattle.ar_base.specs.Lists.{Stands, IsOneOf, HasNo, Along, none, one_and}
+use Rattle.ar_base.specs.Lists.{Stands, IsOneOf, HasNo, none}
 use Rattle.ar_base.specs.Numbers.{EventId, WayId}
 use Rattle.ar_base.proofs.Standing.{stands_one, stands_within, stands_none, stands_split, one_left, one_right, one_first, at_most}
 use Rattle.ar_base.proofs.Items.{single, along_push}

@@ -1,9 +1,8 @@
 -- What is read at places of lists, and flags.
-use Rattle.std.proofs.Common.{◌≡◌, ℕ, zero, suc, ◌+◌, ◌<◌, ◌⊎◌, inl, inr, Bool, true, false, List, [], ◌∷◌, length, get_or, set, replicate, Result, Ok, Err, IfOk, refl, sym, ap, subst, arith}
+use Rattle.std.proofs.Common.{◌≡◌, ℕ, zero, suc, inl, inr, Bool, true, false, List, [], ◌∷◌, length, set, replicate, refl, sym, ap, subst}
 use Rattle.std.proofs.lemmas.Bool.{cases_eq}
-use Rattle.ar_base.specs.declared.faults.Memory.{Memory}
 use Rattle.ar_base.specs.Lists.{Stands}
-use Rattle.ar_base.proofs.Standing.{stands_one, stands_none, at_most}
+use Rattle.ar_base.proofs.Standing.{stands_none}
 use Rattle.ar_meaning.specs.Found.{IsAnswer}
 
 pub stands_set_other : {A : Type 0} (xs : List A) (i n : ℕ) (a b : A) → (n ≡ i → ⊥) → Stands (set xs i a) n b

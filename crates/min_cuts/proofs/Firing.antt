@@ -1,11 +1,11 @@
 -- Firing order is the order of the trees' edges.
-use Rattle.std.proofs.Common.{◌≡◌, ◌⊎◌, inl, inr, ⊎_elim, ℕ, zero, suc, ◌+◌, Bool, true, false, cond, ◌||◌, eqb, List, [], ◌∷◌, ◌++◌, map, reverse, length, filter, refl, sym, ap, ap₂, ◌∙◌, subst, arith, eq-eqb, append-nil}
+use Rattle.std.proofs.Common.{◌≡◌, ◌⊎◌, ⊎_elim, ℕ, zero, suc, ◌+◌, Bool, true, false, cond, ◌||◌, eqb, List, [], ◌∷◌, ◌++◌, map, reverse, filter, refl, sym, ap, ap₂, ◌∙◌, subst, arith, eq-eqb, append-nil}
 use Rattle.std.proofs.lemmas.List.Elements.{filter-append}
 use Rattle.std.proofs.lemmas.List.{map-append}
 use Rattle.ar_base.specs.Lists.{Stands, IsOneOf, AreDifferent}
 use Rattle.ar_base.specs.Lists.Along.{none, one_and}
 use Rattle.ar_base.specs.Sets.{Ascends}
-use Rattle.ar_base.proofs.Standing.{stands_within, stands_split, stands_map_back, stands_map, one_here, one_cases, one_left, one_right, one_split}
+use Rattle.ar_base.proofs.Standing.{stands_within, stands_map_back, stands_map, one_here, one_cases, one_left, one_right, one_split}
 use Rattle.ar_base.proofs.Items.{different_both}
 use Rattle.ar_base.proofs.Truths.{alike}
 use Rattle.domains.specs.declared.Value.{Value}

@@ -2,7 +2,7 @@
 use Rattle.std.proofs.Common.{◌≡◌, ◌≢◌, ⊎_elim, ◌<◌, ℕ, suc, ◌+◌, max, List, [], ◌∷◌, ◌++◌, map, length, refl, sym, ap, ap₂, ◌∙◌, subst, arith, append_assoc, append-nil, length-append}
 use Rattle.std.proofs.lemmas.List.{map-append}
 use Rattle.ar_base.proofs.Standing.{stands_left, stands_next}
-use Rattle.zdd_families.specs.Families.{Family, node}
+use Rattle.zdd_families.specs.Families.{Family}
 use Rattle.zdd_families.specs.Behind.{behind}
 use Rattle.zdd_families.proofs.Behind.{behind_node}
 use Rattle.zdd_nodes.specs.Nodes.{Stored, family, IsNode}

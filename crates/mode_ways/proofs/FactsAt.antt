@@ -12,7 +12,6 @@ use Rattle.typed_expr.specs.Sets.{HasExactly}
 use Rattle.typed_expr.specs.Yields.{Yields, facts_of}
 use Rattle.typed_expr.specs.declared.expr.Expr.{Expr, out-Expr}
 use Rattle.ar_meaning.specs.Facts.{Passes, none, one_and}
-use Rattle.ar_meaning.specs.Found.{IsAnswer}
 use Rattle.ar_firing.specs.Fragment.{At}
 use Rattle.gts_core.specs.View.{numbered, condition_of, assign_of}
 use Rattle.gts_core.proofs.Numbering.{yields_numbered, yields_back}

@@ -1,5 +1,5 @@
 -- Where transitions lead.
-use Rattle.std.proofs.Common.{◌≡◌, ℕ, true, List, [], ◌∷◌, Contains, slice_get, Some, None, refl, sym, ap, ◌∙◌, subst, arith}
+use Rattle.std.proofs.Common.{◌≡◌, ℕ, true, List, [], ◌∷◌, Contains, slice_get, None, refl, sym, ap, ◌∙◌, subst}
 use Rattle.ar_base.specs.Lists.{IsOneOf, HasOther}
 use Rattle.ar_base.specs.Numbers.{VarId}
 use Rattle.ar_base.proofs.Standing.{one_contains, contains_one, one_none, stands_map, stands_map_back}

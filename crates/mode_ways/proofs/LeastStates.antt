@@ -1,6 +1,5 @@
 -- The least state variables that are named, and mode variables.
 use Rattle.std.proofs.Common.{◌≡◌, ℕ, ◌+◌, ◌<◌, ◌≤◌, ◌⊎◌, inl, inr, Bool, true, false, cond, nat_lt, List, length, take, take_all, get_or, Option, Some, None, MatchOption, sym, ap, ◌∙◌, subst, arith}
-use Rattle.std.proofs.lemmas.Bool.Decides.{nat_tests}
 use Rattle.std.proofs.lemmas.Bool.{ltb-false}
 use Rattle.ar_base.specs.Lists.{Stands, IsFirst, HasNo}
 use Rattle.ar_base.specs.Numbers.{VarId}

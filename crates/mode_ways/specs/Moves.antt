@@ -1,13 +1,10 @@
 -- Where a transition leads from a mode of its mode variable.
-use Rattle.std.specs.Prelude.{◌≡◌, ℕ, false, nat_eq, if◌then◌else◌, List, [], ◌∷◌, Contains, Option, Some, None}
+use Rattle.std.specs.Prelude.{◌≡◌, ℕ, nat_eq, if◌then◌else◌, List, [], Contains}
 use Rattle.ar_base.specs.Numbers.{VarId}
 use Rattle.domains.specs.declared.Value.{Value}
-use Rattle.domains.specs.declared.Value.TheVariants.{Truth}
-use Rattle.typed_expr.specs.Sets.{HasExactly}
 use Rattle.typed_expr.specs.Yields.{Yields}
 use Rattle.typed_expr.specs.declared.expr.Expr.{out-Expr}
 use Rattle.ar_meaning.specs.Systems.{Transition, Leaf}
-use Rattle.ar_meaning.specs.Systems as s
 use Rattle.ar_meaning.specs.Facts.{Passes}
 use Rattle.ar_meaning.specs.Ways.{Can, Effects}
 use Rattle.ar_firing.specs.Rules.{GivesOther}

@@ -5,7 +5,7 @@ use Rattle.ar_base.specs.Lists.{Stands, IsOneOf}
 use Rattle.ar_base.proofs.Standing.{stands_one, stands_none, stands_split, stands_within, stands_map_back, one_here, one_none}
 use Rattle.class_table.specs.Members.{NamedMember, MemberKind}
 use Rattle.hierarchy.specs.Models.{RootedModel, IsKept}
-use Rattle.hierarchy.specs.Units.{Level, UnitPath, Thing, names_at}
+use Rattle.hierarchy.specs.Units.{UnitPath, Thing, names_at}
 use Rattle.hierarchy.specs.Walks.{thing, is_event}
 use Rattle.hierarchy.specs.Listing.{Lists, Insides, Makes, unit, none, makes, passes, things_in, events, AreUnits}
 use Rattle.hierarchy.proofs.Apart.{units_different, members_apart}

@@ -1,6 +1,5 @@
 mod Source
 mod Pieces
-mod Exits
 mod Spanning
 mod DepthFirst
 mod UnitSpans

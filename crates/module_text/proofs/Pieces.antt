@@ -15,7 +15,7 @@ use Rattle.ar_base.specs.Numbers.{UnitId}
 use Rattle.ar_base.proofs.Standing.{one_none, one_first, one_rest, one_cases, one_split, one_here, stands_map, stands_map_back, stands_within, along_back}
 use Rattle.ar_base.proofs.Lines.{line_after}
 use Rattle.mode_forests.specs.Ways.{OwnTheirWays}
-use Rattle.replayer.specs.Flat.{way_label}
+use Rattle.text_pieces.specs.WayLabels.{way_label}
 use Rattle.gate_modules.specs.Shortened.{numbers, set_of, module_of, form_of}
 use Rattle.gate_modules.specs.declared.ranges.EventSet.{EventSet}
 use Rattle.gate_modules.specs.declared.ranges.Module.{Module}

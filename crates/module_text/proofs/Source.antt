@@ -1,20 +1,18 @@
 -- What is written by the parts of a flat system is the text of its source.
-use Rattle.std.proofs.Common.{◌≡◌, ◌-◌, ℕ, zero, suc, Bool, true, false, cond, List, [], ◌∷◌, ◌++◌, map, filter, slice_get, Option, Some, refl, sym, ◌∙◌, ap, ap₂, subst}
+use Rattle.std.proofs.Common.{◌≡◌, ◌-◌, ℕ, Bool, true, false, cond, List, [], ◌∷◌, ◌++◌, map, filter, slice_get, Option, Some, refl, sym, ◌∙◌, ap, ap₂, subst}
 use Rattle.std.specs.List.{flat_map}
 use Rattle.std.proofs.lemmas.List.{map-append, length-map}
 use Rattle.std.proofs.lemmas.List.Elements.{filter-append}
 use Rattle.domains.specs.declared.Value.{Value}
-use Rattle.ar_base.specs.Lists.{Stands, IsOneOf, Along}
-use Rattle.ar_base.specs.Lists as l
 use Rattle.ar_base.specs.Texts.{line, text_at}
-use Rattle.ar_base.proofs.Standing.{one_first, one_rest, along_length}
+use Rattle.ar_base.proofs.Standing.{one_first, one_rest}
 use Rattle.typed_expr.specs.Pairs.{turned}
 use Rattle.typed_expr.specs.declared.expr.Expr.{Expr}
-use Rattle.ar_meaning.specs.Systems.{System, Event}
+use Rattle.ar_meaning.specs.Systems.{System}
 use Rattle.ar_meaning.specs.Runs.{Label}
-use Rattle.ar_meaning.specs.TraceText.{Naming, label_text, way_text, ways_of}
+use Rattle.ar_meaning.specs.TraceText.{Naming, label_text, way_text}
 use Rattle.ar_meaning.specs.FlatOf.{IsNumber, IsFlatOf}
-use Rattle.ar_meaning.specs.Image.{Event_renames, Expr_renames}
+use Rattle.ar_meaning.specs.Image.{Expr_renames}
 use Rattle.ar_meaning.proofs.FlatSystems.{flat_image, flat_back}
 use Rattle.ar_meaning.proofs.ImageWays.{ways_count}
 use Rattle.ar_firing.specs.Cuts.{Cut}
@@ -36,8 +34,8 @@ use Rattle.mode_forests.specs.Ways.{HasOwnWay, HaveOwnWays, OwnTheirWays}
 use Rattle.mode_forests.specs.declared.forests.Edge.{Edge}
 use Rattle.mode_forests.specs.declared.forests.Forest.{Forest}
 use Rattle.mode_forests.specs.declared.forests.ModeTree.{ModeTree}
-use Rattle.replayer.specs.Flat.{label_found, label_of, way_label}
-use Rattle.replayer.proofs.WayLemmas.{label_alike}
+use Rattle.text_pieces.specs.WayLabels.{label_found, label_of, way_label}
+use Rattle.text_pieces.proofs.Ways.{label_alike}
 use Rattle.zdd_families.specs.Families.{holds}
 use Rattle.cut_text.specs.Printed.{edges_of, things_of, IsForestOf}
 use Rattle.cut_text.specs.Texts.{braced, labels_text}

@@ -65,8 +65,7 @@ short_text names units sys trees modules forms =
     modules ++ (flat_map (form_text names units sys trees) forms ++ lines_line (length forms))
 
 -- the text of the cuts of the observer's value in short, where each unit but the main block has its events and those of
--- the
--- units within it
+-- the units within it
 pub record IsModuleText (x : Elaborated) (dropped : List ℕ) (observer : Expr Thing) (wanted : Value)
     (text : List ℕ) : Type 0 where
   pub cuts : List (List ℕ)

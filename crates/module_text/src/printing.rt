@@ -20,9 +20,9 @@ use cut_text::PrintFault;
 use gate_modules::Short;
 use gts_core::{Gts, GtsParts};
 use mode_forests::Forest;
-use replayer::pieces::{count, put};
-use replayer::print_label;
 use std::alloc::Global;
+use text_pieces::pieces::{count, put};
+use text_pieces::print_label;
 
 /// Writes the text of cuts in short: for each module `module PATH` and then each of its sets on a line of two spaces and
 /// `{a, b}`, with the labels of its events' edges in firing order; then the short forms, each `{[PATH], a}` with its units and

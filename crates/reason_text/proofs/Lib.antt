@@ -1,4 +1,4 @@
 mod Pieces
 mod Marks
 mod ToldLines
-mod Source
+pub mod Source

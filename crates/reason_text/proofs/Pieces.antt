@@ -1,17 +1,11 @@
 -- Lines in pieces.
-use Rattle.std.proofs.Common.{◌≡◌, ◌+◌, ℕ, false, List, [], ◌∷◌, ◌++◌, codes, decimal, Option, slice_get, append_assoc, refl, sym, ◌∙◌, ap}
-use Rattle.ar_base.specs.Lists.{Stands}
+use Rattle.std.proofs.Common.{◌≡◌, ◌+◌, ℕ, false, List, [], ◌∷◌, ◌++◌, codes, decimal, slice_get, refl, sym, ◌∙◌, ap}
 use Rattle.ar_base.specs.Numbers.{VarId}
-use Rattle.ar_base.specs.Texts.{line, separated, text_at}
-use Rattle.ar_base.specs.declared.places.Place.{Place}
-use Rattle.ar_base.proofs.Standing.{stands_map}
+use Rattle.ar_base.specs.Texts.{separated, text_at}
 use Rattle.ar_base.proofs.Lines.{line_after}
 use Rattle.ar_meaning.specs.TraceText.{Naming, place_text}
 use Rattle.ar_meaning.specs.ValueTexts.{value_text}
 use Rattle.flow_rounds.specs.Reasons.{Reason}
-use Rattle.gts_core.specs.declared.system.Assign.{Assign}
-use Rattle.gts_core.specs.declared.system.GtsParts.{GtsParts}
-use Rattle.gts_flatten.specs.Flat.{naming_of_parts}
 use Rattle.flow_reasons.specs.Answers.{numbers_of}
 use Rattle.reason_text.specs.Texts.{path_of, paths_of, from_text, added_text, why_text, reason_line}
 

@@ -53,8 +53,7 @@ IsTold net reasons None n = Unit {0}
 IsTold net reasons (Some e) n = InCone net reasons e n
 
 -- the text of why flows have their values under a valuation: the lines of the reasons of its flows, by number, or, with
--- an observer, of
--- the flows of its cone
+-- an observer, of the flows of its cone
 pub record IsReasonText {V : Type 0} (names : Naming) (net : Net V) (values : List Value) (observer : Option (Expr V))
     (text : List ℕ) : Type 0 where
   pub reasons : List Reason

@@ -12,7 +12,7 @@ use ar_base::{AssignId, VarId};
 use ar_io::{Sink, SinkFailed};
 use flow_reasons::Reason;
 use gts_core::GtsParts;
-use replayer::pieces::{count, number, place, put, value, variable_path};
+use text_pieces::pieces::{count, number, place, put, value, variable_path};
 
 // The lines of those of these reasons whose flows are told.
 pub(crate) fn told_lines<K: Sink>(

@@ -5,15 +5,8 @@ pub mod TotalLemmas
 pub mod FollowLemmas
 pub mod ObeyLemmas
 pub mod PlayLemmas
-pub mod PieceLemmas
-pub mod EventLemmas
-pub mod ScriptLemmas
-pub mod MarkLemmas
-pub mod VisibleLemmas
-pub mod PathLemmas
 pub mod TouchLemmas
 pub mod ChangeLemmas
 pub mod ObservingLemmas
 pub mod SettleLemmas
-pub mod CutLineLemmas
-pub mod CutListLemmas
+pub mod SettledOnce

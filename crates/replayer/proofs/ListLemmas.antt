@@ -26,10 +26,10 @@ use Rattle.gts_core.specs.Sound.{IsSound, IsListed}
 use Rattle.gts_core.specs.declared.system.Event.{Event}
 use Rattle.gts_core.specs.declared.system.GtsParts.{GtsParts}
 use Rattle.gts_flatten.specs.Flat.{naming_of_parts}
-use Rattle.replayer.specs.Flat.{label_of, label_found, way_label}
+use Rattle.text_pieces.specs.WayLabels.{label_of, label_found, way_label}
 use Rattle.replayer.specs.Listing.{AreAnswers, AreInside, HaveInside}
 use Rattle.replayer.specs.Printing.{way_lines, events_lines}
-use Rattle.replayer.proofs.WayLemmas.{label_alike}
+use Rattle.text_pieces.proofs.Ways.{label_alike}
 
 -- the labels of those of these ways that can fire
 abbrev labels_of : (ℕ → Bool) → List WayId → ℕ → ℕ → List Label

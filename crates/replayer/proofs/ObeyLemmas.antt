@@ -1,80 +1,36 @@
 -- What each command answers.
 use Rattle.std.proofs.Common.{◌≡◌, ◌<◌, ℕ, List, [], ◌∷◌, ◌++◌, codes, length, Result, Err, refl, sym, subst, arith}
-use Rattle.std.proofs.lemmas.List.{length-map}
 use Rattle.ar_base.specs.Texts.{line}
-use Rattle.ar_base.proofs.Standing.{stands_within}
 use Rattle.ar_io.specs.Writing.{SinkState, Writes}
 use Rattle.ar_io.specs.declared.outside.SinkFailed.{SinkFailed}
 use Rattle.ar_io.proofs.Writing.{cut_longer, cut_nothing}
 use Rattle.domains.specs.declared.Value.{Value}
 use Rattle.ar_meaning.specs.Systems as s
-use Rattle.ar_meaning.specs.Flows as flows
 use Rattle.ar_meaning.specs.Runs.{Command, Fire, Back, Show, Enabled}
-use Rattle.ar_meaning.specs.Steps.{Step, Refused, Next, flow}
+use Rattle.ar_meaning.specs.Steps.{Step, Refused, Next}
 use Rattle.ar_meaning.specs.Steps as steps
 use Rattle.ar_meaning.specs.TraceText.{Naming, step_fault_text}
 use Rattle.flow_propagate.specs.Answers.{fault_of}
-use Rattle.flow_propagate.specs.declared.propagation.FlowFault.{FlowFault}
-use Rattle.flow_propagate.specs.declared.propagation.FlowFault.TheVariants as found
-use Rattle.gts_core.specs.View.{Views, IsWayAt, net_of, assign_of}
+use Rattle.gts_core.specs.View.{Views, IsWayAt, net_of}
 use Rattle.gts_core.specs.Sound.{IsSound}
 use Rattle.gts_core.specs.Readings.{IsTotal}
 use Rattle.gts_core.specs.declared.system.GtsParts.{GtsParts}
-use Rattle.gts_core.proofs.Viewing.{variables_long}
 use Rattle.gts_flatten.specs.Flat.{naming_of_parts}
 use Rattle.stepper.specs.Steps.{Standing, IsStepFault}
 use Rattle.stepper.specs.declared.faults.StepFault.{StepFault}
 use Rattle.stepper.specs.declared.faults.StepFault.TheVariants as fault
-use Rattle.replayer.specs.Flat.{label_of, way_label, IsInRange}
-use Rattle.replayer.specs.Playing.{AreTotal, Follows, IsBroken, Answers, goes_on, stops, write, memory, IsRefusal}
+use Rattle.text_pieces.specs.WayLabels.{label_of, way_label}
+use Rattle.replayer.specs.Playing.{AreTotal, Follows, Answers, stops, write, memory, IsRefusal}
 use Rattle.replayer.specs.Playing as refusal
-use Rattle.replayer.specs.Printing.{values_text, changes_text, events_lines, step_text, IsFaultInRange}
+use Rattle.replayer.specs.Printing.{values_text, changes_text, events_lines}
+use Rattle.text_pieces.specs.Faults.{step_text}
 use Rattle.replayer.specs.declared.replaying.End.{End}
 use Rattle.replayer.specs.declared.replaying.End.TheVariants.{Fault}
 use Rattle.replayer.specs.declared.replaying.ReplayFault.{ReplayFault}
 use Rattle.replayer.specs.declared.replaying.ReplayFault.TheVariants.{Write, Memory}
 use Rattle.replayer.proofs.FollowLemmas.{going, later, fires_so, fails_so, back_so, no_step_so, shows_so, lists_so}
 use Rattle.replayer.proofs.ListLemmas.{some_answers, is_list}
-use Rattle.replayer.proofs.WayLemmas.{way_named, label_alike}
-
--- Faults
-
--- the number of a fault of the flows is in range
-pub flows_inside : (p : GtsParts) (t : List Value) (f : FlowFault) → flows.Flows (net_of p) t (flows.Fails (fault_of f))
-    → IsInRange p f
-flows_inside p t (found.Two x) (flows.two h) =
-    let w = stands_within (net_of p).variables x.n h.item h.stands in
-    omega (arith, w, variables_long 0 p.variables.items)
-flows_inside p t (found.Outside x) (flows.outside n h) =
-    let w = stands_within (net_of p).variables x.n h.item h.stands in
-    omega (arith, w, variables_long 0 p.variables.items)
-flows_inside p t (found.Broken a) (flows.broken total n m c h) =
-    let w = stands_within (net_of p).assertions a.n h.item h.stands in
-    omega (arith, w, length-map p.assigns.items assign_of)
-
-step_inside : (p : GtsParts) (t : List Value) (w : s.Way ℕ) (f : FlowFault)
-    → Step (net_of p) t w (Refused (steps.Flow (fault_of f))) → IsInRange p f
-step_inside p t w f (flow state c n m r h) = flows_inside p state f h
-
--- so is that of a fault of a step
-pub fault_inside : (p : GtsParts) (t : List Value) (w : s.Way ℕ) (f : StepFault) → IsStepFault (net_of p) t w f
-    → IsFaultInRange p f
-fault_inside p t w fault.NotEnabled h = tt
-fault_inside p t w (fault.Clash x) h = tt
-fault_inside p t w (fault.Range x) h = tt
-fault_inside p t w (fault.Flow f) h = step_inside p t w f h
-fault_inside p t w fault.Memory h = tt
-
--- so is that of the fault of a way that was fired
-pub fire_inside : (p : GtsParts) (sound : IsSound p) (n : ℕ) → n < length p.ways.items → (before : Standing)
-    → before.system ≡ p → (f : StepFault)
-    → ((w : s.Way ℕ) → IsWayAt before.system n w → IsStepFault (net_of before.system) before.values w f)
-    → IsFaultInRange p f
-fire_inside p sound n inside before same f is =
-    let tree = sound.trees n inside in
-    let own = subst (λ (q : GtsParts). (w : s.Way ℕ) → IsWayAt q n w → IsStepFault (net_of q) before.values w f) same
-    is in
-    fault_inside p before.values tree.0 f (own tree.0 tree.1)
+use Rattle.text_pieces.proofs.Ways.{way_named, label_alike}
 
 module _ (p : GtsParts) (sound : IsSound p) (sys : s.System ℕ) (views : Views p sys) where
   -- A text that is cut

@@ -5,25 +5,16 @@ use Rattle.std.proofs.lemmas.List.Sorted.{Contains-permutation, IsPermutation-sy
 use Rattle.std.proofs.lemmas.Bool.{cases_eq}
 use Rattle.ar_base.specs.Lists.{Stands, IsOneOf}
 use Rattle.ar_base.specs.Numbers.{VarId}
-use Rattle.ar_base.proofs.Standing.{stands_within, stands_one, stands_none, stands_map, stands_map_back, stands_some, one_here, one_first, one_rest, one_cases, one_contains, contains_one}
+use Rattle.ar_base.proofs.Standing.{stands_within, stands_one, stands_none, stands_map, stands_map_back, one_here, one_contains, contains_one}
 use Rattle.ar_base.proofs.Sets.{member_told}
 use Rattle.domains.specs.declared.Value.{Value}
-use Rattle.typed_expr.specs.Yields.{Yields}
 use Rattle.typed_expr.specs.Mentions.{Mentions}
-use Rattle.typed_expr.specs.declared.expr.Expr.{Expr, out-Expr}
-use Rattle.typed_expr.specs.declared.expr.ValueKind.{ValueKind}
-use Rattle.typed_expr.proofs.Facts.{yields_named}
-use Rattle.ar_meaning.specs.Facts.{HasValue}
+use Rattle.typed_expr.specs.declared.expr.Expr.{out-Expr}
 use Rattle.ar_meaning.specs.TraceText.{variable_line, observer_line}
-use Rattle.ar_meaning.proofs.ByNumber as number
-use Rattle.gts_core.specs.View.{net_of, numbered, variable_of}
-use Rattle.gts_core.specs.Sound.{IsSound, IsTyped}
+use Rattle.gts_core.specs.Sound.{IsSound}
 use Rattle.gts_core.specs.Readings.{IsTotal, value_at, value_in}
 use Rattle.gts_core.specs.declared.system.GtsParts.{GtsParts}
 use Rattle.gts_core.specs.declared.system.Observer.{Observer}
-use Rattle.gts_core.proofs.Numbering.{yields_numbered, yields_back}
-use Rattle.gts_core.proofs.Reading.{read_value, yielded_value, value_yielded}
-use Rattle.gts_core.proofs.Viewing.{variable_there, are_numbered}
 use Rattle.gts_flatten.specs.Flat.{naming_of_parts}
 use Rattle.flow_propagate.specs.Named.{AddsNamed}
 use Rattle.value_changes.specs.Changes.{numbers, AreChanges}

@@ -20,10 +20,10 @@ use Rattle.gts_flatten.specs.Flat.{naming_of_parts}
 use Rattle.stepper.specs.Steps.{Standing, IsStepFault}
 use Rattle.stepper.specs.declared.faults.StepFault.{StepFault}
 use Rattle.stepper.specs.declared.faults.StepFault.TheVariants as fault
-use Rattle.replayer.specs.Flat.{label_of, way_label}
-use Rattle.replayer.specs.Playing.{IsRefusal, refusal_text}
+use Rattle.text_pieces.specs.WayLabels.{label_of, way_label}
+use Rattle.replayer.specs.Playing.{IsRefusal}
 use Rattle.replayer.specs.Playing as refusal
-use Rattle.replayer.specs.Printing.{step_text}
+use Rattle.text_pieces.specs.Faults.{step_text}
 use Rattle.replayer.specs.Replays.{end_of}
 use Rattle.replayer.specs.Settles.{Settles, IsFaultLine, AnswersSettle, last_standing}
 use Rattle.replayer.specs.Settling.{GoesOn, Stops, AnswersCommand, IsRunning}
@@ -32,7 +32,7 @@ use Rattle.replayer.specs.declared.replaying.End.TheVariants.{Fault}
 use Rattle.replayer.specs.declared.replaying.ReplayFault.{ReplayFault}
 use Rattle.replayer.specs.declared.replaying.ReplayFault.TheVariants.{Write, Memory}
 use Rattle.replayer.proofs.ListLemmas.{some_answers, is_list}
-use Rattle.replayer.proofs.WayLemmas.{way_named, label_alike}
+use Rattle.text_pieces.proofs.Ways.{way_named, label_alike}
 
 module _ (p : GtsParts) (sound : IsSound p) (sys : s.System ℕ) (views : Views p sys) where
   -- a way that is fired

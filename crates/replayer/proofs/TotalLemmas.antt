@@ -9,7 +9,7 @@ use Rattle.typed_expr.proofs.Listing.{contains_told}
 use Rattle.ar_meaning.specs.Systems as s
 use Rattle.ar_meaning.specs.Facts.{HasValue}
 use Rattle.ar_meaning.specs.Runs.{Start}
-use Rattle.ar_meaning.specs.Steps.{LeavesDomain, Receives, changed, kept, Next, Step, moves}
+use Rattle.ar_meaning.specs.Steps.{Receives, changed, kept, Next, Step, moves}
 use Rattle.ar_meaning.specs.Steps as steps
 use Rattle.ar_meaning.specs.Ways.{Effects}
 use Rattle.ar_meaning.proofs.Lengths.{received_long}

@@ -1,16 +1,7 @@
-pub mod Labels
-pub mod Lines
-pub mod Scripts
 pub mod Replays
-pub mod Flat
 pub mod Observing
 pub mod Printing
 pub mod Listing
 pub mod Playing
-pub mod Reads
 pub mod Settles
 pub mod Settling
-pub mod CutLines
-pub mod CutLists
-pub mod Chains
-pub mod CutReads

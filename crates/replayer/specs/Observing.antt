@@ -1,5 +1,5 @@
 -- Which observers name which variable, and which of them are looked at after a step.
-use Rattle.std.specs.Prelude.{◌↔◌, ◌⊎◌, ◌≡◌, ◌<◌, ℕ, List}
+use Rattle.std.specs.Prelude.{◌↔◌, ◌≡◌, ◌<◌, ℕ, List}
 use Rattle.std.specs.List.Sorted.{IsNonDecreasingBy}
 use Rattle.ar_base.specs.Lists.{Stands, IsOneOf}
 use Rattle.ar_base.specs.Numbers.{VarId}

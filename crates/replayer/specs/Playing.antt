@@ -14,8 +14,8 @@ use Rattle.gts_core.specs.declared.system.GtsParts.{GtsParts}
 use Rattle.stepper.specs.Steps.{Standing}
 use Rattle.stepper.specs.declared.faults.StepFault.{StepFault}
 use Rattle.stepper.specs.declared.faults.StepFault.TheVariants as fault
-use Rattle.replayer.specs.Flat.{way_label}
-use Rattle.replayer.specs.Printing.{step_text}
+use Rattle.text_pieces.specs.WayLabels.{way_label}
+use Rattle.text_pieces.specs.Faults.{step_text}
 use Rattle.replayer.specs.Replays.{end_of, IsReplay}
 use Rattle.replayer.specs.declared.replaying.End.{End}
 use Rattle.replayer.specs.declared.replaying.End.TheVariants.{Done, Fault}
@@ -43,8 +43,7 @@ pub record IsBroken (names : Naming) (sys : System ℕ) (below : List (List Valu
   pub cut : Cut old.bytes new.bytes text
 
 -- what one command answers: its text was written and the run goes on from the new standing, or ends in a fault; or the
--- first
--- bytes of what follows were written, where the sink's count of faults rose or memory was refused
+-- first bytes of what follows were written, where the sink's count of faults rose or memory was refused
 pub data Answers (names : Naming) (sys : System ℕ) (before after : Standing) (c : Command)
     (old new : SinkState) : Result End ReplayFault → Type 0 where
   goes_on : {text : List ℕ} → Writes old new text (Ok tt)

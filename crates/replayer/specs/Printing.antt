@@ -1,23 +1,18 @@
 -- The texts of a replay as they are written: the lines of values, of changes and of what can fire, by the parts of a
--- flat
--- system.
+-- flat system.
 use Rattle.std.specs.Prelude.{ℕ, ◌+◌, Bool, if◌then◌else◌, List, [], ◌∷◌, ◌++◌, map, codes, slice_get, Option, Some, None, false}
 use Rattle.ar_base.specs.Numbers.{WayId}
 use Rattle.ar_base.specs.Texts.{line}
 use Rattle.domains.specs.declared.Value.{Value}
 use Rattle.domains.specs.declared.Value.TheVariants.{Truth}
 use Rattle.domains.specs.Same.{is_same}
-use Rattle.ar_meaning.specs.TraceText.{variable_line, observer_line, all_lines, flow_fault_text, step_fault_text}
-use Rattle.ar_meaning.specs.Steps as steps
-use Rattle.flow_propagate.specs.Answers.{fault_of}
+use Rattle.ar_meaning.specs.TraceText.{variable_line, observer_line, all_lines}
 use Rattle.gts_core.specs.Readings.{value_in}
 use Rattle.gts_core.specs.declared.system.Event.{Event}
 use Rattle.gts_core.specs.declared.system.GtsParts.{GtsParts}
 use Rattle.gts_core.specs.declared.system.Observer.{Observer}
 use Rattle.gts_flatten.specs.Flat.{naming_of_parts}
-use Rattle.stepper.specs.declared.faults.StepFault.{StepFault}
-use Rattle.stepper.specs.declared.faults.StepFault.TheVariants as fault
-use Rattle.replayer.specs.Flat.{way_label, IsInRange}
+use Rattle.text_pieces.specs.WayLabels.{way_label}
 
 -- the value of each of these observers under a valuation
 abbrev pub seen_by : List Observer → List Value → List Value
@@ -86,19 +81,3 @@ event_lines p can e = if e.hidden then [] else way_lines p can e.ways.items
 abbrev pub events_lines : GtsParts → (ℕ → Bool) → List Event → List ℕ
 events_lines p can [] = []
 events_lines p can (e ∷ es) = event_lines p can e ++ events_lines p can es
-
--- a fault of a step by numbers; want of memory has no text
-abbrev pub step_text : GtsParts → StepFault → List ℕ
-step_text p fault.NotEnabled = step_fault_text (naming_of_parts p) steps.NotEnabled
-step_text p (fault.Clash x) = step_fault_text (naming_of_parts p) (steps.Clash x.n)
-step_text p (fault.Range x) = step_fault_text (naming_of_parts p) (steps.Range x.n)
-step_text p (fault.Flow f) = flow_fault_text (naming_of_parts p) (fault_of f)
-step_text p fault.Memory = []
-
--- the numbers of a fault of a step are in range
-abbrev pub IsFaultInRange : GtsParts → StepFault → Type 0
-IsFaultInRange p fault.NotEnabled = Unit {0}
-IsFaultInRange p (fault.Clash x) = Unit {0}
-IsFaultInRange p (fault.Range x) = Unit {0}
-IsFaultInRange p (fault.Flow f) = IsInRange p f
-IsFaultInRange p fault.Memory = Unit {0}

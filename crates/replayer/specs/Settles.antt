@@ -41,8 +41,7 @@ pub record IsFaultLine {V : Type 0} (names : Naming) (sys : System V) (cs : List
   pub told : MomentText names sys fault text
 
 -- what settling answers: the last standing valuation, and nothing was written; or the run ends in a fault, whose line
--- alone
--- was written, or its first bytes where the sink failed; or memory was refused, and nothing was written
+-- alone was written, or its first bytes where the sink failed; or memory was refused, and nothing was written
 abbrev pub AnswersSettle : {V : Type 0} → Naming → System V → List Command → SinkState → SinkState
     → Result (Option Valuation) ReplayFault → Type 0
 AnswersSettle names sys cs old new (Ok (Some t)) = Settles sys cs t.values.items × (new ≡ old)

@@ -29,8 +29,7 @@ pub record Stops (names : Naming) (sys : System ℕ) (before : Standing) (c : Co
   pub told : MomentText names sys fault text
 
 -- what one command answers: the run goes on, and nothing was written; or it meets a fault, whose text was written, or
--- its
--- first bytes where the sink failed; or memory was refused, and nothing was written
+-- its first bytes where the sink failed; or memory was refused, and nothing was written
 abbrev pub AnswersCommand : Naming → System ℕ → Standing → Standing → Command → SinkState → SinkState
     → Result End ReplayFault → Type 0
 AnswersCommand names sys before after c old new (Ok Done) = GoesOn sys before after c × (new ≡ old)

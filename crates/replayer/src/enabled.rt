@@ -4,16 +4,16 @@ ghost use Rattle.std.specs.Prelude.{◌≡◌, ◌<◌, ◌++◌, ℕ, Bool, [],
 ghost use Rattle.ar_base.specs.Texts.{line};
 ghost use Rattle.ar_io.specs.Writing.{Writes};
 ghost use Rattle.gts_core.specs.Sound.{IsSound};
-ghost use Rattle.replayer.specs.Flat.{way_label};
+ghost use Rattle.text_pieces.specs.WayLabels.{way_label};
 ghost use Rattle.replayer.specs.Listing.{AreAnswers, AreInside, HaveInside};
 ghost use Rattle.replayer.specs.Printing.{way_lines, event_lines, events_lines};
 
-use crate::labels::print_label;
-use crate::pieces::put;
 use ar_base::WayId;
 use ar_io::{Sink, SinkFailed};
 use gts_core::{Event, Gts};
 use stepper::Stepper;
+use text_pieces::pieces::put;
+use text_pieces::print_label;
 
 /// Writes the labels of the visible ways that can fire, by event and way.
 pub(crate) fn enabled_lines<K: Sink>(

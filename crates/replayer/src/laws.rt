@@ -1,6 +1,6 @@
-//! What follows from the definitions of replays and of lists of cuts.
+//! What follows from the definition of replays.
 
-ghost use Rattle.std.specs.Prelude.{◌≡◌, ◌↔◌, ℕ, List, Result};
+ghost use Rattle.std.specs.Prelude.{◌≡◌, ◌↔◌, ℕ, List};
 ghost use Rattle.domains.specs.declared.Value.{Value};
 ghost use Rattle.ar_meaning.specs.Runs.{Command as RunCommand};
 ghost use Rattle.ar_meaning.specs.Systems.{System};
@@ -9,9 +9,7 @@ ghost use Rattle.gts_core.specs.View.{Views};
 ghost use Rattle.gts_core.specs.declared.system.GtsParts.{GtsParts};
 ghost use Rattle.gts_flatten.specs.Elaborating.{Elaborated};
 ghost use Rattle.gts_flatten.specs.Flat.{IsFlat, naming_of, naming_of_parts};
-ghost use Rattle.replayer.specs.CutLists.{CutLine, CutList, HaveOneMeaning};
 ghost use Rattle.replayer.specs.Replays.{IsReplay};
-ghost use Rattle.replayer.specs.Scripts.{BadLine};
 ghost use Rattle.replayer.specs.Settles.{Settles, IsFaultLine};
 ghost use Rattle.replayer.specs.declared.replaying.End.{End as TheEnd};
 
@@ -47,11 +45,4 @@ pub fn one_settling<V>()
     ensures no_fault { (sys : System V) (commands : List RunCommand) (t : List Value)
         (names : Naming) (text : List ℕ)
         → Settles sys commands t → IsFaultLine names sys commands text → ⊥ }
-{}
-
-/// A list has one reading: it gives its cut lines in one way, or one line of it is the first bad one. This rests on labels
-/// that name one way each and need no other number.
-pub fn one_list()
-    ensures { (x : Elaborated) → HaveOneMeaning x → (text : List ℕ)
-        (a b : Result (List CutLine) BadLine) → CutList text x a → CutList text x b → a ≡ b }
 {}

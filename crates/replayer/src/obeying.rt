@@ -5,13 +5,12 @@ ghost use Rattle.ar_meaning.specs.Systems.{System};
 ghost use Rattle.gts_core.specs.Sound.{IsSound};
 ghost use Rattle.gts_core.specs.View.{Views};
 ghost use Rattle.gts_flatten.specs.Flat.{naming_of_parts};
-ghost use Rattle.replayer.specs.Flat.{command_of, IsFirable};
+ghost use Rattle.script_lines.specs.Flat.{command_of, IsFirable};
 ghost use Rattle.replayer.specs.Observing.{IsLatest};
 ghost use Rattle.replayer.specs.Playing.{AreTotal, Answers, IsRefusal};
-ghost use Rattle.replayer.specs.Printing.{IsFaultInRange};
+ghost use Rattle.text_pieces.specs.Faults.{IsFaultInRange};
 ghost use Rattle.replayer.specs.declared.replaying.End.TheVariants.{Done};
 
-use crate::commands::Command;
 use crate::latest::{Latest, follow};
 use crate::replaying::{End, ReplayFault};
 use crate::touched::touched;
@@ -19,6 +18,7 @@ use crate::trace::{fired, gone_back, listed, no_step, not_fired, shown};
 use ar_base::WayId;
 use ar_io::Sink;
 use gts_core::Gts;
+use script_lines::Command;
 use std::alloc::Global;
 use stepper::{NoStep, StepFault, Stepper};
 

@@ -6,11 +6,10 @@ ghost use Rattle.ar_meaning.specs.Systems.{System};
 ghost use Rattle.gts_core.specs.Sound.{IsSound};
 ghost use Rattle.gts_core.specs.View.{Views, net_of};
 ghost use Rattle.gts_flatten.specs.Flat.{naming_of_parts};
-ghost use Rattle.replayer.specs.Flat.{command_of, AreFirable};
+ghost use Rattle.script_lines.specs.Flat.{command_of, AreFirable};
 ghost use Rattle.replayer.specs.Replays.{AnswersReplay};
 ghost use Rattle.stepper.specs.Steps.{IsStartFault};
 
-use crate::commands::Command;
 use crate::latest::at_start;
 use crate::obeying::obey;
 use crate::trace::{ended, not_started, started};
@@ -18,6 +17,7 @@ use ar_base::Memory;
 use ar_io::{Sink, SinkFailed};
 use flow_propagate::PropagateFault;
 use gts_core::Gts;
+use script_lines::Command;
 use std::alloc::Global;
 use stepper::Stepper;
 

@@ -7,12 +7,11 @@ ghost use Rattle.gts_core.specs.Readings.{IsTotal};
 ghost use Rattle.gts_core.specs.Sound.{IsSound};
 ghost use Rattle.gts_core.specs.View.{Views, net_of};
 ghost use Rattle.gts_flatten.specs.Flat.{naming_of_parts};
-ghost use Rattle.replayer.specs.Flat.{command_of, AreFirable, IsFirable};
+ghost use Rattle.script_lines.specs.Flat.{command_of, AreFirable, IsFirable};
 ghost use Rattle.replayer.specs.Settles.{AnswersSettle};
 ghost use Rattle.replayer.specs.Settling.{AnswersCommand};
 ghost use Rattle.stepper.specs.Steps.{IsStartFault};
 
-use crate::commands::Command;
 use crate::obeying::refuse;
 use crate::replaying::{End, ReplayFault};
 use crate::trace::{no_step, not_started};
@@ -21,6 +20,7 @@ use ar_io::Sink;
 use domains::Value;
 use flow_propagate::PropagateFault;
 use gts_core::{Gts, Valuation};
+use script_lines::Command;
 use std::alloc::Global;
 use stepper::{NoStep, Stepper};
 

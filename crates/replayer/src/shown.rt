@@ -14,11 +14,11 @@ ghost use Rattle.value_changes.specs.Changes.{numbers, AreChanges};
 ghost use Rattle.replayer.specs.Observing.{AreTouched};
 ghost use Rattle.replayer.specs.Printing.{values_text, change_text, observer_lines, observer_value, texts_of, changes_text};
 
-use crate::pieces::{put, value, variable_path};
 use ar_base::VarId;
 use ar_io::{Sink, SinkFailed};
 use domains::Value;
 use gts_core::{GtsParts, Observer, value_in};
+use text_pieces::pieces::{put, value, variable_path};
 
 /// Writes the lines of all variables and observers.
 pub(crate) fn all_lines<K: Sink>(

@@ -1,21 +1,21 @@
 //! The lines of a trace, moment by moment.
 
 ghost use Rattle.std.specs.Prelude.{◌≡◌, ◌<◌, ◌++◌, ℕ, Bool, codes, decimal, length};
-ghost use Rattle.ar_base.specs.Texts.{text_at, line};
+ghost use Rattle.ar_base.specs.Texts.{line};
 ghost use Rattle.ar_io.specs.Writing.{Writes};
 ghost use Rattle.ar_meaning.specs.TraceText.{flow_fault_text};
 ghost use Rattle.flow_propagate.specs.Answers.{fault_of};
 ghost use Rattle.gts_core.specs.Readings.{IsTotal};
 ghost use Rattle.gts_flatten.specs.Flat.{naming_of_parts};
-ghost use Rattle.replayer.specs.Flat.{way_label, IsInRange};
+ghost use Rattle.text_pieces.specs.WayLabels.{way_label};
+ghost use Rattle.text_pieces.specs.Faults.{IsInRange};
 ghost use Rattle.replayer.specs.Listing.{AreAnswers};
 ghost use Rattle.value_changes.specs.Changes.{AreChanges};
 ghost use Rattle.replayer.specs.Observing.{AreTouched};
-ghost use Rattle.replayer.specs.Printing.{values_text, changes_text, events_lines, step_text, IsFaultInRange};
+ghost use Rattle.replayer.specs.Printing.{values_text, changes_text, events_lines};
+ghost use Rattle.text_pieces.specs.Faults.{step_text, IsFaultInRange};
 
 use crate::enabled::enabled_lines;
-use crate::labels::{print_flow_fault, print_label};
-use crate::pieces::{count, put, variable_path};
 use crate::shown::{all_lines, changed_lines};
 use ar_base::{VarId, WayId};
 use ar_io::{Sink, SinkFailed};
@@ -23,6 +23,8 @@ use domains::Value;
 use flow_propagate::FlowFault;
 use gts_core::Gts;
 use stepper::{StepFault, Stepper};
+use text_pieces::pieces::{count, put};
+use text_pieces::{print_flow_fault, print_label, print_step_fault};
 
 /// Writes the lines of a start.
 pub(crate) fn started<K: Sink>(out: &mut K, gts: &Gts, values: &[Value]) -> Result<(), SinkFailed>
@@ -91,40 +93,8 @@ pub(crate) fn not_fired<K: Sink>(
     put(out, "fault: ")?;
     print_label(gts, way, out)?;
     put(out, ": ")?;
-    step_fault(out, gts, fault)?;
+    print_step_fault(gts, fault, out)?;
     put(out, "\n")
-}
-
-// What a fault of a step is.
-fn step_fault<K: Sink>(out: &mut K, gts: &Gts, fault: StepFault) -> Result<(), SinkFailed>
-    requires { IsFaultInRange gts.now fault }
-    ensures { Writes (K.state out.old) (K.state out.new) (step_text gts.now fault) result }
-{
-    match fault {
-        StepFault::NotEnabled => put(out, "not enabled"),
-        StepFault::Clash(x) => clash(out, gts, x.n),
-        StepFault::Range(x) => outside(out, gts, x.n),
-        StepFault::Flow(flow) => print_flow_fault(gts, flow, out),
-        StepFault::Memory => put(out, ""),
-    }
-}
-
-// That a variable receives two values.
-fn clash<K: Sink>(out: &mut K, gts: &Gts, n: u32) -> Result<(), SinkFailed>
-    ensures { Writes (K.state out.old) (K.state out.new)
-        (codes "two values for " ++ text_at (naming_of_parts gts.now).variables n) result }
-{
-    put(out, "two values for ")?;
-    put(out, variable_path(gts.parts(), n))
-}
-
-// That a variable receives a value outside its domain.
-fn outside<K: Sink>(out: &mut K, gts: &Gts, n: u32) -> Result<(), SinkFailed>
-    ensures { Writes (K.state out.old) (K.state out.new)
-        (text_at (naming_of_parts gts.now).variables n ++ codes " outside its domain") result }
-{
-    put(out, variable_path(gts.parts(), n))?;
-    put(out, " outside its domain")
 }
 
 /// Writes the lines of a step that was taken back.

@@ -21,7 +21,7 @@ use Rattle.ar_meaning.specs.Image.{Assign_renames, Conditions_rename}
 use Rattle.ar_meaning.specs.Image as i
 use Rattle.gts_core.specs.View.{numbered}
 use Rattle.gts_core.specs.Bound as g
-use Rattle.gts_core.specs.Bound.{act_step, assigns_under, place_step, places_of_act}
+use Rattle.gts_core.specs.Bound.{act_step, assigns_under, places_of_act}
 use Rattle.gts_core.proofs.Numbering.{source_numbered}
 use Rattle.gts_core.proofs.ActForms.{placed, each_placed}
 use Rattle.gts_core.specs.declared.bound.Act.{Act, out-Act}
@@ -34,7 +34,7 @@ use Rattle.bind_expressions.specs.declared.naming.Leaf.{Leaf}
 use Rattle.bind_expressions.specs.declared.naming.Leaf.TheVariants as leaf
 use Rattle.bind_instructions.specs.Parts.{InstrForm, IsPartOf}
 use Rattle.bind_instructions.specs.Parts as part
-use Rattle.bind_acts.specs.Acting.{SetsTo, SetsBoth, ActsAs, ElseActs, All_act}
+use Rattle.bind_acts.specs.Acting.{SetsBoth, ActsAs, ElseActs, All_act}
 use Rattle.bind_acts.specs.Acting as acts
 use Rattle.hierarchy.specs.Models.{RootedModel}
 use Rattle.hierarchy.specs.Units.{UnitPath, Thing}

@@ -13,7 +13,7 @@ use Rattle.typed_expr.specs.Renames as r
 use Rattle.typed_expr.specs.declared.expr.Expr.{Expr, out-Expr}
 use Rattle.typed_expr.specs.declared.expr.Expr.TheOpen.{Variable}
 use Rattle.typed_expr.specs.declared.expr.ValueKind.TheVariants.{Truth, Whole}
-use Rattle.bind_expressions.specs.Operands.{RawLevel, level_of, AnyKind, OfKind, Like, Operand, wanting, each_wanting, terms, first_branch, is_equality, sides_by, operands_of, PathIn}
+use Rattle.bind_expressions.specs.Operands.{RawLevel, level_of, AnyKind, OfKind, Like, Operand, wanting, first_branch, is_equality, sides_by, operands_of, PathIn}
 use Rattle.bind_expressions.specs.Operands as in_form
 use Rattle.bind_expressions.specs.Wrong.{IsMistyped}
 use Rattle.bind_expressions.specs.Wrong as wrong

@@ -2,7 +2,7 @@
 use Rattle.std.proofs.Common.{◌≡◌, ℕ, zero, suc, ◌+◌, ◌⊎◌, inl, inr, Bool, true, false, List, [], ◌∷◌, ◌++◌, map, length, refl, sym, ◌∙◌, ap, subst, arith}
 use Rattle.std.specs.List.{flat_map, filter}
 use Rattle.ar_base.specs.Lists.{Stands, IsOneOf, AreDifferent}
-use Rattle.ar_base.proofs.Standing.{stands_none, stands_split, stands_map_back, one_here, one_rest}
+use Rattle.ar_base.proofs.Standing.{stands_none, stands_split, stands_map_back, one_here}
 use Rattle.class_table.specs.Members.{NamedMember, MemberKind}
 use Rattle.hierarchy.specs.Models.{RootedModel, IsKept}
 use Rattle.hierarchy.specs.Units.{UnitPath, Thing, names_at}

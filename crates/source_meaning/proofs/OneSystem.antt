@@ -12,11 +12,10 @@ use Rattle.typed_expr.specs.Renames as r
 use Rattle.typed_expr.specs.declared.expr.Expr.{Expr, out-Expr}
 use Rattle.typed_expr.specs.declared.expr.Expr.TheOpen.{Variable as Named}
 use Rattle.ar_meaning.specs.Systems as s
-use Rattle.ar_meaning.specs.Image.{Assign_renames, Conditions_rename, Variable_renames, Transition_renames, Expr_renames}
+use Rattle.ar_meaning.specs.Image.{Assign_renames, Conditions_rename, Variable_renames, Expr_renames}
 use Rattle.ar_meaning.specs.Image as i
 use Rattle.ar_meaning.specs.Expand.{Declared, Member, AreKeyed}
 use Rattle.ar_meaning.specs.ExpandImage.{Part_renames, Member_renames, transitions, synchronise, Declared_renames}
-use Rattle.ar_meaning.specs.Found.{IsAnswer}
 use Rattle.ar_meaning.proofs.ImageWays.{along_map, events_along}
 use Rattle.ar_meaning.proofs.OneRun.{events_same}
 use Rattle.ar_meaning.proofs.ImageTurned.{along_turned}
@@ -35,7 +34,7 @@ use Rattle.source_meaning.specs.Acts as a
 use Rattle.bind_instructions.specs.Parts.{InstrForm}
 use Rattle.bind_expressions.specs.Operands.{level_of}
 use Rattle.source_meaning.specs.Means.{Means}
-use Rattle.source_meaning.specs.Systems.{IsVariable, IsObserver, AreAsserted, IsPart, IsMember, IsHidden, IsEvent, AreOf, Declarations, HasDeclarations, IsSystemOf}
+use Rattle.source_meaning.specs.Systems.{IsVariable, IsObserver, AreAsserted, IsPart, IsMember, IsHidden, IsEvent, IsSystemOf}
 use Rattle.source_meaning.specs.Systems as b
 use Rattle.source_meaning.proofs.OneMeaning.{means_same, value_same, leads_same}
 

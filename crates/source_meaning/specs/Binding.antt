@@ -102,8 +102,7 @@ pub record IsBound (m : RootedModel) (units : List UnitPath) (tree : Tree) (b : 
   pub bound : IsBoundFrom declarations b
 
 -- what the binding of a model with these units answers: the bound forms, or the least broken rule of L10 to L13 with
--- its earliest place, or want of
--- memory, which may be told of any tree; no limit is told
+-- its earliest place, or want of memory, which may be told of any tree; no limit is told
 pub record BindsTo (t : Unfolded) (answer : Result Bound RuleFault) : Type 0 where
   pub meets : Meets Binds IsBoundFrom t answer
   pub no_limit : (c : Count) → answer ≡ Err (Limit c) → ⊥

@@ -1,7 +1,6 @@
 -- What it is that a bound instruction is a written one.
-use Rattle.std.specs.Prelude.{◌≡◌, ℕ, List, [], ◌∷◌, ◌++◌, Option, Box}
+use Rattle.std.specs.Prelude.{◌≡◌, ℕ, List, [], Option, Box}
 use Rattle.std.specs.Global.{Global}
-use Rattle.std.specs.List.{flat_map}
 use Rattle.ar_base.specs.Lists.{Stands, Along}
 use Rattle.ar_base.specs.declared.places.Place.{Place}
 use Rattle.ar_syntax.specs.declared.expressions.RawExpr.{RawExpr}
@@ -35,8 +34,7 @@ pub data IsTargetOf (p : Path) : InstrForm → Type 0 where
   right : {q : Path} → IsTargetOf p (instr.Tie q p)
 
 -- of the instruction and of those in it: their targets are variables, what stands for their paths is what these name,
--- and nothing in their
--- expressions has a wrong kind
+-- and nothing in their expressions has a wrong kind
 pub record AreLeaves (m : RootedModel) (units : List UnitPath) (u : UnitPath) (leaves : Path → Leaf)
     (whole : InstrForm) : Type 0 where
   pub targets : (i : InstrForm) (p : Path) → IsPartOf i whole → IsTargetOf p i → NamesVariable m u p

@@ -54,8 +54,7 @@ pub record AreFew (b : Bound) : Type 0 where
   pub observers : length b.observers.items < 2 ^ 32
 
 -- what bound forms keep: variables have units, and values of their domains; guards are truth values; actions assign
--- state variables and
--- assertions flows; parts are events; observers have their kinds
+-- state variables and assertions flows; parts are events; observers have their kinds
 pub record IsSoundBound (b : Bound) : Type 0 where
   pub few : AreFew b
   pub variables : (p : GtsParts) → IsOver b p → (n : ℕ) (x : Variable) → Stands b.variables.items n x → IsVariable p x

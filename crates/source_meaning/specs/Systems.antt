@@ -100,8 +100,7 @@ pub record IsObserver (m : RootedModel) (t : Thing) (e : Expr Thing) : Type 0 wh
 -- The system
 
 -- what the declarations of a tree say: its variables and assertions, its events as they are declared, its observers,
--- and where the targets of
--- the assertions' assignments stand
+-- and where the targets of the assertions' assignments stand
 pub record Declarations : Type 0 where
   pub model : RootedModel
   pub units : List UnitPath

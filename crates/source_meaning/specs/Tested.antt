@@ -62,8 +62,7 @@ pub data HasValue (m : RootedModel) (units : List UnitPath) (t : Thing) : Type 0
   of_parameter : IsOneOf (parameters m units) t → Has m is_valued t → HasValue m units t
 
 -- the expression, of which this kind is wanted, is tested where it stands in the unit, apart from those in
--- instructions: a value in force,
--- an observer or a guard
+-- instructions: a value in force, an observer or a guard
 pub data Tested (m : RootedModel) (units : List UnitPath) : UnitPath → Scope → ValueKind → RawExpr → Type 0 where
   value : {k : ValueKind} (t : Thing) (a : Attribute) → HasValue m units t → in_force m t ≡ Some a → IsOfKind m t k
       → Tested m units a.unit (scope_of t.name a.setting) k a.value

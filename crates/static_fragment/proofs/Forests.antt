@@ -9,7 +9,7 @@ use Rattle.ar_meaning.specs.Systems.{System}
 use Rattle.ar_meaning.specs.Runs.{Label}
 use Rattle.ar_firing.specs.Fragment.{root, edge, IsReached}
 use Rattle.ar_firing.specs.Fragment as f
-use Rattle.ar_firing.specs.Forest.{Row, Under, no_more, next, IsModeVariable, IsModeTree, IsForest}
+use Rattle.ar_firing.specs.Forest.{Row, Under, no_more, next, IsModeTree, IsForest}
 use Rattle.ar_firing.specs.Forest as firing
 use Rattle.ar_firing.specs.Rules.{KeepsS1, KeepsS2}
 use Rattle.gts_core.specs.View.{Views}

@@ -1,9 +1,8 @@
 -- Where no event is reached from itself, each has ways.
-use Rattle.std.proofs.Common.{◌≡◌, ℕ, zero, suc, ◌+◌, ◌<◌, ◌≤◌, ◌⊎◌, List, [], ◌∷◌, length, refl, sym, ◌∙◌, subst, inl, inr, arith}
-use Rattle.std.proofs.lemmas.Bool.{cases_lt, cases_eq}
+use Rattle.std.proofs.Common.{◌≡◌, ℕ, zero, suc, ◌+◌, ◌<◌, ◌≤◌, List, [], ◌∷◌, length, refl, sym, subst, inl, inr, arith}
 use Rattle.ar_base.specs.Breach.{AreKept}
 use Rattle.ar_base.specs.Lists.{IsOneOf}
-use Rattle.ar_base.proofs.Standing.{stands_some, stands_within, one_none, one_first, one_rest, one_cases}
+use Rattle.ar_base.proofs.Standing.{stands_some, stands_within, one_none, one_cases}
 use Rattle.ar_base.proofs.Few.{AllDiffer, nothing, new, few}
 use Rattle.ar_meaning.specs.Systems.{Tree, Transition}
 use Rattle.ar_meaning.specs.Expand.{ReachesPart, part_of, Ways, event}

@@ -1,9 +1,6 @@
 -- The first of links.
-use Rattle.std.proofs.Common.{◌≡◌, ℕ, ◌+◌, ◌<◌, ◌≤◌, ◌⊎◌, List, length, Option, Some, None, sym, ap, subst, inl, inr, arith}
-use Rattle.std.proofs.lemmas.Bool.{cases_lt}
-use Rattle.ar_base.specs.Breach.{IsEarlier}
+use Rattle.std.proofs.Common.{◌≡◌, ℕ, ◌+◌, ◌<◌, ◌≤◌, ◌⊎◌, List, length, Option, Some, None, sym, subst, inl, inr, arith}
 use Rattle.ar_base.specs.Lists.{Stands}
-use Rattle.ar_base.specs.declared.places.Place.{Place}
 use Rattle.ar_base.proofs.Standing.{stands_one, stands_within}
 use Rattle.ar_base.proofs.Comparing.{lt_or_same, earlier_then, earlier_not}
 use Rattle.gts_core.specs.declared.bound.DeclaredEvent.{DeclaredEvent}

@@ -1,7 +1,7 @@
 -- What the steps of a round tell: conditions, assignments, what they give, and what a flow is known to be.
 use Rattle.std.proofs.Common.{◌≡◌, ℕ, zero, suc, ◌⊎◌, inl, inr, Bool, true, false, if◌then◌else◌, nat_eq, List, [], ◌∷◌, Contains, refl, sym, ap, ◌∙◌, subst}
 use Rattle.std.specs.Cmp.{unsigned_Decides}
-use Rattle.ar_base.specs.Lists.{Stands, IsOneOf, Along}
+use Rattle.ar_base.specs.Lists.{Stands, IsOneOf}
 use Rattle.ar_base.specs.Lists as l
 use Rattle.ar_base.proofs.Standing.{stands_one, one_cases, one_first, one_rest, one_none}
 use Rattle.domains.specs.declared.Value.{Value}

@@ -1,9 +1,9 @@
 -- Before the rounds a state variable reads its value in the set's state, and a flow nothing.
 use Rattle.std.proofs.Common.{◌≡◌, ℕ, zero, suc, ◌+◌, ◌⊎◌, inl, inr, Bool, true, false, if◌then◌else◌, nat_eq, List, [], ◌∷◌, Contains, refl, sym, ap, ◌∙◌, subst, arith}
 use Rattle.std.specs.Cmp.{unsigned_Decides}
-use Rattle.ar_base.specs.Lists.{Stands, IsOneOf, Along}
+use Rattle.ar_base.specs.Lists.{Stands, Along}
 use Rattle.ar_base.specs.Lists as l
-use Rattle.ar_base.proofs.Standing.{stands_one, stands_none, one_cases, one_first, one_none}
+use Rattle.ar_base.proofs.Standing.{stands_one, stands_none, one_none}
 use Rattle.domains.specs.declared.Value.{Value}
 use Rattle.ar_meaning.specs.Systems.{Variable, System}
 use Rattle.ar_meaning.specs.Runs.{Label}
@@ -13,9 +13,7 @@ use Rattle.ar_firing.specs.Static.{IsStatic}
 use Rattle.ar_firing.specs.Cuts.{IsFirable}
 use Rattle.ar_firing.specs.Forest.{ModeTree, IsForest, IsModeVariable}
 use Rattle.ar_firing.proofs.ModesOfSets.{comes_by}
-use Rattle.eq_core.specs.Gates.{Always, Gate}
-use Rattle.eq_core.specs.Values.{Tells}
-use Rattle.eq_core.proofs.Telling.{tells_always}
+use Rattle.eq_core.specs.Gates.{Gate}
 use Rattle.eq_build.specs.Entries.{Entry, only}
 use Rattle.eq_build.specs.Tells.{AreEntries}
 use Rattle.eq_build.proofs.EntriesTell.{entries_as}

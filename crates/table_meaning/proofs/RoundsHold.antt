@@ -2,7 +2,7 @@
 -- gives.
 use Rattle.std.proofs.Common.{◌≡◌, ◌↔◌, ℕ, zero, suc, ◌<◌, ◌⊎◌, inl, inr, Bool, true, false, nat_eq, List, ◌∷◌, refl, sym, ◌∙◌, subst, arith}
 use Rattle.std.specs.Cmp.{unsigned_Decides}
-use Rattle.ar_base.specs.Lists.{Stands, IsOneOf, Along}
+use Rattle.ar_base.specs.Lists.{IsOneOf, Along}
 use Rattle.ar_base.specs.Lists as l
 use Rattle.ar_base.proofs.Standing.{one_cases, one_first, one_rest, one_none}
 use Rattle.domains.specs.declared.Value.{Value}

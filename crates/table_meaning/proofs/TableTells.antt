@@ -1,7 +1,7 @@
 -- The table's two operands at a set: a conflict is seen exactly where there is one, and the observer's value is that
 -- under the total reading.
 use Rattle.std.proofs.Common.{◌≡◌, ◌↔◌, ℕ, zero, suc, ◌+◌, ◌⊎◌, inl, inr, Bool, true, false, List, [], ◌∷◌, map, Contains, refl, sym, ap, ◌∙◌, subst, arith}
-use Rattle.ar_base.specs.Lists.{Stands, IsOneOf, Along}
+use Rattle.ar_base.specs.Lists.{Stands, Along}
 use Rattle.ar_base.specs.Lists as l
 use Rattle.ar_base.proofs.Standing.{stands_one, stands_map, stands_map_back, one_here}
 use Rattle.domains.specs.declared.Value.{Value}

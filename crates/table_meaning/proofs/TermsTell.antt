@@ -2,9 +2,9 @@
 use Rattle.std.proofs.Common.{◌≡◌, ℕ, ◌⊎◌, inl, inr, Bool, true, false, if◌then◌else◌, List, [], ◌∷◌, ◌++◌, length, Contains, refl, sym, ap, subst}
 use Rattle.ar_base.specs.Lists.{IsOneOf, Along}
 use Rattle.ar_base.proofs.Standing.{stands_map, stands_map_back, one_cases, one_first, one_rest, one_none, one_left, one_right, one_split, along_back, along_on}
-use Rattle.domains.specs.Same.{is_same, has_value}
+use Rattle.domains.specs.Same.{has_value}
 use Rattle.domains.specs.declared.Value.{Value}
-use Rattle.domains.proofs.Same.{same_self, has_in, in_has}
+use Rattle.domains.proofs.Same.{has_in, in_has}
 use Rattle.eq_core.specs.Gates.{Operand, Gate}
 use Rattle.eq_core.specs.Ordered.{AreBelow}
 use Rattle.eq_core.specs.Values.{Tells, EachTrue}

@@ -1,1 +1,2 @@
 pub mod TableThere
+pub mod OneTable

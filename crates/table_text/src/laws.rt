@@ -21,7 +21,6 @@ ghost use Rattle.table_steps.specs.Table.{IsTable};
 ghost use Rattle.aralia_text.specs.Texts.{equations_text};
 ghost use Rattle.table_text.specs.Texts.{IsTableFor, IsTableText};
 
-use ar_firing::listing::one_forest;
 use gts_core::laws::{lawful_systems, one_system};
 use table_steps::one_table;
 
@@ -57,7 +56,4 @@ pub fn one_table_of_the_source<V>()
     ensures { (things : List V) (sys : System V) (dropped : List ℕ) → IsKeyedStatic sys dropped
         → (n : ℕ) (wanted : Value) (one other : Table) → IsTableFor things sys dropped n wanted one
         → IsTableFor things sys dropped n wanted other → one ≡ other }
-{
-    one_forest::<V>();
-    one_table();
-}
+{}

@@ -1,12 +1,6 @@
 -- What the domains of the variables allow.
-use Rattle.std.proofs.Common.{◌≡◌, ◌<◌, ◌≤◌, ◌+◌, ℕ, ◌⊎◌, inl, inr, Bool, true, false, List, [], ◌∷◌, ◌++◌, map, take, take_all, get_or, length, slice_get, Contains, Option, Some, None, Vec, Global, refl, sym, ap, ◌∙◌, subst, arith}
-use Rattle.std.specs.List.{range_with_len}
-use Rattle.std.proofs.lemmas.List.{length_push, take_more}
-use Rattle.std.proofs.lemmas.List.Elements.{Contains-push_cases}
-use Rattle.std.proofs.lemmas.List.FromFn.{length-map-range_with_len, take-map-range_with_len, get_or-map-range_with_len}
-use Rattle.ar_base.specs.Lists.{Stands, IsOneOf}
+use Rattle.std.proofs.Common.{◌≡◌, Bool, true, false, List, length, Contains, refl}
 use Rattle.ar_base.specs.Numbers.{VarId}
-use Rattle.ar_base.proofs.Standing.{stands_one, stands_within, stands_some, stands_split, stands_get, one_none, one_cases, one_contains, only_item}
 use Rattle.domains.specs.Domains.{IsDomain, Holds, values_of}
 use Rattle.domains.specs.Same.{has_value}
 use Rattle.domains.proofs.Same.{has_in, in_has}
@@ -15,11 +9,9 @@ use Rattle.domains.specs.declared.Value.{Value}
 use Rattle.typed_expr.specs.Rows.{Rows}
 use Rattle.typed_expr.specs.Yields.{Yields}
 use Rattle.typed_expr.specs.declared.expr.Expr.{out-Expr}
-use Rattle.ar_meaning.specs.Systems as s
 use Rattle.ar_meaning.specs.Facts.{Allows}
 use Rattle.ar_meaning.specs.Found.{IsAnswer}
-use Rattle.gts_core.specs.View.{net_of, variable_of}
-use Rattle.gts_core.proofs.Viewing.{variable_there, variable_back}
+use Rattle.gts_core.specs.View.{net_of}
 use Rattle.gts_core.proofs.Numbering.{yields_numbered, yields_back}
 use Rattle.gts_core.specs.declared.system.Assign.{Assign}
 use Rattle.typed_expr.specs.Sets.{HasExactly}

@@ -1,27 +1,24 @@
 -- Flows, the assignments to each variable, and blocks by numbers.
-use Rattle.std.proofs.Common.{◌≡◌, ℕ, zero, suc, ◌+◌, ◌<◌, inl, inr, Bool, true, false, not, cond, if◌then◌else◌, nat_eq, List, [], ◌∷◌, ◌++◌, length, take, drop, set, get_or, map, unwrap_or, Some, Vec, Global, refl, sym, ap, ◌∙◌, subst, arith, append_assoc, append-nil, add-one}
+use Rattle.std.proofs.Common.{◌≡◌, ℕ, zero, suc, ◌+◌, ◌<◌, inl, inr, Bool, true, false, not, cond, if◌then◌else◌, nat_eq, List, [], ◌∷◌, ◌++◌, length, take, drop, set, map, Some, Vec, Global, refl, sym, ap, ◌∙◌, subst, arith, append_assoc, append-nil, add-one}
 use Rattle.std.proofs.lemmas.List.Sums.{sum_by-cons}
 use Rattle.std.proofs.lemmas.Bool.Decides.{nat_tests}
 use Rattle.std.proofs.lemmas.Option.{same_Some}
 use Rattle.ar_base.specs.Lists.{Stands, Along, IsOneOf}
 use Rattle.ar_base.specs.Lists as l
-use Rattle.ar_base.proofs.Standing.{one_cases, one_none, along_length, along_on, along_back, stands_one, stands_within}
+use Rattle.ar_base.proofs.Standing.{one_cases, one_none, along_length, along_on, along_back, stands_within}
 use Rattle.ar_base.proofs.Items.{along_push}
 use Rattle.ar_meaning.specs.Systems as s
 use Rattle.ar_meaning.specs.Systems.{Net}
 use Rattle.ar_meaning.specs.Dependence.{IsFlow, flow_count}
 use Rattle.flow_blocks.specs.Bits.{row_of}
 use Rattle.flow_blocks.specs.Blocks.{Depends, directly, through, Together, same, each_other, IsClass, MayBeGiven, Follow, all_given, next}
-use Rattle.flow_blocks.proofs.LawLemmas.{same_blocks}
 use Rattle.flow_blocks.proofs.RowLemmas.{row_set_same}
 use Rattle.gts_core.specs.View.{net_of, variables_from, variable_of}
 use Rattle.gts_core.specs.declared.system.Variable.{Variable}
 use Rattle.gts_core.specs.declared.system.Assign.{Assign}
 use Rattle.gts_core.specs.declared.system.GtsParts.{GtsParts}
-use Rattle.gts_core.proofs.Systems.{along_one}
 use Rattle.flow_propagate.specs.Plan as plan
 use Rattle.table_steps.specs.Steps.{flows_from, AreBlocks}
-use Rattle.table_steps.proofs.Blocks.{one_flow}
 use Rattle.tree_equations.specs.Index.{to_target, AreNumbersOf, AreByTarget, AreFlows, AreUnder}
 use Rattle.tree_equations.specs.Blocks.{ArePlaced, ArePlacedBlocks}
 

@@ -1,5 +1,5 @@
 -- Each step only adds gates.
-use Rattle.std.proofs.Common.{◌≡◌, ℕ, zero, suc, ◌<◌, Bool, true, List, [], ◌∷◌, ◌++◌, length, set, refl, sym, subst, arith}
+use Rattle.std.proofs.Common.{◌≡◌, ℕ, ◌<◌, Bool, true, List, [], ◌∷◌, ◌++◌, length, sym, subst}
 use Rattle.domains.specs.declared.Value.{Value}
 use Rattle.typed_expr.specs.declared.expr.Expr.{Expr}
 use Rattle.ar_meaning.specs.Systems.{Assign, Variable, Net}
@@ -9,7 +9,7 @@ use Rattle.eq_core.specs.Values.{Grows}
 use Rattle.eq_core.proofs.Telling.{grows_self, grows_on, all_more}
 use Rattle.eq_build.specs.Entries.{Entry}
 use Rattle.eq_build.proofs.Growing.{longer_on, builds_more, terms_more, one_more}
-use Rattle.table_steps.specs.Steps.{Reading, Threads, BuiltAssign, Builds_conditions, Builds_assign, Gives_target, RoundOf, Rounds, All_rounds, Sees_two, Sees_outside, Totals_of, Sees_broken, Has_modes, given_terms, outside_terms, broken_terms, together, pairs_in, opposites, as_terms, total_of, modes_of, entered, not_left}
+use Rattle.table_steps.specs.Steps.{Reading, Threads, BuiltAssign, Builds_conditions, Builds_assign, Gives_target, RoundOf, Rounds, All_rounds, Sees_two, Sees_outside, Totals_of, Sees_broken, Has_modes, given_terms, outside_terms, broken_terms, together, pairs_in, opposites, as_terms, entered, not_left}
 use Rattle.table_steps.specs.Steps as t
 
 module _ {A B : Type 0} (R : List Gate → A → B → List Gate → Type 0)

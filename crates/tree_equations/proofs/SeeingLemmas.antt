@@ -1,12 +1,12 @@
 -- Terms of entries, one entry at a time.
-use Rattle.std.proofs.Common.{◌≡◌, ℕ, ◌+◌, ◌<◌, Bool, true, false, if◌then◌else◌, List, [], ◌∷◌, ◌++◌, length, get_or, drop, Vec, Global, refl, sym, ap, ◌∙◌, subst, add-one, append_assoc}
+use Rattle.std.proofs.Common.{◌≡◌, ℕ, ◌+◌, ◌<◌, Bool, true, false, if◌then◌else◌, List, [], ◌∷◌, ◌++◌, length, get_or, drop, Vec, Global, refl, sym, ap, ◌∙◌, append_assoc}
 use Rattle.std.proofs.lemmas.List.{map-append}
 use Rattle.ar_base.proofs.Items.{next_left}
 use Rattle.domains.specs.Domains.{IsDomain, Holds, values_of}
 use Rattle.domains.specs.Same.{is_same, has_value}
 use Rattle.domains.specs.declared.Domain.{Domain}
 use Rattle.domains.specs.declared.Value.{Value}
-use Rattle.domains.proofs.Same.{same_is, same_self, has_in, in_has}
+use Rattle.domains.proofs.Same.{same_is, has_in, in_has}
 use Rattle.domains.proofs.Domains.{held, listed}
 use Rattle.eq_core.specs.Gates.{Operand}
 use Rattle.eq_core.specs.Views.{operand_of}
@@ -15,7 +15,6 @@ use Rattle.eq_build.specs.Entries as e
 use Rattle.eq_build.specs.Entries.{Group, with_terms, with_term}
 use Rattle.eq_build.specs.Views.{entry_of, entries_in, operands_in, terms_in}
 use Rattle.eq_build.specs.declared.entries.Entry.{Entry}
-use Rattle.eq_build.proofs.Places.{item_next}
 use Rattle.eq_build.proofs.EntriesTell.{is_so}
 use Rattle.table_steps.specs.Steps.{others_with, outside_terms, given_terms}
 

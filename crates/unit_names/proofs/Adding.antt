@@ -1,9 +1,6 @@
 -- What is found when names are looked up one after the other.
-use Rattle.std.proofs.Common.{◌≡◌, ℕ, suc, ◌+◌, ◌<◌, ◌⊎◌, inl, inr, List, [], ◌∷◌, ◌++◌, map, take, length, Option, Some, None, Result, Ok, Err, OnOk, slice_index_or, refl, sym, ◌∙◌, ap, subst, arith, append_assoc, append-nil}
-use Rattle.std.specs.List.{flat_map}
-use Rattle.std.specs.List.Sorted.{IsPermutation}
+use Rattle.std.proofs.Common.{◌≡◌, ℕ, ◌+◌, inl, inr, List, [], ◌∷◌, ◌++◌, sym, ◌∙◌, ap, subst, append_assoc, append-nil}
 use Rattle.ar_base.specs.Lists.{Stands, IsOneOf}
-use Rattle.ar_base.specs.Numbers.{NameId, UnitId}
 use Rattle.ar_base.proofs.Standing.{one_split, one_left, one_right, one_none, one_first, one_cases}
 use Rattle.hierarchy.specs.Models.{RootedModel}
 use Rattle.hierarchy.specs.Units.{UnitPath}
@@ -12,7 +9,7 @@ use Rattle.class_table.specs.Members.{Site, owned_at}
 use Rattle.class_table.specs.declared.tables.Owned.{Owned}
 use Rattle.hierarchy.specs.Walks.{Reaches, Nothing, Loops, LeadsFrom}
 use Rattle.hierarchy.proofs.Outcomes.{leads_same}
-use Rattle.unit_names.specs.Naming.{Entry, AddsName, added, nothing, AddsNames, none, one_more, names_if, names_at_sites}
+use Rattle.unit_names.specs.Naming.{Entry, added, nothing, AddsNames, none, one_more, names_if, names_at_sites}
 
 module _ {m : RootedModel} {units : List UnitPath} {u : UnitPath} where
   -- names are looked up, and then some more

@@ -1,10 +1,10 @@
 -- Where the walks of clones and aliases end.
-use Rattle.std.proofs.Common.{◌≡◌, ◌<◌, ◌≤◌, ℕ, ◌⊎◌, inl, inr, Bool, true, false, IsTrue, List, [], ◌∷◌, map, length, Option, Some, None, option_map, slice_get, refl, sym, ◌∙◌, ap, subst, arith}
+use Rattle.std.proofs.Common.{◌≡◌, ◌≤◌, ℕ, inl, inr, Bool, true, false, IsTrue, List, [], map, length, Option, Some, None, option_map, slice_get, refl, sym, ◌∙◌, ap, subst, arith}
 use Rattle.ar_base.specs.Breach.{IsEarlier}
 use Rattle.ar_base.specs.Lists.{Stands, IsOneOf}
 use Rattle.ar_base.specs.Numbers.{BodyId}
 use Rattle.ar_base.specs.declared.places.Place.{Place}
-use Rattle.ar_base.proofs.Standing.{stands_map, stands_map_back, stands_within, one_none, one_first, one_cases, along_on, along_back, along_length, only_item}
+use Rattle.ar_base.proofs.Standing.{stands_map, stands_map_back, one_none, one_first, along_on, only_item}
 use Rattle.std.proofs.lemmas.Option.{slice_get_past}
 use Rattle.std.proofs.lemmas.List.{length-map}
 use Rattle.ar_syntax.specs.declared.members.Member.{out-Member}
@@ -12,18 +12,17 @@ use Rattle.ar_syntax.specs.declared.members.Member.TheOpen as member
 use Rattle.ar_syntax.specs.declared.paths.Path.{Path}
 use Rattle.class_table.specs.Declaring.{Declared, MemberForm}
 use Rattle.class_table.specs.Earliest.{IsEarliest, nowhere, there}
-use Rattle.class_table.specs.Members.{Site, owned_at, names_of, names_of_form, NamedMember, MemberKind, Clone, Alias}
+use Rattle.class_table.specs.Members.{Site, owned_at, names_of, names_of_form, NamedMember, Clone, Alias}
 use Rattle.class_table.specs.Tables.{site_of}
-use Rattle.class_table.specs.declared.tables.Body.{Body}
 use Rattle.class_table.specs.declared.tables.Classes.{Classes}
 use Rattle.class_table.specs.declared.tables.Owned.{Owned}
 use Rattle.class_table.specs.declared.tables.Owned.TheVariants.{Plain, Nested}
 use Rattle.class_table.proofs.FirstPlaces.{earliest_same}
 use Rattle.class_table.proofs.Looping.{AtItem}
 use Rattle.hierarchy.specs.Models.{RootedModel, IsKept, IsKeptTable, sites_kept}
-use Rattle.hierarchy.specs.Units.{UnitPath, body_of, members_at, names_at, name_at, kind_at}
+use Rattle.hierarchy.specs.Units.{UnitPath, body_of, members_at, names_at, kind_at}
 use Rattle.hierarchy.specs.Walks.{Outcome, Reaches, Nothing, Loops, NameLeads, LeadsFrom}
-use Rattle.hierarchy.specs.Tie.{AreOutlines, IsOutline}
+use Rattle.hierarchy.specs.Tie.{AreOutlines}
 use Rattle.hierarchy.specs.declared.outline.Outline.{Outline}
 use Rattle.hierarchy.proofs.Apart.{members_apart, named_here}
 use Rattle.hierarchy.proofs.Outcomes.{leads_same}

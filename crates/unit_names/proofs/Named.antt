@@ -1,12 +1,11 @@
 -- What the names of a unit are, by its members.
-use Rattle.std.proofs.Common.{◌≡◌, ◌==◌, if◌then◌else◌, ℕ, suc, ◌⊎◌, inl, inr, Bool, true, false, List, [], ◌∷◌, ◌++◌, map, length, Option, Some, None, option_map, option_and_then, slice_get, unwrap_or, slice_index_or, refl, sym, ◌∙◌, ap, subst, arith, Contains}
-use Rattle.std.specs.List.{flat_map}
+use Rattle.std.proofs.Common.{◌≡◌, ◌==◌, ℕ, suc, ◌⊎◌, inl, inr, Bool, true, false, List, [], ◌∷◌, map, Option, Some, None, option_map, refl, sym, ◌∙◌, ap, subst}
 use Rattle.std.specs.List.Sorted.{IsPermutation, IsNonDecreasingBy}
 use Rattle.std.proofs.lemmas.List.Sorted.{Contains-permutation, IsPermutation-sym}
-use Rattle.ar_base.specs.Lists.{Stands, IsOneOf, Along}
-use Rattle.ar_base.specs.Numbers.{NameId, UnitId, BodyId}
+use Rattle.ar_base.specs.Lists.{Stands, IsOneOf}
+use Rattle.ar_base.specs.Numbers.{NameId}
 use Rattle.ar_base.specs.declared.places.Place.{Place}
-use Rattle.ar_base.proofs.Standing.{stands_one, stands_map, stands_map_back, one_none, one_cases, one_first, one_contains, contains_one, along_on, only_item}
+use Rattle.ar_base.proofs.Standing.{stands_map, stands_map_back, one_none, one_cases, one_first, one_contains, contains_one, only_item}
 use Rattle.ar_base.proofs.Truths.{not_both}
 use Rattle.ar_syntax.specs.declared.members.Member.{Member, out-Member}
 use Rattle.ar_syntax.specs.declared.members.Member.TheOpen as member
@@ -14,19 +13,18 @@ use Rattle.ar_syntax.specs.declared.members.Setting.{Setting}
 use Rattle.ar_syntax.specs.declared.members.TypeForm.{TypeForm}
 use Rattle.ar_syntax.specs.declared.members.TypeForm.TheVariants as form
 use Rattle.class_table.specs.Declaring.{Declared, MemberForm, NamedType, DomainType, ClassType}
-use Rattle.class_table.specs.Members.{Site, own_at, owned_at, names_of, names_of_form, NamedMember, MemberKind, Inner, Clone, Alias, Variable, type_named, declared_kind, all_named, kind_of}
-use Rattle.class_table.specs.Rules.{Breaks, BreaksTypes, text_rules, l2, Misnames, declares, IsNoType, named}
-use Rattle.class_table.specs.Tables.{site_of}
+use Rattle.class_table.specs.Members.{Site, owned_at, names_of, names_of_form, NamedMember, MemberKind, Inner, Clone, Alias, Variable, type_named, declared_kind, all_named, kind_of}
+use Rattle.class_table.specs.Rules.{l2, Misnames, declares, IsNoType, named}
 use Rattle.class_table.specs.declared.tables.Owned.{Owned}
 use Rattle.class_table.specs.declared.tables.Owned.TheVariants.{Plain, Nested}
-use Rattle.hierarchy.specs.Models.{RootedModel, IsKept, IsKeptTable, sites_kept}
-use Rattle.hierarchy.specs.Units.{UnitPath, body_of, members_at, names_at, name_at, kind_at}
+use Rattle.hierarchy.specs.Models.{RootedModel, IsKept}
+use Rattle.hierarchy.specs.Units.{UnitPath, members_at, names_at, name_at, kind_at}
 use Rattle.hierarchy.specs.Walks.{Reaches, LeadsFrom}
 use Rattle.hierarchy.specs.Listing.{is_inner}
 use Rattle.hierarchy.specs.Tie.{entry_in, AreNames, IsUnitIn, is_alias}
 use Rattle.hierarchy.proofs.Apart.{members_apart, named_here, named_back}
 use Rattle.hierarchy.proofs.Things.{flat_origin, flat_one}
-use Rattle.hierarchy.proofs.Looking.{leads_kind, named_so}
+use Rattle.hierarchy.proofs.Looking.{leads_kind}
 use Rattle.hierarchy.proofs.Finding.{same_or_not}
 use Rattle.unit_names.specs.Naming.{Entry, AddsNames, instance_names, inner_form, inner_names, alias_form, alias_names, names_if, names_at_sites}
 use Rattle.ar_syntax.specs.declared.paths.Path.{Path}

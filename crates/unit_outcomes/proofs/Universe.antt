@@ -1,5 +1,5 @@
 -- All names in all units of some depth, by names and bodies, and those that are not being followed.
-use Rattle.std.proofs.Common.{◌≡◌, ℕ, zero, suc, ◌≤◌, ◌<◌, inl, inr, Bool, true, false, not, ◌==◌, ◌&&◌, ◌||◌, List, [], ◌∷◌, map, length, None, refl, sym, ◌∙◌, ap, arith}
+use Rattle.std.proofs.Common.{◌≡◌, ℕ, zero, suc, ◌≤◌, ◌<◌, Bool, true, false, not, ◌==◌, ◌&&◌, ◌||◌, List, [], ◌∷◌, map, length, None, refl, sym, ◌∙◌, ap, arith}
 use Rattle.std.specs.List.{flat_map}
 use Rattle.ar_base.specs.Lists.{IsOneOf}
 use Rattle.ar_base.proofs.Standing.{one_first, one_rest, stands_map}
@@ -7,7 +7,6 @@ use Rattle.ar_base.proofs.Comparing.{itself}
 use Rattle.hierarchy.specs.Models.{RootedModel}
 use Rattle.hierarchy.specs.Units.{Level, UnitPath, Thing, same_unit, same_thing, is_among}
 use Rattle.hierarchy.specs.Walks.{thing}
-use Rattle.hierarchy.proofs.Finding.{same_or_not}
 use Rattle.hierarchy.proofs.Things.{flat_one}
 use Rattle.hierarchy.proofs.SameUnits.{unit_itself}
 use Rattle.unit_outcomes.proofs.Passing.{passing, fewer}

@@ -11,7 +11,7 @@ use Rattle.hierarchy.specs.Models.{RootedModel}
 use Rattle.hierarchy.specs.Units.{UnitPath, body_of, names_at, name_at, kind_at}
 use Rattle.hierarchy.specs.Walks.{thing, Has, is_parameter, Reaches, LeadsFrom, Outcome, NameLeads}
 use Rattle.hierarchy.specs.Listing.{is_inner}
-use Rattle.hierarchy.specs.Settings.{TargetWord, Named, Init, Reset, word_of, target_of, is_init, is_reset, is_state, is_flow, is_state_variable, is_flow_variable}
+use Rattle.hierarchy.specs.Settings.{TargetWord, Named, Init, Reset, word_of, is_init, is_reset, is_state, is_flow, is_state_variable, is_flow_variable}
 use Rattle.hierarchy.specs.Tie.{AreOutlines}
 use Rattle.hierarchy.specs.declared.outline.Outline.{Outline}
 use Rattle.class_table.specs.declared.tables.Classes.{Classes}

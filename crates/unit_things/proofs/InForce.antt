@@ -7,7 +7,7 @@ use Rattle.ar_syntax.specs.declared.members.TypeForm.{TypeForm}
 use Rattle.class_table.specs.Members.{Site, NamedMember, Variable}
 use Rattle.hierarchy.specs.Models.{RootedModel}
 use Rattle.hierarchy.specs.Units.{UnitPath, Thing}
-use Rattle.hierarchy.specs.Settings.{TargetWord, Named, Init, Reset, target_of, is_state, is_flow, is_init, is_reset, outermost, target_in, declared_in, in_force, in_force_given, in_force_by}
+use Rattle.hierarchy.specs.Settings.{TargetWord, Named, Init, Reset, target_of, is_state, is_flow, outermost, target_in, declared_in, in_force, in_force_given, in_force_by}
 use Rattle.hierarchy.specs.Settings as s
 use Rattle.hierarchy.specs.Tie.{IsNode, HasAttribute}
 use Rattle.hierarchy.specs.declared.tree.MemNode.{MemNode}

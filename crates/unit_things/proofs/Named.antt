@@ -1,10 +1,9 @@
 -- Members that give variables, and their values in force.
-use Rattle.std.proofs.Common.{◌≡◌, ℕ, Bool, true, false, cond, nat_eq, List, [], ◌∷◌, Option, Some, None, option_map, option_and_then, is_some, Vec, Global, refl, sym, ap, subst, inl, inr, ne_eqb}
-use Rattle.std.proofs.lemmas.Bool.{cases_eq, eqb-true}
+use Rattle.std.proofs.Common.{◌≡◌, ℕ, true, false, List, [], ◌∷◌, Option, Some, None, option_map, option_and_then, is_some, Vec, Global, refl, sym, ap, subst, inl, inr}
 use Rattle.ar_base.specs.Lists.{Stands, IsOneOf}
 use Rattle.ar_base.specs.Numbers.{NameId}
 use Rattle.ar_base.specs.declared.places.Place.{Place}
-use Rattle.ar_base.proofs.Standing.{one_cases, one_none, one_first, one_rest}
+use Rattle.ar_base.proofs.Standing.{one_cases, one_none, one_first}
 use Rattle.ar_syntax.specs.declared.members.Member.{out-Member}
 use Rattle.ar_syntax.specs.declared.members.Member.TheOpen as member
 use Rattle.ar_syntax.specs.declared.members.Setting.{Setting}
@@ -12,7 +11,7 @@ use Rattle.ar_syntax.specs.declared.members.TypeForm.{TypeForm}
 use Rattle.ar_syntax.specs.declared.members.TypeForm.TheVariants as form
 use Rattle.ar_syntax.specs.declared.members.TypeName.{TypeName}
 use Rattle.class_table.specs.Declaring.{MemberForm, NamedType, DomainType, ClassType, Declared}
-use Rattle.class_table.specs.Members.{Site, NamedMember, MemberKind, Variable, Inner, domain_body, type_named, kind_of, declared_kind, all_named, one_named, names_of_form, names_of, owned_at, member_named}
+use Rattle.class_table.specs.Members.{Site, NamedMember, MemberKind, Variable, Inner, domain_body, type_named, kind_of, declared_kind, all_named, one_named, names_of_form, names_of, owned_at}
 use Rattle.class_table.specs.declared.tables.Owned.{Owned}
 use Rattle.class_table.specs.declared.tables.Owned.TheVariants.{Plain, Nested}
 use Rattle.hierarchy.specs.Models.{RootedModel}

@@ -6,7 +6,7 @@ use Rattle.ar_base.proofs.Comparing.{itself}
 use Rattle.class_table.specs.Members.{MemberKind}
 use Rattle.hierarchy.specs.Models.{RootedModel}
 use Rattle.hierarchy.specs.Units.{UnitPath, Thing, body_of, set_at_of, bodies_of, has, is_among, same_thing, kind_at}
-use Rattle.hierarchy.specs.Walks.{Outcome, Reaches, Nothing, Loops, NameLeads, NamesLead, thing, cloned}
+use Rattle.hierarchy.specs.Walks.{Outcome, Reaches, Nothing, NameLeads, NamesLead, thing, cloned}
 use Rattle.hierarchy.specs.Walks as g
 use Rattle.hierarchy.proofs.SameUnits.{unit_itself}
 use Rattle.unit_walks.specs.Ends.{NameEnds, NamesEnd, AreHigher, AreEndless, inner, clones, clones_none, embeds, no_unit, absent, nowhere, arrives, on, stops}

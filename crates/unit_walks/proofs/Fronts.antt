@@ -2,7 +2,7 @@
 use Rattle.std.proofs.Common.{◌≡◌, ◌<◌, ◌≤◌, ◌+◌, ◌++◌, ℕ, zero, suc, Bool, true, false, List, [], ◌∷◌, Option, Some, None, Result, Ok, Err, IfErr, length, length-append, slice_get, get_or, drop, add-one, map, refl, sym, ◌∙◌, ap, subst, arith, append_assoc}
 use Rattle.std.proofs.lemmas.List.{drop_all, append-nil}
 use Rattle.ar_base.specs.Counts.{limit_of}
-use Rattle.ar_base.specs.Lists.{Stands, IsOneOf, Along, one_and}
+use Rattle.ar_base.specs.Lists.{Stands, Along, one_and}
 use Rattle.ar_base.specs.Lists as l
 use Rattle.ar_base.specs.Numbers.{UnitId}
 use Rattle.ar_base.specs.declared.counts.Count.TheVariants.{Depth, Units}
@@ -12,7 +12,7 @@ use Rattle.ar_base.proofs.Standing.{stands_left, stands_one, stands_none, stands
 use Rattle.class_table.specs.Members.{MemberKind, NamedMember, Inner, Clone, Alias}
 use Rattle.hierarchy.specs.Models.{RootedModel}
 use Rattle.hierarchy.specs.Units.{UnitPath, Level, Thing, body_of, set_at_of, bodies_of, has, kind_at, names_at, names_in}
-use Rattle.hierarchy.specs.Walks.{Outcome, Reaches, NameLeads, clones, inner, no_unit, cloned, is_unitless}
+use Rattle.hierarchy.specs.Walks.{Outcome, Reaches, NameLeads, clones, inner, cloned}
 use Rattle.hierarchy.specs.Walks as g
 use Rattle.hierarchy.specs.Listing.{Lists, Insides, Makes, MakesNone, is_inner, unit, none, cut, makes, makes_cut, passes}
 use Rattle.hierarchy.specs.Listing as h
@@ -23,7 +23,7 @@ use Rattle.unit_walks.specs.Forms.{may_be_unit, only_units, IsUnitName, IsFormOf
 use Rattle.unit_walks.specs.Forms as f
 use Rattle.unit_walks.specs.Tables.{paths_of, IsTable, Means, EndsAt, EndsNowhere}
 use Rattle.unit_walks.specs.Walking.{IsRun, IsKnown}
-use Rattle.unit_walks.specs.Unfolding.{AreShallow, IsFirstOver, deep, many, Unfolds, Refuses, depth}
+use Rattle.unit_walks.specs.Unfolding.{AreShallow, deep, many, Refuses, depth}
 use Rattle.unit_walks.specs.Unfolding as o
 use Rattle.unit_walks.specs.Growing.{IsMade, IsMadeBy, IsNodeOf, Tied, AllShallow, Grows, Over, OnLimit, HasGrown, HasGrownInside, HasPassed, HasPassedInside, IsUnfolded}
 use Rattle.unit_walks.specs.declared.forms.Forms.{Forms}

@@ -3,7 +3,7 @@ use Rattle.std.proofs.Common.{◌≡◌, ℕ, zero, suc, Bool, true, false, List
 use Rattle.std.proofs.lemmas.Bool.Decides.{nat_tests}
 use Rattle.std.proofs.lemmas.Option.{same_Some}
 use Rattle.std.specs.Global.{Global}
-use Rattle.ar_base.specs.Lists.{Stands, Along, one_and}
+use Rattle.ar_base.specs.Lists.{Stands, Along}
 use Rattle.ar_base.specs.Lists as a
 use Rattle.ar_base.proofs.Standing.{stands_one, along_on, along_back, stands_none}
 use Rattle.class_table.specs.Members.{Site, NamedMember, named_at, member_named}

@@ -5,7 +5,7 @@ use Rattle.ar_syntax.specs.declared.paths.Path.{Path}
 use Rattle.class_table.specs.Members.{MemberKind}
 use Rattle.hierarchy.specs.Models.{RootedModel}
 use Rattle.hierarchy.specs.Units.{UnitPath, Thing, start_of, body_of, bodies_of, has, is_among, kind_at, numbers}
-use Rattle.hierarchy.specs.Walks.{Outcome, Reaches, Nothing, Loops, NameLeads, NamesLead, thing, cloned}
+use Rattle.hierarchy.specs.Walks.{Outcome, Reaches, Loops, NameLeads, NamesLead, thing, cloned}
 use Rattle.hierarchy.specs.Walks as g
 use Rattle.unit_walks.specs.Ends.{NameEnds, NamesEnd, AreEndless, NeverEnds, Reached, IsStatement, clone, alias, clones, clones_none, embeds, no_unit, arrives, on, stops}
 use Rattle.unit_walks.proofs.EndsLead.{ends_same, runs_same, endless_more, higher_endless, among_first, among_more, runs_goes}

@@ -5,7 +5,7 @@ use Rattle.std.proofs.lemmas.List.{append-nil}
 use Rattle.std.proofs.lemmas.Option.{same_Some}
 use Rattle.std.specs.Global.{Global}
 use Rattle.std.specs.HashMap.{get, HashMap}
-use Rattle.ar_base.specs.Lists.{Along, Stands, IsOneOf}
+use Rattle.ar_base.specs.Lists.{Along, Stands}
 use Rattle.ar_base.specs.Lists as a
 use Rattle.ar_base.specs.Numbers.{NameId, BodyId}
 use Rattle.ar_base.specs.declared.places.Place.{Place}

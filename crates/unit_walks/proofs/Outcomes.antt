@@ -9,7 +9,7 @@ use Rattle.ar_base.proofs.Standing.{stands_one, stands_within, stands_get, along
 use Rattle.class_table.specs.Members.{NamedMember}
 use Rattle.hierarchy.specs.Models.{RootedModel}
 use Rattle.hierarchy.specs.Units.{UnitPath, body_of, names_at, name_at}
-use Rattle.hierarchy.specs.Walks.{NameLeads, LeadsFrom, Reaches, no_unit, absent, is_unitless}
+use Rattle.hierarchy.specs.Walks.{NameLeads, no_unit, absent}
 use Rattle.hierarchy.specs.Walks as leads
 use Rattle.unit_walks.specs.Forms.{may_be_unit, only_units}
 use Rattle.unit_walks.specs.Tables.{paths_of, IsTable, Means, EndsAt, Extends}

@@ -1,6 +1,5 @@
 -- What a name leads to, without the list of statements that are followed: with the height of the derivation. A walk
--- that
--- loops has no end.
+-- that loops has no end.
 use Rattle.std.specs.Prelude.{◌≡◌, ◌<◌, ◌+◌, ◌++◌, ℕ, suc, Bool, true, false, List, [], ◌∷◌, Option, Some, None}
 use Rattle.ar_syntax.specs.declared.paths.Path.{Path}
 use Rattle.class_table.specs.Members.{Site, MemberKind, Inner, Clone, Alias}

@@ -1,5 +1,5 @@
 -- What the names of bodies may be units by.
-use Rattle.std.specs.Prelude.{◌≡◌, ◌<◌, ◌⊎◌, ℕ, Bool, true, false, List, [], ◌++◌, filter, Option, Some, None, slice_get, unwrap_or, option_map, nat_eq, ◌&&◌, Vec}
+use Rattle.std.specs.Prelude.{◌≡◌, ◌<◌, ◌⊎◌, ℕ, Bool, true, false, List, [], ◌++◌, filter, Option, Some, None, slice_get, option_map, nat_eq, ◌&&◌, Vec}
 use Rattle.std.specs.Borrow.{Bor}
 use Rattle.std.specs.Global.{Global}
 use Rattle.std.specs.HashMap.{get, HashMap}

@@ -19,9 +19,9 @@ use Rattle.hierarchy.specs.Tie.{AnswersThing}
 use Rattle.hierarchy.specs.Units.{Thing, numbers, kind_at}
 use Rattle.hierarchy.specs.Walks.{IsThingAt, is_observer}
 use Rattle.hierarchy.specs.declared.tree.Tree.{Tree}
-use Rattle.replayer.specs.Flat.{IsOfTree}
-use Rattle.replayer.specs.Labels.{Spells}
-use Rattle.replayer.proofs.EventLemmas.{one_spelling}
+use Rattle.script_lines.specs.Flat.{IsOfTree}
+use Rattle.script_lines.specs.Labels.{Spells}
+use Rattle.script_lines.proofs.EventLemmas.{one_spelling}
 use Rattle.wanted_values.specs.Wanting.{NamesObserver, IsOfKind, IsWanted, Wants}
 use Rattle.wanted_values.specs.Answers.{AnswersObserver}
 

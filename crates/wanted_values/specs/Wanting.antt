@@ -17,7 +17,7 @@ use Rattle.hierarchy.specs.Listing.{observers}
 use Rattle.source_meaning.specs.Kinds.{kind_of_type}
 use Rattle.gts_flatten.specs.Elaborating.{Elaborated}
 use Rattle.gts_flatten.specs.Flat.{naming_of}
-use Rattle.replayer.specs.Labels.{NamesOne}
+use Rattle.script_lines.specs.Labels.{NamesOne}
 
 -- the text is a path from the main block that names the observer of this number
 abbrev pub NamesObserver : Elaborated → List ℕ → ℕ → Type 0
@@ -33,8 +33,7 @@ pub record IsOfKind (x : Elaborated) (n : ℕ) (kind : ValueKind) : Type 0 where
   pub kind_is : kind_of_type x.declarations.model type ≡ Some kind
 
 -- the word writes this value among those of the kind, where these are the symbols' names by number: `true` or `false`;
--- a
--- number of 64 bits in digits without leading zeros, behind a `-` where it is negative, or `-0`; or the name of a
+-- a number of 64 bits in digits without leading zeros, behind a `-` where it is negative, or `-0`; or the name of a
 -- symbol
 pub data Writes (symbols : List (List ℕ)) (word : List ℕ) : ValueKind → Value → Type 0 where
   truth : {b : Bool} → word ≡ truth_text b → Writes symbols word Truth (value.Truth b)

@@ -2,7 +2,7 @@
 
 ghost use Rattle.std.specs.Prelude.{IfOk};
 ghost use Rattle.gts_flatten.specs.Elaborating.{Elaborated};
-ghost use Rattle.replayer.specs.Flat.{IsOfTree};
+ghost use Rattle.script_lines.specs.Flat.{IsOfTree};
 ghost use Rattle.wanted_values.specs.Answers.{AnswersObserver, AnswersWanted};
 
 use crate::values::value_of;
@@ -10,7 +10,7 @@ use ar_base::{Memory, Text, UnitId};
 use domains::Value;
 use gts_core::Gts;
 use hierarchy::{First, Tree, observer_at};
-use replayer::names_of;
+use script_lines::names_of;
 use std::alloc::Global;
 
 /// An observer, and a value of its type.

@@ -1,5 +1,5 @@
 -- What a test of width says of the possible values of the variables.
-use Rattle.std.proofs.Common.{◌≡◌, ◌<◌, ◌≤◌, ℕ, ◌⊎◌, inl, inr, Bool, true, false, not, List, length, Option, Some, None, MatchOption, Result, Ok, Err, IfOk, sym, subst, arith}
+use Rattle.std.proofs.Common.{◌≡◌, ℕ, Bool, true, false, not, List, length, Option, Some, None, MatchOption, Result, Ok, Err, IfOk, sym, subst}
 use Rattle.std.specs.Option.{is_some}
 use Rattle.ar_base.specs.declared.faults.Memory.{Memory}
 use Rattle.ar_base.specs.Numbers.{VarId}

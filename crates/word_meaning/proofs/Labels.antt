@@ -13,12 +13,12 @@ use Rattle.hierarchy.specs.Listing.{events}
 use Rattle.hierarchy.specs.Models.{RootedModel}
 use Rattle.hierarchy.specs.Units.{UnitPath, Thing}
 use Rattle.hierarchy.specs.Walks.{IsThingAt, is_event}
-use Rattle.replayer.specs.CutLists.{HaveOneMeaning}
-use Rattle.replayer.specs.Labels.{is_dot, Spells, NamesOne, NamesEvent, NamesVisible, IsLabel, path, numbered, NeedsWay}
-use Rattle.replayer.specs.Lines.{onto_first, pieces}
-use Rattle.replayer.specs.Reads.{has_mark}
-use Rattle.replayer.proofs.EventLemmas.{one_thing, one_spelling}
-use Rattle.replayer.proofs.MarkLemmas.{decimal_unmarked, last_mark, unmarked}
+use Rattle.script_lines.specs.CutLists.{HaveOneMeaning}
+use Rattle.script_lines.specs.Labels.{is_dot, Spells, NamesOne, NamesEvent, NamesVisible, IsLabel, path, numbered, NeedsWay}
+use Rattle.script_lines.specs.Lines.{onto_first, pieces}
+use Rattle.script_lines.specs.Reads.{has_mark}
+use Rattle.script_lines.proofs.EventLemmas.{one_thing, one_spelling}
+use Rattle.script_lines.proofs.MarkLemmas.{decimal_unmarked, last_mark, unmarked}
 use Rattle.word_meaning.specs.Named.{NamesOnce}
 
 -- a relation that gives one item each gives one list

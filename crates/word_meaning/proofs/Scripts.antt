@@ -5,11 +5,11 @@ use Rattle.ar_base.specs.Lists.{Stands}
 use Rattle.ar_base.proofs.Standing.{stands_none, stands_one}
 use Rattle.ar_meaning.specs.Runs.{Command, Label, Fire, Back, Show, Enabled}
 use Rattle.gts_flatten.specs.Elaborating.{Elaborated}
-use Rattle.replayer.specs.CutLists.{HaveOneMeaning}
-use Rattle.replayer.specs.Labels.{IsLabel, NeedsWay}
-use Rattle.replayer.specs.Lines.{Line, Skipped, Fires, GoesBack, Shows, ListsEnabled, NoCommand, line_said, lines_of}
-use Rattle.replayer.specs.Scripts.{Gives, IsBad, no_command, needs_way, no_event, Why, IsFirstBad, BadLine, Commands}
-use Rattle.replayer.specs.Scripts as scripts
+use Rattle.script_lines.specs.CutLists.{HaveOneMeaning}
+use Rattle.script_lines.specs.Labels.{IsLabel, NeedsWay}
+use Rattle.script_lines.specs.Lines.{Line, Skipped, Fires, GoesBack, Shows, ListsEnabled, NoCommand, line_said, lines_of}
+use Rattle.script_lines.specs.Scripts.{Gives, IsBad, no_command, needs_way, no_event, Why, IsFirstBad, BadLine, Commands}
+use Rattle.script_lines.specs.Scripts as scripts
 
 -- of two places none is before the other
 one_place : (m n : ℕ) → (m < n → ⊥) → (n < m → ⊥) → m ≡ n

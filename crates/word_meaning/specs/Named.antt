@@ -6,7 +6,7 @@ use Rattle.hierarchy.specs.Listing.{events, observers}
 use Rattle.hierarchy.specs.Units.{Thing}
 use Rattle.gts_flatten.specs.Elaborating.{Elaborated}
 use Rattle.gts_flatten.specs.Flat.{naming_of}
-use Rattle.replayer.specs.Reads.{has_mark}
+use Rattle.script_lines.specs.Reads.{has_mark}
 
 -- no two names have one text, and none has a `#`; no event and no observer is listed twice; no two symbols have one
 -- name; and no event has 2^64 ways or more

@@ -1,4 +1,4 @@
-use Rattle.std.proofs.Common.{List, Err, ap, sym, subst}
+use Rattle.std.proofs.Common.{List, ap, sym, subst}
 use Rattle.cut_check.specs.Flat.{AreVerdicts}
 use Rattle.cut_check.specs.declared.checking.Verdict.{Verdict}
 use Rattle.gts_core.specs.declared.bound.Chain.{Chain}
@@ -7,7 +7,6 @@ use Rattle.mode_forests.specs.Views.{trees_of, number_in}
 use Rattle.eq_core.specs.Views.{table_of}
 use Rattle.gate_diagrams.specs.declared.answer.Drawn.TheVariants.{Cuts}
 use Rattle.drawn_cuts.specs.Drawn.{sets_of}
-use Rattle.cut_text.specs.Printed.{edges_of}
 use Rattle.altarica_run.specs.Stages.{lists_cuts}
 use Rattle.altarica_run.specs.Tells.{Tells}
 use Rattle.altarica_run.specs.declared.status.Status.TheVariants.{Done}

@@ -3,10 +3,8 @@ use Rattle.mode_forests.specs.Views.{trees_of}
 use Rattle.eq_core.specs.Views.{table_of}
 use Rattle.gate_diagrams.specs.Answers.{IsAnswer, store_of}
 use Rattle.gate_diagrams.specs.declared.answer.Drawn.{Drawn}
-use Rattle.altarica_run.specs.Jobs.{makes_model}
 use Rattle.altarica_run.specs.Stages.{lists_cuts}
 use Rattle.altarica_run.proofs.CutLemmas.{only_cuts}
-use Rattle.altarica_run.proofs.JobLemmas.{makes}
 use Rattle.altarica_run.proofs.cutting.listed.Goals as goal
 
 pub conflict-requires-clause-answer : goal.conflict-requires-clause-answer

@@ -1,6 +1,6 @@
 use Rattle.std.proofs.Common.{◌≡◌, ◌++◌, ◌∙◌, ◌&&◌, ℕ, Bool, List, [], ◌∷◌, map, codes, refl, sym, ap, subst, arith}
 use Rattle.std.proofs.lemmas.List.{length-map}
-use Rattle.ar_base.specs.Lists.{Stands, IsOneOf, Along}
+use Rattle.ar_base.specs.Lists.{Along}
 use Rattle.ar_base.specs.Lists as l
 use Rattle.ar_base.specs.Texts.{line}
 use Rattle.ar_firing.specs.Cuts.{Cut}
@@ -22,7 +22,7 @@ use Rattle.mode_forests.specs.Views.{trees_of}
 use Rattle.mode_forests.specs.declared.forests.Edge.{Edge}
 use Rattle.mode_forests.specs.declared.forests.Forest.{Forest}
 use Rattle.min_cuts.specs.Lines.{AreInFiringOrder}
-use Rattle.replayer.specs.Chains.{cut_of, labels_of}
+use Rattle.script_lines.specs.Chains.{cut_of, labels_of}
 use Rattle.cut_check.specs.Flat.{chain_lines, IsVerdict}
 use Rattle.cut_check.specs.Verdicts.{IsSaid, IsMissing}
 use Rattle.cut_check.proofs.LawLemmas.{said_back, missing_there, missing_back}

@@ -1,6 +1,6 @@
 use Rattle.std.proofs.Common.{ℕ, ap}
 use Rattle.ar_io.proofs.Writing.{writes_as}
-use Rattle.replayer.specs.Flat.{way_label}
+use Rattle.text_pieces.specs.WayLabels.{way_label}
 use Rattle.cut_text.proofs.Pieces.{read_way}
 use Rattle.check_text.proofs.printing.label.Goals as goal
 

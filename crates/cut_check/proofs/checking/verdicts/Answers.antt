@@ -5,7 +5,7 @@ use Rattle.gts_core.specs.View.{numbered}
 use Rattle.gts_core.specs.declared.bound.Chain.{Chain}
 use Rattle.gts_core.specs.declared.system.GtsParts.{GtsParts}
 use Rattle.gts_core.specs.declared.system.Observer.{Observer}
-use Rattle.replayer.proofs.WayLemmas.{read_stands}
+use Rattle.text_pieces.proofs.Ways.{read_stands}
 use Rattle.cut_check.specs.Flat.{numbers_of, chain_lines}
 use Rattle.cut_check.specs.Rows.{AreOpenEvents, AreRows, HaveBits, AreWide}
 use Rattle.cut_check.specs.Truths.{AreTruths}

@@ -1,7 +1,7 @@
 use Rattle.std.proofs.Common.{ℕ, get_or, sym, arith}
 use Rattle.ar_base.specs.Numbers.{WayId}
 use Rattle.ar_base.proofs.Standing.{stands_get}
-use Rattle.replayer.proofs.WayLemmas.{read_stands}
+use Rattle.text_pieces.proofs.Ways.{read_stands}
 use Rattle.cut_check.proofs.ListedLemmas.{events_more, event_there, within_more}
 use Rattle.cut_check.proofs.RowLemmas.{event_read, known_at}
 use Rattle.std.proofs.Common.{subst}

@@ -1,7 +1,7 @@
 use Rattle.std.proofs.Common.{get_or, sym, ◌∙◌, arith}
 use Rattle.ar_base.specs.Numbers.{WayId}
 use Rattle.ar_base.proofs.Standing.{stands_get}
-use Rattle.replayer.proofs.WayLemmas.{read_stands}
+use Rattle.text_pieces.proofs.Ways.{read_stands}
 use Rattle.cut_check.proofs.ListedLemmas.{events_more, not_more, event_there}
 use Rattle.cut_check.proofs.RowLemmas.{event_read, known_at}
 use Rattle.cut_check.proofs.listed.has_event.Goals as goal

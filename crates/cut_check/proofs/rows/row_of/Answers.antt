@@ -2,9 +2,9 @@ use Rattle.std.proofs.Common.{◌≡◌, ◌∙◌, List, get_or, take, subst, a
 use Rattle.std.proofs.lemmas.List.{take_all}
 use Rattle.ar_base.specs.Numbers.{WayId}
 use Rattle.ar_base.proofs.Standing.{stands_get}
-use Rattle.replayer.specs.Chains.{labels_of}
-use Rattle.replayer.specs.Flat.{label_of}
-use Rattle.replayer.proofs.WayLemmas.{read_stands}
+use Rattle.script_lines.specs.Chains.{labels_of}
+use Rattle.text_pieces.specs.WayLabels.{label_of}
+use Rattle.text_pieces.proofs.Ways.{read_stands}
 use Rattle.cut_check.specs.Rows.{IsRow}
 use Rattle.cut_check.proofs.ListedLemmas.{labels_more}
 use Rattle.cut_check.proofs.RowLemmas.{event_read, event_inside, known_at, row_more}

@@ -9,7 +9,7 @@ use Rattle.gts_core.specs.View.{IsWayAt, net_of}
 use Rattle.gts_core.specs.declared.system.GtsParts.{GtsParts}
 use Rattle.min_cuts.specs.Kept.{numbers}
 use Rattle.stepper.specs.Steps.{IsStepFault, IsStartFault}
-use Rattle.replayer.proofs.ObeyLemmas.{flows_inside, fire_inside}
+use Rattle.text_pieces.proofs.Ranges.{flows_inside, fire_inside}
 use Rattle.cut_text.specs.Tables.{labels_at}
 use Rattle.cut_text.proofs.Pieces.{have_here}
 use Rattle.cut_text.proofs.Fault.{told_inside, labels_long, here_inside, here_label, next, found, at_start, begins, no_conflict}

@@ -1,10 +1,9 @@
-use Rattle.std.proofs.Common.{ℕ, List, Option, None, Some, subst, ap, map}
+use Rattle.std.proofs.Common.{List, Option, subst, ap, map}
 use Rattle.ar_base.specs.Numbers.{EventId}
 use Rattle.ar_base.proofs.Standing.{stands_within}
-use Rattle.replayer.specs.Reads.{AnswersEvent}
-use Rattle.replayer.proofs.VisibleLemmas.{event_there}
-use Rattle.replayer.proofs.CutLineLemmas.{comma_less}
-use Rattle.event_lists.proofs.ReadSoFar.{read_none, read_more, read_not, read_all, inside_none, inside_more, left_part, parts_left}
+use Rattle.script_lines.specs.Reads.{AnswersEvent}
+use Rattle.script_lines.proofs.VisibleLemmas.{event_there}
+use Rattle.event_lists.proofs.ReadSoFar.{read_none, read_more, read_not, inside_none, inside_more, left_part}
 use Rattle.event_lists.proofs.reading.read_events.Goals as goal
 
 pub loop-rest-init : goal.loop-rest-init

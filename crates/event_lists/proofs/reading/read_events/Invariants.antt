@@ -1,10 +1,10 @@
 use Rattle.std.proofs.Common.{map}
 use Rattle.ar_base.specs.Numbers.{EventId}
 use Rattle.gts_flatten.specs.Elaborating.{Elaborated}
-use Rattle.replayer.specs.Flat.{IsOfTree}
-use Rattle.replayer.specs.Lines.{pieces}
-use Rattle.replayer.specs.Reads.{bytes_left}
-use Rattle.replayer.specs.CutLines.{is_comma}
+use Rattle.script_lines.specs.Flat.{IsOfTree}
+use Rattle.script_lines.specs.Lines.{pieces}
+use Rattle.script_lines.specs.Reads.{bytes_left}
+use Rattle.script_lines.specs.CutLines.{is_comma}
 use Rattle.event_lists.specs.Naming.{AreEventsOf}
 use Rattle.event_lists.proofs.ReadSoFar.{IsRead, parts_left}
 use Rattle.event_lists.proofs.reading.read_events.Given as goal

@@ -1,22 +1,19 @@
-use Rattle.std.proofs.Common.{◌≡◌, ◌≤◌, ◌++◌, ℕ, List, length, refl, sym, ◌∙◌, ap, subst, arith}
-use Rattle.ar_base.specs.Lists.{Stands, IsOneOf}
+use Rattle.std.proofs.Common.{◌≡◌, ◌++◌, ℕ, List, sym, ◌∙◌, ap, subst, arith}
 use Rattle.ar_base.proofs.Standing.{one_here}
 use Rattle.typed_expr.specs.Pairs.{turned}
-use Rattle.ar_meaning.specs.Systems.{Net, System}
-use Rattle.ar_meaning.specs.Facts.{AreKeyed}
+use Rattle.ar_meaning.specs.Systems.{System}
 use Rattle.ar_meaning.specs.FlatOf.{IsNumber, IsFlatOf}
 use Rattle.ar_meaning.specs.TraceText.{Naming}
-use Rattle.ar_meaning.proofs.ByNumber.{keyed}
 use Rattle.ar_meaning.proofs.FlatSystems.{flat_back}
 use Rattle.ar_firing.specs.Forest.{ModeTree, IsForest}
-use Rattle.ar_firing.specs.Rules.{Rule, S8, KeepsAll, KeepsS8}
-use Rattle.ar_firing.proofs.ImageModes.{forest_there, live_there}
+use Rattle.ar_firing.specs.Rules.{S8, KeepsAll, KeepsS8}
+use Rattle.ar_firing.proofs.ImageModes.{forest_there}
 use Rattle.ar_firing.proofs.RulesHold.{all_static}
 use Rattle.ar_firing.proofs.Without.{no_more}
-use Rattle.gts_core.specs.View.{Views, net_of}
+use Rattle.gts_core.specs.View.{Views}
 use Rattle.gts_core.specs.declared.system.GtsParts.{GtsParts}
-use Rattle.gts_core.proofs.Viewing.{are_numbered, keyed_by}
-use Rattle.gts_flatten.specs.Flat.{naming_of, naming_of_parts}
+use Rattle.gts_core.proofs.Viewing.{keyed_by}
+use Rattle.gts_flatten.specs.Flat.{naming_of}
 use Rattle.hierarchy.specs.Listing.{variables}
 use Rattle.mode_forests.specs.Views.{trees_of, number_in}
 use Rattle.mode_forests.specs.declared.forests.Forest.{Forest}

@@ -1,5 +1,5 @@
-use Rattle.std.proofs.Common.{rules, ◌≡◌, ◌<◌, ◌≤◌, ℕ, ltb, leb, List, Some, None, refl, sym, ◌∙◌, ap, subst, arith}
-use Rattle.std.proofs.lemmas.List.Sorted.{IsPartitionPoint-from_clause, IsPartitionedBy-ltb, IsPartitionedBy-leb}
+use Rattle.std.proofs.Common.{rules, ltb, sym}
+use Rattle.std.proofs.lemmas.List.Sorted.{IsPartitionPoint-from_clause, IsPartitionedBy-ltb}
 use Rattle.hierarchy.specs.Finding.{entry_name}
 use Rattle.hierarchy.proofs.Finding.{found_there, absent_there, absent_past, item_stands}
 use Rattle.hierarchy.proofs.lookups.entry.Goals as goal

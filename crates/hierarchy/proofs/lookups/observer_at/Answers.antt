@@ -1,4 +1,4 @@
-use Rattle.std.proofs.Common.{◌≡◌, ◌<◌, ℕ, List, length, sym, subst, arith, Some, None, Option}
+use Rattle.std.proofs.Common.{ℕ, List, length, sym, subst, arith, Some, None, Option}
 use Rattle.std.specs.List.Sorted.{IsNonDecreasingBy}
 use Rattle.ar_base.proofs.Standing.{stands_within}
 use Rattle.hierarchy.specs.Units.{numbers}

@@ -1,4 +1,4 @@
-use Rattle.std.proofs.Common.{rules, ◌≡◌, ◌<◌, ◌≤◌, ℕ, ltb, leb, length, List, Some, None, refl, sym, ◌∙◌, ap, subst, arith}
+use Rattle.std.proofs.Common.{rules, ◌<◌, ltb, leb, length, arith}
 use Rattle.std.proofs.lemmas.List.Sorted.{IsPartitionPoint-from_clause, IsPartitionedBy-ltb, IsPartitionedBy-leb}
 use Rattle.hierarchy.specs.declared.tree.ParNode.{ParNode}
 use Rattle.hierarchy.proofs.Finding.{node_found, run_from, run_to, none_more}

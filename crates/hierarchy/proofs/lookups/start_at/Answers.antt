@@ -1,7 +1,4 @@
-use Rattle.std.proofs.Common.{◌≡◌, slice_index_or, subst, sym, rules}
-use Rattle.ar_syntax.specs.declared.paths.PathStart.{PathStart}
-use Rattle.hierarchy.specs.Finding.{unit_number, StartsAt}
-use Rattle.hierarchy.specs.Units.{start_of}
+use Rattle.std.proofs.Common.{◌≡◌, slice_index_or, rules}
 use Rattle.hierarchy.proofs.Looking.{owner_at}
 use Rattle.hierarchy.proofs.lookups.start_at.Goals as goal
 

@@ -1,4 +1,4 @@
-use Rattle.std.proofs.Common.{◌≡◌, slice_index_or, ◌<◌, ℕ, List, length, refl, sym, ◌∙◌, ap, subst, arith, rules, Some, None}
+use Rattle.std.proofs.Common.{◌≡◌, slice_index_or, ap, rules}
 use Rattle.hierarchy.specs.Units.{start_of, numbers}
 use Rattle.hierarchy.specs.Finding.{unit_number}
 use Rattle.hierarchy.proofs.Looking.{starts_none, starts_some, starts_nowhere, goes_start, goes_next_at, goes_nowhere_at, goes_end_at, unit_none, some_unit, unit_within, node_at, step_to, step_nowhere}

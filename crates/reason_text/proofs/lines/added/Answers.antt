@@ -7,7 +7,7 @@ use Rattle.gts_flatten.specs.Flat.{naming_of_parts}
 use Rattle.flow_reasons.specs.Answers.{numbers_of}
 use Rattle.reason_text.proofs.Pieces.{added_pieces}
 use Rattle.reason_text.proofs.lines.added.Goals as goal
-use Rattle.replayer.proofs.WayLemmas.{place_read}
+use Rattle.text_pieces.proofs.Ways.{place_read}
 
 pub returns-in_err-put : goal.returns-in_err-put
 returns-in_err-put g c =

@@ -1,7 +1,7 @@
 use Rattle.std.proofs.Common.{◌∙◌, ◌++◌, codes, Bool, if◌then◌else◌, [], ap, sym}
 use Rattle.ar_base.specs.Texts.{line}
 use Rattle.ar_io.proofs.Writing.{writes_as}
-use Rattle.replayer.specs.Flat.{way_label}
+use Rattle.text_pieces.specs.WayLabels.{way_label}
 use Rattle.replayer.proofs.ListLemmas.{enabled_so}
 use Rattle.replayer.proofs.enabled.way_line.Goals as goal
 

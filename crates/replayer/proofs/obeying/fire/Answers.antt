@@ -5,12 +5,13 @@ use Rattle.ar_io.proofs.Writing.{writes_as}
 use Rattle.domains.specs.declared.Value.{Value}
 use Rattle.gts_core.specs.Readings.{IsTotal}
 use Rattle.gts_core.specs.declared.system.GtsParts.{GtsParts}
-use Rattle.replayer.specs.Flat.{way_label}
+use Rattle.text_pieces.specs.WayLabels.{way_label}
 use Rattle.replayer.specs.Observing.{AreInOrder, AreTouched}
 use Rattle.replayer.specs.Playing.{AreTotal, goes_on}
 use Rattle.replayer.specs.Printing.{changes_text}
 use Rattle.replayer.proofs.FollowLemmas.{total_below}
-use Rattle.replayer.proofs.ObeyLemmas.{on_cut, out_of_memory, fire_on, fire_inside, refused, answers_as}
+use Rattle.replayer.proofs.ObeyLemmas.{on_cut, out_of_memory, fire_on, refused, answers_as}
+use Rattle.text_pieces.proofs.Ranges.{fire_inside}
 use Rattle.replayer.proofs.obeying.fire.Goals as goal
 
 pub returns-in_err-touched-in-Ok-clause-answers : goal.returns-in_err-touched-in-Ok-clause-answers

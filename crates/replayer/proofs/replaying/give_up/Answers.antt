@@ -4,7 +4,7 @@ use Rattle.flow_propagate.specs.Answers.{fault_of}
 use Rattle.flow_propagate.specs.declared.propagation.PropagateFault.{PropagateFault}
 use Rattle.gts_core.specs.View.{net_of}
 use Rattle.stepper.specs.Steps.{IsStartFault}
-use Rattle.replayer.proofs.ObeyLemmas.{flows_inside}
+use Rattle.text_pieces.proofs.Ranges.{flows_inside}
 use Rattle.replayer.proofs.PlayLemmas.{no_start_whole, no_start_cut, no_memory, replay_as}
 use Rattle.replayer.proofs.replaying.give_up.Goals as goal
 

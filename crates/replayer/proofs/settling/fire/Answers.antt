@@ -1,5 +1,5 @@
 use Rattle.std.proofs.Common.{refl}
-use Rattle.replayer.proofs.ObeyLemmas.{fire_inside}
+use Rattle.text_pieces.proofs.Ranges.{fire_inside}
 use Rattle.replayer.proofs.SettleLemmas.{fire_goes, refused}
 use Rattle.replayer.proofs.settling.fire.Goals as goal
 

@@ -5,7 +5,7 @@ use Rattle.flow_propagate.specs.declared.propagation.PropagateFault.{PropagateFa
 use Rattle.gts_core.specs.View.{net_of}
 use Rattle.gts_flatten.specs.Flat.{naming_of_parts}
 use Rattle.stepper.specs.Steps.{IsStartFault}
-use Rattle.replayer.proofs.ObeyLemmas.{flows_inside}
+use Rattle.text_pieces.proofs.Ranges.{flows_inside}
 use Rattle.replayer.proofs.SettleLemmas.{unstarted, settles_as}
 use Rattle.replayer.proofs.settling.unstarted.Goals as goal
 

@@ -17,14 +17,14 @@ returns-in_err-put-2 g c =
     (writes_on c.in_ok-put.ensures (writes_cut _ _
     (writes_on c.in_ok-print_label.ensures (writes_cut _ _ c.in_err-put-2.ensures))))
 
-pub returns-in_err-step_fault : goal.returns-in_err-step_fault
-returns-in_err-step_fault g c =
-    writes_exit _ _ c.from_residual-in_err-step_fault.ensures.1
+pub returns-in_err-print_step_fault : goal.returns-in_err-print_step_fault
+returns-in_err-print_step_fault g c =
+    writes_exit _ _ c.from_residual-in_err-print_step_fault.ensures.1
     (writes_on c.in_ok-put.ensures (writes_cut _ _
-    (writes_on c.in_ok-print_label.ensures (writes_on c.in_ok-put-2.ensures c.in_err-step_fault.ensures))))
+    (writes_on c.in_ok-print_label.ensures (writes_on c.in_ok-put-2.ensures c.in_err-print_step_fault.ensures))))
 
 pub returns : goal.returns
 returns g c =
     writes_on c.in_ok-put.ensures (writes_on
-    (writes_on c.in_ok-print_label.ensures (writes_on c.in_ok-put-2.ensures c.in_ok-step_fault.ensures))
+    (writes_on c.in_ok-print_label.ensures (writes_on c.in_ok-put-2.ensures c.in_ok-print_step_fault.ensures))
     c.put-3.ensures)

@@ -1,6 +1,5 @@
 use Rattle.std.proofs.Common.{ℕ, List, [], ◌∷◌, ◌++◌, ◌+◌, take, get_or, sym, subst, take_all}
 use Rattle.std.proofs.lemmas.List.{take_more}
-use Rattle.ar_base.specs.Lists.{Stands}
 use Rattle.ar_base.specs.Lists as l
 use Rattle.ar_base.proofs.Standing.{stands_get, one_here}
 use Rattle.ar_base.proofs.Items.{along_push}

@@ -1,4 +1,4 @@
-use Rattle.std.proofs.Common.{ℕ, List, [], map, take}
+use Rattle.std.proofs.Common.{List, [], map, take}
 use Rattle.ar_base.specs.Lists.{Stands, Along}
 use Rattle.class_table.specs.Declaring.{Declared}
 use Rattle.class_table.specs.Tables.{IsBodyOf, site_of}

@@ -1,11 +1,10 @@
-use Rattle.std.proofs.Common.{ℕ, List, [], map, length, sym, ◌∙◌, ap, subst, arith}
+use Rattle.std.proofs.Common.{ℕ, List, [], map, sym, ◌∙◌, ap, subst}
 use Rattle.std.proofs.lemmas.List.{take_all}
 use Rattle.ar_base.specs.Numbers.{BodyId}
 use Rattle.ar_base.proofs.Standing.{stands_get}
-use Rattle.class_table.specs.Members.{Site, owned_at}
 use Rattle.class_table.specs.Tables.{site_of}
 use Rattle.class_table.proofs.Taken.{map_next}
-use Rattle.unit_names.specs.Naming.{Entry, AddsNames, none, inner_names, names_if, names_at_sites}
+use Rattle.unit_names.specs.Naming.{Entry, AddsNames, none, inner_names, names_at_sites}
 use Rattle.unit_names.proofs.Adding.{adds_more, sites_next}
 use Rattle.unit_names.proofs.naming.inner_of.Goals as goal
 

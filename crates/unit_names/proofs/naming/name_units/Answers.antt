@@ -1,4 +1,4 @@
-use Rattle.std.proofs.Common.{◌≡◌, ℕ, List, [], take, sym, subst, rules}
+use Rattle.std.proofs.Common.{◌≡◌, ℕ, List, [], sym, subst, rules}
 use Rattle.ar_base.specs.Lists.{Stands, Along, none}
 use Rattle.hierarchy.specs.Tie.{IsUnit}
 use Rattle.hierarchy.specs.declared.tree.UnitNode.{UnitNode}

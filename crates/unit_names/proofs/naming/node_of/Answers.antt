@@ -1,11 +1,9 @@
-use Rattle.std.proofs.Common.{List, map, sym, ap, subst}
+use Rattle.std.proofs.Common.{List, sym, subst}
 use Rattle.ar_base.specs.Lists.{Stands, Along}
-use Rattle.class_table.specs.Members.{Site}
-use Rattle.class_table.specs.Tables.{IsBodyOf, site_of}
+use Rattle.class_table.specs.Tables.{IsBodyOf}
 use Rattle.class_table.specs.declared.tables.Body.{Body}
 use Rattle.class_table.proofs.Taken.{item_stands}
-use Rattle.hierarchy.specs.Units.{members_at}
-use Rattle.unit_names.specs.Naming.{AddsNames, inner_names, alias_names, names_at_sites}
+use Rattle.unit_names.specs.Naming.{inner_names, alias_names}
 use Rattle.unit_names.proofs.Named.{inner_listed, aliases_listed}
 use Rattle.unit_names.proofs.Nodes.{members_here, at_members}
 use Rattle.unit_names.proofs.naming.node_of.Goals as goal

@@ -1,4 +1,4 @@
-use Rattle.std.proofs.Common.{ℕ, List}
+use Rattle.std.proofs.Common.{List}
 use Rattle.ar_base.specs.Lists.{Stands, Along}
 use Rattle.class_table.specs.Earliest.{IsEarliest, Until}
 use Rattle.class_table.specs.Tables.{IsBodyOf}

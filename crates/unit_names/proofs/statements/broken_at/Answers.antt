@@ -1,8 +1,8 @@
-use Rattle.std.proofs.Common.{◌≡◌, Option, None, Some, sym, ◌∙◌, ap, subst, true, false, IsTrue, rules}
+use Rattle.std.proofs.Common.{◌≡◌, Option, sym, subst, true, false, rules}
 use Rattle.ar_base.specs.declared.places.Place.{Place}
 use Rattle.class_table.specs.Earliest.{IsEarliest}
 use Rattle.hierarchy.specs.Walks.{Reaches, Nothing, Loops}
-use Rattle.unit_names.specs.Naming.{EndsSo, broken_so, statement_of, statement_found}
+use Rattle.unit_names.specs.Naming.{EndsSo, broken_so, statement_of}
 use Rattle.unit_names.proofs.Ending.{ends_none, ends_here, ends_other, broken_reaches, looping_not_nothing, nothing_not_looping}
 use Rattle.unit_names.proofs.statements.broken_at.Goals as goal
 

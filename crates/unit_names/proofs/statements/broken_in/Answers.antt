@@ -1,4 +1,4 @@
-use Rattle.std.proofs.Common.{List, Option, map, sym, subst}
+use Rattle.std.proofs.Common.{List, Option, sym, subst}
 use Rattle.ar_base.specs.Lists.{Stands, Along}
 use Rattle.ar_base.specs.declared.places.Place.{Place}
 use Rattle.class_table.specs.Earliest.{IsEarliest}

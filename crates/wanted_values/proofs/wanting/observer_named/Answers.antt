@@ -7,7 +7,7 @@ use Rattle.hierarchy.specs.Tie.{AnswersThing}
 use Rattle.hierarchy.specs.Units.{numbers}
 use Rattle.hierarchy.specs.Walks.{is_observer}
 use Rattle.hierarchy.proofs.Looking.{main_first}
-use Rattle.replayer.specs.Reads.{AnswersNames}
+use Rattle.script_lines.specs.Reads.{AnswersNames}
 use Rattle.wanted_values.proofs.Observers.{names_observer, no_observer_named}
 use Rattle.wanted_values.proofs.wanting.observer_named.Goals as goal
 

@@ -3,7 +3,7 @@ use Rattle.ar_base.specs.Lists.{Stands}
 use Rattle.ar_base.proofs.Standing.{stands_some}
 use Rattle.domains.specs.declared.Value.{Value}
 use Rattle.gts_core.specs.declared.system.GtsParts.{GtsParts}
-use Rattle.replayer.proofs.VisibleLemmas.{found_stands, found_none}
+use Rattle.script_lines.proofs.VisibleLemmas.{found_stands, found_none}
 use Rattle.wanted_values.specs.Wanting.{Wants}
 use Rattle.wanted_values.specs.Answers.{AnswersObserver}
 use Rattle.wanted_values.proofs.Observers.{inside, is_wanted, wants_none}

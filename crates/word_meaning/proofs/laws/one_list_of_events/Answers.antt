@@ -1,6 +1,6 @@
 use Rattle.ar_base.proofs.Standing.{along_on}
-use Rattle.replayer.specs.CutLines.{is_comma}
-use Rattle.replayer.specs.Lines.{pieces}
+use Rattle.script_lines.specs.CutLines.{is_comma}
+use Rattle.script_lines.specs.Lines.{pieces}
 use Rattle.word_meaning.proofs.Labels.{along_one, one_event}
 use Rattle.word_meaning.proofs.laws.one_list_of_events.Goals as goal
 

@@ -1,0 +1,2 @@
+pub mod WayLabels
+pub mod Faults

@@ -1,0 +1,87 @@
+//! The texts of faults of the flows and of steps.
+
+ghost use Rattle.std.specs.Prelude.{◌≡◌, ◌<◌, ◌+◌, ◌++◌, codes, length};
+ghost use Rattle.ar_base.specs.Texts.{text_at};
+ghost use Rattle.ar_io.specs.Writing.{Writes};
+ghost use Rattle.ar_meaning.specs.Flows.{Broken};
+ghost use Rattle.ar_meaning.specs.TraceText.{flow_fault_text};
+ghost use Rattle.flow_propagate.specs.Answers.{fault_of};
+ghost use Rattle.gts_core.specs.Sound.{IsSound};
+ghost use Rattle.gts_flatten.specs.Flat.{naming_of_parts};
+ghost use Rattle.text_pieces.specs.Faults.{step_text, IsInRange, IsFaultInRange};
+
+use crate::pieces::{number, place, put, variable_path};
+use ar_io::{Sink, SinkFailed};
+use flow_propagate::FlowFault;
+use gts_core::{Gts, GtsParts};
+use stepper::StepFault;
+
+/// Writes what a fault of the flows is, without a line feed. Takes no memory.
+pub fn print_flow_fault<K: Sink>(gts: &Gts, fault: FlowFault, out: &mut K) -> Result<(), SinkFailed>
+    requires { IsInRange gts.now fault }
+    ensures { Writes (K.state out.old) (K.state out.new)
+        (flow_fault_text (naming_of_parts gts.now) (fault_of fault)) result }
+{
+    let parts = gts.parts();
+    match fault {
+        FlowFault::Two(x) => about_flow(out, parts, x.n, " has two values"),
+        FlowFault::Outside(x) => about_flow(out, parts, x.n, " is outside its domain"),
+        FlowFault::Broken(a) => about_assignment(out, parts, a.n),
+    }
+}
+
+// What a flow is.
+fn about_flow<K: Sink>(out: &mut K, parts: &GtsParts, n: u32, what: &str) -> Result<(), SinkFailed>
+    ensures { Writes (K.state out.old) (K.state out.new)
+        (codes "flow " ++ (text_at (naming_of_parts parts.now).variables n ++ what.now)) result }
+{
+    put(out, "flow ")?;
+    put(out, variable_path(parts, n))?;
+    put(out, what)
+}
+
+// That an assignment does not hold.
+fn about_assignment<K: Sink>(out: &mut K, parts: &GtsParts, n: u32) -> Result<(), SinkFailed>
+    requires sound { IsSound parts.now }
+    requires inside { n < length parts.now.assigns.items }
+    ensures { Writes (K.state out.old) (K.state out.new)
+        (flow_fault_text (naming_of_parts parts.now) (Broken n)) result }
+{
+    put(out, "assignment ")?;
+    number(out, n + 1)?;
+    put(out, " at ")?;
+    place(out, parts.assigns[n as usize].at)?;
+    put(out, " does not hold")
+}
+
+/// Writes what a fault of a step is, without a line feed, and nothing for want of memory. Takes no memory.
+pub fn print_step_fault<K: Sink>(gts: &Gts, fault: StepFault, out: &mut K) -> Result<(), SinkFailed>
+    requires { IsFaultInRange gts.now fault }
+    ensures { Writes (K.state out.old) (K.state out.new) (step_text gts.now fault) result }
+{
+    match fault {
+        StepFault::NotEnabled => put(out, "not enabled"),
+        StepFault::Clash(x) => clash(out, gts, x.n),
+        StepFault::Range(x) => outside(out, gts, x.n),
+        StepFault::Flow(flow) => print_flow_fault(gts, flow, out),
+        StepFault::Memory => put(out, ""),
+    }
+}
+
+// That a variable receives two values.
+fn clash<K: Sink>(out: &mut K, gts: &Gts, n: u32) -> Result<(), SinkFailed>
+    ensures { Writes (K.state out.old) (K.state out.new)
+        (codes "two values for " ++ text_at (naming_of_parts gts.now).variables n) result }
+{
+    put(out, "two values for ")?;
+    put(out, variable_path(gts.parts(), n))
+}
+
+// That a variable receives a value outside its domain.
+fn outside<K: Sink>(out: &mut K, gts: &Gts, n: u32) -> Result<(), SinkFailed>
+    ensures { Writes (K.state out.old) (K.state out.new)
+        (text_at (naming_of_parts gts.now).variables n ++ codes " outside its domain") result }
+{
+    put(out, variable_path(gts.parts(), n))?;
+    put(out, " outside its domain")
+}

@@ -36,12 +36,19 @@ def fault(name, form, line, mended):
 
 
 names = {"node"}
+whole, lacking = read("tests/models/from/dataflow.alt"), []
 with open("docs/FROM_ALTARICA.md", encoding="utf-8") as page:
     for row in page:
+        here = re.match(r"\| (?:`[^`]*`[^|`]*)+ \| (`[^|]*) \|$", row.replace("\\|", ""))
+        if here:
+            lacking += [it for it in re.findall(r"`([^`]*)`", here[1]) if len(it) > 1 and it not in whole]
         cells = re.match(r"\| `(\w+)` \| `(.+?)` \| `(\w+: .+?)` \| `(.+?)` \| ", row)
         if cells:
             names.add(cells[1])
             why = fault(*cells.groups())
             print(f"failed: {cells[1]} ({why})" if why else f"passed: {cells[1]} is refused and mended as the page has it")
+if not check("tests/models/from/dataflow.alt").startswith("ok "):
+    lacking.append(check("tests/models/from/dataflow.alt"))
+print(f"failed: tests/models/from/dataflow.alt lacks {'; '.join(lacking)}" if lacking else "passed: the forms for Data-Flow are accepted")
 lost = {os.path.basename(it)[:-4] for it in glob.glob("tests/literature/*.alt")} - names
 print(f"failed: the page has no row for {' '.join(sorted(lost))}" if lost else "passed: the page has each model of the literature")

@@ -158,6 +158,13 @@ run check plant.alt
 point "the next call builds nothing and says nothing" both '[ $status -eq 0 ]' 'wrote "$answer"' 'calls 0' '[ ! -s "$lab/err" ]'
 run cuts plant.alt --observer nothing
 point "the program's status and line are the script's" both '[ $status -eq 11 ]' 'wrote "script: no observer"'
+ln -s "$copy/altarica" "$lab/bin/altarica"
+mkdir "$lab/elsewhere"
+cp "$copy/plant.alt" "$lab/elsewhere/here.alt"
+(cd "$lab/elsewhere" && PATH=$lab/bin:$PATH altarica check here.alt) >"$lab/out" 2>"$lab/err" </dev/null
+cp "$lab/out" "$lab/got"
+point "by a link on the path, from another folder" wrote "$answer"
+rm "$lab/bin/altarica"
 run --version
 point "--version names the proved program" grep -q '^proved program: .*/out/altarica$' "$lab/out"
 touch "$copy/crates/low/src/text"

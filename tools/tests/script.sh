@@ -170,8 +170,16 @@ point "--version names the proved program" grep -q '^proved program: .*/out/alta
 touch "$copy/crates/low/src/text"
 run check plant.alt
 point "a file with a new time and the old content: no build" both 'wrote "$answer"' 'calls 0'
-echo changed >"$copy/crates/low/proofs/text"
 rm -f "$lab/works"
+sleep 2.1
+run check plant.alt
+touch -r "$copy/crates/low/proofs/text" "$lab/time"
+echo low PROOFS >"$copy/crates/low/proofs/text"
+touch -r "$lab/time" "$copy/crates/low/proofs/text"
+run check plant.alt
+point "a file of the same size and time with a new content: a build" both '[ $status -eq 12 ]' 'calls 1'
+: >"$lab/calls"
+echo changed >"$copy/crates/low/proofs/text"
 run check plant.alt
 point "a file with a new content: a build" both '[ $status -eq 12 ]' 'calls 1' 'said "building its 2 crates"'
 rm -f "${TMPDIR:-/tmp}"/altarica-log.*
@@ -268,6 +276,11 @@ sleep 2
 : >"$lab/calls"
 run check examples/pumps.alt
 point "the proved program answers through the script" both '[ $status -eq 0 ]' 'grep -q "^ok units" "$lab/out"' 'calls 0'
+printf '#!/bin/sh\necho sum >>"%s/calls"\n' "$lab" >"$lab/bin/sha256sum"
+chmod +x "$lab/bin/sha256sum"
+run check examples/pumps.alt
+point "where nothing has changed, no file is summed" both '[ $status -eq 0 ]' 'calls 0'
+rm "$lab/bin/sha256sum"
 # The least processor time of some runs, in ms; the time by the clock says more of what else the machine does.
 least() {
   local best=999999 i it TIMEFORMAT='%U %S'

@@ -220,8 +220,18 @@ def links(page, lines):
     point(f"{page}: its links lead somewhere", "; ".join(faults[:6]))
 
 
+def unused(pages):
+    """Looks for files that no page shows or names."""
+    text = "\n".join("\n".join(read(page)) for page in pages)
+    for folder in ("tests/models/refusals", "tests/models/howto", "tests/models/tools", "tests/ci"):
+        lost = [it for it in sorted(glob.glob(f"{folder}/*")) if it not in text and f" {os.path.basename(it)}" not in text]
+        point(f"each file of {folder} is on a page", " ".join(lost) and f"not on any: {' '.join(lost)}")
+
+
 def main():
     pages = sys.argv[1:] or ["README.md", *sorted(glob.glob("docs/*.md"))]
+    if not sys.argv[1:]:
+        unused(pages)
     for page in pages:
         lines = read(page)
         is_pending = page in PENDING and not any(map(COMMENT.match, lines))

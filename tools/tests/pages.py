@@ -1,0 +1,250 @@
+"""Compares what README.md and the pages of docs/ show with files and with what the program writes.
+
+A fenced block has directly above it one of these lines:
+
+  <!-- file: PATH -->               the block is the whole file
+  <!-- part: PATH -->               its lines follow each other in the file; a line `...` is for lines left out
+  <!-- run: WORDS | status=N -->    the block is all that the program writes on these words at the top of the
+                                    repository (status 0 where none is given); `...` as above
+  <!-- shell: COMMAND | status=N -->  the same of a command of bash, in which `altarica` is the program
+  <!-- commands | status=N -->      the block is commands of bash, which end with this status; `./altarica` in them is
+                                    the program
+  <!-- text -->                     the block is not compared
+
+Further: no page uses certain words of output, files and values (PATTERNS), a page has at most 400 lines of at most
+300 characters, and links lead to files and headings that are there.
+
+With names of pages it takes these alone.
+"""
+
+import glob
+import os
+import re
+import shlex
+import shutil
+import subprocess
+import sys
+import tempfile
+
+LINES, LENGTH = 400, 300
+
+# Pages that are tried for their links alone until they have a comment of the kinds above.
+PENDING = {
+    "README.md",
+    "docs/ARCHITECTURE.md",
+    "docs/DECISIONS.md",
+    "docs/EXAMPLES.md",
+    "docs/LANGUAGE.md",
+    "docs/PROMISES.md",
+    "docs/SPEED.md",
+    "docs/TEXTS.md",
+}
+
+# Tools that a page may name before they are there.
+PENDING_TOOLS = {f"tools/{name}" for name in "compare draw lib lint order report to_open_psa why".split()}
+
+# Words that a page has for people alone, and what may be around them all the same.
+PATTERNS = [
+    (r"\b(is|are|was|were|be|been|being) told\b", r"\b(you|reader|readers|user|users|engineer|engineers|crew|operator|operators) (is|are|was|were) told\b"),
+    (r"\bstands?\b", r"\bstands? for\b|\bstands? by\b|\bstands? (up|ready)\b|\b(crew|operator|person|people|engineer|test) stands?\b"),
+    (r"\bwhat (is|was) said\b", r"(?!)"),
+    (r"\b(is|are) said (of|by|in|there|then)\b", r"(?!)"),
+]
+
+COMMENT = re.compile(r"^<!-- (file: (?P<file>\S+)|part: (?P<part>\S+)|run: (?P<run>.*?)|shell: (?P<shell>.*?)|(?P<commands>commands)|(?P<text>text))(?P<status> \| status=(?P<number>\d+))? -->$")
+PROGRAM = os.environ.get("ALTARICA", "")
+outputs = {}
+
+
+def passed(what):
+    print(f"passed: {what}")
+
+
+def failed(what, why):
+    why = " ".join(why.split())
+    print(f"failed: {what} ({why})")
+
+
+def point(what, why):
+    failed(what, why) if why else passed(what)
+
+
+def run(words):
+    """Returns the status and the output of a command at the top."""
+    key = tuple(words)
+    if key not in outputs:
+        env = {**os.environ, "PATH": f"{folder}:{os.environ['PATH']}", "LC_ALL": "C.UTF-8"}
+        done = subprocess.run(words, stdin=subprocess.DEVNULL, stdout=subprocess.PIPE, stderr=subprocess.STDOUT, env=env, timeout=120)
+        outputs[key] = done.returncode, done.stdout.decode("utf-8", "replace")
+    return outputs[key]
+
+
+def fits(block, whole, is_part):
+    """Says why the block's lines are not those of the whole, or nothing."""
+    pieces, open_start, open_end = [[]], False, False
+    for line in block:
+        if line.strip() == "...":
+            pieces.append([])
+        else:
+            pieces[-1].append(line)
+    if not is_part and len(pieces) == 1:
+        if block == whole:
+            return ""
+        for number, (is_there, wanted) in enumerate(zip(block, whole), 1):
+            if is_there != wanted:
+                return f"line {number} of the block is `{is_there}` and should be `{wanted}`"
+        return f"the block has {len(block)} lines and should have {len(whole)}: `{(whole + block)[min(len(whole), len(block))] if len(whole) != len(block) else ''}`"
+    at = 0
+    for number, piece in enumerate(pieces):
+        if not piece:
+            continue
+        starts = [i for i in range(at, len(whole) - len(piece) + 1) if whole[i : i + len(piece)] == piece]
+        if not is_part and number == 0:
+            starts = [i for i in starts if i == 0]
+        if not is_part and number == len(pieces) - 1:
+            starts = [i for i in starts if i + len(piece) == len(whole)]
+        if not starts:
+            return f"these lines do not follow each other there: `{piece[0]}` and {len(piece) - 1} more"
+        at = starts[0] + len(piece)
+    return ""
+
+
+def lines_of(text):
+    return text.split("\n")[:-1] if text.endswith("\n") else text.split("\n")
+
+
+def block_fault(comment, block):
+    """Says why a block is not what its comment says."""
+    for kind in ("file", "part"):
+        path = comment[kind]
+        if path:
+            if not os.path.isfile(path):
+                return f"there is no file {path}"
+            with open(path, encoding="utf-8") as it:
+                return fits(block, lines_of(it.read()), kind == "part")
+    wanted = int(comment["number"] or 0)
+    if comment["commands"]:
+        text = re.sub(r"(^|[\s(;|&])\./altarica\b", r"\1altarica", "\n".join(block))
+        status, output = run(["bash", "-c", text])
+        return "" if status == wanted else f"the commands end with {status} and not with {wanted}: {output[-300:]}"
+    if comment["run"]:
+        status, output = run([PROGRAM, *shlex.split(comment["run"])])
+    else:
+        status, output = run(["bash", "-c", comment["shell"]])
+    if status != wanted:
+        return f"the status is {status} and not {wanted}: {output[:300]}"
+    return fits(block, lines_of(output) if output else [], False)
+
+
+def slugs_of(lines):
+    """Returns the names by which links lead to the headings of a page."""
+    found = []
+    for line in outside_of_blocks(lines):
+        heading = re.match(r"#+ +(.*?) *#*$", line)
+        if heading:
+            text = re.sub(r"\[([^]]*)\]\([^)]*\)", r"\1", heading[1])
+            slug = re.sub(r"[^\w\- ]", "", text.lower()).replace(" ", "-")
+            same = sum(it == slug or it.startswith(slug + "-") and it[len(slug) + 1 :].isdigit() for it in found)
+            found.append(f"{slug}-{same}" if slug in found else slug)
+    return found
+
+
+def outside_of_blocks(lines):
+    """Returns the lines, empty where they belong to a fenced block."""
+    is_in, found = False, []
+    for line in lines:
+        fence = line.startswith("```")
+        found.append("" if is_in or fence else line)
+        is_in ^= fence
+    return found
+
+
+def read(page):
+    with open(page, encoding="utf-8") as it:
+        return lines_of(it.read())
+
+
+def blocks(page, lines, is_pending):
+    """Compares each fenced block of a page."""
+    number = 0
+    while number < len(lines):
+        if not lines[number].startswith("```"):
+            number += 1
+            continue
+        end = next((i for i in range(number + 1, len(lines)) if lines[i].startswith("```")), None)
+        what = f"{page}:{number + 1}"
+        if end is None:
+            failed(what, "the block does not end")
+            return
+        comment = COMMENT.match(lines[number - 1]) if number else None
+        if comment:
+            point(f"{what} {lines[number - 1][5:-4]}", "" if comment["text"] else block_fault(comment, lines[number + 1 : end]))
+        elif not is_pending:
+            failed(what, "the block has no comment of a known kind directly above it")
+        number = end + 1
+
+
+def words(page, lines):
+    faults = []
+    for number, line in enumerate(outside_of_blocks(lines), 1):
+        line = re.sub(r"`[^`]*`|<!--.*?-->", "", line)
+        for pattern, exceptions in PATTERNS:
+            for found in re.finditer(pattern, line, re.I):
+                if not any(it.start() <= found.start() and found.end() <= it.end() for it in re.finditer(exceptions, line, re.I)):
+                    faults.append(f"line {number}: `{line[max(0, found.start() - 20) : found.end() + 20]}`")
+    point(f"{page}: words for people are used of people", "; ".join(faults[:5]) + (f"; and {len(faults) - 5} more" if len(faults) > 5 else ""))
+
+
+def size(page, lines):
+    long = [str(number) for number, line in enumerate(lines, 1) if len(line) > LENGTH]
+    why = f"it has {len(lines)} lines; " * (len(lines) > LINES) + f"longer than {LENGTH}: lines {', '.join(long[:8])}" * bool(long)
+    point(f"{page}: at most {LINES} lines of at most {LENGTH} characters", why)
+
+
+def links(page, lines):
+    faults = []
+    for number, line in enumerate(outside_of_blocks(lines), 1):
+        plain = re.sub(r"`[^`]*`", "", line)
+        for target in re.findall(r"\]\(([^)\s]+)\)", plain):
+            if re.match(r"\w+:", target):
+                continue
+            path, _, heading = target.partition("#")
+            path = os.path.normpath(os.path.join(os.path.dirname(page), path)) if path else page
+            if not os.path.exists(path):
+                faults.append(f"line {number}: there is no {path}")
+            elif heading and path.endswith(".md") and heading not in slugs_of(read(path)):
+                faults.append(f"line {number}: {path} has no heading #{heading}")
+        for path in re.findall(r"(?<![\w/.*-])((?:docs|examples|tests|tools)/[\w./-]*\w)", line):
+            if not os.path.exists(path) and path not in PENDING_TOOLS and not re.search(r"\bNAME\b", path):
+                faults.append(f"line {number}: there is no {path}")
+    point(f"{page}: its links lead somewhere", "; ".join(faults[:6]))
+
+
+def unused(pages):
+    """Looks for files that no page shows or names."""
+    text = "\n".join("\n".join(read(page)) for page in pages)
+    for folder in ("tests/models/refusals", "tests/models/howto", "tests/models/tools", "tests/ci"):
+        lost = [it for it in sorted(glob.glob(f"{folder}/*")) if it not in text and f" {os.path.basename(it)}" not in text]
+        point(f"each file of {folder} is on a page", " ".join(lost) and f"not on any: {' '.join(lost)}")
+
+
+def main():
+    pages = sys.argv[1:] or ["README.md", *sorted(glob.glob("docs/*.md"))]
+    if not sys.argv[1:]:
+        unused(pages)
+    for page in pages:
+        lines = read(page)
+        is_pending = page in PENDING and not any(map(COMMENT.match, lines))
+        blocks(page, lines, is_pending)
+        links(page, lines)
+        if not is_pending:
+            words(page, lines)
+            size(page, lines)
+
+
+folder = tempfile.mkdtemp(prefix="altarica-pages-")
+try:
+    os.symlink(os.path.realpath(PROGRAM), f"{folder}/altarica")
+    main()
+finally:
+    shutil.rmtree(folder)

@@ -1,0 +1,304 @@
+#!/usr/bin/env bash
+# The script `altarica`: what it answers at once, what it says before a long build, which program it takes, and that it
+# costs next to nothing over the program. It is tried in small copies, in which `rt` is a stand-in that takes a note of
+# each call, and once over the real crates.
+set -u
+top=$PWD
+lab=$(mktemp -d "${TMPDIR:-/tmp}/altarica-lab.XXXXXX")
+trap 'rm -rf "$lab"' EXIT
+usage='usage: altarica COMMAND FILES [--main B] [--observer O] [--value V] [--nodes N] [--drop EVENTS]'
+
+# point WHAT CONDITION..: the condition is a command.
+point() {
+  local what=$1
+  shift
+  if "$@" >/dev/null 2>&1; then echo "passed: $what"; else echo "failed: $what ($(tr '\n' ' ' <"$lab/got" | cut -c1-300))"; fi
+}
+
+# Runs the script in the copy; its output goes to `out`, `err` and `got`, its status to `status`.
+run() {
+  local began=$EPOCHREALTIME
+  (cd "$copy" && PATH=$lab/bin:$PATH timeout 60 ./altarica "$@") >"$lab/out" 2>"$lab/err" <"${input:-/dev/null}"
+  status=$?
+  took=$(awk -v a="$began" -v b="$EPOCHREALTIME" 'BEGIN { printf "%d", (b - a) * 1000 }')
+  { echo "status $status, $took ms:"; cat "$lab/out" "$lab/err"; } >"$lab/got"
+}
+wrote() { [ "$(cat "$lab/out")" = "$1" ]; }
+said() { grep -qi -- "$1" "$lab/err"; }
+calls() { [ "$(grep -c . "$lab/calls" 2>/dev/null)" -eq "$1" ]; }
+both() { local it; for it; do eval "$it" || return 1; done; }
+
+# A copy of the script with two small crates.
+new_copy() {
+  copy=$lab/copy$((++copies))
+  mkdir -p "$copy"/crates/{low,altarica_main}/{src,specs,proofs} "$copy/tools"
+  cp "$top/altarica" "$copy/"
+  ln -s "$top/docs" "$copy/docs"
+  printf '# crates\nlow:\naltarica_main: low\n' >"$copy/crates.txt"
+  for crate in low altarica_main; do
+    for folder in src specs proofs; do echo "$crate $folder" >"$copy/crates/$crate/$folder/text"; done
+  done
+  find "$copy/crates" -type f -exec touch -d '1 hour ago' {} +
+  cp "$top/tests/models/refusals/plant.alt" "$top/tests/models/refusals/twice.script" "$copy/"
+  printf '#!/bin/sh\necho "$ALTARICA" "$@"\n' >"$copy/tools/why"
+  chmod +x "$copy/tools/why"
+  : >"$lab/calls"
+}
+copies=0
+
+# The stand-in for rt: notes the call; proves nothing or, where the file `works` is there, as the kit does.
+mkdir -p "$lab/bin"
+cat >"$lab/bin/rt" <<END
+#!/usr/bin/env bash
+echo "\$*" >>"$lab/calls"
+[ -e "$lab/works" ] || exit 1
+case \$1 in
+  lib) echo proved ;;
+  run) mkdir -p out; cp "$ALTARICA" out/altarica_main; echo "rt: running altarica_main" ;;
+  try)
+    shift 2
+    folder=\$(mktemp -d "$lab/try.XXXXXX")
+    cp "$ALTARICA" "\$folder/program"
+    "\$folder/program" "\$@"
+    rm -rf "\$folder"
+    echo "run=ended status=2 runners=1 proved=no" >&2
+    ;;
+esac
+END
+chmod +x "$lab/bin/rt"
+
+# At once, with no program and no build.
+new_copy
+run --help
+point "--help answers at once, with status 0 and no build" both '[ $status -eq 0 ]' '[ $took -lt 2000 ]' 'calls 0'
+for word in check flat replay explain fragment equations cuts modules checkcuts make --main --observer --value --drop --nodes --unproved --why --explain; do
+  grep -q -- "$word" "$lab/out" || echo "failed: --help names $word"
+done
+point "--help has the statuses and the pages" both 'grep -q "Exit status" "$lab/out"' 'grep -q docs/REFUSALS.md "$lab/out"'
+run
+"$ALTARICA" >"$lab/program"
+point "no words: the program's line and status, and the help on standard error" both '[ $status -eq 1 ]' 'cmp "$lab/out" "$lab/program"' 'said "Exit status"' 'calls 0'
+run --version
+point "--version has the date of docs/CHANGES.md and the commit" grep -Eq '^altarica [0-9]{4}-[0-9]{2}-[0-9]{2}, commit ' "$lab/out"
+point "--version has the sum of the sources, and says which program is there" both 'grep -Eq "[0-9a-f]{64}" "$lab/out"' 'grep -q "^proved program: none" "$lab/out"' '[ $status -eq 0 ]' 'calls 0'
+
+# Words that are no job are refused before a build, and only these. Each line is a set of words.
+while IFS= read -r words; do
+  eval "set -- $words"
+  wanted=$(cd "$copy" && "$ALTARICA" "$@" </dev/null | head -n 1)
+  : >"$lab/calls"
+  run "$@"
+  if [ "$wanted" = "$usage" ]; then
+    point "no job: $words" both '[ $status -eq 1 ]' 'wrote "$usage"' 'calls 0'
+  else
+    point "a job: $words" both '[ $status -eq 12 ]' 'wrote ""' 'calls 1'
+  fi
+done <<'END'
+chek plant.alt
+check
+check plant.alt plant.alt
+check plant.alt --observer lost
+check plant.alt --main Plant
+check --main=Plant plant.alt
+check --main Plant --main Plant plant.alt
+check plant.alt --main
+check -x plant.alt
+check --colour plant.alt
+check -- plant.alt
+cuts plant.alt
+cuts plant.alt --observer lost
+cuts --observer lost plant.alt
+cuts plant.alt --observer=lost --nodes 0
+cuts plant.alt --observer=lost --nodes 16777216
+cuts plant.alt --observer=lost --nodes 16777217
+cuts plant.alt --observer=lost --nodes=007
+cuts plant.alt --observer lost --value -3
+cuts plant.alt --observer lost --value=-3
+cuts plant.alt --observer lost --drop a.fail,b.fail
+cuts plant.alt --observer --drop
+replay plant.alt
+replay plant.alt twice.script
+replay plant.alt twice.script --drop a.fail
+explain plant.alt twice.script --observer lost
+explain plant.alt twice.script --value true
+fragment plant.alt --drop a.fail
+fragment plant.alt --observer lost
+equations plant.alt --observer lost --nodes 5
+checkcuts plant.alt --observer lost
+modules plant.alt --observer lost
+make 6
+make 201
+make 06
+make six
+make 6 --main B
+make
+END
+run check nowhere.alt
+point "a model that is not there is refused before a build" both '[ $status -eq 7 ]' 'wrote "read: model"' 'said nowhere.alt'
+run replay plant.alt nowhere.script
+point "a script that is not there is refused before a build" both '[ $status -eq 7 ]' 'wrote "read: script"'
+
+# Before a long build.
+: >"$lab/calls"
+run check plant.alt
+point "before a build: how long it takes" said 'takes .* hours'
+point "before a build: --unproved answers in minutes" said 'unproved .*minutes'
+point "before a build: what is proved stays" said 'stopped at any time: what is proved .*stays'
+point "a crate that is not proved: status 12, and the log is named" both '[ $status -eq 12 ]' 'said "crate low was not proved"' 'said "the log is"'
+rm -f "${TMPDIR:-/tmp}"/altarica-log.*
+
+# A build, and the calls behind it.
+: >"$lab/works"
+: >"$lab/calls"
+run check plant.alt
+answer=$(cd "$copy" && "$ALTARICA" check plant.alt)
+point "a build: each crate, then the program, then the answer" both '[ $status -eq 0 ]' 'wrote "$answer"' 'calls 2' 'said "built in"'
+: >"$lab/calls"
+run check plant.alt
+point "the next call builds nothing and says nothing" both '[ $status -eq 0 ]' 'wrote "$answer"' 'calls 0' '[ ! -s "$lab/err" ]'
+run cuts plant.alt --observer nothing
+point "the program's status and line are the script's" both '[ $status -eq 11 ]' 'wrote "script: no observer"'
+ln -s "$copy/altarica" "$lab/bin/altarica"
+mkdir "$lab/elsewhere"
+cp "$copy/plant.alt" "$lab/elsewhere/here.alt"
+(cd "$lab/elsewhere" && PATH=$lab/bin:$PATH altarica check here.alt) >"$lab/out" 2>"$lab/err" </dev/null
+cp "$lab/out" "$lab/got"
+point "by a link on the path, from another folder" wrote "$answer"
+rm "$lab/bin/altarica"
+run --version
+point "--version names the proved program" grep -q '^proved program: .*/out/altarica$' "$lab/out"
+touch "$copy/crates/low/src/text"
+run check plant.alt
+point "a file with a new time and the old content: no build" both 'wrote "$answer"' 'calls 0'
+rm -f "$lab/works"
+sleep 2.1
+run check plant.alt
+touch -r "$copy/crates/low/proofs/text" "$lab/time"
+echo low PROOFS >"$copy/crates/low/proofs/text"
+touch -r "$lab/time" "$copy/crates/low/proofs/text"
+run check plant.alt
+point "a file of the same size and time with a new content: a build" both '[ $status -eq 12 ]' 'calls 1'
+: >"$lab/calls"
+echo changed >"$copy/crates/low/proofs/text"
+run check plant.alt
+point "a file with a new content: a build" both '[ $status -eq 12 ]' 'calls 1' 'said "building its 2 crates"'
+rm -f "${TMPDIR:-/tmp}"/altarica-log.*
+
+# The program that the gate has built.
+new_copy
+mkdir -p "$copy/crates/altarica_main/out" && cp "$ALTARICA" "$copy/crates/altarica_main/out/altarica_main"
+find "$copy/crates" -type d -name out -prune -o -type f -exec touch -d '1 hour ago' {} +
+sleep 0.02
+touch "$copy/crates/altarica_main/out/altarica_main"
+run check plant.alt
+point "the program of the gate is taken where no file has changed" both '[ $status -eq 0 ]' 'wrote "$answer"' 'calls 0'
+
+# --explain
+for key in L1 L2 L3 L4 L5 L6 L7 L8 L9 L10 L11 L12 L13 L14 S1 S2 S3 S4 S5 S6 S7 S8 syntax nesting size nodes script read usage write memory conflict; do
+  run --explain $key
+  point "--explain $key prints one section" both '[ $status -eq 0 ]' '[ "$(grep -c "^## " "$lab/out")" -eq 1 ]' 'grep -qi "^## $key:" "$lab/out"'
+done
+while IFS='|' read -r line heading; do
+  run --explain $line
+  point "--explain $line" both '[ $status -eq 0 ]' '[ "$(grep -c "^## " "$lab/out")" -eq 1 ]' 'grep -q "^## $heading" "$lab/out"'
+done <<'END'
+rule: L10 at 8:21|L10:
+outside: S6 at valve.m|S6:
+size: ways 256|size:
+size: nesting 128|nesting:
+syntax: 3:3|syntax:
+nodes: 1|nodes:
+script: line 2 is no command|script:
+fault: a.fail: not enabled|fault: not enabled
+fault: e: two values for s|fault: two values for a variable
+fault: up: n outside its domain|fault: a step leaves its domain
+fault: e: flow x has two values|fault: flow has two values
+fault: e: flow x is outside its domain|fault: flow is outside its domain
+fault: start: assignment 1 at 1:46 does not hold|fault: assignment does not hold
+fault: back: no step|fault: back, no step
+fault: {trip}: flow x has two values|conflict:
+END
+run --explain nonsense
+point "--explain of nothing: the list of sections, status 1" both '[ $status -eq 1 ]' 'said "L14:"'
+
+# --why
+run --why check plant.alt
+point "--why runs tools/why with the proved program" both '[ $status -eq 0 ]' 'wrote "$copy/out/altarica check plant.alt"'
+
+# --unproved: the program is compiled once and kept.
+if [ "$(head -c 4 "$ALTARICA" | tail -c 3)" = ELF ] && [ -d "/proc/$$" ]; then
+  new_copy
+  : >"$lab/works"
+  run --unproved check plant.alt
+  point "--unproved says that it compiles, how long, and that nothing is proved" both 'said "compiling .*minutes"' 'said "nothing of this run is proved"'
+  point "--unproved gives the program's answer" both '[ $status -eq 0 ]' 'wrote "$answer"' 'calls 1'
+  : >"$lab/calls"
+  run --unproved check plant.alt
+  point "--unproved keeps what it compiled" both '[ $status -eq 0 ]' 'wrote "$answer"' 'calls 0' '! said compiling'
+  echo more >"$copy/crates/low/proofs/text"
+  run --unproved check plant.alt
+  point "--unproved: another proof compiles nothing" both 'wrote "$answer"' 'calls 0'
+  cp plant.alt "$copy/lost" 2>/dev/null || cp "$copy/plant.alt" "$copy/lost"
+  cp "$copy/plant.alt" "$copy/6"
+  run --unproved cuts plant.alt --observer lost
+  point "--unproved: a file with the observer's name changes no word" both '[ $status -eq 0 ]' 'wrote "$(cd "$copy" && "$ALTARICA" cuts plant.alt --observer lost)"'
+  run --unproved make 6
+  point "--unproved: a file 6 does not break make 6" both '[ $status -eq 0 ]' 'grep -q "^make 6$" "$lab/out"'
+  input=$copy/plant.alt run --unproved check /dev/stdin
+  point "--unproved takes /dev/stdin" both '[ $status -eq 0 ]' 'wrote "$answer"'
+  run --unproved check <(cat "$copy/plant.alt")
+  point "--unproved takes <(..)" both '[ $status -eq 0 ]' 'wrote "$answer"'
+  run --unproved cuts plant.alt --observer nothing
+  point "--unproved has the program's status" both '[ $status -eq 11 ]' 'wrote "script: no observer"'
+  run --unproved chek plant.alt
+  point "--unproved: words that are no job" both '[ $status -eq 1 ]' 'wrote "$usage"'
+  : >"$lab/calls"
+  run --unproved --why check plant.alt
+  point "--unproved --why runs tools/why" both '[ $status -eq 0 ]' 'grep -q "check plant.alt$" "$lab/out"' 'calls 0'
+  echo more >"$copy/crates/low/src/text"
+  run --unproved check plant.alt
+  point "--unproved: another source is compiled" both '[ $status -eq 0 ]' 'wrote "$answer"' 'calls 1'
+  rm -f "$lab/works"
+  echo most >"$copy/crates/low/src/text"
+  run --unproved check plant.alt
+  point "--unproved where it cannot be compiled: status 12 and a line" both '[ $status -eq 12 ]' 'said "could not be compiled"'
+fi
+
+# The proved program by the real crates: what the script costs, and that the program needs the C library alone.
+copy=$lab/real
+mkdir -p "$copy/out"
+cp altarica "$copy/"
+for it in crates crates.txt docs tools examples; do ln -s "$top/$it" "$copy/$it"; done
+cp "$ALTARICA" "$copy/out/altarica"
+run --version
+sed -n 's/^sum of the sources and proofs: \(.*\)/\1  -/p' "$lab/out" >"$copy/out/altarica.made_of"
+sleep 2
+: >"$lab/calls"
+run check examples/pumps.alt
+point "the proved program answers through the script" both '[ $status -eq 0 ]' 'grep -q "^ok units" "$lab/out"' 'calls 0'
+printf '#!/bin/sh\necho sum >>"%s/calls"\n' "$lab" >"$lab/bin/sha256sum"
+chmod +x "$lab/bin/sha256sum"
+run check examples/pumps.alt
+point "where nothing has changed, no file is summed" both '[ $status -eq 0 ]' 'calls 0'
+rm "$lab/bin/sha256sum"
+# The least processor time of some runs, in ms; the time by the clock says more of what else the machine does.
+least() {
+  local best=999999 i it TIMEFORMAT='%U %S'
+  for i in 1 2 3 4 5 6 7 8; do
+    it=$({ time "$@" >/dev/null 2>&1; } 2>&1 | awk '{ printf "%d", ($1 + $2) * 1000 }')
+    [ "$it" -ge "$best" ] || best=$it
+  done
+  echo "$best"
+}
+over=$(($(least "$copy/altarica" check examples/pumps.alt) - $(least "$copy/out/altarica" check examples/pumps.alt)))
+echo "$over ms over the program's own time" >"$lab/got"
+point "the script costs at most 0.1 s over the program" test "$over" -le 100
+mkdir "$lab/alone"
+cp "$ALTARICA" "$lab/alone/altarica"
+cp "$top/examples/pumps.alt" "$lab/alone/"
+(cd "$lab/alone" && env -i ./altarica check pumps.alt) >"$lab/got" 2>&1
+point "the program runs by itself, without environment and kit" grep -q '^ok units' "$lab/got"
+if command -v ldd >/dev/null; then
+  ldd "$ALTARICA" >"$lab/got" 2>&1
+  point "the program needs the C library alone" test -z "$(grep -vE 'linux-vdso|ld-linux|libc\.so|statically linked|not a dynamic' "$lab/got")"
+fi

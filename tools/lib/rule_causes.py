@@ -1,0 +1,593 @@
+"""The cause of a broken rule L1 to L14, found in the text at its place. Not proved: where the text does not show the
+cause, the rule's own words are all that is said.
+"""
+import difflib
+
+from grammar import COMPARISONS, Domain, Expr, Instr, Member, Path, Unit
+from hierarchy import Missing, Scope, Tree, Unknown, written
+
+RULES = {
+    "L1": "two items have one name, or a domain is not one: a symbol twice, a low end above the high end, more than 256 "
+          "values",
+    "L2": "no class or domain of the kind that is needed here has this name",
+    "L3": "a class or a block contains itself",
+    "L4": "two members of a unit have this name, inherited ones included",
+    "L5": "there is no main block",
+    "L6": "this path names no unit",
+    "L7": "this path leads in a circle, or a clone would contain itself",
+    "L8": "a variable has exactly one setting, `init` or `reset`",
+    "L9": "this setting has no target, or sets it twice",
+    "L10": "this path or name is nothing of the kind that is needed here",
+    "L11": "this expression has the wrong type",
+    "L12": "this value is outside its domain",
+    "L13": "a transition sets states alone, and an assertion flows alone",
+    "L14": "this event is a part of itself",
+}
+WORDS = {"variable": "a variable", "unit": "a unit", "parameter": "a parameter", "event": "an event",
+         "observer": "an observer", "kept": "a `parameter Real`"}
+KINDS = {"Boolean": "a truth value", "number": "a whole number", "symbol": "a symbol", "real": "a real number"}
+
+
+def near(name, names):
+    close = difflib.get_close_matches(name, sorted(set(names)), 1, 0.6)
+    return "; the nearest is `%s`" % close[0] if close else ""
+
+
+def unit_named(scope):
+    return "%s `%s`" % (scope.unit.kind, scope.unit.name.text)
+
+
+class Text:
+    """The items of a model, with each member that begins before a place and the scopes in which it is used."""
+
+    def __init__(self, bodies, line, column):
+        self.bodies, self.place = bodies, (line, column)
+
+    def here(self, token):
+        return (token.line, token.column) == self.place
+
+    def scopes(self):
+        """The scopes of the units of the main block, then those of the bodies of the text."""
+        found = []
+        try:
+            found = [node.scope for node in Tree(self.bodies).nodes]
+        except (Missing, Unknown, KeyError, AttributeError):
+            pass
+        return found + list(self.bodies.scopes())
+
+    def members(self):
+        """Each member with each scope that has it."""
+        for scope in self.scopes():
+            for member in scope.unit.members:
+                if member.kind == "extends":
+                    yield scope, member
+            try:
+                for member in self.bodies.members(scope.unit):
+                    yield scope, member
+            except Unknown:
+                continue
+
+    def first(self, cause):
+        """The first cause that some member in some scope gives."""
+        for scope, member in self.members():
+            try:
+                found = cause(scope, member)
+            except (Missing, Unknown, KeyError):
+                continue
+            if found:
+                return found
+        return None
+
+
+def paths_of(thing):
+    """Each path of a tree, with whether it names a variable or parameter, a unit, or an event."""
+    if isinstance(thing, Path):
+        yield thing
+    elif isinstance(thing, (list, tuple)):
+        for part in thing:
+            if not isinstance(part, Unit):
+                yield from paths_of(part)
+
+
+def exprs_of(thing):
+    if isinstance(thing, (Expr, Instr, Member, list, tuple)) and not isinstance(thing, Unit):
+        if isinstance(thing, Expr):
+            yield thing
+        for part in (thing.parts if isinstance(thing, (Expr, Instr, Member)) else thing):
+            yield from exprs_of(part)
+
+
+# The rules, one after the other.
+
+def items(text):
+    for number, item in enumerate(text.bodies.items):
+        if text.here(item.name):
+            before = [i for i in text.bodies.items[:number] if i.name.text == item.name.text]
+            if before:
+                kind = "domain" if isinstance(before[0], Domain) else before[0].kind
+                return "`%s` is the name of the %s on line %d already, and no two items have one name" % (
+                    item.name.text, kind, before[0].name.line)
+            return domain(item) if isinstance(item, Domain) else None
+    return None
+
+
+def domain(item):
+    if item.symbols is None:
+        if item.low > item.high:
+            return "its low end %d is above its high end %d" % (item.low, item.high)
+        return "it has %d values, and a domain has at most 256" % (item.high - item.low + 1)
+    names = [s.text for s in item.symbols]
+    twice = [n for n in names if names.count(n) > 1]
+    return "it has the symbol `%s` twice" % twice[0] if twice else "it has %d values, and a domain has at most 256" % len(
+        names)
+
+
+def type_name(text):
+    def cause(_, member):
+        if member.kind == "extends" and text.here(member.name):
+            return type_cause(text, member.name.text, ("class",))
+        kind = member.parts[0] if member.kind in ("variables", "parameter", "observer") else None
+        if kind is None or not text.here(kind):
+            return None
+        return type_cause(text, kind.text, ("class", "domain") if member.kind == "variables" else ("domain",))
+    return text.first(cause)
+
+
+def type_cause(text, name, wanted):
+    bodies = text.bodies
+    if name in bodies.units and bodies.units[name].kind == "block":
+        return "`%s` is a block, and %s is needed: of a block there is one only, where it is written" % (
+            name, " or ".join("a " + w for w in wanted))
+    if name in bodies.domains:
+        return "`%s` is a domain, and a class is needed" % name
+    if name in bodies.classes:
+        return "`%s` is a class, and a domain is needed" % name
+    known = (list(bodies.classes) if "class" in wanted else []) + (
+        ["Boolean"] + list(bodies.domains) if "domain" in wanted else [])
+    return "no %s of the text has the name `%s`%s" % (" and no ".join(wanted), name, near(name, known))
+
+
+def contains_itself(text):
+    def within(unit):
+        for member in unit.members:
+            name = member.name.text if member.kind == "extends" else (
+                member.parts[0].text if member.kind == "variables" else None)
+            if name in text.bodies.classes:
+                yield name
+            if member.kind == "block":
+                yield from within(member.parts[0])
+
+    names = {n: list(within(u)) for n, u in text.bodies.units.items()}
+
+    def way(start, at, seen):
+        for name in names.get(at, ()):
+            if name == start:
+                return [at, name]
+            if name not in seen:
+                seen.add(name)
+                found = way(start, name, seen)
+                if found:
+                    return [at] + found
+        return None
+    for name, inner in names.items():
+        found = way(name, name, set())
+        if found and inner:
+            return "`%s` contains itself: %s" % (name, ", which contains ".join("`%s`" % n for n in found))
+    return None
+
+
+def twice(text):
+    def cause(scope, _):
+        names = {}
+        for token, kind, member in text.bodies.names(scope.unit):
+            if text.here(token) and token.text in names:
+                first = names[token.text]
+                return "`%s` is the name of %s of this unit already, on line %d" % (token.text, WORDS[first[1]],
+                                                                                    first[0].line)
+            names.setdefault(token.text, (token, kind))
+        return None
+    return text.first(cause)
+
+
+def no_main(text):
+    blocks = [n for n, u in text.bodies.units.items() if u.kind == "block"]
+    if blocks:
+        return "no top-level block has the name that `--main` gives: there is %s" % ", ".join("`%s`" % b for b in blocks)
+    return "the text has no `block` outside of all others: the last such block is the system, and classes alone are none"
+
+
+def copy_path(text):
+    def cause(scope, member):
+        if member.kind not in ("clones", "embeds") or not text.here(member.parts[0].first):
+            return None
+        try:
+            text.bodies.unit(scope, member.parts[0])
+        except Missing as missing:
+            return missing_cause(text, missing, "unit")
+        return None
+    return text.first(cause)
+
+
+def missing_cause(text, missing, wanted):
+    where, name = missing.where, missing.name
+    if missing.found:
+        return "`%s` in the %s is %s and no %s" % (name, unit_named(where), WORDS[missing.found[0]], wanted)
+    names = [t.text for t, kind, _ in text.bodies.names(where.unit) if wanted in ("unit", "variable") or kind == wanted]
+    return "the %s has no member `%s`%s" % (unit_named(where), name, near(name, names))
+
+
+def circle(text):
+    def cause(scope, member):
+        if member.kind not in ("clones", "embeds") or not text.here(member.parts[0].first):
+            return None
+        path = written(member.parts[0])
+        try:
+            target = text.bodies.unit(scope, member.parts[0])
+        except Unknown:
+            return "to find `%s` one has to follow this `%s` itself" % (path, member.kind)
+        outer = scope
+        while outer is not None:
+            if outer.unit is target.unit:
+                return "`%s` is the unit that this stands in, so its copy would contain a copy, and so on" % path
+            outer = outer.owner
+        return None
+    return text.first(cause) or "the path comes back to itself, by other `clones` and `embeds`"
+
+
+def one_setting(text):
+    def cause(_, member):
+        if member.kind != "variables" or not text.here(member.parts[1][0]):
+            return None
+        settings = member.parts[2]
+        words = [".".join(w.text for w in s.words) for s in settings]
+        if not words:
+            return "it has none: `(init = ..)` makes it a state, which transitions change, and `(reset = ..)` a flow, which " \
+                   "assertions set"
+        if sorted(words) == ["init", "reset"]:
+            return "it has both: `init` makes it a state, `reset` a flow, and it is one of them"
+        if len(words) == 1:
+            return "its setting is `%s`, and a variable has `init` or `reset`" % words[0]
+        return "it has the settings %s, and it has one, `init` or `reset`" % ", ".join("`%s`" % w for w in words)
+    return text.first(cause)
+
+
+def setting_target(text):
+    def cause(scope, member):
+        if member.kind != "variables" or member.parts[0].text not in text.bodies.classes:
+            return None
+        for number, setting in enumerate(member.parts[2]):
+            if text.here(setting.first):
+                words = [w.text for w in setting.words]
+                if words in [[w.text for w in s.words] for s in member.parts[2][:number]]:
+                    return "this declaration sets `%s` already" % ".".join(words)
+                inner = Scope(text.bodies.classes[member.parts[0].text], scope)
+                return target_cause(text, inner, words)
+        return None
+    return text.first(cause)
+
+
+def target_cause(text, scope, words):
+    """Why words of a setting have no target in a scope."""
+    attribute = words[-1] if words[-1] in ("init", "reset") else None
+    names = words[:-1] if attribute else words
+    if not names:
+        return "it names no variable of the part: a state's value is set as `v.init`, a flow's as `v.reset`"
+    for number, name in enumerate(names):
+        found = text.bodies.find(scope, name)
+        last = number == len(names) - 1
+        if not found:
+            known = [t.text for t, _, _ in text.bodies.names(scope.unit)]
+            return "the %s has no member `%s`%s" % (unit_named(scope), name, near(name, known))
+        if not last:
+            if found[0] != "unit" or found[1].kind == "embeds":
+                return "`%s` in the %s is no part: a setting goes through parts, not through aliases" % (
+                    name, unit_named(scope))
+            scope = text.bodies.inner(scope, name, found[1])
+    return last_cause(scope, names[-1], attribute, found)
+
+
+def last_cause(scope, name, attribute, found):
+    kind, member = found
+    if kind in ("parameter", "kept"):
+        return "`%s` is a parameter: it is set by its name alone" % name if attribute else None
+    if kind != "variable":
+        return "`%s` in the %s is %s, and parameters, `init` and `reset` are set alone" % (name, unit_named(scope),
+                                                                                        WORDS[kind])
+    own = ".".join(w.text for w in member.parts[2][0].words) if member.parts[2] else "init"
+    if attribute != own:
+        return "`%s` is a %s: it is set as `%s.%s`" % (name, "state" if own == "init" else "flow", name, own)
+    return None
+
+
+# L10.
+
+def nothing_named(text):
+    return text.first(lambda scope, member: path_cause(text, scope, member)) or text.first(
+        lambda scope, member: constant_cause(text, scope, member))
+
+
+def path_cause(text, scope, member):
+    if member.kind in ("transition", "synchronisation") and text.here(member.name):
+        own = [(t.text, k) for t, k, _ in text.bodies.names(scope.unit)]
+        kinds = dict(own)
+        if kinds.get(member.name.text) == "event":
+            return None
+        if member.name.text in kinds:
+            return "`%s` is %s of this unit and no event" % (member.name.text, WORDS[kinds[member.name.text]])
+        return "the %s declares no event `%s`%s: a transition is one of an event of its own unit, as `event %s;`" % (
+            unit_named(scope), member.name.text, near(member.name.text, [n for n, k in own if k == "event"]),
+            member.name.text)
+    wanted = "event" if member.kind in ("synchronisation", "hide") else "variable"
+    if member.kind in ("clones", "embeds", "variables", "parameter"):
+        return None
+    for path in paths_of(member.parts):
+        if text.here(path.first):
+            return named(text, scope, path, wanted)
+    return None
+
+
+def named(text, scope, path, wanted):
+    """Why a path names nothing of this kind."""
+    if wanted == "variable" and not path.start and len(path.names) == 1 and path.names[0].text in text.bodies.symbols:
+        return None
+    try:
+        found = text.bodies.thing(scope, path)
+    except Missing as missing:
+        return alone(text, missing, path) if wanted == "variable" else missing_cause(text, missing, wanted)
+    except Unknown:
+        if path.start == "owner" and scope.unit is text.bodies.main:
+            return "the main block has no unit above it, so `owner` names nothing here"
+        raise
+    if found.kind == wanted or wanted == "variable" and found.kind == "parameter":
+        return None
+    return "`%s` is %s, and %s is needed" % (written(path), WORDS[found.kind], "an event" if wanted == "event" else
+                                            "a variable or a parameter")
+
+
+def alone(text, missing, path):
+    """Why a name of an expression is nothing."""
+    if len(path.names) > 1 or path.start:
+        if missing.found:
+            return "`%s` in the %s is %s and no unit" % (missing.name, unit_named(missing.where), WORDS[missing.found[0]])
+        return "the %s has no member `%s`%s" % (
+            unit_named(missing.where), missing.name, near(missing.name, [t.text for t, _, _ in text.bodies.names(
+                missing.where.unit)]))
+    known = [t.text for t, k, _ in text.bodies.names(missing.where.unit) if k in ("variable", "parameter")]
+    return "`%s` is no variable or parameter of the %s, and no domain has such a symbol%s" % (
+        missing.name, unit_named(missing.where), near(missing.name, known + list(text.bodies.symbols)))
+
+
+def constant_cause(text, scope, member):
+    """Why a value of `init`, `reset`, a setting or a parameter names what it may not."""
+    values = [s.value for s in member.parts[2]] if member.kind == "variables" else (
+        [member.parts[1]] if member.kind == "parameter" else [])
+    for path in paths_of([list(exprs_of(v)) for v in values]):
+        if text.here(path.first):
+            if path.start or len(path.names) > 1:
+                return "the value is a constant, and names symbols and parameters of its own unit alone, without a dot"
+            name = path.names[0].text
+            kind = (text.bodies.find(scope, name) or ("",))[0]
+            if kind == "parameter":
+                return "a parameter's value names parameters alone that come before it"
+            if kind:
+                return "the value is a constant, and `%s` is %s" % (name, WORDS[kind])
+            return "`%s` is no symbol of a domain and no parameter of the %s%s" % (
+                name, unit_named(scope), near(name, text.bodies.symbols))
+    return None
+
+
+# L11 and L12.
+
+def kind_of_type(text, token):
+    if token.kind in ("Boolean", "Real"):
+        return "Boolean" if token.kind == "Boolean" else "real"
+    if token.kind == "Integer":
+        return "number"
+    found = text.bodies.domains[token.text]
+    return "number" if found.symbols is None else "symbol"
+
+
+class Types:
+    """The kinds of expressions in a scope, and the places where another one is needed."""
+
+    def __init__(self, text, scope):
+        self.text, self.scope, self.wrong = text, scope, []
+
+    def of_path(self, path):
+        try:
+            found = self.text.bodies.thing(self.scope, path)
+        except Missing:
+            if len(path.names) == 1 and not path.start and path.names[0].text in self.text.bodies.symbols:
+                return "symbol"
+            raise
+        return kind_of_type(self.text, found.member.parts[0])
+
+    def of(self, expr):
+        form, parts = expr.form, expr.parts
+        if form == "literal":
+            return "number" if expr.first.kind == "whole" or expr.last.kind == "whole" else "Boolean"
+        if form == "real":
+            return "real"
+        if form == "path":
+            return self.of_path(parts[0])
+        if form in ("not", "and", "or", "count"):
+            self.need("Boolean", parts, "an operand of `%s`" % form)
+            return "number" if form == "count" else "Boolean"
+        if form in COMPARISONS:
+            return self.compared(form, parts)
+        if form in ("+", "-", "*", "min", "max"):
+            self.need("number", parts, "an operand of `%s`" % form)
+            return "number"
+        tests = parts[:-1:2] if form == "switch" else parts[:1]
+        branches = parts[1::2] + parts[-1:] if form == "switch" else parts[1:]
+        self.need("Boolean", tests, "a test")
+        kind = self.of(branches[0])
+        self.need(kind, branches[1:], "a later branch")
+        return kind
+
+    def compared(self, form, parts):
+        if form in ("==", "!="):
+            self.need(self.of(parts[0]), parts[1:], "the right side of `%s`" % form)
+        else:
+            self.need("number", parts, "an operand of `%s`" % form)
+        return "Boolean"
+
+    def need(self, kind, exprs, what):
+        for expr in exprs:
+            found = self.of(expr)
+            if found != kind and {found, kind} != {"real"}:
+                self.wrong.append((expr, kind, found, what))
+
+    def instr(self, instr, what):
+        if instr is None or instr.form == "skip":
+            return
+        if instr.form == "if":
+            self.need("Boolean", instr.parts[:1], "a test")
+            for part in instr.parts[1:]:
+                self.instr(part, what)
+        elif instr.form == "{":
+            for part in instr.parts:
+                self.instr(part, what)
+        elif instr.form == ":=":
+            self.need(self.of_path(instr.parts[0]), instr.parts[1:], "the value of `%s`" % written(instr.parts[0]))
+        else:
+            left, right = instr.parts
+            self.need(self.of_path(left), [Expr("path", [right], right.first, right.last)],
+                      "as `%s` is, the right side" % written(left))
+
+
+def wrong_type(text):
+    def cause(scope, member):
+        types = Types(text, scope)
+        if member.kind == "variables" and member.parts[0].text not in text.bodies.classes:
+            types.need(kind_of_type(text, member.parts[0]), [s.value for s in member.parts[2]], "the value")
+        elif member.kind in ("observer", "parameter"):
+            types.need(kind_of_type(text, member.parts[0]), member.parts[1:], "the value of `%s`" % member.name.text)
+        elif member.kind == "transition":
+            types.need("Boolean", member.parts[:1], "a guard")
+            types.instr(member.parts[1], "")
+        elif member.kind == "assertion":
+            types.instr(member.parts[0], "")
+        for expr, kind, found, what in types.wrong:
+            if text.here(expr.first):
+                return "%s has to be %s, and this is %s%s" % (what, KINDS[kind], KINDS[found], advice(kind, found, what))
+        return None
+    return text.first(cause)
+
+
+def advice(kind, found, what):
+    if (kind, found) == ("Boolean", "number") and what.startswith("the value of"):
+        return ": a comparison makes one of it, as `n > 0`"
+    if found == "real":
+        return ": real numbers are kept in `parameter Real` and not read"
+    return ""
+
+
+def outside_domain(text):
+    def cause(scope, member):
+        values = []
+        if member.kind == "variables" and member.parts[0].text not in text.bodies.classes:
+            values = [(member.parts[0], s.value) for s in member.parts[2]]
+        elif member.kind == "parameter":
+            values = [(member.parts[0], member.parts[1])]
+        elif member.kind == "variables":
+            values = setting_values(text, scope, member)
+        for kind, value in values:
+            if text.here(value.first):
+                return values_cause(text, kind)
+        return None
+    return text.first(cause)
+
+
+def setting_values(text, scope, member):
+    for setting in member.parts[2]:
+        words = [w for w in setting.words if w.kind == "name"]
+        inner = Scope(text.bodies.classes[member.parts[0].text], scope)
+        for word in words[:-1]:
+            inner = text.bodies.inner(inner, word.text, text.bodies.find(inner, word.text)[1])
+        yield text.bodies.find(inner, words[-1].text)[1].parts[0], setting.value
+
+
+def values_cause(text, kind):
+    found = text.bodies.domains.get(kind.text)
+    if found is None:
+        return None
+    if found.symbols is None:
+        return "the domain `%s` has the values from %d to %d" % (kind.text, found.low, found.high)
+    names = [s.text for s in found.symbols]
+    shown = names if len(names) < 9 else names[:8] + ["and so on"]
+    return "the domain `%s` has the symbols %s" % (kind.text, ", ".join(shown))
+
+
+# L13 and L14.
+
+def wrong_target(text):
+    def cause(scope, member):
+        if member.kind not in ("transition", "assertion"):
+            return None
+        for form, path in targets(member.parts[-1]):
+            if text.here(path.first):
+                if member.kind == "transition" and form == ":=:":
+                    return "`:=:` is for assertions: it sets two flows from each other, and a transition sets states"
+                return target_kind(text, scope, member.kind, path)
+        return None
+    return text.first(cause)
+
+
+def targets(instr):
+    if instr is None:
+        return
+    if instr.form in (":=", ":=:"):
+        for path in instr.parts[:1] if instr.form == ":=" else instr.parts:
+            yield instr.form, path
+    for part in instr.parts if instr.form in ("{", "if") else ():
+        if isinstance(part, Instr):
+            yield from targets(part)
+
+
+def target_kind(text, scope, kind, path):
+    found = text.bodies.thing(scope, path)
+    word = found.member.parts[2][0].words[0].text
+    if kind == "transition":
+        return "`%s` is a flow, as it is declared with `%s` on line %d: transitions set states, and assertions set flows" % (
+            written(path), word, found.member.first.line)
+    return "`%s` is a state, as it is declared with `%s` on line %d: assertions set flows, and transitions set states" % (
+        written(path), word, found.member.first.line)
+
+
+def part_of_itself(text):
+    def cause(scope, member):
+        if member.kind != "synchronisation" or not text.here(member.name):
+            return None
+        start = (scope.unit.name, member.name.text)
+        way = circle_of(text, scope, member.name.text, start, [], 0)
+        return "`%s` is a part of itself: %s" % (member.name.text, ", which has the part ".join(way)) if way else None
+    return text.first(cause)
+
+
+def circle_of(text, scope, event, start, way, depth):
+    if way and (scope.unit.name, event) == start:
+        return way + ["`%s`" % event]
+    if depth > 20:
+        return None
+    for member in text.bodies.members(scope.unit):
+        if member.kind == "synchronisation" and member.name.text == event:
+            for _, path in member.parts[0]:
+                found = text.bodies.thing(scope, path)
+                further = circle_of(text, found.scope, path.names[-1].text, start, way + ["`%s`" % event], depth + 1)
+                if further:
+                    return further
+    return None
+
+
+CAUSES = {"L1": items, "L2": type_name, "L3": contains_itself, "L4": twice, "L5": no_main, "L6": copy_path, "L7": circle,
+          "L8": one_setting, "L9": setting_target, "L10": nothing_named, "L11": wrong_type, "L12": outside_domain,
+          "L13": wrong_target, "L14": part_of_itself}
+
+
+def cause_of(rule, bodies, line, column):
+    """The cause of a broken rule at its place, or None where the text does not show it."""
+    try:
+        return CAUSES[rule](Text(bodies, line, column))
+    except (Missing, Unknown, KeyError, RecursionError):
+        return None

@@ -1,0 +1,504 @@
+"""The causes of what is refused behind the rules: outside the static fragment, faults, scripts, words, files and sizes.
+Not proved: what is said here is read from `flat` and from the text of the model.
+"""
+import os
+import re
+from collections import namedtuple
+
+import grammar
+import hierarchy
+import program
+import texts
+import tokens
+import values
+from rule_causes import near
+
+Note = namedtuple("Note", "file line column text cause")
+"""What is shown: a place (line None: the file alone), the first line's text, and the cause or None."""
+
+FRAGMENT = {
+    "S1": "an event has a synchronised way",
+    "S2": "a unit with transitions has no state",
+    "S3": "the guard of a way names more than its mode variable",
+    "S4": "the action of a way is about more than its mode variable, or does not give it one value of its domain",
+    "S5": "an event moves a state from two modes, or two states",
+    "S6": "an event stays in its mode, or a mode is entered twice, or the initial mode is entered",
+    "S7": "a part of an expression has more than 64 possible values",
+    "S8": "more than 2048 events can happen",
+}
+SIZES = {
+    "model bytes": "the text of a model has at most 4194304 bytes", "script bytes": "a script or a list has at most "
+    "1048576 bytes", "nesting": "at most 128 forms are open at one place: brackets, `if`, `not`, `-`, lists, bodies",
+    "depth": "units are at most 64 deep", "units": "a model has at most 16384 units", "variables":
+    "a model has at most 32768 variables", "events": "a model has at most 16384 events", "tree nodes":
+    "the bodies of all units together have at most 2000000 parts", "ways": "an event has at most 256 ways: a "
+    "synchronisation has one for each choice of a way for each of its parts", "way parts":
+    "all synchronised ways have at most 1000000 parts", "expression nodes":
+    "the expressions of the flat system have at most 1000000 parts, each copy counted", "gates":
+    "the gate table has at most 2000000 gates: use smaller domains in sums and counts, or ask for an observer of a part of "
+    "the plant", "cut lines": "a list has at most 4096 cuts",
+}
+
+
+class Asked:
+    """The words of a refused command, with the model, its flat system and its text as far as they can be had."""
+
+    def __init__(self, words):
+        self.words = program.Words(words)
+        others = self.words.others
+        self.command = others[0] if others else ""
+        self.model = others[1] if len(others) > 1 else ""
+        self.script = others[2] if len(others) > 2 else ""
+        self.drop = [e for e in self.words.options.get("--drop", "").split(",") if e]
+        self._flat = self._tree = None
+
+    @property
+    def flat(self):
+        if self._flat is None:
+            self._flat = texts.flat(program.ask(["flat", self.model, *self.words.some("--main")]))
+        return self._flat
+
+    @property
+    def tree(self):
+        if self._tree is None:
+            items = grammar.parse(tokens.read(self.model))
+            self._tree = hierarchy.Tree(hierarchy.Bodies(items, self.words.options.get("--main")))
+        return self._tree
+
+    def note(self, path, text, cause):
+        """A note at the declaration of a thing, a unit or the main block."""
+        if path in self.tree.places:
+            name = self.tree.places[path][1]
+            return Note(self.model, name.line, name.column, text, cause)
+        for node in self.tree.nodes:
+            if path == (node.path or "main"):
+                name = node.scope.unit.name
+                return Note(self.model, name.line, name.column, text, cause)
+        return Note(self.model, None, None, text, cause)
+
+    def transition(self, event):
+        """The first transition or synchronisation of an event in the text."""
+        unit = event.rpartition(".")[0]
+        for node in self.tree.nodes:
+            if node.path == unit:
+                for member in self.tree.bodies.members(node.scope.unit):
+                    if member.kind in ("transition", "synchronisation") and member.name.text == event.rpartition(".")[2]:
+                        return member
+        return None
+
+    def at_transition(self, event, text, cause):
+        member = self.transition(event)
+        if member is None:
+            return self.note(event, text, cause)
+        return Note(self.model, member.name.line, member.name.column, text, cause)
+
+
+# Outside the static fragment.
+
+class Modes:
+    """The mode variables and live edges of a flat system without the dropped events."""
+
+    def __init__(self, asked):
+        self.flat = asked.flat
+        dropped = {asked.tree.canonical(e) for e in asked.drop}
+        self.ways = [w for w in self.flat.ways if w.guard is not None and w.event not in dropped]
+        self.states = {}
+        for variable in self.flat.variables.values():
+            if variable.state:
+                self.states.setdefault(variable.path.rpartition(".")[0], []).append(variable.path)
+
+    @staticmethod
+    def names(way):
+        found = set(texts.words(way.guard))
+        for one in way.sets:
+            found |= {one.target} | texts.words(one.value)
+            for condition, _ in one.conditions:
+                found |= texts.words(condition)
+        return found
+
+    def variable(self, way):
+        states = self.states.get(way.event.rpartition(".")[0], [])
+        return next((s for s in states if s in self.names(way)), states[0] if states else None)
+
+    def others(self, way):
+        """The variables besides its mode variable that the guard names, and that the action names."""
+        own, known = self.variable(way), self.flat.variables
+        guard = {n for n in texts.words(way.guard) if n in known and n != own}
+        action = {n for n in self.names(way._replace(guard="true")) if n in known and n != own}
+        return sorted(guard), sorted(action)
+
+    def given(self, way, variable, mode):
+        """The values that a way gives its mode variable at a mode where its guard is true; None where it is not."""
+        known = {variable: values.value_of(mode)}
+        if not values.evaluate(way.guard, self.flat.variables, known):
+            return None
+        found = []
+        for one in way.sets:
+            if all(values.evaluate(c, self.flat.variables, known) == wanted for c, wanted in one.conditions):
+                found.append(values.text_of(values.evaluate(one.value, self.flat.variables, known)))
+        return sorted(set(found))
+
+    def edges(self, variable):
+        """The live edges of a mode variable: (way, mode, values given)."""
+        first = self.flat.variables[variable].value
+        domain = texts.values_of(self.flat.variables[variable].domain)
+        reached, todo, found = {first}, [first], []
+        while todo:
+            mode = todo.pop(0)
+            for way in self.ways:
+                if way.hidden or self.variable(way) != variable:
+                    continue
+                given = self.given(way, variable, mode)
+                if given is None:
+                    continue
+                found.append((way, mode, given))
+                if len(given) == 1 and given[0] in domain and given[0] not in reached:
+                    reached.add(given[0])
+                    todo.append(given[0])
+        return found
+
+
+def outside(asked, rule, path):
+    text = "outside: %s at %s: %s" % (rule, path, FRAGMENT[rule])
+    find = {"S1": _synchronised, "S2": _without_state, "S3": _guard, "S4": _action, "S5": _two_edges, "S6": _entered,
+            "S7": _wide, "S8": _many}[rule]
+    return find(asked, text, path)
+
+
+def _synchronised(asked, text, path):
+    parts = next(w.parts for w in asked.flat.ways if w.event == path and w.guard is None)
+    names = list(dict.fromkeys(event for _, event, _ in parts))
+    drop = "" if path not in asked.drop else "; to drop the event does not help"
+    if len(names) == 1:
+        return asked.at_transition(path, text, "`%s` fires another event, `%s`%s" % (path, names[0], drop))
+    return asked.at_transition(path, text, "`%s` fires %s together, so their units do not fail independently%s" % (
+        path, quoted(names), drop))
+
+
+def _without_state(asked, text, path):
+    return asked.note(path, text, "this unit has transitions and no variable with `init`, so nothing can change in it")
+
+
+def _guard(asked, text, path):
+    modes = Modes(asked)
+    for way in modes.ways:
+        others = modes.others(way)[0]
+        if modes.variable(way) == path and others:
+            return asked.at_transition(way.event, text, "its guard names %s besides `%s`: when it can happen depends on more "
+                                       "than its own state" % (quoted(others), path))
+    return asked.note(path, text, None)
+
+
+def _action(asked, text, path):
+    modes = Modes(asked)
+    for way in modes.ways:
+        others = modes.others(way)[1]
+        if modes.variable(way) == path and others:
+            return asked.at_transition(way.event, text, "its action names %s besides `%s`, and an event is about one state" % (
+                quoted(others), path))
+    for way, mode, given in modes.edges(path):
+        if len(given) != 1:
+            what = "nothing" if not given else "the values " + " and ".join(given)
+            return asked.at_transition(way.event, text, "where `%s` is %s it can happen, and gives it %s" % (path, mode, what))
+        if given[0] not in texts.values_of(asked.flat.variables[path].domain):
+            return asked.at_transition(way.event, text, "where `%s` is %s it gives it %s, which is outside its domain" % (
+                path, mode, given[0]))
+    return asked.note(path, text, None)
+
+
+def _two_edges(asked, text, path):
+    modes, found = Modes(asked), {}
+    variables = {modes.variable(w) for w in modes.ways} - {None}
+    for variable in [v for v in asked.flat.variables if v in variables]:
+        for way, mode, given in modes.edges(variable):
+            found.setdefault(way.event, []).append((variable, mode, given[0] if given else "?"))
+    for event, moves in found.items():
+        if len(moves) > 1 and moves[0][0] == path:
+            said = " and ".join("`%s` from %s to %s" % m for m in moves[:3])
+            return asked.at_transition(event, text, "`%s` moves %s: each move needs an event of its own" % (event, said))
+    return asked.note(path, text, None)
+
+
+def _entered(asked, text, path):
+    first, entered = asked.flat.variables[path].value, {}
+    for way, mode, given in Modes(asked).edges(path):
+        label = way.event
+        if given[0] == mode:
+            return asked.at_transition(way.event, text, "`%s` can happen where `%s` is %s, and leaves it there" % (
+                label, path, mode))
+        if given[0] == first:
+            return asked.at_transition(way.event, text, "`%s` leads back to %s, where `%s` begins, as a repair does: --drop %s "
+                                       "leaves it out" % (label, first, path, label))
+        if given[0] in entered:
+            before = entered[given[0]]
+            cause = "the mode %s of `%s` is entered by `%s` from %s and by `%s` from %s: give each way a mode of its own" % (
+                given[0], path, before[0], before[1], label, mode)
+            return asked.at_transition(way.event, text, cause)
+        entered[given[0]] = (label, mode)
+    return asked.note(path, text, None)
+
+
+def _wide(asked, text, path):
+    return asked.note(path, text, "in its expressions a sum, a product, a count or another part may have more than 64 values, "
+                                  "where each variable may have any value of its domain: use smaller domains")
+
+
+def _many(asked, text, path):
+    return asked.note(path, text, "drop the events that have no part in the question with --drop")
+
+
+def quoted(names):
+    shown = ["`%s`" % n for n in names]
+    return shown[0] if len(shown) == 1 else ", ".join(shown[:-1]) + " and " + shown[-1]
+
+
+# Faults of runs and of listings.
+
+def flow_fault(asked, text, fault):
+    """A note on a fault of flows: `flow P has two values`, `flow P is outside its domain`, `assignment K .. not hold`."""
+    found = re.fullmatch(r"assignment ([0-9]+) at ([0-9]+):([0-9]+) does not hold", fault)
+    if found:
+        number, line, column = map(int, found.groups())
+        return Note(asked.model, line, column, text, not_held(asked, number))
+    path = re.fullmatch(r"flow (\S+) (?:has two values|is outside its domain)", fault).group(1)
+    if fault.endswith("two values"):
+        return asked.note(path, text, two_values(asked.flat, path))
+    at = " or ".join(places(asked.flat).get(path, []))
+    return asked.note(path, text, "its domain is %s, and an assignment at %s gives it another value" % (
+        asked.flat.variables[path].domain, at))
+
+
+def places(flat):
+    """The places of the assignments of each flow."""
+    found = {}
+    for one in flat.asserts:
+        found.setdefault(one.set.target, []).append("%d:%d" % (one.line, one.column))
+    return found
+
+
+def two_values(flat, path):
+    at = places(flat)
+    before = sorted(p for p in before_all(flat, [a.set for a in flat.asserts if a.set.target == path]) - {path}
+                    if len(at.get(p, ())) > 1)
+    if not before:
+        return "it is set by the assignments at %s, and two of them give different values" % " and ".join(at[path])
+    said = ["`%s` at %s" % (p, " and ".join(at[p])) for p in [path] + before[:3]]
+    return "it, or a flow on which it depends, is set to two values: the assignments are those of %s" % ", of ".join(said)
+
+
+def before_all(flat, sets):
+    """All variables on which these assignments depend."""
+    assigns = {}
+    for one in flat.asserts:
+        assigns.setdefault(one.set.target, []).append(one.set)
+    todo, seen = list(sets), set()
+    while todo:
+        one = todo.pop()
+        names = set(texts.words(one.value)).union(*(texts.words(c) for c, _ in one.conditions))
+        for name in names - seen:
+            seen.add(name)
+            todo += assigns.get(name, [])
+    return seen
+
+
+def unset_before(flat, number):
+    """The flows without assignments on which an assignment depends."""
+    seen = before_all(flat, [a.set for a in flat.asserts if a.number == number])
+    set_by = {a.set.target for a in flat.asserts}
+    return [p for p, v in flat.variables.items() if p in seen and not v.state and p not in set_by]
+
+
+def not_held(asked, number):
+    unset = unset_before(asked.flat, number)
+    if unset:
+        shown = quoted(unset[:3]) + (" and %d more" % (len(unset) - 3) if len(unset) > 3 else "")
+        return ("it depends on %s, which no assertion sets: a reset value is there in the end alone, and gives no assignment "
+                "its value on the way" % shown)
+    one = next(a.set for a in asked.flat.asserts if a.number == number)
+    return ("nothing gave `%s` a value, so it took its reset value %s, and then the expression has another one: flows that "
+            "depend on each other in a circle say of themselves what they are not" % (
+                one.target, asked.flat.variables[one.target].value))
+
+
+def fault(asked, line):
+    """A note on a line `fault: ..`."""
+    body = line[len("fault: "):]
+    listed = re.fullmatch(r"\{(.*)\}: (.*)", body)
+    if listed:
+        note = flow_fault(asked, line, listed.group(2))
+        events = listed.group(1)
+        return note._replace(text=line if events else line + " (at the start)")
+    where, what = body.split(": ", 1)
+    if where == "start":
+        return flow_fault(asked, line, what)
+    if where == "back":
+        return script_line(asked, line, "no step is left to take back here")
+    if what == "not enabled":
+        return script_line(asked, line, not_enabled(asked, where))
+    if what.startswith("two values for ") or what.endswith(" outside its domain"):
+        return asked.at_transition(texts.event_of(where), line, "its action gives the variable %s" % (
+            "two different values at once" if what.startswith("two") else "a value that its domain does not have"))
+    return flow_fault(asked, line, what)
+
+
+def way_of(asked, label):
+    event, _, number = label.partition("#")
+    return next(w for w in asked.flat.ways if w.event == event and w.number == int(number or 1))
+
+
+def not_enabled(asked, label):
+    way = way_of(asked, label)
+    if way.guard is None:
+        must = [p[1] for p in way.parts if p[0] == "!"]
+        names = must or [p[1] for p in way.parts]
+        if len(names) == 1:
+            return "its part `%s` cannot be fired then" % names[0]
+        return "of its parts %s %s can be fired then" % (quoted(names), "not all" if must else "none")
+    return "its guard is false then: %s" % way.guard
+
+
+def script_line(asked, text, cause):
+    """A note on the command of a script at which a replay ends."""
+    trace = program.run(["replay", asked.model, asked.script, *asked.words.some("--main")])[1]
+    done = sum(1 for l in trace.splitlines() if re.match(r"(fire |back$|show$|enabled$)", l))
+    for number, line in enumerate(tokens.read(asked.script).split("\n"), 1):
+        if line.strip(" \t\r") and not line.strip(" \t\r").startswith("//"):
+            if done == 0:
+                return Note(asked.script, number, len(line) - len(line.lstrip(" \t")) + 1, text, cause)
+            done -= 1
+    return Note(asked.script, None, None, text, cause)
+
+
+# Scripts, lists and words.
+
+COMMANDS = ("fire LABEL", "back", "show", "enabled")
+
+
+def script(asked, line):
+    """A note on a line `script: ..`."""
+    found = re.fullmatch(r"script: line ([0-9]+) (.*)", line)
+    if not found:
+        return Note(asked.model, None, None, line, word_cause(asked, line))
+    number, what = int(found.group(1)), found.group(2)
+    source = tokens.read(asked.script).split("\n")[number - 1]
+    column = len(source) - len(source.lstrip(" \t")) + 1
+    if what == "is no command":
+        cause = "a line is one of %s, in small letters, and nothing follows it" % ", ".join("`%s`" % c for c in COMMANDS)
+    elif what == "is no cut":
+        cause = "a line is a cut in braces, as `{a.fail, b.fail}`, or `count N`"
+    else:
+        label, cause = bad_label(asked, source, what)
+        column = source.index(label) + 1 if label and label in source else column
+    return Note(asked.script, number, column, line, cause)
+
+
+def bad_label(asked, source, what):
+    """The first bad label of a line and why it is bad."""
+    text = source.strip(" \t\r")
+    labels = texts.labels(text) if text.startswith("{") else [text[4:].strip(" \t\r")]
+    for label in labels:
+        cause = label_cause(asked, label)
+        if cause:
+            return label, cause
+    return labels[0] if labels else "", None
+
+
+def label_cause(asked, label):
+    path = texts.event_of(label)
+    try:
+        path = asked.tree.canonical(path)
+    except hierarchy.Unknown:
+        pass
+    ways = [w for w in asked.flat.ways if w.event == path]
+    if not ways:
+        return no_event(asked, path)
+    if ways[0].hidden:
+        return "`%s` is hidden: it happens as a part of other events alone" % path
+    if "#" not in label and len(ways) > 1:
+        return "`%s` has %d ways: write `%s#1` to `%s#%d`" % (path, len(ways), label, label, len(ways))
+    if "#" in label and not re.fullmatch(r"[1-9][0-9]*", label.partition("#")[2]):
+        return "behind `#` comes the number of a way, from 1"
+    if "#" in label and int(label.partition("#")[2]) > len(ways):
+        return "`%s` has %s" % (path, "one way" if len(ways) == 1 else "%d ways" % len(ways))
+    return None
+
+
+def no_event(asked, path):
+    if path in asked.tree.of_kind("event"):
+        return "`%s` is an event without a transition, so there is nothing to fire" % path
+    if path in asked.tree.places:
+        kind = asked.tree.places[path][0]
+        return "`%s` is %s %s and no event" % (path, "an" if kind == "observer" else "a", kind)
+    if any(n.path == path for n in asked.tree.nodes):
+        return "`%s` is a unit and no event" % path
+    return "the model has no event `%s`%s" % (path, near(path, {w.event for w in asked.flat.ways if not w.hidden}))
+
+
+def word_cause(asked, line):
+    options = asked.words.options
+    observers = [o.path for o in asked.flat.observers]
+    if line == "script: no observer":
+        name = options.get("--observer", "")
+        return "the model has no observer `%s`: it has %s" % (name, quoted(observers) if observers else "none")
+    if line == "script: no event":
+        for event in options.get("--drop", "").split(","):
+            if asked.tree.canonical(event) not in asked.tree.of_kind("event"):
+                return "`%s` of --drop: %s" % (event, no_event(asked, event))
+    if line == "script: no value":
+        name = options.get("--observer", "")
+        if "--value" in options:
+            return "`%s` is no value of the type of `%s`" % (options["--value"], name)
+        return "`%s` is not Boolean, so --value has to say which of its values is asked for" % name
+    return None
+
+
+COMMANDS_FILES = {"check": 1, "flat": 1, "replay": 2, "fragment": 1, "equations": 1, "cuts": 1, "checkcuts": 2,
+                  "modules": 1, "explain": 2, "make": 0}
+OPTIONS = {"check": "", "flat": "", "replay": "", "fragment": "--drop", "equations": "--observer --value --drop",
+           "cuts": "--observer --value --nodes --drop", "checkcuts": "--observer --value --nodes --drop",
+           "modules": "--observer --value --nodes --drop", "explain": "--observer", "make": None}
+NEED_OBSERVER = ("equations", "cuts", "checkcuts", "modules")
+
+
+def usage(words):
+    """Which word makes no job."""
+    try:
+        found = program.Words(words)
+    except ValueError as error:
+        return "`%s` is no option, or lacks what it has to name" % error
+    if not found.others:
+        return "there is no command: it is one of %s" % ", ".join(COMMANDS_FILES)
+    command, files = found.others[0], found.others[1:]
+    if command not in COMMANDS_FILES:
+        return "`%s` is no command%s" % (command, near(command, COMMANDS_FILES))
+    if command == "make":
+        return "`make` takes one number, from 1 to 200 without leading zeros, and no option"
+    if len(files) != COMMANDS_FILES[command]:
+        return "`%s` takes %s" % (command, "one file, the model" if COMMANDS_FILES[command] == 1 else
+                                 "two files, the model and the %s" % ("list" if command == "checkcuts" else "script"))
+    for option in found.options:
+        if option not in OPTIONS[command].split() + ["--main"]:
+            return "`%s` takes no `%s`" % (command, option)
+    if command in NEED_OBSERVER and "--observer" not in found.options:
+        return "`%s` needs --observer" % command
+    names = [w.partition("=")[0] for w in words]
+    twice = [n for n in found.options if names.count(n) > 1]
+    if twice:
+        return "`%s` is given twice" % twice[0]
+    return "a number or a value is not written as it has to be: --nodes is from 1 to 16777216 without leading zeros"
+
+
+def unread(asked, which):
+    name = asked.model if which == "model" else asked.script
+    if not os.path.exists(name):
+        return Note(name, None, None, "read: %s" % which, "there is no file of this name%s" % near_file(name))
+    if os.path.isdir(name):
+        return Note(name, None, None, "read: %s" % which, "this is a folder")
+    if not os.access(name, os.R_OK):
+        return Note(name, None, None, "read: %s" % which, "this file may not be read")
+    return Note(name, None, None, "read: %s" % which, None)
+
+
+def near_file(name):
+    folder = os.path.dirname(name) or "."
+    return near(os.path.basename(name), os.listdir(folder)) if os.path.isdir(folder) else ""

@@ -1,0 +1,215 @@
+"""The usual cause of a syntax refusal, said of what stands at its place. Not proved."""
+from tokens import RESERVED
+
+VALUE = ("(", "-", "count", "false", "main", "max", "min", "name", "owner", "real", "switch", "true", "whole")
+
+CHARACTERS = {
+    '"': "there are no strings, neither as values nor in attributes of events, and a model is one text that imports "
+         "nothing",
+    "#": "no token begins with `#`: how many of some conditions are true is written `count(a, b, c)`",
+    "|": "no token begins with `|`: `or` is a word, and a transition is written `EVENT: GUARD -> ACTION;`",
+    "/": "a division does not exist, and a comment begins with `//` or `/*`",
+    "%": "no token begins with `%`, and there is no remainder",
+}
+
+NOT_MEMBERS = {
+    "Integer": "a variable is Boolean or of a domain that the text declares, as `domain N [0, 9]`; `Integer` is a type of "
+               "observers and parameters alone",
+    "Real": "there are no Real variables, only `parameter Real NAME = ..;`, whose value is kept and not read",
+    "{": "a variable's symbols are declared once, outside, as `domain NAME {A, B}`, and the variable is `NAME v (init = A);`",
+    "init": "`init` is written in brackets after the names of a variable, as `Boolean v (init = true);`",
+    "reset": "`reset` is written in brackets after the names of a variable, as `Boolean v (reset = false);`",
+}
+
+FIRST_WORDS = {
+    "node": "a text of AltaRica Data-Flow: what is a `node` there is a `class` here, with other sections",
+    "operator": "there are no operators of one's own: the expression is written where it is used, or in a flow",
+    "function": "there are no functions of one's own: the expression is written where it is used, or in a flow",
+    "package": "there are no packages: all classes and blocks are items of one text",
+    "record": "there are no records: each of its fields is a variable, or the record a class of flows",
+    "import": "a model is one text that imports nothing",
+}
+
+OPERATORS = {
+    "xor": "there is no `xor`: of truth values it is written `a != b`",
+    "mod": "there is no remainder and no division",
+    "div": "there is no remainder and no division",
+    "iff": "there is no `iff`: of truth values it is written `a == b`",
+    "implies": "there is no `implies`: it is written `not a or b`",
+}
+
+
+def name_of(token):
+    return "the end of the text" if token.kind == "END" else "`%s`" % token.text
+
+
+def article(wanted):
+    return {"name": "a name", "whole": "a whole number", "END": "the end of the text", "real": "a real number"}.get(
+        wanted, "`%s`" % wanted)
+
+
+def listed(wanted):
+    """What could stand at a place, in words."""
+    wanted = set(wanted)
+    if wanted >= set(VALUE):
+        wanted = (wanted - set(VALUE) - {"not", "if"}) | {"an expression"}
+    words = sorted("an expression" if w == "an expression" else article(w) for w in wanted)
+    return words[0] if len(words) == 1 else ", ".join(words[:-1]) + " or " + words[-1]
+
+
+def of_lex(fault, text):
+    at = fault.at
+    if fault.kind == "comment":
+        return "the comment that begins here with `/*` is not closed by `*/`"
+    if fault.kind == "number":
+        return "a whole number is at most 9223372036854775807"
+    if text.startswith("\xef\xbb\xbf") and at.start == 0:
+        return "the text begins with a byte order mark (the bytes EF BB BF): save it as UTF-8 without one"
+    if ord(at.text) >= 128:
+        return "outside of comments there are letters, digits and signs of ASCII alone, in names too"
+    cause = CHARACTERS.get(at.text, "no token begins with `%s`" % at.text)
+    first = text[:at.start].split(None, 1)[:1]
+    return "%s; and %s" % (cause, FIRST_WORDS[first[0]]) if first and first[0] in ("node",) else cause
+
+
+def adjacent(before, at):
+    return before is not None and before.end == at.start
+
+
+def _of_end(fault):
+    units = [(form, first) for form, first in fault.open if form.split(" ")[0] in ("class", "block") and " " in form]
+    brackets = [first for form, first in fault.open if form in ("attributes", "bracket")]
+    if brackets:
+        return "the `(` on line %d, column %d, is not closed: any token may follow it, `;` too" % (
+            brackets[-1].line, brackets[-1].column)
+    if units and "end" in fault.wanted:
+        return "`%s`, which begins on line %d, is not ended: one more `end` is needed, here or before" % (
+            units[-1][0], units[-1][1].line)
+    before = fault.before
+    if before is not None and before.kind in ("block", "class", "domain"):
+        return "the `%s` on line %d begins one more item: a body ends with `end` alone, and no word follows it" % (
+            before.kind, before.line)
+    if before is None:
+        return "the text is empty: a model has at least one block"
+    return None
+
+
+def _of_semicolon(fault):
+    at, before = fault.at, fault.before
+    if at.line > before.line or at.kind in ("end", "}", "else", "END"):
+        return "a `;` is missing after %s on line %d" % (name_of(before), before.line)
+    return None
+
+
+def _of_declaration(fault):
+    at, before = fault.at, fault.before
+    form = fault.open[-1][0] if fault.open else ""
+    if before.kind in ("owner", "main") and "." in fault.wanted:
+        return "a path ends with a name: `%s` alone names nothing, as in `%s.NAME`" % (before.kind, before.kind)
+    if at.kind == "(" and ";" in fault.wanted and "(" not in fault.wanted:
+        first = fault.open[-1][1].kind
+        if first in ("extends", "clones", "embeds"):
+            return ("`%s` takes no settings: they are written where parts are declared, as `C p (x = 1);`" % first)
+    if at.kind == "," and before.kind == ")" and form == "declaration":
+        return ("a declaration has its settings once, after all its names, and they hold for all of them: write two "
+                "declarations, as `C a (x = 1); C b;`")
+    if at.kind == "[" and form == "declaration":
+        return "there are no arrays of parts: each has a name of its own, as `C c1, c2, c3;`"
+    if at.kind == "(" and form == "declaration" and "," in fault.wanted:
+        return "attributes of events cannot be set from outside: they are kept and not read"
+    if at.kind in RESERVED and "name" in fault.wanted and before.kind in ("name", "Boolean", ",", "event", "as", "class",
+                                                                         "block", "domain", "{"):
+        return "`%s` is a word of the language, so it cannot be a name" % at.text
+    if form in ("observer", "parameter") and at.kind == "Real":
+        return "an observer is Boolean, Integer or of a declared domain: there are no Real values"
+    return None
+
+
+def _of_lists(fault):
+    at, before = fault.at, fault.before
+    if at.kind == "}" and before.kind == "{" and fault.open and fault.open[-1][0] == "domain":
+        return "a domain has at least one value"
+    if before is not None and before.kind == "," and at.kind in ("}", ")", ";"):
+        return "a `,` comes between two things, and none after the last"
+    return None
+
+
+def _of_section(fault):
+    at, before, form = fault.at, fault.before, fault.open[-1][0] if fault.open else ""
+    if form in ("transition of an event", "instruction") and at.kind == "name" and before.kind == "name":
+        if ":" in fault.wanted and before.text in ("for", "while", "foreach") or before.text in ("for", "while"):
+            return "there are no loops: each assertion is written out"
+        if form == "transition of an event" or before.line == at.line:
+            section = next(f for f, _ in reversed(fault.open) if f in ("transition", "assertion"))
+            return ("a declaration that begins with a name comes before the first `transition` or `assertion` of its body, "
+                    "and this one comes in the section `%s`" % section)
+    if at.kind == "switch" and form == "instruction":
+        return "`switch` is an expression, after `:=`, as `s := switch { case TEST: VALUE default: VALUE };`"
+    if at.kind == ";" and before is not None and before.kind == "}":
+        return "no `;` follows the `}` of a list of instructions: each instruction in it ends with its own `;`"
+    if at.kind == "=" and ":=" in fault.wanted:
+        return "an assignment is written `:=`; `=` is for declarations alone"
+    if at.kind == "(" and form == "transition of an event" and ":" in fault.wanted:
+        return "the attributes of an event are written where it is declared, as `event e (delay = ..);`"
+    return None
+
+
+def _of_expression(fault, after):
+    at, before = fault.at, fault.before
+    if "and" in fault.wanted:
+        if at.kind == "=":
+            if after is not None and after.kind == ">" and adjacent(at, after):
+                return "there is no `=>`: it is written `not a or b`"
+            return "a comparison is written `==`"
+        if at.kind == "&":
+            return "`and` is a word: `&` joins the parts of a synchronisation alone"
+        if at.kind == "/":
+            return "there is no division"
+        if at.kind == "!":
+            return "`not` is a word: `!` marks the parts of a synchronisation alone"
+        if at.kind == "name" and at.text in OPERATORS:
+            return OPERATORS[at.text]
+        if at.kind == "(" and before.kind == "name":
+            return ("`%s(..)` is no call of the language: there are `min`, `max` and `count`, and the attributes of an event "
+                    "cannot be set from outside" % before.text)
+    if at.kind == ">" and before is not None and before.kind == "<" and adjacent(before, at):
+        return "`<>` is written `!=`"
+    if at.kind == "!" and "not" in fault.wanted:
+        return "`not` is a word: `!` marks the parts of a synchronisation alone"
+    return None
+
+
+def of_syntax(fault, after):
+    """The cause of a SyntaxFault; `after` is the token behind its place, or None."""
+    at = fault.at
+    if not fault.open and at.kind == "name" and at.text in FIRST_WORDS:
+        return FIRST_WORDS[at.text]
+    if not fault.open and at.kind != "END" and fault.wanted <= {"domain", "class", "block", "END"}:
+        return _of_item(fault)
+    if at.kind in NOT_MEMBERS and "extends" in fault.wanted:
+        return NOT_MEMBERS[at.kind]
+    if "extends" in fault.wanted and at.kind == "name":
+        return ("a declaration that begins with a name comes before the first `transition` or `assertion` of its body")
+    tries = [lambda: _of_section(fault), lambda: _of_lists(fault), lambda: _of_declaration(fault),
+             lambda: _of_expression(fault, after)]
+    if at.kind == "END":
+        tries.insert(0, lambda: _of_end(fault))
+    for one in tries:
+        cause = one()
+        if cause:
+            return cause
+    if fault.before is not None and fault.wanted & {";"}:
+        cause = _of_semicolon(fault)
+        if cause:
+            return cause
+    return "this is %s, and what can come here is %s" % (name_of(at), listed(fault.wanted))
+
+
+def _of_item(fault):
+    at = fault.at
+    if at.kind == "end":
+        return "one `end` more than there are bodies: the one before ended the last open body"
+    if at.kind == ";":
+        return "no `;` follows the `end` of a class or block"
+    return "a text is made of `domain`, `class` and `block` alone, and this is %s%s" % (
+        name_of(at), "" if fault.before is None else ": the body before is ended already")

@@ -29,16 +29,7 @@ import tempfile
 LINES, LENGTH = 400, 300
 
 # Pages that are tried for their links alone until they have a comment of the kinds above.
-PENDING = {
-    "README.md",
-    "docs/ARCHITECTURE.md",
-    "docs/DECISIONS.md",
-    "docs/EXAMPLES.md",
-    "docs/LANGUAGE.md",
-    "docs/PROMISES.md",
-    "docs/SPEED.md",
-    "docs/TEXTS.md",
-}
+PENDING = {"docs/ARCHITECTURE.md"}
 
 # Tools that a page may name before they are there.
 PENDING_TOOLS = {f"tools/{name}" for name in "compare draw lib lint order report to_open_psa why".split()}

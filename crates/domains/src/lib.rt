@@ -1,19 +1,22 @@
 //! Values, the domains that variables have, and clamped arithmetic.
 #![tactic(auto)]
 
-ghost use Rattle.std.specs.Prelude.{true, false, ◌≡◌, ◌<◌, ◌≤◌, ◌↔◌, ◌≢◌, ◌==◌, ℕ, IsTrue, IsSome, IfSome, IfNone, Contains, find, count_by, nat_lt, length, ◌+ℤ◌, ◌-ℤ◌, ◌*ℤ◌};
+ghost use Rattle.std.specs.Prelude.{true, false, ◌≡◌, ◌<◌, ◌≤◌, ◌↔◌, ◌≢◌, ◌==◌, ℕ, IsTrue, IsSome, IfOk, IfSome, IfNone, Contains, find, count_by, nat_lt, length, ◌+ℤ◌, ◌-ℤ◌, ◌*ℤ◌};
 ghost use Rattle.std.specs.Int.{saturate_signed, w64};
 ghost use Rattle.domains.specs.Domains.{IsDomain, Holds, IsAt, HasMore, values_of};
-ghost use Rattle.domains.specs.Values.{is_before};
+ghost use Rattle.domains.specs.Same.{IsSameDomain};
+ghost use Rattle.domains.specs.Values.{is_before, truth_of, whole_of};
 ghost use Rattle.domains.specs.declared.Value.{Value};
 ghost use Rattle.domains.specs.declared.Value.TheVariants.{Truth};
 ghost use Rattle.domains.specs.declared.Domain.{Domain};
+
+use std::alloc::AllocError;
 
 /// A truth value, a whole number, or a symbol by its number.
 ///
 /// Values are ordered: false before true, numbers ascending, symbols by their number,
 /// and truth values before numbers before symbols.
-#[derive(Clone, Copy, Debug, PartialEq, Eq, PartialOrd, Ord)]
+#[derive(Clone, Copy, PartialEq, Eq, PartialOrd, Ord)]
 pub enum Value {
     Truth(bool),
     Whole(i64),
@@ -29,11 +32,35 @@ impl Default for Value {
     }
 }
 
+impl Value {
+    /// The truth value; other values count as false.
+    pub fn truth(self) -> bool
+        ensures { result ≡ truth_of self }
+    {
+        match self {
+            Value::Truth(b) => b,
+            Value::Whole(_) => false,
+            Value::Symbol(_) => false,
+        }
+    }
+
+    /// The whole number; other values count as 0.
+    pub fn whole(self) -> i64
+        ensures { result ≡ whole_of self }
+    {
+        match self {
+            Value::Truth(_) => 0,
+            Value::Whole(n) => n,
+            Value::Symbol(_) => 0,
+        }
+    }
+}
+
 /// The values that a variable may have: at least one and at most 256 of them.
 ///
 /// The symbols stand in the order in which they were declared, none of them twice.
 /// A range has both its ends.
-#[derive(Debug, Drop)]
+#[derive(Drop)]
 pub enum Domain {
     Boolean,
     Symbols(Vec<u32>),
@@ -74,16 +101,38 @@ pub fn domain_laws()
 {}
 
 impl Domain {
+    /// A copy of the domain: the same values in the same order. The error is want of memory.
+    pub fn copy(&self) -> Result<Domain, AllocError>
+        ensures { IfOk result (IsSameDomain self.now) }
+    {
+        match self {
+            Domain::Boolean => Ok(Domain::Boolean),
+            Domain::Symbols(symbols) => Ok(Domain::Symbols(symbols.clone()?)),
+            Domain::Range(low, high) => Ok(Domain::Range(*low, *high)),
+        }
+    }
+
     /// Whether the domain has the value.
     pub fn holds(&self, value: Value) -> bool
         requires { IsDomain self.now }
         ensures { IsTrue result ↔ Holds self.now value }
     {
-        match (self, value) {
-            (Domain::Boolean, Value::Truth(_)) => true,
-            (Domain::Symbols(symbols), Value::Symbol(s)) => symbols.contains(&s),
-            (Domain::Range(low, high), Value::Whole(n)) => *low <= n && n <= *high,
-            _ => false,
+        match self {
+            Domain::Boolean => match value {
+                Value::Truth(_) => true,
+                Value::Whole(_) => false,
+                Value::Symbol(_) => false,
+            },
+            Domain::Symbols(symbols) => match value {
+                Value::Truth(_) => false,
+                Value::Whole(_) => false,
+                Value::Symbol(s) => symbols.contains(&s),
+            },
+            Domain::Range(low, high) => match value {
+                Value::Truth(_) => false,
+                Value::Whole(n) => *low <= n && n <= *high,
+                Value::Symbol(_) => false,
+            },
         }
     }
 

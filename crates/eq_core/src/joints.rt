@@ -11,7 +11,7 @@ use ar_base::{EventId, GateId, Memory};
 use std::alloc::Global;
 
 /// How a gate joins its operands.
-#[derive(Clone, Copy, Debug, PartialEq, Eq)]
+#[derive(Clone, Copy, PartialEq, Eq)]
 pub enum Joint {
     /// All of them are needed.
     And,
@@ -20,7 +20,7 @@ pub enum Joint {
 }
 
 /// What a gate is over, or what a whole table comes to.
-#[derive(Clone, Copy, Debug, PartialEq, Eq)]
+#[derive(Clone, Copy, PartialEq, Eq)]
 pub enum Operand {
     /// Always true.
     Always,
@@ -55,7 +55,7 @@ fn is_in(set: &[EventId], event: EventId) -> bool
 }
 
 /// A gate over at least two operands, each an event or an earlier gate.
-#[derive(Debug, Drop)]
+#[derive(Drop)]
 pub struct Gate {
     /// How it joins them.
     pub joint: Joint,
@@ -81,7 +81,7 @@ impl Gate {
 }
 
 /// A table of gates, and what is read from it.
-#[derive(Debug, Drop)]
+#[derive(Drop)]
 pub struct Equations {
     /// The gates, each over earlier ones.
     pub gates: Vec<Gate>,

@@ -1,7 +1,7 @@
 //! Values, the domains that variables have, and clamped arithmetic.
 #![tactic(auto)]
 
-ghost use Rattle.std.specs.Prelude.{true, false, ◌≡◌, ◌<◌, ◌≤◌, ◌↔◌, ◌≢◌, ◌==◌, ℕ, IsTrue, IsSome, IfOk, IfSome, IfNone, Contains, find, count_by, nat_lt, length, ◌+ℤ◌, ◌-ℤ◌, ◌*ℤ◌};
+ghost use Rattle.std.specs.Prelude.{true, false, ◌≡◌, ◌<◌, ◌≤◌, ◌↔◌, ◌≢◌, ◌==◌, ℕ, IsTrue, IsSome, IfOk, IfSome, IfNone, Contains, find, count_by, nat_lt, length, pos, ◌+ℤ◌, ◌-ℤ◌, ◌*ℤ◌, ◌<ℤ◌, ◌≤ℤ◌};
 ghost use Rattle.std.specs.Int.{saturate_signed, w64};
 ghost use Rattle.domains.specs.Domains.{IsDomain, Holds, IsAt, HasMore, values_of};
 ghost use Rattle.domains.specs.Same.{IsSameDomain};
@@ -143,14 +143,22 @@ impl Domain {
         ensures found { IfSome result (IsAt self.now value) }
         ensures variant { IsSome result ↔ Holds self.now value }
     {
-        if !self.holds(value) {
-            return None;
-        }
-        match (self, value) {
-            (Domain::Boolean, Value::Truth(b)) => Some(u32::from(b)),
-            (Domain::Symbols(symbols), Value::Symbol(s)) => Some(count_below(symbols, s)),
-            (Domain::Range(low, _), Value::Whole(n)) => Some((n - *low) as u32),
-            _ => None,
+        match self {
+            Domain::Boolean => match value {
+                Value::Truth(b) => Some(u32::from(b)),
+                Value::Whole(_) => None,
+                Value::Symbol(_) => None,
+            },
+            Domain::Symbols(symbols) => match value {
+                Value::Truth(_) => None,
+                Value::Whole(_) => None,
+                Value::Symbol(s) => rank_of(symbols, s),
+            },
+            Domain::Range(low, high) => match value {
+                Value::Truth(_) => None,
+                Value::Whole(n) => offset_of(*low, *high, n),
+                Value::Symbol(_) => None,
+            },
         }
     }
 
@@ -167,15 +175,52 @@ impl Domain {
                 1 => Some(Value::Truth(true)),
                 _ => None,
             },
-            Domain::Symbols(symbols) => symbol_at(symbols, position).map(Value::Symbol),
-            Domain::Range(low, high) => {
-                if i64::from(position) <= *high - *low {
-                    Some(Value::Whole(*low + i64::from(position)))
-                } else {
-                    None
-                }
-            }
+            Domain::Symbols(symbols) => match symbol_at(symbols, position) {
+                Some(s) => Some(Value::Symbol(s)),
+                None => None,
+            },
+            Domain::Range(low, high) => number_at(*low, *high, position),
         }
+    }
+}
+
+// How many of the symbols are below this one, where it is one of them.
+fn rank_of(symbols: &[u32], s: u32) -> Option<u32>
+    requires { length symbols.now ≤ 256 }
+    ensures found { IfSome result (λ p. p ≡ count_by (λ x. nat_lt x s) symbols.now) }
+    ensures variant { IsSome result ↔ Contains symbols.now s }
+{
+    if symbols.contains(&s) {
+        Some(count_below(symbols, s))
+    } else {
+        None
+    }
+}
+
+// How far the number is above the least one of a range, where it is in the range.
+fn offset_of(low: i64, high: i64, n: i64) -> Option<u32>
+    requires { high <ℤ (low +ℤ pos 256) }
+    ensures found { IfSome result (λ p. n ≡ (low +ℤ pos p)) }
+    ensures variant { IsSome result ↔ (low ≤ℤ n) × (n ≤ℤ high) }
+{
+    if low <= n && n <= high {
+        Some((n - low) as u32)
+    } else {
+        None
+    }
+}
+
+// The number so far above the least one of a range, where it is in the range.
+fn number_at(low: i64, high: i64, position: u32) -> Option<Value>
+    requires ends { low ≤ℤ high }
+    requires short { high <ℤ (low +ℤ pos 256) }
+    ensures found { IfSome result (λ v. v ≡ Value.Whole (low +ℤ pos position)) }
+    ensures variant { IsSome result ↔ (low +ℤ pos position) ≤ℤ high }
+{
+    if i64::from(position) <= high - low {
+        Some(Value::Whole(low + i64::from(position)))
+    } else {
+        None
     }
 }
 

@@ -30,9 +30,9 @@ impl<T: Drop> From<AllocFailed<T>> for Memory {
     }
 }
 
-/// A cap that the program's own tables have, beside the limits of models. No text whose tables stay
-/// under 16,777,216 entries, and under 2^32 things of a kind, reaches one; a text that does is
-/// answered as where memory is refused, since the table it needs is not made.
+/// A cap that the program's own tables have, beside the limits of models. Only a text whose tables
+/// would pass 4,194,304 results of one step, 16,777,216 entries or 2^32 things of a kind reaches one;
+/// it is answered as where memory is refused, since the table that it needs is not made.
 #[derive(Clone, Copy)]
 pub enum Cap {
     /// Members of all bodies, inherited ones again in each body that has them: 16,777,216.
@@ -43,6 +43,8 @@ pub enum Cap {
     Parameters,
     /// Observers of all units: 2^32 - 1.
     Observers,
+    /// Results of one step over sets of values, or pairs of values that one comparison of sets looks at.
+    Results,
 }
 
 // The one place where a cap becomes want of memory.

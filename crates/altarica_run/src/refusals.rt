@@ -11,7 +11,7 @@ use ar_base::{Count, Place, Text};
 use ar_io::{Sink, SinkFailed};
 
 /// A file of a job.
-#[derive(Clone, Copy, Debug, PartialEq, Eq)]
+#[derive(Clone, Copy)]
 pub enum FileKind {
     /// The model.
     Model,
@@ -20,7 +20,7 @@ pub enum FileKind {
 }
 
 /// Why a job is refused.
-#[derive(Debug, Drop)]
+#[derive(Drop)]
 pub enum Refusal {
     /// The words are no job.
     Usage,

@@ -10,7 +10,7 @@ use tree_equations::EqFault;
 use wanted_values::WantedFault;
 
 /// A refusal, or want of memory.
-#[derive(Debug, Drop)]
+#[derive(Drop)]
 pub enum Stop {
     /// The job is refused.
     Refused(Refusal),

@@ -9,3 +9,4 @@ pub mod Lines
 pub mod Fronts
 pub mod Stages
 mod Tables
+pub mod Counting

@@ -1,4 +1,5 @@
--- The typed numbers by their short names.
+-- The typed numbers by their short names, and the numbers of lists of them.
+use Rattle.std.specs.Prelude.{ℕ, List, map}
 use Rattle.ar_base.specs.declared.numbers.Id.{Id}
 use Rattle.ar_base.specs.declared.numbers.UnitKind.{UnitKind}
 use Rattle.ar_base.specs.declared.numbers.VarKind.{VarKind}
@@ -40,3 +41,7 @@ BodyId = Id BodyKind
 -- the number of a name
 abbrev pub NameId : Type 0
 NameId = Id NameKind
+
+-- the numbers of these things, in their order
+abbrev pub numbers_of : {K : Type 0} → List (Id K) → List ℕ
+numbers_of {K} ids = map (λ (id : Id K). id.n) ids

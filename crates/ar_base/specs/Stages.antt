@@ -25,6 +25,11 @@ pub data Keeps {A : Type 0} (rules : List ℕ) (breaks : A → ℕ → Place →
   kept : AreKept rules (breaks a) → Keeps rules breaks a (Ok a)
   broken : {r : ℕ} {p : Place} → IsBroken rules (breaks a) r p → Keeps rules breaks a (Err (Rule r p))
 
+-- the answer of the test of one rule, given the place where it is broken, if it is
+abbrev pub kept_rule : ℕ → Option Place → Result (Unit {0}) RuleFault
+kept_rule r (Some p) = Err (Rule r p)
+kept_rule r None = Ok tt
+
 -- a test of a limit: what is given passes where the count is within it
 pub data Fits {A : Type 0} (count : Count) (counted : A → ℕ) (a : A) : Result A RuleFault → Type 0 where
   fits : counted a ≤ limit_of count → Fits count counted a (Ok a)

@@ -4,7 +4,7 @@ ghost use Rattle.std.specs.Prelude.{◌≡◌};
 ghost use Rattle.ar_base.specs.Counts.{limit_of};
 
 /// What is counted and limited, in the order in which the limits are listed.
-#[derive(Clone, Copy, Debug, PartialEq, Eq)]
+#[derive(Clone, Copy)]
 pub enum Count {
     /// Bytes of the model.
     ModelBytes,

@@ -10,10 +10,10 @@ mod table;
 mod texts;
 
 pub use counts::Count;
-pub use faults::{Memory, RuleFault};
+pub use faults::{Cap, Memory, RuleFault, keep};
 pub use numbers::{
     AssignId, AssignKind, BodyId, BodyKind, EventId, EventKind, GateId, GateKind, Id, NameId,
-    NameKind, UnitId, UnitKind, VarId, VarKind, WayId, WayKind,
+    NameKind, UnitId, UnitKind, VarId, VarKind, WayId, WayKind, numbers_below, numbers_of,
 };
 pub use places::{Place, Span};
 pub use table::Names;

@@ -8,7 +8,7 @@ use std::alloc::Global;
 use std::marker::Model;
 
 /// A text, seen as its bytes.
-#[derive(Drop, Debug)]
+#[derive(Drop)]
 pub struct Text {
     text: String,
 }

@@ -8,7 +8,7 @@ use ar_lexer::TokenKind;
 use std::alloc::{AllocError, AllocFailed};
 
 /// A token, with the number of its name where it is a name.
-#[derive(Clone, Copy, Debug, PartialEq, Eq)]
+#[derive(Clone, Copy)]
 pub struct Lexeme {
     /// What it is.
     pub kind: TokenKind,
@@ -21,7 +21,7 @@ pub struct Lexeme {
 }
 
 /// Why the tokens of a text are no model.
-#[derive(Clone, Copy, Debug, PartialEq, Eq)]
+#[derive(Clone, Copy)]
 pub enum Refusal {
     /// No model goes on with the next token.
     Syntax,

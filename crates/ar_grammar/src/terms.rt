@@ -16,7 +16,7 @@ use ar_lexer::{TokenKind, signs, words};
 use ar_syntax::{RawExpr, RawForm, RawRelation};
 
 /// The chains of operands with one sign or word between them.
-#[derive(Clone, Copy, Debug, PartialEq, Eq)]
+#[derive(Clone, Copy)]
 pub(crate) enum Chain {
     /// `or`
     Any,
@@ -27,7 +27,7 @@ pub(crate) enum Chain {
 }
 
 /// The calls of operands in brackets.
-#[derive(Clone, Copy, Debug, PartialEq, Eq)]
+#[derive(Clone, Copy)]
 pub(crate) enum Call {
     /// `min`
     Least,

@@ -52,12 +52,12 @@ module _ {a b : Option (List ℕ)} where
 module _ {a b c : SinkState} {s t : List ℕ} where
   -- one text is written and then the next, or first bytes of it
   pub writes_on : {r : Result (Unit {0}) SinkFailed} → Writes a b s (Ok tt) → Writes b c t r → Writes a c (s ++ t) r
-  writes_on {r = Ok x} h k = record { whole = appended_more a.bytes b.bytes c.bytes s t h.whole k.whole; cut = tt; rose = tt; rises = let i = h.rises in let j = k.rises in omega arith }
-  writes_on {r = Err e} h k = record { whole = tt; cut = cut_more a.bytes b.bytes c.bytes s t h.whole k.cut; rose = rose_after a.faults b.faults c.faults h.rises k.rose; rises = let i = h.rises in let j = k.rises in omega arith }
+  writes_on {r = Ok x} h k = record { whole = appended_more a.bytes b.bytes c.bytes s t h.whole k.whole; kept = k.kept ∙ h.kept; cut = tt; rose = tt; rises = let i = h.rises in let j = k.rises in omega arith }
+  writes_on {r = Err e} h k = record { whole = tt; kept = tt; cut = cut_more a.bytes b.bytes c.bytes s t h.whole k.cut; rose = rose_after a.faults b.faults c.faults h.rises k.rose; rises = let i = h.rises in let j = k.rises in omega arith }
 
 -- one text is cut, and with it a longer one
 pub writes_cut : {a b : SinkState} {e : SinkFailed} (s t : List ℕ) → Writes a b s (Err e) → Writes a b (s ++ t) (Err e)
-writes_cut s t h = record { whole = tt; cut = cut_longer s t h.cut; rose = h.rose; rises = h.rises }
+writes_cut s t h = record { whole = tt; kept = tt; cut = cut_longer s t h.cut; rose = h.rose; rises = h.rises }
 
 -- what is returned at the exit of a `?`
 pub writes_exit : {a b : SinkState} {e : SinkFailed} {s : List ℕ} (r : Result (Unit {0}) SinkFailed)
@@ -67,7 +67,7 @@ writes_exit {a = a} {b = b} {s = s} r Q i h =
 
 -- nothing is written
 pub writes_none : (s : SinkState) → Writes s s [] (Ok tt)
-writes_none s = record { whole = λ bytes e. rw append-nil e; cut = tt; rose = tt; rises = omega arith }
+writes_none s = record { whole = λ bytes e. rw append-nil e; kept = refl; cut = tt; rose = tt; rises = omega arith }
 
 -- the same text in another form
 pub writes_as : {a b : SinkState} {r : Result (Unit {0}) SinkFailed} (s t : List ℕ) → s ≡ t → Writes a b s r

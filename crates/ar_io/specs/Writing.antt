@@ -1,4 +1,5 @@
--- What writing a text answers: the text was written, or some first bytes of it were and the count of faults rose.
+-- What writing a text answers: the text was written and no fault was met, or some first bytes of it were written and the
+-- count of faults rose.
 use Rattle.std.specs.Prelude.{◌≡◌, ℕ, ◌≤◌, List, ◌++◌, Option, Some, Result, Ok, OnOk, OnErr}
 use Rattle.ar_io.specs.Outside.{Rose}
 use Rattle.ar_io.specs.declared.outside.SinkFailed.{SinkFailed}
@@ -22,9 +23,11 @@ abbrev pub Cut : Option (List ℕ) → Option (List ℕ) → List ℕ → Type 0
 Cut old new text = (bytes : List ℕ) → old ≡ Some bytes
     → (front : List ℕ) × IsFront front text × (new ≡ Some (bytes ++ front))
 
--- the text is written, or it is cut and the count of faults rose; the count falls in no case
+-- the text is written and the count of faults is as it was, or the text is cut and the count rose; the count falls in
+-- no case
 pub record Writes (old new : SinkState) (text : List ℕ) (result : Result (Unit {0}) SinkFailed) : Type 0 where
   pub whole : OnOk result (Appended old.bytes new.bytes text)
+  pub kept : OnOk result (new.faults ≡ old.faults)
   pub cut : OnErr result (Cut old.bytes new.bytes text)
   pub rose : OnErr result (Rose old.faults new.faults)
   pub rises : old.faults ≤ new.faults

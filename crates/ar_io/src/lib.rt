@@ -1,16 +1,19 @@
 //! The outside, as traits that say what it may do: a shelf of named texts and a sink of bytes. Both
-//! have two implementations: in memory, and on the file system and standard output.
+//! have two implementations: in memory, and on the file system and standard output. Texts and numbers
+//! are written to a sink by functions of their own.
 #![tactic(auto)]
 
 mod files;
 mod memory_shelf;
 mod memory_sink;
 mod outside;
+mod pieces;
 
 pub use files::{FileShelf, StdSink};
 pub use memory_shelf::MemoryShelf;
 pub use memory_sink::MemorySink;
 pub use outside::{LoadFault, Shelf, Sink, SinkFailed};
+pub use pieces::{text_at, write_count, write_number, write_signed, write_text, write_wide};
 
 #[cfg(test)]
 mod tests {

@@ -7,7 +7,7 @@ ghost use Rattle.ar_io.specs.Writing.{SinkState, Writes};
 use std::alloc::Global;
 
 /// Why a text was not loaded.
-#[derive(Clone, Copy, Debug, PartialEq, Eq)]
+#[derive(Clone, Copy)]
 pub enum LoadFault {
     /// The outside failed, or has no text of this name: its count of faults for the name rose.
     Failed,
@@ -18,7 +18,7 @@ pub enum LoadFault {
 }
 
 /// A piece was not written, or not all of it: the sink's count of faults rose.
-#[derive(Clone, Copy, Debug, PartialEq, Eq)]
+#[derive(Clone, Copy)]
 pub struct SinkFailed {}
 
 /// Where named texts are loaded from.

@@ -13,7 +13,7 @@ use crate::tables::word_of;
 use crate::token::TokenKind;
 
 /// What stands at the front of a text.
-#[derive(Clone, Copy, Debug, PartialEq, Eq)]
+#[derive(Clone, Copy)]
 pub enum Piece {
     /// A blank or a comment of so many bytes.
     Gap(usize),

@@ -7,7 +7,7 @@ use ar_base::{Place, Span};
 use std::alloc::AllocFailed;
 
 /// What a token is.
-#[derive(Clone, Copy, Debug, PartialEq, Eq)]
+#[derive(Clone, Copy, PartialEq, Eq)]
 pub enum TokenKind {
     /// A letter or `_`, and then letters, digits and `_`, where this is no reserved word.
     Name,
@@ -24,7 +24,7 @@ pub enum TokenKind {
 }
 
 /// A token of a text.
-#[derive(Clone, Copy, Debug, PartialEq, Eq)]
+#[derive(Clone, Copy)]
 pub struct Token {
     /// What it is.
     pub kind: TokenKind,
@@ -35,7 +35,7 @@ pub struct Token {
 }
 
 /// Why a text has no tokens.
-#[derive(Clone, Copy, Debug, PartialEq, Eq)]
+#[derive(Clone, Copy)]
 pub enum LexFault {
     /// No token, blank or comment begins here.
     Byte(Place),

@@ -9,7 +9,7 @@ use ar_grammar::Refusal;
 use std::alloc::{AllocError, AllocFailed};
 
 /// Why a text is no model.
-#[derive(Clone, Copy, Debug, PartialEq, Eq)]
+#[derive(Clone, Copy)]
 pub enum ParseFault {
     /// The text has no tokens: its first lexical fault.
     Lex(Place),

@@ -4,7 +4,7 @@ use crate::paths::Path;
 use ar_base::{Place, Span};
 
 /// A relation between two values.
-#[derive(Clone, Copy, Debug, PartialEq, Eq)]
+#[derive(Clone, Copy)]
 pub enum RawRelation {
     /// `==`
     Equal,
@@ -22,7 +22,7 @@ pub enum RawRelation {
 
 /// An expression and where it stands.
 #[cycle(raw)]
-#[derive(Debug, Drop)]
+#[derive(Drop)]
 pub struct RawExpr {
     /// The place of its first token, a bracket included.
     pub at: Place,
@@ -34,7 +34,7 @@ pub struct RawExpr {
 
 /// What an expression is.
 #[cycle(raw)]
-#[derive(Debug, Drop)]
+#[derive(Drop)]
 pub enum RawForm {
     /// `true` or `false`
     Truth(bool),

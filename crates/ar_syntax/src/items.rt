@@ -4,7 +4,7 @@ use crate::members::Unit;
 use ar_base::{NameId, Names, Place};
 
 /// What a domain holds.
-#[derive(Debug, Drop)]
+#[derive(Drop)]
 pub enum DomainBody {
     /// Symbols in the declared order, each with its place, at least one.
     Symbols(Vec<(NameId, Place)>),
@@ -13,7 +13,7 @@ pub enum DomainBody {
 }
 
 /// A declaration of a domain.
-#[derive(Debug, Drop)]
+#[derive(Drop)]
 pub struct DomainDecl {
     /// Its name.
     pub name: NameId,
@@ -24,7 +24,7 @@ pub struct DomainDecl {
 }
 
 /// An item of a model.
-#[derive(Debug, Drop)]
+#[derive(Drop)]
 pub enum Item {
     /// `domain NAME ..`
     Domain(DomainDecl),

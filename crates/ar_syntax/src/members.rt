@@ -6,7 +6,7 @@ use crate::paths::Path;
 use ar_base::{NameId, Place, Span};
 
 /// The type of a declaration and where it stands.
-#[derive(Clone, Copy, Debug, PartialEq, Eq)]
+#[derive(Clone, Copy)]
 pub struct TypeName {
     /// What it is.
     pub form: TypeForm,
@@ -15,7 +15,7 @@ pub struct TypeName {
 }
 
 /// What a type is.
-#[derive(Clone, Copy, Debug, PartialEq, Eq)]
+#[derive(Clone, Copy)]
 pub enum TypeForm {
     /// `Boolean`
     Boolean,
@@ -26,7 +26,7 @@ pub enum TypeForm {
 }
 
 /// A word of the target of a setting.
-#[derive(Clone, Copy, Debug, PartialEq, Eq)]
+#[derive(Clone, Copy)]
 pub enum Word {
     /// A name.
     Name(NameId),
@@ -37,7 +37,7 @@ pub enum Word {
 }
 
 /// A setting of a declaration: `WORD.WORD = EXPR`.
-#[derive(Debug, Drop)]
+#[derive(Drop)]
 pub struct Setting {
     /// The words before `=`, at least one.
     pub target: Vec<Word>,
@@ -48,7 +48,7 @@ pub struct Setting {
 }
 
 /// A part of a synchronisation.
-#[derive(Debug, Drop)]
+#[derive(Drop)]
 pub struct Part {
     /// Whether the part must take part, as `!PATH`; a part `?PATH` may.
     pub must: bool,
@@ -58,7 +58,7 @@ pub struct Part {
 
 /// A class, or a block with its body.
 #[cycle(unit)]
-#[derive(Debug, Drop)]
+#[derive(Drop)]
 pub struct Unit {
     /// Its name.
     pub name: NameId,
@@ -71,7 +71,7 @@ pub struct Unit {
 /// A member of a unit. Each event, hidden path, transition and instruction of an assertion is one of its own.
 /// The place behind a name is where the name stands.
 #[cycle(unit)]
-#[derive(Debug, Drop)]
+#[derive(Drop)]
 pub enum Member {
     /// `extends NAME;`
     Extends(NameId, Place),

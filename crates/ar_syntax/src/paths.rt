@@ -3,7 +3,7 @@
 use ar_base::{NameId, Place};
 
 /// Where a path begins to look for its first name.
-#[derive(Clone, Copy, Debug, PartialEq, Eq)]
+#[derive(Clone, Copy)]
 pub enum PathStart {
     /// In the unit in which the path is read.
     Here,
@@ -14,7 +14,7 @@ pub enum PathStart {
 }
 
 /// A path: names with dots between them.
-#[derive(Debug, Drop)]
+#[derive(Drop)]
 pub struct Path {
     /// Where it begins.
     pub start: PathStart,

@@ -4,7 +4,6 @@
 mod fronts;
 mod gates;
 pub mod laws;
-mod pieces;
 mod printing;
 mod reading;
 

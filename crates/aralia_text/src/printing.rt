@@ -6,9 +6,8 @@ ghost use Rattle.eq_core.specs.Gates as gates;
 ghost use Rattle.eq_core.specs.Views.{all_needed, operand_of, gate_of, table_of};
 ghost use Rattle.aralia_text.specs.Texts.{sign_text, operand_text, joint_text, operands_text, more_text, gate_line, gate_lines, name_text, last_lines, equations_text};
 
-use crate::pieces::{number, put, text_at};
 use ar_base::Text;
-use ar_io::{Sink, SinkFailed};
+use ar_io::{Sink, SinkFailed, text_at, write_count, write_text};
 use eq_core::{Equations, Gate, Joint, Operand};
 
 /// Writes the equations as text: a line for each gate, as `g1 := -e.a & e.b;`, then `conflict := ` and `top := ` with their
@@ -32,11 +31,11 @@ fn last<K: Sink>(
     ensures { Writes (K.state out.old) (K.state out.new)
         (last_lines events.now (operand_of conflict) (operand_of top)) result }
 {
-    put(out, "conflict := ")?;
+    write_text(out, "conflict := ")?;
     operand(out, events, conflict)?;
-    put(out, ";\ntop := ")?;
+    write_text(out, ";\ntop := ")?;
     operand(out, events, top)?;
-    put(out, ";\n")
+    write_text(out, ";\n")
 }
 
 // The lines of the gates.
@@ -57,9 +56,9 @@ fn line<K: Sink>(out: &mut K, events: &[Text], n: usize, gate: &Gate) -> Result<
         result }
 {
     name(out, n)?;
-    put(out, " := ")?;
+    write_text(out, " := ")?;
     operands(out, events, gate)?;
-    put(out, ";\n")
+    write_text(out, ";\n")
 }
 
 // The operands of a gate.
@@ -101,7 +100,7 @@ fn joined<K: Sink>(
     ensures { Writes (K.state out.old) (K.state out.new)
         (joint_text (all_needed joint) ++ operand_text events.now (operand_of one)) result }
 {
-    put(out, between(joint))?;
+    write_text(out, between(joint))?;
     operand(out, events, one)
 }
 
@@ -121,8 +120,8 @@ fn operand<K: Sink>(out: &mut K, events: &[Text], operand: Operand) -> Result<()
         (operand_text events.now (operand_of operand)) result }
 {
     match operand {
-        Operand::Always => put(out, "true"),
-        Operand::Never => put(out, "false"),
+        Operand::Always => write_text(out, "true"),
+        Operand::Never => write_text(out, "false"),
         Operand::Event(event, sign) => named(out, sign, text_at(events, event.n)),
         Operand::Gate(gate, sign) => numbered(out, sign, gate.n),
     }
@@ -133,16 +132,16 @@ fn named<K: Sink>(out: &mut K, sign: bool, text: &str) -> Result<(), SinkFailed>
     ensures { Writes (K.state out.old) (K.state out.new)
         (sign_text sign ++ (codes "e." ++ text.now)) result }
 {
-    put(out, minus(sign))?;
-    put(out, "e.")?;
-    put(out, text)
+    write_text(out, minus(sign))?;
+    write_text(out, "e.")?;
+    write_text(out, text)
 }
 
 // A gate with its sign.
 fn numbered<K: Sink>(out: &mut K, sign: bool, gate: u32) -> Result<(), SinkFailed>
     ensures { Writes (K.state out.old) (K.state out.new) (sign_text sign ++ name_text gate) result }
 {
-    put(out, minus(sign))?;
+    write_text(out, minus(sign))?;
     name(out, gate as usize)
 }
 
@@ -158,6 +157,6 @@ fn name<K: Sink>(out: &mut K, n: usize) -> Result<(), SinkFailed>
     requires { n < 2 ^ 63 }
     ensures { Writes (K.state out.old) (K.state out.new) (name_text n) result }
 {
-    put(out, "g")?;
-    number(out, n + 1)
+    write_text(out, "g")?;
+    write_count(out, n + 1)
 }

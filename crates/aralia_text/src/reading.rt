@@ -129,7 +129,7 @@ fn place_after(before: &[u8]) -> Place
 }
 
 /// Why a text is that of no equations.
-#[derive(Clone, Copy, Debug, PartialEq, Eq)]
+#[derive(Clone, Copy)]
 pub enum AraliaFault {
     /// It is the text of no table: no text of a table goes on with the byte that stands here, or the text ends here and
     /// each that begins with it is longer.

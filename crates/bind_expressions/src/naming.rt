@@ -25,7 +25,7 @@ pub trait Naming {
 }
 
 /// What a path stands for in an expression by numbers.
-#[derive(Clone, Copy, Debug, PartialEq, Eq)]
+#[derive(Clone, Copy)]
 pub enum Leaf {
     /// A variable.
     Variable(VarId),

@@ -15,7 +15,7 @@ use bind_expressions::earlier;
 use bind_scopes::Scopes;
 
 /// A rule that is tested in a whole tree.
-#[derive(Clone, Copy, Debug, PartialEq, Eq)]
+#[derive(Clone, Copy)]
 pub(crate) enum Rule {
     /// The rule of names (L10).
     Names,

@@ -15,7 +15,7 @@ use hierarchy::{Tree, VarNode};
 use typed_expr::ValueKind;
 
 /// Which variables are told from the others.
-#[derive(Clone, Copy, Debug, PartialEq, Eq)]
+#[derive(Clone, Copy)]
 pub enum Sort {
     /// State variables, from those that are none.
     States,

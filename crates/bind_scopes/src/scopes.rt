@@ -29,7 +29,7 @@ use unit_index::Index;
 use unit_sizes::TypePlaces;
 
 /// What a path in an expression names.
-#[derive(Clone, Copy, Debug, PartialEq, Eq)]
+#[derive(Clone, Copy)]
 pub enum Named {
     /// A variable.
     Variable(VarId),
@@ -40,7 +40,7 @@ pub enum Named {
 }
 
 /// What an expression may name, besides symbols.
-#[derive(Clone, Copy, Debug, PartialEq, Eq)]
+#[derive(Clone, Copy)]
 pub enum Scope {
     /// All variables and parameters.
     Everything,

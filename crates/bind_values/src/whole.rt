@@ -22,7 +22,7 @@ use domains::Value;
 use std::alloc::Global;
 
 /// The values of a tree, which hold before anything happens.
-#[derive(Debug, Drop)]
+#[derive(Drop)]
 pub struct Values {
     /// The values of the parameters, in the tree's order; false for one that has none.
     pub parameters: Vec<Value>,

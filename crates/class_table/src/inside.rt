@@ -13,7 +13,7 @@ use ar_syntax::{Member, TypeForm};
 use std::alloc::Global;
 
 /// A body inside another one: that of a nested block, or of the class that a type name names, with its place.
-#[derive(Clone, Copy, Debug)]
+#[derive(Clone, Copy)]
 pub(crate) struct Inside {
     pub body: BodyId,
     pub at: Option<Place>,

@@ -16,7 +16,7 @@ use std::alloc::Global;
 use std::collections::HashMap;
 
 /// What a name names.
-#[derive(Clone, Copy, Debug, PartialEq, Eq)]
+#[derive(Clone, Copy)]
 pub(crate) enum Kind {
     /// A domain.
     Domain,

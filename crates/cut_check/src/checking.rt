@@ -24,7 +24,7 @@ use gts_core::{Chain, Gts};
 use std::alloc::Global;
 
 /// What is said of a line of a list of cuts.
-#[derive(Clone, Copy, Debug, PartialEq, Eq)]
+#[derive(Clone, Copy)]
 pub enum Verdict {
     /// It is true and holds no other line.
     Good,

@@ -2,7 +2,7 @@
 
 ghost use Rattle.std.specs.Prelude.{◌≡◌, ◌+◌, ◌/◌, ◌<◌, ◌⊎◌, ◌↔◌, ◌&&◌, ◌^◌, ℕ, List, Bool, IsTrue, length, IfOk};
 ghost use Rattle.ar_meaning.specs.Found.{IsAnswer};
-ghost use Rattle.flow_blocks.specs.Bits.{IsSet, words_for};
+ghost use Rattle.lane_rows.specs.Rows.{IsSet, words_for};
 ghost use Rattle.gts_core.specs.Sound.{IsSound};
 ghost use Rattle.script_lines.specs.Chains.{labels_of, HaveKnownWays};
 ghost use Rattle.script_lines.specs.CutReads.{AreKnownWays};

@@ -4,7 +4,7 @@ use ar_base::Memory;
 use ar_io::SinkFailed;
 
 /// Why a text was broken off.
-#[derive(Clone, Copy, Debug, PartialEq, Eq)]
+#[derive(Clone, Copy)]
 pub enum PrintFault {
     /// The sink failed.
     Write,

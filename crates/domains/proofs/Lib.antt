@@ -3,3 +3,4 @@ pub mod Order
 pub mod Same
 mod Ranks
 pub mod Domains
+pub mod SameDomains

@@ -1,4 +1,4 @@
--- The order of values, and lists that ascend.
+-- The order of values, lists that ascend, and the truth value or number of a value.
 use Rattle.std.specs.Prelude.{◌≡◌, List, AllPairs, ℕ, ℤ, pos, Bool, true, false, nat_lt, int_lt, if◌then◌else◌}
 use Rattle.domains.specs.declared.Value.{Value}
 use Rattle.domains.specs.declared.Value.TheVariants.{Truth, Whole, Symbol}
@@ -24,3 +24,15 @@ is_before a b =
 -- each value comes before all later ones
 abbrev pub IsAscending : List Value → Type 0
 IsAscending values = AllPairs (λ a b. is_before a b ≡ true) values
+
+-- the truth value; other values count as false
+abbrev pub truth_of : Value → Bool
+truth_of (Truth b) = b
+truth_of (Whole n) = false
+truth_of (Symbol s) = false
+
+-- the whole number; other values count as 0
+abbrev pub whole_of : Value → ℤ
+whole_of (Truth b) = pos 0
+whole_of (Whole n) = n
+whole_of (Symbol s) = pos 0

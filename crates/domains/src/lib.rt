@@ -1,19 +1,22 @@
 //! Values, the domains that variables have, and clamped arithmetic.
 #![tactic(auto)]
 
-ghost use Rattle.std.specs.Prelude.{true, false, ◌≡◌, ◌<◌, ◌≤◌, ◌↔◌, ◌≢◌, ◌==◌, ℕ, IsTrue, IsSome, IfSome, IfNone, Contains, find, count_by, nat_lt, length, ◌+ℤ◌, ◌-ℤ◌, ◌*ℤ◌};
+ghost use Rattle.std.specs.Prelude.{true, false, ◌≡◌, ◌<◌, ◌≤◌, ◌↔◌, ◌≢◌, ◌==◌, ℕ, IsTrue, IsSome, IfOk, IfSome, IfNone, Contains, find, count_by, nat_lt, length, pos, ◌+ℤ◌, ◌-ℤ◌, ◌*ℤ◌, ◌<ℤ◌, ◌≤ℤ◌};
 ghost use Rattle.std.specs.Int.{saturate_signed, w64};
 ghost use Rattle.domains.specs.Domains.{IsDomain, Holds, IsAt, HasMore, values_of};
-ghost use Rattle.domains.specs.Values.{is_before};
+ghost use Rattle.domains.specs.Same.{IsSameDomain};
+ghost use Rattle.domains.specs.Values.{is_before, truth_of, whole_of};
 ghost use Rattle.domains.specs.declared.Value.{Value};
 ghost use Rattle.domains.specs.declared.Value.TheVariants.{Truth};
 ghost use Rattle.domains.specs.declared.Domain.{Domain};
+
+use std::alloc::AllocError;
 
 /// A truth value, a whole number, or a symbol by its number.
 ///
 /// Values are ordered: false before true, numbers ascending, symbols by their number,
 /// and truth values before numbers before symbols.
-#[derive(Clone, Copy, Debug, PartialEq, Eq, PartialOrd, Ord)]
+#[derive(Clone, Copy, PartialEq, Eq, PartialOrd, Ord)]
 pub enum Value {
     Truth(bool),
     Whole(i64),
@@ -29,11 +32,35 @@ impl Default for Value {
     }
 }
 
+impl Value {
+    /// The truth value; other values count as false.
+    pub fn truth(self) -> bool
+        ensures { result ≡ truth_of self }
+    {
+        match self {
+            Value::Truth(b) => b,
+            Value::Whole(_) => false,
+            Value::Symbol(_) => false,
+        }
+    }
+
+    /// The whole number; other values count as 0.
+    pub fn whole(self) -> i64
+        ensures { result ≡ whole_of self }
+    {
+        match self {
+            Value::Truth(_) => 0,
+            Value::Whole(n) => n,
+            Value::Symbol(_) => 0,
+        }
+    }
+}
+
 /// The values that a variable may have: at least one and at most 256 of them.
 ///
 /// The symbols stand in the order in which they were declared, none of them twice.
 /// A range has both its ends.
-#[derive(Debug, Drop)]
+#[derive(Drop)]
 pub enum Domain {
     Boolean,
     Symbols(Vec<u32>),
@@ -74,16 +101,38 @@ pub fn domain_laws()
 {}
 
 impl Domain {
+    /// A copy of the domain: the same values in the same order. The error is want of memory.
+    pub fn copy(&self) -> Result<Domain, AllocError>
+        ensures { IfOk result (IsSameDomain self.now) }
+    {
+        match self {
+            Domain::Boolean => Ok(Domain::Boolean),
+            Domain::Symbols(symbols) => Ok(Domain::Symbols(symbols.clone()?)),
+            Domain::Range(low, high) => Ok(Domain::Range(*low, *high)),
+        }
+    }
+
     /// Whether the domain has the value.
     pub fn holds(&self, value: Value) -> bool
         requires { IsDomain self.now }
         ensures { IsTrue result ↔ Holds self.now value }
     {
-        match (self, value) {
-            (Domain::Boolean, Value::Truth(_)) => true,
-            (Domain::Symbols(symbols), Value::Symbol(s)) => symbols.contains(&s),
-            (Domain::Range(low, high), Value::Whole(n)) => *low <= n && n <= *high,
-            _ => false,
+        match self {
+            Domain::Boolean => match value {
+                Value::Truth(_) => true,
+                Value::Whole(_) => false,
+                Value::Symbol(_) => false,
+            },
+            Domain::Symbols(symbols) => match value {
+                Value::Truth(_) => false,
+                Value::Whole(_) => false,
+                Value::Symbol(s) => symbols.contains(&s),
+            },
+            Domain::Range(low, high) => match value {
+                Value::Truth(_) => false,
+                Value::Whole(n) => *low <= n && n <= *high,
+                Value::Symbol(_) => false,
+            },
         }
     }
 
@@ -94,14 +143,22 @@ impl Domain {
         ensures found { IfSome result (IsAt self.now value) }
         ensures variant { IsSome result ↔ Holds self.now value }
     {
-        if !self.holds(value) {
-            return None;
-        }
-        match (self, value) {
-            (Domain::Boolean, Value::Truth(b)) => Some(u32::from(b)),
-            (Domain::Symbols(symbols), Value::Symbol(s)) => Some(count_below(symbols, s)),
-            (Domain::Range(low, _), Value::Whole(n)) => Some((n - *low) as u32),
-            _ => None,
+        match self {
+            Domain::Boolean => match value {
+                Value::Truth(b) => Some(u32::from(b)),
+                Value::Whole(_) => None,
+                Value::Symbol(_) => None,
+            },
+            Domain::Symbols(symbols) => match value {
+                Value::Truth(_) => None,
+                Value::Whole(_) => None,
+                Value::Symbol(s) => rank_of(symbols, s),
+            },
+            Domain::Range(low, high) => match value {
+                Value::Truth(_) => None,
+                Value::Whole(n) => offset_of(*low, *high, n),
+                Value::Symbol(_) => None,
+            },
         }
     }
 
@@ -118,15 +175,52 @@ impl Domain {
                 1 => Some(Value::Truth(true)),
                 _ => None,
             },
-            Domain::Symbols(symbols) => symbol_at(symbols, position).map(Value::Symbol),
-            Domain::Range(low, high) => {
-                if i64::from(position) <= *high - *low {
-                    Some(Value::Whole(*low + i64::from(position)))
-                } else {
-                    None
-                }
-            }
+            Domain::Symbols(symbols) => match symbol_at(symbols, position) {
+                Some(s) => Some(Value::Symbol(s)),
+                None => None,
+            },
+            Domain::Range(low, high) => number_at(*low, *high, position),
         }
+    }
+}
+
+// How many of the symbols are below this one, where it is one of them.
+fn rank_of(symbols: &[u32], s: u32) -> Option<u32>
+    requires { length symbols.now ≤ 256 }
+    ensures found { IfSome result (λ p. p ≡ count_by (λ x. nat_lt x s) symbols.now) }
+    ensures variant { IsSome result ↔ Contains symbols.now s }
+{
+    if symbols.contains(&s) {
+        Some(count_below(symbols, s))
+    } else {
+        None
+    }
+}
+
+// How far the number is above the least one of a range, where it is in the range.
+fn offset_of(low: i64, high: i64, n: i64) -> Option<u32>
+    requires { high <ℤ (low +ℤ pos 256) }
+    ensures found { IfSome result (λ p. n ≡ (low +ℤ pos p)) }
+    ensures variant { IsSome result ↔ (low ≤ℤ n) × (n ≤ℤ high) }
+{
+    if low <= n && n <= high {
+        Some((n - low) as u32)
+    } else {
+        None
+    }
+}
+
+// The number so far above the least one of a range, where it is in the range.
+fn number_at(low: i64, high: i64, position: u32) -> Option<Value>
+    requires ends { low ≤ℤ high }
+    requires short { high <ℤ (low +ℤ pos 256) }
+    ensures found { IfSome result (λ v. v ≡ Value.Whole (low +ℤ pos position)) }
+    ensures variant { IsSome result ↔ (low +ℤ pos position) ≤ℤ high }
+{
+    if i64::from(position) <= high - low {
+        Some(Value::Whole(low + i64::from(position)))
+    } else {
+        None
     }
 }
 

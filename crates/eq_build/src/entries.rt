@@ -17,7 +17,7 @@ use std::alloc::{AllocError, AllocFailed, Global};
 pub const MOST_GATES: usize = 2_000_000;
 
 /// A value, and the operand that tells where it is taken.
-#[derive(Clone, Copy, Debug, PartialEq, Eq)]
+#[derive(Clone, Copy)]
 pub struct Entry {
     /// The value.
     pub value: Value,
@@ -26,7 +26,7 @@ pub struct Entry {
 }
 
 /// Why nothing was built.
-#[derive(Clone, Copy, Debug, PartialEq, Eq)]
+#[derive(Clone, Copy)]
 pub enum BuildFault {
     /// More gates are needed than a table may have.
     Gates,

@@ -9,7 +9,7 @@ use domains::{Value, add, multiply, subtract};
 use typed_expr::Relation;
 
 /// What is made of two values: a step of a fold, where the first is what the fold has come to, or a comparison.
-#[derive(Clone, Copy, Debug, PartialEq, Eq)]
+#[derive(Clone, Copy)]
 pub enum Step {
     /// A part of a sum is added, or subtracted.
     Part(bool),

@@ -1,6 +1,5 @@
 -- What the operands and gates of the code stand for.
-use Rattle.std.specs.Prelude.{ℕ, Bool, true, false, List, map}
-use Rattle.ar_base.specs.Numbers.{EventId}
+use Rattle.std.specs.Prelude.{Bool, true, false, List, map}
 use Rattle.eq_core.specs.Gates as g
 use Rattle.eq_core.specs.declared.joints.Joint.{Joint}
 use Rattle.eq_core.specs.declared.joints.Joint.TheVariants.{And, Or}
@@ -35,10 +34,6 @@ table_of equations = record {
   conflict = operand_of equations.conflict;
   top = operand_of equations.top;
 }
-
--- the events' numbers
-abbrev pub numbers_of : List EventId → List ℕ
-numbers_of set = map (λ (e : EventId). e.n) set
 
 -- an operand and all gates so far
 abbrev pub made_of : Operand → List flat.Gate → g.Made

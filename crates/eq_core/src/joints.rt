@@ -5,13 +5,14 @@ ghost use Rattle.std.specs.List.{list_any};
 ghost use Rattle.eq_core.specs.Gates.{joined, closed_as};
 ghost use Rattle.eq_core.specs.Ordered.{AreBelow, AreOrdered, KeepsOrder};
 ghost use Rattle.eq_core.specs.Values.{operand_at, joint_at, values_at, IsBelow};
-ghost use Rattle.eq_core.specs.Views.{all_needed, operand_of, gate_of, gates_of, numbers_of, made_of};
+ghost use Rattle.ar_base.specs.Numbers.{numbers_of};
+ghost use Rattle.eq_core.specs.Views.{all_needed, operand_of, gate_of, gates_of, made_of};
 
 use ar_base::{EventId, GateId, Memory};
 use std::alloc::Global;
 
 /// How a gate joins its operands.
-#[derive(Clone, Copy, Debug, PartialEq, Eq)]
+#[derive(Clone, Copy, PartialEq, Eq)]
 pub enum Joint {
     /// All of them are needed.
     And,
@@ -20,7 +21,7 @@ pub enum Joint {
 }
 
 /// What a gate is over, or what a whole table comes to.
-#[derive(Clone, Copy, Debug, PartialEq, Eq)]
+#[derive(Clone, Copy, PartialEq, Eq)]
 pub enum Operand {
     /// Always true.
     Always,
@@ -55,7 +56,7 @@ fn is_in(set: &[EventId], event: EventId) -> bool
 }
 
 /// A gate over at least two operands, each an event or an earlier gate.
-#[derive(Debug, Drop)]
+#[derive(Drop)]
 pub struct Gate {
     /// How it joins them.
     pub joint: Joint,
@@ -81,7 +82,7 @@ impl Gate {
 }
 
 /// A table of gates, and what is read from it.
-#[derive(Debug, Drop)]
+#[derive(Drop)]
 pub struct Equations {
     /// The gates, each over earlier ones.
     pub gates: Vec<Gate>,

@@ -11,7 +11,7 @@ use script_lines::{event_named, first_piece};
 use std::alloc::{AllocFailed, Global};
 
 /// Why a list gives no events.
-#[derive(Clone, Copy, Debug, PartialEq, Eq)]
+#[derive(Clone, Copy)]
 pub enum ListFault {
     /// One of its parts names no event.
     NoEvent,

@@ -5,7 +5,8 @@ use Rattle.std.proofs.lemmas.List.{length-set, take_at}
 use Rattle.std.specs.Vec.{with_items}
 use Rattle.std.specs.Int.{bit_at}
 use Rattle.std.proofs.lemmas.Nat.Bits.{bit_at-zero}
-use Rattle.flow_blocks.specs.Bits.{IsSet, HasBit, row_of, words_for, AreRows, room_of, room_left}
+use Rattle.lane_rows.specs.Rows.{IsSet, words_for}
+use Rattle.flow_blocks.specs.Bits.{HasBit, row_of, AreRows, room_of, room_left}
 
 abbrev pub Row : Type 0
 Row = Vec ℕ Global

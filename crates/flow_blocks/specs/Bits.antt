@@ -1,13 +1,9 @@
 -- Rows of bits, one for each number.
 use Rattle.std.specs.Prelude.{◌≡◌, ℕ, zero, suc, ◌+◌, ◌-◌, ◌/◌, ◌%◌, ◌<◌, List, [], ◌∷◌, Vec, length, slice_index}
 use Rattle.std.specs.Global.{Global}
-use Rattle.std.specs.Int.{bit_at}
 use Rattle.ar_base.specs.Lists.{IsOneOf}
+pub use Rattle.lane_rows.specs.Rows.{IsSet, words_for}
 use Rattle.flow_blocks.specs.Blocks.{Depends}
-
--- bit n of a row is set
-abbrev pub IsSet : List ℕ → ℕ → Type 0
-IsSet row n = bit_at (slice_index row (n / 64)) (n % 64) ≡ 1
 
 -- the row of number a, empty where there is none
 abbrev pub row_of : List (Vec ℕ Global) → ℕ → List ℕ
@@ -18,10 +14,6 @@ row_of (row ∷ rows) (suc a) = row_of rows a
 -- bit n of the row of number a is set
 abbrev pub HasBit : List (Vec ℕ Global) → ℕ → ℕ → Type 0
 HasBit rows a n = IsSet (row_of rows a) n
-
--- as many words as that many bits take
-abbrev pub words_for : ℕ → ℕ
-words_for count = (count + 63) / 64
 
 -- a row of that many bits for each number below count
 pub record AreRows (count : ℕ) (rows : List (Vec ℕ Global)) : Type 0 where

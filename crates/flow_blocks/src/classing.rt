@@ -9,9 +9,9 @@ ghost use Rattle.flow_blocks.specs.Table.{members_of, IsClassTable, IsPartTable,
 ghost use Rattle.flow_blocks.specs.Slots.{AreSlots};
 
 use crate::Block;
-use crate::rows::has;
 use crate::slots::{slot_of, slots};
 use ar_base::Memory;
+use lane_rows::has;
 use std::alloc::Global;
 
 /// The classes in the order of their least members, and the class of each number.

@@ -5,9 +5,10 @@ ghost use Rattle.ar_base.specs.Lists.{IsOneOf};
 ghost use Rattle.flow_blocks.specs.Blocks.{AreBelow};
 ghost use Rattle.flow_blocks.specs.Bits.{HasBit, AreRows, AreDependences, AreClosed, AreAllDependences, room_left};
 
-use crate::rows::{add, empty_rows, set};
+use crate::rows::{add, empty_rows};
 use crate::schedule::schedule;
 use ar_base::Memory;
+use lane_rows::set;
 use std::alloc::Global;
 use std::mem;
 

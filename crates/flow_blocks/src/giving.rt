@@ -12,7 +12,7 @@ ghost use Rattle.flow_blocks.specs.Waits.{Crosses, IsReady, WasGiven, IsWaiting,
 use crate::Block;
 use crate::classing::ClassTable;
 use crate::lists::empty_lists;
-use ar_base::Memory;
+use ar_base::{Memory, numbers_below};
 use std::alloc::Global;
 use std::collections::BTreeSet;
 use std::mem;
@@ -99,19 +99,6 @@ fn is_passed(target: u32, class: u32, given: &[bool]) -> bool
     ensures no { result ≡ false → (target ≢ class) × (WasGiven given.now target → ⊥) }
 {
     target == class || given[target as usize]
-}
-
-/// The numbers below `count`.
-fn numbers_below(alloc: Global, count: usize) -> Result<Vec<u32>, Memory>
-    requires { count < 2 ^ 32 }
-    ensures all { IfOk result (λ v. (n : ℕ) → n < count → IsOneOf v.items n) }
-    ensures below { IfOk result (λ v. (n : ℕ) → IsOneOf v.items n → n < count) }
-{
-    let mut numbers = Vec::new(alloc);
-    for number in 0..count as u32 {
-        numbers.push(number)?;
-    }
-    Ok(numbers)
 }
 
 /// For each class the classes that its members use.

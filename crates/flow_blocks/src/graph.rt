@@ -10,7 +10,7 @@ use ar_base::Memory;
 use std::alloc::Global;
 
 /// Which numbers below `count` depend on which.
-#[derive(Drop, Debug)]
+#[derive(Drop)]
 pub struct Graph {
     /// How many numbers there are: they go from 0.
     pub count: u32,
@@ -19,7 +19,7 @@ pub struct Graph {
 }
 
 /// A class of mutual dependence.
-#[derive(Drop, Debug)]
+#[derive(Drop)]
 pub struct Block {
     /// Its numbers, ascending.
     pub members: Vec<u32>,

@@ -1,14 +1,12 @@
 //! One row of bits for each number.
 
 ghost use Rattle.std.specs.Prelude.{◌≡◌, ℕ, ◌+◌, ◌/◌, ◌≤◌, ◌<◌, ◌⊎◌, ◌↔◌, IsTrue, false, IfOk, length};
-ghost use Rattle.flow_blocks.specs.Bits.{IsSet, HasBit, AreRows, room_of};
+ghost use Rattle.lane_rows.specs.Rows.{IsSet};
+ghost use Rattle.flow_blocks.specs.Bits.{HasBit, AreRows, room_of};
 
 use ar_base::Memory;
-use lane_rows::or_into;
+use lane_rows::{WORD_BITS, or_into};
 use std::alloc::Global;
-
-/// The bits of a word.
-const WORD_BITS: usize = 64;
 
 /// A row of bits for each number, none of them set.
 pub(crate) fn empty_rows(alloc: Global, count: u32) -> Result<Vec<Vec<u64>>, Memory>
@@ -23,16 +21,6 @@ pub(crate) fn empty_rows(alloc: Global, count: u32) -> Result<Vec<Vec<u64>>, Mem
     Ok(rows)
 }
 
-/// Whether a bit is set. Those past the row's end are not.
-pub(crate) fn has(row: &[u64], number: u32) -> bool
-    ensures { IsTrue result ↔ IsSet row.now number }
-{
-    match row.get(number as usize / WORD_BITS) {
-        Some(word) => (*word >> (number as usize % WORD_BITS)) & 1 == 1,
-        None => false,
-    }
-}
-
 /// Adds one row to another, and says whether the other changed.
 pub(crate) fn add(row: &mut [u64], with: &[u64]) -> bool
     requires { length row.old ≡ length with.now }
@@ -42,13 +30,4 @@ pub(crate) fn add(row: &mut [u64], with: &[u64]) -> bool
     ensures no_more { room_of row.new ≤ room_of row.old }
 {
     or_into(row, with)
-}
-
-/// Sets a bit.
-pub(crate) fn set(row: &mut [u64], number: u32)
-    requires { number / 64 < length row.old }
-    ensures { (n : ℕ) → IsSet row.new n ↔ (IsSet row.old n ⊎ (n ≡ number)) }
-{
-    let place = number as usize / WORD_BITS;
-    row[place] |= 1 << (number as usize % WORD_BITS);
 }

@@ -6,7 +6,7 @@ ghost use Rattle.flow_propagate.specs.declared.propagation.PropagateFault.TheVar
 use ar_base::{AssignId, Memory, VarId};
 
 /// Why a state determines no total valuation: the first of these that applies.
-#[derive(Clone, Copy, Debug, PartialEq, Eq)]
+#[derive(Clone, Copy)]
 pub enum FlowFault {
     /// The least flow with two values.
     Two(VarId),
@@ -17,7 +17,7 @@ pub enum FlowFault {
 }
 
 /// Why no total valuation was given.
-#[derive(Clone, Copy, Debug, PartialEq, Eq)]
+#[derive(Clone, Copy)]
 pub enum PropagateFault {
     /// The state determines none.
     Flow(FlowFault),

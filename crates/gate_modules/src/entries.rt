@@ -14,7 +14,7 @@ use std::alloc::Global;
 use zdd_nodes::{NodeId, Store};
 
 /// An entry of a range that has an event of it, and what follows each of its parts.
-#[derive(Clone, Copy, Debug)]
+#[derive(Clone, Copy)]
 pub(crate) struct Reference {
     pub(crate) node: NodeId,
     pub(crate) end: NodeId,

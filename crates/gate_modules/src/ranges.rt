@@ -3,7 +3,7 @@
 use ar_base::{EventId, UnitId};
 
 /// A unit with its events and those of all units within it: the numbers from `from` up to and without `to`.
-#[derive(Clone, Copy, Debug, PartialEq, Eq)]
+#[derive(Clone, Copy)]
 pub struct Range {
     /// The unit.
     pub unit: UnitId,

@@ -9,7 +9,7 @@ use ar_base::EventId;
 use zdd_nodes::{NodeId, Store};
 
 /// Two families that were found to agree: the number of the second, and those of what follows.
-#[derive(Clone, Copy, Debug)]
+#[derive(Clone, Copy)]
 pub(crate) struct Twin {
     pub(crate) to: u32,
     pub(crate) node: NodeId,
@@ -31,7 +31,7 @@ pub(crate) fn no_twin() -> Twin
 }
 
 /// What is asked of two families: the bound, and what follows the events below it, in the first and in the second.
-#[derive(Clone, Copy, Debug)]
+#[derive(Clone, Copy)]
 pub(crate) struct Question {
     pub(crate) to: u32,
     pub(crate) end: NodeId,

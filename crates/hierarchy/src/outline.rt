@@ -3,7 +3,7 @@
 use ar_base::{BodyId, NameId, UnitId};
 
 /// A unit of the tree, before it is known what its names lead to.
-#[derive(Clone, Copy, Debug, PartialEq, Eq)]
+#[derive(Clone, Copy)]
 pub struct Outline {
     /// Its name in the unit above; without meaning in the main block.
     pub name: NameId,

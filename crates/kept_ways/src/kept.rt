@@ -16,7 +16,7 @@ use mode_ways::{WayMode, way_mode};
 use std::alloc::Global;
 
 /// A way of an event that is not dropped.
-#[derive(Clone, Copy, Debug, PartialEq, Eq)]
+#[derive(Clone, Copy)]
 pub struct KeptWay {
     /// The event.
     pub event: EventId,

@@ -1,2 +1,3 @@
 mod Groups
 mod Bits
+mod Single

@@ -1,6 +1,14 @@
 -- Rows of bits, kept as words of 64 bits.
-use Rattle.std.specs.Prelude.{◌≡◌, ◌≢◌, ℕ, ◌<◌, ◌≤◌, ◌⊎◌, Bool, true, false, List, bit_or, slice_index}
+use Rattle.std.specs.Prelude.{◌≡◌, ◌≢◌, ℕ, ◌+◌, ◌/◌, ◌%◌, ◌<◌, ◌≤◌, ◌⊎◌, Bool, true, false, List, bit_or, slice_index}
 use Rattle.std.specs.Int.{bit_at}
+
+-- bit n of a row is set
+abbrev pub IsSet : List ℕ → ℕ → Type 0
+IsSet row n = bit_at (slice_index row (n / 64)) (n % 64) ≡ 1
+
+-- as many words as that many bits take
+abbrev pub words_for : ℕ → ℕ
+words_for count = (count + 63) / 64
 
 -- word k of the or of two rows
 abbrev pub or_at : List ℕ → List ℕ → ℕ → ℕ

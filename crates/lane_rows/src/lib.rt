@@ -1,13 +1,36 @@
-//! Rows of bits: the or of two rows and whether one covers another, some words at a time.
+//! Rows of bits: single bits, and the or of two rows and whether one covers another, some words at a
+//! time.
 #![tactic(auto)]
 
-ghost use Rattle.std.specs.Prelude.{◌≡◌, ◌≢◌, ℕ, ◌+◌, ◌≤◌, ◌<◌, ◌↔◌, ◌||◌, IsTrue, length, slice_index, false};
-ghost use Rattle.lane_rows.specs.Rows.{or_at, Covers, Tells, IsOrBetween, CoversBetween};
+ghost use Rattle.std.specs.Prelude.{◌≡◌, ◌≢◌, ℕ, ◌+◌, ◌/◌, ◌≤◌, ◌<◌, ◌⊎◌, ◌↔◌, ◌||◌, IsTrue, length, slice_index, false};
+ghost use Rattle.lane_rows.specs.Rows.{IsSet, or_at, Covers, Tells, IsOrBetween, CoversBetween};
 
 use std::simd::prelude::*;
 
+/// The bits of a word.
+pub const WORD_BITS: usize = 64;
+
 /// The words that are taken at a time.
 const LANES: usize = 4;
+
+/// Whether a bit is set. Those past the row's end are not. Takes no memory.
+pub fn has(row: &[u64], number: u32) -> bool
+    ensures { IsTrue result ↔ IsSet row.now number }
+{
+    match row.get(number as usize / WORD_BITS) {
+        Some(word) => (*word >> (number as usize % WORD_BITS)) & 1 == 1,
+        None => false,
+    }
+}
+
+/// Sets a bit. Takes no memory.
+pub fn set(row: &mut [u64], number: u32)
+    requires { number / 64 < length row.old }
+    ensures { (n : ℕ) → IsSet row.new n ↔ (IsSet row.old n ⊎ (n ≡ number)) }
+{
+    let place = number as usize / WORD_BITS;
+    row[place] |= 1 << (number as usize % WORD_BITS);
+}
 
 /// Puts the bitwise or of both rows into `row`, and answers whether `row` changed. Takes no memory.
 pub fn or_into(row: &mut [u64], with: &[u64]) -> bool

@@ -33,7 +33,14 @@ fn found(alloc: Global, count: u32, uses: &[(u32, u32)]) -> io::Result<Vec<Block
 }
 
 fn show(rt: &HostRuntime, count: u32, uses: &[(u32, u32)]) -> io::Result<()> {
-    println!(rt; "classes {:?}", found(rt.alloc(), count, uses)?)
+    print!(rt; "classes [")?;
+    for (place, block) in found(rt.alloc(), count, uses)?.iter().enumerate() {
+        if place > 0 {
+            print!(rt; ", ")?;
+        }
+        print!(rt; "Block {{ members: {:?} }}", block.members)?;
+    }
+    println!(rt; "]")
 }
 
 // How many classes and members a chain of numbers has of which each and the next depend on each other.

@@ -5,6 +5,7 @@ ghost use Rattle.domains.specs.declared.Value.TheVariants.{Truth};
 ghost use Rattle.typed_expr.specs.declared.expr.ValueKind.TheVariants as kind;
 
 use crate::no_memory;
+use crate::shown::{option_text, value_text, values_text};
 use domains::Value;
 use std::alloc::{AllocError, Global};
 use std::io;
@@ -91,6 +92,14 @@ fn range(alloc: Global, low: i64, high: i64) -> Result<Vec<Value>, AllocError> {
     Ok(values)
 }
 
+fn kind_name(kind: ValueKind) -> &'static str {
+    match kind {
+        ValueKind::Truth => "Truth",
+        ValueKind::Whole => "Whole",
+        ValueKind::Symbol => "Symbol",
+    }
+}
+
 // Prints the kind, the value and the yields of an expression without variables; a value alone where it has a kind.
 fn show(rt: &HostRuntime, name: &str, expr: Expr<u32>) -> io::Result<()> {
     let table = Table {
@@ -101,7 +110,10 @@ fn show(rt: &HostRuntime, name: &str, expr: Expr<u32>) -> io::Result<()> {
     };
     let yielded = eval_set(rt.alloc(), &expr, &table).map_err(no_memory)?;
     let value = eval_total(&expr, &table);
-    println!(rt; "{name}: {kind:?} {value:?} {:?}", yielded.values())
+    let kind = kind_name(kind);
+    let value = value_text(rt.alloc(), value)?;
+    let values = values_text(rt.alloc(), yielded.values())?;
+    println!(rt; "{name}: {kind} {value} {values}")
 }
 
 // A conjunction and an equality, where the first variable is false and the second has no fact.
@@ -113,10 +125,10 @@ fn show_facts(rt: &HostRuntime) -> io::Result<()> {
     };
     let both = Expr::All(vec![in alloc; Expr::Variable(0), Expr::Variable(1)]?);
     let found = eval_set(alloc, &both, &table).map_err(no_memory)?;
-    println!(rt; "a and b: {:?}", found.values())?;
+    println!(rt; "a and b: {}", values_text(alloc, found.values())?)?;
     let equal = compare(alloc, Relation::Equal, Expr::Variable(0), Expr::Variable(1))?;
     let found = eval_set(alloc, &equal, &table).map_err(no_memory)?;
-    println!(rt; "a == b: {:?}", found.values())
+    println!(rt; "a == b: {}", values_text(alloc, found.values())?)
 }
 
 // How many values a sum of two variables may have, of at most 64, and the least and the greatest of them.
@@ -132,8 +144,9 @@ fn show_possible(rt: &HostRuntime, high: i64) -> io::Result<()> {
         None => println!(rt; "sum up to {high}: more than 64"),
         Some(set) => {
             let values = set.values();
-            let ends = (values.first(), values.last());
-            println!(rt; "sum up to {high}: {} {ends:?}", values.len())
+            let least = option_text(alloc, values.first().copied())?;
+            let most = option_text(alloc, values.last().copied())?;
+            println!(rt; "sum up to {high}: {} ({least}, {most})", values.len())
         }
     }
 }

@@ -5,6 +5,7 @@ ghost use Rattle.zdd_families.specs.Families.{IsAbove};
 ghost use Rattle.zdd_nodes.specs.Nodes.{family, IsNumber};
 
 use ar_base::EventId;
+use std::alloc::{AllocError, Global};
 use std::io;
 use zdd_nodes::{NodeFault, NodeId, Store};
 use zdd_ops::Ops;
@@ -53,27 +54,36 @@ fn results(ops: &mut Ops, f: NodeId, g: NodeId, event: u32) -> Option<[NodeId; 6
     Some([union, meet, minus, without, minimal, having])
 }
 
+// The text of a number of a node, or of its refusal.
+fn node_text(alloc: Global, made: Result<NodeId, NodeFault>) -> Result<String, AllocError> {
+    match made {
+        Ok(node) => format!(in alloc; "Ok({})", node.n),
+        Err(NodeFault::Full) => String::from_str(alloc, "Err(Full)"),
+        Err(NodeFault::Memory) => String::from_str(alloc, "Err(Memory)"),
+    }
+}
+
 // What a store and the operations answer that may hold one node.
 fn show_limit(rt: &HostRuntime) -> io::Result<()> {
     let (none, unit) = (NodeId::new(0), NodeId::new(1));
     let mut store = Store::new(rt.alloc(), 1);
     for event in [0, 0, 1] {
-        let made = store.node(EventId::new(event), none, unit).map(|n| n.n);
-        println!(rt; "node of event {event}: {made:?}")?;
+        let made = node_text(rt.alloc(), store.node(EventId::new(event), none, unit))?;
+        println!(rt; "node of event {event}: {made}")?;
     }
-    let lower = store.node(EventId::new(1), unit, none).map(|n| n.n);
-    println!(rt; "node without an upper half: {lower:?}")?;
+    let lower = node_text(rt.alloc(), store.node(EventId::new(1), unit, none))?;
+    println!(rt; "node without an upper half: {lower}")?;
     println!(rt;
         "nodes {} split of 1 {:?}",
         store.len(),
         store.split(unit).is_some()
     )?;
     let mut ops = Ops::new(rt.alloc(), 1);
-    let first = ops.node(EventId::new(0), none, unit).map(|n| n.n);
+    let first = node_text(rt.alloc(), ops.node(EventId::new(0), none, unit))?;
     let second = ops.node(EventId::new(1), none, unit);
     let is_full = matches!(second, Err(NodeFault::Full));
     println!(rt;
-        "operations: {first:?} full {is_full} nodes {}",
+        "operations: {first} full {is_full} nodes {}",
         ops.into_store().len()
     )
 }

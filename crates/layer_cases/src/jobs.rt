@@ -2,7 +2,7 @@
 
 use crate::no_memory;
 use ar_base::Text;
-use run_words::{Job, JobFault, make_text, read_job};
+use run_words::{Job, JobFault, Verb, make_text, read_job};
 use std::io;
 
 // The text, or a bar where there is none.
@@ -13,11 +13,26 @@ fn shown(text: &Option<Text>) -> &str {
     }
 }
 
+fn verb_name(verb: Verb) -> &'static str {
+    match verb {
+        Verb::Check => "Check",
+        Verb::Flat => "Flat",
+        Verb::Replay => "Replay",
+        Verb::Fragment => "Fragment",
+        Verb::Equations => "Equations",
+        Verb::Cuts => "Cuts",
+        Verb::Make => "Make",
+        Verb::Explain => "Explain",
+        Verb::CheckCuts => "CheckCuts",
+        Verb::Modules => "Modules",
+    }
+}
+
 fn show_job(rt: &HostRuntime, line: &str, job: &Job) -> io::Result<()> {
     let model = job.model.as_str();
     let (script, main, observer) = (shown(&job.script), shown(&job.main), shown(&job.observer));
     let (value, dropped) = (shown(&job.value), shown(&job.dropped));
-    println!(rt; "{line} => {:?}", job.command)?;
+    println!(rt; "{line} => {}", verb_name(job.command))?;
     println!(rt; "  files [{model}] [{script}] main [{main}] observer [{observer}]")?;
     println!(rt;
         "  value [{value}] drop [{dropped}] nodes {} number {}",

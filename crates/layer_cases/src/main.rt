@@ -9,6 +9,7 @@ mod families;
 mod jobs;
 mod names;
 mod rows;
+mod shown;
 mod table_texts;
 
 use ar_base::Memory;

@@ -9,7 +9,7 @@ use mode_forests::Edge;
 use std::alloc::Global;
 
 /// A live edge of a variable.
-#[derive(Clone, Copy, Debug, PartialEq, Eq)]
+#[derive(Clone, Copy)]
 pub struct Live {
     /// The variable.
     pub variable: VarId,

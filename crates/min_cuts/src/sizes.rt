@@ -11,7 +11,7 @@ use std::alloc::Global;
 use zdd_nodes::{NodeId, Store};
 
 /// The counts of a family.
-#[derive(Clone, Copy, Debug, PartialEq, Eq)]
+#[derive(Clone, Copy)]
 pub struct Counted {
     /// How many sets it has, 2^128 - 1 where it has more.
     pub sets: u128,

@@ -10,7 +10,7 @@ use zdd_nodes::{NodeId, Store};
 
 /// One step from a node to its upper half: the event that it takes, and the number of the sets without it, which are
 /// left for later.
-#[derive(Clone, Copy, Debug)]
+#[derive(Clone, Copy)]
 pub(crate) struct Step {
     pub(crate) event: EventId,
     pub(crate) rest: NodeId,

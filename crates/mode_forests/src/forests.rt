@@ -4,7 +4,7 @@ use ar_base::{EventId, VarId, WayId};
 use domains::Value;
 
 /// An edge from one mode of a variable to another, by a way of an event.
-#[derive(Clone, Copy, Debug, PartialEq, Eq)]
+#[derive(Clone, Copy)]
 pub struct Edge {
     /// The mode that it leaves.
     pub from: Value,
@@ -17,7 +17,7 @@ pub struct Edge {
 }
 
 /// The tree of a mode variable.
-#[derive(Debug, Drop)]
+#[derive(Drop)]
 pub struct ModeTree {
     /// The variable.
     pub variable: VarId,
@@ -28,7 +28,7 @@ pub struct ModeTree {
 }
 
 /// The trees of all mode variables.
-#[derive(Debug, Drop)]
+#[derive(Drop)]
 pub struct Forest {
     /// The trees, by the numbers of their variables.
     pub trees: Vec<ModeTree>,

@@ -14,7 +14,7 @@ use std::alloc::Global;
 use typed_expr::Expr;
 
 /// The mode variable of a transition, and whether its guard and its action name this one alone.
-#[derive(Clone, Copy, Debug, PartialEq, Eq)]
+#[derive(Clone, Copy)]
 pub struct WayMode {
     /// The mode variable.
     pub variable: VarId,

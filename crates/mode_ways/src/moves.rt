@@ -20,7 +20,7 @@ use std::alloc::Global;
 use typed_expr::{Env, Expr, ValueKind, ValueSet, eval_set};
 
 /// Where a transition leads from a mode of its mode variable.
-#[derive(Clone, Copy, Debug, PartialEq, Eq)]
+#[derive(Clone, Copy)]
 pub enum Move {
     /// Nowhere: its guard is not true there.
     Still,

@@ -15,7 +15,7 @@ use mode_forests::{Edge, Forest};
 use std::alloc::Global;
 
 /// What stands in a line between its braces.
-#[derive(Clone, Copy, Debug, PartialEq, Eq)]
+#[derive(Clone, Copy)]
 pub(crate) enum Piece {
     /// A unit.
     Unit(UnitId),

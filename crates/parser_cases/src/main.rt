@@ -4,10 +4,12 @@
 #![tactic(auto)]
 
 mod cases;
+mod shown;
 
 use ar_parser::{ParseFault, parse};
 use ar_syntax::{Item, Model, Unit};
 use cases::print_cases;
+use shown::{show_domain, show_member, show_name, show_place};
 use std::{fs, io};
 
 /// The room for the text, in bytes.
@@ -47,16 +49,25 @@ fn print_names(rt: &HostRuntime, model: &Model) -> io::Result<()> {
 
 // Prints the members of a unit.
 fn print_unit(rt: &HostRuntime, kind: &str, unit: &Unit) -> io::Result<()> {
-    println!(rt; "{kind} {:?} at {:?}", unit.name, unit.at)?;
+    print!(rt; "{kind} ")?;
+    show_name(rt, unit.name)?;
+    print!(rt; " at ")?;
+    show_place(rt, unit.at)?;
+    println!(rt; "")?;
     for member in &unit.members {
-        println!(rt; "  {member:?}")?;
+        print!(rt; "  ")?;
+        show_member(rt, member)?;
+        println!(rt; "")?;
     }
     Ok(())
 }
 
 fn print_item(rt: &HostRuntime, item: &Item) -> io::Result<()> {
     match item {
-        Item::Domain(domain) => println!(rt; "{domain:?}"),
+        Item::Domain(domain) => {
+            show_domain(rt, domain)?;
+            println!(rt; "")
+        }
         Item::Class(unit) => print_unit(rt, "class", unit),
         Item::Block(unit) => print_unit(rt, "block", unit),
     }
@@ -67,7 +78,9 @@ fn print_model(rt: &HostRuntime, model: &Model) -> io::Result<()> {
     for item in &model.items {
         print_item(rt, item)?;
     }
-    println!(rt; "end {:?}", model.end)
+    print!(rt; "end ")?;
+    show_place(rt, model.end)?;
+    println!(rt; "")
 }
 
 // Prints the tree of the model of two pumps.
@@ -79,7 +92,7 @@ fn print_plant(rt: &HostRuntime) -> io::Result<()> {
     match parse(rt.alloc(), &text) {
         Ok(model) => print_model(rt, &model),
         Err(ParseFault::Memory) => Err(io::Error::from(io::ErrorKind::OutOfMemory)),
-        Err(fault) => println!(rt; "{fault:?}"),
+        Err(_) => println!(rt; "the model of two pumps is refused"),
     }
 }
 

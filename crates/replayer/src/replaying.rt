@@ -22,7 +22,7 @@ use std::alloc::Global;
 use stepper::Stepper;
 
 /// How a run ends.
-#[derive(Clone, Copy, Debug, PartialEq, Eq)]
+#[derive(Clone, Copy)]
 pub enum End {
     /// At the end of its commands.
     Done,
@@ -31,7 +31,7 @@ pub enum End {
 }
 
 /// Why a replay was broken off.
-#[derive(Clone, Copy, Debug, PartialEq, Eq)]
+#[derive(Clone, Copy)]
 pub enum ReplayFault {
     /// The sink failed.
     Write,

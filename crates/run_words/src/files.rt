@@ -18,7 +18,7 @@ const LEAST_COMPONENTS: u32 = 1;
 const MOST_COMPONENTS: u32 = 200;
 
 // The files, or the number of components.
-#[derive(Debug, Drop)]
+#[derive(Drop)]
 pub struct Named {
     pub model: Text,
     pub script: Option<Text>,

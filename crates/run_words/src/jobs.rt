@@ -8,7 +8,7 @@ use ar_base::Text;
 use std::alloc::{AllocError, AllocFailed};
 
 /// What the program is to do.
-#[derive(Debug, Drop)]
+#[derive(Drop)]
 pub struct Job {
     /// The command.
     pub command: Verb,
@@ -32,7 +32,7 @@ pub struct Job {
 }
 
 /// Why words give no job.
-#[derive(Clone, Copy, Debug, PartialEq, Eq)]
+#[derive(Clone, Copy)]
 pub enum JobFault {
     /// The words are no job.
     Usage,

@@ -5,7 +5,7 @@ ghost use Rattle.run_words.specs.declared.verbs.Verb.{Verb as Verbs};
 ghost use Rattle.run_words.specs.Jobs.{word_of, form_of, takes_main, takes_observer, needs_observer, takes_value, takes_nodes, takes_drop};
 
 /// A command of the program.
-#[derive(Clone, Copy, Debug, PartialEq, Eq)]
+#[derive(Clone, Copy)]
 pub enum Verb {
     /// `check`: says what the model has, or the rule that it breaks.
     Check,
@@ -30,7 +30,7 @@ pub enum Verb {
 }
 
 // What stands behind the command.
-#[derive(Clone, Copy, Debug, PartialEq, Eq)]
+#[derive(Clone, Copy)]
 pub enum Form {
     // The name of the model's file.
     Model,

@@ -15,7 +15,7 @@ use hierarchy::Tree;
 use std::alloc::{AllocFailed, Global};
 
 /// A command of a script.
-#[derive(Clone, Copy, Debug, PartialEq, Eq)]
+#[derive(Clone, Copy)]
 pub enum Command {
     /// Fires a way.
     Fire(WayId),
@@ -28,7 +28,7 @@ pub enum Command {
 }
 
 /// Why a script gives no commands. Lines count from 1.
-#[derive(Clone, Copy, Debug, PartialEq, Eq)]
+#[derive(Clone, Copy)]
 pub enum ScriptFault {
     /// The line is no command.
     Line(u32),

@@ -6,7 +6,7 @@ ghost use Rattle.static_fragment.specs.declared.faults.FragmentFault.TheVariants
 use ar_base::{EventId, Memory, UnitId, VarId};
 
 /// What a broken rule is shown with.
-#[derive(Clone, Copy, Debug, PartialEq, Eq)]
+#[derive(Clone, Copy)]
 pub enum Spot {
     /// An event.
     Event(EventId),
@@ -21,7 +21,7 @@ pub enum Spot {
 }
 
 /// Why there is no forest.
-#[derive(Clone, Copy, Debug, PartialEq, Eq)]
+#[derive(Clone, Copy)]
 pub enum FragmentFault {
     /// The rule of this number is broken, and each lesser one is kept. It is shown with the first
     /// thing that breaks it.

@@ -7,7 +7,7 @@ use ar_base::{Memory, VarId};
 use flow_propagate::FlowFault;
 
 /// Why a way was not fired: the first of these that applies.
-#[derive(Clone, Copy, Debug, PartialEq, Eq)]
+#[derive(Clone, Copy)]
 pub enum StepFault {
     /// The way cannot fire.
     NotEnabled,
@@ -30,5 +30,5 @@ impl From<Memory> for StepFault {
 }
 
 /// No step stands that could be taken back.
-#[derive(Clone, Copy, Debug, PartialEq, Eq)]
+#[derive(Clone, Copy)]
 pub struct NoStep {}

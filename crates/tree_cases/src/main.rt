@@ -5,7 +5,7 @@
 mod made;
 mod texts;
 
-use ar_base::{NameId, RuleFault, UnitId};
+use ar_base::{Count, NameId, RuleFault, UnitId};
 use ar_parser::parse;
 use class_table::table;
 use hierarchy::{Attribute, MemNode, ParNode, Source, Tree, UnitNode, VarNode};
@@ -124,10 +124,21 @@ fn print_counts(rt: &HostRuntime, tree: &Tree) -> io::Result<()> {
     )
 }
 
+fn count_name(count: Count) -> &'static str {
+    match count {
+        Count::Depth => "Depth",
+        Count::Units => "Units",
+        Count::Variables => "Variables",
+        Count::Events => "Events",
+        Count::TreeNodes => "TreeNodes",
+        _ => "another count",
+    }
+}
+
 fn print_refusal(rt: &HostRuntime, fault: RuleFault) -> io::Result<()> {
     match fault {
         RuleFault::Rule(rule, at) => println!(rt; "rule L{rule} at {}:{}", at.line, at.column),
-        RuleFault::Limit(count) => println!(rt; "limit {count:?}"),
+        RuleFault::Limit(count) => println!(rt; "limit {}", count_name(count)),
         RuleFault::Memory => Err(no_memory()),
     }
 }

@@ -6,7 +6,7 @@ ghost use Rattle.tree_equations.specs.Faults.{fault_of};
 use eq_build::BuildFault;
 
 /// Why there is no table.
-#[derive(Clone, Copy, Debug, PartialEq, Eq)]
+#[derive(Clone, Copy)]
 pub enum EqFault {
     /// The table has more gates than a table may have.
     Gates,

@@ -3,7 +3,7 @@
 use domains::Value;
 
 /// How a comparison relates its two operands.
-#[derive(Clone, Copy, Debug, PartialEq, Eq)]
+#[derive(Clone, Copy)]
 pub enum Relation {
     Equal,
     Differs,
@@ -14,7 +14,7 @@ pub enum Relation {
 }
 
 /// The kind of a value: a truth value, a whole number or a symbol.
-#[derive(Clone, Copy, Debug, PartialEq, Eq)]
+#[derive(Clone, Copy)]
 pub enum ValueKind {
     Truth,
     Whole,
@@ -27,7 +27,7 @@ pub enum ValueKind {
 /// A sum is folded from 0 and a product from 1, from left to right, with clamping at each step.
 /// `Least` and `Greatest` give an operand's value, `Count` the number of true operands. `Choose`
 /// takes the value of the first case whose test is true, and else that of its last expression.
-#[derive(Debug, Drop)]
+#[derive(Drop)]
 pub enum Expr<V> {
     Constant(Value),
     Variable(V),

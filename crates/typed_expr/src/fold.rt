@@ -9,7 +9,7 @@ use domains::{Value, add, multiply, subtract};
 
 // How an operand goes into a fold: a part of a sum, added or subtracted, or an operand of another
 // fold.
-#[derive(Clone, Copy, Debug, PartialEq, Eq)]
+#[derive(Clone, Copy)]
 pub(crate) enum Step {
     Part(bool),
     Times,

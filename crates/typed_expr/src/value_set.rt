@@ -31,7 +31,7 @@ impl Model for ValueSet {
 }
 
 // Why a set was not made.
-#[derive(Clone, Copy, Debug, PartialEq, Eq)]
+#[derive(Clone, Copy)]
 pub(crate) enum Stop {
     TooMany,
     NoMemory,

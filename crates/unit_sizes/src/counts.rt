@@ -5,7 +5,7 @@ ghost use Rattle.class_table.specs.Members.{NamedMember};
 ghost use Rattle.unit_sizes.specs.Counting.{capped, AreCounts};
 
 /// How many variables, events and nodes there are, each no greater than the machine's greatest number.
-#[derive(Clone, Copy, Debug, PartialEq, Eq)]
+#[derive(Clone, Copy)]
 pub(crate) struct Counts {
     pub variables: u64,
     pub events: u64,

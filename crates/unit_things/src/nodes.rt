@@ -23,7 +23,7 @@ use unit_settings::owned_at;
 use unit_sizes::TypePlaces;
 
 /// Which things are listed.
-#[derive(Clone, Copy, Debug, PartialEq, Eq)]
+#[derive(Clone, Copy)]
 pub(crate) enum Listed {
     Variables,
     Parameters,

@@ -18,7 +18,7 @@ use std::alloc::Global;
 use std::collections::HashMap;
 
 /// What a name leads to in a unit.
-#[derive(Clone, Copy, Debug, PartialEq, Eq)]
+#[derive(Clone, Copy)]
 pub enum Led {
     /// A unit, by its number among the units depth first.
     Unit(UnitId),

@@ -14,7 +14,7 @@ use script_lines::names_of;
 use std::alloc::Global;
 
 /// An observer, and a value of its type.
-#[derive(Clone, Copy, Debug, PartialEq, Eq)]
+#[derive(Clone, Copy)]
 pub struct Wanted {
     /// The observer's number, from 0.
     pub observer: u32,
@@ -23,7 +23,7 @@ pub struct Wanted {
 }
 
 /// Why words ask for no value of an observer.
-#[derive(Clone, Copy, Debug, PartialEq, Eq)]
+#[derive(Clone, Copy)]
 pub enum WantedFault {
     /// The path names no observer.
     NoObserver,

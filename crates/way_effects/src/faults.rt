@@ -6,7 +6,7 @@ ghost use Rattle.way_effects.specs.declared.faults.ReceiveFault.TheVariants as f
 use ar_base::{Memory, VarId};
 
 /// Why nothing is received: the first of these that applies.
-#[derive(Clone, Copy, Debug, PartialEq, Eq)]
+#[derive(Clone, Copy)]
 pub enum ReceiveFault {
     /// The least variable that receives two different values.
     Clash(VarId),

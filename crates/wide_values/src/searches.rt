@@ -19,7 +19,7 @@ use std::alloc::Global;
 use typed_expr::{Expr, possible_values};
 
 /// A flow or an observer with too many possible values.
-#[derive(Clone, Copy, Debug, PartialEq, Eq)]
+#[derive(Clone, Copy)]
 pub enum Wide {
     /// The flow of this number.
     Flow(u32),

@@ -17,14 +17,14 @@ use std::collections::HashMap;
 use std::marker::Model;
 
 /// The kind of families.
-#[derive(Clone, Copy, Debug, PartialEq, Eq, Hash)]
+#[derive(Clone, Copy, PartialEq, Eq, Hash)]
 pub struct NodeKind {}
 
 /// The number of a family: 0 is the empty family, 1 the family of the empty set, and the others are nodes.
 pub type NodeId = Id<NodeKind>;
 
 /// A node: its event, the number of its sets without the event, and that of its sets with the event, which is taken off.
-#[derive(Clone, Copy, Debug, PartialEq, Eq, Hash)]
+#[derive(Clone, Copy, PartialEq, Eq, Hash)]
 struct Node {
     event: EventId,
     lo: NodeId,
@@ -32,7 +32,7 @@ struct Node {
 }
 
 /// Why a family got no number.
-#[derive(Clone, Copy, Debug, PartialEq, Eq)]
+#[derive(Clone, Copy)]
 pub enum NodeFault {
     /// The family needs a new node, and the store has its limit of nodes.
     Full,

@@ -9,7 +9,7 @@ use ar_base::EventId;
 use zdd_nodes::{NodeId, Store};
 
 /// The least event of two families, and the halves of both at it. A family without the event is its own lower half.
-#[derive(Clone, Copy, Debug)]
+#[derive(Clone, Copy)]
 pub struct Cut {
     /// The least event.
     pub event: EventId,
@@ -101,7 +101,7 @@ pub fn pass(store: &Store, f: NodeId, g: NodeId) -> NodeId
 }
 
 /// Two families that an operation is made of.
-#[derive(Clone, Copy, Debug)]
+#[derive(Clone, Copy)]
 pub struct Operands {
     /// The first.
     pub f: NodeId,

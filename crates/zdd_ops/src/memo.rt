@@ -11,7 +11,7 @@ use std::marker::Model;
 use zdd_nodes::NodeId;
 
 /// An operation that goes set by set.
-#[derive(Clone, Copy, Debug, PartialEq, Eq, Hash)]
+#[derive(Clone, Copy, PartialEq, Eq, Hash)]
 pub enum Join {
     /// The sets of either.
     Union,
@@ -22,7 +22,7 @@ pub enum Join {
 }
 
 /// An operation with its operands.
-#[derive(Clone, Copy, Debug, PartialEq, Eq, Hash)]
+#[derive(Clone, Copy, PartialEq, Eq, Hash)]
 pub enum Operation {
     /// The join of two families.
     Joined(Join, NodeId, NodeId),

@@ -1,6 +1,6 @@
 -- Both rows are those of the numbers.
 use Rattle.std.proofs.Common.{ℕ, List, sym, ◌∙◌, subst, true≢false}
-use Rattle.flow_blocks.specs.Bits.{IsSet}
+use Rattle.lane_rows.specs.Rows.{IsSet}
 use Rattle.flow_blocks.proofs.RowLemmas.{row_taken}
 use Rattle.flow_blocks.proofs.classing.are_mutual.Goals as goal
 

@@ -2,7 +2,8 @@
 use Rattle.std.proofs.Common.{◌≡◌, ℕ, ◌+◌, ◌<◌, ◌↔◌, ◌⊎◌, List, length, set, sym, ap, ◌∙◌, subst, arith, inr}
 use Rattle.std.specs.Vec.{with_items}
 use Rattle.std.proofs.lemmas.List.{length-set}
-use Rattle.flow_blocks.specs.Bits.{row_of, IsSet, HasBit, AreRows, room_of, room_left}
+use Rattle.lane_rows.specs.Rows.{IsSet}
+use Rattle.flow_blocks.specs.Bits.{row_of, HasBit, AreRows, room_of, room_left}
 use Rattle.flow_blocks.proofs.RowLemmas.{Row, row_got, row_taken, row_set_other, rows_again, more_again, room_again, items_over}
 use Rattle.flow_blocks.proofs.closing.join.Goals as goal
 

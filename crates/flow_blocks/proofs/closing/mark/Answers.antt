@@ -1,7 +1,8 @@
 -- The row of one number has one more bit.
 use Rattle.std.proofs.Common.{◌≡◌, ℕ, ◌<◌, ◌↔◌, ◌⊎◌, List, length, get_or, sym, ap, ◌∙◌, subst, arith}
 use Rattle.std.specs.Vec.{with_items}
-use Rattle.flow_blocks.specs.Bits.{IsSet, HasBit, AreRows, words_for}
+use Rattle.lane_rows.specs.Rows.{IsSet, words_for}
+use Rattle.flow_blocks.specs.Bits.{HasBit, AreRows}
 use Rattle.flow_blocks.proofs.RowLemmas.{Row, row_got, rows_set, has_more, items_over}
 use Rattle.flow_blocks.proofs.closing.mark.Goals as goal
 

@@ -4,7 +4,8 @@ use Rattle.ar_base.specs.Lists.{Stands}
 use Rattle.ar_base.proofs.Standing.{stands_get, stands_map}
 use Rattle.eq_core.specs.Ordered.{AreBelow}
 use Rattle.eq_core.specs.Values.{values_at, joint_at}
-use Rattle.eq_core.specs.Views.{gate_of, numbers_of}
+use Rattle.ar_base.specs.Numbers.{numbers_of}
+use Rattle.eq_core.specs.Views.{gate_of}
 use Rattle.eq_core.specs.declared.joints.Gate as flat
 use Rattle.eq_core.proofs.Telling.{place_below, values_next}
 use Rattle.eq_core.proofs.joints.Equations.value.Goals as goal

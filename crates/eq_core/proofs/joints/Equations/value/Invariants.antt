@@ -1,6 +1,7 @@
 use Rattle.std.proofs.Common.{◌≡◌, map, take}
 use Rattle.eq_core.specs.Values.{values_at}
-use Rattle.eq_core.specs.Views.{gate_of, numbers_of}
+use Rattle.ar_base.specs.Numbers.{numbers_of}
+use Rattle.eq_core.specs.Views.{gate_of}
 use Rattle.eq_core.proofs.joints.Equations.value.Given as goal
 
 abbrev pub invariant-loop-n : goal.invariant-loop-n

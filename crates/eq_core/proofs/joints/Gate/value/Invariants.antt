@@ -1,6 +1,7 @@
 use Rattle.std.proofs.Common.{◌≡◌, map, drop}
 use Rattle.eq_core.specs.Values.{joint_at}
-use Rattle.eq_core.specs.Views.{all_needed, operand_of, numbers_of}
+use Rattle.ar_base.specs.Numbers.{numbers_of}
+use Rattle.eq_core.specs.Views.{all_needed, operand_of}
 use Rattle.eq_core.proofs.joints.Gate.value.Given as goal
 
 abbrev pub invariant-loop-operand : goal.invariant-loop-operand

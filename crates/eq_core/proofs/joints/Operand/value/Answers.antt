@@ -1,7 +1,8 @@
 use Rattle.std.proofs.Common.{sym, ap, ◌∙◌}
 use mathlib.Core.Bool.{beq}
 use Rattle.eq_core.specs.Values.{operand_at}
-use Rattle.eq_core.specs.Views.{numbers_of, operand_of}
+use Rattle.ar_base.specs.Numbers.{numbers_of}
+use Rattle.eq_core.specs.Views.{operand_of}
 use Rattle.eq_core.proofs.Valuing.{compared, found, read_at}
 use Rattle.eq_core.proofs.joints.Operand.value.Goals as goal
 

@@ -1,6 +1,6 @@
 //! The texts of the cases, each with the name of the main block that is asked for, or none.
 
-pub(crate) const CASES: [(&str, &str); 50] = [
+pub(crate) const CASES: [(&str, &str); 53] = [
     ("domain N [0, 256] block B end", ""),
     ("domain N [0, 255] block B end", ""),
     ("domain N [-3, 3] block B end", ""),
@@ -27,6 +27,9 @@ pub(crate) const CASES: [(&str, &str); 50] = [
     ),
     ("class A B x; end class B extends B; end block M end", ""),
     ("class A extends A; extends A; end block M end", ""),
+    ("class A extends A; block b extends A; end end", ""),
+    ("class A block b A x; end extends A; end block M end", ""),
+    ("class A block b extends B; end end class B A x; B y; end", ""),
     ("block B event e, e; end", ""),
     ("class C event e; end block B extends C; event e; end", ""),
     ("block B event e; extends C; end class C event e; end", ""),

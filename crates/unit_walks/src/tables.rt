@@ -12,7 +12,8 @@ use ar_syntax::PathStart;
 use std::alloc::Global;
 use std::collections::HashMap;
 
-/// How many names in units are looked at, at most. A model within the limits has fewer.
+/// How many names in units are looked at, at most, and how many units are met but for the main block. A model within
+/// the limits has fewer.
 const MOST_KNOWN: u32 = 16_777_216;
 
 /// A unit that a walk has come to.
@@ -119,11 +120,12 @@ impl Table {
     pub(crate) fn meet(&mut self, unit: Met) -> Result<u32, Memory>
         ensures { IfOk result (IsGrown self.old self.new unit) }
     {
-        let Ok(number) = u32::try_from(self.units.len()) else {
+        let place = self.units.len();
+        if place > MOST_KNOWN as usize {
             return Err(Memory {});
-        };
+        }
         self.units.push(unit)?;
-        Ok(number)
+        Ok(place as u32)
     }
 
     /// The unit of a number.
@@ -133,44 +135,39 @@ impl Table {
         self.units.get(number as usize).copied()
     }
 
-    /// Whether the unit or one above it has the body.
-    pub(crate) fn has_body(&self, unit: u32, body: BodyId) -> Result<bool, Memory>
+    /// Whether the unit or one above it has the body. A unit stands behind the one above it, so that the way up ends.
+    pub(crate) fn has_body(&self, unit: u32, body: BodyId) -> bool
         ensures { (m : RootedModel) (frames : List Walk) (u : UnitPath) → IsTable m frames self.now
-            → Stands (paths_of self.now) unit u
-            → IfOk result (λ r. r ≡ has (bodies_of m u) body.n) }
+            → Stands (paths_of self.now) unit u → result ≡ has (bodies_of m u) body.n }
     {
         let mut at = unit;
-        'up: loop {
+        for _level in 0..self.units.len() {
             let Some(met) = self.unit(at) else {
-                return Err(Memory {});
+                return false;
             };
             if met.body.n == body.n {
-                return Ok(true);
+                return true;
             }
-            match met.owner {
-                None => return Ok(false),
-                Some(above) => {
-                    if above >= at {
-                        return Err(Memory {});
-                    }
-                    at = above;
-                }
-            }
+            let Some(above) = met.owner else {
+                return false;
+            };
+            at = above;
         }
+        false
     }
 
     /// Where a path begins that is read in the unit.
-    pub(crate) fn start(&self, start: PathStart, unit: u32) -> Result<Option<u32>, Memory>
+    pub(crate) fn start(&self, start: PathStart, unit: u32) -> Option<u32>
         ensures { (m : RootedModel) (frames : List Walk) (u : UnitPath) → IsTable m frames self.now
             → Stands (paths_of self.now) unit u
-            → IfOk result (λ o. StandsIf (paths_of self.now) o (start_of start u)) }
+            → StandsIf (paths_of self.now) result (start_of start u) }
     {
         match start {
-            PathStart::Here => Ok(Some(unit)),
-            PathStart::Main => Ok(Some(0)),
+            PathStart::Here => Some(unit),
+            PathStart::Main => Some(0),
             PathStart::Owner => match self.unit(unit) {
-                None => Err(Memory {}),
-                Some(met) => Ok(met.owner),
+                None => None,
+                Some(met) => met.owner,
             },
         }
     }

@@ -44,9 +44,9 @@ fn copy<'a>(table: &mut Table, top: &Frame) -> Result<Step<'a>, Memory>
     ensures weighs { IfOk result (Weighs top.now table.old table.new) }
 {
     let Some(target) = table.unit(top.at) else {
-        return Err(Memory {});
+        return answer(table, top, Known::Nothing);
     };
-    if table.has_body(top.unit, target.body)? {
+    if table.has_body(top.unit, target.body) {
         return answer(table, top, Known::Loops);
     }
     let unit = table.meet(Met {
@@ -91,7 +91,7 @@ fn follow<'a>(
         (IsStatementStep top.now name.n is_clone path.now table.old table.new) }
     ensures weighs { IfOk result (Weighs top.now table.old table.new) }
 {
-    match table.start(path.start, top.at)? {
+    match table.start(path.start, top.at) {
         None => {
             table.add(top.at, name, Known::Nothing)?;
             Ok(Step::On(*top))
@@ -120,7 +120,7 @@ fn look<'a>(
     ensures weighs { IfOk result (Weighs top.now table.old table.new) }
 {
     let Some(here) = table.unit(top.at) else {
-        return Err(Memory {});
+        return answer(table, top, Known::Nothing);
     };
     match forms.form(here.body, name) {
         None => answer(table, top, Known::Nothing),
@@ -221,7 +221,7 @@ fn statement(
         → Stands (paths_of table.old) unit u → IsStatement path.now is_clone (kind_at m u name.n)
         → IfOk result (IsKnown m table.old table.new unit name.n) }
 {
-    match table.start(path.start, unit)? {
+    match table.start(path.start, unit) {
         None => {
             table.add(unit, name, Known::Nothing)?;
             Ok(Known::Nothing)
@@ -254,7 +254,7 @@ fn discover(
         → IfOk result (IsKnown m table.old table.new unit name.n) }
 {
     let Some(here) = table.unit(unit) else {
-        return Err(Memory {});
+        return Ok(Known::Nothing);
     };
     match forms.form(here.body, name) {
         None => Ok(Known::Nothing),

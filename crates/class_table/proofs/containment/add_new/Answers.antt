@@ -16,7 +16,7 @@ loop-owned-preserved c = λ d known h.
     let k = c.loop-owned.invariant d known h in
     subst (λ (os : List Owned). Opens d os c.args.opened.now.items c.add_inside.new.opened.items c.add_inside.new.seen)
     (sym e)
-    (opens_next d _ _ _ _ _ _ _ k (c.in_ok-add_inside.ensures d known k.is_seen))
+    (opens_next d _ _ _ _ _ _ _ c.add_inside.auto.seen k (c.in_ok-add_inside.ensures d known k.is_seen))
 
 pub returns : goal.returns
 returns c = λ d known h.

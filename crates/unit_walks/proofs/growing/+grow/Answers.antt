@@ -1,9 +1,10 @@
 use Rattle.std.proofs.Common.{[], refl, sym, ◌∙◌, arith}
 use Rattle.std.proofs.lemmas.Result.{err_from_is_err_and}
+use Rattle.class_table.proofs.MemberNames.{none_of}
 use Rattle.hierarchy.specs.Units.{names_at}
 use Rattle.unit_walks.specs.Forms.{only_units}
 use Rattle.unit_walks.specs.declared.growing.Node.{Node}
-use Rattle.unit_walks.proofs.TableSteps.{met_there}
+use Rattle.unit_walks.proofs.TableSteps.{met_there, unit_there}
 use Rattle.unit_walks.proofs.Running.{on_ok}
 use Rattle.unit_walks.proofs.Fronts.{fronts_none, fronts_passed, fronts_grown, fronts_over, fronts_all, unit_grown, unit_many, unit_deep, unit_over, name_there, names_length, made_depth, outline_of, if_limit}
 use Rattle.unit_walks.proofs.growing.+grow.Goals.{grow_insides-in-None, grow_insides-in-Some-2+in_ok-grow_unit-in-Some-2}
@@ -77,6 +78,18 @@ grow_unit-returns-then-room-eq0-clause-limit t c = λ m u f k p d. unit_deep m u
 pub grow_unit-returns-then-at-ge16384-clause-limit : goal.grow_unit-returns-then-at-ge16384-clause-limit
 grow_unit-returns-then-at-ge16384-clause-limit t c = λ m u f k p d. unit_many m u c.args.owner c.args.nodes.now.items (let h = c.requires in let e = c.len-at.ensures ∙ c.args.nodes.now.ok.0 in let z = c.if-at-ge16384.true in omega (arith, h, e, z))
     (let z = c.if-room-eq0.false in omega (arith, d, z))
+
+pub grow_insides-returns-in_default-clause-ok : goal.grow_insides-returns-in_default-clause-ok
+grow_insides-returns-in_default-clause-ok t c = λ m u f k p b d.
+    let none = none_of c.list.result c.in_default.not-Some in
+    let e = names_length m c.args.forms.now u c.args.node.outline.body.n [] f b (rw none at c.list.ensures) in
+    fronts_all m c.args.table.now c.args.table.now c.args.nodes.now.items c.args.nodes.now.items u c.args.at.n
+    0 (omega (arith, e))
+    (fronts_none m c.args.table.now c.args.nodes.now.items u c.args.at.n (only_units (names_at m u)) k)
+
+pub grow_unit-returns-in_default-clause-ok : goal.grow_unit-returns-in_default-clause-ok
+grow_unit-returns-in_default-clause-ok t c = λ m u f k p d. absurd (unit_there m [] c.args.table.now k c.args.unit u p
+    (sym (none_of c.unit.result c.in_default.not-Some) ∙ c.unit.ensures))
 
 pub grow_unit-returns-clause-ok : goal.grow_unit-returns-clause-ok
 grow_unit-returns-clause-ok t c = λ m u f k p d.

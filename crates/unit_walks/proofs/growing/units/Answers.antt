@@ -1,5 +1,6 @@
-use Rattle.std.proofs.Common.{[], ◌∙◌, ap, arith}
+use Rattle.std.proofs.Common.{[], ◌∙◌, ap, length, arith}
 use Rattle.std.proofs.lemmas.Result.{err_from_is_err_and}
+use Rattle.std.proofs.lemmas.List.{length-map}
 use Rattle.unit_walks.specs.Unfolding.{memory}
 use Rattle.std.proofs.Common.{map}
 use Rattle.unit_walks.specs.declared.growing.Node.{Node}
@@ -32,3 +33,10 @@ returns-clause-ok c = λ m k.
     unfolded m c.in_ok-table.table c.new-nodes.result.items _ c.new-nodes.ensures.items c.in_ok-grow_unit.ensures.small
     (c.in_ok-outlines.ensures ∙ ap (map (λ (n : Node). n.outline)) c.deref.ensures.value) f
     (c.in_ok-grow_unit.ensures.ok m [] f t t.main (omega (arith, z)))
+
+pub returns-clause-few : goal.returns-clause-few
+returns-clause-few c =
+    let small = c.in_ok-grow_unit.ensures.small in
+    let many = ap length (c.in_ok-outlines.ensures ∙ ap (map (λ (n : Node). n.outline)) c.deref.ensures.value)
+    ∙ length-map _ _ in
+    (omega arith, small)

@@ -1,4 +1,4 @@
-use Rattle.std.proofs.Common.{◌∙◌, ap, arith}
+use Rattle.std.proofs.Common.{ap, arith}
 use Rattle.std.specs.Map.{lookup}
 use Rattle.ar_base.proofs.Standing.{along_length}
 use Rattle.unit_walks.specs.Forms.{same_pair}
@@ -16,8 +16,8 @@ pub loop-place-preserved : goal.loop-place-preserved
 loop-place-preserved c = λ m units f t d.
     let w = c.loop-place.invariant m units f t d in
     settled_step m units c.args.table.now c.loop-place.table c.settle_unit.new.table c.args.nodes.now c.loop-place.place
-    c.new-in-loop-place.result.n _ c.in_ok-ids.ids c.loop-place.walks c.settle_unit.new.walks c.loop-place-test.true
-    (c.new-in-loop-place.ensures ∙ c.in-Ok.ensures.1) d
+    c.new-at.result.n _ c.in_ok-ids.ids c.loop-place.walks c.settle_unit.new.walks c.loop-place-test.true
+    c.new-at.ensures d
     (λ u p b q a s. c.in_ok-settle_unit.ensures m units u f w.run.table p b q a s) w
 
 pub returns : goal.returns

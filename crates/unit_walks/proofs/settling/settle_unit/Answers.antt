@@ -1,4 +1,5 @@
-use Rattle.std.proofs.Common.{sym, arith}
+use Rattle.std.proofs.Common.{[], sym, arith}
+use Rattle.class_table.proofs.MemberNames.{none_of}
 use Rattle.unit_walks.proofs.Outcomes.{settling_start, settling_more, settles_unit}
 use Rattle.unit_walks.proofs.Fronts.{name_there, names_length}
 use Rattle.unit_walks.proofs.settling.settle_unit.Goals as goal
@@ -17,6 +18,14 @@ loop-named-preserved c = λ m units u f t p b q a s.
     c.loop-named.table c.led_from.new.table c.args.ids.now c.loop-named.walks c.keep.new.self u n.member
     c.in_ok-led.led w d c.in_ok-keep.ensures q
     n.stands (sym n.is_name.name)
+
+pub returns-in_default : goal.returns-in_default
+returns-in_default c = λ m units u f t p b q a s.
+    let none = none_of c.list.result c.in_default.not-Some in
+    let e = names_length m c.args.forms.now u c.args.node.outline.body.n [] f b (rw none at c.list.ensures) in
+    settles_unit m units c.args.at.n 0 c.args.table.now c.args.table.now c.args.ids.now u
+    c.args.walks.now q (omega (arith, e)) (settling_start m units c.args.at.n 0 c.args.table.now c.args.ids.now
+    c.args.walks.now t a s)
 
 pub returns : goal.returns
 returns c = λ m units u f t p b q a s.

@@ -1,8 +1,14 @@
-use Rattle.std.proofs.Common.{◌≡◌, Some, refl, sym, ◌∙◌, ap}
+use Rattle.std.proofs.Common.{◌≡◌, [], Some, refl, sym, ◌∙◌, ap}
 use Rattle.unit_walks.specs.Forms.{form_at}
 use Rattle.unit_walks.specs.declared.forms.UnitForm.TheVariants as form
 use Rattle.unit_walks.proofs.Running.{fresh_absent, fresh_inner, fresh_clone, fresh_alias}
+use Rattle.class_table.proofs.MemberNames.{none_of}
+use Rattle.unit_walks.proofs.TableSteps.{unit_there}
 use Rattle.unit_walks.proofs.walking.discover.Goals as goal
+
+pub returns-in_default : goal.returns-in_default
+returns-in_default c = λ m u f t p. absurd (unit_there m [] c.args.table.now t c.args.unit u p
+    (sym (none_of c.unit.result c.in_default.not-Some) ∙ c.unit.ensures))
 
 pub returns-in-None : goal.returns-in-None
 returns-in-None c = λ m u f t p. fresh_absent m c.args.forms.now c.args.table.now c.args.unit u c.in-Some.here

@@ -9,11 +9,11 @@ returns-in_ok-add-in-None-clause-step c =
     follow_nowhere c.args.top.now c.args.table.now c.add.new.self c.args.name.n c.args.is_clone c.args.path.now
     c.in_ok-add-in-None.ensures.set (λ s frames u t p. subst
     (λ o. StandsIf (paths_of c.args.table.now) o (start_of c.args.path.now.start u)) c.in-None.is
-    (c.in_ok-start.ensures s frames u t p))
+    (c.start.ensures s frames u t p))
 
 pub returns-in_ok-add-in-Some-clause-step : goal.returns-in_ok-add-in-Some-clause-step
 returns-in_ok-add-in-Some-clause-step c =
     follow_into c.args.top.now _ c.args.table.now _ c.args.name.n c.args.is_clone c.args.path.now
     c.in_ok-add-in-Some.ensures.set (λ s frames u t p. subst
     (λ o. StandsIf (paths_of c.args.table.now) o (start_of c.args.path.now.start u)) c.in-Some.is
-    (c.in_ok-start.ensures s frames u t p)) refl refl refl c.deref.ensures.value
+    (c.start.ensures s frames u t p)) refl refl refl c.deref.ensures.value

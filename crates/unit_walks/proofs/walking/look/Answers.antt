@@ -2,12 +2,19 @@ use Rattle.std.proofs.Common.{◌≡◌, Some, refl, sym, ◌∙◌, ap}
 use Rattle.unit_walks.specs.Forms.{form_at}
 use Rattle.unit_walks.specs.declared.forms.UnitForm.TheVariants as form
 use Rattle.unit_walks.proofs.Stepping.{if_ok, look_absent, look_inner, look_clone, look_alias}
+use Rattle.class_table.proofs.MemberNames.{none_of}
+use Rattle.unit_walks.proofs.TableSteps.{unit_there}
 use Rattle.unit_walks.proofs.walking.look.Goals as goal
 
+pub returns-in_default-clause-step : goal.returns-in_default-clause-step
+returns-in_default-clause-step c = if_ok c.answer.result
+    (λ r h m below more forms w rest. absurd (unit_there m _ c.args.table.now w.table c.args.top.now.at w.here w.frame.at
+    (sym (none_of c.unit.result c.in_default.not-Some) ∙ c.unit.ensures))) c.answer.ensures
+
 pub returns-in-None-clause-step : goal.returns-in-None-clause-step
-returns-in-None-clause-step c = if_ok c.answer.result
+returns-in-None-clause-step c = if_ok c.answer-in-None.result
     (λ r h. look_absent c.args.forms.now c.args.top.now c.args.table.now c.in-Some.here c.args.name.n c.in-Some.ensures
-    c.answer.new.table r c.in-None.ensures h.0 h.1) c.answer.ensures
+    c.answer-in-None.new.table r c.in-None.ensures h.0 h.1) c.answer-in-None.ensures
 
 pub returns-in_ok-enter-in-Some-Inner-clause-step : goal.returns-in_ok-enter-in-Some-Inner-clause-step
 returns-in_ok-enter-in-Some-Inner-clause-step c =

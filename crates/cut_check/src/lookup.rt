@@ -39,8 +39,8 @@ pub fn line_sets(alloc: Global, gts: &Gts, chains: &[Chain]) -> Result<LineSets,
 
 impl LineSets {
     /// Whether the events of one of the lines are exactly these, which are events of the lines'
-    /// system. Takes no memory; the time is that of a look-up of the first event in each line, and of
-    /// a whole comparison with the lines that have the most of them.
+    /// system. Takes no memory. Each line takes a comparison of two rows, which ends at the first
+    /// event of the line that is not among these.
     pub fn has(&mut self, events: &[EventId]) -> bool
         requires { HasRoom self.old (numbers_of events.now) }
         ensures same { (p : TheParts) (lines : List (List Label)) → AreLineSets p lines self.old
@@ -87,14 +87,14 @@ fn is_any(rows: &[Row], asked: &[u64], events: &[EventId]) -> bool
     false
 }
 
-// Whether a row has these events and no other bit than the row that is asked for.
+// Whether a row has no other bit than the row that is asked for, and has these events.
 fn is_row_of(row: &[u64], asked: &[u64], events: &[EventId]) -> bool
     requires { length row.now ≡ length asked.now }
     ensures { IsAnswer result (((n : ℕ) → IsOneOf (numbers_of events.now) n → IsSet row.now n)
         × ((n : ℕ) → IsSet row.now n → IsSet asked.now n)) }
 {
-    if has_all_bits(row, events) {
-        is_within(row, asked)
+    if is_within(row, asked) {
+        has_all_bits(row, events)
     } else {
         false
     }

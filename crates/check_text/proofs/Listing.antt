@@ -6,7 +6,7 @@ use Rattle.ar_base.specs.Lists.{IsOneOf}
 use Rattle.ar_base.specs.Numbers.{WayId}
 use Rattle.ar_base.specs.Sets.{Within}
 use Rattle.ar_base.specs.Texts.{line}
-use Rattle.ar_base.proofs.Standing.{one_none, one_cases, one_first, one_rest}
+use Rattle.ar_base.proofs.Standing.{one_none, one_cases, one_first, one_rest, stands_within}
 use Rattle.ar_meaning.specs.Found.{IsAnswer}
 use Rattle.ar_meaning.specs.Runs.{Label}
 use Rattle.ar_meaning.proofs.Found.{same_answer}
@@ -15,17 +15,22 @@ use Rattle.gts_core.specs.declared.bound.Chain.{Chain}
 use Rattle.gts_core.specs.declared.system.GtsParts.{GtsParts}
 use Rattle.gts_core.proofs.Tests.{and_answer, or_answer}
 use Rattle.cut_check.specs.Flat.{chain_lines}
+use Rattle.cut_check.specs.LineSets.{AreEventNumbers, HaveEventNumbers}
 use Rattle.cut_check.specs.Verdicts.{events_of, IsListed}
 use Rattle.cut_check.specs.declared.checking.Verdict.{Verdict}
+use Rattle.gts_core.specs.Sound.{IsSound}
+use Rattle.mode_forests.specs.Ways.{OwnTheirWays}
 use Rattle.mode_forests.specs.declared.forests.Edge.{Edge}
+use Rattle.mode_forests.specs.declared.forests.ModeTree.{ModeTree}
 use Rattle.text_pieces.specs.WayLabels.{way_label}
-use Rattle.cut_text.specs.Printed.{HaveOneWay, AreOfEdges, events_text}
+use Rattle.cut_text.specs.Printed.{HaveOneWay, AreOfEdges, HasEdge, edges_of, events_text}
 use Rattle.cut_text.specs.Tables.{AreWaysOf, texts_at}
 use Rattle.cut_text.specs.Texts.{braced}
 use Rattle.eq_core.specs.Values.{has_event}
 use Rattle.check_text.specs.Printed.{all_among, listed_in, missing_one, missing_at, missing_text, verdict_line, verdict_lines, all_verdicts_good, all_listed, check_text}
 use Rattle.check_text.specs.Texts.{last_line}
 use Rattle.cut_text.proofs.Known.{same_map}
+use Rattle.cut_text.proofs.TableLemmas.{tree_of_edge}
 
 eq_answer : (a b : ℕ) (r : Bool) → nat_eq a b ≡ r → IsAnswer r (a ≡ b)
 eq_answer a b true e = eqb-true a b e
@@ -138,3 +143,31 @@ whole_text edges one ways are p chains vs sets h b e =
     ap (λ (z : List ℕ). verdict_lines chains vs ++ (z ++ last_line b))
     (same_missing edges one ways are p (chain_lines p chains) sets h)
     ∙ ap (λ (z : Bool). verdict_lines chains vs ++ (missing_text p edges (chain_lines p chains) sets ++ last_line z)) e
+
+-- the events of the set that is given are events of the system, and so are those of the sets that are left
+module _ (p : GtsParts) where
+  pub first_numbers : (old : List (List ℕ)) (events : List ℕ) (rest : List (List ℕ)) → old ≡ events ∷ rest
+      → HaveEventNumbers p old → AreEventNumbers p events
+  first_numbers old events rest e h = (subst (λ z. HaveEventNumbers p z) e h).each events (one_first events rest)
+
+  pub rest_numbers : (old : List (List ℕ)) (events : List ℕ) (rest : List (List ℕ)) → old ≡ events ∷ rest
+      → HaveEventNumbers p old → HaveEventNumbers p rest
+  rest_numbers old events rest e h = record {
+    each = λ x o. (subst (λ z. HaveEventNumbers p z) e h).each x (one_rest events rest x o);
+  }
+
+  -- the events of edges are events of the system
+  edge_number : IsSound p → (ts : List ModeTree) → OwnTheirWays p ts → (e : ℕ) → HasEdge (edges_of ts) e
+      → e < length p.events.items
+  edge_number sound ts own e h =
+      let t = tree_of_edge ts h.edge h.is_edge in
+      let o = (own.each t.0 t.1).each h.edge t.2 in
+      let event = sound.own_ways h.edge.way.n o.way o.stands in
+      subst (λ (z : ℕ). z < length p.events.items) (o.is_event ∙ h.is_event)
+      (stands_within p.events.items o.way.event.n event.event event.stands)
+
+  pub set_numbers : IsSound p → (ts : List ModeTree) → OwnTheirWays p ts → (sets : List (List ℕ))
+      → AreOfEdges (edges_of ts) sets → HaveEventNumbers p sets
+  set_numbers sound ts own sets h = record {
+    each = λ events o. record { each = λ e q. edge_number sound ts own e (h.each events o e q) };
+  }

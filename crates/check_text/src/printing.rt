@@ -1,31 +1,29 @@
 //! The lines of verdicts and of missing cuts.
 
-ghost use Rattle.std.specs.Prelude.{◌≡◌, ◌++◌, ◌&&◌, true, false, codes, length, OnOk};
-ghost use Rattle.ar_base.specs.Texts.{separated};
+ghost use Rattle.std.specs.Prelude.{◌≡◌, ◌&&◌, length, List, OnOk};
 ghost use Rattle.ar_io.specs.Writing.{Writes};
+ghost use Rattle.ar_meaning.specs.Runs.{Label};
 ghost use Rattle.mode_forests.specs.Ways.{OwnTheirWays};
 ghost use Rattle.min_cuts.specs.Kept.{numbers};
 ghost use Rattle.script_lines.specs.Chains.{HaveKnownWays};
-ghost use Rattle.text_pieces.specs.WayLabels.{way_label};
-ghost use Rattle.cut_check.specs.Flat.{chain_lines};
+ghost use Rattle.cut_check.specs.LineSets.{AreLineSets, AreSomeLineSets, AreEventNumbers};
+ghost use Rattle.cut_check.specs.LineSets.{HaveEventNumbers};
 ghost use Rattle.cut_text.specs.Answers.{Prints};
 ghost use Rattle.cut_text.specs.Printed.{edges_of, HaveOneWay, AreOfEdges};
-ghost use Rattle.cut_text.specs.Tables.{texts_at, way_at, HasWay, HaveWays, AllHaveWays};
-ghost use Rattle.cut_text.specs.Texts.{braced};
+ghost use Rattle.cut_text.specs.Tables.{HaveWays, AllHaveWays};
 ghost use Rattle.check_text.specs.Printed.{verdict_text, verdict_line, verdict_lines, all_verdicts_good};
 ghost use Rattle.check_text.specs.Printed.{listed_in, all_listed, missing_one, missing_at, check_text};
 ghost use Rattle.check_text.specs.Texts.{last_line};
 
 use ar_base::{EventId, WayId};
 use ar_io::{Sink, SinkFailed};
-use cut_check::{Verdict, is_listed};
-use cut_text::{PrintFault, event_ways};
+use cut_check::{LineSets, Verdict, line_sets};
+use cut_text::{PrintFault, event_ways, write_set};
 use gts_core::{Chain, Gts};
 use min_cuts::Lister;
 use mode_forests::Forest;
 use std::alloc::Global;
 use text_pieces::pieces::{number, put};
-use text_pieces::print_label;
 
 /// Writes the text of a check of a list of cuts: for each line of the list its verdict; then
 /// `missing ` and the labels of each cut of the lister that no line has, in its order; and last `yes`
@@ -49,11 +47,13 @@ pub fn print_check<K: Sink>(
         (check_text gts.now (edges_of forest.now.trees.items) chains.now verdicts.now lister)
         result }
 {
+    let _sound_parts = gts.parts();
     let ways = event_ways(alloc, gts, forest)?;
+    let mut sets = line_sets(alloc, gts, chains)?;
     let good = all_good(verdicts);
     let mut whole = true;
     verdict_lines(out, chains, verdicts)?;
-    missing_lines(out, gts, &ways, chains, &mut lister, &mut whole)?;
+    missing_lines(out, gts, &ways, &mut sets, &mut lister, &mut whole)?;
     answer(out, both(good, whole))?;
     Ok(())
 }
@@ -141,19 +141,21 @@ fn missing_lines<K: Sink>(
     out: &mut K,
     gts: &Gts,
     ways: &[WayId],
-    chains: &[Chain],
+    sets: &mut LineSets,
     lister: &mut Lister,
     whole: &mut bool,
 ) -> Result<(), SinkFailed>
     requires ways { AllHaveWays gts.now ways.now lister.old }
-    requires known { HaveKnownWays gts.now chains.now }
-    ensures text { Writes (K.state out.old) (K.state out.new)
-        (missing_at gts.now ways.now (chain_lines gts.now chains.now) lister.old) result }
-    ensures whole { OnOk result (whole.new
-        ≡ (whole.old && all_listed (chain_lines gts.now chains.now) lister.old)) }
+    requires events { HaveEventNumbers gts.now lister.old }
+    requires sets { AreSomeLineSets gts.now sets.old }
+    ensures text { (lines : List (List Label)) → AreLineSets gts.now lines sets.old
+        → Writes (K.state out.old) (K.state out.new) (missing_at gts.now ways.now lines lister.old)
+        result }
+    ensures whole { (lines : List (List Label)) → AreLineSets gts.now lines sets.old
+        → OnOk result (whole.new ≡ (whole.old && all_listed lines lister.old)) }
 {
     while let Some(events) = lister.next() {
-        missing_line(out, gts, ways, chains, events, whole)?;
+        missing_line(out, gts, ways, sets, events, whole)?;
     }
     Ok(())
 }
@@ -163,98 +165,26 @@ fn missing_line<K: Sink>(
     out: &mut K,
     gts: &Gts,
     ways: &[WayId],
-    chains: &[Chain],
+    sets: &mut LineSets,
     events: &[EventId],
     whole: &mut bool,
 ) -> Result<(), SinkFailed>
     requires ways { HaveWays gts.now ways.now (numbers events.now) }
-    requires known { HaveKnownWays gts.now chains.now }
-    ensures text { Writes (K.state out.old) (K.state out.new)
-        (missing_one gts.now ways.now (chain_lines gts.now chains.now) (numbers events.now))
-        result }
-    ensures whole { OnOk result (whole.new
-        ≡ (whole.old && listed_in (chain_lines gts.now chains.now) (numbers events.now))) }
+    requires events { AreEventNumbers gts.now (numbers events.now) }
+    requires sets { AreSomeLineSets gts.now sets.old }
+    ensures same { (lines : List (List Label)) → AreLineSets gts.now lines sets.old
+        → AreLineSets gts.now lines sets.new }
+    ensures text { (lines : List (List Label)) → AreLineSets gts.now lines sets.old
+        → Writes (K.state out.old) (K.state out.new)
+        (missing_one gts.now ways.now lines (numbers events.now)) result }
+    ensures whole { (lines : List (List Label)) → AreLineSets gts.now lines sets.old
+        → OnOk result (whole.new ≡ (whole.old && listed_in lines (numbers events.now))) }
 {
-    if is_listed(gts, chains, events) {
+    if sets.has(events) {
         return put(out, "");
     }
     *whole = false;
     put(out, "missing ")?;
-    set(out, gts, ways, events)?;
+    write_set(out, gts, ways, events)?;
     put(out, "\n")
-}
-
-// The labels of a set in braces.
-fn set<K: Sink>(
-    out: &mut K,
-    gts: &Gts,
-    ways: &[WayId],
-    events: &[EventId],
-) -> Result<(), SinkFailed>
-    requires { HaveWays gts.now ways.now (numbers events.now) }
-    ensures { Writes (K.state out.old) (K.state out.new)
-        (braced (texts_at gts.now ways.now (numbers events.now))) result }
-{
-    put(out, "{")?;
-    labels(out, gts, ways, events)?;
-    put(out, "}")
-}
-
-// The labels of these events, with commas between them.
-fn labels<K: Sink>(
-    out: &mut K,
-    gts: &Gts,
-    ways: &[WayId],
-    events: &[EventId],
-) -> Result<(), SinkFailed>
-    requires { HaveWays gts.now ways.now (numbers events.now) }
-    ensures { Writes (K.state out.old) (K.state out.new)
-        (separated true (codes ", ") (texts_at gts.now ways.now (numbers events.now))) result }
-{
-    let Some((first, others)) = events.split_first() else {
-        return Ok(());
-    };
-    label(out, gts, ways, *first)?;
-    more_labels(out, gts, ways, others)
-}
-
-// Further labels.
-fn more_labels<K: Sink>(
-    out: &mut K,
-    gts: &Gts,
-    ways: &[WayId],
-    events: &[EventId],
-) -> Result<(), SinkFailed>
-    requires { HaveWays gts.now ways.now (numbers events.now) }
-    ensures { Writes (K.state out.old) (K.state out.new)
-        (separated false (codes ", ") (texts_at gts.now ways.now (numbers events.now))) result }
-{
-    for event in events {
-        next_label(out, gts, ways, *event)?;
-    }
-    Ok(())
-}
-
-// A label behind another one.
-fn next_label<K: Sink>(
-    out: &mut K,
-    gts: &Gts,
-    ways: &[WayId],
-    event: EventId,
-) -> Result<(), SinkFailed>
-    requires { HasWay gts.now ways.now event.n }
-    ensures { Writes (K.state out.old) (K.state out.new)
-        (codes ", " ++ way_label gts.now (way_at ways.now event.n)) result }
-{
-    put(out, ", ")?;
-    label(out, gts, ways, event)
-}
-
-// The label of an event's edge.
-fn label<K: Sink>(out: &mut K, gts: &Gts, ways: &[WayId], event: EventId) -> Result<(), SinkFailed>
-    requires { HasWay gts.now ways.now event.n }
-    ensures { Writes (K.state out.old) (K.state out.new)
-        (way_label gts.now (way_at ways.now event.n)) result }
-{
-    print_label(gts, ways[event.n as usize], out)
 }

@@ -21,7 +21,7 @@ use Rattle.cut_check.specs.declared.rows.Row.{Row}
 
 module _ (lines : List (List Label)) (rows : List Row) (have : HaveBits lines rows) where
   -- the line of a row
-  line_at : (k : ℕ) (r : Row) → Stands rows k r → (ls : List Label) × Stands lines k ls
+  pub line_at : (k : ℕ) (r : Row) → Stands rows k r → (ls : List Label) × Stands lines k ls
   line_at k r s = stands_some lines k (let w = stands_within rows k r s in omega (arith, w, have.long))
 
   within_from : (j k : ℕ) (ls ms : List Label) (r s : Row) → Stands lines j ls → Stands lines k ms → Stands rows j r

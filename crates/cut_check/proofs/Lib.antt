@@ -4,3 +4,4 @@ pub mod HoldLemmas
 pub mod ListedLemmas
 pub mod TruthLemmas
 pub mod LawLemmas
+pub mod LookupLemmas

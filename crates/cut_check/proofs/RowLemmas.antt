@@ -269,8 +269,19 @@ module _ (p : GtsParts) (dropped : List ℕ) where
         subst (λ (z : List Label). IsSet r.words.items n ↔ IsOneOf (events_of z) n) c.2 ((h.each k c.0 r c.1 t).bits n);
   }
 
+  pub is_wide : (chains : List Chain) (rows : List Row) → AreRows p dropped chains rows → (k : ℕ) (r : Row)
+      → Stands rows k r → length r.words.items ≡ words_for (length p.events.items)
+  is_wide chains rows h k r s =
+      let c = stands_some chains k (let w = stands_within rows k r s in omega (arith, w, h.long)) in
+      (h.each k c.0 r c.1 s).long
+
   pub are_wide : (chains : List Chain) (rows : List Row) → AreRows p dropped chains rows → AreWide rows
-  are_wide chains rows h = record { same = λ j k r s a b. wide j r a ∙ sym (wide k s b) }
-    where
-      wide : (k : ℕ) (r : Row) → Stands rows k r → length r.words.items ≡ words_for (length p.events.items)
-      wide k r s = let c = stands_some chains k (let w = stands_within rows k r s in omega (arith, w, h.long)) in (h.each k c.0 r c.1 s).long
+  are_wide chains rows h = record { same = λ j k r s a b. is_wide chains rows h j r a ∙ sym (is_wide chains rows h k s b) }
+
+-- the rows are those of the system
+pub rows_are : (p q : GtsParts) (ds : List ℕ) (chains : List Chain) (allowed table : List Bool) (rows : List Row) → q ≡ p
+    → table ≡ allowed → AreOpenEvents q ds allowed
+    → ((dropped : List ℕ) → AreOpenEvents q dropped table → AreRows q dropped chains rows) → AreRows p ds chains rows
+rows_are p q ds chains allowed table rows e f h made =
+    subst (λ (z : GtsParts). AreRows z ds chains rows) e
+    (made ds (subst (λ (z : List Bool). AreOpenEvents q ds z) (sym f) h))

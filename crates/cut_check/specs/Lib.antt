@@ -2,3 +2,4 @@ pub mod Verdicts
 pub mod Flat
 pub mod Rows
 pub mod Truths
+pub mod LineSets

@@ -8,7 +8,9 @@ mod checking;
 mod firing;
 pub mod laws;
 mod listed;
+mod lookup;
 mod rows;
 
 pub use checking::{Verdict, verdicts};
 pub use listed::is_listed;
+pub use lookup::{LineSets, line_sets};

@@ -93,8 +93,8 @@ fn row_of(alloc: Global, parts: &GtsParts, allowed: &[bool], ways: &[WayId]) -> 
     Ok(row)
 }
 
-// A row over so many events with none of them.
-fn empty_row(alloc: Global, count: usize) -> Result<Row, Memory>
+/// A row over so many events with none of them.
+pub(crate) fn empty_row(alloc: Global, count: usize) -> Result<Row, Memory>
     requires { count < 2 ^ 32 }
     ensures long { IfOk result (λ row. length row.words.items ≡ words_for count) }
     ensures none { IfOk result (λ row. (n : ℕ) → IsSet row.words.items n → ⊥) }
@@ -140,8 +140,8 @@ fn is_fresh(row: &[u64], allowed: &[bool], event: u32) -> bool
     }
 }
 
-// Whether a bit is set. Those past the row's end are not.
-fn has(row: &[u64], number: u32) -> bool
+/// Whether a bit is set. Those past the row's end are not.
+pub(crate) fn has(row: &[u64], number: u32) -> bool
     ensures { IsTrue result ↔ IsSet row.now number }
 {
     match row.get(number as usize / WORD_BITS) {
@@ -150,8 +150,8 @@ fn has(row: &[u64], number: u32) -> bool
     }
 }
 
-// Sets a bit.
-fn set(row: &mut [u64], number: u32)
+/// Sets a bit.
+pub(crate) fn set(row: &mut [u64], number: u32)
     requires { number / 64 < length row.old }
     ensures { (n : ℕ) → IsSet row.new n ↔ (IsSet row.old n ⊎ (n ≡ number)) }
 {

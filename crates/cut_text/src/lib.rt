@@ -8,5 +8,5 @@ mod printing;
 mod tables;
 
 pub use faults::PrintFault;
-pub use printing::{print_conflict, print_cuts};
+pub use printing::{print_conflict, print_cuts, write_set};
 pub use tables::event_ways;

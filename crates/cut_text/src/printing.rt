@@ -118,7 +118,7 @@ fn set_line<K: Sink>(
     ensures { Writes (K.state out.old) (K.state out.new)
         (line (braced (texts_at gts.now ways.now (numbers events.now)))) result }
 {
-    set(out, gts, ways, events)?;
+    write_set(out, gts, ways, events)?;
     put(out, "\n")
 }
 
@@ -137,7 +137,7 @@ fn fault_line<K: Sink>(
         (flow_fault_text (naming_of_parts gts.now) (fault_of fault))) result }
 {
     put(out, "fault: ")?;
-    set(out, gts, ways, events)?;
+    write_set(out, gts, ways, events)?;
     put(out, ": ")?;
     print_flow_fault(gts, fault, out)?;
     put(out, "\n")
@@ -160,8 +160,8 @@ fn number<K: Sink>(out: &mut K, n: u128) -> Result<(), SinkFailed>
     put(out, buffer.format(n))
 }
 
-// The labels of a set in braces.
-fn set<K: Sink>(
+/// Writes the labels of a set in braces, as they stand in it: `{a, b}`.
+pub fn write_set<K: Sink>(
     out: &mut K,
     gts: &Gts,
     ways: &[WayId],

@@ -104,7 +104,7 @@ first_of_some : (r : Range) (part : List ℕ) → part ≢ [] → AllIn r part �
 first_of_some r [] n a = absurd (n refl)
 first_of_some r (x ∷ part) n a = let t = in_lies r x a.0 in omega (arith, t.0, t.1)
 
-from_or_none : (r : Range) (set : List ℕ) → inside r set ≢ [] → r.from < r.to
+pub from_or_none : (r : Range) (set : List ℕ) → inside r set ≢ [] → r.from < r.to
 from_or_none r set n = first_of_some r (inside r set) n (all_passed (lies r) set)
 
 ascends_right : (s t : List ℕ) → IsAscending (s ++ t) → IsAscending t

@@ -15,7 +15,8 @@ use ar_base::Memory;
 use std::alloc::Global;
 use zdd_nodes::{NodeId, Store};
 
-/// The parts of the unit in the order of listing; None exactly where it is no module.
+/// The parts of the unit in the order of listing; None exactly where it is no module. A unit without
+/// events takes no time.
 pub(crate) fn module_sets(
     alloc: Global,
     store: &Store,
@@ -32,6 +33,9 @@ pub(crate) fn module_sets(
     ensures known { AreTwins store.now twins.new }
     ensures long { length twins.new ≡ length twins.old }
 {
+    if range.to <= range.from {
+        return Ok(None);
+    }
     let entries = entries_of(alloc, store, root, range.from)?;
     let Some(node) = first_with_event(store, range.to, &entries) else {
         return Ok(None);

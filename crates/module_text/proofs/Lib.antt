@@ -5,3 +5,4 @@ mod DepthFirst
 mod UnitSpans
 mod Reaching
 mod Combining
+mod Placing

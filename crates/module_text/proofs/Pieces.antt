@@ -32,17 +32,6 @@ use Rattle.module_text.specs.declared.arranging.Group.{Group}
 use Rattle.cut_text.specs.Printed.{edges_of}
 use Rattle.cut_text.proofs.TableLemmas.{tree_of_edge}
 
-pub held_at : (e : ℕ) (xs : List EventId) (k : ℕ) (d : EventId) → k < length xs → e ≡ (get_or xs k d).n
-    → holds e (numbers xs) ≡ true
-held_at e [] k d l h = absurd (omega (arith, l))
-held_at e (x ∷ xs) zero d l h = ap (λ b. b || holds e (numbers xs)) (eq-eqb e x.n h)
-held_at e (x ∷ xs) (suc k) d l h = ap (λ b. eqb e x.n || b) (held_at e xs k d (omega (arith, l)) h)
-    ∙ or_true (eqb e x.n)
-  where
-    or_true : (b : Bool) → (b || true) ≡ true
-    or_true true = refl
-    or_true false = refl
-
 pub edges_push : (ts : List ModeTree) (t : ModeTree) → edges_of (ts ++ t ∷ []) ≡ edges_of ts ++ t.edges.items
 edges_push [] t = append_nil t.edges.items
   where
@@ -51,24 +40,6 @@ edges_push [] t = append_nil t.edges.items
     append_nil (x ∷ xs) = ap (λ z. x ∷ z) (append_nil xs)
 edges_push (u ∷ ts) t = ap (λ z. u.edges.items ++ z) (edges_push ts t)
     ∙ sym (append_assoc u.edges.items (edges_of ts) t.edges.items)
-
--- one edge's tree more in a line
-pub line_more : (ts xs : List ModeTree) (k : ℕ) (t : ModeTree) → xs ≡ ts → k < length xs → t ≡ get_or xs k t
-    → (units : List UnitId) (set : List ℕ) (old new : List Piece) (es : List Edge) → es ≡ t.edges.items
-    → old ≡ line_pieces (edges_of (take k ts)) units set → new ≡ old ++ way_pieces es set
-    → new ≡ line_pieces (edges_of (take (k + 1) ts)) units set
-line_more ts xs k t same l is units set old new es e o n =
-    let test = λ (e : Edge). holds e.event.n set in
-    let to = λ (e : Edge). AWay e.way in
-    let at : t ≡ get_or ts k t = subst (λ z. t ≡ get_or z k t) same is in
-    let more : take (k + 1) ts ≡ take k ts ++ t ∷ [] =
-    take_more ts k t (subst (λ z. k < length z) same l) ∙ ap (λ z. take k ts ++ z ∷ []) (sym at) in
-    n ∙ ap₂ (λ y z. y ++ way_pieces z set) o e
-    ∙ append_assoc (unit_pieces units) (way_pieces (edges_of (take k ts)) set) (way_pieces t.edges.items set)
-    ∙ ap (λ z. unit_pieces units ++ z)
-    (sym (map-append to (filter test (edges_of (take k ts))) (filter test t.edges.items))
-    ∙ ap (map to) (sym (filter-append test (edges_of (take k ts)) t.edges.items)
-    ∙ ap (filter test) (sym (edges_push (take k ts) t) ∙ ap edges_of (sym more))))
 
 -- one group more
 pub groups_more : (edges : List Edge) (ms : List Module) (k : ℕ) (m : Module) (gs new : List Group) (g : Group)

@@ -3,3 +3,4 @@ pub mod Texts
 pub mod Printed
 pub mod Arranged
 pub mod Spans
+pub mod Places

@@ -1,17 +1,16 @@
 //! The lines of cuts in short, with the ways of their events in firing order.
 
-ghost use Rattle.std.specs.Prelude.{◌≡◌, ◌++◌, IfOk, OnOk, map};
-ghost use Rattle.std.specs.List.{filter};
-ghost use Rattle.ar_base.specs.Lists.{Along};
-ghost use Rattle.gate_modules.specs.Shortened.{numbers, form_of};
-ghost use Rattle.zdd_families.specs.Families.{holds};
-ghost use Rattle.cut_text.specs.Printed.{edges_of};
-ghost use Rattle.module_text.specs.Arranged.{way_pieces, line_pieces, part_pieces, form_pieces, IsGroupOf};
+ghost use Rattle.std.specs.Prelude.{◌≡◌, ◌<◌, ◌++◌, ℕ, List, IfOk, OnOk, map, length};
+ghost use Rattle.ar_base.specs.Lists.{Along, IsOneOf};
+ghost use Rattle.gate_modules.specs.Shortened.{numbers};
+ghost use Rattle.mode_forests.specs.declared.forests.Edge.{Edge};
+ghost use Rattle.module_text.specs.Arranged.{line_pieces, part_pieces, form_pieces, IsGroupOf};
 ghost use Rattle.module_text.specs.Arranged.{pieces_of, unit_pieces};
+ghost use Rattle.module_text.specs.Places.{ArePlacesOf, IsOfEdges, pieces_at};
 
+use crate::places::{EdgePlaces, spots_of};
 use ar_base::{EventId, Memory, UnitId, WayId};
 use gate_modules::{EventSet, Module, ShortSet};
-use mode_forests::{Edge, Forest};
 use std::alloc::Global;
 
 /// What stands in a line between its braces.
@@ -39,15 +38,16 @@ pub(crate) struct Group {
 /// The lines of modules.
 pub(crate) fn groups_of(
     alloc: Global,
-    forest: &Forest,
+    table: &EdgePlaces,
     modules: &[Module],
 ) -> Result<Vec<Group>, Memory>
-    ensures { IfOk result (λ groups. Along (IsGroupOf (edges_of forest.now.trees.items)) modules.now
-        groups.items) }
+    requires { IsOfEdges table.now }
+    ensures { (edges : List Edge) → ArePlacesOf edges table.now
+        → IfOk result (λ groups. Along (IsGroupOf edges) modules.now groups.items) }
 {
     let mut groups = Vec::new(alloc);
     for module in modules {
-        let lines = lines_of_sets(alloc, forest, &module.sets)?;
+        let lines = lines_of_sets(alloc, table, &module.sets)?;
         groups.push(Group {
             unit: module.unit,
             lines,
@@ -57,14 +57,15 @@ pub(crate) fn groups_of(
 }
 
 // The lines of sets.
-fn lines_of_sets(alloc: Global, forest: &Forest, sets: &[EventSet]) -> Result<Vec<Line>, Memory>
-    ensures { IfOk result
-        (λ lines. map pieces_of lines.items
-        ≡ map (part_pieces (edges_of forest.now.trees.items)) sets.now) }
+fn lines_of_sets(alloc: Global, table: &EdgePlaces, sets: &[EventSet]) -> Result<Vec<Line>, Memory>
+    requires { IsOfEdges table.now }
+    ensures { (edges : List Edge) → ArePlacesOf edges table.now → IfOk result
+        (λ lines. map pieces_of lines.items ≡ map (part_pieces edges) sets.now) }
 {
     let mut lines = Vec::new(alloc);
     for set in sets {
-        lines.push(line_of(alloc, forest, &[], &set.events)?)?;
+        let line = line_of(alloc, table, &[], &set.events)?;
+        lines.push(line)?;
     }
     Ok(lines)
 }
@@ -72,16 +73,17 @@ fn lines_of_sets(alloc: Global, forest: &Forest, sets: &[EventSet]) -> Result<Ve
 /// The lines of short forms.
 pub(crate) fn lines_of_forms(
     alloc: Global,
-    forest: &Forest,
+    table: &EdgePlaces,
     forms: &[ShortSet],
 ) -> Result<Vec<Line>, Memory>
-    ensures { IfOk result
-        (λ lines. map pieces_of lines.items
-        ≡ map (form_pieces (edges_of forest.now.trees.items)) forms.now) }
+    requires { IsOfEdges table.now }
+    ensures { (edges : List Edge) → ArePlacesOf edges table.now → IfOk result
+        (λ lines. map pieces_of lines.items ≡ map (form_pieces edges) forms.now) }
 {
     let mut lines = Vec::new(alloc);
     for form in forms {
-        lines.push(line_of(alloc, forest, &form.units, &form.events)?)?;
+        let line = line_of(alloc, table, &form.units, &form.events)?;
+        lines.push(line)?;
     }
     Ok(lines)
 }
@@ -89,18 +91,18 @@ pub(crate) fn lines_of_forms(
 // The line of these units, and then of these events in firing order.
 fn line_of(
     alloc: Global,
-    forest: &Forest,
+    table: &EdgePlaces,
     units: &[UnitId],
     events: &[EventId],
 ) -> Result<Line, Memory>
-    ensures { IfOk result (λ line. line.pieces.items
-        ≡ line_pieces (edges_of forest.now.trees.items) units.now (numbers events.now)) }
+    requires { IsOfEdges table.now }
+    ensures { (edges : List Edge) → ArePlacesOf edges table.now → IfOk result
+        (λ line. line.pieces.items ≡ line_pieces edges units.now (numbers events.now)) }
 {
+    let spots = spots_of(alloc, &table.places, events)?;
     let mut pieces = Vec::new(alloc);
     add_units(&mut pieces, units)?;
-    for tree in &forest.trees {
-        add_ways(&mut pieces, &tree.edges, events)?;
-    }
+    add_ways(&mut pieces, &table.ways, &spots)?;
     Ok(Line { pieces })
 }
 
@@ -114,27 +116,14 @@ fn add_units(pieces: &mut Vec<Piece>, units: &[UnitId]) -> Result<(), Memory>
     Ok(())
 }
 
-// Adds the ways of those of the edges that have one of the events.
-fn add_ways(pieces: &mut Vec<Piece>, edges: &[Edge], events: &[EventId]) -> Result<(), Memory>
-    ensures { OnOk result (pieces.new.items ≡ pieces.old.items
-        ++ way_pieces edges.now (numbers events.now)) }
+// Adds the ways at these places.
+fn add_ways(pieces: &mut Vec<Piece>, ways: &[WayId], spots: &[usize]) -> Result<(), Memory>
+    requires { (p : ℕ) → IsOneOf spots.now p → p < length ways.now }
+    ensures { OnOk result (pieces.new.items
+        ≡ pieces.old.items ++ pieces_at ways.now spots.now) }
 {
-    for edge in edges {
-        if contains(events, edge.event) {
-            pieces.push(Piece::Way(edge.way))?;
-        }
+    for spot in spots {
+        pieces.push(Piece::Way(ways[*spot]))?;
     }
     Ok(())
-}
-
-// Whether the event is one of these.
-fn contains(events: &[EventId], event: EventId) -> bool
-    ensures { result ≡ holds event.n (numbers events.now) }
-{
-    for one in events {
-        if event.n == one.n {
-            return true;
-        }
-    }
-    false
 }

@@ -3,6 +3,7 @@
 
 mod arranging;
 pub mod laws;
+mod places;
 mod printing;
 mod spans;
 

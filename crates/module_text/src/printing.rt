@@ -14,6 +14,7 @@ ghost use Rattle.module_text.specs.Printed.{short_lines};
 ghost use Rattle.module_text.specs.Texts.{module_line, part_line, unit_mark, lines_line};
 
 use crate::arranging::{Group, Line, Piece, groups_of, lines_of_forms};
+use crate::places::edge_places;
 use ar_base::UnitId;
 use ar_io::{Sink, SinkFailed};
 use cut_text::PrintFault;
@@ -39,8 +40,9 @@ pub fn print_modules<K: Sink>(
     ensures { Prints (K.state out.old) (K.state out.new) (short_lines gts.now forest.now short.now)
         result }
 {
-    let groups = groups_of(alloc, forest, &short.modules)?;
-    let lines = lines_of_forms(alloc, forest, &short.sets)?;
+    let table = edge_places(alloc, forest)?;
+    let groups = groups_of(alloc, &table, &short.modules)?;
+    let lines = lines_of_forms(alloc, &table, &short.sets)?;
     all_groups(out, gts, &groups)?;
     forms(out, gts, &lines)?;
     last(out, lines.len())?;

@@ -62,10 +62,9 @@ fn event_lines<K: Sink>(
         → Writes (K.state out.old) (K.state out.new) (event_lines gts.now can event.now) result }
 {
     if event.hidden {
-        put(out, "")
-    } else {
-        way_lines(out, gts, stepper, &event.ways)
+        return Ok(());
     }
+    way_lines(out, gts, stepper, &event.ways)
 }
 
 // The labels of those of these ways that can fire.
@@ -104,7 +103,7 @@ fn way_line<K: Sink>(
     if stepper.enabled(way) {
         label_line(out, gts, way)
     } else {
-        put(out, "")
+        Ok(())
     }
 }
 

@@ -9,7 +9,7 @@ use Rattle.cut_text.specs.Tables.{AreWaysOf}
 use Rattle.check_text.specs.Printed.{all_verdicts_good, all_listed}
 use Rattle.cut_text.proofs.Answering.{failed}
 use Rattle.cut_text.proofs.Known.{have_ways}
-use Rattle.check_text.proofs.Listing.{whole_text}
+use Rattle.check_text.proofs.Listing.{whole_text, set_numbers}
 use Rattle.check_text.proofs.printing.print_check.Goals as goal
 
 pub missing_lines-requires-clause-ways : goal.missing_lines-requires-clause-ways
@@ -18,6 +18,15 @@ missing_lines-requires-clause-ways g c =
     have_ways c.args.gts.now ts c.requires.own c.deref.result.now
     (subst (λ (z : List WayId). AreWaysOf (edges_of ts) z) (sym c.deref.ensures.value) c.in_ok-ways.ensures)
     c.args.lister c.requires.known
+
+pub missing_lines-requires-clause-events : goal.missing_lines-requires-clause-events
+missing_lines-requires-clause-events g c =
+    set_numbers c.args.gts.now c.parts-sound_parts.ensures.sound c.args.forest.now.trees.items c.requires.own c.args.lister
+    c.requires.known
+
+pub missing_lines-requires-clause-sets : goal.missing_lines-requires-clause-sets
+missing_lines-requires-clause-sets g c =
+    record { lines = chain_lines c.args.gts.now c.args.chains.now; are = c.in_ok-sets.ensures }
 
 pub returns-in_err-verdict_lines : goal.returns-in_err-verdict_lines
 returns-in_err-verdict_lines g c =
@@ -38,7 +47,7 @@ returns-in_err-missing_lines g c =
     failed c.from_residual-in_err-missing_lines.result (r.1 ∙ ap Err r.2)
     (writes_as _ _ (whole_text (edges_of ts) c.requires.one_way c.deref.result.now are c.args.gts.now c.args.chains.now
     c.args.verdicts.now c.args.lister c.requires.known _ refl)
-    (writes_on c.in_ok-verdict_lines.ensures (writes_cut _ _ c.in_err-missing_lines.ensures.text)))
+    (writes_on c.in_ok-verdict_lines.ensures (writes_cut _ _ (c.in_err-missing_lines.ensures.text (chain_lines c.args.gts.now c.args.chains.now) c.in_ok-sets.ensures))))
 
 pub returns-in_err-answer : goal.returns-in_err-answer
 returns-in_err-answer g c =
@@ -48,11 +57,11 @@ returns-in_err-answer g c =
     let b : c.both.result ≡ (all_verdicts_good c.args.verdicts.now && all_listed
     (chain_lines c.args.gts.now c.args.chains.now) c.args.lister) =
     c.both.ensures ∙ ap (λ (z : Bool). z && c.missing_lines.new.whole) c.all_good-good.ensures
-    ∙ ap (λ (z : Bool). all_verdicts_good c.args.verdicts.now && z) c.in_ok-missing_lines.ensures.whole in
+    ∙ ap (λ (z : Bool). all_verdicts_good c.args.verdicts.now && z) (c.in_ok-missing_lines.ensures.whole (chain_lines c.args.gts.now c.args.chains.now) c.in_ok-sets.ensures) in
     failed c.from_residual-in_err-answer.result (r.1 ∙ ap Err r.2)
     (writes_as _ _ (whole_text (edges_of ts) c.requires.one_way c.deref.result.now are c.args.gts.now c.args.chains.now
     c.args.verdicts.now c.args.lister c.requires.known c.both.result b)
-    (writes_on c.in_ok-verdict_lines.ensures (writes_on c.in_ok-missing_lines.ensures.text c.in_err-answer.ensures)))
+    (writes_on c.in_ok-verdict_lines.ensures (writes_on (c.in_ok-missing_lines.ensures.text (chain_lines c.args.gts.now c.args.chains.now) c.in_ok-sets.ensures) c.in_err-answer.ensures)))
 
 pub returns : goal.returns
 returns g c =
@@ -61,7 +70,7 @@ returns g c =
     let b : c.both.result ≡ (all_verdicts_good c.args.verdicts.now && all_listed
     (chain_lines c.args.gts.now c.args.chains.now) c.args.lister) =
     c.both.ensures ∙ ap (λ (z : Bool). z && c.missing_lines.new.whole) c.all_good-good.ensures
-    ∙ ap (λ (z : Bool). all_verdicts_good c.args.verdicts.now && z) c.in_ok-missing_lines.ensures.whole in
+    ∙ ap (λ (z : Bool). all_verdicts_good c.args.verdicts.now && z) (c.in_ok-missing_lines.ensures.whole (chain_lines c.args.gts.now c.args.chains.now) c.in_ok-sets.ensures) in
     writes_as _ _ (whole_text (edges_of ts) c.requires.one_way c.deref.result.now are c.args.gts.now c.args.chains.now
     c.args.verdicts.now c.args.lister c.requires.known c.both.result b)
-    (writes_on c.in_ok-verdict_lines.ensures (writes_on c.in_ok-missing_lines.ensures.text c.in_ok-answer.ensures))
+    (writes_on c.in_ok-verdict_lines.ensures (writes_on (c.in_ok-missing_lines.ensures.text (chain_lines c.args.gts.now c.args.chains.now) c.in_ok-sets.ensures) c.in_ok-answer.ensures))

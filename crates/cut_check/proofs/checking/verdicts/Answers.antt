@@ -11,16 +11,8 @@ use Rattle.cut_check.specs.Rows.{AreOpenEvents, AreRows, HaveBits, AreWide}
 use Rattle.cut_check.specs.Truths.{AreTruths}
 use Rattle.cut_check.specs.declared.rows.Row.{Row}
 use Rattle.cut_check.proofs.HoldLemmas.{verdicts_more}
-use Rattle.cut_check.proofs.RowLemmas.{have_bits, are_wide}
+use Rattle.cut_check.proofs.RowLemmas.{have_bits, are_wide, rows_are}
 use Rattle.cut_check.proofs.checking.verdicts.Goals as goal
-
--- the rows are those of the system
-rows_are : (p q : GtsParts) (ds : List ℕ) (chains : List Chain) (allowed table : List Bool) (rows : List Row) → q ≡ p
-    → table ≡ allowed → AreOpenEvents q ds allowed
-    → ((dropped : List ℕ) → AreOpenEvents q dropped table → AreRows q dropped chains rows) → AreRows p ds chains rows
-rows_are p q ds chains allowed table rows e f h made =
-    subst (λ (z : GtsParts). AreRows z ds chains rows) e
-    (made ds (subst (λ (z : List Bool). AreOpenEvents q ds z) (sym f) h))
 
 pub true_lines-requires-clause-rows : goal.true_lines-requires-clause-rows
 true_lines-requires-clause-rows c =

@@ -1,4 +1,4 @@
-use Rattle.std.proofs.Common.{◌≡◌, ◌<◌, ℕ, List, length, map, sym, subst, arith}
+use Rattle.std.proofs.Common.{◌≡◌, ◌∙◌, ◌<◌, ℕ, List, length, map, sym, subst, arith}
 use Rattle.std.proofs.lemmas.List.{length-map}
 use Rattle.ar_base.specs.Lists.{Stands, IsOneOf}
 use Rattle.ar_base.proofs.Standing.{one_here, stands_map}
@@ -6,6 +6,7 @@ use Rattle.zdd_nodes.specs.Nodes.{NodeId, IsNumber}
 use Rattle.gate_modules.specs.Shortened.{set_of}
 use Rattle.gate_modules.specs.Entries.{node_numbers, AllEnd, IsReference, EntriesAnswer}
 use Rattle.gate_modules.proofs.Deciding.{event_not_end, none_is_module, differs_no_module, few_no_module, is_module}
+use Rattle.gate_modules.proofs.Exchange.{from_or_none}
 use Rattle.gate_modules.proofs.modules.module_sets.Goals as goal
 
 -- the entry at a place is an entry
@@ -13,6 +14,11 @@ inside : (P : ℕ → Type 0) (xs ys : List NodeId) → xs ≡ ys → ((e : ℕ)
     → (k : ℕ) (e : NodeId) → Stands xs k e → P e.n
 inside P xs ys is h k e i = h e.n (one_here (node_numbers ys) k e.n
     (stands_map (λ (n : NodeId). n.n) ys k e (subst (λ z. Stands z k e) is i)))
+
+pub returns-then-range-clause-sets : goal.returns-then-range-clause-sets
+returns-then-range-clause-sets c = λ m.
+    let some = from_or_none c.args.range m.one_is.set (λ e. m.one_is.some (sym m.one_is.is ∙ e)) in
+    omega (arith, some, c.if-range.true)
 
 pub first_with_event-requires : goal.first_with_event-requires
 first_with_event-requires c = inside (IsNumber c.args.store.now) c.deref.result.now c.in_ok-entries.entries.items

@@ -1,5 +1,5 @@
 use Rattle.ar_io.proofs.Writing.{writes_exit, writes_on, writes_cut}
-use Rattle.check_text.proofs.printing.set.Goals as goal
+use Rattle.cut_text.proofs.printing.write_set.Goals as goal
 
 pub returns-in_err-put : goal.returns-in_err-put
 returns-in_err-put g c = writes_exit _ _ c.from_residual.ensures.1 (writes_cut _ _ c.in_err-put.ensures)

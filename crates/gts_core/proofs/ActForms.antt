@@ -1,7 +1,9 @@
 -- The assignments of an instruction, form by form.
-use Rattle.std.proofs.Common.{◌≡◌, ℕ, ◌+◌, ◌<◌, Bool, true, false, List, [], ◌∷◌, ◌++◌, map, take, length, get_or, Vec, Box, Global, refl, sym, ap, ◌∙◌, subst, append-nil, Result, Ok, Err, OnOk}
+use Rattle.std.proofs.Common.{◌≡◌, ℕ, ◌+◌, ◌-◌, arith, ◌<◌, Bool, true, false, List, [], ◌∷◌, ◌++◌, map, take, length, get_or, Vec, Box, Global, refl, sym, ap, ◌∙◌, subst, append-nil}
 use Rattle.std.specs.List.{flat_map}
-use Rattle.std.proofs.lemmas.List.{take_more}
+use Rattle.std.specs.Borrow.{Bor}
+use Rattle.std.proofs.lemmas.List.{take_more, length-append}
+use Rattle.std.proofs.Math.Seq.{take-append_seam}
 use Rattle.std.proofs.lemmas.Grind.{flat_map-append}
 use Rattle.ar_base.specs.Lists.{Along}
 use Rattle.ar_base.specs.Lists as l
@@ -11,7 +13,7 @@ use Rattle.typed_expr.specs.declared.expr.Expr.{Expr, out-Expr}
 use Rattle.typed_expr.specs.Pairs.{turned}
 use Rattle.typed_expr.proofs.Renaming.{renames_turned, renames_joined}
 use Rattle.ar_meaning.specs.Systems as s
-use Rattle.ar_meaning.specs.Image.{Conditions_rename, Assign_renames}
+use Rattle.ar_meaning.specs.Image.{Assign_renames}
 use Rattle.ar_meaning.specs.Image as i
 use Rattle.gts_core.specs.declared.bound.Act.{Act, Skip, Set, out-Act, roll-Act, out-roll-Act}
 use Rattle.gts_core.specs.declared.bound.Act.TheOpen as form
@@ -23,7 +25,7 @@ use Rattle.ar_base.specs.Numbers.{VarId}
 use Rattle.ar_base.proofs.Items.{along_append}
 use Rattle.gts_core.specs.View.{numbered, assign_of}
 use Rattle.gts_core.specs.Copies.{IsCopy}
-use Rattle.gts_core.specs.Bound.{Conditions, act_step, assigns_under, AreNumbers, AreAssigns, place_step, places_of_act, places_in, Gives, GiveAll, AreConditionCopies, IsUnder}
+use Rattle.gts_core.specs.Bound.{Conditions, act_step, assigns_under, AreNumbers, AreAssigns, place_step, places_of_act, places_in, Gives, GiveAll, AreConditionCopies, conditions_in}
 use Rattle.gts_core.proofs.Numbering.{IsNumber, renames_numbered, copy_numbered}
 
 arm : (act : Act) (x : Act-F Act) → out-Act act ≡ x
@@ -123,18 +125,37 @@ copies_more a b c (i.one_and q qs) k = i.one_and q (copies_more a b c qs k)
 pub conditions_start : (ys : List (Expr VarId × Bool)) → ys ≡ [] → AreConditionCopies [] ys
 conditions_start ys j = subst (λ z. AreConditionCopies [] z) (sym j) i.none
 
-pub conditions_next : (xs : List (Expr VarId × Bool)) (n : ℕ) (x : Expr VarId × Bool) (y : Expr VarId)
-    (ys zs : List (Expr VarId × Bool)) → n < length xs → x ≡ get_or xs n x → AreConditionCopies (take n xs) ys
-    → IsCopy x.0 y
-    → zs ≡ ys ++ (y, x.1) ∷ [] → AreConditionCopies (take (n + 1) xs) zs
-conditions_next xs n (a, b) y ys zs h e k c j =
-    subst (λ z. AreConditionCopies (take (n + 1) xs) z) (sym j)
-    (subst (λ z. AreConditionCopies z (ys ++ (y, b) ∷ []))
-    (sym (take_more xs n (a, b) h ∙ ap (λ z. take n xs ++ z ∷ []) (sym e))) (copies_more a y b k c))
+conditions_more : (when : List (Bor (Expr VarId) × Bool)) (x : Bor (Expr VarId) × Bool)
+    → conditions_in (when ++ x ∷ []) ≡ conditions_in when ++ (x.0.now, x.1) ∷ []
+conditions_more [] x = refl
+conditions_more (y ∷ ys) x = ap (λ z. (y.0.now, y.1) ∷ z) (conditions_more ys x)
 
-pub under_is : (when front copies : List (Expr VarId × Bool)) (t u : Expr VarId) (b : Bool)
-    → AreConditionCopies when front → IsCopy t u → copies ≡ front ++ (u, b) ∷ [] → IsUnder when t b copies
-under_is when front copies t u b k c j = subst (λ z. IsUnder when t b z) (sym j) (copies_more t u b k c)
+pub borrowed_next : (when : List (Bor (Expr VarId) × Bool)) (n : ℕ) (x : Bor (Expr VarId) × Bool) (y : Expr VarId)
+    (ys zs : List (Expr VarId × Bool)) → n < length when → x ≡ get_or when n x
+    → AreConditionCopies (conditions_in (take n when)) ys → IsCopy x.0.now y → zs ≡ ys ++ (y, x.1) ∷ []
+    → AreConditionCopies (conditions_in (take (n + 1) when)) zs
+borrowed_next when n x y ys zs h e k c j =
+    subst (λ z. AreConditionCopies (conditions_in (take (n + 1) when)) z) (sym j)
+    (subst (λ z. AreConditionCopies z (ys ++ (y, x.1) ∷ []))
+    (sym (ap conditions_in (take_more when n x h ∙ ap (λ z. take n when ++ z ∷ []) (sym e))
+    ∙ conditions_more (take n when) x)) (copies_more x.0.now y x.1 k c))
+
+-- an instruction under one more borrowed condition
+pub gives_under : (act : Act) (when stack pushed : List (Bor (Expr VarId) × Bool)) (t : Bor (Expr VarId)) (b : Bool)
+    (x : Act) (old new : List Assign) → stack ≡ when → pushed ≡ stack ++ (t, b) ∷ [] → x ≡ act
+    → Gives x (conditions_in pushed) old new → Gives act (conditions_in when ++ (t.now, b) ∷ []) old new
+gives_under act when stack pushed t b x old new i j e g =
+    subst (λ z. Gives z (conditions_in when ++ (t.now, b) ∷ []) old new) e
+    (subst (λ z. Gives x z old new) (ap conditions_in j ∙ (conditions_more stack (t, b)
+    ∙ ap (λ w. conditions_in w ++ (t.now, b) ∷ []) i)) g)
+
+-- a stack with one more and one less
+pub popped : {A : Type 0} (old pushed back new : List A) (x : A) (n : ℕ) → pushed ≡ old ++ x ∷ [] → back ≡ pushed
+    → n ≡ length back → new ≡ take (n - 1) back → new ≡ old
+popped {A} old pushed back new x n i j k l =
+    let e : length (old ++ x ∷ []) - 1 ≡ length old = omega (arith, length-append old (x ∷ [])) in
+    l ∙ (ap (λ m. take (m - 1) back) k ∙ (ap (λ (z : List A). take (length z - 1) z) (j ∙ i)
+    ∙ (ap (λ m. take m (old ++ x ∷ [])) e ∙ take-append_seam old (x ∷ []))))
 
 -- lists
 map_append : (xs ys : List Assign) → map assign_of (xs ++ ys) ≡ map assign_of xs ++ map assign_of ys
@@ -176,16 +197,15 @@ module _ (act : Act) (when : List (Expr VarId × Bool)) (old : List Assign) wher
     places = sym (set_placed act x e p j);
   }
 
-  pub gives_if : (t : Expr VarId) (a b : Box Act Global) (here there : List (Expr VarId × Bool)) (mid new : List Assign)
-      → act ≡ If t a b → IsUnder when t true here → Gives a.value here old mid
-      → IsUnder when t false there → Gives b.value there mid new → Gives act when old new
-  gives_if t a b here there mid new j u g v h = record {
+  pub gives_if : (t : Expr VarId) (a b : Box Act Global) (mid new : List Assign) → act ≡ If t a b
+      → Gives a.value (when ++ (t, true) ∷ []) old mid → Gives b.value (when ++ (t, false) ∷ []) mid new
+      → Gives act when old new
+  gives_if t a b mid new j g h = record {
     added = g.added ++ h.added;
     is = both_added old mid new g.added h.added g.is h.is;
     are = λ cs n. subst (λ z. AreAssigns z (g.added ++ h.added)) (sym (if_is act t a b j cs))
-        (assigns_append g.added h.added (g.are (cs ++ (numbered t, true) ∷ [])
-        (numbers_copied u (numbers_more cs when t true n)))
-        (h.are (cs ++ (numbered t, false) ∷ []) (numbers_copied v (numbers_more cs when t false n))));
+        (assigns_append g.added h.added (g.are (cs ++ (numbered t, true) ∷ []) (numbers_more cs when t true n))
+        (h.are (cs ++ (numbered t, false) ∷ []) (numbers_more cs when t false n)));
     places = both_placed g.added h.added (places_of_act a.value) (places_of_act b.value) g.places h.places
         ∙ sym (if_placed act t a b j);
   }
@@ -230,8 +250,3 @@ give_whole act when old new e j g =
 pub give_places : (act : Act) (when : List (Expr VarId × Bool)) (old new : List Assign) → old ≡ []
     → Gives act when old new → places_in new ≡ places_of_act act
 give_places act when old new j g = ap places_in (g.is ∙ ap (λ z. z ++ g.added) j) ∙ g.places
-
--- the same instruction under the same conditions
-pub gives_as : (x y : Act) (xs ys : List (Expr VarId × Bool)) (old new : List Assign) → x ≡ y → xs ≡ ys
-    → Gives x xs old new → Gives y ys old new
-gives_as x y xs ys old new e j g = subst (λ z. Gives y z old new) j (subst (λ z. Gives z xs old new) e g)

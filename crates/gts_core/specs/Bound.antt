@@ -1,5 +1,6 @@
 -- What instructions and declared events stand for.
 use Rattle.std.specs.Prelude.{◌≡◌, ℕ, ◌+◌, Bool, true, false, List, [], ◌∷◌, ◌++◌, map}
+use Rattle.std.specs.Borrow.{Bor}
 use Rattle.std.specs.List.{flat_map}
 use Rattle.typed_expr.specs.declared.expr.Expr.{Expr}
 use Rattle.ar_meaning.specs.Systems as s
@@ -99,6 +100,6 @@ pub record GiveAll (acts : List Act) (when : List (Expr VarId × Bool)) (old new
 abbrev pub AreConditionCopies : List (Expr VarId × Bool) → List (Expr VarId × Bool) → Type 0
 AreConditionCopies = Conditions_rename IsSame
 
--- copies of conditions, and of one more, further inward
-abbrev pub IsUnder : List (Expr VarId × Bool) → Expr VarId → Bool → List (Expr VarId × Bool) → Type 0
-IsUnder when test truth copies = AreConditionCopies (when ++ (test, truth) ∷ []) copies
+-- borrowed conditions as what they borrow
+abbrev pub conditions_in : List (Bor (Expr VarId) × Bool) → List (Expr VarId × Bool)
+conditions_in when = map (λ (c : Bor (Expr VarId) × Bool). (c.0.now, c.1)) when

@@ -1,7 +1,7 @@
 //! The assignments of instructions.
 
 ghost use Rattle.std.specs.Prelude.{◌≡◌, OnOk, IfOk};
-ghost use Rattle.gts_core.specs.Bound.{assigns_of_act, places_of_act, places_in, AreAssigns, Gives, GiveAll, AreConditionCopies, IsUnder};
+ghost use Rattle.gts_core.specs.Bound.{assigns_of_act, places_of_act, places_in, AreAssigns, Gives, GiveAll, AreConditionCopies, conditions_in};
 
 use crate::bound::Act;
 use crate::copies::copy_expression;
@@ -17,19 +17,22 @@ pub fn assignments(alloc: Global, act: &Act) -> Result<Vec<Assign>, Memory>
     ensures places { IfOk result (λ v. places_in v.items ≡ places_of_act act.now) }
 {
     let mut out = Vec::new(alloc);
-    assigned(alloc, act, &[], &mut out)?;
+    let mut when = Vec::new(alloc);
+    assigned(alloc, act, &mut when, &mut out)?;
     Ok(out)
 }
 
-// Puts the assignments of an instruction under these conditions behind the others.
+// Puts the assignments of an instruction under these conditions behind the others. The conditions are borrowed, and copied
+// where there is an assignment; afterwards they are what they were.
 #[cycle(assigned)]
-fn assigned(
+fn assigned<'a>(
     alloc: Global,
-    act: &Act,
-    when: &[(Expr<VarId>, bool)],
+    act: &'a Act,
+    when: &mut Vec<(&'a Expr<VarId>, bool)>,
     out: &mut Vec<Assign>,
 ) -> Result<(), Memory>
-    ensures { OnOk result (Gives act.now when.now out.old.items out.new.items) }
+    ensures given { OnOk result (Gives act.now (conditions_in when.old.items) out.old.items out.new.items) }
+    ensures kept { OnOk result (when.new.items ≡ when.old.items) }
 {
     match act {
         Act::Skip => Ok(()),
@@ -45,10 +48,13 @@ fn assigned(
             Ok(())
         }
         Act::If(test, first, second) => {
-            let here = under(alloc, when, test, true)?;
-            assigned(alloc, first, &here, out)?;
-            let there = under(alloc, when, test, false)?;
-            assigned(alloc, second, &there, out)
+            when.push((test, true))?;
+            assigned(alloc, first, when, out)?;
+            when.pop();
+            when.push((test, false))?;
+            assigned(alloc, second, when, out)?;
+            when.pop();
+            Ok(())
         }
         Act::All(acts) => all_assigned(alloc, acts, when, out),
     }
@@ -56,13 +62,14 @@ fn assigned(
 
 // The same for instructions one after the other.
 #[cycle(assigned)]
-fn all_assigned(
+fn all_assigned<'a>(
     alloc: Global,
-    acts: &[Act],
-    when: &[(Expr<VarId>, bool)],
+    acts: &'a [Act],
+    when: &mut Vec<(&'a Expr<VarId>, bool)>,
     out: &mut Vec<Assign>,
 ) -> Result<(), Memory>
-    ensures { OnOk result (GiveAll acts.now when.now out.old.items out.new.items) }
+    ensures given { OnOk result (GiveAll acts.now (conditions_in when.old.items) out.old.items out.new.items) }
+    ensures kept { OnOk result (when.new.items ≡ when.old.items) }
 {
     for act in acts {
         assigned(alloc, act, when, out)?;
@@ -71,28 +78,13 @@ fn all_assigned(
 }
 
 // Copies of conditions.
-fn copied(alloc: Global, when: &[(Expr<VarId>, bool)]) -> Result<Vec<(Expr<VarId>, bool)>, Memory>
-    ensures { IfOk result (λ v. AreConditionCopies when.now v.items) }
+fn copied(alloc: Global, when: &[(&Expr<VarId>, bool)]) -> Result<Vec<(Expr<VarId>, bool)>, Memory>
+    ensures { IfOk result (λ v. AreConditionCopies (conditions_in when.now) v.items) }
 {
     let mut out = Vec::new(alloc);
     for (test, truth) in when {
         let test = copy_expression(alloc, test)?;
         out.push((test, *truth))?;
     }
-    Ok(out)
-}
-
-// Copies of conditions with one more, further inward.
-fn under(
-    alloc: Global,
-    when: &[(Expr<VarId>, bool)],
-    test: &Expr<VarId>,
-    truth: bool,
-) -> Result<Vec<(Expr<VarId>, bool)>, Memory>
-    ensures { IfOk result (λ v. IsUnder when.now test.now truth v.items) }
-{
-    let mut out = copied(alloc, when)?;
-    let test = copy_expression(alloc, test)?;
-    out.push((test, truth))?;
     Ok(out)
 }

@@ -1,8 +1,9 @@
 -- Sets, a value at a time.
-use mathlib.Core.Bool.{beq}
-use Rattle.std.proofs.Common.{◌≡◌, ℕ, ◌+◌, ◌<◌, ◌≤◌, Bool, true, false, IsTrue, List, [], ◌∷◌, length, take, drop, Contains, get_or, Option, Some, None, Result, Ok, Err, IsErrAnd, refl, sym, ap, ◌∙◌, subst, ◌⊎◌, inl, inr, arith}
+use Rattle.std.proofs.Common.{◌≡◌, ℕ, ◌+◌, ◌<◌, ◌≤◌, Bool, true, false, IsTrue, List, [], ◌∷◌, ◌++◌, length, take, drop, Contains, get_or, Option, Some, None, Result, Ok, Err, IsErrAnd, refl, sym, ap, ◌∙◌, subst, ◌⊎◌, inl, inr, arith}
 use Rattle.std.proofs.lemmas.List.{take_more, take_all, take-append-drop}
-use Rattle.std.proofs.lemmas.List.Elements.{Contains-append_left, Contains-push, Contains-push_cases}
+use Rattle.std.specs.List.Sorted.{IsPermutation}
+use Rattle.std.proofs.lemmas.List.Elements.{Contains-append_left, Contains-append_right, Contains-append_cases, Contains-push, Contains-push_cases}
+use Rattle.std.proofs.lemmas.List.Sorted.{Contains-permutation, IsPermutation-sym}
 use Rattle.domains.specs.Values.{IsAscending}
 use Rattle.domains.specs.declared.Value.{Value}
 use Rattle.domains.specs.declared.Value.TheVariants.{Truth, Whole}
@@ -35,7 +36,7 @@ pub stopped-up : (most : Option ℕ) (C D : ℕ → Type 0) → ((n : ℕ) → C
     → Stopped most D stop
 stopped-up None C D f TooMany h = h
 stopped-up (Some n) C D f TooMany h = f n h
-stopped-up most C D f NoMemory h = tt
+stopped-up most C D f (NoMemory memory) h = tt
 
 -- the same gathered under another description
 pub gathers-as : (most : Option ℕ) (r : Result (List Value) Stop) {P Q : Value → Type 0} → ((v : Value) → P v → Q v)
@@ -44,7 +45,7 @@ gathers-as most (Ok set) f g h =
     (record { sound = λ v m. f v (h.0.sound v m); complete = λ v q. h.0.complete v (g v q) }, h.1)
 gathers-as most (Err TooMany) {P} {Q} f g h =
     at-limit most {P = λ n. HasMoreThan n P} {Q = λ n. HasMoreThan n Q} (λ n. more-than f) h
-gathers-as most (Err NoMemory) f g h = tt
+gathers-as most (Err (NoMemory memory)) f g h = tt
 
 -- where the set has exactly the values of P and another goes in
 pub exactly-put : (set new : List Value) (v : Value) (P Q : Value → Type 0) → HasExactly set P → Adds set v new
@@ -68,7 +69,7 @@ refused-put (Some n) set v TooMany P Q h (new, a, s, l) up here = record {
   more = l;
   each = λ d m. elim (a.only d m) [ inl k ↦ up d (h.sound d k) | inr e ↦ subst Q (sym e) here ];
 }
-refused-put most set v NoMemory P Q h r up here = tt
+refused-put most set v (NoMemory memory) P Q h r up here = tt
 
 -- a set of exactly the values of P within the limit: they are not too many
 pub not-more : (most : Option ℕ) (set : List Value) (P : Value → Type 0) → IsAscending set → HasExactly set P
@@ -311,7 +312,7 @@ numbers-refused (Some k) s first ns values set i d n TooMany h e t g =
       in_values = u.in_values;
       is = u.is;
     }) g
-numbers-refused most s first ns values set i d n NoMemory h e t g = tt
+numbers-refused most s first ns values set i d n (NoMemory memory) h e t g = tt
 
 pub numbers-start : (most : Option ℕ) (s : Step) (first : Bool) (ns values set : List Value) → set ≡ []
     → SoFar most set (IsNext s first (take 0 ns) values)
@@ -422,3 +423,166 @@ pub wanted-as : (most : Option ℕ) (set more values : List Value) (wanted : Boo
 wanted-as most set more values wanted r w e g = gathers-as most r {P = λ v. Contains set v ⊎ Contains values v}
     (λ v m. elim m [ inl h ↦ inl h | inr k ↦ inr (w, subst (λ (l : List Value). Contains l v) e k) ])
     (λ v m. elim m [ inl h ↦ inl h | inr k ↦ inr (subst (λ (l : List Value). Contains l v) (sym e) k.1) ]) g
+
+-- Results made in runs and sorted
+
+adds-push : (xs : List Value) (v : Value) → Adds xs v (xs ++ v ∷ [])
+adds-push xs v = record {
+  kept = λ d m. Contains-append_left xs (v ∷ []) d m;
+  added = Contains-push xs v;
+  only = λ d m. elim (Contains-push_cases xs v d m) [ inl k ↦ inl k | inr e ↦ inr (sym e) ];
+}
+
+-- what is in a list is in it in another order
+pub exactly-sorted : (all sorted : List Value) (P : Value → Type 0) → HasExactly all P → IsPermutation all sorted
+    → HasExactly sorted P
+exactly-sorted all sorted P h p = record {
+  sound = λ v m. h.sound v (Contains-permutation sorted all v (IsPermutation-sym all sorted p) m);
+  complete = λ v q. Contains-permutation all sorted v p (h.complete v q);
+}
+
+-- the values of one list and then those of another
+pub exactly-both : (set values all : List Value) → all ≡ set ++ values
+    → HasExactly all (λ v. Contains set v ⊎ Contains values v)
+exactly-both set values all e = record {
+  sound = λ v m. Contains-append_cases set values v (subst (λ (l : List Value). Contains l v) e m);
+  complete = λ v m. subst (λ (l : List Value). Contains l v) (sym e)
+      (elim m [ inl k ↦ Contains-append_left set values v k | inr k ↦ Contains-append_right set values v k ]);
+}
+
+-- what gathers a list that has exactly the values of P gathers these
+pub gathered-exactly : (most : Option ℕ) (all : List Value) (r : Result (List Value) Stop) (P : Value → Type 0)
+    → HasExactly all P → Gathers most r (Contains all) → Gathers most r P
+gathered-exactly most all r P h g = gathers-as most r {P = Contains all} h.sound h.complete g
+
+-- the results of the first numbers with one value, behind those of before
+abbrev pub ResultsTo : Step → Bool → List Value → Value → List Value → ℕ → Value → Type 0
+ResultsTo s first numbers v old i w = Contains old w ⊎ IsNext s first (take i numbers) (v ∷ []) w
+
+pub results-start : (s : Step) (first : Bool) (numbers : List Value) (v : Value) (old : List Value)
+    → HasExactly old (ResultsTo s first numbers v old 0)
+results-start s first numbers v old = record {
+  sound = λ w m. inl m;
+  complete = λ w m. elim m [ inl h ↦ h | inr h ↦ absurd (nothing-in h.number h.in_numbers) ];
+}
+
+result-here : (s : Step) (first : Bool) (numbers : List Value) (v : Value) (i : ℕ) (d : Value) → i < length numbers
+    → IsNext s first (take (i + 1) numbers) (v ∷ []) (Whole (next_of s first (whole_of (get_or numbers i d)) v))
+result-here s first numbers v i d h = record {
+  number = get_or numbers i d;
+  value = v;
+  in_numbers = take-has numbers i d h;
+  in_values = contains-head v [];
+  is = refl;
+}
+
+result-more : (s : Step) (first : Bool) (numbers : List Value) (v : Value) (i : ℕ) (d w : Value) → i < length numbers
+    → IsNext s first (take i numbers) (v ∷ []) w → IsNext s first (take (i + 1) numbers) (v ∷ []) w
+result-more s first numbers v i d w h k = record {
+  number = k.number;
+  value = k.value;
+  in_numbers = take-keeps numbers i d k.number h k.in_numbers;
+  in_values = k.in_values;
+  is = k.is;
+}
+
+result-cases : (s : Step) (first : Bool) (numbers : List Value) (v : Value) (i : ℕ) (d w : Value) → i < length numbers
+    → IsNext s first (take (i + 1) numbers) (v ∷ []) w
+    → IsNext s first (take i numbers) (v ∷ []) w ⊎ (w ≡ Whole (next_of s first (whole_of (get_or numbers i d)) v))
+result-cases s first numbers v i d w h k =
+    elim (take-cases numbers i d k.number h k.in_numbers) [
+      | inl l ↦
+          inl (record { number = k.number; value = k.value; in_numbers = l; in_values = k.in_values; is = k.is })
+      | inr q ↦
+          inr
+          (k.is ∙ (ap (λ z. Whole (next_of s first (whole_of z) k.value)) q
+          ∙ ap (λ z. Whole (next_of s first (whole_of (get_or numbers i d)) z))
+          (sym (contains-one v k.value k.in_values))))
+    ]
+
+pub results-more : (s : Step) (first : Bool) (numbers : List Value) (v x : Value) (old set new : List Value) (i : ℕ)
+    (d : Value) → i < length numbers → HasExactly set (ResultsTo s first numbers v old i)
+    → x ≡ Whole (next_of s first (whole_of (get_or numbers i d)) v) → new ≡ set ++ x ∷ []
+    → HasExactly new (ResultsTo s first numbers v old (i + 1))
+results-more s first numbers v x old set new i d h t e j =
+    subst (λ (l : List Value). HasExactly l (ResultsTo s first numbers v old (i + 1))) (sym j)
+    (exactly-put set (set ++ x ∷ []) x (ResultsTo s first numbers v old i) (ResultsTo s first numbers v old (i + 1)) t
+    (adds-push set x)
+    (λ w m. elim m [ inl k ↦ inl k | inr k ↦ inr (result-more s first numbers v i d w h k) ])
+    (inr (subst (IsNext s first (take (i + 1) numbers) (v ∷ [])) (sym e) (result-here s first numbers v i d h)))
+    (λ w m. elim m [
+      | inl k ↦ inl (inl k)
+      | inr k ↦ elim (result-cases s first numbers v i d w h k) [ inl l ↦ inl (inr l) | inr q ↦ inr (q ∙ sym e) ]
+    ]))
+
+pub results-end : (s : Step) (first : Bool) (numbers : List Value) (v : Value) (old set : List Value) (i : ℕ)
+    → length numbers ≤ i → HasExactly set (ResultsTo s first numbers v old i)
+    → HasExactly set (λ w. Contains old w ⊎ IsNext s first numbers (v ∷ []) w)
+results-end s first numbers v old set i h t =
+    let P : List Value → Type 0 = λ l. HasExactly set (λ w. Contains old w ⊎ IsNext s first l (v ∷ []) w) in
+    subst P (take_all i numbers h) t
+
+pub runs-start : (s : Step) (first : Bool) (numbers values set : List Value) → set ≡ []
+    → HasExactly set (IsNext s first numbers (take 0 values))
+runs-start s first numbers values set e = record {
+  sound = λ v m. absurd (nothing-in v (subst (λ (l : List Value). Contains l v) e m));
+  complete = λ v m. absurd (nothing-in m.value m.in_values);
+}
+
+run_up : (s : Step) (first : Bool) (numbers values set : List Value) (i : ℕ) (d v : Value) → i < length values
+    → v ≡ get_or values i d → ((w : Value) → Contains set w → IsNext s first numbers (take i values) w) → (w : Value)
+    → Contains set w ⊎ IsNext s first numbers (v ∷ []) w → IsNext s first numbers (take (i + 1) values) w
+run_up s first numbers values set i d v h e t w (inl k) =
+    let m = t w k in
+    record {
+      number = m.number;
+      value = m.value;
+      in_numbers = m.in_numbers;
+      in_values = take-keeps values i d m.value h m.in_values;
+      is = m.is;
+    }
+run_up s first numbers values set i d v h e t w (inr m) = record {
+  number = m.number;
+  value = m.value;
+  in_numbers = m.in_numbers;
+  is = m.is;
+  in_values =
+      subst (λ (z : Value). Contains (take (i + 1) values) z) (sym e ∙ contains-one v m.value m.in_values)
+      (take-has values i d h);
+}
+
+run_down : (s : Step) (first : Bool) (numbers values set : List Value) (i : ℕ) (d v : Value) → i < length values
+    → v ≡ get_or values i d → ((w : Value) → IsNext s first numbers (take i values) w → Contains set w) → (w : Value)
+    → IsNext s first numbers (take (i + 1) values) w → Contains set w ⊎ IsNext s first numbers (v ∷ []) w
+run_down s first numbers values set i d v h e t w m =
+    elim (take-cases values i d m.value h m.in_values) [
+      | inl k ↦
+          inl
+          (t w (record { number = m.number; value = m.value; in_numbers = m.in_numbers; in_values = k; is = m.is }))
+      | inr q ↦
+          inr
+          (record {
+            number = m.number;
+            value = m.value;
+            in_numbers = m.in_numbers;
+            is = m.is;
+            in_values = subst (λ (z : Value). Contains (v ∷ []) z) (e ∙ sym q) (contains-head v []);
+          })
+    ]
+
+-- one more run
+pub runs-more : (s : Step) (first : Bool) (numbers values set new : List Value) (i : ℕ) (d v : Value)
+    → i < length values → v ≡ get_or values i d → HasExactly set (IsNext s first numbers (take i values))
+    → HasExactly new (λ w. Contains set w ⊎ IsNext s first numbers (v ∷ []) w)
+    → HasExactly new (IsNext s first numbers (take (i + 1) values))
+runs-more s first numbers values set new i d v h e t g = record {
+  sound = λ w m. run_up s first numbers values set i d v h e t.sound w (g.sound w m);
+  complete = λ w m. g.complete w (run_down s first numbers values set i d v h e t.complete w m);
+}
+
+pub runs-end : (s : Step) (first : Bool) (numbers values all sorted : List Value) (i : ℕ) → length values ≤ i
+    → HasExactly all (IsNext s first numbers (take i values)) → IsPermutation all sorted
+    → HasExactly sorted (IsNext s first numbers values)
+runs-end s first numbers values all sorted i h t p =
+    exactly-sorted all sorted (IsNext s first numbers values)
+    (let P : List Value → Type 0 = λ l. HasExactly all (IsNext s first numbers l) in subst P (take_all i values h) t) p

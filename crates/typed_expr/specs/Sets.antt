@@ -35,7 +35,7 @@ KeepsLimit (Some most) set = length set ≤ most
 -- where there is too much of something, so there is
 abbrev pub Stopped : Option ℕ → (ℕ → Type 0) → Stop → Type 0
 Stopped most P TooMany = AtLimit most P
-Stopped most P NoMemory = Unit {0}
+Stopped most P (NoMemory memory) = Unit {0}
 
 -- a set of exactly the values of which P holds, within the limit; or P holds of more values than the limit
 abbrev pub Gathers : Option ℕ → Result (List Value) Stop → (Value → Type 0) → Type 0
@@ -56,7 +56,7 @@ Inserts most old v new = Adds old v new × (KeepsLimit most old → KeepsLimit m
 abbrev pub Refuses : Option ℕ → List Value → Value → Stop → Type 0
 Refuses most old v TooMany =
     AtLimit most (λ n. (new : List Value) × Adds old v new × IsAscending new × (n < length new))
-Refuses most old v NoMemory = Unit {0}
+Refuses most old v (NoMemory memory) = Unit {0}
 
 -- the values before the place come before the value, and those from the place on come after it
 pub record GoesAt (values : List Value) (v : Value) (place : ℕ) : Type 0 where

@@ -11,7 +11,9 @@ ghost use Rattle.typed_expr.specs.Evaluating.{Evaluates, Tallies, Folds, Sums, C
 use crate::env::Env;
 use crate::expr::Expr;
 use crate::fold::{Step, start_value};
-use crate::sets::{both, either, gathered, joined_where, some_related, stepped, truth_set};
+use crate::sets::{
+    both, either, few_pairs, gathered, joined_where, some_related, stepped, truth_set,
+};
 use crate::value_set::{Stop, ValueSet};
 use ar_base::Memory;
 use domains::Value;
@@ -30,7 +32,8 @@ pub fn eval_set<V, E: Env<V>>(alloc: Global, expr: &Expr<V>, env: &E) -> Result<
 {
     match yielded(alloc, expr, env, None) {
         Ok(set) => Ok(set),
-        Err(_) => Err(Memory {}),
+        Err(Stop::NoMemory(memory)) => Err(memory),
+        Err(Stop::TooMany) => unreachable!(),
     }
 }
 
@@ -55,7 +58,7 @@ pub fn possible_values<V, E: Env<V>>(
     match yielded(alloc, expr, env, Some(most)) {
         Ok(set) => Ok(Some(set)),
         Err(Stop::TooMany) => Ok(None),
-        Err(Stop::NoMemory) => Err(Memory {}),
+        Err(Stop::NoMemory(memory)) => Err(memory),
     }
 }
 
@@ -92,6 +95,7 @@ fn yielded<V, E: Env<V>>(
         Expr::Compare(relation, a, b) => {
             let left = yielded(alloc, a, env, most)?;
             let right = yielded(alloc, b, env, most)?;
+            few_pairs(&left, &right)?;
             let can_be_false = some_related(*relation, left.values(), right.values(), false);
             let can_be_true = some_related(*relation, left.values(), right.values(), true);
             truth_set(alloc, can_be_false, can_be_true, most)
@@ -222,5 +226,5 @@ fn with_branch<V, E: Env<V>>(
         return Ok(set);
     }
     let values = yielded(alloc, value, env, most)?;
-    joined_where(takes, set, &values, most)
+    joined_where(alloc, takes, set, &values, most)
 }

@@ -1,17 +1,40 @@
 //! Sets made of sets.
 
-ghost use Rattle.std.specs.Prelude.{◌≡◌, ◌↔◌, ◌⊎◌, IsTrue, Contains, [], ◌∷◌};
+ghost use Rattle.std.specs.Prelude.{◌≡◌, ◌↔◌, ◌⊎◌, IsTrue, IfOk, OnOk, Contains, [], ◌∷◌};
 ghost use Rattle.typed_expr.specs.Values.{is_related, whole_of};
 ghost use Rattle.domains.specs.declared.Value.TheVariants.{Whole};
 ghost use Rattle.typed_expr.specs.Folds.{next_of};
-ghost use Rattle.typed_expr.specs.Sets.{Gathers, KeepsLimit};
+ghost use Rattle.typed_expr.specs.Sets.{Gathers, HasExactly, KeepsLimit};
 ghost use Rattle.typed_expr.specs.Evaluating.{IsTruth, SomeRelated, IsNext};
 
 use crate::expr::Relation;
 use crate::fold::{Step, next, whole};
 use crate::value_set::{Stop, ValueSet, before};
+use ar_base::Memory;
 use domains::Value;
 use std::alloc::Global;
+
+// The most results of one step of a fold, each value of what it has come to with each of the next operand.
+const MOST_RESULTS: usize = 8_388_608;
+
+// The most pairs of values that one comparison looks at.
+const MOST_PAIRS: usize = 268_435_456;
+
+// As many values as are put in one by one; more are sorted first.
+const FEW: usize = 64;
+
+/// Refuses where a comparison of the sets would look at too many pairs of values.
+pub(crate) fn few_pairs(left: &ValueSet, right: &ValueSet) -> Result<(), Memory> {
+    few(left.values(), right.values(), MOST_PAIRS)
+}
+
+// Refuses where there are more pairs of values of the two lists.
+fn few(first: &[Value], second: &[Value], most: usize) -> Result<(), Memory> {
+    if first.len().saturating_mul(second.len()) > most {
+        return Err(Memory {});
+    }
+    Ok(())
+}
 
 // The set of these values.
 pub(crate) fn gathered(alloc: Global, values: &[Value], most: Option<u32>) -> Result<ValueSet, Stop>
@@ -22,7 +45,7 @@ pub(crate) fn gathered(alloc: Global, values: &[Value], most: Option<u32>) -> Re
 }
 
 // The set with these values put in.
-pub(crate) fn joined(set: ValueSet, values: &[Value], most: Option<u32>) -> Result<ValueSet, Stop>
+fn joined(set: ValueSet, values: &[Value], most: Option<u32>) -> Result<ValueSet, Stop>
     requires { KeepsLimit most set }
     ensures { Gathers most result (λ v. Contains set v ⊎ Contains values.now v) }
 {
@@ -33,8 +56,49 @@ pub(crate) fn joined(set: ValueSet, values: &[Value], most: Option<u32>) -> Resu
     Ok(set)
 }
 
+// The values of both lists, in order.
+fn together(alloc: Global, set: &[Value], values: &[Value]) -> Result<Vec<Value>, Memory>
+    ensures { IfOk result (λ all. HasExactly all.items (λ v. Contains set.now v ⊎ Contains values.now v)) }
+{
+    let mut all = Vec::from_slice(alloc, set)?;
+    all.extend_from_slice(values)?;
+    all.sort()?;
+    Ok(all)
+}
+
+// The set of the values of both, made from them in order.
+fn merged(
+    alloc: Global,
+    set: &ValueSet,
+    values: &[Value],
+    most: Option<u32>,
+) -> Result<ValueSet, Stop>
+    ensures { Gathers most result (λ v. Contains set.now v ⊎ Contains values.now v) }
+{
+    let all = together(alloc, set.values(), values)?;
+    gathered(alloc, &all, most)
+}
+
+// The set with these values put in, one by one where they are few.
+fn joined_all(
+    alloc: Global,
+    set: ValueSet,
+    values: &[Value],
+    most: Option<u32>,
+) -> Result<ValueSet, Stop>
+    requires { KeepsLimit most set }
+    ensures { Gathers most result (λ v. Contains set v ⊎ Contains values.now v) }
+{
+    if values.len() <= FEW {
+        joined(set, values, most)
+    } else {
+        merged(alloc, &set, values, most)
+    }
+}
+
 // The set with the values of another put in, where they are wanted.
 pub(crate) fn joined_where(
+    alloc: Global,
     wanted: bool,
     set: ValueSet,
     more: &ValueSet,
@@ -44,7 +108,7 @@ pub(crate) fn joined_where(
     ensures { Gathers most result (λ v. Contains set v ⊎ (IsTrue wanted × Contains more.now v)) }
 {
     if wanted {
-        joined(set, more.values(), most)
+        joined_all(alloc, set, more.values(), most)
     } else {
         Ok(set)
     }
@@ -135,12 +199,68 @@ pub(crate) fn stepped(
 ) -> Result<ValueSet, Stop>
     ensures { Gathers most result (IsNext step first numbers.now values.now) }
 {
+    if numbers.len().saturating_mul(values.len()) <= FEW {
+        few_stepped(alloc, step, first, numbers, values, most)
+    } else {
+        few(numbers, values, MOST_RESULTS)?;
+        let all = results(alloc, step, first, numbers, values)?;
+        gathered(alloc, &all, most)
+    }
+}
+
+// The same, the results put in one by one.
+fn few_stepped(
+    alloc: Global,
+    step: Step,
+    first: bool,
+    numbers: &[Value],
+    values: &[Value],
+    most: Option<u32>,
+) -> Result<ValueSet, Stop>
+    ensures { Gathers most result (IsNext step first numbers.now values.now) }
+{
     let mut set = ValueSet::new(alloc);
     for n in numbers {
         let more = stepped_from(set, step, first, *n, values, most)?;
         set = more;
     }
     Ok(set)
+}
+
+// The results of a step, each number with each value as the next operand, in order. They are made in a run for each value,
+// which ascends or falls.
+fn results(
+    alloc: Global,
+    step: Step,
+    first: bool,
+    numbers: &[Value],
+    values: &[Value],
+) -> Result<Vec<Value>, Memory>
+    ensures { IfOk result (λ all. HasExactly all.items (IsNext step first numbers.now values.now)) }
+{
+    let mut all = Vec::new(alloc);
+    for v in values {
+        add_results(&mut all, step, first, numbers, *v)?;
+    }
+    all.sort()?;
+    Ok(all)
+}
+
+// Adds the results of each number with one value as the next operand.
+fn add_results(
+    all: &mut Vec<Value>,
+    step: Step,
+    first: bool,
+    numbers: &[Value],
+    v: Value,
+) -> Result<(), Memory>
+    ensures { OnOk result (HasExactly all.new.items
+        (λ w. Contains all.old.items w ⊎ IsNext step first numbers.now (v ∷ []) w)) }
+{
+    for n in numbers {
+        all.push(next_value(step, first, *n, v))?;
+    }
+    Ok(())
 }
 
 // The set with one number and each value as the next operand.

@@ -6,9 +6,10 @@ ghost use Rattle.domains.specs.Values.{is_before, IsAscending};
 ghost use Rattle.domains.specs.declared.Value.{Value};
 ghost use Rattle.typed_expr.specs.Sets.{HasExactly, Gathers, Adds, Inserts, Refuses, GoesAt, AtLimit};
 
+use ar_base::Memory;
 use domains::Value;
 use smallvec::SmallVec;
-use std::alloc::{AllocError, AllocFailed, Global};
+use std::alloc::Global;
 use std::marker::Model;
 
 /// Values in ascending order, none of them twice.
@@ -30,11 +31,22 @@ impl Model for ValueSet {
     ghost invariant = { λ s. IsAscending s.items.items };
 }
 
-// Why a set was not made.
-#[derive(Clone, Copy)]
+// Why a set was not made: it has too many values, or memory was refused.
+#[derive(Clone, Copy, Drop)]
 pub(crate) enum Stop {
     TooMany,
-    NoMemory,
+    NoMemory(Memory),
+}
+
+impl From<Memory> for Stop {
+    ghost use Rattle.std.specs.Prelude.{◌≡◌};
+    ghost use Rattle.typed_expr.specs.declared.value_set.Stop.TheVariants.{NoMemory};
+
+    ghost from_gives = { λ memory stop. stop ≡ NoMemory memory };
+
+    fn from(memory: Memory) -> Self {
+        Stop::NoMemory(memory)
+    }
 }
 
 impl ValueSet {
@@ -75,10 +87,7 @@ impl ValueSet {
         }
         match self.items.insert(place, v) {
             Ok(()) => Ok(()),
-            Err(failed) => {
-                let AllocFailed { value: _, .. } = failed;
-                Err(Stop::NoMemory)
-            }
+            Err(failed) => Err(Stop::NoMemory(Memory::from(failed))),
         }
     }
 }

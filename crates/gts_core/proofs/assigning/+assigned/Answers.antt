@@ -1,44 +1,53 @@
+use Rattle.std.proofs.Common.{◌≡◌, true, false, subst, ◌∙◌, refl, arith}
+use Rattle.std.proofs.lemmas.Grind.{common_steps}
 use Rattle.std.proofs.lemmas.Result.{on_ok_weaker}
-use Rattle.gts_core.proofs.ActForms.{gives_skip, gives_set, gives_if, gives_all, give_none, give_next, gives_as}
+use Rattle.gts_core.specs.Bound.{Gives, AreConditionCopies, conditions_in}
+use Rattle.gts_core.proofs.ActForms.{gives_skip, gives_set, gives_if, gives_all, give_none, give_next, gives_under}
 use Rattle.gts_core.proofs.assigning.+assigned.Goals as goal
 
-pub assigned-returns-in-Skip : goal.assigned-returns-in-Skip
-assigned-returns-in-Skip t c = gives_skip c.args.act.now c.args.when.now c.args.out.now.items c.in-Skip.is
-
-pub assigned-returns-in_ok-push-in-Set : goal.assigned-returns-in_ok-push-in-Set
-assigned-returns-in_ok-push-in-Set t c =
-    gives_set c.args.act.now c.args.when.now c.args.out.now.items c.in-Set.target c.in-Set.value
-    c.in_ok-value-in-Set.value c.in-Set.at c.in_ok-conditions-in-Set.conditions c.push.new.self.items c.in-Set.is
-    c.in_ok-conditions-in-Set.ensures
-    c.in_ok-value-in-Set.ensures c.in_ok-push-in-Set.ensures.items
-
-pub assigned-returns-in_ok-there-in-If : goal.assigned-returns-in_ok-there-in-If
-assigned-returns-in_ok-there-in-If t c =
-    on_ok_weaker c.assigned-in-If.result
-    (λ h. gives_if c.args.act.now c.args.when.now c.args.out.now.items c.in-If.test c.in-If.first c.in-If.second
-    c.in_ok-here-in-If.here.items c.in_ok-there-in-If.there.items c.assigned.new.out.items
-    c.assigned-in-If.new.out.items
-    c.in-If.is c.in_ok-here-in-If.ensures
-    (gives_as c.deref.result.now c.in-If.first.value c.deref-in-If.result.now c.in_ok-here-in-If.here.items
-    c.args.out.now.items c.assigned.new.out.items c.deref.ensures c.deref-in-If.ensures.value
-    c.in_ok-assigned-in-If.ensures)
-    c.in_ok-there-in-If.ensures
-    (gives_as c.deref-in-If-2.result.now c.in-If.second.value c.deref-in-If-3.result.now c.in_ok-there-in-If.there.items
-    c.assigned.new.out.items c.assigned-in-If.new.out.items c.deref-in-If-2.ensures c.deref-in-If-3.ensures.value
-    h))
-    c.assigned-in-If.ensures
-
-pub assigned-returns-in-All : goal.assigned-returns-in-All
-assigned-returns-in-All t c =
-    on_ok_weaker c.all_assigned.result
-    (λ h. gives_all c.args.act.now c.args.when.now c.args.out.now.items c.in-All.acts c.deref-in-All.result.now
-    c.all_assigned.new.out.items c.in-All.is c.deref-in-All.ensures.value h) c.all_assigned.ensures
-
 pub all_assigned-loop-act-init : goal.all_assigned-loop-act-init
-all_assigned-loop-act-init t c = give_none c.args.when.now c.args.out.now.items
+all_assigned-loop-act-init t c =
+    record { given = give_none (conditions_in c.args.when.now.items) c.args.out.now.items; kept = refl }
 
 pub all_assigned-loop-act-preserved : goal.all_assigned-loop-act-preserved
-all_assigned-loop-act-preserved t c =
-    give_next c.args.acts.now c.loop-act.act-index c.act-item.result c.args.when.now c.args.out.now.items
-    c.loop-act.out.items c.assigned.new.out.items c.loop-act-test.true c.act-item.is c.loop-act.invariant
-    c.in_ok-assigned.ensures
+all_assigned-loop-act-preserved t c = record {
+  given =
+      give_next c.args.acts.now c.loop-act.act-index c.act-item.result (conditions_in c.args.when.now.items)
+      c.args.out.now.items c.loop-act.out.items c.assigned.new.out.items c.loop-act-test.true c.act-item.is
+      c.loop-act.invariant.given
+      (subst (λ w. Gives c.act-item.result (conditions_in w) c.loop-act.out.items c.assigned.new.out.items)
+      c.loop-act.invariant.kept c.in_ok-assigned.ensures.given);
+  kept = c.in_ok-assigned.ensures.kept ∙ c.loop-act.invariant.kept;
+}
+
+pub assigned-returns-in-Skip-clause-given : goal.assigned-returns-in-Skip-clause-given
+assigned-returns-in-Skip-clause-given t c =
+    gives_skip c.args.act.now (conditions_in c.args.when.now.items) c.args.out.now.items c.in-Skip.is
+
+pub assigned-returns-in_ok-push-in-Set-clause-given : goal.assigned-returns-in_ok-push-in-Set-clause-given
+assigned-returns-in_ok-push-in-Set-clause-given t c =
+    gives_set c.args.act.now (conditions_in c.args.when.now.items) c.args.out.now.items c.in-Set.target c.in-Set.value
+    c.in_ok-value-in-Set.value c.in-Set.at c.in_ok-conditions-in-Set.conditions c.push.new.self.items c.in-Set.is
+    (subst (λ w. AreConditionCopies (conditions_in w) c.in_ok-conditions-in-Set.conditions.items) c.deref.ensures.value
+    c.in_ok-conditions-in-Set.ensures)
+    c.in_ok-value-in-Set.ensures c.in_ok-push-in-Set.ensures.items
+
+pub assigned-returns-in_ok-assigned-in-If-2-clause-given : goal.assigned-returns-in_ok-assigned-in-If-2-clause-given
+assigned-returns-in_ok-assigned-in-If-2-clause-given t c =
+    let back : c.pop.new.self.items ≡ c.args.when.now.items = grind (arith, common_steps) in
+    gives_if c.args.act.now (conditions_in c.args.when.now.items) c.args.out.now.items c.in-If.test c.in-If.first
+    c.in-If.second c.assigned.new.out.items c.assigned-in-If.new.out.items c.in-If.is
+    (gives_under c.in-If.first.value c.args.when.now.items c.args.when.now.items c.push-in-If.new.self.items _ true
+    c.deref-in-If.result.now c.args.out.now.items c.assigned.new.out.items refl c.in_ok-push-in-If.ensures.items c.deref-in-If.ensures
+    c.in_ok-assigned-in-If.ensures.given)
+    (gives_under c.in-If.second.value c.args.when.now.items c.pop.new.self.items
+    c.push-in-If-2.new.self.items _ false c.deref-in-If-2.result.now c.assigned.new.out.items
+    c.assigned-in-If.new.out.items back c.in_ok-push-in-If-2.ensures.items c.deref-in-If-2.ensures
+    c.in_ok-assigned-in-If-2.ensures.given)
+
+pub assigned-returns-in-All-clause-given : goal.assigned-returns-in-All-clause-given
+assigned-returns-in-All-clause-given t c =
+    on_ok_weaker c.all_assigned.result
+    (λ h. gives_all c.args.act.now (conditions_in c.args.when.now.items) c.args.out.now.items c.in-All.acts
+    c.deref-in-All.result.now c.all_assigned.new.out.items c.in-All.is c.deref-in-All.ensures.value h)
+    c.all_assigned.ensures.given

@@ -13,4 +13,5 @@ pub mod FirableSets
 pub mod Adding
 pub mod Tabling
 pub mod TreePaths
+pub mod Moving
 pub mod Whole

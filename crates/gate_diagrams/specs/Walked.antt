@@ -1,6 +1,7 @@
 -- What the walk through the firable sets keeps.
-use Rattle.std.specs.Prelude.{◌≡◌, ◌+◌, ◌<◌, ◌≤◌, ℕ, Bool, true, false, ◌&&◌, eqb, List, [], ◌∷◌, map, Vec, Option, Some, None}
+use Rattle.std.specs.Prelude.{◌≡◌, ◌+◌, ◌<◌, ◌≤◌, ℕ, Bool, true, false, not, ◌&&◌, eqb, List, [], ◌∷◌, map, Vec, Option, Some, None}
 use Rattle.std.specs.Global.{Global}
+use Rattle.std.specs.List.{filter}
 use Rattle.std.specs.Map.{lookup}
 use Rattle.std.specs.Cmp.Lexicographic.{pointwise}
 use Rattle.ar_base.specs.Lists.{Stands}
@@ -21,6 +22,10 @@ IsHeld entries left n = lookup (same_numbers left) entries ≡ Some n
 -- a state of the walk has the number of what is left of each tree: these families
 abbrev pub families_left : Stored → List NodeId → List Family
 families_left trees state = map (λ (n : NodeId). family trees n.n) state
+
+-- the numbers but for those of the family of the empty set alone
+abbrev pub moving : List NodeId → List NodeId
+moving state = filter (λ (n : NodeId). not (eqb n.n 1)) state
 
 -- each is a number of the store
 pub record AreNumbers (trees : Stored) (state : List NodeId) : Type 0 where

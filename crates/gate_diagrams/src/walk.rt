@@ -46,6 +46,5 @@ pub(crate) fn walk(
     let with = halves(alloc, trees, event, &left, true)?;
     let hi = walk(alloc, ops, walked, trees, with)?;
     let made = ops.node(event, lo, hi)?;
-    walked.remember(left, made);
-    Ok(made)
+    walked.remember(left, made)
 }

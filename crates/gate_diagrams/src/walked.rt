@@ -1,6 +1,6 @@
 //! What the walk through the firable sets has met.
 
-ghost use Rattle.std.specs.Prelude.{◌≡◌, ◌⊎◌, IfSome, [], Vec as Listed};
+ghost use Rattle.std.specs.Prelude.{◌≡◌, ◌⊎◌, IfSome, MatchResult, [], Vec as Listed};
 ghost use Rattle.std.specs.Global.{Global as Heap};
 ghost use Rattle.zdd_nodes.specs.Nodes.{NodeId as IdOfNode};
 ghost use Rattle.gate_diagrams.specs.Walked.{IsHeld};
@@ -8,7 +8,7 @@ ghost use Rattle.gate_diagrams.specs.Walked.{IsHeld};
 use std::alloc::Global;
 use std::collections::HashMap;
 use std::marker::Model;
-use zdd_nodes::NodeId;
+use zdd_nodes::{NodeFault, NodeId};
 
 /// States of the walk, each the numbers of what is left of every tree, with the numbers of their families.
 #[derive(Drop)]
@@ -43,11 +43,20 @@ impl Walked {
         self.numbers.get(left).copied()
     }
 
-    /// Holds one more state; where memory is refused, it is not held.
-    pub(crate) fn remember(&mut self, left: Vec<NodeId>, number: NodeId)
-        ensures { (q : Listed IdOfNode Heap) (n : IdOfNode) → IsHeld self.new q n
+    /// Holds one more state, and hands its number on. Where memory is refused the answer is Memory: without the state
+    /// the walk would go on from it again, each time that it comes there.
+    pub(crate) fn remember(
+        &mut self,
+        left: Vec<NodeId>,
+        number: NodeId,
+    ) -> Result<NodeId, NodeFault>
+        ensures held { (q : Listed IdOfNode Heap) (n : IdOfNode) → IsHeld self.new q n
             → IsHeld self.old q n ⊎ ((q.items ≡ left.items) × (n ≡ number)) }
+        ensures number { MatchResult result (λ n. n ≡ number) (λ e. e ≡ NodeFault.Memory) }
     {
-        let _ = self.numbers.insert(left, number);
+        if self.numbers.insert(left, number).is_err() {
+            return Err(NodeFault::Memory);
+        }
+        Ok(number)
     }
 }

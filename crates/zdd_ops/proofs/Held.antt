@@ -1,11 +1,13 @@
 -- The results that are held stay right.
-use Rattle.std.proofs.Common.{◌≡◌, ℕ, ◌+◌, ◌<◌, Bool, true, false, cond, ◌&&◌, eqb, List, [], ◌∷◌, length, Some, Result, Ok, Err, OnOk, OnErr, refl, sym, ap, ap₂, ◌∙◌, subst, ⊎_elim, ◌⊎◌, inl, inr, eqb-true}
+use Rattle.std.proofs.Common.{◌≡◌, ℕ, ◌+◌, ◌<◌, Bool, true, false, cond, ◌&&◌, eqb, List, [], ◌∷◌, length, Some, Result, Ok, Err, OnOk, OnErr, MatchResult, refl, sym, ap, ap₂, ◌∙◌, subst, ⊎_elim, ◌⊎◌, inl, inr, eqb-true}
 use Rattle.std.proofs.Math.Bool.{and-true}
 use Rattle.std.proofs.lemmas.Bool.{and_parts}
 use Rattle.std.specs.Map.{lookup}
 use Rattle.ar_base.proofs.Comparing.{id_from}
 use Rattle.zdd_families.specs.Families.{Family, having, without, minimal}
-use Rattle.zdd_nodes.specs.Nodes.{NodeId, Stored, at, Grows}
+use Rattle.zdd_nodes.specs.Nodes.{NodeId, Stored, at, Grows, Draws}
+use Rattle.zdd_nodes.specs.declared.NodeFault.{NodeFault}
+use Rattle.zdd_nodes.specs.declared.NodeFault.TheVariants.{Full, Memory as OutOfMemory}
 use Rattle.zdd_nodes.proofs.Growing.{kept, still}
 use Rattle.zdd_ops.specs.declared.memo.Join.{Join}
 use Rattle.zdd_ops.specs.declared.memo.Join.TheVariants.{Union, Meet, Minus}
@@ -94,6 +96,17 @@ IsSound-remember P Q s t u k n old new a numbers b sound is r =
           (subst (λ y. IsResult u.families k y.n) (sym x.1) here))
           (r.each q m h);
     }
+
+-- ---- the number that is handed on
+-- what was drawn is so, or memory for the result was refused
+pub handed : (P : Family → Type 0) (made : Family) (s t : Stored) (n : NodeId) (r : Result NodeId NodeFault)
+    → Draws P made s t (Ok n) → MatchResult r (λ m. m ≡ n) (λ e. e ≡ OutOfMemory) → Draws P made s t r
+handed P made s t n (Ok m) d e = subst (λ x. Draws P made s t (Ok x)) (sym e) d
+handed P made s t n (Err x) d e = record {
+  grows = d.grows;
+  ok = tt;
+  full = λ f. let y : x ≡ Full = cc in let wrong : OutOfMemory ≡ Full = sym e ∙ y in cc;
+}
 
 -- ---- one entry more
 remember_ok : (k : Operation) (n : NodeId) (old new : List (Operation × NodeId))

@@ -1,6 +1,6 @@
 mod Joins
 mod Cutting
-mod Held
+pub mod Held
 mod Withouts
 mod Havings
 mod Minimals

@@ -89,8 +89,7 @@ pub fn join_in(
     let lo = join_in(store, memo, join, cut.f0, cut.g0)?;
     let hi = join_in(store, memo, join, cut.f1, cut.g1)?;
     let made = store.node(cut.event, lo, hi)?;
-    memo.remember(operation, made);
-    Ok(made)
+    memo.remember(operation, made)
 }
 
 /// The sets of f that contain no set of g. Of the sets with the least event those count that contain neither a set
@@ -124,8 +123,7 @@ pub fn without_in(
     let second = without_in(store, memo, cut.f1, cut.g1)?;
     let hi = join_in(store, memo, Join::Meet, first, second)?;
     let made = store.node(cut.event, lo, hi)?;
-    memo.remember(operation, made);
-    Ok(made)
+    memo.remember(operation, made)
 }
 
 /// The sets of f with the event.
@@ -160,8 +158,7 @@ pub fn having_in(
     let lo = having_in(store, memo, f0, event)?;
     let hi = having_in(store, memo, f1, event)?;
     let made = store.node(least, lo, hi)?;
-    memo.remember(operation, made);
-    Ok(made)
+    memo.remember(operation, made)
 }
 
 /// The sets of f without a proper subset in f.
@@ -185,6 +182,5 @@ pub fn minimal_in(store: &mut Store, memo: &mut Memo, f: NodeId) -> Result<NodeI
     let upper = minimal_in(store, memo, f1)?;
     let hi = without_in(store, memo, upper, lo)?;
     let made = store.node(event, lo, hi)?;
-    memo.remember(operation, made);
-    Ok(made)
+    memo.remember(operation, made)
 }

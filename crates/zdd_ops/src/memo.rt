@@ -1,6 +1,6 @@
 //! What operations gave.
 
-ghost use Rattle.std.specs.Prelude.{◌≡◌, ◌≤◌, [], length};
+ghost use Rattle.std.specs.Prelude.{◌≡◌, ◌≤◌, [], length, MatchResult};
 ghost use Rattle.std.specs.Map.{lookup};
 ghost use Rattle.zdd_ops.specs.Operations.{operation_eq, Remembers};
 
@@ -8,7 +8,7 @@ use ar_base::EventId;
 use std::alloc::Global;
 use std::collections::HashMap;
 use std::marker::Model;
-use zdd_nodes::NodeId;
+use zdd_nodes::{NodeFault, NodeId};
 
 /// An operation that goes set by set.
 #[derive(Clone, Copy, PartialEq, Eq, Hash)]
@@ -72,15 +72,20 @@ impl Memo {
         self.results.get(&operation).copied()
     }
 
-    /// Holds one more result. Where there would be more than 4,194,304, all others are let go first; where memory is
-    /// refused, the result is not held.
-    pub fn remember(&mut self, operation: Operation, number: NodeId)
+    /// Holds one more result, and hands it on. Where there would be more than 4,194,304, all others are let go first.
+    /// Where memory is refused the answer is Memory: without the result the work would be done again, and again on
+    /// each way to it.
+    pub fn remember(&mut self, operation: Operation, number: NodeId) -> Result<NodeId, NodeFault>
         ensures entry { Remembers operation number self.old self.new }
         ensures bound { length self.new ≤ 4194304 }
+        ensures number { MatchResult result (λ n. n ≡ number) (λ e. e ≡ NodeFault.Memory) }
     {
         if self.results.len() >= MOST_RESULTS {
             self.results.clear();
         }
-        let _ = self.results.insert(operation, number);
+        if self.results.insert(operation, number).is_err() {
+            return Err(NodeFault::Memory);
+        }
+        Ok(number)
     }
 }

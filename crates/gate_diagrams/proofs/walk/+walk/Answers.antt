@@ -4,6 +4,7 @@ use Rattle.std.proofs.lemmas.Result.{err_from_is_err_and}
 use Rattle.zdd_families.specs.Sections.{IsCounted}
 use Rattle.zdd_nodes.specs.Nodes.{NodeId, family}
 use Rattle.zdd_nodes.proofs.Growing.{Draws-stays}
+use Rattle.zdd_ops.proofs.Held.{handed}
 use Rattle.firable_families.specs.Walk.{left as left_of}
 use Rattle.gate_diagrams.specs.Walked.{families_left, AreHalves, IsLeastEvent}
 use Rattle.gate_diagrams.proofs.Going as g
@@ -155,7 +156,7 @@ returns-clause-walked t c =
     c.args.ops.now c.walk.new.ops c.in_ok-with.with.items t c.in_ok-lo.lo c.in_ok-lo.ensures.drawn c.walk-2.new.ops
     c.in_ok-hi.hi c.in_ok-hi.ensures.drawn
     c.node.new.self c.in_ok-made.made c.args.left refl c.in_ok-made.ensures.drawn c.walk-2.new.walked
-    c.remember.new.self c.in_ok-hi.ensures.walked c.remember.ensures
+    c.remember.new.self c.in_ok-hi.ensures.walked c.remember.ensures.held
 
 pub returns-clause-drawn : goal.returns-clause-drawn
 returns-clause-drawn t c =
@@ -165,6 +166,7 @@ returns-clause-drawn t c =
     c.deref-3.ensures.value c.in_ok-without.ensures) in
     let t = (subst (λ z. AreHalves c.args.trees.now c.in-Some.event.n true z c.in_ok-with.with.items)
     c.deref-4.ensures.value c.in_ok-with.ensures) in
-    g.whole_drawn c.args.trees.now c.args.left.items c.in-Some.event.n l.0 l.1 c.in_ok-without.without.items w
+    λ n b. handed _ _ c.args.ops.now c.node.new.self c.in_ok-made.made c.remember.result (g.whole_drawn c.args.trees.now c.args.left.items c.in-Some.event.n l.0 l.1 c.in_ok-without.without.items w
     c.args.ops.now c.walk.new.ops c.in_ok-with.with.items t c.in_ok-lo.lo c.in_ok-lo.ensures.drawn c.walk-2.new.ops
-    c.in_ok-hi.hi c.in_ok-hi.ensures.drawn c.node.new.self (Ok c.in_ok-made.made) c.in_ok-made.ensures.drawn
+    c.in_ok-hi.hi c.in_ok-hi.ensures.drawn c.node.new.self (Ok c.in_ok-made.made) c.in_ok-made.ensures.drawn n b)
+    c.remember.ensures.number

@@ -2,7 +2,7 @@ use Rattle.std.proofs.Common.{Ok, sym, ap, ◌∙◌, ne_eqb, arith}
 use Rattle.std.proofs.lemmas.Result.{err_from_is_err_and}
 use Rattle.zdd_nodes.proofs.Growing.{Draws-stays, Draws-refused, Draws-after}
 use Rattle.zdd_nodes.proofs.Halved.{lo_above, hi_above, done}
-use Rattle.zdd_ops.proofs.Held.{IsSound-grow, IsSound-remember}
+use Rattle.zdd_ops.proofs.Held.{IsSound-grow, IsSound-remember, handed}
 use Rattle.zdd_nodes.specs.Nodes.{at}
 use Rattle.zdd_ops.specs.declared.memo.Operation.TheVariants.{Having}
 use Rattle.zdd_ops.proofs.Havings.{having_small, having_none, having_first, having_halved, having_lower, having_upper}
@@ -105,10 +105,12 @@ returns-clause-drawn t c =
     let dh = having_upper c.args.store.now c.args.f.n c.args.event.n c.in-Some.least.n c.in-Some.f0.n c.in-Some.f1.n
     c.in-Some.ensures.halves c.requires.f_in (ne_eqb c.args.event.n c.in-Some.least.n c.if-event-least-2.false)
     c.having_in.new.store c.having_in-2.new.store (Ok c.in_ok-hi.hi) dl.grows c.in_ok-hi.ensures.drawn in
-    done _ _ _ _ _ (having_halved c.args.store.now c.args.f.n c.args.event.n c.in-Some.least.n c.in-Some.f0.n
+    handed _ _ c.args.store.now c.node-2.new.self c.in_ok-made.made c.remember.result
+    (done _ _ _ _ _ (having_halved c.args.store.now c.args.f.n c.args.event.n c.in-Some.least.n c.in-Some.f0.n
     c.in-Some.f1.n c.in-Some.ensures.halves c.requires.f_in
     (ne_eqb c.args.event.n c.in-Some.least.n c.if-event-least-2.false)) c.args.store.now c.having_in.new.store
-    c.having_in-2.new.store c.in_ok-lo.lo c.in_ok-hi.hi dl dh c.node-2.new.self _ c.in_ok-made.ensures.drawn
+    c.having_in-2.new.store c.in_ok-lo.lo c.in_ok-hi.hi dl dh c.node-2.new.self _ c.in_ok-made.ensures.drawn)
+    c.remember.ensures.number
 
 pub returns-clause-sound : goal.returns-clause-sound
 returns-clause-sound t c =

@@ -2,7 +2,7 @@ use Rattle.std.proofs.Common.{Ok, sym, ◌∙◌}
 use Rattle.std.proofs.lemmas.Result.{err_from_is_err_and}
 use Rattle.zdd_nodes.proofs.Growing.{Draws-stays, Draws-refused, Draws-after}
 use Rattle.zdd_nodes.proofs.Halved.{lo_above, hi_above, done}
-use Rattle.zdd_ops.proofs.Held.{IsSound-remember}
+use Rattle.zdd_ops.proofs.Held.{IsSound-remember, handed}
 use Rattle.zdd_ops.specs.declared.memo.Operation.TheVariants.{Joined}
 use Rattle.zdd_ops.proofs.Passing.{join_passed}
 use Rattle.zdd_ops.proofs.Joins.{join_halved, join_lower, join_upper}
@@ -80,11 +80,13 @@ returns-clause-drawn t c =
     let dh = join_upper c.args.join c.args.store.now c.pass_for-left.result.f.n c.pass_for-left.result.g.n
     c.cut_at-cut.result c.cut_at-cut.ensures c.join_in.new.store c.join_in-2.new.store (Ok c.in_ok-hi.hi)
     dl.grows c.in_ok-hi.ensures.drawn in
-    join_passed c.args.store.now c.node.new.self c.args.join c.args.f.n c.args.g.n c.pass_for-left.result _
+    handed _ _ c.args.store.now c.node.new.self c.in_ok-made.made c.remember.result
+    (join_passed c.args.store.now c.node.new.self c.args.join c.args.f.n c.args.g.n c.pass_for-left.result _
     c.pass_for-left.ensures (done _ _ _ _ _
     (join_halved c.args.join c.args.store.now c.pass_for-left.result.f.n c.pass_for-left.result.g.n
     c.cut_at-cut.result c.cut_at-cut.ensures) c.args.store.now c.join_in.new.store c.join_in-2.new.store
-    c.in_ok-lo.lo c.in_ok-hi.hi dl dh c.node.new.self _ c.in_ok-made.ensures.drawn)
+    c.in_ok-lo.lo c.in_ok-hi.hi dl dh c.node.new.self _ c.in_ok-made.ensures.drawn))
+    c.remember.ensures.number
 
 pub returns-clause-sound : goal.returns-clause-sound
 returns-clause-sound t c =

@@ -2,7 +2,7 @@ use Rattle.std.proofs.Common.{Ok, sym, ◌∙◌, lt_trans}
 use Rattle.std.proofs.lemmas.Result.{err_from_is_err_and}
 use Rattle.zdd_nodes.proofs.Growing.{Draws-stays, Draws-refused, Draws-after}
 use Rattle.zdd_nodes.proofs.Halved.{lo_above, hi_above, done}
-use Rattle.zdd_ops.proofs.Held.{IsSound-remember}
+use Rattle.zdd_ops.proofs.Held.{IsSound-remember, handed}
 use Rattle.zdd_ops.specs.declared.memo.Operation.TheVariants.{Minimal}
 use Rattle.zdd_ops.proofs.Minimals.{minimal_small, minimal_halved, minimal_lower, minimal_above, minimal_upper}
 use Rattle.zdd_ops.proofs.halving.+minimal_in.Goals as goal
@@ -158,12 +158,14 @@ returns-clause-drawn t c =
     (lt_trans c.in-Some.ensures.halves.lo_before c.requires.f_in)).ascending c.minimal_in.new.store
     c.minimal_in-2.new.store c.in_ok-lo.lo c.in_ok-upper.upper dl du c.without_in.new.store (Ok c.in_ok-hi.hi)
     c.in_ok-hi.ensures.drawn in
-    done _ _ _ _ _ (minimal_halved c.args.store.now c.args.f.n c.in-Some.event.n c.in-Some.f0.n c.in-Some.f1.n
+    handed _ _ c.args.store.now c.node.new.self c.in_ok-made.made c.remember.result
+    (done _ _ _ _ _ (minimal_halved c.args.store.now c.args.f.n c.in-Some.event.n c.in-Some.f0.n c.in-Some.f1.n
     c.in-Some.ensures.halves c.requires.f_in
     (c.split.ensures.sound.families c.in-Some.f0.n
     (lt_trans c.in-Some.ensures.halves.lo_before c.requires.f_in)).ascending) c.args.store.now
     c.minimal_in.new.store c.without_in.new.store c.in_ok-lo.lo c.in_ok-hi.hi dl dh c.node.new.self _
-    c.in_ok-made.ensures.drawn
+    c.in_ok-made.ensures.drawn)
+    c.remember.ensures.number
 
 pub returns-clause-sound : goal.returns-clause-sound
 returns-clause-sound t c =

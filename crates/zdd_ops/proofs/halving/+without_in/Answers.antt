@@ -2,7 +2,7 @@ use Rattle.std.proofs.Common.{Ok, sym, ◌∙◌}
 use Rattle.std.proofs.lemmas.Result.{err_from_is_err_and}
 use Rattle.zdd_nodes.proofs.Growing.{Draws-stays, Draws-refused, Draws-after, Grows-then}
 use Rattle.zdd_nodes.proofs.Halved.{lo_above, hi_above, done}
-use Rattle.zdd_ops.proofs.Held.{IsSound-remember}
+use Rattle.zdd_ops.proofs.Held.{IsSound-remember, handed}
 use Rattle.zdd_ops.specs.declared.memo.Operation.TheVariants.{Without}
 use Rattle.zdd_ops.proofs.Passing.{without_passed}
 use Rattle.zdd_ops.proofs.Withouts.{without_halved, without_lower, without_first, without_second, without_upper}
@@ -145,10 +145,12 @@ returns-clause-drawn t c =
     let dh = without_upper c.args.store.now c.args.f.n c.pass-left.result.n c.cut_at-cut.result c.cut_at-cut.ensures
     c.without_in.new.store c.without_in-2.new.store c.without_in-3.new.store c.in_ok-first.first
     c.in_ok-second.second da db c.join_in.new.store (Ok c.in_ok-hi.hi) c.in_ok-hi.ensures.drawn in
-    without_passed c.args.store.now c.node.new.self c.args.f.n c.args.g.n c.pass-left.result.n _ c.pass-left.ensures
+    handed _ _ c.args.store.now c.node.new.self c.in_ok-made.made c.remember.result
+    (without_passed c.args.store.now c.node.new.self c.args.f.n c.args.g.n c.pass-left.result.n _ c.pass-left.ensures
     (done _ _ _ _ _ (without_halved c.args.store.now c.args.f.n c.pass-left.result.n c.cut_at-cut.result
     c.cut_at-cut.ensures) c.args.store.now c.without_in.new.store c.join_in.new.store c.in_ok-lo.lo c.in_ok-hi.hi dl
-    dh c.node.new.self _ c.in_ok-made.ensures.drawn)
+    dh c.node.new.self _ c.in_ok-made.ensures.drawn))
+    c.remember.ensures.number
 
 pub returns-clause-sound : goal.returns-clause-sound
 returns-clause-sound t c =

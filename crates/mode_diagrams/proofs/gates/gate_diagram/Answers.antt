@@ -1,0 +1,62 @@
+use Rattle.std.proofs.Common.{◌≡◌, ◌+◌, ◌-◌, ◌<◌, length, map, refl, sym, ap, ◌∙◌, subst, arith}
+use Rattle.std.proofs.lemmas.List.{length-map}
+use Rattle.std.proofs.lemmas.Option.{slice_get_read}
+use Rattle.ar_base.specs.Lists.{Stands}
+use Rattle.ar_base.proofs.Standing.{stands_map}
+use Rattle.eq_core.specs.Views.{all_needed, operand_of}
+use Rattle.mode_nodes.proofs.Growing.{still}
+use Rattle.mode_diagrams.proofs.Folding.{IsFolded, folded_none, folded_more, folded_all}
+use Rattle.mode_diagrams.proofs.Laws.{tabled_kept}
+use Rattle.mode_diagrams.proofs.gates.gate_diagram.Goals as goal
+
+pub loop-left-init : goal.loop-left-init
+loop-left-init c =
+    let items = c.args.gate.now.operands.items in
+    folded_none c.args.trees.now c.args.table.now c.args.store.now (all_needed c.args.gate.now.joint)
+    (map operand_of items) c.len-left.result c.neutral-so_far.result.n
+    (omega (arith, c.len-left.ensures, c.args.gate.now.operands.ok, length-map items operand_of))
+    c.neutral-so_far.ensures
+
+pub operand_diagram-requires-clause-table : goal.operand_diagram-requires-clause-table
+operand_diagram-requires-clause-table c =
+    tabled_kept c.args.table.now c.args.store.now c.loop-left.store c.loop-left.invariant.grows c.requires.table
+
+pub operand_diagram-requires-clause-below : goal.operand_diagram-requires-clause-below
+operand_diagram-requires-clause-below c =
+    let items = c.args.gate.now.operands.items in
+    let k = c.loop-left.left - 1 in
+    let inside : k < length items =
+    omega (arith, c.loop-left-test.true, c.loop-left.invariant.left_in, length-map items operand_of) in
+    let at : Stands items k c.index.result.now =
+    slice_get_read items (length items) k c.index.result.now refl inside c.index.ensures in
+    c.requires.below.each (operand_of c.index.result.now)
+    (record { place = k; stands = stands_map operand_of items k c.index.result.now at })
+
+pub joined-requires-clause-g_in : goal.joined-requires-clause-g_in
+joined-requires-clause-g_in c =
+    still c.loop-left.store c.operand_diagram.new.store c.loop-left.so_far.n c.in_ok-next.ensures.grows
+    c.loop-left.invariant.number
+
+pub loop-left-preserved : goal.loop-left-preserved
+loop-left-preserved c =
+    let items = c.args.gate.now.operands.items in
+    let k = c.loop-left.left - 1 in
+    let inside : k < length items =
+    omega (arith, c.loop-left-test.true, c.loop-left.invariant.left_in, length-map items operand_of) in
+    let at : Stands items k c.index.result.now =
+    slice_get_read items (length items) k c.index.result.now refl inside c.index.ensures in
+    let up : c.loop-left.left ≡ k + 1 = omega (arith, c.loop-left-test.true) in
+    let before = subst (λ z. IsFolded c.args.trees.now c.args.table.now c.args.store.now
+    (all_needed c.args.gate.now.joint) (map operand_of items) z c.loop-left.store c.loop-left.so_far.n) up
+    c.loop-left.invariant in
+    folded_more c.args.trees.now c.args.table.now c.args.store.now (all_needed c.args.gate.now.joint)
+    (map operand_of items) k c.loop-left.store c.operand_diagram.new.store c.joined.new.store c.loop-left.so_far.n
+    c.in_ok-next.next.n c.in_ok-so_far.so_far.n (operand_of c.index.result.now)
+    (stands_map operand_of items k c.index.result.now at) before c.in_ok-next.ensures.grows
+    c.in_ok-so_far.ensures.grows c.in_ok-next.ensures.agrees c.in_ok-so_far.ensures.joined
+
+pub returns-clause-agrees : goal.returns-clause-agrees
+returns-clause-agrees c =
+    folded_all c.args.trees.now c.args.table.now c.args.store.now (all_needed c.args.gate.now.joint)
+    (map operand_of c.args.gate.now.operands.items) c.loop-left.left c.loop-left.store c.loop-left.so_far.n
+    (omega (arith, c.loop-left-test.false)) c.loop-left.invariant

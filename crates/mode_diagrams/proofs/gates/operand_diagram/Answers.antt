@@ -1,0 +1,63 @@
+use Rattle.std.proofs.Common.{◌<◌, [], length, get_or, sym, ap, ◌∙◌, subst, arith}
+use Rattle.ar_base.specs.Lists.{Stands}
+use Rattle.ar_base.proofs.Results.{ok_map}
+use Rattle.ar_base.proofs.Standing.{stands_get}
+use Rattle.eq_core.specs.Values.{IsBelow}
+use Rattle.eq_core.specs.Views.{operand_of}
+use Rattle.mode_nodes.specs.Diagrams.{DiagramId}
+use Rattle.mode_diagrams.specs.Agreement.{Agrees}
+use Rattle.mode_diagrams.proofs.Laws.{agrees_always, agrees_never, agrees_event, agrees_gate}
+use Rattle.mode_diagrams.proofs.gates.operand_diagram.Goals as goal
+
+abbrev false_number : DiagramId
+false_number = record { n = 0; of = record {} }
+
+pub returns-in-Always-clause-agrees : goal.returns-in-Always-clause-agrees
+returns-in-Always-clause-agrees c = λ gates ready.
+    subst (λ o. Agrees c.args.trees.now gates (operand_of o) c.args.store.now c.new.result.n) (sym c.in-Always.is)
+    (agrees_always c.args.trees.now gates c.args.store.now c.new.result.n c.new.ensures)
+
+pub returns-in-Never-clause-agrees : goal.returns-in-Never-clause-agrees
+returns-in-Never-clause-agrees c = λ gates ready.
+    subst (λ o. Agrees c.args.trees.now gates (operand_of o) c.args.store.now c.new-in-Never.result.n) (sym c.in-Never.is)
+    (agrees_never c.args.trees.now gates c.args.store.now c.new-in-Never.result.n c.new-in-Never.ensures)
+
+pub signed-requires : goal.signed-requires
+signed-requires c = (c.in_ok-plain-in-Event.ensures.agrees []).number
+
+pub returns-in_ok-plain-in-Event-clause-agrees : goal.returns-in_ok-plain-in-Event-clause-agrees
+returns-in_ok-plain-in-Event-clause-agrees c =
+    ok_map c.signed.result
+    (λ n i. λ gates ready.
+    subst (λ o. Agrees c.args.trees.now gates (operand_of o) c.signed.new.store n.n) (sym c.in-Event.is)
+    (agrees_event c.args.trees.now gates c.in-Event.event.n c.in-Event.sign c.event_diagram.new.store c.signed.new.store
+    c.in_ok-plain-in-Event.plain.n n.n (c.in_ok-plain-in-Event.ensures.agrees gates) i))
+    c.signed.ensures.signed
+
+pub returns-in_ok-plain-in-Event-clause-number : goal.returns-in_ok-plain-in-Event-clause-number
+returns-in_ok-plain-in-Event-clause-number c = ok_map c.signed.result (λ n i. i.number) c.signed.ensures.signed
+
+pub signed-requires-in-Gate : goal.signed-requires-in-Gate
+signed-requires-in-Gate c =
+    let g = c.in-Gate.gate.n in
+    let inside : g < length c.args.table.now =
+    subst (λ o. IsBelow (length c.args.table.now) (operand_of o)) c.in-Gate.is c.requires.below in
+    c.requires.table.each g (get_or c.args.table.now g false_number) (stands_get c.args.table.now g false_number inside)
+
+pub returns-in-Gate-clause-agrees : goal.returns-in-Gate-clause-agrees
+returns-in-Gate-clause-agrees c =
+    let g = c.in-Gate.gate.n in
+    let table = c.args.table.now in
+    let inside : g < length table =
+    subst (λ o. IsBelow (length table) (operand_of o)) c.in-Gate.is c.requires.below in
+    let at = stands_get table g false_number inside in
+    ok_map c.signed-in-Gate.result
+    (λ n i. λ gates ready.
+    subst (λ o. Agrees c.args.trees.now gates (operand_of o) c.signed-in-Gate.new.store n.n) (sym c.in-Gate.is)
+    (agrees_gate c.args.trees.now gates g c.in-Gate.sign c.args.store.now c.signed-in-Gate.new.store
+    (get_or table g false_number).n n.n
+    (ready.gate g c.in-Gate.sign (get_or table g false_number) (ap operand_of c.in-Gate.is) at) i))
+    c.signed-in-Gate.ensures.signed
+
+pub returns-in-Gate-clause-number : goal.returns-in-Gate-clause-number
+returns-in-Gate-clause-number c = ok_map c.signed-in-Gate.result (λ n i. i.number) c.signed-in-Gate.ensures.signed

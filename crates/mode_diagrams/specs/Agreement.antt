@@ -1,0 +1,72 @@
+-- Diagrams against operands over events, at each set of events on paths.
+use Rattle.std.specs.Prelude.{◌≡◌, ◌⊎◌, ℕ, suc, ◌+◌, ◌<◌, Bool, true, cond, if◌then◌else◌, not, ◌&&◌, ◌||◌, List, length}
+use Rattle.ar_base.specs.Lists.{Stands, IsOneOf}
+use Rattle.eq_core.specs.Gates.{Operand, GateIs, Gate}
+use Rattle.eq_core.specs.Values.{joint_at, values_at, value_at}
+use Rattle.mode_nodes.specs.Diagrams.{DiagramId, Stored, value, IsNumber}
+use Rattle.mode_diagrams.specs.declared.trees.NumberedEdge.{NumberedEdge}
+use Rattle.mode_diagrams.specs.declared.trees.NumberedTree.{NumberedTree}
+use Rattle.mode_diagrams.specs.Trees.{edges_of, IsOnPath, IsSetFrom}
+
+-- the diagram agrees with the operand: at the modes of each set of events on paths it has the operand's value at the set
+pub record Agrees (trees : List NumberedTree) (gates : List Gate) (o : Operand) (s : Stored) (n : ℕ) : Type 0 where
+  pub number : IsNumber s n
+  pub same : (modes set : List ℕ) → IsSetFrom trees 0 modes set → value s modes n ≡ value_at gates o set
+
+-- the same of a joint of operands
+pub record AgreesJoint (trees : List NumberedTree) (gates : List Gate) (both : Bool) (os : List Operand) (s : Stored)
+    (n : ℕ) : Type 0 where
+  pub number : IsNumber s n
+  pub same : (modes set : List ℕ) → IsSetFrom trees 0 modes set
+      → value s modes n ≡ joint_at both set (values_at set gates) os
+
+-- the number of what leaves a joint as it is: true where all operands are needed, else false
+abbrev pub IsNeutral : Bool → ℕ → Type 0
+IsNeutral both n = n ≡ (if both then 1 else 0)
+
+-- r is n, or its opposite where the sign is false
+pub record IsSigned (s : Stored) (n : ℕ) (sign : Bool) (t : Stored) (r : ℕ) : Type 0 where
+  pub number : IsNumber t r
+  pub same : (modes : List ℕ) → value t modes r ≡ cond sign (value s modes n) (not (value s modes n))
+
+-- r has the values of both, or of either
+pub record IsJoined (both : Bool) (s : Stored) (m n : ℕ) (t : Stored) (r : ℕ) : Type 0 where
+  pub number : IsNumber t r
+  pub same : (modes : List ℕ)
+      → value t modes r ≡ cond both (value s modes m && value s modes n) (value s modes m || value s modes n)
+
+-- the table has numbers of the store
+pub record AreTabled (table : List DiagramId) (s : Stored) : Type 0 where
+  pub each : (g : ℕ) (n : DiagramId) → Stands table g n → IsNumber s n.n
+
+-- the table has a diagram that agrees with the gate that the operand names
+pub record IsReady (trees : List NumberedTree) (gates : List Gate) (table : List DiagramId) (s : Stored) (o : Operand)
+    : Type 0 where
+  pub gate : (g : ℕ) (sign : Bool) (n : DiagramId) → o ≡ GateIs g sign → Stands table g n
+      → Agrees trees gates (GateIs g true) s n.n
+
+-- the same of each of these operands
+pub record AreReady (trees : List NumberedTree) (gates : List Gate) (table : List DiagramId) (s : Stored)
+    (os : List Operand) : Type 0 where
+  pub each : (o : Operand) → IsOneOf os o → IsReady trees gates table s o
+
+-- where the event is on the path to mode m the number is 1, else 0
+abbrev pub IsTold : List NumberedEdge → ℕ → ℕ → DiagramId → Type 0
+IsTold edges e m n = ((n.n ≡ 1) × IsOnPath edges e m) ⊎ ((n.n ≡ 0) × (IsOnPath edges e m → ⊥))
+
+-- so many numbers, each told so of the mode at its place
+pub record AreTold (tree : NumberedTree) (e : ℕ) (ns : List DiagramId) : Type 0 where
+  pub long : length ns ≡ suc (length (edges_of tree))
+  pub each : (m : ℕ) (n : DiagramId) → Stands ns m n → IsTold (edges_of tree) e m n
+
+-- the number for the mode that an edge enters: 1 where the edge has the event, else that of the mode that it leaves
+pub record IsToldAt (ns : List DiagramId) (edge : NumberedEdge) (e : ℕ) (n : DiagramId) : Type 0 where
+  pub here : edge.event.n ≡ e → n.n ≡ 1
+  pub above : (edge.event.n ≡ e → ⊥) → Stands ns edge.from n
+
+-- the marked gates, of which each operand's gate is marked, and that of the root
+pub record AreClosed (gates : List Gate) (root : Operand) (marks : List Bool) : Type 0 where
+  pub long : length marks ≡ length gates
+  pub own : (g : ℕ) (sign : Bool) → root ≡ GateIs g sign → Stands marks g true
+  pub operands : (g h : ℕ) (gate : Gate) (sign : Bool) → Stands marks g true → Stands gates g gate
+      → IsOneOf gate.operands (GateIs h sign) → Stands marks h true

@@ -1,9 +1,9 @@
 -- Sets that are looked up in rows.
-use Rattle.std.proofs.Common.{◌≡◌, ◌↔◌, ◌⊎◌, ℕ, ◌+◌, ◌<◌, ◌≤◌, ◌/◌, inl, inr, List, [], ◌∷◌, ◌++◌, take, length, get_or, sym, ◌∙◌, subst, arith}
+use Rattle.std.proofs.Common.{◌≡◌, ◌↔◌, ◌⊎◌, ℕ, ◌+◌, ◌<◌, ◌≤◌, ◌/◌, inl, inr, List, [], ◌∷◌, take, length, get_or, sym, ◌∙◌, subst, arith}
 use Rattle.ar_base.specs.Lists.{Stands, IsOneOf}
 use Rattle.ar_base.specs.Numbers.{EventId}
 use Rattle.ar_base.specs.Sets.{Within}
-use Rattle.ar_base.proofs.Standing.{one_here, one_none, one_split, one_cases, one_left, one_right, one_first, stands_one, stands_within}
+use Rattle.ar_base.proofs.Standing.{one_here, one_none, one_split, one_cases, one_left, one_right, one_first, stands_within}
 use Rattle.ar_meaning.specs.Runs.{Label}
 use Rattle.flow_blocks.specs.Bits.{IsSet, words_for}
 use Rattle.gts_core.specs.declared.system.GtsParts.{GtsParts}

@@ -1,5 +1,5 @@
 use Rattle.std.proofs.Common.{◌&&◌, Bool, List, ℕ, ap, sym, ◌∙◌}
-use Rattle.ar_io.proofs.Writing.{writes_exit, leaves_all, leaves_on, leaves_cut, leaves_none}
+use Rattle.ar_io.proofs.Writing.{writes_exit, leaves_on, leaves_cut}
 use Rattle.check_text.specs.Printed.{missing_at, all_listed}
 use Rattle.check_text.proofs.Listing.{and_then, first_numbers, rest_numbers}
 use Rattle.cut_text.proofs.Pieces.{gives_some, all_first, all_rest}

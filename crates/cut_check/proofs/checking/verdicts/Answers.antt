@@ -1,13 +1,12 @@
-use Rattle.std.proofs.Common.{◌≡◌, ◌<◌, ◌∙◌, ◌∷◌, [], ℕ, Bool, List, length, ap, sym, subst, arith, length-append}
+use Rattle.std.proofs.Common.{◌<◌, ◌∙◌, ◌∷◌, [], Bool, List, length, ap, sym, subst, arith, length-append}
 use Rattle.ar_base.specs.Lists.{Stands}
 use Rattle.ar_base.proofs.Standing.{stands_one}
 use Rattle.gts_core.specs.View.{numbered}
-use Rattle.gts_core.specs.declared.bound.Chain.{Chain}
 use Rattle.gts_core.specs.declared.system.GtsParts.{GtsParts}
 use Rattle.gts_core.specs.declared.system.Observer.{Observer}
 use Rattle.text_pieces.proofs.Ways.{read_stands}
 use Rattle.cut_check.specs.Flat.{numbers_of, chain_lines}
-use Rattle.cut_check.specs.Rows.{AreOpenEvents, AreRows, HaveBits, AreWide}
+use Rattle.cut_check.specs.Rows.{AreRows, HaveBits, AreWide}
 use Rattle.cut_check.specs.Truths.{AreTruths}
 use Rattle.cut_check.specs.declared.rows.Row.{Row}
 use Rattle.cut_check.proofs.HoldLemmas.{verdicts_more}

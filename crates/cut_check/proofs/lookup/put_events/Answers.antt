@@ -1,5 +1,4 @@
-use Rattle.std.proofs.Common.{ℕ, get_or, length, take, take_all, subst, List, arith}
-use Rattle.std.proofs.lemmas.List.{take_all}
+use Rattle.std.proofs.Common.{get_or, arith}
 use Rattle.ar_base.specs.Numbers.{EventId}
 use Rattle.ar_base.proofs.Standing.{one_here, one_none, stands_get, stands_map}
 use Rattle.cut_check.specs.Flat.{numbers_of}

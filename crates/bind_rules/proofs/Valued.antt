@@ -14,7 +14,7 @@ use Rattle.typed_expr.specs.declared.expr.ValueKind.{ValueKind}
 use Rattle.gts_core.specs.Sound.{kind_of_domain}
 use Rattle.class_table.specs.Declaring.{MemberForm, Declared, NamedType, DomainType, ClassType}
 use Rattle.class_table.specs.Earliest.{IsEarliest, nowhere}
-use Rattle.class_table.specs.Members.{Site, NamedMember, MemberKind, Variable, Parameter, Kept, Event, Observer, names_of, names_of_form, owned_at, declared_kind, kind_of, type_named, one_named}
+use Rattle.class_table.specs.Members.{Site, NamedMember, MemberKind, Variable, Observer, names_of, names_of_form, owned_at, declared_kind, kind_of, type_named, one_named}
 use Rattle.class_table.specs.declared.tables.Owned.{Owned}
 use Rattle.class_table.specs.declared.tables.Owned.TheVariants.{Plain, Nested}
 use Rattle.class_table.proofs.FirstPlaces.{earliest_same}

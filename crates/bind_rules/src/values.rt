@@ -1,7 +1,7 @@
 //! The values of variables and parameters and the expressions of observers, and where they break a
 //! rule.
 
-ghost use Rattle.std.specs.Prelude.{◌≡◌, List, Some, option_map};
+ghost use Rattle.std.specs.Prelude.{◌≡◌, IsTrue, IfSome, List, Some, option_map};
 ghost use Rattle.ar_base.specs.Lists.{Along, Stands};
 ghost use Rattle.class_table.specs.Declaring.{Declared};
 ghost use Rattle.class_table.specs.Members.{owned_at as declared_at};
@@ -11,12 +11,14 @@ ghost use Rattle.hierarchy.specs.Models.{RootedModel};
 ghost use Rattle.hierarchy.specs.Units.{UnitPath, Thing};
 ghost use Rattle.hierarchy.specs.Walks.{Has, is_observer};
 ghost use Rattle.hierarchy.specs.Listing.{variables, parameters, observers};
-ghost use Rattle.hierarchy.specs.Tie.{IsVariable, IsParameter, IsPlainNode, HasAttribute};
+ghost use Rattle.hierarchy.specs.Tie.{IsParameter, IsPlainNode, HasAttribute};
+ghost use Rattle.gts_core.specs.Sound.{kind_of_domain as kind_of_values};
 ghost use Rattle.source_meaning.specs.Kinds.{IsOfKind};
 ghost use Rattle.bind_scopes.specs.Scopes.{AreScopes, HasScopes};
 ghost use Rattle.bind_rules.specs.Breaking.{BreaksValue, BreaksParameter, BreaksObserver, BreaksOne};
 ghost use Rattle.bind_scopes.specs.Naming.{kind_of_parameter};
 ghost use Rattle.bind_rules.specs.Owning.{IsOwnScope, scope_by, observed_in};
+ghost use Rattle.bind_rules.specs.Testing.{IsTested};
 
 use crate::expressions::in_expression;
 use crate::rules::Rule;
@@ -61,14 +63,49 @@ fn in_value<'a>(
     }
 }
 
-// The earliest place at which the value of a variable breaks the rule.
-fn in_variable<'a>(scopes: &'a Scopes<'a>, rule: Rule, node: &VarNode) -> Option<Place>
+// What the value of a variable was tested for: the value, the kind that was wanted of it, and the earliest place at which
+// it breaks the rule.
+type Tested = (Attribute, ValueKind, Option<Place>);
+
+// The test of a value of which this kind is wanted.
+fn tested<'a>(scopes: &'a Scopes<'a>, rule: Rule, kind: ValueKind, value: Attribute) -> Tested
     requires { HasScopes scopes.now }
-    ensures { (m : RootedModel) (units : List UnitPath) (t : Thing) → AreScopes m units scopes.now
-        → IsVariable m units t node.now → IsEarliest (BreaksValue m rule t) result }
+    ensures tested { IsTested scopes.now rule result }
+    ensures value { result.0 ≡ value }
+    ensures kind { result.1 ≡ kind }
+{
+    let place = in_value(scopes, rule, Scope::Constants, kind, value);
+    (value, kind, place)
+}
+
+// Whether this is the test of the value, of which this kind is wanted.
+fn is_of(test: Tested, kind: ValueKind, value: Attribute) -> bool
+    ensures { IsTrue result → (test.0 ≡ value) × (test.1 ≡ kind) }
+{
+    test.0 == value && test.1 == kind
+}
+
+// The test of the value of a variable, which is the last one where that was of the same value.
+fn in_variable<'a>(
+    scopes: &'a Scopes<'a>,
+    rule: Rule,
+    last: Option<Tested>,
+    node: &VarNode,
+) -> Tested
+    requires { HasScopes scopes.now }
+    ensures tested { IfSome last (IsTested scopes.now rule) → IsTested scopes.now rule result }
+    ensures value { result.0 ≡ node.now.value }
+    ensures kind { result.1 ≡ kind_of_values node.now.domain }
 {
     let kind = kind_of_domain(&node.domain);
-    in_value(scopes, rule, Scope::Constants, kind, node.value)
+    let Some(test) = last else {
+        return tested(scopes, rule, kind, node.value);
+    };
+    if is_of(test, kind, node.value) {
+        test
+    } else {
+        tested(scopes, rule, kind, node.value)
+    }
 }
 
 // The kind of a parameter with a value that is read.
@@ -137,15 +174,19 @@ fn in_observer<'a>(scopes: &'a Scopes<'a>, rule: Rule, node: &MemNode) -> Option
     }
 }
 
-/// The earliest place at which the value of some variable breaks the rule.
+/// The earliest place at which the value of some variable breaks the rule. A value that the names of one declaration share
+/// is tested once.
 pub(crate) fn in_variables<'a>(scopes: &'a Scopes<'a>, rule: Rule) -> Option<Place>
     requires { HasScopes scopes.now }
     ensures { (m : RootedModel) (units : List UnitPath) → AreScopes m units scopes.now
         → IsEarliest (BreaksOne (variables m units) (BreaksValue m rule)) result }
 {
     let mut found = None;
+    let mut last = None;
     for node in &scopes.tree.variables {
-        found = earlier(found, in_variable(scopes, rule, node));
+        let test = in_variable(scopes, rule, last, node);
+        found = earlier(found, test.2);
+        last = Some(test);
     }
     found
 }

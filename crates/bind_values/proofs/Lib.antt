@@ -4,3 +4,4 @@ pub mod Leafing
 pub mod ValuesRight
 pub mod OutsideDomains
 pub mod AllValued
+pub mod Remembering

@@ -1,8 +1,10 @@
 //! The values of parameters and variables, computed one after the other.
 
-ghost use Rattle.std.specs.Prelude.{◌≡◌, ℕ, false, [], List, IfOk};
+ghost use Rattle.std.specs.Prelude.{◌≡◌, false, [], List, IfOk, OnOk, IfSome};
+ghost use Rattle.std.specs.HashMap.{get};
 ghost use Rattle.ar_base.specs.Lists.{Stands, Along};
 ghost use Rattle.ar_base.specs.Numbers.{VarId as VarNumber};
+ghost use Rattle.domains.specs.declared.Value.{Value as ValueOf};
 ghost use Rattle.domains.specs.declared.Value.TheVariants.{Truth};
 ghost use Rattle.typed_expr.specs.Total.{value_of};
 ghost use Rattle.typed_expr.specs.declared.expr.Expr.{Expr as Expression};
@@ -11,11 +13,13 @@ ghost use Rattle.bind_expressions.specs.Translating.{BecomesBy};
 ghost use Rattle.hierarchy.specs.Models.{RootedModel};
 ghost use Rattle.hierarchy.specs.Units.{UnitPath, Thing};
 ghost use Rattle.hierarchy.specs.Listing.{variables, parameters as parameters_of};
-ghost use Rattle.hierarchy.specs.Tie.{IsParameter, HasAttribute};
-ghost use Rattle.source_meaning.specs.Tested.{HasValue};
+ghost use Rattle.hierarchy.specs.Tie.{IsParameter};
+ghost use Rattle.unit_index.specs.Indexed.{same_pair};
 ghost use Rattle.bind_scopes.specs.Scopes.{AreScopes, HasScopes};
+ghost use Rattle.bind_scopes.specs.declared.scopes.Scopes.{Scopes as ScopesOf};
+ghost use Rattle.bind_values.specs.Known.{IsKnown, AreKnown};
 ghost use Rattle.bind_values.specs.Leaves.{leaf_in, IsInTree};
-ghost use Rattle.bind_values.specs.Values.{AreNamesKept, IsValue, IsParameterValue, AreFirst, NamesBefore};
+ghost use Rattle.bind_values.specs.Values.{AreNamesKept, IsValue, IsParameterValue, AreFirst};
 
 use crate::leaves::UnitLeaves;
 use ar_base::{Memory, VarId};
@@ -25,7 +29,11 @@ use bind_scopes::{Scopes, written};
 use domains::Value;
 use hierarchy::{Attribute, ParNode};
 use std::alloc::Global;
+use std::collections::HashMap;
 use typed_expr::{Env, ValueKind, eval_total};
+
+// The values that were computed, each with what it is the value of.
+type Known = HashMap<(u32, u32), (Attribute, Value)>;
 
 // The variables of an expression that has none.
 struct NoVariables {}
@@ -73,10 +81,7 @@ fn value_in(
     value: Attribute,
 ) -> Result<Value, Memory>
     requires { HasScopes scopes.now }
-    ensures { (m : RootedModel) (units : List UnitPath) (t : Thing) (n : ℕ)
-        → AreScopes m units scopes.now → AreNamesKept m units → HasValue m units t
-        → HasAttribute m units t value → AreFirst m units n parameters.now
-        → NamesBefore m units t n → IfOk result (IsValue m t) }
+    ensures { IfOk result (IsKnown scopes.now parameters.now value) }
 {
     let Some(expr) = written(&scopes.tree.classes, value.source) else {
         return Ok(Value::Truth(false));
@@ -90,6 +95,58 @@ fn value_in(
         parameters,
     };
     computed(alloc, expr, &leaves)
+}
+
+// Where the value of an attribute is remembered: by the unit in which it is read and the place of its setting. The
+// things that share a place stand one declaration after the other in a tree, so that the last value serves.
+fn spot_of(value: Attribute) -> (u32, u32) {
+    let setting = match value.source.setting {
+        Some(place) => place.saturating_add(1),
+        None => 0,
+    };
+    (value.from.n, setting)
+}
+
+// What is remembered there.
+fn found_at(known: &Known, spot: (u32, u32)) -> Option<(Attribute, Value)>
+    ensures { result ≡ get same_pair known.now spot }
+{
+    known.get(&spot).copied()
+}
+
+// The value of an attribute, where it is remembered.
+fn remembered(known: &Known, value: Attribute) -> Option<Value>
+    ensures { (s : ScopesOf) (parameters : List ValueOf) → AreKnown s parameters known.now
+        → IfSome result (IsKnown s parameters value) }
+{
+    let (attribute, found) = found_at(known, spot_of(value))?;
+    if attribute == value {
+        Some(found)
+    } else {
+        None
+    }
+}
+
+// The value of what has this attribute, which is computed where it is not remembered.
+fn value_once(
+    alloc: Global,
+    scopes: &Scopes<'_>,
+    parameters: &[Value],
+    known: &mut Known,
+    value: Attribute,
+) -> Result<Value, Memory>
+    requires { HasScopes scopes.now }
+    ensures value { AreKnown scopes.now parameters.now known.old
+        → IfOk result (IsKnown scopes.now parameters.now value) }
+    ensures known { AreKnown scopes.now parameters.now known.old
+        → OnOk result (AreKnown scopes.now parameters.now known.new) }
+{
+    if let Some(found) = remembered(known, value) {
+        return Ok(found);
+    }
+    let found = value_in(alloc, scopes, parameters, value)?;
+    known.insert(spot_of(value), (value, found))?;
+    Ok(found)
 }
 
 // The value of the parameter at this place, after those of all before it.
@@ -129,7 +186,8 @@ pub(crate) fn parameter_values(alloc: Global, scopes: &Scopes<'_>) -> Result<Vec
 }
 
 /// The values of the `init` and `reset` of all variables, in the tree's order, where these are the
-/// values of all parameters. The error is want of memory.
+/// values of all parameters. An expression that gives several variables their values is computed once.
+/// The error is want of memory.
 pub(crate) fn variable_values(
     alloc: Global,
     scopes: &Scopes<'_>,
@@ -141,9 +199,10 @@ pub(crate) fn variable_values(
         → Along (IsParameterValue m) (parameters_of m units) parameters.now
         → IfOk result (λ v. Along (IsValue m) (variables m units) v.items) }
 {
+    let mut known = HashMap::new(alloc);
     let mut values = Vec::new(alloc);
     for node in &scopes.tree.variables {
-        let value = value_in(alloc, scopes, parameters, node.value)?;
+        let value = value_once(alloc, scopes, parameters, &mut known, node.value)?;
         values.push(value)?;
     }
     Ok(values)

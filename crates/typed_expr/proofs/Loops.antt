@@ -1,6 +1,6 @@
 -- The loops of the evaluation of sets, an operand at a time.
 use Rattle.std.proofs.Common.{◌≡◌, ℕ, ◌+◌, ◌<◌, ◌≤◌, ◌↔◌, ℤ, pos, Bool, true, false, not, IsTrue, List, [], ◌∷◌, ◌++◌, length, take, drop, Contains, get_or, is_some, Option, Some, None, Ok, Err, zero, suc, refl, sym, ap, ◌∙◌, subst, ◌⊎◌, inl, inr, arith}
-use Rattle.std.proofs.lemmas.List.{take_more, take_all, take-append-drop}
+use Rattle.std.proofs.lemmas.List.{take_all, take-append-drop}
 use Rattle.std.proofs.lemmas.List.Sums.{fold_push}
 use Rattle.std.proofs.lemmas.Bool.{cases_lt}
 use Rattle.ar_base.proofs.Items.{take_item}

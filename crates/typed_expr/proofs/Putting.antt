@@ -1,5 +1,5 @@
 -- One more value in an ascending list.
-use Rattle.std.proofs.Common.{◌≡◌, ℕ, ◌+◌, ◌<◌, ◌≤◌, Bool, true, false, List, [], ◌∷◌, length, insert, Contains, get_or, Option, Some, None, MatchOption, Result, Ok, Err, OnOk, OnErr, zero, suc, refl, sym, subst, ◌⊎◌, inl, inr, arith}
+use Rattle.std.proofs.Common.{◌≡◌, ℕ, ◌+◌, ◌<◌, ◌≤◌, Bool, true, false, List, [], ◌∷◌, length, insert, Contains, get_or, Option, Some, None, MatchOption, Result, Ok, Err, OnOk, OnErr, zero, suc, sym, subst, ◌⊎◌, inl, inr, arith}
 use Rattle.std.specs.Prelude.{⊤}
 use Rattle.std.specs.List.{AllWithin}
 use Rattle.std.specs.List.Sorted.{IsPartitionPoint}

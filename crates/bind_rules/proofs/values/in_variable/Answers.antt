@@ -1,8 +1,16 @@
-use Rattle.bind_rules.proofs.Valued.{variable_scope, variable_of_kind}
-use Rattle.bind_scopes.specs.declared.scopes.Scope.TheVariants as scope
+use Rattle.std.proofs.Common.{Option, IfSome, ◌∙◌, subst}
+use Rattle.ar_base.specs.declared.places.Place.{Place}
+use Rattle.typed_expr.specs.declared.expr.ValueKind.{ValueKind}
+use Rattle.hierarchy.specs.declared.tree.Attribute.{Attribute}
+use Rattle.bind_rules.specs.Testing.{IsTested}
 use Rattle.bind_rules.proofs.values.in_variable.Goals as goal
 
-pub returns : goal.returns
-returns c = λ m units t are is.
-    c.in_value.ensures m units t are (variable_scope m units t c.args.node.now is scope.Constants) is.value
-    (variable_of_kind m units t c.args.node.now is c.kind_of_domain-kind.result c.kind_of_domain-kind.ensures)
+pub returns-then-is_of : goal.returns-then-is_of
+returns-then-is_of c =
+    let same = c.is_of.ensures c.if-is_of.true in
+    record {
+      tested = λ h. subst (λ (o : Option (Attribute × ValueKind × Option Place)). IfSome o
+          (IsTested c.args.scopes.now c.args.rule)) c.in-Some.is h;
+      value = same.0;
+      kind = same.1 ∙ c.kind_of_domain-kind.ensures;
+    }

@@ -13,9 +13,11 @@ returns-then-is_read c = λ m units t are kept st is first.
     let has = of_parameter (one_here (parameters m units) c.args.place t st) v in
     let names = parameter_before are.is_tree.table.kept are.is_tree.are_units t c.args.place c.args.node.now.node.unit.n
     st is.node.unit v in
-    ok_map c.value_in.result (λ x h. record { value = λ r. h })
-    (c.value_in.ensures m units t c.args.place are kept has (parameter_attribute m units t c.args.node.now is v) first
-    names)
+    ok_map c.value_in.result
+    (λ x h. record {
+      value = λ r. h.value m units t c.args.place are kept has (parameter_attribute m units t c.args.node.now is v) first
+          names;
+    }) c.value_in.ensures
 
 pub returns-else-is_read : goal.returns-else-is_read
 returns-else-is_read c = λ m units t are kept st is first.

@@ -6,19 +6,27 @@ use Rattle.bind_values.proofs.ValuesRight.{value_right}
 use Rattle.bind_values.proofs.computing.value_in.Goals as goal
 
 pub returns-in_default : goal.returns-in_default
-returns-in_default c = λ m units t n are kept has h first names.
-    let w = c.in_default.ensures.in_force m units t c.args.value are.is_tree.table.table refl h in let e = w.3 in absurd (cc)
+returns-in_default c = record {
+  value = λ m units t n are kept has h first names.
+      let w = c.in_default.ensures.in_force m units t c.args.value are.is_tree.table.table refl h in
+      let e = w.3 in absurd (cc);
+}
 
 pub returns-then-value-len : goal.returns-then-value-len
-returns-then-value-len c = λ m units t n are kept has h first names.
-    let w = c.in-Some.ensures.in_force m units t c.args.value are.is_tree.table.table refl h in
-    let s = stands_within units c.args.value.from.n w.0.unit w.2.unit in
-    let l = along_length units c.args.scopes.now.tree.now.units.items are.is_tree.units_are in
-    absurd (omega (arith, s, l))
+returns-then-value-len c = record {
+  value = λ m units t n are kept has h first names.
+      let w = c.in-Some.ensures.in_force m units t c.args.value are.is_tree.table.table refl h in
+      let s = stands_within units c.args.value.from.n w.0.unit w.2.unit in
+      let l = along_length units c.args.scopes.now.tree.now.units.items are.is_tree.units_are in
+      absurd (omega (arith, s, l));
+}
 
 pub returns : goal.returns
-returns c = λ m units t n are kept has h first names.
-    let w = c.in-Some.ensures.in_force m units t c.args.value are.is_tree.table.table refl h in
+returns c =
     ok_map c.computed.result
-    (λ v r. value_right are kept t has n c.args.parameters.now first names w.0 w.1 c.args.value.from.n w.2.unit
-    c.in-Some.expr.now r.0 v (kind_one refl (sym w.3)) r.1 r.2) c.computed.ensures
+    (λ v r. record {
+      value = λ m units t n are kept has h first names.
+          let w = c.in-Some.ensures.in_force m units t c.args.value are.is_tree.table.table refl h in
+          value_right are kept t has n c.args.parameters.now first names w.0 w.1 c.args.value.from.n w.2.unit
+          c.in-Some.expr.now r.0 v (kind_one refl (sym w.3)) r.1 r.2;
+    }) c.computed.ensures

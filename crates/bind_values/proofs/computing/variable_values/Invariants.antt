@@ -5,9 +5,13 @@ use Rattle.hierarchy.specs.Units.{UnitPath}
 use Rattle.hierarchy.specs.Listing.{variables, parameters}
 use Rattle.bind_scopes.specs.Scopes.{AreScopes}
 use Rattle.bind_values.specs.Values.{AreNamesKept, IsParameterValue, IsValue}
+use Rattle.bind_values.specs.Known.{AreKnown}
 use Rattle.bind_values.proofs.computing.variable_values.Given as goal
 
 abbrev pub invariant-loop-node : goal.invariant-loop-node
-invariant-loop-node l = (m : RootedModel) (units : List UnitPath) → AreScopes m units l.scopes → AreNamesKept m units
-    → Along (IsParameterValue m) (parameters m units) l.parameters
-    → Along (IsValue m) (take l.node-index (variables m units)) l.values.items
+invariant-loop-node l = record {
+  values : (m : RootedModel) (units : List UnitPath) → AreScopes m units l.scopes → AreNamesKept m units
+      → Along (IsParameterValue m) (parameters m units) l.parameters
+      → Along (IsValue m) (take l.node-index (variables m units)) l.values.items;
+  known : AreKnown l.scopes l.parameters l.known;
+}

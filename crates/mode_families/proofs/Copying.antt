@@ -1,9 +1,9 @@
 -- A family copied half by half.
-use Rattle.std.proofs.Common.{◌≡◌, ◌⊎◌, ⊎_elim, inl, inr, ℕ, zero, suc, ◌+◌, ◌<◌, List, [], ◌∷◌, length, replicate, Some, Result, Ok, refl, sym, ap, ◌∙◌, subst, arith, set, get_or, length-set}
+use Rattle.std.proofs.Common.{◌≡◌, ◌⊎◌, ⊎_elim, inl, inr, ℕ, zero, suc, ◌+◌, ◌<◌, List, [], ◌∷◌, length, replicate, Result, refl, sym, ap, ◌∙◌, subst, arith, set, get_or, length-set}
 use Rattle.ar_base.specs.Lists.{Stands}
 use Rattle.std.proofs.lemmas.List.{length-replicate}
 use Rattle.ar_base.proofs.Standing.{stands_get}
-use Rattle.zdd_families.specs.Families.{Family, node}
+use Rattle.zdd_families.specs.Families.{Family}
 use Rattle.zdd_families.specs.Sections.{IsCounted}
 use Rattle.zdd_families.proofs.Sections.{IsCounted-lower, IsCounted-upper}
 use Rattle.zdd_nodes.specs.Nodes.{NodeId, Stored, family, IsNumber, IsNode, Grows, Draws}

@@ -1,9 +1,9 @@
 -- Families with an event put into each set.
-use Rattle.std.proofs.Common.{◌≡◌, ◌⊎◌, ⊎_elim, inl, inr, ℕ, zero, suc, ◌<◌, Bool, true, false, cond, ◌||◌, eqb, nat_lt, List, [], ◌∷◌, ◌++◌, map, refl, sym, ap, ap₂, ◌∙◌, subst, arith, eqb-true, eq-eqb, true≢false}
-use Rattle.std.specs.List.{list_any, AllByRecursion}
+use Rattle.std.proofs.Common.{◌≡◌, ◌⊎◌, ⊎_elim, inl, inr, ℕ, ◌<◌, Bool, true, false, cond, ◌||◌, eqb, nat_lt, List, [], ◌∷◌, refl, sym, ap, ◌∙◌, subst, arith, true≢false}
+use Rattle.std.specs.List.{AllByRecursion}
 use Rattle.std.proofs.lemmas.Bool.Decides.{nat_tests}
 use Rattle.zdd_families.specs.Families.{Family, has, same, node, IsAbove, union}
-use Rattle.zdd_families.proofs.Laws.{eqb-refl, same-refl, same-true, any_more, has-with, has-under}
+use Rattle.zdd_families.proofs.Laws.{eqb-refl, same-refl, same-true, any_more, has-with}
 use Rattle.zdd_families.proofs.Members.{has-union}
 use Rattle.mode_families.specs.Sets.{put_in, HasWith}
 

@@ -1,11 +1,10 @@
 -- One step of the family of a diagram, and its ends.
-use Rattle.std.proofs.Common.{◌≡◌, ◌≢◌, ◌⊎◌, ⊎_elim, inl, inr, ℕ, zero, suc, ◌+◌, ◌<◌, ◌≤◌, Bool, true, false, cond, ◌||◌, List, [], ◌∷◌, ◌++◌, length, refl, sym, ap, ◌∙◌, subst, arith, true≢false}
+use Rattle.std.proofs.Common.{◌≡◌, ◌⊎◌, ⊎_elim, inl, inr, ℕ, zero, suc, ◌+◌, ◌<◌, ◌≤◌, Bool, true, false, cond, ◌||◌, List, [], ◌∷◌, ◌++◌, length, refl, sym, ap, ◌∙◌, subst, arith, true≢false}
 use Rattle.ar_base.specs.Lists.{Stands, IsOneOf}
 use Rattle.ar_base.specs.Sets.{Within}
-use Rattle.ar_base.proofs.Comparing.{side, three, lt_or_same}
+use Rattle.ar_base.proofs.Comparing.{side, lt_or_same}
 use Rattle.ar_base.proofs.Standing.{stands_one, stands_within, stands_some, stands_none, one_none, one_cases, one_first, one_rest, one_split, one_left, one_right}
 use Rattle.zdd_families.specs.Families.{Family, has, union}
-use Rattle.zdd_families.proofs.Laws.{same-true}
 use Rattle.zdd_families.proofs.Members.{has-union}
 use Rattle.zdd_nodes.specs.Nodes as nodes
 use Rattle.mode_nodes.specs.Diagrams.{Stored, mode_of, value, IsNumber, IsFrom, IsSoundStore}

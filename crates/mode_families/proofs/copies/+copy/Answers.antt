@@ -1,4 +1,4 @@
-use Rattle.std.proofs.Common.{Ok, get_or, ap, sym, ◌∙◌, arith}
+use Rattle.std.proofs.Common.{Ok, get_or, arith}
 use Rattle.std.proofs.lemmas.Result.{err_from_is_err_and}
 use Rattle.zdd_nodes.proofs.Growing.{Draws-stays, Draws-refused, Draws-after}
 use Rattle.zdd_nodes.proofs.Halved as h

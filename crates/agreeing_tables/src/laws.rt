@@ -1,0 +1,30 @@
+//! Laws of tables of models that agree.
+
+ghost use Rattle.std.specs.Prelude.{ℕ, List};
+ghost use Rattle.ar_parser.specs.Models.{ReadsWithin};
+ghost use Rattle.ar_readings.specs.Models.{SameModel};
+ghost use Rattle.ar_syntax.specs.declared.items.Model.{Model};
+ghost use Rattle.class_table.specs.Declaring.{Declared, IsDeclared};
+ghost use Rattle.agreeing_tables.specs.Tables.{SameTable};
+
+use ar_readings::readings::{agreement_opens, one_tree};
+use class_table::one_declared;
+
+/// Models that agree declare tables that agree: the same bodies with members that agree, the same types,
+/// symbols and top-level blocks, all in one order.
+pub fn tables_agree()
+    ensures { (m n : Model) (d e : Declared) → SameModel m n → IsDeclared m d → IsDeclared n e
+        → SameTable d e }
+{
+    agreement_opens();
+    one_declared();
+}
+
+/// Whatever its limit of nesting, a text declares one table: those of two readings of it agree.
+pub fn one_table_of_a_text()
+    ensures { (text : List ℕ) (n : ℕ) (x y : Model) (d e : Declared) → ReadsWithin n text x
+        → ReadsWithin n text y → IsDeclared x d → IsDeclared y e → SameTable d e }
+{
+    one_tree();
+    tables_agree();
+}

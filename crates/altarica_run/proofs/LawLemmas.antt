@@ -240,31 +240,31 @@ module _ (c : Call) (job : Job) (one : (a b : Job) → IsJob c.words a → IsJob
   -- Refusals that are the only answer of the stages
 
   module _ (r : Refusal) (only : (x : Result Ready Refusal) → Passes c.files job x → x ≡ Err r) (quiet : IsQuiet c)
-      where
-    only_refused : (other : Refusal) → Passes c.files job (Err other) → Wrote c (line_of other)
-        → (status_of other ≡ status_of r) × Wrote c (line_of r)
-    only_refused other p a =
-        let e : other ≡ r = ap (refusal_or other) (only (Err other) p) in
-        (ap status_of e, subst (λ (z : Refusal). Wrote c (line_of z)) e a)
+    where
+      only_refused : (other : Refusal) → Passes c.files job (Err other) → Wrote c (line_of other)
+          → (status_of other ≡ status_of r) × Wrote c (line_of r)
+      only_refused other p a =
+          let e : other ≡ r = ap (refusal_or other) (only (Err other) p) in
+          (ap status_of e, subst (λ (z : Refusal). Wrote c (line_of z)) e a)
 
-    only_said : (said : List ℕ) (s : Status) → Says c.files c.words said s → Wrote c said
-        → (s ≡ status_of r) × Wrote c (line_of r)
-    only_said said s (usage never) a = absurd (never job is)
-    only_said said s (refuses other x at p) a =
-        only_refused x (same_job other at (λ j. Passes c.files j (Err x)) p) a
-    only_said said s (tells other w at p t) a =
-        not_ok _ _ (sym (only (Ok w) (same_job other at (λ j. Passes c.files j (Ok w)) p)))
+      only_said : (said : List ℕ) (s : Status) → Says c.files c.words said s → Wrote c said
+          → (s ≡ status_of r) × Wrote c (line_of r)
+      only_said said s (usage never) a = absurd (never job is)
+      only_said said s (refuses other x at p) a =
+          only_refused x (same_job other at (λ j. Passes c.files j (Err x)) p) a
+      only_said said s (tells other w at p t) a =
+          not_ok _ _ (sym (only (Ok w) (same_job other at (λ j. Passes c.files j (Ok w)) p)))
 
-    only_ends : (s : Status) → EndsSo c.files (RoseAt c) c.words (sink_before c) (sink_after c) s
-        → ((s ≡ status_of r) × Wrote c (line_of r)) ⊎ (s ≡ status.Memory)
-    only_ends s (says.says {text = said} h a) = inl (only_said said s h a)
-    only_ends s (says.not_read {name = name} other at l x a) = absurd (quiet.read name x)
-    only_ends s (says.not_written b x h) = absurd (quiet.written x)
-    only_ends s (says.no_memory e) = inr refl
-    only_ends s (says.replay_stopped other at e h k) = inr refl
+      only_ends : (s : Status) → EndsSo c.files (RoseAt c) c.words (sink_before c) (sink_after c) s
+          → ((s ≡ status_of r) × Wrote c (line_of r)) ⊎ (s ≡ status.Memory)
+      only_ends s (says.says {text = said} h a) = inl (only_said said s h a)
+      only_ends s (says.not_read {name = name} other at l x a) = absurd (quiet.read name x)
+      only_ends s (says.not_written b x h) = absurd (quiet.written x)
+      only_ends s (says.no_memory e) = inr refl
+      only_ends s (says.replay_stopped other at e h k) = inr refl
 
-    pub only_of : (s : Status) → Gave c s → ((s ≡ status_of r) × Wrote c (line_of r)) ⊎ (s ≡ status.Memory)
-    only_of s g = only_ends s g.ends
+      pub only_of : (s : Status) → Gave c s → ((s ≡ status_of r) × Wrote c (line_of r)) ⊎ (s ≡ status.Memory)
+      only_of s g = only_ends s g.ends
 
   -- Scripts that are absent
 

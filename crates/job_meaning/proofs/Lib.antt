@@ -5,3 +5,5 @@ pub mod Cuts
 pub mod Modules
 pub mod Telling
 pub mod Sources
+pub mod Readings
+pub mod Findings

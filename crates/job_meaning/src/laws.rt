@@ -1,17 +1,49 @@
 //! What follows from the definitions of the stages of a job, and of its text.
 
-ghost use Rattle.std.specs.Prelude.{◌≡◌, ℕ, List, Option, Result, Ok};
+ghost use Rattle.std.specs.Prelude.{◌≡◌, ℕ, true, List, ◌++◌, Option, Result, Ok};
+ghost use Rattle.ar_base.specs.declared.places.Place.{Place};
+ghost use Rattle.ar_grammar.specs.Texts.{FitsNesting, Viable};
+ghost use Rattle.ar_grammar.specs.Words.{Tokens};
+ghost use Rattle.ar_parser.specs.Models.{AreLexemes};
+ghost use Rattle.ar_readings.specs.Models.{SameModel};
+ghost use Rattle.ar_syntax.specs.declared.items.Model.{Model};
 ghost use Rattle.gts_flatten.specs.Elaborating.{Elaborated};
 ghost use Rattle.run_words.specs.declared.jobs.Job.{Job};
-ghost use Rattle.altarica_run.specs.Elaborates.{Elaborates};
-ghost use Rattle.altarica_run.specs.Stages.{Ready, Asks, Readies};
+ghost use Rattle.run_words.specs.declared.verbs.Verb.TheVariants.{Modules};
+ghost use Rattle.run_words.specs.Jobs.{IsJob};
+ghost use Rattle.altarica_run.specs.Elaborates.{Elaborates, Parses};
+ghost use Rattle.altarica_run.specs.Follows.{Call, Gave};
+ghost use Rattle.altarica_run.specs.Stages.{Ready, Asks, Readies, lists_cuts};
 ghost use Rattle.altarica_run.specs.Tells.{Tells};
 ghost use Rattle.altarica_run.specs.declared.refusals.Refusal.{Refusal};
 ghost use Rattle.altarica_run.specs.declared.status.Status.{Status};
+ghost use Rattle.altarica_run.specs.declared.status.Status.TheVariants as status;
 ghost use Rattle.job_meaning.specs.Definite.{IsDefinite, SaysOf, AgreeButNodes};
+ghost use Rattle.job_meaning.specs.Findings.{AreModulesOf, IsConflictOf};
+ghost use Rattle.job_meaning.specs.Readings.{SameAnswer};
 
-use ar_readings::readings::trees_keep;
+use altarica_run::laws::one_job;
+use ar_readings::readings::{one_tree, trees_keep};
+use module_text::laws::combinations_are_cuts;
 use script_lines::laws::one_list;
+
+/// A text has a reading or is refused, never both: two readings of it agree, and it is refused for one
+/// cause, at one place.
+pub fn one_reading_or_refusal()
+    ensures { (text : List ℕ) (x y : Result Model Refusal) → Parses text x → Parses text y
+        → SameAnswer SameModel x y }
+{
+    one_tree();
+}
+
+/// Where the first tokens of a text open no production inside so many others, some text of the grammar
+/// begins with them, of some nesting. So a text that is refused for its syntax is refused at the
+/// first token with which no text goes on, and its tokens before that one begin some text.
+pub fn fitting_fronts_are_viable()
+    ensures { (text : List ℕ) (front rest : Tokens) (names : List (List ℕ)) (end : Place)
+        → AreLexemes text (front ++ rest) names end → (n : ℕ) → FitsNesting n front
+        → Viable front }
+{}
 
 /// What the words, the script and the list of cuts of a job ask of a source is one thing, or they
 /// are refused in one way.
@@ -55,5 +87,28 @@ pub fn sources_are_definite()
     ensures { (main : Option (List ℕ)) (text : List ℕ) (x : Elaborated)
         → Elaborates main text (Ok x) → IsDefinite x }
 {
+    trees_keep();
+}
+
+/// A call of `modules` that ends well writes short forms that stand for the cuts: each choice of one
+/// set of the module for each unit of a form makes a cut with the form's events, and each cut comes
+/// from just one form and one choice.
+pub fn modules_stand_for_cuts()
+    ensures { (c : Call) (job : Job) → Gave c status.Done → IsJob c.words job
+        → job.command ≡ Modules → AreModulesOf c job }
+{
+    one_job();
+    trees_keep();
+    combinations_are_cuts();
+}
+
+/// A line `fault: ..` of a job that tells of cuts meets its fault: its labels are those of a least set
+/// that meets a conflict, and fired as they stand in the whole model, dropped events included, they
+/// meet this flow fault at the last of them, and none before.
+pub fn conflicts_are_met()
+    ensures { (c : Call) (job : Job) → Gave c status.Fault → IsJob c.words job
+        → lists_cuts job.command ≡ true → IsConflictOf c job }
+{
+    one_job();
     trees_keep();
 }

@@ -60,7 +60,7 @@ blocks_alike (same.sync s) = refl
 blocks_alike (same.asserts s) = refl
 
 -- members that agree, kind by kind
-viewed : (f g : MemberForm) → SameKind f g → SameForms f g
+pub viewed : (f g : MemberForm) → SameKind f g → SameForms f g
 viewed (member.Extends n a) (member.Extends m b) s =
     subst (λ z. SameForms (member.Extends n a) (member.Extends z b)) s.0
     (subst (λ z. SameForms (member.Extends n a) (member.Extends n z)) s.1 same.extends)

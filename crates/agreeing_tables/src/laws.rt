@@ -1,14 +1,15 @@
 //! Laws of tables of models that agree.
 
-ghost use Rattle.std.specs.Prelude.{ℕ, List};
+ghost use Rattle.std.specs.Prelude.{◌≡◌, ℕ, List};
 ghost use Rattle.ar_parser.specs.Models.{ReadsWithin};
 ghost use Rattle.ar_readings.specs.Models.{SameModel};
 ghost use Rattle.ar_syntax.specs.declared.items.Model.{Model};
 ghost use Rattle.class_table.specs.Declaring.{Declared, IsDeclared};
+ghost use Rattle.class_table.specs.Members.{Site, Members};
 ghost use Rattle.agreeing_tables.specs.Tables.{SameTable};
 
 use ar_readings::readings::{agreement_opens, one_tree};
-use class_table::one_declared;
+use class_table::{one_declared, one_list_of_members};
 
 /// Models that agree declare tables that agree: the same bodies with members that agree, the same types,
 /// symbols and top-level blocks, all in one order.
@@ -27,4 +28,23 @@ pub fn one_table_of_a_text()
 {
     one_tree();
     tables_agree();
+}
+
+/// In tables that agree a body has the same members, inherited ones included, site by site.
+pub fn members_agree()
+    ensures { (d e : Declared) → SameTable d e → (b : ℕ) (xs ys : List Site) → Members d b xs
+        → Members e b ys → xs ≡ ys }
+{
+    agreement_opens();
+    one_list_of_members();
+}
+
+/// However a text is read, each of its bodies has one list of members.
+pub fn one_list_of_members_of_a_text()
+    ensures { (text : List ℕ) (n : ℕ) (x y : Model) (d e : Declared) → ReadsWithin n text x
+        → ReadsWithin n text y → IsDeclared x d → IsDeclared y e
+        → (b : ℕ) (xs ys : List Site) → Members d b xs → Members e b ys → xs ≡ ys }
+{
+    one_table_of_a_text();
+    members_agree();
 }

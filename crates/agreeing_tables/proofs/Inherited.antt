@@ -1,5 +1,5 @@
 -- Tables that agree have the same members, site by site.
-use Rattle.std.proofs.Common.{◌≡◌, ℕ, zero, ◌+◌, ◌==◌, if◌then◌else◌, Bool, true, false, List, [], ◌∷◌, ◌++◌, Option, Some, None, refl, sym, ap, subst, ◌∙◌}
+use Rattle.std.proofs.Common.{◌≡◌, ℕ, zero, ◌+◌, ◌==◌, if◌then◌else◌, Bool, true, false, List, [], ◌∷◌, ◌++◌, Option, Some, refl, sym, ap, subst, ◌∙◌}
 use Rattle.std.specs.Prelude.{option_and_then}
 use Rattle.ar_base.specs.Lists.{Along}
 use Rattle.ar_base.specs.Lists as along
@@ -7,11 +7,11 @@ use Rattle.ar_base.proofs.Standing.{along_on}
 use Rattle.ar_readings.specs.Members.{SameMember}
 use Rattle.ar_readings.specs.Opened.{SameKind}
 use Rattle.ar_syntax.specs.declared.members.Member.{Member, out-Member}
-use Rattle.class_table.specs.Declaring.{MemberForm, TextBody, NamedType, DomainType, ClassType, Declared}
+use Rattle.class_table.specs.Declaring.{MemberForm, NamedType, DomainType, ClassType, Declared}
 use Rattle.class_table.specs.Members.{Site, type_in, class_body, class_named, name_extended, extended, sites_from, Members, Inherits, members, nothing, from, passes}
 use Rattle.class_table.specs.declared.tables.Owned.{Owned}
 use Rattle.class_table.specs.declared.tables.Owned.TheVariants.{Plain, Nested}
-use Rattle.agreeing_tables.specs.Tables.{SameOwned, SameText, SameType, SameNamedType, SameTable}
+use Rattle.agreeing_tables.specs.Tables.{SameOwned, SameType, SameNamedType, SameTable}
 use Rattle.agreeing_tables.specs.Views.{SameForms}
 use Rattle.agreeing_tables.specs.Views as same
 use Rattle.agreeing_tables.proofs.Laid.{viewed}

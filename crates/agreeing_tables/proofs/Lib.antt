@@ -1,3 +1,4 @@
 mod Laid
 mod Items
 mod Inherited
+mod Seen

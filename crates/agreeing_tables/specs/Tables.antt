@@ -1,11 +1,13 @@
--- What it is that two models agree as they are declared.
-use Rattle.std.specs.Prelude.{◌≡◌, ℕ}
+-- What it is that two models agree as they are declared, and as they are seen from their main block.
+use Rattle.std.specs.Prelude.{◌≡◌, ℕ, List, Option}
 use Rattle.ar_base.specs.Lists.{Along}
 use Rattle.class_table.specs.Declaring.{TextBody, NamedType, DomainType, ClassType, Declared}
+use Rattle.class_table.specs.Tables.{IsMain}
 use Rattle.class_table.specs.declared.tables.Owned.{Owned}
 use Rattle.class_table.specs.declared.tables.Owned.TheVariants.{Plain, Nested}
 use Rattle.ar_readings.specs.Members.{SameMember}
 use Rattle.ar_readings.specs.Models.{SameDomain}
+use Rattle.hierarchy.specs.Models.{RootedModel}
 
 -- members that agree, or one nested block
 abbrev pub SameOwned : Owned → Owned → Type 0
@@ -35,3 +37,10 @@ pub record SameTable (d e : Declared) : Type 0 where
   pub types : Along SameNamedType d.types e.types
   pub symbols : d.symbols ≡ e.symbols
   pub blocks : d.blocks ≡ e.blocks
+
+-- the same table, members and names; the main block of the first is one of the second too
+pub record AreSeenAlike (main : Option (List ℕ)) (m n : RootedModel) : Type 0 where
+  pub declared : SameTable m.declared n.declared
+  pub members : m.members ≡ n.members
+  pub names : m.names ≡ n.names
+  pub is_main : IsMain n.names n.declared main m.main

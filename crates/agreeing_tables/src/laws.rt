@@ -1,12 +1,13 @@
 //! Laws of tables of models that agree.
 
-ghost use Rattle.std.specs.Prelude.{◌≡◌, ℕ, List};
+ghost use Rattle.std.specs.Prelude.{◌≡◌, ℕ, List, Option};
 ghost use Rattle.ar_parser.specs.Models.{ReadsWithin};
 ghost use Rattle.ar_readings.specs.Models.{SameModel};
 ghost use Rattle.ar_syntax.specs.declared.items.Model.{Model};
 ghost use Rattle.class_table.specs.Declaring.{Declared, IsDeclared};
 ghost use Rattle.class_table.specs.Members.{Site, Members};
-ghost use Rattle.agreeing_tables.specs.Tables.{SameTable};
+ghost use Rattle.hierarchy.specs.Models.{RootedModel, IsRootedIn};
+ghost use Rattle.agreeing_tables.specs.Tables.{AreSeenAlike, SameTable};
 
 use ar_readings::readings::{agreement_opens, one_tree};
 use class_table::{one_declared, one_list_of_members};
@@ -47,4 +48,17 @@ pub fn one_list_of_members_of_a_text()
 {
     one_table_of_a_text();
     members_agree();
+}
+
+/// However a text is read, it is seen alike from the main block that is asked for: with one table, the
+/// same members of each body, the same names, and a main block that is one in both.
+pub fn texts_are_seen_alike()
+    ensures { (text : List ℕ) (k : ℕ) (x y : Model) (main : Option (List ℕ)) (m n : RootedModel)
+        → ReadsWithin k text x → ReadsWithin k text y → IsRootedIn x main m → IsRootedIn y main n
+        → AreSeenAlike main m n }
+{
+    one_tree();
+    agreement_opens();
+    one_declared();
+    one_list_of_members();
 }

@@ -1,6 +1,6 @@
 -- How a call ends, as the calls in it answer.
 use Rattle.std.proofs.Common.{◌≡◌, ℕ, List, Ok, sym, ap, subst}
-use Rattle.ar_io.specs.Outside.{Told, Rose}
+use Rattle.ar_io.specs.Outside.{Told}
 use Rattle.ar_io.specs.Writing.{SinkState, Appended, Cut}
 use Rattle.run_words.specs.declared.jobs.Job.{Job}
 use Rattle.run_words.specs.Jobs.{IsJob}

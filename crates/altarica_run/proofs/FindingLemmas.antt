@@ -1,8 +1,7 @@
 -- What a check of a list of cuts that ends well, and an explanation, say of the model.
-use Rattle.std.proofs.Common.{◌≡◌, ◌<◌, ◌&&◌, ◌⊎◌, inl, inr, ℕ, Bool, true, false, List, Option, Some, None, Ok, map, length, reverse, refl, sym, ◌∙◌, ap, subst}
+use Rattle.std.proofs.Common.{◌≡◌, ◌<◌, ◌&&◌, ◌⊎◌, inl, inr, ℕ, Bool, true, false, List, Some, None, Ok, reverse, refl, sym, ◌∙◌, ap, subst}
 use Rattle.std.proofs.lemmas.Bool.{cases_order}
 use Rattle.ar_base.specs.Lists.{Stands, IsOneOf}
-use Rattle.ar_base.specs.Sets.{IsBefore, Within}
 use Rattle.ar_base.proofs.Standing.{along_on, along_back}
 use Rattle.ar_firing.specs.Cuts.{AreEvents}
 use Rattle.ar_firing.proofs.OrderedSets.{undropped}
@@ -12,8 +11,7 @@ use Rattle.ar_meaning.specs.Systems.{Variable, Net}
 use Rattle.ar_meaning.proofs.StatesAlone.{same_flows}
 use Rattle.check_text.specs.Texts.{EndsYes, all_good, is_none}
 use Rattle.check_text.proofs.YesLemmas.{yes_told, told_yes}
-use Rattle.domains.specs.declared.Value.{Value}
-use Rattle.flow_rounds.specs.Reasons.{Reason, IsReason, derived, reset, AreReasons}
+use Rattle.flow_rounds.specs.Reasons.{Reason, IsReason, derived, reset}
 use Rattle.flow_rounds.proofs.Standing.{reason_at, no_two, descends}
 use Rattle.flow_rounds.proofs.Sufficing.{suffices}
 use Rattle.flow_rounds.proofs.Totals.{states_of}

@@ -1,7 +1,6 @@
 -- What a call of the program answers.
 use Rattle.std.specs.Prelude.{◌≡◌, ℕ, List, Option}
 use Rattle.ar_io.specs.Outside.{Told, Rose}
-use Rattle.ar_io.specs.Writing.{SinkState}
 use Rattle.altarica_run.specs.Jobs.{LoadsNothing}
 use Rattle.altarica_run.specs.Says.{EndsSo}
 use Rattle.altarica_run.specs.declared.status.Status.{Status}

@@ -7,3 +7,4 @@ pub mod Telling
 pub mod Sources
 pub mod Readings
 pub mod Findings
+pub mod Unread

@@ -29,7 +29,7 @@ class_picked : (b : Bool) (t u : NamedType) (a c : Option NamedType) → SameTyp
 class_picked true t u a c s e = class_same t u s
 class_picked false t u a c s e = e
 
-class_in : (x : ℕ) (ts us : List (ℕ × NamedType)) → Along SameNamedType ts us
+pub class_in : (x : ℕ) (ts us : List (ℕ × NamedType)) → Along SameNamedType ts us
     → option_and_then class_body (type_in ts x) ≡ option_and_then class_body (type_in us x)
 class_in x [] [] along.none = refl
 class_in x _ _ (along.one_and {a = t} {b = u} {xs = ts} {ys = us} s more) =
@@ -59,13 +59,13 @@ sites_same b k _ _ (along.one_and {xs = os} {ys = ps} s more) =
     ap (λ (z : List Site). record { body = b; place = k } ∷ z) (sites_same b (k + 1) os ps more)
 
 module _ (opens : (m n : Member) → SameMember m n → SameKind (out-Member m) (out-Member n)) where
-  extended_same : (o p : Owned) → SameOwned o p → extended o ≡ extended p
+  pub extended_same : (o p : Owned) → SameOwned o p → extended o ≡ extended p
   extended_same (Plain m) (Plain n) s = form_extended (viewed (out-Member m) (out-Member n) (opens m n s))
   extended_same (Nested x a b) (Nested y c d) s = refl
   extended_same _ _ s = absurd s
 
   module _ (d e : Declared) (agree : SameTable d e) where
-    class_there : (x b : ℕ) → class_named d x ≡ Some b → class_named e x ≡ Some b
+    pub class_there : (x b : ℕ) → class_named d x ≡ Some b → class_named e x ≡ Some b
     class_there x b h = sym (class_in x d.types e.types agree.types) ∙ h
 
     mutual

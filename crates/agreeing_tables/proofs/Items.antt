@@ -26,7 +26,7 @@ along_as f along.none = along.none
 along_as f (along.one_and {a = a} {b = b} r more) = along.one_and (f a b r) (along_as f more)
 
 -- items that agree, kind by kind
-viewed_item : (x y : Item) → SameItem x y → SameItems x y
+pub viewed_item : (x y : Item) → SameItem x y → SameItems x y
 viewed_item x y (domains d c e f s) =
     subst (λ (z : Item). SameItems z y) (sym e)
     (subst (λ (z : Item). SameItems (item.Domain d) z) (sym f) (same.domain s))

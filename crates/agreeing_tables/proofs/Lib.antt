@@ -2,3 +2,4 @@ mod Laid
 mod Items
 mod Inherited
 mod Seen
+mod Ruled

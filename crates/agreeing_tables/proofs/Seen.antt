@@ -28,7 +28,7 @@ same_lists (x ∷ xs) (y ∷ ys) e h =
     ap (λ z. z ∷ xs) i ∙ ap (λ z. y ∷ z) (same_lists xs ys j (λ k a c s t. h (suc k) a c s t))
 
 -- the main block
-main_there : (names : List (List ℕ)) (d e : Declared) → SameTable d e → (main : Option (List ℕ)) (b : ℕ)
+pub main_there : (names : List (List ℕ)) (d e : Declared) → SameTable d e → (main : Option (List ℕ)) (b : ℕ)
     → IsMain names d main b → IsMain names e main b
 main_there names d e agree _ b (named {text = text} block one stands is) =
     let other = along_on d.bodies e.bodies agree.bodies b block stands in

@@ -1,11 +1,13 @@
 //! Laws of tables of models that agree.
 
-ghost use Rattle.std.specs.Prelude.{◌≡◌, ℕ, List, Option};
+ghost use Rattle.std.specs.Prelude.{◌≡◌, ◌↔◌, ℕ, List, Option};
+ghost use Rattle.ar_base.specs.declared.places.Place.{Place};
 ghost use Rattle.ar_parser.specs.Models.{ReadsWithin};
 ghost use Rattle.ar_readings.specs.Models.{SameModel};
 ghost use Rattle.ar_syntax.specs.declared.items.Model.{Model};
 ghost use Rattle.class_table.specs.Declaring.{Declared, IsDeclared};
 ghost use Rattle.class_table.specs.Members.{Site, Members};
+ghost use Rattle.class_table.specs.Rules.{Breaks};
 ghost use Rattle.hierarchy.specs.Models.{RootedModel, IsRootedIn};
 ghost use Rattle.agreeing_tables.specs.Tables.{AreSeenAlike, SameTable};
 
@@ -61,4 +63,16 @@ pub fn texts_are_seen_alike()
     agreement_opens();
     one_declared();
     one_list_of_members();
+}
+
+/// However a text is read, it breaks the same of the rules L1 to L5 at the same places.
+pub fn texts_break_the_same_rules()
+    ensures { (text : List ℕ) (k : ℕ) (x y : Model) (d e : Declared) → ReadsWithin k text x
+        → ReadsWithin k text y → IsDeclared x d → IsDeclared y e
+        → (main : Option (List ℕ)) (r : ℕ) (p : Place)
+        → (Breaks x main d r p ↔ Breaks y main e r p) }
+{
+    one_tree();
+    agreement_opens();
+    tables_agree();
 }

@@ -94,11 +94,11 @@ def modes(file, words, most):
     """The trees of modes: each state's modes from the initial one on, with the events that enter them."""
     trees = texts.fragment(program.ask(["fragment", file, *words.some("--drop", "--main")]))
     enough(sum(len(t.edges) + 1 for t in trees), most)
-    rows = max(1, -(-len(trees) // COLUMNS))
-    lines = [head("modes", "The modes of %s%s" % (file, without(words)), ', pack=14, packmode="array_tu%d"' % rows, "0.35")]
-    for number, tree in enumerate(trees):
-        lines.append('  subgraph cluster_%d {\n    graph [label=%s, fontsize=12, color="#c4ccd6", margin=6, sortv=%d]\n' % (
-            number, quoted(tree.variable), upward(number, rows, len(trees))))
+    deep = max(1, -(-len(trees) // COLUMNS))
+    lines = [head("modes", "The modes of %s%s" % (file, without(words)), ', pack=14, packmode="array_tu%d"' % deep, "0.35")]
+    for number, tree in sorted(enumerate(trees), key=lambda t: upward(t[0], deep, len(trees))):
+        lines.append('  subgraph cluster_%d {\n    graph [label=%s, fontsize=12, color="#c4ccd6", margin=6]\n' % (
+            number, quoted(tree.variable)))
         lines.append("    %s [label=%s]\n" % (quoted("%d %s" % (number, tree.first)), table(
             [(tree.first, True, ""), ("at first", False, "")], "#e6f3e6")))
         for edge in tree.edges:

@@ -31,9 +31,9 @@ def head(name, title, more="", apart="0.5"):
     return HEAD % (name, FONT, apart, quoted(title + "\\n ").replace("\\\\n", "\\n"), more, FONT, FONT)
 
 
-def table(rows, color, port=""):
+def table(rows, color):
     """A node's label: rows of (text, bold, port)."""
-    cells = "".join('<tr><td align="left"%s>%s</td></tr>' % (
+    cells = "".join('<tr><td align="left"%s>%s&#160;</td></tr>' % (
         ' port="%s"' % p if p else "", "<b>%s</b>" % escape(t) if bold else escape(t)) for t, bold, p in rows)
     return '<<table border="1" cellborder="0" cellspacing="0" cellpadding="3" color="#5b6470" bgcolor="%s">%s</table>>' % (
         color, cells)
@@ -46,8 +46,8 @@ def enough(count, most):
 
 def units(file, words, most):
     """The tree of units: each with its class, its states and its events; aliases with broken lines."""
-    items = grammar.parse(tokens.read(file))
     program.ask(["check", file, *words.some("--main")])
+    items = grammar.parse(tokens.read(file))
     tree = hierarchy.Tree(hierarchy.Bodies(items, words.options.get("--main")))
     enough(len(tree.nodes) + len(tree.aliases), most)
     lines = [head("units", "The units of %s" % file, ", splines=polyline", "0.7")]

@@ -29,6 +29,12 @@ for plant in brake bus conflict hydraulic pumps ring; do
   modes=$("$ALTARICA" fragment "examples/$plant.alt" "${drop[@]}" | grep -vc '^events')
   equal "each mode of $plant is drawn once" "$modes" "$(nodes "$work/modes.dot")"
 done
+for model in tests/beside/*.alt; do
+  tools/draw units "$model" --dot >"$work/units.dot"
+  equal "each unit of $model is drawn once" "$("$ALTARICA" check "$model" | cut -d' ' -f3)" "$(nodes "$work/units.dot")"
+done
+equal "no picture is made of a model that is refused, and its status is that of the program" '2 3' \
+  "$(for model in tests/mistakes/*.alt tests/literature/*.alt; do tools/draw units "$model" >/dev/null 2>&1; echo $?; done | sort -u | paste -sd' ')"
 equal "a refused model is said" 'draw: examples/supply.alt: outside: S1 at lose_grid status 4' "$(tools/draw modes examples/supply.alt 2>&1) status $(tools/draw modes examples/supply.alt >/dev/null 2>&1; echo $?)"
 equal "too many nodes are said" 'draw: 18 nodes are more than 3: --most 18 draws them' "$(tools/draw units examples/brake.alt --most 3 2>&1)"
 

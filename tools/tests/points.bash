@@ -4,6 +4,8 @@ top=$(dirname "$(dirname "$(dirname "$(readlink -f "${BASH_SOURCE[0]}")")")")
 cd "$top" || exit 1
 : "${ALTARICA:?names the program under test}"
 work=$(mktemp -d)
+# The interpreter itself, where python3 on the path is a script that starts it.
+PATH=$(dirname "$(python3 -c 'import sys; print(sys.executable)')"):$PATH
 trap 'rm -rf "$work"' EXIT
 
 passed() { echo "passed: $*"; }

@@ -17,6 +17,12 @@ for plant in brake bus conflict hydraulic pumps repair ring supply; do
   esac
   equal "the page of $plant says how many cuts there are, or why there are none" "$want" "$got"
 done
+for model in standby:lost train:lost twoway3:lost vote:no_trip vote2:no_trip wear:odd; do
+  IFS=: read -r name observer <<<"$model"
+  holds "the page of $name is made" tools/report "tests/beside/$name.alt" --observer "$observer" --out "$work/$name.html"
+done
+equal "the page of vote2 has its 17 cuts, that of wear none, that of vote its fault" '17 0 34:7' \
+  "$(grep -o 'There are <b>[0-9]*' "$work/vote2.html" | grep -o '[0-9]*$') $(grep -o 'There are <b>[0-9]*' "$work/wear.html" | grep -o '[0-9]*$') $(grep -o 'assignment 2 at 34:7' "$work/vote.html" | head -n 1 | grep -o '34:7')"
 page brake "$work/again.html"
 holds "the same words make the same page" cmp "$work/brake.html" "$work/again.html"
 equal "the page has no outside parts" '' "$(grep -Eo '<link|<script [^>]*src|<img|@import|url\(|href="[^#"][^"]*"|xlink:href="[^#"]*"' "$work/brake.html" | head -n 3)"

@@ -21,6 +21,24 @@ for plant in brake bus hydraulic pumps ring; do
   agrees $plant "examples/$plant.alt" "examples/$plant.cuts" "${words[@]}"
 done
 
+while read -r model observer; do
+  "$ALTARICA" cuts "tests/beside/$model.alt" --observer "$observer" >"$work/beside.cuts"
+  agrees "$model" "tests/beside/$model.alt" "$work/beside.cuts" --observer "$observer"
+done <<'END'
+ccf3 lost
+net dark
+net2 dark
+standby2 lost
+train2 lost
+twoway2 lost
+wear lost
+END
+for model in standby:lost:4 train:lost:4 twoway3:lost:4 vote:no_trip:5; do
+  IFS=: read -r name observer status <<<"$model"
+  equal "what the program refuses of $name is not exported" "$status" \
+    "$(tools/to_open_psa tree "tests/beside/$name.alt" --observer "$observer" >/dev/null 2>&1; echo $?)"
+done
+
 alone=0
 for seed in 1 2 3 11 26 53 73 83 86 92; do
   python3 tools/tests/random_static.py $seed >"$work/random.alt"

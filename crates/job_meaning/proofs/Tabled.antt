@@ -1,5 +1,5 @@
 -- The rules L1 to L5 of a text, however it is read.
-use Rattle.std.proofs.Common.{◌≡◌, ◌↔◌, ℕ, List, Option, Result, Ok, Err, refl, sym, ap, ◌∙◌}
+use Rattle.std.proofs.Common.{◌≡◌, ◌↔◌, ℕ, List, Option, Result, Ok, Err, ap, ◌∙◌}
 use Rattle.ar_base.specs.Breach.{IsBroken}
 use Rattle.ar_base.specs.Counts.{limit_of}
 use Rattle.ar_base.specs.Stages.{refuses, passes}

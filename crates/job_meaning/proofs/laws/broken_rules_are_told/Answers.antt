@@ -1,4 +1,3 @@
-use Rattle.ar_base.specs.declared.faults.RuleFault.TheVariants as fault
 use Rattle.altarica_run.specs.Elaborates.{breach}
 use Rattle.altarica_run.specs.declared.refusals.Refusal.TheVariants.{Rule}
 use Rattle.altarica_run.proofs.LawLemmas.{only_of}

@@ -59,26 +59,28 @@ class Smaller:
             self.made.append(self.gate(sign, [p for o in operands for p in self.flat(sign, o)]))
         self.top = self.operand(equations.top)
         self.conflict = self.operand(equations.conflict)
-        self.pushed = {}
-        inward = self.inward(self.top)
-        if len(self.order(inward)) <= len(self.order(self.top)):
-            self.top = inward
+        self.turn()
 
-    def inward(self, operand):
-        """The same with `not` before events alone."""
-        if not self.is_gate(operand):
-            return operand
-        if operand not in self.pushed:
-            negated, number = operand
-            sign, parts = self.gates[number]
-            parts = [self.inward((negated != n, what)) for n, what in parts]
-            sign = sign if not negated else "|" if sign == "&" else "&"
-            key = (sign, frozenset(parts))
-            if key not in self.known:
-                self.known[key] = len(self.gates)
-                self.gates.append((sign, parts))
-            self.pushed[operand] = (False, self.known[key])
-        return self.pushed[operand]
+    def turn(self):
+        """Turns each gate that is named more often with `not` than without into its opposite, from the top down."""
+        turned, refs = set(), Counter()
+        for negated, what in (o for o in (self.top, self.conflict) if self.is_gate(o)):
+            refs[what] += -1 if negated else 1
+        for number in self.order(self.top, self.conflict):
+            if refs[number] < 0:
+                turned.add(number)
+            for negated, what in (o for o in self.gates[number][1] if self.is_gate(o)):
+                refs[what] += -1 if negated != (number in turned) else 1
+        for number, (sign, operands) in enumerate(self.gates):
+            own = number in turned
+            self.gates[number] = ("|" if own and sign == "&" else "&" if own else sign,
+                                  [self.turned(o, turned, own) for o in operands])
+        self.top, self.conflict = (self.turned(o, turned, False) for o in (self.top, self.conflict))
+
+    def turned(self, operand, turned, negate):
+        negated, what = operand
+        also = self.is_gate(operand) and what in turned
+        return ((negated != negate) != also, what)
 
     def operand(self, operand):
         if operand in ("true", "false"):

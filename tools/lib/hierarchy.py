@@ -39,6 +39,7 @@ class Bodies:
         named = [b for b in blocks if main in (None, b.name.text)]
         self.main = named[-1] if named else None
         self.symbols = {s.text for d in self.domains.values() for s in d.symbols or ()}
+        self.index = {}
 
     def members(self, unit, seen=()):
         """The members of a body, inherited ones first."""
@@ -65,10 +66,13 @@ class Bodies:
                 yield member.name, member.kind, member
 
     def find(self, scope, name):
-        for token, kind, member in self.names(scope.unit):
-            if token.text == name:
-                return kind, member
-        return None
+        """The kind and the member of a name of a unit, or None."""
+        known = self.index.get(id(scope.unit))
+        if known is None:
+            known = self.index[id(scope.unit)] = {}
+            for token, kind, member in self.names(scope.unit):
+                known.setdefault(token.text, (kind, member))
+        return known.get(name)
 
     def inner(self, scope, name, member, seen=()):
         """The scope of the unit that a member makes or names."""

@@ -31,9 +31,9 @@ def head(name, title, more="", apart="0.5"):
     return HEAD % (name, FONT, apart, quoted(title + "\\n ").replace("\\\\n", "\\n"), more, FONT, FONT)
 
 
-def table(rows, color, port=""):
+def table(rows, color):
     """A node's label: rows of (text, bold, port)."""
-    cells = "".join('<tr><td align="left"%s>%s</td></tr>' % (
+    cells = "".join('<tr><td align="left"%s>%s&#160;</td></tr>' % (
         ' port="%s"' % p if p else "", "<b>%s</b>" % escape(t) if bold else escape(t)) for t, bold, p in rows)
     return '<<table border="1" cellborder="0" cellspacing="0" cellpadding="3" color="#5b6470" bgcolor="%s">%s</table>>' % (
         color, cells)
@@ -46,8 +46,8 @@ def enough(count, most):
 
 def units(file, words, most):
     """The tree of units: each with its class, its states and its events; aliases with broken lines."""
-    items = grammar.parse(tokens.read(file))
     program.ask(["check", file, *words.some("--main")])
+    items = grammar.parse(tokens.read(file))
     tree = hierarchy.Tree(hierarchy.Bodies(items, words.options.get("--main")))
     enough(len(tree.nodes) + len(tree.aliases), most)
     lines = [head("units", "The units of %s" % file, ", splines=polyline", "0.7")]
@@ -94,11 +94,11 @@ def modes(file, words, most):
     """The trees of modes: each state's modes from the initial one on, with the events that enter them."""
     trees = texts.fragment(program.ask(["fragment", file, *words.some("--drop", "--main")]))
     enough(sum(len(t.edges) + 1 for t in trees), most)
-    rows = max(1, -(-len(trees) // COLUMNS))
-    lines = [head("modes", "The modes of %s%s" % (file, without(words)), ', pack=14, packmode="array_tu%d"' % rows, "0.35")]
-    for number, tree in enumerate(trees):
-        lines.append('  subgraph cluster_%d {\n    graph [label=%s, fontsize=12, color="#c4ccd6", margin=6, sortv=%d]\n' % (
-            number, quoted(tree.variable), upward(number, rows, len(trees))))
+    deep = max(1, -(-len(trees) // COLUMNS))
+    lines = [head("modes", "The modes of %s%s" % (file, without(words)), ', pack=14, packmode="array_tu%d"' % deep, "0.35")]
+    for number, tree in sorted(enumerate(trees), key=lambda t: upward(t[0], deep, len(trees))):
+        lines.append('  subgraph cluster_%d {\n    graph [label=%s, fontsize=12, color="#c4ccd6", margin=6]\n' % (
+            number, quoted(tree.variable)))
         lines.append("    %s [label=%s]\n" % (quoted("%d %s" % (number, tree.first)), table(
             [(tree.first, True, ""), ("at first", False, "")], "#e6f3e6")))
         for edge in tree.edges:

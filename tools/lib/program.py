@@ -1,7 +1,10 @@
 """The program that the helpers ask, and the words that they share. Not proved."""
 import os
+import signal
 import subprocess
 import sys
+
+signal.signal(signal.SIGPIPE, signal.SIG_DFL)
 
 HERE = os.path.dirname(os.path.realpath(__file__))
 TOP = os.path.dirname(os.path.dirname(HERE))
@@ -20,8 +23,13 @@ def program():
     return "altarica"
 
 
+asked = []
+"""The words of each call, in order."""
+
+
 def run(words):
     """The status and the text that the program writes for these words."""
+    asked.append(words)
     try:
         done = subprocess.run([program(), *words], stdout=subprocess.PIPE, stdin=subprocess.DEVNULL, check=False)
     except OSError as error:

@@ -177,16 +177,15 @@ def contains_itself(text):
 
 
 def twice(text):
-    def cause(scope, _):
+    for scope in text.scopes():
         names = {}
-        for token, kind, member in text.bodies.names(scope.unit):
+        for token, kind, _ in text.bodies.names(scope.unit):
             if text.here(token) and token.text in names:
                 first = names[token.text]
                 return "`%s` is the name of %s of this unit already, on line %d" % (token.text, WORDS[first[1]],
                                                                                     first[0].line)
             names.setdefault(token.text, (token, kind))
-        return None
-    return text.first(cause)
+    return None
 
 
 def no_main(text):
@@ -308,7 +307,7 @@ def nothing_named(text):
 
 def path_cause(text, scope, member):
     if member.kind in ("transition", "synchronisation") and text.here(member.name):
-        own = [(t.text, k) for t, k, _ in text.bodies.names(scope.unit)]
+        own = [(token.text, kind) for token, kind, _ in text.bodies.names(scope.unit)]
         kinds = dict(own)
         if kinds.get(member.name.text) == "event":
             return None

@@ -106,6 +106,9 @@ class Modes:
         for variable in self.flat.variables.values():
             if variable.state:
                 self.states.setdefault(variable.path.rpartition(".")[0], []).append(variable.path)
+        self.of = {}
+        for way in self.ways:
+            self.of.setdefault(self.variable(way), []).append(way)
 
     @staticmethod
     def names(way):
@@ -117,8 +120,8 @@ class Modes:
         return found
 
     def variable(self, way):
-        states = self.states.get(way.event.rpartition(".")[0], [])
-        return next((s for s in states if s in self.names(way)), states[0] if states else None)
+        states, names = self.states.get(way.event.rpartition(".")[0], []), self.names(way)
+        return next((s for s in states if s in names), states[0] if states else None)
 
     def others(self, way):
         """The variables besides its mode variable that the guard names, and that the action names."""
@@ -145,8 +148,8 @@ class Modes:
         reached, todo, found = {first}, [first], []
         while todo:
             mode = todo.pop(0)
-            for way in self.ways:
-                if way.hidden or self.variable(way) != variable:
+            for way in self.of.get(variable, ()):
+                if way.hidden:
                     continue
                 given = self.given(way, variable, mode)
                 if given is None:
@@ -208,8 +211,7 @@ def _action(asked, text, path):
 
 def _two_edges(asked, text, path):
     modes, found = Modes(asked), {}
-    variables = {modes.variable(w) for w in modes.ways} - {None}
-    for variable in [v for v in asked.flat.variables if v in variables]:
+    for variable in [v for v in asked.flat.variables if v in modes.of]:
         for way, mode, given in modes.edges(variable):
             found.setdefault(way.event, []).append((variable, mode, given[0] if given else "?"))
     for event, moves in found.items():

@@ -31,9 +31,6 @@ LINES, LENGTH = 400, 300
 # Pages that are tried for their links alone until they have a comment of the kinds above.
 PENDING = {"docs/ARCHITECTURE.md"}
 
-# Tools that a page may name before they are there.
-PENDING_TOOLS = {f"tools/{name}" for name in "compare draw lib lint order report to_open_psa why".split()}
-
 # Words that a page has for people alone, and what may be around them all the same.
 PATTERNS = [
     (r"\b(is|are|was|were|be|been|being) told\b", r"\b(you|reader|readers|user|users|engineer|engineers|crew|operator|operators) (is|are|was|were) told\b"),
@@ -206,7 +203,7 @@ def links(page, lines):
             elif heading and path.endswith(".md") and heading not in slugs_of(read(path)):
                 faults.append(f"line {number}: {path} has no heading #{heading}")
         for path in re.findall(r"(?<![\w/.*-])((?:docs|examples|tests|tools)/[\w./-]*\w)", line):
-            if not os.path.exists(path) and path not in PENDING_TOOLS and not re.search(r"\bNAME\b", path):
+            if not os.path.exists(path) and not re.search(r"\bNAME\b", path):
                 faults.append(f"line {number}: there is no {path}")
     point(f"{page}: its links lead somewhere", "; ".join(faults[:6]))
 

@@ -21,24 +21,29 @@ while left > 0 and len(units) < 8:
     names.append(modes)
 
 
-def test(depth):
-    if depth == 0 or draw.random() < 0.25:
-        unit = draw.randrange(len(units))
-        modes = names[unit]
-        if draw.random() < 0.2 and flows:
-            return draw.choice(flows)
-        return "u%d.m %s %s" % (unit, draw.choice(("==", "==", "!=")), draw.choice(modes[1:]))
-    parts = [test(depth - 1) for _ in range(draw.choice((2, 2, 3)))]
-    word = draw.choice(("and", "or", "count"))
-    if word == "count":
-        return "count(%s) >= %d" % (", ".join(parts), draw.randint(1, 2))
-    return "(%s)" % (" %s " % word).join("(%s)" % p for p in parts)
+def atom():
+    unit = draw.randrange(len(units))
+    if flows and draw.random() < 0.2:
+        return "%s%s" % (draw.choice(("", "", "not ")), draw.choice(flows))
+    return "u%d.m %s %s" % (unit, draw.choice(("==", "==", "==", "!=")), draw.choice(names[unit][1:]))
+
+
+def test(words):
+    """Any, all or some of a few tests, the outermost word first."""
+    if not words:
+        return atom()
+    parts = [test(words[1:]) for _ in range(draw.choice((2, 3)) + 2 * (words[0] == "or"))]
+    if words[0] == "count":
+        return "count(%s) >= %d" % (", ".join(parts), draw.randint(1, len(parts)))
+    return "(%s)" % (" %s " % words[0]).join("(%s)" % p for p in parts)
 
 
 flows, asserts = [], []
 for number in range(draw.randint(2, 4)):
-    asserts.append("    f%d := %s;" % (number, test(2)))
+    form = draw.choice((["or"], ["and", "or"], ["count"], ["or", "and"]))
+    asserts.append("    f%d := %s;" % (number, test(form)))
     flows.append("f%d" % number)
 lines = domains + units + ["block Plant"] + ["  C%d u%d;" % (k, k) for k in range(len(units))]
-lines += ["  Boolean %s (reset = false);" % ", ".join(flows), "  observer Boolean lost = %s;" % test(3), "  assertion"]
+top = test(draw.choice((["or", "and"], ["or", "and", "or"], ["or", "count"])))
+lines += ["  Boolean %s (reset = false);" % ", ".join(flows), "  observer Boolean lost = %s;" % top, "  assertion"]
 print("\n".join(lines + asserts + ["end"]))

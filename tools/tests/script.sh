@@ -74,7 +74,11 @@ point "--help answers at once, with status 0 and no build" both '[ $status -eq 0
 for word in check flat replay explain fragment equations cuts modules checkcuts make --main --observer --value --drop --nodes --unproved --why --explain; do
   grep -q -- "$word" "$lab/out" || echo "failed: --help names $word"
 done
-point "--help has the statuses and the pages" both 'grep -q "Exit status" "$lab/out"' 'grep -q docs/REFUSALS.md "$lab/out"'
+point "--help has the statuses" grep -q "Exit status" "$lab/out"
+for page in README.md docs/{LANGUAGE,HOWTO,CUTS,TEXTS,STATUSES,REFUSALS}.md; do
+  point "--help names $page, which is there" both 'grep -qw "$page" "$lab/out"' '[ -f "$top/$page" ]'
+done
+point "--help fits into 120 columns" test -z "$(grep -E '.{121}' "$lab/out")"
 run
 "$ALTARICA" >"$lab/program"
 point "no words: the program's line and status, and the help on standard error" both '[ $status -eq 1 ]' 'cmp "$lab/out" "$lab/program"' 'said "Exit status"' 'calls 0'
@@ -82,16 +86,16 @@ run --version
 point "--version has the date of docs/CHANGES.md and the commit" grep -Eq '^altarica [0-9]{4}-[0-9]{2}-[0-9]{2}, commit ' "$lab/out"
 point "--version has the sum of the sources, and says which program is there" both 'grep -Eq "[0-9a-f]{64}" "$lab/out"' 'grep -q "^proved program: none" "$lab/out"' '[ $status -eq 0 ]' 'calls 0'
 
-# Words that are no job are refused before a build, and only these. Each line is a set of words.
+# Words that are no command are refused before a build, and only these. Each line is a set of words.
 while IFS= read -r words; do
   eval "set -- $words"
   wanted=$(cd "$copy" && "$ALTARICA" "$@" </dev/null | head -n 1)
   : >"$lab/calls"
   run "$@"
   if [ "$wanted" = "$usage" ]; then
-    point "no job: $words" both '[ $status -eq 1 ]' 'wrote "$usage"' 'calls 0'
+    point "no command: $words" both '[ $status -eq 1 ]' 'wrote "$usage"' 'said "are no command"' 'calls 0'
   else
-    point "a job: $words" both '[ $status -eq 12 ]' 'wrote ""' 'calls 1'
+    point "a command: $words" both '[ $status -eq 12 ]' 'wrote ""' 'calls 1'
   fi
 done <<'END'
 chek plant.alt
@@ -216,10 +220,18 @@ fault: e: flow x has two values|fault: flow has two values
 fault: e: flow x is outside its domain|fault: flow is outside its domain
 fault: start: assignment 1 at 1:46 does not hold|fault: assignment does not hold
 fault: back: no step|fault: back, no step
-fault: {trip}: flow x has two values|conflict:
+fault: {a, b}|conflict:
+END
+while IFS='|' read -r line heading; do
+  run --explain $line
+  point "--explain $line: the section on conflicts, then that on the fault" both '[ $status -eq 0 ]' '[ "$(grep "^## " "$lab/out" | sed "s/^## //; s/:.*//" | paste -sd,)" = conflict,fault ]' 'grep -q "^## $heading" "$lab/out"'
+done <<'END'
+fault: {trip}: flow x has two values|fault: flow has two values
+fault: {a.fail, b.fail}: flow x is outside its domain|fault: flow is outside its domain
+fault: {}: assignment 1 at 14:5 does not hold|fault: assignment does not hold
 END
 run --explain nonsense
-point "--explain of nothing: the list of sections, status 1" both '[ $status -eq 1 ]' 'said "L14:"'
+point "--explain of nothing: the list of sections, status 1" both '[ $status -eq 1 ]' 'said "no page has a section on nonsense"' 'said "L14:"'
 
 # --why
 run --why check plant.alt
@@ -251,7 +263,7 @@ if [ "$(head -c 4 "$ALTARICA" | tail -c 3)" = ELF ] && [ -d "/proc/$$" ]; then
   run --unproved cuts plant.alt --observer nothing
   point "--unproved has the program's status" both '[ $status -eq 11 ]' 'wrote "script: no observer"'
   run --unproved chek plant.alt
-  point "--unproved: words that are no job" both '[ $status -eq 1 ]' 'wrote "$usage"'
+  point "--unproved: words that are no command" both '[ $status -eq 1 ]' 'wrote "$usage"'
   : >"$lab/calls"
   run --unproved --why check plant.alt
   point "--unproved --why runs tools/why" both '[ $status -eq 0 ]' 'grep -q "check plant.alt$" "$lab/out"' 'calls 0'
@@ -263,6 +275,14 @@ if [ "$(head -c 4 "$ALTARICA" | tail -c 3)" = ELF ] && [ -d "/proc/$$" ]; then
   run --unproved check plant.alt
   point "--unproved where it cannot be compiled: status 12 and a line" both '[ $status -eq 12 ]' 'said "could not be compiled"'
 fi
+
+# The scripts of docs/IN_CI.md, without a program: the message of the shell alone.
+for words in "no_single_failure spare.alt lost" "same_cuts spare.cuts spare.alt lost" "whole_list spare.cuts spare.alt lost"; do
+  (cd tests/ci && set -- $words && ALTARICA=$lab/nowhere "./$1" "${@:2}" >"$lab/out" 2>"$lab/err" </dev/null)
+  status=$?
+  cat "$lab/out" "$lab/err" >"$lab/got"
+  point "tests/ci/${words%% *} without a program: status 2, no empty line" both '[ $status -eq 2 ]' '[ ! -s "$lab/out" ]' '[ "$(grep -c . "$lab/err")" -eq 1 ]'
+done
 
 # The proved program by the real crates: what the script costs, and that the program needs the C library alone.
 copy=$lab/real

@@ -1,4 +1,4 @@
-"""solve_open_psa.py XML: the minimal sets of basic events at which the gate top-1 is true, by all subsets.
+"""solve_open_psa.py XML [GATE]: the minimal sets of basic events at which a gate, top-1, is true, by all subsets.
 
 A plain reading of the fault tree that knows nothing of the program: it evaluates the gates at each subset of the basic
 events, smaller ones first, and keeps those at which the top is true and no kept one is within. It is the other route of
@@ -8,6 +8,7 @@ import itertools
 import sys
 import xml.etree.ElementTree as xml
 
+wanted = sys.argv[2] if len(sys.argv) > 2 else "top-1"
 root = xml.parse(sys.argv[1]).getroot()
 gates = {g.get("name"): g[-1] for g in root.iter("define-gate")}
 labels = {e.get("name"): e.findtext("label") for e in root.iter("define-basic-event")}
@@ -43,14 +44,14 @@ def in_order():
             for used in gates[name].iter("gate"):
                 visit(used.get("name"))
             order.append(name)
-    visit("top-1")
+    visit(wanted)
     return order
 
 
 sys.setrecursionlimit(100000)
 body = "\n".join("    g[%r] = %s" % (name, compiled(gates[name])) for name in in_order())
 space = {}
-exec("def top(s):\n    g = {}\n%s\n    return g['top-1']" % body, space)
+exec("def top(s):\n    g = {}\n%s\n    return g[%r]" % (body, wanted), space)
 found = []
 for size in range(len(names) + 1):
     for some in itertools.combinations(range(len(names)), size):

@@ -18,16 +18,21 @@ use Rattle.ar_meaning.specs.Image.{Expr_renames, IsImage}
 use Rattle.ar_meaning.proofs.ByNumber.{keyed}
 use Rattle.ar_meaning.proofs.FlatSystems.{flat_image, flat_back}
 use Rattle.ar_firing.specs.Static.{IsKeyedStatic}
-use Rattle.ar_firing.specs.Cuts.{AreEvents, Conflicts, Cut, ConflictSet, IsConflictFree, Reaches}
-use Rattle.ar_firing.specs.Forest.{IsForest, IsLine}
+use Rattle.ar_firing.specs.Cuts.{AreEvents, Conflicts, Cut, ConflictSet, IsConflictFree, Makes, Reaches}
+use Rattle.ar_firing.specs.Forest.{ModeTree, IsForest, IsLine}
 use Rattle.ar_firing.specs.Listed.{AreListed}
 use Rattle.ar_firing.specs.Operands.{Agrees}
 use Rattle.ar_firing.proofs.RulesHold.{all_static}
 use Rattle.ar_firing.proofs.Shapes.{are_trees}
 use Rattle.ar_firing.proofs.ImageCuts.{meets_there, cut_there, cut_back}
-use Rattle.ar_firing.proofs.ImageModes.{forest_there, line_there}
+use Rattle.ar_firing.proofs.Cutting.{no_conflict}
+use Rattle.ar_firing.proofs.ImageModes.{firable_there, line_there}
+use Rattle.ar_firing.proofs.Meeting.{met_is_conflicting}
 use Rattle.ar_firing.proofs.Lines.{line_is_legal}
+use Rattle.ar_firing.proofs.MakingLines.{line_makes}
 use Rattle.ar_firing.proofs.OneListing.{listed_as, listed_same}
+use Rattle.gts_core.proofs.Lawfulness.{system_lawful, observer_kind}
+use Rattle.gts_core.proofs.Systems.{one_system as views_one}
 use Rattle.gts_core.proofs.Viewing.{are_numbered}
 use Rattle.gts_core.specs.Lawful.{IsLawful, kind_by_number}
 use Rattle.gts_core.specs.View.{Views, net_of, numbered}
@@ -50,14 +55,18 @@ use Rattle.eq_core.specs.Values.{value_at}
 use Rattle.eq_core.specs.Views.{table_of}
 use Rattle.table_steps.specs.Table.{IsTable}
 use Rattle.table_meaning.specs.Laws.{TableIsOrdered, TableAgrees}
+use Rattle.table_meaning.proofs.Agreeing.{agrees as table_meant}
 use Rattle.tree_equations.specs.Gives as gives
 use Rattle.gate_diagrams.specs.Answers.{IsAnswer}
-use Rattle.gate_diagrams.specs.Needed.{NodesMay}
+use Rattle.firable_families.specs.Firable.{IsFirableOf}
+use Rattle.firable_families.proofs.InForests.{firable_in_trees, firable_in_system}
+use Rattle.gate_diagrams.specs.Needed.{IsConflictAt, NodesMay}
 use Rattle.gate_diagrams.specs.declared.answer.Drawn.{Drawn}
 use Rattle.drawn_cuts.specs.Drawn.{AreDrawn}
 use Rattle.drawn_cuts.specs.Laws.{DrawnAreMeant, NodesByNumbers}
 use Rattle.min_cuts.specs.Lines.{AreInFiringOrder}
 use Rattle.min_cuts.specs.Sizes.{count, largest}
+use Rattle.cut_text.proofs.Source.{replays as source_replays}
 use Rattle.cut_text.specs.Answers.{Prints}
 use Rattle.cut_text.specs.Printed.{edges_of, labels_in, cuts_text, conflict_text, IsForestOf}
 use Rattle.check_text.specs.Texts.{IsCheckText}
@@ -74,7 +83,7 @@ use Rattle.altarica_run.specs.Passing.{IsReady, IsGateTable}
 use Rattle.altarica_run.specs.Passing as passing
 use Rattle.altarica_run.specs.Stages.{Ready, is_static as asks_static, has_table, lists_cuts}
 use Rattle.altarica_run.specs.Telling.{IsWritten, whole, cut, nothing, status_printed}
-use Rattle.altarica_run.specs.Tells.{HasCuts, make_lines, Tells, cuts, make, checks, in_short, conflict, nodes, nodes_line}
+use Rattle.altarica_run.specs.Tells.{HasCuts, IsFirableSet, Replays, make_lines, Tells, cuts, make, checks, in_short, conflict, nodes, nodes_line}
 use Rattle.altarica_run.specs.declared.stages.Prepared.{Prepared}
 use Rattle.altarica_run.specs.declared.status.Status.{Status}
 use Rattle.altarica_run.specs.declared.status.Status.TheVariants.{Done, Fault, Nodes}
@@ -230,24 +239,6 @@ module _ (job : Job) (w : Ready) (p : Prepared) (is : IsReady job w p) (e : list
   flat_is : IsFlatOf things w.source.system flat
   flat_is = is.flat.is_flat
 
-  -- more nodes may be needed
-  pub may_need : NodesByNumbers → NodesMay (trees_of (λ n. n) p.forest) (table_of p.table.equations) p.nodes
-      → Tells job w (nodes_line p.nodes) Nodes
-  may_need law h =
-      subst (λ (z : ℕ). Tells job w (nodes_line z) Nodes) (sym is.nodes)
-      (nodes e
-      (record {
-        wanted = table.wanted;
-        are_wanted = table.are;
-        table = table_of p.table.equations;
-        is_table = table.is_table;
-        trees = trees_of (number_in p.system) p.forest;
-        is_forest = forest_there (turned (IsNumber things)) flat w.source.system
-            (flat_back things w.source.system flat flat_is) w.dropped (own.is_forest flat is.flat.views);
-        may = law (λ n. n) (number_in p.system) p.forest (table_of p.table.equations) job.nodes
-            (subst (λ (z : ℕ). NodesMay (trees_of (λ n. n) p.forest) (table_of p.table.equations) z) is.nodes h);
-      }))
-
   module _ (kinds : IsLawful (net_of p.system) (kind_by_number p.system))
       (typed : (o : Observer) → l.IsOneOf p.system.observers.items o
       → HasKind (kind_by_number p.system) (out-Expr ℕ (numbered o.value)) o.kind)
@@ -277,6 +268,82 @@ module _ (job : Job) (w : Ready) (p : Prepared) (is : IsReady job w p) (e : list
           table.wanted.value (table_of p.table.equations)) (sym is.flat.views.net) by_trees)
           h
 
+  -- The nodes that may be needed
+
+  there : IsImage (IsNumber things) w.source.system flat
+  there = flat_image things w.source.system flat flat_is
+
+  behind : IsImage (turned (IsNumber things)) flat w.source.system
+  behind = flat_back things w.source.system flat flat_is
+
+  abbrev own_trees : List ModeTree
+  own_trees = trees_of (number_in p.system) p.forest
+
+  -- the sets that are firable in the trees are those of the source
+  firable_there_in : (set : List ℕ) → IsFirableOf own_trees set → IsFirableSet w.source.system w.dropped set
+  firable_there_in set h =
+      let f = firable_in_system flat w.dropped both.keyed both.static own_trees own_forest set h in
+      (f.0, firable_there (turned (IsNumber things)) flat w.source.system behind w.dropped f.1)
+
+  firable_back_in : (set : List ℕ) → IsFirableSet w.source.system w.dropped set → IsFirableOf own_trees set
+  firable_back_in set h =
+      firable_in_trees flat w.dropped both.keyed both.static own_trees own_forest set h.0
+      (firable_there (IsNumber things) w.source.system flat there w.dropped h.1)
+
+  sound_agrees : Agrees flat w.dropped (numbered seen.0.value) table.wanted.value
+      (value_at (table_of p.table.equations).gates (table_of p.table.equations).conflict)
+      (value_at (table_of p.table.equations).gates (table_of p.table.equations).top)
+  sound_agrees =
+      agrees (system_lawful p.system table.sound) (λ o h. observer_kind p.system table.sound o h)
+      (λ sys dropped kinds kind trees observer wanted t lawful static forest observed steps.
+      table_meant sys dropped kinds kind trees observer wanted t lawful static.static forest observed steps)
+
+  -- the table's conflict operand is true at each set that meets a conflict
+  conflict_true : (set : List ℕ) → ConflictSet w.source.system w.dropped set
+      → IsConflictAt own_trees (table_of p.table.equations) set
+  conflict_true set h =
+      let met = met_is_conflicting flat w.dropped both.keyed both.static (numbered seen.0.value) table.wanted.value
+      (value_at (table_of p.table.equations).gates (table_of p.table.equations).conflict)
+      (value_at (table_of p.table.equations).gates (table_of p.table.equations).top) sound_agrees {set = set}
+      (meets_there (IsNumber things) w.source.system flat there w.dropped h.has) in
+      record {
+        is_firable = firable_in_trees flat w.dropped both.keyed both.static own_trees own_forest set met.values
+            met.is_firable;
+        holds = met.holds;
+      }
+
+  -- and at no firable set where no set meets one
+  conflict_false : IsConflictFree w.source.system w.dropped → (set : List ℕ)
+      → IsConflictAt own_trees (table_of p.table.equations) set → ⊥
+  conflict_false free set t =
+      let f = firable_in_system flat w.dropped both.keyed both.static own_trees own_forest set t.is_firable in
+      let no = no_conflict flat w.dropped both.keyed both.static (numbered seen.0.value) table.wanted.value
+      (value_at (table_of p.table.equations).gates (table_of p.table.equations).conflict)
+      (value_at (table_of p.table.equations).gates (table_of p.table.equations).top) sound_agrees
+      (λ s m. free s (meets_there (turned (IsNumber things)) flat w.source.system behind w.dropped m)) set f.0 f.1 in
+      let yes : value_at (table_of p.table.equations).gates (table_of p.table.equations).conflict set ≡ true =
+      t.holds in
+      cc
+
+  -- more nodes may be needed
+  pub may_need : NodesByNumbers → NodesMay (trees_of (λ n. n) p.forest) (table_of p.table.equations) p.nodes
+      → Tells job w (nodes_line p.nodes) Nodes
+  may_need law h =
+      let may = law (λ n. n) (number_in p.system) p.forest (table_of p.table.equations) job.nodes
+      (subst (λ (z : ℕ). NodesMay (trees_of (λ n. n) p.forest) (table_of p.table.equations) z) is.nodes h) in
+      subst (λ (z : ℕ). Tells job w (nodes_line z) Nodes) (sym is.nodes)
+      (nodes e
+      (record {
+        wanted = table.wanted;
+        are_wanted = table.are;
+        table = table_of p.table.equations;
+        is_table = table.is_table;
+        firable = may.all;
+        are_firable = listed_as firable_there_in firable_back_in may.is_all;
+        where_conflict = λ set c. may.where_some set (conflict_true set c);
+        where_free = λ free. may.where_none (conflict_false free);
+      }))
+
   -- the source's observer
   pub sourced : (o : Expr Thing) × Stands w.source.system.observers table.wanted.observer o
       × Expr_renames (IsNumber things) o (numbered seen.0.value)
@@ -287,9 +354,6 @@ module _ (job : Job) (w : Ready) (p : Prepared) (is : IsReady job w p) (e : list
       (stands_map (λ (z : Observer). numbered z.value) p.system.observers.items table.wanted.observer seen.0 seen.1))
 
   -- the cuts
-  there : IsImage (IsNumber things) w.source.system flat
-  there = flat_image things w.source.system flat flat_is
-
   abbrev pub source_observer : Expr Thing
   source_observer = sourced.0
 
@@ -351,6 +415,22 @@ module _ (job : Job) (w : Ready) (p : Prepared) (is : IsReady job w p) (e : list
             record { events = line_events set ls line; values = run.0; reaches = run.2; shows = run.3 };
       })
 
+  -- the line of a set that makes the value replays
+  line_replays : IsConflictFree flat w.dropped → (set : List ℕ) (ls : List Label)
+      → Makes w.source.system w.dropped source_observer table.wanted.value set
+      → IsLine w.source.system w.dropped set ls
+      → Replays w.source.system source_observer table.wanted.value set ls
+  line_replays free set ls makes line =
+      let fails = value_at (table_of p.table.equations).gates (table_of p.table.equations).conflict in
+      let wins = value_at (table_of p.table.equations).gates (table_of p.table.equations).top in
+      let run = source_replays w.source p.system flat w.dropped p.forest (views_one p.system) forest_is source_observer
+      (numbered seen.0.value) renamed table.wanted.value
+      (λ s ks m k. line_makes flat w.dropped both.keyed both.static (numbered seen.0.value) table.wanted.value fails
+      wins sound_agrees
+      (no_conflict flat w.dropped both.keyed both.static (numbered seen.0.value) table.wanted.value fails wins
+      sound_agrees free) m k) set ls makes line in
+      record { events = line_events set ls line; values = run.0; reaches = run.2; shows = run.3 }
+
   -- what is to be said of the lines of a list
   pub checks_told : job.command ≡ CheckCuts → (chains : List Chain) → chains ≡ p.request.chains.items
       → (sets : Sets) (text : List ℕ) → IsConflictFree flat w.dropped
@@ -359,12 +439,20 @@ module _ (job : Job) (w : Ready) (p : Prepared) (is : IsReady job w p) (e : list
       (map (cut_of p.system) chains) text
       → (IsMoreThan p.nodes (IsCounted sets) → ⊥) → Tells job w text Done
   checks_told i chains same sets text free listed t few =
+      let given : IsCheckText (naming_of w.source.declarations) w.source.system w.dropped source_observer
+      table.wanted.value w.lines text =
+      subst (λ (z : List CutLine). IsCheckText (naming_of w.source.declarations) w.source.system w.dropped
+      source_observer table.wanted.value z text)
+      (ap (λ (z : List Chain). map (cut_of p.system) z) same ∙ sym is.requested.lines.are) t in
       checks i
       (record {
         has = has_cuts free;
-        is_text = subst (λ (z : List CutLine). IsCheckText (naming_of w.source.declarations) w.source.system w.dropped
-            source_observer table.wanted.value z text)
-            (ap (λ (z : List Chain). map (cut_of p.system) z) same ∙ sym is.requested.lines.are) t;
+        is_text = given;
+        replay = λ k set ls s h.
+            let g = along_on _ _ given.are_lines k set s in
+            let line = subst (λ (z : List Label). IsLine w.source.system w.dropped set z)
+            (stands_one given.lines k g.0 ls g.1 h) g.2 in
+            line_replays free set ls (given.are_missing.sound k set s).is_cut.has line;
         sets = sets;
         are_listed = listed_of_source sets listed;
         few = few_of sets few;

@@ -1,17 +1,17 @@
 -- How a call ends, as the calls in it answer.
 use Rattle.std.proofs.Common.{◌≡◌, ℕ, List, Ok, sym, ap, subst}
-use Rattle.ar_io.specs.Outside.{Told, Rose}
+use Rattle.ar_io.specs.Outside.{Told}
 use Rattle.ar_io.specs.Writing.{SinkState, Appended, Cut}
-use Rattle.ar_io.proofs.Writing.{cut_nothing}
 use Rattle.run_words.specs.declared.jobs.Job.{Job}
 use Rattle.run_words.specs.Jobs.{IsJob}
+use Rattle.altarica_run.specs.Answers.{IsUntouched}
 use Rattle.altarica_run.specs.Files.{files_of, Loads}
 use Rattle.altarica_run.specs.Passing.{RefusesWords, no_job, stage, not_read}
 use Rattle.altarica_run.specs.Refusals.{line_of, status_of}
 use Rattle.altarica_run.specs.Says.{Says, usage, refuses, tells, EndsSo}
 use Rattle.altarica_run.specs.Says as says
 use Rattle.altarica_run.specs.Stages.{Ready, Passes}
-use Rattle.altarica_run.specs.Telling.{IsWritten, whole, cut, stopped, nothing}
+use Rattle.altarica_run.specs.Telling.{IsWritten, whole, cut, nothing, IsWrittenFor, written, stopped}
 use Rattle.altarica_run.specs.Tells.{Tells}
 use Rattle.altarica_run.specs.declared.refusals.FileKind.{FileKind}
 use Rattle.altarica_run.specs.declared.refusals.Refusal.{Refusal}
@@ -24,38 +24,34 @@ module _ (files : List ℕ → Told) (rose : List ℕ → Type 0) (words : List 
   said : (told : List ℕ → Status → Type 0)
       → ((text : List ℕ) (ends : Status) → told text ends → Says files words text ends) → (s : Status)
       → IsWritten told old new s
-      → EndsSo files rose words old.bytes new.bytes (Rose old.faults new.faults) s
+      → EndsSo files rose words old new s
   said told f s (whole {text = text} t a) = says.says (f text s t) a
   said told f s (cut {text = text} {ends = ends} t c k) = says.not_written (says.said (f text ends t)) k c
-  said told f s (stopped {text = text} {ends = ends} t c) = says.no_memory (says.said (f text ends t)) c
-  said told f s (nothing e) = says.no_memory says.nothing
-      (cut_nothing old.bytes new.bytes (ap (λ (z : SinkState). z.bytes) e))
+  said told f s (nothing e) = says.no_memory e
 
   -- the text of the job was written
   pub job_told : (job : Job) (w : Ready) → IsJob words job → Passes files job (Ok w) → (s : Status)
-      → IsWritten (Tells job w) old new s
-      → EndsSo files rose words old.bytes new.bytes (Rose old.faults new.faults) s
-  job_told job w is p s h = said (Tells job w) (λ text ends t. tells job w is p t) s h
+      → IsWrittenFor job (Tells job w) old new s
+      → EndsSo files rose words old new s
+  job_told job w is p s (written h) = said (Tells job w) (λ text ends t. tells job w is p t) s h
+  job_told job w is p s (stopped e t c) = says.replay_stopped job is e (tells job w is p t) c
 
   -- the line of a file that was not read was written
   not_read_told : (kind : FileKind) (name : List ℕ) (job : Job) → IsJob words job
       → Loads files (files_of job) kind name → rose name → (s : Status)
       → IsWritten (λ text ends. (text ≡ line_of (NotRead kind)) × (ends ≡ status.Read)) old new s
-      → EndsSo files rose words old.bytes new.bytes (Rose old.faults new.faults) s
+      → EndsSo files rose words old new s
   not_read_told kind name job is l k s (whole t a) =
-      subst (λ (z : Status). EndsSo files rose words old.bytes new.bytes (Rose old.faults new.faults) z) (sym t.1)
+      subst (λ (z : Status). EndsSo files rose words old new z) (sym t.1)
       (says.not_read job is l k (subst (λ (z : List ℕ). Appended old.bytes new.bytes z) t.0 a))
   not_read_told kind name job is l k s (cut t c r) =
       says.not_written (says.not_read job is l k) r (subst (λ (z : List ℕ). Cut old.bytes new.bytes z) t.0 c)
-  not_read_told kind name job is l k s (stopped t c) =
-      says.no_memory (says.not_read job is l k) (subst (λ (z : List ℕ). Cut old.bytes new.bytes z) t.0 c)
-  not_read_told kind name job is l k s (nothing e) =
-      says.no_memory says.nothing (cut_nothing old.bytes new.bytes (ap (λ (z : SinkState). z.bytes) e))
+  not_read_told kind name job is l k s (nothing e) = says.no_memory e
 
   -- the line of what the words say was written
   line_told : (r : Refusal) → Says files words (line_of r) (status_of r) → (s : Status)
       → IsWritten (λ text ends. (text ≡ line_of r) × (ends ≡ status_of r)) old new s
-      → EndsSo files rose words old.bytes new.bytes (Rose old.faults new.faults) s
+      → EndsSo files rose words old new s
   line_told r h s k =
       said (λ text ends. (text ≡ line_of r) × (ends ≡ status_of r))
       (λ text ends t. subst (λ (z : Status). Says files words text z) (sym t.1)
@@ -64,11 +60,19 @@ module _ (files : List ℕ → Told) (rose : List ℕ → Type 0) (words : List 
   -- the line of a refusal was written
   pub refusal_told : (r : Refusal) → RefusesWords files rose words r → (s : Status)
       → IsWritten (λ text ends. (text ≡ line_of r) × (ends ≡ status_of r)) old new s
-      → EndsSo files rose words old.bytes new.bytes (Rose old.faults new.faults) s
+      → EndsSo files rose words old new s
   refusal_told r (no_job h) s k = line_told r (usage h) s k
   refusal_told r (stage job is p) s k = line_told r (refuses job r is p) s k
   refusal_told r (not_read {kind} {name} job is l m) s k = not_read_told kind name job is l m s k
 
   -- memory was refused before anything was written
-  pub memory_told : new ≡ old → EndsSo files rose words old.bytes new.bytes (Rose old.faults new.faults) status.Memory
-  memory_told e = says.no_memory says.nothing (cut_nothing old.bytes new.bytes (ap (λ (z : SinkState). z.bytes) e))
+  pub memory_told : new ≡ old → EndsSo files rose words old new status.Memory
+  memory_told e = says.no_memory e
+
+-- The shelf
+
+-- where the shelf is as it was, so is all that is known of each name
+pub same_shelf : {S : Type 0} (holds : S → List ℕ → Told) (faults : S → List ℕ → ℕ) (old new : S) → new ≡ old
+    → (name : List ℕ) → IsUntouched (holds old name) (holds new name) (faults old name) (faults new name)
+same_shelf {S} holds faults old new e name =
+    record { told = ap (λ (z : S). holds z name) e; faults = ap (λ (z : S). faults z name) e }

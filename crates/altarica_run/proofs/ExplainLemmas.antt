@@ -68,9 +68,13 @@ module _ {V : Type 0} (sys : System V)
       → Stays (last_standing t ms)
   runs_stay cs t ms (starts start g) = goes_stays [] t cs ms g (again (first_values sys.net.variables) t start) tt
 
-  -- where a run settles, its valuation has flows
+  -- where a run settles, its valuation is total and determines itself
+  pub settled_total : (cs : List Command) (t : List Value) → Settles sys cs t → Flows sys.net t (Total t)
+  settled_total cs t s = subst Stays s.last (runs_stay cs s.first s.moments s.runs)
+
+  -- so it has flows
   pub settled_flows : (cs : List Command) (t : List Value) → Settles sys cs t → HasFlows sys.net t
-  settled_flows cs t s = record { values = t; flows = subst Stays s.last (runs_stay cs s.first s.moments s.runs) }
+  settled_flows cs t s = record { values = t; flows = settled_total cs t s }
 
 -- The text
 

@@ -1,16 +1,17 @@
 -- What follows from the answer of a call.
-use Rattle.std.proofs.Common.{◌≡◌, ◌⊎◌, inl, inr, ℕ, Bool, true, false, List, [], ◌∷◌, Option, Ok, Err, refl, append-nil}
+use Rattle.std.proofs.Common.{◌≡◌, ◌⊎◌, inl, inr, ℕ, Bool, true, false, List, [], ◌∷◌, Option, Ok, Err, refl, ap, append-nil}
 use Rattle.ar_base.specs.Stages.{Where}
 use Rattle.ar_base.specs.Stages as then
 use Rattle.ar_io.specs.Outside.{Told}
-use Rattle.ar_io.specs.Writing.{Cut}
+use Rattle.ar_io.specs.Writing.{SinkState, Cut}
+use Rattle.ar_io.proofs.Writing.{cut_nothing}
 use Rattle.script_lines.specs.Scripts.{Why, IsNoCommand, LacksWay, NamesNoEvent}
 use Rattle.replayer.specs.declared.replaying.End.TheVariants as end
 use Rattle.run_words.specs.declared.jobs.Job.{Job}
 use Rattle.run_words.specs.Jobs.{IsJob}
 use Rattle.altarica_run.specs.Elaborates.{Elaborates, no_tokens, no_reading, too_deep, breaks, exceeds}
 use Rattle.altarica_run.specs.Files.{File, Loaded, long, later, files_of}
-use Rattle.altarica_run.specs.Follows.{Call, Gave, SinkRose, RoseAt, Wrote, IsQuiet, IsSaid, IsPrefix}
+use Rattle.altarica_run.specs.Follows.{Call, Gave, SinkRose, RoseAt, Wrote, IsQuiet, IsSaid, IsPrefix, sink_before, sink_after}
 use Rattle.altarica_run.specs.Jobs.{IsNoJob}
 use Rattle.altarica_run.specs.Refusals.{line_of, status_of}
 use Rattle.altarica_run.specs.Says.{Says, usage, refuses, tells, EndsSo}
@@ -119,6 +120,50 @@ of_stages files job r (loaded texts l t (then.passes x p (then.passes w q (then.
 of_stages files job r (loaded texts l t (then.passes x p (then.passes w q (then.passes v k h)))) =
     of_table (has_table job.command) v r h
 
+-- Want of memory
+
+abbrev pub is_memory : Status → Bool
+is_memory status.Memory = true
+is_memory _ = false
+
+-- no refusal, and no text of a job, ends with it
+refused_no_memory : (r : Refusal) → is_memory (status_of r) ≡ false
+refused_no_memory Usage = refl
+refused_no_memory (NotRead kind) = refl
+refused_no_memory (Size count) = refl
+refused_no_memory (Syntax place) = refl
+refused_no_memory (Rule rule place) = refl
+refused_no_memory (NoCommand n) = refl
+refused_no_memory (NoCut n) = refl
+refused_no_memory (NeedsWay n) = refl
+refused_no_memory (NoEvent n) = refl
+refused_no_memory NoDropped = refl
+refused_no_memory NoObserver = refl
+refused_no_memory NoValue = refl
+refused_no_memory (Outside rule path) = refl
+
+told_no_memory : (job : Job) (w : Ready) (text : List ℕ) (s : Status) → Tells job w text s → is_memory s ≡ false
+told_no_memory job w text s (check e) = refl
+told_no_memory job w text s (flat e h) = refl
+told_no_memory job w text s (replay {ends = end.Done} e h) = refl
+told_no_memory job w text s (replay {ends = end.Fault} e h) = refl
+told_no_memory job w text s (fragment e h) = refl
+told_no_memory job w text s (equations e i h) = refl
+told_no_memory job w text s (cuts e h) = refl
+told_no_memory job w text s (make e h) = refl
+told_no_memory job w text s (tells.explains e h) = refl
+told_no_memory job w text s (unsettled e h) = refl
+told_no_memory job w text s (checks e h) = refl
+told_no_memory job w text s (in_short e h) = refl
+told_no_memory job w text s (conflict e h) = refl
+told_no_memory job w text s (nodes e h) = refl
+
+pub said_no_memory : (files : List ℕ → Told) (words : List (List ℕ)) (text : List ℕ) (s : Status)
+    → Says files words text s → is_memory s ≡ false
+said_no_memory files words text s (usage never) = refl
+said_no_memory files words text s (refuses job r is p) = refused_no_memory r
+said_no_memory files words text s (tells job w is p t) = told_no_memory job w text s t
+
 -- Meanings
 
 module _ (c : Call) where
@@ -169,12 +214,13 @@ module _ (c : Call) where
   meant_says text s (refuses job r is p) a = meant_refuses job r is p a (of_stages c.files job r p)
   meant_says text s (tells job w is p t) a = meant_tells job w text s is p t a
 
-  meant : (s : Status) → EndsSo c.files (RoseAt c) c.words c.old c.new (SinkRose c) s → Meaning_of c s
+  meant : (s : Status) → EndsSo c.files (RoseAt c) c.words (sink_before c) (sink_after c) s → Meaning_of c s
   meant s (says.says {text = text} h a) = meant_says text s h a
   meant s (says.not_read {kind} {name} job is l r a) =
       record { job = job; is_job = is; kind = kind; name = name; loads = l; rose = r; wrote = a }
   meant s (says.not_written b r h) = r
-  meant s (says.no_memory b h) = tt
+  meant s (says.no_memory e) = tt
+  meant s (says.replay_stopped job is e h k) = tt
 
   pub meaning_of : (s : Status) → Gave c s → Meaning_of c s
   meaning_of s g = meant s g.ends
@@ -184,7 +230,7 @@ module _ (c : Call) where
   whole_front : (text : List ℕ) → Wrote c text → Cut c.old c.new text
   whole_front text a = λ bytes e. (text, record { rest = []; joined = append-nil text }, a bytes e)
 
-  fronts : (s : Status) → EndsSo c.files (RoseAt c) c.words c.old c.new (SinkRose c) s → IsPrefix c
+  fronts : (s : Status) → EndsSo c.files (RoseAt c) c.words (sink_before c) (sink_after c) s → IsPrefix c
   fronts s (says.says {text = text} h a) = record { text = text; begins = says.said h; cut = whole_front text a }
   fronts s (says.not_read {kind} {name} job is l r a) =
       record {
@@ -193,7 +239,14 @@ module _ (c : Call) where
         cut = whole_front (line_of (NotRead kind)) a;
       }
   fronts s (says.not_written {text = text} b r h) = record { text = text; begins = b; cut = h }
-  fronts s (says.no_memory {text = text} b h) = record { text = text; begins = b; cut = h }
+  fronts s (says.no_memory e) =
+      record {
+        text = [];
+        begins = says.nothing;
+        cut = cut_nothing c.old c.new (ap (λ (z : SinkState). z.bytes) e);
+      }
+  fronts s (says.replay_stopped {text = text} job is e h k) =
+      record { text = text; begins = says.said h; cut = k }
 
   pub prefix_of : (s : Status) → Gave c s → IsPrefix c
   prefix_of s g = fronts s g.ends
@@ -206,12 +259,13 @@ module _ (c : Call) where
     usage_said text s (refuses job r is p) = absurd (never job is)
     usage_said text s (tells job w is p t) = absurd (never job is)
 
-    usage_ends : (s : Status) → EndsSo c.files (RoseAt c) c.words c.old c.new (SinkRose c) s
+    usage_ends : (s : Status) → EndsSo c.files (RoseAt c) c.words (sink_before c) (sink_after c) s
         → (s ≡ status.Usage) ⊎ (s ≡ status.Memory)
     usage_ends s (says.says {text = text} h a) = usage_said text s h
     usage_ends s (says.not_read job is l r a) = absurd (never job is)
     usage_ends s (says.not_written b r h) = absurd (written r)
-    usage_ends s (says.no_memory b h) = inr refl
+    usage_ends s (says.no_memory e) = inr refl
+    usage_ends s (says.replay_stopped job is e h k) = inr refl
 
     pub usage_of : (s : Status) → Gave c s → (s ≡ status.Usage) ⊎ (s ≡ status.Memory)
     usage_of s g = usage_ends s g.ends
@@ -219,12 +273,13 @@ module _ (c : Call) where
   -- Calls in which nothing of the outside fails
 
   module _ (quiet : IsQuiet c) where
-    quiet_ends : (s : Status) → EndsSo c.files (RoseAt c) c.words c.old c.new (SinkRose c) s
+    quiet_ends : (s : Status) → EndsSo c.files (RoseAt c) c.words (sink_before c) (sink_after c) s
         → IsSaid c s ⊎ (s ≡ status.Memory)
     quiet_ends s (says.says {text = text} h a) = inl (record { text = text; said = h; wrote = a })
     quiet_ends s (says.not_read {name = name} job is l r a) = absurd (quiet.read name r)
     quiet_ends s (says.not_written b r h) = absurd (quiet.written r)
-    quiet_ends s (says.no_memory b h) = inr refl
+    quiet_ends s (says.no_memory e) = inr refl
+    quiet_ends s (says.replay_stopped job is e h k) = inr refl
 
     pub said_of : (s : Status) → Gave c s → IsSaid c s ⊎ (s ≡ status.Memory)
     said_of s g = quiet_ends s g.ends

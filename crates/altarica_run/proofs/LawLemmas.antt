@@ -4,10 +4,12 @@ use Rattle.ar_base.specs.Counts.{limit_of}
 use Rattle.ar_base.specs.declared.counts.Count.TheVariants.{ModelBytes, ScriptBytes}
 use Rattle.ar_io.specs.Outside.{Told, Bytes, Absent, Untold, MayBeLonger, IsFile}
 use Rattle.run_words.specs.declared.jobs.Job.{Job}
+use Rattle.run_words.specs.declared.verbs.Verb.TheVariants.{Replay}
 use Rattle.run_words.specs.Jobs.{IsJob}
 use Rattle.altarica_run.specs.Files.{File, model_file, script_files, files_where, files_of, Loaded, none, long, later, whole, Loads, this, next}
-use Rattle.altarica_run.specs.Follows.{Call, Gave, IsKnown, IsQuiet, Wrote, RoseAt, SinkRose}
-use Rattle.altarica_run.specs.Jobs.{makes_model}
+use Rattle.altarica_run.specs.Follows.{Call, Gave, IsKnown, IsQuiet, IsShelfSame, LacksScript, script, Wrote, RoseAt, SinkRose, sink_before, sink_after}
+use Rattle.altarica_run.specs.Follows as lacks
+use Rattle.altarica_run.specs.Jobs.{IsNoJob, LoadsNothing, makes_model}
 use Rattle.altarica_run.specs.Refusals.{line_of, status_of}
 use Rattle.altarica_run.specs.Says.{Says, usage, refuses, tells, EndsSo}
 use Rattle.altarica_run.specs.Says as says
@@ -19,7 +21,7 @@ use Rattle.altarica_run.specs.declared.refusals.Refusal.{Refusal}
 use Rattle.altarica_run.specs.declared.refusals.Refusal.TheVariants.{NotRead, Size}
 use Rattle.altarica_run.specs.declared.status.Status.{Status}
 use Rattle.altarica_run.specs.declared.status.Status.TheVariants as status
-use Rattle.altarica_run.proofs.FollowLemmas.{meaning_of}
+use Rattle.altarica_run.proofs.FollowLemmas.{is_memory, said_no_memory, meaning_of}
 use Rattle.altarica_run.proofs.JobLemmas.{made_job}
 
 -- Files
@@ -159,12 +161,13 @@ module _ (c : Call) (job : Job) (one : (a b : Job) → IsJob c.words a → IsJob
         (sym (over_passes c.files job loads text told over (Ok w) (same_job other at (λ j. Passes c.files j (Ok w)) p)))
 
     module _ (quiet : IsQuiet c) where
-      over_ends : (s : Status) → EndsSo c.files (RoseAt c) c.words c.old c.new (SinkRose c) s
+      over_ends : (s : Status) → EndsSo c.files (RoseAt c) c.words (sink_before c) (sink_after c) s
           → ((s ≡ status.Size) × Wrote c (line_of (Size ModelBytes))) ⊎ (s ≡ status.Memory)
       over_ends s (says.says {text = said} h a) = inl (over_said said s h a)
       over_ends s (says.not_read {name = name} other at l r a) = absurd (quiet.read name r)
       over_ends s (says.not_written b r h) = absurd (quiet.written r)
-      over_ends s (says.no_memory b h) = inr refl
+      over_ends s (says.no_memory e) = inr refl
+      over_ends s (says.replay_stopped other at e h k) = inr refl
 
       pub over_of : (s : Status) → Gave c s
           → ((s ≡ status.Size) × Wrote c (line_of (Size ModelBytes))) ⊎ (s ≡ status.Memory)
@@ -198,7 +201,7 @@ module _ (c : Call) (job : Job) (one : (a b : Job) → IsJob c.words a → IsJob
     model_asked fs kind name this r a = (r, a)
     model_asked fs kind name (next text h k) r a = absurd (not_held text h)
 
-    absent_ends : (s : Status) → EndsSo c.files (RoseAt c) c.words c.old c.new (SinkRose c) s
+    absent_ends : (s : Status) → EndsSo c.files (RoseAt c) c.words (sink_before c) (sink_after c) s
         → ((s ≡ status.Read) × RoseAt c job.model × Wrote c (line_of (NotRead Model)))
         ⊎ (SinkRose c ⊎ (s ≡ status.Memory))
     absent_ends s (says.says {text = said} h a) = absurd (absent_said said s h)
@@ -208,7 +211,8 @@ module _ (c : Call) (job : Job) (one : (a b : Job) → IsJob c.words a → IsJob
         r a in
         inl (refl, m.0, m.1)
     absent_ends s (says.not_written b r h) = inr (inl r)
-    absent_ends s (says.no_memory b h) = inr (inr refl)
+    absent_ends s (says.no_memory e) = inr (inr refl)
+    absent_ends s (says.replay_stopped other at e h k) = inr (inr refl)
 
     pub absent_of : (s : Status) → Gave c s
         → ((s ≡ status.Read) × RoseAt c job.model × Wrote c (line_of (NotRead Model)))
@@ -232,3 +236,126 @@ module _ (c : Call) (job : Job) (one : (a b : Job) → IsJob c.words a → IsJob
     never_read s g e =
         let m = subst (Meaning_of c) e (meaning_of c s g) in
         not_asked m.kind m.name (same_job m.job m.is_job (λ j. Loads c.files (files_of j) m.kind m.name) m.loads)
+
+  -- Refusals that are the only answer of the stages
+
+  module _ (r : Refusal) (only : (x : Result Ready Refusal) → Passes c.files job x → x ≡ Err r) (quiet : IsQuiet c)
+    where
+      only_refused : (other : Refusal) → Passes c.files job (Err other) → Wrote c (line_of other)
+          → (status_of other ≡ status_of r) × Wrote c (line_of r)
+      only_refused other p a =
+          let e : other ≡ r = ap (refusal_or other) (only (Err other) p) in
+          (ap status_of e, subst (λ (z : Refusal). Wrote c (line_of z)) e a)
+
+      only_said : (said : List ℕ) (s : Status) → Says c.files c.words said s → Wrote c said
+          → (s ≡ status_of r) × Wrote c (line_of r)
+      only_said said s (usage never) a = absurd (never job is)
+      only_said said s (refuses other x at p) a =
+          only_refused x (same_job other at (λ j. Passes c.files j (Err x)) p) a
+      only_said said s (tells other w at p t) a =
+          not_ok _ _ (sym (only (Ok w) (same_job other at (λ j. Passes c.files j (Ok w)) p)))
+
+      only_ends : (s : Status) → EndsSo c.files (RoseAt c) c.words (sink_before c) (sink_after c) s
+          → ((s ≡ status_of r) × Wrote c (line_of r)) ⊎ (s ≡ status.Memory)
+      only_ends s (says.says {text = said} h a) = inl (only_said said s h a)
+      only_ends s (says.not_read {name = name} other at l x a) = absurd (quiet.read name x)
+      only_ends s (says.not_written b x h) = absurd (quiet.written x)
+      only_ends s (says.no_memory e) = inr refl
+      only_ends s (says.replay_stopped other at e h k) = inr refl
+
+      pub only_of : (s : Status) → Gave c s → ((s ≡ status_of r) × Wrote c (line_of r)) ⊎ (s ≡ status.Memory)
+      only_of s g = only_ends s g.ends
+
+  -- Scripts that are absent
+
+  module _ (loads : makes_model job.command ≡ false) (name : List ℕ) (named : job.script ≡ Some name)
+      (model : List ℕ) (held : c.files job.model ≡ Bytes model) (short : length model ≤ limit_of ModelBytes)
+      (absent : c.files name ≡ Absent) where
+    no_text : (other : List ℕ) → IsFile (c.files name) (limit_of ScriptBytes) other → ⊥
+    no_text other h = let f = subst (λ (t : Told). IsFile t (limit_of ScriptBytes) other) absent h in f.held
+
+    no_scripts : (n : Option (List ℕ)) → n ≡ Some name → (x : Result (List (List ℕ)) Refusal)
+        → Loaded c.files (script_files n) x → ⊥
+    no_scripts None e x h = cc
+    no_scripts (Some n) e x (long h) =
+        let i : n ≡ name = cc in
+        subst (λ (t : Told). MayBeLonger t (limit_of ScriptBytes)) absent
+        (subst (λ (z : List ℕ). MayBeLonger (c.files z) (limit_of ScriptBytes)) i h)
+    no_scripts (Some n) e x (later other h k) =
+        let i : n ≡ name = cc in
+        no_text other (subst (λ (z : List ℕ). IsFile (c.files z) (limit_of ScriptBytes) other) i h)
+    no_scripts (Some n) e x (whole other h k) =
+        let i : n ≡ name = cc in
+        no_text other (subst (λ (z : List ℕ). IsFile (c.files z) (limit_of ScriptBytes) other) i h)
+
+    none_loaded : (x : Result (List (List ℕ)) Refusal) → Loaded c.files (files_where false job) x → ⊥
+    none_loaded x (long h) =
+        apart (Bytes model) (limit_of ModelBytes) model tt (record { held = refl; short = short })
+        (subst (λ (t : Told). MayBeLonger t (limit_of ModelBytes)) held h)
+    none_loaded x (later {r = r} other h k) = no_scripts job.script named (Err r) k
+    none_loaded x (whole {texts = ts} other h k) = no_scripts job.script named (Ok ts) k
+
+    none_passes : (x : Result Ready Refusal) → Passes c.files job x → ⊥
+    none_passes x (not_loaded {r = r} h) = none_loaded (Err r) (model_first c.files job loads (Err r) h)
+    none_passes x (loaded texts h t s) = none_loaded (Ok texts) (model_first c.files job loads (Ok texts) h)
+
+    none_said : (said : List ℕ) (s : Status) → Says c.files c.words said s → ⊥
+    none_said said s (usage never) = never job is
+    none_said said s (refuses other r at p) = none_passes (Err r) (same_job other at (λ j. Passes c.files j (Err r)) p)
+    none_said said s (tells other w at p t) = none_passes (Ok w) (same_job other at (λ j. Passes c.files j (Ok w)) p)
+
+    script_asked : (n : Option (List ℕ)) → n ≡ Some name → (kind : FileKind) (asked : List ℕ)
+        → Loads c.files (script_files n) kind asked → RoseAt c asked → Wrote c (line_of (NotRead kind))
+        → LacksScript c job name
+    script_asked None e kind asked h r a = elim h [ ]
+    script_asked (Some n) e kind asked this r a =
+        let i : n ≡ name = cc in script (subst (λ (z : List ℕ). RoseAt c z) i r) a
+    script_asked (Some n) e kind asked (next text h k) r a = elim k [ ]
+
+    file_asked : (kind : FileKind) (asked : List ℕ) → Loads c.files (files_where false job) kind asked
+        → RoseAt c asked → Wrote c (line_of (NotRead kind)) → LacksScript c job name
+    file_asked kind asked this r a = lacks.model r a
+    file_asked kind asked (next text h k) r a = script_asked job.script named kind asked k r a
+
+    lacks_ends : (s : Status) → EndsSo c.files (RoseAt c) c.words (sink_before c) (sink_after c) s
+        → ((s ≡ status.Read) × LacksScript c job name) ⊎ (SinkRose c ⊎ (s ≡ status.Memory))
+    lacks_ends s (says.says {text = said} h a) = absurd (none_said said s h)
+    lacks_ends s (says.not_read {kind} {name = asked} other at l r a) =
+        let those = same_job other at (λ j. Loads c.files (files_of j) kind asked) l in
+        inl (
+          refl,
+          file_asked kind asked (subst (λ (b : Bool). Loads c.files (files_where b job) kind asked) loads those) r a,
+        )
+    lacks_ends s (says.not_written b r h) = inr (inl r)
+    lacks_ends s (says.no_memory e) = inr (inr refl)
+    lacks_ends s (says.replay_stopped other at e h k) = inr (inr refl)
+
+    pub lacks_of : (s : Status) → Gave c s
+        → ((s ≡ status.Read) × LacksScript c job name) ⊎ (SinkRose c ⊎ (s ≡ status.Memory))
+    lacks_of s g = lacks_ends s g.ends
+
+-- The shelf and the sink
+
+pub untouched_of : (c : Call) (s : Status) → Gave c s → LoadsNothing c.words → IsShelfSame c
+untouched_of c s g alone = record { each = g.untouched alone }
+
+pub made_alone : (words : List (List ℕ)) → ((a b : Job) → IsJob words a → IsJob words b → a ≡ b) → (job : Job)
+    → IsJob words job → makes_model job.command ≡ true → LoadsNothing words
+made_alone words one job is made = λ other at. subst (λ (j : Job). makes_model j.command ≡ true) (one job other is at) made
+
+pub no_job_loads : (words : List (List ℕ)) → IsNoJob words → LoadsNothing words
+no_job_loads words never = λ job is. absurd (never job is)
+
+module _ (c : Call) (no_replay : (job : Job) → IsJob c.words job → job.command ≡ Replay → ⊥) where
+  pub unwritten_of : Gave c status.Memory → sink_after c ≡ sink_before c
+  unwritten_of g = go status.Memory refl g.ends
+    where
+      go : (s : Status) → s ≡ status.Memory → EndsSo c.files (RoseAt c) c.words (sink_before c) (sink_after c) s
+          → sink_after c ≡ sink_before c
+      go s e (says.says {text = text} h a) =
+          let k : false ≡ true = sym (said_no_memory c.files c.words text s h) ∙ ap is_memory e in
+          absurd cc
+      go s e (says.not_read job is l r a) = let k : false ≡ true = ap is_memory e in absurd cc
+      go s e (says.not_written b r h) = let k : false ≡ true = ap is_memory e in absurd cc
+      go s e (says.no_memory i) = i
+      go s e (says.replay_stopped job is i h k) = absurd (no_replay job is i)

@@ -12,4 +12,6 @@ pub mod FollowLemmas
 pub mod LawLemmas
 mod ListingLemmas
 pub mod ExplainLemmas
+mod NodeLemmas
+mod FindingLemmas
 pub mod CheckLemmas

@@ -29,7 +29,7 @@ is_cuts _ = false
 other_verb : {A : Type 0} (v u : Verb) → v ≡ u → is_cuts u ≡ false → v ≡ Cuts → A
 other_verb v u e i j = let k : false ≡ true = sym i ∙ ap is_cuts (sym e ∙ j) in absurd cc
 
-abbrev is_done : Status → Bool
+abbrev pub is_done : Status → Bool
 is_done status.Done = true
 is_done _ = false
 
@@ -51,7 +51,7 @@ cuts_text job w text s j d (conflict e h) = let k : false ≡ true = ap is_done 
 cuts_text job w text s j d (nodes e h) = let k : false ≡ true = ap is_done d in absurd cc
 
 -- labels have the events of each set with the same members
-events_alike : (ls : List Label) (s t : List ℕ) → AreEvents ls s → Within s t → Within t s → AreEvents ls t
+pub events_alike : (ls : List Label) (s t : List ℕ) → AreEvents ls s → Within s t → Within t s → AreEvents ls t
 events_alike ls s t h there back = record {
   sound = λ k l i. there.each l.event (h.sound k l i);
   whole = λ e o. h.whole e (back.each e o);
@@ -59,7 +59,7 @@ events_alike ls s t h there back = record {
 }
 
 -- and sets of which they have the events have the same members
-events_within : (ls : List Label) (s t : List ℕ) → AreEvents ls s → AreEvents ls t → Within s t
+pub events_within : (ls : List Label) (s t : List ℕ) → AreEvents ls s → AreEvents ls t → Within s t
 events_within ls s t h k = record {
   each = λ e o.
       let a = h.whole e o in
@@ -67,10 +67,10 @@ events_within ls s t h k = record {
 }
 
 -- a set that stands before another one has a member that this has not
-not_alike : (s t : List ℕ) → IsBefore s t → Within s t → ⊥
+pub not_alike : (s t : List ℕ) → IsBefore s t → Within s t → ⊥
 not_alike s t h w = h.not_in_second (w.each h.least h.in_first)
 
-within_both : (s t u : List ℕ) → Within s t → Within t u → Within s u
+pub within_both : (s t u : List ℕ) → Within s t → Within t u → Within s u
 within_both s t u h k = record { each = λ e o. k.each e (h.each e o) }
 
 -- The listing of a call

@@ -11,6 +11,7 @@ use Rattle.eq_core.specs.Gates.{Table}
 use Rattle.eq_core.specs.Views.{table_of, gate_of}
 use Rattle.eq_core.specs.declared.joints.Equations.{Equations}
 use Rattle.eq_build.specs.Builds.{most_gates}
+use Rattle.gts_core.specs.Sound.{IsSound}
 use Rattle.gts_core.specs.View.{Views, net_of, numbered}
 use Rattle.gts_core.specs.declared.system.GtsParts.{GtsParts}
 use Rattle.gts_core.specs.declared.system.Observer.{Observer}
@@ -95,18 +96,19 @@ module _ (v : Verb) (p : GtsParts) (w : Ready) (f : Forest) (wanted : Wanted) (o
           exceeds are (of_source t.table t.is) (many t.table t.is)
       go table.Memory h = tt
 
-  pub table_given : wanted.observer < length p.observers.items → (q : Equations)
+  pub table_given : IsSound p → wanted.observer < length p.observers.items → (q : Equations)
       → AtObserver (slice_get p.observers.items wanted.observer) (gives.IsTableOf p f wanted.value (table_of q))
       → length q.gates.items ≤ most_gates → (made : GateTable) → made.equations ≡ q
       → made.events.items ≡ (naming_of_parts p).events
       → IsStageOf (HasTable v p f) (Tabled w) (Ok made)
-  table_given inside q h few made e names =
+  table_given sound inside q h few made e names =
       let is = of_source (table_of q) (at_observer _ at.0 (gives.IsTableOf p f wanted.value (table_of q)) at.1 h) in
       let many = length-map q.gates.items gate_of in (
         w,
         fits are is (omega (arith, few, many)),
         record {
           own = λ s. record {
+            sound = sound;
             wanted = wanted;
             are = are;
             inside = inside;

@@ -28,7 +28,7 @@ use Rattle.run_words.specs.declared.jobs.Job.{Job}
 use Rattle.run_words.specs.declared.verbs.Verb.TheVariants.{Check, Flat, Replay, Fragment, Equations}
 use Rattle.altarica_run.specs.Passing.{IsReady, IsGateTable}
 use Rattle.altarica_run.specs.Stages.{Ready}
-use Rattle.altarica_run.specs.Telling.{status_written, status_replayed, IsWritten, whole, cut, stopped}
+use Rattle.altarica_run.specs.Telling.{status_written, status_replayed, IsWritten, whole, cut, IsWrittenFor, written, stopped}
 use Rattle.altarica_run.specs.Tells.{counts_line, check_text, status_at, Tells, check, flat, replay, fragment, equations}
 use Rattle.altarica_run.specs.declared.stages.Prepared.{Prepared}
 use Rattle.altarica_run.specs.declared.status.Status.{Status}
@@ -126,13 +126,13 @@ module _ (job : Job) (w : Ready) (p : Prepared) (is : IsReady job w p) where
     pub replayed : {old new : SinkState} (s : Status) (r : Result End ReplayFault) → s ≡ status_replayed r
         → AnswersReplay (naming_of_parts p.system) is.flat.flat (map (command_of p.system) p.request.commands.items) old
         new r
-        → IsWritten (Tells job w) old new s
-    replayed {old} {new} s r i h = subst (λ (z : Status). IsWritten (Tells job w) old new z) (sym i) (go r h)
+        → IsWrittenFor job (Tells job w) old new s
+    replayed {old} {new} s r i h = subst (λ (z : Status). IsWrittenFor job (Tells job w) old new z) (sym i) (go r h)
       where
         go : (r : Result End ReplayFault)
             → AnswersReplay (naming_of_parts p.system) is.flat.flat (map (command_of p.system) p.request.commands.items)
             old new r
-            → IsWritten (Tells job w) old new (status_replayed r)
-        go r (replays.whole {text = text} {end = end} h a k) = whole (said text end h) a
-        go r (replays.write {text = text} {end = end} h c k) = cut (said text end h) c k
-        go r (replays.memory {text = text} {end = end} h c k) = stopped (said text end h) c
+            → IsWrittenFor job (Tells job w) old new (status_replayed r)
+        go r (replays.whole {text = text} {end = end} h a k) = written (whole (said text end h) a)
+        go r (replays.write {text = text} {end = end} h c k) = written (cut (said text end h) c k)
+        go r (replays.memory {text = text} {end = end} h c k) = stopped e (said text end h) c

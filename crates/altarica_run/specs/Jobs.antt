@@ -17,6 +17,10 @@ abbrev pub makes_model : Verb → Bool
 makes_model Make = true
 makes_model _ = false
 
+-- the words ask for no file: they are no job, or the command makes its model
+abbrev pub LoadsNothing : List (List ℕ) → Type 0
+LoadsNothing words = (job : Job) → IsJob words job → makes_model job.command ≡ true
+
 -- what the reading of words answers: the job, or that there is none, or want of memory
 abbrev pub AnswersJob : List (List ℕ) → Result Job Stop → Type 0
 AnswersJob words (Ok job) = IsJob words job

@@ -13,3 +13,5 @@ pub mod Loading
 pub mod Passing
 pub mod Telling
 pub mod Spots
+pub mod Nodes
+pub mod Findings

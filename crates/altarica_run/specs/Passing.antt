@@ -21,6 +21,7 @@ use Rattle.event_lists.specs.declared.reading.ListFault.TheVariants as list
 use Rattle.forest_text.specs.Printed.{edge_count}
 use Rattle.gate_modules.specs.Modules.{AreRanges}
 use Rattle.gate_modules.specs.declared.ranges.Range.{Range}
+use Rattle.gts_core.specs.Sound.{IsSound}
 use Rattle.gts_core.specs.View.{Views}
 use Rattle.gts_core.specs.declared.bound.Chain.{Chain}
 use Rattle.gts_core.specs.declared.system.GtsParts.{GtsParts}
@@ -264,9 +265,10 @@ pub record HasForest (v : Verb) (p : GtsParts) (dropped : List ℕ) (forest : Fo
 
 -- The gate table
 
--- the gates are those of the source's table, as the trees of the forest give them to the flat system, and the events
--- are called by their paths
+-- the gates are those of the source's table, as the trees of the forest give them to the flat system, whose parts are
+-- sound, and the events are called by their paths
 pub record IsGateTable (p : GtsParts) (w : Ready) (forest : Forest) (t : GateTable) : Type 0 where
+  pub sound : IsSound p
   pub wanted : Wanted
   pub are : w.wanted ≡ Some wanted
   pub inside : HasObserver p (Some wanted)

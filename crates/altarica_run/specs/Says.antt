@@ -1,8 +1,9 @@
 -- What words say: their text and how they end, and how a call of them may end.
-use Rattle.std.specs.Prelude.{ℕ, List, [], Option, Ok, Err}
-use Rattle.ar_io.specs.Outside.{Told}
-use Rattle.ar_io.specs.Writing.{Appended, Cut}
+use Rattle.std.specs.Prelude.{◌≡◌, ℕ, List, [], Ok, Err}
+use Rattle.ar_io.specs.Outside.{Told, Rose}
+use Rattle.ar_io.specs.Writing.{SinkState, Appended, Cut}
 use Rattle.run_words.specs.declared.jobs.Job.{Job}
+use Rattle.run_words.specs.declared.verbs.Verb.TheVariants.{Replay}
 use Rattle.run_words.specs.Jobs.{IsJob}
 use Rattle.altarica_run.specs.Files.{files_of, Loads}
 use Rattle.altarica_run.specs.Jobs.{IsNoJob}
@@ -35,17 +36,20 @@ pub data Begins (files : List ℕ → Told) (rose : List ℕ → Type 0) (words 
       → Begins files rose words (line_of (NotRead kind))
 
 -- How a call ends: it says what its words say; or a file was not read, whose count of faults rose; or the sink's count
--- rose; or memory was refused.
--- In the last two cases the sink has some first bytes of a text that the call may write.
-pub data EndsSo (files : List ℕ → Told) (rose : List ℕ → Type 0) (words : List (List ℕ)) (old new : Option (List ℕ))
-    (sink_rose : Type 0) : Status
+-- rose, and it has some first bytes of a text that the call may write; or memory was refused.
+-- Where memory is refused the sink is as it was, but that a replay, which writes as it goes, may have written some first
+-- bytes of what the words say.
+pub data EndsSo (files : List ℕ → Told) (rose : List ℕ → Type 0) (words : List (List ℕ)) (old new : SinkState) : Status
     → Type 0 where
-  says : {text : List ℕ} {ends : Status} → Says files words text ends → Appended old new text
-      → EndsSo files rose words old new sink_rose ends
+  says : {text : List ℕ} {ends : Status} → Says files words text ends → Appended old.bytes new.bytes text
+      → EndsSo files rose words old new ends
   not_read : {kind : FileKind} {name : List ℕ} (job : Job) → IsJob words job → Loads files (files_of job) kind name
       → rose name
-      → Appended old new (line_of (NotRead kind)) → EndsSo files rose words old new sink_rose status.Read
-  not_written : {text : List ℕ} → Begins files rose words text → sink_rose → Cut old new text
-      → EndsSo files rose words old new sink_rose status.Write
-  no_memory : {text : List ℕ} → Begins files rose words text → Cut old new text
-      → EndsSo files rose words old new sink_rose status.Memory
+      → Appended old.bytes new.bytes (line_of (NotRead kind)) → EndsSo files rose words old new status.Read
+  not_written : {text : List ℕ} → Begins files rose words text → Rose old.faults new.faults
+      → Cut old.bytes new.bytes text
+      → EndsSo files rose words old new status.Write
+  no_memory : new ≡ old → EndsSo files rose words old new status.Memory
+  replay_stopped : {text : List ℕ} {ends : Status} (job : Job) → IsJob words job → job.command ≡ Replay
+      → Says files words text ends → Cut old.bytes new.bytes text
+      → EndsSo files rose words old new status.Memory

@@ -8,6 +8,8 @@ use Rattle.cut_text.specs.declared.faults.PrintFault.TheVariants as print
 use Rattle.replayer.specs.declared.replaying.End.{End}
 use Rattle.replayer.specs.declared.replaying.ReplayFault.{ReplayFault}
 use Rattle.replayer.specs.declared.replaying.ReplayFault.TheVariants as fault
+use Rattle.run_words.specs.declared.jobs.Job.{Job}
+use Rattle.run_words.specs.declared.verbs.Verb.TheVariants.{Replay}
 use Rattle.altarica_run.specs.Tells.{status_at}
 use Rattle.altarica_run.specs.declared.status.Status.{Status}
 use Rattle.altarica_run.specs.declared.status.Status.TheVariants.{Write, Memory}
@@ -35,13 +37,17 @@ status_explained (Ok ends) = ends
 status_explained (Err fault.Write) = Write
 status_explained (Err fault.Memory) = Memory
 
--- one of these texts was written whole, with its status; or first bytes of one, where the sink's count rose or memory
--- was refused; or nothing, where memory was refused before
+-- one of these texts was written whole, with its status; or first bytes of one, where the sink's count rose; or nothing,
+-- where memory was refused
 pub data IsWritten (told : List ℕ → Status → Type 0) (old new : SinkState) : Status → Type 0 where
   whole : {text : List ℕ} {ends : Status} → told text ends → Appended old.bytes new.bytes text
       → IsWritten told old new ends
   cut : {text : List ℕ} {ends : Status} → told text ends → Cut old.bytes new.bytes text → Rose old.faults new.faults
       → IsWritten told old new Write
-  stopped : {text : List ℕ} {ends : Status} → told text ends → Cut old.bytes new.bytes text
-      → IsWritten told old new Memory
   nothing : new ≡ old → IsWritten told old new Memory
+
+-- such a text of a job; a replay writes as it goes, so where memory is refused to it some first bytes may stand
+pub data IsWrittenFor (job : Job) (told : List ℕ → Status → Type 0) (old new : SinkState) : Status → Type 0 where
+  written : {ends : Status} → IsWritten told old new ends → IsWrittenFor job told old new ends
+  stopped : {text : List ℕ} {ends : Status} → job.command ≡ Replay → told text ends → Cut old.bytes new.bytes text
+      → IsWrittenFor job told old new Memory

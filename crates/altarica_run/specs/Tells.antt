@@ -2,8 +2,7 @@
 use Rattle.std.specs.Prelude.{◌≡◌, ℕ, ◌++◌, true, List, [], Option, Some, None, length, reverse, codes, decimal}
 use Rattle.ar_base.specs.Lists.{Stands}
 use Rattle.ar_base.specs.Texts.{line}
-use Rattle.ar_firing.specs.Cuts.{AreEvents, Cut, IsConflictFree, Reaches}
-use Rattle.ar_firing.specs.Forest.{ModeTree, IsForest}
+use Rattle.ar_firing.specs.Cuts.{AreEvents, Cut, ConflictSet, IsConflictFree, IsFirable, Reaches}
 use Rattle.ar_firing.specs.Listed.{AreListed}
 use Rattle.ar_meaning.specs.Facts.{HasValue}
 use Rattle.ar_meaning.specs.Runs.{Label}
@@ -13,7 +12,7 @@ use Rattle.cut_text.specs.Texts.{IsCutText, IsConflictText}
 use Rattle.domains.specs.declared.Value.{Value}
 use Rattle.eq_core.specs.Gates.{Table}
 use Rattle.forest_text.specs.Texts.{IsForestText}
-use Rattle.gate_diagrams.specs.Needed.{NodesMay}
+use Rattle.gate_diagrams.specs.Needed.{IsNeeded, IsNeededByBoth}
 use Rattle.gts_core.specs.Printed.{flat_text}
 use Rattle.gts_core.specs.Sound.{IsSound}
 use Rattle.gts_core.specs.declared.system.GtsParts.{GtsParts}
@@ -35,6 +34,7 @@ use Rattle.table_text.specs.Texts.{IsTableText}
 use Rattle.typed_expr.specs.Yields.{Yields}
 use Rattle.typed_expr.specs.declared.expr.Expr.{Expr, out-Expr}
 use Rattle.wanted_values.specs.declared.wanting.Wanted.{Wanted}
+use Rattle.zdd_families.specs.Families.{Family}
 use Rattle.zdd_families.specs.Sections.{IsCounted, IsMoreThan}
 use Rattle.altarica_run.specs.Stages.{Ready, IsTableOf, lists_cuts}
 use Rattle.altarica_run.specs.declared.status.Status.{Status}
@@ -86,12 +86,14 @@ pub record IsCutsText (w : Ready) (limit : ℕ) (text : List ℕ) : Type 0 where
   pub replay : (k : ℕ) (set : List ℕ) (ls : List Label) → Stands is_text.sets k set → Stands is_text.lines k ls
       → Replays w.source.system has.observed has.wanted.value set ls
 
--- the text of what is to be said of the lines of the list, and of the cuts that it lacks; the family of the cuts itself
--- has at most so many counted sections
+-- the text of what is to be said of the lines of the list, and of the cuts that it lacks, each in an order that replays;
+-- the family of the cuts itself has at most so many counted sections
 pub record IsCheckedText (w : Ready) (limit : ℕ) (text : List ℕ) : Type 0 where
   pub has : HasCuts w
   pub is_text : IsCheckText (naming_of w.source.declarations) w.source.system w.dropped has.observed has.wanted.value
       w.lines text
+  pub replay : (k : ℕ) (set : List ℕ) (ls : List Label) → Stands is_text.missing k set → Stands is_text.lines k ls
+      → Replays w.source.system has.observed has.wanted.value set ls
   pub sets : List (List ℕ)
   pub are_listed : AreListed (Cut w.source.system w.dropped has.observed has.wanted.value) sets
   pub few : IsMoreThan limit (IsCounted sets) → ⊥
@@ -133,15 +135,22 @@ pub record IsMakeText (w : Ready) (number limit : ℕ) (text : List ℕ) : Type 
       (length (events w.source.declarations.model w.source.declarations.units)) (count sets) (largest sets)
   pub few : IsMoreThan limit (IsCounted sets) → ⊥
 
--- more nodes than so many may be needed for the gate table of the source, by the trees of its modes
+-- the set is firable without the dropped events
+abbrev pub IsFirableSet : {V : Type 0} → System V → List ℕ → List ℕ → Type 0
+IsFirableSet sys dropped set = (t : List Value) × IsFirable sys dropped set t
+
+-- more nodes than so many may be needed for the gate table of the source: where a set of events meets a conflict, more
+-- for the conflict operand alone, and where none does, more for it and the operand of the observer's value together
 pub record MayNeedMore (w : Ready) (limit : ℕ) : Type 0 where
   pub wanted : Wanted
   pub are_wanted : w.wanted ≡ Some wanted
   pub table : Table
   pub is_table : IsTableOf w.source w.dropped wanted table
-  pub trees : List ModeTree
-  pub is_forest : IsForest w.source.system w.dropped trees
-  pub may : NodesMay trees table limit
+  pub firable : Family
+  pub are_firable : AreListed (IsFirableSet w.source.system w.dropped) firable
+  pub where_conflict : (set : List ℕ) → ConflictSet w.source.system w.dropped set
+      → IsMoreThan limit (IsNeeded firable table.gates table.conflict)
+  pub where_free : IsConflictFree w.source.system w.dropped → IsMoreThan limit (IsNeededByBoth firable table)
 
 -- `nodes: N`
 abbrev pub nodes_line : ℕ → List ℕ

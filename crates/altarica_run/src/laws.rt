@@ -5,11 +5,12 @@ ghost use Rattle.ar_base.specs.Counts.{limit_of};
 ghost use Rattle.ar_base.specs.declared.counts.Count.TheVariants.{ModelBytes, ScriptBytes};
 ghost use Rattle.ar_io.specs.Outside.{Told, Bytes, Absent};
 ghost use Rattle.run_words.specs.declared.jobs.Job.{Job};
-ghost use Rattle.run_words.specs.declared.verbs.Verb.TheVariants.{Cuts};
+ghost use Rattle.run_words.specs.declared.verbs.Verb.TheVariants.{Cuts, Replay};
 ghost use Rattle.run_words.specs.Jobs.{IsJob};
 ghost use Rattle.altarica_run.specs.Files.{File, Loaded};
-ghost use Rattle.altarica_run.specs.Follows.{Call, Gave, IsKnown, IsQuiet, Wrote, RoseAt, SinkRose};
-ghost use Rattle.altarica_run.specs.Jobs.{makes_model};
+ghost use Rattle.altarica_run.specs.Follows.{Call, Gave, IsKnown, IsQuiet, IsShelfSame, LacksScript};
+ghost use Rattle.altarica_run.specs.Follows.{Wrote, RoseAt, SinkRose, sink_before, sink_after};
+ghost use Rattle.altarica_run.specs.Jobs.{IsNoJob, makes_model};
 ghost use Rattle.altarica_run.specs.Listings.{IsListing};
 ghost use Rattle.altarica_run.specs.Refusals.{line_of};
 ghost use Rattle.altarica_run.specs.Stages.{Ready, Passes};
@@ -49,15 +50,23 @@ pub fn long_models_are_refused()
     one_job();
 }
 
-/// A script that is longer than its limit, of a model that is not, is refused for that alone,
-/// whatever the two say.
+/// A script or a list that is longer than its limit, of a model that is not, is refused for that
+/// alone, whatever the two say.
 pub fn long_scripts_are_refused()
-    ensures { (files : List ℕ → Told) (job : Job) (name model script : List ℕ)
+    ensures stages { (files : List ℕ → Told) (job : Job) (name model script : List ℕ)
         (x : Result Ready Refusal) → makes_model job.command ≡ false → job.script ≡ Some name
         → files job.model ≡ Bytes model → length model ≤ limit_of ModelBytes
         → files name ≡ Bytes script → limit_of ScriptBytes < length script
         → Passes files job x → x ≡ Err (Size ScriptBytes) }
-{}
+    ensures call { (c : Call) (s : Status) (job : Job) (name model script : List ℕ)
+        → Gave c s → IsQuiet c → IsJob c.words job
+        → makes_model job.command ≡ false → job.script ≡ Some name
+        → c.files job.model ≡ Bytes model → length model ≤ limit_of ModelBytes
+        → c.files name ≡ Bytes script → limit_of ScriptBytes < length script
+        → ((s ≡ status.Size) × Wrote c (line_of (Size ScriptBytes))) ⊎ (s ≡ status.Memory) }
+{
+    one_job();
+}
 
 /// Where the shelf tells that there is no model file, the call says that it was not read, and its
 /// own count of faults rose, unless the sink fails or memory is refused.
@@ -66,6 +75,19 @@ pub fn absent_models_are_not_read()
         → makes_model job.command ≡ false → c.files job.model ≡ Absent
         → ((s ≡ status.Read) × RoseAt c job.model × Wrote c (line_of (NotRead Model)))
         ⊎ (SinkRose c ⊎ (s ≡ status.Memory)) }
+{
+    one_job();
+}
+
+/// Where the shelf tells that there is no script or list behind a model that is there, the call says
+/// that a file was not read, and that file's own count of faults rose, unless the sink fails or
+/// memory is refused. The file is the script, unless the model's count rose.
+pub fn absent_scripts_are_not_read()
+    ensures { (c : Call) (s : Status) (job : Job) (name model : List ℕ) → Gave c s
+        → IsJob c.words job → makes_model job.command ≡ false → job.script ≡ Some name
+        → c.files job.model ≡ Bytes model → length model ≤ limit_of ModelBytes
+        → c.files name ≡ Absent
+        → ((s ≡ status.Read) × LacksScript c job name) ⊎ (SinkRose c ⊎ (s ≡ status.Memory)) }
 {
     one_job();
 }
@@ -87,3 +109,21 @@ pub fn listings_are_whole()
 {
     one_job();
 }
+
+/// Words that are no job, and those of a command that makes its model, leave the shelf as it was: of
+/// no name what is told of it changes, nor its count of faults.
+pub fn untouched_shelves()
+    ensures no_job { (c : Call) (s : Status) → Gave c s → IsNoJob c.words → IsShelfSame c }
+    ensures made { (c : Call) (s : Status) (job : Job) → Gave c s → IsJob c.words job
+        → makes_model job.command ≡ true → IsShelfSame c }
+{
+    one_job();
+}
+
+/// Where memory is refused nothing was written, and the sink met no fault, unless the job is a
+/// replay, which writes as it goes.
+pub fn refused_memory_writes_nothing()
+    ensures { (c : Call) → Gave c status.Memory
+        → ((job : Job) → IsJob c.words job → job.command ≢ Replay)
+        → sink_after c ≡ sink_before c }
+{}

@@ -29,7 +29,8 @@ pub struct Texts {
 /// nothing is loaded.
 pub fn job_texts<H: Shelf>(alloc: Global, shelf: &mut H, job: &Job) -> Result<Texts, Stop>
     requires { (words : List (List ℕ)) × IsJob words job.now }
-    ensures { AnswersTexts (H.holds shelf.old)
+    ensures made { makes_model job.now.command ≡ true → shelf.new ≡ shelf.old }
+    ensures texts { AnswersTexts (H.holds shelf.old)
         (λ name. Rose (H.faults shelf.old name) (H.faults shelf.new name))
         job.now result }
 {

@@ -20,7 +20,7 @@ pub fn altarica<H: Shelf, K: Sink>(
     out: &mut K,
 ) -> Status
     ensures { Answers (map string_bytes words.now)
-        (H.holds shelf.old) (H.faults shelf.old) (H.faults shelf.new)
+        (H.holds shelf.old) (H.holds shelf.new) (H.faults shelf.old) (H.faults shelf.new)
         (K.state out.old).bytes (K.state out.new).bytes
         (K.state out.old).faults (K.state out.new).faults result }
 {

@@ -11,6 +11,7 @@ ghost use Rattle.hierarchy.specs.Tie.{IsTreeOf};
 ghost use Rattle.hierarchy.specs.Units.{UnitPath};
 ghost use Rattle.gts_flatten.specs.Elaborating.{Elaborated};
 ghost use Rattle.altarica_run.specs.Elaborates.{Parses, Tables, Systems, Elaborates};
+ghost use Rattle.altarica_run.specs.Jobs.{LoadsNothing};
 ghost use Rattle.altarica_run.specs.Loading.{texts_of};
 ghost use Rattle.altarica_run.specs.Passing.{IsStageOf, IsFlattened, IsSecond, IsShort, IsThere, HasRanges, IsReady, has_second, AnswersWords};
 ghost use Rattle.altarica_run.specs.Stages.{Readies, Stages, has_table, observer_asked};
@@ -68,9 +69,10 @@ pub struct Flattened {
     pub system: Gts,
 }
 
-/// Passes the stages of the job of the words.
+/// Passes the stages of the job of the words. Where these ask for no file, the shelf is as it was.
 pub fn prepare<H: Shelf>(alloc: Global, words: &[String], shelf: &mut H) -> Result<Prepared, Stop>
-    ensures { AnswersWords (H.holds shelf.old)
+    ensures untouched { LoadsNothing (bytes_of_all words.now) → shelf.new ≡ shelf.old }
+    ensures words { AnswersWords (H.holds shelf.old)
         (λ name. Rose (H.faults shelf.old name) (H.faults shelf.new name))
         (bytes_of_all words.now) result }
 {

@@ -7,7 +7,7 @@ ghost use Rattle.run_words.specs.declared.jobs.Job.{Job};
 ghost use Rattle.altarica_run.specs.Passing.{CanBeWritten, IsReady};
 ghost use Rattle.altarica_run.specs.Refusals.{line_of, status_of};
 ghost use Rattle.altarica_run.specs.Stages.{Ready};
-ghost use Rattle.altarica_run.specs.Telling.{IsWritten, status_written, status_replayed, status_printed, status_explained};
+ghost use Rattle.altarica_run.specs.Telling.{IsWritten, IsWrittenFor, status_written, status_replayed, status_printed, status_explained};
 ghost use Rattle.altarica_run.specs.Tells.{counts_line, Tells};
 
 use crate::cutting::cuts;
@@ -34,7 +34,7 @@ pub fn tell<K: Sink>(alloc: Global, prepared: &Prepared, out: &mut K) -> Status
     requires ready { (job : Job) × (w : Ready) × IsReady job w prepared.now }
     requires nodes { prepared.now.nodes ≤ 16777216 }
     ensures { (job : Job) (w : Ready) → IsReady job w prepared.now
-        → IsWritten (Tells job w) (K.state out.old) (K.state out.new) result }
+        → IsWrittenFor job (Tells job w) (K.state out.old) (K.state out.new) result }
 {
     match prepared.command {
         Verb::Check => written(Status::Done, check(&prepared.system, out)),

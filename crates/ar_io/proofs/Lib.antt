@@ -1,2 +1,4 @@
 mod Holding
 pub mod Writing
+mod Walks
+mod Gathering

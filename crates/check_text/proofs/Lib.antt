@@ -2,4 +2,4 @@ mod Listing
 mod SourceLines
 mod MissingLemmas
 mod SaidLemmas
-mod YesLemmas
+pub mod YesLemmas

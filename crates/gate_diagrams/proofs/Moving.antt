@@ -1,10 +1,10 @@
 -- Trees with the empty path alone: the walk is the same without them.
-use Rattle.std.proofs.Common.{◌≡◌, ℕ, zero, suc, Bool, true, false, not, cond, ◌&&◌, ◌||◌, eqb, eqb-true, List, [], ◌∷◌, Result, Some, refl, sym, ap, ap₂, ◌∙◌, subst}
-use Rattle.std.specs.List.{list_any, list_all}
+use Rattle.std.proofs.Common.{◌≡◌, ℕ, zero, suc, Bool, true, false, not, cond, ◌&&◌, ◌||◌, eqb, eqb-true, List, [], ◌∷◌, Result, refl, sym, ap, ap₂, ◌∙◌, subst}
+use Rattle.std.specs.List.{list_all}
 use Rattle.ar_base.specs.Lists.{Stands}
 use Rattle.zdd_families.specs.Families.{Family, has, node}
 use Rattle.zdd_families.specs.Sections.{IsCounted, lower}
-use Rattle.zdd_nodes.specs.Nodes.{NodeId, Stored, family, IsNumber, Draws}
+use Rattle.zdd_nodes.specs.Nodes.{NodeId, Stored, family, Draws}
 use Rattle.zdd_nodes.specs.declared.NodeFault.{NodeFault}
 use Rattle.firable_families.specs.Walk.{occurs, taken, some_occurs, all_lower, all_taken, left, AreEventsBelow}
 use Rattle.firable_families.proofs.Halving.{lower_above, taken_above}

@@ -5,3 +5,6 @@ pub mod Cuts
 pub mod Modules
 pub mod Telling
 pub mod Sources
+pub mod Readings
+pub mod Findings
+pub mod Unread

@@ -242,24 +242,24 @@ net_keyed m units net different along = record {
 -- The source
 
 -- what the stages behind the declarations pass on
-record IsFlattened (d : Declarations) (x : Elaborated) : Type 0 where
-  same : x.declarations ≡ d
-  has : HasDeclarations d x.system
-  few : most_ways_counted x ≤ limit_of TheWays
+pub record IsFlattened (d : Declarations) (x : Elaborated) : Type 0 where
+  pub same : x.declarations ≡ d
+  pub has : HasDeclarations d x.system
+  pub few : most_ways_counted x ≤ limit_of TheWays
 
-flattened_of : (d : Declarations) (x : Elaborated) → Flattens d (Ok x) → IsFlattened d x
+pub flattened_of : (d : Declarations) (x : Elaborated) → Flattens d (Ok x) → IsFlattened d x
 flattened_of d x (passes a (kept k) (passes y (has i h) (passes z (fits l) (passes w (fits m) (fits n))))) =
     record { same = i; has = h; few = l }
 
-bound_of : (t : Unfolded) (d : Declarations) → Binds t (Ok d) → AreOf t.model t.units d
+pub bound_of : (t : Unfolded) (d : Declarations) → Binds t (Ok d) → AreOf t.model t.units d
 bound_of t d (passes u (kept k) (declares of)) = of
 
 -- what unfolding passes on
-record IsUnfolded (m : RootedModel) (t : Unfolded) : Type 0 where
-  same : t.model ≡ m
-  units : AreUnits m t.units
+pub record IsUnfolded (m : RootedModel) (t : Unfolded) : Type 0 where
+  pub same : t.model ≡ m
+  pub units : AreUnits m t.units
 
-unfolded_of : (m : RootedModel) (t : Unfolded) → Instantiates m (Ok t) → IsUnfolded m t
+pub unfolded_of : (m : RootedModel) (t : Unfolded) → Instantiates m (Ok t) → IsUnfolded m t
 unfolded_of m t (passes a (whole u s l) (passes b (passes c (fits f) (passes d (fits g) (fits h))) (kept k))) =
     record { same = refl; units = u }
 

@@ -1,1 +1,3 @@
 pub mod Definite
+pub mod Readings
+pub mod Findings

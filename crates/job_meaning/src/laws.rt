@@ -1,17 +1,83 @@
 //! What follows from the definitions of the stages of a job, and of its text.
 
-ghost use Rattle.std.specs.Prelude.{◌≡◌, ℕ, List, Option, Result, Ok};
+ghost use Rattle.std.specs.Prelude.{◌≡◌, ◌≢◌, ◌⊎◌, ℕ, true, List, ◌++◌, Option, Result, Ok, Err};
+ghost use Rattle.ar_base.specs.declared.places.Place.{Place};
+ghost use Rattle.ar_grammar.specs.Texts.{FitsNesting, Viable};
+ghost use Rattle.ar_grammar.specs.Words.{Tokens};
+ghost use Rattle.ar_io.specs.Outside.{Told};
+ghost use Rattle.ar_parser.specs.Models.{AreLexemes, Reads};
+ghost use Rattle.ar_readings.specs.Models.{SameModel};
+ghost use Rattle.ar_syntax.specs.declared.items.Model.{Model};
 ghost use Rattle.gts_flatten.specs.Elaborating.{Elaborated};
 ghost use Rattle.run_words.specs.declared.jobs.Job.{Job};
-ghost use Rattle.altarica_run.specs.Elaborates.{Elaborates};
-ghost use Rattle.altarica_run.specs.Stages.{Ready, Asks, Readies};
+ghost use Rattle.run_words.specs.declared.verbs.Verb.TheVariants.{Modules};
+ghost use Rattle.run_words.specs.Jobs.{IsJob};
+ghost use Rattle.altarica_run.specs.Elaborates.{Elaborates, Parses};
+ghost use Rattle.altarica_run.specs.Files.{files_of, Loaded, IsText};
+ghost use Rattle.altarica_run.specs.Follows.{Call, Gave, IsKnown, IsQuiet, Wrote};
+ghost use Rattle.altarica_run.specs.Refusals.{line_of, status_of};
+ghost use Rattle.altarica_run.specs.Stages.{Ready, Asks, Readies, Passes, lists_cuts};
 ghost use Rattle.altarica_run.specs.Tells.{Tells};
 ghost use Rattle.altarica_run.specs.declared.refusals.Refusal.{Refusal};
 ghost use Rattle.altarica_run.specs.declared.status.Status.{Status};
+ghost use Rattle.altarica_run.specs.declared.status.Status.TheVariants as status;
 ghost use Rattle.job_meaning.specs.Definite.{IsDefinite, SaysOf, AgreeButNodes};
+ghost use Rattle.job_meaning.specs.Findings.{AreModulesOf, IsConflictOf};
+ghost use Rattle.job_meaning.specs.Readings.{SameAnswer};
 
-use ar_readings::readings::trees_keep;
+use altarica_run::laws::{one_job, one_loading};
+use ar_readings::readings::{one_tree, trees_keep};
+use module_text::laws::combinations_are_cuts;
 use script_lines::laws::one_list;
+
+/// A text has a reading or is refused, never both: two readings of it agree, and it is refused for one
+/// cause, at one place.
+pub fn one_reading_or_refusal()
+    ensures { (text : List ℕ) (x y : Result Model Refusal) → Parses text x → Parses text y
+        → SameAnswer SameModel x y }
+{
+    one_tree();
+}
+
+/// Where the first tokens of a text open no production inside so many others, some text of the grammar
+/// begins with them, of some nesting. So a text that is refused for its syntax is refused at the
+/// first token with which no text goes on, and its tokens before that one begin some text.
+pub fn fitting_fronts_are_viable()
+    ensures { (text : List ℕ) (front rest : Tokens) (names : List (List ℕ)) (end : Place)
+        → AreLexemes text (front ++ rest) names end → (n : ℕ) → FitsNesting n front
+        → Viable front }
+{}
+
+/// A text that has no tokens, no reading, or a production inside too many others is refused for that,
+/// with its line and status, by the stages of each job whose text it is, and by each call of such words
+/// over files of which something is told, unless something of the outside fails or memory is refused.
+pub fn unread_texts_are_refused()
+    ensures stages { (files : List ℕ → Told) → ((name : List ℕ) → IsKnown (files name))
+        → (job : Job) (texts : List (List ℕ)) (text : List ℕ) (r : Refusal)
+        → Loaded files (files_of job) (Ok texts) → IsText job texts text → Parses text (Err r)
+        → (x : Result Ready Refusal) → Passes files job x → x ≡ Err r }
+    ensures call { (c : Call) (s : Status) (job : Job) (texts : List (List ℕ)) (text : List ℕ)
+        (r : Refusal) → Gave c s → IsQuiet c → ((name : List ℕ) → IsKnown (c.files name))
+        → IsJob c.words job → Loaded c.files (files_of job) (Ok texts) → IsText job texts text
+        → Parses text (Err r)
+        → ((s ≡ status_of r) × Wrote c (line_of r)) ⊎ (s ≡ status.Memory) }
+{
+    one_job();
+    one_loading();
+    one_tree();
+}
+
+/// A text that the grammar reads is never answered with Syntax.
+pub fn read_texts_are_no_syntax_errors()
+    ensures { (c : Call) (s : Status) (job : Job) (texts : List (List ℕ)) (text : List ℕ) (m : Model)
+        → Gave c s → ((name : List ℕ) → IsKnown (c.files name)) → IsJob c.words job
+        → Loaded c.files (files_of job) (Ok texts) → IsText job texts text → Reads text m
+        → s ≢ status.Syntax }
+{
+    one_job();
+    one_loading();
+    one_tree();
+}
 
 /// What the words, the script and the list of cuts of a job ask of a source is one thing, or they
 /// are refused in one way.
@@ -55,5 +121,28 @@ pub fn sources_are_definite()
     ensures { (main : Option (List ℕ)) (text : List ℕ) (x : Elaborated)
         → Elaborates main text (Ok x) → IsDefinite x }
 {
+    trees_keep();
+}
+
+/// A call of `modules` that ends well writes short forms that stand for the cuts: each choice of one
+/// set of the module for each unit of a form makes a cut with the form's events, and each cut comes
+/// from just one form and one choice.
+pub fn modules_stand_for_cuts()
+    ensures { (c : Call) (job : Job) → Gave c status.Done → IsJob c.words job
+        → job.command ≡ Modules → AreModulesOf c job }
+{
+    one_job();
+    trees_keep();
+    combinations_are_cuts();
+}
+
+/// A line `fault: ..` of a job that tells of cuts meets its fault: its labels are those of a least set
+/// that meets a conflict, and fired as they stand in the whole model, dropped events included, they
+/// meet this flow fault at the last of them, and none before.
+pub fn conflicts_are_met()
+    ensures { (c : Call) (job : Job) → Gave c status.Fault → IsJob c.words job
+        → lists_cuts job.command ≡ true → IsConflictOf c job }
+{
+    one_job();
     trees_keep();
 }

@@ -1,12 +1,12 @@
 -- The operands of a gate, joined from the last to the first.
 use Rattle.std.proofs.Common.{◌≡◌, ℕ, zero, suc, ◌+◌, ◌≤◌, ◌<◌, Bool, true, false, List, [], ◌∷◌, drop, length, refl, sym, ap, ◌∙◌, subst, arith}
-use Rattle.ar_base.specs.Lists.{Stands, IsOneOf}
+use Rattle.ar_base.specs.Lists.{Stands}
 use Rattle.eq_core.specs.Gates.{Operand, Gate}
 use Rattle.mode_nodes.specs.Diagrams.{DiagramId, Stored, Grows}
 use Rattle.mode_nodes.proofs.Growing.{Grows-none, Grows-then}
 use Rattle.mode_diagrams.specs.declared.trees.NumberedTree.{NumberedTree}
 use Rattle.mode_diagrams.specs.Agreement.{Agrees, AgreesJoint, IsNeutral, IsJoined, IsReady, AreReady}
-use Rattle.mode_diagrams.proofs.Laws.{joint_kept, joint_none, joint_more, ready_kept, agrees_kept}
+use Rattle.mode_diagrams.proofs.Laws.{joint_kept, joint_none, joint_more, ready_kept}
 
 -- the operands from place `left` on are joined
 pub record IsFolded (trees : List NumberedTree) (table : List DiagramId) (old : Stored) (both : Bool)

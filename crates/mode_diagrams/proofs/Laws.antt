@@ -1,19 +1,19 @@
 -- The laws of agreement.
-use Rattle.std.proofs.Common.{◌≡◌, ◌⊎◌, ⊎_elim, inl, inr, ℕ, zero, suc, ◌+◌, ◌<◌, ◌≤◌, Bool, true, false, cond, not, ◌&&◌, ◌||◌, nat_eq, List, [], ◌∷◌, ◌++◌, drop, get_or, length, length-append, map, Some, refl, sym, ap, ap₂, ◌∙◌, subst, arith, eqb-true, eq-eqb}
+use Rattle.std.proofs.Common.{◌≡◌, ⊎_elim, inl, inr, ℕ, zero, suc, ◌+◌, ◌<◌, Bool, true, false, not, ◌&&◌, ◌||◌, nat_eq, List, [], ◌∷◌, ◌++◌, get_or, length, length-append, map, refl, sym, ap, ap₂, ◌∙◌, subst, arith, eqb-true, eq-eqb}
 use Rattle.std.proofs.lemmas.Option.{get_or_from_slice_get}
 use Rattle.ar_base.specs.Lists.{Stands, IsOneOf}
-use Rattle.ar_base.proofs.Standing.{stands_one, stands_within, stands_map, stands_split, stands_none, one_none, one_cases, one_first, one_rest}
+use Rattle.ar_base.proofs.Standing.{stands_one, stands_map, stands_split, stands_none, one_none, one_cases, one_first, one_rest}
 use Rattle.eq_core.specs.Gates.{Operand, Always, Never, EventIs, GateIs, Gate}
-use Rattle.eq_core.specs.Values.{has_event, signed, operand_at, joint_at, values_at, value_at}
+use Rattle.eq_core.specs.Values.{has_event}
 use Rattle.eq_core.specs.Ordered.{AreBelow}
 use Rattle.eq_core.proofs.Telling.{gate_value}
-use Rattle.mode_nodes.specs.Diagrams.{DiagramId, Stored, mode_of, value, choice, child, IsNumber, IsFrom, AreChildren, Grows}
+use Rattle.mode_nodes.specs.Diagrams.{DiagramId, Stored, mode_of, value, choice, child, IsNumber, AreChildren, Grows}
 use Rattle.mode_nodes.proofs.Growing.{kept, still, from_small}
 use Rattle.mode_nodes.proofs.Values.{value-false, value-true, small_value}
 use Rattle.mode_diagrams.specs.declared.trees.NumberedEdge.{NumberedEdge}
 use Rattle.mode_diagrams.specs.declared.trees.NumberedTree.{NumberedTree}
 use Rattle.mode_diagrams.specs.Trees.{edges_of, IsOnPath, last, earlier, IsNumbered, HasEvent, AreApart, IsSetFrom}
-use Rattle.mode_diagrams.specs.Agreement.{Agrees, AgreesJoint, IsNeutral, IsSigned, IsJoined, IsReady, AreReady, AreTabled, IsTold, AreTold, IsToldAt, AreClosed}
+use Rattle.mode_diagrams.specs.Agreement.{Agrees, AgreesJoint, IsNeutral, IsSigned, IsJoined, IsReady, AreTabled, IsTold, AreTold, IsToldAt}
 
 -- ---- as the store grows
 pub agrees_kept : (trees : List NumberedTree) (gates : List Gate) (o : Operand) (s t : Stored) (n : ℕ) → Grows s t

@@ -1,9 +1,9 @@
 -- The gates of a table, one after the other.
-use Rattle.std.proofs.Common.{◌≡◌, ⊎_elim, ℕ, zero, suc, ◌+◌, Bool, true, List, [], ◌∷◌, ◌++◌, length, length-append, refl, sym, ap, ◌∙◌, subst, arith}
+use Rattle.std.proofs.Common.{◌≡◌, ⊎_elim, ℕ, zero, suc, ◌+◌, Bool, true, List, [], ◌∷◌, ◌++◌, length, length-append, refl, sym, subst, arith}
 use Rattle.ar_base.specs.Lists.{Stands, IsOneOf}
 use Rattle.ar_base.proofs.Standing.{stands_none, stands_split}
 use Rattle.eq_core.specs.Gates.{Operand, GateIs, Gate}
-use Rattle.eq_core.specs.Ordered.{AreOrdered, AreBelow}
+use Rattle.eq_core.specs.Ordered.{AreOrdered}
 use Rattle.eq_core.proofs.Telling.{place_below}
 use Rattle.mode_nodes.specs.Diagrams.{DiagramId, Stored, IsNumber, Grows}
 use Rattle.mode_nodes.proofs.Growing.{still}

@@ -1,5 +1,5 @@
 -- Diagrams against operands over events, at each set of events on paths.
-use Rattle.std.specs.Prelude.{◌≡◌, ◌⊎◌, ℕ, suc, ◌+◌, ◌<◌, Bool, true, cond, if◌then◌else◌, not, ◌&&◌, ◌||◌, List, length}
+use Rattle.std.specs.Prelude.{◌≡◌, ◌⊎◌, ℕ, suc, Bool, true, cond, if◌then◌else◌, not, ◌&&◌, ◌||◌, List, length}
 use Rattle.ar_base.specs.Lists.{Stands, IsOneOf}
 use Rattle.eq_core.specs.Gates.{Operand, GateIs, Gate}
 use Rattle.eq_core.specs.Values.{joint_at, values_at, value_at}

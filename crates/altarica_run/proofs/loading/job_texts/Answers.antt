@@ -6,8 +6,8 @@ use Rattle.altarica_run.proofs.FileLemmas.{made_told, files_told}
 use Rattle.altarica_run.proofs.JobLemmas.{made_job}
 use Rattle.altarica_run.proofs.loading.job_texts.Goals as goal
 
-pub returns-then-makes_model : goal.returns-then-makes_model
-returns-then-makes_model g c =
+pub returns-then-makes_model-clause-texts : goal.returns-then-makes_model-clause-texts
+returns-then-makes_model-clause-texts g c =
     let told = g.H.Shelf.holds c.args.shelf.now in
     let rose : List ℕ → Type 0 = λ name. Rose (g.H.Shelf.faults c.args.shelf.now name)
     (g.H.Shelf.faults c.args.shelf.now name) in
@@ -19,8 +19,8 @@ returns-then-makes_model g c =
     made_told told rose job e made.script (record { model = c.in_ok-model.model; script = None }) refl
     c.in_ok-model.ensures short
 
-pub returns : goal.returns
-returns g c =
+pub returns-clause-texts : goal.returns-clause-texts
+returns-clause-texts g c =
     let told = g.H.Shelf.holds c.args.shelf.now in
     let rose : List ℕ → Type 0 = λ name. Rose (g.H.Shelf.faults c.args.shelf.now name)
     (g.H.Shelf.faults c.load_all.new.shelf name) in

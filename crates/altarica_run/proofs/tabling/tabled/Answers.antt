@@ -22,6 +22,6 @@ returns-in_err-events c = λ command w of e trees.
 pub returns : goal.returns
 returns c = λ command w of e trees.
     table_given command c.args.system.now w c.args.forest.now c.args.wanted of e trees (stands_some _ _ c.requires)
-    (c.tables_of_the_source.ensures.table) c.requires _ c.in_ok-equations.ensures.table c.in_ok-equations.ensures.few _
+    (c.tables_of_the_source.ensures.table) c.parts-parts.ensures.sound c.requires _ c.in_ok-equations.ensures.table c.in_ok-equations.ensures.few _
     refl
     (c.in_ok-events.ensures ∙ ap (λ (z : GtsParts). (naming_of_parts z).events) c.parts-parts.ensures.parts)

@@ -1,5 +1,4 @@
 use Rattle.std.proofs.Common.{◌≡◌, ◌+◌, true, false, map, length, refl, sym, ap, ◌∙◌, subst, arith}
-use Rattle.std.proofs.lemmas.List.{length-map}
 use Rattle.std.proofs.lemmas.Option.{slice_get_read, get_or_from_slice_get}
 use Rattle.ar_base.specs.Lists.{Stands}
 use Rattle.ar_base.proofs.Results.{ok_map}
@@ -64,8 +63,13 @@ operand_diagram-requires-clause-table c =
 pub operand_diagram-requires-clause-below : goal.operand_diagram-requires-clause-below
 operand_diagram-requires-clause-below c =
     let end : length c.args.gates.now ≡ length c.deref-2.result.now =
-    omega (arith, c.loop-number.auto.number-end, c.loop-number-test.false, c.loop-number.invariant.long,
-    ap length c.deref-2.ensures.value) in
+    omega (
+      arith,
+      c.loop-number.auto.number-end,
+      c.loop-number-test.false,
+      c.loop-number.invariant.long,
+      ap length c.deref-2.ensures.value,
+    ) in
     subst (λ n. IsBelow n (operand_of c.args.root)) end c.requires.root_in
 
 pub returns : goal.returns

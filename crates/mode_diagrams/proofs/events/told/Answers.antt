@@ -1,7 +1,6 @@
 use Rattle.std.proofs.Common.{◌≡◌, ◌+◌, ◌++◌, ◌∷◌, [], length, get_or, sym, ap, ◌∙◌, subst, arith}
 use Rattle.ar_base.specs.Lists.{Stands}
 use Rattle.ar_base.proofs.Standing.{stands_get}
-use Rattle.mode_nodes.specs.Diagrams.{DiagramId}
 use Rattle.mode_diagrams.specs.declared.trees.NumberedEdge.{NumberedEdge}
 use Rattle.mode_diagrams.specs.Trees.{edges_of}
 use Rattle.mode_diagrams.specs.Agreement.{IsToldAt}

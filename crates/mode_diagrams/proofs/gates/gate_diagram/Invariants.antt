@@ -1,7 +1,5 @@
-use Rattle.std.proofs.Common.{◌≤◌, ◌≡◌, List, drop, length, map}
-use Rattle.eq_core.specs.Gates.{Gate}
+use Rattle.std.proofs.Common.{map}
 use Rattle.eq_core.specs.Views.{all_needed, operand_of}
-use Rattle.mode_nodes.specs.Diagrams.{Grows}
 use Rattle.mode_diagrams.proofs.Folding.{IsFolded}
 use Rattle.mode_diagrams.proofs.gates.gate_diagram.Given as goal
 

@@ -1,5 +1,4 @@
-use Rattle.std.proofs.Common.{◌<◌, [], length, get_or, sym, ap, ◌∙◌, subst, arith}
-use Rattle.ar_base.specs.Lists.{Stands}
+use Rattle.std.proofs.Common.{◌<◌, [], length, get_or, sym, ap, subst}
 use Rattle.ar_base.proofs.Results.{ok_map}
 use Rattle.ar_base.proofs.Standing.{stands_get}
 use Rattle.eq_core.specs.Values.{IsBelow}

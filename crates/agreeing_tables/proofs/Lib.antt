@@ -1,0 +1,5 @@
+mod Laid
+mod Items
+mod Inherited
+mod Seen
+mod Ruled

@@ -1,0 +1,32 @@
+//! Laws of checks of lists of cuts, and of explanations. Each function has an empty body.
+
+ghost use Rattle.std.specs.Prelude.{◌≡◌};
+ghost use Rattle.run_words.specs.declared.jobs.Job.{Job};
+ghost use Rattle.run_words.specs.declared.verbs.Verb.TheVariants.{CheckCuts, Explain};
+ghost use Rattle.run_words.specs.Jobs.{IsJob};
+ghost use Rattle.altarica_run.specs.Findings.{IsCheckOf, IsExplanation};
+ghost use Rattle.altarica_run.specs.Follows.{Call, Gave};
+ghost use Rattle.altarica_run.specs.declared.status.Status.TheVariants as status;
+
+use crate::laws::one_job;
+
+/// A check of a list of cuts that ends well says `yes` exactly where the sets of the lines are the
+/// cuts of the observer's value, each once, and each line is an order that ends with the value. Its
+/// lines `missing` have an order of each cut that the list lacks, once, and nothing else. All these
+/// orders replay in the whole model, dropped events included.
+pub fn checks_are_whole()
+    ensures { (c : Call) (job : Job) → Gave c status.Done → IsJob c.words job
+        → job.command ≡ CheckCuts → IsCheckOf c job }
+{
+    one_job();
+}
+
+/// In an explanation that ends well the reason of each flow suffices: from the facts of the variables
+/// that it rests on the assignment that it names is reached and yields the flow's value. The flows
+/// among these variables have smaller rounds.
+pub fn explanations_hold()
+    ensures { (c : Call) (job : Job) → Gave c status.Done → IsJob c.words job
+        → job.command ≡ Explain → IsExplanation c job }
+{
+    one_job();
+}

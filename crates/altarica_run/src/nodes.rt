@@ -1,0 +1,52 @@
+//! Laws of the limit of nodes. Each function has an empty body.
+
+ghost use Rattle.std.specs.Prelude.{◌≡◌, ◌≤◌, ◌⊎◌, ℕ, true, List};
+ghost use Rattle.ar_firing.specs.Cuts.{IsConflictFree};
+ghost use Rattle.cut_text.specs.Texts.{IsConflictText};
+ghost use Rattle.gts_flatten.specs.Flat.{naming_of};
+ghost use Rattle.run_words.specs.declared.jobs.Job.{Job};
+ghost use Rattle.run_words.specs.Jobs.{IsJob};
+ghost use Rattle.altarica_run.specs.Follows.{Call, Gave, SinkRose};
+ghost use Rattle.altarica_run.specs.Nodes.{HasConflict, HasEnough, IsTextOfCuts, OfAllReady};
+ghost use Rattle.altarica_run.specs.Stages.{Ready, lists_cuts};
+ghost use Rattle.altarica_run.specs.Statuses.{IsRefused, IsNotRead};
+ghost use Rattle.altarica_run.specs.Tells.{MayNeedMore, Tells};
+ghost use Rattle.altarica_run.specs.declared.status.Status.{Status};
+ghost use Rattle.altarica_run.specs.declared.status.Status.TheVariants as status;
+
+use crate::laws::one_job;
+
+/// Where more nodes than a limit may be needed, more than any smaller limit may be: so a limit that
+/// cannot be too small for a job stays so when it is raised.
+pub fn larger_limits_suffice()
+    ensures { (w : Ready) (less more : ℕ) → less ≤ more → MayNeedMore w more → MayNeedMore w less }
+{}
+
+/// Where no more nodes than the job's limit may be needed, the line `nodes: N` does not come: where
+/// some set of events meets a conflict, the job tells the conflict, and where none does, the cuts.
+pub fn enough_nodes_suffice()
+    ensures conflict { (job : Job) (w : Ready) (text : List ℕ) (s : Status) → Tells job w text s
+        → lists_cuts job.command ≡ true → (MayNeedMore w job.nodes → ⊥) → HasConflict w
+        → (s ≡ status.Fault)
+        × IsConflictText (naming_of w.source.declarations) w.source.system w.dropped text }
+    ensures listing { (job : Job) (w : Ready) (text : List ℕ) (s : Status) → Tells job w text s
+        → lists_cuts job.command ≡ true → (MayNeedMore w job.nodes → ⊥)
+        → IsConflictFree w.source.system w.dropped
+        → (s ≡ status.Done) × IsTextOfCuts job.command job w text }
+{}
+
+/// The same of a call: with enough nodes and a conflict it ends with Fault, and with enough and none
+/// with Done, unless a stage refuses the job, a file is not read, the sink fails or memory is refused.
+pub fn calls_with_enough_nodes()
+    ensures conflict { (c : Call) (s : Status) (job : Job) → Gave c s → IsJob c.words job
+        → lists_cuts job.command ≡ true → HasEnough c job → OfAllReady c job HasConflict
+        → (s ≡ status.Fault)
+        ⊎ (IsRefused c s ⊎ (IsNotRead c ⊎ (SinkRose c ⊎ (s ≡ status.Memory)))) }
+    ensures listing { (c : Call) (s : Status) (job : Job) → Gave c s → IsJob c.words job
+        → lists_cuts job.command ≡ true → HasEnough c job
+        → OfAllReady c job (λ w. IsConflictFree w.source.system w.dropped)
+        → (s ≡ status.Done)
+        ⊎ (IsRefused c s ⊎ (IsNotRead c ⊎ (SinkRose c ⊎ (s ≡ status.Memory)))) }
+{
+    one_job();
+}

@@ -1,0 +1,52 @@
+# For the tests of the helpers: one line a point, and a folder for what they make.
+set -u
+top=$(dirname "$(dirname "$(dirname "$(readlink -f "${BASH_SOURCE[0]}")")")")
+cd "$top" || exit 1
+: "${ALTARICA:?names the program under test}"
+work=$(mktemp -d)
+# The interpreter itself, where python3 on the path is a script that starts it.
+PATH=$(dirname "$(python3 -c 'import sys; print(sys.executable)')"):$PATH
+trap 'rm -rf "$work"' EXIT
+
+passed() { echo "passed: $*"; }
+failed() { echo "failed: $1 ($(tr '\n' ' ' <<<"${2-}" | cut -c1-300))"; }
+skipped() { echo "skipped: $1 (apt-get install $2)"; }
+have() { command -v "$1" >/dev/null; }
+
+# equal WHAT WANTED GOT: the texts are equal.
+equal() {
+  if [ "$2" = "$3" ]; then passed "$1"; else failed "$1" "$(diff <(printf '%s\n' "$2") <(printf '%s\n' "$3") | head -n 4)"; fi
+}
+
+# holds WHAT COMMAND..: the command ends with status 0.
+holds() {
+  local what=$1 said
+  shift
+  if said=$("$@" 2>&1); then passed "$what"; else failed "$what" "$said"; fi
+}
+
+# The words with which the example plants are asked for their cuts, as docs/EXAMPLES.md gives them.
+words_of() {
+  case $1 in
+    brake) echo --observer too_weak ;;
+    bus) echo --observer dark --drop left_feeder.close,right_feeder.close,tie.close ;;
+    conflict) echo --observer low ;;
+    hydraulic) echo --observer no_brakes --drop engine_pump.wear,electric_pump.wear ;;
+    pumps) echo --observer dry --drop main_pump.start,standby_pump.stop ;;
+    repair) echo --observer stopped ;;
+    ring) echo --observer south_is_deaf --drop north.mend,east.mend,south.mend,west.mend ;;
+    supply) echo --observer dark ;;
+  esac
+}
+
+# usage TOOL: without words a helper says its use, on standard error, with status 2, and that it is not proved.
+usage() {
+  local said status
+  said=$("tools/$1" 2>&1 >/dev/null)
+  status=$?
+  if [ $status -eq 2 ] && grep -q "^$1 " <<<"$said" && grep -qi 'not proved' <<<"$said" && head -n 60 "tools/$1" | grep -qi 'not proved'; then
+    passed "$1 says its use, and that it is not proved"
+  else
+    failed "$1 says its use, and that it is not proved" "status $status: $said"
+  fi
+}

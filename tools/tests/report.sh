@@ -1,0 +1,45 @@
+#!/usr/bin/env bash
+# `report` on the example plants, and opened in a browser: the cuts are shown, the filters filter, and a picture of the
+# page is made.
+. "$(dirname "$0")/points.bash"
+usage report
+
+page() {
+  local plant=$1 words
+  read -ra words <<<"$(words_of "$plant")"
+  tools/report "examples/$plant.alt" "${words[@]}" --out "$2"
+}
+for plant in brake bus conflict hydraulic pumps repair ring supply; do
+  holds "the page of $plant is made" page $plant "$work/$plant.html"
+  case $(head -n 1 "examples/$plant.cuts") in
+    {*) want=$(grep -c '^{' "examples/$plant.cuts"); got=$(grep -o 'There are <b>[0-9]*' "$work/$plant.html" | grep -o '[0-9]*$') ;;
+    *) want=$(head -n 1 "examples/$plant.cuts"); got=$(sed 's/&quot;/"/g; s/&#x27;/'"'"'/g' "$work/$plant.html" | grep -oF "$want" | head -n 1) ;;
+  esac
+  equal "the page of $plant says how many cuts there are, or why there are none" "$want" "$got"
+done
+for model in standby:lost train:lost twoway3:lost vote:no_trip vote2:no_trip wear:odd; do
+  IFS=: read -r name observer <<<"$model"
+  holds "the page of $name is made" tools/report "tests/beside/$name.alt" --observer "$observer" --out "$work/$name.html"
+done
+equal "the page of vote2 has its 17 cuts, that of wear none, that of vote its fault" '17 0 34:7' \
+  "$(grep -o 'There are <b>[0-9]*' "$work/vote2.html" | grep -o '[0-9]*$') $(grep -o 'There are <b>[0-9]*' "$work/wear.html" | grep -o '[0-9]*$') $(grep -o 'assignment 2 at 34:7' "$work/vote.html" | head -n 1 | grep -o '34:7')"
+page brake "$work/again.html"
+holds "the same words make the same page" cmp "$work/brake.html" "$work/again.html"
+equal "the page has no outside parts" '' "$(grep -Eo '<link|<script [^>]*src|<img|@import|url\(|href="[^#"][^"]*"|xlink:href="[^#"]*"' "$work/brake.html" | head -n 3)"
+equal "the page names the sums of the model and of the program" 2 \
+  "$(grep -o -e "$(sha256sum <examples/brake.alt | cut -d' ' -f1)" -e "$(sha256sum <"$ALTARICA" | cut -d' ' -f1)" "$work/brake.html" | wc -l)"
+equal "a model that is refused as a whole has no page" 2 "$(tools/report tests/mistakes/semi.alt --observer x >/dev/null 2>&1; echo $?)"
+
+if have chromium; then
+  browser() { timeout 100 chromium --headless --no-sandbox --disable-gpu --disable-dev-shm-usage --user-data-dir="$work/browser" "$@" 2>/dev/null; }
+  shown() { grep -o '<span id="shown">[^<]*' "$work/dom" | sed 's/.*>//'; }
+  browser --dump-dom "file://$work/brake.html#size=1" >"$work/dom"
+  equal "the filter by size shows the single failure" '1 of 28 cuts' "$(shown)"
+  browser --dump-dom "file://$work/brake.html#unit=front_left&by=size" >"$work/dom"
+  equal "the filter by unit shows the cuts with a failure of the front left wheel" "$(grep -c front_left examples/brake.cuts) of 28 cuts" "$(shown)"
+  browser --hide-scrollbars --window-size=1100,3000 --screenshot="$work/page.png" "file://$work/brake.html" >/dev/null
+  equal "a picture of the page is made" 'PNG image data, 1100 x 3000' \
+    "$(python3 -c 'import struct, sys; b = open(sys.argv[1], "rb").read(24); print(b[1:4].decode(), "image data, %d x %d" % struct.unpack(">II", b[16:24]))' "$work/page.png" 2>&1)"
+else
+  skipped "the page in a browser" chromium
+fi

@@ -1,0 +1,37 @@
+"""smaller.py MODEL WORDS..: whether the gates that `draw` shows have the same value as those of `equations` at each set of
+events that can be fired. Prints each set at which they differ. ALTARICA names the program."""
+import itertools
+import os
+import sys
+
+sys.dont_write_bytecode = True
+sys.path.insert(0, os.path.join(os.path.dirname(os.path.realpath(__file__)), "..", "lib"))
+import gates
+import program
+import texts
+
+words = program.Words(sys.argv[1:])
+equations = texts.equations(program.ask(["equations", *sys.argv[1:]]))
+trees = texts.fragment(program.ask(["fragment", words.others[0], *words.some("--drop", "--main")]))
+
+
+def original(events):
+    """The values of top and conflict by the equations as they are written."""
+    found = []
+
+    def value(operand):
+        if operand in ("true", "false"):
+            return operand == "true"
+        negated, what = operand
+        return (what in events if isinstance(what, str) else found[what - 1]) != negated
+    for sign, operands in equations.gates:
+        found.append((all if sign == "&" else any)(value(o) for o in operands))
+    return value(equations.top), value(equations.conflict)
+
+
+for smaller in (gates.Smaller(equations), gates.Smaller(equations, trees)):
+    for choice in itertools.islice(itertools.product(*(gates.paths(t) for t in trees)), 4096):
+        events = {event for path in choice for event in path}
+        known = smaller.values(events)
+        if (smaller.value(smaller.top, events, known), smaller.value(smaller.conflict, events, known)) != original(events):
+            print(sorted(events))

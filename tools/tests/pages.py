@@ -29,7 +29,7 @@ import tempfile
 LINES, LENGTH = 400, 300
 
 # Pages that are tried for their links alone until they have a comment of the kinds above.
-PENDING = {"docs/ARCHITECTURE.md"}
+PENDING = set()
 
 # Words that a page has for people alone, and what may be around them all the same.
 PATTERNS = [

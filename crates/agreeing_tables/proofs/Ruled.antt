@@ -1,7 +1,6 @@
 -- Models that agree break the same rules at the same places.
-use Rattle.std.proofs.Common.{◌≡◌, ℕ, zero, suc, ◌==◌, if◌then◌else◌, Bool, true, false, List, [], ◌∷◌, ◌++◌, ◌<◌, map, length, Option, Some, None, slice_get, refl, sym, ap, subst, ◌∙◌}
+use Rattle.std.proofs.Common.{◌≡◌, ℕ, zero, suc, ◌==◌, if◌then◌else◌, Bool, true, false, List, [], ◌∷◌, ◌<◌, map, length, Option, Some, None, slice_get, refl, sym, ap, subst, ◌∙◌}
 use Rattle.std.specs.Prelude.{option_and_then, option_map}
-use Rattle.std.specs.List.{flat_map}
 use Rattle.ar_base.specs.Lists.{Along, Stands, IsOneOf}
 use Rattle.ar_base.specs.Lists as along
 use Rattle.ar_base.specs.Numbers.{NameId, BodyId}
@@ -21,7 +20,7 @@ use Rattle.ar_syntax.specs.declared.members.TypeForm.{TypeForm}
 use Rattle.ar_syntax.specs.declared.members.TypeForm.TheVariants as type_form
 use Rattle.class_table.specs.Declaring.{MemberForm, TextBody, NamedType, DomainType, ClassType, Declared}
 use Rattle.class_table.specs.Members.{Site, type_in, type_named, domain_body, own_of, own_at, owned_at, kind_of, declared_kind, all_named, names_of_form, names_of, named_at, MemberKind, NamedMember}
-use Rattle.class_table.specs.Rules.{item_name, item_place, IsNoDomain, twice, many, turned, wide, BreaksItems, one_name, no_domain, IsNoDomainName, IsNoType, Misnames, StandsIn, BreaksTypes, NamesClass, HasInside, IsWithin, itself, further, BreaksContainment, BreaksNames, LacksMain, Breaks, l1, l2, l3, l4, l5}
+use Rattle.class_table.specs.Rules.{item_name, item_place, IsNoDomain, twice, many, BreaksItems, one_name, no_domain, IsNoDomainName, IsNoType, Misnames, StandsIn, BreaksTypes, NamesClass, HasInside, IsWithin, itself, further, BreaksContainment, BreaksNames, LacksMain, Breaks, l1, l2, l3, l4, l5}
 use Rattle.class_table.specs.Tables.{IsMain}
 use Rattle.class_table.specs.Rules.IsNoType.{named as no_type}
 use Rattle.class_table.specs.Rules.IsNoDomainName.{named as no_domain_name}

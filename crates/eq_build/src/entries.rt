@@ -17,7 +17,7 @@ use std::alloc::{AllocError, AllocFailed, Global};
 pub const MOST_GATES: usize = 2_000_000;
 
 /// A value, and the operand that tells where it is taken.
-#[derive(Clone, Copy)]
+#[derive(Clone, Copy, PartialEq, Eq)]
 pub struct Entry {
     /// The value.
     pub value: Value,

@@ -8,7 +8,6 @@ ghost use Rattle.flow_propagate.specs.Closing.{IsAgain};
 ghost use Rattle.flow_changes.specs.Queue.{Rises, IsLater, WaitsAt, IsQueue, TakesPlace, AddsPlaces, IsPlaceOf};
 
 use ar_base::{AssignId, Memory, VarId};
-use flow_propagate::{add_again, take_again};
 use std::collections::BTreeSet;
 
 /// The places of the assignments that wait: those of a list, ascending, from one on, and those that were added again.
@@ -42,6 +41,19 @@ pub(crate) fn take(work: &mut Queue) -> Option<usize>
     Some(place)
 }
 
+// Takes the least of the places that were added again.
+fn take_again(again: &mut BTreeSet<usize>) -> Option<usize>
+    ensures some { IfSome result (λ place. IsAgain again.old place) }
+    ensures rest { IfSome result (λ place. (p : ℕ) → IsAgain again.new p
+        ↔ (IsAgain again.old p × (p ≢ place))) }
+    ensures less { IfSome result (λ _. btree_set_len again.old ≡ btree_set_len again.new + 1) }
+    ensures none { IfNone result ((p : ℕ) → IsAgain again.old p → ⊥) }
+    ensures still { IfNone result ((p : ℕ) → IsAgain again.new p → ⊥) }
+    ensures few { IfNone result (btree_set_len again.old ≡ btree_set_len again.new) }
+{
+    again.pop_first()
+}
+
 // Adds a place of the list, where it does not wait.
 fn add(place: usize, work: &mut Queue) -> Result<(), Memory>
     requires is { IsQueue work.old }
@@ -61,6 +73,16 @@ fn is_later(list: &[usize], next: usize, place: usize) -> bool
     ensures { result ≡ true → IsLater list.now next place }
 {
     next < list.len() && list[next] <= place
+}
+
+// Adds a place to those that were added again.
+fn add_again(again: &mut BTreeSet<usize>, place: usize) -> Result<(), Memory>
+    ensures all { OnOk result ((p : ℕ) → IsAgain again.new p
+        ↔ (IsAgain again.old p ⊎ (p ≡ place))) }
+    ensures few { OnOk result (btree_set_len again.new ≤ btree_set_len again.old + 1) }
+{
+    again.insert(place)?;
+    Ok(())
 }
 
 // Adds the places of the assignments of these pairs.

@@ -23,4 +23,3 @@ pub use naming::add_named_pairs;
 pub use pairs::{Runs, pairs_of};
 pub use plan::{Plan, make_plan};
 pub use propagation::{FlowFault, PropagateFault};
-pub use worklist::{add_again, take_again};

@@ -55,8 +55,8 @@ fn take_place(work: &mut Worklist<'_>) -> Option<usize>
     Some(place)
 }
 
-/// Takes the least place of those that were added again. Takes no memory.
-pub fn take_again(again: &mut BTreeSet<usize>) -> Option<usize>
+// Takes the least place of those that were added again.
+fn take_again(again: &mut BTreeSet<usize>) -> Option<usize>
     ensures some { IfSome result (λ place. IsAgain again.old place) }
     ensures rest { IfSome result (λ place. (p : ℕ) → IsAgain again.new p
         ↔ (IsAgain again.old p × (p ≢ place))) }
@@ -82,8 +82,8 @@ fn add(assign: u32, work: &mut Worklist<'_>) -> Result<(), Memory>
     add_again(&mut work.again, place)
 }
 
-/// Adds a place to those that were added again.
-pub fn add_again(again: &mut BTreeSet<usize>, place: usize) -> Result<(), Memory>
+// Adds a place to those that were added again.
+fn add_again(again: &mut BTreeSet<usize>, place: usize) -> Result<(), Memory>
     ensures all { OnOk result ((p : ℕ) → IsAgain again.new p
         ↔ (IsAgain again.old p ⊎ (p ≡ place))) }
     ensures few { OnOk result (btree_set_len again.new ≤ btree_set_len again.old + 1) }

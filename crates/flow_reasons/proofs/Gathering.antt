@@ -82,6 +82,19 @@ module _ (p : GtsParts) (values : List Value) (marks : List Mark) where
   bring_all xs found covers are = record
       { ascends = are.ascends; each = λ n. (λ o. ((are.each n).0 o).1, λ b. (are.each n).1 (covers n b, b)) }
 
+-- numbers below a count
+pub below_none : (n : ℕ) → IsOneOf [] n ↔ (n < 0)
+below_none n = (λ o. absurd (one_none n o), λ l. absurd (omega (arith, l)))
+
+pub below_next : (xs ys : List ℕ) (i n : ℕ) → ys ≡ xs ++ i ∷ [] → (IsOneOf xs n ↔ (n < i)) → IsOneOf ys n ↔ (n < i + 1)
+below_next xs ys i n e h = subst (λ (z : List ℕ). IsOneOf z n ↔ (n < i + 1)) (sym e) (
+  λ o. elim (pushed_cases xs i n o) [ inl k ↦ (let l = h.0 k in omega (arith, l)) | inr e ↦ omega (arith, e) ],
+  λ l. elim (at_most n i l) [
+    | inl k ↦ pushed_old xs i n (h.1 k)
+    | inr e ↦ subst (λ z. IsOneOf (xs ++ i ∷ []) z) (sym e) (pushed_last xs i)
+  ],
+)
+
 pub found_as : (P Q : Vec ℕ Global → Type 0) (r : Result (Vec ℕ Global) Memory) → ((v : Vec ℕ Global) → P v → Q v)
     → IfOk r P → IfOk r Q
 found_as P Q (Ok v) f h = f v h

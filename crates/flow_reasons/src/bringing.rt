@@ -37,3 +37,16 @@ pub(crate) fn bringing(
     }
     Ok(found)
 }
+
+// The numbers below a count, ascending.
+pub(crate) fn numbers_below(alloc: Global, count: usize) -> Result<Vec<u32>, Memory>
+    requires { count < 2 ^ 32 }
+    ensures ascends { IfOk result (λ numbers. Ascends numbers.items) }
+    ensures each { IfOk result (λ numbers. (n : ℕ) → (IsOneOf numbers.items n ↔ (n < count))) }
+{
+    let mut numbers = Vec::new(alloc);
+    for number in 0..count as u32 {
+        numbers.push(number)?;
+    }
+    Ok(numbers)
+}

@@ -9,9 +9,9 @@ ghost use Rattle.flow_propagate.specs.Plan.{AreReaders};
 ghost use Rattle.flow_reasons.specs.Marks.{first_marks_of, IsStanding, AreLastMarks};
 ghost use Rattle.flow_reasons.specs.Bringing.{BringsAt, BringAll, MarksAll, NameOne};
 
-use crate::bringing::bringing;
+use crate::bringing::{bringing, numbers_below};
 use crate::known::{Mark, is_known};
-use ar_base::{AssignId, Memory, numbers_below};
+use ar_base::{AssignId, Memory};
 use domains::Value;
 use gts_core::GtsParts;
 use number_pairs::paired;

@@ -1,6 +1,6 @@
 //! The rules that the units of a main block keep.
 
-ghost use Rattle.std.specs.Prelude.{◌≡◌, List};
+ghost use Rattle.std.specs.Prelude.{◌≡◌, ◌≤◌, List, length};
 ghost use Rattle.class_table.specs.Tabling.{kept_rule};
 ghost use Rattle.hierarchy.specs.Models.{RootedModel};
 ghost use Rattle.hierarchy.specs.Units.{UnitPath};
@@ -35,13 +35,11 @@ pub(crate) fn keep_rules(
     outlines: &[Outline],
     walks: &Walks,
 ) -> Result<(), RuleFault>
+    requires { length outlines.now ≤ 16384 }
     ensures { (m : RootedModel) (units : List UnitPath)
         → AreOutlines m units classes.now outlines.now
         → AreOutcomes m units walks.now → AnswersRules m units result }
 {
-    if outlines.len() > u32::MAX as usize {
-        return Err(RuleFault::Memory);
-    }
     keep(6, first_lost(classes, outlines, walks))?;
     keep(7, first_looping(classes, outlines, walks))?;
     keep(8, first_wrong_declaration(alloc, classes, outlines)?)?;

@@ -1,12 +1,10 @@
 -- What the modules of cuts, and the line of a conflict, say of the model.
-use Rattle.std.proofs.Common.{◌≡◌, ℕ, zero, suc, Bool, true, false, List, [], ◌∷◌, Option, Ok, map, reverse, refl, sym, ◌∙◌, ap, subst}
+use Rattle.std.proofs.Common.{◌≡◌, ℕ, zero, suc, Bool, true, false, List, [], ◌∷◌, Option, Ok, refl, sym, ◌∙◌, ap, subst}
 use Rattle.std.specs.List.{AllByRecursion}
-use Rattle.ar_base.specs.Lists.{Stands, IsOneOf}
-use Rattle.ar_base.specs.Sets.{Within}
+use Rattle.ar_base.specs.Lists.{Stands}
 use Rattle.ar_base.proofs.Standing.{stands_none}
-use Rattle.ar_base.specs.Stages.{Then, passes, Where}
-use Rattle.ar_firing.specs.Cuts.{AreEvents, ConflictSet, Conflicts, start, fire}
-use Rattle.ar_firing.specs.Static.{IsKeyedStatic}
+use Rattle.ar_base.specs.Stages.{passes, Where}
+use Rattle.ar_firing.specs.Cuts.{Conflicts, start, fire}
 use Rattle.ar_firing.proofs.Lines.{line_is_legal}
 use Rattle.ar_firing.proofs.OrderedSets.{undropped}
 use Rattle.ar_firing.proofs.Replays.{conflict_replays}
@@ -16,8 +14,7 @@ use Rattle.ar_meaning.specs.Systems.{System}
 use Rattle.ar_readings.specs.Keeps.{TreesKeep}
 use Rattle.cut_text.specs.Texts.{IsConflictText}
 use Rattle.domains.specs.declared.Value.{Value}
-use Rattle.gate_modules.specs.Choices.{IsChoice, IsMadeOf, ComesFrom, StandFor}
-use Rattle.gate_modules.specs.Shortened.{Form}
+use Rattle.gate_modules.specs.Choices.{StandFor}
 use Rattle.gts_flatten.specs.Elaborating.{Elaborated}
 use Rattle.gts_flatten.specs.Flat.{naming_of}
 use Rattle.hierarchy.specs.Listing.{AreUnits}
@@ -37,15 +34,14 @@ use Rattle.altarica_run.specs.Elaborates.{Elaborates, rooted, reads}
 use Rattle.altarica_run.specs.Elaborates as e
 use Rattle.altarica_run.specs.Follows.{Call, Gave, Wrote}
 use Rattle.altarica_run.specs.Listings.{IsCut}
-use Rattle.altarica_run.specs.Stages.{Ready, bare, Passes, not_loaded, loaded, Scripted, gives, has_script, ListsCuts, lists, has_list, Drops, no_list, names, Wanting, wants, observer_asked, Showing, no_path, shows, explains, Static, keeps, is_static, Tabled, fits, has_table, Readies, lists_cuts}
+use Rattle.altarica_run.specs.Stages.{Ready, bare, Passes, loaded, Scripted, gives, has_script, ListsCuts, lists, has_list, Drops, no_list, names, Wanting, wants, observer_asked, Showing, no_path, shows, explains, Static, keeps, is_static, Tabled, fits, has_table, Readies, lists_cuts}
 use Rattle.altarica_run.specs.Tells.{IsShortText, Tells, check, flat, replay, fragment, equations, cuts, make, unsettled, checks, in_short, conflict, nodes}
 use Rattle.altarica_run.specs.Tells as told
 use Rattle.altarica_run.specs.declared.status.Status.{Status}
 use Rattle.altarica_run.specs.declared.status.Status.TheVariants as status
 use Rattle.altarica_run.proofs.FollowLemmas.{meaning_of}
-use Rattle.job_meaning.specs.Definite.{IsDefinite}
 use Rattle.job_meaning.specs.Findings.{AreModulesOf, IsConflictOf}
-use Rattle.job_meaning.proofs.Demanding.{IsFit, IsFitWhere, keyed_static, readies_on}
+use Rattle.job_meaning.proofs.Demanding.{IsFitWhere, keyed_static, readies_on}
 use Rattle.job_meaning.proofs.Sources.{text_definite, unfolded_of, bound_of, flattened_of}
 use Rattle.job_meaning.proofs.Stages.{same_ok}
 

@@ -8,3 +8,4 @@ pub mod Sources
 pub mod Readings
 pub mod Findings
 pub mod Unread
+pub mod Tabled

@@ -1,5 +1,5 @@
 -- The answers of the grammar's stage, pair by pair.
-use Rattle.std.proofs.Common.{◌≡◌, ℕ, inl, inr, List, [], ◌∷◌, ◌++◌, Result, Ok, Err, refl, sym, ◌∙◌, ap, subst, arith}
+use Rattle.std.proofs.Common.{◌≡◌, ℕ, inl, inr, List, [], ◌∷◌, ◌++◌, Result, refl, sym, ◌∙◌, ap, subst, arith}
 use Rattle.ar_base.specs.declared.places.Place.{Place}
 use Rattle.ar_base.specs.Counts.{limit_of}
 use Rattle.ar_base.specs.declared.counts.Count.TheVariants.{Nesting}
@@ -10,7 +10,7 @@ use Rattle.ar_grammar.specs.Results.{Plain}
 use Rattle.ar_grammar.proofs.Filling.{viable_of}
 use Rattle.ar_grammar.proofs.ItemParts.{turns_items}
 use Rattle.ar_grammar.proofs.Places.{IsRefusal, one_refusal, not_both, text_stands}
-use Rattle.ar_parser.specs.Models.{AreLexemes, HasFaultAt, Reads, IsRefusedAt, SyntaxStandsAt, DepthStandsAt}
+use Rattle.ar_parser.specs.Models.{AreLexemes, HasFaultAt, Reads, IsRefusedAt}
 use Rattle.ar_parser.proofs.NameLemmas.{one_lexing, no_fault_there, one_fault_place}
 use Rattle.ar_parser.proofs.PlainTexts.{plain_tokens}
 use Rattle.ar_readings.specs.Models.{HasOneTree, SameModel}

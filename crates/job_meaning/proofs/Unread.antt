@@ -1,7 +1,6 @@
 -- What a call answers to a text that has no reading, and never to one that has.
-use Rattle.std.proofs.Common.{◌≡◌, ◌⊎◌, ℕ, Bool, true, false, List, ◌∷◌, Option, Result, Ok, Err, refl, sym, ◌∙◌, ap, subst}
+use Rattle.std.proofs.Common.{◌≡◌, ℕ, Bool, true, false, List, Option, Result, Ok, Err, refl, sym, ◌∙◌, ap, subst}
 use Rattle.ar_base.specs.Stages.{Where, refuses, passes}
-use Rattle.ar_base.specs.declared.places.Place.{Place}
 use Rattle.ar_io.specs.Outside.{Told}
 use Rattle.ar_parser.specs.Models.{Reads}
 use Rattle.ar_readings.specs.Models.{HasOneTree}
@@ -14,7 +13,7 @@ use Rattle.altarica_run.specs.Follows.{Call, Gave}
 use Rattle.altarica_run.specs.Refusals.{status_of}
 use Rattle.altarica_run.specs.Statuses.{Meaning_of}
 use Rattle.altarica_run.specs.Files.{File, files_of, Loaded, IsText, first, made}
-use Rattle.altarica_run.specs.Stages.{Ready, bare, Passes, not_loaded, loaded, Stages, Readies, line_refused, cut_refused, Scripted, bad, has_script, ListsCuts, bad_line, exceeds_lines, has_list, Drops, names_none, Wanting, no_observer, no_value, observer_asked, Showing, shows_none, explains, Static, outside, is_static, Tabled, exceeds, has_table}
+use Rattle.altarica_run.specs.Stages.{Ready, bare, Passes, not_loaded, loaded, Stages, line_refused, cut_refused, Scripted, bad, has_script, ListsCuts, bad_line, exceeds_lines, has_list, Drops, names_none, Wanting, no_observer, no_value, observer_asked, Showing, shows_none, explains, Static, outside, is_static, Tabled, exceeds, has_table}
 use Rattle.altarica_run.specs.declared.refusals.Refusal.{Refusal}
 use Rattle.altarica_run.specs.declared.refusals.Refusal.TheVariants.{Usage, NotRead, Size, Syntax, Rule, NoCommand, NoCut, NeedsWay, NoEvent, NoDropped, NoObserver, NoValue, Outside}
 use Rattle.altarica_run.specs.declared.status.Status.{Status}
@@ -109,7 +108,7 @@ module _ (files : List ℕ → Told)
     (job : Job) (texts : List (List ℕ)) (text : List ℕ) (is_loaded : Loaded files (files_of job) (Ok texts))
     (is_text : IsText job texts text) (one : HasOneTree text) where
   -- its stages are passed with this text
-  of_text : (x : Result Ready Refusal) → Passes files job x → Stages job texts text x
+  pub of_text : (x : Result Ready Refusal) → Passes files job x → Stages job texts text x
   of_text x (not_loaded {r = q} h) = ok_err texts q (loading (files_of job) (Ok texts) (Err q) is_loaded h)
   of_text x (loaded {text = other} others l t s) =
       let e : others ≡ texts = same_ok others texts (loading (files_of job) (Ok others) (Ok texts) l is_loaded) in

@@ -1,7 +1,13 @@
 //! What follows from the definitions of the stages of a job, and of its text.
 
 ghost use Rattle.std.specs.Prelude.{◌≡◌, ◌≢◌, ◌⊎◌, ℕ, true, List, ◌++◌, Option, Result, Ok, Err};
+ghost use Rattle.ar_base.specs.Breach.{IsBroken};
+ghost use Rattle.ar_base.specs.declared.faults.RuleFault.{RuleFault};
 ghost use Rattle.ar_base.specs.declared.places.Place.{Place};
+ghost use Rattle.agreeing_tables.specs.Tables.{AreSeenAlike};
+ghost use Rattle.class_table.specs.Declaring.{Declared, IsDeclared};
+ghost use Rattle.class_table.specs.Rules.{Breaks, text_rules};
+ghost use Rattle.hierarchy.specs.Models.{RootedModel};
 ghost use Rattle.ar_grammar.specs.Texts.{FitsNesting, Viable};
 ghost use Rattle.ar_grammar.specs.Words.{Tokens};
 ghost use Rattle.ar_io.specs.Outside.{Told};
@@ -12,19 +18,21 @@ ghost use Rattle.gts_flatten.specs.Elaborating.{Elaborated};
 ghost use Rattle.run_words.specs.declared.jobs.Job.{Job};
 ghost use Rattle.run_words.specs.declared.verbs.Verb.TheVariants.{Modules};
 ghost use Rattle.run_words.specs.Jobs.{IsJob};
-ghost use Rattle.altarica_run.specs.Elaborates.{Elaborates, Parses};
+ghost use Rattle.altarica_run.specs.Elaborates.{Elaborates, Parses, Tables};
 ghost use Rattle.altarica_run.specs.Files.{files_of, Loaded, IsText};
 ghost use Rattle.altarica_run.specs.Follows.{Call, Gave, IsKnown, IsQuiet, Wrote};
 ghost use Rattle.altarica_run.specs.Refusals.{line_of, status_of};
 ghost use Rattle.altarica_run.specs.Stages.{Ready, Asks, Readies, Passes, lists_cuts};
 ghost use Rattle.altarica_run.specs.Tells.{Tells};
 ghost use Rattle.altarica_run.specs.declared.refusals.Refusal.{Refusal};
+ghost use Rattle.altarica_run.specs.declared.refusals.Refusal.TheVariants.{Rule};
 ghost use Rattle.altarica_run.specs.declared.status.Status.{Status};
 ghost use Rattle.altarica_run.specs.declared.status.Status.TheVariants as status;
 ghost use Rattle.job_meaning.specs.Definite.{IsDefinite, SaysOf, AgreeButNodes};
 ghost use Rattle.job_meaning.specs.Findings.{AreModulesOf, IsConflictOf};
 ghost use Rattle.job_meaning.specs.Readings.{SameAnswer};
 
+use agreeing_tables::laws::{texts_are_seen_alike, texts_break_the_same_rules};
 use altarica_run::laws::{one_job, one_loading};
 use ar_readings::readings::{one_tree, trees_keep};
 use module_text::laws::combinations_are_cuts;
@@ -77,6 +85,40 @@ pub fn read_texts_are_no_syntax_errors()
     one_job();
     one_loading();
     one_tree();
+}
+
+/// However a text is read, the stage of the rules L1 to L5 has one answer: the text is seen alike from the
+/// main block that is asked for, or it is refused with one rule at one place, never both.
+pub fn one_table_or_refusal()
+    ensures { (text : List ℕ) (main : Option (List ℕ)) (x y : Model)
+        (a b : Result RootedModel RuleFault) → Reads text x → Reads text y → Tables main x a
+        → Tables main y b → SameAnswer (AreSeenAlike main) a b }
+{
+    texts_are_seen_alike();
+    texts_break_the_same_rules();
+}
+
+/// A text that is read and breaks a rule of L1 to L5 is refused with the least such rule at its earliest
+/// place, by the stages of each job whose text it is, and by each call of such words over files of which
+/// something is told, unless something of the outside fails or memory is refused.
+pub fn broken_rules_are_told()
+    ensures stages { (files : List ℕ → Told) → ((name : List ℕ) → IsKnown (files name))
+        → (job : Job) (texts : List (List ℕ)) (text : List ℕ) (m : Model) (d : Declared) (r : ℕ)
+        (p : Place) → Loaded files (files_of job) (Ok texts) → IsText job texts text → Reads text m
+        → IsDeclared m d → IsBroken text_rules (Breaks m job.main d) r p
+        → (x : Result Ready Refusal) → Passes files job x → x ≡ Err (Rule r p) }
+    ensures call { (c : Call) (s : Status) (job : Job) (texts : List (List ℕ)) (text : List ℕ)
+        (m : Model) (d : Declared) (r : ℕ) (p : Place) → Gave c s → IsQuiet c
+        → ((name : List ℕ) → IsKnown (c.files name)) → IsJob c.words job
+        → Loaded c.files (files_of job) (Ok texts) → IsText job texts text → Reads text m
+        → IsDeclared m d → IsBroken text_rules (Breaks m job.main d) r p
+        → ((s ≡ status.Rule) × Wrote c (line_of (Rule r p))) ⊎ (s ≡ status.Memory) }
+{
+    one_job();
+    one_loading();
+    one_tree();
+    texts_are_seen_alike();
+    texts_break_the_same_rules();
 }
 
 /// What the words, the script and the list of cuts of a job ask of a source is one thing, or they

@@ -18,7 +18,7 @@ use mode_nodes::{DiagramFault, DiagramId, Diagrams};
 use std::alloc::{AllocFailed, Global};
 
 /// Why an operand got no diagram.
-#[derive(Clone, Copy, Debug, PartialEq, Eq)]
+#[derive(Clone, Copy)]
 pub enum Undrawn {
     /// The diagrams have their limit of nodes, a tree has more edges than are drawn, or no tree has the event.
     Beyond,

@@ -11,7 +11,7 @@ use std::marker::Model;
 use zdd_nodes::{NodeFault, NodeId};
 
 /// The place of a tree, and a diagram that asks for this and later trees alone.
-#[derive(Clone, Copy, Debug, PartialEq, Eq, Hash)]
+#[derive(Clone, Copy, PartialEq, Eq, Hash)]
 pub(crate) struct State {
     /// The place of the tree.
     pub(crate) place: u32,

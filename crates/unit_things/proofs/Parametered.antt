@@ -58,6 +58,11 @@ module _ (d : Declared) (s : Site) (g : NamedMember) (v : is_parameter g.kind �
   parameter_owned (Some (Plain m)) h = parameter_form (out-Member m) h
   parameter_owned (Some (Nested x at b)) h = absurd (no_parameter x at _ refl h)
 
+-- it is one of the two
+pub no_kind : (g : NamedMember) (o : Option (Option TypeForm)) → IsParameterSo g o → o ≡ None → ⊥
+no_kind g o (typed value k) i = cc
+no_kind g o (kept k) i = cc
+
 -- which of the two it is
 pub typed_kind : (g : NamedMember) (o : Option (Option TypeForm)) (f : TypeForm) → IsParameterSo g o → o ≡ Some (Some f)
     → (value : RawExpr) × (g.kind ≡ Parameter f value)

@@ -1,6 +1,6 @@
 //! The parameters of a tree.
 
-ghost use Rattle.std.specs.Prelude.{◌≡◌, List, IfOk, Some};
+ghost use Rattle.std.specs.Prelude.{◌≡◌, List, IfOk, None, Some};
 ghost use Rattle.ar_base.specs.Lists.{Along};
 ghost use Rattle.ar_syntax.specs.declared.expressions.RawExpr.{RawExpr};
 ghost use Rattle.class_table.specs.Declaring.{Declared};
@@ -88,6 +88,24 @@ fn typed(
     })
 }
 
+// The parameter of a node that has no type, whose value has no meaning.
+fn untyped(node: MemNode) -> ParNode
+    ensures { result ≡ record {
+      node = node;
+      domain = None;
+      value = record { from = node.unit; source = node.source };
+    } }
+{
+    ParNode {
+        node,
+        domain: None,
+        value: Attribute {
+            from: node.unit,
+            source: node.source,
+        },
+    }
+}
+
 // The parameter of a node.
 fn parameter(
     alloc: Global,
@@ -103,18 +121,11 @@ fn parameter(
 {
     let site = (node.source.body, node.source.member);
     let Some(owned) = owned_at(&classes.bodies, site) else {
-        return Err(Memory {});
+        return Ok(untyped(node));
     };
     match type_of(owned) {
-        None => Err(Memory {}),
-        Some(None) => Ok(ParNode {
-            node,
-            domain: None,
-            value: Attribute {
-                from: node.unit,
-                source: node.source,
-            },
-        }),
+        None => Ok(untyped(node)),
+        Some(None) => Ok(untyped(node)),
         Some(Some(form)) => typed(alloc, classes, places, outlines, node, form),
     }
 }

@@ -66,7 +66,7 @@ pub(crate) fn outermost(
     let mut found = None;
     for _level in 0..outlines.len() {
         let Some(outline) = outlines.get(at.n as usize) else {
-            return Err(Memory {});
+            return Ok(found);
         };
         let Some(owner) = outline.owner else {
             return Ok(found);

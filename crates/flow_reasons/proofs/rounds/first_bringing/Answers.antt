@@ -7,7 +7,7 @@ use Rattle.flow_reasons.proofs.rounds.first_bringing.Goals as goal
 pub bringing-requires-clause-inside : goal.bringing-requires-clause-inside
 bringing-requires-clause-inside c = λ n o.
     let whole : c.len.result ≡ length c.args.parts.now.assigns.items = search rules in
-    let h = c.in_ok-all.ensures.below n (subst (λ (z : List ℕ). IsOneOf z n) c.deref.ensures.value o) in omega (arith, h, whole)
+    let h = (c.in_ok-all.ensures.each n).0 (subst (λ (z : List ℕ). IsOneOf z n) c.deref.ensures.value o) in omega (arith, h, whole)
 
 pub returns : goal.returns
 returns c =
@@ -16,5 +16,5 @@ returns c =
     found_as _ _ c.bringing.result
     (λ v h. bring_all p c.args.values.now c.args.marks.now c.deref.result.now v.items
     (λ n b. subst (λ (z : List ℕ). IsOneOf z n) (sym c.deref.ensures.value)
-    (c.in_ok-all.ensures.all n (let l = stands_within p.assigns.items n b.assign b.stands in omega (arith, l, whole)))) h)
+    ((c.in_ok-all.ensures.each n).1 (let l = stands_within p.assigns.items n b.assign b.stands in omega (arith, l, whole)))) h)
     c.bringing.ensures

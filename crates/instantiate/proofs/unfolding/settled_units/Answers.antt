@@ -16,6 +16,9 @@ returns-in_err-fit c = λ m t.
     limits_stop m (IsSettled c.args.classes.now) c.args.classes.now _ u.0 u.1 _ _ _ r.1 r.2
     (h m u.0 (outlines_of m c.args.classes.now t u.0 _ u.1))
 
+pub keep_rules-requires : goal.keep_rules-requires
+keep_rules-requires c = rw (c.deref-2.ensures.value, c.in_ok-walks.ensures.outlines) c.in_ok-unfolded.ensures.few.0
+
 pub returns-in_err-keep_rules : goal.returns-in_err-keep_rules
 returns-in_err-keep_rules c = λ m t.
     let u = c.in_ok-unfolded.ensures.ok m t in

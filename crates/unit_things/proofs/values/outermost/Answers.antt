@@ -1,4 +1,6 @@
-use Rattle.std.proofs.Common.{◌∷◌, List, Option, map, sym, subst}
+use Rattle.std.proofs.Common.{◌∷◌, List, Option, map, sym, subst, arith}
+use Rattle.ar_base.proofs.Standing.{along_length, stands_within}
+use Rattle.class_table.proofs.MemberNames.{none_of}
 use Rattle.class_table.proofs.Taken.{item_stands}
 use Rattle.hierarchy.specs.Units.{UnitPath, set_at_of}
 use Rattle.hierarchy.specs.Settings.{Named, word_of, set_by}
@@ -39,6 +41,15 @@ loop-level-preserved c = λ m units u h there.
           (subst (AreAttribute units (set_by m w.1 w.0.set_at (map word_of c.loop-level.target.items)))
           v.in_default-2.is a))
     ])
+
+pub returns-in_default : goal.returns-in_default
+returns-in_default c = λ m units u h there.
+    let on = c.loop-level.invariant m units u h there in
+    let none = none_of c.get.result c.in_default.not-Some in
+    let past = (rw none at c.get.ensures.lookup).3 in
+    let l = stands_within units c.loop-level.at.n on.unit on.stands in
+    let e = along_length units c.args.outlines.now h.along in
+    absurd (omega (arith, past, l, e))
 
 pub returns-in_default-owner : goal.returns-in_default-owner
 returns-in_default-owner c = λ m units u h there.

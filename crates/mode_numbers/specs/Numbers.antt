@@ -1,0 +1,42 @@
+-- Trees and their numbered forms.
+use Rattle.std.specs.Prelude.{◌≡◌, ℕ, ◌≤◌, List, ◌∷◌, length, map}
+use Rattle.ar_base.specs.Lists.{Stands, Along}
+use Rattle.domains.specs.declared.Value.{Value}
+use Rattle.ar_firing.specs.Forest.{Row, ModeTree}
+use Rattle.ar_firing.specs.Trees.{AreTrees}
+use Rattle.firable_families.specs.Firable.{IsFirableOf}
+use Rattle.mode_diagrams.specs.declared.trees.NumberedEdge.{NumberedEdge}
+use Rattle.mode_diagrams.specs.declared.trees.NumberedTree.{NumberedTree}
+use Rattle.mode_diagrams.specs.Trees.{edges_of, AreNumbered, AreApart, IsSetFrom}
+
+-- a tree's modes by number: its first is 0, and then come those that its edges enter
+abbrev pub modes_in : ModeTree → List Value
+modes_in tree = tree.first ∷ map (λ (r : Row). r.to) tree.edges
+
+-- n is the number of the mode, which is the first or is entered by one of the first so many edges
+pub record IsModeNumber (tree : ModeTree) (place : ℕ) (mode : Value) (n : ℕ) : Type 0 where
+  pub early : n ≤ place
+  pub stands : Stands (modes_in tree) n mode
+
+-- each edge has its event, and leaves its mode by number
+pub record IsNumberOf (tree : ModeTree) (n : NumberedTree) : Type 0 where
+  pub long : length (edges_of n) ≡ length tree.edges
+  pub event : (k : ℕ) (r : Row) (e : NumberedEdge) → Stands tree.edges k r → Stands (edges_of n) k e
+      → e.event.n ≡ r.label.event
+  pub from : (k : ℕ) (r : Row) (e : NumberedEdge) → Stands tree.edges k r → Stands (edges_of n) k e
+      → IsModeNumber tree k r.from e.from
+
+-- tree by tree
+abbrev pub AreNumbersOf : List ModeTree → List NumberedTree → Type 0
+AreNumbersOf trees ns = Along IsNumberOf trees ns
+
+-- what numbered trees say of the trees
+pub record IsByModes (trees : List ModeTree) (ns : List NumberedTree) : Type 0 where
+  pub numbered : AreNumbered ns
+  pub apart : AreApart ns
+  pub modes : (set : List ℕ) → IsFirableOf trees set → (modes : List ℕ) × IsSetFrom ns 0 modes set
+  pub firable : (modes set : List ℕ) → IsSetFrom ns 0 modes set → IsFirableOf trees set
+
+abbrev pub FirableByModes : Type 0
+FirableByModes = (trees : List ModeTree) (ns : List NumberedTree) → AreTrees trees → AreNumbersOf trees ns
+    → IsByModes trees ns

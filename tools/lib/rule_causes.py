@@ -211,7 +211,7 @@ def missing_cause(text, missing, wanted):
     where, name = missing.where, missing.name
     if missing.found:
         return "`%s` in the %s is %s and no %s" % (name, unit_named(where), WORDS[missing.found[0]], wanted)
-    names = [t.text for t, kind, _ in text.bodies.names(where.unit) if wanted in ("unit", "variable") or kind == wanted]
+    names = [t.text for t, kind, _ in text.bodies.names(where.unit) if kind in ("unit", wanted)]
     return "the %s has no member `%s`%s" % (unit_named(where), name, near(name, names))
 
 

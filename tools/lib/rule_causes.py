@@ -25,11 +25,12 @@ RULES = {
 }
 WORDS = {"variable": "a variable", "unit": "a unit", "parameter": "a parameter", "event": "an event",
          "observer": "an observer", "kept": "a `parameter Real`"}
+NEAR = 0.75
 KINDS = {"Boolean": "a truth value", "number": "a whole number", "symbol": "a symbol", "real": "a real number"}
 
 
 def near(name, names):
-    close = difflib.get_close_matches(name, sorted(set(names)), 1, 0.6)
+    close = difflib.get_close_matches(name, sorted(set(names)), 1, NEAR)
     return "; the nearest is `%s`" % close[0] if close else ""
 
 
@@ -171,6 +172,8 @@ def contains_itself(text):
         return None
     for name, inner in names.items():
         found = way(name, name, set())
+        if found and len(found) == 2:
+            return "`%s` has itself as a part, or extends itself" % name
         if found and inner:
             return "`%s` contains itself: %s" % (name, ", which contains ".join("`%s`" % n for n in found))
     return None
@@ -182,8 +185,8 @@ def twice(text):
         for token, kind, _ in text.bodies.names(scope.unit):
             if text.here(token) and token.text in names:
                 first = names[token.text]
-                return "`%s` is the name of %s of this unit already, on line %d" % (token.text, WORDS[first[1]],
-                                                                                    first[0].line)
+                kind = "a part" if first[1] == "unit" else WORDS[first[1]]
+                return "this unit has %s `%s` already, on line %d" % (kind, token.text, first[0].line)
             names.setdefault(token.text, (token, kind))
     return None
 
@@ -211,7 +214,7 @@ def missing_cause(text, missing, wanted):
     where, name = missing.where, missing.name
     if missing.found:
         return "`%s` in the %s is %s and no %s" % (name, unit_named(where), WORDS[missing.found[0]], wanted)
-    names = [t.text for t, kind, _ in text.bodies.names(where.unit) if wanted in ("unit", "variable") or kind == wanted]
+    names = [t.text for t, kind, _ in text.bodies.names(where.unit) if kind in ("unit", wanted)]
     return "the %s has no member `%s`%s" % (unit_named(where), name, near(name, names))
 
 

@@ -26,6 +26,7 @@ FRAGMENT = {
     "S7": "a part of an expression has more than 64 possible values",
     "S8": "more than 2048 events can happen",
 }
+MOST_NAMED = 12
 SIZES = {
     "model bytes": "the text of a model has at most 4194304 bytes", "script bytes": "a script or a list has at most "
     "1048576 bytes", "nesting": "at most 128 forms are open at one place: brackets, `if`, `not`, `-`, lists, bodies",
@@ -179,6 +180,10 @@ def _synchronised(asked, text, path):
 
 
 def _without_state(asked, text, path):
+    for way in asked.flat.ways:
+        if (way.event.rpartition(".")[0] or "main") == path and way.sets:
+            return asked.at_transition(way.event, text, "its unit has no state of its own, and it moves `%s`: write the event in "
+                                       "the unit of that state" % way.sets[0].target)
     return asked.note(path, text, "this unit has transitions and no variable with `init`, so nothing can change in it")
 
 
@@ -229,8 +234,8 @@ def _entered(asked, text, path):
             return asked.at_transition(way.event, text, "`%s` can happen where `%s` is %s, and leaves it there" % (
                 label, path, mode))
         if given[0] == first:
-            return asked.at_transition(way.event, text, "`%s` leads back to %s, where `%s` begins, as a repair does: --drop %s "
-                                       "leaves it out" % (label, first, path, label))
+            return asked.at_transition(way.event, text, "`%s` leads back to %s, where `%s` begins, as a repair does: %s" % (
+                label, first, path, all_that_lead_back(asked, label)))
         if given[0] in entered:
             before = entered[given[0]]
             cause = "the mode %s of `%s` is entered by `%s` from %s and by `%s` from %s: give each way a mode of its own" % (
@@ -238,6 +243,20 @@ def _entered(asked, text, path):
             return asked.at_transition(way.event, text, cause)
         entered[given[0]] = (label, mode)
     return asked.note(path, text, None)
+
+
+def all_that_lead_back(asked, event):
+    """The words that leave out an event and all others that lead back to where their state begins."""
+    modes, found = Modes(asked), []
+    for variable in modes.of:
+        if variable is not None:
+            first = asked.flat.variables[variable].value
+            found += [way.event for way, mode, given in modes.edges(variable) if given == [first] and mode != first]
+    found = list(dict.fromkeys(asked.drop + [event] + sorted(found)))
+    if len(found) == len(asked.drop) + 1 or len(found) > MOST_NAMED:
+        others = "" if len(found) <= MOST_NAMED else "; %d other events lead back too" % (len(found) - 1 - len(asked.drop))
+        return "--drop %s leaves it out%s" % (",".join(asked.drop + [event]), others)
+    return "--drop %s leaves out all that lead back" % ",".join(found)
 
 
 def _wide(asked, text, path):
@@ -283,7 +302,8 @@ def two_values(flat, path):
     before = sorted(p for p in before_all(flat, [a.set for a in flat.asserts if a.set.target == path]) - {path}
                     if len(at.get(p, ())) > 1)
     if not before:
-        return "it is set by the assignments at %s, and two of them give different values" % " and ".join(at[path])
+        return "it is set by the assignments at %s, %s different values" % (
+            " and ".join(at[path]), "which give" if len(at[path]) == 2 else "and two of them give")
     said = ["`%s` at %s" % (p, " and ".join(at[p])) for p in [path] + before[:3]]
     return "it, or a flow on which it depends, is set to two values: the assignments are those of %s" % ", of ".join(said)
 
@@ -317,9 +337,14 @@ def not_held(asked, number):
         return ("it depends on %s, which no assertion sets: a reset value is there in the end alone, and gives no assignment "
                 "its value on the way" % shown)
     one = next(a.set for a in asked.flat.asserts if a.number == number)
-    return ("nothing gave `%s` a value, so it took its reset value %s, and then the expression has another one: flows that "
-            "depend on each other in a circle say of themselves what they are not" % (
-                one.target, asked.flat.variables[one.target].value))
+    said = "no value follows for `%s`, so it has its reset value %s, and with that its assignment gives another one" % (
+        one.target, asked.flat.variables[one.target].value)
+    before = before_all(asked.flat, [one])
+    loops = [p for p in sorted(before) if p in before_all(asked.flat, [a.set for a in asked.flat.asserts if a.set.target == p])]
+    if not loops:
+        return said
+    return "%s: `%s` depends on itself. In a loop write `and` and `or`, without `not`, `==`, `if` and `+` on its flows, and give " \
+           "them one reset value" % (said, one.target if one.target in loops else loops[0])
 
 
 def fault(asked, line):
@@ -441,9 +466,16 @@ def word_cause(asked, line):
     observers = [o.path for o in asked.flat.observers]
     if line == "script: no observer":
         name = options.get("--observer", "")
+        for unit in asked.tree.bodies.units.values():
+            if unit is not asked.tree.bodies.main and any(m.kind == "observer" and m.name.text == name for m in unit.members):
+                return "the main block is `%s`, and `%s` is an observer of the %s `%s`%s" % (
+                    asked.tree.bodies.main.name.text, name, unit.kind, unit.name.text,
+                    ": --main %s" % unit.name.text if unit.kind == "block" else "")
         return "the model has no observer `%s`: it has %s" % (name, quoted(observers) if observers else "none")
     if line == "script: no event":
         for event in options.get("--drop", "").split(","):
+            if " " in event:
+                return "`%s` of --drop: the paths are joined by commas, without spaces" % event
             if asked.tree.canonical(event) not in asked.tree.of_kind("event"):
                 return "`%s` of --drop: %s" % (event, no_event(asked, event))
     if line == "script: no value":

@@ -120,6 +120,9 @@ def _of_declaration(fault):
     if at.kind in RESERVED and "name" in fault.wanted and before.kind in ("name", "Boolean", ",", "event", "as", "class",
                                                                          "block", "domain", "{"):
         return "`%s` is a word of the language, so it cannot be a name" % at.text
+    if form in ("observer", "parameter") and at.kind == "=" and fault.wanted == {"name"}:
+        return "%s has a type before its name, as `%s Boolean %s = ..`" % (
+            "an observer" if form == "observer" else "a parameter", form, before.text)
     if form in ("observer", "parameter") and at.kind == "Real":
         return "an observer is Boolean, Integer or of a declared domain: there are no Real values"
     return None
@@ -134,11 +137,13 @@ def _of_lists(fault):
     return None
 
 
-def _of_section(fault):
+def _of_section(fault, after):
     at, before, form = fault.at, fault.before, fault.open[-1][0] if fault.open else ""
     if form in ("transition of an event", "instruction") and at.kind == "name" and before.kind == "name":
         if ":" in fault.wanted and before.text in ("for", "while", "foreach") or before.text in ("for", "while"):
             return "there are no loops: each assertion is written out"
+        if form == "transition of an event" and (after is None or after.kind not in ("(", ",", ";")):
+            return "a transition is written `EVENT: GUARD -> ACTION;`: the `:` is missing after `%s`" % before.text
         if form == "transition of an event" or before.line == at.line:
             section = next(f for f, _ in reversed(fault.open) if f in ("transition", "assertion"))
             return ("a declaration that begins with a name comes before the first `transition` or `assertion` of its body, "
@@ -156,6 +161,10 @@ def _of_section(fault):
 
 def _of_expression(fault, after):
     at, before = fault.at, fault.before
+    if at.kind == "}" and fault.open[-1][0] == "switch" and "default" in fault.wanted:
+        return "a `switch` ends with `default: VALUE`, for when none of its tests is true"
+    if "else" in fault.wanted and "and" in fault.wanted and at.kind in (";", "end", ")", "}", ","):
+        return "an `if` in an expression has an `else`, so that it always has a value"
     if "and" in fault.wanted:
         if at.kind == "=":
             if after is not None and after.kind == ">" and adjacent(at, after):
@@ -190,7 +199,7 @@ def of_syntax(fault, after):
         return NOT_MEMBERS[at.kind]
     if "extends" in fault.wanted and at.kind == "name":
         return ("a declaration that begins with a name comes before the first `transition` or `assertion` of its body")
-    tries = [lambda: _of_section(fault), lambda: _of_lists(fault), lambda: _of_declaration(fault),
+    tries = [lambda: _of_section(fault, after), lambda: _of_lists(fault), lambda: _of_declaration(fault),
              lambda: _of_expression(fault, after)]
     if at.kind == "END":
         tries.insert(0, lambda: _of_end(fault))

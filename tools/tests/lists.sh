@@ -38,3 +38,5 @@ equal "compare shows what one list alone has" '- {left_trip, right_feeder.open} 
 sed '2d' examples/bus.cuts >"$work/cut_short"
 equal "compare refuses a list that is not whole" 2 "$(tools/compare examples/bus.cuts "$work/cut_short" >/dev/null 2>&1; echo $?)"
 equal "compare refuses a refusal" 2 "$(tools/compare examples/bus.cuts examples/supply.cuts >/dev/null 2>&1; echo $?)"
+equal "compare says which list cannot be read" 'compare: none cannot be read' "$(tools/compare examples/bus.cuts none 2>&1)"
+equal "order says that events can be left out" 'order: --drop leaves events out, as for cuts' "$(tools/order examples/bus.alt examples/bus.cuts 2>&1 | tail -n 1)"

@@ -62,6 +62,9 @@ fi
 
 sed 's/[{}]//g; s/,//g; s/\./-/g; /count/d' examples/ring.cuts >"$work/result"
 equal "names are mapped back" "$(grep -v count examples/ring.cuts)" "$(tools/to_open_psa back "$work/ring.tree.xml" "$work/result")"
+tools/to_open_psa tree tests/open_psa/two_ways.alt --observer lost >"$work/two.tree.xml"
+echo e >"$work/result"
+equal "the number of a way is mapped back too" '{e#2}' "$(tools/to_open_psa back "$work/two.tree.xml" "$work/result")"
 printf '<report><sum-of-products><product order="2"><basic-event name="east-fail"/><basic-event name="west-fail"/></product></sum-of-products></report>\n' >"$work/result"
 equal "names of a report are mapped back" '{east.fail, west.fail}' "$(tools/to_open_psa back "$work/ring.tree.xml" "$work/result")"
 grep -o '[a-z_.]*\.\(fail\|cut\)\|lose_head_end' examples/ring.cuts | sort -u | sed 's/$/ 1.5e-3/' >"$work/numbers"

@@ -17,8 +17,8 @@ for words in "$work"/want/*.words; do
   equal "why ${line[*]}" "$(cat "${words%.words}.text") status $wanted" "$got status $status"
 done
 tried=$(cat "$work"/want/*.words | tr ' ' '\n')
-missing=$(for model in tests/mistakes/*.alt tests/literature/*.alt; do grep -qx "$model" <<<"$tried" || echo "$model"; done)
-equal "each model of tests/mistakes and tests/literature has an expected text" '' "$missing"
+missing=$(for model in tests/mistakes/*.alt tests/literature/*.alt tests/why/*.alt; do grep -qx "$model" <<<"$tried" || echo "$model"; done)
+equal "each model of tests/mistakes, tests/literature and tests/why has an expected text" '' "$missing"
 equal "each expected text has a cause" "$(ls "$work"/want/*.text | wc -l)" "$(grep -l '^  cause: ' "$work"/want/*.text | wc -l)"
 
 got=$(python3 tools/tests/places.py tests/*/*.alt examples/*.alt crates/altarica_cases/data/*.model 2>&1)

@@ -16,8 +16,9 @@ equal "bash offers them behind =" 'wheels' "$(offers altarica cuts examples/brak
 equal "bash offers the events of the model" 'tie.close tie.open' "$(offers altarica cuts examples/bus.alt --drop tie)"
 equal "bash offers further events behind a comma" 'left_feeder.close,tie.close left_feeder.close,tie.open' "$(offers altarica cuts examples/bus.alt --drop left_feeder.close,tie.)"
 equal "bash offers the files" 'examples/bus.alt examples/bus.cuts examples/bus.script examples/bus.trace' "$(offers altarica replay examples/bus)"
-known=$(sed -n 's/^| `altarica \([a-z]*\) .*/\1/p' docs/TEXTS.md | LC_ALL=C sort | paste -sd' ')
-[ -n "$known" ] && equal "bash offers each command of TEXTS" "$known" "$(offers altarica '')"
+known=$(commands | cut -d' ' -f1 | LC_ALL=C sort | paste -sd' ')
+equal "TEXTS has ten commands" 10 "$(wc -w <<<"$known")"
+equal "bash offers each command of TEXTS" "$known" "$(offers altarica '')"
 if have zsh; then
   holds "the completion of zsh is a function that zsh can read" zsh -n completions/_altarica
   equal "zsh knows each command" "$known" "$(sed -n "s/^    '\([a-z]*\):.*/\1/p" completions/_altarica | LC_ALL=C sort | paste -sd' ')"

@@ -3,15 +3,14 @@
 . "$(dirname "$0")/points.bash"
 
 plain=$(sed 's/\\-/-/g; s/\\f[BIR]//g' altarica.1)
-known=$(sed -n 's/^| `\{0,1\}altarica \([a-z]*\) .*/\1/p' docs/TEXTS.md | sort -u)
-for command in $known; do
-  grep -qx ".B $command" altarica.1 || echo "$command"
-done >"$work/missing"
+equal "TEXTS has ten commands" 10 "$(commands | wc -l)"
+while read -r words; do
+  grep -qx ".B ${words%% *}" altarica.1 || echo "${words%% *}"
+done <<<"$(commands)" >"$work/missing"
 equal "the page has each command of TEXTS" '' "$(cat "$work/missing")"
-for command in $known; do
-  want=$(grep -o "^| \`altarica $command [^\`]*" docs/TEXTS.md | sed 's/^| `//')
-  grep -qxF "$want" <<<"$plain" || echo "$want"
-done >"$work/missing"
+while read -r words; do
+  grep -qxF "altarica $words" <<<"$plain" || echo "$words"
+done <<<"$(commands)" >"$work/missing"
 equal "the page has the words of each command as TEXTS has them" '' "$(cat "$work/missing")"
 equal "the page has each status" "$(seq -s' ' 0 12)" "$(sed -n '/^.SH EXIT/,/^.SH EXAMPLES/s/^.B \([0-9]*\)$/\1/p' altarica.1 | paste -sd' ')"
 if have groff; then

@@ -50,3 +50,8 @@ usage() {
     failed "$1 says its use, and that it is not proved" "status $status: $said"
   fi
 }
+
+# The words of each command, from the table of docs/TEXTS.md, without the program's name: `check MODEL [--main B]`.
+commands() {
+  sed -n 's/^| `\(altarica \)\{0,1\}\(make N\|[a-z]* MODEL[^`]*\)` |.*/\2/p' docs/TEXTS.md
+}

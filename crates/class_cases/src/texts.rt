@@ -29,7 +29,10 @@ pub(crate) const CASES: [(&str, &str); 53] = [
     ("class A extends A; extends A; end block M end", ""),
     ("class A extends A; block b extends A; end end", ""),
     ("class A block b A x; end extends A; end block M end", ""),
-    ("class A block b extends B; end end class B A x; B y; end", ""),
+    (
+        "class A block b extends B; end end class B A x; B y; end",
+        "",
+    ),
     ("block B event e, e; end", ""),
     ("class C event e; end block B extends C; event e; end", ""),
     ("block B event e; extends C; end class C event e; end", ""),

@@ -6,7 +6,13 @@ use Rattle.ar_firing.specs.Forest.{Row, ModeTree}
 use Rattle.mode_diagrams.specs.declared.trees.NumberedEdge.{NumberedEdge}
 use Rattle.mode_diagrams.specs.declared.trees.NumberedTree.{NumberedTree}
 use Rattle.mode_diagrams.specs.Trees.{edges_of}
-use Rattle.mode_numbers.specs.Numbers.{IsModeNumber, IsNumberOf}
+use Rattle.std.specs.List.{All}
+use Rattle.mode_numbers.specs.Numbers.{AreNumbersOf, HasFewEdges, IsModeNumber, IsNumberOf}
+
+-- the first trees with their modes by number
+pub record AreMade (trees : List ModeTree) (ns : List NumberedTree) : Type 0 where
+  pub numbers : AreNumbersOf trees ns
+  pub few : All HasFewEdges ns
 
 -- so far: the first k edges
 pub record IsSoFar (tree : ModeTree) (k : ℕ) (es : List NumberedEdge) : Type 0 where

@@ -26,6 +26,10 @@ pub record IsNumberOf (tree : ModeTree) (n : NumberedTree) : Type 0 where
   pub from : (k : ℕ) (r : Row) (e : NumberedEdge) → Stands tree.edges k r → Stands (edges_of n) k e
       → IsModeNumber tree k r.from e.from
 
+-- at most 64 edges
+abbrev pub HasFewEdges : NumberedTree → Type 0
+HasFewEdges n = length (edges_of n) ≤ 64
+
 -- tree by tree
 abbrev pub AreNumbersOf : List ModeTree → List NumberedTree → Type 0
 AreNumbersOf trees ns = Along IsNumberOf trees ns

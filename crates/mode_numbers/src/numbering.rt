@@ -1,8 +1,9 @@
 //! The modes of trees by number.
 
 ghost use Rattle.std.specs.Prelude.{◌≡◌, ◌≤◌, IfOk, IfSome, length, map};
+ghost use Rattle.std.specs.List.{All};
 ghost use Rattle.mode_forests.specs.Views.{tree_of};
-ghost use Rattle.mode_numbers.specs.Numbers.{AreNumbersOf, IsNumberOf, IsModeNumber};
+ghost use Rattle.mode_numbers.specs.Numbers.{AreNumbersOf, HasFewEdges, IsNumberOf, IsModeNumber};
 
 use ar_base::Memory;
 use domains::Value;
@@ -15,8 +16,9 @@ const MOST_EDGES: usize = 64;
 
 /// The trees with their modes by number; None where a tree has more than 64 edges.
 pub fn numbered(alloc: Global, trees: &[ModeTree]) -> Result<Option<Vec<NumberedTree>>, Memory>
-    ensures { IfOk result (λ made. IfSome made
+    ensures numbers { IfOk result (λ made. IfSome made
         (λ ns. AreNumbersOf (map (tree_of (λ n. n)) trees.now) ns.items)) }
+    ensures few { IfOk result (λ made. IfSome made (λ ns. All HasFewEdges ns.items)) }
 {
     let mut made = Vec::new(alloc);
     for tree in trees {
@@ -30,7 +32,9 @@ pub fn numbered(alloc: Global, trees: &[ModeTree]) -> Result<Option<Vec<Numbered
 
 // One tree with its modes by number.
 fn numbered_tree(alloc: Global, tree: &ModeTree) -> Result<Option<NumberedTree>, Memory>
-    ensures { IfOk result (λ made. IfSome made (λ n. IsNumberOf (tree_of (λ n. n) tree.now) n)) }
+    ensures number { IfOk result (λ made. IfSome made
+        (λ n. IsNumberOf (tree_of (λ n. n) tree.now) n)) }
+    ensures few { IfOk result (λ made. IfSome made (λ n. HasFewEdges n)) }
 {
     if tree.edges.len() > MOST_EDGES {
         return Ok(None);

@@ -12,6 +12,7 @@ ghost use Rattle.gate_diagrams.specs.Needed.{NodesMay};
 ghost use Rattle.gate_diagrams.specs.Answers.{IsAnswer, AreNeeded, store_of};
 
 use crate::answer::{Drawn, answer};
+use crate::by_modes::by_modes;
 use crate::firable::firable_sets;
 use crate::paths::forest_paths;
 use eq_core::Equations;
@@ -50,6 +51,9 @@ pub fn diagrams(
         return Err(NodeFault::Memory);
     };
     let trees = trees.into_store();
+    if let Some(drawn) = by_modes(alloc, equations, forest, limit)? {
+        return Ok(drawn);
+    }
     let mut ops = Ops::new(alloc, limit);
     let firable = firable_sets(alloc, &mut ops, &trees, paths)?;
     answer(alloc, ops, equations, firable)

@@ -86,25 +86,11 @@ fn answer_by_modes(
     })))
 }
 
-// Whether drawing by modes takes few nodes: the trees stand in the order of their events, and most have an edge.
+// Whether drawing by modes takes few nodes: the trees stand in the order of their events.
 fn suit(trees: &[NumberedTree]) -> bool
     ensures { result ≡ true → length trees.now ≤ 4294967295 }
 {
-    trees.len() <= u32::MAX as usize && mostly_move(trees) && follow_each_other(trees)
-}
-
-// Whether no more trees have no edge than have one: each tree is a step of every way through them.
-fn mostly_move(trees: &[NumberedTree]) -> bool {
-    let mut moving = 0usize;
-    let mut idle = 0usize;
-    for tree in trees {
-        if tree.edges.is_empty() {
-            idle = idle.saturating_add(1);
-        } else {
-            moving = moving.saturating_add(1);
-        }
-    }
-    idle <= moving
+    trees.len() <= u32::MAX as usize && follow_each_other(trees)
 }
 
 // Whether all events of a tree are below those of the trees after it.

@@ -14,7 +14,7 @@ use std::alloc::Global;
 // The most edges of a tree that is numbered: each mode is looked for among those before.
 const MOST_EDGES: usize = 64;
 
-/// The trees with their modes by number; None where a tree has more than 64 edges.
+/// The trees that have an edge, with their modes by number; None where a tree has more than 64 edges.
 pub fn numbered(alloc: Global, trees: &[ModeTree]) -> Result<Option<Vec<NumberedTree>>, Memory>
     ensures numbers { IfOk result (λ made. IfSome made
         (λ ns. AreNumbersOf (map (tree_of (λ n. n)) trees.now) ns.items)) }
@@ -22,10 +22,12 @@ pub fn numbered(alloc: Global, trees: &[ModeTree]) -> Result<Option<Vec<Numbered
 {
     let mut made = Vec::new(alloc);
     for tree in trees {
-        let Some(next) = numbered_tree(alloc, tree)? else {
-            return Ok(None);
-        };
-        made.push(next)?;
+        if !tree.edges.is_empty() {
+            let Some(next) = numbered_tree(alloc, tree)? else {
+                return Ok(None);
+            };
+            made.push(next)?;
+        }
     }
     Ok(Some(made))
 }

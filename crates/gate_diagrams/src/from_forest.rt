@@ -27,8 +27,9 @@ const MOST_NODES: u32 = 16_777_216;
 /// The least sets that are firable in the forest's trees and at which the table's conflict operand
 /// is true, or, where there are none, the least ones at which its top operand is. The answer's
 /// store has what is needed for that and no more, in at most `limit` nodes; Full comes only where
-/// more are needed. The paths of the trees stand in a store of their own, and where that is full
-/// the answer is Memory.
+/// more are needed. They are drawn over the modes of the trees where that takes few nodes, else by
+/// a walk through the events. The paths of the trees stand in a store of their own, and where that
+/// is full the answer is Memory.
 pub fn diagrams(
     alloc: Global,
     equations: &Equations,

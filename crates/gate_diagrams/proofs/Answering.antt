@@ -78,40 +78,37 @@ module _ (trees : List ModeTree) (table : Table) (all : Family) (is_all : AreLis
             (ap (λ z. has z s) e ∙ ap (λ b. b || has f s) (same-refl s)),
       )
 
-module _ (table : Table) (f : ℕ) (s0 s1 : Stored) (sound : IsSoundStore s0) (f_in : IsNumber s0 f)
-    (stored : All (IsCounted (family s0 f)) s0.families) where
-  abbrev all : Family
-  all = family s0 f
+module _ (table : Table) (all : Family) (is_family : IsFamily all) (s0 s1 : Stored)
+    (stored : All (IsNeeded all table.gates table.conflict) s0.families) where
+  abbrev NeededConflict : Family → Type 0
+  NeededConflict = IsNeeded all table.gates table.conflict
 
-  abbrev Conflict : Family → Type 0
-  Conflict = IsNeeded all table.gates table.conflict
-
-  abbrev Both : Family → Type 0
-  Both = IsNeededByBoth all table
+  abbrev NeededBoth : Family → Type 0
+  NeededBoth = IsNeededByBoth all table
 
   module _ (r : Result NodeId NodeFault)
-      (d : Draws Conflict (minimal (family_at all table.gates table.conflict)) s0 s1 r) where
-    pub conflict_needed : All Conflict s1.families
-    conflict_needed = all_stored Conflict s0 s1
-        (All-weaker (IsCounted all) Conflict (λ h c. of_firable c) s0.families stored) d.grows
+      (d : Draws NeededConflict (minimal (family_at all table.gates table.conflict)) s0 s1 r) where
+    pub needed_conflict : All NeededConflict s1.families
+    needed_conflict = all_stored NeededConflict s0 s1 stored d.grows
 
-    pub conflict_full : (trees : List ModeTree) → AreListed (IsFirableOf trees) all → r ≡ Err Full
+    pub full_conflict : (trees : List ModeTree) → AreListed (IsFirableOf trees) all → r ≡ Err Full
         → NodesMay trees table s0.limit
-    conflict_full trees is_all e =
-        let m = subst (λ z. IsMoreThan z Conflict) d.grows.limit
-        (full_is_more Conflict s1 conflict_needed (d.full e)) in
+    full_conflict trees is_all e =
+        let m = subst (λ z. IsMoreThan z NeededConflict) d.grows.limit
+        (full_is_more NeededConflict s1 needed_conflict (d.full e)) in
         record {
           all = all;
           is_all = is_all;
           where_some = λ set t. m;
-          where_none = λ none. IsMoreThan-weaker s0.limit Conflict Both (λ h x. inl x) m;
+          where_none = λ none. IsMoreThan-weaker s0.limit NeededConflict NeededBoth (λ h x. inl x) m;
         }
 
-  module _ (n : NodeId) (d : Draws Conflict (minimal (family_at all table.gates table.conflict)) s0 s1 (Ok n)) where
-    pub conflict_sets : IsSoundStore s1 → (n.n ≡ 0 → ⊥) → (trees : List ModeTree) → AreListed (IsFirableOf trees) all
+  module _ (n : NodeId)
+      (d : Draws NeededConflict (minimal (family_at all table.gates table.conflict)) s0 s1 (Ok n)) where
+    pub sets_conflict : IsSoundStore s1 → (n.n ≡ 0 → ⊥) → (trees : List ModeTree) → AreListed (IsFirableOf trees) all
         → ((set : List ℕ) × IsConflictAt trees table set)
         × (IsNumber s1 n.n × ListsLeast trees (value_at table.gates table.conflict) (family s1 n.n))
-    conflict_sets k some trees is_all =
+    sets_conflict k some trees is_all =
         let positive : 0 < n.n = grind (arith, some) in
         let there : family s1 n.n ≢ [] = some_sets s1.families k.different n.n positive d.ok.0 in (
           some_so trees table all is_all (λ e. there (d.ok.1 ∙ ap minimal e ∙ minimal_of_none)),
@@ -124,7 +121,74 @@ module _ (table : Table) (f : ℕ) (s0 s1 : Stored) (sound : IsSoundStore s0) (f
 
     none_at : n.n ≡ 0 → family_at all table.gates table.conflict ≡ []
     none_at e = minimal_none (family_at all table.gates table.conflict)
-        (at_family all table.gates table.conflict (sound.families f f_in)) (sym d.ok.1 ∙ ap (family s1) e)
+        (at_family all table.gates table.conflict is_family) (sym d.ok.1 ∙ ap (family s1) e)
+
+    module _ (s2 : Stored) (q : Result NodeId NodeFault) (none : n.n ≡ 0)
+        (t : Draws (IsNeeded all table.gates table.top) (minimal (family_at all table.gates table.top)) s1 s2 q) where
+      pub needed_both : All NeededBoth s2.families
+      needed_both = all_stored NeededBoth s1 s2
+          (All-weaker NeededConflict NeededBoth (λ h x. inl x) s1.families (needed_conflict (Ok n) d))
+          (record {
+            limit = t.grows.limit;
+            added = t.grows.added;
+            families = t.grows.families;
+            all = All-weaker (IsNeeded all table.gates table.top) NeededBoth (λ h x. inr x) t.grows.added t.grows.all;
+          })
+
+      pub full_both : (trees : List ModeTree) → AreListed (IsFirableOf trees) all → q ≡ Err Full
+          → NodesMay trees table s0.limit
+      full_both trees is_all e = record {
+        all = all;
+        is_all = is_all;
+        where_some = λ set x. absurd (none_so trees table all is_all (none_at none) set x);
+        where_none = λ x. subst (λ z. IsMoreThan z NeededBoth) (t.grows.limit ∙ d.grows.limit)
+            (full_is_more NeededBoth s2 needed_both
+            (full_weaker (IsNeeded all table.gates table.top) NeededBoth s2 (λ h y. inr y) (t.full e)));
+      }
+
+    pub sets_top : (s2 : Stored) (m : NodeId) → n.n ≡ 0
+        → Draws (IsNeeded all table.gates table.top) (minimal (family_at all table.gates table.top)) s1 s2 (Ok m)
+        → (trees : List ModeTree) → AreListed (IsFirableOf trees) all
+        → ((set : List ℕ) → IsConflictAt trees table set → ⊥)
+        × (IsNumber s2 m.n × ListsLeast trees (value_at table.gates table.top) (family s2 m.n))
+    sets_top s2 m none t trees is_all = (
+      none_so trees table all is_all (none_at none),
+      (
+        t.ok.0,
+        subst (ListsLeast trees (value_at table.gates table.top)) (sym t.ok.1)
+            (lists_least trees table all is_all table.top),
+      ),
+    )
+
+-- where the firable sets are the family of a number of the store
+module _ (table : Table) (f : ℕ) (s0 s1 : Stored) (sound : IsSoundStore s0) (f_in : IsNumber s0 f)
+    (stored : All (IsCounted (family s0 f)) s0.families) where
+  abbrev all : Family
+  all = family s0 f
+
+  abbrev Conflict : Family → Type 0
+  Conflict = IsNeeded all table.gates table.conflict
+
+  abbrev Both : Family → Type 0
+  Both = IsNeededByBoth all table
+
+  stored_needed : All Conflict s0.families
+  stored_needed = All-weaker (IsCounted all) Conflict (λ h c. of_firable c) s0.families stored
+
+  module _ (r : Result NodeId NodeFault)
+      (d : Draws Conflict (minimal (family_at all table.gates table.conflict)) s0 s1 r) where
+    pub conflict_needed : All Conflict s1.families
+    conflict_needed = needed_conflict table all (sound.families f f_in) s0 s1 stored_needed r d
+
+    pub conflict_full : (trees : List ModeTree) → AreListed (IsFirableOf trees) all → r ≡ Err Full
+        → NodesMay trees table s0.limit
+    conflict_full = full_conflict table all (sound.families f f_in) s0 s1 stored_needed r d
+
+  module _ (n : NodeId) (d : Draws Conflict (minimal (family_at all table.gates table.conflict)) s0 s1 (Ok n)) where
+    pub conflict_sets : IsSoundStore s1 → (n.n ≡ 0 → ⊥) → (trees : List ModeTree) → AreListed (IsFirableOf trees) all
+        → ((set : List ℕ) × IsConflictAt trees table set)
+        × (IsNumber s1 n.n × ListsLeast trees (value_at table.gates table.conflict) (family s1 n.n))
+    conflict_sets = sets_conflict table all (sound.families f f_in) s0 s1 stored_needed n d
 
     module _ (s2 : Stored) (q : Result NodeId NodeFault) (none : n.n ≡ 0)
         (t : Draws (IsNeeded (family s1 f) table.gates table.top)
@@ -134,26 +198,11 @@ module _ (table : Table) (f : ℕ) (s0 s1 : Stored) (sound : IsSoundStore s0) (f
           s2 q) (kept Conflict s0 s1 f d.grows f_in) t
 
       pub both_needed : All Both s2.families
-      both_needed = all_stored Both s1 s2
-          (All-weaker Conflict Both (λ h x. inl x) s1.families (conflict_needed (Ok n) d))
-          (record {
-            limit = top_drawn.grows.limit;
-            added = top_drawn.grows.added;
-            families = top_drawn.grows.families;
-            all = All-weaker (IsNeeded all table.gates table.top) Both (λ h x. inr x) top_drawn.grows.added
-                top_drawn.grows.all;
-          })
+      both_needed = needed_both table all (sound.families f f_in) s0 s1 stored_needed n d s2 q none top_drawn
 
       pub both_full : (trees : List ModeTree) → AreListed (IsFirableOf trees) all → q ≡ Err Full
           → NodesMay trees table s0.limit
-      both_full trees is_all e = record {
-        all = all;
-        is_all = is_all;
-        where_some = λ set x. absurd (none_so trees table all is_all (none_at none) set x);
-        where_none = λ x. subst (λ z. IsMoreThan z Both) (top_drawn.grows.limit ∙ d.grows.limit)
-            (full_is_more Both s2 both_needed
-            (full_weaker (IsNeeded all table.gates table.top) Both s2 (λ h y. inr y) (top_drawn.full e)));
-      }
+      both_full = full_both table all (sound.families f f_in) s0 s1 stored_needed n d s2 q none top_drawn
 
     pub top_sets : (s2 : Stored) (m : NodeId) → n.n ≡ 0
         → Draws (IsNeeded (family s1 f) table.gates table.top) (minimal (family_at (family s1 f) table.gates table.top))
@@ -161,12 +210,5 @@ module _ (table : Table) (f : ℕ) (s0 s1 : Stored) (sound : IsSoundStore s0) (f
         → (trees : List ModeTree) → AreListed (IsFirableOf trees) all
         → ((set : List ℕ) → IsConflictAt trees table set → ⊥)
         × (IsNumber s2 m.n × ListsLeast trees (value_at table.gates table.top) (family s2 m.n))
-    top_sets s2 m none t trees is_all =
-        let d2 = top_drawn s2 (Ok m) none t in (
-          none_so trees table all is_all (none_at none),
-          (
-            d2.ok.0,
-            subst (ListsLeast trees (value_at table.gates table.top)) (sym d2.ok.1)
-                (lists_least trees table all is_all table.top),
-          ),
-        )
+    top_sets s2 m none t = sets_top table all (sound.families f f_in) s0 s1 stored_needed n d s2 m none
+        (top_drawn s2 (Ok m) none t)

@@ -15,3 +15,4 @@ pub mod Tabling
 pub mod TreePaths
 pub mod Moving
 pub mod Whole
+pub mod ByModes

@@ -104,3 +104,11 @@ module _ {trees : List ModeTree} {s t : Stored} {limit : ℕ} {n : NodeId} (w : 
       → (all : Family) → AreListed (IsFirableOf trees) all → IfOk r (λ a. AreNeeded all table a)
   answer_needed table r k all l =
       subst (λ z. IfOk r (λ a. AreNeeded z table a)) (listed_one (family t n.n) all firable_listed l) k
+
+-- the firable sets are listed, where the families of the trees' paths are there
+pub all_listed : {trees : List ModeTree} (paths : Stored) (ns : List NodeId)
+    → AreTreeFamilies trees (families_left paths ns) → AreApart trees → (all : Family) × AreListed (IsFirableOf trees) all
+all_listed {trees = trees} paths ns families apart =
+    let fs = families_left paths ns in
+    let n = bound fs in
+    (left n.0 0 fs, walk_lists trees fs families n.0 apart n.1)

@@ -3,3 +3,4 @@ pub mod Drawing
 pub mod Walked
 pub mod Answers
 pub mod Paths
+pub mod ByModes

@@ -12,6 +12,7 @@ ghost use Rattle.gate_diagrams.specs.Needed.{NodesMay};
 ghost use Rattle.gate_diagrams.specs.Answers.{IsAnswer, AreNeeded, store_of};
 
 use crate::answer::{Drawn, answer};
+use crate::by_modes::by_modes;
 use crate::firable::firable_sets;
 use crate::paths::forest_paths;
 use eq_core::Equations;
@@ -26,8 +27,9 @@ const MOST_NODES: u32 = 16_777_216;
 /// The least sets that are firable in the forest's trees and at which the table's conflict operand
 /// is true, or, where there are none, the least ones at which its top operand is. The answer's
 /// store has what is needed for that and no more, in at most `limit` nodes; Full comes only where
-/// more are needed. The paths of the trees stand in a store of their own, and where that is full
-/// the answer is Memory.
+/// more are needed. They are drawn over the modes of the trees where that takes few nodes, else by
+/// a walk through the events. The paths of the trees stand in a store of their own, and where that
+/// is full the answer is Memory.
 pub fn diagrams(
     alloc: Global,
     equations: &Equations,
@@ -50,6 +52,9 @@ pub fn diagrams(
         return Err(NodeFault::Memory);
     };
     let trees = trees.into_store();
+    if let Some(drawn) = by_modes(alloc, equations, forest, limit)? {
+        return Ok(drawn);
+    }
     let mut ops = Ops::new(alloc, limit);
     let firable = firable_sets(alloc, &mut ops, &trees, paths)?;
     answer(alloc, ops, equations, firable)

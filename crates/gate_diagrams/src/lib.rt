@@ -2,11 +2,13 @@
 #![tactic(auto)]
 
 mod answer;
+mod by_modes;
 mod cone;
 mod draw;
 mod firable;
 mod from_forest;
 mod gates;
+mod listed;
 mod modes;
 mod paths;
 mod states;

@@ -1,12 +1,46 @@
 -- A tree's edges by number, one after the other.
-use Rattle.std.proofs.Common.{◌≡◌, ⊎_elim, ℕ, zero, suc, ◌+◌, List, [], ◌∷◌, ◌++◌, length, length-append, refl, sym, ap, ◌∙◌, subst, arith}
+use Rattle.std.proofs.Common.{◌≡◌, ⊎_elim, ℕ, zero, suc, ◌+◌, ◌==◌, true, List, [], ◌∷◌, ◌++◌, length, length-append, refl, sym, ap, ◌∙◌, subst, arith}
 use Rattle.ar_base.specs.Lists.{Stands}
 use Rattle.ar_base.proofs.Standing.{stands_one, stands_none, stands_split}
 use Rattle.ar_firing.specs.Forest.{Row, ModeTree}
 use Rattle.mode_diagrams.specs.declared.trees.NumberedEdge.{NumberedEdge}
 use Rattle.mode_diagrams.specs.declared.trees.NumberedTree.{NumberedTree}
 use Rattle.mode_diagrams.specs.Trees.{edges_of}
-use Rattle.mode_numbers.specs.Numbers.{IsModeNumber, IsNumberOf}
+use Rattle.std.specs.List.{All}
+use Rattle.std.proofs.lemmas.List.Elements.{All-push}
+use Rattle.mode_numbers.specs.Numbers.{AreNumbersOf, none, passed, one_and, HasFewEdges, IsModeNumber, IsNumberOf}
+
+-- the first trees with their modes by number
+pub record AreMade (trees : List ModeTree) (ns : List NumberedTree) : Type 0 where
+  pub numbers : AreNumbersOf trees ns
+  pub few : All HasFewEdges ns
+
+pub passed_push : (trees : List ModeTree) (ns : List NumberedTree) (tree : ModeTree) → tree.edges ≡ []
+    → AreNumbersOf trees ns → AreNumbersOf (trees ++ tree ∷ []) ns
+passed_push _ _ tree e none = passed e none
+passed_push _ _ tree e (passed {trees = trees} {ns = ns} x are) = passed x (passed_push trees ns tree e are)
+passed_push _ _ tree e (one_and {trees = trees} {ns = ns} is are) = one_and is (passed_push trees ns tree e are)
+
+pub one_push : (trees : List ModeTree) (ns : List NumberedTree) (tree : ModeTree) (n : NumberedTree) → IsNumberOf tree n
+    → AreNumbersOf trees ns → AreNumbersOf (trees ++ tree ∷ []) (ns ++ n ∷ [])
+one_push _ _ tree n i none = one_and i none
+one_push _ _ tree n i (passed {trees = trees} {ns = ns} x are) = passed x (one_push trees ns tree n i are)
+one_push _ _ tree n i (one_and {trees = trees} {ns = ns} is are) = one_and is (one_push trees ns tree n i are)
+
+pub zero_from : (n : ℕ) → (n == 0) ≡ true → n ≡ 0
+zero_from n h = grind arith
+
+-- one more tree: its first trees are these, one of them more
+pub made_passed : (trees : List ModeTree) (ns : List NumberedTree) (tree : ModeTree) → tree.edges ≡ [] → AreMade trees ns
+    → AreMade (trees ++ tree ∷ []) ns
+made_passed trees ns tree e m = record { numbers = passed_push trees ns tree e m.numbers; few = m.few }
+
+pub made_more : (trees : List ModeTree) (ns : List NumberedTree) (tree : ModeTree) (n : NumberedTree)
+    → IsNumberOf tree n → HasFewEdges n → AreMade trees ns → AreMade (trees ++ tree ∷ []) (ns ++ n ∷ [])
+made_more trees ns tree n i few m = record {
+  numbers = one_push trees ns tree n i m.numbers;
+  few = All-push HasFewEdges ns n m.few few;
+}
 
 -- so far: the first k edges
 pub record IsSoFar (tree : ModeTree) (k : ℕ) (es : List NumberedEdge) : Type 0 where

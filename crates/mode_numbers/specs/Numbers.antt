@@ -1,6 +1,6 @@
 -- Trees and their numbered forms.
-use Rattle.std.specs.Prelude.{◌≡◌, ℕ, ◌≤◌, List, ◌∷◌, length, map}
-use Rattle.ar_base.specs.Lists.{Stands, Along}
+use Rattle.std.specs.Prelude.{◌≡◌, ℕ, ◌≤◌, List, [], ◌∷◌, length, map}
+use Rattle.ar_base.specs.Lists.{Stands}
 use Rattle.domains.specs.declared.Value.{Value}
 use Rattle.ar_firing.specs.Forest.{Row, ModeTree}
 use Rattle.ar_firing.specs.Trees.{AreTrees}
@@ -26,9 +26,17 @@ pub record IsNumberOf (tree : ModeTree) (n : NumberedTree) : Type 0 where
   pub from : (k : ℕ) (r : Row) (e : NumberedEdge) → Stands tree.edges k r → Stands (edges_of n) k e
       → IsModeNumber tree k r.from e.from
 
--- tree by tree
-abbrev pub AreNumbersOf : List ModeTree → List NumberedTree → Type 0
-AreNumbersOf trees ns = Along IsNumberOf trees ns
+-- at most 64 edges
+abbrev pub HasFewEdges : NumberedTree → Type 0
+HasFewEdges n = length (edges_of n) ≤ 64
+
+-- tree by tree, where trees with no edge are passed over
+pub data AreNumbersOf : List ModeTree → List NumberedTree → Type 0 where
+  none : AreNumbersOf [] []
+  passed : {tree : ModeTree} {trees : List ModeTree} {ns : List NumberedTree} → tree.edges ≡ [] → AreNumbersOf trees ns
+      → AreNumbersOf (tree ∷ trees) ns
+  one_and : {tree : ModeTree} {n : NumberedTree} {trees : List ModeTree} {ns : List NumberedTree} → IsNumberOf tree n
+      → AreNumbersOf trees ns → AreNumbersOf (tree ∷ trees) (n ∷ ns)
 
 -- what numbered trees say of the trees
 pub record IsByModes (trees : List ModeTree) (ns : List NumberedTree) : Type 0 where

@@ -1,8 +1,9 @@
 //! The modes of trees by number.
 
 ghost use Rattle.std.specs.Prelude.{◌≡◌, ◌≤◌, IfOk, IfSome, length, map};
+ghost use Rattle.std.specs.List.{All};
 ghost use Rattle.mode_forests.specs.Views.{tree_of};
-ghost use Rattle.mode_numbers.specs.Numbers.{AreNumbersOf, IsNumberOf, IsModeNumber};
+ghost use Rattle.mode_numbers.specs.Numbers.{AreNumbersOf, HasFewEdges, IsNumberOf, IsModeNumber};
 
 use ar_base::Memory;
 use domains::Value;
@@ -13,24 +14,29 @@ use std::alloc::Global;
 // The most edges of a tree that is numbered: each mode is looked for among those before.
 const MOST_EDGES: usize = 64;
 
-/// The trees with their modes by number; None where a tree has more than 64 edges.
+/// The trees that have an edge, with their modes by number; None where a tree has more than 64 edges.
 pub fn numbered(alloc: Global, trees: &[ModeTree]) -> Result<Option<Vec<NumberedTree>>, Memory>
-    ensures { IfOk result (λ made. IfSome made
+    ensures numbers { IfOk result (λ made. IfSome made
         (λ ns. AreNumbersOf (map (tree_of (λ n. n)) trees.now) ns.items)) }
+    ensures few { IfOk result (λ made. IfSome made (λ ns. All HasFewEdges ns.items)) }
 {
     let mut made = Vec::new(alloc);
     for tree in trees {
-        let Some(next) = numbered_tree(alloc, tree)? else {
-            return Ok(None);
-        };
-        made.push(next)?;
+        if !tree.edges.is_empty() {
+            let Some(next) = numbered_tree(alloc, tree)? else {
+                return Ok(None);
+            };
+            made.push(next)?;
+        }
     }
     Ok(Some(made))
 }
 
 // One tree with its modes by number.
 fn numbered_tree(alloc: Global, tree: &ModeTree) -> Result<Option<NumberedTree>, Memory>
-    ensures { IfOk result (λ made. IfSome made (λ n. IsNumberOf (tree_of (λ n. n) tree.now) n)) }
+    ensures number { IfOk result (λ made. IfSome made
+        (λ n. IsNumberOf (tree_of (λ n. n) tree.now) n)) }
+    ensures few { IfOk result (λ made. IfSome made (λ n. HasFewEdges n)) }
 {
     if tree.edges.len() > MOST_EDGES {
         return Ok(None);

@@ -1,0 +1,194 @@
+-- Families made over modes are those of the operands, and what an answer by them says.
+use Rattle.std.proofs.Common.{◌≡◌, ◌≤◌, ℕ, Bool, List, [], length, get_or, filter, Result, Ok, Err, Option, Some, None, refl, sym, ap, ◌∙◌, subst, arith}
+use Rattle.std.specs.List.{All}
+use Rattle.std.proofs.lemmas.List.Elements.{All-nil, All-get_or}
+use Rattle.ar_base.proofs.Standing.{stands_one, stands_within, stands_get}
+use Rattle.ar_firing.specs.Forest.{ModeTree}
+use Rattle.ar_firing.specs.Listed.{AreListed}
+use Rattle.zdd_families.specs.Families.{Family, IsFamily, minimal}
+use Rattle.zdd_families.specs.Sections.{IsCounted, IsHalf}
+use Rattle.zdd_nodes.specs.Nodes.{NodeId, Stored, family, Draws, IsNumber, IsSoundStore}
+use Rattle.zdd_nodes.specs.declared.NodeFault.{NodeFault}
+use Rattle.zdd_nodes.specs.declared.NodeFault.TheVariants.{Full, Memory as OutOfMemory}
+use Rattle.zdd_nodes.proofs.Growing.{Draws-weaker, Draws-refused}
+use Rattle.eq_core.specs.Gates.{Operand, GateIs, Gate, Table}
+use Rattle.eq_core.specs.Ordered.{AreOrdered}
+use Rattle.eq_core.specs.Values.{IsBelow, value_at}
+use Rattle.eq_core.proofs.Telling.{place_below}
+use Rattle.firable_families.specs.Firable.{IsFirableOf, IsTrueAt, ListsLeast}
+use Rattle.firable_families.proofs.Listing.{Lists, lists_listed, listed_lists, true_lists}
+use Rattle.mode_nodes.specs.Diagrams as modes
+use Rattle.mode_diagrams.specs.declared.trees.NumberedTree.{NumberedTree}
+use Rattle.mode_diagrams.specs.Trees.{edges_of}
+use Rattle.mode_diagrams.specs.Agreement.{Agrees, AreClosed}
+use Rattle.mode_numbers.specs.Numbers.{HasFewEdges, IsByModes}
+use Rattle.mode_families.specs.Sets.{AreSmall, HasSets, IsTrueFrom}
+use Rattle.mode_families.specs.declared.listing.Listed.{Listed}
+use Rattle.gate_diagrams.specs.Needed.{family_at, own, named, IsNeeded, IsNeededByBoth, itself, NodesMay}
+use Rattle.gate_diagrams.specs.Needed.IsNeeded.{of_signed}
+use Rattle.gate_diagrams.specs.declared.answer.Drawn.{Drawn}
+use Rattle.gate_diagrams.specs.declared.answer.Drawn.TheVariants.{Conflicts, Cuts}
+use Rattle.gate_diagrams.specs.declared.answer.Family.{Family as Answered}
+use Rattle.gate_diagrams.specs.Drawing.{AreMarks}
+use Rattle.gate_diagrams.specs.ByModes.{IsListed, AnswersByModes}
+use Rattle.gate_diagrams.proofs.Answering.{least_drawn, needed_conflict, full_conflict, sets_conflict, needed_both, full_both, sets_top}
+use Rattle.gate_diagrams.proofs.Filters.{of_members}
+use Rattle.gate_diagrams.proofs.FirableSets.{listed_one}
+
+-- ---- what the calls need
+pub few_small : (trees : List NumberedTree) → All HasFewEdges trees → AreSmall trees
+few_small trees a = record {
+  each = λ k tree st.
+      let w = stands_within trees k tree st in
+      let e : tree ≡ get_or_at k tree = stands_one trees k tree (get_or_at k tree) st (stands_get trees k tree w) in
+      let few : length (edges_of tree) ≤ 64 =
+      subst (λ (t : NumberedTree). HasFewEdges t) (sym e) (All-get_or HasFewEdges trees k tree w a) in
+      omega (arith, few);
+}
+  where
+    get_or_at : ℕ → NumberedTree → NumberedTree
+    get_or_at k d = get_or trees k d
+
+-- the marked gates are closed under operands
+pub marks_closed : (gates : List Gate) (o : Operand) (marks : List Bool) → AreOrdered gates → IsBelow (length gates) o
+    → AreMarks gates o marks → AreClosed gates o marks
+marks_closed gates o marks a below m = record {
+  long = m.long;
+  own = λ g sign e. m.whole g (own e) (subst (IsBelow (length gates)) e below);
+  operands = λ g h gate sign set st one.
+      let c = (place_below (a.each g gate st)).each (GateIs h sign) one in
+      let w = stands_within gates g gate st in
+      m.whole h (named (m.sound g set) st one) (omega (arith, c, w));
+}
+
+-- ---- the family
+module _ (ns : List NumberedTree) (gates : List Gate) (o : Operand) (s : modes.Stored) (n : ℕ)
+    (a : Agrees ns gates o s n) (f : Family) (k : IsFamily f) (h : HasSets (IsTrueFrom ns 0 s n) f) where
+  lists_true : (forest : List ModeTree) → IsByModes forest ns → Lists (IsTrueAt forest (value_at gates o)) f
+  lists_true forest b = record {
+    is_family = k;
+    sound = λ set i.
+        let x = h.sound set i in
+        record { is_firable = b.firable x.modes set x.are; holds = sym (a.same x.modes set x.are) ∙ x.holds };
+    whole = λ set t.
+        let m = b.modes set t.is_firable in
+        h.whole set (record { modes = m.0; are = m.1; holds = a.same m.0 set m.1 ∙ t.holds });
+  }
+
+  pub family_is : (forest : List ModeTree) → IsByModes forest ns → (all : Family) → AreListed (IsFirableOf forest) all
+      → f ≡ family_at all gates o
+  unfolding family_at
+  family_is forest b all l = listed_one f (filter (value_at gates o) all) (lists_listed (lists_true forest b))
+      (lists_listed (true_lists forest (value_at gates o) (of_members gates o) all l))
+
+pub is_listed : (ns : List NumberedTree) (gates : List Gate) (o : Operand) (s : modes.Stored) (n : ℕ) (l : Listed)
+    → Agrees ns gates o s n → IsSoundStore l.store → IsNumber l.store l.root.n
+    → HasSets (IsTrueFrom ns 0 s n) (family l.store l.root.n) → IsListed ns gates o l
+is_listed ns gates o s n l a sound in_store h = record {
+  sound = sound;
+  in_store = in_store;
+  is = family_is ns gates o s n a (family l.store l.root.n) (sound.families l.root.n in_store) h;
+}
+
+-- ---- the minimal sets
+module _ (all : Family) (gates : List Gate) (o : Operand) (whole : Family) (is : whole ≡ family_at all gates o)
+    (s t : Stored) where
+  copied_needed : (r : Result NodeId NodeFault) → Draws (IsCounted whole) whole s t r
+      → Draws (IsNeeded all gates o) (family_at all gates o) s t r
+  copied_needed r d = Draws-weaker (IsCounted (family_at all gates o)) (IsNeeded all gates o) (family_at all gates o) s t
+      r (λ h c. of_signed o (itself refl) c) (subst (λ z. Draws (IsCounted z) z s t r) is d)
+
+  pub copy_refused : (e : NodeFault) → Draws (IsCounted whole) whole s t (Err e)
+      → Draws (IsNeeded all gates o) (minimal (family_at all gates o)) s t (Err e)
+  copy_refused e d = Draws-refused (IsNeeded all gates o) (family_at all gates o) (minimal (family_at all gates o)) s t e
+      (copied_needed (Err e) d)
+
+  pub least_copied : (u : Stored) (n : NodeId) (r : Result NodeId NodeFault)
+      → Draws (IsCounted whole) whole s t (Ok n) → Draws (IsHalf (family t n.n)) (minimal (family t n.n)) t u r
+      → Draws (IsNeeded all gates o) (minimal (family_at all gates o)) s u r
+  least_copied u n r d m = least_drawn all gates o s t u n r (copied_needed (Ok n) d) m
+
+-- ---- the answer
+module _ (trees : List ModeTree) (table : Table) (all : Family) (is_all : AreListed (IsFirableOf trees) all) (limit : ℕ)
+  where
+    abbrev Right : Result (Option Drawn) NodeFault → Type 0
+    Right r = AnswersByModes trees table all limit r
+
+    pub none_right : Right (Ok None)
+    none_right = record { sets = tt; needed = tt; within = tt; full = λ e. let w : ⊥ = cc in absurd w }
+
+    pub memory_right : Right (Err OutOfMemory)
+    memory_right = record { sets = tt; needed = tt; within = tt; full = λ e. let w : ⊥ = cc in absurd w }
+
+    abbrev DrawsConflict : Stored → Stored → Result NodeId NodeFault → Type 0
+    DrawsConflict s t r = Draws (IsNeeded all table.gates table.conflict)
+        (minimal (family_at all table.gates table.conflict)) s t r
+
+    abbrev DrawsTop : Stored → Stored → Result NodeId NodeFault → Type 0
+    DrawsTop s t r = Draws (IsNeeded all table.gates table.top) (minimal (family_at all table.gates table.top)) s t r
+
+    module _ (s0 s1 : Stored) (none : s0.families ≡ []) (limited : s0.limit ≡ limit) where
+      stored : All (IsNeeded all table.gates table.conflict) s0.families
+      stored = let P = IsNeeded all table.gates table.conflict in subst (All P) (sym none) (All-nil P)
+
+      is_family : IsFamily all
+      is_family = (listed_lists is_all).is_family
+
+      pub conflict_refused : (e : NodeFault) → DrawsConflict s0 s1 (Err e) → Right (Err e)
+      conflict_refused e d = record {
+        sets = tt;
+        needed = tt;
+        within = tt;
+        full = λ x.
+            let y : e ≡ Full = cc in
+            subst (NodesMay trees table) limited
+            (full_conflict table all is_family s0 s1 stored (Err e) d trees is_all (ap (λ (z : NodeFault). Err z) y));
+      }
+
+      module _ (n : NodeId) (d : DrawsConflict s0 s1 (Ok n)) where
+        pub conflicts_right : (f : Answered) → f.store ≡ s1 → f.root ≡ n → IsSoundStore s1 → (n.n ≡ 0 → ⊥)
+            → Right (Ok (Some (Conflicts f)))
+        conflicts_right f e i k some =
+            let x = sets_conflict table all is_family s0 s1 stored n d k some trees is_all in
+            let y = subst (λ z. IsNumber z n.n
+            × ListsLeast trees (value_at table.gates table.conflict) (family z n.n)) (sym e) x.1 in
+            let w = subst (λ (m : NodeId). IsNumber f.store m.n
+            × ListsLeast trees (value_at table.gates table.conflict) (family f.store m.n)) (sym i) y in
+            record {
+              sets = (x.0, w.0, w.1);
+              needed = subst (λ z. All (IsNeeded all table.gates table.conflict) z.families) (sym e)
+                  (needed_conflict table all is_family s0 s1 stored (Ok n) d);
+              within = subst (λ z. length z.families ≤ limit) (sym e)
+                  (subst (λ z. length s1.families ≤ z) (d.grows.limit ∙ limited) k.within);
+              full = λ q. let wrong : ⊥ = cc in absurd wrong;
+            }
+
+        module _ (s2 : Stored) (zero_is : n.n ≡ 0) where
+          pub top_refused : (e : NodeFault) → DrawsTop s1 s2 (Err e) → Right (Err e)
+          top_refused e t = record {
+            sets = tt;
+            needed = tt;
+            within = tt;
+            full = λ x.
+                let y : e ≡ Full = cc in
+                subst (NodesMay trees table) limited
+                (full_both table all is_family s0 s1 stored n d s2 (Err e) zero_is t trees is_all
+                (ap (λ (z : NodeFault). Err z) y));
+          }
+
+          pub cuts_right : (m : NodeId) (f : Answered) → f.store ≡ s2 → f.root ≡ m → IsSoundStore s2 → DrawsTop s1 s2 (Ok m)
+              → Right (Ok (Some (Cuts f)))
+          cuts_right m f e i k t =
+              let x = sets_top table all is_family s0 s1 stored n d s2 m zero_is t trees is_all in
+              let y = subst (λ z. IsNumber z m.n
+              × ListsLeast trees (value_at table.gates table.top) (family z m.n)) (sym e) x.1 in
+              let w = subst (λ (q : NodeId). IsNumber f.store q.n
+              × ListsLeast trees (value_at table.gates table.top) (family f.store q.n)) (sym i) y in
+              record {
+                sets = (x.0, w.0, w.1);
+                needed = subst (λ z. All (IsNeededByBoth all table) z.families) (sym e)
+                    (needed_both table all is_family s0 s1 stored n d s2 (Ok m) zero_is t);
+                within = subst (λ z. length z.families ≤ limit) (sym e)
+                    (subst (λ z. length s2.families ≤ z) (t.grows.limit ∙ d.grows.limit ∙ limited) k.within);
+                full = λ q. let wrong : ⊥ = cc in absurd wrong;
+              }

@@ -70,7 +70,7 @@ module _ (p : GtsParts) (sound : IsSound p) (sys : s.System ℕ) (views : Views 
         end = f.end;
         follows = f.follows;
         cut = cut_longer [] f.text (cut_nothing old.bytes old.bytes refl);
-      }) (omega arith)
+      }) refl
 
   -- Commands
 

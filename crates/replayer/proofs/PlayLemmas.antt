@@ -1,5 +1,5 @@
 -- How far a replay is.
-use Rattle.std.proofs.Common.{◌≡◌, ℕ, List, [], ◌∷◌, ◌++◌, codes, decimal, length, Result, Ok, Err, refl, sym, subst, arith, append_assoc}
+use Rattle.std.proofs.Common.{◌≡◌, ℕ, List, [], ◌∷◌, ◌++◌, codes, decimal, length, Result, Ok, Err, refl, sym, ◌∙◌, subst, append_assoc}
 use Rattle.ar_base.specs.Texts.{line}
 use Rattle.ar_io.specs.Writing.{SinkState, Writes}
 use Rattle.ar_io.specs.declared.outside.SinkFailed.{SinkFailed}
@@ -57,7 +57,7 @@ module _ {names : Naming} {sys : s.System ℕ} {all : List Command} where
   obeyed_stop {at = at} c left rest e p (stops {text = text} w stop) =
       let done = writes_on p.writes w in
       whole (p.rest text Fault (subst (λ (z : List Command). Follows names sys at.below at.values z text Fault) (sym e)
-      (stop rest))) done.whole done.rises
+      (stop rest))) done.whole done.kept
 
   -- a command that is broken off
   pub obeyed_err : {at after : Standing} (c : Command) (left rest : List Command) {old now new : SinkState}
@@ -70,11 +70,11 @@ module _ {names : Naming} {sys : s.System ℕ} {all : List Command} where
       (subst (λ (z : List Command). Follows names sys at.below at.values z b.text b.end) (sym e) b.follows))
       (cut_more old.bytes now.bytes new.bytes p.text b.text p.writes.whole b.cut)
       (rose_after old.faults now.faults new.faults p.writes.rises rose)
-  obeyed_err {at = at} c left rest {old = old} {now = now} {new = new} Memory e p (memory broken rises) =
+  obeyed_err {at = at} c left rest {old = old} {now = now} {new = new} Memory e p (memory broken kept) =
       let b = broken rest (subst (λ (z : List Command). FiresWays sys z) e p.fires) in
       answers.memory (p.rest b.text b.end
       (subst (λ (z : List Command). Follows names sys at.below at.values z b.text b.end) (sym e) b.follows))
-      (cut_more old.bytes now.bytes new.bytes p.text b.text p.writes.whole b.cut) (let i = p.writes.rises in omega (arith, i, rises))
+      (cut_more old.bytes now.bytes new.bytes p.text b.text p.writes.whole b.cut) (kept ∙ p.writes.kept)
 
 module _ (p : GtsParts) (sound : IsSound p) (sys : s.System ℕ) (views : Views p sys) where
   -- Starts
@@ -114,7 +114,7 @@ module _ (p : GtsParts) (sound : IsSound p) (sys : s.System ℕ) (views : Views 
       → AnswersReplay (naming_of_parts p) sys cs old new (Ok Fault)
   no_start_whole f cs fails w = whole
       (no_start_so p sound sys views f (subst (λ (n : s.Net ℕ). StartFails n f) (sym views.net) fails) cs) w.whole
-      w.rises
+      w.kept
 
   pub no_start_cut : (f : FlowFault) (cs : List Command) → StartFails (net_of p) f
       → {old new : SinkState} {e : SinkFailed} → Writes old new (fault_line f) (Err e)
@@ -127,7 +127,7 @@ module _ (p : GtsParts) (sound : IsSound p) (sys : s.System ℕ) (views : Views 
       → AnswersReplay (naming_of_parts p) sys cs old old (Err Memory)
   no_memory cs fires old =
       let f = some_replay p sound sys views cs fires in
-      answers.memory f.replay (cut_longer [] f.text (cut_nothing old.bytes old.bytes refl)) (omega arith)
+      answers.memory f.replay (cut_longer [] f.text (cut_nothing old.bytes old.bytes refl)) refl
 
   -- Ends
 
@@ -142,7 +142,7 @@ module _ (p : GtsParts) (sound : IsSound p) (sys : s.System ℕ) (views : Views 
       whole (q.rest (end_text at) Done (subst
       (λ (z : List Command). Follows (naming_of_parts p) sys at.below at.values z (end_text at) Done) (sym e)
       (ends_so p sound sys views at.below at.values)))
-      done.whole done.rises
+      done.whole done.kept
 
   pub ended_cut : {all left : List Command} {at : Standing} {old now new : SinkState} {f : SinkFailed} → left ≡ []
       → IsPlayed (naming_of_parts p) sys all at left old now

@@ -1,5 +1,5 @@
 -- How far a replay is: what follows from standing valuations, and what one command answers.
-use Rattle.std.specs.Prelude.{◌≡◌, ◌≤◌, ℕ, List, ◌∷◌, ◌++◌, codes, Result, Ok, Err}
+use Rattle.std.specs.Prelude.{◌≡◌, ℕ, List, ◌∷◌, ◌++◌, codes, Result, Ok, Err}
 use Rattle.ar_base.specs.Lists.{IsOneOf}
 use Rattle.ar_base.specs.Texts.{line}
 use Rattle.ar_io.specs.declared.outside.SinkFailed.{SinkFailed}
@@ -43,7 +43,8 @@ pub record IsBroken (names : Naming) (sys : System ℕ) (below : List (List Valu
   pub cut : Cut old.bytes new.bytes text
 
 -- what one command answers: its text was written and the run goes on from the new standing, or ends in a fault; or the
--- first bytes of what follows were written, where the sink's count of faults rose or memory was refused
+-- first bytes of what follows were written, where the sink's count of faults rose or memory was refused; the count is
+-- as it was but where it rose
 pub data Answers (names : Naming) (sys : System ℕ) (before after : Standing) (c : Command)
     (old new : SinkState) : Result End ReplayFault → Type 0 where
   goes_on : {text : List ℕ} → Writes old new text (Ok tt)
@@ -56,7 +57,7 @@ pub data Answers (names : Naming) (sys : System ℕ) (before after : Standing) (
   write : ((cs : List Command) → FiresWays sys (c ∷ cs) → IsBroken names sys before.below before.values c old new cs)
       → Rose old.faults new.faults → Answers names sys before after c old new (Err Write)
   memory : ((cs : List Command) → FiresWays sys (c ∷ cs) → IsBroken names sys before.below before.values c old new cs)
-      → old.faults ≤ new.faults → Answers names sys before after c old new (Err Memory)
+      → new.faults ≡ old.faults → Answers names sys before after c old new (Err Memory)
 
 -- so much of the replay of all commands is written, and what follows for those that are left is its rest
 pub record IsPlayed (names : Naming) (sys : System ℕ) (all : List Command) (at : Standing) (left : List Command)

@@ -1,5 +1,5 @@
 -- The text of a replay, and how it ends.
-use Rattle.std.specs.Prelude.{◌≡◌, ◌≤◌, ℕ, List, [], ◌∷◌, Result, Ok, Err}
+use Rattle.std.specs.Prelude.{◌≡◌, ℕ, List, [], ◌∷◌, Result, Ok, Err}
 use Rattle.ar_io.specs.Outside.{Rose}
 use Rattle.ar_io.specs.Writing.{SinkState, Appended, Cut}
 use Rattle.ar_meaning.specs.Systems.{System}
@@ -32,15 +32,15 @@ pub record IsReplay {V : Type 0} (names : Naming) (sys : System V) (cs : List Co
   pub ends : end ≡ end_of moments
 
 -- what a replay answers: the whole text was written, or its first bytes, where the sink's count of faults rose or
--- memory was refused
+-- memory was refused; the count is as it was but where it rose
 pub data AnswersReplay {V : Type 0} (names : Naming) (sys : System V) (cs : List Command) (old new : SinkState) : Result
     End ReplayFault → Type 0 where
   whole : {text : List ℕ} {end : End} → IsReplay names sys cs text end → Appended old.bytes new.bytes text
-      → old.faults ≤ new.faults
+      → new.faults ≡ old.faults
       → AnswersReplay names sys cs old new (Ok end)
   write : {text : List ℕ} {end : End} → IsReplay names sys cs text end → Cut old.bytes new.bytes text
       → Rose old.faults new.faults
       → AnswersReplay names sys cs old new (Err Write)
   memory : {text : List ℕ} {end : End} → IsReplay names sys cs text end → Cut old.bytes new.bytes text
-      → old.faults ≤ new.faults
+      → new.faults ≡ old.faults
       → AnswersReplay names sys cs old new (Err Memory)

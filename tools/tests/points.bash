@@ -53,5 +53,5 @@ usage() {
 
 # The words of each command, from the table of docs/TEXTS.md, without the program's name: `check MODEL [--main B]`.
 commands() {
-  sed -n 's/^| `\(altarica \)\{0,1\}\([a-z]* \(MODEL\|N\)[^`]*\)` |.*/\2/p' docs/TEXTS.md
+  sed -n 's/^| `\(altarica \)\{0,1\}\(make N\|[a-z]* MODEL[^`]*\)` |.*/\2/p' docs/TEXTS.md
 }

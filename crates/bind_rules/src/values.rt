@@ -25,7 +25,7 @@ use crate::rules::Rule;
 use ar_base::Place;
 use ar_syntax::{Member, RawExpr, TypeForm};
 use bind_expressions::earlier;
-use bind_scopes::{Scope, Scopes, kind_of_domain, written};
+use bind_scopes::{Scope, Scopes, is_same_kind, is_same_value, kind_of_domain, written};
 use class_table::{Classes, Owned};
 use hierarchy::{Attribute, MemNode, ParNode, Source, VarNode};
 use typed_expr::ValueKind;
@@ -82,7 +82,7 @@ fn tested<'a>(scopes: &'a Scopes<'a>, rule: Rule, kind: ValueKind, value: Attrib
 fn is_of(test: Tested, kind: ValueKind, value: Attribute) -> bool
     ensures { IsTrue result → (test.0 ≡ value) × (test.1 ≡ kind) }
 {
-    test.0 == value && test.1 == kind
+    is_same_value(test.0, value) && is_same_kind(test.1, kind)
 }
 
 // The test of the value of a variable, which is the last one where that was of the same value.

@@ -2,12 +2,14 @@
 //! scopes in which expressions may name them, with their kinds.
 #![tactic(auto)]
 
+mod comparing;
 mod kinds;
 mod members;
 mod naming;
 mod scopes;
 mod sites;
 
+pub use comparing::{is_same_kind, is_same_value};
 pub use kinds::kind_of_domain;
 pub use naming::{Sort, UnitNames};
 pub use scopes::{Named, Scope, Scopes};

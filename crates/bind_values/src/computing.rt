@@ -25,7 +25,7 @@ use crate::leaves::UnitLeaves;
 use ar_base::{Memory, VarId};
 use ar_syntax::RawExpr;
 use bind_expressions::translated;
-use bind_scopes::{Scopes, written};
+use bind_scopes::{Scopes, is_same_value, written};
 use domains::Value;
 use hierarchy::{Attribute, ParNode};
 use std::alloc::Global;
@@ -120,7 +120,7 @@ fn remembered(known: &Known, value: Attribute) -> Option<Value>
         → IfSome result (IsKnown s parameters value) }
 {
     let (attribute, found) = found_at(known, spot_of(value))?;
-    if attribute == value {
+    if is_same_value(attribute, value) {
         Some(found)
     } else {
         None

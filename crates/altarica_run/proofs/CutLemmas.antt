@@ -96,7 +96,7 @@ use Rattle.altarica_run.proofs.TellLemmas.{many_units, many_events}
 module _ {old new : SinkState} (told : List ℕ → Status → Type 0) (text : List ℕ) (ends : Status)
     (is : told text ends) where
   pub printed_whole : (u : Unit {0}) → Prints old new text (Ok u) → IsWritten told old new ends
-  printed_whole u h = whole is h.whole
+  printed_whole u h = whole is h.whole h.kept
 
   pub printed_partly : (e : PrintFault) → Prints old new text (Err e) → (r : Result Status PrintFault) (d : PrintFault)
       → r ≡ Err d → d ≡ e → IsWritten told old new (status_printed r)

@@ -25,7 +25,7 @@ module _ (files : List ℕ → Told) (rose : List ℕ → Type 0) (words : List 
       → ((text : List ℕ) (ends : Status) → told text ends → Says files words text ends) → (s : Status)
       → IsWritten told old new s
       → EndsSo files rose words old new s
-  said told f s (whole {text = text} t a) = says.says (f text s t) a
+  said told f s (whole {text = text} t a k) = says.says (f text s t) a k
   said told f s (cut {text = text} {ends = ends} t c k) = says.not_written (says.said (f text ends t)) k c
   said told f s (nothing e) = says.no_memory e
 
@@ -34,16 +34,16 @@ module _ (files : List ℕ → Told) (rose : List ℕ → Type 0) (words : List 
       → IsWrittenFor job (Tells job w) old new s
       → EndsSo files rose words old new s
   job_told job w is p s (written h) = said (Tells job w) (λ text ends t. tells job w is p t) s h
-  job_told job w is p s (stopped e t c) = says.replay_stopped job is e (tells job w is p t) c
+  job_told job w is p s (stopped e t c k) = says.replay_stopped job is e (tells job w is p t) c k
 
   -- the line of a file that was not read was written
   not_read_told : (kind : FileKind) (name : List ℕ) (job : Job) → IsJob words job
       → Loads files (files_of job) kind name → rose name → (s : Status)
       → IsWritten (λ text ends. (text ≡ line_of (NotRead kind)) × (ends ≡ status.Read)) old new s
       → EndsSo files rose words old new s
-  not_read_told kind name job is l k s (whole t a) =
+  not_read_told kind name job is l k s (whole t a same) =
       subst (λ (z : Status). EndsSo files rose words old new z) (sym t.1)
-      (says.not_read job is l k (subst (λ (z : List ℕ). Appended old.bytes new.bytes z) t.0 a))
+      (says.not_read job is l k (subst (λ (z : List ℕ). Appended old.bytes new.bytes z) t.0 a) same)
   not_read_told kind name job is l k s (cut t c r) =
       says.not_written (says.not_read job is l k) r (subst (λ (z : List ℕ). Cut old.bytes new.bytes z) t.0 c)
   not_read_told kind name job is l k s (nothing e) = says.no_memory e

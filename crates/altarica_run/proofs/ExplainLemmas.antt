@@ -108,7 +108,7 @@ module _ (job : Job) (w : Ready) (p : Prepared) (is : IsReady job w p) (e : job.
     fault_told_whole {old} {new} o i h =
         let k = subst (λ (z : Option Valuation). AnswersSettle (naming_of_parts p.system) flat commands old new (Ok z))
         i h in
-        whole (fault_told k.0 k.1) k.2.whole
+        whole (fault_told k.0 k.1) k.2.whole k.2.kept
 
     -- the run is told of as it ended in its fault, or memory was refused
     pub settle_stops : {old new : SinkState} (f : ReplayFault)
@@ -190,7 +190,7 @@ module _ (job : Job) (w : Ready) (p : Prepared) (is : IsReady job w p) (e : job.
             → IsWritten (Tells job w) old new Done
         explained_whole {new} {u} h =
             let k = subst (λ (z : SinkState). Explains z new Text (Ok u)) settled.1 h in
-            whole (explained_told run_settles k.0 k.1) k.2.whole
+            whole (explained_told run_settles k.0 k.1) k.2.whole k.2.kept
 
         pub explained_cut : {new : SinkState} (f : ReplayFault) → Explains mid new Text (Err f)
             → (r : Result Status ReplayFault) (d : ReplayFault) → r ≡ Err d → d ≡ f

@@ -215,12 +215,12 @@ module _ (c : Call) where
   meant_says text s (tells job w is p t) a = meant_tells job w text s is p t a
 
   meant : (s : Status) → EndsSo c.files (RoseAt c) c.words (sink_before c) (sink_after c) s → Meaning_of c s
-  meant s (says.says {text = text} h a) = meant_says text s h a
-  meant s (says.not_read {kind} {name} job is l r a) =
+  meant s (says.says {text = text} h a q) = meant_says text s h a
+  meant s (says.not_read {kind} {name} job is l r a q) =
       record { job = job; is_job = is; kind = kind; name = name; loads = l; rose = r; wrote = a }
   meant s (says.not_written b r h) = r
   meant s (says.no_memory e) = tt
-  meant s (says.replay_stopped job is e h k) = tt
+  meant s (says.replay_stopped job is e h k q) = tt
 
   pub meaning_of : (s : Status) → Gave c s → Meaning_of c s
   meaning_of s g = meant s g.ends
@@ -231,8 +231,8 @@ module _ (c : Call) where
   whole_front text a = λ bytes e. (text, record { rest = []; joined = append-nil text }, a bytes e)
 
   fronts : (s : Status) → EndsSo c.files (RoseAt c) c.words (sink_before c) (sink_after c) s → IsPrefix c
-  fronts s (says.says {text = text} h a) = record { text = text; begins = says.said h; cut = whole_front text a }
-  fronts s (says.not_read {kind} {name} job is l r a) =
+  fronts s (says.says {text = text} h a q) = record { text = text; begins = says.said h; cut = whole_front text a }
+  fronts s (says.not_read {kind} {name} job is l r a q) =
       record {
         text = line_of (NotRead kind);
         begins = says.not_read job is l r;
@@ -245,11 +245,24 @@ module _ (c : Call) where
         begins = says.nothing;
         cut = cut_nothing c.old c.new (ap (λ (z : SinkState). z.bytes) e);
       }
-  fronts s (says.replay_stopped {text = text} job is e h k) =
+  fronts s (says.replay_stopped {text = text} job is e h k q) =
       record { text = text; begins = says.said h; cut = k }
 
   pub prefix_of : (s : Status) → Gave c s → IsPrefix c
   prefix_of s g = fronts s g.ends
+
+  -- The sink's count
+
+  kept : (s : Status) → EndsSo c.files (RoseAt c) c.words (sink_before c) (sink_after c) s → (s ≡ status.Write → ⊥)
+      → c.sink_new ≡ c.sink_old
+  kept s (says.says {text = text} h a q) no = q
+  kept s (says.not_read job is l r a q) no = q
+  kept s (says.not_written b r h) no = absurd (no refl)
+  kept s (says.no_memory e) no = ap (λ (z : SinkState). z.faults) e
+  kept s (says.replay_stopped job is e h k q) no = q
+
+  pub kept_of : (s : Status) → Gave c s → (s ≡ status.Write → ⊥) → c.sink_new ≡ c.sink_old
+  kept_of s g no = kept s g.ends no
 
   -- Words that are no job
 
@@ -261,11 +274,11 @@ module _ (c : Call) where
 
     usage_ends : (s : Status) → EndsSo c.files (RoseAt c) c.words (sink_before c) (sink_after c) s
         → (s ≡ status.Usage) ⊎ (s ≡ status.Memory)
-    usage_ends s (says.says {text = text} h a) = usage_said text s h
-    usage_ends s (says.not_read job is l r a) = absurd (never job is)
+    usage_ends s (says.says {text = text} h a q) = usage_said text s h
+    usage_ends s (says.not_read job is l r a q) = absurd (never job is)
     usage_ends s (says.not_written b r h) = absurd (written r)
     usage_ends s (says.no_memory e) = inr refl
-    usage_ends s (says.replay_stopped job is e h k) = inr refl
+    usage_ends s (says.replay_stopped job is e h k q) = inr refl
 
     pub usage_of : (s : Status) → Gave c s → (s ≡ status.Usage) ⊎ (s ≡ status.Memory)
     usage_of s g = usage_ends s g.ends
@@ -275,11 +288,11 @@ module _ (c : Call) where
   module _ (quiet : IsQuiet c) where
     quiet_ends : (s : Status) → EndsSo c.files (RoseAt c) c.words (sink_before c) (sink_after c) s
         → IsSaid c s ⊎ (s ≡ status.Memory)
-    quiet_ends s (says.says {text = text} h a) = inl (record { text = text; said = h; wrote = a })
-    quiet_ends s (says.not_read {name = name} job is l r a) = absurd (quiet.read name r)
+    quiet_ends s (says.says {text = text} h a q) = inl (record { text = text; said = h; wrote = a })
+    quiet_ends s (says.not_read {name = name} job is l r a q) = absurd (quiet.read name r)
     quiet_ends s (says.not_written b r h) = absurd (quiet.written r)
     quiet_ends s (says.no_memory e) = inr refl
-    quiet_ends s (says.replay_stopped job is e h k) = inr refl
+    quiet_ends s (says.replay_stopped job is e h k q) = inr refl
 
     pub said_of : (s : Status) → Gave c s → IsSaid c s ⊎ (s ≡ status.Memory)
     said_of s g = quiet_ends s g.ends

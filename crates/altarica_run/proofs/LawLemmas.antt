@@ -163,11 +163,11 @@ module _ (c : Call) (job : Job) (one : (a b : Job) → IsJob c.words a → IsJob
     module _ (quiet : IsQuiet c) where
       over_ends : (s : Status) → EndsSo c.files (RoseAt c) c.words (sink_before c) (sink_after c) s
           → ((s ≡ status.Size) × Wrote c (line_of (Size ModelBytes))) ⊎ (s ≡ status.Memory)
-      over_ends s (says.says {text = said} h a) = inl (over_said said s h a)
-      over_ends s (says.not_read {name = name} other at l r a) = absurd (quiet.read name r)
+      over_ends s (says.says {text = said} h a q) = inl (over_said said s h a)
+      over_ends s (says.not_read {name = name} other at l r a q) = absurd (quiet.read name r)
       over_ends s (says.not_written b r h) = absurd (quiet.written r)
       over_ends s (says.no_memory e) = inr refl
-      over_ends s (says.replay_stopped other at e h k) = inr refl
+      over_ends s (says.replay_stopped other at e h k q) = inr refl
 
       pub over_of : (s : Status) → Gave c s
           → ((s ≡ status.Size) × Wrote c (line_of (Size ModelBytes))) ⊎ (s ≡ status.Memory)
@@ -204,15 +204,15 @@ module _ (c : Call) (job : Job) (one : (a b : Job) → IsJob c.words a → IsJob
     absent_ends : (s : Status) → EndsSo c.files (RoseAt c) c.words (sink_before c) (sink_after c) s
         → ((s ≡ status.Read) × RoseAt c job.model × Wrote c (line_of (NotRead Model)))
         ⊎ (SinkRose c ⊎ (s ≡ status.Memory))
-    absent_ends s (says.says {text = said} h a) = absurd (absent_said said s h)
-    absent_ends s (says.not_read {kind} {name} other at l r a) =
+    absent_ends s (says.says {text = said} h a q) = absurd (absent_said said s h)
+    absent_ends s (says.not_read {kind} {name} other at l r a q) =
         let asked = same_job other at (λ j. Loads c.files (files_of j) kind name) l in
         let m = model_asked _ kind name (subst (λ (b : Bool). Loads c.files (files_where b job) kind name) loads asked)
         r a in
         inl (refl, m.0, m.1)
     absent_ends s (says.not_written b r h) = inr (inl r)
     absent_ends s (says.no_memory e) = inr (inr refl)
-    absent_ends s (says.replay_stopped other at e h k) = inr (inr refl)
+    absent_ends s (says.replay_stopped other at e h k q) = inr (inr refl)
 
     pub absent_of : (s : Status) → Gave c s
         → ((s ≡ status.Read) × RoseAt c job.model × Wrote c (line_of (NotRead Model)))
@@ -257,11 +257,11 @@ module _ (c : Call) (job : Job) (one : (a b : Job) → IsJob c.words a → IsJob
 
       only_ends : (s : Status) → EndsSo c.files (RoseAt c) c.words (sink_before c) (sink_after c) s
           → ((s ≡ status_of r) × Wrote c (line_of r)) ⊎ (s ≡ status.Memory)
-      only_ends s (says.says {text = said} h a) = inl (only_said said s h a)
-      only_ends s (says.not_read {name = name} other at l x a) = absurd (quiet.read name x)
+      only_ends s (says.says {text = said} h a q) = inl (only_said said s h a)
+      only_ends s (says.not_read {name = name} other at l x a q) = absurd (quiet.read name x)
       only_ends s (says.not_written b x h) = absurd (quiet.written x)
       only_ends s (says.no_memory e) = inr refl
-      only_ends s (says.replay_stopped other at e h k) = inr refl
+      only_ends s (says.replay_stopped other at e h k q) = inr refl
 
       pub only_of : (s : Status) → Gave c s → ((s ≡ status_of r) × Wrote c (line_of r)) ⊎ (s ≡ status.Memory)
       only_of s g = only_ends s g.ends
@@ -319,8 +319,8 @@ module _ (c : Call) (job : Job) (one : (a b : Job) → IsJob c.words a → IsJob
 
     lacks_ends : (s : Status) → EndsSo c.files (RoseAt c) c.words (sink_before c) (sink_after c) s
         → ((s ≡ status.Read) × LacksScript c job name) ⊎ (SinkRose c ⊎ (s ≡ status.Memory))
-    lacks_ends s (says.says {text = said} h a) = absurd (none_said said s h)
-    lacks_ends s (says.not_read {kind} {name = asked} other at l r a) =
+    lacks_ends s (says.says {text = said} h a q) = absurd (none_said said s h)
+    lacks_ends s (says.not_read {kind} {name = asked} other at l r a q) =
         let those = same_job other at (λ j. Loads c.files (files_of j) kind asked) l in
         inl (
           refl,
@@ -328,7 +328,7 @@ module _ (c : Call) (job : Job) (one : (a b : Job) → IsJob c.words a → IsJob
         )
     lacks_ends s (says.not_written b r h) = inr (inl r)
     lacks_ends s (says.no_memory e) = inr (inr refl)
-    lacks_ends s (says.replay_stopped other at e h k) = inr (inr refl)
+    lacks_ends s (says.replay_stopped other at e h k q) = inr (inr refl)
 
     pub lacks_of : (s : Status) → Gave c s
         → ((s ≡ status.Read) × LacksScript c job name) ⊎ (SinkRose c ⊎ (s ≡ status.Memory))
@@ -352,10 +352,10 @@ module _ (c : Call) (no_replay : (job : Job) → IsJob c.words job → job.comma
     where
       go : (s : Status) → s ≡ status.Memory → EndsSo c.files (RoseAt c) c.words (sink_before c) (sink_after c) s
           → sink_after c ≡ sink_before c
-      go s e (says.says {text = text} h a) =
+      go s e (says.says {text = text} h a q) =
           let k : false ≡ true = sym (said_no_memory c.files c.words text s h) ∙ ap is_memory e in
           absurd cc
-      go s e (says.not_read job is l r a) = let k : false ≡ true = ap is_memory e in absurd cc
+      go s e (says.not_read job is l r a q) = let k : false ≡ true = ap is_memory e in absurd cc
       go s e (says.not_written b r h) = let k : false ≡ true = ap is_memory e in absurd cc
       go s e (says.no_memory i) = i
-      go s e (says.replay_stopped job is i h k) = absurd (no_replay job is i)
+      go s e (says.replay_stopped job is i h k q) = absurd (no_replay job is i)

@@ -42,7 +42,7 @@ pub text_written : {old new : SinkState} (told : List ℕ → Status → Type 0)
 text_written {old} {new} told text ends s r e t w = subst (λ (z : Status). IsWritten told old new z) (sym e) (go r w)
   where
     go : (r : Result (Unit {0}) SinkFailed) → Writes old new text r → IsWritten told old new (status_written ends r)
-    go (Ok x) w = whole t w.whole
+    go (Ok x) w = whole t w.whole w.kept
     go (Err e) w = cut t w.cut w.rose
 
 -- How much is declared
@@ -133,6 +133,6 @@ module _ (job : Job) (w : Ready) (p : Prepared) (is : IsReady job w p) where
             → AnswersReplay (naming_of_parts p.system) is.flat.flat (map (command_of p.system) p.request.commands.items)
             old new r
             → IsWrittenFor job (Tells job w) old new (status_replayed r)
-        go r (replays.whole {text = text} {end = end} h a k) = written (whole (said text end h) a)
+        go r (replays.whole {text = text} {end = end} h a k) = written (whole (said text end h) a k)
         go r (replays.write {text = text} {end = end} h c k) = written (cut (said text end h) c k)
-        go r (replays.memory {text = text} {end = end} h c k) = stopped e (said text end h) c
+        go r (replays.memory {text = text} {end = end} h c k) = stopped e (said text end h) c k

@@ -37,19 +37,23 @@ pub data Begins (files : List ℕ → Told) (rose : List ℕ → Type 0) (words 
 
 -- How a call ends: it says what its words say; or a file was not read, whose count of faults rose; or the sink's count
 -- rose, and it has some first bytes of a text that the call may write; or memory was refused.
+-- But where the sink's count rose it is as it was: no fault of the sink passes unseen.
 -- Where memory is refused the sink is as it was, but that a replay, which writes as it goes, may have written some first
 -- bytes of what the words say.
 pub data EndsSo (files : List ℕ → Told) (rose : List ℕ → Type 0) (words : List (List ℕ)) (old new : SinkState) : Status
     → Type 0 where
   says : {text : List ℕ} {ends : Status} → Says files words text ends → Appended old.bytes new.bytes text
+      → new.faults ≡ old.faults
       → EndsSo files rose words old new ends
   not_read : {kind : FileKind} {name : List ℕ} (job : Job) → IsJob words job → Loads files (files_of job) kind name
       → rose name
-      → Appended old.bytes new.bytes (line_of (NotRead kind)) → EndsSo files rose words old new status.Read
+      → Appended old.bytes new.bytes (line_of (NotRead kind)) → new.faults ≡ old.faults
+      → EndsSo files rose words old new status.Read
   not_written : {text : List ℕ} → Begins files rose words text → Rose old.faults new.faults
       → Cut old.bytes new.bytes text
       → EndsSo files rose words old new status.Write
   no_memory : new ≡ old → EndsSo files rose words old new status.Memory
   replay_stopped : {text : List ℕ} {ends : Status} (job : Job) → IsJob words job → job.command ≡ Replay
       → Says files words text ends → Cut old.bytes new.bytes text
+      → new.faults ≡ old.faults
       → EndsSo files rose words old new status.Memory

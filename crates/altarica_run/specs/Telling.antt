@@ -37,17 +37,20 @@ status_explained (Ok ends) = ends
 status_explained (Err fault.Write) = Write
 status_explained (Err fault.Memory) = Memory
 
--- one of these texts was written whole, with its status; or first bytes of one, where the sink's count rose; or nothing,
--- where memory was refused
+-- one of these texts was written whole, with its status, and the sink met no fault; or first bytes of one, where the
+-- sink's count rose; or nothing, where memory was refused
 pub data IsWritten (told : List ℕ → Status → Type 0) (old new : SinkState) : Status → Type 0 where
   whole : {text : List ℕ} {ends : Status} → told text ends → Appended old.bytes new.bytes text
+      → new.faults ≡ old.faults
       → IsWritten told old new ends
   cut : {text : List ℕ} {ends : Status} → told text ends → Cut old.bytes new.bytes text → Rose old.faults new.faults
       → IsWritten told old new Write
   nothing : new ≡ old → IsWritten told old new Memory
 
--- such a text of a job; a replay writes as it goes, so where memory is refused to it some first bytes may stand
+-- such a text of a job; a replay writes as it goes, so where memory is refused to it some first bytes may stand, though
+-- the sink met no fault
 pub data IsWrittenFor (job : Job) (told : List ℕ → Status → Type 0) (old new : SinkState) : Status → Type 0 where
   written : {ends : Status} → IsWritten told old new ends → IsWrittenFor job told old new ends
   stopped : {text : List ℕ} {ends : Status} → job.command ≡ Replay → told text ends → Cut old.bytes new.bytes text
+      → new.faults ≡ old.faults
       → IsWrittenFor job told old new Memory

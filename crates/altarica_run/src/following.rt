@@ -1,6 +1,6 @@
 //! What follows from the answer of a call.
 
-ghost use Rattle.std.specs.Prelude.{◌≡◌, ◌⊎◌};
+ghost use Rattle.std.specs.Prelude.{◌≡◌, ◌≢◌, ◌⊎◌};
 ghost use Rattle.run_words.specs.declared.jobs.Job.{Job};
 ghost use Rattle.run_words.specs.Jobs.{IsJob};
 ghost use Rattle.altarica_run.specs.Follows.{Call, Gave, SinkRose, IsQuiet, IsPrefix, IsSaid};
@@ -25,4 +25,10 @@ pub fn nothing_gives_up()
         → IsSaid c s ⊎ (s ≡ status.Memory) }
     ensures job { (c : Call) (s : Status) (job : Job) → Gave c s → IsQuiet c
         → IsJob c.words job → IsTold c s ⊎ (IsRefused c s ⊎ (s ≡ status.Memory)) }
+{}
+
+/// No fault of the sink passes unseen: but where the call answers that the output was not written, the
+/// sink's count of faults is as it was.
+pub fn no_fault_passes_unseen()
+    ensures { (c : Call) (s : Status) → Gave c s → s ≢ status.Write → c.sink_new ≡ c.sink_old }
 {}

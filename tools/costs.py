@@ -49,8 +49,8 @@ if kind == 'forms':        # n short forms (a power of ten) of 40 events each, a
     groups = len(str(n)) - 1
     free = 10 * groups
     both = 40 - groups
-    o.write('class C Boolean w (init = true); end\nblock B\n  Boolean ' + ', '.join(f'w{i}' for i in range(2000)) + ' (init = true);\n')
+    o.write('class C Boolean w (init = true); end\nblock B\n  C ' + ', '.join(f'u{i}' for i in range(max(1, n // 10))) + ';\n  Boolean ' + ', '.join(f'w{i}' for i in range(2000)) + ' (init = true);\n')
     o.write('  event ' + ', '.join(f'e{i}' for i in range(2000)) + ';\n  transition\n' + ''.join(f'    e{i}: w{i} -> w{i} := false;\n' for i in range(2000)))
     o.write('  observer Boolean lost = ' + ' and '.join([f'not w{i}' for i in range(both)]
         + ['(' + ' or '.join(f'not w{both + 10 * g + k}' for k in range(10)) + ')' for g in range(groups)]) + ';\n')
-    o.write('  C ' + ', '.join(f'u{i}' for i in range(max(1, n // 10))) + ';\nend\n')
+    o.write('end\n')

